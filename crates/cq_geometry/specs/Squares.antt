@@ -1,0 +1,18 @@
+-- Squares as numbers: a1 is 0, b1 is 1, a2 is 8, h8 is 63.
+use Rattle.std.specs.Prelude.{◌≡◌, ℕ, ◌+◌, ◌*◌, ◌/◌, ◌%◌}
+
+-- the file from 0 (the a-file) to 7 (the h-file)
+abbrev pub file_of : ℕ → ℕ
+file_of square = square % 8
+
+-- the rank from 0 (the first) to 7 (the eighth)
+abbrev pub rank_of : ℕ → ℕ
+rank_of square = square / 8
+
+-- the square of a file and a rank
+abbrev pub square_of : ℕ → ℕ → ℕ
+square_of file rank = 8 * rank + file
+
+-- a square is light where its file plus its rank is odd: a1 is dark
+abbrev pub IsLight : ℕ → Type 0
+IsLight square = (file_of square + rank_of square) % 2 ≡ 1

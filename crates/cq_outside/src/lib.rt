@@ -1,0 +1,19 @@
+//! The outside of the program, as the rest of it sees it: sources, sinks, a desk of files and a gate,
+//! each by what its calls promise, with forms in memory and a thin edge over the real system.
+#![tactic(auto)]
+
+pub mod bytes;
+pub mod desk;
+pub mod faults;
+pub mod gate;
+pub mod pieces;
+pub mod sink;
+pub mod source;
+
+pub use bytes::Bytes;
+pub use desk::Desk;
+pub use faults::{Failed, NoMemory, OpenFault, Refusal};
+pub use gate::{Gate, OpenGate};
+pub use pieces::read_piece;
+pub use sink::Sink;
+pub use source::Source;

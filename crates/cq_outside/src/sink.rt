@@ -1,0 +1,23 @@
+//! Where bytes go.
+ghost use Rattle.std.specs.Prelude.{◌≡◌, ◌≤◌, ◌<◌, List, ℕ, Option, length, IfOk};
+ghost use Rattle.cq_outside.specs.Faults.{HasCause};
+ghost use Rattle.cq_outside.specs.Flow.{WriteTakes};
+
+use crate::faults::Failed;
+
+/// Something that takes bytes piece by piece.
+pub trait Sink {
+    /// The bytes taken, where the sink tells them.
+    ghost taken: { Self → Option (List ℕ) };
+
+    /// How often a write has failed.
+    ghost faults: { Self → ℕ };
+
+    /// Takes some of `bytes` from the front, and answers how many, at least 1 where there are any.
+    /// A write that fails takes nothing.
+    fn write(&mut self, bytes: &[u8]) -> Result<usize, Failed>
+        ensures bound { IfOk result (λ n. n ≤ length bytes.now) }
+        ensures moves { IfOk result (λ n. 0 < length bytes.now → 0 < n) }
+        ensures bytes { WriteTakes (taken self.old) (taken self.new) result bytes.now }
+        ensures cause { HasCause (faults self.old) (faults self.new) result };
+}
