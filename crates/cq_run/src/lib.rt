@@ -1,0 +1,4 @@
+//! The top call.
+#![tactic(auto)]
+
+mod bare_games;
