@@ -1,5 +1,5 @@
 //! A list of bytes that grows.
-ghost use Rattle.std.specs.Prelude.{◌≡◌, ◌++◌, List, [], ℕ, OnOk, OnErr};
+ghost use Rattle.std.specs.Prelude.{◌≡◌, ◌++◌, ◌==◌, List, [], ℕ, length, OnOk, OnErr};
 
 use crate::faults::NoMemory;
 use std::alloc::Global;
@@ -25,6 +25,20 @@ impl Bytes {
         Bytes {
             bytes: Vec::new(alloc),
         }
+    }
+
+    /// How many bytes there are.
+    pub fn len(&self) -> usize
+        ensures { result ≡ length self.now }
+    {
+        self.bytes.len()
+    }
+
+    /// Whether there are none.
+    pub fn is_empty(&self) -> bool
+        ensures { result ≡ (length self.now == 0) }
+    {
+        self.bytes.is_empty()
     }
 
     /// All the bytes.

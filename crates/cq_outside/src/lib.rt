@@ -14,6 +14,6 @@ pub use bytes::Bytes;
 pub use desk::Desk;
 pub use faults::{Failed, NoMemory, OpenFault, Refusal};
 pub use gate::{Gate, OpenGate};
-pub use pieces::read_piece;
+pub use pieces::{read_piece, read_up_to, write_all_of};
 pub use sink::Sink;
 pub use source::Source;
