@@ -1,2 +1,5 @@
 pub mod Lines
 pub mod Tags
+pub mod Fronts
+pub mod Exports
+pub mod Answers

@@ -29,7 +29,7 @@ text_in_tag line =
 -- the FEN texts of bare games, two lines each; nothing may stand behind the last LF
 unfoldable pub texts_in_lines : List (List ℕ) → Option (List (List ℕ))
 texts_in_lines [] = Some []
-texts_in_lines (tag ∷ []) = if bytes_eq tag [] then Some [] else None
+texts_in_lines (tag ∷ []) = if length tag == 0 then Some [] else None
 texts_in_lines (tag ∷ marker ∷ lines) =
     if bytes_eq marker (codes "*")
     then option_and_then (λ text. option_map (λ texts. text ∷ texts) (texts_in_lines lines)) (text_in_tag tag)
