@@ -9,6 +9,8 @@ pub mod gate;
 pub mod pieces;
 pub mod sink;
 pub mod source;
+pub mod sure_sink;
+pub mod sure_source;
 
 pub use bytes::Bytes;
 pub use desk::Desk;
@@ -17,3 +19,5 @@ pub use gate::{Gate, OpenGate};
 pub use pieces::{read_piece, read_up_to, write_all_of};
 pub use sink::Sink;
 pub use source::Source;
+pub use sure_sink::SureSink;
+pub use sure_source::SureSource;
