@@ -1,5 +1,5 @@
 -- What a write does to the bytes that a sink has taken, where it tells them.
-use Rattle.std.specs.Prelude.{◌≡◌, ◌⊎◌, ℕ, ◌+◌, ◌≤◌, ◌<◌, List, [], ◌++◌, length, take, Option, None, Some, Result, MatchResult}
+use Rattle.std.specs.Prelude.{◌≡◌, ℕ, List, [], ◌++◌, take, Option, None, Some, Result, MatchResult}
 
 -- A sink that tells its bytes after a call told them before it, and what it tells has gained these at its end.
 abbrev pub Grew : Option (List ℕ) → Option (List ℕ) → List ℕ → Type 0

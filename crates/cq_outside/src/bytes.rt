@@ -1,5 +1,5 @@
 //! A list of bytes that grows.
-ghost use Rattle.std.specs.Prelude.{◌≡◌, ◌++◌, ◌==◌, List, [], ℕ, length, OnOk, OnErr};
+ghost use Rattle.std.specs.Prelude.{◌≡◌, ◌++◌, ◌==◌, List, [], ℕ, length, IfOk, OnOk, OnErr};
 
 use crate::faults::NoMemory;
 use std::alloc::Global;
@@ -25,6 +25,15 @@ impl Bytes {
         Bytes {
             bytes: Vec::new(alloc),
         }
+    }
+
+    /// A copy of `bytes`.
+    pub fn from_slice(alloc: Global, bytes: &[u8]) -> Result<Bytes, NoMemory>
+        ensures { IfOk result (λ copy. copy ≡ bytes.now) }
+    {
+        Ok(Bytes {
+            bytes: Vec::from_slice(alloc, bytes)?,
+        })
     }
 
     /// How many bytes there are.

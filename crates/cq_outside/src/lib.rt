@@ -9,6 +9,9 @@ pub mod gate;
 pub mod pieces;
 pub mod sink;
 pub mod source;
+pub mod sure_desk;
+pub mod sure_sink;
+pub mod sure_source;
 
 pub use bytes::Bytes;
 pub use desk::Desk;
@@ -17,3 +20,6 @@ pub use gate::{Gate, OpenGate};
 pub use pieces::{read_piece, read_up_to, write_all_of};
 pub use sink::Sink;
 pub use source::Source;
+pub use sure_desk::SureDesk;
+pub use sure_sink::SureSink;
+pub use sure_source::SureSource;

@@ -1,4 +1,4 @@
-use Rattle.std.proofs.Common.{◌≡◌, ℕ, ◌+◌, ◌≤◌, ◌-◌, length, min, vec_len}
+use Rattle.std.proofs.Common.{◌≡◌, ◌+◌, ◌≤◌, ◌-◌, length, min, vec_len}
 use Rattle.std.specs.Io.KnownBytes.{Consumes}
 use Rattle.cq_outside.proofs.pieces.read_up_to.Given as goal
 

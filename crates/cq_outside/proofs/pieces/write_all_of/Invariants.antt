@@ -1,4 +1,4 @@
-use Rattle.std.proofs.Common.{◌≡◌, ℕ, ◌≤◌, ◌-◌, length, take}
+use Rattle.std.proofs.Common.{◌≡◌, ◌≤◌, ◌-◌, length, take}
 use Rattle.cq_outside.specs.Flow.{Grew}
 use Rattle.cq_outside.proofs.pieces.write_all_of.Given as goal
 
