@@ -1,9 +1,11 @@
 -- Two writes, or two reads, are one of both pieces.
-use Rattle.std.proofs.Common.{◌≡◌, ℕ, ◌+◌, ◌-◌, length, arith, length-drop, List, [], ◌++◌, take, drop, Option, None, Some, refl, sym, ap, subst, ◌∙◌, append_assoc, append-nil}
+use Rattle.std.proofs.Common.{◌≡◌, ℕ, ◌+◌, ◌-◌, ◌≤◌, length, length-append, arith, length-drop, List, [], ◌++◌, take, drop, Option, None, Some, refl, sym, ap, subst, ◌∙◌, append_assoc, append-nil}
 use Rattle.std.proofs.Math.Seq.{take-add}
 use Rattle.std.proofs.lemmas.List.{take_all}
 use Rattle.std.specs.Io.KnownBytes.{Consumes}
-use Rattle.cq_outside.specs.Flow.{Grew}
+use Rattle.cq_outside.specs.declared.faults.Refusal.{Refusal}
+use Rattle.cq_outside.specs.declared.faults.Refusal.TheVariants.{Fault, NoMemory}
+use Rattle.cq_outside.specs.Flow.{Grew, TakesAtMost, most_taken}
 
 -- nothing was written
 pub grew_same : (a : Option (List ℕ)) → Grew a a []
@@ -36,3 +38,11 @@ consumed_on None b c xs ys f g = tt
 consumed_on (Some os) None c xs ys f g = absurd f
 consumed_on (Some os) (Some bs) None xs ys f g = absurd g
 consumed_on (Some os) (Some bs) (Some cs) xs ys f g = f ∙ ap (λ l. xs ++ l) g ∙ sym (append_assoc xs ys cs)
+
+-- what a read that was refused has taken, behind what was read before it
+pub took_more : {F : Type 0} (a b c : Option (List ℕ)) (read : List ℕ) (refusal : Refusal F) (limit room : ℕ) → Consumes a b read → length read ≤ limit → room ≤ (limit + 1) - length read
+    → TakesAtMost (most_taken refusal 0 room) b c → TakesAtMost (most_taken refusal limit (limit + 1)) a c
+took_more a b c read (Fault fault) limit room before short fits more =
+    record { bytes = read ++ more.bytes; takes = consumed_on a b c read more.bytes before more.takes; few = omega (arith, length-append read more.bytes, more.few) }
+took_more a b c read NoMemory limit room before short fits more =
+    record { bytes = read ++ more.bytes; takes = consumed_on a b c read more.bytes before more.takes; few = omega (arith, length-append read more.bytes, more.few) }

@@ -1,8 +1,8 @@
 //! Reading one piece, reading all of an input up to a limit, and writing all of a text.
-ghost use Rattle.std.specs.Prelude.{◌≡◌, ◌+◌, ◌++◌, ◌^◌, ◌<◌, ◌≤◌, List, ℕ, length, take, IfOk, OnOk, OnErr};
+ghost use Rattle.std.specs.Prelude.{◌≡◌, ◌+◌, ◌++◌, ◌^◌, ◌<◌, ◌≤◌, List, ℕ, length, take, IfOk, IfErr, OnOk, OnErr};
 ghost use Rattle.std.specs.Io.KnownBytes.{ReadConsumes, Consumes, IsAtEnd};
 ghost use Rattle.cq_outside.specs.Faults.{HasCause, HasRefusalCause};
-ghost use Rattle.cq_outside.specs.Flow.{Grew};
+ghost use Rattle.cq_outside.specs.Flow.{Grew, TakesAtMost, most_taken};
 
 use crate::bytes::Bytes;
 use crate::faults::{Failed, Refusal};
@@ -24,7 +24,8 @@ pub fn read_piece<S: Source>(source: &mut S, buf: &mut [u8]) -> Result<usize, Fa
 }
 
 /// Reads until the end, or until one byte more than `limit` was taken: where at most `limit` bytes are
-/// answered, nothing is left. `limit` is below 2^62 bytes. Answers the fault of the first read that fails.
+/// answered, nothing is left. `limit` is below 2^62 bytes. Answers the fault of
+/// the first read that fails, and has taken at most `limit` bytes then.
 pub fn read_up_to<S: Source>(
     source: &mut S,
     alloc: Global,
@@ -34,6 +35,7 @@ pub fn read_up_to<S: Source>(
     ensures bytes { IfOk result (Consumes (S.left source.old) (S.left source.new)) }
     ensures most { IfOk result (λ bytes. length bytes ≤ limit + 1) }
     ensures whole { IfOk result (λ bytes. length bytes ≤ limit → IsAtEnd (S.left source.new)) }
+    ensures taken { IfErr result (λ refusal. TakesAtMost (most_taken refusal limit (limit + 1)) (S.left source.old) (S.left source.new)) }
     ensures cause { HasRefusalCause (S.faults source.old) (S.faults source.new) result }
     ensures next { S.follows source.old source.new }
 {
@@ -41,8 +43,10 @@ pub fn read_up_to<S: Source>(
     let mut bytes = Bytes::new(alloc);
     while bytes.len() <= limit {
         let room = PIECE.min(limit + 1 - bytes.len());
-        if append_piece(source, &mut buffer[..room], &mut bytes)? == 0 {
-            return Ok(bytes);
+        match append_piece(source, &mut buffer[..room], &mut bytes) {
+            Ok(0) => return Ok(bytes),
+            Ok(_) => {}
+            Err(refusal) => return Err(refusal),
         }
     }
     Ok(bytes)
@@ -58,6 +62,7 @@ fn append_piece<S: Source>(
     ensures added { IfOk result (λ n. (piece : List ℕ) × (length piece ≡ n) × (bytes.new ≡ bytes.old ++ piece)
         × Consumes (S.left source.old) (S.left source.new) piece) }
     ensures end { IfOk result (λ n. n ≡ 0 → 0 < length buffer.old → IsAtEnd (S.left source.new)) }
+    ensures taken { IfErr result (λ refusal. TakesAtMost (most_taken refusal 0 (length buffer.old)) (S.left source.old) (S.left source.new)) }
     ensures cause { HasRefusalCause (S.faults source.old) (S.faults source.new) result }
     ensures next { S.follows source.old source.new }
 {
