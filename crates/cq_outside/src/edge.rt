@@ -8,11 +8,10 @@ use crate::faults::{Failed, NoMemory, OpenFault};
 use crate::sink::Sink;
 use crate::source::Source;
 use std::alloc::Global;
-use std::fs;
 use std::io::{Read, Write};
 use std::marker::Model;
 use std::rt::Files;
-use std::str;
+use std::{fs, str};
 
 /// The name that stands for standard input.
 const STANDARD_INPUT: &[u8] = b"-";

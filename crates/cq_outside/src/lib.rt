@@ -13,6 +13,8 @@ pub mod source;
 pub mod sure_desk;
 pub mod sure_sink;
 pub mod sure_source;
+#[cfg(test)]
+mod tests;
 
 pub use bytes::Bytes;
 pub use desk::Desk;
