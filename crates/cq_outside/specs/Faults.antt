@@ -20,3 +20,8 @@ abbrev pub HasRefusalCause : {T F : Type 0} → ℕ → ℕ → Result T (Refusa
 HasRefusalCause before now (Ok _) = now ≡ before
 HasRefusalCause before now (Err (Fault _)) = (before ≤ now) × Rose before now
 HasRefusalCause before now (Err NoMemory) = now ≡ before
+
+-- the two counts of a desk
+pub record FaultCounts : Type 0 where
+  pub reads : ℕ
+  pub opens : ℕ

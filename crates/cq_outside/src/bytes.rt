@@ -1,7 +1,9 @@
 //! A list of bytes that grows.
 ghost use Rattle.std.specs.Prelude.{◌≡◌, ◌++◌, ◌==◌, List, [], ℕ, length, IfOk, OnOk, OnErr};
+ghost use Rattle.std.specs.Fmt.{signed_decimal};
 
 use crate::faults::NoMemory;
+use itoa::Buffer;
 use std::alloc::Global;
 use std::marker::Model;
 
@@ -64,5 +66,13 @@ impl Bytes {
     {
         self.bytes.extend_from_slice(more)?;
         Ok(())
+    }
+
+    /// Adds the decimal digits of `n` at the end, behind a minus sign where it is below 0.
+    pub fn push_number(&mut self, n: i64) -> Result<(), NoMemory>
+        ensures ok { OnOk result (self.new ≡ self.old ++ signed_decimal n) }
+        ensures err { OnErr result (self.new ≡ self.old) }
+    {
+        self.push_all(Buffer::new().format(n).as_bytes())
     }
 }

@@ -1,7 +1,7 @@
 //! A sink in memory that never fails.
-ghost use Rattle.std.specs.Prelude.{◌≡◌, [], ℕ, length, IfOk, Some};
+ghost use Rattle.std.specs.Prelude.{◌≡◌, List, [], ◌++◌, ℕ, length, IfOk, Some};
 ghost use Rattle.std.specs.Option.{option_copied};
-ghost use Rattle.cq_outside.specs.Kept.{Kept, taken_and};
+ghost use Rattle.cq_outside.specs.Kept.{Kept, taken_and, within};
 
 use crate::faults::{Failed, NoMemory};
 use crate::sink::Sink;
@@ -60,6 +60,8 @@ impl Sink for SureSink {
     /// Takes all of `bytes`.
     fn write(&mut self, bytes: &[u8]) -> Result<usize, Failed>
         ensures all { result ≡ Ok (length bytes.now) }
+        ensures within { (before : List ℕ) → self.old.taken ≡ within self.old.room before
+            → self.new.taken ≡ within self.old.room (before ++ bytes.now) }
         ensures kept { self.new ≡ record { room = self.old.room; taken = taken_and self.old.room self.old.taken bytes.now } }
     {
         if self.is_past_room || bytes.len() > self.room - self.bytes.len() {
