@@ -2,4 +2,6 @@ pub mod Lines
 pub mod Tags
 pub mod Fronts
 pub mod Exports
-pub mod Answers
+pub mod MoreGames
+pub mod Taken
+pub mod Written

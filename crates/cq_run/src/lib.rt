@@ -4,7 +4,9 @@
 mod answer;
 mod bare_games;
 mod query;
+mod reading;
 mod status;
 mod words;
+mod writing;
 
 pub use status::Status;
