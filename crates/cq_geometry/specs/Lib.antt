@@ -1,1 +1,4 @@
 pub mod Squares
+pub mod Steps
+pub mod Directions
+pub mod Lines

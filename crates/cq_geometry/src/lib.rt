@@ -1,6 +1,10 @@
 //! The board's squares and the steps between them, by their coordinates.
 #![tactic(auto)]
 
+pub mod compass;
 pub mod square;
+pub mod steps;
 
+pub use compass::{Compass, toward};
 pub use square::{Square, file, is_light, rank, square_at};
+pub use steps::Step;
