@@ -1,5 +1,5 @@
 -- Steps on the board, by coordinates: so many files to the right and so many ranks up, below zero to the left and down.
-use Rattle.std.specs.Prelude.{ℕ, ◌+◌, ◌-◌, ◌*◌, max, Bool, ◌&&◌, ◌||◌, ◌==◌, nat_lt, if◌then◌else◌, ℤ, pos, negsuc, ◌+ℤ◌, ◌*ℤ◌, Option, Some, None, option_map, option_and_then, List, [], ◌∷◌, filter, filter_map}
+use Rattle.std.specs.Prelude.{◌≡◌, nat_abs, ℕ, ◌+◌, ◌-◌, ◌*◌, max, Bool, ◌&&◌, ◌||◌, ◌==◌, nat_lt, if◌then◌else◌, ℤ, pos, negsuc, ◌+ℤ◌, ◌*ℤ◌, Option, Some, None, option_map, option_and_then, List, [], ◌∷◌, filter, filter_map}
 use Rattle.cq_geometry.specs.Squares.{file_of, rank_of, square_of, squares}
 
 -- a file or a rank, where it is on the board
@@ -51,3 +51,37 @@ king_squares square = filter (is_king_step square) squares
 
 unfoldable pub knight_squares : ℕ → List ℕ
 knight_squares square = filter (is_knight_step square) squares
+
+-- the eight steps of a king from a square, the lowest goal first, where they are on the board
+abbrev pub king_goals : ℕ → List (Option ℕ)
+king_goals square =
+    stepped (negsuc 0) (negsuc 0) square
+        ∷ stepped (pos 0) (negsuc 0) square
+        ∷ stepped (pos 1) (negsuc 0) square
+        ∷ stepped (negsuc 0) (pos 0) square
+        ∷ stepped (pos 1) (pos 0) square
+        ∷ stepped (negsuc 0) (pos 1) square
+        ∷ stepped (pos 0) (pos 1) square
+        ∷ stepped (pos 1) (pos 1) square
+        ∷ []
+
+-- the eight steps of a knight
+abbrev pub knight_goals : ℕ → List (Option ℕ)
+knight_goals square =
+    stepped (negsuc 0) (negsuc 1) square
+        ∷ stepped (pos 1) (negsuc 1) square
+        ∷ stepped (negsuc 1) (negsuc 0) square
+        ∷ stepped (pos 2) (negsuc 0) square
+        ∷ stepped (negsuc 1) (pos 1) square
+        ∷ stepped (pos 2) (pos 1) square
+        ∷ stepped (negsuc 0) (pos 2) square
+        ∷ stepped (pos 1) (pos 2) square
+        ∷ []
+
+-- the squares among these goals
+abbrev pub kept_goals : List (Option ℕ) → List ℕ
+kept_goals goals = filter_map (λ goal. goal) goals
+
+-- one step of a direction: at most one file and one rank, and not none of both
+abbrev pub IsDirection : ℤ → ℤ → Type 0
+IsDirection files ranks = max (nat_abs files) (nat_abs ranks) ≡ 1

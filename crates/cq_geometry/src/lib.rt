@@ -7,4 +7,4 @@ pub mod steps;
 
 pub use compass::{Compass, toward};
 pub use square::{Square, file, is_light, rank, square_at};
-pub use steps::Step;
+pub use steps::{Step, king_steps, knight_steps};

@@ -1,8 +1,9 @@
 //! Steps of so many files and ranks.
-ghost use Rattle.std.specs.Prelude.{◌≡◌, ◌^◌, pos, negsuc, ◌+ℤ◌, ◌≤ℤ◌};
-ghost use Rattle.cq_geometry.specs.Steps.{on_board, stepped};
+ghost use Rattle.std.specs.Prelude.{◌≡◌, ◌<◌, ◌^◌, All, IfSome, pos, negsuc, ◌+ℤ◌, ◌≤ℤ◌};
+ghost use Rattle.cq_geometry.specs.Steps.{on_board, stepped, king_goals, knight_goals, kept_goals, king_squares, knight_squares};
 
 use crate::square::{Square, file, rank, square_at};
+use arrayvec::ArrayVec;
 
 /// The file or rank `by` further, or None where that is off the board.
 pub(crate) fn moved(coordinate: u8, by: i64) -> Option<u8>
@@ -29,4 +30,54 @@ impl<const DF: i8, const DR: i8> Step<DF, DR> {
         let rank = moved(rank(s), i64::from(DR))?;
         Some(square_at(file, rank))
     }
+}
+
+/// Expands to the goals of the steps that are listed, each by its files and its ranks.
+macro_rules! goals {
+    ($square:expr; $(($files:literal, $ranks:literal)),*) => {
+        [$(Step::<$files, $ranks>::step($square)),*]
+    };
+}
+
+/// The squares that adjoin a square, in the order of their numbers.
+#[tactic(auto, using(crate::proofs::Tables::king_goals_kept))]
+pub fn king_steps(s: Square) -> ArrayVec<Square, 8>
+    ensures squares { result.items ≡ king_squares s }
+{
+    kept(king(s))
+}
+
+/// The squares that a knight reaches from a square, in the order of their numbers.
+#[tactic(auto, using(crate::proofs::Tables::knight_goals_kept))]
+pub fn knight_steps(s: Square) -> ArrayVec<Square, 8>
+    ensures squares { result.items ≡ knight_squares s }
+{
+    kept(knight(s))
+}
+
+/// The eight steps of a king.
+fn king(s: Square) -> [Option<Square>; 8]
+    ensures { result ≡ king_goals s }
+{
+    goals!(s; (-1, -1), (0, -1), (1, -1), (-1, 0), (1, 0), (-1, 1), (0, 1), (1, 1))
+}
+
+/// The eight steps of a knight.
+fn knight(s: Square) -> [Option<Square>; 8]
+    ensures { result ≡ knight_goals s }
+{
+    goals!(s; (-1, -2), (1, -2), (-2, -1), (2, -1), (-2, 1), (2, 1), (-1, 2), (1, 2))
+}
+
+/// The goals that are on the board.
+fn kept(goals: [Option<Square>; 8]) -> ArrayVec<Square, 8>
+    ensures { result.items ≡ kept_goals goals }
+{
+    let mut squares = ArrayVec::new();
+    for goal in goals {
+        if let Some(square) = goal {
+            squares.push(square);
+        }
+    }
+    squares
 }

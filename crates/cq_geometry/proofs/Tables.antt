@@ -1,0 +1,29 @@
+-- Facts on all 64 squares, computed.
+use Rattle.std.proofs.Common.{◌+◌, ◌≡◌, ℕ, ◌<◌, List, map, refl, sym, ap, ◌∙◌, arith, get_or}
+use Rattle.std.proofs.lemmas.List.FromFn.{get_or-map-range_with_len}
+use Rattle.cq_geometry.specs.Squares.{squares}
+use Rattle.cq_geometry.specs.Steps.{king_squares, knight_squares, king_goals, knight_goals, kept_goals, ray_from}
+use Rattle.cq_geometry.specs.Lines.{between_squares}
+
+-- two functions that agree on the whole board agree at each square
+pub at_square : {X : Type 0} (f g : ℕ → X) → map f squares ≡ map g squares → (s : ℕ) → s < 64 → f s ≡ g s
+unfolding squares
+at_square f g e s h =
+    let from_zero : 0 + s ≡ s = omega arith in
+    sym (get_or-map-range_with_len f 0 64 s s (f s) h from_zero)
+        ∙ ap (λ xs. get_or xs s (f s)) e
+        ∙ get_or-map-range_with_len g 0 64 s s (f s) h from_zero
+
+king_table : map (λ s. kept_goals (king_goals s)) squares ≡ map king_squares squares
+unfolding squares king_squares
+king_table = refl
+
+pub king_goals_kept : (s : ℕ) → s < 64 → kept_goals (king_goals s) ≡ king_squares s
+king_goals_kept s h = at_square (λ q. kept_goals (king_goals q)) king_squares king_table s h
+
+knight_table : map (λ s. kept_goals (knight_goals s)) squares ≡ map knight_squares squares
+unfolding squares knight_squares
+knight_table = refl
+
+pub knight_goals_kept : (s : ℕ) → s < 64 → kept_goals (knight_goals s) ≡ knight_squares s
+knight_goals_kept s h = at_square (λ q. kept_goals (knight_goals q)) knight_squares knight_table s h
