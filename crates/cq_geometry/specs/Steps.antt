@@ -85,3 +85,8 @@ kept_goals goals = filter_map (λ goal. goal) goals
 -- one step of a direction: at most one file and one rank, and not none of both
 abbrev pub IsDirection : ℤ → ℤ → Type 0
 IsDirection files ranks = max (nat_abs files) (nat_abs ranks) ≡ 1
+
+-- a ray goes on from its first square as the ray from there
+abbrev pub ray_on : ℤ → ℤ → Option ℕ → List ℕ
+ray_on files ranks None = []
+ray_on files ranks (Some next) = next ∷ ray_from files ranks next

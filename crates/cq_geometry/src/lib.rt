@@ -2,9 +2,11 @@
 #![tactic(auto)]
 
 pub mod compass;
+pub mod lines;
 pub mod square;
 pub mod steps;
 
 pub use compass::{Compass, toward};
+pub use lines::ray;
 pub use square::{Square, file, is_light, rank, square_at};
 pub use steps::{Step, king_steps, knight_steps};

@@ -24,7 +24,8 @@ impl<const DF: i8, const DR: i8> Step<DF, DR> {
     pub fn step(s: Square) -> Option<Square>
         requires files { (negsuc 1 ≤ℤ DF) × (DF ≤ℤ pos 2) }
         requires ranks { (negsuc 1 ≤ℤ DR) × (DR ≤ℤ pos 2) }
-        ensures { result ≡ stepped DF DR s }
+        ensures goal { result ≡ stepped DF DR s }
+        ensures board { IfSome result (λ goal. goal < 64) }
     {
         let file = moved(file(s), i64::from(DF))?;
         let rank = moved(rank(s), i64::from(DR))?;
