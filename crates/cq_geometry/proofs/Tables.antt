@@ -27,3 +27,9 @@ knight_table = refl
 
 pub knight_goals_kept : (s : ℕ) → s < 64 → kept_goals (knight_goals s) ≡ knight_squares s
 knight_goals_kept s h = at_square (λ q. kept_goals (knight_goals q)) knight_squares knight_table s h
+
+-- the same of two squares
+pub at_squares : {X : Type 0} (f g : ℕ → ℕ → X)
+    → map (λ a. map (f a) squares) squares ≡ map (λ a. map (g a) squares) squares
+    → (a b : ℕ) → a < 64 → b < 64 → f a b ≡ g a b
+at_squares f g e a b h k = at_square (f a) (g a) (at_square (λ p. map (f p) squares) (λ p. map (g p) squares) e a h) b k

@@ -7,6 +7,6 @@ pub mod square;
 pub mod steps;
 
 pub use compass::{Compass, toward};
-pub use lines::ray;
+pub use lines::{between, ray};
 pub use square::{Square, file, is_light, rank, square_at};
 pub use steps::{Step, king_steps, knight_steps};

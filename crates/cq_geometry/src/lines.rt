@@ -1,8 +1,12 @@
 //! Squares on one rank, file or diagonal.
-ghost use Rattle.std.specs.Prelude.{◌≡◌, ◌<◌};
+ghost use Rattle.std.specs.Prelude.{◌≡◌, ◌≤◌, ◌<◌};
+ghost use Rattle.cq_geometry.specs.Lines.{between_squares, direction_to, distance, steps_below};
 ghost use Rattle.cq_geometry.specs.Steps.{IsDirection, ray_from};
 
-use crate::square::Square;
+use std::cmp::Ordering;
+
+use crate::compass::{Compass, toward};
+use crate::square::{Square, file, rank};
 use crate::steps::Step;
 use arrayvec::ArrayVec;
 
@@ -19,4 +23,56 @@ pub fn ray<const DF: i8, const DR: i8>(s: Square) -> ArrayVec<Square, 7>
         at = next;
     }
     squares
+}
+
+/// The squares strictly between two squares of one rank, file or diagonal, from `a` to `b`; none for other pairs.
+#[tactic(auto, using(crate::proofs::Inside::between_by_steps))]
+pub fn between(a: Square, b: Square) -> ArrayVec<Square, 6>
+    ensures { result.items ≡ between_squares a b }
+{
+    match direction(a, b) {
+        Some(c) => before(a, c, steps(a, b)),
+        None => ArrayVec::new(),
+    }
+}
+
+/// The squares fewer than `end` steps away in a direction, the nearest first.
+fn before(s: Square, c: Compass, end: u32) -> ArrayVec<Square, 6>
+    requires { end ≤ 7 }
+    ensures { result.items ≡ steps_below s c end }
+{
+    let mut squares = ArrayVec::new();
+    for n in 1..end {
+        if let Some(square) = toward(s, c, n) {
+            squares.push(square);
+        }
+    }
+    squares
+}
+
+/// The steps of a king from one square to another.
+fn steps(a: Square, b: Square) -> u32
+    ensures steps { result ≡ distance a b }
+    ensures bound { result ≤ 7 }
+{
+    u32::from(file(a).abs_diff(file(b)).max(rank(a).abs_diff(rank(b))))
+}
+
+/// The direction from `a` to `b`, or None where they are not on one rank, file or diagonal, or are the same.
+#[tactic(auto, unfolding(crate::specs::Lines::direction_to))]
+fn direction(a: Square, b: Square) -> Option<Compass>
+    ensures { result ≡ direction_to a b }
+{
+    let diagonal = file(a).abs_diff(file(b)) == rank(a).abs_diff(rank(b));
+    match (file(a).cmp(&file(b)), rank(a).cmp(&rank(b))) {
+        (Ordering::Equal, Ordering::Less) => Some(Compass::Up),
+        (Ordering::Equal, Ordering::Greater) => Some(Compass::Down),
+        (Ordering::Greater, Ordering::Equal) => Some(Compass::Left),
+        (Ordering::Less, Ordering::Equal) => Some(Compass::Right),
+        (Ordering::Less, Ordering::Less) if diagonal => Some(Compass::Northeast),
+        (Ordering::Greater, Ordering::Less) if diagonal => Some(Compass::Northwest),
+        (Ordering::Less, Ordering::Greater) if diagonal => Some(Compass::Southeast),
+        (Ordering::Greater, Ordering::Greater) if diagonal => Some(Compass::Southwest),
+        _ => None,
+    }
 }

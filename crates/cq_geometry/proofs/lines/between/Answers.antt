@@ -1,0 +1,21 @@
+use Rattle.std.proofs.Common.{◌≡◌, ◌<◌, ap, sym, ◌∙◌, rules}
+use Rattle.cq_geometry.specs.Lines.{steps_between, steps_below, distance}
+use Rattle.cq_geometry.proofs.Inside.{between_by_steps}
+use Rattle.cq_geometry.proofs.lines.between.Goals as goal
+
+pub returns-in-Some : goal.returns-in-Some
+returns-in-Some c =
+    let h : c.args.a < 64 = search rules in
+    let k : c.args.b < 64 = search rules in
+    c.before-in-Some.ensures
+        ∙ ap (steps_below c.args.a c.in-Some.c) c.steps.ensures.steps
+        ∙ ap (λ d. steps_between c.args.a d (distance c.args.a c.args.b)) c.in-Some.ensures
+        ∙ between_by_steps c.args.a c.args.b h k
+
+pub returns-in-None : goal.returns-in-None
+returns-in-None c =
+    let h : c.args.a < 64 = search rules in
+    let k : c.args.b < 64 = search rules in
+    c.new.ensures
+        ∙ ap (λ d. steps_between c.args.a d (distance c.args.a c.args.b)) c.in-None.ensures
+        ∙ between_by_steps c.args.a c.args.b h k
