@@ -1,7 +1,10 @@
 -- The squares between two squares, counted by steps.
 use Rattle.std.proofs.Common.{◌≡◌, ◌<◌, ℕ, List, map, refl, sym}
 use Rattle.cq_geometry.specs.Squares.{squares}
-use Rattle.cq_geometry.specs.Lines.{between_squares, direction_to, distance, steps_between}
+use Rattle.cq_geometry.specs.Steps.{distance}
+use Rattle.cq_geometry.specs.Directions.{direction_to}
+use Rattle.cq_geometry.specs.Lines.{between_squares}
+use Rattle.cq_geometry.specs.Expansions.{steps_between}
 use Rattle.cq_geometry.proofs.Tables.{at_squares}
 
 between_table : map (λ a. map (between_squares a) squares) squares

@@ -1,3 +1,5 @@
+pub mod Board
 pub mod Tables
 pub mod Inside
 pub mod Rays
+mod Rows

@@ -2,7 +2,8 @@
 use Rattle.std.specs.List.{cons_option, filter_map}
 use Rattle.std.proofs.Common.{◌≡◌, ◌+◌, ℕ, zero, suc, max, ◌<◌, ◌≤◌, ℤ, pos, negsuc, Option, Some, None, List, [], ◌∷◌, ◌++◌, map, length, refl, ap, ◌∙◌, arith}
 use Rattle.cq_geometry.specs.Squares.{squares}
-use Rattle.cq_geometry.specs.Steps.{stepped, steps_away, ray_from, ray_on, IsDirection}
+use Rattle.cq_geometry.specs.Steps.{stepped, steps_away, ray_from, IsDirection}
+use Rattle.cq_geometry.specs.Expansions.{ray_on}
 use Rattle.cq_geometry.proofs.Tables.{at_square}
 
 too_far : (n m : ℕ) → max (suc (suc n)) m ≡ 1 → ⊥

@@ -2,8 +2,8 @@
 use Rattle.std.proofs.Common.{◌+◌, ◌≡◌, ℕ, ◌<◌, List, map, refl, sym, ap, ◌∙◌, arith, get_or}
 use Rattle.std.proofs.lemmas.List.FromFn.{get_or-map-range_with_len}
 use Rattle.cq_geometry.specs.Squares.{squares}
-use Rattle.cq_geometry.specs.Steps.{king_squares, knight_squares, king_goals, knight_goals, kept_goals, ray_from}
-use Rattle.cq_geometry.specs.Lines.{between_squares}
+use Rattle.cq_geometry.specs.Steps.{king_squares, knight_squares}
+use Rattle.cq_geometry.specs.Expansions.{king_goals, knight_goals, kept_goals}
 
 -- two functions that agree on the whole board agree at each square
 pub at_square : {X : Type 0} (f g : ℕ → X) → map f squares ≡ map g squares → (s : ℕ) → s < 64 → f s ≡ g s

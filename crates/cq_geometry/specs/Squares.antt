@@ -18,6 +18,6 @@ square_of file rank = 8 * rank + file
 abbrev pub IsLight : ℕ → Type 0
 IsLight square = (file_of square + rank_of square) % 2 ≡ 1
 
--- the squares of the board, in order
+-- the squares of the board, in the order of their numbers
 unfoldable pub squares : List ℕ
 squares = range_with_len 0 64

@@ -1,5 +1,5 @@
 -- Steps on the board, by coordinates: so many files to the right and so many ranks up, below zero to the left and down.
-use Rattle.std.specs.Prelude.{◌≡◌, nat_abs, ℕ, ◌+◌, ◌-◌, ◌*◌, max, Bool, ◌&&◌, ◌||◌, ◌==◌, nat_lt, if◌then◌else◌, ℤ, pos, negsuc, ◌+ℤ◌, ◌*ℤ◌, Option, Some, None, option_map, option_and_then, List, [], ◌∷◌, filter, filter_map}
+use Rattle.std.specs.Prelude.{◌≡◌, ℕ, ◌+◌, ◌-◌, max, Bool, ◌&&◌, ◌||◌, ◌==◌, nat_lt, if◌then◌else◌, ℤ, pos, negsuc, ◌+ℤ◌, ◌*ℤ◌, nat_abs, Option, Some, None, option_map, option_and_then, List, [], ◌∷◌, filter, filter_map}
 use Rattle.cq_geometry.specs.Squares.{file_of, rank_of, square_of, squares}
 
 -- a file or a rank, where it is on the board
@@ -21,6 +21,10 @@ stepped files ranks square =
 abbrev pub steps_away : ℤ → ℤ → ℕ → ℕ → Option ℕ
 steps_away files ranks square n = stepped (pos n *ℤ files) (pos n *ℤ ranks) square
 
+-- a direction goes at most one file and one rank, and not none of both
+abbrev pub IsDirection : ℤ → ℤ → Type 0
+IsDirection files ranks = max (nat_abs files) (nat_abs ranks) ≡ 1
+
 -- the squares one step away, two steps away and so on, up to the edge
 unfoldable pub ray_from : ℤ → ℤ → ℕ → List ℕ
 ray_from files ranks square =
@@ -36,57 +40,23 @@ files_apart a b = apart (file_of a) (file_of b)
 abbrev pub ranks_apart : ℕ → ℕ → ℕ
 ranks_apart a b = apart (rank_of a) (rank_of b)
 
+-- how many moves a king needs from one square to another on an empty board
+abbrev pub distance : ℕ → ℕ → ℕ
+distance a b = max (files_apart a b) (ranks_apart a b)
+
 -- a king steps to an adjoining square
 abbrev pub is_king_step : ℕ → ℕ → Bool
-is_king_step a b = max (files_apart a b) (ranks_apart a b) == 1
+is_king_step a b = distance a b == 1
 
--- a knight steps to a nearest square that is not on its rank, file or diagonal: two one way and one across
+-- a knight steps two one way and one across: to the nearest squares that are not on its rank, file or diagonal
 abbrev pub is_knight_step : ℕ → ℕ → Bool
 is_knight_step a b =
     files_apart a b == 1 && ranks_apart a b == 2 || files_apart a b == 2 && ranks_apart a b == 1
 
--- the squares to which a king or a knight steps from a square, in the order of their numbers
+-- the squares to which a king steps, in the order of their numbers
 unfoldable pub king_squares : ℕ → List ℕ
 king_squares square = filter (is_king_step square) squares
 
+-- the squares to which a knight steps, in the order of their numbers
 unfoldable pub knight_squares : ℕ → List ℕ
 knight_squares square = filter (is_knight_step square) squares
-
--- the eight steps of a king from a square, the lowest goal first, where they are on the board
-abbrev pub king_goals : ℕ → List (Option ℕ)
-king_goals square =
-    stepped (negsuc 0) (negsuc 0) square
-        ∷ stepped (pos 0) (negsuc 0) square
-        ∷ stepped (pos 1) (negsuc 0) square
-        ∷ stepped (negsuc 0) (pos 0) square
-        ∷ stepped (pos 1) (pos 0) square
-        ∷ stepped (negsuc 0) (pos 1) square
-        ∷ stepped (pos 0) (pos 1) square
-        ∷ stepped (pos 1) (pos 1) square
-        ∷ []
-
--- the eight steps of a knight
-abbrev pub knight_goals : ℕ → List (Option ℕ)
-knight_goals square =
-    stepped (negsuc 0) (negsuc 1) square
-        ∷ stepped (pos 1) (negsuc 1) square
-        ∷ stepped (negsuc 1) (negsuc 0) square
-        ∷ stepped (pos 2) (negsuc 0) square
-        ∷ stepped (negsuc 1) (pos 1) square
-        ∷ stepped (pos 2) (pos 1) square
-        ∷ stepped (negsuc 0) (pos 2) square
-        ∷ stepped (pos 1) (pos 2) square
-        ∷ []
-
--- the squares among these goals
-abbrev pub kept_goals : List (Option ℕ) → List ℕ
-kept_goals goals = filter_map (λ goal. goal) goals
-
--- one step of a direction: at most one file and one rank, and not none of both
-abbrev pub IsDirection : ℤ → ℤ → Type 0
-IsDirection files ranks = max (nat_abs files) (nat_abs ranks) ≡ 1
-
--- a ray goes on from its first square as the ray from there
-abbrev pub ray_on : ℤ → ℤ → Option ℕ → List ℕ
-ray_on files ranks None = []
-ray_on files ranks (Some next) = next ∷ ray_from files ranks next

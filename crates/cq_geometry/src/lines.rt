@@ -1,7 +1,9 @@
 //! Squares on one rank, file or diagonal.
 ghost use Rattle.std.specs.Prelude.{◌≡◌, ◌≤◌, ◌<◌};
-ghost use Rattle.cq_geometry.specs.Lines.{between_squares, direction_to, distance, steps_below};
-ghost use Rattle.cq_geometry.specs.Steps.{IsDirection, ray_from};
+ghost use Rattle.cq_geometry.specs.Directions.{direction_to};
+ghost use Rattle.cq_geometry.specs.Expansions.{steps_below};
+ghost use Rattle.cq_geometry.specs.Lines.{between_squares};
+ghost use Rattle.cq_geometry.specs.Steps.{IsDirection, distance as king_distance, ray_from};
 
 use std::cmp::Ordering;
 
@@ -26,18 +28,17 @@ pub fn ray<const DF: i8, const DR: i8>(s: Square) -> ArrayVec<Square, 7>
 }
 
 /// The squares strictly between two squares of one rank, file or diagonal, from `a` to `b`; none for other pairs.
-#[tactic(auto, using(crate::proofs::Inside::between_by_steps))]
 pub fn between(a: Square, b: Square) -> ArrayVec<Square, 6>
     ensures { result.items ≡ between_squares a b }
 {
     match direction(a, b) {
-        Some(c) => before(a, c, steps(a, b)),
+        Some(c) => along(a, c, distance(a, b)),
         None => ArrayVec::new(),
     }
 }
 
 /// The squares fewer than `end` steps away in a direction, the nearest first.
-fn before(s: Square, c: Compass, end: u32) -> ArrayVec<Square, 6>
+fn along(s: Square, c: Compass, end: u32) -> ArrayVec<Square, 6>
     requires { end ≤ 7 }
     ensures { result.items ≡ steps_below s c end }
 {
@@ -50,16 +51,16 @@ fn before(s: Square, c: Compass, end: u32) -> ArrayVec<Square, 6>
     squares
 }
 
-/// The steps of a king from one square to another.
-fn steps(a: Square, b: Square) -> u32
-    ensures steps { result ≡ distance a b }
+/// The moves that a king needs from one square to another.
+fn distance(a: Square, b: Square) -> u32
+    ensures value { result ≡ king_distance a b }
     ensures bound { result ≤ 7 }
 {
     u32::from(file(a).abs_diff(file(b)).max(rank(a).abs_diff(rank(b))))
 }
 
 /// The direction from `a` to `b`, or None where they are not on one rank, file or diagonal, or are the same.
-#[tactic(auto, unfolding(crate::specs::Lines::direction_to))]
+#[tactic(auto, unfolding(crate::specs::Directions::direction_to))]
 fn direction(a: Square, b: Square) -> Option<Compass>
     ensures { result ≡ direction_to a b }
 {

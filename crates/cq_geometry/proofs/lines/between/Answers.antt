@@ -1,5 +1,6 @@
 use Rattle.std.proofs.Common.{◌≡◌, ◌<◌, ap, sym, ◌∙◌, rules}
-use Rattle.cq_geometry.specs.Lines.{steps_between, steps_below, distance}
+use Rattle.cq_geometry.specs.Steps.{distance as king_distance}
+use Rattle.cq_geometry.specs.Expansions.{steps_between, steps_below}
 use Rattle.cq_geometry.proofs.Inside.{between_by_steps}
 use Rattle.cq_geometry.proofs.lines.between.Goals as goal
 
@@ -7,9 +8,9 @@ pub returns-in-Some : goal.returns-in-Some
 returns-in-Some c =
     let h : c.args.a < 64 = search rules in
     let k : c.args.b < 64 = search rules in
-    c.before-in-Some.ensures
-        ∙ ap (steps_below c.args.a c.in-Some.c) c.steps.ensures.steps
-        ∙ ap (λ d. steps_between c.args.a d (distance c.args.a c.args.b)) c.in-Some.ensures
+    c.along.ensures
+        ∙ ap (steps_below c.args.a c.in-Some.c) c.distance.ensures.value
+        ∙ ap (λ d. steps_between c.args.a d (king_distance c.args.a c.args.b)) c.in-Some.ensures
         ∙ between_by_steps c.args.a c.args.b h k
 
 pub returns-in-None : goal.returns-in-None
@@ -17,5 +18,5 @@ returns-in-None c =
     let h : c.args.a < 64 = search rules in
     let k : c.args.b < 64 = search rules in
     c.new.ensures
-        ∙ ap (λ d. steps_between c.args.a d (distance c.args.a c.args.b)) c.in-None.ensures
+        ∙ ap (λ d. steps_between c.args.a d (king_distance c.args.a c.args.b)) c.in-None.ensures
         ∙ between_by_steps c.args.a c.args.b h k

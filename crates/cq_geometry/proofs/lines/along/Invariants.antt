@@ -1,6 +1,6 @@
 use Rattle.std.proofs.Common.{◌≡◌, ◌<◌, ◌≤◌, ◌+◌, max, length}
-use Rattle.cq_geometry.specs.Lines.{steps_below}
-use Rattle.cq_geometry.proofs.lines.before.Given as goal
+use Rattle.cq_geometry.specs.Expansions.{steps_below}
+use Rattle.cq_geometry.proofs.lines.along.Given as goal
 
 abbrev pub invariant-loop-n : goal.invariant-loop-n
 invariant-loop-n l =

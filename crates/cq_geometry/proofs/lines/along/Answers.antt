@@ -5,9 +5,9 @@ use Rattle.std.proofs.lemmas.List.Elements.{filter_map-append}
 use Rattle.cq_geometry.specs.declared.compass.Compass.{Compass}
 use Rattle.cq_geometry.specs.Steps.{steps_away}
 use Rattle.cq_geometry.specs.Directions.{files_of, ranks_of}
-use Rattle.cq_geometry.specs.Lines.{steps_below}
-use Rattle.cq_geometry.proofs.lines.before.Goals as goal
-use Rattle.cq_geometry.proofs.lines.before.Goals.{in-Some, in_default}
+use Rattle.cq_geometry.specs.Expansions.{steps_below}
+use Rattle.cq_geometry.proofs.lines.along.Goals as goal
+use Rattle.cq_geometry.proofs.lines.along.Goals.{in-Some, in_default}
 
 range_more : (a n : ℕ) → range_with_len a (n + 1) ≡ range_with_len a n ++ (a + n) ∷ []
 range_more a zero = let e : a + 0 ≡ a = omega arith in ap (λ k. k ∷ []) (sym e)
