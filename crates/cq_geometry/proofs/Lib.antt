@@ -2,4 +2,5 @@ pub mod Board
 pub mod Tables
 pub mod Inside
 pub mod Rays
+pub mod Slides
 mod Rows
