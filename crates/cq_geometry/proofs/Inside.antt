@@ -1,9 +1,9 @@
 -- The squares between two squares, counted by steps.
-use Rattle.std.proofs.Common.{◌≡◌, ◌<◌, ℕ, Bool, true, false, ◌&&◌, ◌||◌, ◌==◌, ltb, cond, List, [], ◌∷◌, ◌++◌, map, reverse, refl, sym, ap, ap₂, ◌∙◌, inl, inr, arith}
+use Rattle.std.proofs.Common.{◌≡◌, ◌<◌, ℕ, Bool, true, false, ◌&&◌, ◌||◌, ◌==◌, ltb, cond, List, [], ◌∷◌, ◌++◌, map, reverse, length, get_or, ◌-◌, refl, sym, ap, ap₂, ◌∙◌, inl, inr, arith}
 use Rattle.std.specs.List.{All, filter}
 use Rattle.std.proofs.lemmas.Bool.Decides.{nat_tests}
 use Rattle.std.proofs.lemmas.Bool.{cases_order, cond_below, cond_above}
-use Rattle.std.proofs.lemmas.List.{reverse-append, reverse-reverse, append-nil}
+use Rattle.std.proofs.lemmas.List.{reverse-append, reverse-reverse, length-reverse, get_or-reverse}
 use Rattle.std.proofs.lemmas.List.Elements.{filter-append, filter_agree, All-filter}
 use Rattle.std.proofs.Math.Bool.{or_comm}
 use Rattle.cq_geometry.specs.Squares.{file_of, rank_of, squares}
@@ -11,6 +11,7 @@ use Rattle.cq_geometry.specs.Steps.{distance}
 use Rattle.cq_geometry.specs.Directions.{direction_to}
 use Rattle.cq_geometry.specs.Lines.{between_squares, lies_between, is_inside, rising_of, falling_of}
 use Rattle.cq_geometry.specs.Expansions.{steps_between}
+use Rattle.cq_geometry.proofs.Board.{squares_board}
 use Rattle.cq_geometry.proofs.Tables.{at_square, at_squares}
 
 between_table : map (λ a. map (between_squares a) squares) squares
@@ -88,3 +89,18 @@ between_reversed a b h =
             ∙ sym (reverse-reverse (filter (lies_between a b) squares))
             ∙ ap reverse (sym (filter_reverse (lies_between a b) squares))
             ∙ ap reverse (sym (falling a b above)) ]
+
+reversed_board : All (λ s. s < 64) (reverse squares)
+reversed_board k d h =
+    let lower : k < length squares = omega (arith, length-reverse squares) in
+    let other : length squares - 1 - k < length squares = omega arith in
+    let e : get_or (reverse squares) k d ≡ get_or squares (length squares - 1 - k) d = get_or-reverse squares k d lower in
+    let below : get_or squares (length squares - 1 - k) d < 64 = squares_board (length squares - 1 - k) d other in
+    omega arith
+
+pub between_board : (a b : ℕ) → All (λ s. s < 64) (between_squares a b)
+unfolding between_squares
+between_board a b =
+    elim (ltb a b) as (λ t. All (λ s. s < 64) (filter (lies_between a b) (cond t squares (reverse squares)))) [
+      true ↦ All-filter (lies_between a b) (λ s. s < 64) squares squares_board
+    | false ↦ All-filter (lies_between a b) (λ s. s < 64) (reverse squares) reversed_board ]

@@ -1,8 +1,11 @@
 -- How a ray goes on, in each of the eight directions.
-use Rattle.std.specs.List.{cons_option, filter_map}
-use Rattle.std.proofs.Common.{◌≡◌, ◌+◌, ℕ, zero, suc, max, ◌<◌, ◌≤◌, ℤ, pos, negsuc, Option, Some, None, List, [], ◌∷◌, ◌++◌, map, length, refl, ap, ◌∙◌, arith}
-use Rattle.cq_geometry.specs.Squares.{squares}
-use Rattle.cq_geometry.specs.Steps.{stepped, steps_away, ray_from, IsDirection}
+use Rattle.std.specs.List.{All, cons_option, filter_map}
+use Rattle.std.specs.Prelude.{IfSome, option_map, option_and_then}
+use Rattle.std.proofs.lemmas.Bool.{cases_lt, cond_below, cond_above}
+use Rattle.std.proofs.lemmas.List.Elements.{All-nil, All-cons}
+use Rattle.std.proofs.Common.{◌≡◌, ◌+◌, ℕ, zero, suc, max, ◌<◌, ◌≤◌, ℤ, pos, negsuc, ◌+ℤ◌, ◌*ℤ◌, inl, inr, subst, Option, Some, None, List, [], ◌∷◌, ◌++◌, map, length, refl, ap, ◌∙◌, arith}
+use Rattle.cq_geometry.specs.Squares.{squares, square_of, file_of, rank_of}
+use Rattle.cq_geometry.specs.Steps.{on_board, stepped, steps_away, ray_from, IsDirection}
 use Rattle.cq_geometry.specs.Expansions.{ray_on}
 use Rattle.cq_geometry.proofs.Tables.{at_square}
 
@@ -68,3 +71,38 @@ pub ray_short : (files ranks : ℤ) (s : ℕ) → length (ray_from files ranks s
 unfolding ray_from
 ray_short files ranks s =
     length-filter_map (steps_away files ranks s) (1 ∷ 2 ∷ 3 ∷ 4 ∷ 5 ∷ 6 ∷ 7 ∷ [])
+
+below_eight : (z : ℤ) → IfSome (on_board z) (λ n. n < 8)
+below_eight (negsuc n) = tt
+below_eight (pos n) =
+    elim (cases_lt n 8) [
+      inl h ↦ subst (λ (o : Option ℕ). IfSome o (λ k. k < 8)) (cond_below n 8 (Some n) None h) h
+    | inr h ↦ subst (λ (o : Option ℕ). IfSome o (λ k. k < 8)) (cond_above n 8 (Some n) None None h refl) tt ]
+
+below_64 : (file rank : Option ℕ) → IfSome file (λ n. n < 8) → IfSome rank (λ n. n < 8)
+    → IfSome (option_and_then (λ f. option_map (λ r. square_of f r) rank) file) (λ q. q < 64)
+below_64 None rank h k = tt
+below_64 (Some f) None h k = tt
+below_64 (Some f) (Some r) h k = omega arith
+
+-- a step that is on the board leads to one of the 64 squares
+pub stepped_board : (files ranks : ℤ) (s : ℕ) → IfSome (stepped files ranks s) (λ q. q < 64)
+stepped_board files ranks s =
+    let file = pos (file_of s) +ℤ files in
+    let rank = pos (rank_of s) +ℤ ranks in
+    below_64 (on_board file) (on_board rank) (below_eight file) (below_eight rank)
+
+All-cons_option : {X : Type 0} (P : X → Type 0) (o : Option X) (xs : List X) → IfSome o P → All P xs → All P (cons_option o xs)
+All-cons_option P None xs h k = k
+All-cons_option P (Some x) xs h k = All-cons P x xs h k
+
+All-filter_map : {X Y : Type 0} (P : Y → Type 0) (h : X → Option Y) → ((x : X) → IfSome (h x) P)
+    → (xs : List X) → All P (filter_map h xs)
+All-filter_map P h each [] = All-nil P
+All-filter_map P h each (x ∷ xs) = All-cons_option P (h x) (filter_map h xs) (each x) (All-filter_map P h each xs)
+
+pub ray_board : (files ranks : ℤ) (s : ℕ) → All (λ q. q < 64) (ray_from files ranks s)
+unfolding ray_from
+ray_board files ranks s =
+    All-filter_map (λ q. q < 64) (steps_away files ranks s) (λ n. stepped_board (pos n *ℤ files) (pos n *ℤ ranks) s)
+        (1 ∷ 2 ∷ 3 ∷ 4 ∷ 5 ∷ 6 ∷ 7 ∷ [])

@@ -1,8 +1,10 @@
 -- Facts on all 64 squares, computed.
 use Rattle.std.proofs.Common.{◌+◌, ◌≡◌, ℕ, ◌<◌, List, map, refl, sym, ap, ◌∙◌, arith, get_or}
 use Rattle.std.proofs.lemmas.List.FromFn.{get_or-map-range_with_len}
+use Rattle.std.specs.List.{All}
 use Rattle.cq_geometry.specs.Squares.{squares}
-use Rattle.cq_geometry.specs.Steps.{king_squares, knight_squares}
+use Rattle.cq_geometry.specs.Steps.{king_squares, knight_squares, is_king_step, is_knight_step}
+use Rattle.cq_geometry.proofs.Board.{kept_squares_board}
 use Rattle.cq_geometry.specs.Expansions.{king_goals, knight_goals, kept_goals}
 
 -- two functions that agree on the whole board agree at each square
@@ -33,3 +35,11 @@ pub at_squares : {X : Type 0} (f g : ℕ → ℕ → X)
     → map (λ a. map (f a) squares) squares ≡ map (λ a. map (g a) squares) squares
     → (a b : ℕ) → a < 64 → b < 64 → f a b ≡ g a b
 at_squares f g e a b h k = at_square (f a) (g a) (at_square (λ p. map (f p) squares) (λ p. map (g p) squares) e a h) b k
+
+pub king_board : (s : ℕ) → All (λ q. q < 64) (king_squares s)
+unfolding king_squares
+king_board s = kept_squares_board (is_king_step s)
+
+pub knight_board : (s : ℕ) → All (λ q. q < 64) (knight_squares s)
+unfolding knight_squares
+knight_board s = kept_squares_board (is_knight_step s)

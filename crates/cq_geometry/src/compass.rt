@@ -1,5 +1,5 @@
 //! The eight directions of the board.
-ghost use Rattle.std.specs.Prelude.{◌≡◌, pos, negsuc, ◌+ℤ◌, ◌*ℤ◌, ◌≤ℤ◌};
+ghost use Rattle.std.specs.Prelude.{◌≡◌, ◌<◌, IfSome, pos, negsuc, ◌+ℤ◌, ◌*ℤ◌, ◌≤ℤ◌};
 ghost use Rattle.cq_geometry.specs.Directions.{files_of, ranks_of};
 ghost use Rattle.cq_geometry.specs.Steps.{on_board, steps_away};
 
@@ -45,7 +45,8 @@ impl Compass {
 
 /// The square `n` steps away in a direction, or None where that is off the board.
 pub fn toward(s: Square, c: Compass, n: u32) -> Option<Square>
-    ensures { result ≡ steps_away (files_of c) (ranks_of c) s n }
+    ensures goal { result ≡ steps_away (files_of c) (ranks_of c) s n }
+    ensures board { IfSome result (λ goal. goal < 64) }
 {
     let file = moved_times(file(s), c.files(), n)?;
     let rank = moved_times(rank(s), c.ranks(), n)?;

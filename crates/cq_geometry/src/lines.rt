@@ -1,5 +1,5 @@
 //! Squares on one rank, file or diagonal.
-ghost use Rattle.std.specs.Prelude.{◌≡◌, ◌≤◌, ◌<◌};
+ghost use Rattle.std.specs.Prelude.{◌≡◌, All, ◌≤◌, ◌<◌};
 ghost use Rattle.cq_geometry.specs.Directions.{direction_to};
 ghost use Rattle.cq_geometry.specs.Expansions.{steps_below};
 ghost use Rattle.cq_geometry.specs.Lines.{between_squares};
@@ -16,7 +16,8 @@ use arrayvec::ArrayVec;
 /// ranks up, each from -1 to 1 and not both 0.
 pub fn ray<const DF: i8, const DR: i8>(s: Square) -> ArrayVec<Square, 7>
     requires { IsDirection DF DR }
-    ensures { result.items ≡ ray_from DF DR s }
+    ensures squares { result.items ≡ ray_from DF DR s }
+    ensures board { All (λ square. square < 64) result.items }
 {
     let mut squares = ArrayVec::new();
     let mut at = s;
@@ -28,8 +29,10 @@ pub fn ray<const DF: i8, const DR: i8>(s: Square) -> ArrayVec<Square, 7>
 }
 
 /// The squares strictly between two squares of one rank, file or diagonal, from `a` to `b`; none for other pairs.
+#[tactic(auto, using(crate::proofs::Inside::between_board))]
 pub fn between(a: Square, b: Square) -> ArrayVec<Square, 6>
-    ensures { result.items ≡ between_squares a b }
+    ensures squares { result.items ≡ between_squares a b }
+    ensures board { All (λ square. square < 64) result.items }
 {
     match direction(a, b) {
         Some(c) => along(a, c, distance(a, b)),

@@ -33,10 +33,10 @@ pub loop-n-preserved : goal.loop-n-preserved
 loop-n-preserved c =
     elim c.match-toward.branch [
       in-Some w ↦ 
-        let more = steps_more c.args.s c.args.c c.loop-n.n (Some w.in-Some.square) c.loop-n.auto.n (sym w.in-Some.ensures) in
+        let more = steps_more c.args.s c.args.c c.loop-n.n (Some w.in-Some.square) c.loop-n.auto.n (sym w.in-Some.ensures.goal) in
         grind (arith, common_steps)
     | in_default w ↦
-        let more = steps_more c.args.s c.args.c c.loop-n.n None c.loop-n.auto.n (sym w.in_default.ensures) in
+        let more = steps_more c.args.s c.args.c c.loop-n.n None c.loop-n.auto.n (sym w.in_default.ensures.goal) in
         grind (arith, common_steps) ]
 
 pub returns : goal.returns

@@ -4,8 +4,8 @@ use Rattle.cq_geometry.specs.Expansions.{steps_between, steps_below}
 use Rattle.cq_geometry.proofs.Inside.{between_by_steps}
 use Rattle.cq_geometry.proofs.lines.between.Goals as goal
 
-pub returns-in-Some : goal.returns-in-Some
-returns-in-Some c =
+pub returns-in-Some-clause-squares : goal.returns-in-Some-clause-squares
+returns-in-Some-clause-squares c =
     let h : c.args.a < 64 = search rules in
     let k : c.args.b < 64 = search rules in
     c.along.ensures
@@ -13,8 +13,8 @@ returns-in-Some c =
         ∙ ap (λ d. steps_between c.args.a d (king_distance c.args.a c.args.b)) c.in-Some.ensures
         ∙ between_by_steps c.args.a c.args.b h k
 
-pub returns-in-None : goal.returns-in-None
-returns-in-None c =
+pub returns-in-None-clause-squares : goal.returns-in-None-clause-squares
+returns-in-None-clause-squares c =
     let h : c.args.a < 64 = search rules in
     let k : c.args.b < 64 = search rules in
     c.new.ensures

@@ -1,8 +1,8 @@
 use Rattle.std.proofs.Common.{◌≡◌, ◌<◌, ◌+◌, ◌≤◌, ℕ, Some, None, List, [], ◌∷◌, ◌++◌, length, arith, ap, sym, ◌∙◌, rules, to_z, w8}
 use Rattle.std.proofs.lemmas.Grind.{common_steps}
-use Rattle.std.proofs.lemmas.List.{length-append}
+use Rattle.std.proofs.lemmas.List.Elements.{All-same}
 use Rattle.cq_geometry.specs.Steps.{ray_from}
-use Rattle.cq_geometry.proofs.Rays.{ray_some, ray_none, ray_short}
+use Rattle.cq_geometry.proofs.Rays.{ray_board, ray_some, ray_none, ray_short}
 use Rattle.cq_geometry.proofs.lines.ray.Goals as goal
 
 -- where a ray goes on there is room for one square more
@@ -26,5 +26,8 @@ loop-next-preserved g c =
 
 pub returns : goal.returns
 returns g c =
-    let e = ray_none (to_z w8 g.row.DF) (to_z w8 g.row.DR) c.loop-next.at c.requires c.loop-next.invariant.board (sym c.in_default.ensures.goal) in
-    grind (arith, common_steps)
+    let files = to_z w8 g.row.DF in
+    let ranks = to_z w8 g.row.DR in
+    let e = ray_none files ranks c.loop-next.at c.requires c.loop-next.invariant.board (sym c.in_default.ensures.goal) in
+    let same : c.loop-next.squares.items ≡ ray_from files ranks c.args.s = grind (arith, common_steps) in
+    record { squares = same; board = All-same (λ q. q < 64) _ _ same (ray_board files ranks c.args.s) }
