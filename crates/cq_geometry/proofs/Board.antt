@@ -1,8 +1,7 @@
 -- The squares of the board as a list, and what a test keeps of them.
-use Rattle.std.proofs.Common.{◌≡◌, ℕ, zero, suc, ◌+◌, ◌-◌, ◌<◌, ◌≤◌, Bool, true, false, cond, List, [], ◌∷◌, ◌++◌, length, get_or, ap, sym, ◌∙◌, subst, arith}
+use Rattle.std.proofs.Common.{◌≡◌, ℕ, zero, suc, ◌+◌, ◌-◌, ◌<◌, ◌≤◌, Bool, true, false, cond, List, [], ◌∷◌, ap, sym, ◌∙◌, subst, arith}
 use Rattle.std.specs.List.{All, Contains, filter, range_with_len}
 use Rattle.std.specs.List.Sorted.{IsStrictlyIncreasing}
-use Rattle.std.proofs.lemmas.Bool.{and_from}
 use Rattle.std.proofs.lemmas.List.FromFn.{get_or-range_with_len, length-range_with_len}
 use Rattle.std.proofs.lemmas.List.Elements.{All-filter, Contains-append_right}
 use Rattle.std.proofs.lemmas.List.Kept.{IsStrictlyIncreasing-filter}
@@ -40,8 +39,9 @@ contains_rest : {X : Type 0} (p : X → Bool) (y : X) (ys : List X) (x : X)
     → Contains (filter p ys) x → Contains (filter p (y ∷ ys)) x
 contains_rest p y ys x h =
     elim (p y) as (λ b. Contains (cond b (y ∷ filter p ys) (filter p ys)) x) [
-      true ↦ Contains-append_right (y ∷ []) (filter p ys) x h
-    | false ↦ h ]
+      | true ↦ Contains-append_right (y ∷ []) (filter p ys) x h
+      | false ↦ h
+    ]
 
 contains_first : {X : Type 0} (p : X → Bool) (y : X) (ys : List X) (x : X)
     → y ≡ x → p x ≡ true → Contains (filter p (y ∷ ys)) x

@@ -30,11 +30,11 @@ filter_reverse : {X : Type 0} (p : X → Bool) (xs : List X) → filter p (rever
 filter_reverse p [] = refl
 filter_reverse p (x ∷ xs) =
     ap (filter p) (reverse-append (x ∷ []) xs)
-        ∙ filter-append p (reverse xs) (x ∷ [])
-        ∙ ap (λ ys. ys ++ filter p (x ∷ [])) (filter_reverse p xs)
-        ∙ ap (λ ys. reverse (filter p xs) ++ ys) (filter_one p x)
-        ∙ sym (reverse-append (filter p (x ∷ [])) (filter p xs))
-        ∙ ap reverse (sym (filter-append p (x ∷ []) xs))
+    ∙ filter-append p (reverse xs) (x ∷ [])
+    ∙ ap (λ ys. ys ++ filter p (x ∷ [])) (filter_reverse p xs)
+    ∙ ap (λ ys. reverse (filter p xs) ++ ys) (filter_one p x)
+    ∙ sym (reverse-append (filter p (x ∷ [])) (filter p xs))
+    ∙ ap reverse (sym (filter-append p (x ∷ []) xs))
 
 same_both_ways : (m n k : ℕ) → (m == n && n == k) ≡ (k == n && n == m)
 same_both_ways m n k = grind (arith, nat_tests)
@@ -51,7 +51,7 @@ between_both_ways a b square =
     let in_files = inside_both_ways (file_of a) (file_of square) (file_of b) in
     let in_ranks = inside_both_ways (rank_of a) (rank_of square) (rank_of b) in
     ap₂ (λ x y. x && y) (ap₂ (λ x y. x || y) (ap₂ (λ x y. x || y) (ap₂ (λ x y. x || y) file rank) up) down)
-        (ap₂ (λ x y. x || y) in_files in_ranks)
+    (ap₂ (λ x y. x || y) in_files in_ranks)
 
 itself_table : map (λ a. between_squares a a) squares ≡ map (λ a. []) squares
 unfolding squares between_squares
@@ -73,22 +73,23 @@ falling a b h =
 pub between_reversed : (a b : ℕ) → a < 64 → between_squares b a ≡ reverse (between_squares a b)
 between_reversed a b h =
     elim (cases_order a b) [
-      inl e ↦
-        ap (λ x. between_squares x a) (sym e)
-            ∙ between_itself a h
-            ∙ ap reverse (sym (between_itself a h))
-            ∙ ap (λ x. reverse (between_squares a x)) e
-    | inr (inl below) ↦
-        falling b a below
-            ∙ filter_agree (lies_between b a) (lies_between a b) (between_both_ways b a) (reverse squares)
-            ∙ filter_reverse (lies_between a b) squares
-            ∙ ap reverse (sym (rising a b below))
-    | inr (inr above) ↦
-        rising b a above
-            ∙ filter_agree (lies_between b a) (lies_between a b) (between_both_ways b a) squares
-            ∙ sym (reverse-reverse (filter (lies_between a b) squares))
-            ∙ ap reverse (sym (filter_reverse (lies_between a b) squares))
-            ∙ ap reverse (sym (falling a b above)) ]
+      | inl e ↦
+          ap (λ x. between_squares x a) (sym e)
+          ∙ between_itself a h
+          ∙ ap reverse (sym (between_itself a h))
+          ∙ ap (λ x. reverse (between_squares a x)) e
+      | inr (inl below) ↦
+          falling b a below
+          ∙ filter_agree (lies_between b a) (lies_between a b) (between_both_ways b a) (reverse squares)
+          ∙ filter_reverse (lies_between a b) squares
+          ∙ ap reverse (sym (rising a b below))
+      | inr (inr above) ↦
+          rising b a above
+          ∙ filter_agree (lies_between b a) (lies_between a b) (between_both_ways b a) squares
+          ∙ sym (reverse-reverse (filter (lies_between a b) squares))
+          ∙ ap reverse (sym (filter_reverse (lies_between a b) squares))
+          ∙ ap reverse (sym (falling a b above))
+    ]
 
 reversed_board : All (λ s. s < 64) (reverse squares)
 reversed_board k d h =
@@ -102,5 +103,6 @@ pub between_board : (a b : ℕ) → All (λ s. s < 64) (between_squares a b)
 unfolding between_squares
 between_board a b =
     elim (ltb a b) as (λ t. All (λ s. s < 64) (filter (lies_between a b) (cond t squares (reverse squares)))) [
-      true ↦ All-filter (lies_between a b) (λ s. s < 64) squares squares_board
-    | false ↦ All-filter (lies_between a b) (λ s. s < 64) (reverse squares) reversed_board ]
+      | true ↦ All-filter (lies_between a b) (λ s. s < 64) squares squares_board
+      | false ↦ All-filter (lies_between a b) (λ s. s < 64) (reverse squares) reversed_board
+    ]

@@ -3,7 +3,7 @@ use Rattle.std.specs.List.{All, cons_option, filter_map}
 use Rattle.std.specs.Prelude.{IfSome, option_map, option_and_then}
 use Rattle.std.proofs.lemmas.Bool.{cases_lt, cond_below, cond_above}
 use Rattle.std.proofs.lemmas.List.Elements.{All-nil, All-cons}
-use Rattle.std.proofs.Common.{◌≡◌, ◌+◌, ℕ, zero, suc, max, ◌<◌, ◌≤◌, ℤ, pos, negsuc, ◌+ℤ◌, ◌*ℤ◌, inl, inr, subst, Option, Some, None, List, [], ◌∷◌, ◌++◌, map, length, refl, ap, ◌∙◌, arith}
+use Rattle.std.proofs.Common.{◌≡◌, ◌+◌, ℕ, zero, suc, max, ◌<◌, ◌≤◌, ℤ, pos, negsuc, ◌+ℤ◌, ◌*ℤ◌, inl, inr, subst, Option, Some, None, List, [], ◌∷◌, map, length, refl, ap, ◌∙◌, arith}
 use Rattle.cq_geometry.specs.Squares.{squares, square_of, file_of, rank_of}
 use Rattle.cq_geometry.specs.Steps.{on_board, stepped, steps_away, ray_from, IsDirection}
 use Rattle.cq_geometry.specs.Expansions.{ray_on}
@@ -76,8 +76,9 @@ below_eight : (z : ℤ) → IfSome (on_board z) (λ n. n < 8)
 below_eight (negsuc n) = tt
 below_eight (pos n) =
     elim (cases_lt n 8) [
-      inl h ↦ subst (λ (o : Option ℕ). IfSome o (λ k. k < 8)) (cond_below n 8 (Some n) None h) h
-    | inr h ↦ subst (λ (o : Option ℕ). IfSome o (λ k. k < 8)) (cond_above n 8 (Some n) None None h refl) tt ]
+      | inl h ↦ subst (λ (o : Option ℕ). IfSome o (λ k. k < 8)) (cond_below n 8 (Some n) None h) h
+      | inr h ↦ subst (λ (o : Option ℕ). IfSome o (λ k. k < 8)) (cond_above n 8 (Some n) None None h refl) tt
+    ]
 
 below_64 : (file rank : Option ℕ) → IfSome file (λ n. n < 8) → IfSome rank (λ n. n < 8)
     → IfSome (option_and_then (λ f. option_map (λ r. square_of f r) rank) file) (λ q. q < 64)
@@ -105,4 +106,4 @@ pub ray_board : (files ranks : ℤ) (s : ℕ) → All (λ q. q < 64) (ray_from f
 unfolding ray_from
 ray_board files ranks s =
     All-filter_map (λ q. q < 64) (steps_away files ranks s) (λ n. stepped_board (pos n *ℤ files) (pos n *ℤ ranks) s)
-        (1 ∷ 2 ∷ 3 ∷ 4 ∷ 5 ∷ 6 ∷ 7 ∷ [])
+    (1 ∷ 2 ∷ 3 ∷ 4 ∷ 5 ∷ 6 ∷ 7 ∷ [])

@@ -1,5 +1,5 @@
 -- How rays cover the lines of the board, and what is between a square and each square of its rays.
-use Rattle.std.proofs.Common.{◌≡◌, ℕ, ◌+◌, ◌<◌, ◌==◌, Bool, ℤ, pos, negsuc, List, [], ◌∷◌, map, length, get_or, take, refl, sym, ap, ◌∙◌, arith}
+use Rattle.std.proofs.Common.{◌≡◌, ℕ, ◌<◌, ◌==◌, Bool, ℤ, List, [], ◌∷◌, map, length, get_or, take, refl, sym, ap, ◌∙◌, arith}
 use Rattle.std.specs.List.{list_any, range_with_len}
 use Rattle.std.proofs.lemmas.List.{get_or-map}
 use Rattle.std.proofs.lemmas.List.FromFn.{get_or-map-range_with_len}
@@ -43,8 +43,8 @@ between_on_ray files ranks s k d dir h below =
     let ray = ray_from files ranks s in
     let same = at_square (λ q. map (between_squares q) (ray_from files ranks q)) (λ q. fronts (ray_from files ranks q)) (has_its_fronts files ranks dir) s h in
     sym (get_or-map (between_squares s) ray k d [] below)
-        ∙ ap (λ xs. get_or xs k []) same
-        ∙ get_or-map-range_with_len (λ n. take n ray) 0 (length ray) k k [] below (omega arith)
+    ∙ ap (λ xs. get_or xs k []) same
+    ∙ get_or-map-range_with_len (λ n. take n ray) 0 (length ray) k k [] below (omega arith)
 
 -- a square is on one of the rays
 abbrev pub on_rays : List Compass → ℕ → ℕ → Bool

@@ -1,5 +1,5 @@
 -- Facts on all 64 squares, computed.
-use Rattle.std.proofs.Common.{◌+◌, ◌≡◌, ℕ, ◌<◌, List, map, refl, sym, ap, ◌∙◌, arith, get_or}
+use Rattle.std.proofs.Common.{◌+◌, ◌≡◌, ℕ, ◌<◌, map, refl, sym, ap, ◌∙◌, arith, get_or}
 use Rattle.std.proofs.lemmas.List.FromFn.{get_or-map-range_with_len}
 use Rattle.std.specs.List.{All}
 use Rattle.cq_geometry.specs.Squares.{squares}
@@ -13,8 +13,8 @@ unfolding squares
 at_square f g e s h =
     let from_zero : 0 + s ≡ s = omega arith in
     sym (get_or-map-range_with_len f 0 64 s s (f s) h from_zero)
-        ∙ ap (λ xs. get_or xs s (f s)) e
-        ∙ get_or-map-range_with_len g 0 64 s s (f s) h from_zero
+    ∙ ap (λ xs. get_or xs s (f s)) e
+    ∙ get_or-map-range_with_len g 0 64 s s (f s) h from_zero
 
 king_table : map (λ s. kept_goals (king_goals s)) squares ≡ map king_squares squares
 unfolding squares king_squares

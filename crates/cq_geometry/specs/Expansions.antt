@@ -9,27 +9,27 @@ use Rattle.cq_geometry.specs.Directions.{files_of, ranks_of}
 abbrev pub king_goals : ℕ → List (Option ℕ)
 king_goals square =
     stepped (negsuc 0) (negsuc 0) square
-        ∷ stepped (pos 0) (negsuc 0) square
-        ∷ stepped (pos 1) (negsuc 0) square
-        ∷ stepped (negsuc 0) (pos 0) square
-        ∷ stepped (pos 1) (pos 0) square
-        ∷ stepped (negsuc 0) (pos 1) square
-        ∷ stepped (pos 0) (pos 1) square
-        ∷ stepped (pos 1) (pos 1) square
-        ∷ []
+    ∷ stepped (pos 0) (negsuc 0) square
+    ∷ stepped (pos 1) (negsuc 0) square
+    ∷ stepped (negsuc 0) (pos 0) square
+    ∷ stepped (pos 1) (pos 0) square
+    ∷ stepped (negsuc 0) (pos 1) square
+    ∷ stepped (pos 0) (pos 1) square
+    ∷ stepped (pos 1) (pos 1) square
+    ∷ []
 
 -- the eight steps of a knight in the same order
 abbrev pub knight_goals : ℕ → List (Option ℕ)
 knight_goals square =
     stepped (negsuc 0) (negsuc 1) square
-        ∷ stepped (pos 1) (negsuc 1) square
-        ∷ stepped (negsuc 1) (negsuc 0) square
-        ∷ stepped (pos 2) (negsuc 0) square
-        ∷ stepped (negsuc 1) (pos 1) square
-        ∷ stepped (pos 2) (pos 1) square
-        ∷ stepped (negsuc 0) (pos 2) square
-        ∷ stepped (pos 1) (pos 2) square
-        ∷ []
+    ∷ stepped (pos 1) (negsuc 1) square
+    ∷ stepped (negsuc 1) (negsuc 0) square
+    ∷ stepped (pos 2) (negsuc 0) square
+    ∷ stepped (negsuc 1) (pos 1) square
+    ∷ stepped (pos 2) (pos 1) square
+    ∷ stepped (negsuc 0) (pos 2) square
+    ∷ stepped (pos 1) (pos 2) square
+    ∷ []
 
 -- the squares among such goals
 abbrev pub kept_goals : List (Option ℕ) → List ℕ

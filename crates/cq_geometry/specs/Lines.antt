@@ -1,7 +1,6 @@
 -- Squares on one file, rank or diagonal.
 use Rattle.std.specs.Prelude.{ℕ, ◌+◌, ◌-◌, Bool, not, ◌&&◌, ◌||◌, ◌==◌, nat_lt, if◌then◌else◌, List, filter, reverse}
 use Rattle.cq_geometry.specs.Squares.{file_of, rank_of, squares}
-use Rattle.cq_geometry.specs.Steps.{files_apart, ranks_apart}
 
 -- the diagonals that rise to the right, from 0 (h1 alone) to 14 (a8 alone)
 abbrev pub rising_of : ℕ → ℕ
@@ -28,7 +27,7 @@ is_inside m n k = nat_lt m n && nat_lt n k || nat_lt k n && nat_lt n m
 abbrev pub lies_between : ℕ → ℕ → ℕ → Bool
 lies_between a b square =
     on_one_line a square b
-        && (is_inside (file_of a) (file_of square) (file_of b) || is_inside (rank_of a) (rank_of square) (rank_of b))
+    && (is_inside (file_of a) (file_of square) (file_of b) || is_inside (rank_of a) (rank_of square) (rank_of b))
 
 -- the squares strictly between two squares, from the first to the second: along a line the numbers rise, or they fall
 unfoldable pub between_squares : ℕ → ℕ → List ℕ

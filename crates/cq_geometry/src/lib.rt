@@ -10,3 +10,6 @@ pub use compass::{Compass, toward};
 pub use lines::{between, ray};
 pub use square::{Square, file, is_light, rank, square_at};
 pub use steps::{Step, king_steps, knight_steps};
+
+#[cfg(test)]
+mod tests;

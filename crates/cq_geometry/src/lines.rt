@@ -5,12 +5,11 @@ ghost use Rattle.cq_geometry.specs.Expansions.{steps_below};
 ghost use Rattle.cq_geometry.specs.Lines.{between_squares};
 ghost use Rattle.cq_geometry.specs.Steps.{IsDirection, distance as king_distance, ray_from};
 
-use std::cmp::Ordering;
-
 use crate::compass::{Compass, toward};
 use crate::square::{Square, file, rank};
 use crate::steps::Step;
 use arrayvec::ArrayVec;
+use std::cmp::Ordering;
 
 /// The squares from a square in a direction, in order up to the edge. The direction is `DF` files to the right and `DR`
 /// ranks up, each from -1 to 1 and not both 0.

@@ -13,7 +13,11 @@ pub(crate) fn moved(coordinate: u8, by: i64) -> Option<u8>
     ensures { result ≡ on_board (pos coordinate +ℤ by) }
 {
     let goal = i64::from(coordinate) + by;
-    if 0 <= goal && goal < 8 { Some(goal as u8) } else { None }
+    if 0 <= goal && goal < 8 {
+        Some(goal as u8)
+    } else {
+        None
+    }
 }
 
 /// A step of `DF` files to the right and `DR` ranks up, each from -2 to 2.

@@ -1,4 +1,4 @@
-use Rattle.std.proofs.Common.{◌≡◌, ◌<◌, ◌+◌, ◌≤◌, ℕ, Some, None, List, [], ◌∷◌, ◌++◌, length, arith, ap, sym, ◌∙◌, rules, to_z, w8}
+use Rattle.std.proofs.Common.{◌≡◌, ◌<◌, ◌≤◌, ℕ, List, ◌∷◌, ◌++◌, length, arith, ap, sym, rules, to_z, w8}
 use Rattle.std.proofs.lemmas.Grind.{common_steps}
 use Rattle.std.proofs.lemmas.List.Elements.{All-same}
 use Rattle.cq_geometry.specs.Steps.{ray_from}

@@ -8,7 +8,7 @@ invariant-loop-next g l =
     let ranks = to_z w8 g.row.DR in
     record {
       board : l.at < 64;
-      rest : l.squares.items ++ ray_from files ranks l.at ≡ ray_from files ranks l.fn.s
+      rest : l.squares.items ++ ray_from files ranks l.at ≡ ray_from files ranks l.fn.s;
     }
 
 abbrev pub decreases-loop-next : goal.decreases-loop-next

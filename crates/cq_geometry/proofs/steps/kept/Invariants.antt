@@ -6,5 +6,5 @@ abbrev pub invariant-loop-goal : goal.invariant-loop-goal
 invariant-loop-goal l =
     record {
       kept : l.squares.items ≡ kept_goals (take l.goal-index l.fn.goals);
-      room : length l.squares.items ≤ l.goal-index
+      room : length l.squares.items ≤ l.goal-index;
     }
