@@ -1,0 +1,5 @@
+pub mod Men
+pub mod Board
+pub mod Moves
+pub mod Kept
+pub mod Fen
