@@ -20,7 +20,7 @@ parts byte text = slice_split (λ b. b == byte) text
 abbrev pub is_field : List ℕ → Bool
 is_field part = nat_lt 0 (length part)
 
-abbrev pub fields : List ℕ → List (List ℕ)
+unfoldable pub fields : List ℕ → List (List ℕ)
 fields text = filter is_field (parts 32 text)
 
 -- a byte from one to another
@@ -42,10 +42,10 @@ abbrev pub is_rank : List ℕ → Bool
 is_rank text = list_all is_rank_byte text && (length (rank_squares text) == 8)
 
 -- Piece placement: eight ranks from the eighth down, with a slash (byte 47) between two.
-abbrev pub is_placement : List ℕ → Bool
+unfoldable pub is_placement : List ℕ → Bool
 is_placement text = (length (parts 47 text) == 8) && list_all is_rank (parts 47 text)
 
-abbrev pub placed_men : List ℕ → List Man
+unfoldable pub placed_men : List ℕ → List Man
 placed_men text = flat_map rank_squares (reverse (parts 47 text))
 
 -- a text of one byte alone
@@ -144,7 +144,7 @@ fault_or board None = Ok board
 fault_or board (Some fault) = Err fault.1
 
 -- the first fault that applies, or else the position
-abbrev pub position_or_fault : FieldTexts → Result Board FenFault
+unfoldable pub position_or_fault : FieldTexts → Result Board FenFault
 position_or_fault f = fault_or (board_of f) (find (λ fault. fault.0) (faults f))
 
 unfoldable pub fen_meaning : List ℕ → Result Board FenFault
