@@ -1,5 +1,5 @@
 -- What a position is: the men on the board, the side to move, the rights to castle, the en passant square and the number of the move.
-use Rattle.std.specs.Prelude.{◌≡◌, ℕ, ◌+◌, ◌-◌, ◌/◌, ◌<◌, List, [], ◌∷◌, ◌++◌, length, take, drop, replicate, Bool, true, false, ◌&&◌, ◌||◌, not, ◌==◌, nat_lt, Option, Some, None, count_by, slice_index_or}
+use Rattle.std.specs.Prelude.{◌≡◌, ℕ, ◌+◌, ◌-◌, ◌/◌, ◌<◌, List, [], ◌∷◌, ◌++◌, length, slice_range, replicate, Bool, true, false, ◌&&◌, ◌||◌, not, ◌==◌, nat_lt, Option, Some, None, count_by, slice_index_or}
 use Rattle.std.specs.List.{list_any}
 use Rattle.cq_position.specs.declared.men.Man.{Man}
 use Rattle.cq_position.specs.declared.men.Man.TheVariants.{K, Q, R, B, N, P, BlackK, BlackQ, BlackR, BlackB, BlackN, BlackP, Empty}
@@ -69,7 +69,7 @@ abbrev pub is_pawn : Man → Bool
 is_pawn m = same_man m P || same_man m BlackP
 
 abbrev pub has_pawn_on_edge : List Man → Bool
-has_pawn_on_edge men = list_any is_pawn (take 8 men) || list_any is_pawn (drop 56 men)
+has_pawn_on_edge men = list_any is_pawn (slice_range men 0 8) || list_any is_pawn (slice_range men 56 64)
 
 -- more than sixteen men of one side
 abbrev pub has_too_many_men : List Man → Bool

@@ -1,12 +1,12 @@
 //! Chess positions: the men, the moves, and the text of a position in Forsyth-Edwards Notation.
 #![tactic(auto)]
 
-pub mod fen;
-pub mod men;
-pub mod moves;
-pub mod position;
+mod faults;
+mod men;
+mod moves;
+mod position;
 
-pub use fen::FenFault;
+pub use faults::FenFault;
 pub use men::{Man, Promotion, Side, letter_of, man_of_letter};
 pub use moves::Move;
 pub use position::{Position, Rights, material};

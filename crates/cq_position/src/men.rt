@@ -1,6 +1,7 @@
 //! The two sides, the men and their letters.
 ghost use Rattle.std.specs.Prelude.{◌≡◌};
 ghost use Rattle.cq_position.specs.Men.{man_with_letter, letter_of_man, same_man};
+ghost use Rattle.cq_position.specs.Men as men_spec;
 
 /// One of the two players.
 #[derive(Clone, Copy, Debug, PartialEq, Eq)]
@@ -84,4 +85,15 @@ pub fn is_same(man: Man, other: Man) -> bool
     ensures { result ≡ same_man man other }
 {
     man as u8 == other as u8
+}
+
+// Whether a man is of a side.
+pub fn is_of_side(man: Man, side: Side) -> bool
+    ensures { result ≡ men_spec.is_of_side side man }
+{
+    let number = man as u8;
+    match side {
+        Side::White => number < 6,
+        Side::Black => 6 <= number && number < 12,
+    }
 }

@@ -2,9 +2,8 @@
 ghost use Rattle.std.specs.Prelude.{◌≡◌};
 ghost use Rattle.cq_position.specs.Moves.{null_move};
 
-use cq_geometry::Square;
-
 use crate::men::Promotion;
+use cq_geometry::Square;
 
 /// A move, or a null move, by which a side passes.
 ///

@@ -1,13 +1,12 @@
 //! Positions.
-ghost use Rattle.std.specs.Prelude.{◌≡◌, ◌<◌, ◌↔◌, IsTrue, count_by};
-ghost use Rattle.cq_position.specs.Men.{same_man};
+ghost use Rattle.std.specs.Prelude.{◌≡◌, ◌<◌};
+ghost use Rattle.std.specs.List.{list_any};
 ghost use Rattle.cq_position.specs.Board.{man_at, castling_right, start_board, IsPosition, count_of};
+ghost use Rattle.cq_position.specs.Board as board;
 
-use std::marker::Model;
-
+use crate::men::{Man, Side, is_of_side, is_same};
 use cq_geometry::{Square, file, rank};
-
-use crate::men::{Man, Side, is_same};
+use std::marker::Model;
 
 /// The rights to castle that are left.
 #[derive(Clone, Copy, Debug, PartialEq, Eq)]
@@ -76,6 +75,26 @@ impl Position {
         }
     }
 
+    // The position of these parts.
+    pub fn from_parts(
+        number: u32,
+        men: [Man; 64],
+        side: Side,
+        rights: Rights,
+        passant: Option<Square>,
+    ) -> Position
+        requires { IsPosition (record { men = men; side = side; rights = rights; passant = passant; number = number }) }
+        ensures { result ≡ record { men = men; side = side; rights = rights; passant = passant; number = number } }
+    {
+        Position {
+            number,
+            men,
+            side,
+            rights,
+            passant,
+        }
+    }
+
     /// What stands on a square.
     pub fn at(&self, square: Square) -> Man
         ensures man { result ≡ man_at self.now.men square }
@@ -123,7 +142,7 @@ impl Position {
 }
 
 // The square's place in the order a1, b1, .. h8.
-fn place(square: Square) -> usize
+pub fn place(square: Square) -> usize
     ensures place { result ≡ square }
     ensures below { result < 64 }
 {
@@ -132,7 +151,54 @@ fn place(square: Square) -> usize
 
 /// How many squares hold a man, or nothing where `Empty` is asked.
 pub fn material(position: &Position, man: Man) -> u32
-    ensures { result ≡ count_by (λ m. same_man m man) position.now.men }
+    ensures { result ≡ count_of man position.now.men }
 {
-    position.men.iter().filter(|m| is_same(**m, man)).count() as u32
+    count(&position.men, man)
+}
+
+// How many squares hold a man.
+fn count(men: &[Man; 64], man: Man) -> u32
+    ensures { result ≡ count_of man men.now }
+{
+    men.iter().filter(|m| is_same(**m, man)).count() as u32
+}
+
+// Whether there is one king of each side.
+pub fn has_kings(men: &[Man; 64]) -> bool
+    ensures { result ≡ board.has_kings men.now }
+{
+    count(men, Man::K) == 1 && count(men, Man::BlackK) == 1
+}
+
+// Whether a pawn stands on the first or the last rank.
+pub fn has_pawn_on_edge(men: &[Man; 64]) -> bool
+    ensures { result ≡ board.has_pawn_on_edge men.now }
+{
+    has_pawn(&men[0..8]) || has_pawn(&men[56..64])
+}
+
+fn has_pawn(squares: &[Man]) -> bool
+    ensures { result ≡ list_any board.is_pawn squares.now }
+{
+    squares.iter().any(|m| is_pawn(*m))
+}
+
+fn is_pawn(man: Man) -> bool
+    ensures { result ≡ board.is_pawn man }
+{
+    is_same(man, Man::P) || is_same(man, Man::BlackP)
+}
+
+// Whether a side has more than sixteen men.
+pub fn has_too_many_men(men: &[Man; 64]) -> bool
+    ensures { result ≡ board.has_too_many_men men.now }
+{
+    strength(men, Side::White) > 16 || strength(men, Side::Black) > 16
+}
+
+// How many men a side has.
+fn strength(men: &[Man; 64], side: Side) -> u32
+    ensures { result ≡ board.strength side men.now }
+{
+    men.iter().filter(|m| is_of_side(**m, side)).count() as u32
 }

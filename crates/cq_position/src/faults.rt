@@ -1,4 +1,4 @@
-//! The text of a position in Forsyth-Edwards Notation.
+//! Why a text is no position.
 use thiserror::Error;
 
 /// Why a text is no position. Where several faults apply, the first in this order is answered.
