@@ -18,7 +18,8 @@ parts byte text = slice_split (λ b. b == byte) text
 
 -- the fields of a text are its longest parts without a space, the empty ones left out
 abbrev pub is_field : List ℕ → Bool
-is_field part = nat_lt 0 (length part)
+is_field [] = false
+is_field (first ∷ rest) = true
 
 unfoldable pub fields : List ℕ → List (List ℕ)
 fields text = filter is_field (parts 32 text)

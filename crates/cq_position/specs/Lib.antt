@@ -3,3 +3,4 @@ pub mod Board
 pub mod Moves
 pub mod Kept
 pub mod Fen
+pub mod Reading

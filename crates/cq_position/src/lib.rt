@@ -2,11 +2,13 @@
 #![tactic(auto)]
 
 mod faults;
+mod fen;
 mod men;
 mod moves;
 mod position;
 
 pub use faults::FenFault;
+pub use fen::read_fen;
 pub use men::{Man, Promotion, Side, letter_of, man_of_letter};
 pub use moves::Move;
 pub use position::{Position, Rights, material};
