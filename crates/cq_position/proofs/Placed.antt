@@ -1,7 +1,7 @@
 -- The men of the ranks read so far, the eighth first.
-use Rattle.std.proofs.Common.{◌≡◌, ℕ, suc, ◌+◌, ◌-◌, ◌*◌, ◌<◌, ◌≤◌, Bool, true, false, ◌&&◌, eqb, List, [], ◌∷◌, ◌++◌, length, take, drop, get_or, reverse, replicate, Option, Some, None, refl, sym, ap, ◌∙◌, arith, inl, inr, ◌⊎◌, zero}
-use Rattle.std.specs.List.{list_all, flat_map, slice_split}
-use Rattle.std.proofs.lemmas.List.{take_more, drop_more, take_all, take-append-drop, append_assoc, append-nil, length-append, length-drop, length-replicate, reverse-append, take_at, drop_at, replicate-append-replicate}
+use Rattle.std.proofs.Common.{◌≡◌, ℕ, ◌+◌, ◌-◌, ◌*◌, ◌<◌, ◌≤◌, Bool, true, false, ◌&&◌, eqb, List, [], ◌∷◌, ◌++◌, length, take, drop, get_or, reverse, replicate, refl, sym, ap, ◌∙◌, arith, inl, inr, ◌⊎◌}
+use Rattle.std.specs.List.{list_all, flat_map}
+use Rattle.std.proofs.lemmas.List.{take_more, drop_more, take_all, append_assoc, append-nil, length-drop, length-replicate, reverse-append, take_at, drop_at, replicate-append-replicate}
 use Rattle.std.proofs.lemmas.List.Folds.{list_all_more, list_all_at}
 use Rattle.std.proofs.lemmas.List.Splits.{length-slice_split}
 use Rattle.std.proofs.lemmas.Bool.Decides.{nat_tests}
@@ -9,7 +9,6 @@ use borrow.Rule.Slice.PartMut.{put_mid}
 use Rattle.cq_position.specs.declared.men.Man.{Man}
 use Rattle.cq_position.specs.declared.men.Man.TheVariants.{Empty}
 use Rattle.cq_position.specs.Fen.{parts, rank_squares, is_rank, is_placement, placed_men}
-use Rattle.cq_position.specs.Reading.{ranks_left}
 
 -- the men of the first ranks stand above squares that are empty so far
 pub record IsPlacedTo (ranks : List (List ℕ)) (done : ℕ) (men : List Man) (left : List (List ℕ)) : Type 0 where

@@ -1,6 +1,6 @@
 -- How the parts of a text come off its front.
-use Rattle.std.proofs.Common.{◌≡◌, ℕ, suc, ◌+◌, ◌<◌, ◌≤◌, Bool, true, false, cond, not, List, [], ◌∷◌, ◌++◌, length, take, drop, eqb, Some, None, get_or, ltb, refl, sym, ap, ◌∙◌, arith}
-use Rattle.std.specs.List.{prefix_len, position_or_len, position, slice_split, onto_first, filter}
+use Rattle.std.proofs.Common.{◌≡◌, ℕ, suc, ◌+◌, ◌≤◌, Bool, true, false, cond, not, List, [], ◌∷◌, length, take, drop, eqb, Some, None, get_or, ltb, refl, sym, ap, ◌∙◌, arith}
+use Rattle.std.specs.List.{position_or_len, position, slice_split, onto_first, filter}
 use Rattle.std.specs.Option.{unwrap_or}
 use Rattle.std.proofs.lemmas.List.Sums.{prefix_len-le-length}
 use Rattle.std.specs.Option.{unwrap_or}

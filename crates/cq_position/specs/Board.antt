@@ -6,7 +6,7 @@ use Rattle.cq_position.specs.declared.men.Man.TheVariants.{K, Q, R, B, N, P, Bla
 use Rattle.cq_position.specs.declared.men.Side.{Side}
 use Rattle.cq_position.specs.declared.men.Side.TheVariants.{White, Black}
 use Rattle.cq_position.specs.declared.position.Rights.{Rights}
-use Rattle.cq_position.specs.Men.{same_man, is_of_side, opponent, king_of, rook_of, pawn_of}
+use Rattle.cq_position.specs.Men.{same_man, is_of_side, king_of, rook_of}
 
 -- the men are those of the squares a1, b1, .. h8; a square is its number in this order
 pub record Board : Type 0 where

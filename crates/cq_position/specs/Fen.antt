@@ -1,5 +1,5 @@
 -- What a text in Forsyth-Edwards Notation means (PGN standard 16.1).
-use Rattle.std.specs.Prelude.{◌≡◌, ℕ, ◌+◌, ◌-◌, ◌*◌, ◌^◌, ◌/◌, List, [], ◌∷◌, ◌++◌, length, reverse, replicate, Bool, true, false, ◌&&◌, ◌||◌, not, ◌==◌, nat_lt, nat_le, max, Option, Some, None, Result, Ok, Err, if◌then◌else◌, filter, find, flat_map, is_some, option_to_list}
+use Rattle.std.specs.Prelude.{ℕ, ◌+◌, ◌-◌, ◌*◌, ◌^◌, List, [], ◌∷◌, length, reverse, replicate, Bool, true, false, ◌&&◌, ◌||◌, not, ◌==◌, nat_le, max, Option, Some, None, Result, Ok, Err, if◌then◌else◌, filter, find, flat_map, is_some, option_to_list}
 use Rattle.std.specs.Option.{option_map_or}
 use Rattle.std.specs.List.{list_all, list_any, slice_split}
 use Rattle.cq_position.specs.declared.men.Man.{Man}

@@ -1,5 +1,5 @@
 -- The men of both sides, and the letters that stand for them.
-use Rattle.std.specs.Prelude.{ℕ, List, [], ◌∷◌, Bool, true, false, ◌==◌, Option, Some, None, find, option_map, nat_lt, nat_le, ◌&&◌}
+use Rattle.std.specs.Prelude.{ℕ, List, [], ◌∷◌, Bool, ◌==◌, Option, Some, None, find, option_map, nat_lt, nat_le, ◌&&◌}
 use Rattle.cq_position.specs.declared.men.Man.{Man}
 use Rattle.cq_position.specs.declared.men.Man.TheVariants.{K, Q, R, B, N, P, BlackK, BlackQ, BlackR, BlackB, BlackN, BlackP, Empty}
 use Rattle.cq_position.specs.declared.men.Side.{Side}

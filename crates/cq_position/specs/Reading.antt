@@ -1,5 +1,5 @@
 -- Words for the contracts of the functions that read a text.
-use Rattle.std.specs.Prelude.{◌≡◌, ℕ, ◌+◌, ◌≤◌, List, [], Bool, true, false, Option, Some, None, MatchOption, replicate, ◌⊎◌}
+use Rattle.std.specs.Prelude.{◌≡◌, ℕ, ◌≤◌, List, [], Bool, true, false, Option, Some, None, MatchOption, replicate, ◌⊎◌}
 use Rattle.cq_position.specs.declared.men.Man.{Man}
 use Rattle.cq_position.specs.declared.men.Man.TheVariants.{Empty}
 use Rattle.cq_position.specs.declared.fen.fields.Fields.{Fields}

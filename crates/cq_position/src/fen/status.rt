@@ -6,10 +6,9 @@ ghost use Rattle.cq_position.specs.Fen as fen;
 ghost use Rattle.cq_position.specs.Board as board;
 ghost use Rattle.cq_position.specs.Reading.{SomeIfTrue};
 
-use cq_geometry::{Square, rank, square_at};
-
 use crate::men::{Man, Side, is_same};
 use crate::position::{Rights, place};
+use cq_geometry::{Square, rank, square_at};
 
 // The side to move.
 pub fn read_side(text: &[u8]) -> Option<Side>
@@ -98,7 +97,11 @@ pub fn passant_kept(men: &[Man; 64], side: Side, text: &[u8]) -> Option<Square>
         return None;
     };
     let square = square_at(*file - b'a', *rank - b'1');
-    if was_passed(men, side, square) { Some(square) } else { None }
+    if was_passed(men, side, square) {
+        Some(square)
+    } else {
+        None
+    }
 }
 
 // Whether the opponent's pawn can just have passed the square.

@@ -1,4 +1,4 @@
-use Rattle.std.proofs.Common.{arith, ◌<◌, lit<, sym}
+use Rattle.std.proofs.Common.{arith, ◌<◌, lit<}
 use Rattle.cq_position.proofs.Numbers.{IsReadTo-more, fits_more, below_ten}
 use Rattle.cq_position.proofs.fen.status.read_number.Goals as goal
 

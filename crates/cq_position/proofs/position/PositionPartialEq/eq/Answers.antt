@@ -1,4 +1,4 @@
-use Rattle.std.proofs.Common.{◌≡◌, Bool, true, false, ◌&&◌, refl}
+use Rattle.std.proofs.Common.{◌≡◌, Bool, ◌&&◌, refl}
 use Rattle.std.proofs.Math.Bool.{and_assoc}
 use Rattle.cq_position.proofs.position.PositionPartialEq.eq.Goals as goal
 
