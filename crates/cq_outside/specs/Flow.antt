@@ -1,5 +1,8 @@
--- What a write does to the bytes that a sink has taken, where it tells them.
-use Rattle.std.specs.Prelude.{◌≡◌, ◌⊎◌, ℕ, ◌+◌, ◌≤◌, ◌<◌, List, [], ◌++◌, length, take, Option, None, Some, Result, MatchResult}
+-- What calls do to the bytes that a source has left and a sink has taken, where they tell them.
+use Rattle.std.specs.Prelude.{◌≡◌, ℕ, ◌≤◌, List, [], ◌++◌, length, take, Option, None, Some, Result, MatchResult}
+use Rattle.std.specs.Io.KnownBytes.{Consumes}
+use Rattle.cq_outside.specs.declared.faults.Refusal.{Refusal}
+use Rattle.cq_outside.specs.declared.faults.Refusal.TheVariants.{Fault, NoMemory}
 
 -- A sink that tells its bytes after a call told them before it, and what it tells has gained these at its end.
 abbrev pub Grew : Option (List ℕ) → Option (List ℕ) → List ℕ → Type 0
@@ -12,3 +15,14 @@ Grew (Some old) (Some new) bytes = new ≡ old ++ bytes
 abbrev pub WriteTakes : {E : Type 0} → Option (List ℕ) → Option (List ℕ) → Result ℕ E → List ℕ → Type 0
 WriteTakes old new result bytes =
     MatchResult result (λ n. Grew old new (take n bytes)) (λ _. Grew old new [])
+
+-- at most so many bytes were taken from a source
+pub record TakesAtMost (most : ℕ) (old new : Option (List ℕ)) : Type 0 where
+  pub bytes : List ℕ
+  pub takes : Consumes old new bytes
+  pub few : length bytes ≤ most
+
+-- how much a refused call has taken at most, after a fault and where memory was wanted
+abbrev pub most_taken : {F : Type 0} → Refusal F → ℕ → ℕ → ℕ
+most_taken (Fault _) fault memory = fault
+most_taken NoMemory fault memory = memory

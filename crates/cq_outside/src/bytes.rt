@@ -1,7 +1,9 @@
 //! A list of bytes that grows.
-ghost use Rattle.std.specs.Prelude.{◌≡◌, ◌++◌, List, [], ℕ, OnOk, OnErr};
+ghost use Rattle.std.specs.Prelude.{◌≡◌, ◌++◌, ◌==◌, List, [], ℕ, length, IfOk, OnOk, OnErr};
+ghost use Rattle.std.specs.Fmt.{signed_decimal};
 
 use crate::faults::NoMemory;
+use itoa::Buffer;
 use std::alloc::Global;
 use std::marker::Model;
 
@@ -27,6 +29,29 @@ impl Bytes {
         }
     }
 
+    /// A copy of `bytes`.
+    pub fn from_slice(alloc: Global, bytes: &[u8]) -> Result<Bytes, NoMemory>
+        ensures { IfOk result (λ copy. copy ≡ bytes.now) }
+    {
+        Ok(Bytes {
+            bytes: Vec::from_slice(alloc, bytes)?,
+        })
+    }
+
+    /// How many bytes there are.
+    pub fn len(&self) -> usize
+        ensures { result ≡ length self.now }
+    {
+        self.bytes.len()
+    }
+
+    /// Whether there are none.
+    pub fn is_empty(&self) -> bool
+        ensures { result ≡ (length self.now == 0) }
+    {
+        self.bytes.is_empty()
+    }
+
     /// All the bytes.
     pub fn as_slice(&self) -> &[u8]
         ensures { result.now ≡ self.now }
@@ -41,5 +66,13 @@ impl Bytes {
     {
         self.bytes.extend_from_slice(more)?;
         Ok(())
+    }
+
+    /// Adds the decimal digits of `n` at the end, behind a minus sign where it is below 0.
+    pub fn push_number(&mut self, n: i64) -> Result<(), NoMemory>
+        ensures ok { OnOk result (self.new ≡ self.old ++ signed_decimal n) }
+        ensures err { OnErr result (self.new ≡ self.old) }
+    {
+        self.push_all(Buffer::new().format(n).as_bytes())
     }
 }

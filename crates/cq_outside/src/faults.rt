@@ -40,6 +40,22 @@ impl<F> From<NoMemory> for Refusal<F> {
     }
 }
 
+impl<F> From<AllocError> for Refusal<F> {
+    ghost from_gives = { λ _ refusal. refusal ≡ no_memory_left };
+
+    fn from(_: AllocError) -> Self {
+        Refusal::NoMemory
+    }
+}
+
+impl<F, T: Drop> From<AllocFailed<T>> for Refusal<F> {
+    ghost from_gives = { λ _ refusal. refusal ≡ no_memory_left };
+
+    fn from(_: AllocFailed<T>) -> Self {
+        Refusal::NoMemory
+    }
+}
+
 /// Why a file was not opened.
 #[derive(Clone, Copy, Debug, PartialEq, Eq)]
 pub enum OpenFault {
@@ -53,6 +69,22 @@ impl From<NoMemory> for OpenFault {
     ghost from_gives = { λ _ fault. fault ≡ no_memory_to_open };
 
     fn from(_: NoMemory) -> Self {
+        OpenFault::NoMemory
+    }
+}
+
+impl From<AllocError> for OpenFault {
+    ghost from_gives = { λ _ fault. fault ≡ no_memory_to_open };
+
+    fn from(_: AllocError) -> Self {
+        OpenFault::NoMemory
+    }
+}
+
+impl<T: Drop> From<AllocFailed<T>> for OpenFault {
+    ghost from_gives = { λ _ fault. fault ≡ no_memory_to_open };
+
+    fn from(_: AllocFailed<T>) -> Self {
         OpenFault::NoMemory
     }
 }

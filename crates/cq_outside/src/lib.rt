@@ -4,16 +4,26 @@
 
 pub mod bytes;
 pub mod desk;
+pub mod edge;
 pub mod faults;
 pub mod gate;
 pub mod pieces;
 pub mod sink;
 pub mod source;
+pub mod sure_desk;
+pub mod sure_sink;
+pub mod sure_source;
+#[cfg(test)]
+mod tests;
 
 pub use bytes::Bytes;
 pub use desk::Desk;
+pub use edge::{FileDesk, StdSink};
 pub use faults::{Failed, NoMemory, OpenFault, Refusal};
 pub use gate::{Gate, OpenGate};
-pub use pieces::read_piece;
+pub use pieces::{read_piece, read_up_to, write_all_of};
 pub use sink::Sink;
 pub use source::Source;
+pub use sure_desk::SureDesk;
+pub use sure_sink::SureSink;
+pub use sure_source::SureSource;

@@ -1,10 +1,17 @@
-//! Reading one piece, and writing all of a text.
-ghost use Rattle.std.specs.Prelude.{◌≡◌, ◌++◌, ◌≤◌, List, ℕ, length, take, IfOk, OnOk, OnErr};
-ghost use Rattle.std.specs.Io.KnownBytes.{ReadConsumes};
-ghost use Rattle.cq_outside.specs.Faults.{HasCause};
+//! Reading one piece, reading all of an input up to a limit, and writing all of a text.
+ghost use Rattle.std.specs.Prelude.{◌≡◌, ◌+◌, ◌++◌, ◌^◌, ◌<◌, ◌≤◌, List, ℕ, length, take, IfOk, IfErr, OnOk, OnErr};
+ghost use Rattle.std.specs.Io.KnownBytes.{ReadConsumes, Consumes, IsAtEnd};
+ghost use Rattle.cq_outside.specs.Faults.{HasCause, HasRefusalCause};
+ghost use Rattle.cq_outside.specs.Flow.{Grew, TakesAtMost, most_taken};
 
-use crate::faults::Failed;
+use crate::bytes::Bytes;
+use crate::faults::{Failed, Refusal};
+use crate::sink::Sink;
 use crate::source::Source;
+use std::alloc::Global;
+
+/// The longest buffer that one read is given, in bytes.
+const PIECE: usize = 65_536;
 
 /// One read.
 pub fn read_piece<S: Source>(source: &mut S, buf: &mut [u8]) -> Result<usize, Failed>
@@ -14,4 +21,70 @@ pub fn read_piece<S: Source>(source: &mut S, buf: &mut [u8]) -> Result<usize, Fa
     ensures next { S.follows source.old source.new }
 {
     source.read(buf)
+}
+
+/// Reads until the end, or until one byte more than `limit` was taken: where at most `limit` bytes are
+/// answered, nothing is left. `limit` is below 2^62 bytes. Answers the fault of
+/// the first read that fails, and has taken at most `limit` bytes then.
+pub fn read_up_to<S: Source>(
+    source: &mut S,
+    alloc: Global,
+    limit: usize,
+) -> Result<Bytes, Refusal<Failed>>
+    requires { limit < 2 ^ 62 }
+    ensures bytes { IfOk result (Consumes (S.left source.old) (S.left source.new)) }
+    ensures most { IfOk result (λ bytes. length bytes ≤ limit + 1) }
+    ensures whole { IfOk result (λ bytes. length bytes ≤ limit → IsAtEnd (S.left source.new)) }
+    ensures taken { IfErr result (λ refusal. TakesAtMost (most_taken refusal limit (limit + 1)) (S.left source.old) (S.left source.new)) }
+    ensures cause { HasRefusalCause (S.faults source.old) (S.faults source.new) result }
+    ensures next { S.follows source.old source.new }
+{
+    let mut buffer = vec![in alloc; 0u8; PIECE.min(limit + 1)]?;
+    let mut bytes = Bytes::new(alloc);
+    while bytes.len() <= limit {
+        let room = PIECE.min(limit + 1 - bytes.len());
+        match append_piece(source, &mut buffer[..room], &mut bytes) {
+            Ok(0) => return Ok(bytes),
+            Ok(_) => {}
+            Err(refusal) => return Err(refusal),
+        }
+    }
+    Ok(bytes)
+}
+
+/// One read into `buffer`, whose bytes are added to `bytes`. Answers how many they are.
+fn append_piece<S: Source>(
+    source: &mut S,
+    buffer: &mut [u8],
+    bytes: &mut Bytes,
+) -> Result<usize, Refusal<Failed>>
+    ensures bound { IfOk result (λ n. n ≤ length buffer.old) }
+    ensures added { IfOk result (λ n. (piece : List ℕ) × (length piece ≡ n) × (bytes.new ≡ bytes.old ++ piece)
+        × Consumes (S.left source.old) (S.left source.new) piece) }
+    ensures end { IfOk result (λ n. n ≡ 0 → 0 < length buffer.old → IsAtEnd (S.left source.new)) }
+    ensures taken { IfErr result (λ refusal. TakesAtMost (most_taken refusal 0 (length buffer.old)) (S.left source.old) (S.left source.new)) }
+    ensures cause { HasRefusalCause (S.faults source.old) (S.faults source.new) result }
+    ensures next { S.follows source.old source.new }
+{
+    match read_piece(source, buffer) {
+        Ok(n) => {
+            bytes.push_all(&buffer[..n])?;
+            Ok(n)
+        }
+        Err(failed) => Err(Refusal::Fault(failed)),
+    }
+}
+
+/// Writes until all of `bytes` is taken or a write fails. After a failure the sink has taken bytes from the
+/// front of `bytes` alone.
+pub fn write_all_of<S: Sink>(sink: &mut S, bytes: &[u8]) -> Result<(), Failed>
+    ensures ok { OnOk result (Grew (S.taken sink.old) (S.taken sink.new) bytes.now) }
+    ensures err { OnErr result ((k : ℕ) × Grew (S.taken sink.old) (S.taken sink.new) (take k bytes.now)) }
+    ensures cause { HasCause (S.faults sink.old) (S.faults sink.new) result }
+{
+    let mut done = 0;
+    while done < bytes.len() {
+        done += sink.write(&bytes[done..])?;
+    }
+    Ok(())
 }

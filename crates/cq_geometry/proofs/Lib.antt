@@ -1,0 +1,6 @@
+pub mod Board
+pub mod Tables
+pub mod Inside
+pub mod Rays
+pub mod Slides
+mod Rows

@@ -1,0 +1,156 @@
+//! The trusted edge: a desk over the real files, and a sink over a real stream. Neither tells its bytes.
+//! An interrupted call counts as failed, as any other error does.
+ghost use Rattle.std.specs.Prelude.{◌≡◌, ◌≤◌, ℕ, None, IfOk};
+ghost use Rattle.cq_outside.specs.Faults.{FaultCounts};
+
+use crate::desk::Desk;
+use crate::faults::{Failed, NoMemory, OpenFault};
+use crate::sink::Sink;
+use crate::source::Source;
+use std::alloc::Global;
+use std::io::{Read, Write};
+use std::marker::Model;
+use std::rt::Files;
+use std::{fs, str};
+
+/// The name that stands for standard input.
+const STANDARD_INPUT: &[u8] = b"-";
+
+/// What the desk reads.
+#[derive(Drop)]
+enum Current<F> {
+    Nothing,
+    Input,
+    File(F),
+}
+
+/// A desk over the real files, which opens the name `-` as standard input. A name that is not UTF-8 has no
+/// file. Contracts see its counts of faults, each of which stops at the last value of a `u64`.
+#[derive(Drop)]
+pub struct FileDesk<R: Files + Drop, I: Read + Drop> {
+    files: R,
+    input: I,
+    current: Current<R::File>,
+    read_faults: u64,
+    open_faults: u64,
+}
+
+impl<R: Files + Drop, I: Read + Drop> Model for FileDesk<R, I> {
+    ghost use Rattle.cq_outside.specs.Faults.{FaultCounts};
+
+    ghost Value = { FaultCounts };
+
+    ghost view = { λ d. record { reads = d.read_faults; opens = d.open_faults } };
+}
+
+impl<R: Files + Drop, I: Read + Drop> FileDesk<R, I> {
+    /// A desk on which no file is open, over the runtime's files and its standard input.
+    pub fn new(_alloc: Global, files: R, input: I) -> Result<FileDesk<R, I>, NoMemory>
+        ensures { IfOk result (λ desk. desk ≡ record { reads = 0; opens = 0 }) }
+    {
+        Ok(FileDesk {
+            files,
+            input,
+            current: Current::Nothing,
+            read_faults: 0,
+            open_faults: 0,
+        })
+    }
+}
+
+impl<R: Files + Drop, I: Read + Drop> Source for FileDesk<R, I> {
+    ghost left = { λ _. None };
+
+    ghost faults = { λ d. d.reads };
+
+    ghost follows = { λ s t. (s.reads ≤ t.reads) × (t.opens ≡ s.opens) };
+
+    fn read(&mut self, buf: &mut [u8]) -> Result<usize, Failed> {
+        let moved = match &mut self.current {
+            Current::Nothing => Ok(0),
+            Current::Input => self.input.read(buf),
+            Current::File(file) => file.read(buf),
+        };
+        if let Ok(n) = moved {
+            return Ok(n);
+        }
+        self.read_faults = self.read_faults.saturating_add(1);
+        Err(Failed)
+    }
+
+    ghost use Rattle.std.proofs.Common.{refl, ◌∙◌, le_refl, le_trans};
+
+    ghost follows_same = { λ s. (le_refl s.reads, refl) };
+
+    ghost follows_on = { λ s t u f g. (le_trans f.0 g.0, g.1 ∙ f.1) };
+
+    ghost never_falls = { λ s t f. f.0 };
+}
+
+impl<R: Files + Drop, I: Read + Drop> Desk for FileDesk<R, I> {
+    ghost told = { λ _. None };
+
+    ghost open_faults = { λ d. d.opens };
+
+    fn open(&mut self, _alloc: Global, name: &[u8]) -> Result<(), OpenFault> {
+        if name == STANDARD_INPUT {
+            self.current = Current::Input;
+            return Ok(());
+        }
+        if let Ok(path) = str::from_utf8(name) {
+            if let Ok(file) = fs::open(&self.files, path) {
+                self.current = Current::File(file);
+                return Ok(());
+            }
+        }
+        self.open_faults = self.open_faults.saturating_add(1);
+        Err(OpenFault::Failed)
+    }
+
+    ghost use Rattle.std.proofs.Common.{refl};
+
+    ghost keeps_told = { λ s t f. refl };
+
+    ghost keeps_open_faults = { λ s t f. f.1 };
+}
+
+/// A sink over a real stream. Contracts see its count of faults, which stops at the last value of a `u64`.
+#[derive(Drop)]
+pub struct StdSink<W: Write + Drop> {
+    stream: W,
+    faults: u64,
+}
+
+impl<W: Write + Drop> Model for StdSink<W> {
+    ghost use Rattle.std.specs.Prelude.{ℕ};
+
+    ghost Value = { ℕ };
+
+    ghost view = { λ s. s.faults };
+}
+
+impl<W: Write + Drop> StdSink<W> {
+    /// A sink over this stream.
+    pub fn new(_alloc: Global, stream: W) -> Result<StdSink<W>, NoMemory>
+        ensures { IfOk result (λ sink. sink ≡ 0) }
+    {
+        Ok(StdSink { stream, faults: 0 })
+    }
+}
+
+impl<W: Write + Drop> Sink for StdSink<W> {
+    ghost taken = { λ _. None };
+
+    ghost faults = { λ s. s };
+
+    /// A write that takes none of the bytes that there are fails.
+    fn write(&mut self, bytes: &[u8]) -> Result<usize, Failed> {
+        match self.stream.write(bytes) {
+            Ok(n) if n > 0 || bytes.is_empty() => Ok(n),
+            _ => {
+                self.faults = self.faults.saturating_add(1);
+                Err(Failed)
+            }
+        }
+    }
+}

@@ -1,0 +1,126 @@
+//! A desk of files in memory that never fails.
+ghost use Rattle.std.specs.Prelude.{◌≡◌, ◌≢◌, ◌<◌, ◌++◌, List, [], ℕ, Some, length, take, slice_index_or, All, IfNone, IfSome, IfOk, OnOk, OnErr};
+ghost use Rattle.std.specs.FinMap as map;
+ghost use Rattle.cq_outside.specs.Told.{KnownDesk, told_of, bytes_of};
+
+use crate::bytes::Bytes;
+use crate::desk::Desk;
+use crate::faults::{Failed, NoMemory, OpenFault};
+use crate::source::Source;
+use crate::sure_source::SureSource;
+use std::alloc::Global;
+use std::marker::Model;
+
+/// A desk of given files, which opens a name without a file as an empty file.
+#[derive(Drop, Debug)]
+pub struct SureDesk {
+    alloc: Global,
+    files: Vec<(Bytes, Bytes)>,
+    opened: Vec<Bytes>,
+    current: SureSource,
+}
+
+impl Model for SureDesk {
+    ghost use Rattle.std.specs.FinMap as map;
+    ghost use Rattle.cq_outside.specs.Told.{KnownDesk, known_desk_code};
+
+    ghost Value = { KnownDesk };
+
+    ghost coded = { known_desk_code };
+
+    ghost view = { λ d. record { files = map.from_entries d.files.items; opened = d.opened.items; left = d.current } };
+}
+
+impl SureDesk {
+    /// A desk without files, on which no file is open and no bytes are left. Takes no memory.
+    pub fn new(alloc: Global) -> SureDesk
+        ensures { result ≡ record { files = map.empty; opened = []; left = [] } }
+    {
+        SureDesk {
+            alloc,
+            files: Vec::new(alloc),
+            opened: Vec::new(alloc),
+            current: SureSource::new(Bytes::new(alloc)),
+        }
+    }
+
+    /// Gives a name these bytes, in place of those that it had. The file that is open stays as it is.
+    pub fn add(&mut self, name: &[u8], bytes: &[u8]) -> Result<(), NoMemory>
+        ensures ok { OnOk result (self.new ≡ record self.old { files = map.insert self.old.files name.now bytes.now }) }
+        ensures err { OnErr result (self.new ≡ self.old) }
+    {
+        let file = (
+            Bytes::from_slice(self.alloc, name)?,
+            Bytes::from_slice(self.alloc, bytes)?,
+        );
+        match place_of(self.files.as_slice(), name) {
+            Some(place) => self.files[place] = file,
+            None => self.files.push(file)?,
+        }
+        Ok(())
+    }
+}
+
+/// The place of the file with this name.
+fn place_of(files: &[(Bytes, Bytes)], name: &[u8]) -> Option<usize>
+    ensures none { IfNone result (All (λ f. f.0 ≢ name.now) files.now) }
+    ensures bound { IfSome result (λ place. place < length files.now) }
+    ensures named { IfSome result (λ place. (d : List ℕ × List ℕ) → (slice_index_or files.now place d).0 ≡ name.now) }
+    ensures first { IfSome result (λ place. All (λ f. f.0 ≢ name.now) (take place files.now)) }
+{
+    for (place, file) in files.iter().enumerate() {
+        if file.0.as_slice() == name {
+            return Some(place);
+        }
+    }
+    None
+}
+
+/// A copy of the bytes of a name, of which there are none where there is no such file.
+fn copy_of(alloc: Global, files: &[(Bytes, Bytes)], name: &[u8]) -> Result<Bytes, NoMemory>
+    ensures { IfOk result (λ bytes. bytes ≡ bytes_of (map.from_entries files.now) name.now) }
+{
+    match place_of(files, name) {
+        Some(place) => Bytes::from_slice(alloc, files[place].1.as_slice()),
+        None => Ok(Bytes::new(alloc)),
+    }
+}
+
+impl Source for SureDesk {
+    ghost left = { λ d. Some d.left };
+
+    ghost faults = { λ _. 0 };
+
+    ghost follows = { λ s t. (told_of t ≡ told_of s) × ((bytes : List ℕ) × (s.left ≡ bytes ++ t.left)) };
+
+    fn read(&mut self, buf: &mut [u8]) -> Result<usize, Failed> {
+        self.current.read(buf)
+    }
+
+    ghost use Rattle.std.proofs.Common.{refl, sym, ◌∙◌, ap, append_assoc, lit≤};
+
+    ghost follows_same = { λ s. (refl, ([], refl)) };
+
+    ghost follows_on = { λ s t u f g. (g.0 ∙ f.0, (f.1.0 ++ g.1.0, f.1.1 ∙ ap (λ l. f.1.0 ++ l) g.1.1 ∙ sym (append_assoc f.1.0 g.1.0 u.left))) };
+
+    ghost never_falls = { λ s t f. lit≤ tt };
+}
+
+impl Desk for SureDesk {
+    ghost told = { λ d. Some (told_of d) };
+
+    ghost open_faults = { λ _. 0 };
+
+    fn open(&mut self, alloc: Global, name: &[u8]) -> Result<(), OpenFault> {
+        let bytes = copy_of(alloc, self.files.as_slice(), name)?;
+        self.opened.push(Bytes::from_slice(alloc, name)?)?;
+        self.current = SureSource::new(bytes);
+        Ok(())
+    }
+
+    ghost use Rattle.std.proofs.Common.{refl, ap};
+
+    ghost keeps_told = { λ s t f. ap (λ x. Some x) f.0 };
+
+    ghost keeps_open_faults = { λ s t f. refl };
+}

@@ -1,0 +1,74 @@
+//! A sink in memory that never fails.
+ghost use Rattle.std.specs.Prelude.{◌≡◌, List, [], ◌++◌, ℕ, length, IfOk, Some};
+ghost use Rattle.std.specs.Option.{option_copied};
+ghost use Rattle.cq_outside.specs.Kept.{Kept, taken_and, within};
+
+use crate::faults::{Failed, NoMemory};
+use crate::sink::Sink;
+use std::alloc::Global;
+use std::marker::Model;
+
+/// A sink that takes every byte, and keeps them as long as they fit its room. From the write on that passes
+/// the room it keeps none.
+#[derive(Drop, Debug)]
+pub struct SureSink {
+    bytes: Vec<u8>,
+    room: usize,
+    is_past_room: bool,
+}
+
+impl Model for SureSink {
+    ghost use Rattle.std.specs.Prelude.{◌≤◌, Some, None, vec_capacity, vec_len, if◌then◌else◌};
+    ghost use Rattle.cq_outside.specs.Kept.{Kept};
+
+    ghost Value = { Kept };
+
+    ghost view = { λ s. record { room = s.room; taken = if s.is_past_room then None else Some s.bytes.items } };
+
+    ghost invariant = { λ s. (s.room ≤ vec_capacity s.bytes) × (vec_len s.bytes ≤ s.room) };
+}
+
+impl SureSink {
+    /// A sink that has taken nothing, with room for `room` bytes. It takes all its memory here.
+    pub fn new(alloc: Global, room: usize) -> Result<SureSink, NoMemory>
+        ensures { IfOk result (λ sink. sink ≡ record { room = room; taken = Some [] }) }
+    {
+        Ok(SureSink {
+            bytes: Vec::with_capacity(alloc, room)?,
+            room,
+            is_past_room: false,
+        })
+    }
+
+    /// The bytes taken, where they fit the room.
+    pub fn taken(&self) -> Option<&[u8]>
+        ensures { option_copied result ≡ self.now.taken }
+    {
+        if self.is_past_room {
+            None
+        } else {
+            Some(self.bytes.as_slice())
+        }
+    }
+}
+
+impl Sink for SureSink {
+    ghost taken = { λ s. s.taken };
+
+    ghost faults = { λ _. 0 };
+
+    /// Takes all of `bytes`.
+    fn write(&mut self, bytes: &[u8]) -> Result<usize, Failed>
+        ensures all { result ≡ Ok (length bytes.now) }
+        ensures within { (before : List ℕ) → self.old.taken ≡ within self.old.room before
+            → self.new.taken ≡ within self.old.room (before ++ bytes.now) }
+        ensures kept { self.new ≡ record { room = self.old.room; taken = taken_and self.old.room self.old.taken bytes.now } }
+    {
+        if self.is_past_room || bytes.len() > self.room - self.bytes.len() {
+            self.is_past_room = true;
+        } else {
+            self.bytes.extend_from_slice(bytes).unwrap();
+        }
+        Ok(bytes.len())
+    }
+}

@@ -1,0 +1,11 @@
+pub mod Status
+pub mod Words
+pub mod Query
+pub mod BareGames
+pub mod Front
+pub mod Games
+pub mod Export
+pub mod Answer
+pub mod Promise
+pub mod Reading
+pub mod Writing

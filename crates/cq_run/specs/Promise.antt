@@ -1,0 +1,205 @@
+-- What `run` promises: what it answers, what out and err have taken then, and when each answer comes.
+use Rattle.std.specs.Prelude.{◌≡◌, ◌≢◌, ◌⊎◌, ℕ, ◌≤◌, ◌<◌, ◌^◌, List, [], ◌∷◌, ◌++◌, length, take, Option, None, Some, codes}
+use Rattle.std.specs.Option.{option_map, option_and_then}
+use Rattle.std.specs.Io.KnownBytes.{Consumes, IsAtEnd}
+use Rattle.cq_outside.specs.Faults.{Rose}
+use Rattle.cq_outside.specs.Flow.{Grew}
+use Rattle.cq_outside.specs.Told.{Told, Opens, bytes_of}
+use Rattle.cq_run.specs.declared.status.Status.{Status}
+use Rattle.cq_run.specs.declared.status.Status.TheVariants.{Done, DoneWithRefusals, QueryRefused, WordsRefused, OpenFault, ReadFault, WriteFault, NoMemory, ArchiveTooLong, NotYetRead}
+use Rattle.cq_run.specs.declared.query.ManOnSquare.{ManOnSquare}
+use Rattle.cq_run.specs.declared.answer.Answer.{Answer}
+use Rattle.cq_run.specs.Words.{query_text, usage_line}
+use Rattle.cq_run.specs.Query.{query_of}
+use Rattle.cq_run.specs.Games.{Game, games_in}
+use Rattle.cq_run.specs.Answer.{answer_of, report_of}
+
+-- a desk at one moment: what it tells, what is left of the open file, and its counts of faults
+pub record DeskView : Type 0 where
+  pub told : Option Told
+  pub left : Option (List ℕ)
+  pub read_faults : ℕ
+  pub open_faults : ℕ
+
+-- a sink at one moment
+pub record SinkView : Type 0 where
+  pub taken : Option (List ℕ)
+  pub faults : ℕ
+
+-- the two sinks, as a call began and as it ended
+pub record Sinks : Type 0 where
+  pub out : SinkView
+  pub out_after : SinkView
+  pub err : SinkView
+  pub err_after : SinkView
+
+-- a call of `run`: its words, and what it was lent, as the call began and as it ended
+pub record Call : Type 0 where
+  pub words : List (List ℕ)
+  pub desk : DeskView
+  pub desk_after : DeskView
+  pub sinks : Sinks
+
+-- the query that the words ask
+abbrev pub asked : Call → Option ManOnSquare
+asked call = option_and_then query_of (query_text call.words)
+
+-- the name of standard input
+abbrev pub standard_input : List ℕ
+standard_input = codes "-"
+
+-- the bytes of the archive, where a desk tells them
+abbrev pub archive_of : DeskView → Option (List ℕ)
+archive_of desk = option_map (λ told. bytes_of told.files standard_input) desk.told
+
+-- told bytes are these; where nothing is told they may be any
+abbrev pub MayBe : Option (List ℕ) → List ℕ → Type 0
+MayBe None bytes = Unit {0}
+MayBe (Some told) bytes = told ≡ bytes
+
+
+-- the limit on an archive, in bytes
+abbrev pub archive_limit : ℕ
+archive_limit = 2 ^ 30
+
+-- these are the bytes of the archive, and it was read to its end
+pub record ReadsWhole (desk after : DeskView) (archive : List ℕ) : Type 0 where
+  pub is : MayBe (archive_of desk) archive
+  pub within : length archive ≤ archive_limit
+  pub at_end : IsAtEnd after.left
+
+-- the archive is the open file at the end
+abbrev pub IsOpen : DeskView → DeskView → Type 0
+IsOpen desk after = Opens desk.told after.told standard_input (archive_of desk)
+
+-- more than its limit was taken from the archive
+pub record TakesTooMuch (desk after : DeskView) : Type 0 where
+  pub taken : List ℕ
+  pub takes : Consumes (archive_of desk) after.left taken
+  pub long : archive_limit < length taken
+
+-- the same at a desk that tells its files, and the archive was opened in this call
+pub record Overruns (desk after : DeskView) : Type 0 where
+  pub told : Told
+  pub tells : desk.told ≡ Some told
+  pub opened : IsOpen desk after
+  pub too_much : TakesTooMuch desk after
+
+-- the texts for the two sinks
+pub record Texts : Type 0 where
+  pub out : List ℕ
+  pub err : List ℕ
+
+abbrev pub nothing : Texts
+nothing = record { out = []; err = [] }
+
+abbrev pub texts_of_answer : Option Answer → Texts
+texts_of_answer None = nothing
+texts_of_answer (Some answer) = record { out = answer.exports; err = report_of answer }
+
+abbrev pub texts_of_query : Option ManOnSquare → List ℕ → Texts
+texts_of_query None archive = nothing
+texts_of_query (Some query) archive = texts_of_answer (option_map (answer_of query) (games_in archive))
+
+-- What words and an archive give: for words that are refused the usage line, for a query and games the exports and the report,
+-- and nothing for what is not read yet.
+abbrev pub texts_of_text : Option (List ℕ) → List ℕ → Texts
+texts_of_text None archive = record { out = []; err = usage_line }
+texts_of_text (Some text) archive = texts_of_query (query_of text) archive
+
+abbrev pub texts_of : List (List ℕ) → List ℕ → Texts
+texts_of words archive = texts_of_text (query_text words) archive
+
+-- the sinks have taken these texts
+pub record Writes (sinks : Sinks) (texts : Texts) : Type 0 where
+  pub out : Grew sinks.out.taken sinks.out_after.taken texts.out
+  pub err : Grew sinks.err.taken sinks.err_after.taken texts.err
+
+-- each sink has taken bytes from the front of its text
+pub record WritesFront (sinks : Sinks) (texts : Texts) : Type 0 where
+  pub out_count : ℕ
+  pub err_count : ℕ
+  pub out : Grew sinks.out.taken sinks.out_after.taken (take out_count texts.out)
+  pub err : Grew sinks.err.taken sinks.err_after.taken (take err_count texts.err)
+
+-- a count of a sink rose
+abbrev pub SinkFailed : Sinks → Type 0
+SinkFailed sinks = Rose sinks.out.faults sinks.out_after.faults ⊎ Rose sinks.err.faults sinks.err_after.faults
+
+-- the same, for the texts of some bytes that may be the archive
+pub record StopsWriting (call : Call) : Type 0 where
+  pub archive : List ℕ
+  pub is : MayBe (archive_of call.desk) archive
+  pub front : WritesFront call.sinks (texts_of call.words archive)
+
+-- the archive was read to its end, it is of games, and out and err have the exports and the report
+pub record Answers (call : Call) : Type 0 where
+  pub query : ManOnSquare
+  pub archive : List ℕ
+  pub games : List Game
+  pub asks : asked call ≡ Some query
+  pub reads : ReadsWhole call.desk call.desk_after archive
+  pub holds : games_in archive ≡ Some games
+  pub writes : Writes call.sinks (texts_of_answer (Some (answer_of query games)))
+
+-- the query is of another form, and no file was opened
+pub record AsksOther (call : Call) : Type 0 where
+  pub text : List ℕ
+  pub words : query_text call.words ≡ Some text
+  pub other : query_of text ≡ None
+  pub unopened : call.desk_after ≡ call.desk
+
+-- the archive is of another form, and it was read to its end
+pub record HoldsOther (call : Call) : Type 0 where
+  pub archive : List ℕ
+  pub reads : ReadsWhole call.desk call.desk_after archive
+  pub other : games_in archive ≡ None
+
+-- what each status says
+abbrev pub Says : Status → Call → Type 0
+Says Done call = Answers call
+Says DoneWithRefusals call = ⊥
+Says QueryRefused call = ⊥
+Says WordsRefused call = (query_text call.words ≡ None) × (call.desk_after ≡ call.desk) × Writes call.sinks (texts_of call.words [])
+Says OpenFault call = Rose call.desk.open_faults call.desk_after.open_faults × (call.desk_after.told ≡ call.desk.told) × Writes call.sinks nothing
+Says ReadFault call = Rose call.desk.read_faults call.desk_after.read_faults × IsOpen call.desk call.desk_after × Writes call.sinks nothing
+Says WriteFault call = SinkFailed call.sinks × StopsWriting call
+Says NoMemory call = StopsWriting call
+Says ArchiveTooLong call = TakesTooMuch call.desk call.desk_after × IsOpen call.desk call.desk_after × Writes call.sinks nothing
+Says NotYetRead call = (AsksOther call ⊎ HoldsOther call) × Writes call.sinks nothing
+
+-- the status is one of these
+abbrev pub IsOneOf : Status → List Status → Type 0
+IsOneOf status [] = ⊥
+IsOneOf status (one ∷ more) = (status ≡ one) ⊎ IsOneOf status more
+
+-- accepted words and query, an archive of bare games within the limit, and no count that rose
+pub record HasAll (call : Call) : Type 0 where
+  pub query : ManOnSquare
+  pub archive : List ℕ
+  pub games : List Game
+  pub asks : asked call ≡ Some query
+  pub tells : archive_of call.desk ≡ Some archive
+  pub within : length archive ≤ archive_limit
+  pub holds : games_in archive ≡ Some games
+  pub no_open : Rose call.desk.open_faults call.desk_after.open_faults → ⊥
+  pub no_read : Rose call.desk.read_faults call.desk_after.read_faults → ⊥
+  pub no_write : SinkFailed call.sinks → ⊥
+
+-- what `run` promises of its status
+pub record Promise (status : Status) (call : Call) : Type 0 where
+  pub says : Says status call
+  pub words_always : query_text call.words ≡ None → IsOneOf status (WordsRefused ∷ WriteFault ∷ NoMemory ∷ [])
+  pub query_always : (text : List ℕ) → query_text call.words ≡ Some text → query_of text ≡ None → status ≡ NotYetRead
+  pub too_long_always : Overruns call.desk call.desk_after → IsOneOf status (ArchiveTooLong ∷ NoMemory ∷ [])
+  pub complete : HasAll call → IsOneOf status (Done ∷ NoMemory ∷ [])
+
+-- the views of a desk and of the sinks, by what their types tell
+abbrev pub desk_view : {D : Type 0} → (D → Option Told) → (D → Option (List ℕ)) → (D → ℕ) → (D → ℕ) → D → DeskView
+desk_view told left read_faults open_faults desk = record { told = told desk; left = left desk; read_faults = read_faults desk; open_faults = open_faults desk }
+
+abbrev pub sink_view : {S : Type 0} → (S → Option (List ℕ)) → (S → ℕ) → S → SinkView
+sink_view taken faults sink = record { taken = taken sink; faults = faults sink }
+
+abbrev pub sinks_of : SinkView → SinkView → SinkView → SinkView → Sinks
+sinks_of out out_after err err_after = record { out = out; out_after = out_after; err = err; err_after = err_after }

@@ -1,0 +1,37 @@
+//! How a call of the program ends.
+ghost use Rattle.std.specs.Prelude.{◌≡◌};
+ghost use Rattle.cq_run.specs.Status.{exit_code};
+
+/// How a call ended. The program's exit status is the place in this list, from 0.
+#[derive(Clone, Copy, Debug, PartialEq, Eq)]
+pub enum Status {
+    /// All games are answered, and none is refused.
+    Done,
+    /// All games are answered, and some are refused.
+    DoneWithRefusals,
+    /// The query is faulty.
+    QueryRefused,
+    /// The words are not those of a command.
+    WordsRefused,
+    /// A file could not be opened.
+    OpenFault,
+    /// A read failed.
+    ReadFault,
+    /// A write failed.
+    WriteFault,
+    /// No memory was found.
+    NoMemory,
+    /// The archive has more than 2^30 bytes.
+    ArchiveTooLong,
+    /// The query or the archive is of a form that this version does not read.
+    NotYetRead,
+}
+
+impl Status {
+    /// The program's exit status.
+    pub fn exit_code(self) -> u8
+        ensures { result ≡ exit_code self }
+    {
+        self as u8
+    }
+}
