@@ -3,4 +3,5 @@ pub mod Tables
 pub mod Inside
 pub mod Rays
 pub mod Slides
+pub mod Seen
 mod Rows
