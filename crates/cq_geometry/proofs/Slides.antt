@@ -1,6 +1,6 @@
 -- How rays cover the lines of the board, and what is between a square and each square of its rays.
 use Rattle.std.proofs.Common.{◌≡◌, ℕ, ◌<◌, ◌==◌, Bool, ℤ, List, [], ◌∷◌, map, length, get_or, take, refl, sym, ap, ◌∙◌, arith}
-use Rattle.std.specs.List.{list_any, range_with_len}
+use Rattle.std.specs.List.{range_with_len}
 use Rattle.std.proofs.lemmas.List.{get_or-map}
 use Rattle.std.proofs.lemmas.List.FromFn.{get_or-map-range_with_len}
 use Rattle.cq_geometry.specs.declared.compass.Compass.{Compass}
@@ -8,7 +8,7 @@ use Rattle.cq_geometry.specs.declared.compass.Compass.TheVariants.{Up, Down, Lef
 use Rattle.cq_geometry.specs.Squares.{squares}
 use Rattle.cq_geometry.specs.Steps.{ray_from, IsDirection}
 use Rattle.cq_geometry.specs.Directions.{files_of, ranks_of}
-use Rattle.cq_geometry.specs.Lines.{between_squares, is_orthogonal, is_diagonal}
+use Rattle.cq_geometry.specs.Lines.{between_squares, is_orthogonal, is_diagonal, on_rays, orthogonals, diagonals}
 use Rattle.cq_geometry.proofs.Tables.{at_square, at_squares}
 use Rattle.cq_geometry.proofs.Rays.{each_direction}
 
@@ -45,17 +45,6 @@ between_on_ray files ranks s k d dir h below =
     sym (get_or-map (between_squares s) ray k d [] below)
     ∙ ap (λ xs. get_or xs k []) same
     ∙ get_or-map-range_with_len (λ n. take n ray) 0 (length ray) k k [] below (omega arith)
-
--- a square is on one of the rays
-abbrev pub on_rays : List Compass → ℕ → ℕ → Bool
-on_rays directions a b =
-    list_any (λ c. list_any (λ q. q == b) (ray_from (files_of c) (ranks_of c) a)) directions
-
-abbrev pub orthogonals : List Compass
-orthogonals = Up ∷ Down ∷ Left ∷ Right ∷ []
-
-abbrev pub diagonals : List Compass
-diagonals = Northeast ∷ Northwest ∷ Southeast ∷ Southwest ∷ []
 
 orthogonal_table : map (λ a. map (on_rays orthogonals a) squares) squares ≡ map (λ a. map (is_orthogonal a) squares) squares
 unfolding squares ray_from

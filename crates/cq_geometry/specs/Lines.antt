@@ -1,5 +1,10 @@
 -- Squares on one file, rank or diagonal.
-use Rattle.std.specs.Prelude.{ℕ, ◌+◌, ◌-◌, Bool, not, ◌&&◌, ◌||◌, ◌==◌, nat_lt, if◌then◌else◌, List, filter, reverse}
+use Rattle.std.specs.Prelude.{ℕ, ◌+◌, ◌-◌, Bool, not, ◌&&◌, ◌||◌, ◌==◌, nat_lt, if◌then◌else◌, List, [], ◌∷◌, filter, reverse}
+use Rattle.std.specs.List.{list_all, list_any}
+use Rattle.cq_geometry.specs.declared.compass.Compass.{Compass}
+use Rattle.cq_geometry.specs.declared.compass.Compass.TheVariants.{Up, Down, Left, Right, Northeast, Northwest, Southeast, Southwest}
+use Rattle.cq_geometry.specs.Steps.{ray_from}
+use Rattle.cq_geometry.specs.Directions.{files_of, ranks_of}
 use Rattle.cq_geometry.specs.Squares.{file_of, rank_of, squares}
 
 -- the diagonals that rise to the right, from 0 (h1 alone) to 14 (a8 alone)
@@ -41,3 +46,30 @@ is_orthogonal a b = not (a == b) && (file_of a == file_of b || rank_of a == rank
 -- two squares are on one diagonal, as a bishop's goal and its own
 abbrev pub is_diagonal : ℕ → ℕ → Bool
 is_diagonal a b = not (a == b) && (rising_of a == rising_of b || falling_of a == falling_of b)
+
+-- the directions of a rook
+abbrev pub orthogonals : List Compass
+orthogonals = Up ∷ Down ∷ Left ∷ Right ∷ []
+
+-- the directions of a bishop
+abbrev pub diagonals : List Compass
+diagonals = Northeast ∷ Northwest ∷ Southeast ∷ Southwest ∷ []
+
+-- a square is on one of the rays from another
+abbrev pub on_rays : List Compass → ℕ → ℕ → Bool
+on_rays directions a b =
+    list_any (λ c. list_any (λ square. square == b) (ray_from (files_of c) (ranks_of c) a)) directions
+
+-- no square between two squares is taken
+abbrev pub is_open : (ℕ → Bool) → ℕ → ℕ → Bool
+is_open taken a b = list_all (λ square. not (taken square)) (between_squares a b)
+
+-- the squares up to and with the first that is taken
+abbrev pub seen : (ℕ → Bool) → List ℕ → List ℕ
+seen taken [] = []
+seen taken (square ∷ rest) = square ∷ (if taken square then [] else seen taken rest)
+
+-- a square is seen along one of the rays from another
+abbrev pub sees : List Compass → (ℕ → Bool) → ℕ → ℕ → Bool
+sees directions taken a b =
+    list_any (λ c. list_any (λ square. square == b) (seen taken (ray_from (files_of c) (ranks_of c) a))) directions

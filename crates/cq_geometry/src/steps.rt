@@ -46,7 +46,7 @@ macro_rules! goals {
 }
 
 /// The squares that adjoin a square, in the order of their numbers.
-#[tactic(auto, using(crate::proofs::Tables::king_goals_kept, crate::proofs::Tables::king_board))]
+#[tactic(auto, using(crate::proofs::Neighbors::king_goals_kept, crate::proofs::Neighbors::king_board))]
 pub fn king_steps(s: Square) -> ArrayVec<Square, 8>
     ensures squares { result.items ≡ king_squares s }
     ensures board { All (λ square. square < 64) result.items }
@@ -55,7 +55,7 @@ pub fn king_steps(s: Square) -> ArrayVec<Square, 8>
 }
 
 /// The squares that a knight reaches from a square, in the order of their numbers.
-#[tactic(auto, using(crate::proofs::Tables::knight_goals_kept, crate::proofs::Tables::knight_board))]
+#[tactic(auto, using(crate::proofs::Neighbors::knight_goals_kept, crate::proofs::Neighbors::knight_board))]
 pub fn knight_steps(s: Square) -> ArrayVec<Square, 8>
     ensures squares { result.items ≡ knight_squares s }
     ensures board { All (λ square. square < 64) result.items }
