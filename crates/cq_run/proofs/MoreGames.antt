@@ -5,7 +5,7 @@ use Rattle.std.specs.Option.{option_map, option_and_then}
 use Rattle.std.specs.List.{filter, flat_map}
 use Rattle.cq_position.specs.Board.{Board}
 use Rattle.cq_position.specs.Fen.{fen_meaning}
-use Rattle.cq_position.specs.declared.fen.FenFault.{FenFault}
+use Rattle.cq_position.specs.declared.faults.FenFault.{FenFault}
 use Rattle.cq_run.specs.declared.query.ManOnSquare.{ManOnSquare}
 use Rattle.cq_run.specs.declared.answer.Answer.{Answer}
 use Rattle.cq_run.specs.Answer.{answer_of, joined, with_game}
