@@ -68,7 +68,7 @@ accepted_first archive behind text board e good = ap (option_and_then games_of) 
 pub answered_more : (query : ManOnSquare) (answer : Answer) (game : Game) (games : List Game) → joined answer (answer_of query (game ∷ games)) ≡ joined (with_game query answer game) (answer_of query games)
 answered_more query answer game games =
     same_answer _ _ _ _ _ _ (exports_more (matches query game) game (filter (matches query) games) answer.exports) (omega arith)
-        (matched_more (matches query game) game (filter (matches query) games) answer.matched)
+    (matched_more (matches query game) game (filter (matches query) games) answer.matched)
 
 -- nothing more
 pub answered_all : (query : ManOnSquare) (answer : Answer) → joined answer (answer_of query []) ≡ answer

@@ -64,12 +64,15 @@ pub words_unwritten : (call : Call) (count : ℕ) → query_text call.words ≡ 
 words_unwritten call count none same out failed err =
     let some = some_archive (archive_of call.desk) in
     record {
-      says = (inr failed, record {
-        archive = some.0;
-        is = some.1;
-        front = subst (λ (text : Option (List ℕ)). WritesFront call.sinks (texts_of_text text some.0)) (sym none)
-            (record { out_count = 0; err_count = count; out = took_nothing call.sinks.out call.sinks.out_after out; err = err });
-      });
+      says = (
+        inr failed,
+        record {
+          archive = some.0;
+          is = some.1;
+          front = subst (λ (text : Option (List ℕ)). WritesFront call.sinks (texts_of_text text some.0)) (sym none)
+              (record { out_count = 0; err_count = count; out = took_nothing call.sinks.out call.sinks.out_after out; err = err });
+        },
+      );
       words_always = λ _. inr (inl refl);
       query_always = λ text e _. cc;
       too_long_always = λ much. absurd (not_overrun call.desk call.desk_after same much);
@@ -112,8 +115,8 @@ unread ReadFault call query asks same reads =
     promise_of ReadFault call query asks (reads.0, reads.1, wrote_nothing call.sinks same) (λ much. absurd (reads.2 much)) (λ all. absurd (all.no_read reads.0))
 unread ArchiveTooLong call query asks same reads =
     promise_of ArchiveTooLong call query asks (reads.0, reads.1, wrote_nothing call.sinks same) (λ _. inl refl)
-        (λ all. absurd (within call.desk_after.left all.archive reads.0.taken all.within reads.0.long
-            (subst (λ archive. Consumes archive call.desk_after.left reads.0.taken) all.tells reads.0.takes)))
+    (λ all. absurd (within call.desk_after.left all.archive reads.0.taken all.within reads.0.long
+    (subst (λ archive. Consumes archive call.desk_after.left reads.0.taken) all.tells reads.0.takes)))
 unread NoMemory call query asks same reads = promise_of NoMemory call query asks (stopped call same) (λ _. inr (inl refl)) (λ _. inr (inl refl))
 unread Done call query asks same reads = absurd reads
 unread DoneWithRefusals call query asks same reads = absurd reads
@@ -144,8 +147,8 @@ pub held_other : (call : Call) (query : ManOnSquare) (archive : List ℕ) → As
 held_other call query archive asks same reads few none =
     let other = no_games query (games_in archive) none in
     promise_of NotYetRead call query asks (inr (record { archive = archive; reads = reads; other = other }), wrote_nothing call.sinks same) (λ much. absurd (few much))
-        (λ all. let e : archive ≡ all.archive = told_is (archive_of call.desk) archive all.archive reads.is all.tells in
-            let games : None ≡ Some all.games = sym other ∙ (ap games_in e ∙ all.holds) in absurd cc)
+    (λ all. let e : archive ≡ all.archive = told_is (archive_of call.desk) archive all.archive reads.is all.tells in
+    let games : None ≡ Some all.games = sym other ∙ (ap games_in e ∙ all.holds) in absurd cc)
 
 -- the texts of an answer are those of the words and the archive
 texts_are : (call : Call) (query : ManOnSquare) (archive : List ℕ) (answer : Answer) → Asks call query → Some answer ≡ option_map (answer_of query) (games_in archive)
@@ -169,12 +172,12 @@ wrote Done call query archive answer asks reads few found writes =
     }) (λ much. absurd (few much)) (λ _. inl refl)
 wrote WriteFault call query archive answer asks reads few found writes =
     promise_of WriteFault call query asks
-        (writes.0, record { archive = archive; is = reads.is; front = subst (WritesFront call.sinks) (texts_are call query archive answer asks found) writes.1 })
-        (λ much. absurd (few much)) (λ all. absurd (all.no_write writes.0))
+    (writes.0, record { archive = archive; is = reads.is; front = subst (WritesFront call.sinks) (texts_are call query archive answer asks found) writes.1 })
+    (λ much. absurd (few much)) (λ all. absurd (all.no_write writes.0))
 wrote NoMemory call query archive answer asks reads few found writes =
     promise_of NoMemory call query asks
-        (record { archive = archive; is = reads.is; front = subst (WritesFront call.sinks) (texts_are call query archive answer asks found) writes })
-        (λ _. inr (inl refl)) (λ _. inr (inl refl))
+    (record { archive = archive; is = reads.is; front = subst (WritesFront call.sinks) (texts_are call query archive answer asks found) writes })
+    (λ _. inr (inl refl)) (λ _. inr (inl refl))
 wrote DoneWithRefusals call query archive answer asks reads few found writes = absurd writes
 wrote QueryRefused call query archive answer asks reads few found writes = absurd writes
 wrote WordsRefused call query archive answer asks reads few found writes = absurd writes

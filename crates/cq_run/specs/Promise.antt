@@ -57,7 +57,6 @@ abbrev pub MayBe : Option (List ℕ) → List ℕ → Type 0
 MayBe None bytes = Unit {0}
 MayBe (Some told) bytes = told ≡ bytes
 
-
 -- the limit on an archive, in bytes
 abbrev pub archive_limit : ℕ
 archive_limit = 2 ^ 30

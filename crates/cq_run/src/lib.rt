@@ -1,15 +1,16 @@
-//! The top call.
+//! The top call: what the words of a command answer.
 #![tactic(auto)]
 
 mod answer;
 mod bare_games;
 mod query;
 mod reading;
-
 mod status;
+#[cfg(test)]
+mod tests;
 mod top_call;
 mod words;
 mod writing;
 
-pub use top_call::run;
 pub use status::Status;
+pub use top_call::run;

@@ -10,8 +10,7 @@ returns-in-Err-Fault g c =
     let taken = rw is at c.read_up_to.ensures.taken in
     let told = g.met.D.Desk.keeps_told c.open.new.self c.read_up_to.new.source c.read_up_to.ensures.next in
     let before = desk_view g.D.Desk.told g.D.Source.left g.D.Source.faults g.D.Desk.open_faults c.args.desk.now in
-    let after = desk_view g.D.Desk.told g.D.Source.left g.D.Source.faults g.D.Desk.open_faults c.read_up_to.new.source in
-    (
+    let after = desk_view g.D.Desk.told g.D.Source.left g.D.Source.faults g.D.Desk.open_faults c.read_up_to.new.source in (
       rw (← c.in-Ok.ensures.reads) cause.1,
       still_open before after _ _ c.in-Ok.ensures.opened told,
       no_overrun before after _ _ c.in-Ok.ensures.opened taken,

@@ -5,8 +5,7 @@ use Rattle.cq_run.proofs.writing.write_answer.Goals as goal
 pub returns : goal.returns
 returns g c =
     let out = rw c.as_slice.ensures at c.in-Ok-write_all_of.ensures.ok in
-    let err = rw c.as_slice-2.ensures at c.in-Err-write_all_of.ensures.err in
-    (
+    let err = rw c.as_slice-2.ensures at c.in-Err-write_all_of.ensures.err in (
       inr c.in-Err-write_all_of.ensures.cause.failed,
       record {
         out_count = length c.args.answer.now.exports;

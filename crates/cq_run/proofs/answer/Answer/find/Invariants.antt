@@ -9,7 +9,7 @@ abbrev pub invariant-games : goal.invariant-games
 invariant-games l = record {
   answered : option_map (λ more. joined l.answer (answer_of l.query more)) (games_in l.rest) ≡ option_map (answer_of l.query) (games_in l.fn.archive);
   counted : l.answer.games + length l.rest ≤ length l.fn.archive;
-  matched : l.answer.matched ≤ l.answer.games
+  matched : l.answer.matched ≤ l.answer.games;
 }
 
 abbrev pub decreases-games : goal.decreases-games
