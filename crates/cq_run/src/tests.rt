@@ -2,24 +2,18 @@
 use crate::{Status, run};
 use cq_outside::{NoMemory, OpenGate, SureDesk, SureSink};
 use std::alloc::{AllocError, Global};
+use std::process::Abort;
 use std::test::Fail;
 use std::thread::Threads;
 
-/// What a call answers and what its sinks have taken.
-#[derive(Drop)]
-struct Outcome {
-    status: Status,
-    out: SureSink,
-    err: SureSink,
-}
-
-/// One call over an archive on standard input.
-fn answered<R: Threads + Sync>(
+/// Asks that a call over an archive on standard input answers so, and that its sinks have taken these texts.
+fn expect<R: Threads + Sync + Abort>(
     rt: &R,
     alloc: Global,
     words: &[&str],
     archive: &str,
-) -> Result<Outcome, NoMemory> {
+    want: (Status, &str, &str),
+) -> Result<(), NoMemory> {
     let mut desk = SureDesk::new(alloc);
     desk.add(b"-", archive.as_bytes())?;
     let mut out = SureSink::new(alloc, 4096)?;
@@ -34,7 +28,10 @@ fn answered<R: Threads + Sync>(
         &mut err,
         &OpenGate,
     );
-    Ok(Outcome { status, out, err })
+    assert_eq!(rt; status, want.0, "of {words:?}");
+    assert_eq!(rt; out.taken(), Some(want.1.as_bytes()), "out of {words:?}");
+    assert_eq!(rt; err.taken(), Some(want.2.as_bytes()), "err of {words:?}");
+    Ok(())
 }
 
 fn texts(alloc: Global, words: &[&str]) -> Result<Vec<String>, AllocError> {
@@ -46,6 +43,8 @@ fn texts(alloc: Global, words: &[&str]) -> Result<Vec<String>, AllocError> {
 }
 
 const USAGE: &str = "usage: cqlpgn MODE QUERY [ARCHIVE] [--workers N] [--seed S] [--games G]\n";
+
+const NO_KINGS: &str = "[FEN \"8/8/8/8/8/8/8/8 w - - 0 1\"]\n*\n";
 
 const KING_ON_A1: &str = "[FEN \"8/8/8/8/8/8/8/K1k5 w - - 0 1\"]\n*\n";
 
@@ -60,78 +59,72 @@ const TWO_EXPORTS: &str =
 
 #[test]
 fn worked_rows(rt: HostRuntime) -> Result<(), Fail> {
-    let rows: [(&[&str], &str, Status, &str, &str); 9] = [
-        (
-            &["eval", "cql() Ka1"],
-            KING_ON_A1,
-            Status::Done,
-            KING_ON_A1_EXPORT,
-            "games 1 matched 1 refused 0\n",
-        ),
-        (
-            &["eval", "cql() kc1"],
-            KING_ON_A1,
-            Status::Done,
-            KING_ON_A1_EXPORT,
-            "games 1 matched 1 refused 0\n",
-        ),
-        (
-            &["eval", "cql() Ka1"],
-            "",
-            Status::Done,
-            "",
-            "games 0 matched 0 refused 0\n",
-        ),
-        (
-            &["eval", "cql() Ka1"],
-            THREE_GAMES,
-            Status::Done,
-            TWO_EXPORTS,
-            "games 3 matched 2 refused 0\n",
-        ),
-        (
-            &["eval", "cql() Ka1"],
-            "[FEN \"8/8/8/8/8/8/8/8 w - - 0 1\"]\n*\n",
-            Status::NotYetRead,
-            "",
-            "",
-        ),
-        (
-            &["eval", "cql() Ka1"],
-            "1. e4 *\n",
-            Status::NotYetRead,
-            "",
-            "",
-        ),
-        (
-            &["eval", "cql() Ka9"],
-            KING_ON_A1,
-            Status::NotYetRead,
-            "",
-            "",
-        ),
-        (&["eval"], KING_ON_A1, Status::WordsRefused, "", USAGE),
-        (
-            &["play", "cql() Ka1"],
-            KING_ON_A1,
-            Status::WordsRefused,
-            "",
-            USAGE,
-        ),
-    ];
-    for (words, archive, status, out, err) in rows {
-        let outcome = answered(&rt, rt.alloc(), words, archive)?;
-        assert_eq!(rt; outcome.status, status, "of {words:?}");
-        assert_eq!(rt;
-            outcome.out.taken(),
-            Some(out.as_bytes()),
-            "out of {words:?}"
-        );
-        assert_eq!(rt;
-            outcome.err.taken(),
-            Some(err.as_bytes()),
-            "err of {words:?}"
-        );
-    }
+    let alloc = rt.alloc();
+    let none = "games 0 matched 0 refused 0\n";
+    let one = "games 1 matched 1 refused 0\n";
+    let two = "games 3 matched 2 refused 0\n";
+    expect(
+        &rt,
+        alloc,
+        &["eval", "cql() Ka1"],
+        KING_ON_A1,
+        (Status::Done, KING_ON_A1_EXPORT, one),
+    )?;
+    expect(
+        &rt,
+        alloc,
+        &["eval", "cql() kc1"],
+        KING_ON_A1,
+        (Status::Done, KING_ON_A1_EXPORT, one),
+    )?;
+    expect(
+        &rt,
+        alloc,
+        &["eval", "cql() Ka1"],
+        "",
+        (Status::Done, "", none),
+    )?;
+    expect(
+        &rt,
+        alloc,
+        &["eval", "cql() Ka1"],
+        THREE_GAMES,
+        (Status::Done, TWO_EXPORTS, two),
+    )?;
+    expect(
+        &rt,
+        alloc,
+        &["eval", "cql() Ka1"],
+        NO_KINGS,
+        (Status::NotYetRead, "", ""),
+    )?;
+    expect(
+        &rt,
+        alloc,
+        &["eval", "cql() Ka1"],
+        "1. e4 *\n",
+        (Status::NotYetRead, "", ""),
+    )?;
+    expect(
+        &rt,
+        alloc,
+        &["eval", "cql() Ka9"],
+        KING_ON_A1,
+        (Status::NotYetRead, "", ""),
+    )?;
+    expect(
+        &rt,
+        alloc,
+        &["eval"],
+        KING_ON_A1,
+        (Status::WordsRefused, "", USAGE),
+    )?;
+    expect(
+        &rt,
+        alloc,
+        &["play", "cql() Ka1"],
+        KING_ON_A1,
+        (Status::WordsRefused, "", USAGE),
+    )?;
     Ok(())
 }
