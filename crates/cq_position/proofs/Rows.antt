@@ -3,7 +3,7 @@ use Rattle.std.proofs.Common.{◌≡◌, [], ◌∷◌, ◌++◌, replicate, fal
 use Rattle.std.specs.Prelude.{codes}
 use Rattle.cq_position.specs.declared.men.Man.TheVariants.{K, Q, R, B, N, P, BlackK, BlackQ, BlackR, BlackB, BlackN, BlackP, Empty}
 use Rattle.cq_position.specs.declared.men.Side.TheVariants.{White, Black}
-use Rattle.cq_position.specs.declared.faults.FenFault.TheVariants.{Fields, Placement, Side as BadSide, Castling, EnPassant, Number, Kings, PawnOnEdge, TooManyMen}
+use Rattle.cq_position.specs.declared.fen.FenFault.TheVariants.{Fields, Placement, Side as BadSide, Castling, EnPassant, Number, Kings, PawnOnEdge, TooManyMen}
 use Rattle.cq_position.specs.Board.{Board, start_board}
 use Rattle.cq_position.specs.Fen.{fen_meaning, fields, is_placement, placed_men, position_or_fault}
 

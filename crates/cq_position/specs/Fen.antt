@@ -6,8 +6,8 @@ use Rattle.cq_position.specs.declared.men.Man.{Man}
 use Rattle.cq_position.specs.declared.men.Man.TheVariants.{Empty}
 use Rattle.cq_position.specs.declared.men.Side.{Side}
 use Rattle.cq_position.specs.declared.men.Side.TheVariants.{White, Black}
-use Rattle.cq_position.specs.declared.faults.FenFault.{FenFault}
-use Rattle.cq_position.specs.declared.faults.FenFault.TheVariants.{Fields, Placement, Side as BadSide, Castling, EnPassant, Number, Kings, PawnOnEdge, TooManyMen}
+use Rattle.cq_position.specs.declared.fen.FenFault.{FenFault}
+use Rattle.cq_position.specs.declared.fen.FenFault.TheVariants.{Fields, Placement, Side as BadSide, Castling, EnPassant, Number, Kings, PawnOnEdge, TooManyMen}
 use Rattle.cq_position.specs.declared.position.Rights.{Rights}
 use Rattle.cq_position.specs.Men.{man_with_letter}
 use Rattle.cq_position.specs.Board.{Board, are_home, was_passed, has_kings, has_pawn_on_edge, has_too_many_men}

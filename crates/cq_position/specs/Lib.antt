@@ -4,3 +4,5 @@ pub mod Moves
 pub mod Kept
 pub mod Fen
 pub mod Reading
+pub mod Attacks
+pub mod Legal

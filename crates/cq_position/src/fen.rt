@@ -2,7 +2,8 @@
 ghost use Rattle.std.specs.Prelude.{◌≡◌};
 ghost use Rattle.cq_position.specs.Fen.{fen_meaning};
 
-use crate::faults::FenFault;
+use thiserror::Error;
+
 use crate::position::{Position, has_kings, has_pawn_on_edge, has_too_many_men};
 
 mod fields;
@@ -12,6 +13,29 @@ mod status;
 use fields::split_fields;
 use placement::read_placement;
 use status::{is_castling, is_passant, passant_kept, read_number, read_side, rights_kept};
+
+/// Why a text is no position. Where several faults apply, the first in this order is answered.
+#[derive(Clone, Copy, Debug, PartialEq, Eq, Error)]
+pub enum FenFault {
+    #[error("not six fields, nor four")]
+    Fields,
+    #[error("the men do not fill eight ranks of eight squares")]
+    Placement,
+    #[error("the side to move is neither w nor b")]
+    Side,
+    #[error("the rights to castle are neither - nor letters of KQkq")]
+    Castling,
+    #[error("the en passant square is neither - nor a square of rank 3 or 6")]
+    EnPassant,
+    #[error("a number is not 1 to 9 digits")]
+    Number,
+    #[error("not one king of each side")]
+    Kings,
+    #[error("a pawn on the first or the last rank")]
+    PawnOnEdge,
+    #[error("more than sixteen men of one side")]
+    TooManyMen,
+}
 
 /// Reads a position from the text of its FEN, or answers the first fault that applies.
 ///

@@ -5,7 +5,7 @@ ghost use Rattle.cq_position.specs.Board.{man_at, castling_right, start_board, I
 ghost use Rattle.cq_position.specs.Board as board;
 
 use crate::men::{Man, Side, is_of_side, is_same};
-use cq_geometry::{Square, file, rank};
+use cq_geometry::Square;
 use std::marker::Model;
 
 /// The rights to castle that are left.
@@ -100,7 +100,7 @@ impl Position {
         ensures man { result ≡ man_at self.now.men square }
         ensures kept { IsPosition self.now }
     {
-        self.men[place(square)]
+        self.men[usize::from(square.number())]
     }
 
     /// The side to move.
@@ -139,14 +139,6 @@ impl Position {
     {
         self.number
     }
-}
-
-// The square's place in the order a1, b1, .. h8.
-pub fn place(square: Square) -> usize
-    ensures place { result ≡ square }
-    ensures below { result < 64 }
-{
-    8 * usize::from(rank(square)) + usize::from(file(square))
 }
 
 /// How many squares hold a man, or nothing where `Empty` is asked.

@@ -7,7 +7,7 @@ ghost use Rattle.cq_position.specs.Board as board;
 ghost use Rattle.cq_position.specs.Reading.{SomeIfTrue};
 
 use crate::men::{Man, Side, is_same};
-use crate::position::{Rights, place};
+use crate::position::Rights;
 use cq_geometry::{Square, rank, square_at};
 
 // The side to move.
@@ -108,7 +108,7 @@ pub fn passant_kept(men: &[Man; 64], side: Side, text: &[u8]) -> Option<Square>
 fn was_passed(men: &[Man; 64], side: Side, square: Square) -> bool
     ensures { result ≡ board.was_passed men.now side square }
 {
-    let at = place(square);
+    let at = usize::from(square.number());
     match side {
         Side::White => {
             rank(square) == 5

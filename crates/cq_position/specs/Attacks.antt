@@ -1,0 +1,49 @@
+-- Which squares a man attacks, whatever stands there (FIDE Laws of Chess, articles 3.1 to 3.8).
+use Rattle.std.specs.Prelude.{ℕ, ◌+◌, List, Bool, false, ◌&&◌, ◌||◌, not, ◌==◌, filter}
+use Rattle.std.specs.List.{list_any}
+use Rattle.cq_geometry.specs.Squares.{rank_of, squares}
+use Rattle.cq_geometry.specs.Steps.{files_apart, is_king_step, is_knight_step}
+use Rattle.cq_geometry.specs.Lines.{is_orthogonal, is_diagonal, is_open}
+use Rattle.cq_position.specs.declared.men.Man.{Man}
+use Rattle.cq_position.specs.declared.men.Man.TheVariants.{K, Q, R, B, N, P, BlackK, BlackQ, BlackR, BlackB, BlackN, BlackP, Empty}
+use Rattle.cq_position.specs.declared.men.Side.{Side}
+use Rattle.cq_position.specs.declared.men.Side.TheVariants.{White, Black}
+use Rattle.cq_position.specs.Men.{is_of_side, opponent, king_of}
+use Rattle.cq_position.specs.Board.{man_at, stands}
+
+-- whether a man stands on the square
+abbrev pub is_taken : List Man → ℕ → Bool
+is_taken men square = not (stands men square Empty)
+
+-- a pawn attacks the two squares diagonally in front of it
+abbrev pub is_pawn_attack : Side → ℕ → ℕ → Bool
+is_pawn_attack White a b = (rank_of b == rank_of a + 1) && (files_apart a b == 1)
+is_pawn_attack Black a b = (rank_of a == rank_of b + 1) && (files_apart a b == 1)
+
+-- Whether a man on a attacks b. A rook, a bishop and a queen attack along lines, up to and with the first square that is taken.
+abbrev pub attacks_as : Man → (ℕ → Bool) → ℕ → ℕ → Bool
+attacks_as K taken a b = is_king_step a b
+attacks_as Q taken a b = (is_orthogonal a b || is_diagonal a b) && is_open taken a b
+attacks_as R taken a b = is_orthogonal a b && is_open taken a b
+attacks_as B taken a b = is_diagonal a b && is_open taken a b
+attacks_as N taken a b = is_knight_step a b
+attacks_as P taken a b = is_pawn_attack White a b
+attacks_as BlackK taken a b = is_king_step a b
+attacks_as BlackQ taken a b = (is_orthogonal a b || is_diagonal a b) && is_open taken a b
+attacks_as BlackR taken a b = is_orthogonal a b && is_open taken a b
+attacks_as BlackB taken a b = is_diagonal a b && is_open taken a b
+attacks_as BlackN taken a b = is_knight_step a b
+attacks_as BlackP taken a b = is_pawn_attack Black a b
+attacks_as Empty taken a b = false
+
+-- whether the man on a attacks b
+unfoldable pub attacks : List Man → ℕ → ℕ → Bool
+attacks men a b = attacks_as (man_at men a) (is_taken men) a b
+
+-- whether a man of the side attacks the square
+unfoldable pub is_attacked : List Man → Side → ℕ → Bool
+is_attacked men side square = list_any (λ a. is_of_side side (man_at men a) && attacks men a square) squares
+
+-- whether the side's king is attacked by a man of the opponent
+unfoldable pub in_check : List Man → Side → Bool
+in_check men side = list_any (λ square. stands men square (king_of side) && is_attacked men (opponent side) square) squares
