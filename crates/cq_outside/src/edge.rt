@@ -1,6 +1,6 @@
 //! The trusted edge: a desk over the real files, and a sink over a real stream. Neither tells its bytes.
 //! An interrupted call counts as failed, as any other error does.
-ghost use Rattle.std.specs.Prelude.{◌≡◌, ◌≤◌, ℕ, None, IfOk};
+ghost use Rattle.std.specs.Prelude.{◌≡◌, ◌≤◌, None, IfOk, IsSome, IsUtf8};
 ghost use Rattle.cq_outside.specs.Faults.{FaultCounts};
 
 use crate::desk::Desk;
@@ -97,11 +97,9 @@ impl<R: Files + Drop, I: Read + Drop> Desk for FileDesk<R, I> {
             self.current = Current::Input;
             return Ok(());
         }
-        if let Ok(path) = str::from_utf8(name) {
-            if let Ok(file) = fs::open(&self.files, path) {
-                self.current = Current::File(file);
-                return Ok(());
-            }
+        if let Some(file) = file_named(&self.files, name) {
+            self.current = Current::File(file);
+            return Ok(());
         }
         self.open_faults = self.open_faults.saturating_add(1);
         Err(OpenFault::Failed)
@@ -112,6 +110,14 @@ impl<R: Files + Drop, I: Read + Drop> Desk for FileDesk<R, I> {
     ghost keeps_told = { λ s t f. refl };
 
     ghost keeps_open_faults = { λ s t f. f.1 };
+}
+
+/// The file of this name, opened for reading. A name that is not UTF-8 has none.
+fn file_named<R: Files>(files: &R, name: &[u8]) -> Option<R::File>
+    ensures { IsSome result → IsUtf8 name.now }
+{
+    let path = str::from_utf8(name).ok()?;
+    fs::open(files, path).ok()
 }
 
 /// A sink over a real stream. Contracts see its count of faults, which stops at the last value of a `u64`.
