@@ -1,1 +1,5 @@
 pub mod Squares
+pub mod Steps
+pub mod Directions
+pub mod Lines
+pub mod Expansions

@@ -31,6 +31,24 @@ impl Default for Square {
     }
 }
 
+impl Square {
+    /// The square of a number below 64.
+    pub fn new(number: u8) -> Square
+        requires { number < 64 }
+        ensures { result ≡ number }
+    {
+        Square { index: number }
+    }
+
+    /// The square's number, below 64.
+    pub fn number(self) -> u8
+        ensures value { result ≡ self }
+        ensures below { result < 64 }
+    {
+        self.index
+    }
+}
+
 /// The square of a file and a rank, both counted from 0.
 pub fn square_at(file: u8, rank: u8) -> Square
     requires file { file < 8 }

@@ -2,4 +2,7 @@ pub mod Lines
 pub mod Tags
 pub mod Fronts
 pub mod Exports
-pub mod Answers
+pub mod MoreGames
+pub mod Taken
+pub mod Written
+pub mod Promises

@@ -7,3 +7,5 @@ pub mod Games
 pub mod Export
 pub mod Answer
 pub mod Promise
+pub mod Reading
+pub mod Writing

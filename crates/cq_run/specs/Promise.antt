@@ -26,15 +26,19 @@ pub record SinkView : Type 0 where
   pub taken : Option (List ℕ)
   pub faults : ℕ
 
+-- the two sinks, as a call began and as it ended
+pub record Sinks : Type 0 where
+  pub out : SinkView
+  pub out_after : SinkView
+  pub err : SinkView
+  pub err_after : SinkView
+
 -- a call of `run`: its words, and what it was lent, as the call began and as it ended
 pub record Call : Type 0 where
   pub words : List (List ℕ)
   pub desk : DeskView
   pub desk_after : DeskView
-  pub out : SinkView
-  pub out_after : SinkView
-  pub err : SinkView
-  pub err_after : SinkView
+  pub sinks : Sinks
 
 -- the query that the words ask
 abbrev pub asked : Call → Option ManOnSquare
@@ -44,32 +48,42 @@ asked call = option_and_then query_of (query_text call.words)
 abbrev pub standard_input : List ℕ
 standard_input = codes "-"
 
--- the bytes of the archive, where the desk tells them
-abbrev pub archive_told : Call → Option (List ℕ)
-archive_told call = option_map (λ told. bytes_of told.files standard_input) call.desk.told
+-- the bytes of the archive, where a desk tells them
+abbrev pub archive_of : DeskView → Option (List ℕ)
+archive_of desk = option_map (λ told. bytes_of told.files standard_input) desk.told
 
 -- told bytes are these; where nothing is told they may be any
 abbrev pub MayBe : Option (List ℕ) → List ℕ → Type 0
 MayBe None bytes = Unit {0}
 MayBe (Some told) bytes = told ≡ bytes
 
--- These are the bytes of the archive, where the desk tells them.
-abbrev pub IsArchive : Call → List ℕ → Type 0
-IsArchive call archive = MayBe (archive_told call) archive
 
 -- the limit on an archive, in bytes
 abbrev pub archive_limit : ℕ
 archive_limit = 2 ^ 30
 
 -- these are the bytes of the archive, and it was read to its end
-pub record ReadsWhole (call : Call) (archive : List ℕ) : Type 0 where
-  pub is : IsArchive call archive
+pub record ReadsWhole (desk after : DeskView) (archive : List ℕ) : Type 0 where
+  pub is : MayBe (archive_of desk) archive
   pub within : length archive ≤ archive_limit
-  pub at_end : IsAtEnd call.desk_after.left
+  pub at_end : IsAtEnd after.left
 
 -- the archive is the open file at the end
-abbrev pub IsOpen : Call → Type 0
-IsOpen call = Opens call.desk.told call.desk_after.told standard_input (archive_told call)
+abbrev pub IsOpen : DeskView → DeskView → Type 0
+IsOpen desk after = Opens desk.told after.told standard_input (archive_of desk)
+
+-- more than its limit was taken from the archive
+pub record TakesTooMuch (desk after : DeskView) : Type 0 where
+  pub taken : List ℕ
+  pub takes : Consumes (archive_of desk) after.left taken
+  pub long : archive_limit < length taken
+
+-- the same at a desk that tells its files, and the archive was opened in this call
+pub record Overruns (desk after : DeskView) : Type 0 where
+  pub told : Told
+  pub tells : desk.told ≡ Some told
+  pub opened : IsOpen desk after
+  pub too_much : TakesTooMuch desk after
 
 -- the texts for the two sinks
 pub record Texts : Type 0 where
@@ -97,22 +111,26 @@ abbrev pub texts_of : List (List ℕ) → List ℕ → Texts
 texts_of words archive = texts_of_text (query_text words) archive
 
 -- the sinks have taken these texts
-pub record Writes (call : Call) (texts : Texts) : Type 0 where
-  pub out : Grew call.out.taken call.out_after.taken texts.out
-  pub err : Grew call.err.taken call.err_after.taken texts.err
+pub record Writes (sinks : Sinks) (texts : Texts) : Type 0 where
+  pub out : Grew sinks.out.taken sinks.out_after.taken texts.out
+  pub err : Grew sinks.err.taken sinks.err_after.taken texts.err
 
 -- each sink has taken bytes from the front of its text
-pub record WritesFront (call : Call) (texts : Texts) : Type 0 where
+pub record WritesFront (sinks : Sinks) (texts : Texts) : Type 0 where
   pub out_count : ℕ
   pub err_count : ℕ
-  pub out : Grew call.out.taken call.out_after.taken (take out_count texts.out)
-  pub err : Grew call.err.taken call.err_after.taken (take err_count texts.err)
+  pub out : Grew sinks.out.taken sinks.out_after.taken (take out_count texts.out)
+  pub err : Grew sinks.err.taken sinks.err_after.taken (take err_count texts.err)
+
+-- a count of a sink rose
+abbrev pub SinkFailed : Sinks → Type 0
+SinkFailed sinks = Rose sinks.out.faults sinks.out_after.faults ⊎ Rose sinks.err.faults sinks.err_after.faults
 
 -- the same, for the texts of some bytes that may be the archive
 pub record StopsWriting (call : Call) : Type 0 where
   pub archive : List ℕ
-  pub is : IsArchive call archive
-  pub front : WritesFront call (texts_of call.words archive)
+  pub is : MayBe (archive_of call.desk) archive
+  pub front : WritesFront call.sinks (texts_of call.words archive)
 
 -- the archive was read to its end, it is of games, and out and err have the exports and the report
 pub record Answers (call : Call) : Type 0 where
@@ -120,10 +138,9 @@ pub record Answers (call : Call) : Type 0 where
   pub archive : List ℕ
   pub games : List Game
   pub asks : asked call ≡ Some query
-  pub reads : ReadsWhole call archive
+  pub reads : ReadsWhole call.desk call.desk_after archive
   pub holds : games_in archive ≡ Some games
-  pub out : Grew call.out.taken call.out_after.taken (answer_of query games).exports
-  pub err : Grew call.err.taken call.err_after.taken (report_of (answer_of query games))
+  pub writes : Writes call.sinks (texts_of_answer (Some (answer_of query games)))
 
 -- the query is of another form, and no file was opened
 pub record AsksOther (call : Call) : Type 0 where
@@ -135,7 +152,7 @@ pub record AsksOther (call : Call) : Type 0 where
 -- the archive is of another form, and it was read to its end
 pub record HoldsOther (call : Call) : Type 0 where
   pub archive : List ℕ
-  pub reads : ReadsWhole call archive
+  pub reads : ReadsWhole call.desk call.desk_after archive
   pub other : games_in archive ≡ None
 
 -- what each status says
@@ -143,27 +160,18 @@ abbrev pub Says : Status → Call → Type 0
 Says Done call = Answers call
 Says DoneWithRefusals call = ⊥
 Says QueryRefused call = ⊥
-Says WordsRefused call = (query_text call.words ≡ None) × (call.desk_after ≡ call.desk) × Writes call (texts_of call.words [])
-Says OpenFault call = Rose call.desk.open_faults call.desk_after.open_faults × (call.desk_after.told ≡ call.desk.told) × Writes call nothing
-Says ReadFault call = Rose call.desk.read_faults call.desk_after.read_faults × IsOpen call × Writes call nothing
-Says WriteFault call = (Rose call.out.faults call.out_after.faults ⊎ Rose call.err.faults call.err_after.faults) × StopsWriting call
+Says WordsRefused call = (query_text call.words ≡ None) × (call.desk_after ≡ call.desk) × Writes call.sinks (texts_of call.words [])
+Says OpenFault call = Rose call.desk.open_faults call.desk_after.open_faults × (call.desk_after.told ≡ call.desk.told) × Writes call.sinks nothing
+Says ReadFault call = Rose call.desk.read_faults call.desk_after.read_faults × IsOpen call.desk call.desk_after × Writes call.sinks nothing
+Says WriteFault call = SinkFailed call.sinks × StopsWriting call
 Says NoMemory call = StopsWriting call
-Says ArchiveTooLong call = ((taken : List ℕ) × Consumes (archive_told call) call.desk_after.left taken × (archive_limit < length taken)) × Writes call nothing
-Says NotYetRead call = (AsksOther call ⊎ HoldsOther call) × Writes call nothing
+Says ArchiveTooLong call = TakesTooMuch call.desk call.desk_after × IsOpen call.desk call.desk_after × Writes call.sinks nothing
+Says NotYetRead call = (AsksOther call ⊎ HoldsOther call) × Writes call.sinks nothing
 
 -- the status is one of these
 abbrev pub IsOneOf : Status → List Status → Type 0
 IsOneOf status [] = ⊥
 IsOneOf status (one ∷ more) = (status ≡ one) ⊎ IsOneOf status more
-
--- the archive was opened, and more than its limit was taken from it
-pub record TakesTooMuch (call : Call) : Type 0 where
-  pub told : Told
-  pub taken : List ℕ
-  pub tells : call.desk.told ≡ Some told
-  pub opened : call.desk_after.told ≡ Some (record { files = told.files; opened = told.opened ++ standard_input ∷ [] })
-  pub takes : Consumes (archive_told call) call.desk_after.left taken
-  pub long : archive_limit < length taken
 
 -- accepted words and query, an archive of bare games within the limit, and no count that rose
 pub record HasAll (call : Call) : Type 0 where
@@ -171,25 +179,27 @@ pub record HasAll (call : Call) : Type 0 where
   pub archive : List ℕ
   pub games : List Game
   pub asks : asked call ≡ Some query
-  pub tells : archive_told call ≡ Some archive
+  pub tells : archive_of call.desk ≡ Some archive
   pub within : length archive ≤ archive_limit
   pub holds : games_in archive ≡ Some games
   pub no_open : Rose call.desk.open_faults call.desk_after.open_faults → ⊥
   pub no_read : Rose call.desk.read_faults call.desk_after.read_faults → ⊥
-  pub no_out : Rose call.out.faults call.out_after.faults → ⊥
-  pub no_err : Rose call.err.faults call.err_after.faults → ⊥
+  pub no_write : SinkFailed call.sinks → ⊥
 
 -- what `run` promises of its status
 pub record Promise (status : Status) (call : Call) : Type 0 where
   pub says : Says status call
   pub words_always : query_text call.words ≡ None → IsOneOf status (WordsRefused ∷ WriteFault ∷ NoMemory ∷ [])
   pub query_always : (text : List ℕ) → query_text call.words ≡ Some text → query_of text ≡ None → status ≡ NotYetRead
-  pub too_long_always : TakesTooMuch call → IsOneOf status (ArchiveTooLong ∷ NoMemory ∷ [])
+  pub too_long_always : Overruns call.desk call.desk_after → IsOneOf status (ArchiveTooLong ∷ NoMemory ∷ [])
   pub complete : HasAll call → IsOneOf status (Done ∷ NoMemory ∷ [])
 
--- the views of a desk and of a sink, by what their types tell
+-- the views of a desk and of the sinks, by what their types tell
 abbrev pub desk_view : {D : Type 0} → (D → Option Told) → (D → Option (List ℕ)) → (D → ℕ) → (D → ℕ) → D → DeskView
 desk_view told left read_faults open_faults desk = record { told = told desk; left = left desk; read_faults = read_faults desk; open_faults = open_faults desk }
 
 abbrev pub sink_view : {S : Type 0} → (S → Option (List ℕ)) → (S → ℕ) → S → SinkView
 sink_view taken faults sink = record { taken = taken sink; faults = faults sink }
+
+abbrev pub sinks_of : SinkView → SinkView → SinkView → SinkView → Sinks
+sinks_of out out_after err err_after = record { out = out; out_after = out_after; err = err; err_after = err_after }

@@ -5,7 +5,6 @@ ghost use Rattle.cq_run.specs.Export.{export_of};
 
 use cq_outside::{Bytes, NoMemory};
 use cq_position::{Position, read_fen};
-use itoa::Buffer;
 use std::alloc::Global;
 
 use crate::bare_games::{Front, front_of};

@@ -4,7 +4,12 @@
 mod answer;
 mod bare_games;
 mod query;
-mod status;
-mod words;
+mod reading;
 
+mod status;
+mod top_call;
+mod words;
+mod writing;
+
+pub use top_call::run;
 pub use status::Status;

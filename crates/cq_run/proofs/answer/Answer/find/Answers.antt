@@ -1,5 +1,5 @@
 use Rattle.std.proofs.Common.{◌≡◌, ◌+◌, ◌<◌, length, arith}
-use Rattle.cq_run.proofs.Answers.{stop_refused, stop_at_end, go_on, counts_more}
+use Rattle.cq_run.proofs.MoreGames.{stop_refused, stop_at_end, go_on, counts_more}
 use Rattle.cq_run.proofs.answer.Answer.find.Goals as goal
 
 pub returns-in_default : goal.returns-in_default

@@ -1,0 +1,99 @@
+-- How the parts of a text come off its front.
+use Rattle.std.proofs.Common.{◌≡◌, ℕ, suc, ◌+◌, ◌≤◌, Bool, true, false, cond, not, List, [], ◌∷◌, length, take, drop, eqb, Some, None, get_or, ltb, refl, sym, ap, ◌∙◌, arith}
+use Rattle.std.specs.List.{position_or_len, position, slice_split, onto_first, filter}
+use Rattle.std.specs.Option.{unwrap_or}
+use Rattle.std.proofs.lemmas.List.Sums.{prefix_len-le-length}
+use Rattle.std.specs.Option.{unwrap_or}
+use Rattle.std.proofs.lemmas.List.{drop_all, drop_more}
+use Rattle.std.proofs.lemmas.List.Sums.{prefix_len-le-length, fails_before_first}
+use Rattle.std.proofs.lemmas.List.Splits.{slice_split_none, slice_split_first}
+use Rattle.std.proofs.lemmas.List.Quantifiers.{position-Some}
+use Rattle.std.proofs.lemmas.Bool.Decides.{nat_tests}
+use Rattle.cq_position.specs.Fen.{fields, parts, is_field}
+
+abbrev is_space : ℕ → Bool
+is_space b = eqb b 32
+
+-- one more than the length of what stands before
+one_more : (n : ℕ) → 1 + n ≡ suc n
+one_more n = omega arith
+
+fields-nil : fields [] ≡ []
+unfolding fields
+fields-nil = refl
+
+-- spaces at the front are in no field
+drop_space : (x : ℕ) (xs : List ℕ) (b : Bool) → is_space x ≡ b → fields xs ≡ fields (drop (position_or_len (λ b. not (is_space b)) xs) xs)
+    → fields (x ∷ xs) ≡ fields (drop (position_or_len (λ b. not (is_space b)) (x ∷ xs)) (x ∷ xs))
+unfolding fields
+drop_space x xs true e ih = rw (e, one_more) ih
+drop_space x xs false e ih = rw e (rw e refl)
+
+pub fields-drop_spaces : (t : List ℕ) → fields t ≡ fields (drop (position_or_len (λ b. not (is_space b)) t) t)
+unfolding fields
+fields-drop_spaces [] = refl
+fields-drop_spaces (x ∷ xs) = drop_space x xs (is_space x) refl (fields-drop_spaces xs)
+
+-- the first part reaches up to the first space, and the rest has the fields behind it
+abbrev FirstPart : List ℕ → ℕ → Type 0
+FirstPart t n = (rest : List (List ℕ)) × (slice_split is_space t ≡ take n t ∷ rest) × (filter is_field rest ≡ fields (drop n t))
+
+first_part_more : (x : ℕ) (xs : List ℕ) (b : Bool) → is_space x ≡ b → FirstPart xs (position_or_len is_space xs) → FirstPart (x ∷ xs) (position_or_len is_space (x ∷ xs))
+unfolding fields
+first_part_more x xs true e ih = rw e (slice_split is_space xs, refl, rw e refl)
+first_part_more x xs false e ih = rw (e, one_more) (ih.0, ap (onto_first x) ih.1, ih.2)
+
+first_part : (t : List ℕ) → FirstPart t (position_or_len is_space t)
+unfolding fields
+first_part [] = ([], refl, refl)
+first_part (x ∷ xs) = first_part_more x xs (is_space x) refl (first_part xs)
+
+-- a text that begins with no space begins with a field
+pub fields-cut : (x : ℕ) (xs : List ℕ) → is_space x ≡ false → fields (x ∷ xs) ≡ take (position_or_len is_space (x ∷ xs)) (x ∷ xs) ∷ fields (drop (position_or_len is_space (x ∷ xs)) (x ∷ xs))
+unfolding fields
+fields-cut x xs e = let ih = first_part xs in rw (e, one_more, ih.1) (ap (λ rest. (x ∷ take (position_or_len is_space xs) xs) ∷ rest) ih.2)
+
+-- where no element passes, the length is the place before which none does
+none_place : (p : ℕ → Bool) (t : List ℕ) (b : Bool) → ltb (position_or_len p t) (length t) ≡ b → None ≡ cond b (Some (position_or_len p t)) None → length t ≤ position_or_len p t
+none_place p t true e n = cc
+none_place p t false e n = grind (arith, nat_tests)
+
+some_place : (p : ℕ → Bool) (t : List ℕ) (i : ℕ) (b : Bool) → Some i ≡ cond b (Some (position_or_len p t)) None → i ≡ position_or_len p t
+some_place p t i true e = cc
+some_place p t i false e = cc
+
+unwrapped : (p : ℕ → Bool) (t : List ℕ) (b : Bool) → ltb (position_or_len p t) (length t) ≡ b → unwrap_or (cond b (Some (position_or_len p t)) None) (length t) ≡ position_or_len p t
+unwrapped p t true e = refl
+unwrapped p t false e = let low = prefix_len-le-length (λ x. not (p x)) t in grind (arith, nat_tests)
+
+false_of : (b : Bool) → not b ≡ true → b ≡ false
+false_of true e = sym e
+false_of false e = refl
+
+-- a text of spaces alone has no field
+pub spaces_alone : (t : List ℕ) → None ≡ position (λ b. not (is_space b)) t → fields t ≡ []
+spaces_alone t e =
+    let past = none_place (λ b. not (is_space b)) t _ refl e in
+    fields-drop_spaces t ∙ ap fields (drop_all _ t past) ∙ fields-nil
+
+-- the first field stands from the first byte that is no space to the next space
+pub first_of_fields : (t : List ℕ) (i : ℕ) → Some i ≡ position (λ b. not (is_space b)) t →
+    fields t ≡ take (unwrap_or (position is_space (drop i t)) (length (drop i t))) (drop i t) ∷ fields (drop (unwrap_or (position is_space (drop i t)) (length (drop i t))) (drop i t))
+first_of_fields t i e =
+    let at = some_place (λ b. not (is_space b)) t i _ e in
+    let found = position-Some (λ b. not (is_space b)) t i 0 (sym e) in
+    let cut = drop_more t i 0 found.0 in
+    rw (unwrapped is_space (drop i t) _ refl) (fields-drop_spaces t ∙ rw (← at, cut) (fields-cut (get_or t i 0) (drop (i + 1) t) (false_of (is_space (get_or t i 0)) found.1)))
+
+-- a text without the byte is one part
+pub one_part : (t : List ℕ) (byte : ℕ) → None ≡ position (λ b. eqb b byte) t → parts byte t ≡ t ∷ []
+one_part t byte e =
+    let past = none_place (λ b. eqb b byte) t _ refl e in
+    slice_split_none (λ b. eqb b byte) t (λ k d h. fails_before_first (λ b. eqb b byte) t k d (omega arith))
+
+-- the first part ends at the first such byte
+pub first_of_parts : (t : List ℕ) (byte i : ℕ) → Some i ≡ position (λ b. eqb b byte) t → parts byte t ≡ take i t ∷ parts byte (drop (i + 1) t)
+first_of_parts t byte i e =
+    let at = some_place (λ b. eqb b byte) t i _ e in
+    let found = position-Some (λ b. eqb b byte) t i 0 (sym e) in
+    rw at (slice_split_first (λ b. eqb b byte) t 0 (rw (← at) found.0))

@@ -1,0 +1,108 @@
+-- What a position is: the men on the board, the side to move, the rights to castle, the en passant square and the number of the move.
+use Rattle.std.specs.Prelude.{◌≡◌, ℕ, ◌+◌, ◌-◌, ◌/◌, ◌<◌, List, [], ◌∷◌, ◌++◌, length, slice_range, replicate, Bool, true, false, ◌&&◌, ◌||◌, not, ◌==◌, nat_lt, Option, Some, None, count_by, slice_index_or}
+use Rattle.std.specs.List.{list_any}
+use Rattle.cq_position.specs.declared.men.Man.{Man}
+use Rattle.cq_position.specs.declared.men.Man.TheVariants.{K, Q, R, B, N, P, BlackK, BlackQ, BlackR, BlackB, BlackN, BlackP, Empty}
+use Rattle.cq_position.specs.declared.men.Side.{Side}
+use Rattle.cq_position.specs.declared.men.Side.TheVariants.{White, Black}
+use Rattle.cq_position.specs.declared.position.Rights.{Rights}
+use Rattle.cq_position.specs.Men.{same_man, is_of_side, king_of, rook_of}
+
+-- the men are those of the squares a1, b1, .. h8; a square is its number in this order
+pub record Board : Type 0 where
+  pub men : List Man
+  pub side : Side
+  pub rights : Rights
+  pub passant : Option ℕ
+  pub number : ℕ
+
+-- the man on a square
+abbrev pub man_at : List Man → ℕ → Man
+man_at men square = slice_index_or men square Empty
+
+-- whether a square holds the man
+abbrev pub stands : List Man → ℕ → Man → Bool
+stands men square man = same_man (man_at men square) man
+
+-- how many of a man there are
+abbrev pub count_of : Man → List Man → ℕ
+count_of man men = count_by (λ m. same_man m man) men
+
+-- how many men a side has
+abbrev pub strength : Side → List Man → ℕ
+strength side men = count_by (is_of_side side) men
+
+-- the right to castle on a side of the board
+abbrev pub castling_right : Rights → Side → Bool → Bool
+castling_right r White true = r.white_kingside
+castling_right r White false = r.white_queenside
+castling_right r Black true = r.black_kingside
+castling_right r Black false = r.black_queenside
+
+-- the home squares of the kings and of the rooks beside them
+abbrev pub king_home : Side → ℕ
+king_home White = 4
+king_home Black = 60
+
+abbrev pub rook_home : Side → Bool → ℕ
+rook_home White true = 7
+rook_home White false = 0
+rook_home Black true = 63
+rook_home Black false = 56
+
+-- king and rook stand at home, which a right to castle asks for
+abbrev pub are_home : List Man → Side → Bool → Bool
+are_home men side kingside = stands men (king_home side) (king_of side) && stands men (rook_home side kingside) (rook_of side)
+
+-- Whether the opponent's pawn can just have passed the square by a double step, with this side to move: the square is empty and on the side's
+-- sixth rank, the pawn stands in front of it, and the square behind it, from which the pawn came, is empty.
+abbrev pub was_passed : List Man → Side → ℕ → Bool
+was_passed men White square = (square / 8 == 5) && stands men square Empty && stands men (square - 8) BlackP && stands men (square + 8) Empty
+was_passed men Black square = (square / 8 == 2) && stands men square Empty && stands men (square + 8) P && stands men (square - 8) Empty
+
+-- one king of each side
+abbrev pub has_kings : List Man → Bool
+has_kings men = (count_of K men == 1) && (count_of BlackK men == 1)
+
+-- a pawn of either side on the first or the last rank
+abbrev pub is_pawn : Man → Bool
+is_pawn m = same_man m P || same_man m BlackP
+
+abbrev pub has_pawn_on_edge : List Man → Bool
+has_pawn_on_edge men = list_any is_pawn (slice_range men 0 8) || list_any is_pawn (slice_range men 56 64)
+
+-- more than sixteen men of one side
+abbrev pub has_too_many_men : List Man → Bool
+has_too_many_men men = nat_lt 16 (strength White men) || nat_lt 16 (strength Black men)
+
+-- an en passant square is kept where the opponent's pawn can just have passed it
+abbrev pub passant_stands : List Man → Side → Option ℕ → Bool
+passant_stands men side None = true
+passant_stands men side (Some square) = was_passed men side square
+
+-- each right that is kept has its king and rook at home
+abbrev pub rights_stand : List Man → Rights → Bool
+rights_stand men r =
+    (not r.white_kingside || are_home men White true) && (not r.white_queenside || are_home men White false)
+    && (not r.black_kingside || are_home men Black true) && (not r.black_queenside || are_home men Black false)
+
+-- the conditions that every position meets
+pub record IsPosition (b : Board) : Type 0 where
+  pub whole : length b.men ≡ 64
+  pub kings : has_kings b.men ≡ true
+  pub no_pawn_on_edge : has_pawn_on_edge b.men ≡ false
+  pub few_enough : has_too_many_men b.men ≡ false
+  pub rights : rights_stand b.men b.rights ≡ true
+  pub passed : passant_stands b.men b.side b.passant ≡ true
+  pub numbered : 0 < b.number
+  pub fits : b.number < 4294967296
+
+-- the position in which a game begins
+abbrev pub start_board : Board
+start_board = record {
+  men = R ∷ N ∷ B ∷ Q ∷ K ∷ B ∷ N ∷ R ∷ [] ++ replicate 8 P ++ replicate 32 Empty ++ replicate 8 BlackP ++ BlackR ∷ BlackN ∷ BlackB ∷ BlackQ ∷ BlackK ∷ BlackB ∷ BlackN ∷ BlackR ∷ [];
+  side = White;
+  rights = record { white_kingside = true; white_queenside = true; black_kingside = true; black_queenside = true };
+  passant = None;
+  number = 1;
+}

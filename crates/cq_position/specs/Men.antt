@@ -1,0 +1,73 @@
+-- The men of both sides, and the letters that stand for them.
+use Rattle.std.specs.Prelude.{ℕ, List, [], ◌∷◌, Bool, ◌==◌, Option, Some, None, find, option_map, nat_lt, nat_le, ◌&&◌}
+use Rattle.cq_position.specs.declared.men.Man.{Man}
+use Rattle.cq_position.specs.declared.men.Man.TheVariants.{K, Q, R, B, N, P, BlackK, BlackQ, BlackR, BlackB, BlackN, BlackP, Empty}
+use Rattle.cq_position.specs.declared.men.Side.{Side}
+use Rattle.cq_position.specs.declared.men.Side.TheVariants.{White, Black}
+
+-- the men with their letters, upper case for White (PGN standard 16.1.3.1)
+abbrev pub letters : List (ℕ × Man)
+letters = (75, K) ∷ (81, Q) ∷ (82, R) ∷ (66, B) ∷ (78, N) ∷ (80, P) ∷ (107, BlackK) ∷ (113, BlackQ) ∷ (114, BlackR) ∷ (98, BlackB) ∷ (110, BlackN) ∷ (112, BlackP) ∷ []
+
+-- the man of a letter
+abbrev pub man_with_letter : ℕ → Option Man
+man_with_letter letter = option_map (λ entry. entry.1) (find (λ entry. entry.0 == letter) letters)
+
+-- the letter of a man
+abbrev pub letter_of_man : Man → Option ℕ
+letter_of_man K = Some 75
+letter_of_man Q = Some 81
+letter_of_man R = Some 82
+letter_of_man B = Some 66
+letter_of_man N = Some 78
+letter_of_man P = Some 80
+letter_of_man BlackK = Some 107
+letter_of_man BlackQ = Some 113
+letter_of_man BlackR = Some 114
+letter_of_man BlackB = Some 98
+letter_of_man BlackN = Some 110
+letter_of_man BlackP = Some 112
+letter_of_man Empty = None
+
+-- the man's place in the order of the type
+abbrev pub man_number : Man → ℕ
+man_number K = 0
+man_number Q = 1
+man_number R = 2
+man_number B = 3
+man_number N = 4
+man_number P = 5
+man_number BlackK = 6
+man_number BlackQ = 7
+man_number BlackR = 8
+man_number BlackB = 9
+man_number BlackN = 10
+man_number BlackP = 11
+man_number Empty = 12
+
+-- whether two squares hold the same
+abbrev pub same_man : Man → Man → Bool
+same_man m n = man_number m == man_number n
+
+-- whether a man is of a side
+abbrev pub is_of_side : Side → Man → Bool
+is_of_side White m = nat_lt (man_number m) 6
+is_of_side Black m = nat_le 6 (man_number m) && nat_lt (man_number m) 12
+
+-- the other side
+abbrev pub opponent : Side → Side
+opponent White = Black
+opponent Black = White
+
+-- the king, rook and pawn of a side
+abbrev pub king_of : Side → Man
+king_of White = K
+king_of Black = BlackK
+
+abbrev pub rook_of : Side → Man
+rook_of White = R
+rook_of Black = BlackR
+
+abbrev pub pawn_of : Side → Man
+pawn_of White = P
+pawn_of Black = BlackP

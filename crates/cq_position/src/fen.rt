@@ -1,0 +1,50 @@
+//! The text of a position in Forsyth-Edwards Notation.
+ghost use Rattle.std.specs.Prelude.{◌≡◌};
+ghost use Rattle.cq_position.specs.Fen.{fen_meaning};
+
+use crate::faults::FenFault;
+use crate::position::{Position, has_kings, has_pawn_on_edge, has_too_many_men};
+
+mod fields;
+mod placement;
+mod status;
+
+use fields::split_fields;
+use placement::read_placement;
+use status::{is_castling, is_passant, passant_kept, read_number, read_side, rights_kept};
+
+/// Reads a position from the text of its FEN, or answers the first fault that applies.
+///
+/// Fields are separated by spaces, which may also stand before and behind them. A text of four fields is read as with `0 1` behind them.
+/// The halfmove clock is not kept, and the move number 0 is read as 1.
+#[tactic(auto, unfolding(crate::specs::Fen::fen_meaning, crate::specs::Fen::position_or_fault))]
+pub fn read_fen(text: &[u8]) -> Result<Position, FenFault>
+    ensures { result ≡ fen_meaning text.now }
+{
+    let fields = split_fields(text).ok_or(FenFault::Fields)?;
+    let men = read_placement(fields.placement).ok_or(FenFault::Placement)?;
+    let side = read_side(fields.side).ok_or(FenFault::Side)?;
+    if !is_castling(fields.castling) {
+        return Err(FenFault::Castling);
+    }
+    if !is_passant(fields.passant) {
+        return Err(FenFault::EnPassant);
+    }
+    let _clock = read_number(fields.clock).ok_or(FenFault::Number)?;
+    let number = read_number(fields.number).ok_or(FenFault::Number)?;
+    if !has_kings(&men) {
+        return Err(FenFault::Kings);
+    }
+    if has_pawn_on_edge(&men) {
+        return Err(FenFault::PawnOnEdge);
+    }
+    if has_too_many_men(&men) {
+        return Err(FenFault::TooManyMen);
+    }
+    let rights = rights_kept(&men, fields.castling);
+    let passant = passant_kept(&men, side, fields.passant);
+    Ok(Position::from_parts(number.max(1), men, side, rights, passant))
+}
+
+#[cfg(test)]
+mod tests;

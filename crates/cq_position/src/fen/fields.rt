@@ -1,0 +1,72 @@
+//! The fields of a FEN text.
+ghost use Rattle.std.specs.Prelude.{◌≡◌, ◌==◌, [], ◌∷◌, not, position, MatchOption};
+ghost use Rattle.cq_position.specs.Fen.{fields, field_texts};
+ghost use Rattle.cq_position.specs.Reading.{texts_of};
+
+// The six fields of a text.
+#[derive(Clone, Copy)]
+pub struct Fields<'a> {
+    pub placement: &'a [u8],
+    pub side: &'a [u8],
+    pub castling: &'a [u8],
+    pub passant: &'a [u8],
+    pub clock: &'a [u8],
+    pub number: &'a [u8],
+}
+
+// The fields, where there are six, or four.
+pub fn split_fields(text: &[u8]) -> Option<Fields<'_>>
+    ensures { MatchOption result (field_texts (fields text.now) ≡ None) (λ f. field_texts (fields text.now) ≡ Some (texts_of f)) }
+{
+    let (placement, rest) = first_field(text)?;
+    let (side, rest) = first_field(rest)?;
+    let (castling, rest) = first_field(rest)?;
+    let (passant, rest) = first_field(rest)?;
+    let Some((clock, rest)) = first_field(rest) else {
+        return Some(Fields {
+            placement,
+            side,
+            castling,
+            passant,
+            clock: b"0",
+            number: b"1",
+        });
+    };
+    let (number, rest) = first_field(rest)?;
+    if first_field(rest).is_some() {
+        return None;
+    }
+    Some(Fields {
+        placement,
+        side,
+        castling,
+        passant,
+        clock,
+        number,
+    })
+}
+
+// The first field, and what stands behind it.
+#[tactic(auto, using(crate::proofs::Splitting::spaces_alone, crate::proofs::Splitting::first_of_fields, std::proofs::lemmas::List::take_rest))]
+fn first_field(text: &[u8]) -> Option<(&[u8], &[u8])>
+    ensures { MatchOption result (fields text.now ≡ []) (λ cut. fields text.now ≡ cut.0.now ∷ fields cut.1.now) }
+{
+    let start = place_beside_spaces(text)?;
+    let text = &text[start..];
+    let end = place_of(text, b' ').unwrap_or(text.len());
+    Some((&text[..end], &text[end..]))
+}
+
+// The place of the first byte that is no space.
+fn place_beside_spaces(text: &[u8]) -> Option<usize>
+    ensures { result ≡ position (λ b. not (b == 32)) text.now }
+{
+    text.iter().position(|b| *b != b' ')
+}
+
+// The first place of a byte.
+pub fn place_of(text: &[u8], byte: u8) -> Option<usize>
+    ensures { result ≡ position (λ b. b == byte) text.now }
+{
+    text.iter().position(|b| *b == byte)
+}

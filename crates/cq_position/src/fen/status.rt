@@ -1,0 +1,150 @@
+//! The fields of a FEN text behind its men.
+ghost use Rattle.std.specs.Prelude.{◌≡◌, ◌-◌, true};
+ghost use Rattle.std.specs.List.{list_all};
+ghost use Rattle.cq_position.specs.Fen.{is_side, side_named, is_number, value_of_digits};
+ghost use Rattle.cq_position.specs.Fen as fen;
+ghost use Rattle.cq_position.specs.Board as board;
+ghost use Rattle.cq_position.specs.Reading.{SomeIfTrue};
+
+use crate::men::{Man, Side, is_same};
+use crate::position::{Rights, place};
+use cq_geometry::{Square, rank, square_at};
+
+// The side to move.
+pub fn read_side(text: &[u8]) -> Option<Side>
+    ensures { SomeIfTrue result (is_side text.now) (side_named text.now) }
+{
+    match text {
+        b"w" => Some(Side::White),
+        b"b" => Some(Side::Black),
+        _ => None,
+    }
+}
+
+// Whether the text is a dash or names rights to castle.
+pub fn is_castling(text: &[u8]) -> bool
+    ensures { result ≡ fen.is_castling text.now }
+{
+    is_dash(text) || names_rights(text)
+}
+
+fn names_rights(text: &[u8]) -> bool
+    ensures { result ≡ list_all fen.is_castling_letter text.now }
+{
+    text.iter().all(|b| matches!(*b, b'K' | b'Q' | b'k' | b'q'))
+}
+
+// The rights named whose king and rook stand at home.
+pub fn rights_kept(men: &[Man; 64], text: &[u8]) -> Rights
+    ensures value { result ≡ fen.rights_kept men.now text.now }
+    ensures stand { board.rights_stand men.now result ≡ true }
+{
+    Rights {
+        white_kingside: has_letter(text, b'K') && are_home(men, Side::White, true),
+        white_queenside: has_letter(text, b'Q') && are_home(men, Side::White, false),
+        black_kingside: has_letter(text, b'k') && are_home(men, Side::Black, true),
+        black_queenside: has_letter(text, b'q') && are_home(men, Side::Black, false),
+    }
+}
+
+fn has_letter(text: &[u8], letter: u8) -> bool
+    ensures { result ≡ fen.has_letter letter text.now }
+{
+    text.iter().any(|b| *b == letter)
+}
+
+// Whether king and rook stand at home.
+fn are_home(men: &[Man; 64], side: Side, kingside: bool) -> bool
+    ensures { result ≡ board.are_home men.now side kingside }
+{
+    let (king, king_home, rook) = match side {
+        Side::White => (Man::K, 4, Man::R),
+        Side::Black => (Man::BlackK, 60, Man::BlackR),
+    };
+    let rook_home = match (side, kingside) {
+        (Side::White, true) => 7,
+        (Side::White, false) => 0,
+        (Side::Black, true) => 63,
+        (Side::Black, false) => 56,
+    };
+    is_same(men[king_home], king) && is_same(men[rook_home], rook)
+}
+
+fn is_dash(text: &[u8]) -> bool
+    ensures { result ≡ fen.is_byte_alone 45 text.now }
+{
+    matches!(text, b"-")
+}
+
+// Whether the text is a dash or names a square of rank 3 or 6.
+pub fn is_passant(text: &[u8]) -> bool
+    ensures { result ≡ fen.is_passant text.now }
+{
+    match text {
+        [byte] => *byte == b'-',
+        [file, rank] => matches!(*file, b'a'..=b'h') && matches!(*rank, b'3' | b'6'),
+        _ => false,
+    }
+}
+
+// The square named, where a pawn can just have passed it.
+pub fn passant_kept(men: &[Man; 64], side: Side, text: &[u8]) -> Option<Square>
+    requires { fen.is_passant text.now ≡ true }
+    ensures value { result ≡ fen.passant_kept men.now side text.now }
+    ensures stands { board.passant_stands men.now side result ≡ true }
+{
+    let [file, rank] = text else {
+        return None;
+    };
+    let square = square_at(*file - b'a', *rank - b'1');
+    if was_passed(men, side, square) {
+        Some(square)
+    } else {
+        None
+    }
+}
+
+// Whether the opponent's pawn can just have passed the square.
+fn was_passed(men: &[Man; 64], side: Side, square: Square) -> bool
+    ensures { result ≡ board.was_passed men.now side square }
+{
+    let at = place(square);
+    match side {
+        Side::White => {
+            rank(square) == 5
+                && is_same(men[at], Man::Empty)
+                && is_same(men[at - 8], Man::BlackP)
+                && is_same(men[at + 8], Man::Empty)
+        }
+        Side::Black => {
+            rank(square) == 2
+                && is_same(men[at], Man::Empty)
+                && is_same(men[at + 8], Man::P)
+                && is_same(men[at - 8], Man::Empty)
+        }
+    }
+}
+
+// A number of 1 to 9 digits.
+pub fn read_number(text: &[u8]) -> Option<u32>
+    ensures { SomeIfTrue result (is_number text.now) (value_of_digits text.now) }
+{
+    if text.is_empty() || text.len() > 9 {
+        return None;
+    }
+    let mut value = 0;
+    for byte in text {
+        value = 10 * value + digit_of(*byte)?;
+    }
+    Some(value)
+}
+
+// The number that a digit stands for.
+fn digit_of(byte: u8) -> Option<u32>
+    ensures { SomeIfTrue result (fen.is_digit byte) (byte - 48) }
+{
+    match byte {
+        b'0'..=b'9' => Some(u32::from(byte - b'0')),
+        _ => None,
+    }
+}

@@ -1,0 +1,72 @@
+use super::*;
+use crate::men::{Man, Side};
+use crate::position::material;
+use cq_geometry::square_at;
+use std::mem::size_of;
+use std::test::Fail;
+
+const START: &[u8] = b"rnbqkbnr/pppppppp/8/8/8/8/PPPPPPPP/RNBQKBNR w KQkq - 0 1";
+
+#[test]
+fn start_position_is_read(rt: HostRuntime) -> Result<(), Fail> {
+    let start = Position::start();
+    assert_eq!(rt; read_fen(START)?, start);
+    assert_eq!(rt; start.at(square_at(4, 7)), Man::BlackK);
+    assert_eq!(rt; start.side(), Side::White);
+    assert_eq!(rt; start.passant(), None);
+    assert_eq!(rt; start.number(), 1);
+    assert!(rt; start.may_castle(Side::Black, false));
+    assert_eq!(rt; material(&start, Man::P), 8);
+    assert_eq!(rt; material(&start, Man::Empty), 32);
+    Ok(())
+}
+
+// The examples of the PGN standard, 16.1.4.
+#[test]
+fn examples_of_the_standard_are_read(rt: HostRuntime) -> Result<(), Fail> {
+    let pawn = read_fen(b"rnbqkbnr/pppppppp/8/8/4P3/8/PPPP1PPP/RNBQKBNR b KQkq e3 0 1")?;
+    assert_eq!(rt; pawn.at(square_at(4, 3)), Man::P);
+    assert_eq!(rt; pawn.side(), Side::Black);
+    assert_eq!(rt; pawn.passant(), Some(square_at(4, 2)));
+    let sicilian = read_fen(b"rnbqkbnr/pp1ppppp/8/2p5/4P3/8/PPPP1PPP/RNBQKBNR w KQkq c6 0 2")?;
+    assert_eq!(rt; sicilian.passant(), Some(square_at(2, 5)));
+    assert_eq!(rt; sicilian.number(), 2);
+    let knight = read_fen(b"rnbqkbnr/pp1ppppp/8/2p5/4P3/5N2/PPPP1PPP/RNBQKB1R b KQkq - 1 2")?;
+    assert_eq!(rt; knight.at(square_at(5, 2)), Man::N);
+    assert_eq!(rt; knight.passant(), None);
+    Ok(())
+}
+
+#[test]
+fn each_fault_is_answered(rt: HostRuntime) {
+    let rows: [(&[u8], FenFault); 12] = [
+        (b"", FenFault::Fields),
+        (b"8/8/8/8/8/8/8/K1k5 w - - 0", FenFault::Fields),
+        (b"8/8/8/8/8/8/7K1/8 x x e4 x x", FenFault::Placement),
+        (b"8/8/8/8/8/8/K1k5/ w - - 0 1", FenFault::Placement),
+        (b"8/8/8/8/8/8/8/P7 W x e4 x x", FenFault::Side),
+        (b"8/8/8/8/8/8/8/P7 w K- e4 x x", FenFault::Castling),
+        (b"8/8/8/8/8/8/8/P7 w K e4 x x", FenFault::EnPassant),
+        (b"8/8/8/8/8/8/8/P7 w K - x 1", FenFault::Number),
+        (b"8/8/8/8/8/8/8/P7 w K - 0 1234567890", FenFault::Number),
+        (b"8/8/8/8/8/8/8/P7 w K - 0 1", FenFault::Kings),
+        (
+            b"8/8/NNNNNNNN/NNNNNNNN/8/8/8/PKk5 w K - 0 1",
+            FenFault::PawnOnEdge,
+        ),
+        (
+            b"8/8/NNNNNNNN/NNNNNNNN/8/8/8/1Kk5 w K - 0 1",
+            FenFault::TooManyMen,
+        ),
+    ];
+    for (text, fault) in rows {
+        assert_eq!(rt; read_fen(text).err(), Some(fault));
+    }
+}
+
+// A game keeps a position for each of its moves.
+#[test]
+fn position_is_small(rt: HostRuntime) {
+    assert_eq!(rt; size_of::<Man>(), 1);
+    assert!(rt; size_of::<Position>() <= 80);
+}

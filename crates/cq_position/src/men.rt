@@ -1,0 +1,99 @@
+//! The two sides, the men and their letters.
+ghost use Rattle.std.specs.Prelude.{◌≡◌};
+ghost use Rattle.cq_position.specs.Men.{man_with_letter, letter_of_man, same_man};
+ghost use Rattle.cq_position.specs.Men as men_spec;
+
+/// One of the two players.
+#[derive(Clone, Copy, Debug, PartialEq, Eq)]
+pub enum Side {
+    White,
+    Black,
+}
+
+/// What stands on a square: a man of White (K to P), a man of Black, or nothing.
+#[derive(Clone, Copy, Debug, PartialEq, Eq)]
+pub enum Man {
+    K,
+    Q,
+    R,
+    B,
+    N,
+    P,
+    BlackK,
+    BlackQ,
+    BlackR,
+    BlackB,
+    BlackN,
+    BlackP,
+    Empty,
+}
+
+/// What a pawn that reaches the last rank becomes; `None` for every other move.
+#[derive(Clone, Copy, Debug, PartialEq, Eq)]
+pub enum Promotion {
+    None,
+    Q,
+    R,
+    B,
+    N,
+}
+
+/// The man of a letter: `KQRBNP` for White, `kqrbnp` for Black, none for any other byte.
+pub fn man_of_letter(letter: u8) -> Option<Man>
+    ensures { result ≡ man_with_letter letter }
+{
+    match letter {
+        b'K' => Some(Man::K),
+        b'Q' => Some(Man::Q),
+        b'R' => Some(Man::R),
+        b'B' => Some(Man::B),
+        b'N' => Some(Man::N),
+        b'P' => Some(Man::P),
+        b'k' => Some(Man::BlackK),
+        b'q' => Some(Man::BlackQ),
+        b'r' => Some(Man::BlackR),
+        b'b' => Some(Man::BlackB),
+        b'n' => Some(Man::BlackN),
+        b'p' => Some(Man::BlackP),
+        _ => None,
+    }
+}
+
+/// The letter of a man, upper case for White; none for the empty square.
+pub fn letter_of(man: Man) -> Option<u8>
+    ensures { result ≡ letter_of_man man }
+{
+    match man {
+        Man::K => Some(b'K'),
+        Man::Q => Some(b'Q'),
+        Man::R => Some(b'R'),
+        Man::B => Some(b'B'),
+        Man::N => Some(b'N'),
+        Man::P => Some(b'P'),
+        Man::BlackK => Some(b'k'),
+        Man::BlackQ => Some(b'q'),
+        Man::BlackR => Some(b'r'),
+        Man::BlackB => Some(b'b'),
+        Man::BlackN => Some(b'n'),
+        Man::BlackP => Some(b'p'),
+        Man::Empty => None,
+    }
+}
+
+// Whether two squares hold the same.
+pub fn is_same(man: Man, other: Man) -> bool
+    ensures { result ≡ same_man man other }
+{
+    man as u8 == other as u8
+}
+
+// Whether a man is of a side.
+pub fn is_of_side(man: Man, side: Side) -> bool
+    ensures { result ≡ men_spec.is_of_side side man }
+{
+    let number = man as u8;
+    match side {
+        Side::White => number < 6,
+        Side::Black => 6 <= number && number < 12,
+    }
+}

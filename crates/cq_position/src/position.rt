@@ -1,0 +1,204 @@
+//! Positions.
+ghost use Rattle.std.specs.Prelude.{◌≡◌, ◌<◌};
+ghost use Rattle.std.specs.List.{list_any};
+ghost use Rattle.cq_position.specs.Board.{man_at, castling_right, start_board, IsPosition, count_of};
+ghost use Rattle.cq_position.specs.Board as board;
+
+use crate::men::{Man, Side, is_of_side, is_same};
+use cq_geometry::{Square, file, rank};
+use std::marker::Model;
+
+/// The rights to castle that are left.
+#[derive(Clone, Copy, Debug, PartialEq, Eq)]
+pub struct Rights {
+    pub white_kingside: bool,
+    pub white_queenside: bool,
+    pub black_kingside: bool,
+    pub black_queenside: bool,
+}
+
+/// A position: contracts see its board.
+///
+/// It has one king of each side, no pawn on the first and the last rank and at most sixteen men of a side. A right to castle stands only
+/// with king and rook at home, and an en passant square only where the opponent's pawn can just have passed it. The number of the move is at
+/// least 1.
+#[derive(Clone, Copy, Debug, PartialEq, Eq)]
+pub struct Position {
+    number: u32,
+    men: [Man; 64],
+    side: Side,
+    rights: Rights,
+    passant: Option<Square>,
+}
+
+impl Model for Position {
+    ghost use Rattle.cq_position.specs.Board.{Board};
+
+    ghost Value = { Board };
+
+    ghost use Rattle.cq_position.specs.Kept.{board_inside, inside_of};
+    ghost use Rattle.cq_position.specs.Board.{IsPosition};
+
+    ghost view = { board_inside };
+
+    ghost invariant = { λ p. IsPosition (board_inside p) };
+
+    ghost inverse = { inside_of };
+}
+
+impl Position {
+    /// The position in which a game begins.
+    pub fn start() -> Position
+        ensures { result ≡ start_board }
+    {
+        use Man::{B, BlackB, BlackK, BlackN, BlackP, BlackQ, BlackR, Empty, K, N, P, Q, R};
+        Position {
+            number: 1,
+            men: [
+                R, N, B, Q, K, B, N, R, //
+                P, P, P, P, P, P, P, P, //
+                Empty, Empty, Empty, Empty, Empty, Empty, Empty, Empty, //
+                Empty, Empty, Empty, Empty, Empty, Empty, Empty, Empty, //
+                Empty, Empty, Empty, Empty, Empty, Empty, Empty, Empty, //
+                Empty, Empty, Empty, Empty, Empty, Empty, Empty, Empty, //
+                BlackP, BlackP, BlackP, BlackP, BlackP, BlackP, BlackP, BlackP, //
+                BlackR, BlackN, BlackB, BlackQ, BlackK, BlackB, BlackN, BlackR,
+            ],
+            side: Side::White,
+            rights: Rights {
+                white_kingside: true,
+                white_queenside: true,
+                black_kingside: true,
+                black_queenside: true,
+            },
+            passant: None,
+        }
+    }
+
+    // The position of these parts.
+    pub fn from_parts(
+        number: u32,
+        men: [Man; 64],
+        side: Side,
+        rights: Rights,
+        passant: Option<Square>,
+    ) -> Position
+        requires { IsPosition (record { men = men; side = side; rights = rights; passant = passant; number = number }) }
+        ensures { result ≡ record { men = men; side = side; rights = rights; passant = passant; number = number } }
+    {
+        Position {
+            number,
+            men,
+            side,
+            rights,
+            passant,
+        }
+    }
+
+    /// What stands on a square.
+    pub fn at(&self, square: Square) -> Man
+        ensures man { result ≡ man_at self.now.men square }
+        ensures kept { IsPosition self.now }
+    {
+        self.men[place(square)]
+    }
+
+    /// The side to move.
+    pub fn side(&self) -> Side
+        ensures side { result ≡ self.now.side }
+        ensures kept { IsPosition self.now }
+    {
+        self.side
+    }
+
+    /// The en passant square that the position keeps: the one that the opponent's pawn has just passed by a double step.
+    pub fn passant(&self) -> Option<Square>
+        ensures square { result ≡ self.now.passant }
+        ensures kept { IsPosition self.now }
+    {
+        self.passant
+    }
+
+    /// Whether a side has kept its right to castle on the king's side, or on the queen's side.
+    pub fn may_castle(&self, side: Side, kingside: bool) -> bool
+        ensures right { result ≡ castling_right self.now.rights side kingside }
+        ensures kept { IsPosition self.now }
+    {
+        match (side, kingside) {
+            (Side::White, true) => self.rights.white_kingside,
+            (Side::White, false) => self.rights.white_queenside,
+            (Side::Black, true) => self.rights.black_kingside,
+            (Side::Black, false) => self.rights.black_queenside,
+        }
+    }
+
+    /// The number of the move, from 1, which rises after Black's moves.
+    pub fn number(&self) -> u32
+        ensures number { result ≡ self.now.number }
+        ensures kept { IsPosition self.now }
+    {
+        self.number
+    }
+}
+
+// The square's place in the order a1, b1, .. h8.
+pub fn place(square: Square) -> usize
+    ensures place { result ≡ square }
+    ensures below { result < 64 }
+{
+    8 * usize::from(rank(square)) + usize::from(file(square))
+}
+
+/// How many squares hold a man, or nothing where `Empty` is asked.
+pub fn material(position: &Position, man: Man) -> u32
+    ensures { result ≡ count_of man position.now.men }
+{
+    count(&position.men, man)
+}
+
+// How many squares hold a man.
+fn count(men: &[Man; 64], man: Man) -> u32
+    ensures { result ≡ count_of man men.now }
+{
+    men.iter().filter(|m| is_same(**m, man)).count() as u32
+}
+
+// Whether there is one king of each side.
+pub fn has_kings(men: &[Man; 64]) -> bool
+    ensures { result ≡ board.has_kings men.now }
+{
+    count(men, Man::K) == 1 && count(men, Man::BlackK) == 1
+}
+
+// Whether a pawn stands on the first or the last rank.
+pub fn has_pawn_on_edge(men: &[Man; 64]) -> bool
+    ensures { result ≡ board.has_pawn_on_edge men.now }
+{
+    has_pawn(&men[0..8]) || has_pawn(&men[56..64])
+}
+
+fn has_pawn(squares: &[Man]) -> bool
+    ensures { result ≡ list_any board.is_pawn squares.now }
+{
+    squares.iter().any(|m| is_pawn(*m))
+}
+
+fn is_pawn(man: Man) -> bool
+    ensures { result ≡ board.is_pawn man }
+{
+    is_same(man, Man::P) || is_same(man, Man::BlackP)
+}
+
+// Whether a side has more than sixteen men.
+pub fn has_too_many_men(men: &[Man; 64]) -> bool
+    ensures { result ≡ board.has_too_many_men men.now }
+{
+    strength(men, Side::White) > 16 || strength(men, Side::Black) > 16
+}
+
+// How many men a side has.
+fn strength(men: &[Man; 64], side: Side) -> u32
+    ensures { result ≡ board.strength side men.now }
+{
+    men.iter().filter(|m| is_of_side(**m, side)).count() as u32
+}
