@@ -44,7 +44,8 @@ impl<R: Files + Drop, I: Read + Drop> Model for FileDesk<R, I> {
 }
 
 impl<R: Files + Drop, I: Read + Drop> FileDesk<R, I> {
-    /// A desk on which no file is open, over the runtime's files and its standard input.
+    /// A desk on which no file is open, over the runtime's files and its standard input. It may be refused for
+    /// want of memory alone, of which this form takes none.
     pub fn new(_alloc: Global, files: R, input: I) -> Result<FileDesk<R, I>, NoMemory>
         ensures { IfOk result (λ desk. desk ≡ record { reads = 0; opens = 0 }) }
     {
@@ -136,7 +137,7 @@ impl<W: Write + Drop> Model for StdSink<W> {
 }
 
 impl<W: Write + Drop> StdSink<W> {
-    /// A sink over this stream.
+    /// A sink over this stream. It may be refused for want of memory alone, of which this form takes none.
     pub fn new(_alloc: Global, stream: W) -> Result<StdSink<W>, NoMemory>
         ensures { IfOk result (λ sink. sink ≡ 0) }
     {

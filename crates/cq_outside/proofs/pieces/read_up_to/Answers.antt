@@ -1,4 +1,4 @@
-use Rattle.std.proofs.Common.{length, arith}
+use Rattle.std.proofs.Common.{arith}
 use Rattle.std.proofs.lemmas.List.{length-take}
 use Rattle.cq_outside.proofs.Growth.{took_more}
 use Rattle.cq_outside.proofs.pieces.read_up_to.Goals as goal
