@@ -1,7 +1,7 @@
 //! The trusted edge: a desk over the real files, and a sink over a real stream. Neither tells its bytes.
 //! An interrupted call counts as failed, as any other error does.
-ghost use Rattle.std.specs.Prelude.{◌≡◌, ◌≤◌, None, IfOk, IsSome, IsUtf8};
-ghost use Rattle.cq_outside.specs.Faults.{FaultCounts};
+ghost use Rattle.std.specs.Prelude.{◌≡◌, ◌≤◌, ◌<◌, None, length, codes, IfOk, IsOk, OnOk, OnErr, IsSome, IsUtf8};
+ghost use Rattle.cq_outside.specs.Faults.{FaultCounts, HasCause, counted};
 
 use crate::desk::Desk;
 use crate::faults::{Failed, NoMemory, OpenFault};
@@ -66,7 +66,11 @@ impl<R: Files + Drop, I: Read + Drop> Source for FileDesk<R, I> {
 
     ghost follows = { λ s t. (s.reads ≤ t.reads) × (t.opens ≡ s.opens) };
 
-    fn read(&mut self, buf: &mut [u8]) -> Result<usize, Failed> {
+    fn read(&mut self, buf: &mut [u8]) -> Result<usize, Failed>
+        ensures bound { IfOk result (λ n. n ≤ length buf.old) }
+        ensures cause { HasCause self.old.reads self.new.reads result }
+        ensures counts { self.new ≡ record self.old { reads = counted self.old.reads result } }
+    {
         let moved = match &mut self.current {
             Current::Nothing => Ok(0),
             Current::Input => self.input.read(buf),
@@ -93,7 +97,13 @@ impl<R: Files + Drop, I: Read + Drop> Desk for FileDesk<R, I> {
 
     ghost open_faults = { λ d. d.opens };
 
-    fn open(&mut self, _alloc: Global, name: &[u8]) -> Result<(), OpenFault> {
+    fn open(&mut self, _alloc: Global, name: &[u8]) -> Result<(), OpenFault>
+        ensures input { name.now ≡ codes "-" → IsOk result }
+        ensures text { OnOk result (IsUtf8 name.now) }
+        ensures failed { OnErr result (result ≡ Err OpenFault.Failed) }
+        ensures cause { HasCause self.old.opens self.new.opens result }
+        ensures counts { self.new ≡ record self.old { opens = counted self.old.opens result } }
+    {
         if name == STANDARD_INPUT {
             self.current = Current::Input;
             return Ok(());
@@ -151,7 +161,12 @@ impl<W: Write + Drop> Sink for StdSink<W> {
     ghost faults = { λ s. s };
 
     /// A write that takes none of the bytes that there are fails.
-    fn write(&mut self, bytes: &[u8]) -> Result<usize, Failed> {
+    fn write(&mut self, bytes: &[u8]) -> Result<usize, Failed>
+        ensures bound { IfOk result (λ n. n ≤ length bytes.now) }
+        ensures moves { IfOk result (λ n. 0 < length bytes.now → 0 < n) }
+        ensures cause { HasCause self.old self.new result }
+        ensures counts { self.new ≡ counted self.old result }
+    {
         match self.stream.write(bytes) {
             Ok(n) if n > 0 || bytes.is_empty() => Ok(n),
             _ => {
