@@ -1,11 +1,11 @@
 -- Answers to more games, one after another.
-use Rattle.std.proofs.Common.{◌≡◌, ℕ, ◌+◌, ◌≤◌, Bool, true, false, List, [], ◌∷◌, ◌++◌, length, Option, Some, None, Result, Ok, Err, arith, refl, ap, sym, ◌∙◌, append_assoc, append-nil, cond}
+use Rattle.std.proofs.Common.{◌≡◌, ℕ, ◌+◌, ◌≤◌, Bool, true, false, List, [], ◌∷◌, ◌++◌, length, Option, Some, None, Ok, Err, arith, refl, ap, sym, ◌∙◌, append_assoc, append-nil, cond}
 use Rattle.cq_run.specs.Export.{export_of}
 use Rattle.std.specs.Option.{option_map, option_and_then}
 use Rattle.std.specs.List.{filter, flat_map}
 use Rattle.cq_position.specs.Board.{Board}
 use Rattle.cq_position.specs.Fen.{fen_meaning}
-use Rattle.cq_position.specs.declared.faults.FenFault.{FenFault}
+use Rattle.cq_position.specs.declared.fen.FenFault.{FenFault}
 use Rattle.cq_run.specs.declared.query.ManOnSquare.{ManOnSquare}
 use Rattle.cq_run.specs.declared.answer.Answer.{Answer}
 use Rattle.cq_run.specs.Answer.{answer_of, joined, with_game}

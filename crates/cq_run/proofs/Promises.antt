@@ -1,10 +1,10 @@
 -- The promise of a call, from what its parts answer.
-use Rattle.std.proofs.Common.{◌≡◌, ℕ, ◌+◌, ◌≤◌, ◌<◌, List, [], ◌∷◌, ◌++◌, length, take, length-append, append-nil, Option, Some, None, Result, Ok, Err, refl, ap, sym, ◌∙◌, arith, subst, inl, inr, ◌⊎◌}
+use Rattle.std.proofs.Common.{◌≡◌, ℕ, ◌≤◌, ◌<◌, List, [], ◌∷◌, ◌++◌, length, take, length-append, append-nil, Option, Some, None, Err, refl, ap, sym, ◌∙◌, arith, subst, inl, inr}
 use Rattle.std.specs.Option.{option_map, option_and_then}
 use Rattle.std.specs.Io.KnownBytes.{Consumes}
 use Rattle.cq_outside.specs.Faults.{Rose}
 use Rattle.cq_outside.specs.Flow.{Grew}
-use Rattle.cq_outside.specs.Told.{Told, Opens, bytes_of}
+use Rattle.cq_outside.specs.Told.{Told, Opens}
 use Rattle.cq_run.specs.declared.status.Status.{Status}
 use Rattle.cq_run.specs.declared.status.Status.TheVariants.{Done, DoneWithRefusals, QueryRefused, WordsRefused, OpenFault, ReadFault, WriteFault, NoMemory, ArchiveTooLong, NotYetRead}
 use Rattle.cq_run.specs.declared.query.ManOnSquare.{ManOnSquare}
@@ -12,10 +12,10 @@ use Rattle.cq_run.specs.declared.answer.Answer.{Answer}
 use Rattle.cq_run.specs.Words.{query_text, usage_line}
 use Rattle.cq_run.specs.Query.{query_of}
 use Rattle.cq_run.specs.Games.{Game, games_in}
-use Rattle.cq_run.specs.Answer.{answer_of, report_of}
+use Rattle.cq_run.specs.Answer.{answer_of}
 use Rattle.cq_run.specs.Reading.{ReadsArchive}
 use Rattle.cq_run.specs.Writing.{WritesAnswer}
-use Rattle.cq_run.specs.Promise.{Call, DeskView, SinkView, Sinks, Texts, MayBe, ReadsWhole, IsOpen, TakesTooMuch, Overruns, Writes, WritesFront, SinkFailed, StopsWriting, Answers, AsksOther, HoldsOther, HasAll, Says, IsOneOf, Promise, archive_of, archive_limit, asked, nothing, standard_input, texts_of, texts_of_text, texts_of_query, texts_of_answer}
+use Rattle.cq_run.specs.Promise.{Call, DeskView, SinkView, Sinks, Texts, MayBe, ReadsWhole, Overruns, Writes, WritesFront, StopsWriting, HasAll, Says, IsOneOf, Promise, archive_of, archive_limit, asked, nothing, standard_input, texts_of, texts_of_text, texts_of_query, texts_of_answer}
 
 -- a sink that was not written to has taken nothing more
 pub unwritten : (taken : Option (List ℕ)) → Grew taken taken []

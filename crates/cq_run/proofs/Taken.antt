@@ -1,10 +1,10 @@
 -- What was taken from the archive that was opened.
-use Rattle.std.proofs.Common.{◌≡◌, ℕ, ◌+◌, ◌≤◌, ◌<◌, List, ◌++◌, length, length-append, Option, Some, None, refl, ap, sym, ◌∙◌, arith, subst}
+use Rattle.std.proofs.Common.{◌≡◌, ℕ, List, ◌++◌, length, length-append, Option, Some, None, refl, ap, sym, ◌∙◌, arith, subst}
 use Rattle.std.specs.Option.{option_map}
 use Rattle.std.specs.Io.KnownBytes.{Consumes}
 use Rattle.cq_outside.specs.Told.{Told, Opens, bytes_of}
 use Rattle.cq_outside.specs.Flow.{TakesAtMost}
-use Rattle.cq_run.specs.Promise.{DeskView, IsOpen, Overruns, TakesTooMuch, archive_of, archive_limit, standard_input}
+use Rattle.cq_run.specs.Promise.{DeskView, IsOpen, Overruns, archive_limit, standard_input}
 
 opens_on : (before opened after : Option Told) (left : Option (List ℕ)) → Opens before opened standard_input left → after ≡ opened
     → Opens before after standard_input (option_map (λ told. bytes_of told.files standard_input) before)

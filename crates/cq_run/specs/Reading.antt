@@ -1,5 +1,5 @@
 -- What reading the archive leaves.
-use Rattle.std.specs.Prelude.{◌≡◌, ℕ, ◌≤◌, List, Result, Ok, Err}
+use Rattle.std.specs.Prelude.{◌≡◌, Result, Ok, Err}
 use Rattle.cq_outside.specs.Faults.{Rose}
 use Rattle.cq_outside.specs.declared.bytes.Bytes.{Bytes}
 use Rattle.cq_run.specs.declared.status.Status.{Status}

@@ -1,7 +1,5 @@
-use Rattle.std.proofs.Common.{refl, sym, ap, ◌∙◌, Ok, Some, None, map}
-use Rattle.std.specs.String.{string_bytes}
-use Rattle.cq_run.specs.Promise.{Call, desk_view, sink_view, sinks_of}
-use Rattle.cq_run.proofs.Promises.{Asks, words_unwritten, unread, unanswered, held_other, wrote}
+use Rattle.std.proofs.Common.{refl, sym, ◌∙◌}
+use Rattle.cq_run.proofs.Promises.{words_unwritten, unread, unanswered, held_other, wrote}
 use Rattle.cq_run.proofs.top_call.run.Goals as goal
 
 pub returns-in-Err : goal.returns-in-Err
