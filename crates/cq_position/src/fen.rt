@@ -11,6 +11,9 @@ use crate::position::{Position, has_kings, has_pawn_on_edge, has_too_many_men};
 mod fields;
 mod placement;
 mod status;
+mod writing;
+
+pub use writing::fen_text;
 
 use fields::split_fields;
 use placement::read_placement;
