@@ -1,3 +1,4 @@
+mod LegalRows
 mod Rows
 pub mod Joined
 pub mod Marked

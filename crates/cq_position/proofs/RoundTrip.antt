@@ -131,13 +131,13 @@ number_back : (n : ℕ) → n < 2 ^ 64 → IsNumberText n (decimal n)
 number_back = decimal_by_steps IsNumberText
     (λ n low. record { digits = rw (one_digit n low) refl; value = omega arith; some = refl })
     (λ n ds high t.
-      let low : n % 10 < 10 = omega arith in
-      let back : n / 10 * 10 + (48 + n % 10 - 48) ≡ n = omega arith in
-      record {
-        digits = rw (list_all-append is_digit ds ((48 + n % 10) ∷ []), t.digits, one_digit (n % 10) low) refl;
-        value = rw (value-push ds (48 + n % 10), t.value) back;
-        some = some_push ds (48 + n % 10);
-      })
+    let low : n % 10 < 10 = omega arith in
+    let back : n / 10 * 10 + (48 + n % 10 - 48) ≡ n = omega arith in
+    record {
+      digits = rw (list_all-append is_digit ds ((48 + n % 10) ∷ []), t.digits, one_digit (n % 10) low) refl;
+      value = rw (value-push ds (48 + n % 10), t.value) back;
+      some = some_push ds (48 + n % 10);
+    })
 
 digit_no_space : (b : ℕ) → is_digit b ≡ true → is_not 32 b ≡ true
 digit_no_space b e = grind (arith, nat_tests)

@@ -64,6 +64,21 @@ fn each_fault_is_answered(rt: HostRuntime) {
     }
 }
 
+// The last has every kind of run, a right of each side alone, and an en passant square.
+#[test]
+fn text_of_a_position_is_its_fen(rt: HostRuntime) -> Result<(), Fail> {
+    let rows: [&[u8]; 3] = [
+        START,
+        b"8/8/8/8/8/8/8/K1k5 b - - 0 999999999",
+        b"r3k2r/1p6/8/2pP3p/8/P1P1P1P1/8/R3K2R w Kq c6 0 12",
+    ];
+    for text in rows {
+        let position = read_fen(text)?;
+        assert_eq!(rt; fen_text(rt.alloc(), &position)?.as_slice(), text);
+    }
+    Ok(())
+}
+
 // A game keeps a position for each of its moves.
 #[test]
 fn position_is_small(rt: HostRuntime) {

@@ -5,12 +5,11 @@ ghost use Rattle.cq_position.specs.Fen.{fen_meaning};
 ghost use Rattle.cq_position.specs.FenText as fen_text;
 ghost use Rattle.cq_position.specs.Position.{IsPosition};
 
+use crate::men::{Man, Side, letter_of};
+use crate::position::{Position, Rights};
 use cq_geometry::{Square, file, rank};
 use cq_outside::{Bytes, NoMemory};
 use std::alloc::Global;
-
-use crate::men::{Man, Side, letter_of};
-use crate::position::{Position, Rights};
 
 /// The FEN text of a position: six fields, the halfmove clock 0, the rights in the order `KQkq`, and the en passant square that the position
 /// keeps.
@@ -114,7 +113,12 @@ fn side_text(side: Side) -> &'static [u8]
 fn push_rights(text: &mut Bytes, rights: Rights) -> Result<(), NoMemory>
     ensures { OnOk result (text.new ≡ text.old ++ fen_text.castling_text rights ++ 32 ∷ []) }
 {
-    let Rights { white_kingside, white_queenside, black_kingside, black_queenside } = rights;
+    let Rights {
+        white_kingside,
+        white_queenside,
+        black_kingside,
+        black_queenside,
+    } = rights;
     if white_kingside || white_queenside || black_kingside || black_queenside {
         push_if(text, white_kingside, b'K')?;
         push_if(text, white_queenside, b'Q')?;
@@ -129,7 +133,11 @@ fn push_rights(text: &mut Bytes, rights: Rights) -> Result<(), NoMemory>
 fn push_if(text: &mut Bytes, right: bool, letter: u8) -> Result<(), NoMemory>
     ensures { OnOk result (text.new ≡ text.old ++ fen_text.letter_if right letter) }
 {
-    if right { text.push_all(&[letter]) } else { Ok(()) }
+    if right {
+        text.push_all(&[letter])
+    } else {
+        Ok(())
+    }
 }
 
 // The en passant square, or a dash.
