@@ -58,6 +58,7 @@ fn each_fault_is_answered(rt: HostRuntime) {
             b"8/8/NNNNNNNN/NNNNNNNN/8/8/8/1Kk5 w K - 0 1",
             FenFault::TooManyMen,
         ),
+        (b"4k3/8/8/8/8/8/8/4RK2 w - - 0 1", FenFault::OpponentInCheck),
     ];
     for (text, fault) in rows {
         assert_eq!(rt; read_fen(text).err(), Some(fault));
