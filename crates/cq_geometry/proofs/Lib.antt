@@ -1,5 +1,6 @@
 pub mod Board
 pub mod Tables
+pub mod Back
 pub mod Neighbors
 pub mod Inside
 pub mod Rays

@@ -1,5 +1,5 @@
 -- The squares to which a king and a knight step.
-use Rattle.std.proofs.Common.{◌≡◌, ℕ, ◌<◌, ◌&&◌, ◌||◌, ◌==◌, max, map, refl, ap, ap₂, arith}
+use Rattle.std.proofs.Common.{◌≡◌, ℕ, ◌<◌, ◌&&◌, ◌||◌, ◌==◌, max, map, refl, ap₂, arith}
 use Rattle.std.specs.List.{All}
 use Rattle.cq_geometry.specs.Squares.{file_of, rank_of, squares}
 use Rattle.cq_geometry.specs.Steps.{king_squares, knight_squares, is_king_step, is_knight_step, apart}

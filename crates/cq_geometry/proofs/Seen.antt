@@ -1,5 +1,5 @@
 -- What is seen along the rays is what is on a line with no square taken between.
-use Rattle.std.proofs.Common.{◌≡◌, ℕ, suc, ◌+◌, ◌<◌, Bool, true, false, not, cond, ◌&&◌, ◌||◌, ◌==◌, List, [], ◌∷◌, ◌++◌, length, get_or, take, append_assoc, refl, inl, inr, sym, ap, ap₂, ◌∙◌, arith}
+use Rattle.std.proofs.Common.{◌≡◌, ℕ, suc, ◌<◌, Bool, true, false, not, cond, ◌&&◌, ◌||◌, ◌==◌, List, [], ◌∷◌, ◌++◌, length, get_or, take, append_assoc, refl, inl, inr, sym, ap, ap₂, ◌∙◌, arith}
 use Rattle.std.specs.List.{list_all, list_any}
 use Rattle.std.proofs.lemmas.Bool.{cases_Bool, eqb-true}
 use Rattle.std.proofs.lemmas.List.{append-nil}
@@ -48,12 +48,13 @@ blocked : (taken : ℕ → Bool) (before : ℕ → List ℕ) (b : ℕ) (front xs
 blocked taken before b front [] h shut = refl
 blocked taken before b front (x ∷ xs) h shut =
     elim (cases_Bool (x == b)) [
-      inl e ↦
-        let way = ap before (sym (eqb-true x b e)) ∙ first_before before front x xs h in
-        ap (λ t. has b (x ∷ xs) && t) (ap (all_free taken) way ∙ shut) ∙ and_false (has b (x ∷ xs))
-    | inr e ↦
-        ap (λ t. (t || has b xs) && all_free taken (before b)) e
-            ∙ blocked taken before b (front ++ x ∷ []) xs (rest_before before front x xs h) (shut_by taken front x false shut) ]
+      | inl e ↦
+          let way = ap before (sym (eqb-true x b e)) ∙ first_before before front x xs h in
+          ap (λ t. has b (x ∷ xs) && t) (ap (all_free taken) way ∙ shut) ∙ and_false (has b (x ∷ xs))
+      | inr e ↦
+          ap (λ t. (t || has b xs) && all_free taken (before b)) e
+          ∙ blocked taken before b (front ++ x ∷ []) xs (rest_before before front x xs h) (shut_by taken front x false shut)
+    ]
 
 -- what is seen along a list is what has a free way
 reached : (taken : ℕ → Bool) (before : ℕ → List ℕ) (b : ℕ) (front xs : List ℕ)
@@ -63,21 +64,23 @@ reached taken before b front (x ∷ xs) h free =
     let rest = cond (taken x) [] (seen taken xs) in
     let more = rest_before before front x xs h in
     elim (cases_Bool (x == b)) [
-      inl e ↦
-        let way = ap before (sym (eqb-true x b e)) ∙ first_before before front x xs h in
-        ap (λ t. t || has b rest) e ∙ sym (ap₂ (λ t u. (t || has b xs) && u) e (ap (all_free taken) way ∙ free))
-    | inr e ↦
-        ap (λ t. t || has b rest) e
-            ∙ elim (cases_Bool (taken x)) [
-                inl f ↦
-                  let shut = shut_by taken front x true free ∙ ap (λ t. not t && true) f in
-                  ap (λ t. has b (cond t [] (seen taken xs))) f
-                      ∙ sym (blocked taken before b (front ++ x ∷ []) xs more shut)
-              | inr f ↦
-                  let open_ = shut_by taken front x true free ∙ ap (λ t. not t && true) f in
-                  ap (λ t. has b (cond t [] (seen taken xs))) f
-                      ∙ reached taken before b (front ++ x ∷ []) xs more open_ ]
-            ∙ sym (ap (λ t. (t || has b xs) && all_free taken (before b)) e) ]
+      | inl e ↦
+          let way = ap before (sym (eqb-true x b e)) ∙ first_before before front x xs h in
+          ap (λ t. t || has b rest) e ∙ sym (ap₂ (λ t u. (t || has b xs) && u) e (ap (all_free taken) way ∙ free))
+      | inr e ↦
+          ap (λ t. t || has b rest) e
+          ∙ elim (cases_Bool (taken x)) [
+            | inl f ↦
+                let shut = shut_by taken front x true free ∙ ap (λ t. not t && true) f in
+                ap (λ t. has b (cond t [] (seen taken xs))) f
+                ∙ sym (blocked taken before b (front ++ x ∷ []) xs more shut)
+            | inr f ↦
+                let open_ = shut_by taken front x true free ∙ ap (λ t. not t && true) f in
+                ap (λ t. has b (cond t [] (seen taken xs))) f
+                ∙ reached taken before b (front ++ x ∷ []) xs more open_
+          ]
+          ∙ sym (ap (λ t. (t || has b xs) && all_free taken (before b)) e)
+    ]
 
 any_same : {X : Type 0} (p q : X → Bool) → ((x : X) → p x ≡ q x) → (xs : List X) → list_any p xs ≡ list_any q xs
 any_same p q e [] = refl
@@ -96,7 +99,7 @@ sees_is directions taken a b h =
     let ray = λ (c : Compass). ray_from (files_of c) (ranks_of c) a in
     let along = λ (c : Compass). reached taken (between_squares a) b [] (ray c) (lists_ray c a h) refl in
     any_same (λ c. has b (seen taken (ray c))) (λ c. has b (ray c) && is_open taken a b) along directions
-        ∙ any_and (λ c. has b (ray c)) (is_open taken a b) directions
+    ∙ any_and (λ c. has b (ray c)) (is_open taken a b) directions
 
 -- a rook sees the squares of its file and its rank to which the way is free
 pub sees_orthogonals : (taken : ℕ → Bool) (a b : ℕ) → a < 64 → b < 64

@@ -1,5 +1,5 @@
 -- Facts on the whole board by computing them.
-use Rattle.std.proofs.Common.{◌+◌, ◌≡◌, ℕ, ◌<◌, map, refl, sym, ap, ◌∙◌, arith, get_or}
+use Rattle.std.proofs.Common.{◌+◌, ◌≡◌, ℕ, ◌<◌, map, sym, ap, ◌∙◌, arith, get_or}
 use Rattle.std.proofs.lemmas.List.FromFn.{get_or-map-range_with_len}
 use Rattle.cq_geometry.specs.Squares.{squares}
 

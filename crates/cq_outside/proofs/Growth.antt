@@ -1,5 +1,5 @@
--- Two writes, or two reads, are one of both pieces.
-use Rattle.std.proofs.Common.{◌≡◌, ℕ, ◌+◌, ◌-◌, ◌≤◌, length, length-append, arith, length-drop, List, [], ◌++◌, take, drop, Option, None, Some, refl, sym, ap, subst, ◌∙◌, append_assoc, append-nil}
+-- Writes one after another, and reads one after another.
+use Rattle.std.proofs.Common.{◌≡◌, ℕ, ◌+◌, ◌-◌, ◌≤◌, length, length-append, arith, length-drop, List, ◌++◌, take, drop, Option, None, Some, sym, ap, subst, ◌∙◌, append_assoc}
 use Rattle.std.proofs.Math.Seq.{take-add}
 use Rattle.std.proofs.lemmas.List.{take_all}
 use Rattle.std.specs.Io.KnownBytes.{Consumes}
@@ -7,12 +7,8 @@ use Rattle.cq_outside.specs.declared.faults.Refusal.{Refusal}
 use Rattle.cq_outside.specs.declared.faults.Refusal.TheVariants.{Fault, NoMemory}
 use Rattle.cq_outside.specs.Flow.{Grew, TakesAtMost, most_taken}
 
--- nothing was written
-pub grew_same : (a : Option (List ℕ)) → Grew a a []
-grew_same None = tt
-grew_same (Some xs) = sym (append-nil xs)
-
-pub grew_on : (a b c : Option (List ℕ)) (xs ys : List ℕ) → Grew a b xs → Grew b c ys → Grew a c (xs ++ ys)
+-- two writes are one of both pieces
+grew_on : (a b c : Option (List ℕ)) (xs ys : List ℕ) → Grew a b xs → Grew b c ys → Grew a c (xs ++ ys)
 grew_on a b None xs ys f g = tt
 grew_on a None (Some zs) xs ys f g = absurd g
 grew_on None (Some bs) (Some zs) xs ys f g = absurd f
@@ -24,16 +20,8 @@ grew_take a b c xs i n f g =
     let rest : take (length xs - i) (drop i xs) ≡ drop i xs = take_all (length xs - i) (drop i xs) (omega (arith, length-drop i xs)) in
     subst (Grew a c) (sym (take-add i n xs)) (grew_on a b c (take i xs) (take n (drop i xs)) f (subst (λ l. Grew b c (take n l)) rest g))
 
--- something was written, and then nothing
-pub grew_still : (a b c : Option (List ℕ)) (xs : List ℕ) → Grew a b xs → Grew b c [] → Grew a c xs
-grew_still a b c xs f g = subst (Grew a c) (append-nil xs) (grew_on a b c xs [] f g)
-
--- nothing was read
-pub consumed_same : (a : Option (List ℕ)) → Consumes a a []
-consumed_same None = tt
-consumed_same (Some xs) = refl
-
-pub consumed_on : (a b c : Option (List ℕ)) (xs ys : List ℕ) → Consumes a b xs → Consumes b c ys → Consumes a c (xs ++ ys)
+-- two reads are one of both pieces
+consumed_on : (a b c : Option (List ℕ)) (xs ys : List ℕ) → Consumes a b xs → Consumes b c ys → Consumes a c (xs ++ ys)
 consumed_on None b c xs ys f g = tt
 consumed_on (Some os) None c xs ys f g = absurd f
 consumed_on (Some os) (Some bs) None xs ys f g = absurd g

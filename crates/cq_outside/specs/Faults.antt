@@ -1,5 +1,5 @@
 -- Counts of faults, and when an answer of failure may come.
-use Rattle.std.specs.Prelude.{◌≡◌, ◌⊎◌, ℕ, ◌<◌, ◌≤◌, ◌-◌, ◌^◌, Result, Ok, Err, OnOk, OnErr}
+use Rattle.std.specs.Prelude.{◌≡◌, ◌⊎◌, ℕ, ◌<◌, ◌≤◌, ◌+◌, ◌-◌, ◌^◌, min, Result, Ok, Err, OnOk, OnErr, is_ok, if◌then◌else◌}
 use Rattle.cq_outside.specs.declared.faults.Refusal.{Refusal}
 use Rattle.cq_outside.specs.declared.faults.Refusal.TheVariants.{Fault, NoMemory}
 
@@ -20,6 +20,10 @@ abbrev pub HasRefusalCause : {T F : Type 0} → ℕ → ℕ → Result T (Refusa
 HasRefusalCause before now (Ok _) = now ≡ before
 HasRefusalCause before now (Err (Fault _)) = (before ≤ now) × Rose before now
 HasRefusalCause before now (Err NoMemory) = now ≡ before
+
+-- a count after a call that may fail: it rises by one where the call failed, up to the last value of a u64
+abbrev pub counted : {T E : Type 0} → ℕ → Result T E → ℕ
+counted before result = if is_ok result then before else min (before + 1) (2 ^ 64 - 1)
 
 -- the two counts of a desk
 pub record FaultCounts : Type 0 where

@@ -10,8 +10,7 @@ Grew old None bytes = Unit {0}
 Grew None (Some new) bytes = ⊥
 Grew (Some old) (Some new) bytes = new ≡ old ++ bytes
 
--- what one write of these bytes did: a count of them, at least 1 where there are any, was taken from the front;
--- a failed write took nothing
+-- what one write of these bytes did: as many as it answered were taken from the front; a failed write took nothing
 abbrev pub WriteTakes : {E : Type 0} → Option (List ℕ) → Option (List ℕ) → Result ℕ E → List ℕ → Type 0
 WriteTakes old new result bytes =
     MatchResult result (λ n. Grew old new (take n bytes)) (λ _. Grew old new [])

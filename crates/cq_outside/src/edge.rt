@@ -1,7 +1,7 @@
 //! The trusted edge: a desk over the real files, and a sink over a real stream. Neither tells its bytes.
 //! An interrupted call counts as failed, as any other error does.
-ghost use Rattle.std.specs.Prelude.{◌≡◌, ◌≤◌, ℕ, None, IfOk};
-ghost use Rattle.cq_outside.specs.Faults.{FaultCounts};
+ghost use Rattle.std.specs.Prelude.{◌≡◌, ◌≤◌, ◌<◌, None, length, codes, IfOk, IsOk, OnOk, OnErr, IsSome, IsUtf8};
+ghost use Rattle.cq_outside.specs.Faults.{FaultCounts, HasCause, counted};
 
 use crate::desk::Desk;
 use crate::faults::{Failed, NoMemory, OpenFault};
@@ -44,7 +44,8 @@ impl<R: Files + Drop, I: Read + Drop> Model for FileDesk<R, I> {
 }
 
 impl<R: Files + Drop, I: Read + Drop> FileDesk<R, I> {
-    /// A desk on which no file is open, over the runtime's files and its standard input.
+    /// A desk on which no file is open, over the runtime's files and its standard input. It may be refused for
+    /// want of memory alone, of which this form takes none.
     pub fn new(_alloc: Global, files: R, input: I) -> Result<FileDesk<R, I>, NoMemory>
         ensures { IfOk result (λ desk. desk ≡ record { reads = 0; opens = 0 }) }
     {
@@ -65,7 +66,11 @@ impl<R: Files + Drop, I: Read + Drop> Source for FileDesk<R, I> {
 
     ghost follows = { λ s t. (s.reads ≤ t.reads) × (t.opens ≡ s.opens) };
 
-    fn read(&mut self, buf: &mut [u8]) -> Result<usize, Failed> {
+    fn read(&mut self, buf: &mut [u8]) -> Result<usize, Failed>
+        ensures bound { IfOk result (λ n. n ≤ length buf.old) }
+        ensures cause { HasCause self.old.reads self.new.reads result }
+        ensures counts { self.new ≡ record self.old { reads = counted self.old.reads result } }
+    {
         let moved = match &mut self.current {
             Current::Nothing => Ok(0),
             Current::Input => self.input.read(buf),
@@ -92,16 +97,20 @@ impl<R: Files + Drop, I: Read + Drop> Desk for FileDesk<R, I> {
 
     ghost open_faults = { λ d. d.opens };
 
-    fn open(&mut self, _alloc: Global, name: &[u8]) -> Result<(), OpenFault> {
+    fn open(&mut self, _alloc: Global, name: &[u8]) -> Result<(), OpenFault>
+        ensures input { name.now ≡ codes "-" → IsOk result }
+        ensures text { OnOk result (IsUtf8 name.now) }
+        ensures failed { OnErr result (result ≡ Err OpenFault.Failed) }
+        ensures cause { HasCause self.old.opens self.new.opens result }
+        ensures counts { self.new ≡ record self.old { opens = counted self.old.opens result } }
+    {
         if name == STANDARD_INPUT {
             self.current = Current::Input;
             return Ok(());
         }
-        if let Ok(path) = str::from_utf8(name) {
-            if let Ok(file) = fs::open(&self.files, path) {
-                self.current = Current::File(file);
-                return Ok(());
-            }
+        if let Some(file) = file_named(&self.files, name) {
+            self.current = Current::File(file);
+            return Ok(());
         }
         self.open_faults = self.open_faults.saturating_add(1);
         Err(OpenFault::Failed)
@@ -112,6 +121,14 @@ impl<R: Files + Drop, I: Read + Drop> Desk for FileDesk<R, I> {
     ghost keeps_told = { λ s t f. refl };
 
     ghost keeps_open_faults = { λ s t f. f.1 };
+}
+
+/// The file of this name, opened for reading. A name that is not UTF-8 has none.
+fn file_named<R: Files>(files: &R, name: &[u8]) -> Option<R::File>
+    ensures { IsSome result → IsUtf8 name.now }
+{
+    let path = str::from_utf8(name).ok()?;
+    fs::open(files, path).ok()
 }
 
 /// A sink over a real stream. Contracts see its count of faults, which stops at the last value of a `u64`.
@@ -130,7 +147,7 @@ impl<W: Write + Drop> Model for StdSink<W> {
 }
 
 impl<W: Write + Drop> StdSink<W> {
-    /// A sink over this stream.
+    /// A sink over this stream. It may be refused for want of memory alone, of which this form takes none.
     pub fn new(_alloc: Global, stream: W) -> Result<StdSink<W>, NoMemory>
         ensures { IfOk result (λ sink. sink ≡ 0) }
     {
@@ -144,7 +161,12 @@ impl<W: Write + Drop> Sink for StdSink<W> {
     ghost faults = { λ s. s };
 
     /// A write that takes none of the bytes that there are fails.
-    fn write(&mut self, bytes: &[u8]) -> Result<usize, Failed> {
+    fn write(&mut self, bytes: &[u8]) -> Result<usize, Failed>
+        ensures bound { IfOk result (λ n. n ≤ length bytes.now) }
+        ensures moves { IfOk result (λ n. 0 < length bytes.now → 0 < n) }
+        ensures cause { HasCause self.old self.new result }
+        ensures counts { self.new ≡ counted self.old result }
+    {
         match self.stream.write(bytes) {
             Ok(n) if n > 0 || bytes.is_empty() => Ok(n),
             _ => {

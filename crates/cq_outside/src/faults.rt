@@ -28,7 +28,9 @@ pub struct Failed;
 /// A fault of the input, or want of memory.
 #[derive(Clone, Copy, Debug, PartialEq, Eq, Drop)]
 pub enum Refusal<F> {
+    /// What was read or was asked for is refused.
     Fault(F),
+    /// No memory was found.
     NoMemory,
 }
 

@@ -24,8 +24,8 @@ pub fn read_piece<S: Source>(source: &mut S, buf: &mut [u8]) -> Result<usize, Fa
 }
 
 /// Reads until the end, or until one byte more than `limit` was taken: where at most `limit` bytes are
-/// answered, nothing is left. `limit` is below 2^62 bytes. Answers the fault of
-/// the first read that fails, and has taken at most `limit` bytes then.
+/// answered, nothing is left. `limit` is below 2^62 bytes. Answers the fault of the first read that fails,
+/// and has taken at most `limit` bytes then.
 pub fn read_up_to<S: Source>(
     source: &mut S,
     alloc: Global,

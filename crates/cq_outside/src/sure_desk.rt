@@ -61,7 +61,7 @@ impl SureDesk {
     }
 }
 
-/// The place of the file with this name.
+/// The place of the first file with this name.
 fn place_of(files: &[(Bytes, Bytes)], name: &[u8]) -> Option<usize>
     ensures none { IfNone result (All (λ f. f.0 ≢ name.now) files.now) }
     ensures bound { IfSome result (λ place. place < length files.now) }

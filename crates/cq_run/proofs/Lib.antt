@@ -5,3 +5,4 @@ pub mod Exports
 pub mod MoreGames
 pub mod Taken
 pub mod Written
+pub mod Promises

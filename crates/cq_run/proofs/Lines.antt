@@ -24,4 +24,4 @@ first_line_ended text k none at =
 pub only_line : (text : List ℕ) → Nowhere (Passes (is_byte 10) text) 0 (length text) → lines_of text ≡ text ∷ []
 only_line text none =
     slice_split_none is_line_feed text (λ i d below.
-        false_from_ne_true _ (λ passes. none i (omega arith) below (ap is_line_feed (sym (get_or_default text i d 0 below)) ∙ passes)))
+    false_from_ne_true _ (λ passes. none i (omega arith) below (ap is_line_feed (sym (get_or_default text i d 0 below)) ∙ passes)))

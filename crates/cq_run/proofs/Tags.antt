@@ -44,7 +44,7 @@ no_tag_behind line behind first none = no_tag line (λ text same. none text (cc)
 pub plain_text : (text : List ℕ) → Nowhere (Passes (is_byte2 34 92) text) 0 (length text) → list_all is_plain text ≡ true
 plain_text text none =
     list_all-from_AllPass is_plain text (λ k d below.
-        ap not (false_from_ne_true _ (λ passes. none k (omega arith) below (ap (is_byte2 34 92) (sym (get_or_default text k d 0 below)) ∙ passes))))
+    ap not (false_from_ne_true _ (λ passes. none k (omega arith) below (ap (is_byte2 34 92) (sym (get_or_default text k d 0 below)) ∙ passes))))
 
 -- a text in which one was found
 pub text_with_quote : (text : List ℕ) (k : ℕ) → k < length text → Passes (is_byte2 34 92) text k → list_all is_plain text ≡ false

@@ -3,15 +3,15 @@ ghost use Rattle.std.specs.Prelude.{◌≡◌, ◌+◌, ◌<◌, ◌≤◌, ◌^
 ghost use Rattle.std.specs.Option.{option_map};
 ghost use Rattle.cq_run.specs.Export.{export_of};
 
+use crate::bare_games::{Front, front_of};
+use crate::query::ManOnSquare;
 use cq_outside::{Bytes, NoMemory};
 use cq_position::{Position, read_fen};
 use std::alloc::Global;
 
-use crate::bare_games::{Front, front_of};
-use crate::query::ManOnSquare;
-
 /// What an export begins with: the seven tag roster without a value, and the start of the FEN tag.
-const HEAD: &[u8] = b"[Event \"?\"]\n[Site \"?\"]\n[Date \"????.??.??\"]\n[Round \"?\"]\n[White \"?\"]\n[Black \"?\"]\n[Result \"*\"]\n[FEN \"";
+const HEAD: &[u8] =
+    b"[Event \"?\"]\n[Site \"?\"]\n[Date \"????.??.??\"]\n[Round \"?\"]\n[White \"?\"]\n[Black \"?\"]\n[Result \"*\"]\n[FEN \"";
 
 /// What stands behind the FEN text: the tag's end, the tag SetUp, and the movetext with its comment.
 const TAIL: &[u8] = b"\"]\n[SetUp \"1\"]\n\n{CQL} *\n\n";
@@ -25,7 +25,7 @@ pub struct Answer {
 }
 
 impl Answer {
-    ghost use Rattle.cq_run.specs.Answer.{answer_of, joined, with_game};
+    ghost use Rattle.cq_run.specs.Answer.{answer_of, join_of, with_game};
     ghost use Rattle.cq_run.specs.Games.{games_in};
 
     /// What the query finds in an archive of bare games; none where the archive is of another form.
@@ -58,12 +58,7 @@ impl Answer {
     }
 
     /// Adds one game.
-    fn add(
-        &mut self,
-        query: &ManOnSquare,
-        fen: &[u8],
-        position: &Position,
-    ) -> Result<(), NoMemory>
+    fn add(&mut self, query: &ManOnSquare, fen: &[u8], position: &Position) -> Result<(), NoMemory>
         requires { (self.old.games < 2 ^ 63) × (self.old.matched ≤ self.old.games) }
         ensures { OnOk result (self.new ≡ with_game query.now self.old (record { text = fen.now; board = position.now })) }
     {

@@ -6,6 +6,7 @@ ghost use Rattle.cq_run.specs.Front.{IsFront};
 use memchr::{memchr, memchr2};
 
 const TAG_START: &[u8] = b"[FEN \"";
+
 const TAG_END: &[u8] = b"\"]";
 
 /// The first line of a text, and what stands behind its LF, if it has one.

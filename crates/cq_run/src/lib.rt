@@ -1,4 +1,4 @@
-//! The top call.
+//! The top call: what the words of a command answer.
 #![tactic(auto)]
 
 mod answer;
@@ -6,7 +6,11 @@ mod bare_games;
 mod query;
 mod reading;
 mod status;
+#[cfg(test)]
+mod tests;
+mod top_call;
 mod words;
 mod writing;
 
 pub use status::Status;
+pub use top_call::run;

@@ -4,7 +4,6 @@ ghost use Rattle.cq_position.specs.Board.{man_at};
 ghost use Rattle.cq_position.specs.Men.{same_man};
 
 use cq_geometry::{Square, square_at};
-use cq_position::men::is_same;
 use cq_position::{Man, Position, man_of_letter};
 
 /// The query for positions in which the man stands on the square.
@@ -39,6 +38,6 @@ impl ManOnSquare {
     pub fn matches(&self, position: &Position) -> bool
         ensures { result ≡ same_man (man_at position.now.men self.now.square) self.now.man }
     {
-        is_same(position.at(self.square), self.man)
+        position.at(self.square) == self.man
     }
 }

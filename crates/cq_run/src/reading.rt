@@ -2,10 +2,9 @@
 ghost use Rattle.cq_run.specs.Reading.{ReadsArchive};
 ghost use Rattle.cq_run.specs.Promise.{desk_view};
 
+use crate::status::Status;
 use cq_outside::{Bytes, Desk, OpenFault, Refusal, read_up_to};
 use std::alloc::Global;
-
-use crate::status::Status;
 
 /// The name of standard input, from which the archive is read.
 const STANDARD_INPUT: &[u8] = b"-";

@@ -4,12 +4,11 @@ ghost use Rattle.cq_run.specs.Answer.{report_of};
 ghost use Rattle.cq_run.specs.Promise.{sink_view, sinks_of};
 ghost use Rattle.cq_run.specs.Writing.{WritesAnswer};
 
+use crate::answer::Answer;
+use crate::status::Status;
 use cq_outside::{Bytes, NoMemory, Sink, write_all_of};
 use itoa::Buffer;
 use std::alloc::Global;
-
-use crate::answer::Answer;
-use crate::status::Status;
 
 /// Writes the exports to `out`, and then the report to `err`.
 pub fn write_answer<O: Sink, E: Sink>(

@@ -13,26 +13,28 @@ pub returns-then-ne : goal.returns-then-ne
 returns-then-ne c =
     let more = has_first c.in-Some.movetext.now c.first_line-2.result.0.now c.first_line-2.result.1 c.first_line-2.ensures.ended c.first_line-2.ensures.last in
     other_marker c.args.archive.now c.first_line.result.0.now c.first_line-2.result.0.now c.in-Some.movetext.now more.0
-        (rw c.in-Some.is at c.first_line.ensures.ended) more.1 (is_not_star _ _ _ c.ne.ensures c.as_slice.ensures c.if-ne.true)
+    (rw c.in-Some.is at c.first_line.ensures.ended) more.1 (is_not_star _ _ _ c.ne.ensures c.as_slice.ensures c.if-ne.true)
 
 pub returns-in_default-text_of_tag : goal.returns-in_default-text_of_tag
 returns-in_default-text_of_tag c =
     let more = has_first c.in-Some.movetext.now c.first_line-2.result.0.now c.first_line-2.result.1 c.first_line-2.ensures.ended c.first_line-2.ensures.last in
     game_texts c.args.archive.now c.first_line.result.0.now c.first_line-2.result.0.now c.in-Some.movetext.now more.0
-        (rw c.in-Some.is at c.first_line.ensures.ended) more.1 (is_star _ _ _ c.ne.ensures c.as_slice.ensures c.if-ne.false) None c.in_default-text_of_tag.ensures
+    (rw c.in-Some.is at c.first_line.ensures.ended) more.1 (is_star _ _ _ c.ne.ensures c.as_slice.ensures c.if-ne.false) None c.in_default-text_of_tag.ensures
 
 pub returns-in-Some-behind : goal.returns-in-Some-behind
 returns-in-Some-behind c =
-    let second : lines_of c.in-Some.movetext.now ≡ c.first_line-2.result.0.now ∷ lines_of c.in-Some-behind.behind.now = rw c.in-Some-behind.is at c.first_line-2.ensures.ended in
-    (game_texts c.args.archive.now c.first_line.result.0.now c.first_line-2.result.0.now c.in-Some.movetext.now (lines_of c.in-Some-behind.behind.now)
-        (rw c.in-Some.is at c.first_line.ensures.ended) second (is_star _ _ _ c.ne.ensures c.as_slice.ensures c.if-ne.false)
-        (Some c.in-Some-text_of_tag.fen.now) c.in-Some-text_of_tag.ensures,
-        shrinks c.in-Some-behind.behind.now c.in-Some.movetext.now c.args.archive.now (rw c.in-Some-behind.is at c.first_line-2.ensures.shorter) (rw c.in-Some.is at c.first_line.ensures.shorter))
+    let second : lines_of c.in-Some.movetext.now ≡ c.first_line-2.result.0.now ∷ lines_of c.in-Some-behind.behind.now = rw c.in-Some-behind.is at c.first_line-2.ensures.ended in (
+      game_texts c.args.archive.now c.first_line.result.0.now c.first_line-2.result.0.now c.in-Some.movetext.now (lines_of c.in-Some-behind.behind.now)
+          (rw c.in-Some.is at c.first_line.ensures.ended) second (is_star _ _ _ c.ne.ensures c.as_slice.ensures c.if-ne.false)
+          (Some c.in-Some-text_of_tag.fen.now) c.in-Some-text_of_tag.ensures,
+      shrinks c.in-Some-behind.behind.now c.in-Some.movetext.now c.args.archive.now (rw c.in-Some-behind.is at c.first_line-2.ensures.shorter) (rw c.in-Some.is at c.first_line.ensures.shorter),
+    )
 
 pub returns-in-None : goal.returns-in-None
 returns-in-None c =
-    let second : lines_of c.in-Some.movetext.now ≡ c.first_line-2.result.0.now ∷ [] = rw c.in-None.is at c.first_line-2.ensures.last in
-    (game_texts c.args.archive.now c.first_line.result.0.now c.first_line-2.result.0.now c.in-Some.movetext.now []
-        (rw c.in-Some.is at c.first_line.ensures.ended) second (is_star _ _ _ c.ne.ensures c.as_slice.ensures c.if-ne.false)
-        (Some c.in-Some-text_of_tag.fen.now) c.in-Some-text_of_tag.ensures ∙ last_texts c.in-Some-text_of_tag.fen.now,
-        is_longer c.in-Some.movetext.now c.args.archive.now (rw c.in-Some.is at c.first_line.ensures.shorter))
+    let second : lines_of c.in-Some.movetext.now ≡ c.first_line-2.result.0.now ∷ [] = rw c.in-None.is at c.first_line-2.ensures.last in (
+      game_texts c.args.archive.now c.first_line.result.0.now c.first_line-2.result.0.now c.in-Some.movetext.now []
+          (rw c.in-Some.is at c.first_line.ensures.ended) second (is_star _ _ _ c.ne.ensures c.as_slice.ensures c.if-ne.false)
+          (Some c.in-Some-text_of_tag.fen.now) c.in-Some-text_of_tag.ensures ∙ last_texts c.in-Some-text_of_tag.fen.now,
+      is_longer c.in-Some.movetext.now c.args.archive.now (rw c.in-Some.is at c.first_line.ensures.shorter),
+    )

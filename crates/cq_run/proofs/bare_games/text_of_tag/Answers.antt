@@ -8,8 +8,8 @@ use Rattle.cq_run.proofs.bare_games.text_of_tag.Goals as goal
 pub returns-in_default-strip_suffix : goal.returns-in_default-strip_suffix
 returns-in_default-strip_suffix c =
     no_tag_behind c.args.line.now c.in-Some.behind.now
-        (strip_prefix_is Decides-eqb c.args.line.now (codes "[FEN \"") (Some c.in-Some.behind) c.in-Some.ensures.cases)
-        (strip_suffix_is Decides-eqb c.in-Some.behind.now (codes "\"]") None c.in_default-strip_suffix.ensures.cases)
+    (strip_prefix_is Decides-eqb c.args.line.now (codes "[FEN \"") (Some c.in-Some.behind) c.in-Some.ensures.cases)
+    (strip_suffix_is Decides-eqb c.in-Some.behind.now (codes "\"]") None c.in_default-strip_suffix.ensures.cases)
 
 pub returns-in-Some-memchr2 : goal.returns-in-Some-memchr2
 returns-in-Some-memchr2 c =

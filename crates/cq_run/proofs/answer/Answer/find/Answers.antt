@@ -1,11 +1,11 @@
-use Rattle.std.proofs.Common.{◌≡◌, ◌+◌, ◌<◌, length, arith}
+use Rattle.std.proofs.Common.{◌<◌, length, arith}
 use Rattle.cq_run.proofs.MoreGames.{stop_refused, stop_at_end, go_on, counts_more}
 use Rattle.cq_run.proofs.answer.Answer.find.Goals as goal
 
 pub returns-in_default : goal.returns-in_default
 returns-in_default c =
     stop_refused c.args.query.now c.games.answer c.games.rest.now c.args.archive.now c.in-Game.behind.now c.in-Game.fen.now c.in_default.field-0
-        c.games.invariant.answered c.in-Game.ensures.0 c.in_default.ensures
+    c.games.invariant.answered c.in-Game.ensures.0 c.in_default.ensures
 
 pub games-preserved : goal.games-preserved
 games-preserved c =
@@ -15,7 +15,7 @@ games-preserved c =
       answered = go_on c.args.query.now c.games.answer c.add.new.self c.games.rest.now c.args.archive.now c.in-Game.behind.now c.in-Game.fen.now c.in-Ok.position
           c.games.invariant.answered c.in-Game.ensures.0 c.in-Ok.ensures c.in_ok-add-in-Game.ensures;
       counted = omega (arith, counts.0);
-      matched = omega (arith, counts.0, counts.1)
+      matched = omega (arith, counts.0, counts.1);
     }
 
 pub returns-in-End : goal.returns-in-End

@@ -1,0 +1,56 @@
+//! The top call.
+ghost use Rattle.std.specs.Prelude.{map};
+ghost use Rattle.std.specs.String.{string_bytes};
+ghost use Rattle.cq_run.specs.Promise.{Promise, desk_view, sink_view, sinks_of};
+
+use crate::answer::Answer;
+use crate::query::ManOnSquare;
+use crate::reading::read_archive;
+use crate::status::Status;
+use crate::words::{USAGE, text_of_query};
+use crate::writing::write_answer;
+use cq_outside::{Desk, Gate, NoMemory, Sink, write_all_of};
+use std::alloc::Global;
+use std::thread::Threads;
+
+/// Answers the words of a command, those behind the program's name.
+///
+/// `eval TEXT` takes TEXT as the query and reads the archive from standard input, the desk's file `-`. `out` takes the
+/// exports of the games that match, in archive order, and `err` the report, or the usage line where the words are
+/// refused.
+pub fn run<R: Threads + Sync, D: Desk, O: Sink, E: Sink, G: Gate + Sync>(
+    _rt: &R,
+    alloc: Global,
+    words: &[String],
+    desk: &mut D,
+    out: &mut O,
+    err: &mut E,
+    _gate: &G,
+) -> Status
+    ensures { Promise result (record {
+      words = map string_bytes words.now;
+      desk = desk_view D.told D.left D.faults D.open_faults desk.old;
+      desk_after = desk_view D.told D.left D.faults D.open_faults desk.new;
+      sinks = sinks_of (sink_view O.taken O.faults out.old) (sink_view O.taken O.faults out.new)
+          (sink_view E.taken E.faults err.old) (sink_view E.taken E.faults err.new);
+    }) }
+{
+    let Some(text) = text_of_query(words) else {
+        return match write_all_of(err, USAGE) {
+            Ok(()) => Status::WordsRefused,
+            Err(_) => Status::WriteFault,
+        };
+    };
+    let Some(query) = ManOnSquare::read(text) else {
+        return Status::NotYetRead;
+    };
+    let archive = match read_archive(alloc, desk) {
+        Ok(archive) => archive,
+        Err(status) => return status,
+    };
+    match Answer::find(alloc, &query, archive.as_slice()) {
+        Ok(Some(answer)) => write_answer(alloc, &answer, out, err),
+        Ok(None) => Status::NotYetRead,
+        Err(NoMemory) => Status::NoMemory,
+    }
+}
