@@ -1,0 +1,3 @@
+pub mod Bytes
+pub mod Lexemes
+pub mod Readings
