@@ -1,1 +1,3 @@
+pub mod Glyphs
+pub mod Places
 mod Rows

@@ -1,11 +1,11 @@
 -- The definitions, computed on texts.
-use Rattle.std.proofs.Common.{◌≡◌, ℕ, Bool, true, false, List, [], ◌∷◌, ◌++◌, refl}
+use Rattle.std.proofs.Common.{◌≡◌, ℕ, true, false, [], ◌∷◌, ◌++◌, refl}
 use Rattle.std.specs.Prelude.{codes}
 use Rattle.pgn_lexer.specs.Lexemes.{tokens_of, lexemes_from}
-use Rattle.pgn_lexer.specs.Readings.{reading, symbol, comment, line_comment, escape_line, text, body_len, nag, good_suffix, poor_suffix, null_move, single}
+use Rattle.pgn_lexer.specs.Readings.{reading, symbol, comment, escape_line, text, body_len, nag, good_suffix, poor_suffix, null_move, single}
 use Rattle.pgn_lexer.specs.declared.token.Token.{Token}
 use Rattle.pgn_lexer.specs.declared.token.TokenKind.{TokenKind}
-use Rattle.pgn_lexer.specs.declared.token.TokenKind.TheVariants.{Open, Close, Text, Symbol, Period, Star, LeftParen, RightParen, Nag, Null, Comment, LineComment, BadByte, UnclosedComment, UnclosedText}
+use Rattle.pgn_lexer.specs.declared.token.TokenKind.TheVariants.{Text, Symbol, Period, Star, Nag, Null, Comment, BadByte, UnclosedComment, UnclosedText}
 
 abbrev token : ℕ → ℕ → TokenKind → Token
 token at len kind = record { at = at; len = len; kind = kind }

@@ -1,12 +1,11 @@
 -- The longest reading at a place: sections 5, 6 and 7 of the PGN standard, with its section 8.2.3.8 on suffixes.
-use Rattle.std.specs.Prelude.{ℕ, ◌+◌, Bool, true, false, ◌==◌, ◌||◌, ◌&&◌, nat_lt, List, [], ◌∷◌, length, take, drop, min, slice_index, if◌then◌else◌}
+use Rattle.std.specs.Prelude.{ℕ, ◌+◌, Bool, false, not, ◌==◌, ◌||◌, ◌&&◌, nat_lt, List, [], ◌∷◌, length, take, min, slice_index, if◌then◌else◌}
 use Rattle.std.specs.List.{prefix_len, position_or_len}
 use Rattle.std.specs.Char.{is_ascii_digit, is_ascii_alphanumeric}
 use Rattle.std.specs.Str.Parse.{digits_value}
 use Rattle.pgn_lexer.specs.Bytes.{ends_line, continues_symbol}
 use Rattle.pgn_lexer.specs.declared.token.TokenKind.{TokenKind}
 use Rattle.pgn_lexer.specs.declared.token.TokenKind.TheVariants.{Open, Close, Text, Symbol, Period, Star, LeftParen, RightParen, Nag, Null, Comment, LineComment, BadByte, UnclosedComment, UnclosedText}
-use Rattle.pgn_lexer.specs.declared.token.LexemeKind.{LexemeKind}
 use Rattle.pgn_lexer.specs.declared.token.LexemeKind.TheVariants.{EscapeLine, Token}
 use Rattle.pgn_lexer.specs.declared.token.Reading.{Reading}
 
@@ -30,12 +29,18 @@ line_comment rest = token LineComment (position_or_len ends_line rest + 1)
 unfoldable pub escape_line : List ℕ → Reading
 escape_line rest = record { kind = EscapeLine; len = position_or_len ends_line rest + 1 }
 
--- how many bytes of a string stand before the quote that ends it, or before the line's end, or in all;
--- a backslash takes the next byte with it unless that is a line's end
+-- a string ends before a line's end always, and before a quote unless a backslash takes that with it
+abbrev pub ends_body : (backslash : Bool) → ℕ → Bool
+ends_body backslash b = ends_line b || (b == 34 && not backslash)
+
+-- a backslash takes the next byte with it unless another takes it
+abbrev pub takes_next : (backslash : Bool) → ℕ → Bool
+takes_next backslash b = b == 92 && not backslash
+
+-- how many bytes of a string stand before its end; `backslash` says that one takes the first of them with it
 unfoldable pub body_len : (backslash : Bool) → List ℕ → ℕ
 body_len backslash [] = 0
-body_len true (b ∷ bs) = if ends_line b then 0 else 1 + body_len false bs
-body_len false (b ∷ bs) = if ends_line b || b == 34 then 0 else 1 + body_len (b == 92) bs
+body_len backslash (b ∷ bs) = if ends_body backslash b then 0 else 1 + body_len (takes_next backslash b) bs
 
 -- section 7: a string goes from quote to quote, on one line
 unfoldable pub text : List ℕ → Reading
