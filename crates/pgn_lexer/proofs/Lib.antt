@@ -1,3 +1,5 @@
 pub mod Glyphs
 pub mod Places
 mod Rows
+pub mod Walk
+pub mod Within

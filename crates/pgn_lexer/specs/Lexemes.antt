@@ -1,5 +1,5 @@
 -- The lexemes of a text, taken off its front one after the other, and the tokens among them.
-use Rattle.std.specs.Prelude.{ℕ, zero, suc, ◌+◌, ◌-◌, Bool, List, [], ◌∷◌, length, take, if◌then◌else◌}
+use Rattle.std.specs.Prelude.{ℕ, zero, suc, ◌+◌, ◌-◌, Bool, List, [], ◌∷◌, length, take, drop, slice_index, if◌then◌else◌}
 use Rattle.std.specs.List.{flat_map}
 use Rattle.pgn_lexer.specs.Bytes.{is_white, ends_line}
 use Rattle.pgn_lexer.specs.Readings.{reading}
@@ -34,6 +34,15 @@ lexemes_from (b ∷ bs) zero at first =
 -- the lexemes of a text
 abbrev pub lexemes : ℕ → Bool → List ℕ → List Lexeme
 lexemes start first bytes = lexemes_from bytes 0 start first
+
+-- whether the byte at a place of a text stands in the first column; `first` says so of the first byte
+abbrev pub first_at : (first : Bool) → List ℕ → ℕ → Bool
+first_at first bytes zero = first
+first_at first bytes (suc before) = ends_line (slice_index bytes before)
+
+-- the lexemes that begin at a place of a text or behind it, where no lexeme crosses that place
+abbrev pub lexemes_at : ℕ → Bool → List ℕ → ℕ → List Lexeme
+lexemes_at start first bytes place = lexemes_from (drop place bytes) 0 (start + place) (first_at first bytes place)
 
 -- a lexeme as the tokens that it gives a game: escape lines give none
 abbrev pub token_if : ℕ → ℕ → LexemeKind → List GameToken

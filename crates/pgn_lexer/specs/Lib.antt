@@ -1,3 +1,4 @@
 pub mod Bytes
 pub mod Lexemes
 pub mod Readings
+pub mod Shown

@@ -1,7 +1,10 @@
 //! The tokens of PGN: sections 5 to 8 of the standard read from bytes.
 #![tactic(auto)]
 
+pub mod lexeme;
 pub mod reading;
 pub mod token;
 
+pub use lexeme::{Lexeme, next_lexeme};
+pub use reading::{is_white, longest_reading};
 pub use token::{LexemeKind, Reading, Token, TokenKind};

@@ -218,10 +218,9 @@ fn single(b: u8) -> Reading
     token(kind, 1)
 }
 
-/// The longest reading of a byte that is not white space, with what stands behind it. `first` says whether the
-/// byte stands in the first column.
+/// The reading of a byte, which is not white space, by its kind.
 #[tactic(auto, unfolding(crate::specs::Readings::reading))]
-pub fn longest_reading(b: u8, rest: &[u8], first: bool) -> Reading
+fn read(b: u8, rest: &[u8], first: bool) -> Reading
     ensures { result ≡ reading first b rest.now }
 {
     match b {
@@ -236,4 +235,15 @@ pub fn longest_reading(b: u8, rest: &[u8], first: bool) -> Reading
         b'-' => null_move(rest),
         _ => single(b),
     }
+}
+
+/// The longest reading of a byte that is not white space, with what stands behind it. `first` says whether the
+/// byte stands in the first column.
+#[tactic(auto, using(crate::proofs::Within::reading_some, crate::proofs::Within::reading_within))]
+pub fn longest_reading(b: u8, rest: &[u8], first: bool) -> Reading
+    ensures value { result ≡ reading first b rest.now }
+    ensures some { 0 < result.len }
+    ensures within { result.len ≤ length rest.now + 1 }
+{
+    read(b, rest, first)
 }
