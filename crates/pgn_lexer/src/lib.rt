@@ -1,10 +1,12 @@
 //! The tokens of PGN: sections 5 to 8 of the standard read from bytes.
 #![tactic(auto)]
 
+pub mod game;
 pub mod lexeme;
 pub mod reading;
 pub mod token;
 
+pub use game::tokens;
 pub use lexeme::{Lexeme, next_lexeme};
 pub use reading::{is_white, longest_reading};
 pub use token::{LexemeKind, Reading, Token, TokenKind};
