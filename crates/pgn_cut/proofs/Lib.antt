@@ -1,2 +1,4 @@
+pub mod Loop
+pub mod Meets
 pub mod Pushes
 mod Rows

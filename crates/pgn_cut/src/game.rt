@@ -1,5 +1,5 @@
 //! A game that is being cut: what its lexemes show so far.
-ghost use Rattle.std.specs.Prelude.{◌≡◌, ◌+◌, ◌<◌, ◌≤◌, ◌^◌, ◌++◌, ◌||◌, ◌&&◌, not, ℕ, List, [], ◌∷◌, length};
+ghost use Rattle.std.specs.Prelude.{◌≡◌, ◌+◌, ◌<◌, ◌≤◌, ◌^◌, ◌++◌, ◌||◌, ◌&&◌, ◌==◌, not, ℕ, List, [], ◌∷◌, length};
 ghost use Rattle.std.specs.Option.{option_to_list};
 ghost use Rattle.pgn_lexer.specs.Lexemes.{Lexeme as ALexeme};
 ghost use Rattle.pgn_lexer.specs.Shown.{shown};
@@ -176,5 +176,38 @@ impl Game {
         } else {
             None
         }
+    }
+
+    /// Whether the game ends before a lexeme: a `[` in the first column, where it has movetext.
+    fn ends_before(self, lexeme: Lexeme<'_>) -> bool
+        ensures { result ≡ (opens lexeme.entry.kind && lexeme.entry.first && self.has_movetext) }
+    {
+        opens(lexeme.kind) && lexeme.first && self.has_movetext
+    }
+
+    /// Whether the game ends behind a lexeme: a marker outside variations.
+    fn ends_behind(self, lexeme: Lexeme<'_>) -> bool
+        ensures { result ≡ (marks lexeme.entry.kind lexeme.entry.text.now && self.depth == 0) }
+    {
+        is_marker(lexeme) && self.depth == 0
+    }
+
+    /// Meets the next lexeme of the archive, whose place counts from `offset`: the game that is open behind it, and the
+    /// one that it closes, where it closes one.
+    pub(crate) fn meet(self, lexeme: Lexeme<'_>, offset: u64) -> (Game, Option<Span>)
+        requires depth { self.depth < 2 ^ 62 }
+        requires place { offset + lexeme.at + length lexeme.text.now < 2 ^ 63 }
+        ensures deeper { result.0.depth ≤ self.depth + 1 }
+        ensures cuts { (game : List ALexeme) → self ≡ progress_of game → Steps result.0 result.1 (shown offset lexeme.entry) game }
+    {
+        let at = offset + lexeme.at as u64;
+        if self.ends_before(lexeme) {
+            return (Game::new().with(lexeme, offset), self.span_to(at));
+        }
+        let game = self.with(lexeme, offset);
+        if self.ends_behind(lexeme) {
+            return (Game::new(), game.span_to(at + lexeme.text.len() as u64));
+        }
+        (game, None)
     }
 }

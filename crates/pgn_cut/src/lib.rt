@@ -3,5 +3,7 @@
 
 mod game;
 pub mod span;
+pub mod whole;
 
 pub use span::Span;
+pub use whole::cut_whole;
