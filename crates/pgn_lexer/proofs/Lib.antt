@@ -1,3 +1,4 @@
+pub mod Fronts
 pub mod Glyphs
 pub mod Places
 mod Rows
