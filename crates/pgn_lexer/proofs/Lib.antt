@@ -1,5 +1,8 @@
+pub mod Apart
 pub mod Fronts
 pub mod Glyphs
+pub mod Lists
+pub mod Local
 pub mod Places
 mod Rows
 pub mod Walk

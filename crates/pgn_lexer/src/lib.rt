@@ -2,11 +2,13 @@
 #![tactic(auto)]
 
 pub mod game;
+pub mod laws;
 pub mod lexeme;
 pub mod reading;
 pub mod token;
 
 pub use game::tokens;
+pub use laws::{lexemes_are_local, lexemes_stand_apart};
 pub use lexeme::{Lexeme, next_lexeme};
 pub use reading::{is_white, longest_reading};
 pub use token::{LexemeKind, Reading, Token, TokenKind};
