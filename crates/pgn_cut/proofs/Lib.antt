@@ -1,3 +1,4 @@
+pub mod Joins
 pub mod Loop
 pub mod Meets
 pub mod Pushes

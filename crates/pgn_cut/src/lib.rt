@@ -2,8 +2,10 @@
 #![tactic(auto)]
 
 mod game;
+pub mod laws;
 pub mod span;
 pub mod whole;
 
+pub use laws::games_have_their_tokens;
 pub use span::Span;
 pub use whole::cut_whole;

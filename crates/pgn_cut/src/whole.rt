@@ -1,8 +1,10 @@
 //! A whole archive, cut into its games.
-ghost use Rattle.std.specs.Prelude.{◌≡◌, ◌<◌, ◌≤◌, ◌^◌, length, IfOk};
+ghost use Rattle.std.specs.Prelude.{◌≡◌, ◌<◌, ◌≤◌, ◌^◌, length, All, IfOk};
+ghost use Rattle.pgn_cut.specs.Joined.{HasItsTokens};
 ghost use Rattle.pgn_cut.specs.Cut.{text_start, cut};
 
 use crate::game::Game;
+use crate::laws::games_have_their_tokens;
 use crate::span::Span;
 use cq_outside::NoMemory;
 use pgn_lexer::next_lexeme;
@@ -26,7 +28,8 @@ fn text_start(archive: &[u8]) -> usize
 /// The games of an archive of fewer than 2^62 bytes, in order. Refused where no memory is found.
 pub fn cut_whole(alloc: Global, archive: &[u8]) -> Result<Vec<Span>, NoMemory>
     requires { length archive.now < 2 ^ 62 }
-    ensures { IfOk result (λ v. v.items ≡ cut archive.now) }
+    ensures games { IfOk result (λ v. v.items ≡ cut archive.now) }
+    ensures tokens { IfOk result (λ v. All (HasItsTokens archive.now) v.items) }
 {
     let offset = text_start(archive);
     let text = &archive[offset..];
@@ -44,5 +47,6 @@ pub fn cut_whole(alloc: Global, archive: &[u8]) -> Result<Vec<Span>, NoMemory>
     if let Some(span) = game.last(archive.len() as u64) {
         spans.push(span)?;
     }
+    games_have_their_tokens();
     Ok(spans)
 }
