@@ -4,6 +4,8 @@
 mod game;
 pub mod laws;
 pub mod span;
+#[cfg(test)]
+mod tests;
 pub mod whole;
 
 pub use laws::games_have_their_tokens;
