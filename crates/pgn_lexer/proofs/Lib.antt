@@ -4,6 +4,8 @@ pub mod Glyphs
 pub mod Lists
 pub mod Local
 pub mod Places
+pub mod Longest
 mod Rows
+pub mod Spelled
 pub mod Walk
 pub mod Within

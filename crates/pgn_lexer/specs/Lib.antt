@@ -1,4 +1,5 @@
 pub mod Bytes
+pub mod Grammar
 pub mod Lexemes
 pub mod Local
 pub mod Readings

@@ -5,7 +5,7 @@ use crate::TokenKind::{
 };
 use crate::{
     LexemeKind, Reading, Token, TokenKind, is_white, lexemes_are_local, lexemes_stand_apart,
-    longest_reading, next_lexeme, tokens,
+    longest_reading, next_lexeme, readings_are_longest, tokens,
 };
 use std::test::Fail;
 
@@ -153,6 +153,7 @@ fn each_byte_alone_is_one_token_or_white_space(rt: HostRuntime) -> Result<(), Fa
 fn readings_and_lexemes_are_found(rt: HostRuntime) {
     lexemes_stand_apart();
     lexemes_are_local();
+    readings_are_longest();
     let escape = Reading {
         kind: LexemeKind::EscapeLine,
         len: 3,
