@@ -1,5 +1,5 @@
 -- No lexeme at a place has more bytes than the reading there, and of as many there is no other.
-use Rattle.std.proofs.Common.{◌≡◌, ◌≢◌, ℕ, zero, suc, ◌+◌, ◌<◌, ◌≤◌, ◌⊎◌, Bool, true, false, cond, List, [], ◌∷◌, ◌++◌, length, get_or, take, drop, refl, sym, ap, ap₂, ◌∙◌, subst, inl, inr, ⊎_elim, arith, eqb-true, min, length-append, append_assoc}
+use Rattle.std.proofs.Common.{◌≡◌, ◌≢◌, ℕ, zero, suc, ◌+◌, ◌<◌, ◌≤◌, ◌⊎◌, Bool, true, false, cond, List, [], ◌∷◌, ◌++◌, length, get_or, take, drop, refl, sym, ap, ap₂, ◌∙◌, subst, ⊎_elim, arith, eqb-true, min, length-append, append_assoc}
 use Rattle.std.specs.Prelude.{◌==◌, ◌&&◌, ◌||◌, not, nat_lt, if◌then◌else◌, slice_index}
 use Rattle.std.specs.List.{AllByRecursion, prefix_len, position_or_len}
 use Rattle.std.specs.Char.{is_ascii_digit, is_ascii_alphanumeric}
@@ -71,11 +71,11 @@ body_len-append [] ys whole = omega arith
 body_len-append (b ∷ []) ys whole = body_len-plain b ys whole
 body_len-append (b ∷ c ∷ bs) ys whole = ⊎_elim
     (λ plain.
-        let more = body_len-append (c ∷ bs) ys plain.1 in
-        body_len-plain b (c ∷ bs ++ ys) plain.0 ∙ omega arith)
+    let more = body_len-append (c ∷ bs) ys plain.1 in
+    body_len-plain b (c ∷ bs ++ ys) plain.0 ∙ omega arith)
     (λ escaped.
-        let more = body_len-append bs ys escaped.2 in
-        ap (λ x. body_len false (x ∷ c ∷ (bs ++ ys))) escaped.0 ∙ body_len-backslash (c ∷ (bs ++ ys)) ∙ ap (λ n. 1 + n) (body_len-escaped c (bs ++ ys) escaped.1) ∙ omega arith)
+    let more = body_len-append bs ys escaped.2 in
+    ap (λ x. body_len false (x ∷ c ∷ (bs ++ ys))) escaped.0 ∙ body_len-backslash (c ∷ (bs ++ ys)) ∙ ap (λ n. 1 + n) (body_len-escaped c (bs ++ ys) escaped.1) ∙ omega arith)
     whole
 
 comment_is : (body ys : List ℕ) → Lacks 125 body → Agrees (Token Comment) (suc (length (body ++ 125 ∷ []))) (comment ((body ++ 125 ∷ []) ++ ys))
@@ -117,9 +117,12 @@ nag_is digits ys some all =
     let place : d ≡ length digits + prefix_len is_ascii_digit ys = prefix_len-append is_ascii_digit digits ys all in
     of_both (Agrees (Token (Nag (min 256 (digits_value 10 digits)))) (suc (length digits))) (d == 0) (token BadByte 1) (token (Nag (min 256 (digits_value 10 (take d (digits ++ ys))))) (d + 1))
     (λ none. let zero_ = eqb-true d 0 none in absurd (omega arith))
-    (λ _. (omega arith, λ _ as_many.
-        let same : length digits ≡ d = omega arith in
-        ap (λ l. Token (Nag (min 256 (digits_value 10 l)))) (take_at digits ys d same)))
+    (λ _. (
+      omega arith,
+      λ _ as_many.
+          let same : length digits ≡ d = omega arith in
+          ap (λ l. Token (Nag (min 256 (digits_value 10 l)))) (take_at digits ys d same),
+    ))
 
 text_is : (body ys : List ℕ) → IsBody body → Agrees (Token Text) (suc (length (body ++ 34 ∷ []))) (text ((body ++ 34 ∷ []) ++ ys))
 unfolding text Agrees body_len
@@ -137,11 +140,11 @@ unfinished_len : (body ys : List ℕ) → IsBody body ⊎ ((before : List ℕ) �
 unfinished_len body ys unfinished = ⊎_elim
     (λ whole. let place = body_len-append body ys whole in omega arith)
     (λ cut.
-        let split : body ++ ys ≡ cut.0 ++ (92 ∷ ys) = ap (λ l. l ++ ys) cut.1 ∙ append_assoc cut.0 (92 ∷ []) ys in
-        let place : body_len false (body ++ ys) ≡ length cut.0 + body_len false (92 ∷ ys) = ap (body_len false) split ∙ body_len-append cut.0 (92 ∷ ys) cut.2 in
-        let next = body_len-backslash ys in
-        let n : length body ≡ length cut.0 + 1 = ap length cut.1 ∙ length-append cut.0 (92 ∷ []) in
-        omega arith)
+    let split : body ++ ys ≡ cut.0 ++ (92 ∷ ys) = ap (λ l. l ++ ys) cut.1 ∙ append_assoc cut.0 (92 ∷ []) ys in
+    let place : body_len false (body ++ ys) ≡ length cut.0 + body_len false (92 ∷ ys) = ap (body_len false) split ∙ body_len-append cut.0 (92 ∷ ys) cut.2 in
+    let next = body_len-backslash ys in
+    let n : length body ≡ length cut.0 + 1 = ap length cut.1 ∙ length-append cut.0 (92 ∷ []) in
+    omega arith)
     unfinished
 
 unfinished_is : (body ys : List ℕ) → length body ≤ body_len false (body ++ ys) → Agrees (Token UnclosedText) (suc (length body)) (text (body ++ ys))
@@ -158,8 +161,8 @@ one_is n t u x y two_x two_y =
     of_both (Agrees (Token (Nag n)) 1) t x (if u then y else token (Nag n) 1)
     (λ _. (omega arith, λ _ as_many. absurd (omega arith)))
     (λ _. of_both (Agrees (Token (Nag n)) 1) u y (token (Nag n) 1)
-        (λ _. (omega arith, λ _ as_many. absurd (omega arith)))
-        (λ _. (omega arith, λ _ _. refl)))
+    (λ _. (omega arith, λ _ as_many. absurd (omega arith)))
+    (λ _. (omega arith, λ _ _. refl)))
 
 -- a reading that is known
 exactly : (kind : LexemeKind) (n : ℕ) → Agrees kind n (record { kind = kind; len = n })

@@ -1,18 +1,18 @@
 -- The reading at a place is a lexeme of its kind.
-use Rattle.std.proofs.Common.{◌≡◌, ◌≢◌, ℕ, zero, suc, ◌+◌, ◌-◌, ◌<◌, ◌≤◌, ◌⊎◌, Bool, true, false, cond, List, [], ◌∷◌, ◌++◌, length, get_or, take, refl, sym, ap, ap₂, ◌∙◌, subst, inl, inr, ⊎_elim, arith, eqb-true, min}
-use Rattle.std.specs.Prelude.{◌==◌, ◌&&◌, ◌||◌, not, nat_lt, if◌then◌else◌, slice_index}
+use Rattle.std.proofs.Common.{◌≡◌, ◌≢◌, ℕ, suc, ◌+◌, ◌<◌, ◌⊎◌, Bool, true, false, List, [], ◌∷◌, ◌++◌, length, get_or, take, refl, sym, ap, ap₂, ◌∙◌, subst, inl, inr, ⊎_elim, arith, eqb-true, min}
+use Rattle.std.specs.Prelude.{◌==◌, ◌&&◌, not, nat_lt, if◌then◌else◌, slice_index}
 use Rattle.std.specs.List.{AllByRecursion, prefix_len, position_or_len}
 use Rattle.std.specs.Char.{is_ascii_digit, is_ascii_alphanumeric}
 use Rattle.std.specs.Str.Parse.{digits_value}
-use Rattle.std.proofs.lemmas.Bool.{cases_eq, cases_lt, eq-eqb, ltb-true, not-true, false_from_ne_true, false≢true}
+use Rattle.std.proofs.lemmas.Bool.{cases_eq, eq-eqb, ltb-true, not-true, false≢true}
 use Rattle.std.proofs.lemmas.Bool.Decides.{nat_tests}
 use Rattle.std.proofs.lemmas.List.{take_more, length-take-le}
-use Rattle.std.proofs.lemmas.List.Sums.{prefix_len-le-length, prefix_len_stops, passes_at_first}
+use Rattle.std.proofs.lemmas.List.Sums.{prefix_len-le-length, passes_at_first}
 use Rattle.pgn_lexer.specs.Bytes.{ends_line, continues_symbol}
 use Rattle.pgn_lexer.specs.Readings.{token, comment, line_comment, escape_line, ends_body, takes_next, body_len, text, symbol, nag, good_suffix, poor_suffix, null_move, single, reading}
-use Rattle.pgn_lexer.specs.Grammar.{Lacks, IsPlain, IsBody, IsSuffix, IsNumbered, IsLexeme}
+use Rattle.pgn_lexer.specs.Grammar.{Lacks, IsPlain, IsBody, IsLexeme}
 use Rattle.pgn_lexer.specs.declared.token.Reading.{Reading}
-use Rattle.pgn_lexer.specs.declared.token.TokenKind.TheVariants.{Open, Close, Text, Symbol, Period, Star, LeftParen, RightParen, Nag, Null, Comment, LineComment, BadByte, UnclosedComment, UnclosedText}
+use Rattle.pgn_lexer.specs.declared.token.TokenKind.TheVariants.{Text, Nag, Null, Comment, BadByte, UnclosedComment, UnclosedText}
 use Rattle.pgn_lexer.proofs.Lists.{map_all}
 use Rattle.pgn_lexer.proofs.Within.{of_both, index_within}
 
@@ -40,12 +40,13 @@ module _ (first : Bool) (rest : List ℕ) where
       let body = position_or_len (λ b. b == 125) rest in
       of_both (λ (r : Reading). IsLexeme first r.kind (take r.len (123 ∷ rest))) (nat_lt body (length rest)) (token Comment (body + 2)) (token UnclosedComment (body + 1))
       (λ closes.
-          let lt : body < length rest = ltb-true body (length rest) closes in
-          let e : body + 2 ≡ body + 1 + 1 = omega arith in
-          let brace : get_or rest body 0 ≡ 125 = eqb-true (get_or rest body 0) 125 (passes_at_first (λ b. b == 125) rest 0 lt) in
-          (take body rest,
-           ap (λ k. take k (123 ∷ rest)) e ∙ one_more 123 rest (body + 1) ∙ ap (λ l. 123 ∷ l) (take_more rest body 0 lt ∙ ap (λ c. take body rest ++ c ∷ []) brace),
-           front_lacks 125 rest))
+      let lt : body < length rest = ltb-true body (length rest) closes in
+      let e : body + 2 ≡ body + 1 + 1 = omega arith in
+      let brace : get_or rest body 0 ≡ 125 = eqb-true (get_or rest body 0) 125 (passes_at_first (λ b. b == 125) rest 0 lt) in (
+        take body rest,
+        ap (λ k. take k (123 ∷ rest)) e ∙ one_more 123 rest (body + 1) ∙ ap (λ l. 123 ∷ l) (take_more rest body 0 lt ∙ ap (λ c. take body rest ++ c ∷ []) brace),
+        front_lacks 125 rest,
+      ))
       (λ _. (take body rest, one_more 123 rest body, front_lacks 125 rest))
 
   line_read : IsLexeme first (line_comment rest).kind (take (line_comment rest).len (59 ∷ rest))
@@ -67,10 +68,10 @@ module _ (first : Bool) (rest : List ℕ) where
       of_both (λ (r : Reading). IsLexeme first r.kind (take r.len (36 ∷ rest))) (digits == 0) (token BadByte 1) (token (Nag (min 256 (digits_value 10 (take digits rest)))) (digits + 1))
       (λ _. refl)
       (λ some.
-          let few = prefix_len-le-length is_ascii_digit rest in
-          let many : (digits ≡ 0 → ⊥) = λ none. false≢true (sym some ∙ eq-eqb digits 0 none) in
-          let len : length (take digits rest) ≡ digits = length-take-le digits rest few in
-          inl (take digits rest, one_more 36 rest digits, omega arith, front_passes is_ascii_digit rest, refl))
+      let few = prefix_len-le-length is_ascii_digit rest in
+      let many : (digits ≡ 0 → ⊥) = λ none. false≢true (sym some ∙ eq-eqb digits 0 none) in
+      let len : length (take digits rest) ≡ digits = length-take-le digits rest few in
+      inl (take digits rest, one_more 36 rest digits, omega arith, front_passes is_ascii_digit rest, refl))
 
 -- a byte that is known
 at_byte : (first : Bool) (rest : List ℕ) (r : Reading) (c b : ℕ) → (b == c) ≡ true → IsLexeme first r.kind (take r.len (c ∷ rest)) → IsLexeme first r.kind (take r.len (b ∷ rest))
@@ -97,8 +98,8 @@ module _ (first : Bool) (rest : List ℕ) where
       of_both (λ (r : Reading). IsLexeme first r.kind (take r.len (33 ∷ rest))) (slice_index rest 0 == 33) (token (Nag 3) 2) (if slice_index rest 0 == 63 then token (Nag 5) 2 else token (Nag 1) 1)
       (λ is. inr (inr (inr (inl (refl, second 33 33 rest (omega arith) is)))))
       (λ _. of_both (λ (r : Reading). IsLexeme first r.kind (take r.len (33 ∷ rest))) (slice_index rest 0 == 63) (token (Nag 5) 2) (token (Nag 1) 1)
-          (λ is. inr (inr (inr (inr (inr (inl (refl, second 33 63 rest (omega arith) is)))))))
-          (λ _. inr (inl (refl, refl))))
+      (λ is. inr (inr (inr (inr (inr (inl (refl, second 33 63 rest (omega arith) is)))))))
+      (λ _. inr (inl (refl, refl))))
 
   poor_read : IsLexeme first (poor_suffix rest).kind (take (poor_suffix rest).len (63 ∷ rest))
   unfolding poor_suffix
@@ -106,8 +107,8 @@ module _ (first : Bool) (rest : List ℕ) where
       of_both (λ (r : Reading). IsLexeme first r.kind (take r.len (63 ∷ rest))) (slice_index rest 0 == 63) (token (Nag 4) 2) (if slice_index rest 0 == 33 then token (Nag 6) 2 else token (Nag 2) 1)
       (λ is. inr (inr (inr (inr (inl (refl, second 63 63 rest (omega arith) is))))))
       (λ _. of_both (λ (r : Reading). IsLexeme first r.kind (take r.len (63 ∷ rest))) (slice_index rest 0 == 33) (token (Nag 6) 2) (token (Nag 2) 1)
-          (λ is. inr (inr (inr (inr (inr (inr (refl, second 63 33 rest (omega arith) is)))))))
-          (λ _. inr (inr (inl (refl, refl)))))
+      (λ is. inr (inr (inr (inr (inr (inr (refl, second 63 33 rest (omega arith) is)))))))
+      (λ _. inr (inr (inl (refl, refl)))))
 
   null_read : IsLexeme first (null_move rest).kind (take (null_move rest).len (45 ∷ rest))
   unfolding null_move
@@ -164,38 +165,38 @@ body_read false (b ∷ bs) =
     of_both (BodyRead false (b ∷ bs)) (ends_body false b) 0 (1 + m)
     (λ _. record { unfinished = inl tt; whole = λ _. tt })
     (λ goes. subst (BodyRead false (b ∷ bs)) e (⊎_elim
-        (λ is.
-            let next : takes_next false b ≡ true = ap (λ c. takes_next false c) is in
-            let more = body_read true bs in
-            let same : body_len true bs ≡ m = ap (λ t. body_len t bs) (sym next) in
-            record {
-              unfinished = subst IsUnfinished (ap₂ (λ c k. c ∷ take k bs) (sym is) same) more.unfinished;
-              whole = λ quote. subst IsBody (ap₂ (λ c k. c ∷ take k bs) (sym is) same) (more.whole (ap (λ k. get_or bs k 0) same ∙ quote));
-            })
-        (λ other.
-            let next : takes_next false b ≡ false = grind (arith, nat_tests) in
-            let plain : IsPlain b = (λ is. false≢true (sym goes ∙ ap (ends_body false) is), other, λ is. false≢true (sym goes ∙ ap (ends_body false) is)) in
-            let more = body_read false bs in
-            let same : body_len false bs ≡ m = ap (λ t. body_len t bs) (sym next) in
-            record {
-              unfinished = plain_unfinished b (take m bs) plain (subst (λ k. IsUnfinished (take k bs)) same more.unfinished);
-              whole = λ quote. plain_body b (take m bs) plain (subst (λ k. IsBody (take k bs)) same (more.whole (ap (λ k. get_or bs k 0) same ∙ quote)));
-            })
-        (cases_eq b 92)))
+    (λ is.
+    let next : takes_next false b ≡ true = ap (λ c. takes_next false c) is in
+    let more = body_read true bs in
+    let same : body_len true bs ≡ m = ap (λ t. body_len t bs) (sym next) in
+    record {
+      unfinished = subst IsUnfinished (ap₂ (λ c k. c ∷ take k bs) (sym is) same) more.unfinished;
+      whole = λ quote. subst IsBody (ap₂ (λ c k. c ∷ take k bs) (sym is) same) (more.whole (ap (λ k. get_or bs k 0) same ∙ quote));
+    })
+    (λ other.
+    let next : takes_next false b ≡ false = grind (arith, nat_tests) in
+    let plain : IsPlain b = (λ is. false≢true (sym goes ∙ ap (ends_body false) is), other, λ is. false≢true (sym goes ∙ ap (ends_body false) is)) in
+    let more = body_read false bs in
+    let same : body_len false bs ≡ m = ap (λ t. body_len t bs) (sym next) in
+    record {
+      unfinished = plain_unfinished b (take m bs) plain (subst (λ k. IsUnfinished (take k bs)) same more.unfinished);
+      whole = λ quote. plain_body b (take m bs) plain (subst (λ k. IsBody (take k bs)) same (more.whole (ap (λ k. get_or bs k 0) same ∙ quote)));
+    })
+    (cases_eq b 92)))
 body_read true (b ∷ bs) =
     let m = body_len (takes_next true b) bs in
     let e : suc m ≡ 1 + m = omega arith in
     of_both (BodyRead true (b ∷ bs)) (ends_body true b) 0 (1 + m)
     (λ ends. record { unfinished = inr ([], refl, tt); whole = λ quote. absurd (false≢true (ap (ends_body true) (sym quote) ∙ ends)) })
     (λ goes. subst (BodyRead true (b ∷ bs)) e (
-        let next : takes_next true b ≡ false = never (b == 92) in
-        let other : b ≢ 10 = λ is. false≢true (sym goes ∙ ap (ends_body true) is) in
-        let more = body_read false bs in
-        let same : body_len false bs ≡ m = ap (λ t. body_len t bs) (sym next) in
-        record {
-          unfinished = escaped_unfinished b (take m bs) other (subst (λ k. IsUnfinished (take k bs)) same more.unfinished);
-          whole = λ quote. inr (refl, other, subst (λ k. IsBody (take k bs)) same (more.whole (ap (λ k. get_or bs k 0) same ∙ quote)));
-        }))
+    let next : takes_next true b ≡ false = never (b == 92) in
+    let other : b ≢ 10 = λ is. false≢true (sym goes ∙ ap (ends_body true) is) in
+    let more = body_read false bs in
+    let same : body_len false bs ≡ m = ap (λ t. body_len t bs) (sym next) in
+    record {
+      unfinished = escaped_unfinished b (take m bs) other (subst (λ k. IsUnfinished (take k bs)) same more.unfinished);
+      whole = λ quote. inr (refl, other, subst (λ k. IsBody (take k bs)) same (more.whole (ap (λ k. get_or bs k 0) same ∙ quote)));
+    }))
 
 text_read : (first : Bool) (rest : List ℕ) → IsLexeme first (text rest).kind (take (text rest).len (34 ∷ rest))
 unfolding text behind IsUnfinished
@@ -204,12 +205,13 @@ text_read first rest =
     let read = body_read false rest in
     of_both (λ (r : Reading). IsLexeme first r.kind (take r.len (34 ∷ rest))) (slice_index rest body == 34) (token Text (body + 2)) (token UnclosedText (body + 1))
     (λ closes.
-        let lt = index_within rest body 34 (omega arith) closes in
-        let e : body + 2 ≡ body + 1 + 1 = omega arith in
-        let quote : get_or rest body 0 ≡ 34 = eqb-true (get_or rest body 0) 34 closes in
-        (take body rest,
-         ap (λ k. take k (34 ∷ rest)) e ∙ one_more 34 rest (body + 1) ∙ ap (λ l. 34 ∷ l) (take_more rest body 0 lt ∙ ap (λ c. take body rest ++ c ∷ []) quote),
-         read.whole quote))
+    let lt = index_within rest body 34 (omega arith) closes in
+    let e : body + 2 ≡ body + 1 + 1 = omega arith in
+    let quote : get_or rest body 0 ≡ 34 = eqb-true (get_or rest body 0) 34 closes in (
+      take body rest,
+      ap (λ k. take k (34 ∷ rest)) e ∙ one_more 34 rest (body + 1) ∙ ap (λ l. 34 ∷ l) (take_more rest body 0 lt ∙ ap (λ c. take body rest ++ c ∷ []) quote),
+      read.whole quote,
+    ))
     (λ _. (take body rest, one_more 34 rest body, read.unfinished))
 
 -- the reading of any byte

@@ -97,6 +97,15 @@ dark_after_white bytes p within =
 
 -- the next lexeme, by what is found behind the white space at a place
 module _ (start : ℕ) (first : Bool) (bytes rest : List ℕ) (at white : ℕ) where
+  here_next : (p : ℕ) → p < length bytes → is_white (get_or bytes p 0) ≡ false → (col : Bool) → col ≡ first_at first bytes p
+      → (r : Reading) → r ≡ reading (first_at first bytes p) (get_or bytes p 0) (drop (p + 1) bytes) → rest ≡ drop p bytes → length (take r.len rest) ≡ r.len
+      → lexemes_at start first bytes p ≡ (record { at = start + p; first = col; text = take r.len rest; kind = r.kind }) ∷ lexemes_at start first bytes (p + length (take r.len rest))
+  here_next p within dark col col_is r reads rest_is text_len =
+      at_lexeme start first bytes p within dark
+      ∙ ap (λ s. (record { at = start + p; first = first_at first bytes p; text = take s.len (drop p bytes); kind = s.kind }) ∷ lexemes_at start first bytes (p + s.len)) (sym reads)
+      ∙ ap₂ (λ c l. (record { at = start + p; first = c; text = take r.len l; kind = r.kind }) ∷ lexemes_at start first bytes (p + r.len)) (sym col_is) (sym rest_is)
+      ∙ ap (λ n. (record { at = start + p; first = col; text = take r.len rest; kind = r.kind }) ∷ lexemes_at start first bytes (p + n)) (sym text_len)
+
   pub none_next : (front : List ℕ) → front ≡ drop at bytes → white ≡ prefix_len is_white front → at + white ≡ length bytes → lexemes_at start first bytes at ≡ []
   none_next front is skipped over =
       let here : white ≡ prefix_len is_white (drop at bytes) = skipped ∙ ap (prefix_len is_white) is in
@@ -117,9 +126,5 @@ module _ (start : ℕ) (first : Bool) (bytes rest : List ℕ) (at white : ℕ) w
       let reads : r ≡ reading (first_at first bytes p) (get_or bytes p 0) (drop (p + 1) bytes) = r_is ∙ ap₂ (λ b l. reading col b l) byte behind ∙ ap (λ c. reading c (get_or bytes p 0) (drop (p + 1) bytes)) col_is in
       let behind_len : length (take (length rest - 1) (drop 1 rest)) ≡ length bytes - (p + 1) = ap length behind ∙ length-drop (p + 1) bytes in
       let text_len : length (take r.len rest) ≡ r.len = length-take-le r.len rest (omega arith) in
-      at_white start first bytes at
-      ∙ ap (λ n. lexemes_at start first bytes (at + n)) (sym here)
-      ∙ at_lexeme start first bytes p within dark
-      ∙ ap (λ s. (record { at = start + p; first = first_at first bytes p; text = take s.len (drop p bytes); kind = s.kind }) ∷ lexemes_at start first bytes (p + s.len)) (sym reads)
-      ∙ ap₂ (λ c l. (record { at = start + p; first = c; text = take r.len l; kind = r.kind }) ∷ lexemes_at start first bytes (p + r.len)) (sym col_is) (sym rest_is)
-      ∙ ap (λ n. (record { at = start + p; first = col; text = take r.len rest; kind = r.kind }) ∷ lexemes_at start first bytes (p + n)) (sym text_len)
+      let skips : lexemes_at start first bytes at ≡ lexemes_at start first bytes p = at_white start first bytes at ∙ ap (λ n. lexemes_at start first bytes (at + n)) (sym here) in
+      skips ∙ here_next p within dark col col_is r reads rest_is text_len

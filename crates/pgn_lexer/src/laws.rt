@@ -10,8 +10,7 @@ ghost use Rattle.pgn_lexer.specs.Local.{IsUncrossed, within, StandsIn};
 /// length, but that any byte may be a bad one.
 pub fn readings_are_longest()
     ensures { (first : Bool) (b : ℕ) (rest : List ℕ) → IsLongest first (b ∷ rest) (reading first b rest) }
-{
-}
+{}
 
 /// Lexemes stand in their text in order, and don't overlap.
 pub fn lexemes_stand_apart()
