@@ -18,7 +18,7 @@ abbrev pub AreLocal : Type 0
 AreLocal = (start : ℕ) (first : Bool) (bytes : List ℕ) (from to : ℕ) → IsUncrossed (start + from) (lexemes start first bytes) → IsUncrossed (start + to) (lexemes start first bytes)
     → lexemes (start + from) (first_at first bytes from) (slice_range bytes from to) ≡ within (start + from) (start + to) (lexemes start first bytes)
 
-map_all : {A : Type 0} (P Q : A → Type 0) → ((x : A) → P x → Q x) → (xs : List A) → AllByRecursion P xs → AllByRecursion Q xs
+pub map_all : {A : Type 0} (P Q : A → Type 0) → ((x : A) → P x → Q x) → (xs : List A) → AllByRecursion P xs → AllByRecursion Q xs
 map_all P Q f [] all = tt
 map_all P Q f (x ∷ xs) all = (f x all.0, map_all P Q f xs all.1)
 
@@ -26,7 +26,7 @@ all_append : {A : Type 0} (P : A → Type 0) (xs ys : List A) → AllByRecursion
 all_append P [] ys all rest = rest
 all_append P (x ∷ xs) ys all rest = (all.0, all_append P xs ys all.1 rest)
 
-of_both : {A : Type 0} (P : A → Type 0) (t : Bool) (x y : A) → P x → P y → P (cond t x y)
+pub of_both : {A : Type 0} (P : A → Type 0) (t : Bool) (x y : A) → P x → P y → P (cond t x y)
 of_both P true x y px py = px
 of_both P false x y px py = py
 
@@ -82,7 +82,7 @@ none_marked_twice true b n = none_marked b n
 none_marked_twice false b n = omega arith
 
 -- the text behind a byte order mark
-text_within : (archive : List ℕ) → text_start archive ≤ length archive
+pub text_within : (archive : List ℕ) → text_start archive ≤ length archive
 text_within [] = omega arith
 text_within (x ∷ []) = none_marked (239 == x) 1
 text_within (x ∷ y ∷ []) = none_marked_twice (239 == x) (187 == y) 2

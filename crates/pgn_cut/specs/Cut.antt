@@ -29,7 +29,7 @@ nest depth _ = depth
 abbrev pub depth : List Lexeme → ℕ
 depth game = fold (λ d l. nest d l.kind) 0 game
 
--- section 8.1.1: whether a tag pair is open behind some lexemes
+-- section 8.1: whether a tag pair is open behind some lexemes
 abbrev pub opens_pair : Bool → LexemeKind → Bool
 opens_pair open_ (Token Open) = true
 opens_pair open_ (Token Close) = false

@@ -1,5 +1,5 @@
 //! Cuts of archives from outside, and calls that find memory.
-use crate::{Span, cut_whole, games_have_their_tokens};
+use crate::{Span, cut_whole, games_have_their_tokens, games_stand_apart};
 use pgn_lexer::tokens;
 use std::test::Fail;
 
@@ -41,6 +41,7 @@ static ROWS: [Row<'static>; 23] = [
 #[test]
 fn archives_have_their_games(rt: HostRuntime) -> Result<(), Fail> {
     games_have_their_tokens();
+    games_stand_apart();
     for (archive, want) in ROWS.iter() {
         assert!(rt; archive.len() <= 64);
         let found = cut_whole(rt.alloc(), archive)?;

@@ -1,10 +1,11 @@
 //! A whole archive, cut into its games.
 ghost use Rattle.std.specs.Prelude.{◌≡◌, ◌<◌, ◌≤◌, ◌^◌, length, All, IfOk};
 ghost use Rattle.pgn_cut.specs.Joined.{HasItsTokens};
+ghost use Rattle.pgn_cut.specs.Spans.{EndsBy, AreInOrder};
 ghost use Rattle.pgn_cut.specs.Cut.{text_start, cut};
 
 use crate::game::Game;
-use crate::laws::games_have_their_tokens;
+use crate::laws::{games_have_their_tokens, games_stand_apart};
 use crate::span::Span;
 use cq_outside::NoMemory;
 use pgn_lexer::next_lexeme;
@@ -29,6 +30,8 @@ fn text_start(archive: &[u8]) -> usize
 pub fn cut_whole(alloc: Global, archive: &[u8]) -> Result<Vec<Span>, NoMemory>
     requires { length archive.now < 2 ^ 62 }
     ensures games { IfOk result (λ v. v.items ≡ cut archive.now) }
+    ensures order { IfOk result (λ v. AreInOrder 0 (length archive.now) v.items) }
+    ensures within { IfOk result (λ v. All (EndsBy (length archive.now)) v.items) }
     ensures tokens { IfOk result (λ v. All (HasItsTokens archive.now) v.items) }
 {
     let offset = text_start(archive);
@@ -47,6 +50,7 @@ pub fn cut_whole(alloc: Global, archive: &[u8]) -> Result<Vec<Span>, NoMemory>
     if let Some(span) = game.last(archive.len() as u64) {
         spans.push(span)?;
     }
+    games_stand_apart();
     games_have_their_tokens();
     Ok(spans)
 }

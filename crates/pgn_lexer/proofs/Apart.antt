@@ -4,24 +4,20 @@ use Rattle.std.specs.List.{AllByRecursion}
 use Rattle.pgn_lexer.specs.Bytes.{is_white, ends_line}
 use Rattle.pgn_lexer.specs.Readings.{reading}
 use Rattle.pgn_lexer.specs.Lexemes.{Lexeme, end, lexeme, lexemes, lexemes_from, first_at}
-use Rattle.pgn_lexer.specs.Local.{IsUncrossed, StandsIn}
+use Rattle.pgn_lexer.specs.Local.{IsUncrossed, AreInOrder, StandsIn}
 use Rattle.pgn_lexer.proofs.Lists.{map_all, both_all}
 use Rattle.pgn_lexer.proofs.Local.{text_len}
 use Rattle.pgn_lexer.proofs.Walk.{first_at-cons}
 use Rattle.pgn_lexer.proofs.Within.{of_both, reading_some, reading_within}
 
--- each lexeme has some bytes, and begins where the one before ends or behind that
-InOrder : ℕ → List Lexeme → Type 0
-InOrder q [] = Unit {0}
-InOrder q (l ∷ ls) = (q ≤ l.at) × (0 < length l.text) × InOrder (end l) ls
-
-in_order : (bs : List ℕ) (inside at : ℕ) (first : Bool) (q : ℕ) → q ≤ at + inside → InOrder q (lexemes_from bs inside at first)
-unfolding lexemes_from InOrder
+-- each begins where the one before ends, or behind that
+pub in_order : (bs : List ℕ) (inside at : ℕ) (first : Bool) (q : ℕ) → q ≤ at + inside → AreInOrder q (lexemes_from bs inside at first)
+unfolding lexemes_from
 in_order [] inside at first q less = tt
 in_order (b ∷ bs) (suc inside) at first q less = in_order bs inside (at + 1) (ends_line b) q (omega arith)
 in_order (b ∷ bs) zero at first q less =
     let r = reading first b bs in
-    of_both (InOrder q) (is_white b) (lexemes_from bs 0 (at + 1) (ends_line b)) (lexeme at first b bs ∷ lexemes_from bs (r.len - 1) (at + 1) (ends_line b))
+    of_both (AreInOrder q) (is_white b) (lexemes_from bs 0 (at + 1) (ends_line b)) (lexeme at first b bs ∷ lexemes_from bs (r.len - 1) (at + 1) (ends_line b))
     (λ _. in_order bs 0 (at + 1) (ends_line b) q (omega arith))
     (λ _.
     let len = text_len at first b bs in
@@ -29,8 +25,7 @@ in_order (b ∷ bs) zero at first q less =
     (omega arith, omega arith, in_order bs (r.len - 1) (at + 1) (ends_line b) (end (lexeme at first b bs)) (omega arith)))
 
 -- lexemes in order begin behind what they begin behind, and so cross nothing before
-all_behind : (q p : ℕ) (ls : List Lexeme) → InOrder q ls → p ≤ q → AllByRecursion (λ l. p ≤ l.at) ls
-unfolding InOrder
+all_behind : (q p : ℕ) (ls : List Lexeme) → AreInOrder q ls → p ≤ q → AllByRecursion (λ l. p ≤ l.at) ls
 all_behind q p [] order less = tt
 all_behind q p (l ∷ ls) order less =
     let here = order.0 in
@@ -40,8 +35,7 @@ none_crosses : (p : ℕ) (ls : List Lexeme) → AllByRecursion (λ l. p ≤ l.at
 none_crosses p ls behind = map_all (λ l. p ≤ l.at) (λ l. (end l ≤ p) ⊎ (p ≤ l.at)) (λ l after. inr after) ls behind
 
 -- so none crosses an end of another
-ends_uncrossed : (q : ℕ) (ls : List Lexeme) → InOrder q ls → AllByRecursion (λ l. IsUncrossed l.at ls × IsUncrossed (end l) ls) ls
-unfolding InOrder
+ends_uncrossed : (q : ℕ) (ls : List Lexeme) → AreInOrder q ls → AllByRecursion (λ l. IsUncrossed l.at ls × IsUncrossed (end l) ls) ls
 ends_uncrossed q [] order = tt
 ends_uncrossed q (l ∷ ls) order =
     let behind = all_behind (end l) (end l) ls order.2 (omega arith) in (

@@ -1,4 +1,11 @@
 -- The grammar of the lexemes: which text, whole, is one of which kind. It knows nothing of what follows.
+--
+-- It is that of the PGN standard: section 5 on comments, section 6 on escape lines, section 7 on tokens and section
+-- 8.2.3.8 on suffixes. It is more lenient in these points. Digits alone are a symbol, and no integer of their own. A
+-- symbol goes on over /, so that 1/2-1/2 is one. A string may hold every byte but LF, as many as there are, and a
+-- backslash may stand before any of them. Suffixes are tokens. A glyph's number may be of any length. -- is a null
+-- move. Comments and strings that don't end, and bytes that begin nothing, among them < and >, are faulty tokens: a
+-- text is never refused as a whole.
 use Rattle.std.specs.Prelude.{ℕ, ◌<◌, ◌≤◌, ◌≡◌, ◌≢◌, ◌⊎◌, Bool, true, List, [], ◌∷◌, ◌++◌, length, take, min, codes}
 use Rattle.std.specs.List.{AllByRecursion}
 use Rattle.std.specs.Char.{is_ascii_digit, is_ascii_alphanumeric}
@@ -31,8 +38,8 @@ IsSuffix n text = ((n ≡ 1) × (text ≡ codes "!")) ⊎ (((n ≡ 2) × (text �
 abbrev pub IsNumbered : ℕ → List ℕ → Type 0
 IsNumbered n text = (digits : List ℕ) × (text ≡ 36 ∷ digits) × (0 < length digits) × AllByRecursion (λ d. is_ascii_digit d ≡ true) digits × (n ≡ min 256 (digits_value 10 digits))
 
--- A text is a lexeme of a kind; `first` says whether it begins in the first column. Of a byte that begins no other
--- lexeme nothing is said here: it is the only reading there.
+-- A text is a lexeme of a kind; `first` says whether it begins in the first column. Any one byte may be a bad one, and
+-- is read so only where nothing else is.
 abbrev pub IsLexeme : (first : Bool) → LexemeKind → List ℕ → Type 0
 IsLexeme first EscapeLine text = (line : List ℕ) × (text ≡ 37 ∷ line) × (first ≡ true) × Lacks 10 line
 IsLexeme first (Token Open) text = text ≡ codes "["

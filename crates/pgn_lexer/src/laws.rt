@@ -4,7 +4,7 @@ ghost use Rattle.std.specs.List.{AllByRecursion};
 ghost use Rattle.pgn_lexer.specs.Lexemes.{lexemes, first_at};
 ghost use Rattle.pgn_lexer.specs.Readings.{reading};
 ghost use Rattle.pgn_lexer.specs.Grammar.{IsLongest};
-ghost use Rattle.pgn_lexer.specs.Local.{IsUncrossed, within, StandsIn};
+ghost use Rattle.pgn_lexer.specs.Local.{IsUncrossed, AreInOrder, within, StandsIn};
 
 /// What is read of a byte and the bytes behind it is the longest lexeme there by the grammar, and the only one of its
 /// length, but that any byte may be a bad one.
@@ -14,8 +14,11 @@ pub fn readings_are_longest()
 
 /// Lexemes stand in their text in order, and don't overlap.
 pub fn lexemes_stand_apart()
-    ensures { (start : ℕ) (first : Bool) (bytes : List ℕ) → AllByRecursion (StandsIn start first bytes) (lexemes start first bytes) }
-{}
+    ensures order { (start : ℕ) (first : Bool) (bytes : List ℕ) → AreInOrder start (lexemes start first bytes) }
+    ensures each { (start : ℕ) (first : Bool) (bytes : List ℕ) →
+        AllByRecursion (StandsIn start first bytes) (lexemes start first bytes) }
+{
+}
 
 /// The lexemes of a part of a text are those of the text within that part, where no lexeme crosses the part's ends.
 pub fn lexemes_are_local()
