@@ -1,4 +1,7 @@
 //! An archive of PGN, cut into its games.
+//!
+//! `specs/Cut` says where games begin and end, by the lexemes of the whole archive; `cut_whole` gives exactly these.
+//! The laws say that games stand in order, and that the tokens of a game are the archive's lexemes within it.
 #![tactic(auto)]
 
 mod game;

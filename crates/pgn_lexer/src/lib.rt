@@ -1,4 +1,9 @@
-//! The tokens of PGN: sections 5 to 8 of the standard read from bytes.
+//! The tokens of PGN, read from bytes: sections 5 to 8 of the standard.
+//!
+//! `specs/Grammar` says which texts are lexemes of which kind. `specs/Readings` says what is read at a place, and
+//! `readings_are_longest` that this is the longest lexeme there. `specs/Lexemes` takes the readings off the front of a
+//! text, one after the other; `tokens` gives exactly these, without escape lines. The laws say that lexemes stand in
+//! order, and that those of a part of a text are the text's within it.
 #![tactic(auto)]
 
 pub mod game;
