@@ -17,8 +17,7 @@ pub fn lexemes_stand_apart()
     ensures order { (start : ℕ) (first : Bool) (bytes : List ℕ) → AreInOrder start (lexemes start first bytes) }
     ensures each { (start : ℕ) (first : Bool) (bytes : List ℕ) →
         AllByRecursion (StandsIn start first bytes) (lexemes start first bytes) }
-{
-}
+{}
 
 /// The lexemes of a part of a text are those of the text within that part, where no lexeme crosses the part's ends.
 pub fn lexemes_are_local()
