@@ -1,0 +1,10 @@
+//! Symmetries of the board, shifts and the exchange of colours, and the families that a query names them by.
+#![tactic(auto)]
+
+pub mod families;
+pub mod mappings;
+pub mod parts;
+
+pub use families::{Family, size};
+pub use mappings::Mapping;
+pub use parts::SquarePart;
