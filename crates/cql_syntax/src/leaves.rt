@@ -123,6 +123,20 @@ pub enum Pair {
     Greater,
 }
 
+/// How often a part of a line stands.
+#[derive(Clone, Copy, Debug, PartialEq, Eq)]
+pub enum Mark {
+    Once,
+    /// Any number of times.
+    Star,
+    /// At least once.
+    Plus,
+    /// At most once.
+    Maybe,
+    /// From the first number of times to the second.
+    Times(u32, u32),
+}
+
 /// Men on squares.
 #[derive(Clone, Copy, Debug, PartialEq, Eq)]
 pub struct Designator {

@@ -2,5 +2,7 @@
 #![tactic(auto)]
 
 pub mod leaves;
+pub mod tree;
 
-pub use leaves::{Chain, Designator, Field, Kind, Of, Outcome, Pair, Plain, Unary, Way};
+pub use leaves::{Chain, Designator, Field, Kind, Mark, Of, Outcome, Pair, Plain, Unary, Way};
+pub use tree::{Body, Constituent, Constituents, Filter, Filters, Form, Line, Query, Term, Terms};
