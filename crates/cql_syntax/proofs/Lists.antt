@@ -1,7 +1,8 @@
 -- The tree of a list is that of its items.
-use Rattle.std.proofs.Common.{◌≡◌, List, [], ◌∷◌, ◌++◌, refl, sym, ◌∙◌, ap}
-use Rattle.cql_syntax.specs.Trees.{filter, FilterTrees, more_filters, TermTrees, more_terms, PartTrees, more_parts}
-use Rattle.cql_syntax.specs.TreeOf.{filter_tree, form_tree, with_filter, with_term, with_part, body_tree, filters_tree, filter_row, filters_in, filter_trees, terms_tree, term_row, terms_in, term_trees, parts_tree, part_row, parts_in, part_trees}
+use Rattle.std.proofs.Common.{◌≡◌, ℕ, ◌+◌, ◌<◌, List, [], ◌∷◌, ◌++◌, length, get_or, take, refl, sym, ◌∙◌, ap}
+use Rattle.std.proofs.lemmas.List.{take_more}
+use Rattle.cql_syntax.specs.Trees.{filter, more_filters, with_filter, more_terms, with_term, more_parts, with_part}
+use Rattle.cql_syntax.specs.TreeOf.{filter_tree, form_tree, body_tree, filters_tree, filter_row, filters_in, filter_trees, terms_tree, term_row, terms_in, term_trees, parts_tree, part_row, parts_in, part_trees}
 use Rattle.cql_syntax.specs.declared.tree.Constituent.{Constituent}
 use Rattle.cql_syntax.specs.declared.tree.Filter.{Filter}
 use Rattle.cql_syntax.specs.declared.tree.Term.{Term}
@@ -40,13 +41,25 @@ filter_trees_snoc (x ∷ xs) f = ap (more_filters (filter_tree x)) (filter_trees
 pub terms_tree_rolled : (x : _) → terms_tree (roll-Terms x) ≡ term_trees x.items.items
 terms_tree_rolled x = terms_tree_in (roll-Terms x) ∙ ap (λ y. term_trees y.items.items) (out-roll-Terms x)
 
-pub term_trees_snoc : (xs : List Term) (f : Term) → term_trees (xs ++ f ∷ []) ≡ with_term (term_trees xs) f
+pub term_trees_snoc : (xs : List Term) (f : Term) → term_trees (xs ++ f ∷ []) ≡ with_term (term_trees xs) f.minus (filter_tree f.filter)
 term_trees_snoc [] f = refl
 term_trees_snoc (x ∷ xs) f = ap (more_terms x.minus (filter_tree x.filter)) (term_trees_snoc xs f)
 
 pub parts_tree_rolled : (x : _) → parts_tree (roll-Constituents x) ≡ part_trees x.items.items
 parts_tree_rolled x = parts_tree_in (roll-Constituents x) ∙ ap (λ y. part_trees y.items.items) (out-roll-Constituents x)
 
-pub part_trees_snoc : (xs : List Constituent) (f : Constituent) → part_trees (xs ++ f ∷ []) ≡ with_part (part_trees xs) f
+pub part_trees_snoc : (xs : List Constituent) (f : Constituent) → part_trees (xs ++ f ∷ []) ≡ with_part (part_trees xs) (body_tree f.body) f.mark
 part_trees_snoc [] f = refl
 part_trees_snoc (x ∷ xs) f = ap (more_parts (body_tree x.body) x.mark) (part_trees_snoc xs f)
+
+pub filter_trees_more : (xs : List Filter) (i : ℕ) (f : Filter) → i < length xs → f ≡ get_or xs i f → filter_trees (take (i + 1) xs) ≡ with_filter (filter_trees (take i xs)) (filter_tree f)
+filter_trees_more xs i f below is =
+    ap filter_trees (take_more xs i f below) ∙ filter_trees_snoc (take i xs) (get_or xs i f) ∙ sym (ap (λ g. with_filter (filter_trees (take i xs)) (filter_tree g)) is)
+
+pub term_trees_more : (xs : List Term) (i : ℕ) (f : Term) → i < length xs → f ≡ get_or xs i f → term_trees (take (i + 1) xs) ≡ with_term (term_trees (take i xs)) f.minus (filter_tree f.filter)
+term_trees_more xs i f below is =
+    ap term_trees (take_more xs i f below) ∙ term_trees_snoc (take i xs) (get_or xs i f) ∙ sym (ap (λ g. with_term (term_trees (take i xs)) g.minus (filter_tree g.filter)) is)
+
+pub part_trees_more : (xs : List Constituent) (i : ℕ) (f : Constituent) → i < length xs → f ≡ get_or xs i f → part_trees (take (i + 1) xs) ≡ with_part (part_trees (take i xs)) (body_tree f.body) f.mark
+part_trees_more xs i f below is =
+    ap part_trees (take_more xs i f below) ∙ part_trees_snoc (take i xs) (get_or xs i f) ∙ sym (ap (λ g. with_part (part_trees (take i xs)) (body_tree g.body) g.mark) is)

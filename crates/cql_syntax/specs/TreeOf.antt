@@ -96,16 +96,3 @@ term_trees (t ∷ ts) = more_terms t.minus (filter_tree t.filter) (term_trees ts
 abbrev pub part_trees : List Constituent → PartTrees
 part_trees [] = no_parts
 part_trees (c ∷ cs) = more_parts (body_tree c.body) c.mark (part_trees cs)
-
--- the trees, and one more at the end
-abbrev pub with_filter : FilterTrees → FilterTree → FilterTrees
-with_filter no_filters f = more_filters f no_filters
-with_filter (more_filters g gs) f = more_filters g (with_filter gs f)
-
-abbrev pub with_term : TermTrees → Term → TermTrees
-with_term no_terms t = more_terms t.minus (filter_tree t.filter) no_terms
-with_term (more_terms minus f ts) t = more_terms minus f (with_term ts t)
-
-abbrev pub with_part : PartTrees → Constituent → PartTrees
-with_part no_parts c = more_parts (body_tree c.body) c.mark no_parts
-with_part (more_parts body mark cs) c = more_parts body mark (with_part cs c)

@@ -67,3 +67,16 @@ pub record QueryTree : Type 0 where
   pub match_at : ℕ
   pub match_text : List ℕ
   pub items : FilterTrees
+
+-- the trees, and one more at the end
+abbrev pub with_filter : FilterTrees → FilterTree → FilterTrees
+with_filter no_filters f = more_filters f no_filters
+with_filter (more_filters g gs) f = more_filters g (with_filter gs f)
+
+abbrev pub with_term : TermTrees → Bool → FilterTree → TermTrees
+with_term no_terms minus f = more_terms minus f no_terms
+with_term (more_terms other g gs) minus f = more_terms other g (with_term gs minus f)
+
+abbrev pub with_part : PartTrees → BodyTree → Mark → PartTrees
+with_part no_parts body mark = more_parts body mark no_parts
+with_part (more_parts other times cs) body mark = more_parts other times (with_part cs body mark)

@@ -116,7 +116,8 @@ impl Unary {
         match self {
             Unary::Complement | Unary::Light | Unary::Dark => Kind::Set,
             Unary::Count | Unary::Power => Kind::Number,
-            Unary::Not | Unary::Find | Unary::FindUp | Unary::Child | Unary::Parent => Kind::Position,
+            Unary::Not | Unary::Find | Unary::FindUp | Unary::Child | Unary::Parent =>
+                Kind::Position,
         }
     }
 }
@@ -166,7 +167,8 @@ impl Pair {
     {
         match self {
             Pair::Attacks | Pair::AttackedBy | Pair::Between => Kind::Set,
-            Pair::Less | Pair::AtMost | Pair::Equal | Pair::AtLeast | Pair::Greater => Kind::Position,
+            Pair::Less | Pair::AtMost | Pair::Equal | Pair::AtLeast | Pair::Greater =>
+                Kind::Position,
         }
     }
 }

@@ -1,6 +1,7 @@
 //! The tree of a query: its types, the kind of a filter and the weight of a query.
 #![tactic(auto)]
 
+pub mod copies;
 pub mod kinds;
 pub mod leaves;
 pub mod tree;

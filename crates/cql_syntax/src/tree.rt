@@ -1,7 +1,7 @@
 //! The tree of a query.
 ghost use Rattle.std.specs.Prelude.{◌≡◌, ◌↔◌, ◌++◌, ◌∷◌, [], length, IsTrue, OnOk, OnErr};
-ghost use Rattle.cql_syntax.specs.Trees.{no_filters, no_terms, no_parts};
-ghost use Rattle.cql_syntax.specs.TreeOf.{filter_tree, with_filter, with_term, with_part, filters_in, terms_in, parts_in, filters_tree, terms_tree, parts_tree, filter_trees, term_trees, part_trees};
+ghost use Rattle.cql_syntax.specs.Trees.{no_filters, no_terms, no_parts, with_filter, with_term, with_part};
+ghost use Rattle.cql_syntax.specs.TreeOf.{filter_tree, body_tree, filters_in, terms_in, parts_in, filters_tree, terms_tree, parts_tree, filter_trees, term_trees, part_trees};
 
 use crate::leaves::{Chain, Designator, Field, Kind, Mark, Of, Outcome, Pair, Plain, Unary, Way};
 use cq_outside::{Bytes, NoMemory};
@@ -181,7 +181,7 @@ impl Terms {
     /// Adds a term at the end. A refused one is dropped.
     pub fn push(&mut self, item: Term) -> Result<(), NoMemory>
         ensures items { OnOk result (terms_in self.new ≡ terms_in self.old ++ item ∷ []) }
-        ensures tree { OnOk result (terms_tree self.new ≡ with_term (terms_tree self.old) item) }
+        ensures tree { OnOk result (terms_tree self.new ≡ with_term (terms_tree self.old) item.minus (filter_tree item.filter)) }
         ensures items_kept { OnErr result (terms_in self.new ≡ terms_in self.old) }
         ensures tree_kept { OnErr result (terms_tree self.new ≡ terms_tree self.old) }
     {
@@ -227,7 +227,7 @@ impl Constituents {
     /// Adds a part at the end. A refused one is dropped.
     pub fn push(&mut self, item: Constituent) -> Result<(), NoMemory>
         ensures items { OnOk result (parts_in self.new ≡ parts_in self.old ++ item ∷ []) }
-        ensures tree { OnOk result (parts_tree self.new ≡ with_part (parts_tree self.old) item) }
+        ensures tree { OnOk result (parts_tree self.new ≡ with_part (parts_tree self.old) (body_tree item.body) item.mark) }
         ensures items_kept { OnErr result (parts_in self.new ≡ parts_in self.old) }
         ensures tree_kept { OnErr result (parts_tree self.new ≡ parts_tree self.old) }
     {
