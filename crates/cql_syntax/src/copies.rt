@@ -9,21 +9,22 @@ use cq_outside::{Bytes, NoMemory};
 use std::alloc::Global;
 
 impl Query {
-    /// The same query again.
-    pub fn copy(&self, alloc: Global) -> Result<Query, NoMemory>
+    /// The same query again, in memory of the allocator that this one keeps.
+    pub fn copy(&self) -> Result<Query, NoMemory>
         ensures { IfOk result (λ q. query_tree q ≡ query_tree self.now) }
     {
+        let alloc = self.items.allocator();
         Ok(Query {
             variations: self.variations,
             match_at: self.match_at,
-            match_text: copy_of_bytes(alloc, &self.match_text)?,
+            match_text: copied(alloc, &self.match_text)?,
             items: self.items.copy(alloc)?,
         })
     }
 }
 
 /// The same bytes again.
-fn copy_of_bytes(alloc: Global, bytes: &Bytes) -> Result<Bytes, NoMemory>
+fn copied(alloc: Global, bytes: &Bytes) -> Result<Bytes, NoMemory>
     ensures { IfOk result (λ b. b ≡ bytes.now) }
 {
     let mut copied = Bytes::new(alloc);
@@ -44,7 +45,7 @@ impl Filter {
     }
 
     #[cycle(copy)]
-    fn boxed_copy(&self, alloc: Global) -> Result<Box<Filter>, NoMemory>
+    fn boxed(&self, alloc: Global) -> Result<Box<Filter>, NoMemory>
         ensures { IfOk result (λ f. filter_tree f.value ≡ filter_tree self.now) }
     {
         let filter = self.copy(alloc)?;
@@ -60,44 +61,25 @@ impl Form {
         Ok(match self {
             Form::Squares(designator) => Form::Squares(*designator),
             Form::Number(number) => Form::Number(*number),
-            Form::Name(name) => Form::Name(copy_of_bytes(alloc, name)?),
+            Form::Name(name) => Form::Name(copied(alloc, name)?),
             Form::Plain(word) => Form::Plain(*word),
-            Form::Tagged(field, text) => Form::Tagged(*field, copy_of_bytes(alloc, text)?),
+            Form::Tagged(field, text) => Form::Tagged(*field, copied(alloc, text)?),
             Form::Outcome(outcome) => Form::Outcome(*outcome),
             Form::Elo(of) => Form::Elo(*of),
-            Form::Unary(unary, part) => Form::Unary(*unary, part.boxed_copy(alloc)?),
-            Form::Steps(way, least, most, part) => Form::Steps(
-                *way,
-                *least,
-                *most,
-                part.boxed_copy(alloc)?,
-            ),
+            Form::Unary(unary, a) => Form::Unary(*unary, a.boxed(alloc)?),
+            Form::Steps(way, m, n, a) => Form::Steps(*way, *m, *n, a.boxed(alloc)?),
             Form::Chain(chain, parts) => Form::Chain(*chain, parts.copy(alloc)?),
             Form::Sum(terms) => Form::Sum(terms.copy(alloc)?),
-            Form::Pair(pair, first, second) => Form::Pair(
-                *pair,
-                first.boxed_copy(alloc)?,
-                second.boxed_copy(alloc)?,
-            ),
-            Form::If(condition, then, otherwise) => Form::If(
-                condition.boxed_copy(alloc)?,
-                then.boxed_copy(alloc)?,
-                otherwise.boxed_copy(alloc)?,
-            ),
-            Form::Square(every, name, set, part) => Form::Square(
-                *every,
-                copy_of_bytes(alloc, name)?,
-                set.boxed_copy(alloc)?,
-                part.boxed_copy(alloc)?,
-            ),
+            Form::Pair(pair, a, b) => Form::Pair(*pair, a.boxed(alloc)?, b.boxed(alloc)?),
+            Form::If(a, b, c) => Form::If(a.boxed(alloc)?, b.boxed(alloc)?, c.boxed(alloc)?),
+            Form::Square(every, name, a, b) => {
+                let name = copied(alloc, name)?;
+                Form::Square(*every, name, a.boxed(alloc)?, b.boxed(alloc)?)
+            }
             Form::Line(line) => Form::Line(line.copy(alloc)?),
-            Form::Transform(family, part) => Form::Transform(*family, part.boxed_copy(alloc)?),
-            Form::Sort(least, name, part) => Form::Sort(
-                *least,
-                copy_of_bytes(alloc, name)?,
-                part.boxed_copy(alloc)?,
-            ),
-            Form::Comment(text) => Form::Comment(copy_of_bytes(alloc, text)?),
+            Form::Transform(family, a) => Form::Transform(*family, a.boxed(alloc)?),
+            Form::Sort(least, name, a) => Form::Sort(*least, copied(alloc, name)?, a.boxed(alloc)?),
+            Form::Comment(text) => Form::Comment(copied(alloc, text)?),
             Form::Any(kind, parts) => Form::Any(*kind, parts.copy(alloc)?),
         })
     }
@@ -122,7 +104,7 @@ impl Body {
         ensures { IfOk result (λ b. body_tree b ≡ body_tree self.now) }
     {
         Ok(match self {
-            Body::Atom(filter) => Body::Atom(filter.boxed_copy(alloc)?),
+            Body::Atom(filter) => Body::Atom(filter.boxed(alloc)?),
             Body::Group(parts) => Body::Group(parts.copy(alloc)?),
         })
     }

@@ -164,6 +164,11 @@ impl Filters {
     {
         self.items.as_slice()
     }
+
+    /// What it takes memory from.
+    pub(crate) fn allocator(&self) -> Global {
+        *self.items.allocator()
+    }
 }
 
 #[tactic(auto, using(crate::proofs::Lists::terms_tree_in, crate::proofs::Lists::terms_tree_rolled, crate::proofs::Lists::term_trees_snoc))]
