@@ -4,6 +4,8 @@
 pub mod copies;
 pub mod kinds;
 pub mod leaves;
+#[cfg(test)]
+mod tests;
 pub mod tree;
 pub mod weights;
 
