@@ -1,7 +1,8 @@
 use super::*;
 use cq_outside::{Bytes, NoMemory};
-use cq_symmetry::{Family, SquarePart};
+use cq_symmetry::Family;
 use std::alloc::Global;
+use std::process::Abort;
 use std::test::Fail;
 
 fn filter(form: Form) -> Filter {
@@ -92,82 +93,86 @@ fn weights_of_worked_queries(rt: HostRuntime) -> Result<(), Fail> {
     Ok(())
 }
 
-type Rows = Vec<(Form, Kind, u64)>;
-
-/// Forms without a list, each with its kind and its weight.
-fn forms(alloc: Global) -> Result<Rows, NoMemory> {
-    let part = SquarePart {
-        squares: 1,
-        whole_ranks: false,
-        whole_files: false,
-    };
-    let a = || boxed(alloc, check());
-    let mut rows = Vec::new(alloc);
-    rows.push((Form::Squares(Designator { men: 1, part }), Kind::Set, 1))?;
-    rows.push((Form::Number(3), Kind::Number, 1))?;
-    rows.push((Form::Plain(Plain::Check), Kind::Position, 1))?;
-    rows.push((Form::Plain(Plain::Ply), Kind::Number, 1))?;
-    rows.push((Form::Outcome(Outcome::Draw), Kind::Position, 1))?;
-    rows.push((Form::Elo(Of::Black), Kind::Number, 1))?;
-    rows.push((Form::Unary(Unary::Not, a()?), Kind::Position, 2))?;
-    rows.push((Form::Unary(Unary::Dark, a()?), Kind::Set, 2))?;
-    rows.push((Form::Unary(Unary::Count, a()?), Kind::Number, 2))?;
-    rows.push((Form::Steps(Way::Up, 1, 7, a()?), Kind::Set, 2))?;
-    rows.push((Form::Pair(Pair::Attacks, a()?, a()?), Kind::Set, 3))?;
-    rows.push((Form::Pair(Pair::Less, a()?, a()?), Kind::Position, 3))?;
-    rows.push((Form::If(a()?, a()?, a()?), Kind::Position, 4))?;
-    rows.push((Form::Transform(Family::Shift, a()?), Kind::Position, 226))?;
-    Ok(rows)
-}
-
-/// Forms with a text, each with its kind and its weight.
-fn texts(alloc: Global) -> Result<Rows, NoMemory> {
-    let a = || boxed(alloc, check());
-    let mut rows = Vec::new(alloc);
-    rows.push((Form::Name(text(alloc)?), Kind::Set, 1))?;
-    rows.push((Form::Tagged(Field::Event, text(alloc)?), Kind::Position, 1))?;
-    rows.push((Form::Comment(text(alloc)?), Kind::Position, 1))?;
-    rows.push((Form::Sort(true, text(alloc)?, a()?), Kind::Position, 2))?;
-    rows.push((
-        Form::Square(true, text(alloc)?, a()?, a()?),
-        Kind::Position,
-        3,
-    ))?;
-    Ok(rows)
-}
-
-/// Forms with a list, each with its kind and its weight.
-fn lists(alloc: Global) -> Result<Rows, NoMemory> {
-    let mut terms = Terms::new(alloc);
-    terms.push(Term {
-        minus: true,
-        filter: filter(Form::Number(2)),
-    })?;
-    let mut rows = Vec::new(alloc);
-    rows.push((Form::Chain(Chain::Or, checks(alloc, 3)?), Kind::Position, 4))?;
-    rows.push((Form::Chain(Chain::Union, checks(alloc, 0)?), Kind::Set, 1))?;
-    rows.push((Form::Chain(Chain::Max, checks(alloc, 2)?), Kind::Number, 3))?;
-    rows.push((Form::Sum(terms), Kind::Number, 2))?;
-    rows.push((Form::Any(Kind::Set, checks(alloc, 2)?), Kind::Set, 3))?;
-    rows.push((repeated(alloc, 2, 1)?.form, Kind::Number, 2))?;
-    Ok(rows)
+/// A copy has the kind and the weight.
+fn agrees(
+    rt: &impl Abort,
+    alloc: Global,
+    form: Form,
+    kind: Kind,
+    heavy: u64,
+) -> Result<(), NoMemory> {
+    let copied = filter(form).copy(alloc)?;
+    assert_eq!(rt; kind_of(&copied), kind);
+    let mut items = Filters::new(alloc);
+    items.push(copied)?;
+    let query = query(alloc, items)?.copy()?;
+    assert_eq!(rt; weight(&query), heavy);
+    assert_eq!(rt; query.match_text.as_slice(), b"text".as_slice());
+    Ok(())
 }
 
 #[test]
-fn copies_have_the_kind_and_the_weight(rt: HostRuntime) -> Result<(), Fail> {
+fn words_have_their_kinds(rt: HostRuntime) -> Result<(), Fail> {
     let alloc = rt.alloc();
-    for rows in [forms(alloc)?, texts(alloc)?, lists(alloc)?] {
-        for (form, kind, expected) in rows {
-            let copied = filter(form).copy(alloc)?;
-            assert_eq!(rt; kind_of(&copied), kind);
-            assert_eq!(rt; copied.at, 6);
-            let mut items = Filters::new(alloc);
-            items.push(copied)?;
-            let query = query(alloc, items)?.copy()?;
-            assert_eq!(rt; weight(&query), expected, "{kind:?}");
-            assert_eq!(rt; query.match_text.as_slice(), b"text".as_slice());
-        }
+    for (word, kind) in [(Plain::Check, Kind::Position), (Plain::Year, Kind::Number)] {
+        agrees(&rt, alloc, Form::Plain(word), kind, 1)?;
     }
+    let unaries = [
+        (Unary::Parent, Kind::Position),
+        (Unary::Dark, Kind::Set),
+        (Unary::Power, Kind::Number),
+    ];
+    for (unary, kind) in unaries {
+        agrees(
+            &rt,
+            alloc,
+            Form::Unary(unary, boxed(alloc, check())?),
+            kind,
+            2,
+        )?;
+    }
+    let chains = [
+        (Chain::All, Kind::Position),
+        (Chain::Intersect, Kind::Set),
+        (Chain::Min, Kind::Number),
+    ];
+    for (chain, kind) in chains {
+        agrees(&rt, alloc, Form::Chain(chain, checks(alloc, 3)?), kind, 4)?;
+    }
+    for (pair, kind) in [(Pair::Between, Kind::Set), (Pair::Equal, Kind::Position)] {
+        let first = boxed(alloc, check())?;
+        agrees(
+            &rt,
+            alloc,
+            Form::Pair(pair, first, boxed(alloc, check())?),
+            kind,
+            3,
+        )?;
+    }
+    Ok(())
+}
+
+#[test]
+fn forms_have_their_kinds(rt: HostRuntime) -> Result<(), Fail> {
+    let alloc = rt.alloc();
+    let mut terms = Terms::new(alloc);
+    terms.push(Term {
+        minus: true,
+        filter: check(),
+    })?;
+    agrees(&rt, alloc, Form::Sum(terms), Kind::Number, 2)?;
+    agrees(
+        &rt,
+        alloc,
+        Form::Any(Kind::Set, checks(alloc, 2)?),
+        Kind::Set,
+        3,
+    )?;
+    agrees(&rt, alloc, Form::Comment(text(alloc)?), Kind::Position, 1)?;
+    let family = in_families(alloc, Family::Shift, 1)?;
+    agrees(&rt, alloc, family.form, Kind::Position, 226)?;
+    let line = repeated(alloc, 2, 1)?;
+    agrees(&rt, alloc, line.form, Kind::Number, 2)?;
     Ok(())
 }
 
