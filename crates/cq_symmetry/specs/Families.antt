@@ -1,5 +1,5 @@
 -- The members of the families, in order.
-use Rattle.std.specs.Prelude.{ℕ, Bool, true, false, List, [], ◌∷◌, map, flat_map}
+use Rattle.std.specs.Prelude.{ℕ, true, false, List, [], ◌∷◌, map, flat_map}
 use Rattle.std.specs.Prelude.{ℤ, pos, negsuc}
 use Rattle.cq_symmetry.specs.Mappings.{PlainMapping}
 use Rattle.cq_symmetry.specs.declared.families.Family.{Family}
