@@ -82,6 +82,13 @@ fn weights_of_worked_queries(rt: HostRuntime) -> Result<(), Fail> {
     assert_eq!(rt; weight(&query), WEIGHT_LIMIT);
     query.items.push(check())?;
     assert_eq!(rt; weight(&query), WEIGHT_LIMIT + 1);
+    Ok(())
+}
+
+#[test]
+fn deep_queries_stop_above_the_limit(rt: HostRuntime) -> Result<(), Fail> {
+    let alloc = rt.alloc();
+    let mut query = query(alloc, Filters::new(alloc))?;
     for depth in 3..60 {
         query.items = checks(alloc, 0)?;
         query.items.push(in_families(alloc, Family::Shift, depth)?)?;
