@@ -64,3 +64,13 @@ reserved_names = codes "echo" ∷ codes "loop" ∷ codes "while" ∷ codes "func
 -- the place of a text in a table, none where it does not stand there
 abbrev pub place_of : List ℕ → List (List ℕ) → Option ℕ
 place_of text table = position (λ entry. bytes_eq entry text) table
+
+-- the words behind which a token may be of a kind that stands nowhere else
+abbrev pub input_word : ℕ
+input_word = 1
+
+abbrev pub output_word : ℕ
+output_word = 2
+
+abbrev pub result_word : ℕ
+result_word = 19

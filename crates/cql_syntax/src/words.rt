@@ -1,8 +1,8 @@
 //! The words of the query language by number, and the names that are reserved.
-ghost use Rattle.std.specs.Prelude.{◌≡◌, is_some};
+ghost use Rattle.std.specs.Prelude.{◌≡◌, is_some, codes};
 ghost use Rattle.std.specs.List.{position};
 ghost use Rattle.std.specs.Str.{bytes_eq};
-ghost use Rattle.cql_syntax.specs.Words.{words, reserved_names, place_of};
+ghost use Rattle.cql_syntax.specs.Words.{words, reserved_names, place_of, input_word, output_word, result_word};
 
 /// The words; a word's number is its place here.
 const WORDS: [&str; 69] = [
@@ -76,6 +76,20 @@ const WORDS: [&str; 69] = [
     "sort",
     "comment",
 ];
+
+/// The numbers of the words behind which a token may be of a kind that stands nowhere else.
+pub const INPUT: u16 = 1;
+
+pub const OUTPUT: u16 = 2;
+
+pub const RESULT: u16 = 19;
+
+/// The words behind which a token may be of a kind that stands nowhere else have the numbers by which clauses name them.
+pub fn numbers()
+    ensures input { (place_of (codes "input") words ≡ Some input_word) × (input_word ≡ INPUT) }
+    ensures output { (place_of (codes "output") words ≡ Some output_word) × (output_word ≡ OUTPUT) }
+    ensures result { (place_of (codes "result") words ≡ Some result_word) × (result_word ≡ RESULT) }
+{}
 
 /// Names that a query may not use.
 const RESERVED: [&str; 30] = [

@@ -1,0 +1,138 @@
+-- Designators: men, squares, or men on squares, as `R`, `a1`, `[KQ]a-h2` and `.[a1,b2-3]`.
+use Rattle.std.specs.Prelude.{ℕ, zero, suc, ◌+◌, ◌-◌, ◌*◌, ◌/◌, ◌%◌, ◌^◌, min, max, Bool, ◌&&◌, ◌||◌, ◌==◌, nat_le, List, [], ◌∷◌, length, take, drop, count_by, Option, None, Some, if◌then◌else◌, codes, bit_or, option_and_then}
+use Rattle.std.specs.List.{position, position_or_len, before_first, slice_split, list_all}
+use Rattle.std.specs.Option.{option_map, option_or}
+use Rattle.cq_geometry.specs.Squares.{file_of, rank_of}
+use Rattle.cq_symmetry.specs.declared.parts.SquarePart.{SquarePart}
+use Rattle.cql_syntax.specs.declared.leaves.Designator.{Designator}
+use Rattle.cql_lexer.specs.Characters.{is_from, is_comma, is_closing_bracket}
+
+-- the union of the sets that the items stand for and of those so far; none where an item stands for none
+abbrev pub united : {X : Type 0} → (X → Option ℕ) → ℕ → List X → Option ℕ
+united read so_far [] = Some so_far
+united read so_far (item ∷ items) = elim (read item) [ Some set ↦ united read (bit_or so_far set) items | None ↦ None ]
+
+-- what stands between the brackets of a text that is `[`, other bytes, and the first `]` as its last byte
+abbrev pub in_brackets : List ℕ → Option (List ℕ)
+in_brackets [] = None
+in_brackets (b ∷ text) =
+    if b == 91 && position_or_len is_closing_bracket text + 1 == length text then Some (before_first is_closing_bracket text) else None
+
+-- the men in order: bit k of a set of men is the man of letter k, `_` is the empty square
+abbrev pub man_letters : List ℕ
+man_letters = codes "KQRBNPkqrbnp_"
+
+-- the men of a letter: `A` is any white man, `a` any black man, and `.` any man or none
+abbrev pub men_of_letter : ℕ → Option ℕ
+men_of_letter letter =
+    if letter == 65 then Some 0x003f
+    else (if letter == 97 then Some 0x0fc0
+    else (if letter == 46 then Some 0x1fff
+    else option_map (λ man. 2 ^ man) (position (λ man. man == letter) man_letters)))
+
+-- the men of one or more letters
+abbrev pub men_of_letters : List ℕ → Option ℕ
+men_of_letters [] = None
+men_of_letters (letter ∷ letters) = united men_of_letter 0 (letter ∷ letters)
+
+-- the men of a letter, or of letters in brackets
+abbrev pub men_of : List ℕ → Option ℕ
+men_of (letter ∷ []) = men_of_letter letter
+men_of text = option_and_then men_of_letters (in_brackets text)
+
+-- the set of those squares below n that pass the test: bit k is square k
+abbrev pub squares_below : (ℕ → Bool) → ℕ → ℕ
+squares_below test zero = 0
+squares_below test (suc k) = squares_below test k + (if test k then 2 ^ k else 0)
+
+-- the set of the squares that pass the test
+unfoldable pub squares_where : (ℕ → Bool) → ℕ
+squares_where test = squares_below test 64
+
+-- from one number to another, in either order
+abbrev pub is_between : ℕ → ℕ → ℕ → Bool
+is_between one other n = is_from (min one other) (max one other) n
+
+-- the squares from one file to another and from one rank to another, where these are letters `a` to `h` and
+-- digits `1` to `8`
+abbrev pub rectangle : ℕ → ℕ → ℕ → ℕ → Option ℕ
+rectangle file last_file rank last_rank =
+    if is_from 97 104 file && is_from 97 104 last_file && is_from 49 56 rank && is_from 49 56 last_rank
+    then Some (squares_where (λ square. is_between file last_file (97 + file_of square) && is_between rank last_rank (49 + rank_of square)))
+    else None
+
+-- the squares of a specification: a file or two with `-` between them, then a rank or two with `-` between them
+abbrev pub specification : List ℕ → Option ℕ
+specification (file ∷ rank ∷ []) = rectangle file file rank rank
+specification (a ∷ b ∷ c ∷ d ∷ []) =
+    if b == 45 then rectangle a c d d
+    else (if c == 45 then rectangle a a b d else None)
+specification (file ∷ b ∷ last_file ∷ rank ∷ c ∷ last_rank ∷ []) =
+    if b == 45 && c == 45 then rectangle file last_file rank last_rank else None
+specification text = None
+
+-- the squares of specifications with commas between them
+abbrev pub specifications : List ℕ → Option ℕ
+specifications text = united specification 0 (slice_split is_comma text)
+
+-- the squares of a specification, or of specifications in brackets
+abbrev pub squares_of : List ℕ → Option ℕ
+squares_of text = option_or (specification text) (option_and_then specifications (in_brackets text))
+
+-- a square stands in a set of squares
+abbrev pub has_square : ℕ → ℕ → Bool
+has_square squares square = squares / 2 ^ square % 2 == 1
+
+abbrev pub eight : List ℕ
+eight = 0 ∷ 1 ∷ 2 ∷ 3 ∷ 4 ∷ 5 ∷ 6 ∷ 7 ∷ []
+
+-- none or all of eight squares stand in the set
+abbrev pub none_or_all : ℕ → (ℕ → ℕ) → Bool
+none_or_all squares square_at =
+    let here = count_by (λ k. has_square squares (square_at k)) eight in here == 0 || here == 8
+
+-- every rank that has one of the squares has all eight of them
+abbrev pub are_whole_ranks : ℕ → Bool
+are_whole_ranks squares = list_all (λ rank. none_or_all squares (λ file. 8 * rank + file)) eight
+
+-- every file that has one of the squares has all eight of them
+abbrev pub are_whole_files : ℕ → Bool
+are_whole_files squares = list_all (λ file. none_or_all squares (λ rank. 8 * rank + file)) eight
+
+-- men on squares
+unfoldable pub men_on : ℕ → ℕ → Designator
+men_on men squares = record {
+  men = men;
+  part = record { squares = squares; whole_ranks = are_whole_ranks squares; whole_files = are_whole_files squares };
+}
+
+abbrev pub any_men : ℕ
+any_men = 0x1fff
+
+abbrev pub all_squares : ℕ
+all_squares = 2 ^ 64 - 1
+
+-- how many bytes the men at the front of a text take: up to the first `]` behind a `[`, else one
+abbrev pub men_len : List ℕ → ℕ
+men_len [] = 0
+men_len (b ∷ text) = if b == 91 then position_or_len is_closing_bracket text + 2 else 1
+
+-- men on squares, where the text is men and then squares
+abbrev pub men_then_squares : List ℕ → Option Designator
+men_then_squares text =
+    option_and_then (λ men. option_map (men_on men) (squares_of (drop (men_len text) text))) (men_of (take (men_len text) text))
+
+-- the designator that a whole text is: men on all squares, any men on squares, or men on squares
+unfoldable pub designator : List ℕ → Option Designator
+designator text =
+    option_or (option_map (λ men. men_on men all_squares) (men_of text))
+    (option_or (option_map (men_on any_men) (squares_of text)) (men_then_squares text))
+
+-- what the longest front of at most n bytes reads as, of those that read as something, and its length
+unfoldable pub longest_within : {X : Type 0} → (List ℕ → Option X) → ℕ → List ℕ → Option (X × ℕ)
+longest_within read zero text = None
+longest_within read (suc n) text = elim (read (take (suc n) text)) [ Some x ↦ Some (x, suc n) | None ↦ longest_within read n text ]
+
+-- what the longest front of a text reads as, of those that read as something, and its length
+unfoldable pub longest : {X : Type 0} → (List ℕ → Option X) → List ℕ → Option (X × ℕ)
+longest read text = longest_within read (length text) text

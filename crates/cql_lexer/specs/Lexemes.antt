@@ -1,0 +1,85 @@
+-- One token at the front of a text, by the seven rules.
+use Rattle.std.specs.Prelude.{ℕ, suc, ◌+◌, ◌<◌, Bool, ◌&&◌, ◌||◌, ◌==◌, nat_lt, nat_le, nat_eq, List, [], ◌∷◌, length, take, drop, Option, None, Some, Result, Ok, Err, if◌then◌else◌, is_some, codes, slice_index_or}
+use Rattle.std.specs.List.{position, position_or_len, prefix_len, take_while, before_first, starts_with}
+use Rattle.cql_syntax.specs.Words.{words, reserved_names, place_of}
+use Rattle.cql_syntax.specs.declared.leaves.Designator.{Designator}
+use Rattle.cql_syntax.specs.declared.leaves.Outcome.{Outcome}
+use Rattle.cql_syntax.specs.declared.leaves.Outcome.TheVariants as outcomes
+use Rattle.cql_syntax.specs.declared.token.QueryTokenKind.{QueryTokenKind}
+use Rattle.cql_syntax.specs.declared.token.QueryTokenKind.TheVariants.{Word, Reserved, Name, Squares, Number, Text, FileName, Outcome as OutcomeToken, Mark, End}
+use Rattle.cql_syntax.specs.declared.fault.QueryReason.{QueryReason}
+use Rattle.cql_syntax.specs.declared.fault.QueryReason.TheVariants.{BadByte, UnclosedText, NumberTooLarge}
+use Rattle.cql_lexer.specs.declared.context.Context.{Context}
+use Rattle.cql_lexer.specs.declared.context.Context.TheVariants as contexts
+use Rattle.cql_lexer.specs.Characters.{is_digit, is_letter, is_name_byte, is_file_byte, is_quote, begins, decimal}
+use Rattle.cql_lexer.specs.Designators.{designator, longest}
+
+-- a token's kind and its length
+abbrev pub Lexeme : Type 0
+Lexeme = QueryTokenKind × ℕ
+
+-- 1. behind `input` or `output`: the name of a file, the longest run of its bytes
+unfoldable pub file_name : Context → List ℕ → Option Lexeme
+file_name contexts.FileName text =
+    if begins is_file_byte text then Some (FileName (take_while is_file_byte text), prefix_len is_file_byte text) else None
+file_name context text = None
+
+-- 2. behind `result`: a result
+unfoldable pub outcome : Context → List ℕ → Option Lexeme
+outcome contexts.Outcome text =
+    if starts_with nat_eq text (codes "1/2-1/2") then Some (OutcomeToken outcomes.Draw, 7)
+    else (if starts_with nat_eq text (codes "1-0") then Some (OutcomeToken outcomes.White, 3)
+    else (if starts_with nat_eq text (codes "0-1") then Some (OutcomeToken outcomes.Black, 3)
+    else (if starts_with nat_eq text (codes "*") then Some (OutcomeToken outcomes.Unfinished, 1)
+    else None)))
+outcome context text = None
+
+-- 3. at a quote: a text to the next quote, any bytes between
+unfoldable pub quoted : List ℕ → Result Lexeme QueryReason
+quoted text =
+    let inside = before_first is_quote (drop 1 text) in
+    if nat_lt (length inside + 1) (length text) then Ok (Text inside, length inside + 2) else Err UnclosedText
+
+-- 4. at a digit: a number, the run of digits
+unfoldable pub number : List ℕ → Result Lexeme QueryReason
+number text =
+    let value = decimal (take_while is_digit text) in
+    if nat_le value 999999999 then Ok (Number value, prefix_len is_digit text) else Err NumberTooLarge
+
+-- a word, a reserved name or another name
+unfoldable pub named : List ℕ → QueryTokenKind
+named name = elim (place_of name words) [ Some word ↦ Word word | None ↦ if is_some (place_of name reserved_names) then Reserved name else Name name ]
+
+-- 5. at a letter, `_`, `.` or `[`: the longest designator, where it reaches the end of the run of letters, digits and
+-- `_`; else that run
+unfoldable pub named_or_squares : List ℕ → Option Lexeme
+named_or_squares text =
+    let run = prefix_len is_name_byte text in
+    let name = (if nat_lt 0 run then Some (named (take run text), run) else None) in
+    if begins (λ b. is_name_byte b || b == 46 || b == 91) text
+    then (elim (longest designator text) [ Some found ↦ if nat_le run found.1 then Some (Squares found.0, found.1) else name | None ↦ name ])
+    else None
+
+-- the marks in order; a mark that another one begins stands behind that one
+abbrev pub marks : List (List ℕ)
+marks = codes "-->" ∷ codes "<--" ∷ codes "<=" ∷ codes ">=" ∷ codes "==" ∷ codes "<" ∷ codes ">" ∷ codes "+" ∷ codes "-"
+    ∷ codes "*" ∷ codes "?" ∷ codes "#" ∷ codes "|" ∷ codes "&" ∷ codes "~" ∷ codes "(" ∷ codes ")" ∷ codes "{" ∷ codes "}"
+    ∷ codes "," ∷ []
+
+-- 6. the longest mark: the first of those that begin the text
+unfoldable pub mark : List ℕ → Option Lexeme
+mark text = elim (position (λ mark. starts_with nat_eq text mark) marks) [ Some k ↦ Some (Mark k, length (slice_index_or marks k [])) | None ↦ None ]
+
+-- the one found, or else the other
+abbrev pub found_or : Option Lexeme → Result Lexeme QueryReason → Result Lexeme QueryReason
+found_or (Some lexeme) other = Ok lexeme
+found_or None other = other
+
+-- the first rule that applies at the front of a text; 7. any other byte is bad
+unfoldable pub lexeme : Context → List ℕ → Result Lexeme QueryReason
+lexeme context text =
+    found_or (file_name context text)
+    (found_or (outcome context text)
+    (if begins is_quote text then quoted text
+    else (if begins is_digit text then number text
+    else found_or (named_or_squares text) (found_or (mark text) (Err BadByte)))))

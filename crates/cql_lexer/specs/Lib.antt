@@ -1,0 +1,4 @@
+pub mod Characters
+pub mod Designators
+pub mod Lexemes
+pub mod Tokens

@@ -1,0 +1,48 @@
+-- The tokens of a query text.
+use Rattle.std.specs.Prelude.{ℕ, zero, suc, ◌+◌, ◌-◌, ◌<◌, Bool, true, false, not, ◌&&◌, ◌||◌, ◌==◌, nat_lt, List, [], ◌∷◌, ◌++◌, length, Option, Result, Ok, Err, if◌then◌else◌, codes, nat_eq}
+use Rattle.std.specs.List.{prefix_len, position_or_len, starts_with}
+use Rattle.cql_syntax.specs.Words.{input_word, output_word, result_word}
+use Rattle.cql_syntax.specs.declared.token.QueryToken.{QueryToken}
+use Rattle.cql_syntax.specs.declared.token.QueryTokenKind.{QueryTokenKind}
+use Rattle.cql_syntax.specs.declared.token.QueryTokenKind.TheVariants.{Word, End}
+use Rattle.cql_syntax.specs.declared.fault.QueryFault.{QueryFault}
+use Rattle.cql_syntax.specs.declared.fault.QueryReason.TheVariants.{QueryTooLong}
+use Rattle.cql_lexer.specs.declared.context.Context.{Context}
+use Rattle.cql_lexer.specs.declared.context.Context.TheVariants.{Any, FileName, Outcome}
+use Rattle.cql_lexer.specs.Characters.{is_white, is_line_feed, begins}
+use Rattle.cql_lexer.specs.Lexemes.{lexeme}
+
+-- what may stand directly behind a token beside any other token
+abbrev pub after : QueryTokenKind → Context
+after (Word word) = if word == input_word || word == output_word then FileName else (if word == result_word then Outcome else Any)
+after kind = Any
+
+-- how many bytes at the front only separate tokens: white space, or `//` and what follows it on its line
+unfoldable pub separator_len : List ℕ → ℕ
+separator_len text =
+    if begins is_white text then prefix_len is_white text
+    else (if starts_with nat_eq text (codes "//") then position_or_len is_line_feed text else 0)
+
+-- the tokens with one more before them
+abbrev pub with_first : QueryToken → Result (List QueryToken) QueryFault → Result (List QueryToken) QueryFault
+with_first token (Ok tokens) = Ok (token ∷ tokens)
+with_first token (Err fault) = Err fault
+
+-- The tokens of a text that begins at byte `at` of the query, up to the end, or the first fault. Its first `passed` bytes
+-- belong to what stands before. At each other byte white space and comments are passed, and else a token is read.
+unfoldable pub tokens_from : ℕ → ℕ → Context → List ℕ → Result (List QueryToken) QueryFault
+tokens_from passed at context [] = Ok (record { at = at; kind = End } ∷ [])
+tokens_from (suc passed) at context (b ∷ text) = tokens_from passed (at + 1) context text
+tokens_from zero at context (b ∷ text) =
+    let separator = separator_len (b ∷ text) in
+    if nat_lt 0 separator then tokens_from (separator - 1) (at + 1) context text
+    else elim (lexeme context (b ∷ text)) [
+      | Ok found ↦ with_first (record { at = at; kind = found.0 }) (tokens_from (found.1 - 1) (at + 1) (after found.0) text)
+      | Err reason ↦ Err (record { byte = at; reason = reason })
+    ]
+
+-- the tokens of a query, or its first lexical fault
+unfoldable pub tokens_of : List ℕ → Result (List QueryToken) QueryFault
+tokens_of query =
+    if nat_lt 65536 (length query) then Err (record { byte = 65536; reason = QueryTooLong })
+    else tokens_from 0 0 Any query

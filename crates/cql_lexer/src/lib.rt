@@ -1,0 +1,4 @@
+//! The tokens of a query text.
+#![tactic(auto)]
+
+pub mod context;
