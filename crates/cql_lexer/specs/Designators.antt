@@ -1,22 +1,34 @@
 -- Designators: men, squares, or men on squares, as `R`, `a1`, `[KQ]a-h2` and `.[a1,b2-3]`.
 use Rattle.std.specs.Prelude.{ℕ, zero, suc, ◌+◌, ◌-◌, ◌*◌, ◌/◌, ◌%◌, ◌^◌, min, max, Bool, ◌&&◌, ◌||◌, ◌==◌, nat_le, List, [], ◌∷◌, length, take, drop, count_by, Option, None, Some, if◌then◌else◌, codes, bit_or, option_and_then}
-use Rattle.std.specs.List.{position, position_or_len, before_first, slice_split, list_all}
+use Rattle.std.specs.List.{position, slice_split, list_all}
 use Rattle.std.specs.Option.{option_map, option_or}
 use Rattle.cq_geometry.specs.Squares.{file_of, rank_of}
 use Rattle.cq_symmetry.specs.declared.parts.SquarePart.{SquarePart}
 use Rattle.cql_syntax.specs.declared.leaves.Designator.{Designator}
 use Rattle.cql_lexer.specs.Characters.{is_from, is_comma, is_closing_bracket}
 
+-- what the longest front of at most n bytes reads as, of those that read as something, and its length
+unfoldable pub longest_within : {X : Type 0} → (List ℕ → Option X) → ℕ → List ℕ → Option (X × ℕ)
+longest_within read zero text = None
+longest_within read (suc n) text = option_or (option_map (λ x. (x, suc n)) (read (take (suc n) text))) (longest_within read n text)
+
+-- what the longest front of a text reads as, of those that read as something, and its length
+unfoldable pub longest : {X : Type 0} → (List ℕ → Option X) → List ℕ → Option (X × ℕ)
+longest read text = longest_within read (length text) text
+
 -- the union of the sets that the items stand for and of those so far; none where an item stands for none
 abbrev pub united : {X : Type 0} → (X → Option ℕ) → ℕ → List X → Option ℕ
 united read so_far [] = Some so_far
-united read so_far (item ∷ items) = elim (read item) [ Some set ↦ united read (bit_or so_far set) items | None ↦ None ]
+united read so_far (item ∷ items) = option_and_then (λ set. united read (bit_or so_far set) items) (read item)
+
+-- what stands between a `[` at the front of a text and the first `]`
+abbrev pub group : List ℕ → Option (List ℕ)
+group [] = None
+group (b ∷ text) = if b == 91 then option_map (λ end. take end text) (position is_closing_bracket text) else None
 
 -- what stands between the brackets of a text that is `[`, other bytes, and the first `]` as its last byte
 abbrev pub in_brackets : List ℕ → Option (List ℕ)
-in_brackets [] = None
-in_brackets (b ∷ text) =
-    if b == 91 && position_or_len is_closing_bracket text + 1 == length text then Some (before_first is_closing_bracket text) else None
+in_brackets text = option_and_then (λ inside. if length inside + 2 == length text then Some inside else None) (group text)
 
 -- the men in order: bit k of a set of men is the man of letter k, `_` is the empty square
 abbrev pub man_letters : List ℕ
@@ -45,20 +57,16 @@ abbrev pub squares_below : (ℕ → Bool) → ℕ → ℕ
 squares_below test zero = 0
 squares_below test (suc k) = squares_below test k + (if test k then 2 ^ k else 0)
 
--- the set of the squares that pass the test
-unfoldable pub squares_where : (ℕ → Bool) → ℕ
-squares_where test = squares_below test 64
+-- the squares from one file to another and from one rank to another, by their letters and digits, the lower ends first
+unfoldable pub squares_within : ℕ → ℕ → ℕ → ℕ → ℕ
+squares_within file last_file rank last_rank =
+    squares_below (λ square. is_from file last_file (97 + file_of square) && is_from rank last_rank (49 + rank_of square)) 64
 
--- from one number to another, in either order
-abbrev pub is_between : ℕ → ℕ → ℕ → Bool
-is_between one other n = is_from (min one other) (max one other) n
-
--- the squares from one file to another and from one rank to another, where these are letters `a` to `h` and
--- digits `1` to `8`
+-- the same with ranges in either order; none where the letters are not `a` to `h` or the digits not `1` to `8`
 abbrev pub rectangle : ℕ → ℕ → ℕ → ℕ → Option ℕ
 rectangle file last_file rank last_rank =
     if is_from 97 104 file && is_from 97 104 last_file && is_from 49 56 rank && is_from 49 56 last_rank
-    then Some (squares_where (λ square. is_between file last_file (97 + file_of square) && is_between rank last_rank (49 + rank_of square)))
+    then Some (squares_within (min file last_file) (max file last_file) (min rank last_rank) (max rank last_rank))
     else None
 
 -- the squares of a specification: a file or two with `-` between them, then a rank or two with `-` between them
@@ -112,27 +120,12 @@ any_men = 0x1fff
 abbrev pub all_squares : ℕ
 all_squares = 2 ^ 64 - 1
 
--- how many bytes the men at the front of a text take: up to the first `]` behind a `[`, else one
-abbrev pub men_len : List ℕ → ℕ
-men_len [] = 0
-men_len (b ∷ text) = if b == 91 then position_or_len is_closing_bracket text + 2 else 1
-
 -- men on squares, where the text is men and then squares
 abbrev pub men_then_squares : List ℕ → Option Designator
-men_then_squares text =
-    option_and_then (λ men. option_map (men_on men) (squares_of (drop (men_len text) text))) (men_of (take (men_len text) text))
+men_then_squares text = option_and_then (λ men. option_map (men_on men.0) (squares_of (drop men.1 text))) (longest men_of text)
 
--- the designator that a whole text is: men on all squares, any men on squares, or men on squares
+-- the designator that a whole text is: men on squares, any men on squares, or men on all squares
 unfoldable pub designator : List ℕ → Option Designator
 designator text =
-    option_or (option_map (λ men. men_on men all_squares) (men_of text))
-    (option_or (option_map (men_on any_men) (squares_of text)) (men_then_squares text))
-
--- what the longest front of at most n bytes reads as, of those that read as something, and its length
-unfoldable pub longest_within : {X : Type 0} → (List ℕ → Option X) → ℕ → List ℕ → Option (X × ℕ)
-longest_within read zero text = None
-longest_within read (suc n) text = elim (read (take (suc n) text)) [ Some x ↦ Some (x, suc n) | None ↦ longest_within read n text ]
-
--- what the longest front of a text reads as, of those that read as something, and its length
-unfoldable pub longest : {X : Type 0} → (List ℕ → Option X) → List ℕ → Option (X × ℕ)
-longest read text = longest_within read (length text) text
+    option_or (men_then_squares text)
+    (option_or (option_map (men_on any_men) (squares_of text)) (option_map (λ men. men_on men all_squares) (men_of text)))

@@ -11,40 +11,39 @@ use Rattle.cql_syntax.specs.declared.fault.QueryReason.{QueryReason}
 use Rattle.cql_syntax.specs.declared.fault.QueryReason.TheVariants.{BadByte, UnclosedText, NumberTooLarge}
 use Rattle.cql_lexer.specs.declared.context.Context.{Context}
 use Rattle.cql_lexer.specs.declared.context.Context.TheVariants as contexts
+use Rattle.cql_lexer.specs.declared.lexeme.Lexeme.{Lexeme}
 use Rattle.cql_lexer.specs.Characters.{is_digit, is_letter, is_name_byte, is_file_byte, is_quote, begins, decimal}
 use Rattle.cql_lexer.specs.Designators.{designator, longest}
 
--- a token's kind and its length
-abbrev pub Lexeme : Type 0
-Lexeme = QueryTokenKind × ℕ
+-- a token of this kind, of so many bytes
+abbrev pub of_len : ℕ → QueryTokenKind → Lexeme
+of_len len kind = record { kind = kind; len = len }
 
 -- 1. behind `input` or `output`: the name of a file, the longest run of its bytes
 unfoldable pub file_name : Context → List ℕ → Option Lexeme
 file_name contexts.FileName text =
-    if begins is_file_byte text then Some (FileName (take_while is_file_byte text), prefix_len is_file_byte text) else None
+    if begins is_file_byte text then Some (of_len (prefix_len is_file_byte text) (FileName (take_while is_file_byte text))) else None
 file_name context text = None
 
 -- 2. behind `result`: a result
 unfoldable pub outcome : Context → List ℕ → Option Lexeme
 outcome contexts.Outcome text =
-    if starts_with nat_eq text (codes "1/2-1/2") then Some (OutcomeToken outcomes.Draw, 7)
-    else (if starts_with nat_eq text (codes "1-0") then Some (OutcomeToken outcomes.White, 3)
-    else (if starts_with nat_eq text (codes "0-1") then Some (OutcomeToken outcomes.Black, 3)
-    else (if starts_with nat_eq text (codes "*") then Some (OutcomeToken outcomes.Unfinished, 1)
+    if starts_with nat_eq text (codes "1/2-1/2") then Some (of_len 7 (OutcomeToken outcomes.Draw))
+    else (if starts_with nat_eq text (codes "1-0") then Some (of_len 3 (OutcomeToken outcomes.White))
+    else (if starts_with nat_eq text (codes "0-1") then Some (of_len 3 (OutcomeToken outcomes.Black))
+    else (if starts_with nat_eq text (codes "*") then Some (of_len 1 (OutcomeToken outcomes.Unfinished))
     else None)))
 outcome context text = None
 
 -- 3. at a quote: a text to the next quote, any bytes between
 unfoldable pub quoted : List ℕ → Result Lexeme QueryReason
-quoted text =
-    let inside = before_first is_quote (drop 1 text) in
-    if nat_lt (length inside + 1) (length text) then Ok (Text inside, length inside + 2) else Err UnclosedText
+quoted text = elim (position is_quote (drop 1 text)) [ Some end ↦ Ok (of_len (end + 2) (Text (take end (drop 1 text)))) | None ↦ Err UnclosedText ]
 
 -- 4. at a digit: a number, the run of digits
 unfoldable pub number : List ℕ → Result Lexeme QueryReason
 number text =
     let value = decimal (take_while is_digit text) in
-    if nat_le value 999999999 then Ok (Number value, prefix_len is_digit text) else Err NumberTooLarge
+    if nat_le value 999999999 then Ok (of_len (prefix_len is_digit text) (Number value)) else Err NumberTooLarge
 
 -- a word, a reserved name or another name
 unfoldable pub named : List ℕ → QueryTokenKind
@@ -55,9 +54,9 @@ named name = elim (place_of name words) [ Some word ↦ Word word | None ↦ if 
 unfoldable pub named_or_squares : List ℕ → Option Lexeme
 named_or_squares text =
     let run = prefix_len is_name_byte text in
-    let name = (if nat_lt 0 run then Some (named (take run text), run) else None) in
+    let name = (if nat_lt 0 run then Some (of_len run (named (take run text))) else None) in
     if begins (λ b. is_name_byte b || b == 46 || b == 91) text
-    then (elim (longest designator text) [ Some found ↦ if nat_le run found.1 then Some (Squares found.0, found.1) else name | None ↦ name ])
+    then (elim (longest designator text) [ Some found ↦ if nat_le run found.1 then Some (of_len found.1 (Squares found.0)) else name | None ↦ name ])
     else None
 
 -- the marks in order; a mark that another one begins stands behind that one
@@ -68,7 +67,7 @@ marks = codes "-->" ∷ codes "<--" ∷ codes "<=" ∷ codes ">=" ∷ codes "=="
 
 -- 6. the longest mark: the first of those that begin the text
 unfoldable pub mark : List ℕ → Option Lexeme
-mark text = elim (position (λ mark. starts_with nat_eq text mark) marks) [ Some k ↦ Some (Mark k, length (slice_index_or marks k [])) | None ↦ None ]
+mark text = elim (position (λ mark. starts_with nat_eq text mark) marks) [ Some k ↦ Some (of_len (length (slice_index_or marks k [])) (Mark k)) | None ↦ None ]
 
 -- the one found, or else the other
 abbrev pub found_or : Option Lexeme → Result Lexeme QueryReason → Result Lexeme QueryReason

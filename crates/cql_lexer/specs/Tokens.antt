@@ -37,7 +37,7 @@ tokens_from zero at context (b ∷ text) =
     let separator = separator_len (b ∷ text) in
     if nat_lt 0 separator then tokens_from (separator - 1) (at + 1) context text
     else elim (lexeme context (b ∷ text)) [
-      | Ok found ↦ with_first (record { at = at; kind = found.0 }) (tokens_from (found.1 - 1) (at + 1) (after found.0) text)
+      | Ok found ↦ with_first (record { at = at; kind = found.kind }) (tokens_from (found.len - 1) (at + 1) (after found.kind) text)
       | Err reason ↦ Err (record { byte = at; reason = reason })
     ]
 

@@ -1,4 +1,7 @@
 //! The tokens of a query text.
 #![tactic(auto)]
 
+pub mod characters;
 pub mod context;
+pub mod designators;
+pub mod lexeme;
