@@ -1,3 +1,8 @@
 pub mod Places
 pub mod Rectangles
 pub mod Parts
+pub mod Longest
+pub mod Groups
+pub mod Fronts
+pub mod Designating
+pub mod Eights

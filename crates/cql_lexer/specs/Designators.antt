@@ -87,6 +87,10 @@ specifications text = united specification 0 (slice_split is_comma text)
 abbrev pub squares_of : List ℕ → Option ℕ
 squares_of text = option_or (specification text) (option_and_then specifications (in_brackets text))
 
+-- the squares of the first so many bytes, where these are a specification, and their number
+abbrev pub specification_front : ℕ → List ℕ → Option (ℕ × ℕ)
+specification_front len text = if nat_le len (length text) then option_map (λ squares. (squares, len)) (specification (take len text)) else None
+
 -- a square stands in a set of squares
 abbrev pub has_square : ℕ → ℕ → Bool
 has_square squares square = squares / 2 ^ square % 2 == 1
@@ -94,18 +98,18 @@ has_square squares square = squares / 2 ^ square % 2 == 1
 abbrev pub eight : List ℕ
 eight = 0 ∷ 1 ∷ 2 ∷ 3 ∷ 4 ∷ 5 ∷ 6 ∷ 7 ∷ []
 
--- none or all of eight squares stand in the set
-abbrev pub none_or_all : ℕ → (ℕ → ℕ) → Bool
-none_or_all squares square_at =
-    let here = count_by (λ k. has_square squares (square_at k)) eight in here == 0 || here == 8
+-- none or all of eight squares stand in the set: the first, and then each so many further on
+unfoldable pub none_or_all : ℕ → ℕ → ℕ → Bool
+none_or_all squares first step =
+    let here = count_by (λ k. has_square squares (first + step * k)) eight in here == 0 || here == 8
 
 -- every rank that has one of the squares has all eight of them
 abbrev pub are_whole_ranks : ℕ → Bool
-are_whole_ranks squares = list_all (λ rank. none_or_all squares (λ file. 8 * rank + file)) eight
+are_whole_ranks squares = list_all (λ rank. none_or_all squares (8 * rank) 1) eight
 
 -- every file that has one of the squares has all eight of them
 abbrev pub are_whole_files : ℕ → Bool
-are_whole_files squares = list_all (λ file. none_or_all squares (λ rank. 8 * rank + file)) eight
+are_whole_files squares = list_all (λ file. none_or_all squares file 8) eight
 
 -- men on squares
 unfoldable pub men_on : ℕ → ℕ → Designator

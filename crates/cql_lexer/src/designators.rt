@@ -1,8 +1,8 @@
 //! Men, squares, and men on squares.
-ghost use Rattle.std.specs.Prelude.{◌≡◌, ◌==◌, ◌<◌, ◌≤◌, ◌+◌, length, IfSome};
+ghost use Rattle.std.specs.Prelude.{◌≡◌, ◌==◌, ◌<◌, ◌≤◌, ◌+◌, ◌*◌, length, count_by, IfSome};
 ghost use Rattle.std.specs.Option.{option_map};
 ghost use Rattle.std.specs.List.{position};
-ghost use Rattle.cql_lexer.specs.Designators.{group, men_of_letter, men_of_letters, men_of, rectangle, squares_within, specification, specifications, squares_of, are_whole_ranks, are_whole_files, men_on, designator, longest, has_square, man_letters};
+ghost use Rattle.cql_lexer.specs.Designators.{group, men_of_letter, men_of_letters, men_of, rectangle, squares_within, specification, specifications, specification_front, squares_of, are_whole_ranks, are_whole_files, men_on, designator, longest, has_square, man_letters, none_or_all, eight};
 
 use crate::characters::find;
 use cq_symmetry::SquarePart;
@@ -62,14 +62,6 @@ fn men_of_letters(letters: &[u8]) -> Option<u16>
     Some(men)
 }
 
-// Whether a square stands in a set.
-fn has_square(squares: u64, square: u8) -> bool
-    requires { square < 64 }
-    ensures { result ≡ has_square squares square }
-{
-    squares >> square & 1 == 1
-}
-
 // The squares of a specification.
 fn specification(text: &[u8]) -> Option<u64>
     ensures { result ≡ specification text.now }
@@ -125,4 +117,132 @@ fn specifications(text: &[u8]) -> Option<u64>
         rest = &rest[end + 1..];
     }
     Some(squares | specification(rest)?)
+}
+
+// The squares of the first so many bytes, where these are a specification.
+fn specification_front(len: usize, text: &[u8]) -> Option<(u64, usize)>
+    ensures { result ≡ specification_front len text.now }
+{
+    Some((specification(text.get(..len)?)?, len))
+}
+
+// The longest squares at the front.
+#[tactic(auto, using(crate::proofs::Fronts::squares_group_some, crate::proofs::Fronts::squares_group_none, crate::proofs::Fronts::squares_plain_front))]
+fn squares_at(text: &[u8]) -> Option<(u64, usize)>
+    ensures { result ≡ longest squares_of text.now }
+{
+    match group(text) {
+        Some(inside) => Some((specifications(inside)?, inside.len() + 2)),
+        None => specification_front(6, text)
+            .or(specification_front(4, text))
+            .or(specification_front(2, text)),
+    }
+}
+
+// The longest men at the front.
+#[tactic(auto, using(crate::proofs::Fronts::men_group_some, crate::proofs::Fronts::men_group_none, crate::proofs::Fronts::men_plain_some, crate::proofs::Fronts::men_plain_none))]
+fn men_at(text: &[u8]) -> Option<(u16, usize)>
+    ensures { result ≡ longest men_of text.now }
+{
+    match group(text) {
+        Some(inside) => Some((men_of_letters(inside)?, inside.len() + 2)),
+        None => Some((men_of_letter(*text.first()?)?, 1)),
+    }
+}
+
+// Whether a square stands in a set.
+fn has_square(squares: u64, square: u8) -> bool
+    requires { square < 64 }
+    ensures { result ≡ has_square squares square }
+{
+    squares >> square & 1 == 1
+}
+
+// How many of eight squares stand in a set: the first, and then each so many further on.
+fn count_of_eight(squares: u64, first: u8, step: u8) -> u8
+    requires { first + step * 7 < 64 }
+    ensures { result ≡ count_by (λ k. has_square squares (first + step * k)) eight }
+{
+    let mut here = 0;
+    for k in 0..8 {
+        if has_square(squares, first + step * k) {
+            here += 1;
+        }
+    }
+    here
+}
+
+// Whether none or all of these squares stand in a set.
+#[tactic(auto, unfolding(crate::specs::Designators::none_or_all))]
+fn none_or_all(squares: u64, first: u8, step: u8) -> bool
+    requires { first + step * 7 < 64 }
+    ensures { result ≡ none_or_all squares first step }
+{
+    let here = count_of_eight(squares, first, step);
+    here == 0 || here == 8
+}
+
+// Whether every rank that has one of the squares has all of them.
+fn are_whole_ranks(squares: u64) -> bool
+    ensures { result ≡ are_whole_ranks squares }
+{
+    for rank in 0..8 {
+        if !none_or_all(squares, 8 * rank, 1) {
+            return false;
+        }
+    }
+    true
+}
+
+// Whether every file that has one of the squares has all of them.
+fn are_whole_files(squares: u64) -> bool
+    ensures { result ≡ are_whole_files squares }
+{
+    for file in 0..8 {
+        if !none_or_all(squares, file, 8) {
+            return false;
+        }
+    }
+    true
+}
+
+// Men on squares.
+#[tactic(auto, unfolding(crate::specs::Designators::men_on))]
+fn men_on(men: u16, squares: u64) -> Designator
+    ensures { result ≡ men_on men squares }
+{
+    Designator {
+        men,
+        part: SquarePart {
+            squares,
+            whole_ranks: are_whole_ranks(squares),
+            whole_files: are_whole_files(squares),
+        },
+    }
+}
+
+/// The longest designator at the front of a text, and its length.
+#[tactic(
+    auto,
+    using(
+        crate::proofs::Designating::squares_alone,
+        crate::proofs::Designating::no_designator,
+        crate::proofs::Designating::men_fit,
+        crate::proofs::Designating::squares_fit
+    )
+)]
+pub fn designator_at(text: &[u8]) -> Option<(Designator, usize)>
+    ensures { result ≡ longest designator text.now }
+{
+    let Some((men, len)) = men_at(text) else {
+        let (squares, len) = squares_at(text)?;
+        return Some((men_on(ANY_MEN, squares), len));
+    };
+    if let Some((squares, more)) = squares_at(&text[len..]) {
+        return Some((men_on(men, squares), len + more));
+    }
+    match squares_at(text) {
+        Some((squares, len)) => Some((men_on(ANY_MEN, squares), len)),
+        None => Some((men_on(men, u64::MAX), len)),
+    }
 }
