@@ -1,4 +1,6 @@
 //! The values in a query tree that have no tree below them.
+ghost use Rattle.std.specs.Prelude.{◌≡◌};
+ghost use Rattle.cql_syntax.specs.Kinds.{plain_kind, unary_kind, chain_kind, pair_kind};
 
 use cq_symmetry::SquarePart;
 
@@ -32,6 +34,17 @@ pub enum Plain {
     MoveNumber,
     Depth,
     Year,
+}
+
+impl Plain {
+    pub fn kind(self) -> Kind
+        ensures { result ≡ plain_kind self }
+    {
+        match self {
+            Plain::Ply | Plain::MoveNumber | Plain::Depth | Plain::Year => Kind::Number,
+            _ => Kind::Position,
+        }
+    }
 }
 
 /// Whose tag or rating is meant.
@@ -96,6 +109,19 @@ pub enum Unary {
     Parent,
 }
 
+impl Unary {
+    pub fn kind(self) -> Kind
+        ensures { result ≡ unary_kind self }
+    {
+        match self {
+            Unary::Complement | Unary::Light | Unary::Dark => Kind::Set,
+            Unary::Count | Unary::Power => Kind::Number,
+            Unary::Not | Unary::Find | Unary::FindUp | Unary::Child | Unary::Parent =>
+                Kind::Position,
+        }
+    }
+}
+
 /// A filter of any number of parts in a row, other than a sum.
 #[derive(Clone, Copy, Debug, PartialEq, Eq)]
 pub enum Chain {
@@ -110,6 +136,18 @@ pub enum Chain {
     Min,
 }
 
+impl Chain {
+    pub fn kind(self) -> Kind
+        ensures { result ≡ chain_kind self }
+    {
+        match self {
+            Chain::Or | Chain::And | Chain::All => Kind::Position,
+            Chain::Union | Chain::Intersect => Kind::Set,
+            Chain::Product | Chain::Max | Chain::Min => Kind::Number,
+        }
+    }
+}
+
 /// A filter of two parts.
 #[derive(Clone, Copy, Debug, PartialEq, Eq)]
 pub enum Pair {
@@ -121,6 +159,32 @@ pub enum Pair {
     Equal,
     AtLeast,
     Greater,
+}
+
+impl Pair {
+    pub fn kind(self) -> Kind
+        ensures { result ≡ pair_kind self }
+    {
+        match self {
+            Pair::Attacks | Pair::AttackedBy | Pair::Between => Kind::Set,
+            Pair::Less | Pair::AtMost | Pair::Equal | Pair::AtLeast | Pair::Greater =>
+                Kind::Position,
+        }
+    }
+}
+
+/// How often a part of a line stands.
+#[derive(Clone, Copy, Debug, PartialEq, Eq)]
+pub enum Mark {
+    Once,
+    /// Any number of times.
+    Star,
+    /// At least once.
+    Plus,
+    /// At most once.
+    Maybe,
+    /// From the first number of times to the second.
+    Times(u32, u32),
 }
 
 /// Men on squares.
