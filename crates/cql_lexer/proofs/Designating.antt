@@ -4,12 +4,12 @@ use Rattle.std.specs.Prelude.{option_and_then}
 use Rattle.std.specs.Option.{option_map, option_or}
 use Rattle.std.proofs.str.Laws.{order}
 use Rattle.std.specs.Prelude.{◌&&◌}
-use Rattle.std.proofs.lemmas.Bool.{and_parts, cases_eq, leb-true, eqb-true}
+use Rattle.std.proofs.lemmas.Bool.{and_parts, cases_eq, eqb-true}
 use Rattle.std.proofs.lemmas.Option.{cond_some}
-use Rattle.cql_lexer.specs.Characters.{is_from}
 use Rattle.std.proofs.lemmas.List.{take-take, drop-take, take_rest}
 use Rattle.cql_syntax.specs.declared.leaves.Designator.{Designator}
 use Rattle.cql_lexer.specs.Designators.{group, men_of, in_brackets, squares_of, specification, specifications, rectangle, men_then_squares, designator, men_on, any_men, all_squares, longest}
+use Rattle.cql_lexer.proofs.Digits.{from_to}
 use Rattle.cql_lexer.proofs.Longest.{Within, Nothing, some_or_none, none_some, longest_some, longest_none, longest_parts, longest_nothing}
 use Rattle.cql_lexer.proofs.Groups.{Opens, opens}
 use Rattle.cql_lexer.proofs.Fronts.{men_group-other, men_plain-other, squares_group-other, squares_plain}
@@ -84,9 +84,6 @@ third_of_three t men a b c =
 record Begins (t : List ℕ) : Type 0 where
   high : 97 ≤ get_or t 0 0
   low : get_or t 1 0 ≤ 56
-
-from_to : (first last b : ℕ) → is_from first last b ≡ true → (first ≤ b) × (b ≤ last)
-from_to first last b e = (leb-true first b (and_parts _ _ e).0, leb-true b last (and_parts _ _ e).1)
 
 rectangle_parts : (file last_file rank last_rank s : ℕ) → rectangle file last_file rank last_rank ≡ Some s → (97 ≤ file) × (rank ≤ 56)
 rectangle_parts file last_file rank last_rank s e =
@@ -256,12 +253,12 @@ no_designator text e f =
     let v = longest_nothing squares_of text (sym f) in
     longest_none designator text (record { none = λ m a b. none_of_three _ (join_none _ (men_nothing text m u b)) (v.none m a b) (u.none m a b) })
 
--- men fit in the text
-pub men_fit : (text : List ℕ) (men n : ℕ) → Some (men, n) ≡ longest men_of text → n ≤ length text
-men_fit text men n e = (longest_parts men_of text men n (sym e)).fits
+-- men and squares fit in the text
+pub men_front : (text : List ℕ) (men n : ℕ) → Some (men, n) ≡ longest men_of text → (0 < n) × (n ≤ length text)
+men_front text men n e = let w = longest_parts men_of text men n (sym e) in (w.positive, w.fits)
 
-pub squares_fit : (text : List ℕ) (squares k : ℕ) → Some (squares, k) ≡ longest squares_of text → k ≤ length text
-squares_fit text squares k e = (longest_parts squares_of text squares k (sym e)).fits
+pub squares_front : (text : List ℕ) (squares k : ℕ) → Some (squares, k) ≡ longest squares_of text → (0 < k) × (k ≤ length text)
+squares_front text squares k e = let w = longest_parts squares_of text squares k (sym e) in (w.positive, w.fits)
 
 -- what is not found is none
 pub none_from : {X : Type 0} (o : Option X) → ((x : X) → o ≡ Some x → ⊥) → None ≡ o

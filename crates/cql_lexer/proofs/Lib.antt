@@ -6,3 +6,5 @@ pub mod Groups
 pub mod Fronts
 pub mod Designating
 pub mod Eights
+pub mod Digits
+pub mod Entries

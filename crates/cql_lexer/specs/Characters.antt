@@ -1,5 +1,5 @@
 -- Kinds of bytes, and the front of a text that is made of one kind.
-use Rattle.std.specs.Prelude.{ℕ, ◌+◌, ◌-◌, ◌*◌, Bool, false, not, ◌&&◌, ◌||◌, ◌==◌, nat_lt, nat_le, List, [], ◌∷◌, fold}
+use Rattle.std.specs.Prelude.{ℕ, ◌+◌, ◌-◌, ◌*◌, ◌≤◌, Bool, false, not, ◌&&◌, ◌||◌, ◌==◌, nat_lt, nat_le, List, [], ◌∷◌, fold}
 
 -- from one byte to another
 abbrev pub is_from : ℕ → ℕ → ℕ → Bool
@@ -15,12 +15,19 @@ is_line_feed b = b == 10
 abbrev pub is_digit : ℕ → Bool
 is_digit b = is_from 48 57 b
 
+abbrev pub IsDigit : ℕ → Type 0
+IsDigit b = (48 ≤ b) × (b ≤ 57)
+
 abbrev pub is_letter : ℕ → Bool
 is_letter b = is_from 65 90 b || is_from 97 122 b
 
 -- what names are made of: letters, digits and `_`
 abbrev pub is_name_byte : ℕ → Bool
 is_name_byte b = is_letter b || is_digit b || b == 95
+
+-- where a name or a designator may begin: what names are made of, `.` and `[`
+abbrev pub begins_name_or_squares : ℕ → Bool
+begins_name_or_squares b = is_name_byte b || b == 46 || b == 91
 
 -- what names of files are made of: no white space or control byte, and none of `"`, `(` and `)`
 abbrev pub is_file_byte : ℕ → Bool

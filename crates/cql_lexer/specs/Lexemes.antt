@@ -1,5 +1,6 @@
 -- One token at the front of a text, by the seven rules.
-use Rattle.std.specs.Prelude.{ℕ, suc, ◌+◌, ◌<◌, Bool, ◌&&◌, ◌||◌, ◌==◌, nat_lt, nat_le, nat_eq, List, [], ◌∷◌, length, take, drop, Option, None, Some, Result, Ok, Err, if◌then◌else◌, is_some, codes, slice_index_or}
+use Rattle.std.specs.Prelude.{ℕ, suc, ◌+◌, ◌<◌, ◌≤◌, Bool, ◌&&◌, ◌||◌, ◌==◌, nat_lt, nat_le, nat_eq, List, [], ◌∷◌, length, take, drop, Option, None, Some, Result, Ok, Err, if◌then◌else◌, is_some, codes}
+use Rattle.std.specs.Option.{option_map}
 use Rattle.std.specs.List.{position, position_or_len, prefix_len, take_while, before_first, starts_with}
 use Rattle.cql_syntax.specs.Words.{words, reserved_names, place_of}
 use Rattle.cql_syntax.specs.declared.leaves.Designator.{Designator}
@@ -12,17 +13,21 @@ use Rattle.cql_syntax.specs.declared.fault.QueryReason.TheVariants.{BadByte, Unc
 use Rattle.cql_lexer.specs.declared.context.Context.{Context}
 use Rattle.cql_lexer.specs.declared.context.Context.TheVariants as contexts
 use Rattle.cql_lexer.specs.declared.lexeme.Lexeme.{Lexeme}
-use Rattle.cql_lexer.specs.Characters.{is_digit, is_letter, is_name_byte, is_file_byte, is_quote, begins, decimal}
+use Rattle.cql_lexer.specs.Characters.{is_digit, is_letter, is_name_byte, is_file_byte, is_quote, begins_name_or_squares, begins, decimal}
 use Rattle.cql_lexer.specs.Designators.{designator, longest}
 
 -- a token of this kind, of so many bytes
 abbrev pub of_len : ℕ → QueryTokenKind → Lexeme
 of_len len kind = record { kind = kind; len = len }
 
+-- it takes at least one byte, and no more than the text has
+abbrev pub IsFront : Lexeme → List ℕ → Type 0
+IsFront lexeme text = (0 < lexeme.len) × (lexeme.len ≤ length text)
+
 -- 1. behind `input` or `output`: the name of a file, the longest run of its bytes
 unfoldable pub file_name : Context → List ℕ → Option Lexeme
 file_name contexts.FileName text =
-    if begins is_file_byte text then Some (of_len (prefix_len is_file_byte text) (FileName (take_while is_file_byte text))) else None
+    let len = prefix_len is_file_byte text in if nat_lt 0 len then Some (of_len len (FileName (take len text))) else None
 file_name context text = None
 
 -- 2. behind `result`: a result
@@ -42,8 +47,9 @@ quoted text = elim (position is_quote (drop 1 text)) [ Some end ↦ Ok (of_len (
 -- 4. at a digit: a number, the run of digits
 unfoldable pub number : List ℕ → Result Lexeme QueryReason
 number text =
-    let value = decimal (take_while is_digit text) in
-    if nat_le value 999999999 then Ok (of_len (prefix_len is_digit text) (Number value)) else Err NumberTooLarge
+    let len = prefix_len is_digit text in
+    let value = decimal (take len text) in
+    if nat_le value 999999999 then Ok (of_len len (Number value)) else Err NumberTooLarge
 
 -- a word, a reserved name or another name
 unfoldable pub named : List ℕ → QueryTokenKind
@@ -55,8 +61,9 @@ unfoldable pub named_or_squares : List ℕ → Option Lexeme
 named_or_squares text =
     let run = prefix_len is_name_byte text in
     let name = (if nat_lt 0 run then Some (of_len run (named (take run text))) else None) in
-    if begins (λ b. is_name_byte b || b == 46 || b == 91) text
-    then (elim (longest designator text) [ Some found ↦ if nat_le run found.1 then Some (of_len found.1 (Squares found.0)) else name | None ↦ name ])
+    let squares = longest designator text in
+    if begins begins_name_or_squares text
+    then (elim squares [ Some found ↦ if nat_le run found.1 then Some (of_len found.1 (Squares found.0)) else name | None ↦ name ])
     else None
 
 -- the marks in order; a mark that another one begins stands behind that one
@@ -65,9 +72,14 @@ marks = codes "-->" ∷ codes "<--" ∷ codes "<=" ∷ codes ">=" ∷ codes "=="
     ∷ codes "*" ∷ codes "?" ∷ codes "#" ∷ codes "|" ∷ codes "&" ∷ codes "~" ∷ codes "(" ∷ codes ")" ∷ codes "{" ∷ codes "}"
     ∷ codes "," ∷ []
 
--- 6. the longest mark: the first of those that begin the text
+-- the first of the entries that begins the text: its place, where the first one has place k, and its length
+abbrev pub first_front : ℕ → List (List ℕ) → List ℕ → Option (ℕ × ℕ)
+first_front k [] text = None
+first_front k (entry ∷ entries) text = if starts_with nat_eq text entry then Some (k, length entry) else first_front (k + 1) entries text
+
+-- 6. the longest mark, which is the first of those that begin the text
 unfoldable pub mark : List ℕ → Option Lexeme
-mark text = elim (position (λ mark. starts_with nat_eq text mark) marks) [ Some k ↦ Some (of_len (length (slice_index_or marks k [])) (Mark k)) | None ↦ None ]
+mark text = option_map (λ found. of_len found.1 (Mark found.0)) (first_front 0 marks text)
 
 -- the one found, or else the other
 abbrev pub found_or : Option Lexeme → Result Lexeme QueryReason → Result Lexeme QueryReason
@@ -75,8 +87,8 @@ found_or (Some lexeme) other = Ok lexeme
 found_or None other = other
 
 -- the first rule that applies at the front of a text; 7. any other byte is bad
-unfoldable pub lexeme : Context → List ℕ → Result Lexeme QueryReason
-lexeme context text =
+unfoldable pub first_lexeme : Context → List ℕ → Result Lexeme QueryReason
+first_lexeme context text =
     found_or (file_name context text)
     (found_or (outcome context text)
     (if begins is_quote text then quoted text

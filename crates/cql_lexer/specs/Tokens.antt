@@ -10,7 +10,7 @@ use Rattle.cql_syntax.specs.declared.fault.QueryReason.TheVariants.{QueryTooLong
 use Rattle.cql_lexer.specs.declared.context.Context.{Context}
 use Rattle.cql_lexer.specs.declared.context.Context.TheVariants.{Any, FileName, Outcome}
 use Rattle.cql_lexer.specs.Characters.{is_white, is_line_feed, begins}
-use Rattle.cql_lexer.specs.Lexemes.{lexeme}
+use Rattle.cql_lexer.specs.Lexemes.{first_lexeme}
 
 -- what may stand directly behind a token beside any other token
 abbrev pub after : QueryTokenKind → Context
@@ -36,7 +36,7 @@ tokens_from (suc passed) at context (b ∷ text) = tokens_from passed (at + 1) c
 tokens_from zero at context (b ∷ text) =
     let separator = separator_len (b ∷ text) in
     if nat_lt 0 separator then tokens_from (separator - 1) (at + 1) context text
-    else elim (lexeme context (b ∷ text)) [
+    else elim (first_lexeme context (b ∷ text)) [
       | Ok found ↦ with_first (record { at = at; kind = found.kind }) (tokens_from (found.len - 1) (at + 1) (after found.kind) text)
       | Err reason ↦ Err (record { byte = at; reason = reason })
     ]

@@ -1,7 +1,7 @@
 //! Kinds of bytes.
-ghost use Rattle.std.specs.Prelude.{◌≡◌, ◌==◌};
+ghost use Rattle.std.specs.Prelude.{◌≡◌, ◌==◌, ◌<◌, ◌^◌, ◌≤◌, nat_le, EachIndex, slice_index, if◌then◌else◌};
 ghost use Rattle.std.specs.List.{position, prefix_len};
-ghost use Rattle.cql_lexer.specs.Characters.{is_white, is_digit, is_name_byte, is_file_byte};
+ghost use Rattle.cql_lexer.specs.Characters.{is_white, is_digit, is_name_byte, is_file_byte, decimal, IsDigit};
 
 use memchr::memchr;
 
@@ -59,6 +59,20 @@ pub fn file_name_len(text: &[u8]) -> usize
     ensures { result ≡ prefix_len is_file_byte text.now }
 {
     text.iter().take_while(|b| is_file_byte(**b)).count()
+}
+
+/// The number that decimal digits write, where it is at most this.
+pub fn decimal_at_most(limit: u32, digits: &[u8]) -> Option<u32>
+    requires limit { limit < 2 ^ 31 }
+    requires digits { EachIndex digits.now (λ k. IsDigit (slice_index digits.now k)) }
+    ensures { result ≡ (if nat_le (decimal digits.now) limit then Some (decimal digits.now) else None) }
+{
+    let beyond = u64::from(limit) + 1;
+    let mut value = 0;
+    for digit in digits {
+        value = (10 * value + u64::from(*digit - b'0')).min(beyond);
+    }
+    (value < beyond).then_some(value as u32)
 }
 
 /// The first place of a byte.

@@ -227,12 +227,13 @@ fn men_on(men: u16, squares: u64) -> Designator
     using(
         crate::proofs::Designating::squares_alone,
         crate::proofs::Designating::no_designator,
-        crate::proofs::Designating::men_fit,
-        crate::proofs::Designating::squares_fit
+        crate::proofs::Designating::men_front,
+        crate::proofs::Designating::squares_front
     )
 )]
 pub fn designator_at(text: &[u8]) -> Option<(Designator, usize)>
-    ensures { result ≡ longest designator text.now }
+    ensures value { result ≡ longest designator text.now }
+    ensures front { IfSome result (λ found. (0 < found.1) × (found.1 ≤ length text.now)) }
 {
     let Some((men, len)) = men_at(text) else {
         let (squares, len) = squares_at(text)?;
