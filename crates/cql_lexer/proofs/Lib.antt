@@ -8,3 +8,4 @@ pub mod Designating
 pub mod Eights
 pub mod Digits
 pub mod Entries
+pub mod Steps

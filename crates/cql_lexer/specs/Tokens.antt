@@ -1,6 +1,6 @@
 -- The tokens of a query text.
-use Rattle.std.specs.Prelude.{ℕ, zero, suc, ◌+◌, ◌-◌, ◌<◌, Bool, true, false, not, ◌&&◌, ◌||◌, ◌==◌, nat_lt, List, [], ◌∷◌, ◌++◌, length, Option, Result, Ok, Err, if◌then◌else◌, codes, nat_eq}
-use Rattle.std.specs.List.{prefix_len, position_or_len, starts_with}
+use Rattle.std.specs.Prelude.{ℕ, zero, suc, ◌+◌, ◌-◌, ◌<◌, Bool, true, false, not, ◌&&◌, ◌||◌, ◌==◌, nat_lt, List, [], ◌∷◌, ◌++◌, length, Option, Result, Ok, Err, if◌then◌else◌, codes, nat_eq, unwrap_or}
+use Rattle.std.specs.List.{prefix_len, position, starts_with}
 use Rattle.cql_syntax.specs.Words.{input_word, output_word, result_word}
 use Rattle.cql_syntax.specs.declared.token.QueryToken.{QueryToken}
 use Rattle.cql_syntax.specs.declared.token.QueryTokenKind.{QueryTokenKind}
@@ -9,7 +9,7 @@ use Rattle.cql_syntax.specs.declared.fault.QueryFault.{QueryFault}
 use Rattle.cql_syntax.specs.declared.fault.QueryReason.TheVariants.{QueryTooLong}
 use Rattle.cql_lexer.specs.declared.context.Context.{Context}
 use Rattle.cql_lexer.specs.declared.context.Context.TheVariants.{Any, FileName, Outcome}
-use Rattle.cql_lexer.specs.Characters.{is_white, is_line_feed, begins}
+use Rattle.cql_lexer.specs.Characters.{is_white, is_line_feed}
 use Rattle.cql_lexer.specs.Lexemes.{first_lexeme}
 
 -- what may stand directly behind a token beside any other token
@@ -20,13 +20,25 @@ after kind = Any
 -- how many bytes at the front only separate tokens: white space, or `//` and what follows it on its line
 unfoldable pub separator_len : List ℕ → ℕ
 separator_len text =
-    if begins is_white text then prefix_len is_white text
-    else (if starts_with nat_eq text (codes "//") then position_or_len is_line_feed text else 0)
+    if starts_with nat_eq text (codes "//") then unwrap_or (position is_line_feed text) (length text) else prefix_len is_white text
 
--- the tokens with one more before them
-abbrev pub with_first : QueryToken → Result (List QueryToken) QueryFault → Result (List QueryToken) QueryFault
-with_first token (Ok tokens) = Ok (token ∷ tokens)
-with_first token (Err fault) = Err fault
+-- the token at the front of a text that begins at byte `at` of the query, and its length, or the fault there
+abbrev pub token_at : Context → ℕ → List ℕ → Result (QueryToken × ℕ) QueryFault
+token_at context at text =
+    elim (first_lexeme context text) [
+      Ok found ↦ Ok (record { at = at; kind = found.kind }, found.len)
+    | Err reason ↦ Err (record { byte = at; reason = reason })
+    ]
+
+-- what follows from a value; a fault stays
+abbrev pub result_and_then : {X Y E : Type 0} → (X → Result Y E) → Result X E → Result Y E
+result_and_then f (Ok x) = f x
+result_and_then f (Err e) = Err e
+
+-- the tokens with these before them
+abbrev pub with_front : List QueryToken → Result (List QueryToken) QueryFault → Result (List QueryToken) QueryFault
+with_front front (Ok tokens) = Ok (front ++ tokens)
+with_front front (Err fault) = Err fault
 
 -- The tokens of a text that begins at byte `at` of the query, up to the end, or the first fault. Its first `passed` bytes
 -- belong to what stands before. At each other byte white space and comments are passed, and else a token is read.
@@ -36,10 +48,7 @@ tokens_from (suc passed) at context (b ∷ text) = tokens_from passed (at + 1) c
 tokens_from zero at context (b ∷ text) =
     let separator = separator_len (b ∷ text) in
     if nat_lt 0 separator then tokens_from (separator - 1) (at + 1) context text
-    else elim (first_lexeme context (b ∷ text)) [
-      | Ok found ↦ with_first (record { at = at; kind = found.kind }) (tokens_from (found.len - 1) (at + 1) (after found.kind) text)
-      | Err reason ↦ Err (record { byte = at; reason = reason })
-    ]
+    else result_and_then (λ found. with_front (found.0 ∷ []) (tokens_from (found.1 - 1) (at + 1) (after found.0.kind) text)) (token_at context at (b ∷ text))
 
 -- the tokens of a query, or its first lexical fault
 unfoldable pub tokens_of : List ℕ → Result (List QueryToken) QueryFault

@@ -5,3 +5,6 @@ pub mod characters;
 pub mod context;
 pub mod designators;
 pub mod lexeme;
+pub mod tokens;
+
+pub use tokens::{QUERY_LIMIT, query_tokens};
