@@ -8,7 +8,8 @@ use Rattle.std.proofs.lemmas.Bool.{and_parts, cases_eq, eqb-true}
 use Rattle.std.proofs.lemmas.Option.{cond_some}
 use Rattle.std.proofs.lemmas.List.{take-take, drop-take, take_rest}
 use Rattle.cql_syntax.specs.declared.leaves.Designator.{Designator}
-use Rattle.cql_lexer.specs.Designators.{group, men_of, in_brackets, squares_of, specification, specifications, rectangle, men_then_squares, designator, men_on, any_men, all_squares, longest}
+use Rattle.cql_lexer.specs.Designators.{group, men_of, in_brackets, squares_of, specification, specifications, rectangle, men_then_squares, designator, men_on, any_men, all_squares}
+use Rattle.cql_lexer.specs.Longest.{longest}
 use Rattle.cql_lexer.proofs.Digits.{from_to}
 use Rattle.cql_lexer.proofs.Longest.{Within, Nothing, some_or_none, none_some, longest_some, longest_none, longest_parts, longest_nothing}
 use Rattle.cql_lexer.proofs.Groups.{Opens, opens}

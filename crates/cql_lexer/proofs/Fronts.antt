@@ -6,8 +6,9 @@ use Rattle.std.proofs.str.Laws.{order}
 use Rattle.std.proofs.lemmas.Bool.{cases_eq, cases_Bool, leb-true, le-leb, cond-true, eqb-true}
 use Rattle.std.proofs.lemmas.Option.{cond_some, some_pair_parts}
 use Rattle.cql_lexer.specs.Characters.{is_from}
-use Rattle.cql_lexer.specs.Designators.{group, in_brackets, men_of, men_of_letter, men_of_letters, specification, specifications, specification_front, squares_of, rectangle, longest}
-use Rattle.cql_lexer.proofs.Longest.{Within, Nothing, some_or_none, none_some, longest_some, longest_none}
+use Rattle.cql_lexer.specs.Designators.{group, in_brackets, men_of, men_of_letter, men_of_letters, specification, specifications, squares_of, rectangle}
+use Rattle.cql_lexer.specs.Longest.{front, longest}
+use Rattle.cql_lexer.proofs.Longest.{Within, Nothing, some_or_none, none_some, longest_some, longest_none, longest_of_three}
 use Rattle.cql_lexer.proofs.Groups.{Opens, opens, group_fits, in_brackets-whole, in_brackets-other, in_brackets-none}
 
 -- men alone
@@ -140,65 +141,20 @@ specification_size (a ∷ b ∷ c ∷ d ∷ f ∷ []) s e = absurd (cc)
 specification_size (a ∷ b ∷ c ∷ d ∷ f ∷ g ∷ []) s e = inr (inr refl)
 specification_size (a ∷ b ∷ c ∷ d ∷ f ∷ g ∷ h ∷ t) s e = absurd (cc)
 
-specification_none : (text : List ℕ) (m : ℕ) → m ≤ length text → (m ≡ 2 → specification (take 2 text) ≡ None) → (m ≡ 4 → specification (take 4 text) ≡ None) → (m ≡ 6 → specification (take 6 text) ≡ None) → specification (take m text) ≡ None
-specification_none text m h two four six =
-    let len = length-take-le m text h in
-    let at : (n : ℕ) → m ≡ n → specification (take n text) ≡ None → specification (take m text) ≡ None = λ n e none. ap (λ j. specification (take j text)) e ∙ none in
+specification_none : (text : List ℕ) (m : ℕ) → m ≤ length text → m ≢ 6 → m ≢ 4 → m ≢ 2 → specification (take m text) ≡ None
+specification_none text m h six four two =
+    let len = sym (length-take-le m text h) in
     ⊎_elim (λ none. none)
-    (λ some. ⊎_elim (λ e. let same : m ≡ 2 = sym len ∙ e in at 2 same (two same))
-        (λ rest. ⊎_elim (λ e. let same : m ≡ 4 = sym len ∙ e in at 4 same (four same)) (λ e. let same : m ≡ 6 = sym len ∙ e in at 6 same (six same)) rest)
-        (specification_size (take m text) some.0 some.1))
+    (λ some. ⊎_elim (λ e. absurd (two (len ∙ e))) (λ rest. ⊎_elim (λ e. absurd (four (len ∙ e))) (λ e. absurd (six (len ∙ e))) rest) (specification_size (take m text) some.0 some.1))
     (some_or_none (specification (take m text)))
 
-mapped_none : {X : Type 0} (o : Option ℕ) (f : ℕ → X) → option_map f o ≡ None → o ≡ None
-mapped_none None f e = refl
-mapped_none (Some x) f e = absurd (cc)
+-- where no group stands at the front, squares are a specification
+plain_front : (n : ℕ) (text : List ℕ) → group text ≡ None → front specification n text ≡ front squares_of n text
+plain_front n text plain = ap (λ o. cond (leb n (length text)) (option_map {U = ℕ × ℕ} (λ x. (x, n)) o) None) (sym (squares_plain text n plain))
 
-mapped_pair : (o : Option ℕ) (n x k : ℕ) → option_map {U = ℕ × ℕ} (λ squares. (squares, n)) o ≡ Some (x, k) → (o ≡ Some x) × (n ≡ k)
-mapped_pair None n x k e = absurd (cc)
-mapped_pair (Some y) n x k e = let same = some_pair_parts _ _ _ _ e in (ap (λ z. Some z) same.0, same.1)
-
-cond_some_any : {X : Type 0} (b : Bool) (o : Option X) (x : X) → cond b o None ≡ Some x → (b ≡ true) × (o ≡ Some x)
-cond_some_any true o x e = (refl, e)
-cond_some_any false o x e = absurd (cc)
-
-front_none : (n : ℕ) (text : List ℕ) → specification_front n text ≡ None → n ≤ length text → specification (take n text) ≡ None
-front_none n text e h = mapped_none _ _ (sym (cond-true (leb n (length text)) (option_map (λ squares. (squares, n)) (specification (take n text))) None (le-leb _ _ h)) ∙ e)
-
-front_some : (n : ℕ) (text : List ℕ) (squares k : ℕ) → specification_front n text ≡ Some (squares, k) → (n ≡ k) × (n ≤ length text) × (specification (take n text) ≡ Some squares)
-front_some n text squares k e =
-    let test = cond_some_any (leb n (length text)) _ _ e in
-    let found = mapped_pair _ _ _ _ test.1 in
-    (found.1, leb-true _ _ test.0, found.0)
-
--- the front of n bytes is the longest that is a specification, where no longer length is one
-found_front : (n : ℕ) (text : List ℕ) (x : ℕ × ℕ) → group text ≡ None → 0 < n → specification_front n text ≡ Some x → ((m : ℕ) → n < m → m ≤ length text → specification (take m text) ≡ None) → Some x ≡ longest squares_of text
-found_front n text x plain positive e last =
-    let here = front_some n text x.0 x.1 e in
-    longest_some squares_of text x.0 x.1 (record {
-      positive = omega (arith, here.0);
-      fits = omega (arith, here.0, here.1);
-      reads = subst (λ k. squares_of (take k text) ≡ Some x.0) here.0 (squares_plain text n plain ∙ here.2);
-      last = λ m a b. squares_plain text m plain ∙ last m (omega (arith, here.0)) b;
-    })
-
--- the longest of the three lengths, where no group stands at the front
-pub squares_plain_front : (text : List ℕ) → group text ≡ None → option_or (option_or (specification_front 6 text) (specification_front 4 text)) (specification_front 2 text) ≡ longest squares_of text
+pub squares_plain_front : (text : List ℕ) → group text ≡ None → option_or (option_or (front specification 6 text) (front specification 4 text)) (front specification 2 text) ≡ longest squares_of text
 squares_plain_front text plain =
-    ⊎_elim
-    (λ six. ⊎_elim
-        (λ four. ⊎_elim
-            (λ two. ap (λ o. option_or (option_or o (specification_front 4 text)) (specification_front 2 text)) six
-                ∙ ap (λ o. option_or o (specification_front 2 text)) four ∙ two
-                ∙ longest_none squares_of text (record { none = λ m a b. squares_plain text m plain ∙ specification_none text m b (λ e. front_none 2 text two (omega arith)) (λ e. front_none 4 text four (omega arith)) (λ e. front_none 6 text six (omega arith)) }))
-            (λ two. ap (λ o. option_or (option_or o (specification_front 4 text)) (specification_front 2 text)) six
-                ∙ ap (λ o. option_or o (specification_front 2 text)) four ∙ two.1
-                ∙ found_front 2 text two.0 plain (omega arith) two.1 (λ m a b. specification_none text m b (λ e. absurd (omega arith)) (λ e. front_none 4 text four (omega arith)) (λ e. front_none 6 text six (omega arith))))
-            (some_or_none (specification_front 2 text)))
-        (λ four. ap (λ o. option_or (option_or o (specification_front 4 text)) (specification_front 2 text)) six
-            ∙ ap (λ o. option_or o (specification_front 2 text)) four.1
-            ∙ found_front 4 text four.0 plain (omega arith) four.1 (λ m a b. specification_none text m b (λ e. absurd (omega arith)) (λ e. absurd (omega arith)) (λ e. front_none 6 text six (omega arith))))
-        (some_or_none (specification_front 4 text)))
-    (λ six. ap (λ o. option_or (option_or o (specification_front 4 text)) (specification_front 2 text)) six.1
-        ∙ found_front 6 text six.0 plain (omega arith) six.1 (λ m a b. specification_none text m b (λ e. absurd (omega arith)) (λ e. absurd (omega arith)) (λ e. absurd (omega arith))))
-    (some_or_none (specification_front 6 text))
+    ap (λ o. option_or (option_or o (front specification 4 text)) (front specification 2 text)) (plain_front 6 text plain)
+    ∙ ap (λ o. option_or (option_or (front squares_of 6 text) o) (front specification 2 text)) (plain_front 4 text plain)
+    ∙ ap (λ o. option_or (option_or (front squares_of 6 text) (front squares_of 4 text)) o) (plain_front 2 text plain)
+    ∙ longest_of_three squares_of text 6 4 2 (omega arith) (omega arith) (omega arith) (λ m h six four two. squares_plain text m plain ∙ specification_none text m h six four two)

@@ -7,5 +7,5 @@ pub mod Fronts
 pub mod Designating
 pub mod Eights
 pub mod Digits
-pub mod Entries
+pub mod Marks
 pub mod Steps

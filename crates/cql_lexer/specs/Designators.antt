@@ -6,15 +6,7 @@ use Rattle.cq_geometry.specs.Squares.{file_of, rank_of}
 use Rattle.cq_symmetry.specs.declared.parts.SquarePart.{SquarePart}
 use Rattle.cql_syntax.specs.declared.leaves.Designator.{Designator}
 use Rattle.cql_lexer.specs.Characters.{is_from, is_comma, is_closing_bracket}
-
--- what the longest front of at most n bytes reads as, of those that read as something, and its length
-unfoldable pub longest_within : {X : Type 0} → (List ℕ → Option X) → ℕ → List ℕ → Option (X × ℕ)
-longest_within read zero text = None
-longest_within read (suc n) text = option_or (option_map (λ x. (x, suc n)) (read (take (suc n) text))) (longest_within read n text)
-
--- what the longest front of a text reads as, of those that read as something, and its length
-unfoldable pub longest : {X : Type 0} → (List ℕ → Option X) → List ℕ → Option (X × ℕ)
-longest read text = longest_within read (length text) text
+use Rattle.cql_lexer.specs.Longest.{longest}
 
 -- the union of the sets that the items stand for and of those so far; none where an item stands for none
 abbrev pub united : {X : Type 0} → (X → Option ℕ) → ℕ → List X → Option ℕ
@@ -86,10 +78,6 @@ specifications text = united specification 0 (slice_split is_comma text)
 -- the squares of a specification, or of specifications in brackets
 abbrev pub squares_of : List ℕ → Option ℕ
 squares_of text = option_or (specification text) (option_and_then specifications (in_brackets text))
-
--- the squares of the first so many bytes, where these are a specification, and their number
-abbrev pub specification_front : ℕ → List ℕ → Option (ℕ × ℕ)
-specification_front len text = if nat_le len (length text) then option_map (λ squares. (squares, len)) (specification (take len text)) else None
 
 -- a square stands in a set of squares
 abbrev pub has_square : ℕ → ℕ → Bool

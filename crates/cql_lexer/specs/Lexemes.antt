@@ -14,7 +14,8 @@ use Rattle.cql_lexer.specs.declared.context.Context.{Context}
 use Rattle.cql_lexer.specs.declared.context.Context.TheVariants as contexts
 use Rattle.cql_lexer.specs.declared.lexeme.Lexeme.{Lexeme}
 use Rattle.cql_lexer.specs.Characters.{is_digit, is_letter, is_name_byte, is_file_byte, is_quote, begins_name_or_squares, begins, decimal}
-use Rattle.cql_lexer.specs.Designators.{designator, longest}
+use Rattle.cql_lexer.specs.Designators.{designator}
+use Rattle.cql_lexer.specs.Longest.{longest}
 
 -- a token of this kind, of so many bytes
 abbrev pub of_len : ℕ → QueryTokenKind → Lexeme
@@ -66,20 +67,19 @@ named_or_squares text =
     then (elim squares [ Some found ↦ if nat_le run found.1 then Some (of_len found.1 (Squares found.0)) else name | None ↦ name ])
     else None
 
--- the marks in order; a mark that another one begins stands behind that one
+-- the marks in order
 abbrev pub marks : List (List ℕ)
 marks = codes "-->" ∷ codes "<--" ∷ codes "<=" ∷ codes ">=" ∷ codes "==" ∷ codes "<" ∷ codes ">" ∷ codes "+" ∷ codes "-"
     ∷ codes "*" ∷ codes "?" ∷ codes "#" ∷ codes "|" ∷ codes "&" ∷ codes "~" ∷ codes "(" ∷ codes ")" ∷ codes "{" ∷ codes "}"
     ∷ codes "," ∷ []
 
--- the first of the entries that begins the text: its place, where the first one has place k, and its length
-abbrev pub first_front : ℕ → List (List ℕ) → List ℕ → Option (ℕ × ℕ)
-first_front k [] text = None
-first_front k (entry ∷ entries) text = if starts_with nat_eq text entry then Some (k, length entry) else first_front (k + 1) entries text
+-- the number of the mark that a whole text is
+unfoldable pub mark_number : List ℕ → Option ℕ
+mark_number text = place_of text marks
 
--- 6. the longest mark, which is the first of those that begin the text
+-- 6. the longest mark
 unfoldable pub mark : List ℕ → Option Lexeme
-mark text = option_map (λ found. of_len found.1 (Mark found.0)) (first_front 0 marks text)
+mark text = option_map (λ found. of_len found.1 (Mark found.0)) (longest mark_number text)
 
 -- the one found, or else the other
 abbrev pub found_or : Option Lexeme → Result Lexeme QueryReason → Result Lexeme QueryReason

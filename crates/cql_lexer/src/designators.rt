@@ -2,7 +2,8 @@
 ghost use Rattle.std.specs.Prelude.{◌≡◌, ◌==◌, ◌<◌, ◌≤◌, ◌+◌, ◌*◌, length, count_by, IfSome};
 ghost use Rattle.std.specs.Option.{option_map};
 ghost use Rattle.std.specs.List.{position};
-ghost use Rattle.cql_lexer.specs.Designators.{group, men_of_letter, men_of_letters, men_of, rectangle, squares_within, specification, specifications, specification_front, squares_of, are_whole_ranks, are_whole_files, men_on, designator, longest, has_square, man_letters, none_or_all, eight};
+ghost use Rattle.cql_lexer.specs.Designators.{group, men_of_letter, men_of_letters, men_of, rectangle, squares_within, specification, specifications, squares_of, are_whole_ranks, are_whole_files, men_on, designator, has_square, man_letters, none_or_all, eight};
+ghost use Rattle.cql_lexer.specs.Longest.{front, longest};
 
 use crate::characters::find;
 use cq_symmetry::SquarePart;
@@ -121,7 +122,7 @@ fn specifications(text: &[u8]) -> Option<u64>
 
 // The squares of the first so many bytes, where these are a specification.
 fn specification_front(len: usize, text: &[u8]) -> Option<(u64, usize)>
-    ensures { result ≡ specification_front len text.now }
+    ensures { result ≡ front specification len text.now }
 {
     Some((specification(text.get(..len)?)?, len))
 }

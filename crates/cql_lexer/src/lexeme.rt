@@ -1,13 +1,15 @@
 //! One token at the front of a text, by the first rule that applies.
-ghost use Rattle.std.specs.Prelude.{◌≡◌, ◌<◌, ◌≤◌, length, IfOk, IfSome, IsTrue, Some, map};
+ghost use Rattle.std.specs.Prelude.{◌≡◌, ◌<◌, ◌≤◌, length, IfOk, IfSome, IsTrue, Some};
 ghost use Rattle.cql_syntax.specs.Refusals.{Gives};
 ghost use Rattle.cql_lexer.specs.Characters.{begins, is_digit, begins_name_or_squares};
-ghost use Rattle.cql_lexer.specs.Lexemes.{IsFront, file_name, outcome, quoted, number, named, named_or_squares, first_front, mark, first_lexeme};
+ghost use Rattle.cql_lexer.specs.Lexemes.{IsFront, file_name, outcome, quoted, number, named, named_or_squares, mark_number, mark, first_lexeme};
+ghost use Rattle.cql_lexer.specs.Longest.{front, longest};
 
 use crate::characters::{decimal_at_most, digits_len, file_name_len, find, is_digit, is_name_byte, name_len};
 use crate::context::Context;
 use crate::designators::designator_at;
 use cq_outside::{Bytes, NoMemory, Refusal};
+use cql_syntax::words::place_in;
 use cql_syntax::{Outcome, QueryReason, QueryTokenKind, is_reserved, word_number};
 use std::alloc::Global;
 
@@ -124,27 +126,42 @@ fn named(alloc: Global, name: &[u8]) -> Result<QueryTokenKind, NoMemory>
     }
 }
 
-// The first entry that begins a text: its place and its length.
-fn first_front(entries: &[&str], text: &[u8]) -> Option<(usize, usize)>
-    ensures value { result ≡ first_front 0 (map (λ entry. entry.now) entries.now) text.now }
-    ensures place { IfSome result (λ found. found.0 < length entries.now) }
-    ensures fits { IfSome result (λ found. found.1 ≤ length text.now) }
+// The number of the mark that a whole text is.
+#[tactic(auto, unfolding(crate::specs::Lexemes::mark_number))]
+fn mark_number(text: &[u8]) -> Option<usize>
+    ensures value { result ≡ mark_number text.now }
+    ensures bound { IfSome result (λ mark. mark < 20) }
 {
-    for (k, entry) in entries.iter().enumerate() {
-        if text.starts_with(entry.as_bytes()) {
-            return Some((k, entry.len()));
-        }
-    }
-    None
+    place_in(MARKS.as_slice(), text)
+}
+
+// The mark of the first so many bytes, where these are one.
+fn mark_front(len: usize, text: &[u8]) -> Option<(usize, usize)>
+    ensures value { result ≡ front mark_number len text.now }
+    ensures bound { IfSome result (λ found. found.0 < 20) }
+{
+    Some((mark_number(text.get(..len)?)?, len))
+}
+
+// The longest mark at the front.
+#[tactic(auto, using(crate::proofs::Marks::mark_longest, crate::proofs::Marks::mark_fits))]
+fn mark_at(text: &[u8]) -> Option<(usize, usize)>
+    ensures value { result ≡ longest mark_number text.now }
+    ensures bound { IfSome result (λ found. found.0 < 20) }
+    ensures front { IfSome result (λ found. (0 < found.1) × (found.1 ≤ length text.now)) }
+{
+    mark_front(3, text)
+        .or(mark_front(2, text))
+        .or(mark_front(1, text))
 }
 
 // A mark.
-#[tactic(auto, unfolding(crate::specs::Lexemes::mark), using(crate::proofs::Entries::mark_len))]
+#[tactic(auto, unfolding(crate::specs::Lexemes::mark))]
 fn mark(text: &[u8]) -> Option<Lexeme>
     ensures value { result ≡ mark text.now }
     ensures front { IfSome result (λ lexeme. IsFront lexeme text.now) }
 {
-    let (mark, len) = first_front(MARKS.as_slice(), text)?;
+    let (mark, len) = mark_at(text)?;
     Some(Lexeme {
         kind: QueryTokenKind::Mark(mark as u8),
         len,

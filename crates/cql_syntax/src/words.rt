@@ -125,8 +125,8 @@ const RESERVED: [&str; 30] = [
     "move",
 ];
 
-// The place of a text in a table.
-fn place_in(table: &[&str], text: &[u8]) -> Option<usize>
+/// The place of a text in a table.
+pub fn place_in(table: &[&str], text: &[u8]) -> Option<usize>
     ensures { result ≡ position (λ entry. bytes_eq entry.now text.now) table.now }
 {
     table.iter().position(|entry| entry.as_bytes() == text)
