@@ -125,10 +125,10 @@ first_high : (t : List ℕ) (s : ℕ) → squares_of t ≡ Some s → 91 ≤ get
 first_high t s e =
     ⊎_elim
     (λ none.
-        let inside = and_then_some _ _ s (sym (ap (λ o. option_or o (option_and_then specifications (in_brackets t))) none) ∙ e) in
-        let found = in_group _ _ _ inside.1 in
-        let is = ap (λ l. get_or l 0 0) (opens t found.0 found.1).is in
-        omega (arith, is))
+    let inside = and_then_some _ _ s (sym (ap (λ o. option_or o (option_and_then specifications (in_brackets t))) none) ∙ e) in
+    let found = in_group _ _ _ inside.1 in
+    let is = ap (λ l. get_or l 0 0) (opens t found.0 found.1).is in
+    omega (arith, is))
     (λ some. let begins = specification_begins t some.0 some.1 in omega (arith, begins.high))
     (some_or_none (specification t))
 
@@ -155,13 +155,13 @@ no_squares : (text : List ℕ) (men n squares k m : ℕ) → Within men_of (leng
 no_squares text men n squares k m w v above h =
     ⊎_elim
     (λ plain.
-        let one = men_plain_len text men n plain w in
-        squares_plain text m plain
-        ∙ ⊎_elim (λ none. none) (λ some. absurd (not_both text squares k m some.0 (subst (λ j. Within squares_of (length (drop j text)) (drop j text) squares k) one v) (omega arith) some.1)) (some_or_none (specification (take m text))))
+    let one = men_plain_len text men n plain w in
+    squares_plain text m plain
+    ∙ ⊎_elim (λ none. none) (λ some. absurd (not_both text squares k m some.0 (subst (λ j. Within squares_of (length (drop j text)) (drop j text) squares k) one v) (omega arith) some.1)) (some_or_none (specification (take m text))))
     (λ found.
-        let o = opens text found.0 found.1 in
-        let len = men_group_len text found.0 men n o w in
-        squares_group-other text found.0 m o h (λ same. absurd (omega arith)))
+    let o = opens text found.0 found.1 in
+    let len = men_group_len text found.0 men n o w in
+    squares_group-other text found.0 m o h (λ same. absurd (omega arith)))
     (some_or_none (group text))
 
 -- where there are both, the squares are no shorter than the men

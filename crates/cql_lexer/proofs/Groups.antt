@@ -127,7 +127,7 @@ in_brackets-other text inside m o h other =
     ⊎_elim
     (λ short. ap (option_and_then (λ i. cond (eqb (length i + 2) (length (take m text))) (Some i) None)) (group_short text inside m o short))
     (λ long. ap (option_and_then (λ i. cond (eqb (length i + 2) (length (take m text))) (Some i) None)) (group_front text inside m o long)
-        ∙ cond-false (eqb (length inside + 2) (length (take m text))) (Some inside) None (ne_eqb _ _ (λ same. other (sym (same ∙ len)))))
+    ∙ cond-false (eqb (length inside + 2) (length (take m text))) (Some inside) None (ne_eqb _ _ (λ same. other (sym (same ∙ len)))))
     (order m (length inside + 2))
 
 pub in_brackets-none : (text : List ℕ) (m : ℕ) → group text ≡ None → in_brackets (take m text) ≡ None

@@ -40,7 +40,7 @@ within_some read (suc n) text x k w =
     ⊎_elim
     (λ same. step read n text (Some x) (subst (λ j. read (take j text) ≡ Some x) same w.reads) ∙ ap (λ j. Some (x, j)) (sym same))
     (λ below. step read n text None (w.last (suc n) (omega arith) (omega arith))
-        ∙ within_some read n text x k (record { positive = w.positive; fits = below; reads = w.reads; last = λ m a b. w.last m a (omega arith) }))
+    ∙ within_some read n text x k (record { positive = w.positive; fits = below; reads = w.reads; last = λ m a b. w.last m a (omega arith) }))
     (equal_or_below k n w.fits)
 
 -- what holds of each front of at most n bytes, and of the front of one byte more
@@ -156,15 +156,15 @@ module _ {X : Type 0} (read : List ℕ → Option X) (text : List ℕ) (a b c : 
   longest_of_three =
       ⊎_elim
       (λ nota. ap (λ o. option_or (option_or o (front read b text)) (front read c text)) nota
-          ∙ ⊎_elim
-          (λ notb. ap (λ o. option_or o (front read c text)) notb
-              ∙ ⊎_elim
-              (λ notc. notc ∙ longest_none read text (record { none = λ m x y. not_c m y nota notb notc }))
-              (λ found. found.1 ∙ front_last read c text found.0 pc found.1 (λ m x y. not_b m y nota notb x))
-              (some_or_none (front read c text)))
-          (λ found. ap (λ o. option_or o (front read c text)) found.1
-              ∙ front_last read b text found.0 (omega arith) found.1 (λ m x y. not_a m y nota x))
-          (some_or_none (front read b text)))
+      ∙ ⊎_elim
+      (λ notb. ap (λ o. option_or o (front read c text)) notb
+      ∙ ⊎_elim
+      (λ notc. notc ∙ longest_none read text (record { none = λ m x y. not_c m y nota notb notc }))
+      (λ found. found.1 ∙ front_last read c text found.0 pc found.1 (λ m x y. not_b m y nota notb x))
+      (some_or_none (front read c text)))
+      (λ found. ap (λ o. option_or o (front read c text)) found.1
+      ∙ front_last read b text found.0 (omega arith) found.1 (λ m x y. not_a m y nota x))
+      (some_or_none (front read b text)))
       (λ found. ap (λ o. option_or (option_or o (front read b text)) (front read c text)) found.1
-          ∙ front_last read a text found.0 (omega arith) found.1 (λ m x y. other m y (λ e. absurd (omega arith)) (λ e. absurd (omega arith)) (λ e. absurd (omega arith))))
+      ∙ front_last read a text found.0 (omega arith) found.1 (λ m x y. other m y (λ e. absurd (omega arith)) (λ e. absurd (omega arith)) (λ e. absurd (omega arith))))
       (some_or_none (front read a text))

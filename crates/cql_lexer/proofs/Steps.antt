@@ -96,8 +96,8 @@ after_separator query tokens context at s before inside e positive fits =
       rest =
           ap (λ t. with_front tokens (tokens_from 0 (at + s) context t)) (sym (drop-drop s at query))
           ∙ ap (with_front tokens)
-              (ap (λ k. tokens_from 0 (at + k) context (drop k (drop at query))) (sym is)
-              ∙ sym (pass_separator at context (drop at query) (omega (arith, is)) (omega (arith, is, fits, short)) (omega (arith, len))))
+          (ap (λ k. tokens_from 0 (at + k) context (drop k (drop at query))) (sym is)
+          ∙ sym (pass_separator at context (drop at query) (omega (arith, is)) (omega (arith, is, fits, short)) (omega (arith, len))))
           ∙ before.rest;
     }
 

@@ -26,8 +26,8 @@ separator_len text =
 abbrev pub token_at : Context → ℕ → List ℕ → Result (QueryToken × ℕ) QueryFault
 token_at context at text =
     elim (first_lexeme context text) [
-      Ok found ↦ Ok (record { at = at; kind = found.kind }, found.len)
-    | Err reason ↦ Err (record { byte = at; reason = reason })
+      | Ok found ↦ Ok (record { at = at; kind = found.kind }, found.len)
+      | Err reason ↦ Err (record { byte = at; reason = reason })
     ]
 
 -- what follows from a value; a fault stays

@@ -10,8 +10,11 @@ use cq_symmetry::SquarePart;
 use cql_syntax::Designator;
 
 const MAN_LETTERS: &[u8; 13] = b"KQRBNPkqrbnp_";
+
 const WHITE_MEN: u16 = 0x003f;
+
 const BLACK_MEN: u16 = 0x0fc0;
+
 const ANY_MEN: u16 = 0x1fff;
 
 // The a-file.
@@ -85,7 +88,12 @@ fn rectangle(file: u8, last_file: u8, rank: u8, last_rank: u8) -> Option<u64>
     let are_files = matches!(file, b'a'..=b'h') && matches!(last_file, b'a'..=b'h');
     let are_ranks = matches!(rank, b'1'..=b'8') && matches!(last_rank, b'1'..=b'8');
     if are_files && are_ranks {
-        Some(squares_from(file.min(last_file), file.max(last_file), rank.min(last_rank), rank.max(last_rank)))
+        Some(squares_from(
+            file.min(last_file),
+            file.max(last_file),
+            rank.min(last_rank),
+            rank.max(last_rank),
+        ))
     } else {
         None
     }
@@ -223,15 +231,7 @@ fn men_on(men: u16, squares: u64) -> Designator
 }
 
 /// The longest designator at the front of a text, and its length.
-#[tactic(
-    auto,
-    using(
-        crate::proofs::Designating::squares_alone,
-        crate::proofs::Designating::no_designator,
-        crate::proofs::Designating::men_front,
-        crate::proofs::Designating::squares_front
-    )
-)]
+#[tactic(auto, using(crate::proofs::Designating::squares_alone, crate::proofs::Designating::no_designator, crate::proofs::Designating::men_front, crate::proofs::Designating::squares_front))]
 pub fn designator_at(text: &[u8]) -> Option<(Designator, usize)>
     ensures value { result ≡ longest designator text.now }
     ensures front { IfSome result (λ found. (0 < found.1) × (found.1 ≤ length text.now)) }

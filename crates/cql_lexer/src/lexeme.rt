@@ -5,7 +5,9 @@ ghost use Rattle.cql_lexer.specs.Characters.{begins, is_digit, begins_name_or_sq
 ghost use Rattle.cql_lexer.specs.Lexemes.{IsFront, file_name, outcome, quoted, number, named, named_or_squares, mark_number, mark, first_lexeme};
 ghost use Rattle.cql_lexer.specs.Longest.{front, longest};
 
-use crate::characters::{decimal_at_most, digits_len, file_name_len, find, is_digit, is_name_byte, name_len};
+use crate::characters::{
+    decimal_at_most, digits_len, file_name_len, find, is_digit, is_name_byte, name_len,
+};
 use crate::context::Context;
 use crate::designators::designator_at;
 use cq_outside::{Bytes, NoMemory, Refusal};
@@ -17,7 +19,8 @@ use std::alloc::Global;
 const NUMBER_LIMIT: u32 = 999_999_999;
 
 const MARKS: [&str; 20] = [
-    "-->", "<--", "<=", ">=", "==", "<", ">", "+", "-", "*", "?", "#", "|", "&", "~", "(", ")", "{", "}", ",",
+    "-->", "<--", "<=", ">=", "==", "<", ">", "+", "-", "*", "?", "#", "|", "&", "~", "(", ")",
+    "{", "}", ",",
 ];
 
 /// A token, and the number of its bytes.
@@ -203,7 +206,11 @@ fn begins_name_or_squares(text: &[u8]) -> bool
 
 /// The token at the front of a text, by the first rule that applies.
 #[tactic(auto, unfolding(crate::specs::Lexemes::first_lexeme))]
-pub fn first_lexeme(alloc: Global, context: Context, text: &[u8]) -> Result<Lexeme, Refusal<QueryReason>>
+pub fn first_lexeme(
+    alloc: Global,
+    context: Context,
+    text: &[u8],
+) -> Result<Lexeme, Refusal<QueryReason>>
     requires { 0 < length text.now }
     ensures value { Gives (λ lexeme. lexeme) result (first_lexeme context text.now) }
     ensures front { IfOk result (λ lexeme. IsFront lexeme text.now) }

@@ -1,10 +1,12 @@
-//! The tokens of a query text.
+//! The tokens of a query text, or its first lexical fault.
 #![tactic(auto)]
 
-pub mod characters;
-pub mod context;
-pub mod designators;
-pub mod lexeme;
-pub mod tokens;
+mod characters;
+mod context;
+mod designators;
+mod lexeme;
+#[cfg(test)]
+mod tests;
+mod tokens;
 
 pub use tokens::{QUERY_LIMIT, query_tokens};

@@ -27,7 +27,12 @@ fn separator_len(text: &[u8]) -> usize
 }
 
 // The token at a place of the query, or the fault there.
-fn token_at(alloc: Global, context: Context, query: &[u8], at: usize) -> Result<(QueryToken, usize), Refusal<QueryFault>>
+fn token_at(
+    alloc: Global,
+    context: Context,
+    query: &[u8],
+    at: usize,
+) -> Result<(QueryToken, usize), Refusal<QueryFault>>
     requires within { at < length query.now }
     requires limit { length query.now ≤ 65536 }
     ensures value { Gives (λ found. found) result (token_at context at (drop at query.now)) }

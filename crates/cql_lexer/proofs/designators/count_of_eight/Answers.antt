@@ -9,6 +9,6 @@ pub loop-k-preserved : goal.loop-k-preserved
 loop-k-preserved c =
     let test : ℕ → Bool = λ k. has_square c.args.squares (c.args.first + c.args.step * k) in
     elim c.if-has_square.branch [
-      then-has_square w ↦ (w.here-is ∙ count_more_yes test c.loop-k.k _ (omega arith) c.loop-k.invariant.0 (sym w.if-has_square.ensures), omega arith)
-    | else-has_square w ↦ (w.here-is ∙ count_more_no test c.loop-k.k _ (omega arith) c.loop-k.invariant.0 (sym w.if-has_square.ensures), omega arith)
+      | then-has_square w ↦ (w.here-is ∙ count_more_yes test c.loop-k.k _ (omega arith) c.loop-k.invariant.0 (sym w.if-has_square.ensures), omega arith)
+      | else-has_square w ↦ (w.here-is ∙ count_more_no test c.loop-k.k _ (omega arith) c.loop-k.invariant.0 (sym w.if-has_square.ensures), omega arith)
     ]

@@ -11,10 +11,10 @@ pub returns-in-Some-squares_at-2-clause-value : goal.returns-in-Some-squares_at-
 returns-in-Some-squares_at-2-clause-value c =
     ap (λ d. Some (d, c.in-Some-squares_at-2.len)) c.men_on-in-Some-squares_at-2.ensures
     ∙ squares_beside_men c.args.text.now c.in-Some.men c.in-Some.len _ _ c.in-Some.ensures
-        (none_from _ c.in_default-squares_at.not-Some ∙ c.squares_at-2.ensures) c.in-Some-squares_at-2.ensures
+    (none_from _ c.in_default-squares_at.not-Some ∙ c.squares_at-2.ensures) c.in-Some-squares_at-2.ensures
 
 pub returns-in-None-clause-value : goal.returns-in-None-clause-value
 returns-in-None-clause-value c =
     ap (λ d. Some (d, c.in-Some.len)) c.men_on-in-None.ensures
     ∙ men_alone c.args.text.now c.in-Some.men c.in-Some.len c.in-Some.ensures
-        (none_from _ c.in_default-squares_at.not-Some ∙ c.squares_at-2.ensures) c.in-None.ensures
+    (none_from _ c.in_default-squares_at.not-Some ∙ c.squares_at-2.ensures) c.in-None.ensures
