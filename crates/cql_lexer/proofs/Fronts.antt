@@ -1,14 +1,11 @@
 -- The longest men and the longest squares at the front of a text.
-use Rattle.std.proofs.Common.{◌≡◌, ◌⊎◌, ℕ, zero, suc, ◌+◌, ◌<◌, ◌≤◌, ◌≢◌, Bool, true, false, cond, eqb, leb, List, [], ◌∷◌, length, take, get_or, Option, None, Some, inl, inr, ⊎_elim, refl, sym, ap, subst, ◌∙◌, arith, length-take-le}
+use Rattle.std.proofs.Common.{◌≡◌, ◌⊎◌, ℕ, zero, suc, ◌+◌, ◌<◌, ◌≤◌, ◌≢◌, Bool, true, false, cond, leb, List, [], ◌∷◌, length, take, get_or, Option, None, Some, inl, inr, ⊎_elim, refl, sym, ap, ◌∙◌, arith, length-take-le}
 use Rattle.std.specs.Prelude.{option_and_then}
 use Rattle.std.specs.Option.{option_map, option_or}
-use Rattle.std.proofs.str.Laws.{order}
-use Rattle.std.proofs.lemmas.Bool.{cases_eq, cases_Bool, leb-true, le-leb, cond-true, eqb-true}
-use Rattle.std.proofs.lemmas.Option.{cond_some, some_pair_parts}
-use Rattle.cql_lexer.specs.Characters.{is_from}
+use Rattle.std.proofs.lemmas.Bool.{cases_eq}
 use Rattle.cql_lexer.specs.Designators.{group, in_brackets, men_of, men_of_letter, men_of_letters, specification, specifications, squares_of, rectangle}
 use Rattle.cql_lexer.specs.Longest.{front, longest}
-use Rattle.cql_lexer.proofs.Longest.{Within, Nothing, some_or_none, none_some, longest_some, longest_none, longest_of_three}
+use Rattle.cql_lexer.proofs.Longest.{some_or_none, longest_some, longest_none, longest_of_three}
 use Rattle.cql_lexer.proofs.Groups.{Opens, opens, group_fits, in_brackets-whole, in_brackets-other, in_brackets-none}
 
 -- men alone

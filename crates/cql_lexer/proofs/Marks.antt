@@ -1,5 +1,5 @@
 -- The longest mark at the front of a text.
-use Rattle.std.proofs.Common.{◌≡◌, ◌⊎◌, ℕ, zero, suc, ◌+◌, ◌<◌, ◌≤◌, ◌≢◌, Bool, true, cond, ltb, leb, List, [], ◌∷◌, length, take, get_or, Option, None, Some, inl, inr, ⊎_elim, refl, sym, ap, subst, ◌∙◌, arith, length-take-le}
+use Rattle.std.proofs.Common.{◌≡◌, ℕ, zero, suc, ◌<◌, ◌≤◌, Bool, true, ltb, leb, List, [], ◌∷◌, length, take, get_or, Some, ⊎_elim, refl, sym, subst, arith, length-take-le}
 use Rattle.cql_lexer.specs.Lexemes.{mark_number, marks}
 use Rattle.cql_lexer.specs.Longest.{front, longest}
 use Rattle.std.specs.Prelude.{◌&&◌}
@@ -9,7 +9,7 @@ use Rattle.std.specs.Str.{bytes_eq}
 use Rattle.std.proofs.lemmas.Bool.{and_parts, ltb-true, leb-true}
 use Rattle.std.proofs.lemmas.List.Quantifiers.{position-Some}
 use Rattle.std.proofs.lemmas.Slice.Eq.{bytes_eq-Decides}
-use Rattle.cql_lexer.proofs.Longest.{Within, some_or_none, longest_parts, longest_of_three}
+use Rattle.cql_lexer.proofs.Longest.{some_or_none, longest_parts, longest_of_three}
 
 -- an entry is of one, two or three bytes
 abbrev short : List ℕ → Bool

@@ -1,9 +1,8 @@
 -- Designators: men, squares, or men on squares, as `R`, `a1`, `[KQ]a-h2` and `.[a1,b2-3]`.
-use Rattle.std.specs.Prelude.{ℕ, zero, suc, ◌+◌, ◌-◌, ◌*◌, ◌/◌, ◌%◌, ◌^◌, min, max, Bool, ◌&&◌, ◌||◌, ◌==◌, nat_le, List, [], ◌∷◌, length, take, drop, count_by, Option, None, Some, if◌then◌else◌, codes, bit_or, option_and_then}
+use Rattle.std.specs.Prelude.{ℕ, zero, suc, ◌+◌, ◌-◌, ◌*◌, ◌/◌, ◌%◌, ◌^◌, min, max, Bool, ◌&&◌, ◌||◌, ◌==◌, List, [], ◌∷◌, length, take, drop, count_by, Option, None, Some, if◌then◌else◌, codes, bit_or, option_and_then}
 use Rattle.std.specs.List.{position, slice_split, list_all}
 use Rattle.std.specs.Option.{option_map, option_or}
 use Rattle.cq_geometry.specs.Squares.{file_of, rank_of}
-use Rattle.cq_symmetry.specs.declared.parts.SquarePart.{SquarePart}
 use Rattle.cql_syntax.specs.declared.leaves.Designator.{Designator}
 use Rattle.cql_lexer.specs.Characters.{is_from, is_comma, is_closing_bracket}
 use Rattle.cql_lexer.specs.Longest.{longest}

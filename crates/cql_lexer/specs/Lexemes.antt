@@ -1,19 +1,17 @@
 -- One token at the front of a text, by the seven rules.
-use Rattle.std.specs.Prelude.{ℕ, suc, ◌+◌, ◌<◌, ◌≤◌, Bool, ◌&&◌, ◌||◌, ◌==◌, nat_lt, nat_le, nat_eq, List, [], ◌∷◌, length, take, drop, Option, None, Some, Result, Ok, Err, if◌then◌else◌, is_some, codes}
+use Rattle.std.specs.Prelude.{ℕ, ◌+◌, ◌<◌, ◌≤◌, nat_lt, nat_le, nat_eq, List, [], ◌∷◌, length, take, drop, Option, None, Some, Result, Ok, Err, if◌then◌else◌, is_some, codes}
 use Rattle.std.specs.Option.{option_map}
-use Rattle.std.specs.List.{position, position_or_len, prefix_len, take_while, before_first, starts_with}
+use Rattle.std.specs.List.{position, prefix_len, starts_with}
 use Rattle.cql_syntax.specs.Words.{words, reserved_names, place_of}
-use Rattle.cql_syntax.specs.declared.leaves.Designator.{Designator}
-use Rattle.cql_syntax.specs.declared.leaves.Outcome.{Outcome}
 use Rattle.cql_syntax.specs.declared.leaves.Outcome.TheVariants as outcomes
 use Rattle.cql_syntax.specs.declared.token.QueryTokenKind.{QueryTokenKind}
-use Rattle.cql_syntax.specs.declared.token.QueryTokenKind.TheVariants.{Word, Reserved, Name, Squares, Number, Text, FileName, Outcome as OutcomeToken, Mark, End}
+use Rattle.cql_syntax.specs.declared.token.QueryTokenKind.TheVariants.{Word, Reserved, Name, Squares, Number, Text, FileName, Outcome as OutcomeToken, Mark}
 use Rattle.cql_syntax.specs.declared.fault.QueryReason.{QueryReason}
 use Rattle.cql_syntax.specs.declared.fault.QueryReason.TheVariants.{BadByte, UnclosedText, NumberTooLarge}
 use Rattle.cql_lexer.specs.declared.context.Context.{Context}
 use Rattle.cql_lexer.specs.declared.context.Context.TheVariants as contexts
 use Rattle.cql_lexer.specs.declared.lexeme.Lexeme.{Lexeme}
-use Rattle.cql_lexer.specs.Characters.{is_digit, is_letter, is_name_byte, is_file_byte, is_quote, begins_name_or_squares, begins, decimal}
+use Rattle.cql_lexer.specs.Characters.{is_digit, is_name_byte, is_file_byte, is_quote, begins_name_or_squares, begins, decimal}
 use Rattle.cql_lexer.specs.Designators.{designator}
 use Rattle.cql_lexer.specs.Longest.{longest}
 

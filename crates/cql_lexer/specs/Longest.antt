@@ -1,5 +1,5 @@
 -- The longest front of a text that reads as something.
-use Rattle.std.specs.Prelude.{ℕ, zero, suc, nat_le, List, length, take, Option, None, Some, if◌then◌else◌}
+use Rattle.std.specs.Prelude.{ℕ, zero, suc, nat_le, List, length, take, Option, None, if◌then◌else◌}
 use Rattle.std.specs.Option.{option_map, option_or}
 
 -- what the first n bytes of a text read as, and n, where the text has them and they read as something

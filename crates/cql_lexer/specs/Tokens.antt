@@ -1,5 +1,5 @@
 -- The tokens of a query text.
-use Rattle.std.specs.Prelude.{ℕ, zero, suc, ◌+◌, ◌-◌, ◌<◌, Bool, true, false, not, ◌&&◌, ◌||◌, ◌==◌, nat_lt, List, [], ◌∷◌, ◌++◌, length, Option, Result, Ok, Err, if◌then◌else◌, codes, nat_eq, unwrap_or}
+use Rattle.std.specs.Prelude.{ℕ, zero, suc, ◌+◌, ◌-◌, ◌||◌, ◌==◌, nat_lt, List, [], ◌∷◌, ◌++◌, length, Result, Ok, Err, if◌then◌else◌, codes, nat_eq, unwrap_or}
 use Rattle.std.specs.List.{prefix_len, position, starts_with}
 use Rattle.cql_syntax.specs.Words.{input_word, output_word, result_word}
 use Rattle.cql_syntax.specs.declared.token.QueryToken.{QueryToken}

@@ -230,6 +230,14 @@ fn tokens_are_by_the_first_rule(rt: HostRuntime) -> Result<(), Fail> {
     Ok(())
 }
 
+fn fault_of(alloc: Global, query: &[u8]) -> Option<QueryFault> {
+    let refusal = query_tokens(alloc, query).err()?;
+    match refusal {
+        Refusal::Fault(fault) => Some(fault),
+        Refusal::NoMemory => None,
+    }
+}
+
 fn refuses(
     rt: &impl Abort,
     alloc: Global,
@@ -237,14 +245,13 @@ fn refuses(
     byte: u32,
     wanted: &str,
 ) -> Result<(), AllocError> {
-    match query_tokens(alloc, query) {
-        Err(Refusal::Fault(fault)) => {
-            assert_eq!(rt; fault.byte, byte, "in {query:?}");
-            let reason = fault.reason;
-            let reason = format!(in alloc; "{reason:?}")?;
-            assert_eq!(rt; reason.as_str(), wanted, "in {query:?}");
-        }
-        _ => assert!(rt; false, "no fault in {query:?}"),
+    let fault = fault_of(alloc, query);
+    assert!(rt; fault.is_some(), "no fault in {query:?}");
+    if let Some(fault) = fault {
+        assert_eq!(rt; fault.byte, byte, "in {query:?}");
+        let reason = &fault.reason;
+        let reason = format!(in alloc; "{reason:?}")?;
+        assert_eq!(rt; reason.as_str(), wanted, "in {query:?}");
     }
     Ok(())
 }

@@ -1,4 +1,4 @@
-use Rattle.std.proofs.Common.{arith, sym, ◌∙◌}
+use Rattle.std.proofs.Common.{sym, ◌∙◌}
 use Rattle.cql_lexer.specs.Designators.{none_or_all}
 use Rattle.cql_lexer.proofs.Eights.{all_more}
 use Rattle.cql_lexer.proofs.designators.are_whole_files.Goals as goal

@@ -1,4 +1,4 @@
-use Rattle.std.proofs.Common.{◌+◌, Some, ap, sym, ◌∙◌}
+use Rattle.std.proofs.Common.{◌+◌, Some, ap, ◌∙◌}
 use Rattle.cql_lexer.proofs.Designating.{men_and_squares, squares_beside_men, men_alone, none_from}
 use Rattle.cql_lexer.proofs.designators.designator_at.Goals as goal
 

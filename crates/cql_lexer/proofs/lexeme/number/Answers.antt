@@ -1,5 +1,3 @@
-use Rattle.std.proofs.Common.{◌<◌, length, take, subst, sym}
-use Rattle.cql_lexer.specs.Characters.{IsDigit}
 use Rattle.cql_lexer.proofs.Digits.{front_digits}
 use Rattle.cql_lexer.proofs.lexeme.number.Goals as goal
 

@@ -1,4 +1,4 @@
-use Rattle.std.proofs.Common.{arith, sym, ap, subst, ◌∙◌, ◌+◌, ◌++◌, ◌∷◌, [], List, Ok}
+use Rattle.std.proofs.Common.{sym, ap, subst, ◌∙◌, ◌+◌, ◌++◌, ◌∷◌, [], List, Ok}
 use Rattle.std.proofs.lemmas.Result.{err_from_is_err_and}
 use Rattle.cql_syntax.specs.declared.token.QueryToken.{QueryToken}
 use Rattle.cql_lexer.specs.declared.context.Context.{Context}
