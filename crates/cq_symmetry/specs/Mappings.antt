@@ -1,6 +1,5 @@
 -- A mapping as plain values.
-use Rattle.std.specs.Prelude.{◌≡◌, ◌⊎◌, ◌≤◌, ℕ, Bool, false}
-use Rattle.std.specs.Prelude.{ℤ, pos, negsuc, ◌≤ℤ◌}
+use Rattle.std.specs.Prelude.{◌≡◌, ◌⊎◌, ◌≤◌, ℕ, ℤ, pos, negsuc, ◌≤ℤ◌, Bool, false}
 
 -- a symmetry by its number, whether the colours are exchanged, and a shift by so many files and ranks
 pub record PlainMapping : Type 0 where
@@ -23,8 +22,8 @@ OnlyShifts m = (m.symmetry ≡ 1) × (m.exchange ≡ false)
 
 -- what every mapping meets
 pub record IsProper (m : PlainMapping) : Type 0 where
-  pub first : 1 ≤ m.symmetry
-  pub last : m.symmetry ≤ 8
+  pub at_least_one : 1 ≤ m.symmetry
+  pub at_most_eight : m.symmetry ≤ 8
   pub sideways : IsOnBoardStep m.east
   pub upwards : IsOnBoardStep m.north
-  pub one : StandsStill m ⊎ OnlyShifts m
+  pub shifts_alone : StandsStill m ⊎ OnlyShifts m

@@ -6,9 +6,9 @@ use Rattle.cql_syntax.specs.TreeOf.{filter_tree, form_tree, body_tree, filters_t
 use Rattle.cql_syntax.specs.declared.tree.Constituent.{Constituent}
 use Rattle.cql_syntax.specs.declared.tree.Filter.{Filter}
 use Rattle.cql_syntax.specs.declared.tree.Term.{Term}
-use Rattle.cql_syntax.specs.declared.tree.Constituents.{Constituents, Constituents', Constituents-F, out-Constituents, roll-Constituents, out-roll-Constituents, outs-Constituents', Row_of-Constituent, end_of-Constituent, more_of-Constituent, items-the_row-Constituent, items_shown-the_row-Constituent-0}
-use Rattle.cql_syntax.specs.declared.tree.Filters.{Filters, Filters', Filters-F, out-Filters, roll-Filters, out-roll-Filters, outs-Filters', Row_of-Filter, end_of-Filter, more_of-Filter, items-the_row-Filter, items_shown-the_row-Filter-1}
-use Rattle.cql_syntax.specs.declared.tree.Terms.{Terms, Terms', Terms-F, out-Terms, roll-Terms, out-roll-Terms, outs-Terms', Row_of-Term, end_of-Term, more_of-Term, items-the_row-Term, items_shown-the_row-Term-2}
+use Rattle.cql_syntax.specs.declared.tree.Constituents.{Constituents, Constituents', roll-Constituents, out-roll-Constituents, outs-Constituents', Row_of-Constituent, end_of-Constituent, more_of-Constituent, items-the_row-Constituent, items_shown-the_row-Constituent-0}
+use Rattle.cql_syntax.specs.declared.tree.Filters.{Filters, Filters', roll-Filters, out-roll-Filters, outs-Filters', Row_of-Filter, end_of-Filter, more_of-Filter, items-the_row-Filter, items_shown-the_row-Filter-1}
+use Rattle.cql_syntax.specs.declared.tree.Terms.{Terms, Terms', roll-Terms, out-roll-Terms, outs-Terms', Row_of-Term, end_of-Term, more_of-Term, items-the_row-Term, items_shown-the_row-Term-2}
 
 filter_row_is : {n : _} (k : Row_of-Filter n) → filter_row k ≡ filter_trees (items-the_row-Filter n k)
 filter_row_is end_of-Filter = refl

@@ -1,11 +1,11 @@
 -- The definitions at worked rows.
-use Rattle.std.proofs.Common.{◌≡◌, Bool, true, false, refl}
+use Rattle.std.proofs.Common.{◌≡◌, false, refl}
 use Rattle.cq_symmetry.specs.declared.families.Family.TheVariants.{Flip, Shift}
 use Rattle.cql_syntax.specs.Kinds.{filter_kind}
 use Rattle.cql_syntax.specs.Places.{places, parts_places}
-use Rattle.cql_syntax.specs.Trees.{FilterTree, filter, number, plain, sum, pair, line, transform, any, FilterTrees, no_filters, more_filters, more_terms, no_terms, path, PartTrees, no_parts, more_parts, atom, group}
+use Rattle.cql_syntax.specs.Trees.{FilterTree, filter, number, plain, sum, pair, line, transform, any, FilterTrees, no_filters, more_filters, no_terms, path, PartTrees, no_parts, more_parts, atom, group}
 use Rattle.cql_syntax.specs.Weights.{filter_weight, filters_weight, capped}
-use Rattle.cql_syntax.specs.declared.leaves.Kind.TheVariants.{Position, Set, Number}
+use Rattle.cql_syntax.specs.declared.leaves.Kind.TheVariants.{Position, Set}
 use Rattle.cql_syntax.specs.declared.leaves.Mark.TheVariants.{Once, Star, Times}
 use Rattle.cql_syntax.specs.declared.leaves.Plain.TheVariants.{Check, Ply}
 use Rattle.cql_syntax.specs.declared.leaves.Pair.TheVariants.{Attacks, Less}

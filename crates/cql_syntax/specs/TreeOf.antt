@@ -1,5 +1,5 @@
 -- The tree of each value of the query's types.
-use Rattle.std.specs.Prelude.{ℕ, Bool, List, [], ◌∷◌}
+use Rattle.std.specs.Prelude.{List, [], ◌∷◌}
 use Rattle.cql_syntax.specs.Trees.{FilterTree, filter, FormTree, squares, number, name, plain, tagged, outcome, elo, unary, steps, chain, sum, pair, if_, square, line, transform, sort, comment, any, FilterTrees, no_filters, more_filters, TermTrees, no_terms, more_terms, LineTree, path, PartTrees, no_parts, more_parts, BodyTree, atom, group, QueryTree}
 use Rattle.cql_syntax.specs.declared.tree.Body.{Body, Atom', Group}
 use Rattle.cql_syntax.specs.declared.tree.Constituent.{Constituent}

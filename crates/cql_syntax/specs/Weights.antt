@@ -1,5 +1,5 @@
 -- The weight of a query, which bounds what its families write out.
-use Rattle.std.specs.Prelude.{ℕ, ◌+◌, ◌*◌, min, length}
+use Rattle.std.specs.Prelude.{ℕ, ◌+◌, ◌*◌, ◌^◌, min, length}
 use Rattle.cq_symmetry.specs.Families.{members}
 use Rattle.cql_syntax.specs.Trees.{FilterTree, filter, FormTree, squares, number, name, plain, tagged, outcome, elo, unary, steps, chain, sum, pair, if_, square, line, transform, sort, comment, any, FilterTrees, no_filters, more_filters, TermTrees, no_terms, more_terms, LineTree, path, PartTrees, no_parts, more_parts, BodyTree, atom, group, QueryTree}
 
@@ -55,4 +55,4 @@ query_weight q = filters_weight q.items
 
 -- a weight as it is answered: one more than 2^18 wherever it is above 2^18
 abbrev pub capped : ℕ → ℕ
-capped n = min n 262145
+capped n = min n (2 ^ 18 + 1)

@@ -82,6 +82,13 @@ fn weights_of_worked_queries(rt: HostRuntime) -> Result<(), Fail> {
     assert_eq!(rt; weight(&query), WEIGHT_LIMIT);
     query.items.push(check())?;
     assert_eq!(rt; weight(&query), WEIGHT_LIMIT + 1);
+    Ok(())
+}
+
+#[test]
+fn deep_queries_stop_above_the_limit(rt: HostRuntime) -> Result<(), Fail> {
+    let alloc = rt.alloc();
+    let mut query = query(alloc, Filters::new(alloc))?;
     for depth in 3..60 {
         query.items = checks(alloc, 0)?;
         query.items.push(in_families(alloc, Family::Shift, depth)?)?;
@@ -181,9 +188,15 @@ fn may_be_shared<T: Send + Sync>(_value: &T) {}
 #[test]
 fn trees_may_be_shared(rt: HostRuntime) -> Result<(), Fail> {
     let alloc = rt.alloc();
-    may_be_shared(&query(alloc, checks(alloc, 2)?)?);
-    may_be_shared(&repeated(alloc, 2, 2)?);
-    may_be_shared(&Terms::new(alloc));
-    may_be_shared(&Constituents::new(alloc));
+    let query = query(alloc, Filters::new(alloc))?;
+    may_be_shared(&query);
+    assert!(rt; query.items.is_empty());
+    let terms = Terms::new(alloc);
+    may_be_shared(&terms);
+    assert!(rt; terms.is_empty());
+    let parts = Constituents::new(alloc);
+    may_be_shared(&parts);
+    assert!(rt; parts.is_empty());
+    may_be_shared(&check());
     Ok(())
 }

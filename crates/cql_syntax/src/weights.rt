@@ -8,7 +8,7 @@ use crate::tree::{Body, Constituents, Filter, Filters, Form, Query, Terms};
 use cq_symmetry::{Family, size};
 
 /// The greatest weight that a query may have.
-pub const WEIGHT_LIMIT: u64 = 262_144;
+pub const WEIGHT_LIMIT: u64 = 1 << 18;
 
 /// The weight of a query, or one more than 2^18 where it is above 2^18.
 pub fn weight(q: &Query) -> u64
