@@ -1,6 +1,6 @@
 use super::*;
 use cq_outside::Refusal;
-use cql_syntax::{Outcome, QueryFault, QueryReason, QueryToken, QueryTokenKind};
+use cql_syntax::{Outcome, QueryFault, QueryTokenKind};
 use std::alloc::{AllocError, Global};
 use std::process::Abort;
 use std::test::Fail;
@@ -283,22 +283,5 @@ fn a_query_has_at_most_65536_bytes(rt: HostRuntime) -> Result<(), Fail> {
     refuses(&rt, alloc, spaces.as_slice(), 65_536, "QueryTooLong")?;
     assert_eq!(rt; spaces.len(), 65_537);
     gives(&rt, alloc, &spaces[..65_536], &[(65_536, Seen::End)])?;
-    Ok(())
-}
-
-fn may_be_shared<T: Send + Sync>(_value: &T) {}
-
-#[test]
-fn tokens_and_faults_may_be_shared(rt: HostRuntime) -> Result<(), Fail> {
-    let alloc = rt.alloc();
-    may_be_shared(&query_tokens(alloc, b"x")?);
-    may_be_shared(&QueryFault {
-        byte: 0,
-        reason: QueryReason::BadByte,
-    });
-    may_be_shared(&QueryToken {
-        at: 0,
-        kind: QueryTokenKind::End,
-    });
     Ok(())
 }

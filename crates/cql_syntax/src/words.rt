@@ -145,3 +145,29 @@ pub fn is_reserved(text: &[u8]) -> bool
 {
     place_in(RESERVED.as_slice(), text).is_some()
 }
+
+#[cfg(test)]
+mod tests {
+    use super::*;
+
+    #[test]
+    fn words_have_the_numbers_of_their_places(rt: HostRuntime) {
+        let rows = [
+            (b"cql".as_slice(), Some(0)),
+            (b"input".as_slice(), Some(INPUT)),
+            (b"output".as_slice(), Some(OUTPUT)),
+            (b"check".as_slice(), Some(5)),
+            (b"result".as_slice(), Some(RESULT)),
+            (b"up".as_slice(), Some(45)),
+            (b"comment".as_slice(), Some(68)),
+            (b"move".as_slice(), None),
+            (b"".as_slice(), None),
+        ];
+        for (text, number) in rows {
+            assert_eq!(rt; word_number(text), number, "at {text:?}");
+        }
+        assert!(rt; is_reserved(b"move"));
+        assert!(rt; !is_reserved(b"check"));
+        numbers();
+    }
+}
