@@ -9,3 +9,4 @@ pub mod Eights
 pub mod Digits
 pub mod Marks
 pub mod Steps
+pub mod Ends

@@ -1,10 +1,10 @@
 -- The tokens of a query text.
-use Rattle.std.specs.Prelude.{ℕ, zero, suc, ◌+◌, ◌-◌, ◌||◌, ◌==◌, nat_lt, List, [], ◌∷◌, ◌++◌, length, Result, Ok, Err, if◌then◌else◌, codes, nat_eq, unwrap_or}
+use Rattle.std.specs.Prelude.{◌≡◌, ◌<◌, ◌≤◌, ℕ, zero, suc, ◌+◌, ◌-◌, ◌||◌, ◌==◌, nat_lt, List, [], ◌∷◌, ◌++◌, length, Result, Ok, Err, if◌then◌else◌, codes, nat_eq, unwrap_or}
 use Rattle.std.specs.List.{prefix_len, position, starts_with}
 use Rattle.cql_syntax.specs.Words.{input_word, output_word, result_word}
 use Rattle.cql_syntax.specs.declared.token.QueryToken.{QueryToken}
 use Rattle.cql_syntax.specs.declared.token.QueryTokenKind.{QueryTokenKind}
-use Rattle.cql_syntax.specs.declared.token.QueryTokenKind.TheVariants.{Word, End}
+use Rattle.cql_syntax.specs.declared.token.QueryTokenKind.TheVariants.{Word, Number, Mark, End}
 use Rattle.cql_syntax.specs.declared.fault.QueryFault.{QueryFault}
 use Rattle.cql_syntax.specs.declared.fault.QueryReason.TheVariants.{QueryTooLong}
 use Rattle.cql_lexer.specs.declared.context.Context.{Context}
@@ -55,3 +55,17 @@ unfoldable pub tokens_of : List ℕ → Result (List QueryToken) QueryFault
 tokens_of query =
     if nat_lt 65536 (length query) then Err (record { byte = 65536; reason = QueryTooLong })
     else tokens_from 0 0 Any query
+
+-- a token other than the end, with its number in range: there are 69 words and 20 marks
+abbrev pub IsProper : QueryTokenKind → Type 0
+IsProper (Word word) = word < 69
+IsProper (Number number) = number ≤ 999999999
+IsProper (Mark mark) = mark < 20
+IsProper End = ⊥
+IsProper kind = Unit {0}
+
+-- proper tokens, and then one end at this byte
+abbrev pub EndOnce : ℕ → List QueryToken → Type 0
+EndOnce end [] = ⊥
+EndOnce end (token ∷ []) = token ≡ record { at = end; kind = End }
+EndOnce end (token ∷ next ∷ tokens) = IsProper token.kind × EndOnce end (next ∷ tokens)

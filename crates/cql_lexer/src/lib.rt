@@ -9,4 +9,4 @@ mod lexeme;
 mod tests;
 mod tokens;
 
-pub use tokens::{QUERY_LIMIT, query_tokens};
+pub use tokens::{QUERY_LIMIT, query_tokens, tokens_end_once};

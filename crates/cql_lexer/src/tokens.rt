@@ -1,8 +1,9 @@
 //! The tokens of a query text.
 ghost use Rattle.std.specs.Prelude.{◌≡◌, ◌<◌, ◌≤◌, ◌+◌, length, drop, IfOk, OnOk, OnErr};
-ghost use Rattle.std.specs.Prelude.{◌++◌, ◌∷◌, []};
+ghost use Rattle.std.specs.Prelude.{◌++◌, ◌∷◌, [], ℕ, List};
+ghost use Rattle.cql_syntax.specs.declared.token.QueryToken.{QueryToken};
 ghost use Rattle.cql_syntax.specs.Refusals.{Gives};
-ghost use Rattle.cql_lexer.specs.Tokens.{separator_len, token_at, tokens_of};
+ghost use Rattle.cql_lexer.specs.Tokens.{separator_len, token_at, tokens_of, EndOnce};
 
 use crate::characters::{find, is_white, white_len};
 use crate::context::{Context, after};
@@ -86,3 +87,10 @@ pub fn query_tokens(alloc: Global, query: &[u8]) -> Result<Vec<QueryToken>, Refu
     push(&mut tokens, end)?;
     Ok(tokens)
 }
+
+/// A law: the tokens of a query are some with their numbers in range, none of which is an end, and then one end at the
+/// number of the query's bytes.
+#[tactic(auto, using(crate::proofs::Ends::tokens_end))]
+pub fn tokens_end_once()
+    ensures { (query : List ℕ) (tokens : List QueryToken) → tokens_of query ≡ Ok tokens → EndOnce (length query) tokens }
+{}
