@@ -227,6 +227,7 @@ fn tokens_are_by_the_first_rule(rt: HostRuntime) -> Result<(), Fail> {
     )?;
     gives(&rt, alloc, b"//", &[(2, End)])?;
     gives(&rt, alloc, b"// a\r b", &[(7, End)])?;
+    tokens_end_once();
     Ok(())
 }
 
