@@ -1,6 +1,6 @@
 -- The test of legality and its parts.
 use Rattle.std.proofs.Common.{◌≡◌, ℕ, ◌<◌, Bool, true, false, cond, not, ◌&&◌, ◌↔◌, ltb, List, length, refl, inl, inr, sym, ap, ◌∙◌, arith}
-use Rattle.std.proofs.lemmas.Bool.{and_parts, and_from, not-true, not_from_false, ltb-true, cases_lt, false≢true}
+use Rattle.std.proofs.lemmas.Bool.{and_parts, and_from, not-true, not_from_false, ltb-true, lt-ltb, cases_lt, false≢true}
 use Rattle.std.proofs.lemmas.List.{get_or_past}
 use Rattle.cq_position.specs.declared.men.Man.{Man}
 use Rattle.cq_position.specs.declared.men.Man.TheVariants.{K, Q, R, B, N, P, BlackK, BlackQ, BlackR, BlackB, BlackN, BlackP, Empty}
@@ -124,3 +124,13 @@ pub legal_on_board : (p : Board) (m : Move) → length p.men ≡ 64 → legal_te
 legal_on_board p m long h =
     let w = what_moves p m h in
     record { from = owned_on_board p.side p.men m.from long w.own; to = w.to; null = w.null }
+
+-- the test for a null move, and in parts for another move to a square of the board
+pub null_fails : (p : Board) (m : Move) → m.null ≡ true → legal_test p m ≡ false
+unfolding legal_test
+null_fails p m h = rw (can_move_in_parts p m, h) refl
+
+pub passes_in_parts : (p : Board) (m : Move) → m.null ≡ false → m.to < 64
+    → legal_test p m ≡ (reaches p m.from m.to && promotes p m && is_safe p m)
+unfolding legal_test
+passes_in_parts p m h k = rw (can_move_in_parts p m, h, lt-ltb m.to 64 k) refl

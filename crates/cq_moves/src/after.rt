@@ -83,7 +83,7 @@ fn is_passing_capture(position: &Position, m: &Move) -> bool
 }
 
 // Whether there is such a square, and it is this one.
-fn is_goal(goal: Option<Square>, square: Square) -> bool
+pub fn is_goal(goal: Option<Square>, square: Square) -> bool
     ensures { result ≡ attacks.is_goal goal square }
 {
     match goal {

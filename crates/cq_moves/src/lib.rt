@@ -2,5 +2,8 @@
 #![tactic(auto)]
 
 pub mod after;
+pub mod legality;
+pub mod reach;
 
 pub use after::men_after;
+pub use legality::is_legal;
