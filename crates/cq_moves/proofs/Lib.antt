@@ -1,3 +1,4 @@
 pub mod Lists
 pub mod Law
 pub mod Order
+pub mod Room
