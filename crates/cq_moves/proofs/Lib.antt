@@ -1,4 +1,5 @@
 pub mod Lists
 pub mod Law
 pub mod Order
+pub mod Parts
 pub mod Room

@@ -3,7 +3,9 @@
 
 pub mod after;
 pub mod legality;
+pub mod list;
 pub mod reach;
 
 pub use after::men_after;
 pub use legality::is_legal;
+pub use list::legal_moves;
