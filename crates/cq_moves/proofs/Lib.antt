@@ -1,2 +1,4 @@
 pub mod Boards
 pub mod Steps
+pub mod Castled
+pub mod Pawns

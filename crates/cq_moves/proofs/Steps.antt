@@ -66,7 +66,7 @@ goes p m w e =
     }
 
 -- only a pawn promotes
-unpromoted : (man : Man) (p : Board) (m : Move) → moves_as man p m ≡ true → (is_pawn man ≡ true) ⊎ (is_none m.promotion ≡ true)
+pub unpromoted : (man : Man) (p : Board) (m : Move) → moves_as man p m ≡ true → (is_pawn man ≡ true) ⊎ (is_none m.promotion ≡ true)
 unpromoted P p m e = inl refl
 unpromoted BlackP p m e = inl refl
 unpromoted K p m e = inr (and_parts (attacks p.men m.from m.to || castles p m.from m.to true || castles p m.from m.to false) (is_none m.promotion) e).1
@@ -74,7 +74,7 @@ unpromoted BlackK p m e = inr (and_parts (attacks p.men m.from m.to || castles p
 unpromoted Empty p m e = absurd (cc)
 unpromoted _ p m e = inr (and_parts (attacks p.men m.from m.to) (is_none m.promotion) e).1
 
-own_pawn : (side : Side) (man : Man) → is_of_side side man ≡ true → is_pawn man ≡ true → man ≡ pawn_of side
+pub own_pawn : (side : Side) (man : Man) → is_of_side side man ≡ true → is_pawn man ≡ true → man ≡ pawn_of side
 own_pawn White P o e = refl
 own_pawn Black BlackP o e = refl
 own_pawn White _ o e = absurd (cc)
