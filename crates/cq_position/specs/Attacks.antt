@@ -1,5 +1,5 @@
 -- Which squares a man attacks, whatever stands there (FIDE Laws of Chess, articles 3.1 to 3.8).
-use Rattle.std.specs.Prelude.{ℕ, ◌+◌, List, Bool, false, ◌&&◌, ◌||◌, not, ◌==◌, filter}
+use Rattle.std.specs.Prelude.{ℕ, ◌+◌, List, Bool, false, ◌&&◌, ◌||◌, not, ◌==◌, Option, Some, None}
 use Rattle.std.specs.List.{list_any}
 use Rattle.cq_geometry.specs.Squares.{rank_of, squares}
 use Rattle.cq_geometry.specs.Steps.{files_apart, is_king_step, is_knight_step}
@@ -14,6 +14,11 @@ use Rattle.cq_position.specs.Board.{man_at, stands}
 -- whether a man stands on the square
 abbrev pub is_taken : List Man → ℕ → Bool
 is_taken men square = not (stands men square Empty)
+
+-- whether there is such a square, and it is this one
+abbrev pub is_goal : Option ℕ → ℕ → Bool
+is_goal None square = false
+is_goal (Some goal) square = goal == square
 
 -- a pawn attacks the two squares diagonally in front of it
 abbrev pub is_pawn_attack : Side → ℕ → ℕ → Bool
@@ -40,10 +45,18 @@ attacks_as Empty taken a b = false
 unfoldable pub attacks : List Man → ℕ → ℕ → Bool
 attacks men a b = attacks_as (man_at men a) (is_taken men) a b
 
+-- whether on the second square a man of the side stands that attacks the first
+abbrev pub attacker : List Man → Side → ℕ → ℕ → Bool
+attacker men side square from = is_of_side side (man_at men from) && attacks men from square
+
 -- whether a man of the side attacks the square
 unfoldable pub is_attacked : List Man → Side → ℕ → Bool
-is_attacked men side square = list_any (λ a. is_of_side side (man_at men a) && attacks men a square) squares
+is_attacked men side square = list_any (attacker men side square) squares
 
--- whether the side's king is attacked by a man of the opponent
+-- whether the side's king stands on the square and is attacked there by a man of the opponent
+abbrev pub attacked_king : List Man → Side → ℕ → Bool
+attacked_king men side square = stands men square (king_of side) && is_attacked men (opponent side) square
+
+-- whether the side's king is attacked
 unfoldable pub in_check : List Man → Side → Bool
-in_check men side = list_any (λ square. stands men square (king_of side) && is_attacked men (opponent side) square) squares
+in_check men side = list_any (attacked_king men side) squares

@@ -86,17 +86,6 @@ rights_stand men r =
     (not r.white_kingside || are_home men White true) && (not r.white_queenside || are_home men White false)
     && (not r.black_kingside || are_home men Black true) && (not r.black_queenside || are_home men Black false)
 
--- the conditions that every position meets
-pub record IsPosition (b : Board) : Type 0 where
-  pub whole : length b.men ≡ 64
-  pub kings : has_kings b.men ≡ true
-  pub no_pawn_on_edge : has_pawn_on_edge b.men ≡ false
-  pub few_enough : has_too_many_men b.men ≡ false
-  pub rights : rights_stand b.men b.rights ≡ true
-  pub passed : passant_stands b.men b.side b.passant ≡ true
-  pub numbered : 0 < b.number
-  pub fits : b.number < 4294967296
-
 -- the position in which a game begins
 abbrev pub start_board : Board
 start_board = record {

@@ -7,9 +7,10 @@ use Rattle.cq_position.specs.declared.men.Man.TheVariants.{Empty}
 use Rattle.cq_position.specs.declared.men.Side.{Side}
 use Rattle.cq_position.specs.declared.men.Side.TheVariants.{White, Black}
 use Rattle.cq_position.specs.declared.fen.FenFault.{FenFault}
-use Rattle.cq_position.specs.declared.fen.FenFault.TheVariants.{Fields, Placement, Side as BadSide, Castling, EnPassant, Number, Kings, PawnOnEdge, TooManyMen}
+use Rattle.cq_position.specs.declared.fen.FenFault.TheVariants.{Fields, Placement, Side as BadSide, Castling, EnPassant, Number, Kings, PawnOnEdge, TooManyMen, OpponentInCheck}
 use Rattle.cq_position.specs.declared.position.Rights.{Rights}
-use Rattle.cq_position.specs.Men.{man_with_letter}
+use Rattle.cq_position.specs.Men.{man_with_letter, opponent}
+use Rattle.cq_position.specs.Attacks.{in_check}
 use Rattle.cq_position.specs.Board.{Board, are_home, was_passed, has_kings, has_pawn_on_edge, has_too_many_men}
 
 -- the parts of a text between the places of a byte
@@ -128,7 +129,7 @@ field_texts _ = None
 abbrev pub faults : FieldTexts → List (Bool × FenFault)
 faults f = let men = placed_men f.placement in
     (not (is_placement f.placement), Placement) ∷ (not (is_side f.side), BadSide) ∷ (not (is_castling f.castling), Castling) ∷ (not (is_passant f.passant), EnPassant)
-    ∷ (not (is_number f.clock && is_number f.number), Number) ∷ (not (has_kings men), Kings) ∷ (has_pawn_on_edge men, PawnOnEdge) ∷ (has_too_many_men men, TooManyMen) ∷ []
+    ∷ (not (is_number f.clock && is_number f.number), Number) ∷ (not (has_kings men), Kings) ∷ (has_pawn_on_edge men, PawnOnEdge) ∷ (has_too_many_men men, TooManyMen) ∷ (in_check men (opponent (side_named f.side)), OpponentInCheck) ∷ []
 
 -- The position of six fields. A right counts where king and rook stand at home. The clock is not kept, and the number 0 is read as 1.
 abbrev pub board_of : FieldTexts → Board

@@ -14,7 +14,7 @@ use Rattle.cq_position.specs.declared.moves.Move.{Move}
 use Rattle.cq_position.specs.declared.position.Rights.{Rights}
 use Rattle.cq_position.specs.Men.{is_of_side, opponent, king_of, rook_of}
 use Rattle.cq_position.specs.Board.{Board, man_at, stands, castling_right, king_home, rook_home, is_pawn}
-use Rattle.cq_position.specs.Attacks.{is_taken, is_pawn_attack, attacks, is_attacked, in_check}
+use Rattle.cq_position.specs.Attacks.{is_goal, is_taken, is_pawn_attack, attacks, is_attacked, in_check}
 use Rattle.cq_position.specs.Moves.{null_move}
 
 -- no promotion
@@ -47,17 +47,13 @@ is_double_step Black a b = (rank_of a == 6) && (a == b + 16)
 abbrev pub middle : ℕ → ℕ → ℕ
 middle a b = (a + b) / 2
 
-abbrev pub is_square : Option ℕ → ℕ → Bool
-is_square None square = false
-is_square (Some other) square = other == square
-
 -- A pawn steps to the next square where that is empty, or two squares where both are. It captures what it attacks, and on the en passant square
 -- the pawn that has just passed it.
 abbrev pub pawn_moves : Board → ℕ → ℕ → Bool
 pawn_moves p a b =
     (is_ahead p.side a b && not (is_taken p.men b))
     || (is_double_step p.side a b && not (is_taken p.men (middle a b)) && not (is_taken p.men b))
-    || (is_pawn_attack p.side a b && (is_of_side (opponent p.side) (man_at p.men b) || is_square p.passant b))
+    || (is_pawn_attack p.side a b && (is_of_side (opponent p.side) (man_at p.men b) || is_goal p.passant b))
 
 -- the square to which the king castles, and the one that it crosses, beside which the rook goes
 abbrev pub castling_goal : Side → Bool → ℕ
@@ -112,7 +108,7 @@ abbrev pub is_castling : Board → Move → Bool
 is_castling p m = stands p.men m.from (king_of p.side) && (files_apart m.from m.to == 2)
 
 abbrev pub is_passing_capture : Board → Move → Bool
-is_passing_capture p m = is_pawn (man_at p.men m.from) && (files_apart m.from m.to == 1) && is_square p.passant m.to
+is_passing_capture p m = is_pawn (man_at p.men m.from) && (files_apart m.from m.to == 1) && is_goal p.passant m.to
 
 -- the rook goes over to the other side of the king; the pawn that was passed stands beside the one that captures it
 abbrev pub rook_moved : List Man → Side → Bool → List Man

@@ -1,8 +1,10 @@
 pub mod Men
 pub mod Board
 pub mod Moves
+pub mod Attacks
+pub mod Position
 pub mod Kept
 pub mod Fen
 pub mod Reading
-pub mod Attacks
 pub mod Legal
+pub mod Marks

@@ -4,6 +4,8 @@ ghost use Rattle.cq_position.specs.Fen.{fen_meaning};
 
 use thiserror::Error;
 
+use crate::attacks::is_king_attacked;
+use crate::men::opponent;
 use crate::position::{Position, has_kings, has_pawn_on_edge, has_too_many_men};
 
 mod fields;
@@ -35,6 +37,8 @@ pub enum FenFault {
     PawnOnEdge,
     #[error("more than sixteen men of one side")]
     TooManyMen,
+    #[error("the side not to move is in check")]
+    OpponentInCheck,
 }
 
 /// Reads a position from the text of its FEN, or answers the first fault that applies.
@@ -64,6 +68,9 @@ pub fn read_fen(text: &[u8]) -> Result<Position, FenFault>
     }
     if has_too_many_men(&men) {
         return Err(FenFault::TooManyMen);
+    }
+    if is_king_attacked(&men, opponent(side)) {
+        return Err(FenFault::OpponentInCheck);
     }
     let rights = rights_kept(&men, fields.castling);
     let passant = passant_kept(&men, side, fields.passant);

@@ -97,3 +97,23 @@ pub fn is_of_side(man: Man, side: Side) -> bool
         Side::Black => 6 <= number && number < 12,
     }
 }
+
+/// The other side.
+pub fn opponent(side: Side) -> Side
+    ensures { result ≡ men_spec.opponent side }
+{
+    match side {
+        Side::White => Side::Black,
+        Side::Black => Side::White,
+    }
+}
+
+/// The king of a side.
+pub fn king_of(side: Side) -> Man
+    ensures { result ≡ men_spec.king_of side }
+{
+    match side {
+        Side::White => Man::K,
+        Side::Black => Man::BlackK,
+    }
+}

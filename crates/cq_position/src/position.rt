@@ -1,8 +1,9 @@
 //! Positions.
 ghost use Rattle.std.specs.Prelude.{◌≡◌, ◌<◌};
 ghost use Rattle.std.specs.List.{list_any};
-ghost use Rattle.cq_position.specs.Board.{man_at, castling_right, start_board, IsPosition, count_of};
+ghost use Rattle.cq_position.specs.Board.{man_at, castling_right, start_board, count_of};
 ghost use Rattle.cq_position.specs.Board as board;
+ghost use Rattle.cq_position.specs.Position.{IsPosition};
 
 use crate::men::{Man, Side, is_of_side, is_same};
 use cq_geometry::Square;
@@ -20,8 +21,8 @@ pub struct Rights {
 /// A position: contracts see its board.
 ///
 /// It has one king of each side, no pawn on the first and the last rank and at most sixteen men of a side. A right to castle stands only
-/// with king and rook at home, and an en passant square only where the opponent's pawn can just have passed it. The number of the move is at
-/// least 1.
+/// with king and rook at home, and an en passant square only where the opponent's pawn can just have passed it. The side that is not to move
+/// is not in check. The number of the move is at least 1.
 #[derive(Clone, Copy, Debug, PartialEq, Eq)]
 pub struct Position {
     number: u32,
@@ -37,7 +38,7 @@ impl Model for Position {
     ghost Value = { Board };
 
     ghost use Rattle.cq_position.specs.Kept.{board_inside, inside_of};
-    ghost use Rattle.cq_position.specs.Board.{IsPosition};
+    ghost use Rattle.cq_position.specs.Position.{IsPosition};
 
     ghost view = { board_inside };
 
@@ -98,9 +99,18 @@ impl Position {
     /// What stands on a square.
     pub fn at(&self, square: Square) -> Man
         ensures man { result ≡ man_at self.now.men square }
+        ensures board { square < 64 }
         ensures kept { IsPosition self.now }
     {
         self.men[usize::from(square.number())]
+    }
+
+    /// What stands on the squares a1, b1, .. h8.
+    pub fn men(&self) -> &[Man; 64]
+        ensures men { result.now ≡ self.now.men }
+        ensures kept { IsPosition self.now }
+    {
+        &self.men
     }
 
     /// The side to move.

@@ -39,7 +39,7 @@ fn examples_of_the_standard_are_read(rt: HostRuntime) -> Result<(), Fail> {
 
 #[test]
 fn each_fault_is_answered(rt: HostRuntime) {
-    let rows: [(&[u8], FenFault); 12] = [
+    let rows: [(&[u8], FenFault); 13] = [
         (b"", FenFault::Fields),
         (b"8/8/8/8/8/8/8/K1k5 w - - 0", FenFault::Fields),
         (b"8/8/8/8/8/8/7K1/8 x x e4 x x", FenFault::Placement),

@@ -1,0 +1,238 @@
+//! Which squares the men attack.
+ghost use Rattle.std.specs.Prelude.{◌≡◌, ◌&&◌, ◌||◌, ◌<◌};
+ghost use Rattle.cq_geometry.specs.Lines as lines;
+ghost use Rattle.cq_geometry.specs.Steps as steps;
+ghost use Rattle.cq_position.specs.Attacks as attack;
+ghost use Rattle.cq_position.specs.Marks.{Marks, has};
+
+use cq_geometry::{Square, Step, between, file, king_steps, knight_steps, rank, ray};
+
+use crate::men::{Man, Side, is_of_side, is_same, king_of, opponent};
+use crate::position::Position;
+
+/// The squares that the man on a square attacks, whatever stands there: bit k of the answer is square k. An empty square attacks none.
+///
+/// A rook, a bishop and a queen attack along their lines up to and with the first man in the way.
+#[tactic(auto, unfolding(crate::specs::Attacks::attacks))]
+pub fn attacks_from(position: &Position, square: Square) -> u64
+    ensures { Marks result (attack.attacks position.now.men square) }
+{
+    squares_attacked(position.at(square), position.men(), square)
+}
+
+/// Whether the king of a side is attacked.
+pub fn in_check(position: &Position, side: Side) -> bool
+    ensures { result ≡ attack.in_check position.now.men side }
+{
+    is_king_attacked(position.men(), side)
+}
+
+/// Whether the king of a side is attacked on this board.
+pub fn is_king_attacked(men: &[Man; 64], side: Side) -> bool
+    ensures { result ≡ attack.in_check men.now side }
+{
+    for number in 0..64 {
+        if is_attacked_king(men, side, Square::new(number)) {
+            return true;
+        }
+    }
+    false
+}
+
+// Whether the side's king stands on the square and is attacked there.
+fn is_attacked_king(men: &[Man; 64], side: Side, square: Square) -> bool
+    ensures { result ≡ attack.attacked_king men.now side square }
+{
+    is_same(men[usize::from(square.number())], king_of(side)) && is_attacked(men, opponent(side), square)
+}
+
+/// Whether a man of a side attacks a square of this board.
+pub fn is_attacked(men: &[Man; 64], by: Side, square: Square) -> bool
+    ensures { result ≡ attack.is_attacked men.now by square }
+{
+    for number in 0..64 {
+        if is_attacker(men, by, Square::new(number), square) {
+            return true;
+        }
+    }
+    false
+}
+
+// Whether a man of the side attacks from one square to another.
+#[tactic(auto, unfolding(crate::specs::Attacks::attacks))]
+fn is_attacker(men: &[Man; 64], by: Side, from: Square, to: Square) -> bool
+    ensures { result ≡ attack.attacker men.now by to from }
+{
+    let man = men[usize::from(from.number())];
+    is_of_side(man, by) && is_attack(man, men, from, to)
+}
+
+// Whether the man attacks from one square to another.
+fn is_attack(man: Man, men: &[Man; 64], from: Square, to: Square) -> bool
+    ensures { result ≡ attack.attacks_as man (attack.is_taken men.now) from to }
+{
+    match man {
+        Man::K | Man::BlackK => is_king_step(from, to),
+        Man::Q | Man::BlackQ => (is_orthogonal(from, to) || is_diagonal(from, to)) && is_open(men, from, to),
+        Man::R | Man::BlackR => is_orthogonal(from, to) && is_open(men, from, to),
+        Man::B | Man::BlackB => is_diagonal(from, to) && is_open(men, from, to),
+        Man::N | Man::BlackN => is_knight_step(from, to),
+        Man::P => is_pawn_attack(Side::White, from, to),
+        Man::BlackP => is_pawn_attack(Side::Black, from, to),
+        Man::Empty => false,
+    }
+}
+
+fn files_apart(a: Square, b: Square) -> u8
+    ensures { result ≡ steps.files_apart a b }
+{
+    file(a).abs_diff(file(b))
+}
+
+fn ranks_apart(a: Square, b: Square) -> u8
+    ensures { result ≡ steps.ranks_apart a b }
+{
+    rank(a).abs_diff(rank(b))
+}
+
+fn is_king_step(a: Square, b: Square) -> bool
+    ensures { result ≡ steps.is_king_step a b }
+{
+    files_apart(a, b).max(ranks_apart(a, b)) == 1
+}
+
+fn is_knight_step(a: Square, b: Square) -> bool
+    ensures { result ≡ steps.is_knight_step a b }
+{
+    let files = files_apart(a, b);
+    let ranks = ranks_apart(a, b);
+    files == 1 && ranks == 2 || files == 2 && ranks == 1
+}
+
+fn is_pawn_attack(side: Side, a: Square, b: Square) -> bool
+    ensures { result ≡ attack.is_pawn_attack side a b }
+{
+    match side {
+        Side::White => rank(b) == rank(a) + 1 && files_apart(a, b) == 1,
+        Side::Black => rank(a) == rank(b) + 1 && files_apart(a, b) == 1,
+    }
+}
+
+fn is_orthogonal(a: Square, b: Square) -> bool
+    ensures { result ≡ lines.is_orthogonal a b }
+{
+    a.number() != b.number() && (file(a) == file(b) || rank(a) == rank(b))
+}
+
+fn is_diagonal(a: Square, b: Square) -> bool
+    ensures { result ≡ lines.is_diagonal a b }
+{
+    a.number() != b.number() && (7 + rank(a) - file(a) == 7 + rank(b) - file(b) || file(a) + rank(a) == file(b) + rank(b))
+}
+
+// Whether no man stands between two squares.
+fn is_open(men: &[Man; 64], a: Square, b: Square) -> bool
+    ensures { result ≡ lines.is_open (attack.is_taken men.now) a b }
+{
+    between(a, b).as_slice().iter().all(|square| !is_taken(men, *square))
+}
+
+fn is_taken(men: &[Man; 64], square: Square) -> bool
+    ensures { result ≡ attack.is_taken men.now square }
+{
+    !is_same(men[usize::from(square.number())], Man::Empty)
+}
+
+// The squares that the man attacks from a square.
+#[tactic(auto, using(crate::proofs::Marked::marks_queen, crate::proofs::Marked::marks_none))]
+fn squares_attacked(man: Man, men: &[Man; 64], from: Square) -> u64
+    requires { from < 64 }
+    ensures { Marks result (attack.attacks_as man (attack.is_taken men.now) from) }
+{
+    match man {
+        Man::K | Man::BlackK => king_squares(from),
+        Man::Q | Man::BlackQ => orthogonal_squares(men, from) | diagonal_squares(men, from),
+        Man::R | Man::BlackR => orthogonal_squares(men, from),
+        Man::B | Man::BlackB => diagonal_squares(men, from),
+        Man::N | Man::BlackN => knight_squares(from),
+        Man::P => pawn_squares(Side::White, from),
+        Man::BlackP => pawn_squares(Side::Black, from),
+        Man::Empty => 0,
+    }
+}
+
+fn king_squares(from: Square) -> u64
+    ensures { Marks result (steps.is_king_step from) }
+{
+    marked(king_steps(from).as_slice())
+}
+
+fn knight_squares(from: Square) -> u64
+    ensures { Marks result (steps.is_knight_step from) }
+{
+    marked(knight_steps(from).as_slice())
+}
+
+fn orthogonal_squares(men: &[Man; 64], from: Square) -> u64
+    requires { from < 64 }
+    ensures { Marks result (λ to. lines.is_orthogonal from to && lines.is_open (attack.is_taken men.now) from to) }
+{
+    seen(men, ray::<0, 1>(from).as_slice())
+        | seen(men, ray::<0, -1>(from).as_slice())
+        | seen(men, ray::<-1, 0>(from).as_slice())
+        | seen(men, ray::<1, 0>(from).as_slice())
+}
+
+fn diagonal_squares(men: &[Man; 64], from: Square) -> u64
+    requires { from < 64 }
+    ensures { Marks result (λ to. lines.is_diagonal from to && lines.is_open (attack.is_taken men.now) from to) }
+{
+    seen(men, ray::<1, 1>(from).as_slice())
+        | seen(men, ray::<-1, 1>(from).as_slice())
+        | seen(men, ray::<1, -1>(from).as_slice())
+        | seen(men, ray::<-1, -1>(from).as_slice())
+}
+
+// The squares up to and with the first that is taken.
+fn seen(men: &[Man; 64], squares: &[Square]) -> u64
+    ensures { Marks result (has (lines.seen (attack.is_taken men.now) squares.now)) }
+{
+    let mut mask = 0;
+    for square in squares {
+        mask |= 1 << square.number();
+        if is_taken(men, *square) {
+            return mask;
+        }
+    }
+    mask
+}
+
+// The squares of a list.
+fn marked(squares: &[Square]) -> u64
+    ensures { Marks result (has squares.now) }
+{
+    let mut mask = 0;
+    for square in squares {
+        mask |= 1 << square.number();
+    }
+    mask
+}
+
+fn pawn_squares(side: Side, from: Square) -> u64
+    requires { from < 64 }
+    ensures { Marks result (attack.is_pawn_attack side from) }
+{
+    match side {
+        Side::White => mark(Step::<-1, 1>::step(from)) | mark(Step::<1, 1>::step(from)),
+        Side::Black => mark(Step::<-1, -1>::step(from)) | mark(Step::<1, -1>::step(from)),
+    }
+}
+
+fn mark(square: Option<Square>) -> u64
+    ensures { Marks result (attack.is_goal square) }
+{
+    match square {
+        Some(square) => 1 << square.number(),
+        None => 0,
+    }
+}
