@@ -75,9 +75,9 @@ rank_free men start end square w h none low high =
     let short : square - start < length (slice_range men start end) = omega (arith, length-between men start end h) in
     false_from_ne_true (is_pawn (man_at men square)) (λ e.
     let read : get_or (slice_range men start end) (square - start) Empty ≡ man_at men square
-        = get_or-between men start end (square - start) Empty (omega arith) ∙ ap (λ k. man_at men k) there in
+    = get_or-between men start end (square - start) Empty (omega arith) ∙ ap (λ k. man_at men k) there in
     let some : list_any is_pawn (slice_range men start end) ≡ true
-        = list_any_at is_pawn (slice_range men start end) (square - start) Empty short (ap is_pawn read ∙ e) in
+    = list_any_at is_pawn (slice_range men start end) (square - start) Empty short (ap is_pawn read ∙ e) in
     let bad : false ≡ true = sym none ∙ some in cc)
 
 edge_free : (men : List Man) → length men ≡ 64 → list_any is_pawn (slice_range men 0 8) ≡ false → list_any is_pawn (slice_range men 56 64) ≡ false

@@ -30,20 +30,44 @@ pub record CastlingSquares (side : Side) (kingside : Bool) : Type 0 where
 
 pub castling_squares : (side : Side) (kingside : Bool) → CastlingSquares side kingside
 castling_squares White true = record {
-  rook_board = omega arith; crossed_board = omega arith; rook_king = omega arith; rook_goal = omega arith;
-  crossed_king = omega arith; crossed_goal = omega arith; crossed_rook = omega arith; way = refl;
+  rook_board = omega arith;
+  crossed_board = omega arith;
+  rook_king = omega arith;
+  rook_goal = omega arith;
+  crossed_king = omega arith;
+  crossed_goal = omega arith;
+  crossed_rook = omega arith;
+  way = refl;
 }
 castling_squares White false = record {
-  rook_board = omega arith; crossed_board = omega arith; rook_king = omega arith; rook_goal = omega arith;
-  crossed_king = omega arith; crossed_goal = omega arith; crossed_rook = omega arith; way = refl;
+  rook_board = omega arith;
+  crossed_board = omega arith;
+  rook_king = omega arith;
+  rook_goal = omega arith;
+  crossed_king = omega arith;
+  crossed_goal = omega arith;
+  crossed_rook = omega arith;
+  way = refl;
 }
 castling_squares Black true = record {
-  rook_board = omega arith; crossed_board = omega arith; rook_king = omega arith; rook_goal = omega arith;
-  crossed_king = omega arith; crossed_goal = omega arith; crossed_rook = omega arith; way = refl;
+  rook_board = omega arith;
+  crossed_board = omega arith;
+  rook_king = omega arith;
+  rook_goal = omega arith;
+  crossed_king = omega arith;
+  crossed_goal = omega arith;
+  crossed_rook = omega arith;
+  way = refl;
 }
 castling_squares Black false = record {
-  rook_board = omega arith; crossed_board = omega arith; rook_king = omega arith; rook_goal = omega arith;
-  crossed_king = omega arith; crossed_goal = omega arith; crossed_rook = omega arith; way = refl;
+  rook_board = omega arith;
+  crossed_board = omega arith;
+  rook_king = omega arith;
+  rook_goal = omega arith;
+  crossed_king = omega arith;
+  crossed_goal = omega arith;
+  crossed_rook = omega arith;
+  way = refl;
 }
 
 -- and apart from the home squares of the opponent
@@ -93,8 +117,8 @@ five_parts a b c d e t =
 castles_so : (p : Board) (m : Move) (kingside : Bool) → castles p m.from m.to kingside ≡ true → Castles p m kingside
 castles_so p m kingside e =
     let t = five_parts (m.from == king_home p.side) (m.to == castling_goal p.side kingside) (castling_right p.rights p.side kingside)
-      (is_open (is_taken p.men) (king_home p.side) (rook_home p.side kingside))
-      (list_all (λ square. not (is_attacked p.men (opponent p.side) square)) (m.from ∷ castling_crossed p.side kingside ∷ m.to ∷ [])) e in
+    (is_open (is_taken p.men) (king_home p.side) (rook_home p.side kingside))
+    (list_all (λ square. not (is_attacked p.men (opponent p.side) square)) (m.from ∷ castling_crossed p.side kingside ∷ m.to ∷ [])) e in
     let crossed = castling_crossed p.side kingside in
     record {
       from_is = eqb-true m.from (king_home p.side) t.0;

@@ -111,13 +111,13 @@ moved_keeps p m w free g =
     record {
       whole = length-set_man left m.to lands short;
       kings = λ s.
-        let total = moved_count (λ x. same_man x (king_of s)) p m w g (no_king s) (l.kings s) in
-        let nothing : counted (stands p.men m.to (king_of s)) ≡ 0 = ap counted (no_king_there p m g s) in
-        omega (arith, total, nothing);
+          let total = moved_count (λ x. same_man x (king_of s)) p m w g (no_king s) (l.kings s) in
+          let nothing : counted (stands p.men m.to (king_of s)) ≡ 0 = ap counted (no_king_there p m g s) in
+          omega (arith, total, nothing);
       few = λ s. let total = moved_count (is_of_side s) p m w g (no_man s) (l.sides s) in omega (arith, total);
       edge =
-        EdgeFree-set left m.to lands (omega (arith, g.to_board, short)) (no_pawn_lands p m g)
-        (EdgeFree-set p.men m.from Empty (omega (arith, g.from_board)) (λ _. no_pawn_empty) free);
+          EdgeFree-set left m.to lands (omega (arith, g.to_board, short)) (no_pawn_lands p m g)
+          (EdgeFree-set p.men m.from Empty (omega (arith, g.from_board)) (λ _. no_pawn_empty) free);
     }
 
 rook_keeps : (old men : List Man) (side : Side) (kingside : Bool) → Keeps old men → man_at men (rook_home side kingside) ≡ rook_of side
@@ -133,8 +133,8 @@ rook_keeps old men side kingside k rook crossed =
       kings = λ t. rook_count (λ x. same_man x (king_of t)) men side kingside k.whole (no_king t) rook crossed ∙ k.kings t;
       few = λ t. let same = rook_count (is_of_side t) men side kingside k.whole (no_man t) rook crossed in omega (arith, same, k.few t);
       edge =
-        EdgeFree-set left over (rook_of side) (omega (arith, s.crossed_board, short)) (λ _. rook_no_pawn side)
-        (EdgeFree-set men home Empty (omega (arith, s.rook_board, k.whole)) (λ _. no_pawn_empty) k.edge);
+          EdgeFree-set left over (rook_of side) (omega (arith, s.crossed_board, short)) (λ _. rook_no_pawn side)
+          (EdgeFree-set men home Empty (omega (arith, s.rook_board, k.whole)) (λ _. no_pawn_empty) k.edge);
     }
 
 -- a pawn is taken from its square
@@ -144,15 +144,15 @@ taken_keeps old men square side k h pawn =
     record {
       whole = length-set_man men square Empty k.whole;
       kings = λ s.
-        let total = count-set (λ x. same_man x (king_of s)) men square Empty in_board in
-        let king : counted (same_man (man_at men square) (king_of s)) ≡ 0 = ap (λ x. counted (same_man x (king_of s))) pawn ∙ ap counted (pawn_no_king s side) in
-        let nothing : counted (same_man Empty (king_of s)) ≡ 0 = ap counted (no_king s) in
-        let same : count_of (king_of s) (slice_set men square Empty) ≡ count_of (king_of s) men = omega (arith, total, king, nothing) in
-        same ∙ k.kings s;
+          let total = count-set (λ x. same_man x (king_of s)) men square Empty in_board in
+          let king : counted (same_man (man_at men square) (king_of s)) ≡ 0 = ap (λ x. counted (same_man x (king_of s))) pawn ∙ ap counted (pawn_no_king s side) in
+          let nothing : counted (same_man Empty (king_of s)) ≡ 0 = ap counted (no_king s) in
+          let same : count_of (king_of s) (slice_set men square Empty) ≡ count_of (king_of s) men = omega (arith, total, king, nothing) in
+          same ∙ k.kings s;
       few = λ s.
-        let total = count-set (is_of_side s) men square Empty in_board in
-        let nothing : counted (is_of_side s Empty) ≡ 0 = ap counted (no_man s) in
-        omega (arith, total, nothing, k.few s);
+          let total = count-set (is_of_side s) men square Empty in_board in
+          let nothing : counted (is_of_side s Empty) ≡ 0 = ap counted (no_man s) in
+          omega (arith, total, nothing, k.few s);
       edge = EdgeFree-set men square Empty in_board (λ _. no_pawn_empty) k.edge;
     }
 
@@ -215,20 +215,20 @@ home_after p m stood g w s kingside e =
     let k = right_kept p m s kingside e in
     let home = home_of p.men s kingside (rights_at p.men p.rights s kingside stood k.right) in
     let king_from : king_home s ≢ m.from = λ same.
-      let bad : false ≡ true = sym k.no_king ∙ stands_there p.men m.from (king_of s) (ap (man_at p.men) (sym same) ∙ home.king) in cc in
+    let bad : false ≡ true = sym k.no_king ∙ stands_there p.men m.from (king_of s) (ap (man_at p.men) (sym same) ∙ home.king) in cc in
     let king_to : king_home s ≢ m.to = λ same.
-      let bad : false ≡ true = sym (no_king_there p m g s) ∙ stands_there p.men m.to (king_of s) (ap (man_at p.men) (sym same) ∙ home.king) in cc in
+    let bad : false ≡ true = sym (no_king_there p m g s) ∙ stands_there p.men m.to (king_of s) (ap (man_at p.men) (sym same) ∙ home.king) in cc in
     let other : stands p.men m.from (king_of p.side) ≡ true → s ≡ opponent p.side = λ king. elim (same_or_other s p.side) [
       | inl own ↦ let bad : false ≡ true = sym k.no_king ∙ ap (λ t. stands p.men m.from (king_of t)) own ∙ king in absurd (cc)
       | inr theirs ↦ theirs
     ] in
     let king = same_after p m w (king_home s) king_from king_to
-      (λ side king. let o = other_home p.side side kingside in (λ x. o.king_rook (ap king_home (sym (other king)) ∙ x), λ x. o.king_crossed (ap king_home (sym (other king)) ∙ x)))
-      (λ x. king_not_pawn s (opponent p.side) (sym home.king ∙ x)) in
+    (λ side king. let o = other_home p.side side kingside in (λ x. o.king_rook (ap king_home (sym (other king)) ∙ x), λ x. o.king_crossed (ap king_home (sym (other king)) ∙ x)))
+    (λ x. king_not_pawn s (opponent p.side) (sym home.king ∙ x)) in
     let rook = same_after p m w (rook_home s kingside) k.from k.to
-      (λ side king. let o = other_home p.side side kingside in
-        (λ x. o.rook_rook (ap (λ t. rook_home t kingside) (sym (other king)) ∙ x), λ x. o.rook_crossed (ap (λ t. rook_home t kingside) (sym (other king)) ∙ x)))
-      (λ x. rook_not_pawn s (opponent p.side) (sym home.rook ∙ x)) in
+    (λ side king. let o = other_home p.side side kingside in
+    (λ x. o.rook_rook (ap (λ t. rook_home t kingside) (sym (other king)) ∙ x), λ x. o.rook_crossed (ap (λ t. rook_home t kingside) (sym (other king)) ∙ x)))
+    (λ x. rook_not_pawn s (opponent p.side) (sym home.rook ∙ x)) in
     and_from (stands (men_after p m) (king_home s) (king_of s)) (stands (men_after p m) (rook_home s kingside) (rook_of s))
     (stands_there (men_after p m) (king_home s) (king_of s) (king ∙ home.king)) (stands_there (men_after p m) (rook_home s kingside) (rook_of s) (rook ∙ home.rook))
 
@@ -352,3 +352,17 @@ after_pass-IsPosition p i safe = record {
   numbered = raised_some p.side p.number i.numbered;
   fits = raised_fits p.side p.number i.fits;
 }
+
+-- the parts of the position after a move, as a body has them
+abbrev pub made_of : Board → Move → Board
+made_of p m = record { men = men_after p m; side = opponent p.side; rights = rights_after p m; passant = passant_after p m; number = number_after p }
+
+after_is_made : (p : Board) (m : Move) → after p m ≡ made_of p m
+unfolding after
+after_is_made p m = refl
+
+pub made-IsPosition : (p : Board) (m : Move) → IsPosition p → ((q : Board) × Legal p m q) → IsPosition (made_of p m)
+made-IsPosition p m i l = subst IsPosition (l.1.leads ∙ after_is_made p m) (legal-IsPosition p m l.0 i l.1)
+
+pub made-Legal : (p : Board) (m : Move) → ((q : Board) × Legal p m q) → Legal p m (made_of p m)
+made-Legal p m l = subst (Legal p m) (l.1.leads ∙ after_is_made p m) l.1

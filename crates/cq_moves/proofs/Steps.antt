@@ -55,7 +55,7 @@ pub goes : (p : Board) (m : Move) → length p.men ≡ 64 → can_move p m ≡ t
 unfolding can_move
 goes p m w e =
     let t = six_parts (not m.null) (nat_lt m.to 64) (is_of_side p.side (man_at p.men m.from)) (not (is_of_side p.side (man_at p.men m.to)))
-      (not (stands p.men m.to (king_of (opponent p.side)))) (moves_as (man_at p.men m.from) p m) e in
+    (not (stands p.men m.to (king_of (opponent p.side)))) (moves_as (man_at p.men m.from) p m) e in
     record {
       to_board = ltb-true m.to 64 t.0;
       from_board = on_board p.side p.men m.from w t.1;

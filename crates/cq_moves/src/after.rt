@@ -1,9 +1,10 @@
 //! The men on the board after a move.
-ghost use Rattle.std.specs.Prelude.{◌≡◌};
+ghost use Rattle.std.specs.Prelude.{◌≡◌, ◌<◌};
 ghost use Rattle.cq_geometry.specs.Steps as steps;
 ghost use Rattle.cq_position.specs.Attacks as attacks;
 ghost use Rattle.cq_position.specs.Board as board;
 ghost use Rattle.cq_position.specs.Legal as legal;
+ghost use Rattle.cq_position.specs.Men as men_spec;
 
 use cq_geometry::{Square, file, rank, square_at};
 use cq_position::{Man, Move, Position, Promotion, Side, is_same, king_of};
@@ -63,14 +64,43 @@ fn is_castling(position: &Position, m: &Move) -> bool
 fn move_rook(men: &mut [Man; 64], side: Side, kingside: bool)
     ensures { men.new ≡ legal.rook_moved men.old side kingside }
 {
-    let (home, goal, rook) = match (side, kingside) {
-        (Side::White, true) => (7, 5, Man::R),
-        (Side::White, false) => (0, 3, Man::R),
-        (Side::Black, true) => (63, 61, Man::BlackR),
-        (Side::Black, false) => (56, 59, Man::BlackR),
-    };
-    men[home] = Man::Empty;
-    men[goal] = rook;
+    men[usize::from(rook_home(side, kingside))] = Man::Empty;
+    men[usize::from(castling_crossed(side, kingside))] = rook_of(side);
+}
+
+/// The number of the square on which the rook on the king's side or the queen's stands at home.
+pub fn rook_home(side: Side, kingside: bool) -> u8
+    ensures home { result ≡ board.rook_home side kingside }
+    ensures board { result < 64 }
+{
+    match (side, kingside) {
+        (Side::White, true) => 7,
+        (Side::White, false) => 0,
+        (Side::Black, true) => 63,
+        (Side::Black, false) => 56,
+    }
+}
+
+// The number of the square that the king crosses.
+fn castling_crossed(side: Side, kingside: bool) -> u8
+    ensures crossed { result ≡ legal.castling_crossed side kingside }
+    ensures board { result < 64 }
+{
+    match (side, kingside) {
+        (Side::White, true) => 5,
+        (Side::White, false) => 3,
+        (Side::Black, true) => 61,
+        (Side::Black, false) => 59,
+    }
+}
+
+fn rook_of(side: Side) -> Man
+    ensures { result ≡ men_spec.rook_of side }
+{
+    match side {
+        Side::White => Man::R,
+        Side::Black => Man::BlackR,
+    }
 }
 
 // A pawn that goes to the en passant square captures there.

@@ -2,5 +2,7 @@
 #![tactic(auto)]
 
 pub mod after;
+pub mod next_position;
 
 pub use after::men_after;
+pub use next_position::play;
