@@ -1,3 +1,7 @@
+pub mod Lists
+pub mod Law
+pub mod Order
+pub mod Room
 pub mod Boards
 pub mod Steps
 pub mod Castled

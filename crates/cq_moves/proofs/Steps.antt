@@ -14,7 +14,7 @@ use Rattle.cq_position.specs.Men.{same_man, is_of_side, opponent, king_of, pawn_
 use Rattle.cq_position.specs.Board.{Board, man_at, stands, is_pawn, king_home}
 use Rattle.cq_position.specs.Attacks.{attacks}
 use Rattle.cq_position.specs.Legal.{can_move, moves_as, castles, pawn_moves, promotes_rightly, is_none, promoted}
-use Rattle.cq_moves.proofs.Boards.{stands-is}
+use Rattle.cq_moves.proofs.Law.{owned_on_board}
 
 -- a man of the side to move goes to a square of the board on which no man of its side and no king stands
 pub record Goes (p : Board) (m : Move) : Type 0 where
@@ -38,19 +38,6 @@ six_parts true b c d e f t =
     (c'.0, c'.1, d'.1, e'.1, f'.1)
 six_parts false b c d e f t = absurd (cc)
 
-no_man_of_side : (side : Side) → is_of_side side Empty ≡ false
-no_man_of_side White = refl
-no_man_of_side Black = refl
-
-on_board : (side : Side) (men : List Man) (square : ℕ) → length men ≡ 64 → is_of_side side (man_at men square) ≡ true → square < 64
-on_board side men square w own = elim (cases_lt square 64) [
-  | inl lt ↦ lt
-  | inr le ↦
-      let past : man_at men square ≡ Empty = get_or_past men square Empty (omega arith) in
-      let e : false ≡ true = sym (no_man_of_side side) ∙ ap (is_of_side side) (sym past) ∙ own in
-      absurd (cc)
-]
-
 pub goes : (p : Board) (m : Move) → length p.men ≡ 64 → can_move p m ≡ true → Goes p m
 unfolding can_move
 goes p m w e =
@@ -58,7 +45,7 @@ goes p m w e =
     (not (stands p.men m.to (king_of (opponent p.side)))) (moves_as (man_at p.men m.from) p m) e in
     record {
       to_board = ltb-true m.to 64 t.0;
-      from_board = on_board p.side p.men m.from w t.1;
+      from_board = owned_on_board p.side p.men m.from w t.1;
       own = t.1;
       not_own = not-true (is_of_side p.side (man_at p.men m.to)) t.2;
       no_king = not-true (stands p.men m.to (king_of (opponent p.side))) t.3;

@@ -1,11 +1,12 @@
 //! The men on the board after a move.
-ghost use Rattle.std.specs.Prelude.{◌≡◌, ◌<◌};
+ghost use Rattle.std.specs.Prelude.{◌≡◌};
 ghost use Rattle.cq_geometry.specs.Steps as steps;
 ghost use Rattle.cq_position.specs.Attacks as attacks;
 ghost use Rattle.cq_position.specs.Board as board;
 ghost use Rattle.cq_position.specs.Legal as legal;
 ghost use Rattle.cq_position.specs.Men as men_spec;
 
+use crate::castling::{castling_crossed, rook_home};
 use cq_geometry::{Square, file, rank, square_at};
 use cq_position::{Man, Move, Position, Promotion, Side, is_same, king_of};
 
@@ -64,34 +65,8 @@ fn is_castling(position: &Position, m: &Move) -> bool
 fn move_rook(men: &mut [Man; 64], side: Side, kingside: bool)
     ensures { men.new ≡ legal.rook_moved men.old side kingside }
 {
-    men[usize::from(rook_home(side, kingside))] = Man::Empty;
-    men[usize::from(castling_crossed(side, kingside))] = rook_of(side);
-}
-
-/// The number of the square on which the rook on the king's side or the queen's stands at home.
-pub fn rook_home(side: Side, kingside: bool) -> u8
-    ensures home { result ≡ board.rook_home side kingside }
-    ensures board { result < 64 }
-{
-    match (side, kingside) {
-        (Side::White, true) => 7,
-        (Side::White, false) => 0,
-        (Side::Black, true) => 63,
-        (Side::Black, false) => 56,
-    }
-}
-
-// The number of the square that the king crosses.
-fn castling_crossed(side: Side, kingside: bool) -> u8
-    ensures crossed { result ≡ legal.castling_crossed side kingside }
-    ensures board { result < 64 }
-{
-    match (side, kingside) {
-        (Side::White, true) => 5,
-        (Side::White, false) => 3,
-        (Side::Black, true) => 61,
-        (Side::Black, false) => 59,
-    }
+    men[usize::from(rook_home(side, kingside).number())] = Man::Empty;
+    men[usize::from(castling_crossed(side, kingside).number())] = rook_of(side);
 }
 
 fn rook_of(side: Side) -> Man
@@ -113,7 +88,7 @@ fn is_passing_capture(position: &Position, m: &Move) -> bool
 }
 
 // Whether there is such a square, and it is this one.
-fn is_goal(goal: Option<Square>, square: Square) -> bool
+pub fn is_goal(goal: Option<Square>, square: Square) -> bool
     ensures { result ≡ attacks.is_goal goal square }
 {
     match goal {
@@ -141,4 +116,11 @@ pub fn ranks_apart(a: Square, b: Square) -> u8
     ensures { result ≡ steps.ranks_apart a b }
 {
     rank(a).abs_diff(rank(b))
+}
+
+/// The square in the middle between two.
+pub fn middle(a: Square, b: Square) -> Square
+    ensures { result ≡ legal.middle a b }
+{
+    Square::new((a.number() + b.number()) / 2)
 }

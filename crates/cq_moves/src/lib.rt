@@ -2,7 +2,11 @@
 #![tactic(auto)]
 
 pub mod after;
+pub mod castling;
+pub mod legality;
 pub mod next_position;
+pub mod reach;
 
 pub use after::men_after;
+pub use legality::is_legal;
 pub use next_position::play;

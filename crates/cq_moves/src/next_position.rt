@@ -4,7 +4,8 @@ ghost use Rattle.cq_position.specs.Board.{Board};
 ghost use Rattle.cq_position.specs.Legal.{Legal};
 ghost use Rattle.cq_position.specs.Legal as legal;
 
-use crate::after::{is_pawn, men_after, ranks_apart, rook_home};
+use crate::after::{is_pawn, men_after, middle, ranks_apart};
+use crate::castling::rook_home;
 use cq_geometry::Square;
 use cq_position::{Move, Position, Rights, Side, is_same, king_of, opponent};
 
@@ -50,7 +51,7 @@ fn rights_after(position: &Position, m: &Move) -> Rights
 fn right_after(position: &Position, m: &Move, side: Side, kingside: bool) -> bool
     ensures { result ≡ legal.right_after position.now m.now side kingside }
 {
-    let home = rook_home(side, kingside);
+    let home = rook_home(side, kingside).number();
     position.may_castle(side, kingside)
         && !is_same(position.at(m.from), king_of(side))
         && m.from.number() != home
@@ -65,11 +66,4 @@ fn passant_after(position: &Position, m: &Move) -> Option<Square>
     } else {
         None
     }
-}
-
-// The square in the middle between two.
-fn middle(a: Square, b: Square) -> Square
-    ensures { result ≡ legal.middle a b }
-{
-    Square::new((a.number() + b.number()) / 2)
 }
