@@ -67,3 +67,6 @@ fn passant_after(position: &Position, m: &Move) -> Option<Square>
         None
     }
 }
+
+#[cfg(test)]
+mod tests;
