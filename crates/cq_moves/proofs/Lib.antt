@@ -3,3 +3,9 @@ pub mod Law
 pub mod Order
 pub mod Parts
 pub mod Room
+pub mod Boards
+pub mod Steps
+pub mod Castled
+pub mod Pawns
+pub mod Ways
+pub mod Kept

@@ -4,7 +4,9 @@ ghost use Rattle.cq_geometry.specs.Steps as steps;
 ghost use Rattle.cq_position.specs.Attacks as attacks;
 ghost use Rattle.cq_position.specs.Board as board;
 ghost use Rattle.cq_position.specs.Legal as legal;
+ghost use Rattle.cq_position.specs.Men as men_spec;
 
+use crate::castling::{castling_crossed, rook_home};
 use cq_geometry::{Square, file, rank, square_at};
 use cq_position::{Man, Move, Position, Promotion, Side, is_same, king_of};
 
@@ -63,14 +65,17 @@ fn is_castling(position: &Position, m: &Move) -> bool
 fn move_rook(men: &mut [Man; 64], side: Side, kingside: bool)
     ensures { men.new ≡ legal.rook_moved men.old side kingside }
 {
-    let (home, goal, rook) = match (side, kingside) {
-        (Side::White, true) => (7, 5, Man::R),
-        (Side::White, false) => (0, 3, Man::R),
-        (Side::Black, true) => (63, 61, Man::BlackR),
-        (Side::Black, false) => (56, 59, Man::BlackR),
-    };
-    men[home] = Man::Empty;
-    men[goal] = rook;
+    men[usize::from(rook_home(side, kingside).number())] = Man::Empty;
+    men[usize::from(castling_crossed(side, kingside).number())] = rook_of(side);
+}
+
+fn rook_of(side: Side) -> Man
+    ensures { result ≡ men_spec.rook_of side }
+{
+    match side {
+        Side::White => Man::R,
+        Side::Black => Man::BlackR,
+    }
 }
 
 // A pawn that goes to the en passant square captures there.
@@ -111,4 +116,11 @@ pub fn ranks_apart(a: Square, b: Square) -> u8
     ensures { result ≡ steps.ranks_apart a b }
 {
     rank(a).abs_diff(rank(b))
+}
+
+/// The square in the middle between two.
+pub fn middle(a: Square, b: Square) -> Square
+    ensures { result ≡ legal.middle a b }
+{
+    Square::new((a.number() + b.number()) / 2)
 }

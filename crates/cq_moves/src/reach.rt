@@ -2,16 +2,15 @@
 ghost use Rattle.std.specs.Prelude.{◌≡◌, ◌<◌, not};
 ghost use Rattle.std.specs.List.{list_all};
 ghost use Rattle.cq_position.specs.Attacks as attack;
-ghost use Rattle.cq_position.specs.Board as board;
 ghost use Rattle.cq_position.specs.Legal as legal;
 ghost use Rattle.cq_position.specs.Marks.{Marks};
 ghost use Rattle.cq_moves.specs.Reach as parts;
 
+use crate::after::{is_goal, is_pawn, middle};
+use crate::castling::{castling_crossed, castling_goal, king_home, rook_home};
 use cq_geometry::{Square, rank};
 use cq_position::attacks::{is_attacked, is_open, is_pawn_attack, is_taken};
 use cq_position::{Man, Move, Position, Promotion, Side, is_of_side, is_same, king_of, opponent};
-
-use crate::after::{is_goal, is_pawn};
 
 // Whether a man of the side to move goes from one square to another, which holds none of its own men and no king. `attacked` has the
 // squares that the man attacks.
@@ -36,7 +35,9 @@ fn goes(man: Man, position: &Position, attacked: u64, from: Square, to: Square) 
 {
     match man {
         Man::K | Man::BlackK => {
-            attacks(position, attacked, from, to) || castles(position, from, to, true) || castles(position, from, to, false)
+            attacks(position, attacked, from, to)
+                || castles(position, from, to, true)
+                || castles(position, from, to, false)
         }
         Man::P | Man::BlackP => pawn_moves(position, from, to),
         Man::Empty => false,
@@ -82,13 +83,6 @@ fn is_double_step(side: Side, from: Square, to: Square) -> bool
     }
 }
 
-// The square in the middle between two.
-fn middle(a: Square, b: Square) -> Square
-    ensures { result ≡ legal.middle a b }
-{
-    Square::new((a.number() + b.number()) / 2)
-}
-
 // Whether the king castles so.
 fn castles(position: &Position, from: Square, to: Square, kingside: bool) -> bool
     ensures { result ≡ legal.castles position.now from to kingside }
@@ -98,7 +92,11 @@ fn castles(position: &Position, from: Square, to: Square, kingside: bool) -> boo
         && to.number() == castling_goal(side, kingside).number()
         && position.may_castle(side, kingside)
         && is_open(position.men(), king_home(side), rook_home(side, kingside))
-        && are_free(position.men(), opponent(side), [from, castling_crossed(side, kingside), to])
+        && are_free(
+            position.men(),
+            opponent(side),
+            [from, castling_crossed(side, kingside), to],
+        )
 }
 
 // Whether a side attacks none of the squares.
@@ -106,48 +104,6 @@ fn are_free(men: &[Man; 64], by: Side, squares: [Square; 3]) -> bool
     ensures { result ≡ list_all (λ square. not (attack.is_attacked men.now by square)) squares }
 {
     squares.iter().all(|square| !is_attacked(men, by, *square))
-}
-
-fn king_home(side: Side) -> Square
-    ensures { result ≡ board.king_home side }
-{
-    match side {
-        Side::White => Square::new(4),
-        Side::Black => Square::new(60),
-    }
-}
-
-fn rook_home(side: Side, kingside: bool) -> Square
-    ensures { result ≡ board.rook_home side kingside }
-{
-    match (side, kingside) {
-        (Side::White, true) => Square::new(7),
-        (Side::White, false) => Square::new(0),
-        (Side::Black, true) => Square::new(63),
-        (Side::Black, false) => Square::new(56),
-    }
-}
-
-fn castling_goal(side: Side, kingside: bool) -> Square
-    ensures { result ≡ legal.castling_goal side kingside }
-{
-    match (side, kingside) {
-        (Side::White, true) => Square::new(6),
-        (Side::White, false) => Square::new(2),
-        (Side::Black, true) => Square::new(62),
-        (Side::Black, false) => Square::new(58),
-    }
-}
-
-fn castling_crossed(side: Side, kingside: bool) -> Square
-    ensures { result ≡ legal.castling_crossed side kingside }
-{
-    match (side, kingside) {
-        (Side::White, true) => Square::new(5),
-        (Side::White, false) => Square::new(3),
-        (Side::Black, true) => Square::new(61),
-        (Side::Black, false) => Square::new(59),
-    }
 }
 
 // Whether the move promotes exactly where a pawn reaches the last rank.
