@@ -4,9 +4,11 @@ ghost use Rattle.cq_position.specs.Board.{Board};
 ghost use Rattle.cq_position.specs.Legal.{Legal};
 ghost use Rattle.cq_position.specs.Legal as legal;
 
-use crate::after::{is_pawn, men_after, middle, ranks_apart};
+use crate::after::{men_after, middle};
 use crate::castling::rook_home;
 use cq_geometry::Square;
+use cq_position::attacks::ranks_apart;
+use cq_position::position::is_pawn;
 use cq_position::{Move, Position, Rights, Side, is_same, king_of, opponent};
 
 /// The position after a legal move.

@@ -150,14 +150,6 @@ impl Position {
         self.rights
     }
 
-    /// The rights to castle that are left.
-    pub fn rights(&self) -> Rights
-        ensures rights { result ≡ self.now.rights }
-        ensures kept { IsPosition self.now }
-    {
-        self.rights
-    }
-
     /// The number of the move, from 1, which rises after Black's moves.
     pub fn number(&self) -> u32
         ensures number { result ≡ self.now.number }
@@ -201,7 +193,8 @@ fn has_pawn(squares: &[Man]) -> bool
     squares.iter().any(|m| is_pawn(*m))
 }
 
-fn is_pawn(man: Man) -> bool
+/// Whether a man is a pawn of either side.
+pub fn is_pawn(man: Man) -> bool
     ensures { result ≡ board.is_pawn man }
 {
     is_same(man, Man::P) || is_same(man, Man::BlackP)
