@@ -84,13 +84,15 @@ fn is_attack(man: Man, men: &[Man; 64], from: Square, to: Square) -> bool
     }
 }
 
-fn files_apart(a: Square, b: Square) -> u8
+/// How many files lie from one square to another.
+pub fn files_apart(a: Square, b: Square) -> u8
     ensures { result ≡ steps.files_apart a b }
 {
     file(a).abs_diff(file(b))
 }
 
-fn ranks_apart(a: Square, b: Square) -> u8
+/// How many ranks lie from one square to another.
+pub fn ranks_apart(a: Square, b: Square) -> u8
     ensures { result ≡ steps.ranks_apart a b }
 {
     rank(a).abs_diff(rank(b))
@@ -110,7 +112,7 @@ fn is_knight_step(a: Square, b: Square) -> bool
     files == 1 && ranks == 2 || files == 2 && ranks == 1
 }
 
-fn is_pawn_attack(side: Side, a: Square, b: Square) -> bool
+pub fn is_pawn_attack(side: Side, a: Square, b: Square) -> bool
     ensures { result ≡ attack.is_pawn_attack side a b }
 {
     match side {
@@ -134,7 +136,7 @@ fn is_diagonal(a: Square, b: Square) -> bool
 }
 
 // Whether no man stands between two squares.
-fn is_open(men: &[Man; 64], a: Square, b: Square) -> bool
+pub fn is_open(men: &[Man; 64], a: Square, b: Square) -> bool
     ensures { result ≡ lines.is_open (attack.is_taken men.now) a b }
 {
     between(a, b)
@@ -143,7 +145,7 @@ fn is_open(men: &[Man; 64], a: Square, b: Square) -> bool
         .all(|square| !is_taken(men, *square))
 }
 
-fn is_taken(men: &[Man; 64], square: Square) -> bool
+pub fn is_taken(men: &[Man; 64], square: Square) -> bool
     ensures { result ≡ attack.is_taken men.now square }
 {
     !is_same(men[usize::from(square.number())], Man::Empty)
