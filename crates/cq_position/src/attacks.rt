@@ -109,7 +109,7 @@ fn is_knight_step(a: Square, b: Square) -> bool
     files == 1 && ranks == 2 || files == 2 && ranks == 1
 }
 
-fn is_pawn_attack(side: Side, a: Square, b: Square) -> bool
+pub fn is_pawn_attack(side: Side, a: Square, b: Square) -> bool
     ensures { result ≡ attack.is_pawn_attack side a b }
 {
     match side {
@@ -131,13 +131,13 @@ fn is_diagonal(a: Square, b: Square) -> bool
 }
 
 // Whether no man stands between two squares.
-fn is_open(men: &[Man; 64], a: Square, b: Square) -> bool
+pub fn is_open(men: &[Man; 64], a: Square, b: Square) -> bool
     ensures { result ≡ lines.is_open (attack.is_taken men.now) a b }
 {
     between(a, b).as_slice().iter().all(|square| !is_taken(men, *square))
 }
 
-fn is_taken(men: &[Man; 64], square: Square) -> bool
+pub fn is_taken(men: &[Man; 64], square: Square) -> bool
     ensures { result ≡ attack.is_taken men.now square }
 {
     !is_same(men[usize::from(square.number())], Man::Empty)

@@ -1,0 +1,136 @@
+-- The test of legality and its parts.
+use Rattle.std.proofs.Common.{◌≡◌, ℕ, ◌<◌, Bool, true, false, cond, not, ◌&&◌, ◌↔◌, ltb, List, length, refl, inl, inr, sym, ap, ◌∙◌, arith}
+use Rattle.std.proofs.lemmas.Bool.{and_parts, and_from, not-true, not_from_false, ltb-true, lt-ltb, cases_lt, false≢true}
+use Rattle.std.proofs.lemmas.List.{get_or_past}
+use Rattle.cq_position.specs.declared.men.Man.{Man}
+use Rattle.cq_position.specs.declared.men.Man.TheVariants.{K, Q, R, B, N, P, BlackK, BlackQ, BlackR, BlackB, BlackN, BlackP, Empty}
+use Rattle.cq_position.specs.declared.men.Side.{Side}
+use Rattle.cq_position.specs.declared.men.Side.TheVariants.{White, Black}
+use Rattle.cq_position.specs.declared.moves.Move.{Move}
+use Rattle.cq_position.specs.Men.{is_of_side, opponent, king_of}
+use Rattle.cq_position.specs.Board.{Board, man_at, stands, is_pawn}
+use Rattle.cq_position.specs.Attacks.{in_check}
+use Rattle.cq_position.specs.Legal.{is_none, promotes_rightly, moves_as, can_move, men_after, after, Legal}
+use Rattle.cq_moves.specs.Legality.{is_safe, legal_test}
+use Rattle.cq_moves.specs.Reach.{goes_as, reaches, promotes}
+
+-- what passes the test is legal
+pub test_leads : (p : Board) (m : Move) → legal_test p m ≡ true → Legal p m (after p m)
+unfolding legal_test after
+test_leads p m h =
+    let both = and_parts (can_move p m) (is_safe p m) h in
+    record { moves = both.0; leads = refl; safe = not-true (in_check (men_after p m) p.side) both.1 }
+
+-- what is legal passes the test
+pub legal_passes : (p : Board) (m : Move) (q : Board) → Legal p m q → legal_test p m ≡ true
+unfolding legal_test after
+legal_passes p m q l =
+    let safe : in_check (men_after p m) p.side ≡ false = ap (λ (b : Board). in_check b.men p.side) (sym l.leads) ∙ l.safe in
+    and_from (can_move p m) (is_safe p m) l.moves (not_from_false (in_check (men_after p m) p.side) safe)
+
+pub legal_law : (p : Board) (m : Move) → (legal_test p m ≡ true) ↔ ((q : Board) × Legal p m q)
+legal_law p m = (λ h. (after p m, test_leads p m h), λ l. legal_passes p m l.0 l.1)
+
+-- how a man moves is where it goes, and what it becomes
+moves_in_parts : (man : Man) (p : Board) (m : Move)
+    → moves_as man p m ≡ (goes_as man p m.from m.to && cond (is_pawn man) (promotes_rightly p.side m) (is_none m.promotion))
+moves_in_parts K p m = refl
+moves_in_parts Q p m = refl
+moves_in_parts R p m = refl
+moves_in_parts B p m = refl
+moves_in_parts N p m = refl
+moves_in_parts P p m = refl
+moves_in_parts BlackK p m = refl
+moves_in_parts BlackQ p m = refl
+moves_in_parts BlackR p m = refl
+moves_in_parts BlackB p m = refl
+moves_in_parts BlackN p m = refl
+moves_in_parts BlackP p m = refl
+moves_in_parts Empty p m = refl
+
+and_assoc : (x y z : Bool) → (x && y && z) ≡ (x && (y && z))
+and_assoc true y z = refl
+and_assoc false y z = refl
+
+regroup : (a b c d e f g : Bool) → (a && b && c && d && e && (f && g)) ≡ (a && b && (c && d && e && f) && g)
+regroup true true true true true f g = refl
+regroup true true true true false f g = refl
+regroup true true true false e f g = refl
+regroup true true false d e f g = refl
+regroup true false c d e f g = refl
+regroup false b c d e f g = refl
+
+pub can_move_in_parts : (p : Board) (m : Move)
+    → can_move p m ≡ (not m.null && ltb m.to 64 && reaches p m.from m.to && promotes p m)
+unfolding can_move reaches
+can_move_in_parts p m =
+    let a = not m.null in
+    let b = ltb m.to 64 in
+    let c = is_of_side p.side (man_at p.men m.from) in
+    let d = not (is_of_side p.side (man_at p.men m.to)) in
+    let e = not (stands p.men m.to (king_of (opponent p.side))) in
+    ap (λ t. a && b && c && d && e && t) (moves_in_parts (man_at p.men m.from) p m)
+    ∙ regroup a b c d e (goes_as (man_at p.men m.from) p m.from m.to) (promotes p m)
+
+-- a move that can be made has squares of the board, and isn't the null move
+pub record IsOnBoard (m : Move) : Type 0 where
+  pub from : m.from < 64
+  pub to : m.to < 64
+  pub null : m.null ≡ false
+
+empty_is_free : (side : Side) → is_of_side side Empty ≡ false
+empty_is_free White = refl
+empty_is_free Black = refl
+
+-- a square with a man of a side is one of the board
+pub owned_on_board : (side : Side) (men : List Man) (a : ℕ) → length men ≡ 64 → is_of_side side (man_at men a) ≡ true → a < 64
+owned_on_board side men a long own =
+    elim (cases_lt a 64) [
+      | inl h ↦ h
+      | inr h ↦
+          let past : man_at men a ≡ Empty = get_or_past men a Empty (omega arith) in
+          absurd (false≢true (sym (empty_is_free side) ∙ ap (is_of_side side) (sym past) ∙ own))
+    ]
+
+pub record Moves (p : Board) (m : Move) : Type 0 where
+  pub null : m.null ≡ false
+  pub to : m.to < 64
+  pub own : is_of_side p.side (man_at p.men m.from) ≡ true
+  pub goes : goes_as (man_at p.men m.from) p m.from m.to ≡ true
+  pub promotes_so : promotes p m ≡ true
+
+pub what_moves : (p : Board) (m : Move) → legal_test p m ≡ true → Moves p m
+unfolding legal_test reaches
+what_moves p m h =
+    let can = sym (can_move_in_parts p m) ∙ (and_parts (can_move p m) (is_safe p m) h).0 in
+    let reach_and_become = and_parts (not m.null && ltb m.to 64 && reaches p m.from m.to) (promotes p m) can in
+    let start = and_parts (not m.null && ltb m.to 64) (reaches p m.from m.to) reach_and_become.0 in
+    let first = and_parts (not m.null) (ltb m.to 64) start.0 in
+    let man = man_at p.men m.from in
+    let own = is_of_side p.side man in
+    let free = not (is_of_side p.side (man_at p.men m.to)) in
+    let kingless = not (stands p.men m.to (king_of (opponent p.side))) in
+    let last = and_parts (own && free && kingless) (goes_as man p m.from m.to) start.1 in
+    let front = and_parts (own && free) kingless last.0 in
+    record {
+      null = not-true m.null first.0;
+      to = ltb-true m.to 64 first.1;
+      own = (and_parts own free front.0).0;
+      goes = last.1;
+      promotes_so = reach_and_become.1;
+    }
+
+pub legal_on_board : (p : Board) (m : Move) → length p.men ≡ 64 → legal_test p m ≡ true → IsOnBoard m
+legal_on_board p m long h =
+    let w = what_moves p m h in
+    record { from = owned_on_board p.side p.men m.from long w.own; to = w.to; null = w.null }
+
+-- the test for a null move, and in parts for another move to a square of the board
+pub null_fails : (p : Board) (m : Move) → m.null ≡ true → legal_test p m ≡ false
+unfolding legal_test
+null_fails p m h = rw (can_move_in_parts p m, h) refl
+
+pub passes_in_parts : (p : Board) (m : Move) → m.null ≡ false → m.to < 64
+    → legal_test p m ≡ (reaches p m.from m.to && promotes p m && is_safe p m)
+unfolding legal_test
+passes_in_parts p m h k = rw (can_move_in_parts p m, h, lt-ltb m.to 64 k) refl

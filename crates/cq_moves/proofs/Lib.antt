@@ -1,0 +1,10 @@
+pub mod Lists
+pub mod Law
+pub mod Order
+pub mod Room
+pub mod Boards
+pub mod Steps
+pub mod Castled
+pub mod Pawns
+pub mod Ways
+pub mod Kept

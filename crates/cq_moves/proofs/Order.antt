@@ -1,0 +1,101 @@
+-- The list of all moves: what it holds, and its order.
+use Rattle.std.proofs.Common.{◌≡◌, ℕ, zero, suc, ◌+◌, ◌<◌, ◌⊎◌, Bool, true, false, List, [], ◌∷◌, map, length, refl, inl, inr, sym, ap, ◌∙◌, subst, arith, lit<}
+use Rattle.std.specs.List.{All, AllPairs, Contains, filter, flat_map}
+use Rattle.std.specs.List.Sorted.{IsStrictlyIncreasing}
+use Rattle.std.proofs.lemmas.List.Elements.{All-map, All-weaker, All-contains, filter_passes}
+use Rattle.std.proofs.lemmas.List.Kept.{AllPairs-from_increasing, AllPairs-filter}
+use Rattle.cq_geometry.specs.Squares.{squares}
+use Rattle.cq_geometry.proofs.Board.{squares_rise, squares_board, in_squares, contains_filter}
+use Rattle.cq_position.specs.declared.men.Promotion.{Promotion}
+use Rattle.cq_position.specs.declared.men.Promotion.TheVariants.{None as NoPromotion, Q as ToQueen, R as ToRook, B as ToBishop, N as ToKnight}
+use Rattle.cq_position.specs.declared.moves.Move.{Move}
+use Rattle.cq_position.specs.Board.{Board}
+use Rattle.cq_position.specs.Legal.{Legal, after}
+use Rattle.cq_moves.specs.Legality.{legal_test}
+use Rattle.cq_moves.specs.LegalMoves.{promotions, promotion_number, moves_between, moves_from, all_moves, legal_list, Precedes}
+use Rattle.cq_moves.proofs.Lists.{All-flat_map, AllPairs-flat_map, AllPairs-map, AllPairs-by_number, Contains-map, Contains-flat_map}
+use Rattle.cq_moves.proofs.Law.{IsOnBoard, legal_on_board, legal_passes, test_leads}
+
+abbrev move_of : ℕ → ℕ → Promotion → Move
+move_of a b choice = record { from = a; to = b; promotion = choice; null = false }
+
+abbrev GoesFrom : ℕ → Move → Type 0
+GoesFrom a m = m.from ≡ a
+
+abbrev GoesBetween : ℕ → ℕ → Move → Type 0
+GoesBetween a b m = (m.from ≡ a) × (m.to ≡ b)
+
+numbers_rise : IsStrictlyIncreasing (map promotion_number promotions)
+numbers_rise zero h = lit< tt
+numbers_rise (suc zero) h = lit< tt
+numbers_rise (suc (suc zero)) h = lit< tt
+numbers_rise (suc (suc (suc zero))) h = lit< tt
+numbers_rise (suc (suc (suc (suc k)))) h = absurd (omega (arith, h))
+
+promotions_in_order : AllPairs (λ x y. promotion_number x < promotion_number y) promotions
+promotions_in_order = AllPairs-by_number promotion_number promotions numbers_rise
+
+between_in_order : (a b : ℕ) → AllPairs Precedes (moves_between a b)
+between_in_order a b =
+    AllPairs-map Precedes (move_of a b) promotions
+    (λ i j d before below. inr (refl, inr (refl, promotions_in_order i j d before below)))
+
+squares_in_order : AllPairs (λ x y. x < y) squares
+squares_in_order = AllPairs-from_increasing squares squares_rise
+
+between_goes : (a b : ℕ) → All (GoesBetween a b) (moves_between a b)
+between_goes a b = All-map (GoesBetween a b) (move_of a b) promotions (λ k d h. (refl, refl))
+
+pub from_goes : (a : ℕ) → All (GoesFrom a) (moves_from a)
+unfolding moves_from
+from_goes a =
+    All-flat_map (GoesFrom a) (λ b. b < 64) (moves_between a)
+    (λ b h. All-weaker (GoesBetween a b) (GoesFrom a) (λ m both. both.0) (moves_between a b) (between_goes a b)) squares squares_board
+
+from_in_order : (a : ℕ) → AllPairs Precedes (moves_from a)
+unfolding moves_from
+from_in_order a =
+    AllPairs-flat_map (λ x y. x < y) (GoesBetween a) Precedes (moves_between a) (between_goes a) (between_in_order a)
+    (λ x y m n rises h k. inr (h.0 ∙ sym k.0, inl (omega (arith, rises, h.1, k.1)))) squares squares_in_order
+
+all_in_order : AllPairs Precedes all_moves
+unfolding all_moves
+all_in_order =
+    AllPairs-flat_map (λ x y. x < y) GoesFrom Precedes moves_from from_goes from_in_order
+    (λ x y m n rises h k. inl (omega (arith, rises, h, k))) squares squares_in_order
+
+pub legal_in_order : (p : Board) → AllPairs Precedes (legal_list p)
+unfolding legal_list
+legal_in_order p = AllPairs-filter Precedes (legal_test p) all_moves all_in_order
+
+in_promotions : (choice : Promotion) → Contains promotions choice
+in_promotions NoPromotion = (0, lit< tt, refl)
+in_promotions ToQueen = (1, lit< tt, refl)
+in_promotions ToRook = (2, lit< tt, refl)
+in_promotions ToBishop = (3, lit< tt, refl)
+in_promotions ToKnight = (4, lit< tt, refl)
+
+in_between : (m : Move) → IsOnBoard m → Contains (moves_between m.from m.to) m
+in_between m h =
+    let same : move_of m.from m.to m.promotion ≡ m =
+        ap (λ n. record { from = m.from; to = m.to; promotion = m.promotion; null = n }) (sym h.null) in
+    subst (λ (n : Move). Contains (moves_between m.from m.to) n) same
+    (Contains-map (move_of m.from m.to) promotions m.promotion (in_promotions m.promotion))
+
+in_all : (m : Move) → IsOnBoard m → Contains all_moves m
+unfolding all_moves moves_from
+in_all m h =
+    Contains-flat_map moves_from squares m.from m (in_squares m.from h.from)
+    (Contains-flat_map (moves_between m.from) squares m.to m (in_squares m.to h.to) (in_between m h))
+
+-- the list holds exactly the legal moves
+pub listed_is_legal : (p : Board) (m : Move) → Contains (legal_list p) m → (q : Board) × Legal p m q
+unfolding legal_list
+listed_is_legal p m h =
+    (after p m, test_leads p m (All-contains (λ n. legal_test p n ≡ true) (legal_list p) m (filter_passes (legal_test p) all_moves) h))
+
+pub legal_is_listed : (p : Board) (m : Move) → length p.men ≡ 64 → (q : Board) × Legal p m q → Contains (legal_list p) m
+unfolding legal_list
+legal_is_listed p m long l =
+    let passes = legal_passes p m l.0 l.1 in
+    contains_filter (legal_test p) all_moves m (in_all m (legal_on_board p m long passes)) passes

@@ -1,0 +1,107 @@
+-- What a man that can move does, by its kind.
+use Rattle.std.proofs.Common.{◌≡◌, ◌≢◌, ℕ, ◌+◌, ◌-◌, ◌/◌, ◌%◌, ◌<◌, ◌≤◌, ◌⊎◌, Bool, true, false, not, ◌&&◌, ◌||◌, cond, List, [], ◌∷◌, length, get_or, refl, sym, ap, ◌∙◌, subst, inl, inr, arith}
+use Rattle.std.specs.Prelude.{slice_set, count_by, nat_lt, ◌==◌}
+use Rattle.std.proofs.lemmas.Bool.{eqb-true, eqb-false, ltb-true, cases_eq, cases_lt, or_parts, or_from, or_cases, and_parts, not-true}
+use Rattle.std.proofs.lemmas.List.{get_or_past}
+use Rattle.cq_position.specs.declared.men.Man.{Man}
+use Rattle.cq_position.specs.declared.men.Man.TheVariants.{K, Q, R, B, N, P, BlackK, BlackQ, BlackR, BlackB, BlackN, BlackP, Empty}
+use Rattle.cq_position.specs.declared.men.Promotion.{Promotion}
+use Rattle.cq_position.specs.declared.men.Promotion.TheVariants.{None as NoPromotion, Q as ToQueen, R as ToRook, B as ToBishop, N as ToKnight}
+use Rattle.cq_position.specs.declared.men.Side.{Side}
+use Rattle.cq_position.specs.declared.men.Side.TheVariants.{White, Black}
+use Rattle.cq_position.specs.declared.moves.Move.{Move}
+use Rattle.cq_position.specs.Men.{same_man, is_of_side, opponent, king_of, pawn_of}
+use Rattle.cq_position.specs.Board.{Board, man_at, stands, is_pawn, king_home}
+use Rattle.cq_position.specs.Attacks.{attacks}
+use Rattle.cq_position.specs.Legal.{can_move, moves_as, castles, pawn_moves, promotes_rightly, is_none, promoted}
+use Rattle.cq_moves.proofs.Law.{owned_on_board}
+
+-- a man of the side to move goes to a square of the board on which no man of its side and no king stands
+pub record Goes (p : Board) (m : Move) : Type 0 where
+  pub to_board : m.to < 64
+  pub from_board : m.from < 64
+  pub own : is_of_side p.side (man_at p.men m.from) ≡ true
+  pub not_own : is_of_side p.side (man_at p.men m.to) ≡ false
+  pub no_king : stands p.men m.to (king_of (opponent p.side)) ≡ false
+  pub moves : moves_as (man_at p.men m.from) p m ≡ true
+
+pub apart : {p : Board} {m : Move} → Goes p m → m.from ≢ m.to
+apart {p} {m} g same = let e : true ≡ false = sym g.own ∙ ap (λ k. is_of_side p.side (man_at p.men k)) same ∙ g.not_own in cc
+
+six_parts : (a b c d e f : Bool) → (a && b && c && d && e && f) ≡ true
+    → (b ≡ true) × (c ≡ true) × (d ≡ true) × (e ≡ true) × (f ≡ true)
+six_parts true b c d e f t =
+    let f' = and_parts (b && c && d && e) f t in
+    let e' = and_parts (b && c && d) e f'.0 in
+    let d' = and_parts (b && c) d e'.0 in
+    let c' = and_parts b c d'.0 in
+    (c'.0, c'.1, d'.1, e'.1, f'.1)
+six_parts false b c d e f t = absurd (cc)
+
+pub goes : (p : Board) (m : Move) → length p.men ≡ 64 → can_move p m ≡ true → Goes p m
+unfolding can_move
+goes p m w e =
+    let t = six_parts (not m.null) (nat_lt m.to 64) (is_of_side p.side (man_at p.men m.from)) (not (is_of_side p.side (man_at p.men m.to)))
+    (not (stands p.men m.to (king_of (opponent p.side)))) (moves_as (man_at p.men m.from) p m) e in
+    record {
+      to_board = ltb-true m.to 64 t.0;
+      from_board = owned_on_board p.side p.men m.from w t.1;
+      own = t.1;
+      not_own = not-true (is_of_side p.side (man_at p.men m.to)) t.2;
+      no_king = not-true (stands p.men m.to (king_of (opponent p.side))) t.3;
+      moves = t.4;
+    }
+
+-- only a pawn promotes
+pub unpromoted : (man : Man) (p : Board) (m : Move) → moves_as man p m ≡ true → (is_pawn man ≡ true) ⊎ (is_none m.promotion ≡ true)
+unpromoted P p m e = inl refl
+unpromoted BlackP p m e = inl refl
+unpromoted K p m e = inr (and_parts (attacks p.men m.from m.to || castles p m.from m.to true || castles p m.from m.to false) (is_none m.promotion) e).1
+unpromoted BlackK p m e = inr (and_parts (attacks p.men m.from m.to || castles p m.from m.to true || castles p m.from m.to false) (is_none m.promotion) e).1
+unpromoted Empty p m e = absurd (cc)
+unpromoted _ p m e = inr (and_parts (attacks p.men m.from m.to) (is_none m.promotion) e).1
+
+pub own_pawn : (side : Side) (man : Man) → is_of_side side man ≡ true → is_pawn man ≡ true → man ≡ pawn_of side
+own_pawn White P o e = refl
+own_pawn Black BlackP o e = refl
+own_pawn White _ o e = absurd (cc)
+own_pawn Black _ o e = absurd (cc)
+
+-- the man that stands on the goal is of the same side, and a king exactly where the one that moved is
+pub record Landed (man landed : Man) : Type 0 where
+  pub sides : (side : Side) → is_of_side side landed ≡ is_of_side side man
+  pub kings : (side : Side) → same_man landed (king_of side) ≡ same_man man (king_of side)
+
+by_sides : (man landed : Man) → is_of_side White landed ≡ is_of_side White man → is_of_side Black landed ≡ is_of_side Black man
+    → same_man landed (king_of White) ≡ same_man man (king_of White) → same_man landed (king_of Black) ≡ same_man man (king_of Black) → Landed man landed
+by_sides man landed w b wk bk = record {
+  sides = λ side. elim side as (λ s. is_of_side s landed ≡ is_of_side s man) [ White ↦ w | Black ↦ b ];
+  kings = λ side. elim side as (λ s. same_man landed (king_of s) ≡ same_man man (king_of s)) [ White ↦ wk | Black ↦ bk ];
+}
+
+pawn_landed : (side : Side) (promotion : Promotion) → Landed (pawn_of side) (promoted side promotion (pawn_of side))
+pawn_landed White NoPromotion = by_sides P P refl refl refl refl
+pawn_landed White ToQueen = by_sides P Q refl refl refl refl
+pawn_landed White ToRook = by_sides P R refl refl refl refl
+pawn_landed White ToBishop = by_sides P B refl refl refl refl
+pawn_landed White ToKnight = by_sides P N refl refl refl refl
+pawn_landed Black NoPromotion = by_sides BlackP BlackP refl refl refl refl
+pawn_landed Black ToQueen = by_sides BlackP BlackQ refl refl refl refl
+pawn_landed Black ToRook = by_sides BlackP BlackR refl refl refl refl
+pawn_landed Black ToBishop = by_sides BlackP BlackB refl refl refl refl
+pawn_landed Black ToKnight = by_sides BlackP BlackN refl refl refl refl
+
+pub promoted-none : (side : Side) (promotion : Promotion) (man : Man) → is_none promotion ≡ true → promoted side promotion man ≡ man
+promoted-none side NoPromotion man e = refl
+promoted-none side _ man e = absurd (cc)
+
+landed : (side : Side) (promotion : Promotion) (man : Man) → is_of_side side man ≡ true → (is_pawn man ≡ true) ⊎ (is_none promotion ≡ true)
+    → Landed man (promoted side promotion man)
+landed side promotion man own (inl pawn) =
+    subst (λ (x : Man). Landed x (promoted side promotion x)) (sym (own_pawn side man own pawn)) (pawn_landed side promotion)
+landed side promotion man own (inr none) =
+    subst (λ (x : Man). Landed man x) (sym (promoted-none side promotion man none)) (record { sides = λ s. refl; kings = λ s. refl })
+
+-- of a man that can move
+pub it_lands : (p : Board) (m : Move) → Goes p m → Landed (man_at p.men m.from) (promoted p.side m.promotion (man_at p.men m.from))
+it_lands p m g = landed p.side m.promotion (man_at p.men m.from) g.own (unpromoted (man_at p.men m.from) p m g.moves)

@@ -1,0 +1,41 @@
+-- The legal moves of a position in their order.
+use Rattle.std.specs.Prelude.{◌≡◌, ℕ, ◌<◌, ◌⊎◌, false, List, [], ◌∷◌, map}
+use Rattle.std.specs.List.{filter, flat_map}
+use Rattle.cq_geometry.specs.Squares.{squares}
+use Rattle.cq_position.specs.declared.men.Promotion.{Promotion}
+use Rattle.cq_position.specs.declared.men.Promotion.TheVariants.{None as NoPromotion, Q as ToQueen, R as ToRook, B as ToBishop, N as ToKnight}
+use Rattle.cq_position.specs.declared.moves.Move.{Move}
+use Rattle.cq_position.specs.Board.{Board}
+use Rattle.cq_moves.specs.Legality.{legal_test}
+
+-- no promotion, and those to a queen, a rook, a bishop and a knight
+abbrev pub promotions : List Promotion
+promotions = NoPromotion ∷ ToQueen ∷ ToRook ∷ ToBishop ∷ ToKnight ∷ []
+
+-- the place of a promotion in this order
+abbrev pub promotion_number : Promotion → ℕ
+promotion_number NoPromotion = 0
+promotion_number ToQueen = 1
+promotion_number ToRook = 2
+promotion_number ToBishop = 3
+promotion_number ToKnight = 4
+
+-- the moves from one square to another, from one square, and all moves, whatever stands on the board
+abbrev pub moves_between : ℕ → ℕ → List Move
+moves_between a b = map (λ choice. record { from = a; to = b; promotion = choice; null = false }) promotions
+
+unfoldable pub moves_from : ℕ → List Move
+moves_from a = flat_map (moves_between a) squares
+
+unfoldable pub all_moves : List Move
+all_moves = flat_map moves_from squares
+
+-- the legal moves
+unfoldable pub legal_list : Board → List Move
+legal_list p = filter (legal_test p) all_moves
+
+-- moves are ordered by the square from which they go, then by their goal, then by the promotion
+abbrev pub Precedes : Move → Move → Type 0
+Precedes m n =
+    (m.from < n.from)
+    ⊎ ((m.from ≡ n.from) × ((m.to < n.to) ⊎ ((m.to ≡ n.to) × (promotion_number m.promotion < promotion_number n.promotion))))

@@ -1,0 +1,126 @@
+//! The men on the board after a move.
+ghost use Rattle.std.specs.Prelude.{◌≡◌};
+ghost use Rattle.cq_geometry.specs.Steps as steps;
+ghost use Rattle.cq_position.specs.Attacks as attacks;
+ghost use Rattle.cq_position.specs.Board as board;
+ghost use Rattle.cq_position.specs.Legal as legal;
+ghost use Rattle.cq_position.specs.Men as men_spec;
+
+use crate::castling::{castling_crossed, rook_home};
+use cq_geometry::{Square, file, rank, square_at};
+use cq_position::{Man, Move, Position, Promotion, Side, is_same, king_of};
+
+/// The men on the squares a1, b1, .. h8 after a move of the side to move.
+///
+/// Castling takes the rook along, a capture on the en passant square takes away the pawn that has passed it, and a promotion puts the new man
+/// on the goal. The move is not judged: the mover's king may be left in check.
+pub fn men_after(position: &Position, m: &Move) -> [Man; 64]
+    ensures { result ≡ legal.men_after position.now m.now }
+{
+    let mut men = men_moved(position, m);
+    if is_castling(position, m) {
+        move_rook(&mut men, position.side(), m.from.number() < m.to.number());
+    } else if is_passing_capture(position, m) {
+        men[usize::from(square_at(file(m.to), rank(m.from)).number())] = Man::Empty;
+    }
+    men
+}
+
+// The man goes to its goal.
+fn men_moved(position: &Position, m: &Move) -> [Man; 64]
+    ensures { result ≡ legal.men_moved position.now m.now }
+{
+    let man = promoted(position.side(), m.promotion, position.at(m.from));
+    let mut men = *position.men();
+    men[usize::from(m.from.number())] = Man::Empty;
+    men[usize::from(m.to.number())] = man;
+    men
+}
+
+// The man that stands on the goal.
+fn promoted(side: Side, promotion: Promotion, man: Man) -> Man
+    ensures { result ≡ legal.promoted side promotion man }
+{
+    match (side, promotion) {
+        (_, Promotion::None) => man,
+        (Side::White, Promotion::Q) => Man::Q,
+        (Side::White, Promotion::R) => Man::R,
+        (Side::White, Promotion::B) => Man::B,
+        (Side::White, Promotion::N) => Man::N,
+        (Side::Black, Promotion::Q) => Man::BlackQ,
+        (Side::Black, Promotion::R) => Man::BlackR,
+        (Side::Black, Promotion::B) => Man::BlackB,
+        (Side::Black, Promotion::N) => Man::BlackN,
+    }
+}
+
+// Castling is the king's move of two files.
+fn is_castling(position: &Position, m: &Move) -> bool
+    ensures { result ≡ legal.is_castling position.now m.now }
+{
+    is_same(position.at(m.from), king_of(position.side())) && files_apart(m.from, m.to) == 2
+}
+
+// The rook goes over to the other side of the king.
+fn move_rook(men: &mut [Man; 64], side: Side, kingside: bool)
+    ensures { men.new ≡ legal.rook_moved men.old side kingside }
+{
+    men[usize::from(rook_home(side, kingside).number())] = Man::Empty;
+    men[usize::from(castling_crossed(side, kingside).number())] = rook_of(side);
+}
+
+fn rook_of(side: Side) -> Man
+    ensures { result ≡ men_spec.rook_of side }
+{
+    match side {
+        Side::White => Man::R,
+        Side::Black => Man::BlackR,
+    }
+}
+
+// A pawn that goes to the en passant square captures there.
+fn is_passing_capture(position: &Position, m: &Move) -> bool
+    ensures { result ≡ legal.is_passing_capture position.now m.now }
+{
+    is_pawn(position.at(m.from))
+        && files_apart(m.from, m.to) == 1
+        && is_goal(position.passant(), m.to)
+}
+
+// Whether there is such a square, and it is this one.
+pub fn is_goal(goal: Option<Square>, square: Square) -> bool
+    ensures { result ≡ attacks.is_goal goal square }
+{
+    match goal {
+        Some(goal) => goal.number() == square.number(),
+        None => false,
+    }
+}
+
+/// Whether a man is a pawn of either side.
+pub fn is_pawn(man: Man) -> bool
+    ensures { result ≡ board.is_pawn man }
+{
+    is_same(man, Man::P) || is_same(man, Man::BlackP)
+}
+
+/// How many files lie from one square to another.
+pub fn files_apart(a: Square, b: Square) -> u8
+    ensures { result ≡ steps.files_apart a b }
+{
+    file(a).abs_diff(file(b))
+}
+
+/// How many ranks lie from one square to another.
+pub fn ranks_apart(a: Square, b: Square) -> u8
+    ensures { result ≡ steps.ranks_apart a b }
+{
+    rank(a).abs_diff(rank(b))
+}
+
+/// The square in the middle between two.
+pub fn middle(a: Square, b: Square) -> Square
+    ensures { result ≡ legal.middle a b }
+{
+    Square::new((a.number() + b.number()) / 2)
+}

@@ -1,0 +1,12 @@
+//! The legal moves of a chess position, and the position after each.
+#![tactic(auto)]
+
+pub mod after;
+pub mod castling;
+pub mod legality;
+pub mod next_position;
+pub mod reach;
+
+pub use after::men_after;
+pub use legality::is_legal;
+pub use next_position::play;

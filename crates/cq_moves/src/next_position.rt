@@ -1,0 +1,72 @@
+//! The position after a move.
+ghost use Rattle.std.specs.Prelude.{◌≡◌};
+ghost use Rattle.cq_position.specs.Board.{Board};
+ghost use Rattle.cq_position.specs.Legal.{Legal};
+ghost use Rattle.cq_position.specs.Legal as legal;
+
+use crate::after::{is_pawn, men_after, middle, ranks_apart};
+use crate::castling::rook_home;
+use cq_geometry::Square;
+use cq_position::{Move, Position, Rights, Side, is_same, king_of, opponent};
+
+/// The position after a legal move.
+///
+/// Castling, a capture on the en passant square and promotion are as `men_after` has them. A king's move ends both rights of its side, and a
+/// move from or to a rook's home square the right with that rook. A pawn's double step leaves the en passant square behind it, any other move
+/// none. The number rises after Black's move, up to 4,294,967,295, where it stays.
+pub fn play(position: &Position, m: Move) -> Position
+    requires { (q : Board) × Legal position.now m q }
+    ensures { Legal position.now m result }
+{
+    Position::from_parts(
+        number_after(position),
+        men_after(position, &m),
+        opponent(position.side()),
+        rights_after(position, &m),
+        passant_after(position, &m),
+    )
+}
+
+fn number_after(position: &Position) -> u32
+    ensures { result ≡ legal.number_after position.now }
+{
+    match position.side() {
+        Side::White => position.number(),
+        Side::Black => position.number().saturating_add(1),
+    }
+}
+
+fn rights_after(position: &Position, m: &Move) -> Rights
+    ensures { result ≡ legal.rights_after position.now m.now }
+{
+    Rights {
+        white_kingside: right_after(position, m, Side::White, true),
+        white_queenside: right_after(position, m, Side::White, false),
+        black_kingside: right_after(position, m, Side::Black, true),
+        black_queenside: right_after(position, m, Side::Black, false),
+    }
+}
+
+// Whether a right is left: neither king nor rook has moved or was captured.
+fn right_after(position: &Position, m: &Move, side: Side, kingside: bool) -> bool
+    ensures { result ≡ legal.right_after position.now m.now side kingside }
+{
+    let home = rook_home(side, kingside).number();
+    position.may_castle(side, kingside)
+        && !is_same(position.at(m.from), king_of(side))
+        && m.from.number() != home
+        && m.to.number() != home
+}
+
+fn passant_after(position: &Position, m: &Move) -> Option<Square>
+    ensures { result ≡ legal.passant_after position.now m.now }
+{
+    if is_pawn(position.at(m.from)) && ranks_apart(m.from, m.to) == 2 {
+        Some(middle(m.from, m.to))
+    } else {
+        None
+    }
+}
+
+#[cfg(test)]
+mod tests;

@@ -1,0 +1,136 @@
+//! Where the men of the side to move go (FIDE Laws of Chess, article 3).
+ghost use Rattle.std.specs.Prelude.{◌≡◌, ◌<◌, not};
+ghost use Rattle.std.specs.List.{list_all};
+ghost use Rattle.cq_position.specs.Attacks as attack;
+ghost use Rattle.cq_position.specs.Legal as legal;
+ghost use Rattle.cq_position.specs.Marks.{Marks};
+ghost use Rattle.cq_moves.specs.Reach as parts;
+
+use crate::after::{is_goal, is_pawn, middle};
+use crate::castling::{castling_crossed, castling_goal, king_home, rook_home};
+use cq_geometry::{Square, rank};
+use cq_position::attacks::{is_attacked, is_open, is_pawn_attack, is_taken};
+use cq_position::{Man, Move, Position, Promotion, Side, is_of_side, is_same, king_of, opponent};
+
+// Whether a man of the side to move goes from one square to another, which holds none of its own men and no king. `attacked` has the
+// squares that the man attacks.
+#[tactic(auto, unfolding(crate::specs::Reach::reaches))]
+pub fn reaches(position: &Position, attacked: u64, from: Square, to: Square) -> bool
+    requires { Marks attacked (attack.attacks position.now.men from) }
+    ensures reaches { result ≡ parts.reaches position.now from to }
+    ensures board { to < 64 }
+{
+    let man = position.at(from);
+    let other = position.at(to);
+    is_of_side(man, position.side())
+        && !is_of_side(other, position.side())
+        && !is_same(other, king_of(opponent(position.side())))
+        && goes(man, position, attacked, from, to)
+}
+
+// Whether the man goes from one square to the other.
+fn goes(man: Man, position: &Position, attacked: u64, from: Square, to: Square) -> bool
+    requires { Marks attacked (attack.attacks position.now.men from) }
+    ensures { result ≡ parts.goes_as man position.now from to }
+{
+    match man {
+        Man::K | Man::BlackK => {
+            attacks(position, attacked, from, to)
+                || castles(position, from, to, true)
+                || castles(position, from, to, false)
+        }
+        Man::P | Man::BlackP => pawn_moves(position, from, to),
+        Man::Empty => false,
+        _ => attacks(position, attacked, from, to),
+    }
+}
+
+// Whether a square is among the attacked ones.
+fn attacks(position: &Position, attacked: u64, from: Square, to: Square) -> bool
+    requires { Marks attacked (attack.attacks position.now.men from) }
+    ensures { result ≡ attack.attacks position.now.men from to }
+{
+    attacked >> to.number() & 1 == 1
+}
+
+// Whether a pawn steps or captures so.
+fn pawn_moves(position: &Position, from: Square, to: Square) -> bool
+    ensures { result ≡ legal.pawn_moves position.now from to }
+{
+    let side = position.side();
+    let men = position.men();
+    is_ahead(side, from, to) && !is_taken(men, to)
+        || is_double_step(side, from, to) && !is_taken(men, middle(from, to)) && !is_taken(men, to)
+        || is_pawn_attack(side, from, to)
+            && (is_of_side(position.at(to), opponent(side)) || is_goal(position.passant(), to))
+}
+
+fn is_ahead(side: Side, from: Square, to: Square) -> bool
+    ensures { result ≡ legal.is_ahead side from to }
+{
+    match side {
+        Side::White => to.number() == from.number() + 8,
+        Side::Black => from.number() == to.number() + 8,
+    }
+}
+
+fn is_double_step(side: Side, from: Square, to: Square) -> bool
+    ensures { result ≡ legal.is_double_step side from to }
+{
+    match side {
+        Side::White => rank(from) == 1 && to.number() == from.number() + 16,
+        Side::Black => rank(from) == 6 && from.number() == to.number() + 16,
+    }
+}
+
+// Whether the king castles so.
+fn castles(position: &Position, from: Square, to: Square, kingside: bool) -> bool
+    ensures { result ≡ legal.castles position.now from to kingside }
+{
+    let side = position.side();
+    from.number() == king_home(side).number()
+        && to.number() == castling_goal(side, kingside).number()
+        && position.may_castle(side, kingside)
+        && is_open(position.men(), king_home(side), rook_home(side, kingside))
+        && are_free(
+            position.men(),
+            opponent(side),
+            [from, castling_crossed(side, kingside), to],
+        )
+}
+
+// Whether a side attacks none of the squares.
+fn are_free(men: &[Man; 64], by: Side, squares: [Square; 3]) -> bool
+    ensures { result ≡ list_all (λ square. not (attack.is_attacked men.now by square)) squares }
+{
+    squares.iter().all(|square| !is_attacked(men, by, *square))
+}
+
+// Whether the move promotes exactly where a pawn reaches the last rank.
+pub fn promotes(position: &Position, m: &Move) -> bool
+    ensures { result ≡ parts.promotes position.now m.now }
+{
+    if is_pawn(position.at(m.from)) && rank(m.to) == last_rank(position.side()) {
+        !is_none(m.promotion)
+    } else {
+        is_none(m.promotion)
+    }
+}
+
+fn last_rank(side: Side) -> u8
+    ensures { result ≡ legal.last_rank side }
+{
+    match side {
+        Side::White => 7,
+        Side::Black => 0,
+    }
+}
+
+fn is_none(promotion: Promotion) -> bool
+    ensures { result ≡ legal.is_none promotion }
+{
+    match promotion {
+        Promotion::None => true,
+        _ => false,
+    }
+}
