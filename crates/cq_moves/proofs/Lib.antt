@@ -1,6 +1,7 @@
 pub mod Lists
 pub mod Law
 pub mod Order
+pub mod Parts
 pub mod Room
 pub mod Boards
 pub mod Steps

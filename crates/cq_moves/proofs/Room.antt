@@ -22,11 +22,12 @@ use Rattle.cq_position.specs.Position.{IsPosition}
 use Rattle.cq_position.specs.Attacks.{is_taken, attacks, attacks_as, is_pawn_attack}
 use Rattle.cq_position.specs.Legal.{is_none, promotes_rightly, is_ahead, is_double_step, castling_goal, castles, pawn_moves}
 use Rattle.cq_moves.specs.Legality.{legal_test}
-use Rattle.cq_moves.specs.LegalMoves.{moves_from, all_moves, legal_list}
+use Rattle.cq_moves.specs.LegalMoves.{moves_from, legal_from, legal_list}
 use Rattle.cq_moves.specs.Reach.{goes_as, promotes}
-use Rattle.cq_moves.proofs.Lists.{filter-flat_map, filter-none, length-filter-within}
+use Rattle.cq_moves.proofs.Lists.{filter-none, length-filter-within}
 use Rattle.cq_moves.proofs.Law.{Moves, what_moves, owned_on_board}
 use Rattle.cq_moves.proofs.Order.{from_goes}
+use Rattle.cq_moves.proofs.Parts.{legal_list_parts}
 
 -- where each man can go on some board
 abbrev castles_to : Side → Bool → ℕ → ℕ → Bool
@@ -185,9 +186,20 @@ legal_may p m h =
 abbrev owns : Board → Man → Bool
 owns p man = is_of_side p.side man
 
+-- none from a square without a man of the side to move
+pub none_from_other : (p : Board) (a : ℕ) → owns p (man_at p.men a) ≡ false → legal_from p a ≡ []
+unfolding legal_from
+none_from_other p a other =
+    filter-none (legal_test p) (moves_from a)
+    (All-weaker (λ m. m.from ≡ a) (λ m. legal_test p m ≡ false)
+        (λ m e. false_from_ne_true (legal_test p m)
+            (λ h. false≢true (sym other ∙ ap (λ s. owns p (man_at p.men s)) (sym e) ∙ (what_moves p m h).own)))
+        (moves_from a) (from_goes a))
+
 -- at most 32 legal moves from a square with a man of the side to move, and none from another
 few_from : (p : Board) → length p.men ≡ 64 → (a : ℕ)
-    → length (filter (legal_test p) (moves_from a)) ≤ cond (owns p (man_at p.men a)) 32 0
+    → length (legal_from p a) ≤ cond (owns p (man_at p.men a)) 32 0
+unfolding legal_from
 few_from p long a =
     elim (cases_Bool (owns p (man_at p.men a))) [
       | inl own ↦
@@ -196,12 +208,7 @@ few_from p long a =
           let within = length-filter-within (legal_test p) (may (man_at p.men a) p.side) (moves_from a) may_all in
           let few = few_man (man_at p.men a) p.side a (owned_on_board p.side p.men a long own) in
           rw own (omega (arith, within, few))
-      | inr other ↦
-          let none_all = All-weaker (λ m. m.from ≡ a) (λ m. legal_test p m ≡ false)
-              (λ m e. false_from_ne_true (legal_test p m)
-                  (λ h. false≢true (sym other ∙ ap (λ s. owns p (man_at p.men s)) (sym e) ∙ (what_moves p m h).own)))
-              (moves_from a) (from_goes a) in
-          rw other (omega (arith, ap length (filter-none (legal_test p) (moves_from a) none_all)))
+      | inr other ↦ rw other (omega (arith, ap length (none_from_other p a other)))
     ]
 
 sum_of_rooms : (own : Man → Bool) (men : List Man) → sum_by (λ m. cond (own m) 32 0) men ≡ 32 * count_by own men
@@ -231,11 +238,9 @@ at_most_sixteen Black men h =
     ltb-false 16 (strength Black men) (or_parts (ltb 16 (strength White men)) (ltb 16 (strength Black men)) h).1
 
 pub legal_fits : (p : Board) → IsPosition p → length (legal_list p) ≤ 512
-unfolding legal_list all_moves
 legal_fits p h =
-    let parts = ap length (filter-flat_map (legal_test p) moves_from squares)
-        ∙ length-flat_map (λ a. filter (legal_test p) (moves_from a)) squares in
-    let each = sum_by-le-sum_by (λ a. length (filter (legal_test p) (moves_from a))) (λ a. cond (owns p (man_at p.men a)) 32 0)
+    let parts = ap length (legal_list_parts p) ∙ length-flat_map (legal_from p) squares in
+    let each = sum_by-le-sum_by (λ a. length (legal_from p a)) (λ a. cond (owns p (man_at p.men a)) 32 0)
         squares (few_from p h.whole) in
     let whole = sum_by_square (λ m. cond (owns p m) 32 0) p.men h.whole ∙ sum_of_rooms (owns p) p.men in
     omega (arith, parts, each, whole, at_most_sixteen p.side p.men h.few_enough)

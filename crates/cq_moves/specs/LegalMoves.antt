@@ -20,9 +20,12 @@ promotion_number ToRook = 2
 promotion_number ToBishop = 3
 promotion_number ToKnight = 4
 
+abbrev pub move_of : ℕ → ℕ → Promotion → Move
+move_of a b choice = record { from = a; to = b; promotion = choice; null = false }
+
 -- the moves from one square to another, from one square, and all moves, whatever stands on the board
 abbrev pub moves_between : ℕ → ℕ → List Move
-moves_between a b = map (λ choice. record { from = a; to = b; promotion = choice; null = false }) promotions
+moves_between a b = map (move_of a b) promotions
 
 unfoldable pub moves_from : ℕ → List Move
 moves_from a = flat_map (moves_between a) squares
@@ -30,9 +33,15 @@ moves_from a = flat_map (moves_between a) squares
 unfoldable pub all_moves : List Move
 all_moves = flat_map moves_from squares
 
--- the legal moves
+-- the legal moves, those from one square, and those from one square to another
 unfoldable pub legal_list : Board → List Move
 legal_list p = filter (legal_test p) all_moves
+
+unfoldable pub legal_from : Board → ℕ → List Move
+legal_from p a = filter (legal_test p) (moves_from a)
+
+unfoldable pub legal_between : Board → ℕ → ℕ → List Move
+legal_between p a b = filter (legal_test p) (moves_between a b)
 
 -- moves are ordered by the square from which they go, then by their goal, then by the promotion
 abbrev pub Precedes : Move → Move → Type 0

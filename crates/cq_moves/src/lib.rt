@@ -4,9 +4,11 @@
 pub mod after;
 pub mod castling;
 pub mod legality;
+pub mod list;
 pub mod next_position;
 pub mod reach;
 
 pub use after::men_after;
 pub use legality::is_legal;
+pub use list::legal_moves;
 pub use next_position::play;

@@ -1,0 +1,77 @@
+-- The legal moves part by part: from each square, to each square, by each promotion.
+use Rattle.std.proofs.Common.{◌≡◌, ℕ, ◌+◌, ◌<◌, ◌≤◌, Bool, true, false, cond, ◌&&◌, List, [], ◌∷◌, ◌++◌, length, take, get_or, refl, sym, ap, ◌∙◌, subst, arith}
+use Rattle.std.specs.List.{filter, flat_map}
+use Rattle.std.proofs.lemmas.List.{take_all, append_assoc}
+use Rattle.std.proofs.lemmas.List.Elements.{All-map}
+use Rattle.std.proofs.lemmas.List.Folds.{length-flat_map-take}
+use Rattle.std.proofs.lemmas.List.FromFn.{get_or-range_with_len, length-range_with_len}
+use Rattle.cq_geometry.specs.Squares.{squares}
+use Rattle.cq_position.specs.declared.men.Promotion.{Promotion}
+use Rattle.cq_position.specs.declared.moves.Move.{Move}
+use Rattle.cq_position.specs.Board.{Board}
+use Rattle.cq_moves.specs.Legality.{is_safe, legal_test}
+use Rattle.cq_moves.specs.LegalMoves.{promotions, move_of, moves_between, moves_from, all_moves, legal_list, legal_from, legal_between}
+use Rattle.cq_moves.specs.Reach.{reaches, promotes}
+use Rattle.cq_moves.proofs.Lists.{filter-flat_map, filter-map, filter-none, flat_map_agree, flat_map-take_more}
+use Rattle.cq_moves.proofs.Law.{passes_in_parts}
+
+pub legal_list_parts : (p : Board) → legal_list p ≡ flat_map (legal_from p) squares
+unfolding legal_list all_moves legal_from
+legal_list_parts p = filter-flat_map (legal_test p) moves_from squares
+
+pub legal_from_parts : (p : Board) (a : ℕ) → legal_from p a ≡ flat_map (legal_between p a) squares
+unfolding legal_from moves_from legal_between
+legal_from_parts p a = filter-flat_map (legal_test p) (moves_between a) squares
+
+-- the move itself where it is legal
+abbrev pub if_legal : Board → ℕ → ℕ → Promotion → List Move
+if_legal p a b choice = filter (legal_test p) (move_of a b choice ∷ [])
+
+pub legal_between_parts : (p : Board) (a b : ℕ) → legal_between p a b ≡ flat_map (if_legal p a b) promotions
+unfolding legal_between
+legal_between_parts p a b = filter-map (legal_test p) (move_of a b) promotions
+
+-- a list of parts so far, one for each square
+abbrev pub so_far : (ℕ → List Move) → ℕ → List Move
+so_far part n = flat_map part (take n squares)
+
+square_at : (n d : ℕ) → n < 64 → get_or squares n d ≡ n
+unfolding squares
+square_at n d h = omega (arith, get_or-range_with_len 0 64 n d h)
+
+board_length : length squares ≡ 64
+unfolding squares
+board_length = refl
+
+pub one_square_more : (part : ℕ → List Move) (n : ℕ) → n < 64 → so_far part (n + 1) ≡ so_far part n ++ part n
+one_square_more part n h =
+    let within : n < length squares = omega (arith, board_length) in
+    flat_map-take_more part squares n 0 within ∙ ap (λ s. so_far part n ++ part s) (square_at n 0 h)
+
+pub all_squares : (part : ℕ → List Move) (n : ℕ) → 64 ≤ n → so_far part n ≡ flat_map part squares
+all_squares part n h =
+    let whole : length squares ≤ n = omega (arith, board_length) in
+    ap (flat_map part) (take_all n squares whole)
+
+pub room_for_square : (part : ℕ → List Move) (n : ℕ) → n < 64
+    → length (so_far part n) + length (part n) ≤ length (flat_map part squares)
+room_for_square part n h =
+    let within : n < length squares = omega (arith, board_length) in
+    omega (arith, length-flat_map-take part squares n 0 within, ap (λ s. length (part s)) (square_at n 0 h))
+
+fails_if_unreached : (p : Board) (m : Move) → m.null ≡ false → m.to < 64 → reaches p m.from m.to ≡ false → legal_test p m ≡ false
+fails_if_unreached p m null below shut =
+    passes_in_parts p m null below ∙ ap (λ t. t && promotes p m && is_safe p m) shut
+
+pub none_between_unreached : (p : Board) (a b : ℕ) → b < 64 → reaches p a b ≡ false → legal_between p a b ≡ []
+unfolding legal_between
+none_between_unreached p a b below shut =
+    filter-none (legal_test p) (moves_between a b)
+    (All-map (λ m. legal_test p m ≡ false) (move_of a b) promotions
+        (λ k d h. fails_if_unreached p (move_of a b (get_or promotions k d)) refl below shut))
+
+-- where a man goes, the move is judged by what it promotes to and by the king's safety
+pub reached_move : (p : Board) (m : Move) → m.null ≡ false → m.to < 64 → reaches p m.from m.to ≡ true
+    → legal_test p m ≡ (promotes p m && is_safe p m)
+reached_move p m null below open_ =
+    passes_in_parts p m null below ∙ ap (λ t. t && promotes p m && is_safe p m) open_
