@@ -1,7 +1,7 @@
 -- The legal moves part by part: from each square, to each square, by each promotion.
 use Rattle.std.proofs.Common.{◌≡◌, ℕ, ◌+◌, ◌<◌, ◌≤◌, Bool, true, false, cond, ◌&&◌, List, [], ◌∷◌, ◌++◌, length, take, get_or, refl, sym, ap, ◌∙◌, subst, arith}
 use Rattle.std.specs.List.{filter, flat_map}
-use Rattle.std.proofs.lemmas.List.{take_all, append_assoc}
+use Rattle.std.proofs.lemmas.List.{take_all, append_assoc, append-nil, length-append}
 use Rattle.std.proofs.lemmas.List.Elements.{All-map}
 use Rattle.std.proofs.lemmas.List.Folds.{length-flat_map-take}
 use Rattle.std.proofs.lemmas.List.FromFn.{get_or-range_with_len, length-range_with_len}
@@ -75,3 +75,49 @@ pub reached_move : (p : Board) (m : Move) → m.null ≡ false → m.to < 64 →
     → legal_test p m ≡ (promotes p m && is_safe p m)
 reached_move p m null below open_ =
     passes_in_parts p m null below ∙ ap (λ t. t && promotes p m && is_safe p m) open_
+
+-- the part of one more square is added, or is empty
+pub add_part : (part : ℕ → List Move) (n : ℕ) (old before after : List Move) → n < 64
+    → before ≡ old ++ so_far part n → after ≡ before ++ part n → after ≡ old ++ so_far part (n + 1)
+add_part part n old before after h e f =
+    f
+    ∙ ap (λ xs. xs ++ part n) e
+    ∙ append_assoc old (so_far part n) (part n)
+    ∙ ap (λ xs. old ++ xs) (sym (one_square_more part n h))
+
+pub add_nothing : (part : ℕ → List Move) (n : ℕ) (old before : List Move) → n < 64
+    → before ≡ old ++ so_far part n → part n ≡ [] → before ≡ old ++ so_far part (n + 1)
+add_nothing part n old before h e f =
+    add_part part n old before before h e (sym (append-nil before) ∙ ap (λ xs. before ++ xs) (sym f))
+
+-- where the whole has room, the next part has
+pub room_for_part : (part : ℕ → List Move) (n : ℕ) (old before : List Move) → n < 64 → before ≡ old ++ so_far part n
+    → length old + length (flat_map part squares) ≤ 512 → length before + length (part n) ≤ 512
+room_for_part part n old before h e room =
+    omega (arith, room_for_square part n h, ap length e, length-append old (so_far part n), room)
+
+pub room_for_goal : (p : Board) (a n : ℕ) (old before : List Move) → n < 64 → before ≡ old ++ so_far (legal_between p a) n
+    → length old + length (legal_from p a) ≤ 512 → length before + length (legal_between p a n) ≤ 512
+room_for_goal p a n old before h e room =
+    room_for_part (legal_between p a) n old before h e
+    (subst (λ (xs : List Move). length old + length xs ≤ 512) (legal_from_parts p a) room)
+
+pub all_goals : (p : Board) (a n : ℕ) (old after : List Move) → 64 ≤ n → after ≡ old ++ so_far (legal_between p a) n
+    → after ≡ old ++ legal_from p a
+all_goals p a n old after h e =
+    e ∙ ap (λ xs. old ++ xs) (all_squares (legal_between p a) n h ∙ sym (legal_from_parts p a))
+
+pub room_for_promotion : (p : Board) (a b n : ℕ) (d : Promotion) (old before : List Move) → n < 5
+    → before ≡ old ++ flat_map (if_legal p a b) (take n promotions)
+    → length old + length (legal_between p a b) ≤ 512 → length before + length (if_legal p a b (get_or promotions n d)) ≤ 512
+room_for_promotion p a b n d old before h e room =
+    let fits = subst (λ (xs : List Move). length old + length xs ≤ 512) (legal_between_parts p a b) room in
+    let next = length-flat_map-take (if_legal p a b) promotions n d h in
+    omega (arith, next, ap length e, length-append old (flat_map (if_legal p a b) (take n promotions)), fits)
+
+pub all_promotions : (p : Board) (a b n : ℕ) (old after : List Move) → 5 ≤ n
+    → after ≡ old ++ flat_map (if_legal p a b) (take n promotions) → after ≡ old ++ legal_between p a b
+all_promotions p a b n old after h e =
+    e
+    ∙ ap (λ xs. old ++ flat_map (if_legal p a b) xs) (take_all n promotions h)
+    ∙ ap (λ xs. old ++ xs) (sym (legal_between_parts p a b))

@@ -1,3 +1,4 @@
 pub mod Legality
 pub mod LegalMoves
 pub mod Reach
+pub mod Outcome

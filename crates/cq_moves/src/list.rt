@@ -65,8 +65,7 @@ fn add_moves_between(position: &Position, from: Square, to: Square, moves: &mut 
     }
 }
 
-// Adds a move that a man can make, but for what it promotes to and for the safety of the king, where it is legal.
-#[tactic(auto, using(crate::proofs::Parts::reached_move))]
+// Adds a move to a square to which a man goes, where it is legal.
 fn add_move(position: &Position, m: Move, moves: &mut ArrayVec<Move, 512>)
     requires reaches { parts.reaches position.now m.from m.to ≡ true }
     requires board { m.to < 64 }
@@ -74,7 +73,18 @@ fn add_move(position: &Position, m: Move, moves: &mut ArrayVec<Move, 512>)
     requires room { length moves.old.items + length (filter (legal_test position.now) (m ∷ [])) ≤ 512 }
     ensures { moves.new.items ≡ moves.old.items ++ filter (legal_test position.now) (m ∷ []) }
 {
-    if promotes(position, &m) && is_safe(position, &m) {
+    if is_legal_there(position, &m) {
         moves.push(m);
     }
+}
+
+// Whether a move to a square to which a man goes is legal.
+#[tactic(auto, using(crate::proofs::Parts::reached_move))]
+pub fn is_legal_there(position: &Position, m: &Move) -> bool
+    requires reaches { parts.reaches position.now m.now.from m.now.to ≡ true }
+    requires board { m.now.to < 64 }
+    requires null { m.now.null ≡ false }
+    ensures { result ≡ legal_test position.now m.now }
+{
+    promotes(position, m) && is_safe(position, m)
 }

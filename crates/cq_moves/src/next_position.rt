@@ -27,7 +27,8 @@ pub fn play(position: &Position, m: Move) -> Position
     )
 }
 
-fn number_after(position: &Position) -> u32
+// The number rises after Black's move.
+pub fn number_after(position: &Position) -> u32
     ensures { result ≡ legal.number_after position.now }
 {
     match position.side() {

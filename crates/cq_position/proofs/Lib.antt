@@ -1,7 +1,11 @@
+mod LegalRows
 mod Rows
+pub mod Joined
 pub mod Marked
 pub mod Numbers
 pub mod Placed
+pub mod RankTexts
 pub mod Ranks
+pub mod RoundTrip
 pub mod Splitting
 pub mod Whole

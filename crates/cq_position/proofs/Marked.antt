@@ -41,9 +41,10 @@ marks_none = record { bit = λ k h. bit_at-zero k }
 pub marks_more : (mask : ℕ) (xs : List ℕ) (i s : ℕ) → i < length xs → s ≡ get_or xs i 0 → s < 64 → Marks mask (has (take i xs)) → Marks (bit_or mask (1 * 2 ^ s % 18446744073709551616)) (has (take (i + 1) xs))
 marks_more mask xs i s lt e low m = record {
   bit = λ k h. elim (cases_eq k s) [
-    inl same ↦ rw (list_any_more (λ x. eqb x k) xs i 0 lt, ← e, same_test s k (sym same), true_last) (rw same (bit_at_set_same w64 mask s low))
-  | inr other ↦
-      rw (list_any_more (λ x. eqb x k) xs i 0 lt, ← e, other_test s k (λ f. other (sym f)), or-false) (bit_at_set_other w64 mask s low k other ∙ m.bit k h) ];
+    | inl same ↦ rw (list_any_more (λ x. eqb x k) xs i 0 lt, ← e, same_test s k (sym same), true_last) (rw same (bit_at_set_same w64 mask s low))
+    | inr other ↦
+        rw (list_any_more (λ x. eqb x k) xs i 0 lt, ← e, other_test s k (λ f. other (sym f)), or-false) (bit_at_set_other w64 mask s low k other ∙ m.bit k h)
+  ];
 }
 
 max_bits : (t u : Bool) → max (bit_of t) (bit_of u) ≡ bit_of (t || u)
@@ -62,8 +63,9 @@ power_fits s low = rw one-mul (mod-eq_of_lt (pow_below s 64 low))
 pub marks_one : (s : ℕ) → s < 64 → Marks (1 * 2 ^ s % 18446744073709551616) (λ k. eqb s k)
 marks_one s low = record {
   bit = λ k h. elim (cases_eq k s) [
-    inl same ↦ rw (power_fits s low, same, same_test s s refl) (bit_at-pow_same s)
-  | inr other ↦ rw (power_fits s low, other_test s k (λ f. other (sym f))) (bit_at-pow_other s k other) ];
+    | inl same ↦ rw (power_fits s low, same, same_test s s refl) (bit_at-pow_same s)
+    | inr other ↦ rw (power_fits s low, other_test s k (λ f. other (sym f))) (bit_at-pow_other s k other)
+  ];
 }
 
 and_false : (b : Bool) → (b && false) ≡ false

@@ -8,3 +8,4 @@ pub mod Fen
 pub mod Reading
 pub mod Legal
 pub mod Marks
+pub mod FenText

@@ -16,4 +16,3 @@ pub record IsPosition (b : Board) : Type 0 where
   pub quiet : in_check b.men (opponent b.side) ≡ false
   pub numbered : 0 < b.number
   pub fits : b.number < 4294967296
-

@@ -5,10 +5,9 @@ ghost use Rattle.cq_geometry.specs.Steps as steps;
 ghost use Rattle.cq_position.specs.Attacks as attack;
 ghost use Rattle.cq_position.specs.Marks.{Marks, has};
 
-use cq_geometry::{Square, Step, between, file, king_steps, knight_steps, rank, ray};
-
 use crate::men::{Man, Side, is_of_side, is_same, king_of, opponent};
 use crate::position::Position;
+use cq_geometry::{Square, Step, between, file, king_steps, knight_steps, rank, ray};
 
 /// The squares that the man on a square attacks, whatever stands there: bit k of the answer is square k. An empty square attacks none.
 ///
@@ -43,7 +42,8 @@ pub fn is_king_attacked(men: &[Man; 64], side: Side) -> bool
 fn is_attacked_king(men: &[Man; 64], side: Side, square: Square) -> bool
     ensures { result ≡ attack.attacked_king men.now side square }
 {
-    is_same(men[usize::from(square.number())], king_of(side)) && is_attacked(men, opponent(side), square)
+    is_same(men[usize::from(square.number())], king_of(side))
+        && is_attacked(men, opponent(side), square)
 }
 
 /// Whether a man of a side attacks a square of this board.
@@ -73,7 +73,8 @@ fn is_attack(man: Man, men: &[Man; 64], from: Square, to: Square) -> bool
 {
     match man {
         Man::K | Man::BlackK => is_king_step(from, to),
-        Man::Q | Man::BlackQ => (is_orthogonal(from, to) || is_diagonal(from, to)) && is_open(men, from, to),
+        Man::Q | Man::BlackQ => (is_orthogonal(from, to) || is_diagonal(from, to))
+            && is_open(men, from, to),
         Man::R | Man::BlackR => is_orthogonal(from, to) && is_open(men, from, to),
         Man::B | Man::BlackB => is_diagonal(from, to) && is_open(men, from, to),
         Man::N | Man::BlackN => is_knight_step(from, to),
@@ -127,14 +128,19 @@ fn is_orthogonal(a: Square, b: Square) -> bool
 fn is_diagonal(a: Square, b: Square) -> bool
     ensures { result ≡ lines.is_diagonal a b }
 {
-    a.number() != b.number() && (7 + rank(a) - file(a) == 7 + rank(b) - file(b) || file(a) + rank(a) == file(b) + rank(b))
+    a.number() != b.number()
+        && (7 + rank(a) - file(a) == 7 + rank(b) - file(b)
+            || file(a) + rank(a) == file(b) + rank(b))
 }
 
 // Whether no man stands between two squares.
 pub fn is_open(men: &[Man; 64], a: Square, b: Square) -> bool
     ensures { result ≡ lines.is_open (attack.is_taken men.now) a b }
 {
-    between(a, b).as_slice().iter().all(|square| !is_taken(men, *square))
+    between(a, b)
+        .as_slice()
+        .iter()
+        .all(|square| !is_taken(men, *square))
 }
 
 pub fn is_taken(men: &[Man; 64], square: Square) -> bool
@@ -234,5 +240,30 @@ fn mark(square: Option<Square>) -> u64
     match square {
         Some(square) => 1 << square.number(),
         None => 0,
+    }
+}
+
+#[cfg(test)]
+mod tests {
+    use super::*;
+    use crate::fen::read_fen;
+    use std::test::Fail;
+
+    #[test]
+    fn squares_are_attacked(rt: HostRuntime) -> Result<(), Fail> {
+        let position = read_fen(b"4k3/8/8/8/P7/8/2N5/R3K3 b - - 0 1")?;
+        // b1, c1, d1 and e1; a2, a3 and a4.
+        assert_eq!(rt; attacks_from(&position, Square::new(0)), 0x101_011e);
+        // a1, a3, b4, d4, e1 and e3.
+        assert_eq!(rt; attacks_from(&position, Square::new(10)), 0xa11_0011);
+        assert_eq!(rt; attacks_from(&position, Square::new(24)), 1 << 33);
+        assert_eq!(rt;
+            attacks_from(&position, Square::new(60)),
+            0x2838_0000_0000_0000
+        );
+        assert_eq!(rt; attacks_from(&position, Square::new(1)), 0);
+        assert!(rt; !in_check(&position, Side::Black));
+        assert!(rt; in_check(&read_fen(b"4k3/8/8/8/8/8/8/4RK2 b - - 0 1")?, Side::Black));
+        Ok(())
     }
 }

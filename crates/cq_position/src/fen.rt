@@ -2,19 +2,20 @@
 ghost use Rattle.std.specs.Prelude.{◌≡◌};
 ghost use Rattle.cq_position.specs.Fen.{fen_meaning};
 
-use thiserror::Error;
-
 use crate::attacks::is_king_attacked;
 use crate::men::opponent;
 use crate::position::{Position, has_kings, has_pawn_on_edge, has_too_many_men};
+use thiserror::Error;
 
 mod fields;
 mod placement;
 mod status;
+mod writing;
 
 use fields::split_fields;
 use placement::read_placement;
 use status::{is_castling, is_passant, passant_kept, read_number, read_side, rights_kept};
+pub use writing::fen_text;
 
 /// Why a text is no position. Where several faults apply, the first in this order is answered.
 #[derive(Clone, Copy, Debug, PartialEq, Eq, Error)]

@@ -8,7 +8,9 @@ pub mod moves;
 pub mod position;
 
 pub use attacks::{attacks_from, in_check};
-pub use fen::{FenFault, read_fen};
-pub use men::{Man, Promotion, Side, is_of_side, is_same, king_of, letter_of, man_of_letter, opponent};
+pub use fen::{FenFault, fen_text, read_fen};
+pub use men::{
+    Man, Promotion, Side, is_of_side, is_same, king_of, letter_of, man_of_letter, opponent,
+};
 pub use moves::Move;
 pub use position::{Position, Rights, material};

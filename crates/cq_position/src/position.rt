@@ -76,7 +76,7 @@ impl Position {
         }
     }
 
-    // The position of these parts.
+    /// The position of these parts, which meet the conditions of a position.
     pub fn from_parts(
         number: u32,
         men: [Man; 64],
@@ -140,6 +140,22 @@ impl Position {
             (Side::Black, true) => self.rights.black_kingside,
             (Side::Black, false) => self.rights.black_queenside,
         }
+    }
+
+    /// The rights to castle.
+    pub fn rights(&self) -> Rights
+        ensures rights { result ≡ self.now.rights }
+        ensures kept { IsPosition self.now }
+    {
+        self.rights
+    }
+
+    /// The rights to castle that are left.
+    pub fn rights(&self) -> Rights
+        ensures rights { result ≡ self.now.rights }
+        ensures kept { IsPosition self.now }
+    {
+        self.rights
     }
 
     /// The number of the move, from 1, which rises after Black's moves.

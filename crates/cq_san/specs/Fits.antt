@@ -45,40 +45,28 @@ abbrev pub agrees_where_given : Option ℕ → ℕ → Bool
 agrees_where_given None n = true
 agrees_where_given (Some given) n = given == n
 
--- Whether the parts agree with a move. Castling fits the castling texts alone: to the right it is on the king's side.
-abbrev pub agrees : Board → Parts → Move → Bool
-agrees p (Castling kingside) m = is_castling p m && (if kingside then nat_lt m.from m.to else nat_lt m.to m.from)
-agrees p Null m = false
-agrees p (Moved parts) m =
-    not (is_castling p m) && stands p.men m.from (man_of p.side parts.piece)
+abbrev pub is_same_promotion : Promotion → Promotion → Bool
+is_same_promotion a b = promotion_number a == promotion_number b
+
+-- to the right, castling is on the king's side
+abbrev pub goes_right : Move → Bool
+goes_right m = nat_lt m.from m.to
+
+-- a piece of the kind, from where the origin is given, to the goal, and with the promotion or with none
+abbrev pub agrees_in_parts : Board → PieceMove → Move → Bool
+agrees_in_parts p parts m =
+    stands p.men m.from (man_of p.side parts.piece)
     && agrees_where_given parts.file (file_of m.from) && agrees_where_given parts.rank (rank_of m.from)
-    && (m.to == parts.goal) && (promotion_number m.promotion == promotion_number parts.promotion)
+    && (m.to == parts.goal) && is_same_promotion m.promotion parts.promotion
 
--- A legal move fits where the parts agree with it. The null move alone fits the parts of a null move, where it is allowed.
-abbrev pub Fits : Board → Parts → Move → Type 0
-Fits p (Castling kingside) m = ((q : Board) × Legal p m q) × (agrees p (Castling kingside) m ≡ true)
-Fits p Null m = (q : Board) × Passes p m q
-Fits p (Moved parts) m = ((q : Board) × Legal p m q) × (agrees p (Moved parts) m ≡ true)
+-- Whether the parts agree with a move. Castling agrees with the castling texts alone, whatever stands for a capture with every move.
+unfoldable pub agrees : Board → Parts → Move → Bool
+agrees p (Castling true) m = is_castling p m && goes_right m
+agrees p (Castling false) m = is_castling p m && not (goes_right m)
+agrees p Null m = false
+agrees p (Moved parts) m = not (is_castling p m) && agrees_in_parts p parts m
 
--- the one move that a text means
-pub record IsMeant (p : Board) (text : List ℕ) (m : Move) : Type 0 where
-  pub parts : Parts
-  pub spelled : parts_of text ≡ Some parts
-  pub fits : Fits p parts m
-  pub alone : (n : Move) → Fits p parts n → n ≡ m
-
--- a text that is a move, which no move fits
-pub record IsIllegal (p : Board) (text : List ℕ) : Type 0 where
-  pub parts : Parts
-  pub spelled : parts_of text ≡ Some parts
-  pub none_fits : (m : Move) → Fits p parts m → ⊥
-
--- a text that two different moves fit
-pub record IsAmbiguous (p : Board) (text : List ℕ) : Type 0 where
-  pub parts : Parts
-  pub spelled : parts_of text ≡ Some parts
-  pub one : Move
-  pub other : Move
-  pub one_fits : Fits p parts one
-  pub other_fits : Fits p parts other
-  pub differ : one ≢ other
+-- a legal move that the parts agree with fits, and a null move where it is allowed fits the parts of a null move
+pub data Fits (p : Board) (parts : Parts) (m : Move) : Type 0 where
+  pub legal : (q : Board) → Legal p m q → agrees p parts m ≡ true → Fits p parts m
+  pub passing : (q : Board) → Passes p m q → parts ≡ Null → Fits p parts m

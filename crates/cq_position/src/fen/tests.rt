@@ -58,10 +58,26 @@ fn each_fault_is_answered(rt: HostRuntime) {
             b"8/8/NNNNNNNN/NNNNNNNN/8/8/8/1Kk5 w K - 0 1",
             FenFault::TooManyMen,
         ),
+        (b"4k3/8/8/8/8/8/8/4RK2 w - - 0 1", FenFault::OpponentInCheck),
     ];
     for (text, fault) in rows {
         assert_eq!(rt; read_fen(text).err(), Some(fault));
     }
+}
+
+// The last has every kind of run, a right of each side alone, and an en passant square.
+#[test]
+fn text_of_a_position_is_its_fen(rt: HostRuntime) -> Result<(), Fail> {
+    let rows: [&[u8]; 3] = [
+        START,
+        b"8/8/8/8/8/8/8/K1k5 b - - 0 999999999",
+        b"r3k2r/1p6/8/2pP3p/8/P1P1P1P1/8/R3K2R w Kq c6 0 12",
+    ];
+    for text in rows {
+        let position = read_fen(text)?;
+        assert_eq!(rt; fen_text(rt.alloc(), &position)?.as_slice(), text);
+    }
+    Ok(())
 }
 
 // A game keeps a position for each of its moves.

@@ -1,0 +1,37 @@
+//! The null move, by which a side passes.
+ghost use Rattle.std.specs.Prelude.{◌≡◌, ◌↔◌, IsNone, IfSome, true};
+ghost use Rattle.cq_position.specs.Attacks as attack;
+ghost use Rattle.cq_position.specs.Legal.{Passes, after_pass};
+ghost use Rattle.cq_position.specs.Moves.{null_move};
+
+use crate::next_position::number_after;
+use cq_position::{Position, in_check, opponent};
+
+/// The position after a null move, or None exactly where the side to move is in check.
+///
+/// The men and the rights to castle stay, the other side is to move, the en passant square goes, and the number rises after Black's move,
+/// up to 4,294,967,295.
+pub fn pass(position: &Position) -> Option<Position>
+    ensures none { IsNone result ↔ (attack.in_check position.now.men position.now.side ≡ true) }
+    ensures passes { IfSome result (λ q. Passes position.now null_move q) }
+{
+    if in_check(position, position.side()) {
+        None
+    } else {
+        Some(after_pass_of(position))
+    }
+}
+
+// The position after the null move of a side that is not in check.
+fn after_pass_of(position: &Position) -> Position
+    requires { attack.in_check position.now.men position.now.side ≡ false }
+    ensures { result ≡ after_pass position.now }
+{
+    Position::from_parts(
+        number_after(position),
+        *position.men(),
+        opponent(position.side()),
+        position.rights(),
+        None,
+    )
+}

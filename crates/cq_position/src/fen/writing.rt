@@ -1,0 +1,151 @@
+//! Writing the FEN text of a position.
+ghost use Rattle.std.specs.Prelude.{◌≡◌, ◌++◌, ◌∷◌, [], ◌≤◌, IfOk, OnOk, length};
+ghost use Rattle.cq_position.specs.Men.{letter_of_man};
+ghost use Rattle.cq_position.specs.Fen.{fen_meaning};
+ghost use Rattle.cq_position.specs.FenText as fen_text;
+ghost use Rattle.cq_position.specs.Position.{IsPosition};
+
+use crate::men::{Man, Side, letter_of};
+use crate::position::{Position, Rights};
+use cq_geometry::{Square, file, rank};
+use cq_outside::{Bytes, NoMemory};
+use std::alloc::Global;
+
+/// The FEN text of a position: six fields, the halfmove clock 0, the rights in the order `KQkq`, and the en passant square that the position
+/// keeps.
+#[tactic(auto, using(crate::proofs::RoundTrip::reads_back))]
+pub fn fen_text(alloc: Global, position: &Position) -> Result<Bytes, NoMemory>
+    ensures text { IfOk result (λ text. text ≡ fen_text.fen_of position.now) }
+
+    // Reading it gives the position back, where its number has at most the nine digits that a FEN may have.
+    ensures back { position.now.number ≤ 999999999 → IfOk result (λ text. fen_meaning text ≡ Ok position.now) }
+{
+    written(alloc, position)
+}
+
+#[tactic(auto, unfolding(crate::specs::FenText::fen_of))]
+fn written(alloc: Global, position: &Position) -> Result<Bytes, NoMemory>
+    ensures text { IfOk result (λ text. text ≡ fen_text.fen_of position.now) }
+    ensures kept { OnOk result (IsPosition position.now) }
+{
+    let mut text = Bytes::new(alloc);
+    push_placement(&mut text, position.men())?;
+    text.push_all(side_text(position.side()))?;
+    push_rights(&mut text, position.rights())?;
+    push_passant(&mut text, position.passant())?;
+    text.push_all(b" 0 ")?;
+    text.push_number(i64::from(position.number()))?;
+    Ok(text)
+}
+
+// Writes a slash and a rank for each range of squares.
+macro_rules! push_ranks {
+    ($text:ident, $men:ident; $($from:literal..$to:literal),*) => {
+        $(push_next_rank($text, &$men[$from..$to])?;)*
+    };
+}
+
+// The ranks from the eighth down.
+fn push_placement(text: &mut Bytes, men: &[Man; 64]) -> Result<(), NoMemory>
+    ensures { OnOk result (text.new ≡ text.old ++ fen_text.placement_text men.now) }
+{
+    push_rank(text, &men[56..64])?;
+    push_ranks!(text, men; 48..56, 40..48, 32..40, 24..32, 16..24, 8..16, 0..8);
+    Ok(())
+}
+
+// A rank from the a-file on.
+fn push_rank(text: &mut Bytes, row: &[Man]) -> Result<(), NoMemory>
+    requires { length row.now ≤ 8 }
+    ensures { OnOk result (text.new ≡ text.old ++ fen_text.rank_text 0 row.now) }
+{
+    let mut empty = 0;
+    for man in row {
+        empty = push_man(text, empty, *man)?;
+    }
+    push_run(text, empty)
+}
+
+// A slash and a rank.
+fn push_next_rank(text: &mut Bytes, row: &[Man]) -> Result<(), NoMemory>
+    requires { length row.now ≤ 8 }
+    ensures { OnOk result (text.new ≡ text.old ++ 47 ∷ fen_text.rank_text 0 row.now) }
+{
+    text.push_all(b"/")?;
+    push_rank(text, row)
+}
+
+// A man behind so many empty squares; answers the empty squares not yet written.
+fn push_man(text: &mut Bytes, empty: u8, man: Man) -> Result<u8, NoMemory>
+    requires { empty ≤ 8 }
+    ensures text { OnOk result (text.new ≡ text.old ++ fen_text.letter_text empty (letter_of_man man)) }
+    ensures empty { IfOk result (λ left. left ≡ fen_text.run_after empty (letter_of_man man)) }
+{
+    let Some(letter) = letter_of(man) else {
+        return Ok(empty + 1);
+    };
+    push_run(text, empty)?;
+    text.push_all(&[letter])?;
+    Ok(0)
+}
+
+// The digit of a run of empty squares, if there are some.
+fn push_run(text: &mut Bytes, empty: u8) -> Result<(), NoMemory>
+    requires { empty ≤ 8 }
+    ensures { OnOk result (text.new ≡ text.old ++ fen_text.run_text empty) }
+{
+    if empty == 0 {
+        return Ok(());
+    }
+    text.push_all(&[b'0' + empty])
+}
+
+fn side_text(side: Side) -> &'static [u8]
+    ensures { result.now ≡ 32 ∷ (fen_text.side_text side ++ 32 ∷ []) }
+{
+    match side {
+        Side::White => b" w ",
+        Side::Black => b" b ",
+    }
+}
+
+// The rights, or a dash, and a space.
+fn push_rights(text: &mut Bytes, rights: Rights) -> Result<(), NoMemory>
+    ensures { OnOk result (text.new ≡ text.old ++ fen_text.castling_text rights ++ 32 ∷ []) }
+{
+    let Rights {
+        white_kingside,
+        white_queenside,
+        black_kingside,
+        black_queenside,
+    } = rights;
+    if white_kingside || white_queenside || black_kingside || black_queenside {
+        push_if(text, white_kingside, b'K')?;
+        push_if(text, white_queenside, b'Q')?;
+        push_if(text, black_kingside, b'k')?;
+        push_if(text, black_queenside, b'q')?;
+        text.push_all(b" ")
+    } else {
+        text.push_all(b"- ")
+    }
+}
+
+fn push_if(text: &mut Bytes, right: bool, letter: u8) -> Result<(), NoMemory>
+    ensures { OnOk result (text.new ≡ text.old ++ fen_text.letter_if right letter) }
+{
+    if right {
+        text.push_all(&[letter])
+    } else {
+        Ok(())
+    }
+}
+
+// The en passant square, or a dash.
+fn push_passant(text: &mut Bytes, passant: Option<Square>) -> Result<(), NoMemory>
+    ensures { OnOk result (text.new ≡ text.old ++ fen_text.passant_text passant) }
+{
+    match passant {
+        None => text.push_all(b"-"),
+        Some(square) => text.push_all(&[b'a' + file(square), b'1' + rank(square)]),
+    }
+}
