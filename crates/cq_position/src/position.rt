@@ -150,14 +150,6 @@ impl Position {
         self.rights
     }
 
-    /// The rights to castle that are left.
-    pub fn rights(&self) -> Rights
-        ensures rights { result ≡ self.now.rights }
-        ensures kept { IsPosition self.now }
-    {
-        self.rights
-    }
-
     /// The number of the move, from 1, which rises after Black's moves.
     pub fn number(&self) -> u32
         ensures number { result ≡ self.now.number }

@@ -1,5 +1,5 @@
 -- Which moves a text in Standard Algebraic Notation means in a position.
-use Rattle.std.specs.Prelude.{◌≡◌, ◌≢◌, ℕ, ◌==◌, Bool, true, false, ◌&&◌, not, nat_lt, List, Option, Some, None, if◌then◌else◌}
+use Rattle.std.specs.Prelude.{◌≡◌, ◌⊎◌, ℕ, ◌==◌, Bool, true, false, ◌&&◌, not, nat_lt, Option, Some, None}
 use Rattle.cq_geometry.specs.Squares.{file_of, rank_of}
 use Rattle.cq_position.specs.declared.men.Man.{Man}
 use Rattle.cq_position.specs.declared.men.Man.TheVariants.{K, Q, R, B, N, P, BlackK, BlackQ, BlackR, BlackB, BlackN, BlackP}
@@ -15,7 +15,6 @@ use Rattle.cq_san.specs.declared.parts.Piece.TheVariants.{King, Queen, Rook, Bis
 use Rattle.cq_san.specs.declared.parts.PieceMove.{PieceMove}
 use Rattle.cq_san.specs.declared.parts.Parts.{Parts}
 use Rattle.cq_san.specs.declared.parts.Parts.TheVariants.{Castling, Null, Moved}
-use Rattle.cq_san.specs.Parts.{parts_of}
 
 -- the man of a side that a letter names
 abbrev pub man_of : Side → Piece → Man
@@ -59,14 +58,15 @@ agrees_in_parts p parts m =
     && agrees_where_given parts.file (file_of m.from) && agrees_where_given parts.rank (rank_of m.from)
     && (m.to == parts.goal) && is_same_promotion m.promotion parts.promotion
 
--- Whether the parts agree with a move. Castling agrees with the castling texts alone, whatever stands for a capture with every move.
+-- Whether the parts agree with a move. Castling agrees with the castling texts alone, and the null move with the null moves' texts.
 unfoldable pub agrees : Board → Parts → Move → Bool
-agrees p (Castling true) m = is_castling p m && goes_right m
-agrees p (Castling false) m = is_castling p m && not (goes_right m)
-agrees p Null m = false
-agrees p (Moved parts) m = not (is_castling p m) && agrees_in_parts p parts m
+agrees p (Castling true) m = not m.null && is_castling p m && goes_right m
+agrees p (Castling false) m = not m.null && is_castling p m && not (goes_right m)
+agrees p Null m = m.null
+agrees p (Moved parts) m = not m.null && not (is_castling p m) && agrees_in_parts p parts m
 
--- a legal move that the parts agree with fits, and a null move where it is allowed fits the parts of a null move
-pub data Fits (p : Board) (parts : Parts) (m : Move) : Type 0 where
-  pub legal : (q : Board) → Legal p m q → agrees p parts m ≡ true → Fits p parts m
-  pub passing : (q : Board) → Passes p m q → parts ≡ Null → Fits p parts m
+-- a move fits parts that agree with it where it is legal, or is the null move and the side to move may pass
+pub record Fits (p : Board) (parts : Parts) (m : Move) : Type 0 where
+  pub next : Board
+  pub leads : Legal p m next ⊎ Passes p m next
+  pub agree : agrees p parts m ≡ true

@@ -9,7 +9,7 @@ use cq_moves::after::is_castling;
 use cq_position::{Man, Move, Position, Promotion, Side, is_same};
 
 use crate::parts::{Parts, Piece, PieceMove};
-use crate::reading::SanFault;
+use crate::fault::SanFault;
 
 /// The man of a side that is such a piece.
 pub fn man_of(side: Side, piece: Piece) -> Man
@@ -52,13 +52,17 @@ pub fn only_agreeing(position: &Position, parts: &Parts, moves: &[Move]) -> Resu
 }
 
 // Whether the parts agree with a move.
+#[tactic(auto, unfolding(crate::specs::Fits::agrees))]
 fn agrees(position: &Position, parts: &Parts, m: &Move) -> bool
     ensures { result ≡ fit.agrees position.now parts.now m.now }
 {
     match parts {
-        Parts::Castling { kingside } => is_castling(position, m) && *kingside == goes_right(m),
-        Parts::Null => false,
-        Parts::Moved(moved) => !is_castling(position, m) && agrees_in_parts(position, moved, m),
+        Parts::Castling { kingside: true } => !m.null && is_castling(position, m) && goes_right(m),
+        Parts::Castling { kingside: false } => !m.null && is_castling(position, m) && !goes_right(m),
+        Parts::Null => m.null,
+        Parts::Moved(moved) => {
+            !m.null && !is_castling(position, m) && agrees_in_parts(position, moved, m)
+        }
     }
 }
 
