@@ -38,9 +38,7 @@ fn answer_to(position: &Position, parts: &Parts) -> Result<Move, SanFault>
 {
     match parts {
         Parts::Null => null_move(position),
-        Parts::Castling { kingside: _ } | Parts::Moved(_) => {
-            only_agreeing(position, parts, &legal_moves(position))
-        }
+        _ => only_agreeing(position, parts, &legal_moves(position)),
     }
 }
 
