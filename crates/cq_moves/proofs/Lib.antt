@@ -9,3 +9,4 @@ pub mod Castled
 pub mod Pawns
 pub mod Ways
 pub mod Kept
+pub mod Stuck

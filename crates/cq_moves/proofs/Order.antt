@@ -1,8 +1,9 @@
 -- The list of all moves: what it holds, and its order.
-use Rattle.std.proofs.Common.{◌≡◌, ℕ, zero, suc, ◌+◌, ◌<◌, ◌⊎◌, Bool, true, false, List, [], ◌∷◌, map, length, refl, inl, inr, sym, ap, ◌∙◌, subst, arith, lit<}
-use Rattle.std.specs.List.{All, AllPairs, Contains, filter, flat_map}
+use Rattle.std.proofs.Common.{◌≡◌, ℕ, zero, suc, ◌+◌, ◌<◌, ◌⊎◌, ◌↔◌, Bool, true, false, List, [], ◌∷◌, map, length, refl, inl, inr, sym, ap, ◌∙◌, subst, arith, lit<}
+use Rattle.std.specs.List.{All, AllPairs, Contains, filter, flat_map, list_any}
 use Rattle.std.specs.List.Sorted.{IsStrictlyIncreasing}
 use Rattle.std.proofs.lemmas.List.Elements.{All-map, All-weaker, All-contains, filter_passes}
+use Rattle.std.proofs.lemmas.List.Folds.{Any-from_list_any, list_any-from_Any}
 use Rattle.std.proofs.lemmas.List.Kept.{AllPairs-from_increasing, AllPairs-filter}
 use Rattle.cq_geometry.specs.Squares.{squares}
 use Rattle.cq_geometry.proofs.Board.{squares_rise, squares_board, in_squares, contains_filter}
@@ -13,6 +14,7 @@ use Rattle.cq_position.specs.Board.{Board}
 use Rattle.cq_position.specs.Legal.{Legal, after}
 use Rattle.cq_moves.specs.Legality.{legal_test}
 use Rattle.cq_moves.specs.LegalMoves.{promotions, promotion_number, move_of, moves_between, moves_from, all_moves, legal_list, Precedes}
+use Rattle.cq_moves.specs.Outcome.{HasLegalMove}
 use Rattle.cq_moves.proofs.Lists.{All-flat_map, AllPairs-flat_map, AllPairs-map, AllPairs-by_number, Contains-map, Contains-flat_map}
 use Rattle.cq_moves.proofs.Law.{IsOnBoard, legal_on_board, legal_passes, test_leads}
 
@@ -96,3 +98,12 @@ unfolding legal_list
 legal_is_listed p m long l =
     let passes = legal_passes p m l.0 l.1 in
     contains_filter (legal_test p) all_moves m (in_all m (legal_on_board p m long passes)) passes
+
+-- a move passes the test exactly where there is a legal move
+pub any_legal : (p : Board) → length p.men ≡ 64 → (list_any (legal_test p) all_moves ≡ true) ↔ HasLegalMove p
+any_legal p long =
+    (λ h. let a = Any-from_list_any (legal_test p) all_moves h in (a.1, after p a.1, test_leads p a.1 a.4),
+    λ l.
+        let passes = legal_passes p l.0 l.1 l.2 in
+        let there = in_all l.0 (legal_on_board p l.0 long passes) in
+        list_any-from_Any (legal_test p) all_moves (there.0, l.0, there.1, there.2, passes))

@@ -1,9 +1,9 @@
 -- The legal moves part by part: from each square, to each square, by each promotion.
 use Rattle.std.proofs.Common.{◌≡◌, ℕ, ◌+◌, ◌<◌, ◌≤◌, Bool, true, false, cond, ◌&&◌, List, [], ◌∷◌, ◌++◌, length, take, get_or, refl, sym, ap, ◌∙◌, subst, arith}
-use Rattle.std.specs.List.{filter, flat_map}
+use Rattle.std.specs.List.{All, filter, flat_map, list_any}
 use Rattle.std.proofs.lemmas.List.{take_all, append_assoc, append-nil, length-append}
 use Rattle.std.proofs.lemmas.List.Elements.{All-map}
-use Rattle.std.proofs.lemmas.List.Folds.{length-flat_map-take}
+use Rattle.std.proofs.lemmas.List.Folds.{length-flat_map-take, list_any_none}
 use Rattle.std.proofs.lemmas.List.FromFn.{get_or-range_with_len, length-range_with_len}
 use Rattle.cq_geometry.specs.Squares.{squares}
 use Rattle.cq_position.specs.declared.men.Promotion.{Promotion}
@@ -12,7 +12,7 @@ use Rattle.cq_position.specs.Board.{Board}
 use Rattle.cq_moves.specs.Legality.{is_safe, legal_test}
 use Rattle.cq_moves.specs.LegalMoves.{promotions, move_of, moves_between, moves_from, all_moves, legal_list, legal_from, legal_between}
 use Rattle.cq_moves.specs.Reach.{reaches, promotes}
-use Rattle.cq_moves.proofs.Lists.{filter-flat_map, filter-map, filter-none, flat_map_agree, flat_map-take_more}
+use Rattle.cq_moves.proofs.Lists.{filter-flat_map, filter-map, filter-none, flat_map_agree, flat_map-take_more, list_any-flat_map}
 use Rattle.cq_moves.proofs.Law.{passes_in_parts}
 
 pub legal_list_parts : (p : Board) → legal_list p ≡ flat_map (legal_from p) squares
@@ -63,12 +63,27 @@ fails_if_unreached : (p : Board) (m : Move) → m.null ≡ false → m.to < 64 �
 fails_if_unreached p m null below shut =
     passes_in_parts p m null below ∙ ap (λ t. t && promotes p m && is_safe p m) shut
 
+unreached_fail : (p : Board) (a b : ℕ) → b < 64 → reaches p a b ≡ false → All (λ m. legal_test p m ≡ false) (moves_between a b)
+unreached_fail p a b below shut =
+    All-map (λ m. legal_test p m ≡ false) (move_of a b) promotions
+    (λ k d h. fails_if_unreached p (move_of a b (get_or promotions k d)) refl below shut)
+
 pub none_between_unreached : (p : Board) (a b : ℕ) → b < 64 → reaches p a b ≡ false → legal_between p a b ≡ []
 unfolding legal_between
-none_between_unreached p a b below shut =
-    filter-none (legal_test p) (moves_between a b)
-    (All-map (λ m. legal_test p m ≡ false) (move_of a b) promotions
-        (λ k d h. fails_if_unreached p (move_of a b (get_or promotions k d)) refl below shut))
+none_between_unreached p a b below shut = filter-none (legal_test p) (moves_between a b) (unreached_fail p a b below shut)
+
+pub unreached_has_none : (p : Board) (a b : ℕ) → b < 64 → reaches p a b ≡ false → list_any (legal_test p) (moves_between a b) ≡ false
+unreached_has_none p a b below shut = list_any_none (legal_test p) (moves_between a b) (unreached_fail p a b below shut)
+
+-- a legal move from a square goes to some square, and a legal move is one from some square
+pub any_from_parts : (p : Board) (a : ℕ)
+    → list_any (legal_test p) (moves_from a) ≡ list_any (λ b. list_any (legal_test p) (moves_between a b)) squares
+unfolding moves_from
+any_from_parts p a = list_any-flat_map (legal_test p) (moves_between a) squares
+
+pub any_parts : (p : Board) → list_any (legal_test p) all_moves ≡ list_any (λ a. list_any (legal_test p) (moves_from a)) squares
+unfolding all_moves
+any_parts p = list_any-flat_map (legal_test p) moves_from squares
 
 -- where a man goes, the move is judged by what it promotes to and by the king's safety
 pub reached_move : (p : Board) (m : Move) → m.null ≡ false → m.to < 64 → reaches p m.from m.to ≡ true

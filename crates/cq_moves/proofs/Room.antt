@@ -1,10 +1,10 @@
 -- There are at most 512 legal moves: at most 32 from each square with a man of the side to move.
 use Rattle.std.proofs.Common.{◌≡◌, ℕ, ◌+◌, ◌*◌, ◌<◌, ◌≤◌, Bool, true, false, cond, not, ◌&&◌, ◌||◌, ◌==◌, leb, ltb, List, [], ◌∷◌, ◌++◌, map, length, get_or, refl, inl, inr, sym, ap, ◌∙◌, subst, arith}
-use Rattle.std.specs.List.{All, filter, flat_map, sum_by, count_by, list_all, range_with_len}
+use Rattle.std.specs.List.{All, filter, flat_map, sum_by, count_by, list_any}
 use Rattle.std.proofs.lemmas.Bool.{and_parts, and_from, or_cases, or_left, or_right, or_parts, leb-true, ltb-false, cases_Bool, false≢true, false_from_ne_true}
 use Rattle.std.proofs.lemmas.List.Concat.{length-flat_map}
 use Rattle.std.proofs.lemmas.List.Elements.{All-weaker}
-use Rattle.std.proofs.lemmas.List.Folds.{fold-map}
+use Rattle.std.proofs.lemmas.List.Folds.{fold-map, list_any_none}
 use Rattle.std.proofs.lemmas.List.FromFn.{fill_by_all}
 use Rattle.std.proofs.lemmas.List.Sums.{sum_by-cons, sum_by-le-sum_by}
 use Rattle.cq_geometry.specs.Squares.{squares}
@@ -187,14 +187,19 @@ abbrev owns : Board → Man → Bool
 owns p man = is_of_side p.side man
 
 -- none from a square without a man of the side to move
+others_fail : (p : Board) (a : ℕ) → owns p (man_at p.men a) ≡ false → All (λ m. legal_test p m ≡ false) (moves_from a)
+others_fail p a other =
+    All-weaker (λ m. m.from ≡ a) (λ m. legal_test p m ≡ false)
+    (λ m e. false_from_ne_true (legal_test p m)
+        (λ h. false≢true (sym other ∙ ap (λ s. owns p (man_at p.men s)) (sym e) ∙ (what_moves p m h).own)))
+    (moves_from a) (from_goes a)
+
 pub none_from_other : (p : Board) (a : ℕ) → owns p (man_at p.men a) ≡ false → legal_from p a ≡ []
 unfolding legal_from
-none_from_other p a other =
-    filter-none (legal_test p) (moves_from a)
-    (All-weaker (λ m. m.from ≡ a) (λ m. legal_test p m ≡ false)
-        (λ m e. false_from_ne_true (legal_test p m)
-            (λ h. false≢true (sym other ∙ ap (λ s. owns p (man_at p.men s)) (sym e) ∙ (what_moves p m h).own)))
-        (moves_from a) (from_goes a))
+none_from_other p a other = filter-none (legal_test p) (moves_from a) (others_fail p a other)
+
+pub other_has_none : (p : Board) (a : ℕ) → owns p (man_at p.men a) ≡ false → list_any (legal_test p) (moves_from a) ≡ false
+other_has_none p a other = list_any_none (legal_test p) (moves_from a) (others_fail p a other)
 
 -- at most 32 legal moves from a square with a man of the side to move, and none from another
 few_from : (p : Board) → length p.men ≡ 64 → (a : ℕ)

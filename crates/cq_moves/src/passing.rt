@@ -1,5 +1,5 @@
 //! The null move, by which a side passes.
-ghost use Rattle.std.specs.Prelude.{◌≡◌, ◌↔◌, IsNone, IfSome, true};
+ghost use Rattle.std.specs.Prelude.{◌≡◌, ◌↔◌, IsNone, IfSome, true, false};
 ghost use Rattle.cq_position.specs.Attacks as attack;
 ghost use Rattle.cq_position.specs.Legal.{Passes, after_pass};
 ghost use Rattle.cq_position.specs.Moves.{null_move};
@@ -23,6 +23,7 @@ pub fn pass(position: &Position) -> Option<Position>
 }
 
 // The position after the null move of a side that is not in check.
+#[tactic(auto, unfolding(cq_position::specs::Legal::after_pass))]
 fn after_pass_of(position: &Position) -> Position
     requires { attack.in_check position.now.men position.now.side ≡ false }
     ensures { result ≡ after_pass position.now }
