@@ -1,0 +1,134 @@
+-- What a text in Standard Algebraic Notation says of a move (PGN standard 8.2.3).
+--
+-- The text is read from its end, where each part is known by its bytes: the signs of check and mate, the promotion, the goal, the mark of a capture,
+-- the rank and the file from which the move goes, and the letter of the piece. So `back` is always a text backwards, its last byte first.
+use Rattle.std.specs.Prelude.{ℕ, ◌-◌, ◌==◌, Bool, true, false, ◌&&◌, ◌||◌, nat_le, List, [], ◌∷◌, reverse, codes, Option, Some, None, option_map, option_and_then, if◌then◌else◌}
+use Rattle.std.specs.Str.{bytes_eq}
+use Rattle.cq_geometry.specs.Squares.{square_of}
+use Rattle.cq_position.specs.declared.men.Promotion.{Promotion}
+use Rattle.cq_position.specs.declared.men.Promotion.TheVariants.{None as NoPromotion, Q as ToQueen, R as ToRook, B as ToBishop, N as ToKnight}
+use Rattle.cq_san.specs.declared.parts.Piece.{Piece}
+use Rattle.cq_san.specs.declared.parts.Piece.TheVariants.{King, Queen, Rook, Bishop, Knight, Pawn}
+use Rattle.cq_san.specs.declared.parts.PieceMove.{PieceMove}
+use Rattle.cq_san.specs.declared.parts.Parts.{Parts}
+use Rattle.cq_san.specs.declared.parts.Parts.TheVariants.{Castling, Null, Moved}
+
+-- `+` and `#`, `x` and `-`, `=`
+abbrev pub is_sign : ℕ → Bool
+is_sign c = (c == 43) || (c == 35)
+
+abbrev pub is_mark : ℕ → Bool
+is_mark c = (c == 120) || (c == 45)
+
+abbrev pub is_equals : ℕ → Bool
+is_equals c = c == 61
+
+-- the letters of the files `a` to `h`, and the digits of the ranks `1` to `8`
+abbrev pub is_file : ℕ → Bool
+is_file c = nat_le 97 c && nat_le c 104
+
+abbrev pub is_rank : ℕ → Bool
+is_rank c = nat_le 49 c && nat_le c 56
+
+-- `Q`, `R`, `B`, `N`
+abbrev pub promotion_of_letter : ℕ → Promotion
+promotion_of_letter c =
+    if c == 81 then ToQueen else (if c == 82 then ToRook else (if c == 66 then ToBishop else (if c == 78 then ToKnight else NoPromotion)))
+
+abbrev pub is_promotion : ℕ → Bool
+is_promotion c = (c == 81) || (c == 82) || (c == 66) || (c == 78)
+
+-- the letters of the pieces
+abbrev pub piece_of_letter : ℕ → Option Piece
+piece_of_letter c =
+    if c == 75 then Some King else (if c == 81 then Some Queen else (if c == 82 then Some Rook else (if c == 66 then Some Bishop
+    else (if c == 78 then Some Knight else (if c == 80 then Some Pawn else None)))))
+
+-- the text without its last byte where that passes the test
+abbrev pub without : (ℕ → Bool) → List ℕ → List ℕ
+without test [] = []
+without test (c ∷ back) = if test c then back else c ∷ back
+
+-- the text without all the bytes at its end that pass the test
+unfoldable pub without_all : (ℕ → Bool) → List ℕ → List ℕ
+without_all test [] = []
+without_all test (c ∷ back) = if test c then without_all test back else c ∷ back
+
+-- the file or rank at the end
+abbrev pub file_at_end : List ℕ → Option ℕ
+file_at_end [] = None
+file_at_end (c ∷ back) = if is_file c then Some (c - 97) else None
+
+abbrev pub rank_at_end : List ℕ → Option ℕ
+rank_at_end [] = None
+rank_at_end (c ∷ back) = if is_rank c then Some (c - 49) else None
+
+-- the promotion at the end, behind an optional `=`
+abbrev pub promotion_at_end : List ℕ → Promotion
+promotion_at_end [] = NoPromotion
+promotion_at_end (c ∷ back) = promotion_of_letter c
+
+abbrev pub before_promotion : List ℕ → List ℕ
+before_promotion [] = []
+before_promotion (c ∷ back) = if is_promotion c then without is_equals back else c ∷ back
+
+-- the goal at the end: a file and a rank
+abbrev pub goal_at_end : List ℕ → Option ℕ
+goal_at_end back =
+    option_and_then (λ rank. option_map (λ file. square_of file rank) (file_at_end (without is_rank back))) (rank_at_end back)
+
+-- the piece of what stands before all other parts: a letter, or nothing for a pawn
+abbrev pub piece_of : List ℕ → Option Piece
+piece_of [] = Some Pawn
+piece_of (c ∷ []) = piece_of_letter c
+piece_of (c ∷ d ∷ back) = None
+
+-- what stands before the goal, and before the origin's rank and file
+abbrev pub before_goal : List ℕ → List ℕ
+before_goal back = without is_mark (without is_file (without is_rank back))
+
+abbrev pub before_rank : List ℕ → List ℕ
+before_rank back = without is_rank back
+
+abbrev pub before_origin : List ℕ → List ℕ
+before_origin back = without is_file (without is_rank back)
+
+-- a move to a goal, from a square of which the file and the rank may be given
+abbrev pub move_from : Promotion → ℕ → List ℕ → Option Parts
+move_from choice square back =
+    option_map (λ kind. Moved (record {
+      piece = kind;
+      file = file_at_end (before_rank back);
+      rank = rank_at_end back;
+      goal = square;
+      promotion = choice;
+    })) (piece_of (before_origin back))
+
+abbrev pub piece_move : List ℕ → Option Parts
+piece_move back =
+    let start = before_promotion back in
+    option_and_then (λ square. move_from (promotion_at_end back) square (before_goal start)) (goal_at_end start)
+
+-- `O-O` and `0-0`, `O-O-O` and `0-0-0`
+abbrev pub is_short_castling : List ℕ → Bool
+is_short_castling text = bytes_eq text (codes "O-O") || bytes_eq text (codes "0-0")
+
+abbrev pub is_long_castling : List ℕ → Bool
+is_long_castling text = bytes_eq text (codes "O-O-O") || bytes_eq text (codes "0-0-0")
+
+abbrev pub move_parts : List ℕ → Option Parts
+move_parts text =
+    if is_short_castling text then Some (Castling true)
+    else (if is_long_castling text then Some (Castling false) else piece_move (reverse text))
+
+-- `Z0` and `--`, without signs, are the null move
+abbrev pub is_null : List ℕ → Bool
+is_null text = bytes_eq text (codes "Z0") || bytes_eq text (codes "--")
+
+-- the text without the signs of check and mate at its end
+abbrev pub without_signs : List ℕ → List ℕ
+without_signs text = reverse (without_all is_sign (reverse text))
+
+-- the parts of a text, none where it is no move
+unfoldable pub parts_of : List ℕ → Option Parts
+parts_of text = if is_null text then Some Null else move_parts (without_signs text)
