@@ -1,10 +1,10 @@
 -- Castling, by its squares.
-use Rattle.std.proofs.Common.{◌≡◌, ◌≢◌, ℕ, ◌<◌, ◌⊎◌, Bool, true, false, not, ◌&&◌, ◌||◌, List, [], ◌∷◌, refl, sym, ap, ◌∙◌, subst, inl, inr, arith}
+use Rattle.std.proofs.Common.{◌≡◌, ◌≢◌, ℕ, ◌<◌, ◌⊎◌, Bool, true, false, not, ◌&&◌, ◌||◌, List, [], ◌∷◌, refl, subst, inl, inr, arith}
 use Rattle.std.specs.Prelude.{nat_lt, ◌==◌}
 use Rattle.std.specs.List.{list_all}
 use Rattle.std.proofs.lemmas.Bool.{eqb-true, and_parts, or_cases, not-true, not-false}
 use Rattle.cq_geometry.specs.Squares.{squares}
-use Rattle.cq_geometry.specs.Steps.{files_apart, ranks_apart, distance, is_king_step}
+use Rattle.cq_geometry.specs.Steps.{files_apart, distance, is_king_step}
 use Rattle.cq_geometry.specs.Lines.{is_open, between_squares}
 use Rattle.cq_position.specs.declared.men.Man.{Man}
 use Rattle.cq_position.specs.declared.men.Man.TheVariants.{Empty}

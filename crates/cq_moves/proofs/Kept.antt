@@ -1,10 +1,10 @@
 -- A legal move leads from a position to a position.
-use Rattle.std.proofs.Common.{◌≡◌, ◌≢◌, ℕ, ◌+◌, ◌<◌, ◌≤◌, ◌⊎◌, Bool, true, false, not, ◌&&◌, ◌||◌, cond, Option, Some, None, List, length, refl, sym, ap, ap₂, ◌∙◌, subst, inl, inr, arith}
-use Rattle.std.specs.Prelude.{slice_set, count_by, nat_lt, ◌==◌, min}
-use Rattle.std.proofs.lemmas.Bool.{cases_Bool, cases_lt, cond-true, cond-false, and_parts, and_from, or_from, or_parts, not-true, eqb-true, eq-eqb, eqb-false, ltb-false, le-ltb, false_from_ne_true}
-use Rattle.cq_geometry.specs.Steps.{files_apart, ranks_apart}
+use Rattle.std.proofs.Common.{◌≡◌, ◌≢◌, ℕ, ◌+◌, ◌<◌, ◌≤◌, ◌⊎◌, Bool, true, false, not, ◌&&◌, ◌||◌, Option, Some, None, List, length, refl, sym, ap, ap₂, ◌∙◌, subst, inl, inr, arith}
+use Rattle.std.specs.Prelude.{slice_set, count_by, nat_lt, ◌==◌}
+use Rattle.std.proofs.lemmas.Bool.{cases_Bool, cond-true, cond-false, and_parts, and_from, or_from, or_parts, not-true, eqb-true, eqb-false, ltb-false, le-ltb, false_from_ne_true}
+use Rattle.cq_geometry.specs.Steps.{ranks_apart}
 use Rattle.cq_position.specs.declared.men.Man.{Man}
-use Rattle.cq_position.specs.declared.men.Man.TheVariants.{K, BlackK, Empty}
+use Rattle.cq_position.specs.declared.men.Man.TheVariants.{Empty}
 use Rattle.cq_position.specs.declared.men.Side.{Side}
 use Rattle.cq_position.specs.declared.men.Side.TheVariants.{White, Black}
 use Rattle.cq_position.specs.declared.moves.Move.{Move}
@@ -13,12 +13,12 @@ use Rattle.cq_position.specs.Men.{same_man, is_of_side, opponent, king_of, rook_
 use Rattle.cq_position.specs.Board.{Board, man_at, stands, count_of, strength, is_pawn, castling_right, king_home, rook_home, are_home, has_kings, has_too_many_men, rights_stand, passant_stands, was_passed}
 use Rattle.cq_position.specs.Position.{IsPosition}
 use Rattle.cq_position.specs.Attacks.{in_check}
-use Rattle.cq_position.specs.Legal.{Legal, Passes, can_move, after, after_pass, men_moved, men_after, promoted, rook_moved, castling_crossed, right_after, rights_after, passant_after, middle, raised, number_after}
-use Rattle.cq_moves.proofs.Boards.{stands-is, stands_there, same_man-is, man_at-set_same, man_at-set_other, length-set_man, counted, count-set, EdgeFree, EdgeFree-from, EdgeFree-gives, EdgeFree-set}
-use Rattle.cq_moves.proofs.Steps.{Goes, goes, apart, Landed, it_lands}
+use Rattle.cq_position.specs.Legal.{Legal, can_move, after, after_pass, men_moved, men_after, promoted, rook_moved, castling_crossed, right_after, rights_after, passant_after, middle, raised, number_after}
+use Rattle.cq_moves.proofs.Boards.{stands-is, stands_there, man_at-set_other, length-set_man, counted, count-set, EdgeFree, EdgeFree-from, EdgeFree-gives, EdgeFree-set}
+use Rattle.cq_moves.proofs.Steps.{Goes, goes, apart, it_lands}
 use Rattle.cq_moves.proofs.Castled.{castling_squares, other_home}
 use Rattle.cq_moves.proofs.Pawns.{no_pawn_lands, double_passed, two_ranks_one_file, beside}
-use Rattle.cq_moves.proofs.Ways.{Way, castled, captured, moved, way_after, moved_other, rook_other, rook_ready, Home, home_of, rights_at}
+use Rattle.cq_moves.proofs.Ways.{Way, castled, captured, moved, way_after, moved_other, rook_other, rook_ready, home_of, rights_at}
 
 -- the side that moves, or the other one
 same_or_other : (s side : Side) → (s ≡ side) ⊎ (s ≡ opponent side)

@@ -1,8 +1,7 @@
 -- What a man that can move does, by its kind.
-use Rattle.std.proofs.Common.{◌≡◌, ◌≢◌, ℕ, ◌+◌, ◌-◌, ◌/◌, ◌%◌, ◌<◌, ◌≤◌, ◌⊎◌, Bool, true, false, not, ◌&&◌, ◌||◌, cond, List, [], ◌∷◌, length, get_or, refl, sym, ap, ◌∙◌, subst, inl, inr, arith}
-use Rattle.std.specs.Prelude.{slice_set, count_by, nat_lt, ◌==◌}
-use Rattle.std.proofs.lemmas.Bool.{eqb-true, eqb-false, ltb-true, cases_eq, cases_lt, or_parts, or_from, or_cases, and_parts, not-true}
-use Rattle.std.proofs.lemmas.List.{get_or_past}
+use Rattle.std.proofs.Common.{◌≡◌, ◌≢◌, ◌<◌, ◌⊎◌, Bool, true, false, not, ◌&&◌, ◌||◌, length, refl, sym, ap, ◌∙◌, subst, inl, inr}
+use Rattle.std.specs.Prelude.{nat_lt}
+use Rattle.std.proofs.lemmas.Bool.{ltb-true, and_parts, not-true}
 use Rattle.cq_position.specs.declared.men.Man.{Man}
 use Rattle.cq_position.specs.declared.men.Man.TheVariants.{K, Q, R, B, N, P, BlackK, BlackQ, BlackR, BlackB, BlackN, BlackP, Empty}
 use Rattle.cq_position.specs.declared.men.Promotion.{Promotion}
@@ -11,9 +10,9 @@ use Rattle.cq_position.specs.declared.men.Side.{Side}
 use Rattle.cq_position.specs.declared.men.Side.TheVariants.{White, Black}
 use Rattle.cq_position.specs.declared.moves.Move.{Move}
 use Rattle.cq_position.specs.Men.{same_man, is_of_side, opponent, king_of, pawn_of}
-use Rattle.cq_position.specs.Board.{Board, man_at, stands, is_pawn, king_home}
+use Rattle.cq_position.specs.Board.{Board, man_at, stands, is_pawn}
 use Rattle.cq_position.specs.Attacks.{attacks}
-use Rattle.cq_position.specs.Legal.{can_move, moves_as, castles, pawn_moves, promotes_rightly, is_none, promoted}
+use Rattle.cq_position.specs.Legal.{can_move, moves_as, castles, is_none, promoted}
 use Rattle.cq_moves.proofs.Law.{owned_on_board}
 
 -- a man of the side to move goes to a square of the board on which no man of its side and no king stands

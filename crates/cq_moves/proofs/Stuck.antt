@@ -11,9 +11,10 @@ use Rattle.cq_moves.proofs.Order.{any_legal}
 
 stuck_law : (p : Board) (has : Bool) → length p.men ≡ 64 → has ≡ list_any (legal_test p) all_moves
     → (not has ≡ true) ↔ (¬ HasLegalMove p)
-stuck_law p has long e =
-    (λ h l. false≢true (sym (not-true has h) ∙ e ∙ (any_legal p long).1 l),
-    λ stuck. not_from_false has (false_from_ne_true has (λ t. stuck ((any_legal p long).0 (sym e ∙ t)))))
+stuck_law p has long e = (
+  λ h l. false≢true (sym (not-true has h) ∙ e ∙ (any_legal p long).1 l),
+  λ stuck. not_from_false has (false_from_ne_true has (λ t. stuck ((any_legal p long).0 (sym e ∙ t)))),
+)
 
 pub mate_law : (p : Board) (has : Bool) → length p.men ≡ 64 → has ≡ list_any (legal_test p) all_moves
     → in_check p.men p.side ≡ true → (not has ≡ true) ↔ IsMate p

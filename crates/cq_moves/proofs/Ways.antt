@@ -1,7 +1,7 @@
 -- The men after a move, by the three ways in which they change.
-use Rattle.std.proofs.Common.{◌≡◌, ◌≢◌, ℕ, ◌<◌, ◌⊎◌, Bool, true, false, not, ◌&&◌, ◌||◌, cond, List, length, refl, sym, ap, ap₂, ◌∙◌, subst, inl, inr, arith}
+use Rattle.std.proofs.Common.{◌≡◌, ◌≢◌, ℕ, Bool, true, false, not, ◌&&◌, ◌||◌, cond, List, ap, ap₂, ◌∙◌, inl, inr}
 use Rattle.std.specs.Prelude.{slice_set, nat_lt, ◌==◌}
-use Rattle.std.proofs.lemmas.Bool.{cases_Bool, cond-true, cond-false, and_parts, or_cases}
+use Rattle.std.proofs.lemmas.Bool.{cases_Bool, cond-true, cond-false, and_parts}
 use Rattle.cq_geometry.specs.Steps.{files_apart}
 use Rattle.cq_position.specs.declared.men.Man.{Man}
 use Rattle.cq_position.specs.declared.men.Man.TheVariants.{Empty}
@@ -9,12 +9,12 @@ use Rattle.cq_position.specs.declared.men.Side.{Side}
 use Rattle.cq_position.specs.declared.men.Side.TheVariants.{White, Black}
 use Rattle.cq_position.specs.declared.moves.Move.{Move}
 use Rattle.cq_position.specs.declared.position.Rights.{Rights}
-use Rattle.cq_position.specs.Men.{opponent, king_of, rook_of, pawn_of}
+use Rattle.cq_position.specs.Men.{king_of, rook_of}
 use Rattle.cq_position.specs.Board.{Board, man_at, stands, castling_right, king_home, rook_home, are_home, rights_stand, passant_stands}
-use Rattle.cq_position.specs.Legal.{castling_crossed, castling_goal, is_castling, is_passing_capture, men_moved, rook_moved, men_after, promoted}
-use Rattle.cq_moves.proofs.Boards.{stands-is, man_at-set_same, man_at-set_other}
+use Rattle.cq_position.specs.Legal.{castling_crossed, is_castling, is_passing_capture, men_moved, rook_moved, men_after, promoted}
+use Rattle.cq_moves.proofs.Boards.{stands-is, man_at-set_other}
 use Rattle.cq_moves.proofs.Steps.{Goes}
-use Rattle.cq_moves.proofs.Castled.{CastlingSquares, castling_squares, Castles, castles_when}
+use Rattle.cq_moves.proofs.Castled.{castling_squares, Castles, castles_when}
 use Rattle.cq_moves.proofs.Pawns.{Captures, captures_when, beside}
 
 -- a right that stands has king and rook at home

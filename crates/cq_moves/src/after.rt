@@ -1,13 +1,13 @@
 //! The men on the board after a move.
 ghost use Rattle.std.specs.Prelude.{◌≡◌};
-ghost use Rattle.cq_geometry.specs.Steps as steps;
 ghost use Rattle.cq_position.specs.Attacks as attacks;
-ghost use Rattle.cq_position.specs.Board as board;
 ghost use Rattle.cq_position.specs.Legal as legal;
 ghost use Rattle.cq_position.specs.Men as men_spec;
 
 use crate::castling::{castling_crossed, rook_home};
 use cq_geometry::{Square, file, rank, square_at};
+use cq_position::attacks::files_apart;
+use cq_position::position::is_pawn;
 use cq_position::{Man, Move, Position, Promotion, Side, is_same, king_of};
 
 /// The men on the squares a1, b1, .. h8 after a move of the side to move.
@@ -95,27 +95,6 @@ pub fn is_goal(goal: Option<Square>, square: Square) -> bool
         Some(goal) => goal.number() == square.number(),
         None => false,
     }
-}
-
-/// Whether a man is a pawn of either side.
-pub fn is_pawn(man: Man) -> bool
-    ensures { result ≡ board.is_pawn man }
-{
-    is_same(man, Man::P) || is_same(man, Man::BlackP)
-}
-
-/// How many files lie from one square to another.
-pub fn files_apart(a: Square, b: Square) -> u8
-    ensures { result ≡ steps.files_apart a b }
-{
-    file(a).abs_diff(file(b))
-}
-
-/// How many ranks lie from one square to another.
-pub fn ranks_apart(a: Square, b: Square) -> u8
-    ensures { result ≡ steps.ranks_apart a b }
-{
-    rank(a).abs_diff(rank(b))
 }
 
 /// The square in the middle between two.

@@ -4,11 +4,10 @@ ghost use Rattle.cq_position.specs.Board.{Board};
 ghost use Rattle.cq_position.specs.Legal.{Legal};
 ghost use Rattle.cq_moves.specs.Legality as legality;
 
-use cq_position::attacks::is_king_attacked;
-use cq_position::{Move, Position, attacks_from};
-
 use crate::after::men_after;
 use crate::reach::{promotes, reaches};
+use cq_position::attacks::is_king_attacked;
+use cq_position::{Move, Position, attacks_from};
 
 /// Whether a move is legal in a position: the man can make it, and the king of its side isn't attacked then. A null move is none.
 #[tactic(auto, using(crate::proofs::Law::legal_law))]

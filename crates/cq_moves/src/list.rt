@@ -8,12 +8,11 @@ ghost use Rattle.cq_moves.specs.Legality.{legal_test};
 ghost use Rattle.cq_moves.specs.LegalMoves.{legal_list, legal_from, legal_between, Precedes};
 ghost use Rattle.cq_moves.specs.Reach as parts;
 
+use crate::legality::is_safe;
+use crate::reach::{promotes, reaches};
 use arrayvec::ArrayVec;
 use cq_geometry::Square;
 use cq_position::{Move, Position, Promotion, attacks_from, is_of_side};
-
-use crate::legality::is_safe;
-use crate::reach::{promotes, reaches};
 
 /// The legal moves of a position, each once, in the order of the squares from which they go, then of their goals, then of the promotions
 /// to a queen, a rook, a bishop and a knight. The null move is none of them.
@@ -54,7 +53,13 @@ fn add_moves_between(position: &Position, from: Square, to: Square, moves: &mut 
     requires room { length moves.old.items + length (legal_between position.now from to) ≤ 512 }
     ensures { moves.new.items ≡ moves.old.items ++ legal_between position.now from to }
 {
-    for promotion in [Promotion::None, Promotion::Q, Promotion::R, Promotion::B, Promotion::N] {
+    for promotion in [
+        Promotion::None,
+        Promotion::Q,
+        Promotion::R,
+        Promotion::B,
+        Promotion::N,
+    ] {
         let m = Move {
             from,
             to,

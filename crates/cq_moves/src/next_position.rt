@@ -3,10 +3,13 @@ ghost use Rattle.std.specs.Prelude.{◌≡◌};
 ghost use Rattle.cq_position.specs.Board.{Board};
 ghost use Rattle.cq_position.specs.Legal.{Legal};
 ghost use Rattle.cq_position.specs.Legal as legal;
+ghost use Rattle.cq_position.specs.Position.{IsPosition};
 
-use crate::after::{is_pawn, men_after, middle, ranks_apart};
+use crate::after::{men_after, middle};
 use crate::castling::rook_home;
 use cq_geometry::Square;
+use cq_position::attacks::ranks_apart;
+use cq_position::position::is_pawn;
 use cq_position::{Move, Position, Rights, Side, is_same, king_of, opponent};
 
 /// The position after a legal move.
@@ -16,7 +19,8 @@ use cq_position::{Move, Position, Rights, Side, is_same, king_of, opponent};
 /// none. The number rises after Black's move, up to 4,294,967,295, where it stays.
 pub fn play(position: &Position, m: Move) -> Position
     requires { (q : Board) × Legal position.now m q }
-    ensures { Legal position.now m result }
+    ensures legal { Legal position.now m result }
+    ensures kept { IsPosition result }
 {
     Position::from_parts(
         number_after(position),

@@ -6,10 +6,11 @@ ghost use Rattle.cq_position.specs.Legal as legal;
 ghost use Rattle.cq_position.specs.Marks.{Marks};
 ghost use Rattle.cq_moves.specs.Reach as parts;
 
-use crate::after::{is_goal, is_pawn, middle};
+use crate::after::{is_goal, middle};
 use crate::castling::{castling_crossed, castling_goal, king_home, rook_home};
 use cq_geometry::{Square, rank};
 use cq_position::attacks::{is_attacked, is_open, is_pawn_attack, is_taken};
+use cq_position::position::is_pawn;
 use cq_position::{Man, Move, Position, Promotion, Side, is_of_side, is_same, king_of, opponent};
 
 // Whether a man of the side to move goes from one square to another, which holds none of its own men and no king. `attacked` has the

@@ -1,17 +1,17 @@
 -- Worked rows of attacks and legal moves.
-use Rattle.std.proofs.Common.{◌≡◌, ℕ, ◌+◌, Bool, true, false, List, [], ◌∷◌, ◌++◌, replicate, set, Option, Some, None, Ok, refl}
-use Rattle.std.specs.Prelude.{codes, filter, length}
+use Rattle.std.proofs.Common.{◌≡◌, ℕ, Bool, true, false, List, [], ◌∷◌, ◌++◌, replicate, set, Option, Some, None, Ok, refl}
+use Rattle.std.specs.Prelude.{codes, filter}
 use Rattle.std.specs.List.{fold}
 use Rattle.cq_geometry.specs.Squares.{squares}
 use Rattle.cq_geometry.specs.Lines.{between_squares}
 use Rattle.cq_position.specs.declared.men.Man.{Man}
-use Rattle.cq_position.specs.declared.men.Man.TheVariants.{K, Q, R, B, N, P, BlackK, BlackQ, BlackR, BlackB, BlackN, BlackP, Empty}
+use Rattle.cq_position.specs.declared.men.Man.TheVariants.{K, Q, R, N, P, BlackK, BlackR, BlackP, Empty}
 use Rattle.cq_position.specs.declared.men.Promotion.{Promotion}
 use Rattle.cq_position.specs.declared.men.Promotion.TheVariants.{None as NoPromotion, Q as ToQueen}
 use Rattle.cq_position.specs.declared.men.Side.{Side}
 use Rattle.cq_position.specs.declared.men.Side.TheVariants.{White, Black}
 use Rattle.cq_position.specs.declared.moves.Move.{Move}
-use Rattle.cq_position.specs.Board.{Board, start_board, man_at}
+use Rattle.cq_position.specs.Board.{Board, start_board}
 use Rattle.cq_position.specs.Fen.{fen_meaning, fields, is_placement, placed_men, position_or_fault}
 use Rattle.cq_position.specs.Attacks.{attacks, is_attacked, in_check}
 use Rattle.cq_position.specs.Legal.{can_move, after, after_pass, Legal}

@@ -1,6 +1,6 @@
 -- The text of a rank stands for its squares.
-use Rattle.std.proofs.Common.{◌≡◌, ℕ, zero, suc, ◌+◌, ◌-◌, ◌≤◌, Bool, true, false, ◌&&◌, eqb, Option, Some, None, List, [], ◌∷◌, ◌++◌, length, take, drop, replicate, reverse, refl, sym, ap, ◌∙◌, arith, inl, inr}
-use Rattle.std.specs.List.{list_all, flat_map, join_with_byte}
+use Rattle.std.proofs.Common.{◌≡◌, ℕ, zero, suc, ◌+◌, ◌-◌, ◌≤◌, true, eqb, Option, Some, None, List, [], ◌∷◌, ◌++◌, length, take, drop, replicate, refl, ap, ◌∙◌, arith, inl, inr}
+use Rattle.std.specs.List.{list_all, join_with_byte}
 use Rattle.std.proofs.lemmas.Bool.{cases_Bool, eqb-true}
 use Rattle.std.proofs.lemmas.Bool.Decides.{nat_tests}
 use Rattle.std.proofs.lemmas.List.{append-nil, append_assoc, replicate_more, take-append-drop, drop-drop, length-take, length-drop, take_all}
@@ -9,8 +9,8 @@ use Rattle.std.proofs.lemmas.List.Concat.{flat_map-append}
 use Rattle.cq_position.specs.declared.men.Man.{Man}
 use Rattle.cq_position.specs.declared.men.Man.TheVariants.{K, Q, R, B, N, P, BlackK, BlackQ, BlackR, BlackB, BlackN, BlackP, Empty}
 use Rattle.cq_position.specs.Men.{letter_of_man}
-use Rattle.cq_position.specs.Fen.{parts, is_within, squares_of, is_rank_byte, rank_squares, is_rank, is_placement, placed_men, is_field}
-use Rattle.cq_position.specs.FenText.{run_text, letter_text, run_after, rank_text, rank_texts, placement_text}
+use Rattle.cq_position.specs.Fen.{is_within, squares_of, is_rank_byte, rank_squares, is_rank, is_placement, placed_men, is_field}
+use Rattle.cq_position.specs.FenText.{run_text, letter_text, run_after, rank_text, placement_text}
 use Rattle.cq_position.proofs.Joined.{is_not, parts_join, all_join, all_weaker, is_field-append}
 
 -- a text of so many empty squares and the men behind them

@@ -1,21 +1,20 @@
 -- The text of a position is read as that position.
-use Rattle.std.proofs.Common.{◌≡◌, ℕ, suc, ◌+◌, ◌-◌, ◌*◌, ◌/◌, ◌%◌, ◌^◌, ◌<◌, ◌≤◌, max, Bool, true, false, not, ◌&&◌, ◌||◌, eqb, Option, Some, None, Ok, Err, List, [], ◌∷◌, ◌++◌, length, refl, sym, ap, ◌∙◌, arith, lit<}
+use Rattle.std.proofs.Common.{◌≡◌, ℕ, ◌+◌, ◌-◌, ◌*◌, ◌/◌, ◌%◌, ◌^◌, ◌<◌, ◌≤◌, max, Bool, true, false, not, ◌&&◌, ◌||◌, eqb, Option, Some, None, Ok, List, [], ◌∷◌, ◌++◌, length, refl, ap, ◌∙◌, arith, lit<}
 use Rattle.std.specs.Prelude.{decimal, nat_le}
-use Rattle.std.specs.List.{list_all, list_any, join_with_byte}
+use Rattle.std.specs.List.{list_all, join_with_byte}
 use Rattle.std.proofs.lemmas.Grind.{pow_more}
 use Rattle.std.proofs.lemmas.Bool.{eqb-true}
 use Rattle.std.proofs.lemmas.Bool.Decides.{nat_tests}
 use Rattle.std.proofs.lemmas.Fmt.{decimal_by_steps, length-decimal-le}
 use Rattle.std.proofs.lemmas.List.{length_push}
 use Rattle.std.proofs.lemmas.List.Folds.{list_all-append}
-use Rattle.cq_geometry.specs.Squares.{file_of, rank_of}
 use Rattle.cq_position.specs.declared.men.Man.{Man}
 use Rattle.cq_position.specs.declared.men.Side.{Side}
 use Rattle.cq_position.specs.declared.men.Side.TheVariants.{White, Black}
 use Rattle.cq_position.specs.declared.position.Rights.{Rights}
 use Rattle.cq_position.specs.Board.{Board, are_home, was_passed, rights_stand, passant_stands}
 use Rattle.cq_position.specs.Position.{IsPosition}
-use Rattle.cq_position.specs.Fen.{fields, fen_meaning, position_or_fault, is_within, is_digit, is_number, is_field, value_of_digits, is_side, side_named, is_castling, has_letter, rights_kept, is_passant, passant_kept, is_square_name}
+use Rattle.cq_position.specs.Fen.{fen_meaning, position_or_fault, is_within, is_digit, is_number, is_field, value_of_digits, is_side, side_named, is_castling, has_letter, rights_kept, is_passant, passant_kept}
 use Rattle.cq_position.specs.FenText.{side_text, castling_text, passant_text, placement_text, fen_of}
 use Rattle.cq_position.proofs.Joined.{is_not, all_weaker, fields_join, left_true, right_true}
 use Rattle.cq_position.proofs.RankTexts.{IsPlacementOf, placement_back}

@@ -84,13 +84,15 @@ fn is_attack(man: Man, men: &[Man; 64], from: Square, to: Square) -> bool
     }
 }
 
-fn files_apart(a: Square, b: Square) -> u8
+/// How many files lie from one square to another.
+pub fn files_apart(a: Square, b: Square) -> u8
     ensures { result ≡ steps.files_apart a b }
 {
     file(a).abs_diff(file(b))
 }
 
-fn ranks_apart(a: Square, b: Square) -> u8
+/// How many ranks lie from one square to another.
+pub fn ranks_apart(a: Square, b: Square) -> u8
     ensures { result ≡ steps.ranks_apart a b }
 {
     rank(a).abs_diff(rank(b))

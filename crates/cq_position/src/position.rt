@@ -193,7 +193,8 @@ fn has_pawn(squares: &[Man]) -> bool
     squares.iter().any(|m| is_pawn(*m))
 }
 
-fn is_pawn(man: Man) -> bool
+/// Whether a man is a pawn of either side.
+pub fn is_pawn(man: Man) -> bool
     ensures { result ≡ board.is_pawn man }
 {
     is_same(man, Man::P) || is_same(man, Man::BlackP)

@@ -1,5 +1,5 @@
 -- The front of an archive, by its first lines.
-use Rattle.std.proofs.Common.{◌≡◌, ℕ, suc, zero, ◌<◌, Bool, true, false, cond, List, [], ◌∷◌, length, Option, Some, None, arith, sym, ap, ◌∙◌, refl}
+use Rattle.std.proofs.Common.{◌≡◌, ℕ, ◌<◌, Bool, true, false, cond, List, [], ◌∷◌, length, Option, Some, None, arith, sym, ap, ◌∙◌, refl}
 use Rattle.std.specs.Prelude.{codes, ◌==◌, not, IfSome, IfNone}
 use denote.Ref.{Bor}
 use Rattle.std.proofs.lemmas.Bool.{not-true, not-false}

@@ -1,14 +1,14 @@
 -- Answers to more games, one after another.
-use Rattle.std.proofs.Common.{◌≡◌, ℕ, ◌+◌, ◌≤◌, Bool, true, false, List, [], ◌∷◌, ◌++◌, length, Option, Some, None, Result, Ok, Err, arith, refl, ap, sym, ◌∙◌, append_assoc, append-nil, cond}
+use Rattle.std.proofs.Common.{◌≡◌, ℕ, ◌+◌, ◌≤◌, Bool, true, false, List, [], ◌∷◌, ◌++◌, length, Option, Some, None, Ok, Err, arith, refl, ap, sym, ◌∙◌, append_assoc, append-nil, cond}
 use Rattle.cq_run.specs.Export.{export_of}
 use Rattle.std.specs.Option.{option_map, option_and_then}
 use Rattle.std.specs.List.{filter, flat_map}
 use Rattle.cq_position.specs.Board.{Board}
 use Rattle.cq_position.specs.Fen.{fen_meaning}
-use Rattle.cq_position.specs.declared.faults.FenFault.{FenFault}
+use Rattle.cq_position.specs.declared.fen.FenFault.{FenFault}
 use Rattle.cq_run.specs.declared.query.ManOnSquare.{ManOnSquare}
 use Rattle.cq_run.specs.declared.answer.Answer.{Answer}
-use Rattle.cq_run.specs.Answer.{answer_of, joined, with_game}
+use Rattle.cq_run.specs.Answer.{answer_of, join_of, with_game}
 use Rattle.cq_run.specs.BareGames.{texts_in}
 use Rattle.cq_run.specs.Games.{Game, games_in, games_of, game_of, game_read, matches}
 
@@ -65,32 +65,32 @@ pub accepted_first : (archive behind text : List ℕ) (board : Board) → texts_
 accepted_first archive behind text board e good = ap (option_and_then games_of) e ∙ accepted_any text board (texts_in behind) good
 
 -- one more game
-pub answered_more : (query : ManOnSquare) (answer : Answer) (game : Game) (games : List Game) → joined answer (answer_of query (game ∷ games)) ≡ joined (with_game query answer game) (answer_of query games)
+pub answered_more : (query : ManOnSquare) (answer : Answer) (game : Game) (games : List Game) → join_of answer (answer_of query (game ∷ games)) ≡ join_of (with_game query answer game) (answer_of query games)
 answered_more query answer game games =
     same_answer _ _ _ _ _ _ (exports_more (matches query game) game (filter (matches query) games) answer.exports) (omega arith)
     (matched_more (matches query game) game (filter (matches query) games) answer.matched)
 
 -- nothing more
-pub answered_all : (query : ManOnSquare) (answer : Answer) → joined answer (answer_of query []) ≡ answer
+pub answered_all : (query : ManOnSquare) (answer : Answer) → join_of answer (answer_of query []) ≡ answer
 answered_all query answer = same_answer _ _ _ _ _ _ (append-nil answer.exports) (omega arith) (omega arith)
 
 -- what `find` keeps from turn to turn: the answer so far, and then that to the rest, is the answer to all
 abbrev IsAnswered : ManOnSquare → Answer → List ℕ → List ℕ → Type 0
-IsAnswered query answer rest archive = option_map (λ more. joined answer (answer_of query more)) (games_in rest) ≡ option_map (answer_of query) (games_in archive)
+IsAnswered query answer rest archive = option_map (λ more. join_of answer (answer_of query more)) (games_in rest) ≡ option_map (answer_of query) (games_in archive)
 
 pub stop_refused : (query : ManOnSquare) (answer : Answer) (rest archive behind text : List ℕ) (fault : FenFault) → IsAnswered query answer rest archive
     → texts_in rest ≡ option_map (λ more. text ∷ more) (texts_in behind) → Err fault ≡ fen_meaning text → None ≡ option_map (answer_of query) (games_in archive)
 stop_refused query answer rest archive behind text fault so_far texts bad =
-    ap (option_map (λ more. joined answer (answer_of query more))) (sym (refused_first rest behind text fault texts (sym bad))) ∙ so_far
+    ap (option_map (λ more. join_of answer (answer_of query more))) (sym (refused_first rest behind text fault texts (sym bad))) ∙ so_far
 
 pub stop_at_end : (query : ManOnSquare) (answer : Answer) (rest archive : List ℕ) → IsAnswered query answer rest archive
     → texts_in rest ≡ Some [] → Some answer ≡ option_map (answer_of query) (games_in archive)
 stop_at_end query answer rest archive so_far texts =
-    ap Some (sym (answered_all query answer)) ∙ ap (option_map (λ more. joined answer (answer_of query more))) (sym (none_left rest texts)) ∙ so_far
+    ap Some (sym (answered_all query answer)) ∙ ap (option_map (λ more. join_of answer (answer_of query more))) (sym (none_left rest texts)) ∙ so_far
 
 answered_any : (query : ManOnSquare) (answer : Answer) (game : Game) (behind : Option (List Game))
-    → option_map (λ more. joined (with_game query answer game) (answer_of query more)) behind
-    ≡ option_map (λ more. joined answer (answer_of query more)) (option_map (λ games. game ∷ games) behind)
+    → option_map (λ more. join_of (with_game query answer game) (answer_of query more)) behind
+    ≡ option_map (λ more. join_of answer (answer_of query more)) (option_map (λ games. game ∷ games) behind)
 answered_any query answer game None = refl
 answered_any query answer game (Some games) = ap Some (sym (answered_more query answer game games))
 
@@ -98,9 +98,9 @@ pub go_on : (query : ManOnSquare) (answer next : Answer) (rest archive behind te
     → texts_in rest ≡ option_map (λ more. text ∷ more) (texts_in behind) → Ok board ≡ fen_meaning text → next ≡ with_game query answer (record { text = text; board = board })
     → IsAnswered query next behind archive
 go_on query answer next rest archive behind text board so_far texts good e =
-    ap (λ a. option_map (λ more. joined a (answer_of query more)) (games_in behind)) e
+    ap (λ a. option_map (λ more. join_of a (answer_of query more)) (games_in behind)) e
     ∙ answered_any query answer (record { text = text; board = board }) (games_in behind)
-    ∙ ap (option_map (λ more. joined answer (answer_of query more))) (sym (accepted_first rest behind text board texts (sym good)))
+    ∙ ap (option_map (λ more. join_of answer (answer_of query more))) (sym (accepted_first rest behind text board texts (sym good)))
     ∙ so_far
 
 at_most_one : (is_match : Bool) (game : Game) → length (cond is_match (game ∷ []) []) ≤ 1

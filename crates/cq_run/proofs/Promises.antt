@@ -1,10 +1,9 @@
 -- The promise of a call, from what its parts answer.
-use Rattle.std.proofs.Common.{◌≡◌, ℕ, ◌+◌, ◌≤◌, ◌<◌, List, [], ◌∷◌, ◌++◌, length, take, length-append, append-nil, Option, Some, None, Result, Ok, Err, refl, ap, sym, ◌∙◌, arith, subst, inl, inr, ◌⊎◌}
+use Rattle.std.proofs.Common.{◌≡◌, ℕ, ◌≤◌, ◌<◌, List, [], ◌∷◌, ◌++◌, length, take, length-append, append-nil, Option, Some, None, Err, refl, ap, sym, ◌∙◌, arith, subst, inl, inr}
 use Rattle.std.specs.Option.{option_map, option_and_then}
 use Rattle.std.specs.Io.KnownBytes.{Consumes}
 use Rattle.cq_outside.specs.Faults.{Rose}
 use Rattle.cq_outside.specs.Flow.{Grew}
-use Rattle.cq_outside.specs.Told.{Told, Opens, bytes_of}
 use Rattle.cq_run.specs.declared.status.Status.{Status}
 use Rattle.cq_run.specs.declared.status.Status.TheVariants.{Done, DoneWithRefusals, QueryRefused, WordsRefused, OpenFault, ReadFault, WriteFault, NoMemory, ArchiveTooLong, NotYetRead}
 use Rattle.cq_run.specs.declared.query.ManOnSquare.{ManOnSquare}
@@ -12,10 +11,11 @@ use Rattle.cq_run.specs.declared.answer.Answer.{Answer}
 use Rattle.cq_run.specs.Words.{query_text, usage_line}
 use Rattle.cq_run.specs.Query.{query_of}
 use Rattle.cq_run.specs.Games.{Game, games_in}
-use Rattle.cq_run.specs.Answer.{answer_of, report_of}
+use Rattle.cq_run.specs.Answer.{answer_of}
 use Rattle.cq_run.specs.Reading.{ReadsArchive}
 use Rattle.cq_run.specs.Writing.{WritesAnswer}
-use Rattle.cq_run.specs.Promise.{Call, DeskView, SinkView, Sinks, Texts, MayBe, ReadsWhole, IsOpen, TakesTooMuch, Overruns, Writes, WritesFront, SinkFailed, StopsWriting, Answers, AsksOther, HoldsOther, HasAll, Says, IsOneOf, Promise, archive_of, archive_limit, asked, nothing, standard_input, texts_of, texts_of_text, texts_of_query, texts_of_answer}
+use Rattle.cq_run.specs.Promise.{Call, DeskView, SinkView, Sinks, Texts, MayBe, ReadsWhole, Overruns, OpensAtMost, Writes, WritesFront, IsUnwritten, StopsWriting, HasAll, Says, IsOneOf, Promise, archive_of, archive_limit, asked_query, texts_of, texts_of_text, texts_of_query, texts_found, texts_of_answer}
+use Rattle.cq_run.proofs.Taken.{unopened, not_overrun}
 
 -- a sink that was not written to has taken nothing more
 pub unwritten : (taken : Option (List ℕ)) → Grew taken taken []
@@ -27,16 +27,8 @@ pub some_archive : (told : Option (List ℕ)) → (archive : List ℕ) × MayBe 
 some_archive None = ([], tt)
 some_archive (Some archive) = (archive, refl)
 
--- the sinks were not written to
-pub record IsUnwritten (sinks : Sinks) : Type 0 where
-  pub out : sinks.out_after ≡ sinks.out
-  pub err : sinks.err_after ≡ sinks.err
-
 took_nothing : (before after : SinkView) → after ≡ before → Grew before.taken after.taken []
 took_nothing before after e = subst (λ (s : SinkView). Grew before.taken s.taken []) (sym e) (unwritten before.taken)
-
-pub wrote_nothing : (sinks : Sinks) → IsUnwritten sinks → Writes sinks nothing
-wrote_nothing sinks same = record { out = took_nothing sinks.out sinks.out_after same.out; err = took_nothing sinks.err sinks.err_after same.err }
 
 pub wrote_no_front : (sinks : Sinks) (texts : Texts) → IsUnwritten sinks → WritesFront sinks texts
 wrote_no_front sinks texts same = record { out_count = 0; err_count = 0; out = took_nothing sinks.out sinks.out_after same.out; err = took_nothing sinks.err sinks.err_after same.err }
@@ -44,19 +36,26 @@ wrote_no_front sinks texts same = record { out_count = 0; err_count = 0; out = t
 stopped : (call : Call) → IsUnwritten call.sinks → StopsWriting call
 stopped call same = let some = some_archive (archive_of call.desk) in record { archive = some.0; is = some.1; front = wrote_no_front call.sinks (texts_of call.words some.0) same }
 
--- a desk on which nothing was opened was not overrun
-reopened : (told : Option Told) (left : Option (List ℕ)) (some : Told) → told ≡ Some some → Opens told told standard_input left → ⊥
-reopened None left some e opens = cc
-reopened (Some told) left some e opens =
-    let longer : told.opened ≡ told.opened ++ standard_input ∷ [] = cc (opens.0) in
-    omega (arith, ap length longer, length-append told.opened (standard_input ∷ []))
-
-not_overrun : (desk after : DeskView) → after ≡ desk → Overruns desk after → ⊥
-not_overrun desk after same much =
-    reopened desk.told (archive_of desk) much.told much.tells (subst (λ (d : DeskView). Opens desk.told d.told standard_input (archive_of desk)) same much.opened)
-
 no_query : (words : List (List ℕ)) (text : List ℕ) (query : ManOnSquare) → query_text words ≡ None → option_and_then query_of (query_text words) ≡ Some query → ⊥
 no_query words text query none some = let e : option_and_then query_of None ≡ Some query = ap (option_and_then query_of) (sym none) ∙ some in cc
+
+-- words that are refused, and the usage line was written
+pub words_written : (call : Call) → query_text call.words ≡ None → call.desk_after ≡ call.desk → call.sinks.out_after ≡ call.sinks.out
+    → call.sinks.err_after.faults ≡ call.sinks.err.faults → Grew call.sinks.err.taken call.sinks.err_after.taken usage_line → Promise WordsRefused call
+words_written call none same out unfailed err =
+    record {
+      says = (
+        none,
+        subst (λ (text : Option (List ℕ)). Writes call.sinks (texts_of_text text [])) (sym none) (record { out = took_nothing call.sinks.out call.sinks.out_after out; err = err }),
+        record { out = ap (λ (s : SinkView). s.faults) out; err = unfailed },
+      );
+      opens = unopened call.desk call.desk_after (ap (λ (d : DeskView). d.told) same);
+      words_unopened = λ _. same;
+      words_always = λ _. inl refl;
+      query_always = λ text e _. cc;
+      too_long_always = λ much. absurd (not_overrun call.desk call.desk_after (ap (λ (d : DeskView). d.told) same) much);
+      complete = λ all. absurd (no_query call.words [] all.query none all.asks);
+    }
 
 -- words that are refused, where the usage line could not be written
 pub words_unwritten : (call : Call) (count : ℕ) → query_text call.words ≡ None → call.desk_after ≡ call.desk → call.sinks.out_after ≡ call.sinks.out
@@ -73,9 +72,11 @@ words_unwritten call count none same out failed err =
               (record { out_count = 0; err_count = count; out = took_nothing call.sinks.out call.sinks.out_after out; err = err });
         },
       );
+      opens = unopened call.desk call.desk_after (ap (λ (d : DeskView). d.told) same);
+      words_unopened = λ _. same;
       words_always = λ _. inr (inl refl);
       query_always = λ text e _. cc;
-      too_long_always = λ much. absurd (not_overrun call.desk call.desk_after same much);
+      too_long_always = λ much. absurd (not_overrun call.desk call.desk_after (ap (λ (d : DeskView). d.told) same) much);
       complete = λ all. absurd (no_query call.words [] all.query none all.asks);
     }
 
@@ -85,14 +86,16 @@ pub record Asks (call : Call) (query : ManOnSquare) : Type 0 where
   pub words : query_text call.words ≡ Some text
   pub spells : query_of text ≡ Some query
 
-is_asked : (call : Call) (query : ManOnSquare) → Asks call query → asked call ≡ Some query
+is_asked : (call : Call) (query : ManOnSquare) → Asks call query → asked_query call ≡ Some query
 is_asked call query asks = ap (option_and_then query_of) asks.words ∙ asks.spells
 
 -- what is left to show where a query is asked
-promise_of : (status : Status) (call : Call) (query : ManOnSquare) → Asks call query → Says status call
+promise_of : (status : Status) (call : Call) (query : ManOnSquare) → Asks call query → OpensAtMost call.desk call.desk_after → Says status call
     → (Overruns call.desk call.desk_after → IsOneOf status (ArchiveTooLong ∷ NoMemory ∷ [])) → (HasAll call → IsOneOf status (Done ∷ NoMemory ∷ [])) → Promise status call
-promise_of status call query asks says too_long complete = record {
+promise_of status call query asks opens says too_long complete = record {
   says = says;
+  opens = opens;
+  words_unopened = λ none. absurd (no_query call.words [] query none (is_asked call query asks));
   words_always = λ none. absurd (no_query call.words [] query none (is_asked call query asks));
   query_always = λ text e other.
       let same : Some asks.text ≡ Some text = sym asks.words ∙ e in
@@ -109,25 +112,25 @@ within (Some rest) archive taken few many takes = let lengths : length archive �
 
 -- the archive could not be read
 pub unread : (status : Status) (call : Call) (query : ManOnSquare) → Asks call query → IsUnwritten call.sinks → ReadsArchive call.desk call.desk_after (Err status) → Promise status call
-unread OpenFault call query asks same reads =
-    promise_of OpenFault call query asks (reads.0, reads.1, wrote_nothing call.sinks same) (λ much. absurd (reads.2 much)) (λ all. absurd (all.no_open reads.0))
-unread ReadFault call query asks same reads =
-    promise_of ReadFault call query asks (reads.0, reads.1, wrote_nothing call.sinks same) (λ much. absurd (reads.2 much)) (λ all. absurd (all.no_read reads.0))
-unread ArchiveTooLong call query asks same reads =
-    promise_of ArchiveTooLong call query asks (reads.0, reads.1, wrote_nothing call.sinks same) (λ _. inl refl)
-    (λ all. absurd (within call.desk_after.left all.archive reads.0.taken all.within reads.0.long
-    (subst (λ archive. Consumes archive call.desk_after.left reads.0.taken) all.tells reads.0.takes)))
-unread NoMemory call query asks same reads = promise_of NoMemory call query asks (stopped call same) (λ _. inr (inl refl)) (λ _. inr (inl refl))
-unread Done call query asks same reads = absurd reads
-unread DoneWithRefusals call query asks same reads = absurd reads
-unread QueryRefused call query asks same reads = absurd reads
-unread WordsRefused call query asks same reads = absurd reads
-unread WriteFault call query asks same reads = absurd reads
-unread NotYetRead call query asks same reads = absurd reads
+unread OpenFault call query asks same read =
+    promise_of OpenFault call query asks read.opens (read.reads.0, read.reads.1, same) (λ much. absurd (read.reads.2 much)) (λ all. absurd (all.no_open read.reads.0))
+unread ReadFault call query asks same read =
+    promise_of ReadFault call query asks read.opens (read.reads.0, read.reads.1, same) (λ much. absurd (read.reads.2 much)) (λ all. absurd (all.no_read read.reads.0))
+unread ArchiveTooLong call query asks same read =
+    promise_of ArchiveTooLong call query asks read.opens (read.reads.0, read.reads.1, same) (λ _. inl refl)
+    (λ all. absurd (within call.desk_after.left all.archive read.reads.0.taken all.within read.reads.0.long
+    (subst (λ archive. Consumes archive call.desk_after.left read.reads.0.taken) all.tells read.reads.0.takes)))
+unread NoMemory call query asks same read = promise_of NoMemory call query asks read.opens (stopped call same) (λ _. inr (inl refl)) (λ _. inr (inl refl))
+unread Done call query asks same read = absurd read.reads
+unread DoneWithRefusals call query asks same read = absurd read.reads
+unread QueryRefused call query asks same read = absurd read.reads
+unread WordsRefused call query asks same read = absurd read.reads
+unread WriteFault call query asks same read = absurd read.reads
+unread NotYetRead call query asks same read = absurd read.reads
 
 -- no memory for the answer
-pub unanswered : (call : Call) (query : ManOnSquare) → Asks call query → IsUnwritten call.sinks → Promise NoMemory call
-unanswered call query asks same = promise_of NoMemory call query asks (stopped call same) (λ _. inr (inl refl)) (λ _. inr (inl refl))
+pub unanswered : (call : Call) (query : ManOnSquare) → Asks call query → OpensAtMost call.desk call.desk_after → IsUnwritten call.sinks → Promise NoMemory call
+unanswered call query asks opens same = promise_of NoMemory call query asks opens (stopped call same) (λ _. inr (inl refl)) (λ _. inr (inl refl))
 
 games_of_answer : (query : ManOnSquare) (answer : Answer) (games : Option (List Game)) → Some answer ≡ option_map (answer_of query) games → (all : List Game) × (games ≡ Some all) × (answer ≡ answer_of query all)
 games_of_answer query answer None e = cc
@@ -142,46 +145,52 @@ told_is None archive other may e = cc
 told_is (Some bytes) archive other may e = cc
 
 -- the archive holds no bare games
-pub held_other : (call : Call) (query : ManOnSquare) (archive : List ℕ) → Asks call query → IsUnwritten call.sinks → ReadsWhole call.desk call.desk_after archive
-    → (Overruns call.desk call.desk_after → ⊥) → None ≡ option_map (answer_of query) (games_in archive) → Promise NotYetRead call
-held_other call query archive asks same reads few none =
+pub held_other : (call : Call) (query : ManOnSquare) (archive : List ℕ) → Asks call query → IsUnwritten call.sinks → OpensAtMost call.desk call.desk_after
+    → ReadsWhole call.desk call.desk_after archive × (Overruns call.desk call.desk_after → ⊥) → None ≡ option_map (answer_of query) (games_in archive) → Promise NotYetRead call
+held_other call query archive asks same opens reads none =
     let other = no_games query (games_in archive) none in
-    promise_of NotYetRead call query asks (inr (record { archive = archive; reads = reads; other = other }), wrote_nothing call.sinks same) (λ much. absurd (few much))
-    (λ all. let e : archive ≡ all.archive = told_is (archive_of call.desk) archive all.archive reads.is all.tells in
+    promise_of NotYetRead call query asks opens
+    (inr (record { query = query; archive = archive; asks = is_asked call query asks; reads = reads.0; other = other }), same) (λ much. absurd (reads.1 much))
+    (λ all. let e : archive ≡ all.archive = told_is (archive_of call.desk) archive all.archive reads.0.is all.tells in
     let games : None ≡ Some all.games = sym other ∙ (ap games_in e ∙ all.holds) in absurd cc)
 
 -- the texts of an answer are those of the words and the archive
-texts_are : (call : Call) (query : ManOnSquare) (archive : List ℕ) (answer : Answer) → Asks call query → Some answer ≡ option_map (answer_of query) (games_in archive)
-    → texts_of_answer (Some answer) ≡ texts_of call.words archive
-texts_are call query archive answer asks found =
-    ap texts_of_answer found ∙ ap (λ q. texts_of_query q archive) (sym asks.spells) ∙ ap (λ text. texts_of_text text archive) (sym asks.words)
+texts_are : (call : Call) (query : ManOnSquare) (archive : List ℕ) (answer : Answer) (games : List Game) → Asks call query → games_in archive ≡ Some games
+    → answer ≡ answer_of query games → texts_of_answer answer ≡ texts_of call.words archive
+texts_are call query archive answer games asks holds found =
+    ap texts_of_answer found ∙ ap (texts_found query) (sym holds)
+    ∙ ap (λ q. texts_of_query q archive) (sym asks.spells) ∙ ap (λ text. texts_of_text text archive) (sym asks.words)
 
 -- the answer was written, or could not be
-pub wrote : (status : Status) (call : Call) (query : ManOnSquare) (archive : List ℕ) (answer : Answer) → Asks call query → ReadsWhole call.desk call.desk_after archive
-    → (Overruns call.desk call.desk_after → ⊥) → Some answer ≡ option_map (answer_of query) (games_in archive) → WritesAnswer answer call.sinks status → Promise status call
-wrote Done call query archive answer asks reads few found writes =
+pub wrote : (status : Status) (call : Call) (query : ManOnSquare) (archive : List ℕ) (answer : Answer) → Asks call query → OpensAtMost call.desk call.desk_after
+    → ReadsWhole call.desk call.desk_after archive × (Overruns call.desk call.desk_after → ⊥) → Some answer ≡ option_map (answer_of query) (games_in archive)
+    → WritesAnswer answer call.sinks status → Promise status call
+wrote Done call query archive answer asks opens reads found writes =
     let games = games_of_answer query answer (games_in archive) found in
-    promise_of Done call query asks (record {
+    promise_of Done call query asks opens (record {
       query = query;
       archive = archive;
       games = games.0;
       asks = is_asked call query asks;
-      reads = reads;
+      reads = reads.0;
       holds = games.1;
-      writes = subst (λ (a : Answer). Writes call.sinks (texts_of_answer (Some a))) games.2 writes;
-    }) (λ much. absurd (few much)) (λ _. inl refl)
-wrote WriteFault call query archive answer asks reads few found writes =
-    promise_of WriteFault call query asks
-    (writes.0, record { archive = archive; is = reads.is; front = subst (WritesFront call.sinks) (texts_are call query archive answer asks found) writes.1 })
-    (λ much. absurd (few much)) (λ all. absurd (all.no_write writes.0))
-wrote NoMemory call query archive answer asks reads few found writes =
-    promise_of NoMemory call query asks
-    (record { archive = archive; is = reads.is; front = subst (WritesFront call.sinks) (texts_are call query archive answer asks found) writes })
+      writes = subst (λ (a : Answer). Writes call.sinks (texts_of_answer a)) games.2 writes.0;
+      unfailed = writes.1;
+    }) (λ much. absurd (reads.1 much)) (λ _. inl refl)
+wrote WriteFault call query archive answer asks opens reads found writes =
+    let games = games_of_answer query answer (games_in archive) found in
+    promise_of WriteFault call query asks opens
+    (writes.0, record { archive = archive; is = reads.0.is; front = subst (WritesFront call.sinks) (texts_are call query archive answer games.0 asks games.1 games.2) writes.1 })
+    (λ much. absurd (reads.1 much)) (λ all. absurd (all.no_write writes.0))
+wrote NoMemory call query archive answer asks opens reads found writes =
+    let games = games_of_answer query answer (games_in archive) found in
+    promise_of NoMemory call query asks opens
+    (record { archive = archive; is = reads.0.is; front = subst (WritesFront call.sinks) (texts_are call query archive answer games.0 asks games.1 games.2) writes })
     (λ _. inr (inl refl)) (λ _. inr (inl refl))
-wrote DoneWithRefusals call query archive answer asks reads few found writes = absurd writes
-wrote QueryRefused call query archive answer asks reads few found writes = absurd writes
-wrote WordsRefused call query archive answer asks reads few found writes = absurd writes
-wrote OpenFault call query archive answer asks reads few found writes = absurd writes
-wrote ReadFault call query archive answer asks reads few found writes = absurd writes
-wrote ArchiveTooLong call query archive answer asks reads few found writes = absurd writes
-wrote NotYetRead call query archive answer asks reads few found writes = absurd writes
+wrote DoneWithRefusals call query archive answer asks opens reads found writes = absurd writes
+wrote QueryRefused call query archive answer asks opens reads found writes = absurd writes
+wrote WordsRefused call query archive answer asks opens reads found writes = absurd writes
+wrote OpenFault call query archive answer asks opens reads found writes = absurd writes
+wrote ReadFault call query archive answer asks opens reads found writes = absurd writes
+wrote ArchiveTooLong call query archive answer asks opens reads found writes = absurd writes
+wrote NotYetRead call query archive answer asks opens reads found writes = absurd writes

@@ -1,5 +1,5 @@
 -- What sinks have taken.
-use Rattle.std.proofs.Common.{◌≡◌, ℕ, List, length, take, Option, sym, subst}
+use Rattle.std.proofs.Common.{ℕ, List, length, take, Option, sym, subst}
 use Rattle.std.proofs.Math.Seq.{take-length}
 use Rattle.cq_outside.specs.Flow.{Grew}
 

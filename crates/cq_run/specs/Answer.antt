@@ -15,8 +15,8 @@ answer_of query games = record {
 }
 
 -- an answer, and then another
-abbrev pub joined : Answer → Answer → Answer
-joined first second = record {
+abbrev pub join_of : Answer → Answer → Answer
+join_of first second = record {
   exports = first.exports ++ second.exports;
   games = first.games + second.games;
   matched = first.matched + second.matched;
@@ -24,7 +24,7 @@ joined first second = record {
 
 -- an answer, and then that to one more game
 abbrev pub with_game : ManOnSquare → Answer → Game → Answer
-with_game query answer game = joined answer (answer_of query (game ∷ []))
+with_game query answer game = join_of answer (answer_of query (game ∷ []))
 
 -- the report of games of which none is refused
 abbrev pub report_of : Answer → List ℕ

@@ -12,7 +12,7 @@ is_line_feed byte = byte == 10
 abbrev pub lines_of : List ℕ → List (List ℕ)
 lines_of text = slice_split is_line_feed text
 
--- the tag pair of a FEN text (PGN standard 8.1.1: a left bracket, the name, the value in quotes, a right bracket)
+-- the tag pair of a FEN text (PGN standard 8.1: a left bracket, the name, the value in quotes, a right bracket)
 abbrev pub fen_tag : List ℕ → List ℕ
 fen_tag text = codes "[FEN \"" ++ text ++ codes "\"]"
 

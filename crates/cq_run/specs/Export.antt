@@ -1,7 +1,7 @@
 -- The export format of a bare game (PGN standard 3.2, 8.1 and 8.2).
 use Rattle.std.specs.Prelude.{ℕ, List, ◌++◌, codes}
 
--- A tag pair on a line of its own. The value has no quote and no backslash.
+-- A tag pair on a line of its own (8.1). The value has no quote and no backslash.
 abbrev pub tag_pair : List ℕ → List ℕ → List ℕ
 tag_pair name value = codes "[" ++ name ++ codes " \"" ++ value ++ codes "\"]\n"
 

@@ -1,7 +1,7 @@
 -- The games of an archive of bare games.
 use Rattle.std.specs.Prelude.{ℕ, Bool, List, [], ◌∷◌, Option, None, Some, Result, Ok, Err}
 use Rattle.std.specs.Option.{option_map, option_and_then}
-use Rattle.cq_position.specs.declared.faults.FenFault.{FenFault}
+use Rattle.cq_position.specs.declared.fen.FenFault.{FenFault}
 use Rattle.cq_position.specs.Board.{Board, man_at}
 use Rattle.cq_position.specs.Men.{same_man}
 use Rattle.cq_position.specs.Fen.{fen_meaning}

@@ -1,10 +1,10 @@
 -- What `run` promises: what it answers, what out and err have taken then, and when each answer comes.
-use Rattle.std.specs.Prelude.{◌≡◌, ◌≢◌, ◌⊎◌, ℕ, ◌≤◌, ◌<◌, ◌^◌, List, [], ◌∷◌, ◌++◌, length, take, Option, None, Some, codes}
+use Rattle.std.specs.Prelude.{◌≡◌, ◌⊎◌, ℕ, ◌+◌, ◌≤◌, ◌<◌, ◌^◌, List, [], ◌∷◌, ◌++◌, length, take, Option, None, Some, codes}
 use Rattle.std.specs.Option.{option_map, option_and_then}
 use Rattle.std.specs.Io.KnownBytes.{Consumes, IsAtEnd}
 use Rattle.cq_outside.specs.Faults.{Rose}
-use Rattle.cq_outside.specs.Flow.{Grew}
-use Rattle.cq_outside.specs.Told.{Told, Opens, bytes_of}
+use Rattle.cq_outside.specs.Flow.{Grew, TakesAtMost}
+use Rattle.cq_outside.specs.Told.{Told, bytes_of}
 use Rattle.cq_run.specs.declared.status.Status.{Status}
 use Rattle.cq_run.specs.declared.status.Status.TheVariants.{Done, DoneWithRefusals, QueryRefused, WordsRefused, OpenFault, ReadFault, WriteFault, NoMemory, ArchiveTooLong, NotYetRead}
 use Rattle.cq_run.specs.declared.query.ManOnSquare.{ManOnSquare}
@@ -41,8 +41,8 @@ pub record Call : Type 0 where
   pub sinks : Sinks
 
 -- the query that the words ask
-abbrev pub asked : Call → Option ManOnSquare
-asked call = option_and_then query_of (query_text call.words)
+abbrev pub asked_query : Call → Option ManOnSquare
+asked_query call = option_and_then query_of (query_text call.words)
 
 -- the name of standard input
 abbrev pub standard_input : List ℕ
@@ -61,15 +61,20 @@ MayBe (Some told) bytes = told ≡ bytes
 abbrev pub archive_limit : ℕ
 archive_limit = 2 ^ 30
 
--- these are the bytes of the archive, and it was read to its end
+-- a desk on which one more name was opened
+abbrev pub with_archive_open : Told → Told
+with_archive_open told = record { files = told.files; opened = told.opened ++ standard_input ∷ [] }
+
+-- the archive was opened, and is the open file at the end
+abbrev pub IsOpen : DeskView → DeskView → Type 0
+IsOpen desk after = after.told ≡ option_map with_archive_open desk.told
+
+-- these are the bytes of the archive, which was opened and read to its end
 pub record ReadsWhole (desk after : DeskView) (archive : List ℕ) : Type 0 where
   pub is : MayBe (archive_of desk) archive
   pub within : length archive ≤ archive_limit
+  pub opened : IsOpen desk after
   pub at_end : IsAtEnd after.left
-
--- the archive is the open file at the end
-abbrev pub IsOpen : DeskView → DeskView → Type 0
-IsOpen desk after = Opens desk.told after.told standard_input (archive_of desk)
 
 -- more than its limit was taken from the archive
 pub record TakesTooMuch (desk after : DeskView) : Type 0 where
@@ -77,31 +82,38 @@ pub record TakesTooMuch (desk after : DeskView) : Type 0 where
   pub takes : Consumes (archive_of desk) after.left taken
   pub long : archive_limit < length taken
 
--- the same at a desk that tells its files, and the archive was opened in this call
+-- the same at a desk that tells its files, on which the archive was opened
 pub record Overruns (desk after : DeskView) : Type 0 where
   pub told : Told
   pub tells : desk.told ≡ Some told
   pub opened : IsOpen desk after
   pub too_much : TakesTooMuch desk after
 
+-- No other file was opened than the archive, and that at most once. At most one byte more than its limit was taken from it.
+pub record OpensAtMost (desk after : DeskView) : Type 0 where
+  pub opens : (after.told ≡ desk.told) ⊎ IsOpen desk after
+  pub takes : IsOpen desk after → TakesAtMost (archive_limit + 1) (archive_of desk) after.left
+
 -- the texts for the two sinks
 pub record Texts : Type 0 where
   pub out : List ℕ
   pub err : List ℕ
 
-abbrev pub nothing : Texts
-nothing = record { out = []; err = [] }
+-- an answer as texts: the exports and the report
+abbrev pub texts_of_answer : Answer → Texts
+texts_of_answer answer = record { out = answer.exports; err = report_of answer }
 
-abbrev pub texts_of_answer : Option Answer → Texts
-texts_of_answer None = nothing
-texts_of_answer (Some answer) = record { out = answer.exports; err = report_of answer }
-
-abbrev pub texts_of_query : Option ManOnSquare → List ℕ → Texts
-texts_of_query None archive = nothing
-texts_of_query (Some query) archive = texts_of_answer (option_map (answer_of query) (games_in archive))
+-- what a query finds in an archive, as texts; nothing where the archive is of another form
+abbrev pub texts_found : ManOnSquare → Option (List Game) → Texts
+texts_found query None = record { out = []; err = [] }
+texts_found query (Some games) = texts_of_answer (answer_of query games)
 
 -- What words and an archive give: for words that are refused the usage line, for a query and games the exports and the report,
 -- and nothing for what is not read yet.
+abbrev pub texts_of_query : Option ManOnSquare → List ℕ → Texts
+texts_of_query None archive = record { out = []; err = [] }
+texts_of_query (Some query) archive = texts_found query (games_in archive)
+
 abbrev pub texts_of_text : Option (List ℕ) → List ℕ → Texts
 texts_of_text None archive = record { out = []; err = usage_line }
 texts_of_text (Some text) archive = texts_of_query (query_of text) archive
@@ -121,11 +133,21 @@ pub record WritesFront (sinks : Sinks) (texts : Texts) : Type 0 where
   pub out : Grew sinks.out.taken sinks.out_after.taken (take out_count texts.out)
   pub err : Grew sinks.err.taken sinks.err_after.taken (take err_count texts.err)
 
+-- the sinks were not written to
+pub record IsUnwritten (sinks : Sinks) : Type 0 where
+  pub out : sinks.out_after ≡ sinks.out
+  pub err : sinks.err_after ≡ sinks.err
+
+-- no write failed
+pub record NoWriteFailed (sinks : Sinks) : Type 0 where
+  pub out : sinks.out_after.faults ≡ sinks.out.faults
+  pub err : sinks.err_after.faults ≡ sinks.err.faults
+
 -- a count of a sink rose
 abbrev pub SinkFailed : Sinks → Type 0
 SinkFailed sinks = Rose sinks.out.faults sinks.out_after.faults ⊎ Rose sinks.err.faults sinks.err_after.faults
 
--- the same, for the texts of some bytes that may be the archive
+-- each sink has taken a front of its text, for some bytes that may be the archive
 pub record StopsWriting (call : Call) : Type 0 where
   pub archive : List ℕ
   pub is : MayBe (archive_of call.desk) archive
@@ -136,10 +158,11 @@ pub record Answers (call : Call) : Type 0 where
   pub query : ManOnSquare
   pub archive : List ℕ
   pub games : List Game
-  pub asks : asked call ≡ Some query
+  pub asks : asked_query call ≡ Some query
   pub reads : ReadsWhole call.desk call.desk_after archive
   pub holds : games_in archive ≡ Some games
-  pub writes : Writes call.sinks (texts_of_answer (Some (answer_of query games)))
+  pub writes : Writes call.sinks (texts_of_answer (answer_of query games))
+  pub unfailed : NoWriteFailed call.sinks
 
 -- the query is of another form, and no file was opened
 pub record AsksOther (call : Call) : Type 0 where
@@ -150,7 +173,9 @@ pub record AsksOther (call : Call) : Type 0 where
 
 -- the archive is of another form, and it was read to its end
 pub record HoldsOther (call : Call) : Type 0 where
+  pub query : ManOnSquare
   pub archive : List ℕ
+  pub asks : asked_query call ≡ Some query
   pub reads : ReadsWhole call.desk call.desk_after archive
   pub other : games_in archive ≡ None
 
@@ -159,13 +184,13 @@ abbrev pub Says : Status → Call → Type 0
 Says Done call = Answers call
 Says DoneWithRefusals call = ⊥
 Says QueryRefused call = ⊥
-Says WordsRefused call = (query_text call.words ≡ None) × (call.desk_after ≡ call.desk) × Writes call.sinks (texts_of call.words [])
-Says OpenFault call = Rose call.desk.open_faults call.desk_after.open_faults × (call.desk_after.told ≡ call.desk.told) × Writes call.sinks nothing
-Says ReadFault call = Rose call.desk.read_faults call.desk_after.read_faults × IsOpen call.desk call.desk_after × Writes call.sinks nothing
+Says WordsRefused call = (query_text call.words ≡ None) × Writes call.sinks (texts_of call.words []) × NoWriteFailed call.sinks
+Says OpenFault call = Rose call.desk.open_faults call.desk_after.open_faults × (call.desk_after.told ≡ call.desk.told) × IsUnwritten call.sinks
+Says ReadFault call = Rose call.desk.read_faults call.desk_after.read_faults × IsOpen call.desk call.desk_after × IsUnwritten call.sinks
 Says WriteFault call = SinkFailed call.sinks × StopsWriting call
 Says NoMemory call = StopsWriting call
-Says ArchiveTooLong call = TakesTooMuch call.desk call.desk_after × IsOpen call.desk call.desk_after × Writes call.sinks nothing
-Says NotYetRead call = (AsksOther call ⊎ HoldsOther call) × Writes call.sinks nothing
+Says ArchiveTooLong call = TakesTooMuch call.desk call.desk_after × IsOpen call.desk call.desk_after × IsUnwritten call.sinks
+Says NotYetRead call = (AsksOther call ⊎ HoldsOther call) × IsUnwritten call.sinks
 
 -- the status is one of these
 abbrev pub IsOneOf : Status → List Status → Type 0
@@ -177,7 +202,7 @@ pub record HasAll (call : Call) : Type 0 where
   pub query : ManOnSquare
   pub archive : List ℕ
   pub games : List Game
-  pub asks : asked call ≡ Some query
+  pub asks : asked_query call ≡ Some query
   pub tells : archive_of call.desk ≡ Some archive
   pub within : length archive ≤ archive_limit
   pub holds : games_in archive ≡ Some games
@@ -188,6 +213,8 @@ pub record HasAll (call : Call) : Type 0 where
 -- what `run` promises of its status
 pub record Promise (status : Status) (call : Call) : Type 0 where
   pub says : Says status call
+  pub opens : OpensAtMost call.desk call.desk_after
+  pub words_unopened : query_text call.words ≡ None → call.desk_after ≡ call.desk
   pub words_always : query_text call.words ≡ None → IsOneOf status (WordsRefused ∷ WriteFault ∷ NoMemory ∷ [])
   pub query_always : (text : List ℕ) → query_text call.words ≡ Some text → query_of text ≡ None → status ≡ NotYetRead
   pub too_long_always : Overruns call.desk call.desk_after → IsOneOf status (ArchiveTooLong ∷ NoMemory ∷ [])

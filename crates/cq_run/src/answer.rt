@@ -25,7 +25,7 @@ pub struct Answer {
 }
 
 impl Answer {
-    ghost use Rattle.cq_run.specs.Answer.{answer_of, joined, with_game};
+    ghost use Rattle.cq_run.specs.Answer.{answer_of, join_of, with_game};
     ghost use Rattle.cq_run.specs.Games.{games_in};
 
     /// What the query finds in an archive of bare games; none where the archive is of another form.

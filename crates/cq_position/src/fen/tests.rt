@@ -1,5 +1,6 @@
 use super::*;
 use crate::men::{Man, Side};
+use crate::moves::Move;
 use crate::position::material;
 use cq_geometry::square_at;
 use std::mem::size_of;
@@ -85,4 +86,16 @@ fn text_of_a_position_is_its_fen(rt: HostRuntime) -> Result<(), Fail> {
 fn position_is_small(rt: HostRuntime) {
     assert_eq!(rt; size_of::<Man>(), 1);
     assert!(rt; size_of::<Position>() <= 80);
+}
+
+// Threads share positions and moves, and hand on faults.
+#[test]
+fn threads_may_share(rt: HostRuntime) -> Result<(), Fail> {
+    fn shared<T: Send + Sync>(value: T) -> T {
+        value
+    }
+    assert_eq!(rt; shared(Position::start()), read_fen(START)?);
+    assert!(rt; shared(Move::default()).null);
+    assert_eq!(rt; shared(FenFault::Fields), FenFault::Fields);
+    Ok(())
 }

@@ -9,7 +9,7 @@ add_moves_between-requires-clause-room c =
     subst (λ (to : ℕ). length c.loop-number.moves.items + length (legal_between c.args.position.now c.args.from to) ≤ 512)
     (sym c.new-to.ensures)
     (room_for_goal c.args.position.now c.args.from c.loop-number.number c.args.moves.now.items c.loop-number.moves.items
-        (omega arith) c.loop-number.invariant c.requires)
+    (omega arith) c.loop-number.invariant c.requires)
 
 pub loop-number-preserved : goal.loop-number-preserved
 loop-number-preserved c =
@@ -22,9 +22,9 @@ loop-number-preserved c =
       | else-reaches w ↦
           ap (λ v. v.items) w.moves-is
           ∙ add_nothing part c.loop-number.number c.args.moves.now.items c.loop-number.moves.items (omega arith) c.loop-number.invariant
-            (ap part (sym c.new-to.ensures)
-            ∙ none_between_unreached c.args.position.now c.args.from c.new-to.result c.reaches.ensures.board
-                (sym c.reaches.ensures.reaches ∙ w.if-reaches.false))
+          (ap part (sym c.new-to.ensures)
+          ∙ none_between_unreached c.args.position.now c.args.from c.new-to.result c.reaches.ensures.board
+          (sym c.reaches.ensures.reaches ∙ w.if-reaches.false))
     ]
 
 pub returns : goal.returns

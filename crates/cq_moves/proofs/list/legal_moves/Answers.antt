@@ -15,7 +15,7 @@ add_moves_from-requires c =
     subst (λ (from : ℕ). length c.loop-number.moves.items + length (legal_from c.args.position.now from) ≤ 512)
     (sym c.new-from.ensures)
     (room_for_origin c.args.position.now c.loop-number.number c.loop-number.moves.items c.side-side.ensures.kept
-        (omega arith) c.loop-number.invariant)
+    (omega arith) c.loop-number.invariant)
 
 pub loop-number-preserved : goal.loop-number-preserved
 loop-number-preserved c =
@@ -30,8 +30,8 @@ loop-number-preserved c =
       | else-is_of_side w ↦
           ap (λ v. v.items) w.moves-is
           ∙ add_nothing part c.loop-number.number [] c.loop-number.moves.items (omega arith) c.loop-number.invariant
-            (ap part (sym c.new-from.ensures) ∙ none_from_other c.args.position.now c.new-from.result
-                (ap₂ is_of_side (sym c.side-side.ensures.side) (sym c.at.ensures.man) ∙ sym c.is_of_side.ensures ∙ w.if-is_of_side.false))
+          (ap part (sym c.new-from.ensures) ∙ none_from_other c.args.position.now c.new-from.result
+          (ap₂ is_of_side (sym c.side-side.ensures.side) (sym c.at.ensures.man) ∙ sym c.is_of_side.ensures ∙ w.if-is_of_side.false))
     ]
 
 -- what was found square by square is the list
@@ -51,6 +51,7 @@ returns-clause-order c =
 pub returns-clause-members : goal.returns-clause-members
 returns-clause-members c m =
     let p = c.args.position.now in
-    let same = found p c.loop-number.number c.loop-number.moves.items (omega arith) c.loop-number.invariant in
-    (λ h. listed_is_legal p m (subst (λ (xs : List Move). Contains xs m) same h),
-    λ l. subst (λ (xs : List Move). Contains xs m) (sym same) (legal_is_listed p m c.side-side.ensures.kept.whole l))
+    let same = found p c.loop-number.number c.loop-number.moves.items (omega arith) c.loop-number.invariant in (
+      λ h. listed_is_legal p m (subst (λ (xs : List Move). Contains xs m) same h),
+      λ l. subst (λ (xs : List Move). Contains xs m) (sym same) (legal_is_listed p m c.side-side.ensures.kept.whole l),
+    )

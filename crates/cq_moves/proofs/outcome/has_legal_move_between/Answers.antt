@@ -6,4 +6,4 @@ pub returns-else-reaches : goal.returns-else-reaches
 returns-else-reaches c =
     c.if-reaches.false
     ∙ sym (unreached_has_none c.args.position.now c.args.from c.args.to c.reaches.ensures.board
-        (sym c.reaches.ensures.reaches ∙ c.if-reaches.false))
+    (sym c.reaches.ensures.reaches ∙ c.if-reaches.false))

@@ -11,7 +11,7 @@ use Rattle.cq_moves.proofs.outcome.has_legal_move_from.Goals as goal
 pub returns-then-not-is_of_side : goal.returns-then-not-is_of_side
 returns-then-not-is_of_side c =
     sym (other_has_none c.args.position.now c.args.from
-        (ap₂ is_of_side (sym c.side.ensures.side) (sym c.at.ensures.man) ∙ sym c.is_of_side.ensures ∙ c.if-not-is_of_side.true))
+    (ap₂ is_of_side (sym c.side.ensures.side) (sym c.at.ensures.man) ∙ sym c.is_of_side.ensures ∙ c.if-not-is_of_side.true))
 
 pub loop-number-init : goal.loop-number-init
 loop-number-init c = any_from-start (λ b. list_any (legal_test c.args.position.now) (moves_between c.args.from b)) ∙ sym (any_from_parts c.args.position.now c.args.from)

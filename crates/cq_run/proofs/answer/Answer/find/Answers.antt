@@ -1,4 +1,4 @@
-use Rattle.std.proofs.Common.{◌≡◌, ◌+◌, ◌<◌, length, arith}
+use Rattle.std.proofs.Common.{◌<◌, length, arith}
 use Rattle.cq_run.proofs.MoreGames.{stop_refused, stop_at_end, go_on, counts_more}
 use Rattle.cq_run.proofs.answer.Answer.find.Goals as goal
 
