@@ -1,5 +1,5 @@
 -- The list of all moves: what it holds, and its order.
-use Rattle.std.proofs.Common.{◌≡◌, ℕ, zero, suc, ◌+◌, ◌<◌, ◌⊎◌, ◌↔◌, Bool, true, false, List, [], ◌∷◌, map, length, refl, inl, inr, sym, ap, ◌∙◌, subst, arith, lit<}
+use Rattle.std.proofs.Common.{◌≡◌, ℕ, zero, suc, ◌+◌, ◌<◌, ◌⊎◌, Bool, true, false, List, [], ◌∷◌, map, length, refl, inl, inr, sym, ap, ◌∙◌, subst, arith, lit<}
 use Rattle.std.specs.List.{All, AllPairs, Contains, filter, flat_map, list_any}
 use Rattle.std.specs.List.Sorted.{IsStrictlyIncreasing}
 use Rattle.std.proofs.lemmas.List.Elements.{All-map, All-weaker, All-contains, filter_passes}
@@ -16,7 +16,7 @@ use Rattle.cq_moves.specs.Legality.{legal_test}
 use Rattle.cq_moves.specs.LegalMoves.{promotions, promotion_number, move_of, moves_between, moves_from, all_moves, legal_list, Precedes}
 use Rattle.cq_moves.specs.Outcome.{HasLegalMove}
 use Rattle.cq_moves.proofs.Lists.{All-flat_map, AllPairs-flat_map, AllPairs-map, AllPairs-by_number, Contains-map, Contains-flat_map}
-use Rattle.cq_moves.proofs.Law.{IsOnBoard, legal_on_board, legal_passes, test_leads}
+use Rattle.cq_moves.proofs.Law.{IsOnBoard, legal_on_board, what_moves, legal_passes, test_leads}
 
 abbrev GoesFrom : ℕ → Move → Type 0
 GoesFrom a m = m.from ≡ a
@@ -87,6 +87,12 @@ in_all m h =
     Contains-flat_map moves_from squares m.from m (in_squares m.from h.from)
     (Contains-flat_map (moves_between m.from) squares m.to m (in_squares m.to h.to) (in_between m h))
 
+pub none_is_null : (p : Board) → All (λ m. m.null ≡ false) (legal_list p)
+unfolding legal_list
+none_is_null p =
+    All-weaker (λ m. legal_test p m ≡ true) (λ m. m.null ≡ false) (λ m h. (what_moves p m h).null)
+    (legal_list p) (filter_passes (legal_test p) all_moves)
+
 -- the list holds exactly the legal moves
 pub listed_is_legal : (p : Board) (m : Move) → Contains (legal_list p) m → (q : Board) × Legal p m q
 unfolding legal_list
@@ -100,10 +106,13 @@ legal_is_listed p m long l =
     contains_filter (legal_test p) all_moves m (in_all m (legal_on_board p m long passes)) passes
 
 -- a move passes the test exactly where there is a legal move
-pub any_legal : (p : Board) → length p.men ≡ 64 → (list_any (legal_test p) all_moves ≡ true) ↔ HasLegalMove p
-any_legal p long =
-    (λ h. let a = Any-from_list_any (legal_test p) all_moves h in (a.1, after p a.1, test_leads p a.1 a.4),
-    λ l.
-        let passes = legal_passes p l.0 l.1 l.2 in
-        let there = in_all l.0 (legal_on_board p l.0 long passes) in
-        list_any-from_Any (legal_test p) all_moves (there.0, l.0, there.1, there.2, passes))
+pub passing_is_legal : (p : Board) → list_any (legal_test p) all_moves ≡ true → HasLegalMove p
+passing_is_legal p h =
+    let found = Any-from_list_any (legal_test p) all_moves h in
+    (found.1, after p found.1, test_leads p found.1 found.4)
+
+pub legal_is_passing : (p : Board) → length p.men ≡ 64 → HasLegalMove p → list_any (legal_test p) all_moves ≡ true
+legal_is_passing p long l =
+    let passes = legal_passes p l.0 l.1 l.2 in
+    let there = in_all l.0 (legal_on_board p l.0 long passes) in
+    list_any-from_Any (legal_test p) all_moves (there.0, l.0, there.1, there.2, passes)

@@ -7,23 +7,30 @@ use Rattle.cq_position.specs.Attacks.{in_check}
 use Rattle.cq_moves.specs.Legality.{legal_test}
 use Rattle.cq_moves.specs.LegalMoves.{all_moves}
 use Rattle.cq_moves.specs.Outcome.{HasLegalMove, IsMate, IsStalemate}
-use Rattle.cq_moves.proofs.Order.{any_legal}
+use Rattle.cq_moves.proofs.Order.{passing_is_legal, legal_is_passing}
 
-stuck_law : (p : Board) (has : Bool) → length p.men ≡ 64 → has ≡ list_any (legal_test p) all_moves
-    → (not has ≡ true) ↔ (¬ HasLegalMove p)
-stuck_law p has long e = (
-  λ h l. false≢true (sym (not-true has h) ∙ e ∙ (any_legal p long).1 l),
-  λ stuck. not_from_false has (false_from_ne_true has (λ t. stuck ((any_legal p long).0 (sym e ∙ t)))),
-)
+stuck : (p : Board) → length p.men ≡ 64 → list_any (legal_test p) all_moves ≡ false → ¬ HasLegalMove p
+stuck p long none l = false≢true (sym none ∙ legal_is_passing p long l)
 
+-- mate, where there is check, is that no move passes the test
 pub mate_law : (p : Board) (has : Bool) → length p.men ≡ 64 → has ≡ list_any (legal_test p) all_moves
     → in_check p.men p.side ≡ true → (not has ≡ true) ↔ IsMate p
-mate_law p has long e check =
-    let law = stuck_law p has long e in
-    (λ h. record { check = check; stuck = law.0 h }, λ m. law.1 m.stuck)
+mate_law p has long e check = (
+  λ h. record { check = check; stuck = stuck p long (sym e ∙ not-true has h) },
+  λ mate. not_from_false has (false_from_ne_true has (λ t. mate.stuck (passing_is_legal p (sym e ∙ t)))),
+)
 
-pub stalemate_law : (p : Board) (has : Bool) → length p.men ≡ 64 → has ≡ list_any (legal_test p) all_moves
-    → in_check p.men p.side ≡ false → (not has ≡ true) ↔ IsStalemate p
-stalemate_law p has long e quiet =
-    let law = stuck_law p has long e in
-    (λ h. record { quiet = quiet; stuck = law.0 h }, λ m. law.1 m.stuck)
+-- stalemate, where no move passes the test, is that there is no check
+pub stalemate_law : (p : Board) (check : Bool) → length p.men ≡ 64 → list_any (legal_test p) all_moves ≡ false
+    → check ≡ in_check p.men p.side → (not check ≡ true) ↔ IsStalemate p
+stalemate_law p check long none e = (
+  λ h. record { quiet = sym e ∙ not-true check h; stuck = stuck p long none },
+  λ stalemate. not_from_false check (e ∙ stalemate.quiet),
+)
+
+-- and there is none where a move passes
+pub no_stalemate : (p : Board) (has : Bool) → has ≡ list_any (legal_test p) all_moves → has ≡ true → (not has ≡ true) ↔ IsStalemate p
+no_stalemate p has e passes = (
+  λ h. absurd (false≢true (sym (not-true has h) ∙ passes)),
+  λ stalemate. absurd (stalemate.stuck (passing_is_legal p (sym e ∙ passes))),
+)

@@ -29,7 +29,7 @@ fn passes(position: &Position, m: &Move) -> bool
 }
 
 // Whether the king of the side that moved isn't attacked after the move.
-pub fn is_safe(position: &Position, m: &Move) -> bool
+pub(crate) fn is_safe(position: &Position, m: &Move) -> bool
     ensures { result ≡ legality.is_safe position.now m.now }
 {
     !is_king_attacked(&men_after(position, m), position.side())

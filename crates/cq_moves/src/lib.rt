@@ -16,3 +16,6 @@ pub use list::legal_moves;
 pub use next_position::play;
 pub use outcome::{is_mate, is_stalemate};
 pub use passing::pass;
+
+#[cfg(test)]
+mod tests;

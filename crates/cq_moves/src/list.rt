@@ -1,6 +1,6 @@
 //! The legal moves of a position.
 ghost use Rattle.std.specs.Prelude.{◌≡◌, ◌+◌, ◌≤◌, ◌<◌, ◌↔◌, ◌++◌, ◌∷◌, [], true, false, length};
-ghost use Rattle.std.specs.List.{AllPairs, Contains, filter};
+ghost use Rattle.std.specs.List.{All, AllPairs, Contains, filter};
 ghost use Rattle.cq_position.specs.declared.moves.Move.{Move as MoveValue};
 ghost use Rattle.cq_position.specs.Board.{Board};
 ghost use Rattle.cq_position.specs.Legal.{Legal};
@@ -18,6 +18,7 @@ use cq_position::{Move, Position, Promotion, attacks_from, is_of_side};
 /// to a queen, a rook, a bishop and a knight. The null move is none of them.
 pub fn legal_moves(position: &Position) -> ArrayVec<Move, 512>
     ensures moves { result.items ≡ legal_list position.now }
+    ensures null { All (λ m. m.null ≡ false) result.items }
     ensures order { AllPairs Precedes result.items }
     ensures members { (m : MoveValue) → Contains result.items m ↔ ((q : Board) × Legal position.now m q) }
 {
@@ -85,7 +86,7 @@ fn add_move(position: &Position, m: Move, moves: &mut ArrayVec<Move, 512>)
 
 // Whether a move to a square to which a man goes is legal.
 #[tactic(auto, using(crate::proofs::Parts::reached_move))]
-pub fn is_legal_there(position: &Position, m: &Move) -> bool
+pub(crate) fn is_legal_there(position: &Position, m: &Move) -> bool
     requires reaches { parts.reaches position.now m.now.from m.now.to ≡ true }
     requires board { m.now.to < 64 }
     requires null { m.now.null ≡ false }

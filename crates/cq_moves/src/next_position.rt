@@ -32,7 +32,7 @@ pub fn play(position: &Position, m: Move) -> Position
 }
 
 // The number rises after Black's move.
-pub fn number_after(position: &Position) -> u32
+pub(crate) fn number_after(position: &Position) -> u32
     ensures { result ≡ legal.number_after position.now }
 {
     match position.side() {

@@ -24,7 +24,7 @@ pub fn is_mate(position: &Position) -> bool
 pub fn is_stalemate(position: &Position) -> bool
     ensures { IsTrue result ↔ IsStalemate position.now }
 {
-    !in_check(position, position.side()) && !has_legal_move(position)
+    !has_legal_move(position) && !in_check(position, position.side())
 }
 
 // Whether the side to move has a legal move.

@@ -16,7 +16,7 @@ use cq_position::{Man, Move, Position, Promotion, Side, is_of_side, is_same, kin
 // Whether a man of the side to move goes from one square to another, which holds none of its own men and no king. `attacked` has the
 // squares that the man attacks.
 #[tactic(auto, unfolding(crate::specs::Reach::reaches))]
-pub fn reaches(position: &Position, attacked: u64, from: Square, to: Square) -> bool
+pub(crate) fn reaches(position: &Position, attacked: u64, from: Square, to: Square) -> bool
     requires { Marks attacked (attack.attacks position.now.men from) }
     ensures reaches { result ≡ parts.reaches position.now from to }
     ensures board { to < 64 }
@@ -108,7 +108,7 @@ fn are_free(men: &[Man; 64], by: Side, squares: [Square; 3]) -> bool
 }
 
 // Whether the move promotes exactly where a pawn reaches the last rank.
-pub fn promotes(position: &Position, m: &Move) -> bool
+pub(crate) fn promotes(position: &Position, m: &Move) -> bool
     ensures { result ≡ parts.promotes position.now m.now }
 {
     if is_pawn(position.at(m.from)) && rank(m.to) == last_rank(position.side()) {

@@ -1,10 +1,10 @@
-use Rattle.std.proofs.Common.{◌≡◌, ℕ, ◌+◌, ◌≤◌, [], List, length, ◌++◌, sym, ap, ap₂, ◌∙◌, arith, subst}
-use Rattle.std.specs.List.{AllPairs, Contains}
+use Rattle.std.proofs.Common.{◌≡◌, false, ℕ, ◌+◌, ◌≤◌, [], List, length, ◌++◌, sym, ap, ap₂, ◌∙◌, arith, subst}
+use Rattle.std.specs.List.{All, AllPairs, Contains}
 use Rattle.cq_position.specs.declared.moves.Move.{Move}
 use Rattle.cq_position.specs.Board.{Board}
 use Rattle.cq_position.specs.Men.{is_of_side}
 use Rattle.cq_moves.specs.LegalMoves.{legal_from, legal_list, Precedes}
-use Rattle.cq_moves.proofs.Order.{legal_in_order, listed_is_legal, legal_is_listed}
+use Rattle.cq_moves.proofs.Order.{none_is_null, legal_in_order, listed_is_legal, legal_is_listed}
 use Rattle.cq_moves.proofs.Parts.{so_far, add_part, add_nothing, all_squares, legal_list_parts}
 use Rattle.cq_moves.proofs.Room.{room_for_origin, none_from_other}
 use Rattle.cq_moves.proofs.list.legal_moves.Goals as goal
@@ -41,6 +41,12 @@ found p n moves h e = e ∙ all_squares (legal_from p) n h ∙ sym (legal_list_p
 pub returns-clause-moves : goal.returns-clause-moves
 returns-clause-moves c =
     found c.args.position.now c.loop-number.number c.loop-number.moves.items (omega arith) c.loop-number.invariant
+
+pub returns-clause-null : goal.returns-clause-null
+returns-clause-null c =
+    subst (λ (xs : List Move). All (λ m. m.null ≡ false) xs)
+    (sym (found c.args.position.now c.loop-number.number c.loop-number.moves.items (omega arith) c.loop-number.invariant))
+    (none_is_null c.args.position.now)
 
 pub returns-clause-order : goal.returns-clause-order
 returns-clause-order c =
