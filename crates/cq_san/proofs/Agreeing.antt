@@ -20,8 +20,8 @@ second_found test moves i None m h e is t s = cc
 second_found test moves i (Some first) m h e is t s =
     let rest = filter test (drop (i + 1) moves) in
     let more : filter test (take (i + 1) moves) ≡ first ∷ m ∷ [] =
-        filter_more test moves i m h ∙ one_more test (filter test (take i moves)) first m (get_or moves i m) e (sym is) t in
+    filter_more test moves i m h ∙ one_more test (filter test (take i moves)) first m (get_or moves i m) e (sym is) t in
     let whole : filter test moves ≡ first ∷ m ∷ rest =
-        ap (filter test) (sym (take-append-drop (i + 1) moves)) ∙ filter-append test (take (i + 1) moves) (drop (i + 1) moves)
-        ∙ ap (λ (ys : List Move). ys ++ rest) more in
+    ap (filter test) (sym (take-append-drop (i + 1) moves)) ∙ filter-append test (take (i + 1) moves) (drop (i + 1) moves)
+    ∙ ap (λ (ys : List Move). ys ++ rest) more in
     ap only whole

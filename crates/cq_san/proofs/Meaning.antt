@@ -31,8 +31,8 @@ fits_listed : (p : Board) (parts : Parts) (moves : List Move) → ((m : Move) �
     → (m : Move) → Fits p parts m → Contains (filter (agrees p parts) moves) m
 fits_listed p parts moves members h m f =
     elim f.leads [
-      inl g ↦ contains_filter (agrees p parts) moves m ((members m).1 (f.next, g)) f.agree
-    | inr g ↦ let e = null_disagrees p parts h in let k = g.null in let a = f.agree in cc
+      | inl g ↦ contains_filter (agrees p parts) moves m ((members m).1 (f.next, g)) f.agree
+      | inr g ↦ let e = null_disagrees p parts h in let k = g.null in let a = f.agree in cc
     ]
 
 listed_fits : (p : Board) (parts : Parts) (moves : List Move) → ((m : Move) → Contains moves m ↔ ((q : Board) × Legal p m q))
@@ -114,7 +114,6 @@ pub exactly_ambiguous : (p : Board) (o : Option Parts) (r : Result Move SanFault
     → (r ≡ Err AmbiguousMove) ↔ IsSomeAnd o (λ parts. IsAmbiguous p parts)
 exactly_ambiguous p None r h = (λ e. cc, λ k. absurd k)
 exactly_ambiguous p (Some parts) r h = (λ e. subst (IsAnswer p parts) e h, λ k. same_answer p parts r (Err AmbiguousMove) h k)
-
 
 -- a legal move is no null move
 legal_is_no_pass : (p : Board) (m : Move) (q : Board) → Legal p m q → m.null ≡ true → ⊥

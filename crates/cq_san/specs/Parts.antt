@@ -2,7 +2,7 @@
 --
 -- The text is read from its end, where each part is known by its bytes: the signs of check and mate, the promotion, the goal, the mark of a capture,
 -- the rank and the file from which the move goes, and the letter of the piece. So `back` is always a text backwards, its last byte first.
-use Rattle.std.specs.Prelude.{ℕ, ◌-◌, ◌==◌, Bool, true, false, ◌&&◌, ◌||◌, nat_le, List, [], ◌∷◌, reverse, codes, Option, Some, None, option_map, option_and_then, if◌then◌else◌}
+use Rattle.std.specs.Prelude.{ℕ, ◌+◌, ◌-◌, ◌==◌, Bool, true, false, ◌&&◌, ◌||◌, nat_le, nat_lt, List, [], ◌∷◌, reverse, codes, Option, Some, None, option_map, option_and_then, if◌then◌else◌}
 use Rattle.std.specs.Str.{bytes_eq}
 use Rattle.cq_geometry.specs.Squares.{square_of}
 use Rattle.cq_position.specs.declared.men.Promotion.{Promotion}
@@ -23,12 +23,9 @@ is_mark c = (c == 120) || (c == 45)
 abbrev pub is_equals : ℕ → Bool
 is_equals c = c == 61
 
--- the letters of the files `a` to `h`, and the digits of the ranks `1` to `8`
-abbrev pub is_file : ℕ → Bool
-is_file c = nat_le 97 c && nat_le c 104
-
-abbrev pub is_rank : ℕ → Bool
-is_rank c = nat_le 49 c && nat_le c 56
+-- one of the eight bytes from a first one on: the files are `a` to `h`, from 97 on, and the ranks `1` to `8`, from 49 on
+abbrev pub is_coordinate : ℕ → ℕ → Bool
+is_coordinate first c = nat_le first c && nat_lt c (first + 8)
 
 -- `Q`, `R`, `B`, `N`
 abbrev pub promotion_of_letter : ℕ → Promotion
@@ -54,14 +51,16 @@ unfoldable pub without_all : (ℕ → Bool) → List ℕ → List ℕ
 without_all test [] = []
 without_all test (c ∷ back) = if test c then without_all test back else c ∷ back
 
--- the file or rank at the end
+-- the file or rank at the end, from 0
+abbrev pub coordinate_at_end : ℕ → List ℕ → Option ℕ
+coordinate_at_end first [] = None
+coordinate_at_end first (c ∷ back) = if is_coordinate first c then Some (c - first) else None
+
 abbrev pub file_at_end : List ℕ → Option ℕ
-file_at_end [] = None
-file_at_end (c ∷ back) = if is_file c then Some (c - 97) else None
+file_at_end back = coordinate_at_end 97 back
 
 abbrev pub rank_at_end : List ℕ → Option ℕ
-rank_at_end [] = None
-rank_at_end (c ∷ back) = if is_rank c then Some (c - 49) else None
+rank_at_end back = coordinate_at_end 49 back
 
 -- the promotion at the end, behind an optional `=`
 abbrev pub promotion_at_end : List ℕ → Promotion
@@ -72,42 +71,41 @@ abbrev pub before_promotion : List ℕ → List ℕ
 before_promotion [] = []
 before_promotion (c ∷ back) = if is_promotion c then without is_equals back else c ∷ back
 
--- the goal at the end: a file and a rank
-abbrev pub goal_at_end : List ℕ → Option ℕ
-goal_at_end back =
-    option_and_then (λ rank. option_map (λ file. square_of file rank) (file_at_end (without is_rank back))) (rank_at_end back)
-
 -- the piece of what stands before all other parts: a letter, or nothing for a pawn
 abbrev pub piece_of : List ℕ → Option Piece
 piece_of [] = Some Pawn
 piece_of (c ∷ []) = piece_of_letter c
 piece_of (c ∷ d ∷ back) = None
 
--- what stands before the goal, and before the origin's rank and file
+-- what stands before the goal and the mark, before the origin's rank, and before its file
 abbrev pub before_goal : List ℕ → List ℕ
-before_goal back = without is_mark (without is_file (without is_rank back))
+before_goal back = without is_mark (without (is_coordinate 97) (without (is_coordinate 49) (before_promotion back)))
 
 abbrev pub before_rank : List ℕ → List ℕ
-before_rank back = without is_rank back
+before_rank back = without (is_coordinate 49) (before_goal back)
 
-abbrev pub before_origin : List ℕ → List ℕ
-before_origin back = without is_file (without is_rank back)
+abbrev pub before_file : List ℕ → List ℕ
+before_file back = without (is_coordinate 97) (before_rank back)
 
--- a move to a goal, from a square of which the file and the rank may be given
-abbrev pub move_from : Promotion → ℕ → List ℕ → Option Parts
-move_from choice square back =
+-- the goal: a file and a rank
+abbrev pub goal_of : List ℕ → Option ℕ
+goal_of back =
+    option_and_then (λ rank. option_map (λ file. square_of file rank) (file_at_end (without (is_coordinate 49) (before_promotion back))))
+    (rank_at_end (before_promotion back))
+
+-- a move to a goal, from a square of which the rank and the file may be given
+abbrev pub move_to : ℕ → List ℕ → Option Parts
+move_to square back =
     option_map (λ kind. Moved (record {
       piece = kind;
       file = file_at_end (before_rank back);
-      rank = rank_at_end back;
+      rank = rank_at_end (before_goal back);
       goal = square;
-      promotion = choice;
-    })) (piece_of (before_origin back))
+      promotion = promotion_at_end back;
+    })) (piece_of (before_file back))
 
 abbrev pub piece_move : List ℕ → Option Parts
-piece_move back =
-    let start = before_promotion back in
-    option_and_then (λ square. move_from (promotion_at_end back) square (before_goal start)) (goal_at_end start)
+piece_move back = option_and_then (λ square. move_to square back) (goal_of back)
 
 -- `O-O` and `0-0`, `O-O-O` and `0-0-0`
 abbrev pub is_short_castling : List ℕ → Bool

@@ -4,12 +4,11 @@ ghost use Rattle.std.specs.List.{filter};
 ghost use Rattle.cq_san.specs.Fits as fit;
 ghost use Rattle.cq_san.specs.Reading.{only};
 
+use crate::fault::SanFault;
+use crate::parts::{Parts, Piece, PieceMove};
 use cq_geometry::{file, rank};
 use cq_moves::after::is_castling;
 use cq_position::{Man, Move, Position, Promotion, Side, is_same};
-
-use crate::parts::{Parts, Piece, PieceMove};
-use crate::fault::SanFault;
 
 /// The man of a side that is such a piece.
 pub fn man_of(side: Side, piece: Piece) -> Man
@@ -58,7 +57,9 @@ fn agrees(position: &Position, parts: &Parts, m: &Move) -> bool
 {
     match parts {
         Parts::Castling { kingside: true } => !m.null && is_castling(position, m) && goes_right(m),
-        Parts::Castling { kingside: false } => !m.null && is_castling(position, m) && !goes_right(m),
+        Parts::Castling { kingside: false } => !m.null
+            && is_castling(position, m)
+            && !goes_right(m),
         Parts::Null => m.null,
         Parts::Moved(moved) => {
             !m.null && !is_castling(position, m) && agrees_in_parts(position, moved, m)

@@ -9,3 +9,6 @@ pub mod reading;
 pub use fault::SanFault;
 pub use parts::{Parts, Piece, PieceMove, parts_of};
 pub use reading::read_san;
+
+#[cfg(test)]
+mod tests;

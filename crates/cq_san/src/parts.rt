@@ -1,10 +1,14 @@
 //! The parts of a text in Standard Algebraic Notation.
-ghost use Rattle.std.specs.Prelude.{◌≡◌, ◌≤◌, ◌<◌, length, reverse, IfSome, option_map};
+ghost use Rattle.std.specs.Prelude.{◌≡◌, ◌<◌, reverse, IfSome};
 ghost use Rattle.cq_san.specs.Parts as part;
-ghost use Rattle.cq_san.specs.Parts.{without, without_all, is_sign, is_mark, is_rank, is_file, is_null};
+ghost use Rattle.cq_san.specs.Parts.{without, is_mark};
 
 use cq_geometry::{Square, square_at};
 use cq_position::Promotion;
+
+// The letter of the first file, and the digit of the first rank.
+const FIRST_FILE: u8 = b'a';
+const FIRST_RANK: u8 = b'1';
 
 /// What moves, named in SAN by a letter of `KQRBNP`, or by none for a pawn.
 #[derive(Clone, Copy, Debug, PartialEq, Eq)]
@@ -81,11 +85,11 @@ fn piece_move(text: &[u8]) -> Option<Parts>
     ensures { result ≡ part.piece_move (reverse text.now) }
 {
     let (promotion, text) = split_promotion(text);
-    let (rank, text) = split_rank(text);
-    let (file, text) = split_file(text);
+    let (rank, text) = split_coordinate(text, FIRST_RANK);
+    let (file, text) = split_coordinate(text, FIRST_FILE);
     let goal = square_at(file?, rank?);
-    let (rank, text) = split_rank(without_mark(text));
-    let (file, text) = split_file(text);
+    let (rank, text) = split_coordinate(without_mark(text), FIRST_RANK);
+    let (file, text) = split_coordinate(text, FIRST_FILE);
     let piece = piece_of(text)?;
     Some(Parts::Moved(PieceMove {
         piece,
@@ -128,26 +132,15 @@ fn without_mark(text: &[u8]) -> &[u8]
     }
 }
 
-// The rank at the end, and the text before it.
-fn split_rank(text: &[u8]) -> (Option<u8>, &[u8])
-    ensures rank { result.0 ≡ part.rank_at_end (reverse text.now) }
-    ensures before { reverse result.1.now ≡ without is_rank (reverse text.now) }
-    ensures below { IfSome result.0 (λ rank. rank < 8) }
+// The file or rank at the end, of which the first is written with this byte, and the text before it.
+fn split_coordinate(text: &[u8], first: u8) -> (Option<u8>, &[u8])
+    requires { first < 248 }
+    ensures coordinate { result.0 ≡ part.coordinate_at_end first (reverse text.now) }
+    ensures before { reverse result.1.now ≡ without (part.is_coordinate first) (reverse text.now) }
+    ensures below { IfSome result.0 (λ n. n < 8) }
 {
     match text {
-        [front @ .., digit @ b'1'..=b'8'] => (Some(*digit - b'1'), front),
-        _ => (None, text),
-    }
-}
-
-// The file at the end, and the text before it.
-fn split_file(text: &[u8]) -> (Option<u8>, &[u8])
-    ensures file { result.0 ≡ part.file_at_end (reverse text.now) }
-    ensures before { reverse result.1.now ≡ without is_file (reverse text.now) }
-    ensures below { IfSome result.0 (λ file. file < 8) }
-{
-    match text {
-        [front @ .., letter @ b'a'..=b'h'] => (Some(*letter - b'a'), front),
+        [front @ .., byte] if first <= *byte && *byte < first + 8 => (Some(*byte - first), front),
         _ => (None, text),
     }
 }

@@ -4,12 +4,11 @@ ghost use Rattle.cq_position.specs.declared.moves.Move.{Move as MoveValue};
 ghost use Rattle.cq_san.specs.Parts as part;
 ghost use Rattle.cq_san.specs.Reading.{IsMeant, IsIllegal, IsAmbiguous, IsAnswer, IsReading};
 
-use cq_moves::legal_moves;
-use cq_position::{Move, Position, in_check};
-
 use crate::fault::SanFault;
 use crate::fit::only_agreeing;
 use crate::parts::{Parts, parts_of};
+use cq_moves::legal_moves;
+use cq_position::{Move, Position, in_check};
 
 /// The one move that a text in Standard Algebraic Notation means in a position: the legal move, or the allowed null move, that fits its parts.
 ///
