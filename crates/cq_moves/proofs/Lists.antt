@@ -68,7 +68,7 @@ AllPairs-flat_map S P R f parts each across [] h = λ i j d before below. absurd
 AllPairs-flat_map {X} {A} S P R f parts each across (x ∷ xs) h =
     let later : All (S x) xs = λ k d below. h 0 (suc k) d (omega arith) (omega arith) in
     let ahead : (a : A) → P x a → All (R a) (flat_map f xs) =
-        λ a pa. All-flat_map (R a) (S x) f (λ y s. All-weaker (P y) (R a) (λ b pb. across x y a b s pa pb) (f y) (parts y)) xs later in
+    λ a pa. All-flat_map (R a) (S x) f (λ y s. All-weaker (P y) (R a) (λ b pb. across x y a b s pa pb) (f y) (parts y)) xs later in
     AllPairs-append R (f x) (flat_map f xs) (each x)
     (AllPairs-flat_map S P R f parts each across xs (λ i j d before below. h (suc i) (suc j) d (omega arith) (omega arith)))
     (All-weaker (P x) (λ a. All (R a) (flat_map f xs)) ahead (f x) (parts x))

@@ -77,7 +77,7 @@ in_promotions ToKnight = (4, lit< tt, refl)
 in_between : (m : Move) → IsOnBoard m → Contains (moves_between m.from m.to) m
 in_between m h =
     let same : move_of m.from m.to m.promotion ≡ m =
-        ap (λ n. record { from = m.from; to = m.to; promotion = m.promotion; null = n }) (sym h.null) in
+    ap (λ n. record { from = m.from; to = m.to; promotion = m.promotion; null = n }) (sym h.null) in
     subst (λ (n : Move). Contains (moves_between m.from m.to) n) same
     (Contains-map (move_of m.from m.to) promotions m.promotion (in_promotions m.promotion))
 

@@ -191,7 +191,7 @@ others_fail : (p : Board) (a : ℕ) → owns p (man_at p.men a) ≡ false → Al
 others_fail p a other =
     All-weaker (λ m. m.from ≡ a) (λ m. legal_test p m ≡ false)
     (λ m e. false_from_ne_true (legal_test p m)
-        (λ h. false≢true (sym other ∙ ap (λ s. owns p (man_at p.men s)) (sym e) ∙ (what_moves p m h).own)))
+    (λ h. false≢true (sym other ∙ ap (λ s. owns p (man_at p.men s)) (sym e) ∙ (what_moves p m h).own)))
     (moves_from a) (from_goes a)
 
 pub none_from_other : (p : Board) (a : ℕ) → owns p (man_at p.men a) ≡ false → legal_from p a ≡ []
@@ -209,7 +209,7 @@ few_from p long a =
     elim (cases_Bool (owns p (man_at p.men a))) [
       | inl own ↦
           let may_all = All-weaker (λ m. m.from ≡ a) (λ m. legal_test p m ≡ true → may (man_at p.men a) p.side m ≡ true)
-              (λ m e h. ap (λ s. may (man_at p.men s) p.side m) (sym e) ∙ legal_may p m h) (moves_from a) (from_goes a) in
+          (λ m e h. ap (λ s. may (man_at p.men s) p.side m) (sym e) ∙ legal_may p m h) (moves_from a) (from_goes a) in
           let within = length-filter-within (legal_test p) (may (man_at p.men a) p.side) (moves_from a) may_all in
           let few = few_man (man_at p.men a) p.side a (owned_on_board p.side p.men a long own) in
           rw own (omega (arith, within, few))
@@ -246,7 +246,7 @@ pub legal_fits : (p : Board) → IsPosition p → length (legal_list p) ≤ 512
 legal_fits p h =
     let parts = ap length (legal_list_parts p) ∙ length-flat_map (legal_from p) squares in
     let each = sum_by-le-sum_by (λ a. length (legal_from p a)) (λ a. cond (owns p (man_at p.men a)) 32 0)
-        squares (few_from p h.whole) in
+    squares (few_from p h.whole) in
     let whole = sum_by_square (λ m. cond (owns p m) 32 0) p.men h.whole ∙ sum_of_rooms (owns p) p.men in
     omega (arith, parts, each, whole, at_most_sixteen p.side p.men h.few_enough)
 

@@ -66,14 +66,31 @@ known_piece c n kind k e f h t =
 
 letter_read : (c : ℕ) (k : Piece) → piece_of_letter c ≡ Some k → IsPieceText k (c ∷ [])
 letter_read c k h =
-    elim (cases_Bool (eqb c 75)) [ inl e ↦ known_piece c 75 King k (eqb-true c 75 e) refl h refl | inr a ↦
-    elim (cases_Bool (eqb c 81)) [ inl e ↦ known_piece c 81 Queen k (eqb-true c 81 e) refl h refl | inr b ↦
-    elim (cases_Bool (eqb c 82)) [ inl e ↦ known_piece c 82 Rook k (eqb-true c 82 e) refl h refl | inr d ↦
-    elim (cases_Bool (eqb c 66)) [ inl e ↦ known_piece c 66 Bishop k (eqb-true c 66 e) refl h refl | inr f ↦
-    elim (cases_Bool (eqb c 78)) [ inl e ↦ known_piece c 78 Knight k (eqb-true c 78 e) refl h refl | inr g ↦
-    elim (cases_Bool (eqb c 80)) [ inl e ↦ known_piece c 80 Pawn k (eqb-true c 80 e) refl h (inl refl) | inr i ↦
-    let none = rw (a, b, d, f, g, i) at h in cc
-    ] ] ] ] ] ]
+    elim (cases_Bool (eqb c 75)) [
+      | inl e ↦ known_piece c 75 King k (eqb-true c 75 e) refl h refl
+      | inr a ↦
+          elim (cases_Bool (eqb c 81)) [
+            | inl e ↦ known_piece c 81 Queen k (eqb-true c 81 e) refl h refl
+            | inr b ↦
+                elim (cases_Bool (eqb c 82)) [
+                  | inl e ↦ known_piece c 82 Rook k (eqb-true c 82 e) refl h refl
+                  | inr d ↦
+                      elim (cases_Bool (eqb c 66)) [
+                        | inl e ↦ known_piece c 66 Bishop k (eqb-true c 66 e) refl h refl
+                        | inr f ↦
+                            elim (cases_Bool (eqb c 78)) [
+                              | inl e ↦ known_piece c 78 Knight k (eqb-true c 78 e) refl h refl
+                              | inr g ↦
+                                  elim (cases_Bool (eqb c 80)) [
+                                    | inl e ↦ known_piece c 80 Pawn k (eqb-true c 80 e) refl h (inl refl)
+                                    | inr i ↦
+                                        let none = rw (a, b, d, f, g, i) at h in cc
+                                  ]
+                            ]
+                      ]
+                ]
+          ]
+    ]
 
 piece_read : (back : List ℕ) (k : Piece) → piece_of back ≡ Some k → IsPieceText k (reverse back)
 piece_read [] k h = let same : Pawn ≡ k = cc in subst (λ (x : Piece). IsPieceText x []) same (inr refl)
@@ -100,13 +117,24 @@ unfolding PromotionEnds
 promotion_read [] = with_none (IsPromotionText NoPromotion) [] refl
 promotion_read (c ∷ back) =
     let at : (n : ℕ) → eqb c n ≡ true → PromotionEnds (n ∷ back) → PromotionEnds (c ∷ back) =
-        λ n e h. subst (λ (m : ℕ). PromotionEnds (m ∷ back)) (sym (eqb-true c n e)) h in
-    elim (cases_Bool (eqb c 81)) [ inl e ↦ at 81 e (known_promotion ToQueen 81 back (inl refl) (inr refl)) | inr a ↦
-    elim (cases_Bool (eqb c 82)) [ inl e ↦ at 82 e (known_promotion ToRook 82 back (inl refl) (inr refl)) | inr b ↦
-    elim (cases_Bool (eqb c 66)) [ inl e ↦ at 66 e (known_promotion ToBishop 66 back (inl refl) (inr refl)) | inr d ↦
-    elim (cases_Bool (eqb c 78)) [ inl e ↦ at 78 e (known_promotion ToKnight 78 back (inl refl) (inr refl)) | inr f ↦
-    rw (a, b, d, f) (with_none (IsPromotionText NoPromotion) (c ∷ back) refl)
-    ] ] ] ]
+    λ n e h. subst (λ (m : ℕ). PromotionEnds (m ∷ back)) (sym (eqb-true c n e)) h in
+    elim (cases_Bool (eqb c 81)) [
+      | inl e ↦ at 81 e (known_promotion ToQueen 81 back (inl refl) (inr refl))
+      | inr a ↦
+          elim (cases_Bool (eqb c 82)) [
+            | inl e ↦ at 82 e (known_promotion ToRook 82 back (inl refl) (inr refl))
+            | inr b ↦
+                elim (cases_Bool (eqb c 66)) [
+                  | inl e ↦ at 66 e (known_promotion ToBishop 66 back (inl refl) (inr refl))
+                  | inr d ↦
+                      elim (cases_Bool (eqb c 78)) [
+                        | inl e ↦ at 78 e (known_promotion ToKnight 78 back (inl refl) (inr refl))
+                        | inr f ↦
+                            rw (a, b, d, f) (with_none (IsPromotionText NoPromotion) (c ∷ back) refl)
+                      ]
+                ]
+          ]
+    ]
 
 -- the parts one behind the other
 chain : (all start s t goal rank file piece : List ℕ) (marks ranks files choice : List ℕ) (x y : ℕ) → all ≡ start ++ choice

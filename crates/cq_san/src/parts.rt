@@ -8,6 +8,7 @@ use cq_position::Promotion;
 
 // The letter of the first file, and the digit of the first rank.
 const FIRST_FILE: u8 = b'a';
+
 const FIRST_RANK: u8 = b'1';
 
 /// What moves, named in SAN by a letter of `KQRBNP`, or by none for a pawn.
