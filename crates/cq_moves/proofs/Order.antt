@@ -1,6 +1,6 @@
 -- The list of all moves: what it holds, and its order.
-use Rattle.std.proofs.Common.{◌≡◌, ℕ, zero, suc, ◌+◌, ◌<◌, ◌⊎◌, Bool, true, false, List, [], ◌∷◌, map, length, refl, inl, inr, sym, ap, ◌∙◌, subst, arith, lit<}
-use Rattle.std.specs.List.{All, AllPairs, Contains, filter, flat_map, list_any}
+use Rattle.std.proofs.Common.{◌≡◌, ℕ, zero, suc, ◌<◌, true, false, map, length, refl, inl, inr, sym, ap, ◌∙◌, subst, arith, lit<}
+use Rattle.std.specs.List.{All, AllPairs, Contains, list_any}
 use Rattle.std.specs.List.Sorted.{IsStrictlyIncreasing}
 use Rattle.std.proofs.lemmas.List.Elements.{All-map, All-weaker, All-contains, filter_passes}
 use Rattle.std.proofs.lemmas.List.Folds.{Any-from_list_any, list_any-from_Any}
