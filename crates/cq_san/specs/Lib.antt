@@ -1,4 +1,3 @@
 pub mod Parts
 pub mod Fits
 pub mod Reading
-pub mod Spelling
