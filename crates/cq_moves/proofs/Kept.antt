@@ -339,9 +339,9 @@ legal-IsPosition p m q i l =
     subst IsPosition (sym l.leads) (after-IsPosition p m i l.moves safe)
 
 -- a side that is not in check passes from a position to a position
-pub after_pass-IsPosition : (p : Board) → IsPosition p → in_check p.men p.side ≡ false → IsPosition (after_pass p)
+pub after_pass_is_position : (p : Board) → IsPosition p → in_check p.men p.side ≡ false → IsPosition (after_pass p)
 unfolding after_pass
-after_pass-IsPosition p i safe = record {
+after_pass_is_position p i safe = record {
   whole = i.whole;
   kings = i.kings;
   no_pawn_on_edge = i.no_pawn_on_edge;
