@@ -3,7 +3,7 @@ use Rattle.std.proofs.Common.{◌≡◌, ℕ, zero, suc, ◌+◌, ◌<◌, ◌�
 use Rattle.std.specs.List.{All, AllPairs, Contains, filter, flat_map, list_any}
 use Rattle.std.specs.List.Sorted.{IsStrictlyIncreasing}
 use Rattle.std.proofs.lemmas.Bool.{cases_Bool}
-use Rattle.std.proofs.lemmas.List.{length-append, length-map, take_more, append-nil, get_or-map}
+use Rattle.std.proofs.lemmas.List.{length-map, take_more, append-nil, get_or-map}
 use Rattle.std.proofs.lemmas.List.Concat.{flat_map-append}
 use Rattle.std.proofs.lemmas.List.Elements.{All-append, All-nil, All-head, All-tail, All-map, All-weaker, Contains-append_left, Contains-append_right, filter-append}
 use Rattle.std.proofs.lemmas.List.Folds.{list_any-append}
@@ -21,11 +21,6 @@ pub filter-map : {X A : Type 0} (p : A → Bool) (f : X → A) (xs : List X)
 filter-map p f [] = refl
 filter-map p f (x ∷ xs) =
     filter-append p (f x ∷ []) (map f xs) ∙ ap (λ ys. filter p (f x ∷ []) ++ ys) (filter-map p f xs)
-
--- parts that are the same at each element
-pub flat_map_agree : {X A : Type 0} (f g : X → List A) → ((x : X) → f x ≡ g x) → (xs : List X) → flat_map f xs ≡ flat_map g xs
-flat_map_agree f g e [] = refl
-flat_map_agree f g e (x ∷ xs) = ap (λ ys. ys ++ flat_map f xs) (e x) ∙ ap (λ ys. g x ++ ys) (flat_map_agree f g e xs)
 
 -- a test that some element of a part passes
 pub list_any-flat_map : {X A : Type 0} (p : A → Bool) (f : X → List A) (xs : List X)
@@ -68,7 +63,7 @@ AllPairs-flat_map S P R f parts each across [] h = λ i j d before below. absurd
 AllPairs-flat_map {X} {A} S P R f parts each across (x ∷ xs) h =
     let later : All (S x) xs = λ k d below. h 0 (suc k) d (omega arith) (omega arith) in
     let ahead : (a : A) → P x a → All (R a) (flat_map f xs) =
-        λ a pa. All-flat_map (R a) (S x) f (λ y s. All-weaker (P y) (R a) (λ b pb. across x y a b s pa pb) (f y) (parts y)) xs later in
+    λ a pa. All-flat_map (R a) (S x) f (λ y s. All-weaker (P y) (R a) (λ b pb. across x y a b s pa pb) (f y) (parts y)) xs later in
     AllPairs-append R (f x) (flat_map f xs) (each x)
     (AllPairs-flat_map S P R f parts each across xs (λ i j d before below. h (suc i) (suc j) d (omega arith) (omega arith)))
     (All-weaker (P x) (λ a. All (R a) (flat_map f xs)) ahead (f x) (parts x))

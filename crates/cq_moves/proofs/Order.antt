@@ -1,6 +1,6 @@
 -- The list of all moves: what it holds, and its order.
-use Rattle.std.proofs.Common.{◌≡◌, ℕ, zero, suc, ◌+◌, ◌<◌, ◌⊎◌, Bool, true, false, List, [], ◌∷◌, map, length, refl, inl, inr, sym, ap, ◌∙◌, subst, arith, lit<}
-use Rattle.std.specs.List.{All, AllPairs, Contains, filter, flat_map, list_any}
+use Rattle.std.proofs.Common.{◌≡◌, ℕ, zero, suc, ◌<◌, true, false, map, length, refl, inl, inr, sym, ap, ◌∙◌, subst, arith, lit<}
+use Rattle.std.specs.List.{All, AllPairs, Contains, list_any}
 use Rattle.std.specs.List.Sorted.{IsStrictlyIncreasing}
 use Rattle.std.proofs.lemmas.List.Elements.{All-map, All-weaker, All-contains, filter_passes}
 use Rattle.std.proofs.lemmas.List.Folds.{Any-from_list_any, list_any-from_Any}
@@ -77,7 +77,7 @@ in_promotions ToKnight = (4, lit< tt, refl)
 in_between : (m : Move) → IsOnBoard m → Contains (moves_between m.from m.to) m
 in_between m h =
     let same : move_of m.from m.to m.promotion ≡ m =
-        ap (λ n. record { from = m.from; to = m.to; promotion = m.promotion; null = n }) (sym h.null) in
+    ap (λ n. record { from = m.from; to = m.to; promotion = m.promotion; null = n }) (sym h.null) in
     subst (λ (n : Move). Contains (moves_between m.from m.to) n) same
     (Contains-map (move_of m.from m.to) promotions m.promotion (in_promotions m.promotion))
 

@@ -1,7 +1,7 @@
 -- There are at most 512 legal moves: at most 32 from each square with a man of the side to move.
-use Rattle.std.proofs.Common.{◌≡◌, ℕ, ◌+◌, ◌*◌, ◌<◌, ◌≤◌, Bool, true, false, cond, not, ◌&&◌, ◌||◌, ◌==◌, leb, ltb, List, [], ◌∷◌, ◌++◌, map, length, get_or, refl, inl, inr, sym, ap, ◌∙◌, subst, arith}
-use Rattle.std.specs.List.{All, filter, flat_map, sum_by, count_by, list_any}
-use Rattle.std.proofs.lemmas.Bool.{and_parts, and_from, or_cases, or_left, or_right, or_parts, leb-true, ltb-false, cases_Bool, false≢true, false_from_ne_true}
+use Rattle.std.proofs.Common.{◌≡◌, ℕ, ◌+◌, ◌*◌, ◌<◌, ◌≤◌, Bool, true, false, cond, ◌&&◌, ◌||◌, ◌==◌, leb, ltb, List, [], ◌∷◌, map, length, refl, inl, inr, sym, ap, ◌∙◌, subst, arith}
+use Rattle.std.specs.List.{All, filter, sum_by, count_by, list_any}
+use Rattle.std.proofs.lemmas.Bool.{and_from, or_left, or_right, or_parts, leb-true, ltb-false, cases_Bool, false≢true, false_from_ne_true}
 use Rattle.std.proofs.lemmas.List.Concat.{length-flat_map}
 use Rattle.std.proofs.lemmas.List.Elements.{All-weaker}
 use Rattle.std.proofs.lemmas.List.Folds.{fold-map, list_any_none}
@@ -9,7 +9,7 @@ use Rattle.std.proofs.lemmas.List.FromFn.{fill_by_all}
 use Rattle.std.proofs.lemmas.List.Sums.{sum_by-cons, sum_by-le-sum_by}
 use Rattle.cq_geometry.specs.Squares.{squares}
 use Rattle.cq_geometry.specs.Steps.{is_king_step, is_knight_step}
-use Rattle.cq_geometry.specs.Lines.{is_orthogonal, is_diagonal, is_open}
+use Rattle.cq_geometry.specs.Lines.{is_orthogonal, is_diagonal}
 use Rattle.cq_geometry.proofs.Tables.{at_square}
 use Rattle.cq_position.specs.declared.men.Man.{Man}
 use Rattle.cq_position.specs.declared.men.Man.TheVariants.{K, Q, R, B, N, P, BlackK, BlackQ, BlackR, BlackB, BlackN, BlackP, Empty}
@@ -23,9 +23,9 @@ use Rattle.cq_position.specs.Attacks.{is_taken, attacks, attacks_as, is_pawn_att
 use Rattle.cq_position.specs.Legal.{is_none, promotes_rightly, is_ahead, is_double_step, castling_goal, castles, pawn_moves}
 use Rattle.cq_moves.specs.Legality.{legal_test}
 use Rattle.cq_moves.specs.LegalMoves.{moves_from, legal_from, legal_list}
-use Rattle.cq_moves.specs.Reach.{goes_as, promotes}
+use Rattle.cq_moves.specs.Reach.{goes_as}
 use Rattle.cq_moves.proofs.Lists.{filter-none, length-filter-within}
-use Rattle.cq_moves.proofs.Law.{Moves, what_moves, owned_on_board}
+use Rattle.cq_moves.proofs.Law.{what_moves, owned_on_board}
 use Rattle.cq_moves.proofs.Order.{from_goes}
 use Rattle.cq_moves.proofs.Parts.{so_far, legal_list_parts, room_for_part}
 
@@ -191,7 +191,7 @@ others_fail : (p : Board) (a : ℕ) → owns p (man_at p.men a) ≡ false → Al
 others_fail p a other =
     All-weaker (λ m. m.from ≡ a) (λ m. legal_test p m ≡ false)
     (λ m e. false_from_ne_true (legal_test p m)
-        (λ h. false≢true (sym other ∙ ap (λ s. owns p (man_at p.men s)) (sym e) ∙ (what_moves p m h).own)))
+    (λ h. false≢true (sym other ∙ ap (λ s. owns p (man_at p.men s)) (sym e) ∙ (what_moves p m h).own)))
     (moves_from a) (from_goes a)
 
 pub none_from_other : (p : Board) (a : ℕ) → owns p (man_at p.men a) ≡ false → legal_from p a ≡ []
@@ -209,7 +209,7 @@ few_from p long a =
     elim (cases_Bool (owns p (man_at p.men a))) [
       | inl own ↦
           let may_all = All-weaker (λ m. m.from ≡ a) (λ m. legal_test p m ≡ true → may (man_at p.men a) p.side m ≡ true)
-              (λ m e h. ap (λ s. may (man_at p.men s) p.side m) (sym e) ∙ legal_may p m h) (moves_from a) (from_goes a) in
+          (λ m e h. ap (λ s. may (man_at p.men s) p.side m) (sym e) ∙ legal_may p m h) (moves_from a) (from_goes a) in
           let within = length-filter-within (legal_test p) (may (man_at p.men a) p.side) (moves_from a) may_all in
           let few = few_man (man_at p.men a) p.side a (owned_on_board p.side p.men a long own) in
           rw own (omega (arith, within, few))
@@ -246,7 +246,7 @@ pub legal_fits : (p : Board) → IsPosition p → length (legal_list p) ≤ 512
 legal_fits p h =
     let parts = ap length (legal_list_parts p) ∙ length-flat_map (legal_from p) squares in
     let each = sum_by-le-sum_by (λ a. length (legal_from p a)) (λ a. cond (owns p (man_at p.men a)) 32 0)
-        squares (few_from p h.whole) in
+    squares (few_from p h.whole) in
     let whole = sum_by_square (λ m. cond (owns p m) 32 0) p.men h.whole ∙ sum_of_rooms (owns p) p.men in
     omega (arith, parts, each, whole, at_most_sixteen p.side p.men h.few_enough)
 

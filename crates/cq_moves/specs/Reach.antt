@@ -1,7 +1,7 @@
 -- A legal move in parts that can be tested one after the other.
 use Rattle.std.specs.Prelude.{ℕ, Bool, true, false, ◌&&◌, ◌||◌, not, if◌then◌else◌}
 use Rattle.cq_position.specs.declared.men.Man.{Man}
-use Rattle.cq_position.specs.declared.men.Man.TheVariants.{K, Q, R, B, N, P, BlackK, BlackQ, BlackR, BlackB, BlackN, BlackP, Empty}
+use Rattle.cq_position.specs.declared.men.Man.TheVariants.{K, P, BlackK, BlackP, Empty}
 use Rattle.cq_position.specs.declared.moves.Move.{Move}
 use Rattle.cq_position.specs.Men.{is_of_side, opponent, king_of}
 use Rattle.cq_position.specs.Board.{Board, man_at, stands, is_pawn}

@@ -55,7 +55,7 @@ fn promoted(side: Side, promotion: Promotion, man: Man) -> Man
 }
 
 // Castling is the king's move of two files.
-fn is_castling(position: &Position, m: &Move) -> bool
+pub fn is_castling(position: &Position, m: &Move) -> bool
     ensures { result ≡ legal.is_castling position.now m.now }
 {
     is_same(position.at(m.from), king_of(position.side())) && files_apart(m.from, m.to) == 2

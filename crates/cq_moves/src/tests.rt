@@ -22,7 +22,8 @@ fn perft(position: &Position, depth: u32) -> u64 {
 #[test]
 fn lines_are_as_many_as_published(rt: HostRuntime) -> Result<(), Fail> {
     let start = b"rnbqkbnr/pppppppp/8/8/8/8/PPPPPPPP/RNBQKBNR w KQkq - 0 1".as_slice();
-    let castling = b"r3k2r/p1ppqpb1/bn2pnp1/3PN3/1p2P3/2N2Q1p/PPPBBPPP/R3K2R w KQkq - 0 1".as_slice();
+    let castling =
+        b"r3k2r/p1ppqpb1/bn2pnp1/3PN3/1p2P3/2N2Q1p/PPPBBPPP/R3K2R w KQkq - 0 1".as_slice();
     let pawns = b"8/2p5/3p4/KP5r/1R3p1k/8/4P1P1/8 w - - 0 1".as_slice();
     let checked = b"r3k2r/Pppp1ppp/1b3nbN/nP6/BBP1P3/q4N2/Pp1P2PP/R2Q1RK1 w kq - 0 1".as_slice();
     let promoting = b"rnbq1k1r/pp1Pbppp/2p5/8/2B5/8/PPP1NnPP/RNBQK2R w KQ - 1 8".as_slice();
@@ -77,7 +78,11 @@ fn a_side_passes_where_it_is_not_in_check(rt: HostRuntime) -> Result<(), Fail> {
 fn mate_and_stalemate(rt: HostRuntime) -> Result<(), Fail> {
     for (fen, mate, stalemate) in [
         (b"4k3/8/8/8/8/8/8/4R1K1 b - - 0 1".as_slice(), false, false),
-        (b"rnb1kbnr/pppp1ppp/8/4p3/6Pq/5P2/PPPPP2P/RNBQKBNR w KQkq - 1 3".as_slice(), true, false),
+        (
+            b"rnb1kbnr/pppp1ppp/8/4p3/6Pq/5P2/PPPPP2P/RNBQKBNR w KQkq - 1 3".as_slice(),
+            true,
+            false,
+        ),
         (b"6rk/5Npp/8/8/8/8/8/6K1 b - - 0 1".as_slice(), true, false),
         (b"7k/5Q2/6K1/8/8/8/8/8 b - - 0 1".as_slice(), false, true),
         (b"kb5R/8/1K6/8/8/8/8/8 b - - 0 1".as_slice(), false, true),

@@ -1,10 +1,12 @@
 -- The front of an archive, by its first lines.
-use Rattle.std.proofs.Common.{◌≡◌, ℕ, ◌<◌, Bool, true, false, cond, List, [], ◌∷◌, length, Option, Some, None, arith, sym, ap, ◌∙◌, refl}
+use Rattle.std.proofs.Common.{◌≡◌, ℕ, ◌+◌, ◌≤◌, ◌<◌, Bool, true, false, cond, List, [], ◌∷◌, ◌++◌, length, length-append, Option, Some, None, arith, sym, ap, ◌∙◌, refl}
 use Rattle.std.specs.Prelude.{codes, ◌==◌, not, IfSome, IfNone}
 use denote.Ref.{Bor}
 use Rattle.std.proofs.lemmas.Bool.{not-true, not-false}
 use Rattle.std.specs.Option.{option_map, option_and_then}
 use Rattle.std.specs.Str.{bytes_eq}
+use Rattle.std.proofs.lemmas.Slice.Eq.{bytes_eq-Decides}
+use Rattle.cq_run.specs.Games.{bare_game}
 use Rattle.cq_run.specs.BareGames.{texts_in, texts_in_lines, lines_of, text_in_tag}
 
 -- an archive of one line
@@ -60,9 +62,35 @@ is_star marker star differs e same answer = ap (bytes_eq marker) (sym same) ∙ 
 pub is_not_star : (marker star : List ℕ) (differs : Bool) → differs ≡ not (bytes_eq marker star) → star ≡ codes "*" → differs ≡ true → bytes_eq marker (codes "*") ≡ false
 is_not_star marker star differs e same answer = ap (bytes_eq marker) (sym same) ∙ not-true _ (sym e ∙ answer)
 
--- what stands behind a line is shorter
-pub shrinks : (a b d : List ℕ) → length a < length b → length b < length d → length a < length d
-shrinks a b d first second = omega arith
+-- how long a bare game is
+pub bare_length : (text : List ℕ) → length (bare_game text) ≡ length text + 11
+bare_length text =
+    omega (arith, length-append (text ++ codes "\"]") (codes "\n*\n"), length-append text (codes "\"]"))
 
-pub is_longer : (a b : List ℕ) → length a < length b → 0 < length b
-is_longer a b first = omega arith
+-- what is left behind a game
+pub behind_game : (text : List ℕ) (behind rest : ℕ) → length (bare_game text) + behind ≤ rest + 1 → length text + 10 + behind ≤ rest
+behind_game text behind rest fits = let long : length (bare_game text) ≡ length text + 11 = bare_length text in omega arith
+
+pub place_behind : (text : List ℕ) (start : ℕ) → start + (11 + length text) ≡ start + length (bare_game text)
+place_behind text start = ap (λ n. start + n) (omega (arith, bare_length text))
+
+one_byte : (marker : List ℕ) → bytes_eq marker (codes "*") ≡ true → length marker ≡ 1
+one_byte marker star = ap length ((bytes_eq-Decides marker (codes "*")).0 star)
+
+-- what a game and the rest take of an archive
+pub game_fits : (archive tag movetext marker behind text : List ℕ) → length tag ≡ length text + 8 → bytes_eq marker (codes "*") ≡ true
+    → length tag + 1 + length movetext ≡ length archive → length marker + 1 + length behind ≡ length movetext
+    → length (bare_game text) + length behind ≤ length archive + 1
+game_fits archive tag movetext marker behind text long star first second =
+    let one = one_byte marker star in
+    let all = bare_length text in
+    omega arith
+
+-- the same where the last LF is missing
+pub last_fits : (archive tag movetext marker text : List ℕ) → length tag ≡ length text + 8 → bytes_eq marker (codes "*") ≡ true
+    → length tag + 1 + length movetext ≡ length archive → marker ≡ movetext → length (bare_game text) + 0 ≤ length archive + 1
+last_fits archive tag movetext marker text long star first second =
+    let one = one_byte marker star in
+    let same = ap length second in
+    let all = bare_length text in
+    omega arith

@@ -14,7 +14,7 @@ use Rattle.cq_run.specs.Games.{Game, games_in}
 use Rattle.cq_run.specs.Answer.{answer_of}
 use Rattle.cq_run.specs.Reading.{ReadsArchive}
 use Rattle.cq_run.specs.Writing.{WritesAnswer}
-use Rattle.cq_run.specs.Promise.{Call, DeskView, SinkView, Sinks, Texts, MayBe, ReadsWhole, Overruns, OpensAtMost, Writes, WritesFront, IsUnwritten, StopsWriting, HasAll, Says, IsOneOf, Promise, archive_of, archive_limit, asked_query, texts_of, texts_of_text, texts_of_query, texts_found, texts_of_answer}
+use Rattle.cq_run.specs.Promise.{NoWriteFailed, Answers, Call, DeskView, SinkView, Sinks, Texts, MayBe, ReadsWhole, Overruns, OpensAtMost, Writes, WritesFront, IsUnwritten, StopsWriting, HasAll, Says, IsOneOf, Promise, archive_of, archive_limit, asked_query, texts_of, texts_of_text, texts_of_query, texts_found, texts_of_answer}
 use Rattle.cq_run.proofs.Taken.{unopened, not_overrun}
 
 -- a sink that was not written to has taken nothing more
@@ -91,7 +91,7 @@ is_asked call query asks = ap (option_and_then query_of) asks.words ∙ asks.spe
 
 -- what is left to show where a query is asked
 promise_of : (status : Status) (call : Call) (query : ManOnSquare) → Asks call query → OpensAtMost call.desk call.desk_after → Says status call
-    → (Overruns call.desk call.desk_after → IsOneOf status (ArchiveTooLong ∷ NoMemory ∷ [])) → (HasAll call → IsOneOf status (Done ∷ NoMemory ∷ [])) → Promise status call
+    → (Overruns call.desk call.desk_after → IsOneOf status (ArchiveTooLong ∷ NoMemory ∷ [])) → (HasAll call → IsOneOf status (Done ∷ DoneWithRefusals ∷ NoMemory ∷ [])) → Promise status call
 promise_of status call query asks opens says too_long complete = record {
   says = says;
   opens = opens;
@@ -120,7 +120,7 @@ unread ArchiveTooLong call query asks same read =
     promise_of ArchiveTooLong call query asks read.opens (read.reads.0, read.reads.1, same) (λ _. inl refl)
     (λ all. absurd (within call.desk_after.left all.archive read.reads.0.taken all.within read.reads.0.long
     (subst (λ archive. Consumes archive call.desk_after.left read.reads.0.taken) all.tells read.reads.0.takes)))
-unread NoMemory call query asks same read = promise_of NoMemory call query asks read.opens (stopped call same) (λ _. inr (inl refl)) (λ _. inr (inl refl))
+unread NoMemory call query asks same read = promise_of NoMemory call query asks read.opens (stopped call same) (λ _. inr (inl refl)) (λ _. inr (inr (inl refl)))
 unread Done call query asks same read = absurd read.reads
 unread DoneWithRefusals call query asks same read = absurd read.reads
 unread QueryRefused call query asks same read = absurd read.reads
@@ -130,7 +130,7 @@ unread NotYetRead call query asks same read = absurd read.reads
 
 -- no memory for the answer
 pub unanswered : (call : Call) (query : ManOnSquare) → Asks call query → OpensAtMost call.desk call.desk_after → IsUnwritten call.sinks → Promise NoMemory call
-unanswered call query asks opens same = promise_of NoMemory call query asks opens (stopped call same) (λ _. inr (inl refl)) (λ _. inr (inl refl))
+unanswered call query asks opens same = promise_of NoMemory call query asks opens (stopped call same) (λ _. inr (inl refl)) (λ _. inr (inr (inl refl)))
 
 games_of_answer : (query : ManOnSquare) (answer : Answer) (games : Option (List Game)) → Some answer ≡ option_map (answer_of query) games → (all : List Game) × (games ≡ Some all) × (answer ≡ answer_of query all)
 games_of_answer query answer None e = cc
@@ -161,22 +161,34 @@ texts_are call query archive answer games asks holds found =
     ap texts_of_answer found ∙ ap (texts_found query) (sym holds)
     ∙ ap (λ q. texts_of_query q archive) (sym asks.spells) ∙ ap (λ text. texts_of_text text archive) (sym asks.words)
 
+-- the answer was written, and so many games are refused
+answers : (call : Call) (query : ManOnSquare) (archive : List ℕ) (answer : Answer) (games : List Game) (AreRefused : ℕ → Type 0) → Asks call query
+    → ReadsWhole call.desk call.desk_after archive → games_in archive ≡ Some games → answer ≡ answer_of query games
+    → AreRefused answer.refused × Writes call.sinks (texts_of_answer answer) × NoWriteFailed call.sinks → Answers call AreRefused
+answers call query archive answer games AreRefused asks reads holds found writes = record {
+  query = query;
+  archive = archive;
+  games = games;
+  asks = is_asked call query asks;
+  reads = reads;
+  holds = holds;
+  refused = subst (λ (a : Answer). AreRefused a.refused) found writes.0;
+  writes = subst (λ (a : Answer). Writes call.sinks (texts_of_answer a)) found writes.1;
+  unfailed = writes.2;
+}
+
 -- the answer was written, or could not be
 pub wrote : (status : Status) (call : Call) (query : ManOnSquare) (archive : List ℕ) (answer : Answer) → Asks call query → OpensAtMost call.desk call.desk_after
     → ReadsWhole call.desk call.desk_after archive × (Overruns call.desk call.desk_after → ⊥) → Some answer ≡ option_map (answer_of query) (games_in archive)
     → WritesAnswer answer call.sinks status → Promise status call
 wrote Done call query archive answer asks opens reads found writes =
     let games = games_of_answer query answer (games_in archive) found in
-    promise_of Done call query asks opens (record {
-      query = query;
-      archive = archive;
-      games = games.0;
-      asks = is_asked call query asks;
-      reads = reads.0;
-      holds = games.1;
-      writes = subst (λ (a : Answer). Writes call.sinks (texts_of_answer a)) games.2 writes.0;
-      unfailed = writes.1;
-    }) (λ much. absurd (reads.1 much)) (λ _. inl refl)
+    promise_of Done call query asks opens (answers call query archive answer games.0 (λ refused. refused ≡ 0) asks reads.0 games.1 games.2 writes)
+    (λ much. absurd (reads.1 much)) (λ _. inl refl)
+wrote DoneWithRefusals call query archive answer asks opens reads found writes =
+    let games = games_of_answer query answer (games_in archive) found in
+    promise_of DoneWithRefusals call query asks opens (answers call query archive answer games.0 (λ refused. 0 < refused) asks reads.0 games.1 games.2 writes)
+    (λ much. absurd (reads.1 much)) (λ _. inr (inl refl))
 wrote WriteFault call query archive answer asks opens reads found writes =
     let games = games_of_answer query answer (games_in archive) found in
     promise_of WriteFault call query asks opens
@@ -186,8 +198,7 @@ wrote NoMemory call query archive answer asks opens reads found writes =
     let games = games_of_answer query answer (games_in archive) found in
     promise_of NoMemory call query asks opens
     (record { archive = archive; is = reads.0.is; front = subst (WritesFront call.sinks) (texts_are call query archive answer games.0 asks games.1 games.2) writes })
-    (λ _. inr (inl refl)) (λ _. inr (inl refl))
-wrote DoneWithRefusals call query archive answer asks opens reads found writes = absurd writes
+    (λ _. inr (inl refl)) (λ _. inr (inr (inl refl)))
 wrote QueryRefused call query archive answer asks opens reads found writes = absurd writes
 wrote WordsRefused call query archive answer asks opens reads found writes = absurd writes
 wrote OpenFault call query archive answer asks opens reads found writes = absurd writes

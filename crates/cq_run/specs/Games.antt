@@ -1,35 +1,44 @@
 -- The games of an archive of bare games.
-use Rattle.std.specs.Prelude.{ℕ, Bool, List, [], ◌∷◌, Option, None, Some, Result, Ok, Err}
-use Rattle.std.specs.Option.{option_map, option_and_then}
+use Rattle.std.specs.Prelude.{ℕ, ◌+◌, Bool, true, false, List, [], ◌∷◌, ◌++◌, length, Option, Result, Ok, Err, codes}
+use Rattle.std.specs.Option.{option_map}
 use Rattle.cq_position.specs.declared.fen.FenFault.{FenFault}
 use Rattle.cq_position.specs.Board.{Board, man_at}
 use Rattle.cq_position.specs.Men.{same_man}
 use Rattle.cq_position.specs.Fen.{fen_meaning}
 use Rattle.cq_run.specs.declared.query.ManOnSquare.{ManOnSquare}
-use Rattle.cq_run.specs.BareGames.{texts_in}
+use Rattle.cq_run.specs.BareGames.{texts_in, fen_tag}
 
--- a game: its FEN text and the position that the text means, the only one of the game
+-- a game: its number in the archive, from 1, the byte at which it starts, from 0, and its FEN text
 pub record Game : Type 0 where
+  pub number : ℕ
+  pub start : ℕ
   pub text : List ℕ
-  pub board : Board
 
--- the game of a FEN text; none where the text means no position
-abbrev pub game_read : List ℕ → Result Board FenFault → Option Game
-game_read text (Ok board) = Some (record { text = text; board = board })
-game_read text (Err fault) = None
+-- the bytes of a bare game
+abbrev pub bare_game : List ℕ → List ℕ
+bare_game text = fen_tag text ++ codes "\n*\n"
 
-abbrev pub game_of : List ℕ → Option Game
-game_of text = game_read text (fen_meaning text)
-
--- the games of FEN texts, in their order; none where one of them means no position
-unfoldable pub games_of : List (List ℕ) → Option (List Game)
-games_of [] = Some []
-games_of (text ∷ texts) = option_and_then (λ game. option_map (λ games. game ∷ games) (games_of texts)) (game_of text)
+-- the games of FEN texts one behind the other, the first with this number and start
+unfoldable pub games_from : ℕ → ℕ → List (List ℕ) → List Game
+games_from number start [] = []
+games_from number start (text ∷ texts) = record { number = number; start = start; text = text } ∷ games_from (number + 1) (start + length (bare_game text)) texts
 
 -- the games of an archive; none where it is no archive of bare games
 abbrev pub games_in : List ℕ → Option (List Game)
-games_in archive = option_and_then games_of (texts_in archive)
+games_in archive = option_map (games_from 1 0) (texts_in archive)
 
--- whether a game's position has the man on the square
+abbrev pub holds : ManOnSquare → Result Board FenFault → Bool
+holds query (Ok board) = same_man (man_at board.men query.square) query.man
+holds query (Err fault) = false
+
+-- whether the only position of a game has the man on the square
 abbrev pub matches : ManOnSquare → Game → Bool
-matches query game = same_man (man_at game.board.men query.square) query.man
+matches query game = holds query (fen_meaning game.text)
+
+abbrev pub is_fault : Result Board FenFault → Bool
+is_fault (Ok board) = false
+is_fault (Err fault) = true
+
+-- whether a game is refused, since its FEN text means no position
+abbrev pub is_refused : Game → Bool
+is_refused game = is_fault (fen_meaning game.text)

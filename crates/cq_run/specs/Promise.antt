@@ -153,14 +153,15 @@ pub record StopsWriting (call : Call) : Type 0 where
   pub is : MayBe (archive_of call.desk) archive
   pub front : WritesFront call.sinks (texts_of call.words archive)
 
--- the archive was read to its end, it is of games, and out and err have the exports and the report
-pub record Answers (call : Call) : Type 0 where
+-- The archive was read to its end, it is of games, so many of them are refused as is asked, and out and err have the exports and the report.
+pub record Answers (call : Call) (AreRefused : ℕ → Type 0) : Type 0 where
   pub query : ManOnSquare
   pub archive : List ℕ
   pub games : List Game
   pub asks : asked_query call ≡ Some query
   pub reads : ReadsWhole call.desk call.desk_after archive
   pub holds : games_in archive ≡ Some games
+  pub refused : AreRefused (answer_of query games).refused
   pub writes : Writes call.sinks (texts_of_answer (answer_of query games))
   pub unfailed : NoWriteFailed call.sinks
 
@@ -181,8 +182,8 @@ pub record HoldsOther (call : Call) : Type 0 where
 
 -- what each status says
 abbrev pub Says : Status → Call → Type 0
-Says Done call = Answers call
-Says DoneWithRefusals call = ⊥
+Says Done call = Answers call (λ refused. refused ≡ 0)
+Says DoneWithRefusals call = Answers call (λ refused. 0 < refused)
 Says QueryRefused call = ⊥
 Says WordsRefused call = (query_text call.words ≡ None) × Writes call.sinks (texts_of call.words []) × NoWriteFailed call.sinks
 Says OpenFault call = Rose call.desk.open_faults call.desk_after.open_faults × (call.desk_after.told ≡ call.desk.told) × IsUnwritten call.sinks
@@ -218,7 +219,7 @@ pub record Promise (status : Status) (call : Call) : Type 0 where
   pub words_always : query_text call.words ≡ None → IsOneOf status (WordsRefused ∷ WriteFault ∷ NoMemory ∷ [])
   pub query_always : (text : List ℕ) → query_text call.words ≡ Some text → query_of text ≡ None → status ≡ NotYetRead
   pub too_long_always : Overruns call.desk call.desk_after → IsOneOf status (ArchiveTooLong ∷ NoMemory ∷ [])
-  pub complete : HasAll call → IsOneOf status (Done ∷ NoMemory ∷ [])
+  pub complete : HasAll call → IsOneOf status (Done ∷ DoneWithRefusals ∷ NoMemory ∷ [])
 
 -- the views of a desk and of the sinks, by what their types tell
 abbrev pub desk_view : {D : Type 0} → (D → Option Told) → (D → Option (List ℕ)) → (D → ℕ) → (D → ℕ) → D → DeskView

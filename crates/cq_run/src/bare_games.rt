@@ -12,8 +12,9 @@ const TAG_END: &[u8] = b"\"]";
 /// The first line of a text, and what stands behind its LF, if it has one.
 fn first_line(text: &[u8]) -> (&[u8], Option<&[u8]>)
     ensures ended { IfSome result.1 (λ rest. lines_of text.now ≡ result.0.now ∷ lines_of rest.now) }
-    ensures shorter { IfSome result.1 (λ rest. length rest.now < length text.now) }
+    ensures split { IfSome result.1 (λ rest. length result.0.now + 1 + length rest.now ≡ length text.now) }
     ensures last { IfNone result.1 (lines_of text.now ≡ result.0.now ∷ []) }
+    ensures whole { IfNone result.1 (result.0.now ≡ text.now) }
 {
     match memchr(b'\n', text) {
         Some(end) => (&text[..end], Some(&text[end + 1..])),
@@ -23,7 +24,8 @@ fn first_line(text: &[u8]) -> (&[u8], Option<&[u8]>)
 
 /// The FEN text of a tag line.
 fn text_of_tag(line: &[u8]) -> Option<&[u8]>
-    ensures { MatchOption result (text_in_tag line.now ≡ None) (λ text. text_in_tag line.now ≡ Some text.now) }
+    ensures text { MatchOption result (text_in_tag line.now ≡ None) (λ text. text_in_tag line.now ≡ Some text.now) }
+    ensures size { IfSome result (λ text. length line.now ≡ length text.now + 8) }
 {
     let Some(behind) = line.strip_prefix(TAG_START) else {
         return None;

@@ -46,6 +46,12 @@ const USAGE: &str = "usage: cqlpgn MODE QUERY [ARCHIVE] [--workers N] [--seed S]
 
 const NO_KINGS: &str = "[FEN \"8/8/8/8/8/8/8/8 w - - 0 1\"]\n*\n";
 
+/// The side that is not to move stands in check.
+const IN_CHECK: &str = "[FEN \"4k3/8/8/8/8/8/8/4RK2 w - - 0 1\"]\n*\n";
+
+const THEN_REFUSED: &str =
+    "[FEN \"8/8/8/8/8/8/8/K1k5 w - - 0 1\"]\n*\n[FEN \"8/8/8/8/8/8/8/8 w - - 0 1\"]\n*\n";
+
 const KING_ON_A1: &str = "[FEN \"8/8/8/8/8/8/8/K1k5 w - - 0 1\"]\n*\n";
 
 const KING_ON_A1_EXPORT: &str =
@@ -63,6 +69,8 @@ fn worked_rows(rt: HostRuntime) -> Result<(), Fail> {
     let none = "games 0 matched 0 refused 0\n";
     let one = "games 1 matched 1 refused 0\n";
     let two = "games 3 matched 2 refused 0\n";
+    let refused = "game 1 byte 5: bad FEN\ngames 1 matched 0 refused 1\n";
+    let second = "game 2 byte 44: bad FEN\ngames 2 matched 1 refused 1\n";
     expect(
         &rt,
         alloc,
@@ -96,7 +104,21 @@ fn worked_rows(rt: HostRuntime) -> Result<(), Fail> {
         alloc,
         &["eval", "cql() Ka1"],
         NO_KINGS,
-        (Status::NotYetRead, "", ""),
+        (Status::DoneWithRefusals, "", refused),
+    )?;
+    expect(
+        &rt,
+        alloc,
+        &["eval", "cql() Ka1"],
+        IN_CHECK,
+        (Status::DoneWithRefusals, "", refused),
+    )?;
+    expect(
+        &rt,
+        alloc,
+        &["eval", "cql() Ka1"],
+        THEN_REFUSED,
+        (Status::DoneWithRefusals, KING_ON_A1_EXPORT, second),
     )?;
     expect(
         &rt,

@@ -20,7 +20,7 @@ pub fn write_answer<O: Sink, E: Sink>(
     ensures { WritesAnswer answer.now (sinks_of (sink_view O.taken O.faults out.old) (sink_view O.taken O.faults out.new)
         (sink_view E.taken E.faults err.old) (sink_view E.taken E.faults err.new)) result }
 {
-    let Ok(report) = report(alloc, answer) else {
+    let Ok(report) = report_text(alloc, answer) else {
         return Status::NoMemory;
     };
     match write_all_of(out, answer.exports.as_slice()) {
@@ -28,21 +28,24 @@ pub fn write_answer<O: Sink, E: Sink>(
         Err(_) => return Status::WriteFault,
     }
     match write_all_of(err, report.as_slice()) {
-        Ok(()) => Status::Done,
+        Ok(()) if answer.refused == 0 => Status::Done,
+        Ok(()) => Status::DoneWithRefusals,
         Err(_) => Status::WriteFault,
     }
 }
 
-/// The line that says how many games there are, match and are refused.
-fn report(alloc: Global, answer: &Answer) -> Result<Bytes, NoMemory>
-    ensures { IfOk result (λ line. line ≡ report_of answer.now) }
+/// The lines of the games that are refused, and then how many games there are, match and are refused.
+fn report_text(alloc: Global, answer: &Answer) -> Result<Bytes, NoMemory>
+    ensures { IfOk result (λ report. report ≡ report_of answer.now) }
 {
     let mut number = Buffer::new();
-    let mut line = Bytes::new(alloc);
-    line.push_all(b"games ")?;
-    line.push_all(number.format(answer.games).as_bytes())?;
-    line.push_all(b" matched ")?;
-    line.push_all(number.format(answer.matched).as_bytes())?;
-    line.push_all(b" refused 0\n")?;
-    Ok(line)
+    let mut report = Bytes::from_slice(alloc, answer.faults.as_slice())?;
+    report.push_all(b"games ")?;
+    report.push_all(number.format(answer.games).as_bytes())?;
+    report.push_all(b" matched ")?;
+    report.push_all(number.format(answer.matched).as_bytes())?;
+    report.push_all(b" refused ")?;
+    report.push_all(number.format(answer.refused).as_bytes())?;
+    report.push_all(b"\n")?;
+    Ok(report)
 }

@@ -1,4 +1,4 @@
-use Rattle.std.proofs.Common.{◌++◌, arith}
+use Rattle.std.proofs.Common.{arith}
 use Rattle.cq_position.specs.declared.men.Promotion.TheVariants.{None}
 use Rattle.cq_moves.proofs.Parts.{room_for_promotion, all_promotions}
 use Rattle.cq_moves.proofs.list.add_moves_between.Goals as goal

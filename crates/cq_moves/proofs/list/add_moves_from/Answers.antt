@@ -1,4 +1,4 @@
-use Rattle.std.proofs.Common.{◌≡◌, length, ◌++◌, sym, ap, ◌∙◌, arith, subst, ℕ, ◌+◌, ◌≤◌}
+use Rattle.std.proofs.Common.{length, ◌++◌, sym, ap, ◌∙◌, arith, subst, ℕ, ◌+◌, ◌≤◌}
 use Rattle.cq_moves.specs.LegalMoves.{legal_between}
 use Rattle.cq_moves.proofs.Parts.{add_part, add_nothing, none_between_unreached, room_for_goal, all_goals}
 use Rattle.cq_moves.proofs.list.add_moves_from.Goals as goal

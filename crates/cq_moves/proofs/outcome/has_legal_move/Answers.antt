@@ -7,7 +7,9 @@ use Rattle.cq_moves.proofs.Parts.{any_parts}
 use Rattle.cq_moves.proofs.outcome.has_legal_move.Goals as goal
 
 pub loop-number-init : goal.loop-number-init
-loop-number-init c = any_from-start (λ a. list_any (legal_test c.args.position.now) (moves_from a)) ∙ sym (any_parts c.args.position.now)
+loop-number-init c =
+    any_from-start (λ a. list_any (legal_test c.args.position.now) (moves_from a))
+    ∙ sym (any_parts c.args.position.now)
 
 pub returns-then-has_legal_move_from : goal.returns-then-has_legal_move_from
 returns-then-has_legal_move_from c =

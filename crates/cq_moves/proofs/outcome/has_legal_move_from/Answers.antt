@@ -14,7 +14,9 @@ returns-then-not-is_of_side c =
     (ap₂ is_of_side (sym c.side.ensures.side) (sym c.at.ensures.man) ∙ sym c.is_of_side.ensures ∙ c.if-not-is_of_side.true))
 
 pub loop-number-init : goal.loop-number-init
-loop-number-init c = any_from-start (λ b. list_any (legal_test c.args.position.now) (moves_between c.args.from b)) ∙ sym (any_from_parts c.args.position.now c.args.from)
+loop-number-init c =
+    any_from-start (λ b. list_any (legal_test c.args.position.now) (moves_between c.args.from b))
+    ∙ sym (any_from_parts c.args.position.now c.args.from)
 
 pub returns-then-has_legal_move_between : goal.returns-then-has_legal_move_between
 returns-then-has_legal_move_between c =

@@ -1,0 +1,4 @@
+pub mod Parts
+pub mod Fits
+pub mod Reading
+pub mod Spelling

@@ -1,0 +1,14 @@
+//! Moves in Standard Algebraic Notation: reading a text as the one legal move that it means in a position.
+#![tactic(auto)]
+
+pub mod fault;
+pub mod fit;
+pub mod parts;
+pub mod reading;
+
+pub use fault::SanFault;
+pub use parts::{Parts, Piece, PieceMove, parts_of};
+pub use reading::read_san;
+
+#[cfg(test)]
+mod tests;

@@ -1,0 +1,170 @@
+use super::*;
+use cq_geometry::{file, rank};
+use cq_position::{Move, Promotion, read_fen};
+use std::process::Abort;
+use std::test::Fail;
+
+const START: &[u8] = b"rnbqkbnr/pppppppp/8/8/8/8/PPPPPPPP/RNBQKBNR w KQkq - 0 1";
+
+// The move by its squares and the letter of its promotion.
+fn coordinates(m: Move) -> [u8; 5] {
+    if m.null {
+        return *b"null ";
+    }
+    let promotion = match m.promotion {
+        Promotion::None => b' ',
+        Promotion::Q => b'Q',
+        Promotion::R => b'R',
+        Promotion::B => b'B',
+        Promotion::N => b'N',
+    };
+    [
+        b'a' + file(m.from),
+        b'1' + rank(m.from),
+        b'a' + file(m.to),
+        b'1' + rank(m.to),
+        promotion,
+    ]
+}
+
+fn check(
+    rt: &impl Abort,
+    fen: &[u8],
+    rows: &[(&[u8], Result<[u8; 5], SanFault>)],
+) -> Result<(), Fail> {
+    let position = read_fen(fen)?;
+    for (text, wanted) in rows {
+        let read = read_san(&position, text).map(coordinates);
+        assert_eq!(rt; read, *wanted, "at {text:?}");
+    }
+    Ok(())
+}
+
+#[test]
+fn texts_at_the_start(rt: HostRuntime) -> Result<(), Fail> {
+    check(
+        &rt,
+        START,
+        &[
+            (b"e4", Ok(*b"e2e4 ")),
+            (b"Pe4", Ok(*b"e2e4 ")),
+            (b"e2e4", Ok(*b"e2e4 ")),
+            (b"Pe2xe4", Ok(*b"e2e4 ")),
+            (b"e4+#++", Ok(*b"e2e4 ")),
+            (b"b3", Ok(*b"b2b3 ")),
+            (b"Nf3", Ok(*b"g1f3 ")),
+            (b"Nxf3", Ok(*b"g1f3 ")),
+            (b"Ng1-f3", Ok(*b"g1f3 ")),
+            (b"--", Ok(*b"null ")),
+            (b"Z0", Ok(*b"null ")),
+            (b"0-0", Err(SanFault::IllegalMove)),
+            (b"1e4", Err(SanFault::IllegalMove)),
+            (b"Bb3", Err(SanFault::IllegalMove)),
+            (b"e4=Q", Err(SanFault::IllegalMove)),
+            (b"x", Err(SanFault::NotAMove)),
+            (b"", Err(SanFault::NotAMove)),
+            (b"+", Err(SanFault::NotAMove)),
+            (b"e9", Err(SanFault::NotAMove)),
+            (b"nf3", Err(SanFault::NotAMove)),
+            (b"--+", Err(SanFault::NotAMove)),
+            (b"Z0#", Err(SanFault::NotAMove)),
+            (b"O-O-O-O", Err(SanFault::NotAMove)),
+        ],
+    )
+}
+
+#[test]
+fn one_piece_of_several(rt: HostRuntime) -> Result<(), Fail> {
+    // After 1. d4 d5 2. Nf3 Nf6.
+    check(
+        &rt,
+        b"rnbqkb1r/ppp1pppp/5n2/3p4/3P4/5N2/PPP1PPPP/RNBQKB1R w KQkq - 2 3",
+        &[
+            (b"Nd2", Err(SanFault::AmbiguousMove)),
+            (b"Nbd2", Ok(*b"b1d2 ")),
+            (b"N3d2", Ok(*b"f3d2 ")),
+        ],
+    )?;
+    // The knight on e4 is pinned.
+    check(
+        &rt,
+        b"4r2k/8/8/8/4N3/8/8/1N2K3 w - - 0 1",
+        &[
+            (b"Nd2", Ok(*b"b1d2 ")),
+            (b"Nf2", Err(SanFault::IllegalMove)),
+        ],
+    )?;
+    check(
+        &rt,
+        b"6k1/8/8/8/Q6Q/8/8/Q3K3 w - - 0 1",
+        &[
+            (b"Qd4", Err(SanFault::AmbiguousMove)),
+            (b"Qad4", Err(SanFault::AmbiguousMove)),
+            (b"Q4d4", Err(SanFault::AmbiguousMove)),
+            (b"Qhd4", Ok(*b"h4d4 ")),
+            (b"Q1d4", Ok(*b"a1d4 ")),
+            (b"Qa4d4", Ok(*b"a4d4 ")),
+        ],
+    )
+}
+
+#[test]
+fn castling(rt: HostRuntime) -> Result<(), Fail> {
+    check(
+        &rt,
+        b"r3k2r/8/8/8/8/8/8/R3K2R w KQkq - 0 1",
+        &[
+            (b"O-O", Ok(*b"e1g1 ")),
+            (b"0-0+", Ok(*b"e1g1 ")),
+            (b"O-O-O", Ok(*b"e1c1 ")),
+            (b"0-0-0#", Ok(*b"e1c1 ")),
+            (b"Kg1", Err(SanFault::IllegalMove)),
+            (b"Kf1", Ok(*b"e1f1 ")),
+        ],
+    )?;
+    check(
+        &rt,
+        b"r3k2r/8/8/8/8/8/8/R3K2R b KQkq - 0 1",
+        &[(b"0-0", Ok(*b"e8g8 ")), (b"O-O-O", Ok(*b"e8c8 "))],
+    )
+}
+
+#[test]
+fn pawns(rt: HostRuntime) -> Result<(), Fail> {
+    check(
+        &rt,
+        b"1r5k/P7/8/8/8/8/8/4K3 w - - 0 1",
+        &[
+            (b"a8=Q", Ok(*b"a7a8Q")),
+            (b"a8N", Ok(*b"a7a8N")),
+            (b"axb8=R+", Ok(*b"a7b8R")),
+            (b"b8B", Ok(*b"a7b8B")),
+            (b"a8", Err(SanFault::IllegalMove)),
+            (b"a8=", Err(SanFault::NotAMove)),
+            (b"a8q", Err(SanFault::NotAMove)),
+            (b"a8=K", Err(SanFault::NotAMove)),
+        ],
+    )?;
+    check(
+        &rt,
+        b"4k3/8/8/2ppP3/8/8/8/4K3 w - d6 0 2",
+        &[
+            (b"exd6", Ok(*b"e5d6 ")),
+            (b"d6", Ok(*b"e5d6 ")),
+            (b"exc6", Err(SanFault::IllegalMove)),
+        ],
+    )
+}
+
+#[test]
+fn no_side_passes_in_check(rt: HostRuntime) -> Result<(), Fail> {
+    check(
+        &rt,
+        b"4k3/8/8/8/8/8/8/4R1K1 b - - 0 1",
+        &[
+            (b"--", Err(SanFault::IllegalMove)),
+            (b"Z0", Err(SanFault::IllegalMove)),
+            (b"Kd7", Ok(*b"e8d7 ")),
+        ],
+    )
+}

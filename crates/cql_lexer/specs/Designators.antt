@@ -1,0 +1,122 @@
+-- Designators: men, squares, or men on squares, as `R`, `a1`, `[KQ]a-h2` and `.[a1,b2-3]`.
+use Rattle.std.specs.Prelude.{ℕ, zero, suc, ◌+◌, ◌-◌, ◌*◌, ◌/◌, ◌%◌, ◌^◌, min, max, Bool, ◌&&◌, ◌||◌, ◌==◌, List, [], ◌∷◌, length, take, drop, count_by, Option, None, Some, if◌then◌else◌, codes, bit_or, option_and_then}
+use Rattle.std.specs.List.{position, slice_split, list_all}
+use Rattle.std.specs.Option.{option_map, option_or}
+use Rattle.cq_geometry.specs.Squares.{file_of, rank_of}
+use Rattle.cql_syntax.specs.declared.leaves.Designator.{Designator}
+use Rattle.cql_lexer.specs.Characters.{is_from, is_comma, is_closing_bracket}
+use Rattle.cql_lexer.specs.Longest.{longest}
+
+-- the union of the sets that the items stand for and of those so far; none where an item stands for none
+abbrev pub united : {X : Type 0} → (X → Option ℕ) → ℕ → List X → Option ℕ
+united read so_far [] = Some so_far
+united read so_far (item ∷ items) = option_and_then (λ set. united read (bit_or so_far set) items) (read item)
+
+-- what stands between a `[` at the front of a text and the first `]`
+abbrev pub group : List ℕ → Option (List ℕ)
+group [] = None
+group (b ∷ text) = if b == 91 then option_map (λ end. take end text) (position is_closing_bracket text) else None
+
+-- what stands between the brackets of a text that is `[`, other bytes, and the first `]` as its last byte
+abbrev pub in_brackets : List ℕ → Option (List ℕ)
+in_brackets text = option_and_then (λ inside. if length inside + 2 == length text then Some inside else None) (group text)
+
+-- the men in order: bit k of a set of men is the man of letter k, `_` is the empty square
+abbrev pub man_letters : List ℕ
+man_letters = codes "KQRBNPkqrbnp_"
+
+-- the men of a letter: `A` is any white man, `a` any black man, and `.` any man or none
+abbrev pub men_of_letter : ℕ → Option ℕ
+men_of_letter letter =
+    if letter == 65 then Some 0x003f
+    else (if letter == 97 then Some 0x0fc0
+    else (if letter == 46 then Some 0x1fff
+    else option_map (λ man. 2 ^ man) (position (λ man. man == letter) man_letters)))
+
+-- the men of one or more letters
+abbrev pub men_of_letters : List ℕ → Option ℕ
+men_of_letters [] = None
+men_of_letters (letter ∷ letters) = united men_of_letter 0 (letter ∷ letters)
+
+-- the men of a letter, or of letters in brackets
+abbrev pub men_of : List ℕ → Option ℕ
+men_of (letter ∷ []) = men_of_letter letter
+men_of text = option_and_then men_of_letters (in_brackets text)
+
+-- the set of those squares below n that pass the test: bit k is square k
+abbrev pub squares_below : (ℕ → Bool) → ℕ → ℕ
+squares_below test zero = 0
+squares_below test (suc k) = squares_below test k + (if test k then 2 ^ k else 0)
+
+-- the squares from one file to another and from one rank to another, by their letters and digits, the lower ends first
+unfoldable pub squares_within : ℕ → ℕ → ℕ → ℕ → ℕ
+squares_within file last_file rank last_rank =
+    squares_below (λ square. is_from file last_file (97 + file_of square) && is_from rank last_rank (49 + rank_of square)) 64
+
+-- the same with ranges in either order; none where the letters are not `a` to `h` or the digits not `1` to `8`
+abbrev pub rectangle : ℕ → ℕ → ℕ → ℕ → Option ℕ
+rectangle file last_file rank last_rank =
+    if is_from 97 104 file && is_from 97 104 last_file && is_from 49 56 rank && is_from 49 56 last_rank
+    then Some (squares_within (min file last_file) (max file last_file) (min rank last_rank) (max rank last_rank))
+    else None
+
+-- the squares of a specification: a file or two with `-` between them, then a rank or two with `-` between them
+abbrev pub specification : List ℕ → Option ℕ
+specification (file ∷ rank ∷ []) = rectangle file file rank rank
+specification (a ∷ b ∷ c ∷ d ∷ []) =
+    if b == 45 then rectangle a c d d
+    else (if c == 45 then rectangle a a b d else None)
+specification (file ∷ b ∷ last_file ∷ rank ∷ c ∷ last_rank ∷ []) =
+    if b == 45 && c == 45 then rectangle file last_file rank last_rank else None
+specification text = None
+
+-- the squares of specifications with commas between them
+abbrev pub specifications : List ℕ → Option ℕ
+specifications text = united specification 0 (slice_split is_comma text)
+
+-- the squares of a specification, or of specifications in brackets
+abbrev pub squares_of : List ℕ → Option ℕ
+squares_of text = option_or (specification text) (option_and_then specifications (in_brackets text))
+
+-- a square stands in a set of squares
+abbrev pub has_square : ℕ → ℕ → Bool
+has_square squares square = squares / 2 ^ square % 2 == 1
+
+abbrev pub eight : List ℕ
+eight = 0 ∷ 1 ∷ 2 ∷ 3 ∷ 4 ∷ 5 ∷ 6 ∷ 7 ∷ []
+
+-- none or all of eight squares stand in the set: the first, and then each so many further on
+unfoldable pub none_or_all : ℕ → ℕ → ℕ → Bool
+none_or_all squares first step =
+    let here = count_by (λ k. has_square squares (first + step * k)) eight in here == 0 || here == 8
+
+-- every rank that has one of the squares has all eight of them
+abbrev pub are_whole_ranks : ℕ → Bool
+are_whole_ranks squares = list_all (λ rank. none_or_all squares (8 * rank) 1) eight
+
+-- every file that has one of the squares has all eight of them
+abbrev pub are_whole_files : ℕ → Bool
+are_whole_files squares = list_all (λ file. none_or_all squares file 8) eight
+
+-- men on squares
+unfoldable pub men_on : ℕ → ℕ → Designator
+men_on men squares = record {
+  men = men;
+  part = record { squares = squares; whole_ranks = are_whole_ranks squares; whole_files = are_whole_files squares };
+}
+
+abbrev pub any_men : ℕ
+any_men = 0x1fff
+
+abbrev pub all_squares : ℕ
+all_squares = 2 ^ 64 - 1
+
+-- men on squares, where the text is men and then squares
+abbrev pub men_then_squares : List ℕ → Option Designator
+men_then_squares text = option_and_then (λ men. option_map (men_on men.0) (squares_of (drop men.1 text))) (longest men_of text)
+
+-- the designator that a whole text is: men on squares, any men on squares, or men on all squares
+unfoldable pub designator : List ℕ → Option Designator
+designator text =
+    option_or (men_then_squares text)
+    (option_or (option_map (men_on any_men) (squares_of text)) (option_map (λ men. men_on men all_squares) (men_of text)))

@@ -1,0 +1,234 @@
+//! One token at the front of a text, by the first rule that applies.
+ghost use Rattle.std.specs.Prelude.{◌≡◌, ◌<◌, ◌≤◌, length, IfOk, IfSome, IsTrue, Some};
+ghost use Rattle.cql_syntax.specs.Refusals.{Gives};
+ghost use Rattle.cql_lexer.specs.Characters.{begins, is_digit, begins_name_or_squares};
+ghost use Rattle.cql_lexer.specs.Lexemes.{IsFront, file_name, outcome, quoted, number, named, named_or_squares, mark_number, mark, first_lexeme};
+ghost use Rattle.cql_lexer.specs.Longest.{front, longest};
+
+use crate::characters::{
+    decimal_at_most, digits_len, file_name_len, find, is_digit, is_name_byte, name_len,
+};
+use crate::context::Context;
+use crate::designators::designator_at;
+use cq_outside::{Bytes, NoMemory, Refusal};
+use cql_syntax::words::place_in;
+use cql_syntax::{Outcome, QueryReason, QueryTokenKind, is_reserved, word_number};
+use std::alloc::Global;
+
+/// The greatest number.
+const NUMBER_LIMIT: u32 = 999_999_999;
+
+const MARKS: [&str; 20] = [
+    "-->", "<--", "<=", ">=", "==", "<", ">", "+", "-", "*", "?", "#", "|", "&", "~", "(", ")",
+    "{", "}", ",",
+];
+
+/// A token, and the number of its bytes.
+#[derive(Drop, Debug)]
+pub struct Lexeme {
+    pub kind: QueryTokenKind,
+    pub len: usize,
+}
+
+// The bytes, as a list of their own.
+fn copied(alloc: Global, text: &[u8]) -> Result<Bytes, NoMemory>
+    ensures { IfOk result (λ bytes. bytes ≡ text.now) }
+{
+    let mut bytes = Bytes::new(alloc);
+    bytes.push_all(text)?;
+    Ok(bytes)
+}
+
+// The name of a file.
+#[tactic(auto, unfolding(crate::specs::Lexemes::file_name))]
+fn file_name(alloc: Global, context: Context, text: &[u8]) -> Result<Option<Lexeme>, NoMemory>
+    ensures value { IfOk result (λ found. found ≡ file_name context text.now) }
+    ensures front { IfOk result (λ found. IfSome found (λ lexeme. IsFront lexeme text.now)) }
+{
+    let len = file_name_len(text);
+    if context != Context::FileName || len == 0 {
+        return Ok(None);
+    }
+    let kind = QueryTokenKind::FileName(copied(alloc, &text[..len])?);
+    Ok(Some(Lexeme { kind, len }))
+}
+
+// A result.
+#[tactic(auto, unfolding(crate::specs::Lexemes::outcome))]
+fn outcome(context: Context, text: &[u8]) -> Option<Lexeme>
+    ensures value { result ≡ outcome context text.now }
+    ensures front { IfSome result (λ lexeme. IsFront lexeme text.now) }
+{
+    if context != Context::Outcome {
+        return None;
+    }
+    let (outcome, len) = if text.starts_with(b"1/2-1/2".as_slice()) {
+        (Outcome::Draw, 7)
+    } else if text.starts_with(b"1-0".as_slice()) {
+        (Outcome::White, 3)
+    } else if text.starts_with(b"0-1".as_slice()) {
+        (Outcome::Black, 3)
+    } else if text.starts_with(b"*".as_slice()) {
+        (Outcome::Unfinished, 1)
+    } else {
+        return None;
+    };
+    Some(Lexeme {
+        kind: QueryTokenKind::Outcome(outcome),
+        len,
+    })
+}
+
+// What stands between two quotes.
+#[tactic(auto, unfolding(crate::specs::Lexemes::quoted))]
+fn quoted(alloc: Global, text: &[u8]) -> Result<Lexeme, Refusal<QueryReason>>
+    requires { 0 < length text.now }
+    ensures value { Gives (λ lexeme. lexeme) result (quoted text.now) }
+    ensures front { IfOk result (λ lexeme. IsFront lexeme text.now) }
+{
+    let behind = &text[1..];
+    match find(b'"', behind) {
+        Some(end) => Ok(Lexeme {
+            kind: QueryTokenKind::Text(copied(alloc, &behind[..end])?),
+            len: end + 2,
+        }),
+        None => Err(Refusal::Fault(QueryReason::UnclosedText)),
+    }
+}
+
+// A number.
+#[tactic(auto, unfolding(crate::specs::Lexemes::number))]
+fn number(text: &[u8]) -> Result<Lexeme, QueryReason>
+    requires { IsTrue (begins is_digit text.now) }
+    ensures value { result ≡ number text.now }
+    ensures front { IfOk result (λ lexeme. IsFront lexeme text.now) }
+{
+    let len = digits_len(text);
+    match decimal_at_most(NUMBER_LIMIT, &text[..len]) {
+        Some(number) => Ok(Lexeme {
+            kind: QueryTokenKind::Number(number),
+            len,
+        }),
+        None => Err(QueryReason::NumberTooLarge),
+    }
+}
+
+// A word, a reserved name or another name.
+#[tactic(auto, unfolding(crate::specs::Lexemes::named))]
+fn named(alloc: Global, name: &[u8]) -> Result<QueryTokenKind, NoMemory>
+    ensures { IfOk result (λ kind. kind ≡ named name.now) }
+{
+    if let Some(word) = word_number(name) {
+        return Ok(QueryTokenKind::Word(word));
+    }
+    let bytes = copied(alloc, name)?;
+    if is_reserved(name) {
+        Ok(QueryTokenKind::Reserved(bytes))
+    } else {
+        Ok(QueryTokenKind::Name(bytes))
+    }
+}
+
+// The number of the mark that a whole text is.
+#[tactic(auto, unfolding(crate::specs::Lexemes::mark_number))]
+fn mark_number(text: &[u8]) -> Option<usize>
+    ensures value { result ≡ mark_number text.now }
+    ensures bound { IfSome result (λ mark. mark < 20) }
+{
+    place_in(MARKS.as_slice(), text)
+}
+
+// The mark of the first so many bytes, where these are one.
+fn mark_front(len: usize, text: &[u8]) -> Option<(usize, usize)>
+    ensures value { result ≡ front mark_number len text.now }
+    ensures bound { IfSome result (λ found. found.0 < 20) }
+{
+    Some((mark_number(text.get(..len)?)?, len))
+}
+
+// The longest mark at the front.
+#[tactic(auto, using(crate::proofs::Marks::mark_longest, crate::proofs::Marks::mark_fits))]
+fn mark_at(text: &[u8]) -> Option<(usize, usize)>
+    ensures value { result ≡ longest mark_number text.now }
+    ensures bound { IfSome result (λ found. found.0 < 20) }
+    ensures front { IfSome result (λ found. (0 < found.1) × (found.1 ≤ length text.now)) }
+{
+    mark_front(3, text)
+        .or(mark_front(2, text))
+        .or(mark_front(1, text))
+}
+
+// A mark.
+#[tactic(auto, unfolding(crate::specs::Lexemes::mark))]
+fn mark(text: &[u8]) -> Option<Lexeme>
+    ensures value { result ≡ mark text.now }
+    ensures front { IfSome result (λ lexeme. IsFront lexeme text.now) }
+{
+    let (mark, len) = mark_at(text)?;
+    Some(Lexeme {
+        kind: QueryTokenKind::Mark(mark as u8),
+        len,
+    })
+}
+
+// A designator, or a name of any kind.
+#[tactic(auto, unfolding(crate::specs::Lexemes::named_or_squares))]
+fn named_or_squares(alloc: Global, text: &[u8]) -> Result<Option<Lexeme>, NoMemory>
+    ensures value { IfOk result (λ found. found ≡ named_or_squares text.now) }
+    ensures front { IfOk result (λ found. IfSome found (λ lexeme. IsFront lexeme text.now)) }
+{
+    if !begins_name_or_squares(text) {
+        return Ok(None);
+    }
+    let run = name_len(text);
+    match designator_at(text) {
+        Some((designator, len)) if run <= len => Ok(Some(Lexeme {
+            kind: QueryTokenKind::Squares(designator),
+            len,
+        })),
+        _ if run > 0 => Ok(Some(Lexeme {
+            kind: named(alloc, &text[..run])?,
+            len: run,
+        })),
+        _ => Ok(None),
+    }
+}
+
+// Whether a name or a designator may begin here.
+fn begins_name_or_squares(text: &[u8]) -> bool
+    ensures { result ≡ begins begins_name_or_squares text.now }
+{
+    match text.first() {
+        Some(first) => is_name_byte(*first) || matches!(*first, b'.' | b'['),
+        None => false,
+    }
+}
+
+/// The token at the front of a text, by the first rule that applies.
+#[tactic(auto, unfolding(crate::specs::Lexemes::first_lexeme))]
+pub fn first_lexeme(
+    alloc: Global,
+    context: Context,
+    text: &[u8],
+) -> Result<Lexeme, Refusal<QueryReason>>
+    requires { 0 < length text.now }
+    ensures value { Gives (λ lexeme. lexeme) result (first_lexeme context text.now) }
+    ensures front { IfOk result (λ lexeme. IsFront lexeme text.now) }
+{
+    if let Some(found) = file_name(alloc, context, text)? {
+        return Ok(found);
+    }
+    if let Some(found) = outcome(context, text) {
+        return Ok(found);
+    }
+    if text[0] == b'"' {
+        return quoted(alloc, text);
+    }
+    if is_digit(text[0]) {
+        return number(text).map_err(Refusal::Fault);
+    }
+    if let Some(found) = named_or_squares(alloc, text)? {
+        return Ok(found);
+    }
+    mark(text).ok_or(Refusal::Fault(QueryReason::BadByte))
+}

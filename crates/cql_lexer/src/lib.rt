@@ -1,0 +1,12 @@
+//! The tokens of a query text, or its first lexical fault.
+#![tactic(auto)]
+
+mod characters;
+mod context;
+mod designators;
+mod lexeme;
+#[cfg(test)]
+mod tests;
+mod tokens;
+
+pub use tokens::{QUERY_LIMIT, query_tokens, tokens_end_once};

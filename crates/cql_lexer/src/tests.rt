@@ -1,0 +1,288 @@
+use super::*;
+use cq_outside::Refusal;
+use cql_syntax::{Outcome, QueryFault, QueryTokenKind};
+use std::alloc::{AllocError, Global};
+use std::process::Abort;
+use std::test::Fail;
+
+const ANY: u16 = 0x1fff;
+
+const ALL: u64 = u64::MAX;
+
+/// A token's kind with its bytes borrowed.
+#[derive(Clone, Copy, Debug, PartialEq, Eq)]
+enum Seen<'a> {
+    Word(u16),
+    Reserved(&'a [u8]),
+    Name(&'a [u8]),
+    /// The men, the squares, whole ranks and whole files.
+    Squares(u16, u64, bool, bool),
+    Number(u32),
+    Text(&'a [u8]),
+    FileName(&'a [u8]),
+    Result(Outcome),
+    Mark(u8),
+    End,
+}
+
+fn borrowed(kind: &QueryTokenKind) -> Seen<'_> {
+    match kind {
+        QueryTokenKind::Word(word) => Seen::Word(*word),
+        QueryTokenKind::Reserved(name) => Seen::Reserved(name.as_slice()),
+        QueryTokenKind::Name(name) => Seen::Name(name.as_slice()),
+        QueryTokenKind::Squares(squares) => Seen::Squares(
+            squares.men,
+            squares.part.squares,
+            squares.part.whole_ranks,
+            squares.part.whole_files,
+        ),
+        QueryTokenKind::Number(number) => Seen::Number(*number),
+        QueryTokenKind::Text(text) => Seen::Text(text.as_slice()),
+        QueryTokenKind::FileName(name) => Seen::FileName(name.as_slice()),
+        QueryTokenKind::Outcome(outcome) => Seen::Result(*outcome),
+        QueryTokenKind::Mark(mark) => Seen::Mark(*mark),
+        QueryTokenKind::End => Seen::End,
+    }
+}
+
+fn gives(
+    rt: &impl Abort,
+    alloc: Global,
+    query: &[u8],
+    wanted: &[(u32, Seen)],
+) -> Result<(), Refusal<QueryFault>> {
+    let tokens = query_tokens(alloc, query)?;
+    assert_eq!(rt; tokens.len(), wanted.len(), "in {query:?}");
+    for (token, (at, kind)) in tokens.iter().zip(wanted) {
+        assert_eq!(rt; token.at, *at, "in {query:?}");
+        assert_eq!(rt; borrowed(&token.kind), *kind, "in {query:?}");
+    }
+    Ok(())
+}
+
+#[test]
+fn designators_are_the_longest_of_their_form(rt: HostRuntime) -> Result<(), Fail> {
+    use Seen::{
+        End, FileName, Mark, Name, Number, Reserved, Result as Outcomes, Squares, Text, Word,
+    };
+    let alloc = rt.alloc();
+    gives(
+        &rt,
+        alloc,
+        b"cql() Ka1",
+        &[
+            (0, Word(0)),
+            (3, Mark(15)),
+            (4, Mark(16)),
+            (6, Squares(1, 1, false, false)),
+            (9, End),
+        ],
+    )?;
+    gives(
+        &rt,
+        alloc,
+        b"c3-6 a-h2 aa1",
+        &[
+            (0, Squares(ANY, 0x0000_0404_0404_0000, false, false)),
+            (5, Squares(ANY, 0xff00, true, false)),
+            (10, Squares(0x0fc0, 1, false, false)),
+            (13, End),
+        ],
+    )?;
+    gives(
+        &rt,
+        alloc,
+        b"[KQ]a1 [a1,b2-3] K[a1,h8]",
+        &[
+            (0, Squares(3, 1, false, false)),
+            (7, Squares(ANY, 0x02_0201, false, false)),
+            (17, Squares(1, 0x8000_0000_0000_0001, false, false)),
+            (25, End),
+        ],
+    )?;
+    gives(
+        &rt,
+        alloc,
+        b"b bishop a1b2 _a2 .",
+        &[
+            (0, Squares(0x0200, ALL, true, true)),
+            (2, Name(b"bishop")),
+            (9, Name(b"a1b2")),
+            (14, Squares(0x1000, 0x0100, false, false)),
+            (18, Squares(ANY, ALL, true, true)),
+            (19, End),
+        ],
+    )?;
+    gives(
+        &rt,
+        alloc,
+        b"Ra Kab1 ab1",
+        &[
+            (0, Name(b"Ra")),
+            (3, Name(b"Kab1")),
+            (8, Squares(0x0fc0, 2, false, false)),
+            (11, End),
+        ],
+    )?;
+    gives(
+        &rt,
+        alloc,
+        b"c3-6-7",
+        &[
+            (0, Squares(ANY, 0x0000_0404_0404_0000, false, false)),
+            (4, Mark(8)),
+            (5, Number(7)),
+            (6, End),
+        ],
+    )?;
+    gives(
+        &rt,
+        alloc,
+        b"h-a8-1",
+        &[(0, Squares(ANY, ALL, true, true)), (6, End)],
+    )?;
+    Ok(())
+}
+
+#[test]
+fn tokens_are_by_the_first_rule(rt: HostRuntime) -> Result<(), Fail> {
+    use Seen::{
+        End, FileName, Mark, Name, Number, Reserved, Result as Outcomes, Squares, Text, Word,
+    };
+    let alloc = rt.alloc();
+    gives(
+        &rt,
+        alloc,
+        b"#a-b5 Pe4* Pe4+",
+        &[
+            (0, Mark(11)),
+            (1, Squares(ANY, 0x0003_0000_0000, false, false)),
+            (6, Squares(32, 0x1000_0000, false, false)),
+            (9, Mark(9)),
+            (11, Squares(32, 0x1000_0000, false, false)),
+            (14, Mark(7)),
+            (15, End),
+        ],
+    )?;
+    gives(
+        &rt,
+        alloc,
+        b"result 1-00",
+        &[
+            (0, Word(19)),
+            (7, Outcomes(Outcome::White)),
+            (10, Number(0)),
+            (11, End),
+        ],
+    )?;
+    gives(
+        &rt,
+        alloc,
+        b"result // c\n *",
+        &[
+            (0, Word(19)),
+            (13, Outcomes(Outcome::Unfinished)),
+            (14, End),
+        ],
+    )?;
+    gives(
+        &rt,
+        alloc,
+        b"input a//b.pgn cql",
+        &[
+            (0, Word(1)),
+            (6, FileName(b"a//b.pgn")),
+            (15, Word(0)),
+            (18, End),
+        ],
+    )?;
+    gives(
+        &rt,
+        alloc,
+        b"output \"x y\"",
+        &[(0, Word(2)), (7, Text(b"x y")), (12, End)],
+    )?;
+    gives(
+        &rt,
+        alloc,
+        b"<-- <= < -->",
+        &[
+            (0, Mark(1)),
+            (4, Mark(2)),
+            (7, Mark(5)),
+            (9, Mark(0)),
+            (12, End),
+        ],
+    )?;
+    gives(
+        &rt,
+        alloc,
+        b"move moves comment",
+        &[
+            (0, Reserved(b"move")),
+            (5, Name(b"moves")),
+            (11, Word(68)),
+            (18, End),
+        ],
+    )?;
+    gives(&rt, alloc, b"//", &[(2, End)])?;
+    gives(&rt, alloc, b"// a\r b", &[(7, End)])?;
+    tokens_end_once();
+    Ok(())
+}
+
+fn fault_of(alloc: Global, query: &[u8]) -> Option<QueryFault> {
+    let refusal = query_tokens(alloc, query).err()?;
+    match refusal {
+        Refusal::Fault(fault) => Some(fault),
+        Refusal::NoMemory => None,
+    }
+}
+
+fn refuses(
+    rt: &impl Abort,
+    alloc: Global,
+    query: &[u8],
+    byte: u32,
+    wanted: &str,
+) -> Result<(), AllocError> {
+    let fault = fault_of(alloc, query);
+    assert!(rt; fault.is_some(), "no fault in {query:?}");
+    if let Some(fault) = fault {
+        assert_eq!(rt; fault.byte, byte, "in {query:?}");
+        let reason = &fault.reason;
+        let reason = format!(in alloc; "{reason:?}")?;
+        assert_eq!(rt; reason.as_str(), wanted, "in {query:?}");
+    }
+    Ok(())
+}
+
+#[test]
+fn the_first_fault_is_answered(rt: HostRuntime) -> Result<(), Fail> {
+    let alloc = rt.alloc();
+    let rows = [
+        (b"[Ra1]".as_slice(), 0, "BadByte"),
+        (b"x$".as_slice(), 1, "BadByte"),
+        (b"R[a1".as_slice(), 1, "BadByte"),
+        (b"\0".as_slice(), 0, "BadByte"),
+        (b"\x80".as_slice(), 0, "BadByte"),
+        (b"\xff".as_slice(), 0, "BadByte"),
+        (b"\"abc".as_slice(), 0, "UnclosedText"),
+        (b"1 1000000000".as_slice(), 2, "NumberTooLarge"),
+        (b"999999999 $".as_slice(), 10, "BadByte"),
+    ];
+    for (query, byte, reason) in rows {
+        refuses(&rt, alloc, query, byte, reason)?;
+    }
+    Ok(())
+}
+
+#[test]
+fn a_query_has_at_most_65536_bytes(rt: HostRuntime) -> Result<(), Fail> {
+    let alloc = rt.alloc();
+    let spaces = vec![in alloc; b' '; 65_537]?;
+    refuses(&rt, alloc, spaces.as_slice(), 65_536, "QueryTooLong")?;
+    assert_eq!(rt; spaces.len(), 65_537);
+    gives(&rt, alloc, &spaces[..65_536], &[(65_536, Seen::End)])?;
+    Ok(())
+}

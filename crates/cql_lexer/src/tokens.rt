@@ -1,0 +1,96 @@
+//! The tokens of a query text.
+ghost use Rattle.std.specs.Prelude.{◌≡◌, ◌<◌, ◌≤◌, ◌+◌, length, drop, IfOk, OnOk, OnErr};
+ghost use Rattle.std.specs.Prelude.{◌++◌, ◌∷◌, [], ℕ, List};
+ghost use Rattle.cql_syntax.specs.declared.token.QueryToken.{QueryToken};
+ghost use Rattle.cql_syntax.specs.Refusals.{Gives};
+ghost use Rattle.cql_lexer.specs.Tokens.{separator_len, token_at, tokens_of, EndOnce};
+
+use crate::characters::{find, is_white, white_len};
+use crate::context::{Context, after};
+use crate::lexeme::{Lexeme, first_lexeme};
+use cq_outside::{NoMemory, Refusal};
+use cql_syntax::{QueryFault, QueryReason, QueryToken, QueryTokenKind};
+use std::alloc::Global;
+
+/// The greatest number of bytes of a query.
+pub const QUERY_LIMIT: usize = 65_536;
+
+// How many bytes at the front only separate tokens.
+#[tactic(auto, unfolding(crate::specs::Tokens::separator_len))]
+fn separator_len(text: &[u8]) -> usize
+    ensures value { result ≡ separator_len text.now }
+    ensures fits { result ≤ length text.now }
+{
+    if text.starts_with(b"//".as_slice()) {
+        return find(b'\n', text).unwrap_or(text.len());
+    }
+    white_len(text)
+}
+
+// The token at a place of the query, or the fault there.
+fn token_at(
+    alloc: Global,
+    context: Context,
+    query: &[u8],
+    at: usize,
+) -> Result<(QueryToken, usize), Refusal<QueryFault>>
+    requires within { at < length query.now }
+    requires limit { length query.now ≤ 65536 }
+    ensures value { Gives (λ found. found) result (token_at context at (drop at query.now)) }
+    ensures front { IfOk result (λ found. (0 < found.1) × (at + found.1 ≤ length query.now)) }
+{
+    let byte = at as u32;
+    match first_lexeme(alloc, context, &query[at..]) {
+        Ok(Lexeme { kind, len }) => Ok((QueryToken { at: byte, kind }, len)),
+        Err(Refusal::Fault(reason)) => Err(Refusal::Fault(QueryFault { byte, reason })),
+        Err(Refusal::NoMemory) => Err(Refusal::NoMemory),
+    }
+}
+
+// Adds a token at the end.
+fn push(tokens: &mut Vec<QueryToken>, token: QueryToken) -> Result<(), NoMemory>
+    ensures { OnOk result (tokens.new.items ≡ tokens.old.items ++ token ∷ []) }
+{
+    tokens.push(token)?;
+    Ok(())
+}
+
+/// The tokens of a query, ended by one end at the number of its bytes, or its first lexical fault: more than 65,536
+/// bytes, at byte 65,536, before all others; else the first of a bad byte, an unclosed text and a number too large.
+pub fn query_tokens(alloc: Global, query: &[u8]) -> Result<Vec<QueryToken>, Refusal<QueryFault>>
+    ensures { Gives (λ tokens. tokens.items) result (tokens_of query.now) }
+{
+    if query.len() > QUERY_LIMIT {
+        return Err(Refusal::Fault(QueryFault {
+            byte: QUERY_LIMIT as u32,
+            reason: QueryReason::QueryTooLong,
+        }));
+    }
+    let mut tokens = Vec::new(alloc);
+    let mut context = Context::Any;
+    let mut at = 0;
+    while at < query.len() {
+        let separator = separator_len(&query[at..]);
+        if separator > 0 {
+            at += separator;
+        } else {
+            let (token, len) = token_at(alloc, context, query, at)?;
+            context = after(&token.kind);
+            push(&mut tokens, token)?;
+            at += len;
+        }
+    }
+    let end = QueryToken {
+        at: at as u32,
+        kind: QueryTokenKind::End,
+    };
+    push(&mut tokens, end)?;
+    Ok(tokens)
+}
+
+/// A law: the tokens of a query are some with their numbers in range, none of which is an end, and then one end at the
+/// number of the query's bytes.
+#[tactic(auto, using(crate::proofs::Ends::tokens_end))]
+pub fn tokens_end_once()
+    ensures { (query : List ℕ) (tokens : List QueryToken) → tokens_of query ≡ Ok tokens → EndOnce (length query) tokens }
+{}

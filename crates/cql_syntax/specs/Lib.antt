@@ -1,0 +1,7 @@
+pub mod Kinds
+pub mod Places
+pub mod Refusals
+pub mod TreeOf
+pub mod Trees
+pub mod Weights
+pub mod Words

@@ -1,0 +1,58 @@
+-- The weight of a query, which bounds what its families write out.
+use Rattle.std.specs.Prelude.{ℕ, ◌+◌, ◌*◌, ◌^◌, min, length}
+use Rattle.cq_symmetry.specs.Families.{members}
+use Rattle.cql_syntax.specs.Trees.{FilterTree, filter, FormTree, squares, number, name, plain, tagged, outcome, elo, unary, steps, chain, sum, pair, if_, square, line, transform, sort, comment, any, FilterTrees, no_filters, more_filters, TermTrees, no_terms, more_terms, LineTree, path, PartTrees, no_parts, more_parts, BodyTree, atom, group, QueryTree}
+
+-- A family weighs 1 and its part once for each member, any other filter 1 and its parts. The parts of a line are
+-- its atoms as they are written, however often their marks repeat them.
+abbrev mutual
+  pub filter_weight : FilterTree → ℕ
+  filter_weight (filter at f) = form_weight f
+
+  pub form_weight : FormTree → ℕ
+  form_weight (squares d) = 1
+  form_weight (number n) = 1
+  form_weight (name text) = 1
+  form_weight (plain word) = 1
+  form_weight (tagged field text) = 1
+  form_weight (outcome o) = 1
+  form_weight (elo whose) = 1
+  form_weight (unary u f) = 1 + filter_weight f
+  form_weight (steps way m n f) = 1 + filter_weight f
+  form_weight (chain c fs) = 1 + filters_weight fs
+  form_weight (sum ts) = 1 + terms_weight ts
+  form_weight (pair c f g) = 1 + filter_weight f + filter_weight g
+  form_weight (if_ f g h) = 1 + filter_weight f + filter_weight g + filter_weight h
+  form_weight (square every text f g) = 1 + filter_weight f + filter_weight g
+  form_weight (line l) = 1 + line_weight l
+  form_weight (transform t f) = 1 + length (members t) * filter_weight f
+  form_weight (sort least text f) = 1 + filter_weight f
+  form_weight (comment text) = 1
+  form_weight (any kind fs) = 1 + filters_weight fs
+
+  pub filters_weight : FilterTrees → ℕ
+  filters_weight no_filters = 0
+  filters_weight (more_filters f fs) = filter_weight f + filters_weight fs
+
+  pub terms_weight : TermTrees → ℕ
+  terms_weight no_terms = 0
+  terms_weight (more_terms minus f ts) = filter_weight f + terms_weight ts
+
+  pub line_weight : LineTree → ℕ
+  line_weight (path back primary cs) = parts_weight cs
+
+  pub parts_weight : PartTrees → ℕ
+  parts_weight no_parts = 0
+  parts_weight (more_parts body mark cs) = body_weight body + parts_weight cs
+
+  pub body_weight : BodyTree → ℕ
+  body_weight (atom f) = filter_weight f
+  body_weight (group cs) = parts_weight cs
+
+-- the weight of the top items
+abbrev pub query_weight : QueryTree → ℕ
+query_weight q = filters_weight q.items
+
+-- a weight as it is answered: one more than 2^18 wherever it is above 2^18
+abbrev pub capped : ℕ → ℕ
+capped n = min n (2 ^ 18 + 1)

@@ -1,0 +1,156 @@
+//! Copies of a query and its filters.
+ghost use Rattle.std.specs.Prelude.{◌≡◌, IfOk};
+ghost use Rattle.cql_syntax.specs.TreeOf.{filter_tree, form_tree, line_tree, body_tree, filters_tree, terms_tree, parts_tree, query_tree};
+
+use crate::tree::{
+    Body, Constituent, Constituents, Filter, Filters, Form, Line, Query, Term, Terms,
+};
+use cq_outside::{Bytes, NoMemory};
+use std::alloc::Global;
+
+impl Query {
+    /// The same query again, in memory of the allocator that this one keeps.
+    pub fn copy(&self) -> Result<Query, NoMemory>
+        ensures { IfOk result (λ q. query_tree q ≡ query_tree self.now) }
+    {
+        let alloc = self.items.allocator();
+        Ok(Query {
+            variations: self.variations,
+            match_at: self.match_at,
+            match_text: copied(alloc, &self.match_text)?,
+            items: self.items.copy(alloc)?,
+        })
+    }
+}
+
+/// The same bytes again.
+fn copied(alloc: Global, bytes: &Bytes) -> Result<Bytes, NoMemory>
+    ensures { IfOk result (λ b. b ≡ bytes.now) }
+{
+    let mut copied = Bytes::new(alloc);
+    copied.push_all(bytes.as_slice())?;
+    Ok(copied)
+}
+
+impl Filter {
+    /// The same filter again.
+    #[cycle(copy)]
+    pub fn copy(&self, alloc: Global) -> Result<Filter, NoMemory>
+        ensures { IfOk result (λ f. filter_tree f ≡ filter_tree self.now) }
+    {
+        Ok(Filter {
+            at: self.at,
+            form: self.form.copy(alloc)?,
+        })
+    }
+
+    #[cycle(copy)]
+    fn boxed(&self, alloc: Global) -> Result<Box<Filter>, NoMemory>
+        ensures { IfOk result (λ f. filter_tree f.value ≡ filter_tree self.now) }
+    {
+        let filter = self.copy(alloc)?;
+        Ok(Box::new(alloc, filter)?)
+    }
+}
+
+impl Form {
+    #[cycle(copy)]
+    fn copy(&self, alloc: Global) -> Result<Form, NoMemory>
+        ensures { IfOk result (λ f. form_tree f ≡ form_tree self.now) }
+    {
+        Ok(match self {
+            Form::Squares(designator) => Form::Squares(*designator),
+            Form::Number(number) => Form::Number(*number),
+            Form::Name(name) => Form::Name(copied(alloc, name)?),
+            Form::Plain(word) => Form::Plain(*word),
+            Form::Tagged(field, text) => Form::Tagged(*field, copied(alloc, text)?),
+            Form::Outcome(outcome) => Form::Outcome(*outcome),
+            Form::Elo(of) => Form::Elo(*of),
+            Form::Unary(unary, a) => Form::Unary(*unary, a.boxed(alloc)?),
+            Form::Steps(way, m, n, a) => Form::Steps(*way, *m, *n, a.boxed(alloc)?),
+            Form::Chain(chain, parts) => Form::Chain(*chain, parts.copy(alloc)?),
+            Form::Sum(terms) => Form::Sum(terms.copy(alloc)?),
+            Form::Pair(pair, a, b) => Form::Pair(*pair, a.boxed(alloc)?, b.boxed(alloc)?),
+            Form::If(a, b, c) => Form::If(a.boxed(alloc)?, b.boxed(alloc)?, c.boxed(alloc)?),
+            Form::Square(every, name, a, b) => {
+                let name = copied(alloc, name)?;
+                Form::Square(*every, name, a.boxed(alloc)?, b.boxed(alloc)?)
+            }
+            Form::Line(line) => Form::Line(line.copy(alloc)?),
+            Form::Transform(family, a) => Form::Transform(*family, a.boxed(alloc)?),
+            Form::Sort(least, name, a) => Form::Sort(*least, copied(alloc, name)?, a.boxed(alloc)?),
+            Form::Comment(text) => Form::Comment(copied(alloc, text)?),
+            Form::Any(kind, parts) => Form::Any(*kind, parts.copy(alloc)?),
+        })
+    }
+}
+
+impl Line {
+    #[cycle(copy)]
+    fn copy(&self, alloc: Global) -> Result<Line, NoMemory>
+        ensures { IfOk result (λ l. line_tree l ≡ line_tree self.now) }
+    {
+        Ok(Line {
+            back: self.back,
+            primary: self.primary,
+            parts: self.parts.copy(alloc)?,
+        })
+    }
+}
+
+impl Body {
+    #[cycle(copy)]
+    fn copy(&self, alloc: Global) -> Result<Body, NoMemory>
+        ensures { IfOk result (λ b. body_tree b ≡ body_tree self.now) }
+    {
+        Ok(match self {
+            Body::Atom(filter) => Body::Atom(filter.boxed(alloc)?),
+            Body::Group(parts) => Body::Group(parts.copy(alloc)?),
+        })
+    }
+}
+
+impl Filters {
+    #[cycle(copy)]
+    fn copy(&self, alloc: Global) -> Result<Filters, NoMemory>
+        ensures { IfOk result (λ fs. filters_tree fs ≡ filters_tree self.now) }
+    {
+        let mut copied = Filters::new(alloc);
+        for filter in self.as_slice() {
+            copied.push(filter.copy(alloc)?)?;
+        }
+        Ok(copied)
+    }
+}
+
+impl Terms {
+    #[cycle(copy)]
+    fn copy(&self, alloc: Global) -> Result<Terms, NoMemory>
+        ensures { IfOk result (λ ts. terms_tree ts ≡ terms_tree self.now) }
+    {
+        let mut copied = Terms::new(alloc);
+        for term in self.as_slice() {
+            copied.push(Term {
+                minus: term.minus,
+                filter: term.filter.copy(alloc)?,
+            })?;
+        }
+        Ok(copied)
+    }
+}
+
+impl Constituents {
+    #[cycle(copy)]
+    fn copy(&self, alloc: Global) -> Result<Constituents, NoMemory>
+        ensures { IfOk result (λ cs. parts_tree cs ≡ parts_tree self.now) }
+    {
+        let mut copied = Constituents::new(alloc);
+        for part in self.as_slice() {
+            copied.push(Constituent {
+                body: part.body.copy(alloc)?,
+                mark: part.mark,
+            })?;
+        }
+        Ok(copied)
+    }
+}

@@ -1,0 +1,49 @@
+//! Why a query is refused.
+
+use crate::leaves::Kind;
+use cq_outside::Bytes;
+
+/// The fault of a query, and where it stands.
+#[derive(Drop, Debug)]
+pub struct QueryFault {
+    /// A place in the query's bytes, from 0.
+    pub byte: u32,
+    pub reason: QueryReason,
+}
+
+/// What is wrong with a query.
+#[derive(Drop, Debug)]
+pub enum QueryReason {
+    /// A byte that begins no token.
+    BadByte,
+    /// A quote without a second one.
+    UnclosedText,
+    /// A token that no query has there.
+    UnexpectedToken,
+    /// The query ends before it is whole.
+    UnexpectedEnd,
+    /// A name that a query may not use, since other versions of the language have it as a word.
+    OutsideProfile(Bytes),
+    /// A filter of the second kind stands where one of the first is wanted.
+    KindMismatch(Kind, Kind),
+    /// A name that no `square` around it binds.
+    UnknownName(Bytes),
+    /// A closing brace in the match string or in the text of a comment.
+    TextHoldsBrace,
+    /// A number above 999,999,999.
+    NumberTooLarge,
+    /// More than 64 filters are open at a place.
+    TooDeep,
+    /// A line of more than 64 places.
+    LineTooLong,
+    /// A query of a weight above 2^18.
+    TooManyMembers,
+    /// More than 65,536 bytes.
+    QueryTooLong,
+    /// A `sort` or `comment` that is no top item.
+    NotAtTop,
+    /// A fifth sort item.
+    TooManySorts,
+    /// A fifth nested `square`.
+    TooManySquares,
+}

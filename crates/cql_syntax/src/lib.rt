@@ -1,0 +1,21 @@
+//! The tree of a query: its types, the kind of a filter and the weight of a query; its tokens, words and faults.
+#![tactic(auto)]
+
+pub mod copies;
+pub mod fault;
+pub mod kinds;
+pub mod leaves;
+#[cfg(test)]
+mod tests;
+pub mod token;
+pub mod tree;
+pub mod weights;
+pub mod words;
+
+pub use fault::{QueryFault, QueryReason};
+pub use kinds::kind_of;
+pub use leaves::{Chain, Designator, Field, Kind, Mark, Of, Outcome, Pair, Plain, Unary, Way};
+pub use token::{QueryToken, QueryTokenKind};
+pub use tree::{Body, Constituent, Constituents, Filter, Filters, Form, Line, Query, Term, Terms};
+pub use weights::{WEIGHT_LIMIT, weight};
+pub use words::{is_reserved, word_number};

@@ -1,0 +1,58 @@
+//! The tokens of a query text.
+
+use crate::leaves::{Designator, Outcome};
+use cq_outside::Bytes;
+
+/// A token, and where it stands.
+#[derive(Drop, Debug)]
+pub struct QueryToken {
+    /// The place of its first byte in the query, from 0. Of the end, the number of bytes.
+    pub at: u32,
+    pub kind: QueryTokenKind,
+}
+
+/// What a token is.
+#[derive(Drop, Debug)]
+pub enum QueryTokenKind {
+    /// A word of the language, by its number in the list of the words, from 0.
+    Word(u16),
+    /// A name that a query may not use, since other versions of the language have it as a word.
+    Reserved(Bytes),
+    /// Any other name.
+    Name(Bytes),
+    /// Men, squares, or men on squares.
+    Squares(Designator),
+    /// At most 999,999,999.
+    Number(u32),
+    /// What stands between two quotes.
+    Text(Bytes),
+    /// The name of a file behind `input` or `output`.
+    FileName(Bytes),
+    /// A result of a game behind `result`.
+    Outcome(Outcome),
+    /// A mark, by its number, from 0, in `-->`, `<--`, `<=`, `>=`, `==`, `<`, `>`, `+`, `-`, `*`, `?`, `#`, `|`, `&`,
+    /// `~`, `(`, `)`, `{`, `}`, `,`.
+    Mark(u8),
+    /// The end of the query.
+    End,
+}
+
+#[cfg(test)]
+mod tests {
+    use super::*;
+    use crate::fault::{QueryFault, QueryReason};
+
+    fn may_be_shared<T: Send + Sync>(_value: &T) {}
+
+    #[test]
+    fn tokens_and_faults_may_be_shared() {
+        may_be_shared(&QueryToken {
+            at: 0,
+            kind: QueryTokenKind::End,
+        });
+        may_be_shared(&QueryFault {
+            byte: 0,
+            reason: QueryReason::BadByte,
+        });
+    }
+}

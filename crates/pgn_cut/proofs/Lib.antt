@@ -1,0 +1,6 @@
+pub mod Joins
+pub mod Loop
+pub mod Meets
+pub mod Order
+pub mod Pushes
+mod Rows

@@ -1,0 +1,38 @@
+-- What the code keeps of a game that is being cut.
+use Rattle.std.specs.Prelude.{ℕ, Bool, false, not, List, [], ◌∷◌, ◌++◌, ◌≡◌, Option, None, Some, fold}
+use Rattle.std.specs.List.{list_all}
+use Rattle.std.specs.Option.{option_to_list}
+use Rattle.pgn_lexer.specs.Lexemes.{Lexeme}
+use Rattle.pgn_cut.specs.Cut.{depth, opens_pair, has_movetext, is_passed_over, cut_from}
+use Rattle.pgn_cut.specs.declared.span.Span.{Span}
+use Rattle.pgn_cut.specs.declared.game.Start.{Start}
+use Rattle.pgn_cut.specs.declared.game.Game.{Game}
+
+-- where a game begins
+abbrev pub start_of : List Lexeme → Option Start
+start_of [] = None
+start_of (l ∷ ls) = Some (record { at = l.at; first = l.first })
+
+-- the span from there to a place
+abbrev pub span_from : ℕ → Option Start → Option Span
+span_from place None = None
+span_from place (Some start) = Some (record { start = start.at; end = place; first = start.first })
+
+-- whether a tag pair is open behind some lexemes
+abbrev pub in_pair : List Lexeme → Bool
+in_pair game = fold (λ open_ l. opens_pair open_ l.kind) false game
+
+-- whether some lexeme is more than a closed comment or an escape line
+abbrev pub has_more : List Lexeme → Bool
+has_more game = not (list_all (λ l. is_passed_over l.kind) game)
+
+-- what is kept of a game with these lexemes
+unfoldable pub progress_of : List Lexeme → Game
+progress_of game = record { start = start_of game; depth = depth game; in_pair = in_pair game; has_movetext = has_movetext game; has_more = has_more game }
+
+-- A step over a lexeme is a step of the cut: whatever lexemes stand for the state before, some stand for the one now,
+-- and the games of what follows are the same but for the one that was closed.
+pub record Steps (now : Game) (closed : Option Span) (l : Lexeme) (game : List Lexeme) : Type 0 where
+  pub kept : List Lexeme
+  pub stands : now ≡ progress_of kept
+  pub cuts : (place : ℕ) (rest : List Lexeme) → cut_from place game (l ∷ rest) ≡ option_to_list closed ++ cut_from place kept rest

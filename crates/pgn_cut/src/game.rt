@@ -1,0 +1,213 @@
+//! A game that is being cut: what its lexemes show so far.
+ghost use Rattle.std.specs.Prelude.{◌≡◌, ◌+◌, ◌<◌, ◌≤◌, ◌^◌, ◌++◌, ◌||◌, ◌&&◌, ◌==◌, not, ℕ, List, [], ◌∷◌, length};
+ghost use Rattle.std.specs.Option.{option_to_list};
+ghost use Rattle.pgn_lexer.specs.Lexemes.{Lexeme as ALexeme};
+ghost use Rattle.pgn_lexer.specs.Shown.{shown};
+ghost use Rattle.pgn_cut.specs.Cut.{is_result, marks, nest, opens_pair, is_movetext, is_passed_over, opens, cut_from};
+ghost use Rattle.pgn_cut.specs.Progress.{progress_of, span_from, Steps};
+
+use crate::span::Span;
+use pgn_lexer::{Lexeme, LexemeKind, TokenKind};
+
+/// Where a game begins.
+#[derive(Clone, Copy)]
+pub(crate) struct Start {
+    at: u64,
+    first: bool,
+}
+
+/// What the lexemes of a game show so far.
+#[derive(Clone, Copy)]
+pub(crate) struct Game {
+    start: Option<Start>,
+    depth: usize,
+    in_pair: bool,
+    has_movetext: bool,
+    has_more: bool,
+}
+
+/// Whether a symbol is the marker of a result.
+fn is_result(text: &[u8]) -> bool
+    ensures { result ≡ is_result text.now }
+{
+    text == b"1-0".as_slice() || text == b"0-1".as_slice() || text == b"1/2-1/2".as_slice()
+}
+
+/// Whether a lexeme marks the end of a game.
+fn is_marker(lexeme: Lexeme<'_>) -> bool
+    ensures { result ≡ marks lexeme.entry.kind lexeme.entry.text.now }
+{
+    match lexeme.kind {
+        LexemeKind::Token(TokenKind::Star) => true,
+        LexemeKind::Token(TokenKind::Symbol) => is_result(lexeme.text),
+        _ => false,
+    }
+}
+
+/// The depth of variations behind a lexeme.
+fn nest(depth: usize, kind: LexemeKind) -> usize
+    requires { depth < 2 ^ 62 }
+    ensures value { result ≡ nest depth kind }
+    ensures step { result ≤ depth + 1 }
+{
+    match kind {
+        LexemeKind::Token(TokenKind::LeftParen) => depth + 1,
+        LexemeKind::Token(TokenKind::RightParen) => depth.saturating_sub(1),
+        _ => depth,
+    }
+}
+
+/// Whether a tag pair is open behind a lexeme.
+fn opens_pair(in_pair: bool, kind: LexemeKind) -> bool
+    ensures { result ≡ opens_pair in_pair kind }
+{
+    match kind {
+        LexemeKind::Token(TokenKind::Open) => true,
+        LexemeKind::Token(TokenKind::Close) => false,
+        _ => in_pair,
+    }
+}
+
+/// Whether a lexeme is movetext where it stands outside a tag pair.
+fn is_movetext(kind: LexemeKind) -> bool
+    ensures { result ≡ is_movetext kind }
+{
+    match kind {
+        LexemeKind::EscapeLine => false,
+        LexemeKind::Token(kind) => matches!(
+            kind,
+            TokenKind::Symbol
+                | TokenKind::Period
+                | TokenKind::Star
+                | TokenKind::LeftParen
+                | TokenKind::RightParen
+                | TokenKind::Nag(_)
+                | TokenKind::Null
+                | TokenKind::BadByte
+        ),
+    }
+}
+
+/// Whether a lexeme alone makes no game.
+fn is_passed_over(kind: LexemeKind) -> bool
+    ensures { result ≡ is_passed_over kind }
+{
+    matches!(
+        kind,
+        LexemeKind::EscapeLine | LexemeKind::Token(TokenKind::Comment | TokenKind::LineComment)
+    )
+}
+
+/// Whether a lexeme opens a tag pair.
+fn opens(kind: LexemeKind) -> bool
+    ensures { result ≡ opens kind }
+{
+    matches!(kind, LexemeKind::Token(TokenKind::Open))
+}
+
+impl Game {
+    /// A game without lexemes.
+    #[tactic(auto, unfolding(crate::specs::Progress::progress_of))]
+    pub(crate) fn new() -> Game
+        ensures value { result ≡ progress_of [] }
+        ensures flat { result.depth ≡ 0 }
+    {
+        Game {
+            start: None,
+            depth: 0,
+            in_pair: false,
+            has_movetext: false,
+            has_more: false,
+        }
+    }
+
+    /// Whether the game has movetext, a further lexeme included.
+    fn sees_movetext(self, kind: LexemeKind) -> bool
+        ensures { result ≡ (self.has_movetext || (is_movetext kind && not self.in_pair)) }
+    {
+        self.has_movetext || (is_movetext(kind) && !self.in_pair)
+    }
+
+    /// Whether the game has more than closed comments and escape lines, a further lexeme included.
+    fn sees_more(self, kind: LexemeKind) -> bool
+        ensures { result ≡ (self.has_more || not (is_passed_over kind)) }
+    {
+        self.has_more || !is_passed_over(kind)
+    }
+
+    /// The game with one more lexeme, whose place counts from `offset`.
+    #[tactic(auto, using(crate::proofs::Pushes::progress_push))]
+    fn with(self, lexeme: Lexeme<'_>, offset: u64) -> Game
+        requires depth { self.depth < 2 ^ 62 }
+        requires place { offset + lexeme.at < 2 ^ 63 }
+        ensures value { (game : List ALexeme) → self ≡ progress_of game → result ≡ progress_of (game ++ shown offset lexeme.entry ∷ []) }
+        ensures deeper { result.depth ≤ self.depth + 1 }
+    {
+        let start = Start {
+            at: offset + lexeme.at as u64,
+            first: lexeme.first,
+        };
+        Game {
+            start: Some(self.start.unwrap_or(start)),
+            depth: nest(self.depth, lexeme.kind),
+            in_pair: opens_pair(self.in_pair, lexeme.kind),
+            has_movetext: self.sees_movetext(lexeme.kind),
+            has_more: self.sees_more(lexeme.kind),
+        }
+    }
+
+    /// The span of the game up to a place.
+    fn span_to(self, place: u64) -> Option<Span>
+        ensures { result ≡ span_from place self.start }
+    {
+        self.start.map(|start| Span {
+            start: start.at,
+            end: place,
+            first: start.first,
+        })
+    }
+
+    /// The last game of an archive that ends at a place, where there is one.
+    pub(crate) fn last(self, place: u64) -> Option<Span>
+        ensures { (game : List ALexeme) → self ≡ progress_of game → option_to_list result ≡ cut_from place game [] }
+    {
+        if self.has_more {
+            self.span_to(place)
+        } else {
+            None
+        }
+    }
+
+    /// Whether the game ends before a lexeme: a `[` in the first column, where it has movetext.
+    fn ends_before(self, lexeme: Lexeme<'_>) -> bool
+        ensures { result ≡ (opens lexeme.entry.kind && lexeme.entry.first && self.has_movetext) }
+    {
+        opens(lexeme.kind) && lexeme.first && self.has_movetext
+    }
+
+    /// Whether the game ends behind a lexeme: a marker outside variations.
+    fn ends_behind(self, lexeme: Lexeme<'_>) -> bool
+        ensures { result ≡ (marks lexeme.entry.kind lexeme.entry.text.now && self.depth == 0) }
+    {
+        is_marker(lexeme) && self.depth == 0
+    }
+
+    /// Meets the next lexeme of the archive, whose place counts from `offset`: the game that is open behind it, and the
+    /// one that it closes, where it closes one.
+    pub(crate) fn meet(self, lexeme: Lexeme<'_>, offset: u64) -> (Game, Option<Span>)
+        requires depth { self.depth < 2 ^ 62 }
+        requires place { offset + lexeme.at + length lexeme.text.now < 2 ^ 63 }
+        ensures deeper { result.0.depth ≤ self.depth + 1 }
+        ensures cuts { (game : List ALexeme) → self ≡ progress_of game → Steps result.0 result.1 (shown offset lexeme.entry) game }
+    {
+        let at = offset + lexeme.at as u64;
+        if self.ends_before(lexeme) {
+            return (Game::new().with(lexeme, offset), self.span_to(at));
+        }
+        let game = self.with(lexeme, offset);
+        if self.ends_behind(lexeme) {
+            return (Game::new(), game.span_to(at + lexeme.text.len() as u64));
+        }
+        (game, None)
+    }
+}

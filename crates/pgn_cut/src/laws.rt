@@ -1,0 +1,23 @@
+//! Laws of the cut, for the crates above. Each is proved for all archives; to call one costs nothing.
+ghost use Rattle.std.specs.Prelude.{ℕ, List, All, length};
+ghost use Rattle.pgn_cut.specs.Cut.{cut};
+ghost use Rattle.pgn_cut.specs.Joined.{HasItsTokens};
+ghost use Rattle.pgn_cut.specs.Spans.{EndsBy, AreInOrder};
+
+use pgn_lexer::{lexemes_are_local, lexemes_stand_apart};
+
+/// The games of a cut stand in their archive in order, each with at least one byte, and don't overlap.
+pub fn games_stand_apart()
+    ensures order { (archive : List ℕ) → AreInOrder 0 (length archive) (cut archive) }
+    ensures each { (archive : List ℕ) → All (EndsBy (length archive)) (cut archive) }
+{
+    lexemes_stand_apart();
+}
+
+/// The tokens of each game of a cut are the archive's lexemes within it: cut and tokens read the bytes alike.
+pub fn games_have_their_tokens()
+    ensures { (archive : List ℕ) → All (HasItsTokens archive) (cut archive) }
+{
+    lexemes_stand_apart();
+    lexemes_are_local();
+}

@@ -1,0 +1,16 @@
+//! An archive of PGN, cut into its games.
+//!
+//! `specs/Cut` says where games begin and end, by the lexemes of the whole archive; `cut_whole` gives exactly these.
+//! The laws say that games stand in order, and that the tokens of a game are the archive's lexemes within it.
+#![tactic(auto)]
+
+mod game;
+pub mod laws;
+pub mod span;
+#[cfg(test)]
+mod tests;
+pub mod whole;
+
+pub use laws::{games_have_their_tokens, games_stand_apart};
+pub use span::Span;
+pub use whole::cut_whole;

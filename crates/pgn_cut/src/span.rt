@@ -1,0 +1,10 @@
+//! Where a game stands in its archive.
+
+/// A game of an archive: the place of its first byte, the place behind its last, and whether its first byte stands in
+/// the first column. Places count from the archive's first byte.
+#[derive(Clone, Copy, Debug, PartialEq, Eq)]
+pub struct Span {
+    pub start: u64,
+    pub end: u64,
+    pub first: bool,
+}

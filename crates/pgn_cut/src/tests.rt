@@ -1,0 +1,100 @@
+//! Cuts of archives from outside, and calls that find memory.
+use crate::{Span, cut_whole, games_have_their_tokens, games_stand_apart};
+use pgn_lexer::tokens;
+use std::test::Fail;
+
+/// A row of the table: an archive, and the start, the end and the column of each of its games.
+type Row<'a> = (&'a [u8], &'a [(u64, u64, bool)]);
+
+static ROWS: [Row<'static>; 23] = [
+    (b"", &[]),
+    (b" \r\n\t ", &[]),
+    (b"\xef\xbb\xbf", &[]),
+    (b"\xef\xbb\xbf[A \"b\"] *\n", &[(3, 12, true)]),
+    (b"\xef\xbb*", &[(0, 3, true)]),
+    (b"* * *", &[(0, 1, true), (2, 3, false), (4, 5, false)]),
+    (b"*\n*", &[(0, 1, true), (2, 3, true)]),
+    (b"1. e4 *1. d4 *", &[(0, 7, true), (7, 14, false)]),
+    (
+        b"1. e4\n\n[A \"b\"]\n1. d4 *",
+        &[(0, 7, true), (7, 22, true)],
+    ),
+    (b"1. e4\n [A \"b\"]\n*", &[(0, 16, true)]),
+    (b"e4 {\n[A \"b\"]\n} *", &[(0, 16, true)]),
+    (b"e4 \"a\n[A \"b\"]\n*", &[(0, 6, true), (6, 15, true)]),
+    (b"{c}\n[A \"b\"]\n[C \"d\"]\n*", &[(0, 21, true)]),
+    (b"]\n[A \"b\"]\n*", &[(0, 11, true)]),
+    (
+        b"e4 (d4 1-0 (*)) e5 0-1 x",
+        &[(0, 22, true), (23, 24, false)],
+    ),
+    (b"[1-0 \"x\"]", &[(0, 4, true), (5, 9, false)]),
+    (b"e4 {*} ;1-0\n1/2-1/2", &[(0, 19, true)]),
+    (b"1-0x 1-0", &[(0, 8, true)]),
+    (b"* {a} ;b\n%c", &[(0, 1, true)]),
+    (b"{a} *", &[(0, 5, true)]),
+    (b"* {a", &[(0, 1, true), (2, 4, false)]),
+    (b")) e4 * (e5 *) *", &[(0, 7, true), (8, 16, false)]),
+    (b"1. e4 (1. d4\n ", &[(0, 14, true)]),
+];
+
+#[test]
+fn archives_have_their_games(rt: HostRuntime) -> Result<(), Fail> {
+    games_have_their_tokens();
+    games_stand_apart();
+    for (archive, want) in ROWS.iter() {
+        assert!(rt; archive.len() <= 64);
+        let found = cut_whole(rt.alloc(), archive)?;
+        assert_eq!(rt; found.len(), want.len(), "in {archive:?}");
+        for (game, (start, end, first)) in found.iter().zip(want.iter()) {
+            assert_eq!(rt; game.start, *start, "in {archive:?}");
+            assert_eq!(rt; game.end, *end, "in {archive:?}");
+            assert_eq!(rt; game.first, *first, "in {archive:?}");
+        }
+    }
+    Ok(())
+}
+
+/// Texts, how often each is repeated to give 16 MiB, and how many games and tokens that has: the work grows with the
+/// length alone.
+static LONG: [(&'static [u8], usize, usize, usize); 5] = [
+    (b"{", 16_777_216, 1, 1),
+    (b"(", 16_777_216, 1, 16_777_216),
+    (b"\"x\n", 5_592_405, 1, 5_592_405),
+    (b"1-", 8_388_608, 1, 1),
+    (
+        b"[Event \"x\"]\n\n1. e4 e5 2. Nf3 {the move} Nc6 $1 3. Bb5 a6!? 1-0\n\n",
+        262_144,
+        262_144,
+        5_242_880,
+    ),
+];
+
+#[test]
+fn long_archives_are_cut_and_read_once(rt: HostRuntime) -> Result<(), Fail> {
+    for (text, times, games, count) in LONG.iter() {
+        let mut archive = Vec::new(rt.alloc());
+        for _ in 0..*times {
+            archive.extend_from_slice(text)?;
+        }
+        assert!(rt; archive.len() <= 1 << 24);
+        assert_eq!(rt; cut_whole(rt.alloc(), archive.as_slice())?.len(), *games);
+        assert_eq!(rt;
+            tokens(rt.alloc(), archive.as_slice(), 0, true)?.len(),
+            *count
+        );
+    }
+    Ok(())
+}
+
+/// What workers share may be sent to them and read by them.
+fn may_be_shared<T: Send + Sync + Drop>(_value: T) {}
+
+#[test]
+fn spans_may_be_shared() {
+    may_be_shared(Span {
+        start: 0,
+        end: 1,
+        first: true,
+    });
+}

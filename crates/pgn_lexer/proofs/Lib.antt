@@ -1,0 +1,11 @@
+pub mod Apart
+pub mod Fronts
+pub mod Glyphs
+pub mod Lists
+pub mod Local
+pub mod Places
+pub mod Longest
+mod Rows
+pub mod Spelled
+pub mod Walk
+pub mod Within

@@ -1,0 +1,6 @@
+pub mod Bytes
+pub mod Grammar
+pub mod Lexemes
+pub mod Local
+pub mod Readings
+pub mod Shown

@@ -1,0 +1,102 @@
+-- The longest reading at a place: sections 5, 6 and 7 of the PGN standard, with its section 8.2.3.8 on suffixes.
+use Rattle.std.specs.Prelude.{ℕ, ◌+◌, Bool, false, not, ◌==◌, ◌||◌, ◌&&◌, nat_lt, List, [], ◌∷◌, length, take, min, slice_index, if◌then◌else◌}
+use Rattle.std.specs.List.{prefix_len, position_or_len}
+use Rattle.std.specs.Char.{is_ascii_digit, is_ascii_alphanumeric}
+use Rattle.std.specs.Str.Parse.{digits_value}
+use Rattle.pgn_lexer.specs.Bytes.{ends_line, continues_symbol}
+use Rattle.pgn_lexer.specs.declared.token.TokenKind.{TokenKind}
+use Rattle.pgn_lexer.specs.declared.token.TokenKind.TheVariants.{Open, Close, Text, Symbol, Period, Star, LeftParen, RightParen, Nag, Null, Comment, LineComment, BadByte, UnclosedComment, UnclosedText}
+use Rattle.pgn_lexer.specs.declared.token.LexemeKind.TheVariants.{EscapeLine, Token}
+use Rattle.pgn_lexer.specs.declared.token.Reading.{Reading}
+
+-- a token of so many bytes
+abbrev pub token : TokenKind → ℕ → Reading
+token kind len = record { kind = Token kind; len = len }
+
+-- `rest` below is what stands behind the first byte of the reading
+
+-- section 5: a comment goes from { to the next }, and doesn't nest; without } it takes all the rest
+unfoldable pub comment : List ℕ → Reading
+comment rest =
+    let body = position_or_len (λ b. b == 125) rest in
+    if nat_lt body (length rest) then token Comment (body + 2) else token UnclosedComment (body + 1)
+
+-- section 5: a comment goes from ; to the line's end
+unfoldable pub line_comment : List ℕ → Reading
+line_comment rest = token LineComment (position_or_len ends_line rest + 1)
+
+-- section 6: % in the first column, and the line behind it
+unfoldable pub escape_line : List ℕ → Reading
+escape_line rest = record { kind = EscapeLine; len = position_or_len ends_line rest + 1 }
+
+-- a string ends before a line's end always, and before a quote unless a backslash takes that with it
+abbrev pub ends_body : (backslash : Bool) → ℕ → Bool
+ends_body backslash b = ends_line b || (b == 34 && not backslash)
+
+-- a backslash takes the next byte with it unless another takes it
+abbrev pub takes_next : (backslash : Bool) → ℕ → Bool
+takes_next backslash b = b == 92 && not backslash
+
+-- how many bytes of a string stand before its end; `backslash` says that one takes the first of them with it
+unfoldable pub body_len : (backslash : Bool) → List ℕ → ℕ
+body_len backslash [] = 0
+body_len backslash (b ∷ bs) = if ends_body backslash b then 0 else 1 + body_len (takes_next backslash b) bs
+
+-- section 7: a string goes from quote to quote, on one line
+unfoldable pub text : List ℕ → Reading
+text rest =
+    let body = body_len false rest in
+    if slice_index rest body == 34 then token Text (body + 2) else token UnclosedText (body + 1)
+
+-- section 7: a symbol begins with a letter or digit
+unfoldable pub symbol : List ℕ → Reading
+symbol rest = token Symbol (prefix_len continues_symbol rest + 1)
+
+-- section 7: a Numeric Annotation Glyph is $ and a number, here cut at 256, which is beyond the standard's range
+unfoldable pub nag : List ℕ → Reading
+nag rest =
+    let digits = prefix_len is_ascii_digit rest in
+    if digits == 0 then token BadByte 1 else token (Nag (min 256 (digits_value 10 (take digits rest)))) (digits + 1)
+
+-- section 8.2.3.8: the suffixes stand for the glyphs 1 to 6
+unfoldable pub good_suffix : List ℕ → Reading
+good_suffix rest =
+    if slice_index rest 0 == 33 then token (Nag 3) 2
+    else (if slice_index rest 0 == 63 then token (Nag 5) 2
+    else token (Nag 1) 1)
+
+unfoldable pub poor_suffix : List ℕ → Reading
+poor_suffix rest =
+    if slice_index rest 0 == 63 then token (Nag 4) 2
+    else (if slice_index rest 0 == 33 then token (Nag 6) 2
+    else token (Nag 2) 1)
+
+-- the null move --, which is no part of the standard
+unfoldable pub null_move : List ℕ → Reading
+null_move rest = if slice_index rest 0 == 45 then token Null 2 else token BadByte 1
+
+-- section 7: the tokens of one byte; any other byte is a bad one
+unfoldable pub single : ℕ → Reading
+single b =
+    if b == 91 then token Open 1
+    else (if b == 93 then token Close 1
+    else (if b == 40 then token LeftParen 1
+    else (if b == 41 then token RightParen 1
+    else (if b == 46 then token Period 1
+    else (if b == 42 then token Star 1
+    else token BadByte 1)))))
+
+-- the longest reading of a byte, which isn't white space, with what stands behind it;
+-- `first` says whether the byte stands in the first column
+unfoldable pub reading : (first : Bool) → ℕ → List ℕ → Reading
+reading first b rest =
+    if is_ascii_alphanumeric b then symbol rest
+    else (if b == 123 then comment rest
+    else (if b == 59 then line_comment rest
+    else (if b == 37 && first then escape_line rest
+    else (if b == 34 then text rest
+    else (if b == 36 then nag rest
+    else (if b == 33 then good_suffix rest
+    else (if b == 63 then poor_suffix rest
+    else (if b == 45 then null_move rest
+    else single b))))))))

@@ -1,0 +1,30 @@
+//! The tokens of a game.
+ghost use Rattle.std.specs.Prelude.{◌≡◌, ◌<◌, ◌≤◌, ◌^◌, length, IfOk};
+ghost use Rattle.pgn_lexer.specs.Lexemes.{tokens_of};
+
+use crate::lexeme::next_lexeme;
+use crate::token::{LexemeKind, Token};
+use cq_outside::NoMemory;
+use std::alloc::Global;
+
+/// The tokens of a text of at most 2^24 bytes. `start` is the place of its first byte in the archive, from which the
+/// tokens' places count, and `first` says whether that byte stands in the first column. Refused where no memory is found.
+pub fn tokens(alloc: Global, bytes: &[u8], start: u64, first: bool) -> Result<Vec<Token>, NoMemory>
+    requires size { length bytes.now ≤ 2 ^ 24 }
+    requires place { start < 2 ^ 62 }
+    ensures { IfOk result (λ v. v.items ≡ tokens_of start first bytes.now) }
+{
+    let mut tokens = Vec::new(alloc);
+    let mut at = 0;
+    while let Some(lexeme) = next_lexeme(bytes, at, first) {
+        if let LexemeKind::Token(kind) = lexeme.kind {
+            tokens.push(Token {
+                at: start + lexeme.at as u64,
+                len: lexeme.text.len() as u32,
+                kind,
+            })?;
+        }
+        at = lexeme.at + lexeme.text.len();
+    }
+    Ok(tokens)
+}

@@ -1,0 +1,62 @@
+//! The lexemes of a text, one after the other.
+ghost use Rattle.std.specs.Prelude.{◌≡◌, ◌+◌, ◌<◌, ◌≤◌, ℕ, [], ◌∷◌, length, IfNone, IfSome};
+ghost use Rattle.std.specs.List.{prefix_len};
+ghost use Rattle.pgn_lexer.specs.Bytes.{is_white};
+ghost use Rattle.pgn_lexer.specs.Lexemes.{first_at, lexemes_at};
+ghost use Rattle.pgn_lexer.specs.Shown.{shown};
+
+use crate::reading::{is_white, longest_reading};
+use crate::token::LexemeKind;
+
+/// A lexeme of some bytes: its place among them, whether it begins in the first column, its bytes and its kind.
+#[derive(Clone, Copy, Debug)]
+pub struct Lexeme<'a> {
+    pub at: usize,
+    pub first: bool,
+    pub text: &'a [u8],
+    pub kind: LexemeKind,
+}
+
+/// How many bytes at the front are white space.
+fn white_len(bytes: &[u8]) -> usize
+    ensures value { result ≡ prefix_len is_white bytes.now }
+    ensures within { result ≤ length bytes.now }
+{
+    bytes.iter().take_while(|b| is_white(**b)).count()
+}
+
+/// Whether the byte at a place stands in the first column; `first` says so of the first byte.
+fn in_first_column(bytes: &[u8], at: usize, first: bool) -> bool
+    requires { at ≤ length bytes.now }
+    ensures { result ≡ first_at first bytes.now at }
+{
+    if at == 0 {
+        first
+    } else {
+        bytes[at - 1] == b'\n'
+    }
+}
+
+/// The next lexeme from a place on, which no lexeme crosses. `first` says whether the first byte of all stands in the
+/// first column. None where white space alone is left.
+pub fn next_lexeme(bytes: &[u8], at: usize, first: bool) -> Option<Lexeme<'_>>
+    requires { at ≤ length bytes.now }
+    ensures none { IfNone result ((start : ℕ) → lexemes_at start first bytes.now at ≡ []) }
+    ensures next { IfSome result (λ l. (start : ℕ) →
+        lexemes_at start first bytes.now at ≡ shown start l ∷ lexemes_at start first bytes.now (l.at + length l.text.now)) }
+    ensures within { IfSome result (λ l. (at ≤ l.at) × (0 < length l.text.now) × (l.at + length l.text.now ≤ length bytes.now)) }
+{
+    let at = at + white_len(&bytes[at..]);
+    if at == bytes.len() {
+        return None;
+    }
+    let rest = &bytes[at..];
+    let first = in_first_column(bytes, at, first);
+    let reading = longest_reading(rest[0], &rest[1..], first);
+    Some(Lexeme {
+        at,
+        first,
+        text: &rest[..reading.len],
+        kind: reading.kind,
+    })
+}

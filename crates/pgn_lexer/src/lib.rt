@@ -1,0 +1,21 @@
+//! The tokens of PGN, read from bytes: sections 5 to 8 of the standard.
+//!
+//! `specs/Grammar` says which texts are lexemes of which kind. `specs/Readings` says what is read at a place, and
+//! `readings_are_longest` that this is the longest lexeme there. `specs/Lexemes` takes the readings off the front of a
+//! text, one after the other; `tokens` gives exactly these, without escape lines. The laws say that lexemes stand in
+//! order, and that those of a part of a text are the text's within it.
+#![tactic(auto)]
+
+pub mod game;
+pub mod laws;
+pub mod lexeme;
+pub mod reading;
+#[cfg(test)]
+mod tests;
+pub mod token;
+
+pub use game::tokens;
+pub use laws::{lexemes_are_local, lexemes_stand_apart, readings_are_longest};
+pub use lexeme::{Lexeme, next_lexeme};
+pub use reading::{is_white, longest_reading};
+pub use token::{LexemeKind, Reading, Token, TokenKind};

@@ -1,0 +1,249 @@
+//! The longest reading at a place.
+ghost use Rattle.std.specs.Prelude.{◌≡◌, false, ◌+◌, ◌<◌, ◌≤◌, ℕ, ◌==◌, min, length, drop, slice_index};
+ghost use Rattle.std.specs.List.{prefix_len, position_or_len, AllPass};
+ghost use Rattle.std.specs.Char.{is_ascii_digit};
+ghost use Rattle.std.specs.Str.Parse.{digits_value};
+ghost use Rattle.pgn_lexer.specs.Bytes.{is_white, ends_line, continues_symbol};
+ghost use Rattle.pgn_lexer.specs.Readings.{token, comment, line_comment, escape_line, ends_body, takes_next, body_len, text, symbol, nag, good_suffix, poor_suffix, null_move, single, reading};
+
+use crate::token::{LexemeKind, Reading, TokenKind};
+use memchr::memchr;
+
+/// Whether a byte is white space: 0x09 to 0x0D or the space.
+pub fn is_white(b: u8) -> bool
+    ensures { result ≡ is_white b }
+{
+    matches!(b, 0x09..=0x0d | b' ')
+}
+
+/// Whether a symbol goes on with this byte.
+fn continues_symbol(b: u8) -> bool
+    ensures { result ≡ continues_symbol b }
+{
+    b.is_ascii_alphanumeric() || matches!(b, b'_' | b'+' | b'#' | b'=' | b':' | b'-' | b'/')
+}
+
+/// A token of so many bytes.
+fn token(kind: TokenKind, len: usize) -> Reading
+    ensures { result ≡ token kind len }
+{
+    Reading {
+        kind: LexemeKind::Token(kind),
+        len,
+    }
+}
+
+/// The place of the first such byte, or the length where there is none.
+fn place_of(byte: u8, bytes: &[u8]) -> usize
+    ensures value { result ≡ position_or_len (λ b. b == byte) bytes.now }
+    ensures within { result ≤ length bytes.now }
+{
+    memchr(byte, bytes).unwrap_or(bytes.len())
+}
+
+/// How many bytes at the front continue a symbol.
+fn symbol_len(bytes: &[u8]) -> usize
+    ensures value { result ≡ prefix_len continues_symbol bytes.now }
+    ensures within { result ≤ length bytes.now }
+{
+    bytes.iter().take_while(|b| continues_symbol(**b)).count()
+}
+
+/// How many bytes at the front are digits.
+fn digits_len(bytes: &[u8]) -> usize
+    ensures value { result ≡ prefix_len is_ascii_digit bytes.now }
+    ensures within { result ≤ length bytes.now }
+{
+    bytes.iter().take_while(|b| b.is_ascii_digit()).count()
+}
+
+/// A comment from its brace; `rest` is what stands behind that.
+#[tactic(auto, unfolding(crate::specs::Readings::comment))]
+fn comment(rest: &[u8]) -> Reading
+    ensures { result ≡ comment rest.now }
+{
+    let body = place_of(b'}', rest);
+    if body < rest.len() {
+        token(TokenKind::Comment, body + 2)
+    } else {
+        token(TokenKind::UnclosedComment, body + 1)
+    }
+}
+
+/// A comment from its semicolon.
+#[tactic(auto, unfolding(crate::specs::Readings::line_comment))]
+fn line_comment(rest: &[u8]) -> Reading
+    ensures { result ≡ line_comment rest.now }
+{
+    token(TokenKind::LineComment, place_of(b'\n', rest) + 1)
+}
+
+/// An escape line from its percent sign.
+#[tactic(auto, unfolding(crate::specs::Readings::escape_line))]
+fn escape_line(rest: &[u8]) -> Reading
+    ensures { result ≡ escape_line rest.now }
+{
+    Reading {
+        kind: LexemeKind::EscapeLine,
+        len: place_of(b'\n', rest) + 1,
+    }
+}
+
+/// Whether a string ends before this byte.
+fn ends_body(b: u8, backslash: bool) -> bool
+    ensures { result ≡ ends_body backslash b }
+{
+    b == b'\n' || (b == b'"' && !backslash)
+}
+
+/// Whether this byte is a backslash that takes the next byte with it.
+fn takes_next(b: u8, backslash: bool) -> bool
+    ensures { result ≡ takes_next backslash b }
+{
+    b == b'\\' && !backslash
+}
+
+/// How many bytes of a string stand before its closing quote or its line's end.
+#[tactic(auto, using(crate::proofs::Places::body_ends, crate::proofs::Places::body_goes, crate::proofs::Places::body_at_end))]
+fn body_len(rest: &[u8]) -> usize
+    ensures value { result ≡ body_len false rest.now }
+    ensures within { result ≤ length rest.now }
+{
+    let mut backslash = false;
+    for (i, b) in rest.iter().enumerate() {
+        if ends_body(*b, backslash) {
+            return i;
+        }
+        backslash = takes_next(*b, backslash);
+    }
+    rest.len()
+}
+
+/// A string from its quote.
+#[tactic(auto, unfolding(crate::specs::Readings::text))]
+fn text(rest: &[u8]) -> Reading
+    ensures { result ≡ text rest.now }
+{
+    let body = body_len(rest);
+    if body < rest.len() && rest[body] == b'"' {
+        token(TokenKind::Text, body + 2)
+    } else {
+        token(TokenKind::UnclosedText, body + 1)
+    }
+}
+
+/// A symbol from its first letter or digit.
+#[tactic(auto, unfolding(crate::specs::Readings::symbol))]
+fn symbol(rest: &[u8]) -> Reading
+    ensures { result ≡ symbol rest.now }
+{
+    token(TokenKind::Symbol, symbol_len(rest) + 1)
+}
+
+/// The number that digits write, every one above 255 as 256.
+#[tactic(auto, using(crate::proofs::Glyphs::glyph_more, crate::proofs::Glyphs::digit_is))]
+fn glyph(digits: &[u8]) -> u32
+    requires { AllPass is_ascii_digit digits.now }
+    ensures { result ≡ min 256 (digits_value 10 digits.now) }
+{
+    let mut number = 0;
+    for digit in digits {
+        number = (number * 10 + u32::from(*digit - b'0')).min(256);
+    }
+    number
+}
+
+/// A glyph from its dollar sign.
+#[tactic(auto, using(crate::proofs::Glyphs::front_digits), unfolding(crate::specs::Readings::nag))]
+fn nag(rest: &[u8]) -> Reading
+    ensures { result ≡ nag rest.now }
+{
+    let digits = digits_len(rest);
+    if digits == 0 {
+        token(TokenKind::BadByte, 1)
+    } else {
+        token(TokenKind::Nag(glyph(&rest[..digits])), digits + 1)
+    }
+}
+
+/// The glyph of a suffix that begins with an exclamation mark.
+#[tactic(auto, unfolding(crate::specs::Readings::good_suffix))]
+fn good_suffix(rest: &[u8]) -> Reading
+    ensures { result ≡ good_suffix rest.now }
+{
+    match rest.first() {
+        Some(b'!') => token(TokenKind::Nag(3), 2),
+        Some(b'?') => token(TokenKind::Nag(5), 2),
+        _ => token(TokenKind::Nag(1), 1),
+    }
+}
+
+/// The glyph of a suffix that begins with a question mark.
+#[tactic(auto, unfolding(crate::specs::Readings::poor_suffix))]
+fn poor_suffix(rest: &[u8]) -> Reading
+    ensures { result ≡ poor_suffix rest.now }
+{
+    match rest.first() {
+        Some(b'?') => token(TokenKind::Nag(4), 2),
+        Some(b'!') => token(TokenKind::Nag(6), 2),
+        _ => token(TokenKind::Nag(2), 1),
+    }
+}
+
+/// A null move from its first hyphen.
+#[tactic(auto, unfolding(crate::specs::Readings::null_move))]
+fn null_move(rest: &[u8]) -> Reading
+    ensures { result ≡ null_move rest.now }
+{
+    match rest.first() {
+        Some(b'-') => token(TokenKind::Null, 2),
+        _ => token(TokenKind::BadByte, 1),
+    }
+}
+
+/// A token of one byte.
+#[tactic(auto, unfolding(crate::specs::Readings::single))]
+fn single(b: u8) -> Reading
+    ensures { result ≡ single b }
+{
+    let kind = match b {
+        b'[' => TokenKind::Open,
+        b']' => TokenKind::Close,
+        b'(' => TokenKind::LeftParen,
+        b')' => TokenKind::RightParen,
+        b'.' => TokenKind::Period,
+        b'*' => TokenKind::Star,
+        _ => TokenKind::BadByte,
+    };
+    token(kind, 1)
+}
+
+/// The reading of a byte, which is not white space, by its kind.
+#[tactic(auto, unfolding(crate::specs::Readings::reading))]
+fn read(b: u8, rest: &[u8], first: bool) -> Reading
+    ensures { result ≡ reading first b rest.now }
+{
+    match b {
+        _ if b.is_ascii_alphanumeric() => symbol(rest),
+        b'{' => comment(rest),
+        b';' => line_comment(rest),
+        b'%' if first => escape_line(rest),
+        b'"' => text(rest),
+        b'$' => nag(rest),
+        b'!' => good_suffix(rest),
+        b'?' => poor_suffix(rest),
+        b'-' => null_move(rest),
+        _ => single(b),
+    }
+}
+
+/// The longest reading of a byte that is not white space, with what stands behind it. `first` says whether the
+/// byte stands in the first column.
+#[tactic(auto, using(crate::proofs::Within::reading_some, crate::proofs::Within::reading_within))]
+pub fn longest_reading(b: u8, rest: &[u8], first: bool) -> Reading
+    ensures value { result ≡ reading first b rest.now }
+    ensures some { 0 < result.len }
+    ensures within { result.len ≤ length rest.now + 1 }
+{
+    read(b, rest, first)
+}
