@@ -309,9 +309,9 @@ opponent_back : (side : Side) → opponent (opponent side) ≡ side
 opponent_back White = refl
 opponent_back Black = refl
 
-pub after-IsPosition : (p : Board) (m : Move) → IsPosition p → can_move p m ≡ true → in_check (men_after p m) p.side ≡ false → IsPosition (after p m)
+pub after_is_position : (p : Board) (m : Move) → IsPosition p → can_move p m ≡ true → in_check (men_after p m) p.side ≡ false → IsPosition (after p m)
 unfolding after
-after-IsPosition p m i can safe =
+after_is_position p m i can safe =
     let g = goes p m i.whole can in
     let way = way_after p m i.passed g in
     let k = after_keeps p m i.whole (EdgeFree-from p.men i.whole i.no_pawn_on_edge) i.rights g way in
@@ -332,16 +332,16 @@ unfolding after
 men_of_after p m = refl
 
 -- a legal move leads from a position to a position
-pub legal-IsPosition : (p : Board) (m : Move) (q : Board) → IsPosition p → Legal p m q → IsPosition q
-legal-IsPosition p m q i l =
+pub legal_is_position : (p : Board) (m : Move) (q : Board) → IsPosition p → Legal p m q → IsPosition q
+legal_is_position p m q i l =
     let men : q.men ≡ men_after p m = ap (λ (b : Board). b.men) l.leads ∙ men_of_after p m in
     let safe : in_check (men_after p m) p.side ≡ false = ap (λ x. in_check x p.side) (sym men) ∙ l.safe in
-    subst IsPosition (sym l.leads) (after-IsPosition p m i l.moves safe)
+    subst IsPosition (sym l.leads) (after_is_position p m i l.moves safe)
 
 -- a side that is not in check passes from a position to a position
-pub after_pass-IsPosition : (p : Board) → IsPosition p → in_check p.men p.side ≡ false → IsPosition (after_pass p)
+pub after_pass_is_position : (p : Board) → IsPosition p → in_check p.men p.side ≡ false → IsPosition (after_pass p)
 unfolding after_pass
-after_pass-IsPosition p i safe = record {
+after_pass_is_position p i safe = record {
   whole = i.whole;
   kings = i.kings;
   no_pawn_on_edge = i.no_pawn_on_edge;
@@ -361,8 +361,8 @@ after_is_made : (p : Board) (m : Move) → after p m ≡ made_of p m
 unfolding after
 after_is_made p m = refl
 
-pub made-IsPosition : (p : Board) (m : Move) → IsPosition p → ((q : Board) × Legal p m q) → IsPosition (made_of p m)
-made-IsPosition p m i l = subst IsPosition (l.1.leads ∙ after_is_made p m) (legal-IsPosition p m l.0 i l.1)
+pub made_is_position : (p : Board) (m : Move) → IsPosition p → ((q : Board) × Legal p m q) → IsPosition (made_of p m)
+made_is_position p m i l = subst IsPosition (l.1.leads ∙ after_is_made p m) (legal_is_position p m l.0 i l.1)
 
-pub made-Legal : (p : Board) (m : Move) → ((q : Board) × Legal p m q) → Legal p m (made_of p m)
-made-Legal p m l = subst (Legal p m) (l.1.leads ∙ after_is_made p m) l.1
+pub made_is_legal : (p : Board) (m : Move) → ((q : Board) × Legal p m q) → Legal p m (made_of p m)
+made_is_legal p m l = subst (Legal p m) (l.1.leads ∙ after_is_made p m) l.1

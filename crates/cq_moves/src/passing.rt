@@ -3,6 +3,7 @@ ghost use Rattle.std.specs.Prelude.{◌≡◌, ◌↔◌, IsNone, IfSome, true, 
 ghost use Rattle.cq_position.specs.Attacks as attack;
 ghost use Rattle.cq_position.specs.Legal.{Passes, after_pass};
 ghost use Rattle.cq_position.specs.Moves.{null_move};
+ghost use Rattle.cq_position.specs.Position.{IsPosition};
 
 use crate::next_position::number_after;
 use cq_position::{Position, in_check, opponent};
@@ -14,6 +15,7 @@ use cq_position::{Position, in_check, opponent};
 pub fn pass(position: &Position) -> Option<Position>
     ensures none { IsNone result ↔ (attack.in_check position.now.men position.now.side ≡ true) }
     ensures passes { IfSome result (λ q. Passes position.now null_move q) }
+    ensures kept { IfSome result IsPosition }
 {
     if in_check(position, position.side()) {
         None
@@ -23,10 +25,11 @@ pub fn pass(position: &Position) -> Option<Position>
 }
 
 // The position after the null move of a side that is not in check.
-#[tactic(auto, unfolding(cq_position::specs::Legal::after_pass))]
+#[tactic(auto, using(crate::proofs::Kept::after_pass_is_position), unfolding(cq_position::specs::Legal::after_pass))]
 fn after_pass_of(position: &Position) -> Position
     requires { attack.in_check position.now.men position.now.side ≡ false }
-    ensures { result ≡ after_pass position.now }
+    ensures pass { result ≡ after_pass position.now }
+    ensures kept { IsPosition result }
 {
     Position::from_parts(
         number_after(position),
