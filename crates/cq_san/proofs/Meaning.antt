@@ -1,5 +1,5 @@
 -- What an answer says, from the list of the legal moves that agree with the parts.
-use Rattle.std.proofs.Common.{◌≡◌, ◌≢◌, zero, suc, ◌<◌, ◌↔◌, Bool, true, false, List, [], ◌∷◌, length, Result, Ok, Err, Option, Some, None, refl, sym, ap, subst, ◌∙◌, inl, inr, arith}
+use Rattle.std.proofs.Common.{◌≡◌, ◌≢◌, zero, suc, ◌↔◌, true, false, List, [], ◌∷◌, Result, Ok, Err, Option, Some, None, refl, sym, ap, subst, ◌∙◌, inl, inr, arith}
 use Rattle.std.specs.List.{All, AllPairs, Contains, filter}
 use Rattle.std.specs.Option.{IsSomeAnd}
 use Rattle.std.proofs.lemmas.List.Elements.{All-contains, All-contains_itself, All-filter, All-weaker, filter_passes}
@@ -8,7 +8,7 @@ use Rattle.cq_geometry.proofs.Board.{contains_filter}
 use Rattle.cq_position.specs.declared.moves.Move.{Move}
 use Rattle.cq_position.specs.Board.{Board}
 use Rattle.cq_position.specs.Attacks.{in_check}
-use Rattle.cq_position.specs.Legal.{Legal, Passes, can_move, after_pass}
+use Rattle.cq_position.specs.Legal.{Legal, can_move, after_pass}
 use Rattle.cq_position.specs.Moves.{null_move}
 use Rattle.cq_moves.specs.LegalMoves.{Precedes}
 use Rattle.cq_san.specs.declared.parts.Parts.{Parts}
