@@ -1,10 +1,10 @@
--- The places of a line: the nodes of its automaton that its atoms stand for.
+-- The places of a line: the states of its automaton that its atoms stand for.
 use Rattle.std.specs.Prelude.{ℕ, ◌+◌, ◌*◌, max}
 use Rattle.cql_syntax.specs.Trees.{LineTree, path, PartTrees, no_parts, more_parts, BodyTree, atom, group}
 use Rattle.cql_syntax.specs.declared.leaves.Mark.{Mark}
 use Rattle.cql_syntax.specs.declared.leaves.Mark.TheVariants.{Once, Star, Plus, Maybe, Times}
 
--- how often the places of a part count: as often as it may stand at most, where that is a number, else once
+-- how often the places of a part count: as often as it may stand at most, but at least once, where that is a number, else once
 abbrev pub copies : Mark → ℕ
 copies Once = 1
 copies Star = 1

@@ -52,7 +52,7 @@ abbrev pub words : List (List ℕ)
 words = header_words ++ plain_position_words ++ plain_number_words ++ tag_words ++ logic_words ++ tree_words
     ++ set_words ++ direction_words ++ number_words ++ family_words ++ top_words
 
--- names that a query may not use, since they are kept for other versions of the language
+-- names that this language keeps back: they are no words of it, and a query may not use them
 abbrev pub reserved_names : List (List ℕ)
 reserved_names = codes "echo" ∷ codes "loop" ∷ codes "while" ∷ codes "function" ∷ codes "persistent" ∷ codes "dictionary"
     ∷ codes "string" ∷ codes "message" ∷ codes "ray" ∷ codes "pin" ∷ codes "xray" ∷ codes "rotate45"

@@ -22,7 +22,7 @@ pub enum QueryReason {
     UnexpectedToken,
     /// The query ends before it is whole.
     UnexpectedEnd,
-    /// A name that a query may not use, since other versions of the language have it as a word.
+    /// A name that this language keeps back: it is no word of it, and a query may not use it.
     OutsideProfile(Bytes),
     /// A filter of the second kind stands where one of the first is wanted.
     KindMismatch(Kind, Kind),
@@ -32,7 +32,7 @@ pub enum QueryReason {
     TextHoldsBrace,
     /// A number above 999,999,999.
     NumberTooLarge,
-    /// More than 64 filters are open at a place.
+    /// More than 64 constructs are open at a place.
     TooDeep,
     /// A line of more than 64 places.
     LineTooLong,

@@ -1,6 +1,6 @@
 use super::*;
 use cq_outside::{Bytes, NoMemory};
-use cq_symmetry::Family;
+use cq_symmetry::{Family, SquarePart};
 use std::alloc::Global;
 use std::process::Abort;
 use std::test::Fail;
@@ -180,6 +180,48 @@ fn forms_have_their_kinds(rt: HostRuntime) -> Result<(), Fail> {
     agrees(&rt, alloc, family.form, Kind::Position, 226)?;
     let line = repeated(alloc, 2, 1)?;
     agrees(&rt, alloc, line.form, Kind::Number, 2)?;
+    Ok(())
+}
+
+#[test]
+fn other_forms_have_their_kinds(rt: HostRuntime) -> Result<(), Fail> {
+    let alloc = rt.alloc();
+    let king = Form::Squares(Designator {
+        men: 1,
+        part: SquarePart {
+            squares: 1,
+            whole_ranks: false,
+            whole_files: false,
+        },
+    });
+    agrees(&rt, alloc, king, Kind::Set, 1)?;
+    agrees(&rt, alloc, Form::Number(7), Kind::Number, 1)?;
+    agrees(&rt, alloc, Form::Name(text(alloc)?), Kind::Set, 1)?;
+    let event = Form::Tagged(Field::Event, text(alloc)?);
+    agrees(&rt, alloc, event, Kind::Position, 1)?;
+    agrees(&rt, alloc, Form::Outcome(Outcome::Draw), Kind::Position, 1)?;
+    agrees(&rt, alloc, Form::Elo(Of::White), Kind::Number, 1)?;
+    let steps = Form::Steps(Way::Up, 1, 7, boxed(alloc, check())?);
+    agrees(&rt, alloc, steps, Kind::Set, 2)?;
+    Ok(())
+}
+
+#[test]
+fn forms_of_several_parts_have_their_kinds(rt: HostRuntime) -> Result<(), Fail> {
+    let alloc = rt.alloc();
+    let first = boxed(alloc, check())?;
+    let second = boxed(alloc, check())?;
+    let choice = Form::If(first, second, boxed(alloc, check())?);
+    agrees(&rt, alloc, choice, Kind::Position, 4)?;
+    let bound = boxed(alloc, check())?;
+    let square = Form::Square(true, text(alloc)?, bound, boxed(alloc, check())?);
+    agrees(&rt, alloc, square, Kind::Position, 3)?;
+    let sort = Form::Sort(false, text(alloc)?, boxed(alloc, check())?);
+    agrees(&rt, alloc, sort, Kind::Position, 2)?;
+    let mut filters = checks(alloc, 2)?;
+    filters.push(check())?;
+    assert_eq!(rt; filters.len(), 3);
+    assert_eq!(rt; filters.as_slice().len(), 3);
     Ok(())
 }
 

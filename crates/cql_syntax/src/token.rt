@@ -16,7 +16,7 @@ pub struct QueryToken {
 pub enum QueryTokenKind {
     /// A word of the language, by its number in the list of the words, from 0.
     Word(u16),
-    /// A name that a query may not use, since other versions of the language have it as a word.
+    /// A name that this language keeps back: it is no word of it, and a query may not use it.
     Reserved(Bytes),
     /// Any other name.
     Name(Bytes),

@@ -30,7 +30,7 @@ pub enum Form {
     Outcome(Outcome),
     Elo(Of),
     Unary(Unary, Box<Filter>),
-    /// The squares reached in a direction by the first number of steps, by the second, or by one between them.
+    /// The squares reached in a direction by `k` steps, for some `k` from the first number to the second.
     Steps(Way, u32, u32, Box<Filter>),
     Chain(Chain, Filters),
     /// Parts that are added, or taken away, from left to right.

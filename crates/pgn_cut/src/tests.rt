@@ -6,7 +6,7 @@ use std::test::Fail;
 /// A row of the table: an archive, and the start, the end and the column of each of its games.
 type Row<'a> = (&'a [u8], &'a [(u64, u64, bool)]);
 
-static ROWS: [Row<'static>; 23] = [
+static ROWS: [Row<'static>; 31] = [
     (b"", &[]),
     (b" \r\n\t ", &[]),
     (b"\xef\xbb\xbf", &[]),
@@ -36,6 +36,14 @@ static ROWS: [Row<'static>; 23] = [
     (b"* {a", &[(0, 1, true), (2, 4, false)]),
     (b")) e4 * (e5 *) *", &[(0, 7, true), (8, 16, false)]),
     (b"1. e4 (1. d4\n ", &[(0, 14, true)]),
+    (b"e4 [A\n[B \"c\"]\n*", &[(0, 6, true), (6, 15, true)]),
+    (b"[( * ) *", &[(0, 8, true)]),
+    (b"e4 ([1-0 \"x\"]) *", &[(0, 16, true)]),
+    (b"%x\n*", &[(0, 4, true)]),
+    (b"1.\n[a", &[(0, 3, true), (3, 5, true)]),
+    (b"$1\n[a", &[(0, 3, true), (3, 5, true)]),
+    (b"--\n[a", &[(0, 3, true), (3, 5, true)]),
+    (b"\"a\"\n[b", &[(0, 6, true)]),
 ];
 
 #[test]
@@ -55,8 +63,8 @@ fn archives_have_their_games(rt: HostRuntime) -> Result<(), Fail> {
     Ok(())
 }
 
-/// Texts, how often each is repeated to give 16 MiB, and how many games and tokens that has: the work grows with the
-/// length alone.
+/// Texts, how often each is repeated to give 16 MiB, and how many games and tokens that has. Each is cut and read
+/// once.
 static LONG: [(&'static [u8], usize, usize, usize); 5] = [
     (b"{", 16_777_216, 1, 1),
     (b"(", 16_777_216, 1, 16_777_216),

@@ -244,6 +244,7 @@ agrees first b rest (Token UnclosedText) n fits (body, is, unfinished) =
 pub is_longest : (first : Bool) (b : ℕ) (rest : List ℕ) → IsLongest first (b ∷ rest) (reading first b rest)
 unfolding Agrees
 is_longest first b rest = record {
+  within = let fits = reading_within first b rest in omega arith;
   reads = reading_reads first b rest;
   longest = λ other n fits spelled. (agrees first b rest other n fits spelled).0;
   only = λ other no_ spelled.

@@ -58,9 +58,10 @@ IsLexeme first (Token BadByte) text = length text ≡ 1
 IsLexeme first (Token UnclosedComment) text = (body : List ℕ) × (text ≡ 123 ∷ body) × Lacks 125 body
 IsLexeme first (Token UnclosedText) text = (body : List ℕ) × (text ≡ 34 ∷ body) × (IsBody body ⊎ ((before : List ℕ) × (body ≡ before ++ 92 ∷ []) × IsBody before))
 
--- A reading is the longest: it is a lexeme of its kind, no lexeme at that place has more bytes, and of as many bytes
+-- A reading is the longest: it is a lexeme of its kind within the bytes, no lexeme at that place has more bytes, and of as many bytes
 -- there is no other, but that any byte may be a bad one.
 pub record IsLongest (first : Bool) (bytes : List ℕ) (r : Reading) : Type 0 where
+  pub within : r.len ≤ length bytes
   pub reads : IsLexeme first r.kind (take r.len bytes)
   pub longest : (other : LexemeKind) (n : ℕ) → n ≤ length bytes → IsLexeme first other (take n bytes) → n ≤ r.len
   pub only : (other : LexemeKind) → (other ≡ Token BadByte → ⊥) → IsLexeme first other (take r.len bytes) → r.kind ≡ other

@@ -130,7 +130,7 @@ fn texts_have_their_tokens(rt: HostRuntime) -> Result<(), Fail> {
 
 #[test]
 fn each_byte_alone_is_one_token_or_white_space(rt: HostRuntime) -> Result<(), Fail> {
-    let known = b"[]().*\"{;-!?$%";
+    let known = b"[]().*\"{;!?";
     for b in 0..=255u8 {
         let found = tokens(rt.alloc(), &[b], 0, false)?;
         let white = matches!(b, 9 | 10 | 11 | 12 | 13 | 32);
@@ -139,8 +139,9 @@ fn each_byte_alone_is_one_token_or_white_space(rt: HostRuntime) -> Result<(), Fa
         for token in found.iter() {
             let begins_symbol = matches!(b, b'0'..=b'9' | b'A'..=b'Z' | b'a'..=b'z');
             assert_eq!(rt; token.kind == Symbol, begins_symbol, "at {b}");
-            assert!(rt;
-                token.kind != BadByte || b == b'$' || b == b'-' || b == b'%' || !known.contains(&b),
+            assert_eq!(rt;
+                token.kind == BadByte,
+                !begins_symbol && !known.contains(&b),
                 "at {b}"
             );
             assert_eq!(rt; token.len, 1, "at {b}");
