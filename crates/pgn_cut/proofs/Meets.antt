@@ -4,7 +4,7 @@ use Rattle.std.specs.Prelude.{◌&&◌, ◌==◌}
 use Rattle.std.specs.Option.{option_to_list}
 use Rattle.pgn_lexer.specs.Lexemes.{Lexeme, end}
 use Rattle.pgn_cut.specs.Cut.{marks, opens, ends_before, ends_behind, span_to, cut_from}
-use Rattle.pgn_cut.specs.Progress.{span_from, progress_of, Steps}
+use Rattle.pgn_cut.specs.Progress.{span_from, progress_of, IsStepOfCut}
 use Rattle.pgn_cut.specs.declared.span.Span.{Span}
 use Rattle.pgn_cut.specs.declared.game.Game.{Game}
 use Rattle.pgn_cut.proofs.Pushes.{span_is}
@@ -20,7 +20,7 @@ module _ (game : List Lexeme) (l : Lexeme) (was : Game) (is : was ≡ progress_o
   behind_is t t_is = sym (t_is ∙ ap (λ w. marks l.kind l.text && w.depth == 0) is)
 
   pub closes_before : (t : Bool) → t ≡ (opens l.kind && l.first && was.has_movetext) → t ≡ true
-      → (now : Game) → now ≡ progress_of (l ∷ []) → (closed : Option Span) → closed ≡ span_from l.at was.start → Steps now closed l game
+      → (now : Game) → now ≡ progress_of (l ∷ []) → (closed : Option Span) → closed ≡ span_from l.at was.start → IsStepOfCut now closed l game
   unfolding cut_from
   closes_before t t_is yes_ now now_is closed closed_is =
       let test = before_is t t_is ∙ yes_ in
@@ -34,7 +34,7 @@ module _ (game : List Lexeme) (l : Lexeme) (was : Game) (is : was ≡ progress_o
       }
 
   pub closes_behind : (t u : Bool) → t ≡ (opens l.kind && l.first && was.has_movetext) → t ≡ false → u ≡ (marks l.kind l.text && was.depth == 0) → u ≡ true
-      → (more : Game) → more ≡ progress_of (game ++ l ∷ []) → (now : Game) → now ≡ progress_of [] → (closed : Option Span) → closed ≡ span_from (end l) more.start → Steps now closed l game
+      → (more : Game) → more ≡ progress_of (game ++ l ∷ []) → (now : Game) → now ≡ progress_of [] → (closed : Option Span) → closed ≡ span_from (end l) more.start → IsStepOfCut now closed l game
   unfolding cut_from
   closes_behind t u t_is no_ u_is yes_ more more_is now now_is closed closed_is =
       let test = before_is t t_is ∙ no_ in
@@ -50,7 +50,7 @@ module _ (game : List Lexeme) (l : Lexeme) (was : Game) (is : was ≡ progress_o
       }
 
   pub goes_on : (t u : Bool) → t ≡ (opens l.kind && l.first && was.has_movetext) → t ≡ false → u ≡ (marks l.kind l.text && was.depth == 0) → u ≡ false
-      → (now : Game) → now ≡ progress_of (game ++ l ∷ []) → Steps now None l game
+      → (now : Game) → now ≡ progress_of (game ++ l ∷ []) → IsStepOfCut now None l game
   unfolding cut_from
   goes_on t u t_is no_ u_is none now now_is =
       let test = before_is t t_is ∙ no_ in

@@ -32,7 +32,7 @@ progress_of game = record { start = start_of game; depth = depth game; in_pair =
 
 -- A step over a lexeme is a step of the cut: whatever lexemes stand for the state before, some stand for the one now,
 -- and the games of what follows are the same but for the one that was closed.
-pub record Steps (now : Game) (closed : Option Span) (l : Lexeme) (game : List Lexeme) : Type 0 where
+pub record IsStepOfCut (now : Game) (closed : Option Span) (l : Lexeme) (game : List Lexeme) : Type 0 where
   pub kept : List Lexeme
   pub stands : now ≡ progress_of kept
   pub cuts : (place : ℕ) (rest : List Lexeme) → cut_from place game (l ∷ rest) ≡ option_to_list closed ++ cut_from place kept rest

@@ -4,7 +4,7 @@ ghost use Rattle.std.specs.Option.{option_to_list};
 ghost use Rattle.pgn_lexer.specs.Lexemes.{Lexeme as ALexeme};
 ghost use Rattle.pgn_lexer.specs.Shown.{shown};
 ghost use Rattle.pgn_cut.specs.Cut.{is_result, marks, nest, opens_pair, is_movetext, is_passed_over, opens, cut_from};
-ghost use Rattle.pgn_cut.specs.Progress.{progress_of, span_from, Steps};
+ghost use Rattle.pgn_cut.specs.Progress.{progress_of, span_from, IsStepOfCut};
 
 use crate::span::Span;
 use pgn_lexer::{Lexeme, LexemeKind, TokenKind};
@@ -198,7 +198,7 @@ impl Game {
         requires depth { self.depth < 2 ^ 62 }
         requires place { offset + lexeme.at + length lexeme.text.now < 2 ^ 63 }
         ensures deeper { result.0.depth ≤ self.depth + 1 }
-        ensures cuts { (game : List ALexeme) → self ≡ progress_of game → Steps result.0 result.1 (shown offset lexeme.entry) game }
+        ensures cuts { (game : List ALexeme) → self ≡ progress_of game → IsStepOfCut result.0 result.1 (shown offset lexeme.entry) game }
     {
         let at = offset + lexeme.at as u64;
         if self.ends_before(lexeme) {

@@ -1,4 +1,5 @@
 pub mod Apart
+pub mod Bodies
 pub mod Fronts
 pub mod Glyphs
 pub mod Lists

@@ -7,6 +7,7 @@ use Rattle.std.specs.Str.Parse.{digits_value}
 use Rattle.std.proofs.lemmas.Bool.{lt-ltb, false_from_ne_true, not_from_false, false≢true}
 use Rattle.std.proofs.lemmas.Bool.Decides.{nat_tests}
 use Rattle.std.proofs.lemmas.List.{length-take-le, take-append-drop, take_at, get_or_at}
+use Rattle.pgn_lexer.proofs.Bodies.{body_len-plain, body_len-escaped, body_len-backslash}
 use Rattle.pgn_lexer.specs.Bytes.{ends_line, continues_symbol}
 use Rattle.pgn_lexer.specs.Readings.{token, comment, line_comment, escape_line, ends_body, takes_next, body_len, text, symbol, nag, good_suffix, poor_suffix, null_move, single, reading}
 use Rattle.pgn_lexer.specs.Grammar.{Lacks, IsPlain, IsBody, IsSuffix, IsNumbered, IsLexeme, IsLongest}
@@ -44,27 +45,6 @@ prefix_len-append p (x ∷ xs) ys all =
 
 lacks_passes : (c : ℕ) (xs : List ℕ) → Lacks c xs → AllByRecursion (λ b. not (b == c) ≡ true) xs
 lacks_passes c xs lacks = map_all (λ b. b ≢ c) (λ b. not (b == c) ≡ true) (λ b other. not_from_false (b == c) (false_from_ne_true (b == c) (λ is. other (eqb-true b c is)))) xs lacks
-
-body_len-plain : (b : ℕ) (bs : List ℕ) → IsPlain b → body_len false (b ∷ bs) ≡ 1 + body_len false bs
-unfolding body_len
-body_len-plain b bs plain =
-    let goes : ends_body false b ≡ false = grind (arith, nat_tests, plain.0, plain.2) in
-    let next : takes_next false b ≡ false = grind (arith, nat_tests, plain.1) in
-    ap (λ t. cond t 0 (1 + body_len (takes_next false b) bs)) goes ∙ ap (λ t. 1 + body_len t bs) next
-
-never : (t : Bool) → (t && false) ≡ false
-never true = refl
-never false = refl
-
-body_len-escaped : (c : ℕ) (bs : List ℕ) → c ≢ 10 → body_len true (c ∷ bs) ≡ 1 + body_len false bs
-unfolding body_len
-body_len-escaped c bs other =
-    let goes : ends_body true c ≡ false = ap (λ t. t || ((c == 34) && false)) (false_from_ne_true (c == 10) (λ is. other (eqb-true c 10 is))) ∙ never (c == 34) in
-    ap (λ t. cond t 0 (1 + body_len (takes_next true c) bs)) goes ∙ ap (λ t. 1 + body_len t bs) (never (c == 92))
-
-body_len-backslash : (bs : List ℕ) → body_len false (92 ∷ bs) ≡ 1 + body_len true bs
-unfolding body_len
-body_len-backslash bs = refl
 
 body_len-append : (body ys : List ℕ) → IsBody body → body_len false (body ++ ys) ≡ length body + body_len false ys
 body_len-append [] ys whole = omega arith

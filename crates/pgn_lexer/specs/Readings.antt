@@ -29,6 +29,10 @@ line_comment rest = token LineComment (position_or_len ends_line rest + 1)
 unfoldable pub escape_line : List ℕ → Reading
 escape_line rest = record { kind = EscapeLine; len = position_or_len ends_line rest + 1 }
 
+-- the bytes of a string that don't stand for themselves: a quote, a backslash and LF
+abbrev pub is_special : ℕ → Bool
+is_special b = b == 34 || b == 92 || b == 10
+
 -- a string ends before a line's end always, and before a quote unless a backslash takes that with it
 abbrev pub ends_body : (backslash : Bool) → ℕ → Bool
 ends_body backslash b = ends_line b || (b == 34 && not backslash)

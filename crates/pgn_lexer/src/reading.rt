@@ -1,13 +1,13 @@
 //! The longest reading at a place.
-ghost use Rattle.std.specs.Prelude.{◌≡◌, false, ◌+◌, ◌<◌, ◌≤◌, ℕ, ◌==◌, min, length, drop, slice_index};
+ghost use Rattle.std.specs.Prelude.{◌≡◌, false, ◌+◌, ◌-◌, ◌<◌, ◌≤◌, ℕ, ◌==◌, min, length, drop, slice_index};
 ghost use Rattle.std.specs.List.{prefix_len, position_or_len, AllPass};
 ghost use Rattle.std.specs.Char.{is_ascii_digit};
 ghost use Rattle.std.specs.Str.Parse.{digits_value};
 ghost use Rattle.pgn_lexer.specs.Bytes.{is_white, ends_line, continues_symbol};
-ghost use Rattle.pgn_lexer.specs.Readings.{token, comment, line_comment, escape_line, ends_body, takes_next, body_len, text, symbol, nag, good_suffix, poor_suffix, null_move, single, reading};
+ghost use Rattle.pgn_lexer.specs.Readings.{token, comment, line_comment, escape_line, is_special, body_len, text, symbol, nag, good_suffix, poor_suffix, null_move, single, reading};
 
 use crate::token::{LexemeKind, Reading, TokenKind};
-use memchr::memchr;
+use memchr::{memchr, memchr3};
 
 /// Whether a byte is white space: 0x09 to 0x0D or the space.
 pub fn is_white(b: u8) -> bool
@@ -89,34 +89,38 @@ fn escape_line(rest: &[u8]) -> Reading
     }
 }
 
-/// Whether a string ends before this byte.
-fn ends_body(b: u8, backslash: bool) -> bool
-    ensures { result ≡ ends_body backslash b }
+/// How many bytes at the front of a string stand for themselves: those before a quote, a backslash or LF.
+fn plain_len(bytes: &[u8]) -> usize
+    ensures value { result ≡ position_or_len is_special bytes.now }
+    ensures within { result ≤ length bytes.now }
 {
-    b == b'\n' || (b == b'"' && !backslash)
+    memchr3(b'"', b'\\', b'\n', bytes).unwrap_or(bytes.len())
 }
 
-/// Whether this byte is a backslash that takes the next byte with it.
-fn takes_next(b: u8, backslash: bool) -> bool
-    ensures { result ≡ takes_next backslash b }
+/// Where a string goes on behind its backslash at a place: behind the byte that it takes with it, which is never LF.
+#[tactic(auto, using(crate::proofs::Bodies::escape_at_end, crate::proofs::Bodies::escape_of_line, crate::proofs::Bodies::escape_of_byte))]
+fn behind_backslash(rest: &[u8], at: usize) -> usize
+    requires { at < length rest.now }
+    ensures within { (at < result) × (result ≤ length rest.now) }
+    ensures goes_on { slice_index rest.now at ≡ 92 → body_len false (drop at rest.now) ≡ (result - at) + body_len false (drop result rest.now) }
 {
-    b == b'\\' && !backslash
+    match rest.get(at + 1) {
+        None | Some(b'\n') => at + 1,
+        Some(_) => at + 2,
+    }
 }
 
 /// How many bytes of a string stand before its closing quote or its line's end.
-#[tactic(auto, using(crate::proofs::Places::body_ends, crate::proofs::Places::body_goes, crate::proofs::Places::body_at_end))]
 fn body_len(rest: &[u8]) -> usize
     ensures value { result ≡ body_len false rest.now }
     ensures within { result ≤ length rest.now }
 {
-    let mut backslash = false;
-    for (i, b) in rest.iter().enumerate() {
-        if ends_body(*b, backslash) {
-            return i;
-        }
-        backslash = takes_next(*b, backslash);
+    let mut at = plain_len(rest);
+    while at < rest.len() && rest[at] == b'\\' {
+        let behind = behind_backslash(rest, at);
+        at = behind + plain_len(&rest[behind..]);
     }
-    rest.len()
+    at
 }
 
 /// A string from its quote.
