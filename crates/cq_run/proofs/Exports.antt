@@ -8,13 +8,13 @@ abbrev head : List ℕ
 head = empty_roster ++ codes "[FEN \""
 
 abbrev tail : List ℕ
-tail = codes "\"]\n" ++ (codes "[SetUp \"1\"]\n" ++ (codes "\n" ++ (codes "{CQL} *\n" ++ codes "\n")))
+tail = codes "\"]" ++ (codes "\n" ++ (codes "[SetUp \"1\"]\n" ++ (codes "\n" ++ (codes "{CQL} *\n" ++ codes "\n"))))
 
-six_parts : (p a b c d e : List ℕ) → ((((p ++ a) ++ b) ++ c) ++ d) ++ e ≡ p ++ (a ++ (b ++ (c ++ (d ++ e))))
-six_parts p a b c d e = simp append_assoc
+seven_parts : (p a b c d e f : List ℕ) → (((((p ++ a) ++ b) ++ c) ++ d) ++ e) ++ f ≡ p ++ (a ++ (b ++ (c ++ (d ++ (e ++ f)))))
+seven_parts p a b c d e f = simp append_assoc
 
 export_parts : (fen : List ℕ) → head ++ (fen ++ tail) ≡ export_of fen
-export_parts fen = ap (λ t. head ++ t) (sym (six_parts fen (codes "\"]\n") (codes "[SetUp \"1\"]\n") (codes "\n") (codes "{CQL} *\n") (codes "\n")))
+export_parts fen = ap (λ t. head ++ t) (sym (seven_parts fen (codes "\"]") (codes "\n") (codes "[SetUp \"1\"]\n") (codes "\n") (codes "{CQL} *\n") (codes "\n")))
 
 joined_parts : (old one two three : List ℕ) → ((old ++ one) ++ two) ++ three ≡ old ++ (one ++ (two ++ three))
 joined_parts old one two three = simp append_assoc

@@ -3,6 +3,7 @@ use Rattle.std.specs.Prelude.{ℕ, ◌-◌, Bool, not, ◌&&◌, ◌||◌, ◌==
 use Rattle.std.specs.Str.{bytes_eq}
 use Rattle.std.specs.List.{list_all, slice_split}
 use Rattle.std.specs.Option.{option_map, option_and_then}
+use Rattle.cq_run.specs.TagPair.{tag_pair}
 
 -- LF ends a line
 abbrev pub is_line_feed : ℕ → Bool
@@ -12,9 +13,9 @@ is_line_feed byte = byte == 10
 abbrev pub lines_of : List ℕ → List (List ℕ)
 lines_of text = slice_split is_line_feed text
 
--- the tag pair of a FEN text (PGN standard 8.1: a left bracket, the name, the value in quotes, a right bracket)
+-- the tag pair of a FEN text
 abbrev pub fen_tag : List ℕ → List ℕ
-fen_tag text = codes "[FEN \"" ++ text ++ codes "\"]"
+fen_tag text = tag_pair (codes "FEN") text
 
 -- a byte that stands for itself between quotes
 abbrev pub is_plain : ℕ → Bool

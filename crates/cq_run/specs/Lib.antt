@@ -1,4 +1,5 @@
 pub mod Status
+pub mod TagPair
 pub mod Words
 pub mod Query
 pub mod BareGames
