@@ -1,13 +1,28 @@
 -- The body of a string: over bytes that stand for themselves, and over a backslash.
-use Rattle.std.proofs.Common.{◌≡◌, ℕ, zero, suc, ◌+◌, ◌-◌, ◌<◌, ◌≤◌, Bool, true, false, cond, List, [], ◌∷◌, length, get_or, drop, refl, sym, ap, subst, ◌∙◌, arith, zero-add, eqb-true}
+use Rattle.std.proofs.Common.{◌≡◌, ℕ, zero, suc, ◌+◌, ◌-◌, ◌<◌, ◌≤◌, ◌⊎◌, Bool, true, false, cond, List, [], ◌∷◌, ◌++◌, length, get_or, drop, refl, sym, ap, subst, inl, inr, ⊎_elim, ◌∙◌, arith, zero-add, eqb-true}
 use Rattle.std.specs.Prelude.{◌≢◌, ◌==◌, ◌&&◌, ◌||◌, not}
 use Rattle.std.specs.List.{position_or_len}
 use Rattle.std.proofs.lemmas.Bool.Decides.{nat_tests}
 use Rattle.std.proofs.lemmas.Bool.{false_from_ne_true, or_parts, eqb-false}
 use Rattle.std.proofs.lemmas.List.{at_drop_more, at_drop_all, length-drop, get_or-drop, drop-drop}
 use Rattle.std.proofs.lemmas.List.Sums.{prefix_len-le-length, passes_at_first}
-use Rattle.pgn_lexer.specs.Grammar.{IsPlain}
+use Rattle.pgn_lexer.specs.Grammar.{IsPlain, IsBody}
 use Rattle.pgn_lexer.specs.Readings.{is_special, ends_body, takes_next, body_len}
+
+-- a body, or a body and a backslash
+abbrev pub IsUnfinished : List ℕ → Type 0
+IsUnfinished body = IsBody body ⊎ ((before : List ℕ) × (body ≡ before ++ 92 ∷ []) × IsBody before)
+
+-- one more byte before a body
+pub plain_body : (b : ℕ) (body : List ℕ) → IsPlain b → IsBody body → IsBody (b ∷ body)
+plain_body b [] plain body = plain
+plain_body b (c ∷ cs) plain body = inl (plain, body)
+
+pub plain_unfinished : (b : ℕ) (body : List ℕ) → IsPlain b → IsUnfinished body → IsUnfinished (b ∷ body)
+plain_unfinished b body plain more = ⊎_elim (λ whole. inl (plain_body b body plain whole)) (λ cut. inr (b ∷ cut.0, ap (λ l. b ∷ l) cut.1, plain_body b cut.0 plain cut.2)) more
+
+pub escaped_unfinished : (c : ℕ) (body : List ℕ) → c ≢ 10 → IsUnfinished body → IsUnfinished (92 ∷ c ∷ body)
+escaped_unfinished c body other more = ⊎_elim (λ whole. inl (inr (refl, other, whole))) (λ cut. inr (92 ∷ c ∷ cut.0, ap (λ l. 92 ∷ c ∷ l) cut.1, inr (refl, other, cut.2))) more
 
 pub body_len-plain : (b : ℕ) (bs : List ℕ) → IsPlain b → body_len false (b ∷ bs) ≡ 1 + body_len false bs
 unfolding body_len

@@ -7,6 +7,7 @@ pub mod Local
 pub mod Places
 pub mod Longest
 mod Rows
+pub mod Settled
 pub mod Spelled
 pub mod Walk
 pub mod Within

@@ -9,6 +9,7 @@ use Rattle.std.proofs.lemmas.Bool.Decides.{nat_tests}
 use Rattle.std.proofs.lemmas.List.{take_more, length-take-le}
 use Rattle.std.proofs.lemmas.List.Sums.{prefix_len-le-length, passes_at_first}
 use Rattle.pgn_lexer.specs.Bytes.{ends_line, continues_symbol}
+use Rattle.pgn_lexer.proofs.Bodies.{IsUnfinished, plain_body, plain_unfinished, escaped_unfinished}
 use Rattle.pgn_lexer.specs.Readings.{token, comment, line_comment, escape_line, ends_body, takes_next, body_len, text, symbol, nag, good_suffix, poor_suffix, null_move, single, reading}
 use Rattle.pgn_lexer.specs.Grammar.{Lacks, IsPlain, IsBody, IsLexeme}
 use Rattle.pgn_lexer.specs.declared.token.Reading.{Reading}
@@ -133,30 +134,13 @@ behind : Bool → List ℕ → List ℕ
 behind true l = 92 ∷ l
 behind false l = l
 
--- a body, or a body and a backslash
-IsUnfinished : List ℕ → Type 0
-IsUnfinished body = IsBody body ⊎ ((before : List ℕ) × (body ≡ before ++ 92 ∷ []) × IsBody before)
-
--- one more byte before a body
-plain_body : (b : ℕ) (body : List ℕ) → IsPlain b → IsBody body → IsBody (b ∷ body)
-plain_body b [] plain body = plain
-plain_body b (c ∷ cs) plain body = inl (plain, body)
-
-plain_unfinished : (b : ℕ) (body : List ℕ) → IsPlain b → IsUnfinished body → IsUnfinished (b ∷ body)
-unfolding IsUnfinished
-plain_unfinished b body plain more = ⊎_elim (λ whole. inl (plain_body b body plain whole)) (λ cut. inr (b ∷ cut.0, ap (λ l. b ∷ l) cut.1, plain_body b cut.0 plain cut.2)) more
-
-escaped_unfinished : (c : ℕ) (body : List ℕ) → c ≢ 10 → IsUnfinished body → IsUnfinished (92 ∷ c ∷ body)
-unfolding IsUnfinished
-escaped_unfinished c body other more = ⊎_elim (λ whole. inl (inr (refl, other, whole))) (λ cut. inr (92 ∷ c ∷ cut.0, ap (λ l. 92 ∷ c ∷ l) cut.1, inr (refl, other, cut.2))) more
-
 -- what is read of a string's body is one, and a quote behind it ends it whole
 record BodyRead (backslash : Bool) (bytes : List ℕ) (n : ℕ) : Type 0 where
   unfinished : IsUnfinished (behind backslash (take n bytes))
   whole : get_or bytes n 0 ≡ 34 → IsBody (behind backslash (take n bytes))
 
 body_read : (backslash : Bool) (bytes : List ℕ) → BodyRead backslash bytes (body_len backslash bytes)
-unfolding body_len behind IsUnfinished
+unfolding body_len behind
 body_read false [] = record { unfinished = inl tt; whole = λ _. tt }
 body_read true [] = record { unfinished = inr ([], refl, tt); whole = λ is. absurd (omega arith) }
 body_read false (b ∷ bs) =
@@ -199,7 +183,7 @@ body_read true (b ∷ bs) =
     }))
 
 text_read : (first : Bool) (rest : List ℕ) → IsLexeme first (text rest).kind (take (text rest).len (34 ∷ rest))
-unfolding text behind IsUnfinished
+unfolding text behind
 text_read first rest =
     let body = body_len false rest in
     let read = body_read false rest in

@@ -1,6 +1,8 @@
 -- Which places of a text no lexeme crosses, and which lexemes stand between two places.
-use Rattle.std.specs.Prelude.{ℕ, ◌+◌, ◌-◌, ◌≤◌, ◌<◌, ◌≡◌, ◌⊎◌, Bool, ◌&&◌, nat_le, nat_lt, List, [], ◌∷◌, length, filter}
+use Rattle.std.specs.Prelude.{ℕ, ◌+◌, ◌-◌, ◌≤◌, ◌<◌, ◌≡◌, ◌⊎◌, Bool, false, ◌&&◌, nat_le, nat_lt, List, [], ◌∷◌, ◌++◌, length, drop, filter}
 use Rattle.std.specs.List.{AllByRecursion}
+use Rattle.pgn_lexer.specs.Bytes.{is_white}
+use Rattle.pgn_lexer.specs.Readings.{reading}
 use Rattle.pgn_lexer.specs.Lexemes.{Lexeme, end, lexemes, first_at}
 
 -- no lexeme crosses a place: each ends by it, or begins there or behind it
@@ -25,3 +27,16 @@ pub record StandsIn (start : ℕ) (first : Bool) (bytes : List ℕ) (l : Lexeme)
   pub some : 0 < length l.text
   pub to_end : end l ≤ start + length bytes
   pub column : l.first ≡ first_at first bytes (l.at - start)
+
+-- what a front leaves open: nothing, or a byte whose longest reading is all that is left, and may grow by what follows
+abbrev pub IsUnsettled : (first : Bool) → List ℕ → Type 0
+IsUnsettled first [] = Unit {0}
+IsUnsettled first (b ∷ bs) = (is_white b ≡ false) × ((reading first b bs).len ≡ length (b ∷ bs))
+
+-- A front settles its lexemes up to a place: they stay, whatever follows the front, and those of what it leaves open come behind them.
+pub record Settles (start : ℕ) (first : Bool) (front : List ℕ) : Type 0 where
+  pub settled : List Lexeme
+  pub place : ℕ
+  pub within : place ≤ length front
+  pub stay : (more : List ℕ) → lexemes start first (front ++ more) ≡ settled ++ lexemes (start + place) (first_at first front place) (drop place front ++ more)
+  pub unsettled : IsUnsettled (first_at first front place) (drop place front)

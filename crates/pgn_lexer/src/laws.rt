@@ -4,7 +4,7 @@ ghost use Rattle.std.specs.List.{AllByRecursion};
 ghost use Rattle.pgn_lexer.specs.Lexemes.{lexemes, first_at};
 ghost use Rattle.pgn_lexer.specs.Readings.{reading};
 ghost use Rattle.pgn_lexer.specs.Grammar.{IsLongest};
-ghost use Rattle.pgn_lexer.specs.Local.{IsUncrossed, AreInOrder, within, StandsIn};
+ghost use Rattle.pgn_lexer.specs.Local.{IsUncrossed, AreInOrder, within, StandsIn, Settles};
 
 /// What is read of a byte and the bytes behind it is the longest lexeme there by the grammar, and the only one of its
 /// length, but that any byte may be a bad one.
@@ -24,4 +24,10 @@ pub fn lexemes_are_local()
     ensures { (start : ℕ) (first : Bool) (bytes : List ℕ) (from to : ℕ) →
         IsUncrossed (start + from) (lexemes start first bytes) → IsUncrossed (start + to) (lexemes start first bytes) →
         lexemes (start + from) (first_at first bytes from) (slice_range bytes from to) ≡ within (start + from) (start + to) (lexemes start first bytes) }
+{}
+
+/// Each front of a text settles its lexemes but for the last one, where that reaches the front's end: whatever follows,
+/// they stay.
+pub fn fronts_settle()
+    ensures { (start : ℕ) (first : Bool) (front : List ℕ) → Settles start first front }
 {}
