@@ -1,5 +1,5 @@
 -- What of the lexemes of a front stays, whatever follows it.
-use Rattle.std.proofs.Common.{◌≡◌, ℕ, zero, suc, ◌+◌, ◌-◌, ◌<◌, ◌≤◌, ◌⊎◌, Bool, true, false, cond, List, [], ◌∷◌, ◌++◌, length, get_or, take, drop, refl, sym, ap, ap₂, ◌∙◌, subst, inl, inr, ⊎_elim, arith, add-zero, min}
+use Rattle.std.proofs.Common.{◌≡◌, ℕ, zero, suc, ◌+◌, ◌-◌, ◌<◌, ◌≤◌, ◌⊎◌, Bool, true, false, cond, List, [], ◌∷◌, ◌++◌, length, get_or, take, drop, refl, sym, ap, ap₂, ◌∙◌, subst, inl, inr, ⊎_elim, arith, true≢false, add-zero, min}
 use Rattle.std.specs.Prelude.{◌≢◌, codes}
 use Rattle.std.specs.List.{AllByRecursion}
 use Rattle.std.specs.Char.{is_ascii_digit, is_ascii_alphanumeric}
@@ -8,12 +8,12 @@ use Rattle.std.proofs.lemmas.Bool.{cases_lt, cases_Bool}
 use Rattle.std.proofs.lemmas.List.{take_all, take-append-le, take-take, length-take-le, length-append, append_assoc}
 use Rattle.pgn_lexer.specs.Bytes.{is_white, ends_line, continues_symbol}
 use Rattle.pgn_lexer.specs.Grammar.{Lacks, IsPlain, IsBody, IsNumbered, IsSuffix, IsLexeme, IsLongest}
-use Rattle.pgn_lexer.specs.Readings.{reading}
+use Rattle.pgn_lexer.specs.Readings.{reading, single}
 use Rattle.pgn_lexer.specs.declared.token.LexemeKind.{LexemeKind}
 use Rattle.pgn_lexer.specs.declared.token.LexemeKind.TheVariants.{EscapeLine, Token}
 use Rattle.pgn_lexer.specs.declared.token.TokenKind.TheVariants.{Open, Close, Text, Symbol, Period, Star, LeftParen, RightParen, Nag, Null, Comment, LineComment, BadByte, UnclosedComment, UnclosedText}
 use Rattle.pgn_lexer.specs.Lexemes.{Lexeme, lexeme, lexemes_from, first_at}
-use Rattle.pgn_lexer.specs.Local.{IsUnsettled, Settles}
+use Rattle.pgn_lexer.specs.Local.{may_grow, IsUnsettled, Settles, Grows}
 use Rattle.pgn_lexer.proofs.Bodies.{IsUnfinished, plain_unfinished, escaped_unfinished}
 use Rattle.pgn_lexer.proofs.Fronts.{reading_same}
 use Rattle.pgn_lexer.proofs.Walk.{first_at-cons}
@@ -109,6 +109,25 @@ lexeme_front first kind text (suc (suc n)) some within h =
     (λ most. (kind, subst (IsLexeme first kind) (sym (take_all (suc (suc n)) text most)) h))
     (cases_lt (suc (suc n)) (length text))
 
+-- a reading of more bytes that fits into the front is that of the front
+front_reads : (first : Bool) (b : ℕ) (bs more : List ℕ) → (reading first b (bs ++ more)).len ≤ length (b ∷ bs) → reading first b (bs ++ more) ≡ reading first b bs
+front_reads first b bs more fits =
+    let same = reading_same (length bs) (bs ++ more) first b (omega arith) in
+    sym same ∙ ap (reading first b) (take-append-le (length bs) bs more (omega arith) ∙ take_all (length bs) bs (omega arith))
+
+-- a reading of more bytes is no shorter
+reading_grows : (first : Bool) (b : ℕ) (bs more : List ℕ) → (reading first b bs).len ≤ (reading first b (bs ++ more)).len
+reading_grows first b bs more =
+    let r = reading first b bs in
+    let short = is_longest first b bs in
+    let within = short.within in
+    let size : length (b ∷ bs ++ more) ≡ suc (length bs + length more) = ap suc (length-append bs more) in
+    let part : take r.len (b ∷ bs ++ more) ≡ take r.len (b ∷ bs) = take-append-le r.len (b ∷ bs) more within in
+    (is_longest first b (bs ++ more)).longest r.kind r.len (omega arith) (subst (IsLexeme first r.kind) (sym part) short.reads)
+
+pub grows : (first : Bool) (b : ℕ) (bs more : List ℕ) → Grows first b bs more
+grows first b bs more = record { longer = reading_grows first b bs more; same = front_reads first b bs more }
+
 -- a reading that ends before the front does stays, whatever follows
 reading_stays : (first : Bool) (b : ℕ) (bs more : List ℕ) → (reading first b bs).len ≤ length bs → reading first b (bs ++ more) ≡ reading first b bs
 unfolding IsSome
@@ -117,7 +136,7 @@ reading_stays first b bs more ends =
     let size : length (b ∷ bs ++ more) ≡ suc (length bs + length more) = ap suc (length-append bs more) in
     let front : take (suc (length bs)) (b ∷ bs ++ more) ≡ b ∷ bs = ap (λ l. b ∷ l) (take-append-le (length bs) bs more (omega arith) ∙ take_all (length bs) bs (omega arith)) in
     ⊎_elim
-    (λ grows.
+    (λ longer.
     let long = is_longest first b (bs ++ more) in
     let taken : length (take r.len (b ∷ bs ++ more)) ≡ r.len = length-take-le r.len (b ∷ bs ++ more) long.within in
     let part : take (suc (length bs)) (take r.len (b ∷ bs ++ more)) ≡ b ∷ bs = take-take (suc (length bs)) r.len (b ∷ bs ++ more) (omega arith) ∙ front in
@@ -125,10 +144,62 @@ reading_stays first b bs more ends =
     let whole : IsLexeme first some.0 (take (suc (length bs)) (b ∷ bs)) = subst (IsLexeme first some.0) (part ∙ sym (take_all (suc (length bs)) (b ∷ bs) (omega arith))) some.1 in
     let most = (is_longest first b bs).longest some.0 (suc (length bs)) (omega arith) whole in
     absurd (omega arith))
-    (λ fits.
-    let same = reading_same (length bs) (bs ++ more) first b (omega arith) in
-    sym same ∙ ap (reading first b) (take-append-le (length bs) bs more (omega arith) ∙ take_all (length bs) bs (omega arith)))
+    (λ fits. front_reads first b bs more (omega arith))
     (cases_lt (length bs + 1) r.len)
+
+-- the readings of the tokens of one byte, whatever follows
+one_byte : (first : Bool) (c : ℕ) (kind : LexemeKind) (b : ℕ) (bs : List ℕ) → ((rest : List ℕ) → reading first c rest ≡ record { kind = kind; len = 1 })
+    → (reading first b bs).len ≡ length (b ∷ bs) → take (reading first b bs).len (b ∷ bs) ≡ c ∷ []
+    → (more : List ℕ) → reading first b (bs ++ more) ≡ reading first b bs
+one_byte first c kind b bs always whole text more =
+    let all : b ∷ bs ≡ c ∷ [] = sym (take_all (reading first b bs).len (b ∷ bs) (omega arith)) ∙ text in
+    let head : b ≡ c = ap (λ l. get_or l 0 0) all in
+    ap (λ x. reading first x (bs ++ more)) head ∙ always (bs ++ more) ∙ sym (always bs) ∙ ap (λ x. reading first x bs) (sym head)
+
+module _ (first : Bool) where
+  open_always : (rest : List ℕ) → reading first 91 rest ≡ record { kind = Token Open; len = 1 }
+  unfolding reading single
+  open_always rest = refl
+
+  close_always : (rest : List ℕ) → reading first 93 rest ≡ record { kind = Token Close; len = 1 }
+  unfolding reading single
+  close_always rest = refl
+
+  period_always : (rest : List ℕ) → reading first 46 rest ≡ record { kind = Token Period; len = 1 }
+  unfolding reading single
+  period_always rest = refl
+
+  star_always : (rest : List ℕ) → reading first 42 rest ≡ record { kind = Token Star; len = 1 }
+  unfolding reading single
+  star_always rest = refl
+
+  left_always : (rest : List ℕ) → reading first 40 rest ≡ record { kind = Token LeftParen; len = 1 }
+  unfolding reading single
+  left_always rest = refl
+
+  right_always : (rest : List ℕ) → reading first 41 rest ≡ record { kind = Token RightParen; len = 1 }
+  unfolding reading single
+  right_always rest = refl
+
+-- a token of one byte stays, whatever follows
+token_stays : (first : Bool) (b : ℕ) (bs more : List ℕ) → (kind : LexemeKind) → IsLexeme first kind (take (reading first b bs).len (b ∷ bs)) → (reading first b bs).len ≡ length (b ∷ bs)
+    → may_grow kind ≡ false → reading first b (bs ++ more) ≡ reading first b bs
+token_stays first b bs more (Token Open) is whole fixed = one_byte first 91 (Token Open) b bs (open_always first) whole is more
+token_stays first b bs more (Token Close) is whole fixed = one_byte first 93 (Token Close) b bs (close_always first) whole is more
+token_stays first b bs more (Token Period) is whole fixed = one_byte first 46 (Token Period) b bs (period_always first) whole is more
+token_stays first b bs more (Token Star) is whole fixed = one_byte first 42 (Token Star) b bs (star_always first) whole is more
+token_stays first b bs more (Token LeftParen) is whole fixed = one_byte first 40 (Token LeftParen) b bs (left_always first) whole is more
+token_stays first b bs more (Token RightParen) is whole fixed = one_byte first 41 (Token RightParen) b bs (right_always first) whole is more
+token_stays first b bs more (Token Text) is whole fixed = absurd (true≢false fixed)
+token_stays first b bs more (Token Symbol) is whole fixed = absurd (true≢false fixed)
+token_stays first b bs more (Token (Nag g)) is whole fixed = absurd (true≢false fixed)
+token_stays first b bs more (Token Null) is whole fixed = absurd (true≢false fixed)
+token_stays first b bs more (Token Comment) is whole fixed = absurd (true≢false fixed)
+token_stays first b bs more (Token LineComment) is whole fixed = absurd (true≢false fixed)
+token_stays first b bs more (Token BadByte) is whole fixed = absurd (true≢false fixed)
+token_stays first b bs more (Token UnclosedComment) is whole fixed = absurd (true≢false fixed)
+token_stays first b bs more (Token UnclosedText) is whole fixed = absurd (true≢false fixed)
+token_stays first b bs more EscapeLine is whole fixed = absurd (true≢false fixed)
 
 -- the same of the lexemes of a front, of which some bytes belong to the lexeme before
 record SettlesFrom (bs : List ℕ) (inside at : ℕ) (first : Bool) : Type 0 where
@@ -152,7 +223,7 @@ further b bs inside at first given next step rest =
       place = suc n;
       within = omega arith;
       stay = λ more. step more ∙ ap (λ ls. given ++ ls) (rest.stay more) ∙ sym (append_assoc given rest.settled _)
-        ∙ ap₂ (λ p c. (given ++ rest.settled) ++ lexemes_from (drop n bs ++ more) 0 p c) place (sym column);
+          ∙ ap₂ (λ p c. (given ++ rest.settled) ++ lexemes_from (drop n bs ++ more) 0 p c) place (sym column);
       unsettled = subst (λ c. IsUnsettled c (drop n bs)) (sym column) rest.unsettled;
     }
 
@@ -164,28 +235,41 @@ white_settles b bs at first white rest =
     (λ more. ap (λ t. cond t (lexemes_from (bs ++ more) 0 (at + 1) (ends_line b)) (lexeme at first b (bs ++ more) ∷ lexemes_from (bs ++ more) ((reading first b (bs ++ more)).len - 1) (at + 1) (ends_line b))) white)
     rest
 
-lexeme_settles : (b : ℕ) (bs : List ℕ) (at : ℕ) (first : Bool) → is_white b ≡ false → (reading first b bs).len ≤ length bs
+lexeme_settles : (b : ℕ) (bs : List ℕ) (at : ℕ) (first : Bool) → is_white b ≡ false → ((more : List ℕ) → reading first b (bs ++ more) ≡ reading first b bs)
     → SettlesFrom bs ((reading first b bs).len - 1) (at + 1) (ends_line b) → SettlesFrom (b ∷ bs) 0 at first
 unfolding lexemes_from
-lexeme_settles b bs at first dark ends rest =
+lexeme_settles b bs at first dark stays rest =
     let r = reading first b bs in
+    let within = reading_within first b bs in
     further b bs 0 at first (lexeme at first b bs ∷ []) (r.len - 1)
     (λ more.
     ap (λ t. cond t (lexemes_from (bs ++ more) 0 (at + 1) (ends_line b)) (lexeme at first b (bs ++ more) ∷ lexemes_from (bs ++ more) ((reading first b (bs ++ more)).len - 1) (at + 1) (ends_line b))) dark
-    ∙ ap (λ q. (record { at = at; first = first; text = take q.len (b ∷ bs ++ more); kind = q.kind }) ∷ lexemes_from (bs ++ more) (q.len - 1) (at + 1) (ends_line b)) (reading_stays first b bs more ends)
+    ∙ ap (λ q. (record { at = at; first = first; text = take q.len (b ∷ bs ++ more); kind = q.kind }) ∷ lexemes_from (bs ++ more) (q.len - 1) (at + 1) (ends_line b)) (stays more)
     ∙ ap (λ t. (record { at = at; first = first; text = t; kind = r.kind }) ∷ lexemes_from (bs ++ more) (r.len - 1) (at + 1) (ends_line b)) (take-append-le r.len (b ∷ bs) more (omega arith)))
     rest
 
-last_unsettled : (b : ℕ) (bs : List ℕ) (at : ℕ) (first : Bool) → is_white b ≡ false → length bs < (reading first b bs).len → SettlesFrom (b ∷ bs) 0 at first
-last_unsettled b bs at first dark reaches =
+last_unsettled : (b : ℕ) (bs : List ℕ) (at : ℕ) (first : Bool) → is_white b ≡ false → length bs < (reading first b bs).len → may_grow (reading first b bs).kind ≡ true → SettlesFrom (b ∷ bs) 0 at first
+last_unsettled b bs at first dark reaches grows_ =
     let within = reading_within first b bs in
     record {
       settled = [];
       place = 0;
       within = omega arith;
       stay = λ more. ap (λ p. lexemes_from (b ∷ bs ++ more) 0 p first) (sym (add-zero at));
-      unsettled = (dark, omega arith);
+      unsettled = (dark, omega arith, grows_);
     }
+
+-- where no lexeme of the rest crosses, by how the first one stands
+first_settles : (b : ℕ) (bs : List ℕ) (at : ℕ) (first : Bool) → is_white b ≡ false → SettlesFrom bs ((reading first b bs).len - 1) (at + 1) (ends_line b) → SettlesFrom (b ∷ bs) 0 at first
+first_settles b bs at first dark rest =
+    let within = reading_within first b bs in
+    ⊎_elim
+    (λ reaches. ⊎_elim
+    (λ grows_. last_unsettled b bs at first dark reaches grows_)
+    (λ fixed. lexeme_settles b bs at first dark (λ more. token_stays first b bs more (reading first b bs).kind (is_longest first b bs).reads (omega arith) fixed) rest)
+    (cases_Bool (may_grow (reading first b bs).kind)))
+    (λ ends. lexeme_settles b bs at first dark (λ more. reading_stays first b bs more ends) rest)
+    (cases_lt (length bs) (reading first b bs).len)
 
 settle_from : (bs : List ℕ) (inside at : ℕ) (first : Bool) → inside ≤ length bs → SettlesFrom bs inside at first
 unfolding lexemes_from
@@ -193,12 +277,10 @@ settle_from [] zero at first within = record { settled = []; place = 0; within =
 settle_from [] (suc inside) at first within = absurd (omega arith)
 settle_from (b ∷ bs) (suc inside) at first within = further b bs (suc inside) at first [] inside (λ more. refl) (settle_from bs inside (at + 1) (ends_line b) (omega arith))
 settle_from (b ∷ bs) zero at first within =
+    let fits = reading_within first b bs in
     ⊎_elim
     (λ white. white_settles b bs at first white (settle_from bs 0 (at + 1) (ends_line b) (omega arith)))
-    (λ dark. ⊎_elim
-      (λ reaches. last_unsettled b bs at first dark reaches)
-      (λ ends. lexeme_settles b bs at first dark ends (settle_from bs ((reading first b bs).len - 1) (at + 1) (ends_line b) (omega arith)))
-      (cases_lt (length bs) (reading first b bs).len))
+    (λ dark. first_settles b bs at first dark (settle_from bs ((reading first b bs).len - 1) (at + 1) (ends_line b) (omega arith)))
     (cases_Bool (is_white b))
 
 pub settles : (start : ℕ) (first : Bool) (front : List ℕ) → Settles start first front

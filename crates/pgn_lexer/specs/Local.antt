@@ -1,8 +1,11 @@
 -- Which places of a text no lexeme crosses, and which lexemes stand between two places.
-use Rattle.std.specs.Prelude.{ℕ, ◌+◌, ◌-◌, ◌≤◌, ◌<◌, ◌≡◌, ◌⊎◌, Bool, false, ◌&&◌, nat_le, nat_lt, List, [], ◌∷◌, ◌++◌, length, drop, filter}
+use Rattle.std.specs.Prelude.{ℕ, ◌+◌, ◌-◌, ◌≤◌, ◌<◌, ◌≡◌, ◌⊎◌, Bool, true, false, ◌&&◌, nat_le, nat_lt, List, [], ◌∷◌, ◌++◌, length, drop, filter}
 use Rattle.std.specs.List.{AllByRecursion}
 use Rattle.pgn_lexer.specs.Bytes.{is_white}
 use Rattle.pgn_lexer.specs.Readings.{reading}
+use Rattle.pgn_lexer.specs.declared.token.LexemeKind.{LexemeKind}
+use Rattle.pgn_lexer.specs.declared.token.LexemeKind.TheVariants.{Token}
+use Rattle.pgn_lexer.specs.declared.token.TokenKind.TheVariants.{Open, Close, Period, Star, LeftParen, RightParen}
 use Rattle.pgn_lexer.specs.Lexemes.{Lexeme, end, lexemes, first_at}
 
 -- no lexeme crosses a place: each ends by it, or begins there or behind it
@@ -28,10 +31,20 @@ pub record StandsIn (start : ℕ) (first : Bool) (bytes : List ℕ) (l : Lexeme)
   pub to_end : end l ≤ start + length bytes
   pub column : l.first ≡ first_at first bytes (l.at - start)
 
--- what a front leaves open: nothing, or a byte whose longest reading is all that is left, and may grow by what follows
+-- whether a lexeme that reaches the end of a text may grow by what follows: the tokens of one byte alone never do
+abbrev pub may_grow : LexemeKind → Bool
+may_grow (Token Open) = false
+may_grow (Token Close) = false
+may_grow (Token Period) = false
+may_grow (Token Star) = false
+may_grow (Token LeftParen) = false
+may_grow (Token RightParen) = false
+may_grow _ = true
+
+-- what a front leaves open: nothing, or a byte whose longest reading is all that is left, and may grow
 abbrev pub IsUnsettled : (first : Bool) → List ℕ → Type 0
 IsUnsettled first [] = Unit {0}
-IsUnsettled first (b ∷ bs) = (is_white b ≡ false) × ((reading first b bs).len ≡ length (b ∷ bs))
+IsUnsettled first (b ∷ bs) = (is_white b ≡ false) × ((reading first b bs).len ≡ length (b ∷ bs)) × (may_grow (reading first b bs).kind ≡ true)
 
 -- A front settles its lexemes up to a place: they stay, whatever follows the front, and those of what it leaves open come behind them.
 pub record Settles (start : ℕ) (first : Bool) (front : List ℕ) : Type 0 where
@@ -40,3 +53,8 @@ pub record Settles (start : ℕ) (first : Bool) (front : List ℕ) : Type 0 wher
   pub within : place ≤ length front
   pub stay : (more : List ℕ) → lexemes start first (front ++ more) ≡ settled ++ lexemes (start + place) (first_at first front place) (drop place front ++ more)
   pub unsettled : IsUnsettled (first_at first front place) (drop place front)
+
+-- What follows a text makes its first reading longer or leaves it; a reading that fits into the text is that of the text.
+pub record Grows (first : Bool) (b : ℕ) (bs more : List ℕ) : Type 0 where
+  pub longer : (reading first b bs).len ≤ (reading first b (bs ++ more)).len
+  pub same : (reading first b (bs ++ more)).len ≤ length (b ∷ bs) → reading first b (bs ++ more) ≡ reading first b bs

@@ -1,10 +1,11 @@
 //! Laws of the lexemes of a text, for the crates above. Each is proved for all texts; to call one costs nothing.
-ghost use Rattle.std.specs.Prelude.{◌≡◌, ◌+◌, ℕ, Bool, List, ◌∷◌, slice_range};
+ghost use Rattle.std.specs.Prelude.{◌≡◌, ◌+◌, ℕ, Bool, false, List, ◌∷◌, drop, slice_range};
 ghost use Rattle.std.specs.List.{AllByRecursion};
-ghost use Rattle.pgn_lexer.specs.Lexemes.{lexemes, first_at};
+ghost use Rattle.pgn_lexer.specs.Bytes.{is_white};
+ghost use Rattle.pgn_lexer.specs.Lexemes.{lexeme, lexemes, first_at};
 ghost use Rattle.pgn_lexer.specs.Readings.{reading};
 ghost use Rattle.pgn_lexer.specs.Grammar.{IsLongest};
-ghost use Rattle.pgn_lexer.specs.Local.{IsUncrossed, AreInOrder, within, StandsIn, Settles};
+ghost use Rattle.pgn_lexer.specs.Local.{IsUncrossed, AreInOrder, within, StandsIn, Settles, Grows};
 
 /// What is read of a byte and the bytes behind it is the longest lexeme there by the grammar, and the only one of its
 /// length, but that any byte may be a bad one.
@@ -26,8 +27,19 @@ pub fn lexemes_are_local()
         lexemes (start + from) (first_at first bytes from) (slice_range bytes from to) ≡ within (start + from) (start + to) (lexemes start first bytes) }
 {}
 
-/// Each front of a text settles its lexemes but for the last one, where that reaches the front's end: whatever follows,
-/// they stay.
+/// At a byte that is not white space a lexeme stands, and behind it come those of what is left.
+pub fn lexemes_follow()
+    ensures { (at : ℕ) (first : Bool) (b : ℕ) (bs : List ℕ) → is_white b ≡ false →
+        lexemes at first (b ∷ bs) ≡ lexeme at first b bs ∷ lexemes (at + (reading first b bs).len) (first_at first (b ∷ bs) (reading first b bs).len) (drop (reading first b bs).len (b ∷ bs)) }
+{}
+
+/// What follows a text makes its first reading longer or leaves it as it is.
+pub fn readings_grow()
+    ensures { (first : Bool) (b : ℕ) (bs more : List ℕ) → Grows first b bs more }
+{}
+
+/// Each front of a text settles its lexemes, but for a last one that reaches the front's end and may grow: whatever
+/// follows, they stay.
 pub fn fronts_settle()
     ensures { (start : ℕ) (first : Bool) (front : List ℕ) → Settles start first front }
 {}

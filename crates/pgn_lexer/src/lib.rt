@@ -15,7 +15,10 @@ mod tests;
 pub mod token;
 
 pub use game::tokens;
-pub use laws::{fronts_settle, lexemes_are_local, lexemes_stand_apart, readings_are_longest};
+pub use laws::{
+    fronts_settle, lexemes_are_local, lexemes_follow, lexemes_stand_apart, readings_are_longest,
+    readings_grow,
+};
 pub use lexeme::{Lexeme, next_lexeme};
 pub use reading::{is_white, longest_reading};
 pub use token::{LexemeKind, Reading, Token, TokenKind};
