@@ -1,3 +1,4 @@
+pub mod Closed
 pub mod Joins
 pub mod Loop
 pub mod Meets

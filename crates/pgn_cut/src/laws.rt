@@ -1,10 +1,14 @@
 //! Laws of the cut, for the crates above. Each is proved for all archives; to call one costs nothing.
-ghost use Rattle.std.specs.Prelude.{ℕ, List, All, length};
-ghost use Rattle.pgn_cut.specs.Cut.{cut};
+ghost use Rattle.std.specs.Prelude.{◌≡◌, ◌++◌, ℕ, List, All, length};
+ghost use Rattle.pgn_cut.specs.Cut.{cut, closed};
 ghost use Rattle.pgn_cut.specs.Joined.{HasItsTokens};
+ghost use Rattle.pgn_cut.specs.declared.span.Span.{Span as ASpan};
 ghost use Rattle.pgn_cut.specs.Spans.{EndsBy, AreInOrder};
 
-use pgn_lexer::{lexemes_are_local, lexemes_stand_apart};
+use pgn_lexer::{
+    fronts_settle, lexemes_are_local, lexemes_follow, lexemes_stand_apart, readings_are_longest,
+    readings_grow,
+};
 
 /// The games of a cut stand in their archive in order, each with at least one byte, and don't overlap.
 pub fn games_stand_apart()
@@ -20,4 +24,14 @@ pub fn games_have_their_tokens()
 {
     lexemes_stand_apart();
     lexemes_are_local();
+}
+
+/// The games that a front of an archive closes are the archive's first ones, whatever follows the front.
+pub fn closed_games_stay()
+    ensures { (front more : List ℕ) → (rest : List ASpan) × (cut (front ++ more) ≡ closed front ++ rest) }
+{
+    fronts_settle();
+    lexemes_follow();
+    readings_grow();
+    readings_are_longest();
 }

@@ -11,6 +11,6 @@ pub mod span;
 mod tests;
 pub mod whole;
 
-pub use laws::{games_have_their_tokens, games_stand_apart};
+pub use laws::{closed_games_stay, games_have_their_tokens, games_stand_apart};
 pub use span::Span;
 pub use whole::cut_whole;
