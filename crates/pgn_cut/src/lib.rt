@@ -1,7 +1,8 @@
 //! An archive of PGN, cut into its games.
 //!
 //! `specs/Cut` says where games begin and end, by the lexemes of the whole archive; `cut_whole` gives exactly these.
-//! The laws say that games stand in order, and that the tokens of a game are the archive's lexemes within it.
+//! The laws say that games stand in order, that the tokens of a game are the archive's lexemes within it, and that the
+//! games which a front of an archive closes stay, whatever follows.
 #![tactic(auto)]
 
 mod game;
