@@ -84,8 +84,9 @@ pub const OUTPUT: u16 = 2;
 
 pub const RESULT: u16 = 19;
 
-/// The words behind which a token may be of a kind that stands nowhere else have the numbers by which clauses name them.
-pub fn numbers()
+/// A law: the words behind which a token may be of a kind that stands nowhere else have the numbers by which code and
+/// clauses name them.
+pub fn word_numbers_stand_for_their_words()
     ensures input { (place_of (codes "input") words ≡ Some input_word) × (input_word ≡ INPUT) }
     ensures output { (place_of (codes "output") words ≡ Some output_word) × (output_word ≡ OUTPUT) }
     ensures result { (place_of (codes "result") words ≡ Some result_word) × (result_word ≡ RESULT) }
@@ -168,6 +169,6 @@ mod tests {
         }
         assert!(rt; is_reserved(b"move"));
         assert!(rt; !is_reserved(b"check"));
-        numbers();
+        word_numbers_stand_for_their_words();
     }
 }
