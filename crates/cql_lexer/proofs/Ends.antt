@@ -3,6 +3,8 @@ use Rattle.std.proofs.Common.{◌≡◌, ℕ, zero, suc, ◌+◌, ◌-◌, ◌<�
 use Rattle.std.specs.Prelude.{nat_lt, nat_le, nat_eq, is_some, codes}
 use Rattle.std.specs.Option.{option_map}
 use Rattle.std.specs.List.{position, prefix_len, starts_with}
+use Rattle.std.specs.Char.{is_ascii_digit}
+use Rattle.std.specs.Str.Parse.{digits_value}
 use Rattle.std.proofs.lemmas.Bool.{cases_Bool, leb-true}
 use Rattle.std.proofs.lemmas.List.Quantifiers.{position-Some}
 use Rattle.cql_syntax.specs.Words.{words, reserved_names, place_of}
@@ -17,7 +19,7 @@ use Rattle.cql_syntax.specs.declared.fault.QueryReason.TheVariants.{BadByte, Unc
 use Rattle.cql_lexer.specs.declared.context.Context.{Context}
 use Rattle.cql_lexer.specs.declared.context.Context.TheVariants as contexts
 use Rattle.cql_lexer.specs.declared.lexeme.Lexeme.{Lexeme}
-use Rattle.cql_lexer.specs.Characters.{is_digit, is_name_byte, is_file_byte, is_quote, begins, begins_name_or_squares, decimal}
+use Rattle.cql_lexer.specs.Characters.{is_name_byte, is_file_byte, is_quote, begins, begins_name_or_squares}
 use Rattle.cql_lexer.specs.Designators.{designator}
 use Rattle.cql_lexer.specs.Longest.{longest}
 use Rattle.cql_lexer.specs.Lexemes.{of_len, file_name, outcome, quoted, number, named, named_or_squares, marks, mark_number, mark, found_or, first_lexeme}
@@ -83,8 +85,8 @@ number_by false len value h = tt
 number_proper : (text : List ℕ) → Reads (number text)
 unfolding number
 number_proper text =
-    let value = decimal (take (prefix_len is_digit text) text) in
-    number_by (leb value 999999999) (prefix_len is_digit text) value (leb-true value 999999999)
+    let value = digits_value 10 (take (prefix_len is_ascii_digit text) text) in
+    number_by (leb value 999999999) (prefix_len is_ascii_digit text) value (leb-true value 999999999)
 
 named_by : (o : Option ℕ) (b : Bool) (name : List ℕ) → ((k : ℕ) → o ≡ Some k → k < 69) → IsProper (elim o [ Some word ↦ Word word | None ↦ cond b (Reserved name) (Name name) ])
 named_by None true name h = tt
@@ -130,12 +132,12 @@ unfolding first_lexeme
 first_proper context text =
     let last = found_or (mark text) (Err BadByte) in
     let names = found_or (named_or_squares text) last in
-    let digits = cond (begins is_digit text) (number text) names in
+    let digits = cond (begins is_ascii_digit text) (number text) names in
     let quotes = cond (begins is_quote text) (quoted text) digits in
     reads_found (file_name context text) (found_or (outcome context text) quotes) (file_name_proper context text)
     (reads_found (outcome context text) quotes (outcome_proper context text)
     (reads_if (begins is_quote text) (quoted text) digits (quoted_proper text)
-    (reads_if (begins is_digit text) (number text) names (number_proper text)
+    (reads_if (begins is_ascii_digit text) (number text) names (number_proper text)
     (reads_found (named_or_squares text) last (named_or_squares_proper text)
     (reads_found (mark text) (Err BadByte) (mark_proper text) tt)))))
 

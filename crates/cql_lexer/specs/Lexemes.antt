@@ -2,6 +2,8 @@
 use Rattle.std.specs.Prelude.{ℕ, ◌+◌, ◌<◌, ◌≤◌, nat_lt, nat_le, nat_eq, List, [], ◌∷◌, length, take, drop, Option, None, Some, Result, Ok, Err, if◌then◌else◌, is_some, codes}
 use Rattle.std.specs.Option.{option_map}
 use Rattle.std.specs.List.{position, prefix_len, starts_with}
+use Rattle.std.specs.Char.{is_ascii_digit}
+use Rattle.std.specs.Str.Parse.{digits_value}
 use Rattle.cql_syntax.specs.Words.{words, reserved_names, place_of}
 use Rattle.cql_syntax.specs.declared.leaves.Outcome.TheVariants as outcomes
 use Rattle.cql_syntax.specs.declared.token.QueryTokenKind.{QueryTokenKind}
@@ -11,7 +13,7 @@ use Rattle.cql_syntax.specs.declared.fault.QueryReason.TheVariants.{BadByte, Unc
 use Rattle.cql_lexer.specs.declared.context.Context.{Context}
 use Rattle.cql_lexer.specs.declared.context.Context.TheVariants as contexts
 use Rattle.cql_lexer.specs.declared.lexeme.Lexeme.{Lexeme}
-use Rattle.cql_lexer.specs.Characters.{is_digit, is_name_byte, is_file_byte, is_quote, begins_name_or_squares, begins, decimal}
+use Rattle.cql_lexer.specs.Characters.{is_name_byte, is_file_byte, is_quote, begins_name_or_squares, begins}
 use Rattle.cql_lexer.specs.Designators.{designator}
 use Rattle.cql_lexer.specs.Longest.{longest}
 
@@ -46,8 +48,8 @@ quoted text = elim (position is_quote (drop 1 text)) [ Some end ↦ Ok (of_len (
 -- 4. at a digit: a number, the run of digits
 unfoldable pub number : List ℕ → Result Lexeme QueryReason
 number text =
-    let len = prefix_len is_digit text in
-    let value = decimal (take len text) in
+    let len = prefix_len is_ascii_digit text in
+    let value = digits_value 10 (take len text) in
     if nat_le value 999999999 then Ok (of_len len (Number value)) else Err NumberTooLarge
 
 -- a word, a reserved name or another name
@@ -90,5 +92,5 @@ first_lexeme context text =
     found_or (file_name context text)
     (found_or (outcome context text)
     (if begins is_quote text then quoted text
-    else (if begins is_digit text then number text
+    else (if begins is_ascii_digit text then number text
     else found_or (named_or_squares text) (found_or (mark text) (Err BadByte)))))

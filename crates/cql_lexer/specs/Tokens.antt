@@ -9,7 +9,8 @@ use Rattle.cql_syntax.specs.declared.fault.QueryFault.{QueryFault}
 use Rattle.cql_syntax.specs.declared.fault.QueryReason.TheVariants.{QueryTooLong}
 use Rattle.cql_lexer.specs.declared.context.Context.{Context}
 use Rattle.cql_lexer.specs.declared.context.Context.TheVariants.{Any, FileName, Outcome}
-use Rattle.cql_lexer.specs.Characters.{is_white, is_line_feed}
+use Rattle.cq_outside.specs.Text.{is_white}
+use Rattle.cql_lexer.specs.Characters.{is_line_feed}
 use Rattle.cql_lexer.specs.Lexemes.{first_lexeme}
 
 -- what may stand directly behind a token beside any other token

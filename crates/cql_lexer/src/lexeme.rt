@@ -1,13 +1,12 @@
 //! One token at the front of a text, by the first rule that applies.
 ghost use Rattle.std.specs.Prelude.{◌≡◌, ◌<◌, ◌≤◌, length, IfOk, IfSome, IsTrue, Some};
-ghost use Rattle.cql_syntax.specs.Refusals.{Gives};
-ghost use Rattle.cql_lexer.specs.Characters.{begins, is_digit, begins_name_or_squares};
+ghost use Rattle.cq_outside.specs.Refusals.{Gives};
+ghost use Rattle.std.specs.Char.{is_ascii_digit};
+ghost use Rattle.cql_lexer.specs.Characters.{begins, begins_name_or_squares};
 ghost use Rattle.cql_lexer.specs.Lexemes.{IsFront, file_name, outcome, quoted, number, named, named_or_squares, mark_number, mark, first_lexeme};
 ghost use Rattle.cql_lexer.specs.Longest.{front, longest};
 
-use crate::characters::{
-    decimal_at_most, digits_len, file_name_len, find, is_digit, is_name_byte, name_len,
-};
+use crate::characters::{decimal_at_most, digits_len, file_name_len, find, name_len};
 use crate::context::Context;
 use crate::designators::designator_at;
 use cq_outside::{Bytes, NoMemory, Refusal};
@@ -30,15 +29,6 @@ pub struct Lexeme {
     pub len: usize,
 }
 
-// The bytes, as a list of their own.
-fn copied(alloc: Global, text: &[u8]) -> Result<Bytes, NoMemory>
-    ensures { IfOk result (λ bytes. bytes ≡ text.now) }
-{
-    let mut bytes = Bytes::new(alloc);
-    bytes.push_all(text)?;
-    Ok(bytes)
-}
-
 // The name of a file.
 #[tactic(auto, unfolding(crate::specs::Lexemes::file_name))]
 fn file_name(alloc: Global, context: Context, text: &[u8]) -> Result<Option<Lexeme>, NoMemory>
@@ -49,7 +39,7 @@ fn file_name(alloc: Global, context: Context, text: &[u8]) -> Result<Option<Lexe
     if context != Context::FileName || len == 0 {
         return Ok(None);
     }
-    let kind = QueryTokenKind::FileName(copied(alloc, &text[..len])?);
+    let kind = QueryTokenKind::FileName(Bytes::from_slice(alloc, &text[..len])?);
     Ok(Some(Lexeme { kind, len }))
 }
 
@@ -89,7 +79,7 @@ fn quoted(alloc: Global, text: &[u8]) -> Result<Lexeme, Refusal<QueryReason>>
     let behind = &text[1..];
     match find(b'"', behind) {
         Some(end) => Ok(Lexeme {
-            kind: QueryTokenKind::Text(copied(alloc, &behind[..end])?),
+            kind: QueryTokenKind::Text(Bytes::from_slice(alloc, &behind[..end])?),
             len: end + 2,
         }),
         None => Err(Refusal::Fault(QueryReason::UnclosedText)),
@@ -97,9 +87,9 @@ fn quoted(alloc: Global, text: &[u8]) -> Result<Lexeme, Refusal<QueryReason>>
 }
 
 // A number.
-#[tactic(auto, unfolding(crate::specs::Lexemes::number))]
+#[tactic(auto, using(crate::proofs::Digits::front_digits), unfolding(crate::specs::Lexemes::number))]
 fn number(text: &[u8]) -> Result<Lexeme, QueryReason>
-    requires { IsTrue (begins is_digit text.now) }
+    requires { IsTrue (begins is_ascii_digit text.now) }
     ensures value { result ≡ number text.now }
     ensures front { IfOk result (λ lexeme. IsFront lexeme text.now) }
 {
@@ -121,7 +111,7 @@ fn named(alloc: Global, name: &[u8]) -> Result<QueryTokenKind, NoMemory>
     if let Some(word) = word_number(name) {
         return Ok(QueryTokenKind::Word(word));
     }
-    let bytes = copied(alloc, name)?;
+    let bytes = Bytes::from_slice(alloc, name)?;
     if is_reserved(name) {
         Ok(QueryTokenKind::Reserved(bytes))
     } else {
@@ -199,7 +189,7 @@ fn begins_name_or_squares(text: &[u8]) -> bool
     ensures { result ≡ begins begins_name_or_squares text.now }
 {
     match text.first() {
-        Some(first) => is_name_byte(*first) || matches!(*first, b'.' | b'['),
+        Some(first) => first.is_ascii_alphabetic() || matches!(*first, b'_' | b'.' | b'['),
         None => false,
     }
 }
@@ -224,7 +214,7 @@ pub fn first_lexeme(
     if text[0] == b'"' {
         return quoted(alloc, text);
     }
-    if is_digit(text[0]) {
+    if text[0].is_ascii_digit() {
         return number(text).map_err(Refusal::Fault);
     }
     if let Some(found) = named_or_squares(alloc, text)? {

@@ -2,10 +2,10 @@
 ghost use Rattle.std.specs.Prelude.{◌≡◌, ◌<◌, ◌≤◌, ◌+◌, length, drop, IfOk, OnOk, OnErr};
 ghost use Rattle.std.specs.Prelude.{◌++◌, ◌∷◌, [], ℕ, List};
 ghost use Rattle.cql_syntax.specs.declared.token.QueryToken.{QueryToken};
-ghost use Rattle.cql_syntax.specs.Refusals.{Gives};
+ghost use Rattle.cq_outside.specs.Refusals.{Gives};
 ghost use Rattle.cql_lexer.specs.Tokens.{separator_len, token_at, tokens_of, EndOnce};
 
-use crate::characters::{find, is_white, white_len};
+use crate::characters::{find, white_len};
 use crate::context::{Context, after};
 use crate::lexeme::{Lexeme, first_lexeme};
 use cq_outside::{NoMemory, Refusal};
