@@ -17,5 +17,5 @@ pub mod token;
 pub use game::tokens;
 pub use laws::{lexemes_are_local, lexemes_stand_apart, readings_are_longest};
 pub use lexeme::{Lexeme, next_lexeme};
-pub use reading::{is_white, longest_reading};
+pub use reading::longest_reading;
 pub use token::{LexemeKind, Reading, Token, TokenKind};
