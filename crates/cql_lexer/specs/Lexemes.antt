@@ -10,8 +10,8 @@ use Rattle.cql_syntax.specs.declared.token.QueryTokenKind.{QueryTokenKind}
 use Rattle.cql_syntax.specs.declared.token.QueryTokenKind.TheVariants.{Word, Reserved, Name, Squares, Number, Text, FileName, Outcome as OutcomeToken, Mark}
 use Rattle.cql_syntax.specs.declared.fault.QueryReason.{QueryReason}
 use Rattle.cql_syntax.specs.declared.fault.QueryReason.TheVariants.{BadByte, UnclosedText, NumberTooLarge}
-use Rattle.cql_lexer.specs.declared.context.Context.{Context}
-use Rattle.cql_lexer.specs.declared.context.Context.TheVariants as contexts
+use Rattle.cql_lexer.specs.declared.expected.Expected.{Expected}
+use Rattle.cql_lexer.specs.declared.expected.Expected.TheVariants as expectations
 use Rattle.cql_lexer.specs.declared.lexeme.Lexeme.{Lexeme}
 use Rattle.cql_lexer.specs.Characters.{is_name_byte, is_file_byte, is_quote, begins_name_or_squares, begins}
 use Rattle.cql_lexer.specs.Designators.{designator}
@@ -26,20 +26,20 @@ abbrev pub IsFront : Lexeme → List ℕ → Type 0
 IsFront lexeme text = (0 < lexeme.len) × (lexeme.len ≤ length text)
 
 -- 1. behind `input` or `output`: the name of a file, the longest run of its bytes
-unfoldable pub file_name : Context → List ℕ → Option Lexeme
-file_name contexts.FileName text =
+unfoldable pub file_name : Expected → List ℕ → Option Lexeme
+file_name expectations.FileName text =
     let len = prefix_len is_file_byte text in if nat_lt 0 len then Some (of_len len (FileName (take len text))) else None
-file_name context text = None
+file_name expected text = None
 
 -- 2. behind `result`: a result
-unfoldable pub outcome : Context → List ℕ → Option Lexeme
-outcome contexts.Outcome text =
+unfoldable pub outcome : Expected → List ℕ → Option Lexeme
+outcome expectations.Outcome text =
     if starts_with nat_eq text (codes "1/2-1/2") then Some (of_len 7 (OutcomeToken outcomes.Draw))
     else (if starts_with nat_eq text (codes "1-0") then Some (of_len 3 (OutcomeToken outcomes.White))
     else (if starts_with nat_eq text (codes "0-1") then Some (of_len 3 (OutcomeToken outcomes.Black))
     else (if starts_with nat_eq text (codes "*") then Some (of_len 1 (OutcomeToken outcomes.Unfinished))
     else None)))
-outcome context text = None
+outcome expected text = None
 
 -- 3. at a quote: a text to the next quote, any bytes between
 unfoldable pub quoted : List ℕ → Result Lexeme QueryReason
@@ -87,10 +87,10 @@ found_or (Some lexeme) other = Ok lexeme
 found_or None other = other
 
 -- the first rule that applies at the front of a text; 7. any other byte is bad
-unfoldable pub first_lexeme : Context → List ℕ → Result Lexeme QueryReason
-first_lexeme context text =
-    found_or (file_name context text)
-    (found_or (outcome context text)
+unfoldable pub first_lexeme : Expected → List ℕ → Result Lexeme QueryReason
+first_lexeme expected text =
+    found_or (file_name expected text)
+    (found_or (outcome expected text)
     (if begins is_quote text then quoted text
     else (if begins is_ascii_digit text then number text
     else found_or (named_or_squares text) (found_or (mark text) (Err BadByte)))))

@@ -1,14 +1,15 @@
-//! What a token says of the next one.
+//! What a token lets stand behind it.
 ghost use Rattle.std.specs.Prelude.{◌≡◌};
-ghost use Rattle.cql_lexer.specs.Tokens.{after};
+ghost use Rattle.cql_lexer.specs.Tokens.{expected_after};
 
 use cql_syntax::QueryTokenKind;
 use cql_syntax::words::{INPUT, OUTPUT, RESULT};
 
-/// What may stand directly behind a token, beside any other token.
+/// What may stand directly behind a token, beside the tokens that may stand anywhere.
 #[derive(Clone, Copy, Debug, PartialEq, Eq)]
-pub enum Context {
-    Any,
+pub enum Expected {
+    /// No other: a token that may stand anywhere.
+    Token,
     /// The name of a file, behind `input` and `output`.
     FileName,
     /// A result, behind `result`.
@@ -16,12 +17,12 @@ pub enum Context {
 }
 
 /// What may stand directly behind a token.
-pub fn after(kind: &QueryTokenKind) -> Context
-    ensures { result ≡ after kind.now }
+pub fn expected_after(kind: &QueryTokenKind) -> Expected
+    ensures { result ≡ expected_after kind.now }
 {
     match kind {
-        QueryTokenKind::Word(INPUT | OUTPUT) => Context::FileName,
-        QueryTokenKind::Word(RESULT) => Context::Outcome,
-        _ => Context::Any,
+        QueryTokenKind::Word(INPUT | OUTPUT) => Expected::FileName,
+        QueryTokenKind::Word(RESULT) => Expected::Outcome,
+        _ => Expected::Token,
     }
 }

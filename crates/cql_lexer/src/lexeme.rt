@@ -7,8 +7,8 @@ ghost use Rattle.cql_lexer.specs.Lexemes.{IsFront, file_name, outcome, quoted, n
 ghost use Rattle.cql_lexer.specs.Longest.{front, longest};
 
 use crate::characters::{decimal_at_most, digits_len, file_name_len, find, name_len};
-use crate::context::Context;
 use crate::designators::designator_at;
+use crate::expected::Expected;
 use cq_outside::{Bytes, NoMemory, Refusal};
 use cql_syntax::words::place_in;
 use cql_syntax::{Outcome, QueryReason, QueryTokenKind, is_reserved, word_number};
@@ -31,12 +31,12 @@ pub struct Lexeme {
 
 // The name of a file.
 #[tactic(auto, unfolding(crate::specs::Lexemes::file_name))]
-fn file_name(alloc: Global, context: Context, text: &[u8]) -> Result<Option<Lexeme>, NoMemory>
-    ensures value { IfOk result (λ found. found ≡ file_name context text.now) }
+fn file_name(alloc: Global, expected: Expected, text: &[u8]) -> Result<Option<Lexeme>, NoMemory>
+    ensures value { IfOk result (λ found. found ≡ file_name expected text.now) }
     ensures front { IfOk result (λ found. IfSome found (λ lexeme. IsFront lexeme text.now)) }
 {
     let len = file_name_len(text);
-    if context != Context::FileName || len == 0 {
+    if expected != Expected::FileName || len == 0 {
         return Ok(None);
     }
     let kind = QueryTokenKind::FileName(Bytes::from_slice(alloc, &text[..len])?);
@@ -45,11 +45,11 @@ fn file_name(alloc: Global, context: Context, text: &[u8]) -> Result<Option<Lexe
 
 // A result.
 #[tactic(auto, unfolding(crate::specs::Lexemes::outcome))]
-fn outcome(context: Context, text: &[u8]) -> Option<Lexeme>
-    ensures value { result ≡ outcome context text.now }
+fn outcome(expected: Expected, text: &[u8]) -> Option<Lexeme>
+    ensures value { result ≡ outcome expected text.now }
     ensures front { IfSome result (λ lexeme. IsFront lexeme text.now) }
 {
-    if context != Context::Outcome {
+    if expected != Expected::Outcome {
         return None;
     }
     let (outcome, len) = if text.starts_with(b"1/2-1/2".as_slice()) {
@@ -198,17 +198,17 @@ fn begins_name_or_squares(text: &[u8]) -> bool
 #[tactic(auto, unfolding(crate::specs::Lexemes::first_lexeme))]
 pub fn first_lexeme(
     alloc: Global,
-    context: Context,
+    expected: Expected,
     text: &[u8],
 ) -> Result<Lexeme, Refusal<QueryReason>>
     requires { 0 < length text.now }
-    ensures value { Gives (λ lexeme. lexeme) result (first_lexeme context text.now) }
+    ensures value { Gives (λ lexeme. lexeme) result (first_lexeme expected text.now) }
     ensures front { IfOk result (λ lexeme. IsFront lexeme text.now) }
 {
-    if let Some(found) = file_name(alloc, context, text)? {
+    if let Some(found) = file_name(alloc, expected, text)? {
         return Ok(found);
     }
-    if let Some(found) = outcome(context, text) {
+    if let Some(found) = outcome(expected, text) {
         return Ok(found);
     }
     if text[0] == b'"' {
