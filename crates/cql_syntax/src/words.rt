@@ -77,11 +77,13 @@ const WORDS: [&str; 69] = [
     "comment",
 ];
 
-/// The numbers of the words behind which a token may be of a kind that stands nowhere else.
+/// The number of the word `input`, behind which the name of a file may stand.
 pub const INPUT: u16 = 1;
 
+/// The number of the word `output`, behind which the name of a file may stand.
 pub const OUTPUT: u16 = 2;
 
+/// The number of the word `result`, behind which a result of a game may stand.
 pub const RESULT: u16 = 19;
 
 /// A law: the words behind which a token may be of a kind that stands nowhere else have the numbers by which code and
