@@ -1,4 +1,6 @@
 pub mod Faults
 pub mod Flow
 pub mod Kept
+pub mod Refusals
+pub mod Text
 pub mod Told

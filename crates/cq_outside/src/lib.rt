@@ -1,5 +1,6 @@
 //! The outside of the program, as the rest of it sees it: sources, sinks, a desk of files and a gate,
-//! each by what its calls promise, with forms in memory and a thin edge over the real system.
+//! each by what its calls promise, with forms in memory and a thin edge over the real system; and white
+//! space, which is the same in every text.
 #![tactic(auto)]
 
 pub mod bytes;
@@ -15,6 +16,7 @@ pub mod sure_sink;
 pub mod sure_source;
 #[cfg(test)]
 mod tests;
+pub mod text;
 
 pub use bytes::Bytes;
 pub use desk::Desk;
@@ -27,3 +29,4 @@ pub use source::Source;
 pub use sure_desk::SureDesk;
 pub use sure_sink::SureSink;
 pub use sure_source::SureSource;
+pub use text::is_white;

@@ -1,6 +1,6 @@
 use crate::{
     Bytes, Desk, Failed, FileDesk, Gate, NoMemory, OpenFault, OpenGate, Refusal, Sink, Source,
-    StdSink, SureDesk, SureSink, SureSource, read_piece, read_up_to, write_all_of,
+    StdSink, SureDesk, SureSink, SureSource, is_white, read_piece, read_up_to, write_all_of,
 };
 use std::fs;
 use std::test::Fail;
@@ -32,6 +32,14 @@ fn numbers_are_written_in_decimal(rt: HostRuntime) -> Result<(), Fail> {
         assert_eq!(rt; bytes.as_slice(), text);
     }
     Ok(())
+}
+
+#[test]
+fn white_space_is_tab_to_carriage_return_and_the_space(rt: HostRuntime) {
+    for b in 0..=255 {
+        let white = b"\t\n\x0b\x0c\r ".contains(&b);
+        assert_eq!(rt; is_white(b), white, "at {b}");
+    }
 }
 
 #[test]

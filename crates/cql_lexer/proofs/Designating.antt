@@ -10,7 +10,7 @@ use Rattle.std.proofs.lemmas.List.{take-take, drop-take, take_rest}
 use Rattle.cql_syntax.specs.declared.leaves.Designator.{Designator}
 use Rattle.cql_lexer.specs.Designators.{group, men_of, in_brackets, squares_of, specification, specifications, rectangle, men_then_squares, designator, men_on, any_men, all_squares}
 use Rattle.cql_lexer.specs.Longest.{longest}
-use Rattle.cql_lexer.proofs.Digits.{from_to}
+use Rattle.cql_lexer.proofs.Digits.{in_range}
 use Rattle.cql_lexer.proofs.Longest.{Within, Nothing, some_or_none, none_some, longest_some, longest_none, longest_parts, longest_nothing}
 use Rattle.cql_lexer.proofs.Groups.{Opens, opens}
 use Rattle.cql_lexer.proofs.Fronts.{men_group-other, men_plain-other, squares_group-other, squares_plain}
@@ -91,7 +91,7 @@ rectangle_parts file last_file rank last_rank s e =
     let test = (cond_some _ _ _ e).0 in
     let three = (and_parts _ _ test).0 in
     let two = (and_parts _ _ three).0 in
-    ((from_to 97 104 file (and_parts _ _ two).0).0, (from_to 49 56 rank (and_parts _ _ three).1).1)
+    ((in_range 97 104 file (and_parts _ _ two).0).0, (in_range 49 56 rank (and_parts _ _ three).1).1)
 
 begins_four : (a b c d s : ℕ) (e f : Bool) → (e ≡ true → b ≡ 45) → cond e (rectangle a c d d) (cond f (rectangle a a b d) None) ≡ Some s → Begins (a ∷ b ∷ c ∷ d ∷ [])
 begins_four a b c d s true f is e = let parts = rectangle_parts a c d d s e in record { high = parts.0; low = omega (arith, is refl) }

@@ -3,6 +3,8 @@ use Rattle.std.proofs.Common.{◌≡◌, ℕ, zero, suc, ◌+◌, ◌-◌, ◌<�
 use Rattle.std.specs.Prelude.{nat_lt, nat_le, nat_eq, is_some, codes}
 use Rattle.std.specs.Option.{option_map}
 use Rattle.std.specs.List.{position, prefix_len, starts_with}
+use Rattle.std.specs.Char.{is_ascii_digit}
+use Rattle.std.specs.Str.Parse.{digits_value}
 use Rattle.std.proofs.lemmas.Bool.{cases_Bool, leb-true}
 use Rattle.std.proofs.lemmas.List.Quantifiers.{position-Some}
 use Rattle.cql_syntax.specs.Words.{words, reserved_names, place_of}
@@ -14,14 +16,14 @@ use Rattle.cql_syntax.specs.declared.token.QueryTokenKind.TheVariants.{Word, Res
 use Rattle.cql_syntax.specs.declared.fault.QueryFault.{QueryFault}
 use Rattle.cql_syntax.specs.declared.fault.QueryReason.{QueryReason}
 use Rattle.cql_syntax.specs.declared.fault.QueryReason.TheVariants.{BadByte, UnclosedText, NumberTooLarge}
-use Rattle.cql_lexer.specs.declared.context.Context.{Context}
-use Rattle.cql_lexer.specs.declared.context.Context.TheVariants as contexts
+use Rattle.cql_lexer.specs.declared.expected.Expected.{Expected}
+use Rattle.cql_lexer.specs.declared.expected.Expected.TheVariants as expectations
 use Rattle.cql_lexer.specs.declared.lexeme.Lexeme.{Lexeme}
-use Rattle.cql_lexer.specs.Characters.{is_digit, is_name_byte, is_file_byte, is_quote, begins, begins_name_or_squares, decimal}
+use Rattle.cql_lexer.specs.Characters.{is_name_byte, is_file_byte, is_quote, begins, begins_name_or_squares}
 use Rattle.cql_lexer.specs.Designators.{designator}
 use Rattle.cql_lexer.specs.Longest.{longest}
 use Rattle.cql_lexer.specs.Lexemes.{of_len, file_name, outcome, quoted, number, named, named_or_squares, marks, mark_number, mark, found_or, first_lexeme}
-use Rattle.cql_lexer.specs.Tokens.{IsProper, EndOnce, tokens_from, tokens_of, separator_len, token_at, with_front, after, result_and_then}
+use Rattle.cql_lexer.specs.Tokens.{IsProper, EndOnce, tokens_from, tokens_of, separator_len, token_at, with_front, expected_after, result_and_then}
 use Rattle.cql_lexer.proofs.Longest.{some_or_none, longest_parts}
 
 -- where a lexeme is found, it is proper
@@ -49,11 +51,11 @@ file_by : (b : Bool) (len : ℕ) (text : List ℕ) → Finds (cond b (Some (of_l
 file_by true len text = tt
 file_by false len text = tt
 
-file_name_proper : (context : Context) (text : List ℕ) → Finds (file_name context text)
+file_name_proper : (expected : Expected) (text : List ℕ) → Finds (file_name expected text)
 unfolding file_name
-file_name_proper contexts.Any text = tt
-file_name_proper contexts.FileName text = file_by (ltb 0 (prefix_len is_file_byte text)) (prefix_len is_file_byte text) text
-file_name_proper contexts.Outcome text = tt
+file_name_proper expectations.Token text = tt
+file_name_proper expectations.FileName text = file_by (ltb 0 (prefix_len is_file_byte text)) (prefix_len is_file_byte text) text
+file_name_proper expectations.Outcome text = tt
 
 outcome_by : (a b c d : Bool) → Finds (cond a (Some (of_len 7 (Outcome outcomes.Draw))) (cond b (Some (of_len 3 (Outcome outcomes.White))) (cond c (Some (of_len 3 (Outcome outcomes.Black))) (cond d (Some (of_len 1 (Outcome outcomes.Unfinished))) None))))
 outcome_by true b c d = tt
@@ -62,11 +64,11 @@ outcome_by false false true d = tt
 outcome_by false false false true = tt
 outcome_by false false false false = tt
 
-outcome_proper : (context : Context) (text : List ℕ) → Finds (outcome context text)
+outcome_proper : (expected : Expected) (text : List ℕ) → Finds (outcome expected text)
 unfolding outcome
-outcome_proper contexts.Any text = tt
-outcome_proper contexts.FileName text = tt
-outcome_proper contexts.Outcome text = outcome_by (starts_with nat_eq text (codes "1/2-1/2")) (starts_with nat_eq text (codes "1-0")) (starts_with nat_eq text (codes "0-1")) (starts_with nat_eq text (codes "*"))
+outcome_proper expectations.Token text = tt
+outcome_proper expectations.FileName text = tt
+outcome_proper expectations.Outcome text = outcome_by (starts_with nat_eq text (codes "1/2-1/2")) (starts_with nat_eq text (codes "1-0")) (starts_with nat_eq text (codes "0-1")) (starts_with nat_eq text (codes "*"))
 
 quoted_by : (o : Option ℕ) (text : List ℕ) → Reads (elim o [ Some end ↦ Ok (of_len (end + 2) (Text (take end (drop 1 text)))) | None ↦ Err UnclosedText ])
 quoted_by None text = tt
@@ -83,8 +85,8 @@ number_by false len value h = tt
 number_proper : (text : List ℕ) → Reads (number text)
 unfolding number
 number_proper text =
-    let value = decimal (take (prefix_len is_digit text) text) in
-    number_by (leb value 999999999) (prefix_len is_digit text) value (leb-true value 999999999)
+    let value = digits_value 10 (take (prefix_len is_ascii_digit text) text) in
+    number_by (leb value 999999999) (prefix_len is_ascii_digit text) value (leb-true value 999999999)
 
 named_by : (o : Option ℕ) (b : Bool) (name : List ℕ) → ((k : ℕ) → o ≡ Some k → k < 69) → IsProper (elim o [ Some word ↦ Word word | None ↦ cond b (Reserved name) (Name name) ])
 named_by None true name h = tt
@@ -125,17 +127,17 @@ mark_proper : (text : List ℕ) → Finds (mark text)
 unfolding mark
 mark_proper text = mark_by (longest mark_number text) (λ k len e. mark_below (take len text) k (longest_parts mark_number text k len e).reads)
 
-first_proper : (context : Context) (text : List ℕ) → Reads (first_lexeme context text)
+first_proper : (expected : Expected) (text : List ℕ) → Reads (first_lexeme expected text)
 unfolding first_lexeme
-first_proper context text =
+first_proper expected text =
     let last = found_or (mark text) (Err BadByte) in
     let names = found_or (named_or_squares text) last in
-    let digits = cond (begins is_digit text) (number text) names in
+    let digits = cond (begins is_ascii_digit text) (number text) names in
     let quotes = cond (begins is_quote text) (quoted text) digits in
-    reads_found (file_name context text) (found_or (outcome context text) quotes) (file_name_proper context text)
-    (reads_found (outcome context text) quotes (outcome_proper context text)
+    reads_found (file_name expected text) (found_or (outcome expected text) quotes) (file_name_proper expected text)
+    (reads_found (outcome expected text) quotes (outcome_proper expected text)
     (reads_if (begins is_quote text) (quoted text) digits (quoted_proper text)
-    (reads_if (begins is_digit text) (number text) names (number_proper text)
+    (reads_if (begins is_ascii_digit text) (number text) names (number_proper text)
     (reads_found (named_or_squares text) last (named_or_squares_proper text)
     (reads_found (mark text) (Err BadByte) (mark_proper text) tt)))))
 
@@ -148,8 +150,8 @@ found_by : (r : Result Lexeme QueryReason) (at : ℕ) → Reads r → Found (eli
 found_by (Ok found) at p = p
 found_by (Err reason) at p = tt
 
-token_proper : (context : Context) (at : ℕ) (text : List ℕ) → Found (token_at context at text)
-token_proper context at text = found_by (first_lexeme context text) at (first_proper context text)
+token_proper : (expected : Expected) (at : ℕ) (text : List ℕ) → Found (token_at expected at text)
+token_proper expected at text = found_by (first_lexeme expected text) at (first_proper expected text)
 
 -- the tokens are proper ones, and then one end
 abbrev Ends : ℕ → Result (List QueryToken) QueryFault → Type 0
@@ -176,24 +178,24 @@ ends_at m n r e h = subst (λ k. Ends k r) e h
 end_alone : (at : ℕ) → Ends (at + 0) (Ok ((record { at = at; kind = End }) ∷ []))
 end_alone at = let e : at ≡ at + 0 = omega arith in ap (λ k. record { at = k; kind = End }) e
 
-ends : (passed at : ℕ) (context : Context) (text : List ℕ) → Ends (at + length text) (tokens_from passed at context text)
+ends : (passed at : ℕ) (expected : Expected) (text : List ℕ) → Ends (at + length text) (tokens_from passed at expected text)
 unfolding tokens_from
-ends zero at context [] = end_alone at
-ends (suc passed) at context [] = end_alone at
-ends (suc passed) at context (b ∷ text) =
-    ends_at (at + 1 + length text) (at + suc (length text)) _ (omega arith) (ends passed (at + 1) context text)
-ends zero at context (b ∷ text) =
+ends zero at expected [] = end_alone at
+ends (suc passed) at expected [] = end_alone at
+ends (suc passed) at expected (b ∷ text) =
+    ends_at (at + 1 + length text) (at + suc (length text)) _ (omega arith) (ends passed (at + 1) expected text)
+ends zero at expected (b ∷ text) =
     let separator = separator_len (b ∷ text) in
     ends_at (at + 1 + length text) (at + suc (length text)) _ (omega arith)
-    (ends_if (at + 1 + length text) (ltb 0 separator) (tokens_from (separator - 1) (at + 1) context text) _
-    (ends (separator - 1) (at + 1) context text)
-    (ends_then (at + 1 + length text) (token_at context at (b ∷ text)) (λ found. tokens_from (found.1 - 1) (at + 1) (after found.0.kind) text)
-    (token_proper context at (b ∷ text))
-    (λ found. ends (found.1 - 1) (at + 1) (after found.0.kind) text)))
+    (ends_if (at + 1 + length text) (ltb 0 separator) (tokens_from (separator - 1) (at + 1) expected text) _
+    (ends (separator - 1) (at + 1) expected text)
+    (ends_then (at + 1 + length text) (token_at expected at (b ∷ text)) (λ found. tokens_from (found.1 - 1) (at + 1) (expected_after found.0.kind) text)
+    (token_proper expected at (b ∷ text))
+    (λ found. ends (found.1 - 1) (at + 1) (expected_after found.0.kind) text)))
 
 whole : (query : List ℕ) → Ends (length query) (tokens_of query)
 unfolding tokens_of
-whole query = ends_if (length query) (ltb 65536 (length query)) _ (tokens_from 0 0 contexts.Any query) tt (ends_at (0 + length query) (length query) _ (omega arith) (ends 0 0 contexts.Any query))
+whole query = ends_if (length query) (ltb 65536 (length query)) _ (tokens_from 0 0 expectations.Token query) tt (ends_at (0 + length query) (length query) _ (omega arith) (ends 0 0 expectations.Token query))
 
 pub tokens_end : (query : List ℕ) (tokens : List QueryToken) → tokens_of query ≡ Ok tokens → EndOnce (length query) tokens
 tokens_end query tokens e = subst (Ends (length query)) e (whole query)

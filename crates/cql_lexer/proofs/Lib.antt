@@ -8,5 +8,6 @@ pub mod Designating
 pub mod Eights
 pub mod Digits
 pub mod Marks
+mod Rows
 pub mod Steps
 pub mod Ends

@@ -4,56 +4,56 @@ use Rattle.std.proofs.lemmas.Bool.{cond-true, cond-false, lt-ltb, le-ltb}
 use Rattle.std.proofs.lemmas.List.{drop-drop, drop_all, take_rest}
 use Rattle.cq_outside.specs.declared.faults.Refusal.{Refusal}
 use Rattle.cq_outside.specs.declared.faults.Refusal.TheVariants.{Fault, NoMemory}
-use Rattle.cql_syntax.specs.Refusals.{Refuses}
+use Rattle.cq_outside.specs.Refusals.{Refuses}
 use Rattle.cql_syntax.specs.declared.token.QueryToken.{QueryToken}
 use Rattle.cql_syntax.specs.declared.token.QueryTokenKind.TheVariants.{End}
 use Rattle.cql_syntax.specs.declared.fault.QueryFault.{QueryFault}
 use Rattle.cql_syntax.specs.declared.fault.QueryReason.TheVariants.{QueryTooLong}
-use Rattle.cql_lexer.specs.declared.context.Context.{Context}
-use Rattle.cql_lexer.specs.declared.context.Context.TheVariants.{Any}
-use Rattle.cql_lexer.specs.Tokens.{tokens_from, tokens_of, separator_len, token_at, with_front, after, result_and_then}
+use Rattle.cql_lexer.specs.declared.expected.Expected.{Expected}
+use Rattle.cql_lexer.specs.declared.expected.Expected.TheVariants.{Token}
+use Rattle.cql_lexer.specs.Tokens.{tokens_from, tokens_of, separator_len, token_at, with_front, expected_after, result_and_then}
 
 -- bytes that belong to what stands before are passed
-passes : (n at : ℕ) (context : Context) (text : List ℕ) → n ≤ length text → tokens_from n at context text ≡ tokens_from 0 (at + n) context (drop n text)
+passes : (n at : ℕ) (expected : Expected) (text : List ℕ) → n ≤ length text → tokens_from n at expected text ≡ tokens_from 0 (at + n) expected (drop n text)
 unfolding tokens_from
-passes zero at context text h = let e : at ≡ at + 0 = omega arith in ap (λ k. tokens_from 0 k context text) e
-passes (suc n) at context [] h = absurd (omega arith)
-passes (suc n) at context (b ∷ text) h =
+passes zero at expected text h = let e : at ≡ at + 0 = omega arith in ap (λ k. tokens_from 0 k expected text) e
+passes (suc n) at expected [] h = absurd (omega arith)
+passes (suc n) at expected (b ∷ text) h =
     let e : at + 1 + n ≡ at + suc n = omega arith in
-    passes n (at + 1) context text (omega arith) ∙ ap (λ k. tokens_from 0 k context (drop n text)) e
+    passes n (at + 1) expected text (omega arith) ∙ ap (λ k. tokens_from 0 k expected (drop n text)) e
 
 -- the same behind the first of them
-passes_more : (n at : ℕ) (context : Context) (b : ℕ) (text : List ℕ) → 0 < n → n ≤ suc (length text) → tokens_from (n - 1) (at + 1) context text ≡ tokens_from 0 (at + n) context (drop n (b ∷ text))
-passes_more n at context b text positive h =
+passes_more : (n at : ℕ) (expected : Expected) (b : ℕ) (text : List ℕ) → 0 < n → n ≤ suc (length text) → tokens_from (n - 1) (at + 1) expected text ≡ tokens_from 0 (at + n) expected (drop n (b ∷ text))
+passes_more n at expected b text positive h =
     let place : at + 1 + (n - 1) ≡ at + n = omega arith in
     let count : suc (n - 1) ≡ n = omega arith in
-    passes (n - 1) (at + 1) context text (omega arith)
-    ∙ ap (λ k. tokens_from 0 k context (drop (n - 1) text)) place
-    ∙ ap (λ k. tokens_from 0 (at + n) context (drop k (b ∷ text))) count
+    passes (n - 1) (at + 1) expected text (omega arith)
+    ∙ ap (λ k. tokens_from 0 k expected (drop (n - 1) text)) place
+    ∙ ap (λ k. tokens_from 0 (at + n) expected (drop k (b ∷ text))) count
 
 -- white space and comments are passed
-pass_separator : (at : ℕ) (context : Context) (text : List ℕ) → 0 < separator_len text → separator_len text ≤ length text → 0 < length text → tokens_from 0 at context text ≡ tokens_from 0 (at + separator_len text) context (drop (separator_len text) text)
+pass_separator : (at : ℕ) (expected : Expected) (text : List ℕ) → 0 < separator_len text → separator_len text ≤ length text → 0 < length text → tokens_from 0 at expected text ≡ tokens_from 0 (at + separator_len text) expected (drop (separator_len text) text)
 unfolding tokens_from
-pass_separator at context [] positive h some = absurd (omega arith)
-pass_separator at context (b ∷ text) positive h some =
-    cond-true (ltb 0 (separator_len (b ∷ text))) _ _ (lt-ltb _ _ positive) ∙ passes_more (separator_len (b ∷ text)) at context b text positive h
+pass_separator at expected [] positive h some = absurd (omega arith)
+pass_separator at expected (b ∷ text) positive h some =
+    cond-true (ltb 0 (separator_len (b ∷ text))) _ _ (lt-ltb _ _ positive) ∙ passes_more (separator_len (b ∷ text)) at expected b text positive h
 
 -- a token is read, and its bytes are passed
-pass_token : (at : ℕ) (context : Context) (text : List ℕ) (token : QueryToken) (len : ℕ) → 0 < length text → separator_len text ≡ 0 → token_at context at text ≡ Ok (token, len) → 0 < len → len ≤ length text → tokens_from 0 at context text ≡ with_front (token ∷ []) (tokens_from 0 (at + len) (after token.kind) (drop len text))
+pass_token : (at : ℕ) (expected : Expected) (text : List ℕ) (token : QueryToken) (len : ℕ) → 0 < length text → separator_len text ≡ 0 → token_at expected at text ≡ Ok (token, len) → 0 < len → len ≤ length text → tokens_from 0 at expected text ≡ with_front (token ∷ []) (tokens_from 0 (at + len) (expected_after token.kind) (drop len text))
 unfolding tokens_from
-pass_token at context [] token len some none found positive h = absurd (omega arith)
-pass_token at context (b ∷ text) token len some none found positive h =
+pass_token at expected [] token len some none found positive h = absurd (omega arith)
+pass_token at expected (b ∷ text) token len some none found positive h =
     cond-false (ltb 0 (separator_len (b ∷ text))) _ _ (le-ltb _ _ (omega (arith, none)))
-    ∙ ap (result_and_then (λ found. with_front (found.0 ∷ []) (tokens_from (found.1 - 1) (at + 1) (after found.0.kind) text))) found
-    ∙ ap (with_front (token ∷ [])) (passes_more len at (after token.kind) b text positive h)
+    ∙ ap (result_and_then (λ found. with_front (found.0 ∷ []) (tokens_from (found.1 - 1) (at + 1) (expected_after found.0.kind) text))) found
+    ∙ ap (with_front (token ∷ [])) (passes_more len at (expected_after token.kind) b text positive h)
 
 -- a fault ends the reading
-stop : (at : ℕ) (context : Context) (text : List ℕ) (fault : QueryFault) → 0 < length text → separator_len text ≡ 0 → token_at context at text ≡ Err fault → tokens_from 0 at context text ≡ Err fault
+stop : (at : ℕ) (expected : Expected) (text : List ℕ) (fault : QueryFault) → 0 < length text → separator_len text ≡ 0 → token_at expected at text ≡ Err fault → tokens_from 0 at expected text ≡ Err fault
 unfolding tokens_from
-stop at context [] fault some none found = absurd (omega arith)
-stop at context (b ∷ text) fault some none found =
+stop at expected [] fault some none found = absurd (omega arith)
+stop at expected (b ∷ text) fault some none found =
     cond-false (ltb 0 (separator_len (b ∷ text))) _ _ (le-ltb _ _ (omega (arith, none)))
-    ∙ ap (result_and_then (λ found. with_front (found.0 ∷ []) (tokens_from (found.1 - 1) (at + 1) (after found.0.kind) text))) found
+    ∙ ap (result_and_then (λ found. with_front (found.0 ∷ []) (tokens_from (found.1 - 1) (at + 1) (expected_after found.0.kind) text))) found
 
 with_front_twice : (a b : List QueryToken) (r : Result (List QueryToken) QueryFault) → with_front a (with_front b r) ≡ with_front (a ++ b) r
 with_front_twice a b (Ok c) = ap (λ x. Ok x) (sym (append_assoc a b c))
@@ -64,12 +64,12 @@ with_no_front (Ok c) = refl
 with_no_front (Err fault) = refl
 
 -- these tokens stand before byte `at`, and what is left gives the others
-pub record TokensLeft (query : List ℕ) (tokens : List QueryToken) (context : Context) (at : ℕ) : Type 0 where
+pub record TokensLeft (query : List ℕ) (tokens : List QueryToken) (expected : Expected) (at : ℕ) : Type 0 where
   pub within : at ≤ length query
   pub limit : length query ≤ 65536
-  pub rest : with_front tokens (tokens_from 0 at context (drop at query)) ≡ tokens_of query
+  pub rest : with_front tokens (tokens_from 0 at expected (drop at query)) ≡ tokens_of query
 
-pub at_start : (query : List ℕ) → length query ≤ 65536 → TokensLeft query [] Any 0
+pub at_start : (query : List ℕ) → length query ≤ 65536 → TokensLeft query [] Token 0
 unfolding tokens_of
 at_start query h = record {
   within = omega arith;
@@ -85,8 +85,8 @@ too_long query h = cond-true (ltb 65536 (length query)) _ _ (lt-ltb _ _ h)
 left : (query : List ℕ) (at s : ℕ) → s ≡ separator_len (take (length query - at) (drop at query)) → separator_len (drop at query) ≡ s
 left query at s e = sym (ap separator_len (take_rest query at)) ∙ sym e
 
-pub after_separator : (query : List ℕ) (tokens : List QueryToken) (context : Context) (at s : ℕ) → TokensLeft query tokens context at → at < length query → s ≡ separator_len (take (length query - at) (drop at query)) → 0 < s → s ≤ length (take (length query - at) (drop at query)) → TokensLeft query tokens context (at + s)
-after_separator query tokens context at s before inside e positive fits =
+pub after_separator : (query : List ℕ) (tokens : List QueryToken) (expected : Expected) (at s : ℕ) → TokensLeft query tokens expected at → at < length query → s ≡ separator_len (take (length query - at) (drop at query)) → 0 < s → s ≤ length (take (length query - at) (drop at query)) → TokensLeft query tokens expected (at + s)
+after_separator query tokens expected at s before inside e positive fits =
     let is = left query at s e in
     let len = length-drop at query in
     let short = ap length (take_rest query at) in
@@ -94,37 +94,37 @@ after_separator query tokens context at s before inside e positive fits =
       within = omega (arith, fits, len, short);
       limit = before.limit;
       rest =
-          ap (λ t. with_front tokens (tokens_from 0 (at + s) context t)) (sym (drop-drop s at query))
+          ap (λ t. with_front tokens (tokens_from 0 (at + s) expected t)) (sym (drop-drop s at query))
           ∙ ap (with_front tokens)
-          (ap (λ k. tokens_from 0 (at + k) context (drop k (drop at query))) (sym is)
-          ∙ sym (pass_separator at context (drop at query) (omega (arith, is)) (omega (arith, is, fits, short)) (omega (arith, len))))
+          (ap (λ k. tokens_from 0 (at + k) expected (drop k (drop at query))) (sym is)
+          ∙ sym (pass_separator at expected (drop at query) (omega (arith, is)) (omega (arith, is, fits, short)) (omega (arith, len))))
           ∙ before.rest;
     }
 
-pub after_token : (query : List ℕ) (tokens : List QueryToken) (context : Context) (at s : ℕ) (token : QueryToken) (len : ℕ) → TokensLeft query tokens context at → at < length query → s ≡ separator_len (take (length query - at) (drop at query)) → s ≤ 0 → token_at context at (drop at query) ≡ Ok (token, len) → 0 < len → at + len ≤ length query → TokensLeft query (tokens ++ token ∷ []) (after token.kind) (at + len)
-after_token query tokens context at s token len before inside e none found positive fits =
+pub after_token : (query : List ℕ) (tokens : List QueryToken) (expected : Expected) (at s : ℕ) (token : QueryToken) (len : ℕ) → TokensLeft query tokens expected at → at < length query → s ≡ separator_len (take (length query - at) (drop at query)) → s ≤ 0 → token_at expected at (drop at query) ≡ Ok (token, len) → 0 < len → at + len ≤ length query → TokensLeft query (tokens ++ token ∷ []) (expected_after token.kind) (at + len)
+after_token query tokens expected at s token len before inside e none found positive fits =
     let is = left query at s e in
     let rest = length-drop at query in
     record {
       within = fits;
       limit = before.limit;
       rest =
-          ap (λ t. with_front (tokens ++ token ∷ []) (tokens_from 0 (at + len) (after token.kind) t)) (sym (drop-drop len at query))
+          ap (λ t. with_front (tokens ++ token ∷ []) (tokens_from 0 (at + len) (expected_after token.kind) t)) (sym (drop-drop len at query))
           ∙ sym (with_front_twice tokens (token ∷ []) _)
-          ∙ ap (with_front tokens) (sym (pass_token at context (drop at query) token len (omega (arith, rest)) (omega (arith, is)) found positive (omega (arith, rest))))
+          ∙ ap (with_front tokens) (sym (pass_token at expected (drop at query) token len (omega (arith, rest)) (omega (arith, is)) found positive (omega (arith, rest))))
           ∙ before.rest;
     }
 
-pub at_fault : (query : List ℕ) (tokens : List QueryToken) (context : Context) (at s : ℕ) (fault : QueryFault) → TokensLeft query tokens context at → at < length query → s ≡ separator_len (take (length query - at) (drop at query)) → s ≤ 0 → token_at context at (drop at query) ≡ Err fault → tokens_of query ≡ Err fault
-at_fault query tokens context at s fault before inside e none found =
+pub at_fault : (query : List ℕ) (tokens : List QueryToken) (expected : Expected) (at s : ℕ) (fault : QueryFault) → TokensLeft query tokens expected at → at < length query → s ≡ separator_len (take (length query - at) (drop at query)) → s ≤ 0 → token_at expected at (drop at query) ≡ Err fault → tokens_of query ≡ Err fault
+at_fault query tokens expected at s fault before inside e none found =
     let is = left query at s e in
-    sym before.rest ∙ ap (with_front tokens) (stop at context (drop at query) fault (omega (arith, length-drop at query)) (omega (arith, is)) found)
+    sym before.rest ∙ ap (with_front tokens) (stop at expected (drop at query) fault (omega (arith, length-drop at query)) (omega (arith, is)) found)
 
-pub at_refusal : (query : List ℕ) (tokens : List QueryToken) (context : Context) (at s : ℕ) (refusal : Refusal QueryFault) → TokensLeft query tokens context at → at < length query → s ≡ separator_len (take (length query - at) (drop at query)) → s ≤ 0 → Refuses {Y = QueryToken × ℕ} refusal (token_at context at (drop at query)) → Refuses {Y = List QueryToken} refusal (tokens_of query)
-at_refusal query tokens context at s (Fault fault) before inside e none found = at_fault query tokens context at s fault before inside e none found
-at_refusal query tokens context at s NoMemory before inside e none found = tt
+pub at_refusal : (query : List ℕ) (tokens : List QueryToken) (expected : Expected) (at s : ℕ) (refusal : Refusal QueryFault) → TokensLeft query tokens expected at → at < length query → s ≡ separator_len (take (length query - at) (drop at query)) → s ≤ 0 → Refuses {Y = QueryToken × ℕ} refusal (token_at expected at (drop at query)) → Refuses {Y = List QueryToken} refusal (tokens_of query)
+at_refusal query tokens expected at s (Fault fault) before inside e none found = at_fault query tokens expected at s fault before inside e none found
+at_refusal query tokens expected at s NoMemory before inside e none found = tt
 
-pub at_end : (query : List ℕ) (tokens : List QueryToken) (context : Context) (at : ℕ) → TokensLeft query tokens context at → length query ≤ at → tokens_of query ≡ Ok (tokens ++ (record { at = at; kind = End }) ∷ [])
+pub at_end : (query : List ℕ) (tokens : List QueryToken) (expected : Expected) (at : ℕ) → TokensLeft query tokens expected at → length query ≤ at → tokens_of query ≡ Ok (tokens ++ (record { at = at; kind = End }) ∷ [])
 unfolding tokens_from
-at_end query tokens context at before h =
-    sym before.rest ∙ ap (λ t. with_front tokens (tokens_from 0 at context t)) (drop_all at query h)
+at_end query tokens expected at before h =
+    sym before.rest ∙ ap (λ t. with_front tokens (tokens_from 0 at expected t)) (drop_all at query h)

@@ -1,33 +1,17 @@
--- Kinds of bytes, and the front of a text that is made of one kind.
-use Rattle.std.specs.Prelude.{ℕ, ◌+◌, ◌-◌, ◌*◌, ◌≤◌, Bool, false, not, ◌&&◌, ◌||◌, ◌==◌, nat_le, List, [], ◌∷◌, fold}
-
--- from one byte to another
-abbrev pub is_from : ℕ → ℕ → ℕ → Bool
-is_from first last b = nat_le first b && nat_le b last
-
--- tab, line feed, vertical tab, form feed, carriage return and the space
-abbrev pub is_white : ℕ → Bool
-is_white b = is_from 9 13 b || b == 32
+-- Kinds of bytes.
+use Rattle.std.specs.Prelude.{ℕ, Bool, false, not, ◌&&◌, ◌||◌, ◌==◌, nat_le, List, [], ◌∷◌}
+use Rattle.std.specs.Char.{is_ascii_alphabetic, is_ascii_alphanumeric}
 
 abbrev pub is_line_feed : ℕ → Bool
 is_line_feed b = b == 10
 
-abbrev pub is_digit : ℕ → Bool
-is_digit b = is_from 48 57 b
-
-abbrev pub IsDigit : ℕ → Type 0
-IsDigit b = (48 ≤ b) × (b ≤ 57)
-
-abbrev pub is_letter : ℕ → Bool
-is_letter b = is_from 65 90 b || is_from 97 122 b
-
 -- what names are made of: letters, digits and `_`
 abbrev pub is_name_byte : ℕ → Bool
-is_name_byte b = is_letter b || is_digit b || b == 95
+is_name_byte b = is_ascii_alphanumeric b || b == 95
 
--- where a name or a designator may begin: what names are made of, `.` and `[`
+-- where a name or a designator may begin: a letter, `_`, `.` or `[`
 abbrev pub begins_name_or_squares : ℕ → Bool
-begins_name_or_squares b = is_name_byte b || b == 46 || b == 91
+begins_name_or_squares b = is_ascii_alphabetic b || b == 95 || b == 46 || b == 91
 
 -- what names of files are made of: the bytes behind the space, other than `"`, `(` and `)`
 abbrev pub is_file_byte : ℕ → Bool
@@ -46,7 +30,3 @@ is_closing_bracket b = b == 93
 abbrev pub begins : (ℕ → Bool) → List ℕ → Bool
 begins test [] = false
 begins test (b ∷ text) = test b
-
--- the number that decimal digits write
-abbrev pub decimal : List ℕ → ℕ
-decimal digits = fold (λ n digit. 10 * n + (digit - 48)) 0 digits

@@ -4,7 +4,8 @@ use Rattle.std.specs.List.{position, slice_split, list_all}
 use Rattle.std.specs.Option.{option_map, option_or}
 use Rattle.cq_geometry.specs.Squares.{file_of, rank_of}
 use Rattle.cql_syntax.specs.declared.leaves.Designator.{Designator}
-use Rattle.cql_lexer.specs.Characters.{is_from, is_comma, is_closing_bracket}
+use Rattle.std.specs.Int.{is_in_range}
+use Rattle.cql_lexer.specs.Characters.{is_comma, is_closing_bracket}
 use Rattle.cql_lexer.specs.Longest.{longest}
 
 -- the union of the sets that the items stand for and of those so far; none where an item stands for none
@@ -51,12 +52,12 @@ squares_below test (suc k) = squares_below test k + (if test k then 2 ^ k else 0
 -- the squares from one file to another and from one rank to another, by their letters and digits, the lower ends first
 unfoldable pub squares_within : ℕ → ℕ → ℕ → ℕ → ℕ
 squares_within file last_file rank last_rank =
-    squares_below (λ square. is_from file last_file (97 + file_of square) && is_from rank last_rank (49 + rank_of square)) 64
+    squares_below (λ square. is_in_range file last_file (97 + file_of square) && is_in_range rank last_rank (49 + rank_of square)) 64
 
 -- the same with ranges in either order; none where the letters are not `a` to `h` or the digits not `1` to `8`
 abbrev pub rectangle : ℕ → ℕ → ℕ → ℕ → Option ℕ
 rectangle file last_file rank last_rank =
-    if is_from 97 104 file && is_from 97 104 last_file && is_from 49 56 rank && is_from 49 56 last_rank
+    if is_in_range 97 104 file && is_in_range 97 104 last_file && is_in_range 49 56 rank && is_in_range 49 56 last_rank
     then Some (squares_within (min file last_file) (max file last_file) (min rank last_rank) (max rank last_rank))
     else None
 

@@ -7,15 +7,16 @@ use Rattle.cql_syntax.specs.declared.token.QueryTokenKind.{QueryTokenKind}
 use Rattle.cql_syntax.specs.declared.token.QueryTokenKind.TheVariants.{Word, Number, Mark, End}
 use Rattle.cql_syntax.specs.declared.fault.QueryFault.{QueryFault}
 use Rattle.cql_syntax.specs.declared.fault.QueryReason.TheVariants.{QueryTooLong}
-use Rattle.cql_lexer.specs.declared.context.Context.{Context}
-use Rattle.cql_lexer.specs.declared.context.Context.TheVariants.{Any, FileName, Outcome}
-use Rattle.cql_lexer.specs.Characters.{is_white, is_line_feed}
+use Rattle.cql_lexer.specs.declared.expected.Expected.{Expected}
+use Rattle.cql_lexer.specs.declared.expected.Expected.TheVariants.{Token, FileName, Outcome}
+use Rattle.cq_outside.specs.Text.{is_white}
+use Rattle.cql_lexer.specs.Characters.{is_line_feed}
 use Rattle.cql_lexer.specs.Lexemes.{first_lexeme}
 
--- what may stand directly behind a token beside any other token
-abbrev pub after : QueryTokenKind → Context
-after (Word word) = if word == input_word || word == output_word then FileName else (if word == result_word then Outcome else Any)
-after kind = Any
+-- what may stand directly behind a token, beside the tokens that may stand anywhere
+abbrev pub expected_after : QueryTokenKind → Expected
+expected_after (Word word) = if word == input_word || word == output_word then FileName else (if word == result_word then Outcome else Token)
+expected_after kind = Token
 
 -- how many bytes at the front only separate tokens: white space, or `//` and what follows it on its line
 unfoldable pub separator_len : List ℕ → ℕ
@@ -23,9 +24,9 @@ separator_len text =
     if starts_with nat_eq text (codes "//") then unwrap_or (position is_line_feed text) (length text) else prefix_len is_white text
 
 -- the token at the front of a text that begins at byte `at` of the query, and its length, or the fault there
-abbrev pub token_at : Context → ℕ → List ℕ → Result (QueryToken × ℕ) QueryFault
-token_at context at text =
-    elim (first_lexeme context text) [
+abbrev pub token_at : Expected → ℕ → List ℕ → Result (QueryToken × ℕ) QueryFault
+token_at expected at text =
+    elim (first_lexeme expected text) [
       | Ok found ↦ Ok (record { at = at; kind = found.kind }, found.len)
       | Err reason ↦ Err (record { byte = at; reason = reason })
     ]
@@ -42,19 +43,19 @@ with_front front (Err fault) = Err fault
 
 -- The tokens of a text that begins at byte `at` of the query, up to the end, or the first fault. Its first `passed` bytes
 -- belong to what stands before. At each other byte white space and comments are passed, and else a token is read.
-unfoldable pub tokens_from : ℕ → ℕ → Context → List ℕ → Result (List QueryToken) QueryFault
-tokens_from passed at context [] = Ok (record { at = at; kind = End } ∷ [])
-tokens_from (suc passed) at context (b ∷ text) = tokens_from passed (at + 1) context text
-tokens_from zero at context (b ∷ text) =
+unfoldable pub tokens_from : ℕ → ℕ → Expected → List ℕ → Result (List QueryToken) QueryFault
+tokens_from passed at expected [] = Ok (record { at = at; kind = End } ∷ [])
+tokens_from (suc passed) at expected (b ∷ text) = tokens_from passed (at + 1) expected text
+tokens_from zero at expected (b ∷ text) =
     let separator = separator_len (b ∷ text) in
-    if nat_lt 0 separator then tokens_from (separator - 1) (at + 1) context text
-    else result_and_then (λ found. with_front (found.0 ∷ []) (tokens_from (found.1 - 1) (at + 1) (after found.0.kind) text)) (token_at context at (b ∷ text))
+    if nat_lt 0 separator then tokens_from (separator - 1) (at + 1) expected text
+    else result_and_then (λ found. with_front (found.0 ∷ []) (tokens_from (found.1 - 1) (at + 1) (expected_after found.0.kind) text)) (token_at expected at (b ∷ text))
 
 -- the tokens of a query, or its first lexical fault
 unfoldable pub tokens_of : List ℕ → Result (List QueryToken) QueryFault
 tokens_of query =
     if nat_lt 65536 (length query) then Err (record { byte = 65536; reason = QueryTooLong })
-    else tokens_from 0 0 Any query
+    else tokens_from 0 0 Token query
 
 -- a token other than the end, with its number in range: there are 69 words and 20 marks
 abbrev pub IsProper : QueryTokenKind → Type 0

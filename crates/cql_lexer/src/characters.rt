@@ -1,29 +1,19 @@
 //! Kinds of bytes.
-ghost use Rattle.std.specs.Prelude.{◌≡◌, ◌==◌, ◌<◌, ◌^◌, ◌≤◌, nat_le, EachIndex, slice_index, if◌then◌else◌};
-ghost use Rattle.std.specs.List.{position, prefix_len};
-ghost use Rattle.cql_lexer.specs.Characters.{is_white, is_digit, is_name_byte, is_file_byte, decimal, IsDigit};
+ghost use Rattle.std.specs.Prelude.{◌≡◌, ◌==◌, ◌<◌, ◌^◌, nat_le, if◌then◌else◌};
+ghost use Rattle.std.specs.List.{AllPass, position, prefix_len};
+ghost use Rattle.std.specs.Char.{is_ascii_digit};
+ghost use Rattle.std.specs.Str.Parse.{digits_value};
+ghost use Rattle.cq_outside.specs.Text.{is_white};
+ghost use Rattle.cql_lexer.specs.Characters.{is_name_byte, is_file_byte};
 
+use cq_outside::is_white;
 use memchr::memchr;
-
-/// Tab, line feed, vertical tab, form feed, carriage return or the space.
-pub fn is_white(b: u8) -> bool
-    ensures { result ≡ is_white b }
-{
-    matches!(b, 9..=13 | b' ')
-}
-
-/// A decimal digit.
-pub fn is_digit(b: u8) -> bool
-    ensures { result ≡ is_digit b }
-{
-    matches!(b, b'0'..=b'9')
-}
 
 /// What names are made of.
 pub fn is_name_byte(b: u8) -> bool
     ensures { result ≡ is_name_byte b }
 {
-    matches!(b, b'A'..=b'Z' | b'a'..=b'z' | b'0'..=b'9' | b'_')
+    b.is_ascii_alphanumeric() || b == b'_'
 }
 
 /// What names of files are made of.
@@ -42,9 +32,9 @@ pub fn white_len(text: &[u8]) -> usize
 
 /// How many digits stand at the front.
 pub fn digits_len(text: &[u8]) -> usize
-    ensures { result ≡ prefix_len is_digit text.now }
+    ensures { result ≡ prefix_len is_ascii_digit text.now }
 {
-    text.iter().take_while(|b| is_digit(**b)).count()
+    text.iter().take_while(|b| b.is_ascii_digit()).count()
 }
 
 /// How many bytes of a name stand at the front.
@@ -62,10 +52,11 @@ pub fn file_name_len(text: &[u8]) -> usize
 }
 
 /// The number that decimal digits write, where it is at most this.
+#[tactic(auto, using(crate::proofs::Digits::number_more, crate::proofs::Digits::digit_is))]
 pub fn decimal_at_most(limit: u32, digits: &[u8]) -> Option<u32>
     requires limit { limit < 2 ^ 31 }
-    requires digits { EachIndex digits.now (λ k. IsDigit (slice_index digits.now k)) }
-    ensures { result ≡ (if nat_le (decimal digits.now) limit then Some (decimal digits.now) else None) }
+    requires digits { AllPass is_ascii_digit digits.now }
+    ensures { result ≡ (if nat_le (digits_value 10 digits.now) limit then Some (digits_value 10 digits.now) else None) }
 {
     let beyond = u64::from(limit) + 1;
     let mut value = 0;

@@ -1,15 +1,14 @@
 //! One token at the front of a text, by the first rule that applies.
 ghost use Rattle.std.specs.Prelude.{◌≡◌, ◌<◌, ◌≤◌, length, IfOk, IfSome, IsTrue, Some};
-ghost use Rattle.cql_syntax.specs.Refusals.{Gives};
-ghost use Rattle.cql_lexer.specs.Characters.{begins, is_digit, begins_name_or_squares};
+ghost use Rattle.cq_outside.specs.Refusals.{Gives};
+ghost use Rattle.std.specs.Char.{is_ascii_digit};
+ghost use Rattle.cql_lexer.specs.Characters.{begins, begins_name_or_squares};
 ghost use Rattle.cql_lexer.specs.Lexemes.{IsFront, file_name, outcome, quoted, number, named, named_or_squares, mark_number, mark, first_lexeme};
 ghost use Rattle.cql_lexer.specs.Longest.{front, longest};
 
-use crate::characters::{
-    decimal_at_most, digits_len, file_name_len, find, is_digit, is_name_byte, name_len,
-};
-use crate::context::Context;
+use crate::characters::{decimal_at_most, digits_len, file_name_len, find, name_len};
 use crate::designators::designator_at;
+use crate::expected::Expected;
 use cq_outside::{Bytes, NoMemory, Refusal};
 use cql_syntax::words::place_in;
 use cql_syntax::{Outcome, QueryReason, QueryTokenKind, is_reserved, word_number};
@@ -30,36 +29,27 @@ pub struct Lexeme {
     pub len: usize,
 }
 
-// The bytes, as a list of their own.
-fn copied(alloc: Global, text: &[u8]) -> Result<Bytes, NoMemory>
-    ensures { IfOk result (λ bytes. bytes ≡ text.now) }
-{
-    let mut bytes = Bytes::new(alloc);
-    bytes.push_all(text)?;
-    Ok(bytes)
-}
-
 // The name of a file.
 #[tactic(auto, unfolding(crate::specs::Lexemes::file_name))]
-fn file_name(alloc: Global, context: Context, text: &[u8]) -> Result<Option<Lexeme>, NoMemory>
-    ensures value { IfOk result (λ found. found ≡ file_name context text.now) }
+fn file_name(alloc: Global, expected: Expected, text: &[u8]) -> Result<Option<Lexeme>, NoMemory>
+    ensures value { IfOk result (λ found. found ≡ file_name expected text.now) }
     ensures front { IfOk result (λ found. IfSome found (λ lexeme. IsFront lexeme text.now)) }
 {
     let len = file_name_len(text);
-    if context != Context::FileName || len == 0 {
+    if expected != Expected::FileName || len == 0 {
         return Ok(None);
     }
-    let kind = QueryTokenKind::FileName(copied(alloc, &text[..len])?);
+    let kind = QueryTokenKind::FileName(Bytes::from_slice(alloc, &text[..len])?);
     Ok(Some(Lexeme { kind, len }))
 }
 
 // A result.
 #[tactic(auto, unfolding(crate::specs::Lexemes::outcome))]
-fn outcome(context: Context, text: &[u8]) -> Option<Lexeme>
-    ensures value { result ≡ outcome context text.now }
+fn outcome(expected: Expected, text: &[u8]) -> Option<Lexeme>
+    ensures value { result ≡ outcome expected text.now }
     ensures front { IfSome result (λ lexeme. IsFront lexeme text.now) }
 {
-    if context != Context::Outcome {
+    if expected != Expected::Outcome {
         return None;
     }
     let (outcome, len) = if text.starts_with(b"1/2-1/2".as_slice()) {
@@ -89,7 +79,7 @@ fn quoted(alloc: Global, text: &[u8]) -> Result<Lexeme, Refusal<QueryReason>>
     let behind = &text[1..];
     match find(b'"', behind) {
         Some(end) => Ok(Lexeme {
-            kind: QueryTokenKind::Text(copied(alloc, &behind[..end])?),
+            kind: QueryTokenKind::Text(Bytes::from_slice(alloc, &behind[..end])?),
             len: end + 2,
         }),
         None => Err(Refusal::Fault(QueryReason::UnclosedText)),
@@ -97,9 +87,9 @@ fn quoted(alloc: Global, text: &[u8]) -> Result<Lexeme, Refusal<QueryReason>>
 }
 
 // A number.
-#[tactic(auto, unfolding(crate::specs::Lexemes::number))]
+#[tactic(auto, using(crate::proofs::Digits::front_digits), unfolding(crate::specs::Lexemes::number))]
 fn number(text: &[u8]) -> Result<Lexeme, QueryReason>
-    requires { IsTrue (begins is_digit text.now) }
+    requires { IsTrue (begins is_ascii_digit text.now) }
     ensures value { result ≡ number text.now }
     ensures front { IfOk result (λ lexeme. IsFront lexeme text.now) }
 {
@@ -121,7 +111,7 @@ fn named(alloc: Global, name: &[u8]) -> Result<QueryTokenKind, NoMemory>
     if let Some(word) = word_number(name) {
         return Ok(QueryTokenKind::Word(word));
     }
-    let bytes = copied(alloc, name)?;
+    let bytes = Bytes::from_slice(alloc, name)?;
     if is_reserved(name) {
         Ok(QueryTokenKind::Reserved(bytes))
     } else {
@@ -199,7 +189,7 @@ fn begins_name_or_squares(text: &[u8]) -> bool
     ensures { result ≡ begins begins_name_or_squares text.now }
 {
     match text.first() {
-        Some(first) => is_name_byte(*first) || matches!(*first, b'.' | b'['),
+        Some(first) => first.is_ascii_alphabetic() || matches!(*first, b'_' | b'.' | b'['),
         None => false,
     }
 }
@@ -208,23 +198,23 @@ fn begins_name_or_squares(text: &[u8]) -> bool
 #[tactic(auto, unfolding(crate::specs::Lexemes::first_lexeme))]
 pub fn first_lexeme(
     alloc: Global,
-    context: Context,
+    expected: Expected,
     text: &[u8],
 ) -> Result<Lexeme, Refusal<QueryReason>>
     requires { 0 < length text.now }
-    ensures value { Gives (λ lexeme. lexeme) result (first_lexeme context text.now) }
+    ensures value { Gives (λ lexeme. lexeme) result (first_lexeme expected text.now) }
     ensures front { IfOk result (λ lexeme. IsFront lexeme text.now) }
 {
-    if let Some(found) = file_name(alloc, context, text)? {
+    if let Some(found) = file_name(alloc, expected, text)? {
         return Ok(found);
     }
-    if let Some(found) = outcome(context, text) {
+    if let Some(found) = outcome(expected, text) {
         return Ok(found);
     }
     if text[0] == b'"' {
         return quoted(alloc, text);
     }
-    if is_digit(text[0]) {
+    if text[0].is_ascii_digit() {
         return number(text).map_err(Refusal::Fault);
     }
     if let Some(found) = named_or_squares(alloc, text)? {

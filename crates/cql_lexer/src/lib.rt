@@ -2,8 +2,8 @@
 #![tactic(auto)]
 
 mod characters;
-mod context;
 mod designators;
+mod expected;
 mod lexeme;
 #[cfg(test)]
 mod tests;

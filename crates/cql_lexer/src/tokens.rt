@@ -2,11 +2,11 @@
 ghost use Rattle.std.specs.Prelude.{◌≡◌, ◌<◌, ◌≤◌, ◌+◌, length, drop, IfOk, OnOk, OnErr};
 ghost use Rattle.std.specs.Prelude.{◌++◌, ◌∷◌, [], ℕ, List};
 ghost use Rattle.cql_syntax.specs.declared.token.QueryToken.{QueryToken};
-ghost use Rattle.cql_syntax.specs.Refusals.{Gives};
+ghost use Rattle.cq_outside.specs.Refusals.{Gives};
 ghost use Rattle.cql_lexer.specs.Tokens.{separator_len, token_at, tokens_of, EndOnce};
 
-use crate::characters::{find, is_white, white_len};
-use crate::context::{Context, after};
+use crate::characters::{find, white_len};
+use crate::expected::{Expected, expected_after};
 use crate::lexeme::{Lexeme, first_lexeme};
 use cq_outside::{NoMemory, Refusal};
 use cql_syntax::{QueryFault, QueryReason, QueryToken, QueryTokenKind};
@@ -30,17 +30,17 @@ fn separator_len(text: &[u8]) -> usize
 // The token at a place of the query, or the fault there.
 fn token_at(
     alloc: Global,
-    context: Context,
+    expected: Expected,
     query: &[u8],
     at: usize,
 ) -> Result<(QueryToken, usize), Refusal<QueryFault>>
     requires within { at < length query.now }
     requires limit { length query.now ≤ 65536 }
-    ensures value { Gives (λ found. found) result (token_at context at (drop at query.now)) }
+    ensures value { Gives (λ found. found) result (token_at expected at (drop at query.now)) }
     ensures front { IfOk result (λ found. (0 < found.1) × (at + found.1 ≤ length query.now)) }
 {
     let byte = at as u32;
-    match first_lexeme(alloc, context, &query[at..]) {
+    match first_lexeme(alloc, expected, &query[at..]) {
         Ok(Lexeme { kind, len }) => Ok((QueryToken { at: byte, kind }, len)),
         Err(Refusal::Fault(reason)) => Err(Refusal::Fault(QueryFault { byte, reason })),
         Err(Refusal::NoMemory) => Err(Refusal::NoMemory),
@@ -67,15 +67,15 @@ pub fn query_tokens(alloc: Global, query: &[u8]) -> Result<Vec<QueryToken>, Refu
         }));
     }
     let mut tokens = Vec::new(alloc);
-    let mut context = Context::Any;
+    let mut expected = Expected::Token;
     let mut at = 0;
     while at < query.len() {
         let separator = separator_len(&query[at..]);
         if separator > 0 {
             at += separator;
         } else {
-            let (token, len) = token_at(alloc, context, query, at)?;
-            context = after(&token.kind);
+            let (token, len) = token_at(alloc, expected, query, at)?;
+            expected = expected_after(&token.kind);
             push(&mut tokens, token)?;
             at += len;
         }

@@ -1,6 +1,5 @@
 pub mod Kinds
 pub mod Places
-pub mod Refusals
 pub mod TreeOf
 pub mod Trees
 pub mod Weights

@@ -17,19 +17,10 @@ impl Query {
         Ok(Query {
             variations: self.variations,
             match_at: self.match_at,
-            match_text: copied(alloc, &self.match_text)?,
+            match_text: Bytes::from_slice(alloc, self.match_text.as_slice())?,
             items: self.items.copy(alloc)?,
         })
     }
-}
-
-/// The same bytes again.
-fn copied(alloc: Global, bytes: &Bytes) -> Result<Bytes, NoMemory>
-    ensures { IfOk result (λ b. b ≡ bytes.now) }
-{
-    let mut copied = Bytes::new(alloc);
-    copied.push_all(bytes.as_slice())?;
-    Ok(copied)
 }
 
 impl Filter {
@@ -61,9 +52,12 @@ impl Form {
         Ok(match self {
             Form::Squares(designator) => Form::Squares(*designator),
             Form::Number(number) => Form::Number(*number),
-            Form::Name(name) => Form::Name(copied(alloc, name)?),
+            Form::Name(name) => Form::Name(Bytes::from_slice(alloc, name.as_slice())?),
             Form::Plain(word) => Form::Plain(*word),
-            Form::Tagged(field, text) => Form::Tagged(*field, copied(alloc, text)?),
+            Form::Tagged(field, text) => Form::Tagged(
+                *field,
+                Bytes::from_slice(alloc, text.as_slice())?,
+            ),
             Form::Outcome(outcome) => Form::Outcome(*outcome),
             Form::Elo(of) => Form::Elo(*of),
             Form::Unary(unary, a) => Form::Unary(*unary, a.boxed(alloc)?),
@@ -73,13 +67,17 @@ impl Form {
             Form::Pair(pair, a, b) => Form::Pair(*pair, a.boxed(alloc)?, b.boxed(alloc)?),
             Form::If(a, b, c) => Form::If(a.boxed(alloc)?, b.boxed(alloc)?, c.boxed(alloc)?),
             Form::Square(every, name, a, b) => {
-                let name = copied(alloc, name)?;
+                let name = Bytes::from_slice(alloc, name.as_slice())?;
                 Form::Square(*every, name, a.boxed(alloc)?, b.boxed(alloc)?)
             }
             Form::Line(line) => Form::Line(line.copy(alloc)?),
             Form::Transform(family, a) => Form::Transform(*family, a.boxed(alloc)?),
-            Form::Sort(least, name, a) => Form::Sort(*least, copied(alloc, name)?, a.boxed(alloc)?),
-            Form::Comment(text) => Form::Comment(copied(alloc, text)?),
+            Form::Sort(least, name, a) => Form::Sort(
+                *least,
+                Bytes::from_slice(alloc, name.as_slice())?,
+                a.boxed(alloc)?,
+            ),
+            Form::Comment(text) => Form::Comment(Bytes::from_slice(alloc, text.as_slice())?),
             Form::Any(kind, parts) => Form::Any(*kind, parts.copy(alloc)?),
         })
     }

@@ -77,15 +77,18 @@ const WORDS: [&str; 69] = [
     "comment",
 ];
 
-/// The numbers of the words behind which a token may be of a kind that stands nowhere else.
+/// The number of the word `input`, behind which the name of a file may stand.
 pub const INPUT: u16 = 1;
 
+/// The number of the word `output`, behind which the name of a file may stand.
 pub const OUTPUT: u16 = 2;
 
+/// The number of the word `result`, behind which a result of a game may stand.
 pub const RESULT: u16 = 19;
 
-/// The words behind which a token may be of a kind that stands nowhere else have the numbers by which clauses name them.
-pub fn numbers()
+/// A law: the words behind which a token may be of a kind that stands nowhere else have the numbers by which code and
+/// clauses name them.
+pub fn word_numbers_stand_for_their_words()
     ensures input { (place_of (codes "input") words ≡ Some input_word) × (input_word ≡ INPUT) }
     ensures output { (place_of (codes "output") words ≡ Some output_word) × (output_word ≡ OUTPUT) }
     ensures result { (place_of (codes "result") words ≡ Some result_word) × (result_word ≡ RESULT) }
@@ -168,6 +171,6 @@ mod tests {
         }
         assert!(rt; is_reserved(b"move"));
         assert!(rt; !is_reserved(b"check"));
-        numbers();
+        word_numbers_stand_for_their_words();
     }
 }

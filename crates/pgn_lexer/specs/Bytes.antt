@@ -1,14 +1,10 @@
 -- The bytes that the tokens of PGN are told apart by.
-use Rattle.std.specs.Prelude.{ℕ, Bool, ◌==◌, ◌||◌, ◌&&◌, nat_le, codes}
+use Rattle.std.specs.Prelude.{ℕ, Bool, ◌==◌, ◌||◌, codes}
 use Rattle.std.specs.List.{list_any}
 use Rattle.std.specs.Char.{is_ascii_alphanumeric}
 
 abbrev pub line_feed : ℕ
 line_feed = 10
-
--- white space is the bytes 0x09 to 0x0D and the space
-abbrev pub is_white : ℕ → Bool
-is_white b = (nat_le 9 b && nat_le b 13) || b == 32
 
 -- a line ends with LF
 abbrev pub ends_line : ℕ → Bool

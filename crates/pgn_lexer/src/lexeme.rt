@@ -1,12 +1,13 @@
 //! The lexemes of a text, one after the other.
 ghost use Rattle.std.specs.Prelude.{◌≡◌, ◌+◌, ◌<◌, ◌≤◌, ℕ, [], ◌∷◌, length, IfNone, IfSome};
 ghost use Rattle.std.specs.List.{prefix_len};
-ghost use Rattle.pgn_lexer.specs.Bytes.{is_white};
+ghost use Rattle.cq_outside.specs.Text.{is_white};
 ghost use Rattle.pgn_lexer.specs.Lexemes.{first_at, lexemes_at};
 ghost use Rattle.pgn_lexer.specs.Shown.{shown};
 
-use crate::reading::{is_white, longest_reading};
+use crate::reading::longest_reading;
 use crate::token::LexemeKind;
+use cq_outside::is_white;
 
 /// A lexeme of some bytes: its place among them, whether it begins in the first column, its bytes and its kind.
 #[derive(Clone, Copy, Debug)]

@@ -20,5 +20,5 @@ pub use laws::{
     readings_grow,
 };
 pub use lexeme::{Lexeme, next_lexeme};
-pub use reading::{is_white, longest_reading};
+pub use reading::longest_reading;
 pub use token::{LexemeKind, Reading, Token, TokenKind};

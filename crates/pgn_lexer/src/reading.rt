@@ -3,18 +3,11 @@ ghost use Rattle.std.specs.Prelude.{◌≡◌, false, ◌+◌, ◌-◌, ◌<◌,
 ghost use Rattle.std.specs.List.{prefix_len, position_or_len, AllPass};
 ghost use Rattle.std.specs.Char.{is_ascii_digit};
 ghost use Rattle.std.specs.Str.Parse.{digits_value};
-ghost use Rattle.pgn_lexer.specs.Bytes.{is_white, ends_line, continues_symbol};
+ghost use Rattle.pgn_lexer.specs.Bytes.{ends_line, continues_symbol};
 ghost use Rattle.pgn_lexer.specs.Readings.{token, comment, line_comment, escape_line, is_special, body_len, text, symbol, nag, good_suffix, poor_suffix, null_move, single, reading};
 
 use crate::token::{LexemeKind, Reading, TokenKind};
 use memchr::{memchr, memchr3};
-
-/// Whether a byte is white space: 0x09 to 0x0D or the space.
-pub fn is_white(b: u8) -> bool
-    ensures { result ≡ is_white b }
-{
-    matches!(b, 0x09..=0x0d | b' ')
-}
 
 /// Whether a symbol goes on with this byte.
 fn continues_symbol(b: u8) -> bool

@@ -4,9 +4,10 @@ use crate::TokenKind::{
     Symbol, Text, UnclosedComment, UnclosedText,
 };
 use crate::{
-    LexemeKind, Reading, Token, TokenKind, is_white, lexemes_are_local, lexemes_stand_apart,
-    longest_reading, next_lexeme, readings_are_longest, tokens,
+    LexemeKind, Reading, Token, TokenKind, lexemes_are_local, lexemes_stand_apart, longest_reading,
+    next_lexeme, readings_are_longest, tokens,
 };
+use cq_outside::is_white;
 use std::test::Fail;
 
 /// A row of the table: a text, and the place, the length and the kind of each of its tokens.

@@ -1,8 +1,8 @@
 use Rattle.std.proofs.Common.{sym, ap, subst, ◌∙◌, ◌+◌, ◌++◌, ◌∷◌, [], List, Ok}
 use Rattle.std.proofs.lemmas.Result.{err_from_is_err_and}
 use Rattle.cql_syntax.specs.declared.token.QueryToken.{QueryToken}
-use Rattle.cql_lexer.specs.declared.context.Context.{Context}
-use Rattle.cql_lexer.specs.declared.context.Context.TheVariants.{Any}
+use Rattle.cql_lexer.specs.declared.expected.Expected.{Expected}
+use Rattle.cql_lexer.specs.declared.expected.Expected.TheVariants.{Token}
 use Rattle.cql_lexer.proofs.Steps.{TokensLeft, too_long, at_start, after_separator, after_token, at_refusal, at_end}
 use Rattle.cql_lexer.proofs.tokens.query_tokens.Goals as goal
 
@@ -11,7 +11,7 @@ returns-then-query-gt-QUERY_LIMIT c = too_long _ c.if-query-gt-QUERY_LIMIT.true
 
 pub loop-at-init : goal.loop-at-init
 loop-at-init c =
-    let P : List QueryToken → Type 0 = λ tokens. TokensLeft c.args.query.now tokens Any 0 in
+    let P : List QueryToken → Type 0 = λ tokens. TokensLeft c.args.query.now tokens Token 0 in
     subst P (sym c.new-tokens.ensures.items) (at_start _ c.if-query-gt-QUERY_LIMIT.false)
 
 pub loop-at-preserved-then-separator-gt0 : goal.loop-at-preserved-then-separator-gt0
@@ -28,10 +28,10 @@ returns-in_err-token c =
 pub loop-at-preserved : goal.loop-at-preserved
 loop-at-preserved c =
     let found = c.in_ok-token.ensures in
-    let P : List QueryToken → Type 0 = λ tokens. TokensLeft c.args.query.now tokens c.after-context.result (c.loop-at.at + c.in_ok-token.len) in
-    let Q : Context → Type 0 = λ context. TokensLeft c.args.query.now (c.loop-at.tokens.items ++ c.in_ok-token.token ∷ []) context (c.loop-at.at + c.in_ok-token.len) in
+    let P : List QueryToken → Type 0 = λ tokens. TokensLeft c.args.query.now tokens c.expected_after-expected.result (c.loop-at.at + c.in_ok-token.len) in
+    let Q : Expected → Type 0 = λ expected. TokensLeft c.args.query.now (c.loop-at.tokens.items ++ c.in_ok-token.token ∷ []) expected (c.loop-at.at + c.in_ok-token.len) in
     subst P (sym c.in_ok-push.ensures)
-    (subst Q (sym c.after-context.ensures)
+    (subst Q (sym c.expected_after-expected.ensures)
     (after_token _ _ _ _ _ c.in_ok-token.token c.in_ok-token.len c.loop-at.invariant c.loop-at-test.true c.separator_len-separator.ensures.value c.if-separator-gt0.false found.value found.front.0 found.front.1))
 
 pub returns : goal.returns

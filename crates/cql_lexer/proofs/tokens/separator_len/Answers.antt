@@ -1,6 +1,6 @@
 use Rattle.std.proofs.Common.{arith}
 use Rattle.std.proofs.lemmas.List.Sums.{prefix_len-le-length}
-use Rattle.cql_lexer.specs.Characters.{is_white}
+use Rattle.cq_outside.specs.Text.{is_white}
 use Rattle.cql_lexer.proofs.tokens.separator_len.Goals as goal
 
 pub returns-clause-fits : goal.returns-clause-fits

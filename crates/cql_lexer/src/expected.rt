@@ -1,0 +1,28 @@
+//! What a token lets stand behind it.
+ghost use Rattle.std.specs.Prelude.{◌≡◌};
+ghost use Rattle.cql_lexer.specs.Tokens.{expected_after};
+
+use cql_syntax::QueryTokenKind;
+use cql_syntax::words::{INPUT, OUTPUT, RESULT};
+
+/// What may stand directly behind a token, beside the tokens that may stand anywhere.
+#[derive(Clone, Copy, Debug, PartialEq, Eq)]
+pub enum Expected {
+    /// No other: a token that may stand anywhere.
+    Token,
+    /// The name of a file, behind `input` and `output`.
+    FileName,
+    /// A result, behind `result`.
+    Outcome,
+}
+
+/// What may stand directly behind a token.
+pub fn expected_after(kind: &QueryTokenKind) -> Expected
+    ensures { result ≡ expected_after kind.now }
+{
+    match kind {
+        QueryTokenKind::Word(INPUT | OUTPUT) => Expected::FileName,
+        QueryTokenKind::Word(RESULT) => Expected::Outcome,
+        _ => Expected::Token,
+    }
+}
