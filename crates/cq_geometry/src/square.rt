@@ -77,7 +77,7 @@ pub fn rank(s: Square) -> u8
     s.index / 8
 }
 
-/// Whether the square is light.
+/// Whether the square is light, as h1 is (FIDE Laws of Chess, article 2.1).
 pub fn is_light(s: Square) -> bool
     ensures { IsTrue result ↔ IsLight s }
 {

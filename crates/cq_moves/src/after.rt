@@ -54,7 +54,7 @@ fn promoted(side: Side, promotion: Promotion, man: Man) -> Man
     }
 }
 
-// Castling is the king's move of two files.
+/// Whether the move is castling: the move of the side's king by two files (FIDE Laws of Chess, article 3.8.2).
 pub fn is_castling(position: &Position, m: &Move) -> bool
     ensures { result ≡ legal.is_castling position.now m.now }
 {
@@ -87,7 +87,7 @@ fn is_passing_capture(position: &Position, m: &Move) -> bool
         && is_goal(position.passant(), m.to)
 }
 
-// Whether there is such a square, and it is this one.
+/// Whether there is a goal, and it is this square.
 pub fn is_goal(goal: Option<Square>, square: Square) -> bool
     ensures { result ≡ attacks.is_goal goal square }
 {
@@ -97,7 +97,7 @@ pub fn is_goal(goal: Option<Square>, square: Square) -> bool
     }
 }
 
-/// The square in the middle between two.
+/// The square in the middle between two, as the one that a pawn's double step passes: of the two numbers the half of the sum.
 pub fn middle(a: Square, b: Square) -> Square
     ensures { result ≡ legal.middle a b }
 {

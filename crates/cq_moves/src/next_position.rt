@@ -32,7 +32,7 @@ pub fn play(position: &Position, m: Move) -> Position
     )
 }
 
-// The number rises after Black's move.
+/// The number of the next move: one more after Black's, up to 4,294,967,295.
 pub(crate) fn number_after(position: &Position) -> u32
     ensures { result ≡ legal.number_after position.now }
 {

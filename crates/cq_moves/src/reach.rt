@@ -13,8 +13,8 @@ use cq_position::attacks::{is_attacked, is_open, is_pawn_attack, is_taken};
 use cq_position::position::is_pawn;
 use cq_position::{Man, Move, Position, Promotion, Side, is_of_side, is_same, king_of, opponent};
 
-// Whether a man of the side to move goes from one square to another, which holds none of its own men and no king. `attacked` has the
-// squares that the man attacks.
+/// Whether a man of the side to move goes from one square to another, which holds none of its own men and no king. Bit k of `attacked` is
+/// set where the man attacks the square k.
 #[tactic(auto, unfolding(crate::specs::Reach::reaches))]
 pub(crate) fn reaches(position: &Position, attacked: u64, from: Square, to: Square) -> bool
     requires { Marks attacked (attack.attacks position.now.men from) }
@@ -107,7 +107,7 @@ fn are_free(men: &[Man; 64], by: Side, squares: [Square; 3]) -> bool
     squares.iter().all(|square| !is_attacked(men, by, *square))
 }
 
-// Whether the move promotes exactly where a pawn reaches the last rank.
+/// Whether the move promotes exactly where a pawn reaches the last rank (FIDE Laws of Chess, article 3.7).
 pub(crate) fn promotes(position: &Position, m: &Move) -> bool
     ensures { result ≡ parts.promotes position.now m.now }
 {

@@ -9,7 +9,8 @@ use crate::men::{Man, Side, is_of_side, is_same, king_of, opponent};
 use crate::position::Position;
 use cq_geometry::{Square, Step, between, file, king_steps, knight_steps, rank, ray};
 
-/// The squares that the man on a square attacks, whatever stands there: bit k of the answer is square k. An empty square attacks none.
+/// The squares that the man on a square attacks, whatever stands there (FIDE Laws of Chess, articles 3.2 to 3.8): bit k of the
+/// answer is square k. An empty square attacks none.
 ///
 /// A rook, a bishop and a queen attack along their lines up to and with the first man in the way.
 #[tactic(auto, unfolding(crate::specs::Attacks::attacks))]
@@ -19,14 +20,14 @@ pub fn attacks_from(position: &Position, square: Square) -> u64
     squares_attacked(position.at(square), position.men(), square)
 }
 
-/// Whether the king of a side is attacked.
+/// Whether the king of a side is attacked (FIDE Laws of Chess, article 3.9.1).
 pub fn in_check(position: &Position, side: Side) -> bool
     ensures { result ≡ attack.in_check position.now.men side }
 {
     is_king_attacked(position.men(), side)
 }
 
-/// Whether the king of a side is attacked on this board.
+/// Whether the king of a side is attacked on this board, the men of the squares a1, b1, .. h8 (FIDE Laws of Chess, article 3.9.1).
 pub fn is_king_attacked(men: &[Man; 64], side: Side) -> bool
     ensures { result ≡ attack.in_check men.now side }
 {
@@ -46,7 +47,7 @@ fn is_attacked_king(men: &[Man; 64], side: Side, square: Square) -> bool
         && is_attacked(men, opponent(side), square)
 }
 
-/// Whether a man of a side attacks a square of this board.
+/// Whether a man of a side attacks a square of this board, also where the man may not move (FIDE Laws of Chess, article 3.9.1).
 pub fn is_attacked(men: &[Man; 64], by: Side, square: Square) -> bool
     ensures { result ≡ attack.is_attacked men.now by square }
 {
@@ -84,14 +85,14 @@ fn is_attack(man: Man, men: &[Man; 64], from: Square, to: Square) -> bool
     }
 }
 
-/// How many files lie from one square to another.
+/// How many files lie from one square to another, from 0 to 7.
 pub fn files_apart(a: Square, b: Square) -> u8
     ensures { result ≡ steps.files_apart a b }
 {
     file(a).abs_diff(file(b))
 }
 
-/// How many ranks lie from one square to another.
+/// How many ranks lie from one square to another, from 0 to 7.
 pub fn ranks_apart(a: Square, b: Square) -> u8
     ensures { result ≡ steps.ranks_apart a b }
 {
@@ -112,6 +113,7 @@ fn is_knight_step(a: Square, b: Square) -> bool
     files == 1 && ranks == 2 || files == 2 && ranks == 1
 }
 
+/// Whether a pawn of a side on `a` attacks `b`: one of the two squares diagonally in front of it (FIDE Laws of Chess, article 3.7.3).
 pub fn is_pawn_attack(side: Side, a: Square, b: Square) -> bool
     ensures { result ≡ attack.is_pawn_attack side a b }
 {
@@ -135,7 +137,7 @@ fn is_diagonal(a: Square, b: Square) -> bool
             || file(a) + rank(a) == file(b) + rank(b))
 }
 
-// Whether no man stands between two squares.
+/// Whether no man stands strictly between two squares of one rank, file or diagonal; true for other pairs.
 pub fn is_open(men: &[Man; 64], a: Square, b: Square) -> bool
     ensures { result ≡ lines.is_open (attack.is_taken men.now) a b }
 {
@@ -145,6 +147,7 @@ pub fn is_open(men: &[Man; 64], a: Square, b: Square) -> bool
         .all(|square| !is_taken(men, *square))
 }
 
+/// Whether a man stands on a square.
 pub fn is_taken(men: &[Man; 64], square: Square) -> bool
     ensures { result ≡ attack.is_taken men.now square }
 {

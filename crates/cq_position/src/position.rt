@@ -9,12 +9,16 @@ use crate::men::{Man, Side, is_of_side, is_same};
 use cq_geometry::Square;
 use std::marker::Model;
 
-/// The rights to castle that are left.
+/// The rights to castle that are left (FIDE Laws of Chess, article 3.8.2).
 #[derive(Clone, Copy, Debug, PartialEq, Eq)]
 pub struct Rights {
+    /// White may castle with the rook of h1.
     pub white_kingside: bool,
+    /// White may castle with the rook of a1.
     pub white_queenside: bool,
+    /// Black may castle with the rook of h8.
     pub black_kingside: bool,
+    /// Black may castle with the rook of a8.
     pub black_queenside: bool,
 }
 
@@ -76,7 +80,7 @@ impl Position {
         }
     }
 
-    /// The position of these parts, which meet the conditions of a position.
+    /// The position of these parts, which meet the conditions of a position. `men` has the men of the squares a1, b1, .. h8.
     pub fn from_parts(
         number: u32,
         men: [Man; 64],
@@ -150,7 +154,7 @@ impl Position {
         self.rights
     }
 
-    /// The number of the move, from 1, which rises after Black's moves.
+    /// The number of the move, from 1 to 4,294,967,295, which rises after Black's moves.
     pub fn number(&self) -> u32
         ensures number { result ≡ self.now.number }
         ensures kept { IsPosition self.now }
@@ -159,7 +163,7 @@ impl Position {
     }
 }
 
-/// How many squares hold a man, or nothing where `Empty` is asked.
+/// How many squares hold a man, or nothing where `Empty` is asked, from 0 to 64.
 pub fn material(position: &Position, man: Man) -> u32
     ensures { result ≡ count_of man position.now.men }
 {
@@ -173,14 +177,14 @@ fn count(men: &[Man; 64], man: Man) -> u32
     men.iter().filter(|m| is_same(**m, man)).count() as u32
 }
 
-// Whether there is one king of each side.
+/// Whether there is exactly one king of each side.
 pub fn has_kings(men: &[Man; 64]) -> bool
     ensures { result ≡ board.has_kings men.now }
 {
     count(men, Man::K) == 1 && count(men, Man::BlackK) == 1
 }
 
-// Whether a pawn stands on the first or the last rank.
+/// Whether a pawn of either side stands on the first or the last rank.
 pub fn has_pawn_on_edge(men: &[Man; 64]) -> bool
     ensures { result ≡ board.has_pawn_on_edge men.now }
 {
@@ -200,7 +204,7 @@ pub fn is_pawn(man: Man) -> bool
     is_same(man, Man::P) || is_same(man, Man::BlackP)
 }
 
-// Whether a side has more than sixteen men.
+/// Whether a side has more than sixteen men.
 pub fn has_too_many_men(men: &[Man; 64]) -> bool
     ensures { result ≡ board.has_too_many_men men.now }
 {

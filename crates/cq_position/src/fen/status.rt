@@ -10,7 +10,7 @@ use crate::men::{Man, Side, is_same};
 use crate::position::Rights;
 use cq_geometry::{Square, rank, square_at};
 
-// The side to move.
+/// The side to move, which `w` or `b` names (PGN standard, section 16.1.3.2); None for any other text.
 pub fn read_side(text: &[u8]) -> Option<Side>
     ensures { SomeIfTrue result (is_side text.now) (side_named text.now) }
 {
@@ -21,7 +21,7 @@ pub fn read_side(text: &[u8]) -> Option<Side>
     }
 }
 
-// Whether the text is a dash or names rights to castle.
+/// Whether the text is a dash or letters of `KQkq` (PGN standard, section 16.1.3.3).
 pub fn is_castling(text: &[u8]) -> bool
     ensures { result ≡ fen.is_castling text.now }
 {
@@ -34,7 +34,7 @@ fn names_rights(text: &[u8]) -> bool
     text.iter().all(|b| matches!(*b, b'K' | b'Q' | b'k' | b'q'))
 }
 
-// The rights named whose king and rook stand at home.
+/// The rights to castle that the text's letters name, those whose king and rook stand at home.
 pub fn rights_kept(men: &[Man; 64], text: &[u8]) -> Rights
     ensures value { result ≡ fen.rights_kept men.now text.now }
     ensures stand { board.rights_stand men.now result ≡ true }
@@ -76,7 +76,7 @@ fn is_dash(text: &[u8]) -> bool
     matches!(text, b"-")
 }
 
-// Whether the text is a dash or names a square of rank 3 or 6.
+/// Whether the text is a dash or names a square of rank 3 or 6 (PGN standard, section 16.1.3.4).
 pub fn is_passant(text: &[u8]) -> bool
     ensures { result ≡ fen.is_passant text.now }
 {
@@ -87,7 +87,7 @@ pub fn is_passant(text: &[u8]) -> bool
     }
 }
 
-// The square named, where a pawn can just have passed it.
+/// The en passant square that the text names, where a pawn of the opponent can just have passed it; None else, and for a dash.
 pub fn passant_kept(men: &[Man; 64], side: Side, text: &[u8]) -> Option<Square>
     requires { fen.is_passant text.now ≡ true }
     ensures value { result ≡ fen.passant_kept men.now side text.now }
@@ -125,7 +125,7 @@ fn was_passed(men: &[Man; 64], side: Side, square: Square) -> bool
     }
 }
 
-// A number of 1 to 9 digits.
+/// The number that 1 to 9 digits write, from 0 to 999,999,999 (PGN standard, sections 16.1.3.5 and 16.1.3.6); None for any other text.
 pub fn read_number(text: &[u8]) -> Option<u32>
     ensures { SomeIfTrue result (is_number text.now) (value_of_digits text.now) }
 {
