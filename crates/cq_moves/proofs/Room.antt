@@ -17,7 +17,7 @@ use Rattle.cq_position.specs.declared.men.Side.{Side}
 use Rattle.cq_position.specs.declared.men.Side.TheVariants.{White, Black}
 use Rattle.cq_position.specs.declared.moves.Move.{Move}
 use Rattle.cq_position.specs.Men.{is_of_side}
-use Rattle.cq_position.specs.Board.{Board, man_at, strength, has_too_many_men, king_home, is_pawn}
+use Rattle.cq_position.specs.Board.{Board, man_at, count_of_side, has_too_many_men, king_home, is_pawn}
 use Rattle.cq_position.specs.Position.{IsPosition}
 use Rattle.cq_position.specs.Attacks.{is_taken, attacks, attacks_as, is_pawn_attack}
 use Rattle.cq_position.specs.Legal.{is_none, promotes_rightly, is_ahead, is_double_step, castling_goal, castles, pawn_moves}
@@ -236,11 +236,11 @@ sum_by_square : (f : Man → ℕ) (men : List Man) → length men ≡ 64 → sum
 sum_by_square f men long =
     sym (fold-map (λ s m. s + f m) (man_at men) 0 squares) ∙ ap (sum_by f) (sym (men_by_square men long))
 
-at_most_sixteen : (side : Side) (men : List Man) → has_too_many_men men ≡ false → strength side men ≤ 16
+at_most_sixteen : (side : Side) (men : List Man) → has_too_many_men men ≡ false → count_of_side side men ≤ 16
 at_most_sixteen White men h =
-    ltb-false 16 (strength White men) (or_parts (ltb 16 (strength White men)) (ltb 16 (strength Black men)) h).0
+    ltb-false 16 (count_of_side White men) (or_parts (ltb 16 (count_of_side White men)) (ltb 16 (count_of_side Black men)) h).0
 at_most_sixteen Black men h =
-    ltb-false 16 (strength Black men) (or_parts (ltb 16 (strength White men)) (ltb 16 (strength Black men)) h).1
+    ltb-false 16 (count_of_side Black men) (or_parts (ltb 16 (count_of_side White men)) (ltb 16 (count_of_side Black men)) h).1
 
 pub legal_fits : (p : Board) → IsPosition p → length (legal_list p) ≤ 512
 legal_fits p h =

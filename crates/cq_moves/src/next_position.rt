@@ -46,16 +46,16 @@ fn rights_after(position: &Position, m: &Move) -> Rights
     ensures { result ≡ legal.rights_after position.now m.now }
 {
     Rights {
-        white_kingside: right_after(position, m, Side::White, true),
-        white_queenside: right_after(position, m, Side::White, false),
-        black_kingside: right_after(position, m, Side::Black, true),
-        black_queenside: right_after(position, m, Side::Black, false),
+        white_kingside: keeps_right(position, m, Side::White, true),
+        white_queenside: keeps_right(position, m, Side::White, false),
+        black_kingside: keeps_right(position, m, Side::Black, true),
+        black_queenside: keeps_right(position, m, Side::Black, false),
     }
 }
 
 // Whether a right is left: neither king nor rook has moved or was captured.
-fn right_after(position: &Position, m: &Move, side: Side, kingside: bool) -> bool
-    ensures { result ≡ legal.right_after position.now m.now side kingside }
+fn keeps_right(position: &Position, m: &Move, side: Side, kingside: bool) -> bool
+    ensures { result ≡ legal.keeps_right position.now m.now side kingside }
 {
     let home = rook_home(side, kingside).number();
     position.may_castle(side, kingside)

@@ -29,8 +29,8 @@ abbrev pub count_of : Man → List Man → ℕ
 count_of man men = count_by (λ m. same_man m man) men
 
 -- how many men a side has
-abbrev pub strength : Side → List Man → ℕ
-strength side men = count_by (is_of_side side) men
+abbrev pub count_of_side : Side → List Man → ℕ
+count_of_side side men = count_by (is_of_side side) men
 
 -- the right to castle on a side of the board
 abbrev pub castling_right : Rights → Side → Bool → Bool
@@ -73,7 +73,7 @@ has_pawn_on_edge men = list_any is_pawn (slice_range men 0 8) || list_any is_paw
 
 -- more than sixteen men of one side
 abbrev pub has_too_many_men : List Man → Bool
-has_too_many_men men = nat_lt 16 (strength White men) || nat_lt 16 (strength Black men)
+has_too_many_men men = nat_lt 16 (count_of_side White men) || nat_lt 16 (count_of_side Black men)
 
 -- an en passant square is kept where the opponent's pawn can just have passed it
 abbrev pub passant_stands : List Man → Side → Option ℕ → Bool

@@ -18,12 +18,12 @@ abbrev pub parts : ℕ → List ℕ → List (List ℕ)
 parts byte text = slice_split (λ b. b == byte) text
 
 -- the fields of a text are its longest parts without a space, the empty ones left out
-abbrev pub is_field : List ℕ → Bool
-is_field [] = false
-is_field (first ∷ rest) = true
+abbrev pub is_not_empty : List ℕ → Bool
+is_not_empty [] = false
+is_not_empty (first ∷ rest) = true
 
 unfoldable pub fields : List ℕ → List (List ℕ)
-fields text = filter is_field (parts 32 text)
+fields text = filter is_not_empty (parts 32 text)
 
 -- a byte from one to another
 abbrev pub is_within : ℕ → ℕ → ℕ → Bool
@@ -67,8 +67,8 @@ side_named text = if is_byte_alone 119 text then White else Black
 abbrev pub is_castling_letter : ℕ → Bool
 is_castling_letter byte = (byte == 75) || (byte == 81) || (byte == 107) || (byte == 113)
 
-abbrev pub is_castling : List ℕ → Bool
-is_castling text = is_byte_alone 45 text || list_all is_castling_letter text
+abbrev pub is_castling_field : List ℕ → Bool
+is_castling_field text = is_byte_alone 45 text || list_all is_castling_letter text
 
 abbrev pub has_letter : ℕ → List ℕ → Bool
 has_letter letter text = list_any (λ byte. byte == letter) text
@@ -83,14 +83,14 @@ rights_kept men text = record {
 }
 
 -- En passant target square: a dash, or the letter of a file and 3 or 6.
-abbrev pub is_square_name : List ℕ → Bool
-is_square_name [] = false
-is_square_name (file ∷ []) = false
-is_square_name (file ∷ rank ∷ []) = is_within 97 104 file && ((rank == 51) || (rank == 54))
-is_square_name (file ∷ rank ∷ more ∷ rest) = false
+abbrev pub names_passant_square : List ℕ → Bool
+names_passant_square [] = false
+names_passant_square (file ∷ []) = false
+names_passant_square (file ∷ rank ∷ []) = is_within 97 104 file && ((rank == 51) || (rank == 54))
+names_passant_square (file ∷ rank ∷ more ∷ rest) = false
 
-abbrev pub is_passant : List ℕ → Bool
-is_passant text = is_byte_alone 45 text || is_square_name text
+abbrev pub is_passant_field : List ℕ → Bool
+is_passant_field text = is_byte_alone 45 text || names_passant_square text
 
 -- the square named, where a pawn can just have passed it
 abbrev pub passant_kept : List Man → Side → List ℕ → Option ℕ
@@ -103,7 +103,7 @@ abbrev pub is_digit : ℕ → Bool
 is_digit byte = is_within 48 57 byte
 
 abbrev pub is_number : List ℕ → Bool
-is_number text = is_field text && nat_le (length text) 9 && list_all is_digit text
+is_number text = is_not_empty text && nat_le (length text) 9 && list_all is_digit text
 
 -- the number that digits write, by the powers of ten of their places
 abbrev pub value_of_digits : List ℕ → ℕ
@@ -128,7 +128,7 @@ field_texts _ = None
 -- the faults of six fields in their order, each with whether it applies
 abbrev pub faults : FieldTexts → List (Bool × FenFault)
 faults f = let men = placed_men f.placement in
-    (not (is_placement f.placement), Placement) ∷ (not (is_side f.side), BadSide) ∷ (not (is_castling f.castling), Castling) ∷ (not (is_passant f.passant), EnPassant)
+    (not (is_placement f.placement), Placement) ∷ (not (is_side f.side), BadSide) ∷ (not (is_castling_field f.castling), Castling) ∷ (not (is_passant_field f.passant), EnPassant)
     ∷ (not (is_number f.clock && is_number f.number), Number) ∷ (not (has_kings men), Kings) ∷ (has_pawn_on_edge men, PawnOnEdge) ∷ (has_too_many_men men, TooManyMen) ∷ (in_check men (opponent (side_named f.side)), OpponentInCheck) ∷ []
 
 -- The position of six fields. A right counts where king and rook stand at home. The clock is not kept, and the number 0 is read as 1.

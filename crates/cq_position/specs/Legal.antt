@@ -121,17 +121,17 @@ men_after p m =
     else men_moved p m)
 
 -- A king's move ends both rights of its side, and a move from or to a rook's home square ends the right with that rook.
-abbrev pub right_after : Board → Move → Side → Bool → Bool
-right_after p m side kingside =
+abbrev pub keeps_right : Board → Move → Side → Bool → Bool
+keeps_right p m side kingside =
     castling_right p.rights side kingside && not (stands p.men m.from (king_of side))
     && not (m.from == rook_home side kingside) && not (m.to == rook_home side kingside)
 
 abbrev pub rights_after : Board → Move → Rights
 rights_after p m = record {
-  white_kingside = right_after p m White true;
-  white_queenside = right_after p m White false;
-  black_kingside = right_after p m Black true;
-  black_queenside = right_after p m Black false;
+  white_kingside = keeps_right p m White true;
+  white_queenside = keeps_right p m White false;
+  black_kingside = keeps_right p m Black true;
+  black_queenside = keeps_right p m Black false;
 }
 
 -- a pawn's double step leaves the square that it passed

@@ -13,6 +13,6 @@ pub record IsPosition (b : Board) : Type 0 where
   pub few_enough : has_too_many_men b.men ≡ false
   pub rights : rights_stand b.men b.rights ≡ true
   pub passed : passant_stands b.men b.side b.passant ≡ true
-  pub quiet : in_check b.men (opponent b.side) ≡ false
+  pub opponent_not_in_check : in_check b.men (opponent b.side) ≡ false
   pub numbered : 0 < b.number
   pub fits : b.number < 4294967296

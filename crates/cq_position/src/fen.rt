@@ -14,7 +14,9 @@ mod writing;
 
 use fields::split_fields;
 use placement::read_placement;
-use status::{is_castling, is_passant, passant_kept, read_number, read_side, rights_kept};
+use status::{
+    is_castling_field, is_passant_field, passant_kept, read_number, read_side, rights_kept,
+};
 pub use writing::fen_text;
 
 /// Why a text is no position: its form (PGN standard, section 16.1.3), or a position that no game has. Where several faults apply, the first
@@ -55,10 +57,10 @@ pub fn read_fen(text: &[u8]) -> Result<Position, FenFault>
     let fields = split_fields(text).ok_or(FenFault::Fields)?;
     let men = read_placement(fields.placement).ok_or(FenFault::Placement)?;
     let side = read_side(fields.side).ok_or(FenFault::Side)?;
-    if !is_castling(fields.castling) {
+    if !is_castling_field(fields.castling) {
         return Err(FenFault::Castling);
     }
-    if !is_passant(fields.passant) {
+    if !is_passant_field(fields.passant) {
         return Err(FenFault::EnPassant);
     }
     let _clock = read_number(fields.clock).ok_or(FenFault::Number)?;

@@ -208,12 +208,12 @@ pub fn is_pawn(man: Man) -> bool
 pub fn has_too_many_men(men: &[Man; 64]) -> bool
     ensures { result ≡ board.has_too_many_men men.now }
 {
-    strength(men, Side::White) > 16 || strength(men, Side::Black) > 16
+    count_of_side(men, Side::White) > 16 || count_of_side(men, Side::Black) > 16
 }
 
 // How many men a side has.
-fn strength(men: &[Man; 64], side: Side) -> u32
-    ensures { result ≡ board.strength side men.now }
+fn count_of_side(men: &[Man; 64], side: Side) -> u32
+    ensures { result ≡ board.count_of_side side men.now }
 {
     men.iter().filter(|m| is_of_side(**m, side)).count() as u32
 }

@@ -22,8 +22,8 @@ pub fn read_side(text: &[u8]) -> Option<Side>
 }
 
 /// Whether the text is a dash or letters of `KQkq` (PGN standard, section 16.1.3.3).
-pub fn is_castling(text: &[u8]) -> bool
-    ensures { result ≡ fen.is_castling text.now }
+pub fn is_castling_field(text: &[u8]) -> bool
+    ensures { result ≡ fen.is_castling_field text.now }
 {
     is_dash(text) || names_rights(text)
 }
@@ -77,8 +77,8 @@ fn is_dash(text: &[u8]) -> bool
 }
 
 /// Whether the text is a dash or names a square of rank 3 or 6 (PGN standard, section 16.1.3.4).
-pub fn is_passant(text: &[u8]) -> bool
-    ensures { result ≡ fen.is_passant text.now }
+pub fn is_passant_field(text: &[u8]) -> bool
+    ensures { result ≡ fen.is_passant_field text.now }
 {
     match text {
         [byte] => *byte == b'-',
@@ -89,7 +89,7 @@ pub fn is_passant(text: &[u8]) -> bool
 
 /// The en passant square that the text names, where a pawn of the opponent can just have passed it; None else, and for a dash.
 pub fn passant_kept(men: &[Man; 64], side: Side, text: &[u8]) -> Option<Square>
-    requires { fen.is_passant text.now ≡ true }
+    requires { fen.is_passant_field text.now ≡ true }
     ensures value { result ≡ fen.passant_kept men.now side text.now }
     ensures stands { board.passant_stands men.now side result ≡ true }
 {
