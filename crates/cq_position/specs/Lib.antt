@@ -4,6 +4,7 @@ pub mod Moves
 pub mod Attacks
 pub mod Position
 pub mod Kept
+pub mod FenBytes
 pub mod Fen
 pub mod Reading
 pub mod Legal

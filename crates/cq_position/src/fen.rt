@@ -7,6 +7,7 @@ use crate::men::opponent;
 use crate::position::{Position, has_kings, has_pawn_on_edge, has_too_many_men};
 use thiserror::Error;
 
+mod bytes;
 mod fields;
 mod placement;
 mod status;

@@ -1,7 +1,10 @@
 //! The fields of a FEN text.
 ghost use Rattle.std.specs.Prelude.{◌≡◌, ◌==◌, [], ◌∷◌, not, position, MatchOption};
 ghost use Rattle.cq_position.specs.Fen.{fields, field_texts};
+ghost use Rattle.cq_position.specs.FenBytes.{space};
 ghost use Rattle.cq_position.specs.Reading.{texts_of};
+
+use crate::fen::bytes::SPACE;
 
 /// The six fields of a text, each without spaces and not empty (PGN standard, section 16.1.3).
 #[derive(Clone, Copy)]
@@ -59,15 +62,15 @@ fn first_field(text: &[u8]) -> Option<(&[u8], &[u8])>
 {
     let start = place_beside_spaces(text)?;
     let text = &text[start..];
-    let end = place_of(text, b' ').unwrap_or(text.len());
+    let end = place_of(text, SPACE).unwrap_or(text.len());
     Some((&text[..end], &text[end..]))
 }
 
 // The place of the first byte that is no space.
 fn place_beside_spaces(text: &[u8]) -> Option<usize>
-    ensures { result ≡ position (λ b. not (b == 32)) text.now }
+    ensures { result ≡ position (λ b. not (b == space)) text.now }
 {
-    text.iter().position(|b| *b != b' ')
+    text.iter().position(|b| *b != SPACE)
 }
 
 /// The first place of a byte in a text, from 0; None where the text lacks it.

@@ -2,8 +2,10 @@
 ghost use Rattle.std.specs.Prelude.{◌≡◌, ◌∷◌, false, MatchOption};
 ghost use Rattle.std.specs.Option.{option_copied};
 ghost use Rattle.cq_position.specs.Fen.{parts, is_rank, is_rank_byte, rank_squares, is_placement, placed_men};
+ghost use Rattle.cq_position.specs.FenBytes.{slash};
 ghost use Rattle.cq_position.specs.Reading.{SomeIfTrue, IsRunOf, ranks_left};
 
+use crate::fen::bytes::SLASH;
 use crate::fen::fields::place_of;
 use crate::men::{Man, man_of_letter};
 
@@ -31,9 +33,9 @@ pub fn read_placement(text: &[u8]) -> Option<[Man; 64]>
 // The text of the first rank, and what stands behind its slash, if there is one.
 #[tactic(auto, using(crate::proofs::Splitting::one_part, crate::proofs::Splitting::first_of_parts, std::proofs::lemmas::List::take_rest))]
 fn cut_rank(text: &[u8]) -> (&[u8], Option<&[u8]>)
-    ensures { parts 47 text.now ≡ result.0.now ∷ ranks_left (option_copied result.1) }
+    ensures { parts slash text.now ≡ result.0.now ∷ ranks_left (option_copied result.1) }
 {
-    match place_of(text, b'/') {
+    match place_of(text, SLASH) {
         None => (text, None),
         Some(end) => (&text[..end], Some(&text[end + 1..])),
     }

@@ -3,9 +3,11 @@ ghost use Rattle.std.specs.Prelude.{◌≡◌, ◌-◌, true};
 ghost use Rattle.std.specs.List.{list_all};
 ghost use Rattle.cq_position.specs.Fen.{is_side, side_named, is_number, value_of_digits};
 ghost use Rattle.cq_position.specs.Fen as fen;
+ghost use Rattle.cq_position.specs.FenBytes.{digit_zero};
 ghost use Rattle.cq_position.specs.Board as board;
 ghost use Rattle.cq_position.specs.Reading.{SomeIfTrue};
 
+use crate::fen::bytes::{DASH, right_letter, side_letter};
 use crate::men::{Man, Side, is_same};
 use crate::position::Rights;
 use cq_geometry::{Square, rank, square_at};
@@ -14,10 +16,12 @@ use cq_geometry::{Square, rank, square_at};
 pub fn read_side(text: &[u8]) -> Option<Side>
     ensures { SomeIfTrue result (is_side text.now) (side_named text.now) }
 {
-    match text {
-        b"w" => Some(Side::White),
-        b"b" => Some(Side::Black),
-        _ => None,
+    if is_byte_alone(text, side_letter(Side::White)) {
+        Some(Side::White)
+    } else if is_byte_alone(text, side_letter(Side::Black)) {
+        Some(Side::Black)
+    } else {
+        None
     }
 }
 
@@ -25,13 +29,22 @@ pub fn read_side(text: &[u8]) -> Option<Side>
 pub fn is_castling_field(text: &[u8]) -> bool
     ensures { result ≡ fen.is_castling_field text.now }
 {
-    is_dash(text) || names_rights(text)
+    is_byte_alone(text, DASH) || names_rights(text)
 }
 
 fn names_rights(text: &[u8]) -> bool
     ensures { result ≡ list_all fen.is_castling_letter text.now }
 {
-    text.iter().all(|b| matches!(*b, b'K' | b'Q' | b'k' | b'q'))
+    text.iter().all(|b| is_castling_letter(*b))
+}
+
+fn is_castling_letter(byte: u8) -> bool
+    ensures { result ≡ fen.is_castling_letter byte }
+{
+    byte == right_letter(Side::White, true)
+        || byte == right_letter(Side::White, false)
+        || byte == right_letter(Side::Black, true)
+        || byte == right_letter(Side::Black, false)
 }
 
 /// The rights to castle that the text's letters name, those whose king and rook stand at home.
@@ -40,11 +53,18 @@ pub fn rights_kept(men: &[Man; 64], text: &[u8]) -> Rights
     ensures stand { board.rights_stand men.now result ≡ true }
 {
     Rights {
-        white_kingside: has_letter(text, b'K') && are_home(men, Side::White, true),
-        white_queenside: has_letter(text, b'Q') && are_home(men, Side::White, false),
-        black_kingside: has_letter(text, b'k') && are_home(men, Side::Black, true),
-        black_queenside: has_letter(text, b'q') && are_home(men, Side::Black, false),
+        white_kingside: right_counts(men, text, Side::White, true),
+        white_queenside: right_counts(men, text, Side::White, false),
+        black_kingside: right_counts(men, text, Side::Black, true),
+        black_queenside: right_counts(men, text, Side::Black, false),
     }
+}
+
+// Whether the text names a right whose king and rook stand at home.
+fn right_counts(men: &[Man; 64], text: &[u8], side: Side, kingside: bool) -> bool
+    ensures { result ≡ fen.right_counts men.now text.now side kingside }
+{
+    has_letter(text, right_letter(side, kingside)) && are_home(men, side, kingside)
 }
 
 fn has_letter(text: &[u8], letter: u8) -> bool
@@ -70,18 +90,26 @@ fn are_home(men: &[Man; 64], side: Side, kingside: bool) -> bool
     is_same(men[king_home], king) && is_same(men[rook_home], rook)
 }
 
-fn is_dash(text: &[u8]) -> bool
-    ensures { result ≡ fen.is_byte_alone 45 text.now }
+fn is_byte_alone(text: &[u8], byte: u8) -> bool
+    ensures { result ≡ fen.is_byte_alone byte text.now }
 {
-    matches!(text, b"-")
+    match text {
+        [first] => *first == byte,
+        _ => false,
+    }
 }
 
 /// Whether the text is a dash or names a square of rank 3 or 6 (PGN standard, section 16.1.3.4).
 pub fn is_passant_field(text: &[u8]) -> bool
     ensures { result ≡ fen.is_passant_field text.now }
 {
+    is_byte_alone(text, DASH) || names_passant_square(text)
+}
+
+fn names_passant_square(text: &[u8]) -> bool
+    ensures { result ≡ fen.names_passant_square text.now }
+{
     match text {
-        [byte] => *byte == b'-',
         [file, rank] => matches!(*file, b'a'..=b'h') && matches!(*rank, b'3' | b'6'),
         _ => false,
     }
@@ -141,7 +169,7 @@ pub fn read_number(text: &[u8]) -> Option<u32>
 
 // The number that a digit stands for.
 fn digit_of(byte: u8) -> Option<u32>
-    ensures { SomeIfTrue result (fen.is_digit byte) (byte - 48) }
+    ensures { SomeIfTrue result (fen.is_digit byte) (byte - digit_zero) }
 {
     match byte {
         b'0'..=b'9' => Some(u32::from(byte - b'0')),
