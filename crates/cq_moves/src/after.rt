@@ -2,13 +2,12 @@
 ghost use Rattle.std.specs.Prelude.{◌≡◌};
 ghost use Rattle.cq_position.specs.Attacks as attacks;
 ghost use Rattle.cq_position.specs.Legal as legal;
-ghost use Rattle.cq_position.specs.Men as men_spec;
 
-use crate::castling::{castling_crossed, rook_home};
-use cq_geometry::{Square, file, rank, square_at};
-use cq_position::attacks::files_apart;
+use crate::castling::castling_crossed;
+use cq_geometry::{Square, file, files_apart, rank, square_at};
+use cq_position::home::rook_home;
 use cq_position::position::is_pawn;
-use cq_position::{Man, Move, Position, Promotion, Side, is_same, king_of};
+use cq_position::{Man, Move, Position, Promotion, Side, is_same, king_of, rook_of};
 
 /// The men on the squares a1, b1, .. h8 after a move of the side to move.
 ///
@@ -67,15 +66,6 @@ fn move_rook(men: &mut [Man; 64], side: Side, kingside: bool)
 {
     men[usize::from(rook_home(side, kingside).number())] = Man::Empty;
     men[usize::from(castling_crossed(side, kingside).number())] = rook_of(side);
-}
-
-fn rook_of(side: Side) -> Man
-    ensures { result ≡ men_spec.rook_of side }
-{
-    match side {
-        Side::White => Man::R,
-        Side::Black => Man::BlackR,
-    }
 }
 
 // A pawn that goes to the en passant square captures there.

@@ -6,9 +6,8 @@ ghost use Rattle.cq_position.specs.Legal as legal;
 ghost use Rattle.cq_position.specs.Position.{IsPosition};
 
 use crate::after::{men_after, middle};
-use crate::castling::rook_home;
-use cq_geometry::Square;
-use cq_position::attacks::ranks_apart;
+use cq_geometry::{Square, ranks_apart};
+use cq_position::home::rook_home;
 use cq_position::position::is_pawn;
 use cq_position::{Move, Position, Rights, Side, is_same, king_of, opponent};
 

@@ -7,9 +7,10 @@ ghost use Rattle.cq_position.specs.Marks.{Marks};
 ghost use Rattle.cq_moves.specs.Reach as parts;
 
 use crate::after::{is_goal, middle};
-use crate::castling::{castling_crossed, castling_goal, king_home, rook_home};
+use crate::castling::{castling_crossed, castling_goal};
 use cq_geometry::{Square, rank};
 use cq_position::attacks::{is_attacked, is_open, is_pawn_attack, is_taken};
+use cq_position::home::{king_home, rook_home};
 use cq_position::position::is_pawn;
 use cq_position::{Man, Move, Position, Promotion, Side, is_of_side, is_same, king_of, opponent};
 

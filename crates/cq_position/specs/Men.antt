@@ -3,6 +3,8 @@ use Rattle.std.specs.Prelude.{ℕ, List, [], ◌∷◌, codes, Bool, ◌==◌, O
 use Rattle.std.specs.List.{zip}
 use Rattle.cq_position.specs.declared.men.Man.{Man}
 use Rattle.cq_position.specs.declared.men.Man.TheVariants.{K, Q, R, B, N, P, BlackK, BlackQ, BlackR, BlackB, BlackN, BlackP, Empty}
+use Rattle.cq_position.specs.declared.men.Promotion.{Promotion}
+use Rattle.cq_position.specs.declared.men.Promotion.TheVariants.{None as NoPromotion, Q as ToQueen, R as ToRook, B as ToBishop, N as ToKnight}
 use Rattle.cq_position.specs.declared.men.Side.{Side}
 use Rattle.cq_position.specs.declared.men.Side.TheVariants.{White, Black}
 
@@ -60,3 +62,11 @@ rook_of Black = BlackR
 abbrev pub pawn_of : Side → Man
 pawn_of White = P
 pawn_of Black = BlackP
+
+-- the place of a promotion in the order of the type: no promotion, and those to a queen, a rook, a bishop and a knight
+abbrev pub promotion_number : Promotion → ℕ
+promotion_number NoPromotion = 0
+promotion_number ToQueen = 1
+promotion_number ToRook = 2
+promotion_number ToBishop = 3
+promotion_number ToKnight = 4

@@ -5,9 +5,11 @@ ghost use Rattle.cq_geometry.specs.Steps as steps;
 ghost use Rattle.cq_position.specs.Attacks as attack;
 ghost use Rattle.cq_position.specs.Marks.{Marks, has};
 
-use crate::men::{Man, Side, is_of_side, is_same, king_of, opponent};
-use crate::position::Position;
-use cq_geometry::{Square, Step, between, file, king_steps, knight_steps, rank, ray};
+use crate::men::{Man, Side, is_of_side, king_of, opponent};
+use crate::position::{Position, stands};
+use cq_geometry::{
+    Square, Step, between, file, files_apart, king_steps, knight_steps, rank, ranks_apart, ray,
+};
 
 /// The squares that the man on a square attacks, whatever stands there (FIDE Laws of Chess, articles 3.2 to 3.8): bit k of the
 /// answer is square k. An empty square attacks none.
@@ -43,8 +45,7 @@ pub fn is_king_attacked(men: &[Man; 64], side: Side) -> bool
 fn is_attacked_king(men: &[Man; 64], side: Side, square: Square) -> bool
     ensures { result ≡ attack.attacked_king men.now side square }
 {
-    is_same(men[usize::from(square.number())], king_of(side))
-        && is_attacked(men, opponent(side), square)
+    stands(men, square, king_of(side)) && is_attacked(men, opponent(side), square)
 }
 
 /// Whether a man of a side attacks a square of this board, also where the man may not move (FIDE Laws of Chess, article 3.9.1).
@@ -83,20 +84,6 @@ fn is_attack(man: Man, men: &[Man; 64], from: Square, to: Square) -> bool
         Man::BlackP => is_pawn_attack(Side::Black, from, to),
         Man::Empty => false,
     }
-}
-
-/// How many files lie from one square to another, from 0 to 7.
-pub fn files_apart(a: Square, b: Square) -> u8
-    ensures { result ≡ steps.files_apart a b }
-{
-    file(a).abs_diff(file(b))
-}
-
-/// How many ranks lie from one square to another, from 0 to 7.
-pub fn ranks_apart(a: Square, b: Square) -> u8
-    ensures { result ≡ steps.ranks_apart a b }
-{
-    rank(a).abs_diff(rank(b))
 }
 
 fn is_king_step(a: Square, b: Square) -> bool
@@ -151,7 +138,7 @@ pub fn is_open(men: &[Man; 64], a: Square, b: Square) -> bool
 pub fn is_taken(men: &[Man; 64], square: Square) -> bool
     ensures { result ≡ attack.is_taken men.now square }
 {
-    !is_same(men[usize::from(square.number())], Man::Empty)
+    !stands(men, square, Man::Empty)
 }
 
 // The squares that the man attacks from a square.

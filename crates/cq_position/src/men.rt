@@ -118,3 +118,13 @@ pub fn king_of(side: Side) -> Man
         Side::Black => Man::BlackK,
     }
 }
+
+/// The man that is a rook of a side.
+pub fn rook_of(side: Side) -> Man
+    ensures { result ≡ men_spec.rook_of side }
+{
+    match side {
+        Side::White => Man::R,
+        Side::Black => Man::BlackR,
+    }
+}

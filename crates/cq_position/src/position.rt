@@ -163,6 +163,13 @@ impl Position {
     }
 }
 
+/// Whether a square of the board holds a man, or nothing where `Empty` is asked. `men` has the men of the squares a1, b1, .. h8.
+pub fn stands(men: &[Man; 64], square: Square, man: Man) -> bool
+    ensures { result ≡ board.stands men.now square man }
+{
+    is_same(men[usize::from(square.number())], man)
+}
+
 /// How many squares hold a man, or nothing where `Empty` is asked, from 0 to 64.
 pub fn material(position: &Position, man: Man) -> u32
     ensures { result ≡ count_of man position.now.men }

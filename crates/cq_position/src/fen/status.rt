@@ -8,8 +8,9 @@ ghost use Rattle.cq_position.specs.Board as board;
 ghost use Rattle.cq_position.specs.Reading.{SomeIfTrue};
 
 use crate::fen::bytes::{DASH, right_letter, side_letter};
-use crate::men::{Man, Side, is_same};
-use crate::position::Rights;
+use crate::home::{king_home, rook_home};
+use crate::men::{Man, Side, is_same, king_of, rook_of};
+use crate::position::{Rights, stands};
 use cq_geometry::{Square, rank, square_at};
 
 /// The side to move, which `w` or `b` names (PGN standard, section 16.1.3.2); None for any other text.
@@ -77,17 +78,8 @@ fn has_letter(text: &[u8], letter: u8) -> bool
 fn are_home(men: &[Man; 64], side: Side, kingside: bool) -> bool
     ensures { result ≡ board.are_home men.now side kingside }
 {
-    let (king, king_home, rook) = match side {
-        Side::White => (Man::K, 4, Man::R),
-        Side::Black => (Man::BlackK, 60, Man::BlackR),
-    };
-    let rook_home = match (side, kingside) {
-        (Side::White, true) => 7,
-        (Side::White, false) => 0,
-        (Side::Black, true) => 63,
-        (Side::Black, false) => 56,
-    };
-    is_same(men[king_home], king) && is_same(men[rook_home], rook)
+    stands(men, king_home(side), king_of(side))
+        && stands(men, rook_home(side, kingside), rook_of(side))
 }
 
 fn is_byte_alone(text: &[u8], byte: u8) -> bool
