@@ -11,8 +11,8 @@ use cq_position::{Man, Move, Position, Promotion, Side, is_same, king_of, rook_o
 
 /// The men on the squares a1, b1, .. h8 after a move of the side to move.
 ///
-/// Castling takes the rook along, a capture on the en passant square takes away the pawn that has passed it, and a promotion puts the new man
-/// on the goal. The move is not judged: the mover's king may be left in check.
+/// Castling takes the rook along, a capture on the en passant square takes away the pawn that has passed it, and a promotion puts the
+/// new man on the goal. The move is not judged: the mover's king may be left in check.
 pub fn men_after(position: &Position, m: &Move) -> [Man; 64]
     ensures { result ≡ legal.men_after position.now m.now }
 {

@@ -13,9 +13,9 @@ use cq_position::{Move, Position, Rights, Side, is_same, king_of, opponent};
 
 /// The position after a legal move.
 ///
-/// Castling, a capture on the en passant square and promotion are as `men_after` has them. A king's move ends both rights of its side, and a
-/// move from or to a rook's home square the right with that rook. A pawn's double step leaves the en passant square behind it, any other move
-/// none. The number rises after Black's move, up to 4,294,967,295, where it stays.
+/// Castling, a capture on the en passant square and promotion are as `men_after` has them. A king's move ends both rights of its side,
+/// and a move from or to a rook's home square the right with that rook. A pawn's double step leaves the en passant square behind it,
+/// any other move none. The number rises after Black's move, up to 4,294,967,295, where it stays.
 #[tactic(auto, using(crate::proofs::Kept::made_is_position, crate::proofs::Kept::made_is_legal))]
 pub fn play(position: &Position, m: Move) -> Position
     requires { (q : Board) × Legal position.now m q }

@@ -20,8 +20,8 @@ use status::{
 };
 pub use writing::fen_text;
 
-/// Why a text is no position: its form (PGN standard, section 16.1.3), or a position that no game has. Where several faults apply, the first
-/// in this order is answered.
+/// Why a text is no position: its form (PGN standard, section 16.1.3), or a position that no game has. Where several faults apply, the
+/// first in this order is answered.
 #[derive(Clone, Copy, Debug, PartialEq, Eq, Error)]
 pub enum FenFault {
     #[error("not six fields, nor four")]
@@ -48,9 +48,9 @@ pub enum FenFault {
 
 /// Reads a position from the text of its FEN (PGN standard, section 16.1), or answers the first fault that applies.
 ///
-/// Fields are separated by spaces, which may also stand before and behind them. A text of four fields is read as with `0 1` behind them.
-/// The halfmove clock is not kept, and the move number 0 is read as 1. A right to castle counts only with king and rook at home, and an en
-/// passant square only where the opponent's pawn can just have passed it.
+/// Fields are separated by spaces, which may also stand before and behind them. A text of four fields is read as with `0 1` behind
+/// them. The halfmove clock is not kept, and the move number 0 is read as 1. A right to castle counts only with king and rook at home,
+/// and an en passant square only where the opponent's pawn can just have passed it.
 #[tactic(auto, unfolding(crate::specs::Fen::fen_meaning, crate::specs::Fen::position_or_fault))]
 pub fn read_fen(text: &[u8]) -> Result<Position, FenFault>
     ensures { result ≡ fen_meaning text.now }

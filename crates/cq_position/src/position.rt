@@ -24,9 +24,9 @@ pub struct Rights {
 
 /// A position: contracts see its board.
 ///
-/// It has one king of each side, no pawn on the first and the last rank and at most sixteen men of a side. A right to castle stands only
-/// with king and rook at home, and an en passant square only where the opponent's pawn can just have passed it. The side that is not to move
-/// is not in check. The number of the move is at least 1.
+/// It has one king of each side, no pawn on the first and the last rank and at most sixteen men of a side. A right to castle stands
+/// only with king and rook at home, and an en passant square only where the opponent's pawn can just have passed it. The side that is
+/// not to move is not in check. The number of the move is at least 1.
 #[derive(Clone, Copy, Debug, PartialEq, Eq)]
 pub struct Position {
     number: u32,

@@ -9,9 +9,9 @@ use crate::fen::bytes::SLASH;
 use crate::fen::fields::place_of;
 use crate::men::{Man, man_of_letter};
 
-/// The men of the squares a1, b1, .. h8 from the text of eight ranks, from the eighth down with a slash between two (PGN standard, section
-/// 16.1.3.1); None where there are more or fewer ranks, a byte is neither a digit from 1 to 8 nor a man's letter, or a rank has not
-/// eight squares.
+/// The men of the squares a1, b1, .. h8 from the text of eight ranks, from the eighth down with a slash between two (PGN standard,
+/// section 16.1.3.1); None where there are more or fewer ranks, a byte is neither a digit from 1 to 8 nor a man's letter, or a rank has
+/// not eight squares.
 pub fn read_placement(text: &[u8]) -> Option<[Man; 64]>
     ensures { SomeIfTrue result (is_placement text.now) (placed_men text.now) }
 {

@@ -13,8 +13,8 @@ use cq_geometry::{Square, file, rank};
 use cq_outside::{Bytes, NoMemory};
 use std::alloc::Global;
 
-/// The FEN text of a position: six fields, the halfmove clock 0, the rights in the order `KQkq`, and the en passant square that the position
-/// keeps.
+/// The FEN text of a position: six fields, the halfmove clock 0, the rights in the order `KQkq`, and the en passant square that the
+/// position keeps.
 #[tactic(auto, using(crate::proofs::RoundTrip::reads_back))]
 pub fn fen_text(alloc: Global, position: &Position) -> Result<Bytes, NoMemory>
     ensures text { IfOk result (λ text. text ≡ fen_text.fen_of position.now) }
