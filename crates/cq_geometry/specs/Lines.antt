@@ -39,11 +39,11 @@ unfoldable pub between_squares : ℕ → ℕ → List ℕ
 between_squares a b =
     filter (lies_between a b) (if nat_lt a b then squares else reverse squares)
 
--- two squares are on one file or rank, as a rook's goal and its own
+-- two squares are on one file or rank, as a rook's goal and its own (FIDE Laws of Chess, article 3.3)
 abbrev pub is_orthogonal : ℕ → ℕ → Bool
 is_orthogonal a b = not (a == b) && (file_of a == file_of b || rank_of a == rank_of b)
 
--- two squares are on one diagonal, as a bishop's goal and its own
+-- two squares are on one diagonal, as a bishop's goal and its own (article 3.2)
 abbrev pub is_diagonal : ℕ → ℕ → Bool
 is_diagonal a b = not (a == b) && (rising_of a == rising_of b || falling_of a == falling_of b)
 
