@@ -13,7 +13,7 @@ use Rattle.cq_position.specs.Men.{same_man, is_of_side, opponent, king_of, rook_
 use Rattle.cq_position.specs.Board.{Board, man_at, stands, count_of, count_of_side, is_pawn, castling_right, king_home, rook_home, are_home, has_kings, has_too_many_men, rights_stand, passant_stands, was_passed}
 use Rattle.cq_position.specs.Position.{IsPosition}
 use Rattle.cq_position.specs.Attacks.{in_check}
-use Rattle.cq_position.specs.Legal.{Legal, can_move, after, after_pass, men_moved, men_after, promoted, rook_moved, castling_crossed, keeps_right, rights_after, passant_after, middle, raised, number_after}
+use Rattle.cq_position.specs.Legal.{Legal, is_pseudo_legal, after, after_pass, men_moved, men_after, promoted, rook_moved, castling_crossed, keeps_right, rights_after, passant_after, middle, raised, number_after}
 use Rattle.cq_moves.proofs.Boards.{stands-is, stands_there, man_at-set_other, length-set_man, counted, count-set, EdgeFree, EdgeFree-from, EdgeFree-gives, EdgeFree-set}
 use Rattle.cq_moves.proofs.Steps.{Goes, goes, apart, it_lands}
 use Rattle.cq_moves.proofs.Castled.{castling_squares, other_home}
@@ -77,8 +77,8 @@ rook_count t men side kingside w none rook crossed =
     let first = count-set t men home Empty (omega (arith, s.rook_board)) in
     let second = count-set t left over (rook_of side) (omega (arith, s.crossed_board, length-set_man men home Empty w)) in
     let there = ap (λ x. counted (t x)) (man_at-set_other men home over Empty s.crossed_rook ∙ crossed) in
-    let taken = ap (λ x. counted (t x)) rook in
-    omega (arith, first, second, there, taken)
+    let away = ap (λ x. counted (t x)) rook in
+    omega (arith, first, second, there, away)
 
 no_man : (s : Side) → is_of_side s Empty ≡ false
 no_man White = refl
@@ -309,7 +309,7 @@ opponent_back : (side : Side) → opponent (opponent side) ≡ side
 opponent_back White = refl
 opponent_back Black = refl
 
-pub after_is_position : (p : Board) (m : Move) → IsPosition p → can_move p m ≡ true → in_check (men_after p m) p.side ≡ false → IsPosition (after p m)
+pub after_is_position : (p : Board) (m : Move) → IsPosition p → is_pseudo_legal p m ≡ true → in_check (men_after p m) p.side ≡ false → IsPosition (after p m)
 unfolding after
 after_is_position p m i can safe =
     let g = goes p m i.whole can in

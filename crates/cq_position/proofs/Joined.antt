@@ -1,5 +1,5 @@
 -- Texts joined by a byte come apart again.
-use Rattle.std.proofs.Common.{◌≡◌, ℕ, Bool, true, false, not, ◌&&◌, eqb, List, [], ◌∷◌, ◌++◌, refl, sym, ap, ◌∙◌, arith}
+use Rattle.std.proofs.Common.{◌≡◌, ℕ, Bool, true, false, not, ◌&&◌, eqb, ◌≤◌, length, List, [], ◌∷◌, ◌++◌, refl, sym, ap, ◌∙◌, arith}
 use Rattle.std.specs.List.{list_all, filter, join_with_byte}
 use Rattle.std.proofs.lemmas.List.Folds.{list_all-append}
 use Rattle.std.proofs.lemmas.List.Splits.{slice_split_none, slice_split_at}
@@ -59,3 +59,8 @@ fields_join x xs e f = ap (filter is_not_empty) (parts_join 32 x xs e) ∙ filte
 pub is_not_empty-append : (xs : List ℕ) (y : ℕ) (ys : List ℕ) → is_not_empty (xs ++ y ∷ ys) ≡ true
 is_not_empty-append [] y ys = refl
 is_not_empty-append (x ∷ xs) y ys = refl
+
+-- a test of a text that has some bytes
+pub some_letters : (t : Bool) (text : List ℕ) → 1 ≤ length text → (is_not_empty text && t) ≡ t
+some_letters t [] some = absurd (omega arith)
+some_letters t (x ∷ xs) some = refl

@@ -69,14 +69,14 @@ is_side text = is_byte_alone (side_letter White) text || is_byte_alone (side_let
 abbrev pub side_named : List ℕ → Side
 side_named text = if is_byte_alone (side_letter White) text then White else Black
 
--- Castling availability (16.1.3.3): a dash, or letters of KQkq.
+-- Castling availability (16.1.3.3): a dash, or one or more letters of KQkq.
 abbrev pub is_castling_letter : ℕ → Bool
 is_castling_letter byte =
     (byte == right_letter White true) || (byte == right_letter White false)
     || (byte == right_letter Black true) || (byte == right_letter Black false)
 
 abbrev pub is_castling_field : List ℕ → Bool
-is_castling_field text = is_byte_alone dash text || list_all is_castling_letter text
+is_castling_field text = is_byte_alone dash text || (is_not_empty text && list_all is_castling_letter text)
 
 abbrev pub has_letter : ℕ → List ℕ → Bool
 has_letter letter text = list_any (λ byte. byte == letter) text

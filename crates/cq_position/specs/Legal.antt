@@ -14,7 +14,7 @@ use Rattle.cq_position.specs.declared.moves.Move.{Move}
 use Rattle.cq_position.specs.declared.position.Rights.{Rights}
 use Rattle.cq_position.specs.Men.{is_of_side, opponent, king_of, rook_of}
 use Rattle.cq_position.specs.Board.{Board, man_at, stands, castling_right, king_home, rook_home, is_pawn}
-use Rattle.cq_position.specs.Attacks.{is_goal, is_taken, is_pawn_attack, attacks, is_attacked, in_check}
+use Rattle.cq_position.specs.Attacks.{is_goal, is_occupied, is_pawn_attack, attacks, is_attacked, in_check}
 use Rattle.cq_position.specs.Moves.{null_move}
 
 -- no promotion
@@ -35,9 +35,9 @@ abbrev pub promotes_rightly : Side → Move → Bool
 promotes_rightly side m = if rank_of m.to == last_rank side then not (is_none m.promotion) else is_none m.promotion
 
 -- one rank forward on the same file (article 3.7.1)
-abbrev pub is_ahead : Side → ℕ → ℕ → Bool
-is_ahead White a b = b == a + 8
-is_ahead Black a b = a == b + 8
+abbrev pub is_single_step : Side → ℕ → ℕ → Bool
+is_single_step White a b = b == a + 8
+is_single_step Black a b = a == b + 8
 
 -- two ranks forward from the pawns' home rank (article 3.7.2)
 abbrev pub is_double_step : Side → ℕ → ℕ → Bool
@@ -52,8 +52,8 @@ middle a b = (a + b) / 2
 -- (3.7.3), and on the en passant square the pawn that has just passed it.
 abbrev pub pawn_moves : Board → ℕ → ℕ → Bool
 pawn_moves p a b =
-    (is_ahead p.side a b && not (is_taken p.men b))
-    || (is_double_step p.side a b && not (is_taken p.men (middle a b)) && not (is_taken p.men b))
+    (is_single_step p.side a b && not (is_occupied p.men b))
+    || (is_double_step p.side a b && not (is_occupied p.men (middle a b)) && not (is_occupied p.men b))
     || (is_pawn_attack p.side a b && (is_of_side (opponent p.side) (man_at p.men b) || is_goal p.passant b))
 
 -- the square to which the king castles, and the one that it crosses, to which the rook goes (article 3.8.2)
@@ -70,7 +70,7 @@ castling_crossed side false = king_home side - 1
 abbrev pub castles : Board → ℕ → ℕ → Bool → Bool
 castles p a b kingside =
     (a == king_home p.side) && (b == castling_goal p.side kingside) && castling_right p.rights p.side kingside
-    && is_open (is_taken p.men) (king_home p.side) (rook_home p.side kingside)
+    && is_open (is_occupied p.men) (king_home p.side) (rook_home p.side kingside)
     && list_all (λ square. not (is_attacked p.men (opponent p.side) square)) (a ∷ castling_crossed p.side kingside ∷ b ∷ [])
 
 -- how each man moves: all but the pawn to what they attack (articles 3.2 to 3.6 and 3.8.1), and the king by castling too
@@ -84,10 +84,10 @@ moves_as BlackP p m = pawn_moves p m.from m.to && promotes_rightly p.side m
 moves_as Empty p m = false
 moves_as _ p m = attacks p.men m.from m.to && is_none m.promotion
 
--- A man of the side to move moves as it does, to a square of the board without a man of its own side (article 3.1), and captures no king
--- (1.4.1).
-unfoldable pub can_move : Board → Move → Bool
-can_move p m =
+-- A pseudo-legal move: a man of the side to move moves as it does, to a square of the board without a man of its own side (article 3.1),
+-- and captures no king (1.4.1). Whether its own king is attacked then is asked elsewhere.
+unfoldable pub is_pseudo_legal : Board → Move → Bool
+is_pseudo_legal p m =
     not m.null && nat_lt m.to 64 && is_of_side p.side (man_at p.men m.from) && not (is_of_side p.side (man_at p.men m.to))
     && not (stands p.men m.to (king_of (opponent p.side))) && moves_as (man_at p.men m.from) p m
 
@@ -165,7 +165,7 @@ after p m = record {
 
 -- A legal move leads to a position (article 3.10.1): the man can move so, and its own king isn't attacked then (3.9.2).
 pub record Legal (p : Board) (m : Move) (q : Board) : Type 0 where
-  pub moves : can_move p m ≡ true
+  pub moves : is_pseudo_legal p m ≡ true
   pub leads : q ≡ after p m
   pub safe : in_check q.men p.side ≡ false
 

@@ -8,5 +8,5 @@ pub mod FenBytes
 pub mod Fen
 pub mod Reading
 pub mod Legal
-pub mod Marks
+pub mod Bitboards
 pub mod FenText

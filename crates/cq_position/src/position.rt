@@ -125,7 +125,7 @@ impl Position {
         self.side
     }
 
-    /// The en passant square that the position keeps: the one that the opponent's pawn has just passed by a double step.
+    /// The en passant square that the position keeps: one that the opponent's pawn can just have passed by a double step.
     pub fn passant(&self) -> Option<Square>
         ensures square { result ≡ self.now.passant }
         ensures kept { IsPosition self.now }

@@ -1,5 +1,5 @@
 //! The fields of a FEN text behind its men.
-ghost use Rattle.std.specs.Prelude.{◌≡◌, ◌-◌, true};
+ghost use Rattle.std.specs.Prelude.{◌≡◌, ◌-◌, ◌&&◌, true};
 ghost use Rattle.std.specs.List.{list_all};
 ghost use Rattle.cq_position.specs.Fen.{is_side, side_named, is_number, value_of_digits};
 ghost use Rattle.cq_position.specs.Fen as fen;
@@ -26,14 +26,24 @@ pub fn read_side(text: &[u8]) -> Option<Side>
     }
 }
 
-/// Whether the text is a dash or letters of `KQkq` (PGN standard, section 16.1.3.3).
+/// Whether the text is a dash, or one or more letters of `KQkq` (PGN standard, section 16.1.3.3).
 pub fn is_castling_field(text: &[u8]) -> bool
     ensures { result ≡ fen.is_castling_field text.now }
 {
     is_byte_alone(text, DASH) || names_rights(text)
 }
 
+#[tactic(auto, using(crate::proofs::Joined::some_letters))]
 fn names_rights(text: &[u8]) -> bool
+    ensures { result ≡ (fen.is_not_empty text.now && list_all fen.is_castling_letter text.now) }
+{
+    match text {
+        [] => false,
+        [_, ..] => are_castling_letters(text),
+    }
+}
+
+fn are_castling_letters(text: &[u8]) -> bool
     ensures { result ≡ list_all fen.is_castling_letter text.now }
 {
     text.iter().all(|b| is_castling_letter(*b))
