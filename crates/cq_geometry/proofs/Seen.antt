@@ -1,4 +1,4 @@
--- What is seen along the rays is what is on a line with no square taken between.
+-- What is seen along the rays is what is on a line with no square occupied between.
 use Rattle.std.proofs.Common.{◌≡◌, ℕ, suc, ◌<◌, Bool, true, false, not, cond, ◌&&◌, ◌||◌, ◌==◌, List, [], ◌∷◌, ◌++◌, length, get_or, take, append_assoc, refl, inl, inr, sym, ap, ap₂, ◌∙◌, arith}
 use Rattle.std.specs.List.{list_all, list_any}
 use Rattle.std.proofs.lemmas.Bool.{cases_Bool, eqb-true}
@@ -15,7 +15,7 @@ record Lists (before : ℕ → List ℕ) (front xs : List ℕ) : Type 0 where
   at : (k d : ℕ) → k < length xs → before (get_or xs k d) ≡ front ++ take k xs
 
 abbrev all_free : (ℕ → Bool) → List ℕ → Bool
-all_free taken xs = list_all (λ q. not (taken q)) xs
+all_free occupied xs = list_all (λ q. not (occupied q)) xs
 
 abbrev has : ℕ → List ℕ → Bool
 has b xs = list_any (λ q. q == b) xs
@@ -37,49 +37,49 @@ and_over_or true t true = refl
 and_over_or true t false = and_false t
 and_over_or false t u = refl
 
-shut_by : (taken : ℕ → Bool) (front : List ℕ) (x : ℕ) (t : Bool) → all_free taken front ≡ t
-    → all_free taken (front ++ x ∷ []) ≡ (t && (not (taken x) && true))
-shut_by taken front x t e =
-    list_all-append (λ q. not (taken q)) front (x ∷ []) ∙ ap (λ u. u && (not (taken x) && true)) e
+shut_by : (occupied : ℕ → Bool) (front : List ℕ) (x : ℕ) (t : Bool) → all_free occupied front ≡ t
+    → all_free occupied (front ++ x ∷ []) ≡ (t && (not (occupied x) && true))
+shut_by occupied front x t e =
+    list_all-append (λ q. not (occupied q)) front (x ∷ []) ∙ ap (λ u. u && (not (occupied x) && true)) e
 
--- behind a taken square nothing has a free way
-blocked : (taken : ℕ → Bool) (before : ℕ → List ℕ) (b : ℕ) (front xs : List ℕ)
-    → Lists before front xs → all_free taken front ≡ false → (has b xs && all_free taken (before b)) ≡ false
-blocked taken before b front [] h shut = refl
-blocked taken before b front (x ∷ xs) h shut =
+-- behind an occupied square nothing has a free way
+blocked : (occupied : ℕ → Bool) (before : ℕ → List ℕ) (b : ℕ) (front xs : List ℕ)
+    → Lists before front xs → all_free occupied front ≡ false → (has b xs && all_free occupied (before b)) ≡ false
+blocked occupied before b front [] h shut = refl
+blocked occupied before b front (x ∷ xs) h shut =
     elim (cases_Bool (x == b)) [
       | inl e ↦
           let way = ap before (sym (eqb-true x b e)) ∙ first_before before front x xs h in
-          ap (λ t. has b (x ∷ xs) && t) (ap (all_free taken) way ∙ shut) ∙ and_false (has b (x ∷ xs))
+          ap (λ t. has b (x ∷ xs) && t) (ap (all_free occupied) way ∙ shut) ∙ and_false (has b (x ∷ xs))
       | inr e ↦
-          ap (λ t. (t || has b xs) && all_free taken (before b)) e
-          ∙ blocked taken before b (front ++ x ∷ []) xs (rest_before before front x xs h) (shut_by taken front x false shut)
+          ap (λ t. (t || has b xs) && all_free occupied (before b)) e
+          ∙ blocked occupied before b (front ++ x ∷ []) xs (rest_before before front x xs h) (shut_by occupied front x false shut)
     ]
 
 -- what is seen along a list is what has a free way
-reached : (taken : ℕ → Bool) (before : ℕ → List ℕ) (b : ℕ) (front xs : List ℕ)
-    → Lists before front xs → all_free taken front ≡ true → has b (seen taken xs) ≡ (has b xs && all_free taken (before b))
-reached taken before b front [] h free = refl
-reached taken before b front (x ∷ xs) h free =
-    let rest = cond (taken x) [] (seen taken xs) in
+reached : (occupied : ℕ → Bool) (before : ℕ → List ℕ) (b : ℕ) (front xs : List ℕ)
+    → Lists before front xs → all_free occupied front ≡ true → has b (seen occupied xs) ≡ (has b xs && all_free occupied (before b))
+reached occupied before b front [] h free = refl
+reached occupied before b front (x ∷ xs) h free =
+    let rest = cond (occupied x) [] (seen occupied xs) in
     let more = rest_before before front x xs h in
     elim (cases_Bool (x == b)) [
       | inl e ↦
           let way = ap before (sym (eqb-true x b e)) ∙ first_before before front x xs h in
-          ap (λ t. t || has b rest) e ∙ sym (ap₂ (λ t u. (t || has b xs) && u) e (ap (all_free taken) way ∙ free))
+          ap (λ t. t || has b rest) e ∙ sym (ap₂ (λ t u. (t || has b xs) && u) e (ap (all_free occupied) way ∙ free))
       | inr e ↦
           ap (λ t. t || has b rest) e
-          ∙ elim (cases_Bool (taken x)) [
+          ∙ elim (cases_Bool (occupied x)) [
             | inl f ↦
-                let shut = shut_by taken front x true free ∙ ap (λ t. not t && true) f in
-                ap (λ t. has b (cond t [] (seen taken xs))) f
-                ∙ sym (blocked taken before b (front ++ x ∷ []) xs more shut)
+                let shut = shut_by occupied front x true free ∙ ap (λ t. not t && true) f in
+                ap (λ t. has b (cond t [] (seen occupied xs))) f
+                ∙ sym (blocked occupied before b (front ++ x ∷ []) xs more shut)
             | inr f ↦
-                let open_ = shut_by taken front x true free ∙ ap (λ t. not t && true) f in
-                ap (λ t. has b (cond t [] (seen taken xs))) f
-                ∙ reached taken before b (front ++ x ∷ []) xs more open_
+                let open_ = shut_by occupied front x true free ∙ ap (λ t. not t && true) f in
+                ap (λ t. has b (cond t [] (seen occupied xs))) f
+                ∙ reached occupied before b (front ++ x ∷ []) xs more open_
           ]
-          ∙ sym (ap (λ t. (t || has b xs) && all_free taken (before b)) e)
+          ∙ sym (ap (λ t. (t || has b xs) && all_free occupied (before b)) e)
     ]
 
 any_same : {X : Type 0} (p q : X → Bool) → ((x : X) → p x ≡ q x) → (xs : List X) → list_any p xs ≡ list_any q xs
@@ -93,22 +93,22 @@ any_and p t (x ∷ xs) = ap (λ u. p x && t || u) (any_and p t xs) ∙ and_over_
 lists_ray : (c : Compass) (a : ℕ) → a < 64 → Lists (between_squares a) [] (ray_from (files_of c) (ranks_of c) a)
 lists_ray c a h = record { at = λ k d below. between_on_ray (files_of c) (ranks_of c) a k d (is_direction c) h below }
 
-sees_is : (directions : List Compass) (taken : ℕ → Bool) (a b : ℕ) → a < 64
-    → sees directions taken a b ≡ (on_rays directions a b && is_open taken a b)
-sees_is directions taken a b h =
+sees_is : (directions : List Compass) (occupied : ℕ → Bool) (a b : ℕ) → a < 64
+    → sees directions occupied a b ≡ (on_rays directions a b && is_open occupied a b)
+sees_is directions occupied a b h =
     let ray = λ (c : Compass). ray_from (files_of c) (ranks_of c) a in
-    let along = λ (c : Compass). reached taken (between_squares a) b [] (ray c) (lists_ray c a h) refl in
-    any_same (λ c. has b (seen taken (ray c))) (λ c. has b (ray c) && is_open taken a b) along directions
-    ∙ any_and (λ c. has b (ray c)) (is_open taken a b) directions
+    let along = λ (c : Compass). reached occupied (between_squares a) b [] (ray c) (lists_ray c a h) refl in
+    any_same (λ c. has b (seen occupied (ray c))) (λ c. has b (ray c) && is_open occupied a b) along directions
+    ∙ any_and (λ c. has b (ray c)) (is_open occupied a b) directions
 
 -- a rook sees the squares of its file and its rank to which the way is free
-pub sees_orthogonals : (taken : ℕ → Bool) (a b : ℕ) → a < 64 → b < 64
-    → sees orthogonals taken a b ≡ (is_orthogonal a b && is_open taken a b)
-sees_orthogonals taken a b h k =
-    sees_is orthogonals taken a b h ∙ ap (λ t. t && is_open taken a b) (orthogonal_rays a b h k)
+pub sees_orthogonals : (occupied : ℕ → Bool) (a b : ℕ) → a < 64 → b < 64
+    → sees orthogonals occupied a b ≡ (is_orthogonal a b && is_open occupied a b)
+sees_orthogonals occupied a b h k =
+    sees_is orthogonals occupied a b h ∙ ap (λ t. t && is_open occupied a b) (orthogonal_rays a b h k)
 
 -- a bishop sees the squares of its diagonals to which the way is free
-pub sees_diagonals : (taken : ℕ → Bool) (a b : ℕ) → a < 64 → b < 64
-    → sees diagonals taken a b ≡ (is_diagonal a b && is_open taken a b)
-sees_diagonals taken a b h k =
-    sees_is diagonals taken a b h ∙ ap (λ t. t && is_open taken a b) (diagonal_rays a b h k)
+pub sees_diagonals : (occupied : ℕ → Bool) (a b : ℕ) → a < 64 → b < 64
+    → sees diagonals occupied a b ≡ (is_diagonal a b && is_open occupied a b)
+sees_diagonals occupied a b h k =
+    sees_is diagonals occupied a b h ∙ ap (λ t. t && is_open occupied a b) (diagonal_rays a b h k)

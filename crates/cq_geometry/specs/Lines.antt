@@ -39,11 +39,11 @@ unfoldable pub between_squares : ℕ → ℕ → List ℕ
 between_squares a b =
     filter (lies_between a b) (if nat_lt a b then squares else reverse squares)
 
--- two squares are on one file or rank, as a rook's goal and its own
+-- two squares are on one file or rank, as a rook's goal and its own (FIDE Laws of Chess, article 3.3)
 abbrev pub is_orthogonal : ℕ → ℕ → Bool
 is_orthogonal a b = not (a == b) && (file_of a == file_of b || rank_of a == rank_of b)
 
--- two squares are on one diagonal, as a bishop's goal and its own
+-- two squares are on one diagonal, as a bishop's goal and its own (article 3.2)
 abbrev pub is_diagonal : ℕ → ℕ → Bool
 is_diagonal a b = not (a == b) && (rising_of a == rising_of b || falling_of a == falling_of b)
 
@@ -60,16 +60,16 @@ abbrev pub on_rays : List Compass → ℕ → ℕ → Bool
 on_rays directions a b =
     list_any (λ c. list_any (λ square. square == b) (ray_from (files_of c) (ranks_of c) a)) directions
 
--- no square between two squares is taken
+-- no square between two squares is occupied
 abbrev pub is_open : (ℕ → Bool) → ℕ → ℕ → Bool
-is_open taken a b = list_all (λ square. not (taken square)) (between_squares a b)
+is_open occupied a b = list_all (λ square. not (occupied square)) (between_squares a b)
 
--- the squares up to and with the first that is taken
+-- the squares up to and with the first that is occupied
 abbrev pub seen : (ℕ → Bool) → List ℕ → List ℕ
-seen taken [] = []
-seen taken (square ∷ rest) = square ∷ (if taken square then [] else seen taken rest)
+seen occupied [] = []
+seen occupied (square ∷ rest) = square ∷ (if occupied square then [] else seen occupied rest)
 
 -- a square is seen along one of the rays from another
 abbrev pub sees : List Compass → (ℕ → Bool) → ℕ → ℕ → Bool
-sees directions taken a b =
-    list_any (λ c. list_any (λ square. square == b) (seen taken (ray_from (files_of c) (ranks_of c) a))) directions
+sees directions occupied a b =
+    list_any (λ c. list_any (λ square. square == b) (seen occupied (ray_from (files_of c) (ranks_of c) a))) directions

@@ -14,7 +14,7 @@ rank_of square = square / 8
 abbrev pub square_of : ℕ → ℕ → ℕ
 square_of file rank = 8 * rank + file
 
--- a square is light where its file plus its rank is odd: a1 is dark
+-- a square is light where its file plus its rank is odd: h1 is light, a1 is dark (FIDE Laws of Chess, article 2.1)
 abbrev pub IsLight : ℕ → Type 0
 IsLight square = (file_of square + rank_of square) % 2 ≡ 1
 

@@ -30,7 +30,7 @@ unfoldable pub ray_from : ℤ → ℤ → ℕ → List ℕ
 ray_from files ranks square =
     filter_map (steps_away files ranks square) (1 ∷ 2 ∷ 3 ∷ 4 ∷ 5 ∷ 6 ∷ 7 ∷ [])
 
--- how far apart two numbers are
+-- how far apart two numbers are, the files of two squares, and their ranks
 abbrev pub apart : ℕ → ℕ → ℕ
 apart m n = (m - n) + (n - m)
 
@@ -44,11 +44,11 @@ ranks_apart a b = apart (rank_of a) (rank_of b)
 abbrev pub distance : ℕ → ℕ → ℕ
 distance a b = max (files_apart a b) (ranks_apart a b)
 
--- a king steps to an adjoining square
+-- a king steps to an adjoining square (FIDE Laws of Chess, article 3.8.1)
 abbrev pub is_king_step : ℕ → ℕ → Bool
 is_king_step a b = distance a b == 1
 
--- a knight steps two one way and one across: to the nearest squares that are not on its rank, file or diagonal
+-- a knight steps two one way and one across: to the nearest squares that are not on its rank, file or diagonal (article 3.6)
 abbrev pub is_knight_step : ℕ → ℕ → Bool
 is_knight_step a b =
     files_apart a b == 1 && ranks_apart a b == 2 || files_apart a b == 2 && ranks_apart a b == 1

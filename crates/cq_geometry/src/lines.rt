@@ -6,7 +6,7 @@ ghost use Rattle.cq_geometry.specs.Lines.{between_squares};
 ghost use Rattle.cq_geometry.specs.Steps.{IsDirection, distance as king_distance, ray_from};
 
 use crate::compass::{Compass, toward};
-use crate::square::{Square, file, rank};
+use crate::square::{Square, file, files_apart, rank, ranks_apart};
 use crate::steps::Step;
 use arrayvec::ArrayVec;
 use std::cmp::Ordering;
@@ -58,7 +58,7 @@ fn distance(a: Square, b: Square) -> u32
     ensures value { result ≡ king_distance a b }
     ensures bound { result ≤ 7 }
 {
-    u32::from(file(a).abs_diff(file(b)).max(rank(a).abs_diff(rank(b))))
+    u32::from(files_apart(a, b).max(ranks_apart(a, b)))
 }
 
 /// The direction from `a` to `b`, or None where they are not on one rank, file or diagonal, or are the same.
@@ -66,7 +66,7 @@ fn distance(a: Square, b: Square) -> u32
 fn direction(a: Square, b: Square) -> Option<Compass>
     ensures { result ≡ direction_to a b }
 {
-    let diagonal = file(a).abs_diff(file(b)) == rank(a).abs_diff(rank(b));
+    let diagonal = files_apart(a, b) == ranks_apart(a, b);
     match (file(a).cmp(&file(b)), rank(a).cmp(&rank(b))) {
         (Ordering::Equal, Ordering::Less) => Some(Compass::Up),
         (Ordering::Equal, Ordering::Greater) => Some(Compass::Down),

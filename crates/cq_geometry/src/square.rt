@@ -1,6 +1,7 @@
 //! A square of the board.
 ghost use Rattle.std.specs.Prelude.{◌≡◌, ◌<◌, ◌↔◌, IsTrue};
 ghost use Rattle.cq_geometry.specs.Squares.{file_of, rank_of, square_of, IsLight};
+ghost use Rattle.cq_geometry.specs.Steps as squares_apart;
 
 use std::marker::Model;
 
@@ -77,7 +78,23 @@ pub fn rank(s: Square) -> u8
     s.index / 8
 }
 
-/// Whether the square is light.
+/// How many files lie from one square to another, from 0 to 7.
+pub fn files_apart(a: Square, b: Square) -> u8
+    ensures value { result ≡ squares_apart.files_apart a b }
+    ensures below { result < 8 }
+{
+    file(a).abs_diff(file(b))
+}
+
+/// How many ranks lie from one square to another, from 0 to 7.
+pub fn ranks_apart(a: Square, b: Square) -> u8
+    ensures value { result ≡ squares_apart.ranks_apart a b }
+    ensures below { result < 8 }
+{
+    rank(a).abs_diff(rank(b))
+}
+
+/// Whether the square is light, as h1 is (FIDE Laws of Chess, article 2.1).
 pub fn is_light(s: Square) -> bool
     ensures { IsTrue result ↔ IsLight s }
 {

@@ -45,7 +45,7 @@ macro_rules! goals {
     };
 }
 
-/// The squares that adjoin a square, in the order of their numbers.
+/// The squares that adjoin a square, to which a king steps (FIDE Laws of Chess, article 3.8.1), in the order of their numbers.
 #[tactic(auto, using(crate::proofs::Neighbors::king_goals_kept, crate::proofs::Neighbors::king_board))]
 pub fn king_steps(s: Square) -> ArrayVec<Square, 8>
     ensures squares { result.items ≡ king_squares s }
@@ -54,7 +54,7 @@ pub fn king_steps(s: Square) -> ArrayVec<Square, 8>
     kept(king(s))
 }
 
-/// The squares that a knight reaches from a square, in the order of their numbers.
+/// The squares that a knight reaches from a square (FIDE Laws of Chess, article 3.6), in the order of their numbers.
 #[tactic(auto, using(crate::proofs::Neighbors::knight_goals_kept, crate::proofs::Neighbors::knight_board))]
 pub fn knight_steps(s: Square) -> ArrayVec<Square, 8>
     ensures squares { result.items ≡ knight_squares s }

@@ -13,7 +13,7 @@ use Rattle.cq_position.specs.declared.men.Side.TheVariants.{White, Black}
 use Rattle.cq_position.specs.declared.moves.Move.{Move}
 use Rattle.cq_position.specs.Men.{opponent, king_of}
 use Rattle.cq_position.specs.Board.{Board, man_at, stands, castling_right, king_home, rook_home}
-use Rattle.cq_position.specs.Attacks.{attacks, attacks_as, is_taken, is_attacked}
+use Rattle.cq_position.specs.Attacks.{attacks, attacks_as, is_occupied, is_attacked}
 use Rattle.cq_position.specs.Legal.{moves_as, castles, castling_goal, castling_crossed, is_castling, is_none}
 use Rattle.cq_moves.proofs.Boards.{stands-is}
 
@@ -95,16 +95,16 @@ pub record Castles (p : Board) (m : Move) (kingside : Bool) : Type 0 where
   pub crossed : man_at p.men (castling_crossed p.side kingside) ≡ Empty
 
 -- the square that the king crosses lies between king and rook
-first_open : (taken : ℕ → Bool) (a b : Bool) → (not a && b) ≡ true → a ≡ false
-first_open taken a b e = not-true a (and_parts (not a) b e).0
+first_open : (occupied : ℕ → Bool) (a b : Bool) → (not a && b) ≡ true → a ≡ false
+first_open occupied a b e = not-true a (and_parts (not a) b e).0
 
-crossed_open : (side : Side) (kingside : Bool) (taken : ℕ → Bool) → is_open taken (king_home side) (rook_home side kingside) ≡ true
-    → taken (castling_crossed side kingside) ≡ false
+crossed_open : (side : Side) (kingside : Bool) (occupied : ℕ → Bool) → is_open occupied (king_home side) (rook_home side kingside) ≡ true
+    → occupied (castling_crossed side kingside) ≡ false
 unfolding between_squares squares
-crossed_open White true taken e = first_open taken (taken 5) (list_all (λ s. not (taken s)) (6 ∷ [])) e
-crossed_open White false taken e = first_open taken (taken 3) (list_all (λ s. not (taken s)) (2 ∷ 1 ∷ [])) e
-crossed_open Black true taken e = first_open taken (taken 61) (list_all (λ s. not (taken s)) (62 ∷ [])) e
-crossed_open Black false taken e = first_open taken (taken 59) (list_all (λ s. not (taken s)) (58 ∷ 57 ∷ [])) e
+crossed_open White true occupied e = first_open occupied (occupied 5) (list_all (λ s. not (occupied s)) (6 ∷ [])) e
+crossed_open White false occupied e = first_open occupied (occupied 3) (list_all (λ s. not (occupied s)) (2 ∷ 1 ∷ [])) e
+crossed_open Black true occupied e = first_open occupied (occupied 61) (list_all (λ s. not (occupied s)) (62 ∷ [])) e
+crossed_open Black false occupied e = first_open occupied (occupied 59) (list_all (λ s. not (occupied s)) (58 ∷ 57 ∷ [])) e
 
 five_parts : (a b c d e : Bool) → (a && b && c && d && e) ≡ true → (a ≡ true) × (b ≡ true) × (c ≡ true) × (d ≡ true)
 five_parts a b c d e t =
@@ -117,23 +117,23 @@ five_parts a b c d e t =
 castles_so : (p : Board) (m : Move) (kingside : Bool) → castles p m.from m.to kingside ≡ true → Castles p m kingside
 castles_so p m kingside e =
     let t = five_parts (m.from == king_home p.side) (m.to == castling_goal p.side kingside) (castling_right p.rights p.side kingside)
-    (is_open (is_taken p.men) (king_home p.side) (rook_home p.side kingside))
+    (is_open (is_occupied p.men) (king_home p.side) (rook_home p.side kingside))
     (list_all (λ square. not (is_attacked p.men (opponent p.side) square)) (m.from ∷ castling_crossed p.side kingside ∷ m.to ∷ [])) e in
     let crossed = castling_crossed p.side kingside in
     record {
       from_is = eqb-true m.from (king_home p.side) t.0;
       to_is = eqb-true m.to (castling_goal p.side kingside) t.1;
       right = t.2;
-      crossed = stands-is p.men crossed Empty (not-false (stands p.men crossed Empty) (crossed_open p.side kingside (is_taken p.men) t.3));
+      crossed = stands-is p.men crossed Empty (not-false (stands p.men crossed Empty) (crossed_open p.side kingside (is_occupied p.men) t.3));
     }
 
-king_step : (side : Side) (taken : ℕ → Bool) (a b : ℕ) → attacks_as (king_of side) taken a b ≡ true → is_king_step a b ≡ true
-king_step White taken a b e = e
-king_step Black taken a b e = e
+king_step : (side : Side) (occupied : ℕ → Bool) (a b : ℕ) → attacks_as (king_of side) occupied a b ≡ true → is_king_step a b ≡ true
+king_step White occupied a b e = e
+king_step Black occupied a b e = e
 
 king_attacks : (side : Side) (men : List Man) (a b : ℕ) → man_at men a ≡ king_of side → attacks men a b ≡ true → is_king_step a b ≡ true
 unfolding attacks
-king_attacks side men a b is e = king_step side (is_taken men) a b (subst (λ (man : Man). attacks_as man (is_taken men) a b ≡ true) is e)
+king_attacks side men a b is e = king_step side (is_occupied men) a b (subst (λ (man : Man). attacks_as man (is_occupied men) a b ≡ true) is e)
 
 king_moves : (side : Side) (p : Board) (m : Move) → moves_as (king_of side) p m ≡ true
     → (attacks p.men m.from m.to || castles p m.from m.to true || castles p m.from m.to false) ≡ true

@@ -10,10 +10,10 @@ use Rattle.cq_position.specs.declared.men.Side.TheVariants.{White, Black}
 use Rattle.cq_position.specs.declared.moves.Move.{Move}
 use Rattle.cq_position.specs.declared.position.Rights.{Rights}
 use Rattle.cq_position.specs.Men.{same_man, is_of_side, opponent, king_of, rook_of, pawn_of}
-use Rattle.cq_position.specs.Board.{Board, man_at, stands, count_of, strength, is_pawn, castling_right, king_home, rook_home, are_home, has_kings, has_too_many_men, rights_stand, passant_stands, was_passed}
+use Rattle.cq_position.specs.Board.{Board, man_at, stands, count_of, count_of_side, is_pawn, castling_right, king_home, rook_home, are_home, has_kings, has_too_many_men, rights_stand, passant_stands, was_passed}
 use Rattle.cq_position.specs.Position.{IsPosition}
 use Rattle.cq_position.specs.Attacks.{in_check}
-use Rattle.cq_position.specs.Legal.{Legal, can_move, after, after_pass, men_moved, men_after, promoted, rook_moved, castling_crossed, right_after, rights_after, passant_after, middle, raised, number_after}
+use Rattle.cq_position.specs.Legal.{Legal, is_pseudo_legal, after, after_pass, men_moved, men_after, promoted, rook_moved, castling_crossed, keeps_right, rights_after, passant_after, middle, raised, number_after}
 use Rattle.cq_moves.proofs.Boards.{stands-is, stands_there, man_at-set_other, length-set_man, counted, count-set, EdgeFree, EdgeFree-from, EdgeFree-gives, EdgeFree-set}
 use Rattle.cq_moves.proofs.Steps.{Goes, goes, apart, it_lands}
 use Rattle.cq_moves.proofs.Castled.{castling_squares, other_home}
@@ -46,7 +46,7 @@ no_king_there p m g s = false_from_ne_true (stands p.men m.to (king_of s)) (λ e
 record Keeps (old men : List Man) : Type 0 where
   whole : length men ≡ 64
   kings : (s : Side) → count_of (king_of s) men ≡ count_of (king_of s) old
-  few : (s : Side) → strength s men ≤ strength s old
+  few : (s : Side) → count_of_side s men ≤ count_of_side s old
   edge : EdgeFree men
 
 -- a count that sees no empty square, and the man on the goal as the man that moved
@@ -77,8 +77,8 @@ rook_count t men side kingside w none rook crossed =
     let first = count-set t men home Empty (omega (arith, s.rook_board)) in
     let second = count-set t left over (rook_of side) (omega (arith, s.crossed_board, length-set_man men home Empty w)) in
     let there = ap (λ x. counted (t x)) (man_at-set_other men home over Empty s.crossed_rook ∙ crossed) in
-    let taken = ap (λ x. counted (t x)) rook in
-    omega (arith, first, second, there, taken)
+    let away = ap (λ x. counted (t x)) rook in
+    omega (arith, first, second, there, away)
 
 no_man : (s : Side) → is_of_side s Empty ≡ false
 no_man White = refl
@@ -194,7 +194,7 @@ record RightKept (p : Board) (m : Move) (s : Side) (kingside : Bool) : Type 0 wh
   from : rook_home s kingside ≢ m.from
   to : rook_home s kingside ≢ m.to
 
-right_kept : (p : Board) (m : Move) (s : Side) (kingside : Bool) → right_after p m s kingside ≡ true → RightKept p m s kingside
+right_kept : (p : Board) (m : Move) (s : Side) (kingside : Bool) → keeps_right p m s kingside ≡ true → RightKept p m s kingside
 right_kept p m s kingside e =
     let right = castling_right p.rights s kingside in
     let king = stands p.men m.from (king_of s) in
@@ -209,7 +209,7 @@ right_kept p m s kingside e =
       to = λ same. eqb-false m.to home (not-true (m.to == home) last.1) (sym same);
     }
 
-home_after : (p : Board) (m : Move) → rights_stand p.men p.rights ≡ true → Goes p m → Way p m → (s : Side) (kingside : Bool) → right_after p m s kingside ≡ true
+home_after : (p : Board) (m : Move) → rights_stand p.men p.rights ≡ true → Goes p m → Way p m → (s : Side) (kingside : Bool) → keeps_right p m s kingside ≡ true
     → are_home (men_after p m) s kingside ≡ true
 home_after p m stood g w s kingside e =
     let k = right_kept p m s kingside e in
@@ -246,7 +246,7 @@ rights_from men r home =
     let third = and_from (wk && wq) bk front (right_or r.black_kingside (are_home men Black true) (home Black true)) in
     and_from (wk && wq && bk) bq third (right_or r.black_queenside (are_home men Black false) (home Black false))
 
-by_side : (p : Board) (m : Move) (s : Side) (kingside : Bool) → castling_right (rights_after p m) s kingside ≡ true → right_after p m s kingside ≡ true
+by_side : (p : Board) (m : Move) (s : Side) (kingside : Bool) → castling_right (rights_after p m) s kingside ≡ true → keeps_right p m s kingside ≡ true
 by_side p m White true e = e
 by_side p m White false e = e
 by_side p m Black true e = e
@@ -297,19 +297,19 @@ kings_kept : (old men : List Man) → ((s : Side) → count_of (king_of s) men �
 kings_kept old men same e =
     ap₂ (λ a b. (a == 1) && (b == 1)) (same White) (same Black) ∙ e
 
-few_kept : (old men : List Man) → ((s : Side) → strength s men ≤ strength s old) → has_too_many_men old ≡ false → has_too_many_men men ≡ false
+few_kept : (old men : List Man) → ((s : Side) → count_of_side s men ≤ count_of_side s old) → has_too_many_men old ≡ false → has_too_many_men men ≡ false
 few_kept old men few e =
-    let t = or_parts (nat_lt 16 (strength White old)) (nat_lt 16 (strength Black old)) e in
-    let white = ltb-false 16 (strength White old) t.0 in
-    let black = ltb-false 16 (strength Black old) t.1 in
-    or_from (nat_lt 16 (strength White men)) (nat_lt 16 (strength Black men))
-    (le-ltb 16 (strength White men) (omega (arith, white, few White))) (le-ltb 16 (strength Black men) (omega (arith, black, few Black)))
+    let t = or_parts (nat_lt 16 (count_of_side White old)) (nat_lt 16 (count_of_side Black old)) e in
+    let white = ltb-false 16 (count_of_side White old) t.0 in
+    let black = ltb-false 16 (count_of_side Black old) t.1 in
+    or_from (nat_lt 16 (count_of_side White men)) (nat_lt 16 (count_of_side Black men))
+    (le-ltb 16 (count_of_side White men) (omega (arith, white, few White))) (le-ltb 16 (count_of_side Black men) (omega (arith, black, few Black)))
 
 opponent_back : (side : Side) → opponent (opponent side) ≡ side
 opponent_back White = refl
 opponent_back Black = refl
 
-pub after_is_position : (p : Board) (m : Move) → IsPosition p → can_move p m ≡ true → in_check (men_after p m) p.side ≡ false → IsPosition (after p m)
+pub after_is_position : (p : Board) (m : Move) → IsPosition p → is_pseudo_legal p m ≡ true → in_check (men_after p m) p.side ≡ false → IsPosition (after p m)
 unfolding after
 after_is_position p m i can safe =
     let g = goes p m i.whole can in
@@ -322,7 +322,7 @@ after_is_position p m i can safe =
       few_enough = few_kept p.men (men_after p m) k.few i.few_enough;
       rights = rights_kept p m i.rights g way;
       passed = passant_kept p m i.whole g way;
-      quiet = ap (in_check (men_after p m)) (opponent_back p.side) ∙ safe;
+      opponent_not_in_check = ap (in_check (men_after p m)) (opponent_back p.side) ∙ safe;
       numbered = raised_some p.side p.number i.numbered;
       fits = raised_fits p.side p.number i.fits;
     }
@@ -348,7 +348,7 @@ after_pass_is_position p i safe = record {
   few_enough = i.few_enough;
   rights = i.rights;
   passed = refl;
-  quiet = ap (in_check p.men) (opponent_back p.side) ∙ safe;
+  opponent_not_in_check = ap (in_check p.men) (opponent_back p.side) ∙ safe;
   numbered = raised_some p.side p.number i.numbered;
   fits = raised_fits p.side p.number i.fits;
 }

@@ -10,7 +10,7 @@ use Rattle.cq_position.specs.declared.moves.Move.{Move}
 use Rattle.cq_position.specs.Men.{is_of_side, opponent, king_of}
 use Rattle.cq_position.specs.Board.{Board, man_at, stands, is_pawn}
 use Rattle.cq_position.specs.Attacks.{in_check}
-use Rattle.cq_position.specs.Legal.{is_none, promotes_rightly, moves_as, can_move, men_after, after, Legal}
+use Rattle.cq_position.specs.Legal.{is_none, promotes_rightly, moves_as, is_pseudo_legal, men_after, after, Legal}
 use Rattle.cq_moves.specs.Legality.{is_safe, legal_test}
 use Rattle.cq_moves.specs.Reach.{goes_as, reaches, promotes}
 
@@ -18,7 +18,7 @@ use Rattle.cq_moves.specs.Reach.{goes_as, reaches, promotes}
 pub test_leads : (p : Board) (m : Move) → legal_test p m ≡ true → Legal p m (after p m)
 unfolding legal_test after
 test_leads p m h =
-    let both = and_parts (can_move p m) (is_safe p m) h in
+    let both = and_parts (is_pseudo_legal p m) (is_safe p m) h in
     record { moves = both.0; leads = refl; safe = not-true (in_check (men_after p m) p.side) both.1 }
 
 -- what is legal passes the test
@@ -26,7 +26,7 @@ pub legal_passes : (p : Board) (m : Move) (q : Board) → Legal p m q → legal_
 unfolding legal_test after
 legal_passes p m q l =
     let safe : in_check (men_after p m) p.side ≡ false = ap (λ (b : Board). in_check b.men p.side) (sym l.leads) ∙ l.safe in
-    and_from (can_move p m) (is_safe p m) l.moves (not_from_false (in_check (men_after p m) p.side) safe)
+    and_from (is_pseudo_legal p m) (is_safe p m) l.moves (not_from_false (in_check (men_after p m) p.side) safe)
 
 pub legal_law : (p : Board) (m : Move) → (legal_test p m ≡ true) ↔ ((q : Board) × Legal p m q)
 legal_law p m = (λ h. (after p m, test_leads p m h), λ l. legal_passes p m l.0 l.1)
@@ -60,10 +60,10 @@ regroup true true false d e f g = refl
 regroup true false c d e f g = refl
 regroup false b c d e f g = refl
 
-pub can_move_in_parts : (p : Board) (m : Move)
-    → can_move p m ≡ (not m.null && ltb m.to 64 && reaches p m.from m.to && promotes p m)
-unfolding can_move reaches
-can_move_in_parts p m =
+pub pseudo_legal_in_parts : (p : Board) (m : Move)
+    → is_pseudo_legal p m ≡ (not m.null && ltb m.to 64 && reaches p m.from m.to && promotes p m)
+unfolding is_pseudo_legal reaches
+pseudo_legal_in_parts p m =
     let a = not m.null in
     let b = ltb m.to 64 in
     let c = is_of_side p.side (man_at p.men m.from) in
@@ -102,7 +102,7 @@ pub record Moves (p : Board) (m : Move) : Type 0 where
 pub what_moves : (p : Board) (m : Move) → legal_test p m ≡ true → Moves p m
 unfolding legal_test reaches
 what_moves p m h =
-    let can = sym (can_move_in_parts p m) ∙ (and_parts (can_move p m) (is_safe p m) h).0 in
+    let can = sym (pseudo_legal_in_parts p m) ∙ (and_parts (is_pseudo_legal p m) (is_safe p m) h).0 in
     let reach_and_become = and_parts (not m.null && ltb m.to 64 && reaches p m.from m.to) (promotes p m) can in
     let start = and_parts (not m.null && ltb m.to 64) (reaches p m.from m.to) reach_and_become.0 in
     let first = and_parts (not m.null) (ltb m.to 64) start.0 in
@@ -128,9 +128,9 @@ legal_on_board p m long h =
 -- the test for a null move, and in parts for another move to a square of the board
 pub null_fails : (p : Board) (m : Move) → m.null ≡ true → legal_test p m ≡ false
 unfolding legal_test
-null_fails p m h = rw (can_move_in_parts p m, h) refl
+null_fails p m h = rw (pseudo_legal_in_parts p m, h) refl
 
 pub passes_in_parts : (p : Board) (m : Move) → m.null ≡ false → m.to < 64
     → legal_test p m ≡ (reaches p m.from m.to && promotes p m && is_safe p m)
 unfolding legal_test
-passes_in_parts p m h k = rw (can_move_in_parts p m, h, lt-ltb m.to 64 k) refl
+passes_in_parts p m h k = rw (pseudo_legal_in_parts p m, h, lt-ltb m.to 64 k) refl

@@ -13,8 +13,8 @@ use Rattle.cq_position.specs.declared.men.Side.TheVariants.{White, Black}
 use Rattle.cq_position.specs.declared.moves.Move.{Move}
 use Rattle.cq_position.specs.Men.{is_of_side, opponent, pawn_of}
 use Rattle.cq_position.specs.Board.{Board, man_at, stands, is_pawn, was_passed, passant_stands}
-use Rattle.cq_position.specs.Attacks.{is_goal, is_taken, is_pawn_attack}
-use Rattle.cq_position.specs.Legal.{moves_as, pawn_moves, promotes_rightly, is_none, promoted, last_rank, is_ahead, is_double_step, middle, men_moved, is_passing_capture}
+use Rattle.cq_position.specs.Attacks.{is_goal, is_occupied, is_pawn_attack}
+use Rattle.cq_position.specs.Legal.{moves_as, pawn_moves, promotes_rightly, is_none, promoted, last_rank, is_single_step, is_double_step, middle, men_moved, is_passing_capture}
 use Rattle.cq_moves.proofs.Boards.{IsEdge, stands-is, stands_there, man_at-set_same, man_at-set_other, length-set_man}
 use Rattle.cq_moves.proofs.Steps.{Goes, own_pawn, unpromoted, promoted-none}
 
@@ -26,7 +26,7 @@ pub record DoubleStep (men : List Man) (side : Side) (a b : ℕ) : Type 0 where
 
 -- the three ways of a pawn
 pub data PawnWay (men : List Man) (side : Side) (a b : ℕ) : Type 0 where
-  ahead : is_ahead side a b ≡ true → PawnWay men side a b
+  ahead : is_single_step side a b ≡ true → PawnWay men side a b
   double : DoubleStep men side a b → PawnWay men side a b
   capture : is_pawn_attack side a b ≡ true → PawnWay men side a b
 
@@ -34,23 +34,23 @@ pub record PawnGoes (p : Board) (m : Move) : Type 0 where
   pub way : PawnWay p.men p.side m.from m.to
   pub promotes : promotes_rightly p.side m ≡ true
 
-empty_square : (men : List Man) (square : ℕ) → not (is_taken men square) ≡ true → man_at men square ≡ Empty
-empty_square men square e = stands-is men square Empty (not-false (stands men square Empty) (not-true (is_taken men square) e))
+empty_square : (men : List Man) (square : ℕ) → not (is_occupied men square) ≡ true → man_at men square ≡ Empty
+empty_square men square e = stands-is men square Empty (not-false (stands men square Empty) (not-true (is_occupied men square) e))
 
-double_so : (men : List Man) (side : Side) (a b : ℕ) → (is_double_step side a b && not (is_taken men (middle a b)) && not (is_taken men b)) ≡ true → DoubleStep men side a b
+double_so : (men : List Man) (side : Side) (a b : ℕ) → (is_double_step side a b && not (is_occupied men (middle a b)) && not (is_occupied men b)) ≡ true → DoubleStep men side a b
 double_so men side a b e =
-    let last = and_parts (is_double_step side a b && not (is_taken men (middle a b))) (not (is_taken men b)) e in
-    let first = and_parts (is_double_step side a b) (not (is_taken men (middle a b))) last.0 in
+    let last = and_parts (is_double_step side a b && not (is_occupied men (middle a b))) (not (is_occupied men b)) e in
+    let first = and_parts (is_double_step side a b) (not (is_occupied men (middle a b))) last.0 in
     record { step = first.0; middle_empty = empty_square men (middle a b) first.1; goal_empty = empty_square men b last.1 }
 
 way_of : (p : Board) (a b : ℕ) → pawn_moves p a b ≡ true → PawnWay p.men p.side a b
 way_of p a b e =
-    let step = is_ahead p.side a b && not (is_taken p.men b) in
-    let two = is_double_step p.side a b && not (is_taken p.men (middle a b)) && not (is_taken p.men b) in
+    let step = is_single_step p.side a b && not (is_occupied p.men b) in
+    let two = is_double_step p.side a b && not (is_occupied p.men (middle a b)) && not (is_occupied p.men b) in
     let takes = is_of_side (opponent p.side) (man_at p.men b) || is_goal p.passant b in
     elim (or_cases (step || two) (is_pawn_attack p.side a b && takes) e) [
       | inl rest ↦ elim (or_cases step two rest) [
-        | inl h ↦ ahead (and_parts (is_ahead p.side a b) (not (is_taken p.men b)) h).0
+        | inl h ↦ ahead (and_parts (is_single_step p.side a b) (not (is_occupied p.men b)) h).0
         | inr h ↦ double (double_so p.men p.side a b h)
       ]
       | inr h ↦ capture (and_parts (is_pawn_attack p.side a b) takes h).0
@@ -67,7 +67,7 @@ pawn_goes p m g pawn =
     record { way = way_of p m.from m.to t.0; promotes = t.1 }
 
 -- a pawn's goal is not on the first rank as its side sees it
-ahead_up : (side : Side) (a b : ℕ) → a < 64 → b < 64 → is_ahead side a b ≡ true → rank_of b ≢ last_rank (opponent side)
+ahead_up : (side : Side) (a b : ℕ) → a < 64 → b < 64 → is_single_step side a b ≡ true → rank_of b ≢ last_rank (opponent side)
 ahead_up White a b h k e = let is = eqb-true b (a + 8) e in omega arith
 ahead_up Black a b h k e = let is = eqb-true a (b + 8) e in omega arith
 

@@ -17,10 +17,10 @@ use Rattle.cq_position.specs.declared.men.Side.{Side}
 use Rattle.cq_position.specs.declared.men.Side.TheVariants.{White, Black}
 use Rattle.cq_position.specs.declared.moves.Move.{Move}
 use Rattle.cq_position.specs.Men.{is_of_side}
-use Rattle.cq_position.specs.Board.{Board, man_at, strength, has_too_many_men, king_home, is_pawn}
+use Rattle.cq_position.specs.Board.{Board, man_at, count_of_side, has_too_many_men, king_home, is_pawn}
 use Rattle.cq_position.specs.Position.{IsPosition}
-use Rattle.cq_position.specs.Attacks.{is_taken, attacks, attacks_as, is_pawn_attack}
-use Rattle.cq_position.specs.Legal.{is_none, promotes_rightly, is_ahead, is_double_step, castling_goal, castles, pawn_moves}
+use Rattle.cq_position.specs.Attacks.{is_occupied, attacks, attacks_as, is_pawn_attack}
+use Rattle.cq_position.specs.Legal.{is_none, promotes_rightly, is_single_step, is_double_step, castling_goal, castles, pawn_moves}
 use Rattle.cq_moves.specs.Legality.{legal_test}
 use Rattle.cq_moves.specs.LegalMoves.{moves_from, legal_from, legal_list}
 use Rattle.cq_moves.specs.Reach.{goes_as}
@@ -40,7 +40,7 @@ abbrev queen_goes : ℕ → ℕ → Bool
 queen_goes a b = is_orthogonal a b || is_diagonal a b
 
 abbrev pawn_goes : Side → ℕ → ℕ → Bool
-pawn_goes side a b = is_ahead side a b || is_double_step side a b || is_pawn_attack side a b
+pawn_goes side a b = is_single_step side a b || is_double_step side a b || is_pawn_attack side a b
 
 abbrev king_may : Side → Move → Bool
 king_may side m = king_goes side m.from m.to && is_none m.promotion
@@ -136,14 +136,14 @@ king_moves_goes p a b step h =
 
 pawn_moves_goes : (p : Board) (a b : ℕ) → pawn_moves p a b ≡ true → pawn_goes p.side a b ≡ true
 pawn_moves_goes p a b h =
-    or_both _ _ _ (is_ahead p.side a b) (is_double_step p.side a b) (is_pawn_attack p.side a b)
-    (first_of_two (is_ahead p.side a b) _)
+    or_both _ _ _ (is_single_step p.side a b) (is_double_step p.side a b) (is_pawn_attack p.side a b)
+    (first_of_two (is_single_step p.side a b) _)
     (λ k. first_of_two (is_double_step p.side a b) _ (first_of_two _ _ k))
     (first_of_two (is_pawn_attack p.side a b) _) h
 
 -- what a man attacks, once it is known which man it is
 abbrev AttacksAs : Man → Board → ℕ → ℕ → Type 0
-AttacksAs man p a b = attacks p.men a b ≡ attacks_as man (is_taken p.men) a b
+AttacksAs man p a b = attacks p.men a b ≡ attacks_as man (is_occupied p.men) a b
 
 open_queen : (p : Board) (a b : ℕ) → AttacksAs Q p a b → attacks p.men a b ≡ true → queen_goes a b ≡ true
 open_queen p a b e h = first_of_two (queen_goes a b) _ (sym e ∙ h)
@@ -236,11 +236,11 @@ sum_by_square : (f : Man → ℕ) (men : List Man) → length men ≡ 64 → sum
 sum_by_square f men long =
     sym (fold-map (λ s m. s + f m) (man_at men) 0 squares) ∙ ap (sum_by f) (sym (men_by_square men long))
 
-at_most_sixteen : (side : Side) (men : List Man) → has_too_many_men men ≡ false → strength side men ≤ 16
+at_most_sixteen : (side : Side) (men : List Man) → has_too_many_men men ≡ false → count_of_side side men ≤ 16
 at_most_sixteen White men h =
-    ltb-false 16 (strength White men) (or_parts (ltb 16 (strength White men)) (ltb 16 (strength Black men)) h).0
+    ltb-false 16 (count_of_side White men) (or_parts (ltb 16 (count_of_side White men)) (ltb 16 (count_of_side Black men)) h).0
 at_most_sixteen Black men h =
-    ltb-false 16 (strength Black men) (or_parts (ltb 16 (strength White men)) (ltb 16 (strength Black men)) h).1
+    ltb-false 16 (count_of_side Black men) (or_parts (ltb 16 (count_of_side White men)) (ltb 16 (count_of_side Black men)) h).1
 
 pub legal_fits : (p : Board) → IsPosition p → length (legal_list p) ≤ 512
 legal_fits p h =

@@ -12,7 +12,7 @@ use Rattle.cq_position.specs.declared.moves.Move.{Move}
 use Rattle.cq_position.specs.Men.{same_man, is_of_side, opponent, king_of, pawn_of}
 use Rattle.cq_position.specs.Board.{Board, man_at, stands, is_pawn}
 use Rattle.cq_position.specs.Attacks.{attacks}
-use Rattle.cq_position.specs.Legal.{can_move, moves_as, castles, is_none, promoted}
+use Rattle.cq_position.specs.Legal.{is_pseudo_legal, moves_as, castles, is_none, promoted}
 use Rattle.cq_moves.proofs.Law.{owned_on_board}
 
 -- a man of the side to move goes to a square of the board on which no man of its side and no king stands
@@ -37,8 +37,8 @@ six_parts true b c d e f t =
     (c'.0, c'.1, d'.1, e'.1, f'.1)
 six_parts false b c d e f t = absurd (cc)
 
-pub goes : (p : Board) (m : Move) → length p.men ≡ 64 → can_move p m ≡ true → Goes p m
-unfolding can_move
+pub goes : (p : Board) (m : Move) → length p.men ≡ 64 → is_pseudo_legal p m ≡ true → Goes p m
+unfolding is_pseudo_legal
 goes p m w e =
     let t = six_parts (not m.null) (nat_lt m.to 64) (is_of_side p.side (man_at p.men m.from)) (not (is_of_side p.side (man_at p.men m.to)))
     (not (stands p.men m.to (king_of (opponent p.side)))) (moves_as (man_at p.men m.from) p m) e in

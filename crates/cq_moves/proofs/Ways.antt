@@ -69,8 +69,8 @@ castled_so p m kingside e c =
 pub way_after : (p : Board) (m : Move) → passant_stands p.men p.side p.passant ≡ true → Goes p m → Way p m
 way_after p m stood g =
     let castling = rook_moved (men_moved p m) p.side (nat_lt m.from m.to) in
-    let taken = slice_set (men_moved p m) (beside m.from m.to) Empty in
-    let plain = cond (is_passing_capture p m) taken (men_moved p m) in
+    let removed = slice_set (men_moved p m) (beside m.from m.to) Empty in
+    let plain = cond (is_passing_capture p m) removed (men_moved p m) in
     elim (cases_Bool (is_castling p m)) [
       | inl does ↦ elim (castles_when p m g.moves does) [
         | inl c ↦ castled_so p m true does c
@@ -79,8 +79,8 @@ way_after p m stood g =
       | inr other ↦
           let first : men_after p m ≡ plain = cond-false (is_castling p m) castling plain other in
           elim (cases_Bool (is_passing_capture p m)) [
-            | inl does ↦ captured (captures_when p m stood g does) (first ∙ cond-true (is_passing_capture p m) taken (men_moved p m) does)
-            | inr none ↦ moved (first ∙ cond-false (is_passing_capture p m) taken (men_moved p m) none)
+            | inl does ↦ captured (captures_when p m stood g does) (first ∙ cond-true (is_passing_capture p m) removed (men_moved p m) does)
+            | inr none ↦ moved (first ∙ cond-false (is_passing_capture p m) removed (men_moved p m) none)
           ]
     ]
 

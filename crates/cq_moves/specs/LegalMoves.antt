@@ -6,19 +6,12 @@ use Rattle.cq_position.specs.declared.men.Promotion.{Promotion}
 use Rattle.cq_position.specs.declared.men.Promotion.TheVariants.{None as NoPromotion, Q as ToQueen, R as ToRook, B as ToBishop, N as ToKnight}
 use Rattle.cq_position.specs.declared.moves.Move.{Move}
 use Rattle.cq_position.specs.Board.{Board}
+use Rattle.cq_position.specs.Men.{promotion_number}
 use Rattle.cq_moves.specs.Legality.{legal_test}
 
 -- no promotion, and those to a queen, a rook, a bishop and a knight
 abbrev pub promotions : List Promotion
 promotions = NoPromotion ∷ ToQueen ∷ ToRook ∷ ToBishop ∷ ToKnight ∷ []
-
--- the place of a promotion in this order
-abbrev pub promotion_number : Promotion → ℕ
-promotion_number NoPromotion = 0
-promotion_number ToQueen = 1
-promotion_number ToRook = 2
-promotion_number ToBishop = 3
-promotion_number ToKnight = 4
 
 abbrev pub move_of : ℕ → ℕ → Promotion → Move
 move_of a b choice = record { from = a; to = b; promotion = choice; null = false }

@@ -12,9 +12,9 @@ HasLegalMove p = (m : Move) × (q : Board) × Legal p m q
 -- check without a legal move
 pub record IsMate (p : Board) : Type 0 where
   pub check : in_check p.men p.side ≡ true
-  pub stuck : ¬ HasLegalMove p
+  pub no_legal_move : ¬ HasLegalMove p
 
 -- no check and no legal move
 pub record IsStalemate (p : Board) : Type 0 where
-  pub quiet : in_check p.men p.side ≡ false
-  pub stuck : ¬ HasLegalMove p
+  pub no_check : in_check p.men p.side ≡ false
+  pub no_legal_move : ¬ HasLegalMove p

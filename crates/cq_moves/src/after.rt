@@ -2,18 +2,17 @@
 ghost use Rattle.std.specs.Prelude.{◌≡◌};
 ghost use Rattle.cq_position.specs.Attacks as attacks;
 ghost use Rattle.cq_position.specs.Legal as legal;
-ghost use Rattle.cq_position.specs.Men as men_spec;
 
-use crate::castling::{castling_crossed, rook_home};
-use cq_geometry::{Square, file, rank, square_at};
-use cq_position::attacks::files_apart;
+use crate::castling::castling_crossed;
+use cq_geometry::{Square, file, files_apart, rank, square_at};
+use cq_position::home::rook_home;
 use cq_position::position::is_pawn;
-use cq_position::{Man, Move, Position, Promotion, Side, is_same, king_of};
+use cq_position::{Man, Move, Position, Promotion, Side, is_same, king_of, rook_of};
 
 /// The men on the squares a1, b1, .. h8 after a move of the side to move.
 ///
-/// Castling takes the rook along, a capture on the en passant square takes away the pawn that has passed it, and a promotion puts the new man
-/// on the goal. The move is not judged: the mover's king may be left in check.
+/// Castling takes the rook along, a capture on the en passant square takes away the pawn that has passed it, and a promotion puts the
+/// new man on the goal. The move is not judged: the mover's king may be left in check.
 pub fn men_after(position: &Position, m: &Move) -> [Man; 64]
     ensures { result ≡ legal.men_after position.now m.now }
 {
@@ -54,7 +53,7 @@ fn promoted(side: Side, promotion: Promotion, man: Man) -> Man
     }
 }
 
-// Castling is the king's move of two files.
+/// Whether the move is castling: the move of the side's king by two files (FIDE Laws of Chess, article 3.8.2).
 pub fn is_castling(position: &Position, m: &Move) -> bool
     ensures { result ≡ legal.is_castling position.now m.now }
 {
@@ -69,15 +68,6 @@ fn move_rook(men: &mut [Man; 64], side: Side, kingside: bool)
     men[usize::from(castling_crossed(side, kingside).number())] = rook_of(side);
 }
 
-fn rook_of(side: Side) -> Man
-    ensures { result ≡ men_spec.rook_of side }
-{
-    match side {
-        Side::White => Man::R,
-        Side::Black => Man::BlackR,
-    }
-}
-
 // A pawn that goes to the en passant square captures there.
 fn is_passing_capture(position: &Position, m: &Move) -> bool
     ensures { result ≡ legal.is_passing_capture position.now m.now }
@@ -87,7 +77,7 @@ fn is_passing_capture(position: &Position, m: &Move) -> bool
         && is_goal(position.passant(), m.to)
 }
 
-// Whether there is such a square, and it is this one.
+/// Whether there is a goal, and it is this square.
 pub fn is_goal(goal: Option<Square>, square: Square) -> bool
     ensures { result ≡ attacks.is_goal goal square }
 {
@@ -97,7 +87,7 @@ pub fn is_goal(goal: Option<Square>, square: Square) -> bool
     }
 }
 
-/// The square in the middle between two.
+/// The square in the middle between two, as the one that a pawn's double step passes: of the two numbers the half of the sum.
 pub fn middle(a: Square, b: Square) -> Square
     ensures { result ≡ legal.middle a b }
 {

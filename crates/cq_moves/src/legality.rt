@@ -9,7 +9,8 @@ use crate::reach::{promotes, reaches};
 use cq_position::attacks::is_king_attacked;
 use cq_position::{Move, Position, attacks_from};
 
-/// Whether a move is legal in a position: the man can make it, and the king of its side isn't attacked then. A null move is none.
+/// Whether a move is legal in a position: the man can make it, and the king of its side isn't attacked then (FIDE Laws of Chess, articles
+/// 3.1 to 3.10.1). A null move is none.
 #[tactic(auto, using(crate::proofs::Law::legal_law))]
 pub fn is_legal(position: &Position, m: Move) -> bool
     ensures { IsTrue result ↔ ((q : Board) × Legal position.now m q) }
@@ -28,7 +29,7 @@ fn passes(position: &Position, m: &Move) -> bool
         && is_safe(position, m)
 }
 
-// Whether the king of the side that moved isn't attacked after the move.
+/// Whether the king of the side that moved isn't attacked after the move (FIDE Laws of Chess, article 3.9.2).
 pub(crate) fn is_safe(position: &Position, m: &Move) -> bool
     ensures { result ≡ legality.is_safe position.now m.now }
 {

@@ -84,7 +84,7 @@ fn add_move(position: &Position, m: Move, moves: &mut ArrayVec<Move, 512>)
     }
 }
 
-// Whether a move to a square to which a man goes is legal.
+/// Whether a move to a square to which a man goes is legal.
 #[tactic(auto, using(crate::proofs::Parts::reached_move))]
 pub(crate) fn is_legal_there(position: &Position, m: &Move) -> bool
     requires reaches { parts.reaches position.now m.now.from m.now.to ≡ true }

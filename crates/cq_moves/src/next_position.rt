@@ -6,17 +6,16 @@ ghost use Rattle.cq_position.specs.Legal as legal;
 ghost use Rattle.cq_position.specs.Position.{IsPosition};
 
 use crate::after::{men_after, middle};
-use crate::castling::rook_home;
-use cq_geometry::Square;
-use cq_position::attacks::ranks_apart;
+use cq_geometry::{Square, ranks_apart};
+use cq_position::home::rook_home;
 use cq_position::position::is_pawn;
 use cq_position::{Move, Position, Rights, Side, is_same, king_of, opponent};
 
 /// The position after a legal move.
 ///
-/// Castling, a capture on the en passant square and promotion are as `men_after` has them. A king's move ends both rights of its side, and a
-/// move from or to a rook's home square the right with that rook. A pawn's double step leaves the en passant square behind it, any other move
-/// none. The number rises after Black's move, up to 4,294,967,295, where it stays.
+/// Castling, a capture on the en passant square and promotion are as `men_after` has them. A king's move ends both rights of its side,
+/// and a move from or to a rook's home square the right with that rook. A pawn's double step leaves the en passant square behind it,
+/// any other move none. The number rises after Black's move, up to 4,294,967,295, where it stays.
 #[tactic(auto, using(crate::proofs::Kept::made_is_position, crate::proofs::Kept::made_is_legal))]
 pub fn play(position: &Position, m: Move) -> Position
     requires { (q : Board) × Legal position.now m q }
@@ -32,7 +31,7 @@ pub fn play(position: &Position, m: Move) -> Position
     )
 }
 
-// The number rises after Black's move.
+/// The number of the next move: one more after Black's, up to 4,294,967,295.
 pub(crate) fn number_after(position: &Position) -> u32
     ensures { result ≡ legal.number_after position.now }
 {
@@ -46,16 +45,16 @@ fn rights_after(position: &Position, m: &Move) -> Rights
     ensures { result ≡ legal.rights_after position.now m.now }
 {
     Rights {
-        white_kingside: right_after(position, m, Side::White, true),
-        white_queenside: right_after(position, m, Side::White, false),
-        black_kingside: right_after(position, m, Side::Black, true),
-        black_queenside: right_after(position, m, Side::Black, false),
+        white_kingside: keeps_right(position, m, Side::White, true),
+        white_queenside: keeps_right(position, m, Side::White, false),
+        black_kingside: keeps_right(position, m, Side::Black, true),
+        black_queenside: keeps_right(position, m, Side::Black, false),
     }
 }
 
 // Whether a right is left: neither king nor rook has moved or was captured.
-fn right_after(position: &Position, m: &Move, side: Side, kingside: bool) -> bool
-    ensures { result ≡ legal.right_after position.now m.now side kingside }
+fn keeps_right(position: &Position, m: &Move, side: Side, kingside: bool) -> bool
+    ensures { result ≡ legal.keeps_right position.now m.now side kingside }
 {
     let home = rook_home(side, kingside).number();
     position.may_castle(side, kingside)

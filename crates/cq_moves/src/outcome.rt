@@ -2,7 +2,7 @@
 ghost use Rattle.std.specs.Prelude.{◌≡◌, ◌<◌, ◌↔◌, IsTrue, true};
 ghost use Rattle.std.specs.List.{list_any};
 ghost use Rattle.cq_position.specs.Attacks as attack;
-ghost use Rattle.cq_position.specs.Marks.{Marks};
+ghost use Rattle.cq_position.specs.Bitboards.{IsBitboard};
 ghost use Rattle.cq_moves.specs.Legality.{legal_test};
 ghost use Rattle.cq_moves.specs.LegalMoves.{all_moves, moves_from, moves_between, move_of};
 ghost use Rattle.cq_moves.specs.Outcome.{IsMate, IsStalemate};
@@ -55,7 +55,7 @@ fn has_legal_move_from(position: &Position, from: Square) -> bool
 }
 
 fn has_legal_move_between(position: &Position, attacked: u64, from: Square, to: Square) -> bool
-    requires { Marks attacked (attack.attacks position.now.men from) }
+    requires { IsBitboard attacked (attack.attacks position.now.men from) }
     ensures { result ≡ list_any (legal_test position.now) (moves_between from to) }
 {
     reaches(position, attacked, from, to) && has_legal_choice(position, from, to)

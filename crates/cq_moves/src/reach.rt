@@ -3,21 +3,22 @@ ghost use Rattle.std.specs.Prelude.{◌≡◌, ◌<◌, not};
 ghost use Rattle.std.specs.List.{list_all};
 ghost use Rattle.cq_position.specs.Attacks as attack;
 ghost use Rattle.cq_position.specs.Legal as legal;
-ghost use Rattle.cq_position.specs.Marks.{Marks};
+ghost use Rattle.cq_position.specs.Bitboards.{IsBitboard};
 ghost use Rattle.cq_moves.specs.Reach as parts;
 
 use crate::after::{is_goal, middle};
-use crate::castling::{castling_crossed, castling_goal, king_home, rook_home};
+use crate::castling::{castling_crossed, castling_goal};
 use cq_geometry::{Square, rank};
-use cq_position::attacks::{is_attacked, is_open, is_pawn_attack, is_taken};
+use cq_position::attacks::{is_attacked, is_occupied, is_open, is_pawn_attack};
+use cq_position::home::{king_home, rook_home};
 use cq_position::position::is_pawn;
 use cq_position::{Man, Move, Position, Promotion, Side, is_of_side, is_same, king_of, opponent};
 
-// Whether a man of the side to move goes from one square to another, which holds none of its own men and no king. `attacked` has the
-// squares that the man attacks.
+/// Whether a man of the side to move goes from one square to another, which holds none of its own men and no king. Bit k of `attacked` is
+/// set where the man attacks the square k.
 #[tactic(auto, unfolding(crate::specs::Reach::reaches))]
 pub(crate) fn reaches(position: &Position, attacked: u64, from: Square, to: Square) -> bool
-    requires { Marks attacked (attack.attacks position.now.men from) }
+    requires { IsBitboard attacked (attack.attacks position.now.men from) }
     ensures reaches { result ≡ parts.reaches position.now from to }
     ensures board { to < 64 }
 {
@@ -31,7 +32,7 @@ pub(crate) fn reaches(position: &Position, attacked: u64, from: Square, to: Squa
 
 // Whether the man goes from one square to the other.
 fn goes(man: Man, position: &Position, attacked: u64, from: Square, to: Square) -> bool
-    requires { Marks attacked (attack.attacks position.now.men from) }
+    requires { IsBitboard attacked (attack.attacks position.now.men from) }
     ensures { result ≡ parts.goes_as man position.now from to }
 {
     match man {
@@ -48,7 +49,7 @@ fn goes(man: Man, position: &Position, attacked: u64, from: Square, to: Square) 
 
 // Whether a square is among the attacked ones.
 fn attacks(position: &Position, attacked: u64, from: Square, to: Square) -> bool
-    requires { Marks attacked (attack.attacks position.now.men from) }
+    requires { IsBitboard attacked (attack.attacks position.now.men from) }
     ensures { result ≡ attack.attacks position.now.men from to }
 {
     attacked >> to.number() & 1 == 1
@@ -60,14 +61,16 @@ fn pawn_moves(position: &Position, from: Square, to: Square) -> bool
 {
     let side = position.side();
     let men = position.men();
-    is_ahead(side, from, to) && !is_taken(men, to)
-        || is_double_step(side, from, to) && !is_taken(men, middle(from, to)) && !is_taken(men, to)
+    is_single_step(side, from, to) && !is_occupied(men, to)
+        || is_double_step(side, from, to)
+            && !is_occupied(men, middle(from, to))
+            && !is_occupied(men, to)
         || is_pawn_attack(side, from, to)
             && (is_of_side(position.at(to), opponent(side)) || is_goal(position.passant(), to))
 }
 
-fn is_ahead(side: Side, from: Square, to: Square) -> bool
-    ensures { result ≡ legal.is_ahead side from to }
+fn is_single_step(side: Side, from: Square, to: Square) -> bool
+    ensures { result ≡ legal.is_single_step side from to }
 {
     match side {
         Side::White => to.number() == from.number() + 8,
@@ -107,7 +110,7 @@ fn are_free(men: &[Man; 64], by: Side, squares: [Square; 3]) -> bool
     squares.iter().all(|square| !is_attacked(men, by, *square))
 }
 
-// Whether the move promotes exactly where a pawn reaches the last rank.
+/// Whether the move promotes exactly where a pawn reaches the last rank (FIDE Laws of Chess, article 3.7).
 pub(crate) fn promotes(position: &Position, m: &Move) -> bool
     ensures { result ≡ parts.promotes position.now m.now }
 {

@@ -1,11 +1,11 @@
 -- Texts joined by a byte come apart again.
-use Rattle.std.proofs.Common.{◌≡◌, ℕ, Bool, true, false, not, ◌&&◌, eqb, List, [], ◌∷◌, ◌++◌, refl, sym, ap, ◌∙◌, arith}
+use Rattle.std.proofs.Common.{◌≡◌, ℕ, Bool, true, false, not, ◌&&◌, eqb, ◌≤◌, length, List, [], ◌∷◌, ◌++◌, refl, sym, ap, ◌∙◌, arith}
 use Rattle.std.specs.List.{list_all, filter, join_with_byte}
 use Rattle.std.proofs.lemmas.List.Folds.{list_all-append}
 use Rattle.std.proofs.lemmas.List.Splits.{slice_split_none, slice_split_at}
 use Rattle.std.proofs.lemmas.Bool.Decides.{nat_tests}
 use Rattle.std.proofs.lemmas.List.Sums.{AllPass-from_list_all}
-use Rattle.cq_position.specs.Fen.{parts, fields, is_field}
+use Rattle.cq_position.specs.Fen.{parts, fields, is_not_empty}
 
 -- a byte is another one
 abbrev pub is_not : ℕ → ℕ → Bool
@@ -52,10 +52,15 @@ filter_all p [] e = refl
 filter_all p (x ∷ xs) e = rw (left_true (p x) _ e) (ap (λ rest. x ∷ rest) (filter_all p xs (right_true (p x) _ e)))
 
 -- the fields of texts without a space, joined by spaces
-pub fields_join : (x : List ℕ) (xs : List (List ℕ)) → list_all (list_all (is_not 32)) (x ∷ xs) ≡ true → list_all is_field (x ∷ xs) ≡ true → fields (join_with_byte 32 (x ∷ xs)) ≡ x ∷ xs
+pub fields_join : (x : List ℕ) (xs : List (List ℕ)) → list_all (list_all (is_not 32)) (x ∷ xs) ≡ true → list_all is_not_empty (x ∷ xs) ≡ true → fields (join_with_byte 32 (x ∷ xs)) ≡ x ∷ xs
 unfolding fields
-fields_join x xs e f = ap (filter is_field) (parts_join 32 x xs e) ∙ filter_all is_field (x ∷ xs) f
+fields_join x xs e f = ap (filter is_not_empty) (parts_join 32 x xs e) ∙ filter_all is_not_empty (x ∷ xs) f
 
-pub is_field-append : (xs : List ℕ) (y : ℕ) (ys : List ℕ) → is_field (xs ++ y ∷ ys) ≡ true
-is_field-append [] y ys = refl
-is_field-append (x ∷ xs) y ys = refl
+pub is_not_empty-append : (xs : List ℕ) (y : ℕ) (ys : List ℕ) → is_not_empty (xs ++ y ∷ ys) ≡ true
+is_not_empty-append [] y ys = refl
+is_not_empty-append (x ∷ xs) y ys = refl
+
+-- a test of a text that has some bytes
+pub some_letters : (t : Bool) (text : List ℕ) → 1 ≤ length text → (is_not_empty text && t) ≡ t
+some_letters t [] some = absurd (omega arith)
+some_letters t (x ∷ xs) some = refl

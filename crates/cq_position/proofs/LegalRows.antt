@@ -14,7 +14,7 @@ use Rattle.cq_position.specs.declared.moves.Move.{Move}
 use Rattle.cq_position.specs.Board.{Board, start_board}
 use Rattle.cq_position.specs.Fen.{fen_meaning, fields, is_placement, placed_men, position_or_fault}
 use Rattle.cq_position.specs.Attacks.{attacks, is_attacked, in_check}
-use Rattle.cq_position.specs.Legal.{can_move, after, after_pass, Legal}
+use Rattle.cq_position.specs.Legal.{is_pseudo_legal, after, after_pass, Legal}
 
 abbrev move : ℕ → ℕ → Promotion → Move
 move a b promotion = record { from = a; to = b; promotion = promotion; null = false }
@@ -35,7 +35,7 @@ board entries side rights passant = record {
   number = 7;
 }
 
--- a rook on a1 attacks up to and with the first man: a4 is taken, and so is c1
+-- a rook on a1 attacks up to and with the first man: a4 is occupied, and so is c1
 rook_attacks : filter (attacks (set_up ((0, R) ∷ (24, P) ∷ (2, BlackK) ∷ [])) 0) squares ≡ 1 ∷ 2 ∷ 8 ∷ 16 ∷ 24 ∷ []
 unfolding attacks squares between_squares
 rook_attacks = refl
@@ -47,23 +47,23 @@ pawn_attacks = refl
 
 -- 1. e4 leads to the position of the standard's example
 king_pawn_step : Legal start_board (move 12 28 NoPromotion) (after start_board (move 12 28 NoPromotion))
-unfolding can_move after in_check is_attacked attacks squares between_squares
+unfolding is_pseudo_legal after in_check is_attacked attacks squares between_squares
 king_pawn_step = record { moves = refl; leads = refl; safe = refl }
 
 king_pawn_board : Ok (after start_board (move 12 28 NoPromotion)) ≡ fen_meaning (codes "rnbqkbnr/pppppppp/8/8/4P3/8/PPPP1PPP/RNBQKBNR b KQkq e3 0 1")
 unfolding after fen_meaning fields is_placement placed_men position_or_fault in_check is_attacked attacks squares between_squares
 king_pawn_board = refl
 
-no_three_steps : can_move start_board (move 12 36 NoPromotion) ≡ false
-unfolding can_move in_check is_attacked attacks squares between_squares
+no_three_steps : is_pseudo_legal start_board (move 12 36 NoPromotion) ≡ false
+unfolding is_pseudo_legal in_check is_attacked attacks squares between_squares
 no_three_steps = refl
 
 -- castling: the rook goes over the king; not through an attacked square, and not over a man
 abbrev castler : List (ℕ × Man)
 castler = (4, K) ∷ (7, R) ∷ (60, BlackK) ∷ []
 
-castles_kingside : can_move (board castler White true None) (move 4 6 NoPromotion) ≡ true
-unfolding can_move in_check is_attacked attacks squares between_squares
+castles_kingside : is_pseudo_legal (board castler White true None) (move 4 6 NoPromotion) ≡ true
+unfolding is_pseudo_legal in_check is_attacked attacks squares between_squares
 castles_kingside = refl
 
 castled : (after (board castler White true None) (move 4 6 NoPromotion)).men ≡ set_up ((6, K) ∷ (5, R) ∷ (60, BlackK) ∷ [])
@@ -74,24 +74,24 @@ rights_gone : (after (board castler White true None) (move 4 6 NoPromotion)).rig
 unfolding after
 rights_gone = refl
 
-not_through_attack : can_move (board (castler ++ (61, BlackR) ∷ []) White true None) (move 4 6 NoPromotion) ≡ false
-unfolding can_move in_check is_attacked attacks squares between_squares
+not_through_attack : is_pseudo_legal (board (castler ++ (61, BlackR) ∷ []) White true None) (move 4 6 NoPromotion) ≡ false
+unfolding is_pseudo_legal in_check is_attacked attacks squares between_squares
 not_through_attack = refl
 
-not_over_a_man : can_move (board (castler ++ (6, N) ∷ []) White true None) (move 4 6 NoPromotion) ≡ false
-unfolding can_move in_check is_attacked attacks squares between_squares
+not_over_a_man : is_pseudo_legal (board (castler ++ (6, N) ∷ []) White true None) (move 4 6 NoPromotion) ≡ false
+unfolding is_pseudo_legal in_check is_attacked attacks squares between_squares
 not_over_a_man = refl
 
-not_without_right : can_move (board castler White false None) (move 4 6 NoPromotion) ≡ false
-unfolding can_move in_check is_attacked attacks squares between_squares
+not_without_right : is_pseudo_legal (board castler White false None) (move 4 6 NoPromotion) ≡ false
+unfolding is_pseudo_legal in_check is_attacked attacks squares between_squares
 not_without_right = refl
 
 -- en passant: the pawn on d5 is taken from e5 on d6
 abbrev passing : Board
 passing = board ((4, K) ∷ (36, P) ∷ (35, BlackP) ∷ (60, BlackK) ∷ []) White false (Some 43)
 
-passing_capture : can_move passing (move 36 43 NoPromotion) ≡ true
-unfolding can_move in_check is_attacked attacks squares between_squares
+passing_capture : is_pseudo_legal passing (move 36 43 NoPromotion) ≡ true
+unfolding is_pseudo_legal in_check is_attacked attacks squares between_squares
 passing_capture = refl
 
 captured : (after passing (move 36 43 NoPromotion)).men ≡ set_up ((4, K) ∷ (43, P) ∷ (60, BlackK) ∷ [])
@@ -106,8 +106,8 @@ promotes : (after promoting (move 48 56 ToQueen)).men ≡ set_up ((0, K) ∷ (56
 unfolding after
 promotes = refl
 
-must_promote : can_move promoting (move 48 56 NoPromotion) ≡ false
-unfolding can_move in_check is_attacked attacks squares between_squares
+must_promote : is_pseudo_legal promoting (move 48 56 NoPromotion) ≡ false
+unfolding is_pseudo_legal in_check is_attacked attacks squares between_squares
 must_promote = refl
 
 -- a pinned knight has no legal move: the king would stand in check

@@ -18,7 +18,7 @@ use Rattle.cq_geometry.proofs.Tables.{at_square, at_squares}
 use Rattle.cq_geometry.proofs.Seen.{sees_orthogonals, sees_diagonals}
 use Rattle.cq_position.specs.declared.men.Side.TheVariants.{White, Black}
 use Rattle.cq_position.specs.Attacks.{is_goal, is_pawn_attack}
-use Rattle.cq_position.specs.Marks.{Marks, bit_of, has}
+use Rattle.cq_position.specs.Bitboards.{IsBitboard, bit_of, contains}
 
 same_test : (a b : ℕ) → a ≡ b → eqb a b ≡ true
 same_test a b e = grind (arith, nat_tests)
@@ -31,14 +31,14 @@ true_last true = refl
 true_last false = refl
 
 -- what passes the same test
-pub marks_same : (mask : ℕ) (t u : ℕ → Bool) → ((k : ℕ) → k < 64 → t k ≡ u k) → Marks mask t → Marks mask u
+pub marks_same : (mask : ℕ) (t u : ℕ → Bool) → ((k : ℕ) → k < 64 → t k ≡ u k) → IsBitboard mask t → IsBitboard mask u
 marks_same mask t u same m = record { bit = λ k h. m.bit k h ∙ ap bit_of (same k h) }
 
-pub marks_none : Marks 0 (λ k. false)
+pub marks_none : IsBitboard 0 (λ k. false)
 marks_none = record { bit = λ k h. bit_at-zero k }
 
 -- one more square
-pub marks_more : (mask : ℕ) (xs : List ℕ) (i s : ℕ) → i < length xs → s ≡ get_or xs i 0 → s < 64 → Marks mask (has (take i xs)) → Marks (bit_or mask (1 * 2 ^ s % 18446744073709551616)) (has (take (i + 1) xs))
+pub marks_more : (mask : ℕ) (xs : List ℕ) (i s : ℕ) → i < length xs → s ≡ get_or xs i 0 → s < 64 → IsBitboard mask (contains (take i xs)) → IsBitboard (bit_or mask (1 * 2 ^ s % 18446744073709551616)) (contains (take (i + 1) xs))
 marks_more mask xs i s lt e low m = record {
   bit = λ k h. elim (cases_eq k s) [
     | inl same ↦ rw (list_any_more (λ x. eqb x k) xs i 0 lt, ← e, same_test s k (sym same), true_last) (rw same (bit_at_set_same w64 mask s low))
@@ -53,14 +53,14 @@ max_bits true false = refl
 max_bits false true = refl
 max_bits false false = refl
 
-pub marks_or : (a b : ℕ) (t u : ℕ → Bool) → Marks a t → Marks b u → Marks (bit_or a b) (λ k. t k || u k)
+pub marks_or : (a b : ℕ) (t u : ℕ → Bool) → IsBitboard a t → IsBitboard b u → IsBitboard (bit_or a b) (λ k. t k || u k)
 marks_or a b t u m n = record { bit = λ k h. rw (bit_at_or a b k, m.bit k h, n.bit k h) (max_bits (t k) (u k)) }
 
 -- one square alone
 power_fits : (s : ℕ) → s < 64 → 1 * 2 ^ s % 18446744073709551616 ≡ 2 ^ s
 power_fits s low = rw one-mul (mod-eq_of_lt (pow_below s 64 low))
 
-pub marks_one : (s : ℕ) → s < 64 → Marks (1 * 2 ^ s % 18446744073709551616) (λ k. eqb s k)
+pub marks_one : (s : ℕ) → s < 64 → IsBitboard (1 * 2 ^ s % 18446744073709551616) (λ k. eqb s k)
 marks_one s low = record {
   bit = λ k h. elim (cases_eq k s) [
     | inl same ↦ rw (power_fits s low, same, same_test s s refl) (bit_at-pow_same s)
@@ -72,33 +72,33 @@ and_false : (b : Bool) → (b && false) ≡ false
 and_false true = refl
 and_false false = refl
 
-filter_step : (t : ℕ → Bool) (x : ℕ) (xs : List ℕ) (k : ℕ) (b c : Bool) → t x ≡ b → eqb x k ≡ c → has (filter t xs) k ≡ (t k && has xs k) → has (filter t (x ∷ xs)) k ≡ (t k && has (x ∷ xs) k)
+filter_step : (t : ℕ → Bool) (x : ℕ) (xs : List ℕ) (k : ℕ) (b c : Bool) → t x ≡ b → eqb x k ≡ c → contains (filter t xs) k ≡ (t k && contains xs k) → contains (filter t (x ∷ xs)) k ≡ (t k && contains (x ∷ xs) k)
 filter_step t x xs k true true e f ih = let same : t k ≡ true = ap t (sym (eqb-true x k f)) ∙ e in rw (e, f, same) refl
 filter_step t x xs k true false e f ih = rw (e, f) ih
 filter_step t x xs k false true e f ih = let same : t k ≡ false = ap t (sym (eqb-true x k f)) ∙ e in rw (e, f, same) (ih ∙ rw same refl)
 filter_step t x xs k false false e f ih = rw (e, f) ih
 
 -- a square is in a filtered list where it is in the list and passes
-has-filter : (t : ℕ → Bool) (xs : List ℕ) (k : ℕ) → has (filter t xs) k ≡ (t k && has xs k)
+has-filter : (t : ℕ → Bool) (xs : List ℕ) (k : ℕ) → contains (filter t xs) k ≡ (t k && contains xs k)
 has-filter t [] k = sym (and_false (t k))
 has-filter t (x ∷ xs) k = filter_step t x xs k (t x) (eqb x k) refl refl (has-filter t xs k)
 
-has-squares : (k : ℕ) → k < 64 → has squares k ≡ true
+has-squares : (k : ℕ) → k < 64 → contains squares k ≡ true
 unfolding squares
-has-squares k h = at_square (has squares) (λ k. true) refl k h
+has-squares k h = at_square (contains squares) (λ k. true) refl k h
 
 and_true : (b : Bool) → (b && true) ≡ b
 and_true true = refl
 and_true false = refl
 
-kept_squares : (t : ℕ → Bool) (k : ℕ) → k < 64 → has (filter t squares) k ≡ t k
+kept_squares : (t : ℕ → Bool) (k : ℕ) → k < 64 → contains (filter t squares) k ≡ t k
 kept_squares t k h = rw (has-filter t squares k, has-squares k h) (and_true (t k))
 
-pub marks_king : (mask s : ℕ) → Marks mask (has (king_squares s)) → Marks mask (is_king_step s)
+pub marks_king : (mask s : ℕ) → IsBitboard mask (contains (king_squares s)) → IsBitboard mask (is_king_step s)
 unfolding king_squares
 marks_king mask s m = marks_same mask _ _ (kept_squares (is_king_step s)) m
 
-pub marks_knight : (mask s : ℕ) → Marks mask (has (knight_squares s)) → Marks mask (is_knight_step s)
+pub marks_knight : (mask s : ℕ) → IsBitboard mask (contains (knight_squares s)) → IsBitboard mask (is_knight_step s)
 unfolding knight_squares
 marks_knight mask s m = marks_same mask _ _ (kept_squares (is_knight_step s)) m
 
@@ -110,20 +110,20 @@ or_four false false true d = refl
 or_four false false false true = refl
 or_four false false false false = refl
 
-pub marks_orthogonal : (taken : ℕ → Bool) (from a b c d : ℕ) → from < 64
-    → Marks a (has (seen taken (ray_from (pos 0) (pos 1) from))) → Marks b (has (seen taken (ray_from (pos 0) (negsuc 0) from)))
-    → Marks c (has (seen taken (ray_from (negsuc 0) (pos 0) from))) → Marks d (has (seen taken (ray_from (pos 1) (pos 0) from)))
-    → Marks (bit_or (bit_or (bit_or a b) c) d) (λ to. is_orthogonal from to && is_open taken from to)
-marks_orthogonal taken from a b c d low up down left right =
-    marks_same _ _ _ (λ k h. or_four (has (seen taken (ray_from (pos 0) (pos 1) from)) k) (has (seen taken (ray_from (pos 0) (negsuc 0) from)) k) (has (seen taken (ray_from (negsuc 0) (pos 0) from)) k) (has (seen taken (ray_from (pos 1) (pos 0) from)) k) ∙ sees_orthogonals taken from k low h)
+pub marks_orthogonal : (occupied : ℕ → Bool) (from a b c d : ℕ) → from < 64
+    → IsBitboard a (contains (seen occupied (ray_from (pos 0) (pos 1) from))) → IsBitboard b (contains (seen occupied (ray_from (pos 0) (negsuc 0) from)))
+    → IsBitboard c (contains (seen occupied (ray_from (negsuc 0) (pos 0) from))) → IsBitboard d (contains (seen occupied (ray_from (pos 1) (pos 0) from)))
+    → IsBitboard (bit_or (bit_or (bit_or a b) c) d) (λ to. is_orthogonal from to && is_open occupied from to)
+marks_orthogonal occupied from a b c d low up down left right =
+    marks_same _ _ _ (λ k h. or_four (contains (seen occupied (ray_from (pos 0) (pos 1) from)) k) (contains (seen occupied (ray_from (pos 0) (negsuc 0) from)) k) (contains (seen occupied (ray_from (negsuc 0) (pos 0) from)) k) (contains (seen occupied (ray_from (pos 1) (pos 0) from)) k) ∙ sees_orthogonals occupied from k low h)
     (marks_or _ _ _ _ (marks_or _ _ _ _ (marks_or _ _ _ _ up down) left) right)
 
-pub marks_diagonal : (taken : ℕ → Bool) (from a b c d : ℕ) → from < 64
-    → Marks a (has (seen taken (ray_from (pos 1) (pos 1) from))) → Marks b (has (seen taken (ray_from (negsuc 0) (pos 1) from)))
-    → Marks c (has (seen taken (ray_from (pos 1) (negsuc 0) from))) → Marks d (has (seen taken (ray_from (negsuc 0) (negsuc 0) from)))
-    → Marks (bit_or (bit_or (bit_or a b) c) d) (λ to. is_diagonal from to && is_open taken from to)
-marks_diagonal taken from a b c d low ne nw se sw =
-    marks_same _ _ _ (λ k h. or_four (has (seen taken (ray_from (pos 1) (pos 1) from)) k) (has (seen taken (ray_from (negsuc 0) (pos 1) from)) k) (has (seen taken (ray_from (pos 1) (negsuc 0) from)) k) (has (seen taken (ray_from (negsuc 0) (negsuc 0) from)) k) ∙ sees_diagonals taken from k low h)
+pub marks_diagonal : (occupied : ℕ → Bool) (from a b c d : ℕ) → from < 64
+    → IsBitboard a (contains (seen occupied (ray_from (pos 1) (pos 1) from))) → IsBitboard b (contains (seen occupied (ray_from (negsuc 0) (pos 1) from)))
+    → IsBitboard c (contains (seen occupied (ray_from (pos 1) (negsuc 0) from))) → IsBitboard d (contains (seen occupied (ray_from (negsuc 0) (negsuc 0) from)))
+    → IsBitboard (bit_or (bit_or (bit_or a b) c) d) (λ to. is_diagonal from to && is_open occupied from to)
+marks_diagonal occupied from a b c d low ne nw se sw =
+    marks_same _ _ _ (λ k h. or_four (contains (seen occupied (ray_from (pos 1) (pos 1) from)) k) (contains (seen occupied (ray_from (negsuc 0) (pos 1) from)) k) (contains (seen occupied (ray_from (pos 1) (negsuc 0) from)) k) (contains (seen occupied (ray_from (negsuc 0) (negsuc 0) from)) k) ∙ sees_diagonals occupied from k low h)
     (marks_or _ _ _ _ (marks_or _ _ _ _ (marks_or _ _ _ _ ne nw) se) sw)
 
 -- the queen's lines
@@ -133,37 +133,37 @@ and_over_or true true false = refl
 and_over_or true false false = refl
 and_over_or false t u = refl
 
-pub marks_queen : (taken : ℕ → Bool) (from a b : ℕ) → Marks a (λ to. is_orthogonal from to && is_open taken from to) → Marks b (λ to. is_diagonal from to && is_open taken from to)
-    → Marks (bit_or a b) (λ to. (is_orthogonal from to || is_diagonal from to) && is_open taken from to)
-marks_queen taken from a b m n =
-    marks_same _ _ _ (λ k h. and_over_or (is_orthogonal from k) (is_diagonal from k) (is_open taken from k))
-    (marks_or a b (λ to. is_orthogonal from to && is_open taken from to) (λ to. is_diagonal from to && is_open taken from to) m n)
+pub marks_queen : (occupied : ℕ → Bool) (from a b : ℕ) → IsBitboard a (λ to. is_orthogonal from to && is_open occupied from to) → IsBitboard b (λ to. is_diagonal from to && is_open occupied from to)
+    → IsBitboard (bit_or a b) (λ to. (is_orthogonal from to || is_diagonal from to) && is_open occupied from to)
+marks_queen occupied from a b m n =
+    marks_same _ _ _ (λ k h. and_over_or (is_orthogonal from k) (is_diagonal from k) (is_open occupied from k))
+    (marks_or a b (λ to. is_orthogonal from to && is_open occupied from to) (λ to. is_diagonal from to && is_open occupied from to) m n)
 
 -- what has been seen so far, and what follows
-pub record IsSeenTo (taken : ℕ → Bool) (xs : List ℕ) (i mask : ℕ) : Type 0 where
-  pub marked : Marks mask (has (take i xs))
-  pub rest : seen taken xs ≡ take i xs ++ seen taken (drop i xs)
+pub record IsSeenTo (occupied : ℕ → Bool) (xs : List ℕ) (i mask : ℕ) : Type 0 where
+  pub marked : IsBitboard mask (contains (take i xs))
+  pub rest : seen occupied xs ≡ take i xs ++ seen occupied (drop i xs)
 
-seen_rest : (taken : ℕ → Bool) (x : ℕ) (xs : List ℕ) → seen taken (x ∷ xs) ≡ x ∷ cond (taken x) [] (seen taken xs)
-seen_rest taken x xs = refl
+seen_rest : (occupied : ℕ → Bool) (x : ℕ) (xs : List ℕ) → seen occupied (x ∷ xs) ≡ x ∷ cond (occupied x) [] (seen occupied xs)
+seen_rest occupied x xs = refl
 
-pub IsSeenTo-more : (taken : ℕ → Bool) (xs : List ℕ) (i s mask : ℕ) → i < length xs → s ≡ get_or xs i 0 → s < 64 → taken s ≡ false → IsSeenTo taken xs i mask
-    → IsSeenTo taken xs (i + 1) (bit_or mask (1 * 2 ^ s % 18446744073709551616))
-IsSeenTo-more taken xs i s mask lt e low free r = record {
+pub IsSeenTo-more : (occupied : ℕ → Bool) (xs : List ℕ) (i s mask : ℕ) → i < length xs → s ≡ get_or xs i 0 → s < 64 → occupied s ≡ false → IsSeenTo occupied xs i mask
+    → IsSeenTo occupied xs (i + 1) (bit_or mask (1 * 2 ^ s % 18446744073709551616))
+IsSeenTo-more occupied xs i s mask lt e low free r = record {
   marked = marks_more mask xs i s lt e low r.marked;
   rest = r.rest ∙ rw (drop_more xs i 0 lt, take_more xs i 0 lt, ← e, free, append_assoc) refl;
 }
 
--- the first that is taken ends it
-pub seen_stops : (taken : ℕ → Bool) (xs : List ℕ) (i s mask : ℕ) → i < length xs → s ≡ get_or xs i 0 → s < 64 → taken s ≡ true → IsSeenTo taken xs i mask
-    → Marks (bit_or mask (1 * 2 ^ s % 18446744073709551616)) (has (seen taken xs))
-seen_stops taken xs i s mask lt e low shut r =
-    let end : seen taken xs ≡ take (i + 1) xs = r.rest ∙ rw (drop_more xs i 0 lt, take_more xs i 0 lt, ← e, shut) refl in
+-- the first that is occupied ends it
+pub seen_stops : (occupied : ℕ → Bool) (xs : List ℕ) (i s mask : ℕ) → i < length xs → s ≡ get_or xs i 0 → s < 64 → occupied s ≡ true → IsSeenTo occupied xs i mask
+    → IsBitboard (bit_or mask (1 * 2 ^ s % 18446744073709551616)) (contains (seen occupied xs))
+seen_stops occupied xs i s mask lt e low shut r =
+    let end : seen occupied xs ≡ take (i + 1) xs = r.rest ∙ rw (drop_more xs i 0 lt, take_more xs i 0 lt, ← e, shut) refl in
     rw end (marks_more mask xs i s lt e low r.marked)
 
-pub seen_ends : (taken : ℕ → Bool) (xs : List ℕ) (i mask : ℕ) → length xs ≤ i → IsSeenTo taken xs i mask → Marks mask (has (seen taken xs))
-seen_ends taken xs i mask le r =
-    let end : seen taken xs ≡ take i xs = r.rest ∙ rw (drop_all i xs le) (append-nil (take i xs)) in
+pub seen_ends : (occupied : ℕ → Bool) (xs : List ℕ) (i mask : ℕ) → length xs ≤ i → IsSeenTo occupied xs i mask → IsBitboard mask (contains (seen occupied xs))
+seen_ends occupied xs i mask le r =
+    let end : seen occupied xs ≡ take i xs = r.rest ∙ rw (drop_all i xs le) (append-nil (take i xs)) in
     rw end r.marked
 
 -- the two squares before a pawn
@@ -175,12 +175,12 @@ black_pawn_table : map (λ a. map (λ b. is_goal (stepped (negsuc 0) (negsuc 0) 
 unfolding squares
 black_pawn_table = refl
 
-pub marks_white_pawn : (a b s : ℕ) → s < 64 → Marks a (is_goal (stepped (negsuc 0) (pos 1) s)) → Marks b (is_goal (stepped (pos 1) (pos 1) s)) → Marks (bit_or a b) (is_pawn_attack White s)
+pub marks_white_pawn : (a b s : ℕ) → s < 64 → IsBitboard a (is_goal (stepped (negsuc 0) (pos 1) s)) → IsBitboard b (is_goal (stepped (pos 1) (pos 1) s)) → IsBitboard (bit_or a b) (is_pawn_attack White s)
 marks_white_pawn a b s low m n =
     marks_same _ _ _ (λ k h. at_squares (λ a b. is_goal (stepped (negsuc 0) (pos 1) a) b || is_goal (stepped (pos 1) (pos 1) a) b) (is_pawn_attack White) white_pawn_table s k low h)
     (marks_or a b (is_goal (stepped (negsuc 0) (pos 1) s)) (is_goal (stepped (pos 1) (pos 1) s)) m n)
 
-pub marks_black_pawn : (a b s : ℕ) → s < 64 → Marks a (is_goal (stepped (negsuc 0) (negsuc 0) s)) → Marks b (is_goal (stepped (pos 1) (negsuc 0) s)) → Marks (bit_or a b) (is_pawn_attack Black s)
+pub marks_black_pawn : (a b s : ℕ) → s < 64 → IsBitboard a (is_goal (stepped (negsuc 0) (negsuc 0) s)) → IsBitboard b (is_goal (stepped (pos 1) (negsuc 0) s)) → IsBitboard (bit_or a b) (is_pawn_attack Black s)
 marks_black_pawn a b s low m n =
     marks_same _ _ _ (λ k h. at_squares (λ a b. is_goal (stepped (negsuc 0) (negsuc 0) a) b || is_goal (stepped (pos 1) (negsuc 0) a) b) (is_pawn_attack Black) black_pawn_table s k low h)
     (marks_or a b (is_goal (stepped (negsuc 0) (negsuc 0) s)) (is_goal (stepped (pos 1) (negsuc 0) s)) m n)

@@ -9,9 +9,9 @@ use Rattle.std.proofs.lemmas.List.Concat.{flat_map-append}
 use Rattle.cq_position.specs.declared.men.Man.{Man}
 use Rattle.cq_position.specs.declared.men.Man.TheVariants.{K, Q, R, B, N, P, BlackK, BlackQ, BlackR, BlackB, BlackN, BlackP, Empty}
 use Rattle.cq_position.specs.Men.{letter_of_man}
-use Rattle.cq_position.specs.Fen.{is_within, squares_of, is_rank_byte, rank_squares, is_rank, is_placement, placed_men, is_field}
+use Rattle.cq_position.specs.Fen.{is_within, squares_of, is_rank_byte, rank_squares, is_rank, is_placement, placed_men, is_not_empty}
 use Rattle.cq_position.specs.FenText.{run_text, letter_text, run_after, rank_text, placement_text}
-use Rattle.cq_position.proofs.Joined.{is_not, parts_join, all_join, all_weaker, is_field-append}
+use Rattle.cq_position.proofs.Joined.{is_not, parts_join, all_join, all_weaker, is_not_empty-append}
 
 -- a text of so many empty squares and the men behind them
 record Spells (text : List ℕ) (men : List Man) : Type 0 where
@@ -121,7 +121,7 @@ pub record IsPlacementOf (text : List ℕ) (men : List Man) : Type 0 where
   pub placed : is_placement text ≡ true
   pub men_are : placed_men text ≡ men
   pub spaces : list_all (is_not 32) text ≡ true
-  pub some : is_field text ≡ true
+  pub some : is_not_empty text ≡ true
 
 eight_ranks : (a b c d e f g h : List ℕ) (p q r s t u v w : List Man)
     → IsRankText a p → IsRankText b q → IsRankText c r → IsRankText d s → IsRankText e t → IsRankText f u → IsRankText g v → IsRankText h w
@@ -133,7 +133,7 @@ eight_ranks a b c d e f g h p q r s t u v w ra rb rc rd re rf rg rh =
       placed = rw (split, ra.rank, rb.rank, rc.rank, rd.rank, re.rank, rf.rank, rg.rank, rh.rank) refl;
       men_are = rw (split, ra.squares, rb.squares, rc.squares, rd.squares, re.squares, rf.squares, rg.squares, rh.squares) refl;
       spaces = all_join (is_not 32) 47 (a ∷ b ∷ c ∷ d ∷ e ∷ f ∷ g ∷ h ∷ []) refl (rw (ra.spaces, rb.spaces, rc.spaces, rd.spaces, re.spaces, rf.spaces, rg.spaces, rh.spaces) refl);
-      some = is_field-append a 47 (join_with_byte 47 (b ∷ c ∷ d ∷ e ∷ f ∷ g ∷ h ∷ []));
+      some = is_not_empty-append a 47 (join_with_byte 47 (b ∷ c ∷ d ∷ e ∷ f ∷ g ∷ h ∷ []));
     }
 
 pub placement_back : (men : List Man) → length men ≡ 64 → IsPlacementOf (placement_text men) men

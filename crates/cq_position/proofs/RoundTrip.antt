@@ -14,7 +14,7 @@ use Rattle.cq_position.specs.declared.men.Side.TheVariants.{White, Black}
 use Rattle.cq_position.specs.declared.position.Rights.{Rights}
 use Rattle.cq_position.specs.Board.{Board, are_home, was_passed, rights_stand, passant_stands}
 use Rattle.cq_position.specs.Position.{IsPosition}
-use Rattle.cq_position.specs.Fen.{fen_meaning, position_or_fault, is_within, is_digit, is_number, is_field, value_of_digits, is_side, side_named, is_castling, has_letter, rights_kept, is_passant, passant_kept}
+use Rattle.cq_position.specs.Fen.{fen_meaning, position_or_fault, is_within, is_digit, is_number, is_not_empty, value_of_digits, is_side, side_named, is_castling_field, has_letter, rights_kept, is_passant_field, passant_kept}
 use Rattle.cq_position.specs.FenText.{side_text, castling_text, passant_text, placement_text, fen_of}
 use Rattle.cq_position.proofs.Joined.{is_not, all_weaker, fields_join, left_true, right_true}
 use Rattle.cq_position.proofs.RankTexts.{IsPlacementOf, placement_back}
@@ -24,7 +24,7 @@ record IsSideText (text : List ℕ) (side : Side) : Type 0 where
   known : is_side text ≡ true
   named : side_named text ≡ side
   spaces : list_all (is_not 32) text ≡ true
-  some : is_field text ≡ true
+  some : is_not_empty text ≡ true
 
 side_back : (side : Side) → IsSideText (side_text side) side
 side_back White = record { known = refl; named = refl; spaces = refl; some = refl }
@@ -32,13 +32,13 @@ side_back Black = record { known = refl; named = refl; spaces = refl; some = ref
 
 -- the rights to castle
 record IsRightsText (text : List ℕ) (r : Rights) : Type 0 where
-  castling : is_castling text ≡ true
+  castling : is_castling_field text ≡ true
   white_king : has_letter 75 text ≡ r.white_kingside
   white_queen : has_letter 81 text ≡ r.white_queenside
   black_king : has_letter 107 text ≡ r.black_kingside
   black_queen : has_letter 113 text ≡ r.black_queenside
   spaces : list_all (is_not 32) text ≡ true
-  some : is_field text ≡ true
+  some : is_not_empty text ≡ true
 
 abbrev rights_of : Bool → Bool → Bool → Bool → Rights
 rights_of a b c d = record { white_kingside = a; white_queenside = b; black_kingside = c; black_queenside = d }
@@ -78,10 +78,10 @@ rights_back men r text t e =
 
 -- the en passant square
 record IsPassantText (men : List Man) (side : Side) (text : List ℕ) (passant : Option ℕ) : Type 0 where
-  known : is_passant text ≡ true
+  known : is_passant_field text ≡ true
   named : passant_kept men side text ≡ passant
   spaces : list_all (is_not 32) text ≡ true
-  some : is_field text ≡ true
+  some : is_not_empty text ≡ true
 
 file_letter : (s : ℕ) → is_within 97 104 (97 + s % 8) ≡ true
 file_letter s = let low : s % 8 < 8 = omega arith in grind (arith, nat_tests)
@@ -108,7 +108,7 @@ passant_back men side (Some s) e =
 record IsNumberText (n : ℕ) (text : List ℕ) : Type 0 where
   digits : list_all is_digit text ≡ true
   value : value_of_digits text ≡ n
-  some : is_field text ≡ true
+  some : is_not_empty text ≡ true
 
 regroup : (x p v d : ℕ) → x * (p * 10) + (v * 10 + d) ≡ (x * p + v) * 10 + d
 regroup x p v d = omega arith
@@ -122,7 +122,7 @@ value-push (x ∷ ds) d =
 one_digit : (n : ℕ) → n < 10 → is_digit (48 + n) ≡ true
 one_digit n low = grind (arith, nat_tests)
 
-some_push : (ds : List ℕ) (d : ℕ) → is_field (ds ++ d ∷ []) ≡ true
+some_push : (ds : List ℕ) (d : ℕ) → is_not_empty (ds ++ d ∷ []) ≡ true
 some_push [] d = refl
 some_push (x ∷ ds) d = refl
 
@@ -161,7 +161,7 @@ meaning_back b t s c e n p placement side rights passant number nine =
     let free = all_weaker is_digit (is_not 32) digit_no_space n number.digits in
     let cut = fields_join t (s ∷ c ∷ e ∷ (48 ∷ []) ∷ n ∷ []) (rw (placement.spaces, side.spaces, rights.spaces, passant.spaces, free) refl) (rw (placement.some, side.some, rights.some, passant.some, number.some) refl) in
     let same = rights_back b.men b.rights c rights p.rights in
-    rw cut (rw (placement.placed, side.known, rights.castling, passant.known, nine, placement.men_are, side.named, p.kings, p.no_pawn_on_edge, p.few_enough, p.quiet, same, passant.named, number.value, at_least_one b.number p.numbered) refl)
+    rw cut (rw (placement.placed, side.known, rights.castling, passant.known, nine, placement.men_are, side.named, p.kings, p.no_pawn_on_edge, p.few_enough, p.opponent_not_in_check, same, passant.named, number.value, at_least_one b.number p.numbered) refl)
 
 pub reads_back : (b : Board) → IsPosition b → b.number ≤ 999999999 → fen_meaning (fen_of b) ≡ Ok b
 unfolding fen_of

@@ -9,7 +9,7 @@ use Rattle.std.proofs.lemmas.List.Sums.{prefix_len-le-length, fails_before_first
 use Rattle.std.proofs.lemmas.List.Splits.{slice_split_none, slice_split_first}
 use Rattle.std.proofs.lemmas.List.Quantifiers.{position-Some}
 use Rattle.std.proofs.lemmas.Bool.Decides.{nat_tests}
-use Rattle.cq_position.specs.Fen.{fields, parts, is_field}
+use Rattle.cq_position.specs.Fen.{fields, parts, is_not_empty}
 
 abbrev is_space : ℕ → Bool
 is_space b = eqb b 32
@@ -36,7 +36,7 @@ fields-drop_spaces (x ∷ xs) = drop_space x xs (is_space x) refl (fields-drop_s
 
 -- the first part reaches up to the first space, and the rest has the fields behind it
 abbrev FirstPart : List ℕ → ℕ → Type 0
-FirstPart t n = (rest : List (List ℕ)) × (slice_split is_space t ≡ take n t ∷ rest) × (filter is_field rest ≡ fields (drop n t))
+FirstPart t n = (rest : List (List ℕ)) × (slice_split is_space t ≡ take n t ∷ rest) × (filter is_not_empty rest ≡ fields (drop n t))
 
 first_part_more : (x : ℕ) (xs : List ℕ) (b : Bool) → is_space x ≡ b → FirstPart xs (position_or_len is_space xs) → FirstPart (x ∷ xs) (position_or_len is_space (x ∷ xs))
 unfolding fields

@@ -12,44 +12,45 @@ use Rattle.cq_position.specs.Men.{is_of_side, opponent, king_of}
 use Rattle.cq_position.specs.Board.{man_at, stands}
 
 -- whether a man stands on the square
-abbrev pub is_taken : List Man → ℕ → Bool
-is_taken men square = not (stands men square Empty)
+abbrev pub is_occupied : List Man → ℕ → Bool
+is_occupied men square = not (stands men square Empty)
 
 -- whether there is such a square, and it is this one
 abbrev pub is_goal : Option ℕ → ℕ → Bool
 is_goal None square = false
 is_goal (Some goal) square = goal == square
 
--- a pawn attacks the two squares diagonally in front of it
+-- a pawn attacks the two squares diagonally in front of it (article 3.7.3)
 abbrev pub is_pawn_attack : Side → ℕ → ℕ → Bool
 is_pawn_attack White a b = (rank_of b == rank_of a + 1) && (files_apart a b == 1)
 is_pawn_attack Black a b = (rank_of a == rank_of b + 1) && (files_apart a b == 1)
 
--- Whether a man on a attacks b. A rook, a bishop and a queen attack along lines, up to and with the first square that is taken.
+-- Whether a man on a attacks b: bishop, rook and queen (articles 3.2 to 3.4) along lines, up to and with the first square that is occupied
+-- (3.5), and the knight (3.6), the pawn (3.7) and the king (3.8.1) to the squares of one step.
 abbrev pub attacks_as : Man → (ℕ → Bool) → ℕ → ℕ → Bool
-attacks_as K taken a b = is_king_step a b
-attacks_as Q taken a b = (is_orthogonal a b || is_diagonal a b) && is_open taken a b
-attacks_as R taken a b = is_orthogonal a b && is_open taken a b
-attacks_as B taken a b = is_diagonal a b && is_open taken a b
-attacks_as N taken a b = is_knight_step a b
-attacks_as P taken a b = is_pawn_attack White a b
-attacks_as BlackK taken a b = is_king_step a b
-attacks_as BlackQ taken a b = (is_orthogonal a b || is_diagonal a b) && is_open taken a b
-attacks_as BlackR taken a b = is_orthogonal a b && is_open taken a b
-attacks_as BlackB taken a b = is_diagonal a b && is_open taken a b
-attacks_as BlackN taken a b = is_knight_step a b
-attacks_as BlackP taken a b = is_pawn_attack Black a b
-attacks_as Empty taken a b = false
+attacks_as K occupied a b = is_king_step a b
+attacks_as Q occupied a b = (is_orthogonal a b || is_diagonal a b) && is_open occupied a b
+attacks_as R occupied a b = is_orthogonal a b && is_open occupied a b
+attacks_as B occupied a b = is_diagonal a b && is_open occupied a b
+attacks_as N occupied a b = is_knight_step a b
+attacks_as P occupied a b = is_pawn_attack White a b
+attacks_as BlackK occupied a b = is_king_step a b
+attacks_as BlackQ occupied a b = (is_orthogonal a b || is_diagonal a b) && is_open occupied a b
+attacks_as BlackR occupied a b = is_orthogonal a b && is_open occupied a b
+attacks_as BlackB occupied a b = is_diagonal a b && is_open occupied a b
+attacks_as BlackN occupied a b = is_knight_step a b
+attacks_as BlackP occupied a b = is_pawn_attack Black a b
+attacks_as Empty occupied a b = false
 
 -- whether the man on a attacks b
 unfoldable pub attacks : List Man → ℕ → ℕ → Bool
-attacks men a b = attacks_as (man_at men a) (is_taken men) a b
+attacks men a b = attacks_as (man_at men a) (is_occupied men) a b
 
 -- whether on the second square a man of the side stands that attacks the first
 abbrev pub attacker : List Man → Side → ℕ → ℕ → Bool
 attacker men side square from = is_of_side side (man_at men from) && attacks men from square
 
--- whether a man of the side attacks the square
+-- whether a man of the side attacks the square, also where it may not move (article 3.9.1)
 unfoldable pub is_attacked : List Man → Side → ℕ → Bool
 is_attacked men side square = list_any (attacker men side square) squares
 
@@ -57,6 +58,6 @@ is_attacked men side square = list_any (attacker men side square) squares
 abbrev pub attacked_king : List Man → Side → ℕ → Bool
 attacked_king men side square = stands men square (king_of side) && is_attacked men (opponent side) square
 
--- whether the side's king is attacked
+-- whether the side's king is attacked (article 3.9.1)
 unfoldable pub in_check : List Man → Side → Bool
 in_check men side = list_any (attacked_king men side) squares

@@ -1,6 +1,7 @@
 -- What a position is: the men on the board, the side to move, the rights to castle, the en passant square and the number of the move.
-use Rattle.std.specs.Prelude.{ℕ, ◌+◌, ◌-◌, ◌/◌, List, [], ◌∷◌, ◌++◌, slice_range, replicate, Bool, true, false, ◌&&◌, ◌||◌, not, ◌==◌, nat_lt, Option, Some, None, count_by, slice_index_or}
+use Rattle.std.specs.Prelude.{ℕ, ◌+◌, ◌-◌, List, [], ◌∷◌, ◌++◌, slice_range, replicate, Bool, true, false, ◌&&◌, ◌||◌, not, ◌==◌, nat_lt, Option, Some, None, count_by, slice_index_or}
 use Rattle.std.specs.List.{list_any}
+use Rattle.cq_geometry.specs.Squares.{rank_of}
 use Rattle.cq_position.specs.declared.men.Man.{Man}
 use Rattle.cq_position.specs.declared.men.Man.TheVariants.{K, Q, R, B, N, P, BlackK, BlackQ, BlackR, BlackB, BlackN, BlackP, Empty}
 use Rattle.cq_position.specs.declared.men.Side.{Side}
@@ -29,17 +30,17 @@ abbrev pub count_of : Man → List Man → ℕ
 count_of man men = count_by (λ m. same_man m man) men
 
 -- how many men a side has
-abbrev pub strength : Side → List Man → ℕ
-strength side men = count_by (is_of_side side) men
+abbrev pub count_of_side : Side → List Man → ℕ
+count_of_side side men = count_by (is_of_side side) men
 
--- the right to castle on a side of the board
+-- the right of a side to castle on the king's side (true) or on the queen's
 abbrev pub castling_right : Rights → Side → Bool → Bool
 castling_right r White true = r.white_kingside
 castling_right r White false = r.white_queenside
 castling_right r Black true = r.black_kingside
 castling_right r Black false = r.black_queenside
 
--- the home squares of the kings and of the rooks beside them
+-- the home squares of the kings, e1 and e8, and of the rooks: h1 and a1, h8 and a8
 abbrev pub king_home : Side → ℕ
 king_home White = 4
 king_home Black = 60
@@ -54,26 +55,29 @@ rook_home Black false = 56
 abbrev pub are_home : List Man → Side → Bool → Bool
 are_home men side kingside = stands men (king_home side) (king_of side) && stands men (rook_home side kingside) (rook_of side)
 
--- Whether the opponent's pawn can just have passed the square by a double step, with this side to move: the square is empty and on the side's
--- sixth rank, the pawn stands in front of it, and the square behind it, from which the pawn came, is empty.
+-- Whether the opponent's pawn can just have passed the square by a double step (FIDE Laws of Chess, article 3.7), with this side to move:
+-- the square is empty and on the side's sixth rank, the pawn stands before it, and the square behind it, from which the pawn came, is empty.
 abbrev pub was_passed : List Man → Side → ℕ → Bool
-was_passed men White square = (square / 8 == 5) && stands men square Empty && stands men (square - 8) BlackP && stands men (square + 8) Empty
-was_passed men Black square = (square / 8 == 2) && stands men square Empty && stands men (square + 8) P && stands men (square - 8) Empty
+was_passed men White square =
+    (rank_of square == 5) && stands men square Empty && stands men (square - 8) BlackP && stands men (square + 8) Empty
+was_passed men Black square =
+    (rank_of square == 2) && stands men square Empty && stands men (square + 8) P && stands men (square - 8) Empty
 
 -- one king of each side
 abbrev pub has_kings : List Man → Bool
 has_kings men = (count_of K men == 1) && (count_of BlackK men == 1)
 
--- a pawn of either side on the first or the last rank
+-- a pawn of either side
 abbrev pub is_pawn : Man → Bool
 is_pawn m = same_man m P || same_man m BlackP
 
+-- a pawn of either side on the first or the last rank
 abbrev pub has_pawn_on_edge : List Man → Bool
 has_pawn_on_edge men = list_any is_pawn (slice_range men 0 8) || list_any is_pawn (slice_range men 56 64)
 
 -- more than sixteen men of one side
 abbrev pub has_too_many_men : List Man → Bool
-has_too_many_men men = nat_lt 16 (strength White men) || nat_lt 16 (strength Black men)
+has_too_many_men men = nat_lt 16 (count_of_side White men) || nat_lt 16 (count_of_side Black men)
 
 -- an en passant square is kept where the opponent's pawn can just have passed it
 abbrev pub passant_stands : List Man → Side → Option ℕ → Bool
@@ -86,10 +90,17 @@ rights_stand men r =
     (not r.white_kingside || are_home men White true) && (not r.white_queenside || are_home men White false)
     && (not r.black_kingside || are_home men Black true) && (not r.black_queenside || are_home men Black false)
 
--- the position in which a game begins
+-- the men of White's first rank and of Black's, in which a game begins
+abbrev pub white_pieces : List Man
+white_pieces = R ∷ N ∷ B ∷ Q ∷ K ∷ B ∷ N ∷ R ∷ []
+
+abbrev pub black_pieces : List Man
+black_pieces = BlackR ∷ BlackN ∷ BlackB ∷ BlackQ ∷ BlackK ∷ BlackB ∷ BlackN ∷ BlackR ∷ []
+
+-- the position in which a game begins (FIDE Laws of Chess, article 2.3)
 abbrev pub start_board : Board
 start_board = record {
-  men = R ∷ N ∷ B ∷ Q ∷ K ∷ B ∷ N ∷ R ∷ [] ++ replicate 8 P ++ replicate 32 Empty ++ replicate 8 BlackP ++ BlackR ∷ BlackN ∷ BlackB ∷ BlackQ ∷ BlackK ∷ BlackB ∷ BlackN ∷ BlackR ∷ [];
+  men = white_pieces ++ replicate 8 P ++ replicate 32 Empty ++ replicate 8 BlackP ++ black_pieces;
   side = White;
   rights = record { white_kingside = true; white_queenside = true; black_kingside = true; black_queenside = true };
   passant = None;

@@ -1,5 +1,5 @@
 -- The FEN text of a position (PGN standard 16.1.3).
-use Rattle.std.specs.Prelude.{ℕ, zero, suc, ◌+◌, List, [], ◌∷◌, ◌++◌, Bool, ◌||◌, Option, Some, None, if◌then◌else◌, slice_range, decimal}
+use Rattle.std.specs.Prelude.{ℕ, zero, suc, ◌+◌, List, [], ◌∷◌, ◌++◌, Bool, true, false, ◌||◌, Option, Some, None, if◌then◌else◌, slice_range, decimal}
 use Rattle.std.specs.List.{join_with_byte}
 use Rattle.cq_geometry.specs.Squares.{file_of, rank_of}
 use Rattle.cq_position.specs.declared.men.Man.{Man}
@@ -7,12 +7,13 @@ use Rattle.cq_position.specs.declared.men.Side.{Side}
 use Rattle.cq_position.specs.declared.men.Side.TheVariants.{White, Black}
 use Rattle.cq_position.specs.declared.position.Rights.{Rights}
 use Rattle.cq_position.specs.Men.{letter_of_man}
-use Rattle.cq_position.specs.Board.{Board}
+use Rattle.cq_position.specs.Board.{Board, castling_right}
+use Rattle.cq_position.specs.FenBytes.{space, slash, dash, digit_zero, digit_one, letter_a, side_letter, right_letter}
 
 -- a run of empty squares is a digit
 abbrev pub run_text : ℕ → List ℕ
 run_text zero = []
-run_text (suc n) = (49 + n) ∷ []
+run_text (suc n) = (digit_one + n) ∷ []
 
 -- a man is its letter, behind the run of empty squares before it; an empty square goes to the run
 abbrev pub letter_text : ℕ → Option ℕ → List ℕ
@@ -31,30 +32,39 @@ rank_text empty (man ∷ men) = letter_text empty (letter_of_man man) ++ rank_te
 -- the ranks from the eighth down
 abbrev pub rank_texts : List Man → List (List ℕ)
 rank_texts men =
-    rank_text 0 (slice_range men 56 64) ∷ rank_text 0 (slice_range men 48 56) ∷ rank_text 0 (slice_range men 40 48) ∷ rank_text 0 (slice_range men 32 40)
-    ∷ rank_text 0 (slice_range men 24 32) ∷ rank_text 0 (slice_range men 16 24) ∷ rank_text 0 (slice_range men 8 16) ∷ rank_text 0 (slice_range men 0 8) ∷ []
+    rank_text 0 (slice_range men 56 64)
+    ∷ rank_text 0 (slice_range men 48 56)
+    ∷ rank_text 0 (slice_range men 40 48)
+    ∷ rank_text 0 (slice_range men 32 40)
+    ∷ rank_text 0 (slice_range men 24 32)
+    ∷ rank_text 0 (slice_range men 16 24)
+    ∷ rank_text 0 (slice_range men 8 16)
+    ∷ rank_text 0 (slice_range men 0 8)
+    ∷ []
 
 abbrev pub placement_text : List Man → List ℕ
-placement_text men = join_with_byte 47 (rank_texts men)
+placement_text men = join_with_byte slash (rank_texts men)
 
 abbrev pub side_text : Side → List ℕ
-side_text White = 119 ∷ []
-side_text Black = 98 ∷ []
+side_text side = side_letter side ∷ []
 
-abbrev pub letter_if : Bool → ℕ → List ℕ
-letter_if right letter = if right then letter ∷ [] else []
+-- the letter of a right that is left
+abbrev pub right_text : Rights → Side → Bool → List ℕ
+right_text r side kingside = if castling_right r side kingside then right_letter side kingside ∷ [] else []
 
 -- the rights in the order KQkq, or a dash
 abbrev pub castling_text : Rights → List ℕ
 castling_text r =
     if r.white_kingside || r.white_queenside || r.black_kingside || r.black_queenside
-    then letter_if r.white_kingside 75 ++ letter_if r.white_queenside 81 ++ letter_if r.black_kingside 107 ++ letter_if r.black_queenside 113
-    else 45 ∷ []
+    then right_text r White true ++ right_text r White false ++ right_text r Black true ++ right_text r Black false
+    else dash ∷ []
 
 abbrev pub passant_text : Option ℕ → List ℕ
-passant_text None = 45 ∷ []
-passant_text (Some square) = (97 + file_of square) ∷ (49 + rank_of square) ∷ []
+passant_text None = dash ∷ []
+passant_text (Some square) = (letter_a + file_of square) ∷ (digit_one + rank_of square) ∷ []
 
 -- six fields with one space between two; the halfmove clock is 0
 unfoldable pub fen_of : Board → List ℕ
-fen_of b = join_with_byte 32 (placement_text b.men ∷ side_text b.side ∷ castling_text b.rights ∷ passant_text b.passant ∷ (48 ∷ []) ∷ decimal b.number ∷ [])
+fen_of b =
+    join_with_byte space
+    (placement_text b.men ∷ side_text b.side ∷ castling_text b.rights ∷ passant_text b.passant ∷ (digit_zero ∷ []) ∷ decimal b.number ∷ [])

@@ -1,4 +1,4 @@
--- Which moves are legal in a position, and the position after each (FIDE Laws of Chess, article 3).
+-- Which moves are legal in a position, and the position after each (FIDE Laws of Chess, articles 3.1 to 3.10).
 use Rattle.std.specs.Prelude.{◌≡◌, ℕ, ◌+◌, ◌-◌, ◌/◌, List, [], ◌∷◌, Bool, true, false, ◌&&◌, ◌||◌, not, ◌==◌, nat_lt, min, Option, Some, None, slice_set, if◌then◌else◌}
 use Rattle.std.specs.List.{list_all}
 use Rattle.cq_geometry.specs.Squares.{file_of, rank_of, square_of}
@@ -14,7 +14,7 @@ use Rattle.cq_position.specs.declared.moves.Move.{Move}
 use Rattle.cq_position.specs.declared.position.Rights.{Rights}
 use Rattle.cq_position.specs.Men.{is_of_side, opponent, king_of, rook_of}
 use Rattle.cq_position.specs.Board.{Board, man_at, stands, castling_right, king_home, rook_home, is_pawn}
-use Rattle.cq_position.specs.Attacks.{is_goal, is_taken, is_pawn_attack, attacks, is_attacked, in_check}
+use Rattle.cq_position.specs.Attacks.{is_goal, is_occupied, is_pawn_attack, attacks, is_attacked, in_check}
 use Rattle.cq_position.specs.Moves.{null_move}
 
 -- no promotion
@@ -25,20 +25,21 @@ is_none ToRook = false
 is_none ToBishop = false
 is_none ToKnight = false
 
+-- the rank furthest from where a side's pawns start, from 0
 abbrev pub last_rank : Side → ℕ
 last_rank White = 7
 last_rank Black = 0
 
--- a pawn promotes exactly on the last rank
+-- a pawn promotes exactly on the last rank (article 3.7)
 abbrev pub promotes_rightly : Side → Move → Bool
 promotes_rightly side m = if rank_of m.to == last_rank side then not (is_none m.promotion) else is_none m.promotion
 
--- one rank forward on the same file
-abbrev pub is_ahead : Side → ℕ → ℕ → Bool
-is_ahead White a b = b == a + 8
-is_ahead Black a b = a == b + 8
+-- one rank forward on the same file (article 3.7.1)
+abbrev pub is_single_step : Side → ℕ → ℕ → Bool
+is_single_step White a b = b == a + 8
+is_single_step Black a b = a == b + 8
 
--- two ranks forward from the pawns' home rank
+-- two ranks forward from the pawns' home rank (article 3.7.2)
 abbrev pub is_double_step : Side → ℕ → ℕ → Bool
 is_double_step White a b = (rank_of a == 1) && (b == a + 16)
 is_double_step Black a b = (rank_of a == 6) && (a == b + 16)
@@ -47,15 +48,15 @@ is_double_step Black a b = (rank_of a == 6) && (a == b + 16)
 abbrev pub middle : ℕ → ℕ → ℕ
 middle a b = (a + b) / 2
 
--- A pawn steps to the next square where that is empty, or two squares where both are. It captures what it attacks, and on the en passant square
--- the pawn that has just passed it.
+-- A pawn steps to the next square where that is empty (article 3.7.1), or two squares where both are (3.7.2). It captures what it attacks
+-- (3.7.3), and on the en passant square the pawn that has just passed it.
 abbrev pub pawn_moves : Board → ℕ → ℕ → Bool
 pawn_moves p a b =
-    (is_ahead p.side a b && not (is_taken p.men b))
-    || (is_double_step p.side a b && not (is_taken p.men (middle a b)) && not (is_taken p.men b))
+    (is_single_step p.side a b && not (is_occupied p.men b))
+    || (is_double_step p.side a b && not (is_occupied p.men (middle a b)) && not (is_occupied p.men b))
     || (is_pawn_attack p.side a b && (is_of_side (opponent p.side) (man_at p.men b) || is_goal p.passant b))
 
--- the square to which the king castles, and the one that it crosses, beside which the rook goes
+-- the square to which the king castles, and the one that it crosses, to which the rook goes (article 3.8.2)
 abbrev pub castling_goal : Side → Bool → ℕ
 castling_goal side true = king_home side + 2
 castling_goal side false = king_home side - 2
@@ -64,26 +65,29 @@ abbrev pub castling_crossed : Side → Bool → ℕ
 castling_crossed side true = king_home side + 1
 castling_crossed side false = king_home side - 1
 
--- Castling needs the right, no man between king and rook, and that the opponent attacks none of the squares where the king stands, which it
--- crosses and to which it goes.
+-- Castling needs the right (article 3.8.2.1), no man between king and rook, and that the opponent attacks none of the squares where the
+-- king stands, which it crosses and to which it goes (3.8.2.2).
 abbrev pub castles : Board → ℕ → ℕ → Bool → Bool
 castles p a b kingside =
     (a == king_home p.side) && (b == castling_goal p.side kingside) && castling_right p.rights p.side kingside
-    && is_open (is_taken p.men) (king_home p.side) (rook_home p.side kingside)
+    && is_open (is_occupied p.men) (king_home p.side) (rook_home p.side kingside)
     && list_all (λ square. not (is_attacked p.men (opponent p.side) square)) (a ∷ castling_crossed p.side kingside ∷ b ∷ [])
 
--- how each man moves: all but the pawn to what they attack, and the king by castling too
+-- how each man moves: all but the pawn to what they attack (articles 3.2 to 3.6 and 3.8.1), and the king by castling too
 abbrev pub moves_as : Man → Board → Move → Bool
-moves_as K p m = (attacks p.men m.from m.to || castles p m.from m.to true || castles p m.from m.to false) && is_none m.promotion
-moves_as BlackK p m = (attacks p.men m.from m.to || castles p m.from m.to true || castles p m.from m.to false) && is_none m.promotion
+moves_as K p m =
+    (attacks p.men m.from m.to || castles p m.from m.to true || castles p m.from m.to false) && is_none m.promotion
+moves_as BlackK p m =
+    (attacks p.men m.from m.to || castles p m.from m.to true || castles p m.from m.to false) && is_none m.promotion
 moves_as P p m = pawn_moves p m.from m.to && promotes_rightly p.side m
 moves_as BlackP p m = pawn_moves p m.from m.to && promotes_rightly p.side m
 moves_as Empty p m = false
 moves_as _ p m = attacks p.men m.from m.to && is_none m.promotion
 
--- A man of the side to move moves as it does, to a square of the board without a man of its own side, and captures no king.
-unfoldable pub can_move : Board → Move → Bool
-can_move p m =
+-- A pseudo-legal move: a man of the side to move moves as it does, to a square of the board without a man of its own side (article 3.1),
+-- and captures no king (1.4.1). Whether its own king is attacked then is asked elsewhere.
+unfoldable pub is_pseudo_legal : Board → Move → Bool
+is_pseudo_legal p m =
     not m.null && nat_lt m.to 64 && is_of_side p.side (man_at p.men m.from) && not (is_of_side p.side (man_at p.men m.to))
     && not (stands p.men m.to (king_of (opponent p.side))) && moves_as (man_at p.men m.from) p m
 
@@ -103,7 +107,7 @@ promoted Black ToKnight man = BlackN
 abbrev pub men_moved : Board → Move → List Man
 men_moved p m = slice_set (slice_set p.men m.from Empty) m.to (promoted p.side m.promotion (man_at p.men m.from))
 
--- a king that goes two files castles, and a pawn that goes to the en passant square captures there
+-- a king that goes two files castles (article 3.8.2), and a pawn that goes to the en passant square captures there (3.7)
 abbrev pub is_castling : Board → Move → Bool
 is_castling p m = stands p.men m.from (king_of p.side) && (files_apart m.from m.to == 2)
 
@@ -112,7 +116,8 @@ is_passing_capture p m = is_pawn (man_at p.men m.from) && (files_apart m.from m.
 
 -- the rook goes over to the other side of the king; the pawn that was passed stands beside the one that captures it
 abbrev pub rook_moved : List Man → Side → Bool → List Man
-rook_moved men side kingside = slice_set (slice_set men (rook_home side kingside) Empty) (castling_crossed side kingside) (rook_of side)
+rook_moved men side kingside =
+    slice_set (slice_set men (rook_home side kingside) Empty) (castling_crossed side kingside) (rook_of side)
 
 abbrev pub men_after : Board → Move → List Man
 men_after p m =
@@ -120,23 +125,25 @@ men_after p m =
     else (if is_passing_capture p m then slice_set (men_moved p m) (square_of (file_of m.to) (rank_of m.from)) Empty
     else men_moved p m)
 
--- A king's move ends both rights of its side, and a move from or to a rook's home square ends the right with that rook.
-abbrev pub right_after : Board → Move → Side → Bool → Bool
-right_after p m side kingside =
+-- A right to castle is left (article 3.8.2.1): a king's move ends both rights of its side, and a move from or to a rook's home square ends
+-- the right with that rook.
+abbrev pub keeps_right : Board → Move → Side → Bool → Bool
+keeps_right p m side kingside =
     castling_right p.rights side kingside && not (stands p.men m.from (king_of side))
     && not (m.from == rook_home side kingside) && not (m.to == rook_home side kingside)
 
 abbrev pub rights_after : Board → Move → Rights
 rights_after p m = record {
-  white_kingside = right_after p m White true;
-  white_queenside = right_after p m White false;
-  black_kingside = right_after p m Black true;
-  black_queenside = right_after p m Black false;
+  white_kingside = keeps_right p m White true;
+  white_queenside = keeps_right p m White false;
+  black_kingside = keeps_right p m Black true;
+  black_queenside = keeps_right p m Black false;
 }
 
 -- a pawn's double step leaves the square that it passed
 abbrev pub passant_after : Board → Move → Option ℕ
-passant_after p m = if is_pawn (man_at p.men m.from) && (ranks_apart m.from m.to == 2) then Some (middle m.from m.to) else None
+passant_after p m =
+    if is_pawn (man_at p.men m.from) && (ranks_apart m.from m.to == 2) then Some (middle m.from m.to) else None
 
 -- the number rises after Black's move, up to its greatest value
 abbrev pub raised : Side → ℕ → ℕ
@@ -156,16 +163,17 @@ after p m = record {
   number = number_after p;
 }
 
--- a legal move leads to a position: the man can move so, and its own king isn't attacked then
+-- A legal move leads to a position (article 3.10.1): the man can move so, and its own king isn't attacked then (3.9.2).
 pub record Legal (p : Board) (m : Move) (q : Board) : Type 0 where
-  pub moves : can_move p m ≡ true
+  pub moves : is_pseudo_legal p m ≡ true
   pub leads : q ≡ after p m
   pub safe : in_check q.men p.side ≡ false
 
--- a side that is not in check may pass by the null move: men and rights stay, and the en passant square goes
+-- the position after the null move, which the Laws lack: men and rights stay, and the en passant square goes
 unfoldable pub after_pass : Board → Board
 after_pass p = record p { side = opponent p.side; passant = None; number = number_after p }
 
+-- a side that is not in check may pass by the null move
 pub record Passes (p : Board) (m : Move) (q : Board) : Type 0 where
   pub null : m ≡ null_move
   pub leads : q ≡ after_pass p

@@ -4,8 +4,9 @@ pub mod Moves
 pub mod Attacks
 pub mod Position
 pub mod Kept
+pub mod FenBytes
 pub mod Fen
 pub mod Reading
 pub mod Legal
-pub mod Marks
+pub mod Bitboards
 pub mod FenText

@@ -1,33 +1,12 @@
 -- The men of both sides, and the letters that stand for them.
-use Rattle.std.specs.Prelude.{ℕ, List, [], ◌∷◌, Bool, ◌==◌, Option, Some, None, find, option_map, nat_lt, nat_le, ◌&&◌}
+use Rattle.std.specs.Prelude.{ℕ, List, [], ◌∷◌, codes, Bool, ◌==◌, Option, find, option_map, nat_lt, nat_le, ◌&&◌}
+use Rattle.std.specs.List.{zip}
 use Rattle.cq_position.specs.declared.men.Man.{Man}
 use Rattle.cq_position.specs.declared.men.Man.TheVariants.{K, Q, R, B, N, P, BlackK, BlackQ, BlackR, BlackB, BlackN, BlackP, Empty}
+use Rattle.cq_position.specs.declared.men.Promotion.{Promotion}
+use Rattle.cq_position.specs.declared.men.Promotion.TheVariants.{None as NoPromotion, Q as ToQueen, R as ToRook, B as ToBishop, N as ToKnight}
 use Rattle.cq_position.specs.declared.men.Side.{Side}
 use Rattle.cq_position.specs.declared.men.Side.TheVariants.{White, Black}
-
--- the men with their letters, upper case for White (PGN standard 16.1.3.1)
-abbrev pub letters : List (ℕ × Man)
-letters = (75, K) ∷ (81, Q) ∷ (82, R) ∷ (66, B) ∷ (78, N) ∷ (80, P) ∷ (107, BlackK) ∷ (113, BlackQ) ∷ (114, BlackR) ∷ (98, BlackB) ∷ (110, BlackN) ∷ (112, BlackP) ∷ []
-
--- the man of a letter
-abbrev pub man_with_letter : ℕ → Option Man
-man_with_letter letter = option_map (λ entry. entry.1) (find (λ entry. entry.0 == letter) letters)
-
--- the letter of a man
-abbrev pub letter_of_man : Man → Option ℕ
-letter_of_man K = Some 75
-letter_of_man Q = Some 81
-letter_of_man R = Some 82
-letter_of_man B = Some 66
-letter_of_man N = Some 78
-letter_of_man P = Some 80
-letter_of_man BlackK = Some 107
-letter_of_man BlackQ = Some 113
-letter_of_man BlackR = Some 114
-letter_of_man BlackB = Some 98
-letter_of_man BlackN = Some 110
-letter_of_man BlackP = Some 112
-letter_of_man Empty = None
 
 -- the man's place in the order of the type
 abbrev pub man_number : Man → ℕ
@@ -48,6 +27,18 @@ man_number Empty = 12
 -- whether two squares hold the same
 abbrev pub same_man : Man → Man → Bool
 same_man m n = man_number m == man_number n
+
+-- the men with their letters, upper case for White (PGN standard 16.1.3.1)
+abbrev pub letters : List (ℕ × Man)
+letters =
+    zip (codes "KQRBNPkqrbnp") (K ∷ Q ∷ R ∷ B ∷ N ∷ P ∷ BlackK ∷ BlackQ ∷ BlackR ∷ BlackB ∷ BlackN ∷ BlackP ∷ [])
+
+-- the man of a letter, and the letter of a man; the empty square has none
+abbrev pub man_with_letter : ℕ → Option Man
+man_with_letter letter = option_map (λ entry. entry.1) (find (λ entry. entry.0 == letter) letters)
+
+abbrev pub letter_of_man : Man → Option ℕ
+letter_of_man man = option_map (λ entry. entry.0) (find (λ entry. same_man entry.1 man) letters)
 
 -- whether a man is of a side
 abbrev pub is_of_side : Side → Man → Bool
@@ -71,3 +62,11 @@ rook_of Black = BlackR
 abbrev pub pawn_of : Side → Man
 pawn_of White = P
 pawn_of Black = BlackP
+
+-- the place of a promotion in the order of the type: no promotion, and those to a queen, a rook, a bishop and a knight
+abbrev pub promotion_number : Promotion → ℕ
+promotion_number NoPromotion = 0
+promotion_number ToQueen = 1
+promotion_number ToRook = 2
+promotion_number ToBishop = 3
+promotion_number ToKnight = 4

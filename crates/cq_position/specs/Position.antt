@@ -4,8 +4,8 @@ use Rattle.cq_position.specs.Men.{opponent}
 use Rattle.cq_position.specs.Board.{Board, has_kings, has_pawn_on_edge, has_too_many_men, rights_stand, passant_stands}
 use Rattle.cq_position.specs.Attacks.{in_check}
 
--- one king of each side, no pawn on the first and last rank, at most sixteen men of a side, rights and the en passant square where they
--- stand, the side not to move not in check, and a number from 1 to 2^32 - 1
+-- One king of each side, no pawn on the first and the last rank, at most sixteen men of a side, each right to castle with its king and rook
+-- at home, an en passant square that a pawn can just have passed, the side not to move not in check, and a number from 1 to 2^32 - 1.
 pub record IsPosition (b : Board) : Type 0 where
   pub whole : length b.men ≡ 64
   pub kings : has_kings b.men ≡ true
@@ -13,6 +13,6 @@ pub record IsPosition (b : Board) : Type 0 where
   pub few_enough : has_too_many_men b.men ≡ false
   pub rights : rights_stand b.men b.rights ≡ true
   pub passed : passant_stands b.men b.side b.passant ≡ true
-  pub quiet : in_check b.men (opponent b.side) ≡ false
+  pub opponent_not_in_check : in_check b.men (opponent b.side) ≡ false
   pub numbered : 0 < b.number
   pub fits : b.number < 4294967296

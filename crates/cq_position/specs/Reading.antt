@@ -3,6 +3,7 @@ use Rattle.std.specs.Prelude.{◌≡◌, ℕ, ◌≤◌, List, [], Bool, true, f
 use Rattle.cq_position.specs.declared.men.Man.{Man}
 use Rattle.cq_position.specs.declared.men.Man.TheVariants.{Empty}
 use Rattle.cq_position.specs.declared.fen.fields.Fields.{Fields}
+use Rattle.cq_position.specs.FenBytes.{slash}
 use Rattle.cq_position.specs.Fen.{FieldTexts, parts, squares_of, is_rank_byte}
 
 -- the value, exactly where the test is true
@@ -23,7 +24,7 @@ texts_of f = record {
 -- the ranks behind a slash, none where no slash stood
 abbrev pub ranks_left : Option (List ℕ) → List (List ℕ)
 ranks_left None = []
-ranks_left (Some text) = parts 47 text
+ranks_left (Some text) = parts slash text
 
 -- a run of squares that hold the same, which a byte of a rank stands for
 pub record IsRunOf (byte : ℕ) (man : Man) (width : ℕ) : Type 0 where

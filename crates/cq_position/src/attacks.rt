@@ -3,30 +3,33 @@ ghost use Rattle.std.specs.Prelude.{◌≡◌, ◌&&◌, ◌||◌, ◌<◌};
 ghost use Rattle.cq_geometry.specs.Lines as lines;
 ghost use Rattle.cq_geometry.specs.Steps as steps;
 ghost use Rattle.cq_position.specs.Attacks as attack;
-ghost use Rattle.cq_position.specs.Marks.{Marks, has};
+ghost use Rattle.cq_position.specs.Bitboards.{IsBitboard, contains};
 
-use crate::men::{Man, Side, is_of_side, is_same, king_of, opponent};
-use crate::position::Position;
-use cq_geometry::{Square, Step, between, file, king_steps, knight_steps, rank, ray};
+use crate::men::{Man, Side, is_of_side, king_of, opponent};
+use crate::position::{Position, stands};
+use cq_geometry::{
+    Square, Step, between, file, files_apart, king_steps, knight_steps, rank, ranks_apart, ray,
+};
 
-/// The squares that the man on a square attacks, whatever stands there: bit k of the answer is square k. An empty square attacks none.
+/// The squares that the man on a square attacks, whatever stands there (FIDE Laws of Chess, articles 3.2 to 3.8): bit k of the
+/// answer is square k. An empty square attacks none.
 ///
 /// A rook, a bishop and a queen attack along their lines up to and with the first man in the way.
 #[tactic(auto, unfolding(crate::specs::Attacks::attacks))]
 pub fn attacks_from(position: &Position, square: Square) -> u64
-    ensures { Marks result (attack.attacks position.now.men square) }
+    ensures { IsBitboard result (attack.attacks position.now.men square) }
 {
     squares_attacked(position.at(square), position.men(), square)
 }
 
-/// Whether the king of a side is attacked.
+/// Whether the king of a side is attacked (FIDE Laws of Chess, article 3.9.1).
 pub fn in_check(position: &Position, side: Side) -> bool
     ensures { result ≡ attack.in_check position.now.men side }
 {
     is_king_attacked(position.men(), side)
 }
 
-/// Whether the king of a side is attacked on this board.
+/// Whether the king of a side is attacked on this board, the men of the squares a1, b1, .. h8 (FIDE Laws of Chess, article 3.9.1).
 pub fn is_king_attacked(men: &[Man; 64], side: Side) -> bool
     ensures { result ≡ attack.in_check men.now side }
 {
@@ -42,11 +45,10 @@ pub fn is_king_attacked(men: &[Man; 64], side: Side) -> bool
 fn is_attacked_king(men: &[Man; 64], side: Side, square: Square) -> bool
     ensures { result ≡ attack.attacked_king men.now side square }
 {
-    is_same(men[usize::from(square.number())], king_of(side))
-        && is_attacked(men, opponent(side), square)
+    stands(men, square, king_of(side)) && is_attacked(men, opponent(side), square)
 }
 
-/// Whether a man of a side attacks a square of this board.
+/// Whether a man of a side attacks a square of this board, also where the man may not move (FIDE Laws of Chess, article 3.9.1).
 pub fn is_attacked(men: &[Man; 64], by: Side, square: Square) -> bool
     ensures { result ≡ attack.is_attacked men.now by square }
 {
@@ -69,7 +71,7 @@ fn is_attacker(men: &[Man; 64], by: Side, from: Square, to: Square) -> bool
 
 // Whether the man attacks from one square to another.
 fn is_attack(man: Man, men: &[Man; 64], from: Square, to: Square) -> bool
-    ensures { result ≡ attack.attacks_as man (attack.is_taken men.now) from to }
+    ensures { result ≡ attack.attacks_as man (attack.is_occupied men.now) from to }
 {
     match man {
         Man::K | Man::BlackK => is_king_step(from, to),
@@ -82,20 +84,6 @@ fn is_attack(man: Man, men: &[Man; 64], from: Square, to: Square) -> bool
         Man::BlackP => is_pawn_attack(Side::Black, from, to),
         Man::Empty => false,
     }
-}
-
-/// How many files lie from one square to another.
-pub fn files_apart(a: Square, b: Square) -> u8
-    ensures { result ≡ steps.files_apart a b }
-{
-    file(a).abs_diff(file(b))
-}
-
-/// How many ranks lie from one square to another.
-pub fn ranks_apart(a: Square, b: Square) -> u8
-    ensures { result ≡ steps.ranks_apart a b }
-{
-    rank(a).abs_diff(rank(b))
 }
 
 fn is_king_step(a: Square, b: Square) -> bool
@@ -112,6 +100,7 @@ fn is_knight_step(a: Square, b: Square) -> bool
     files == 1 && ranks == 2 || files == 2 && ranks == 1
 }
 
+/// Whether a pawn of a side on `a` attacks `b`: one of the two squares diagonally in front of it (FIDE Laws of Chess, article 3.7.3).
 pub fn is_pawn_attack(side: Side, a: Square, b: Square) -> bool
     ensures { result ≡ attack.is_pawn_attack side a b }
 {
@@ -135,27 +124,28 @@ fn is_diagonal(a: Square, b: Square) -> bool
             || file(a) + rank(a) == file(b) + rank(b))
 }
 
-// Whether no man stands between two squares.
+/// Whether no man stands strictly between two squares of one rank, file or diagonal; true for other pairs.
 pub fn is_open(men: &[Man; 64], a: Square, b: Square) -> bool
-    ensures { result ≡ lines.is_open (attack.is_taken men.now) a b }
+    ensures { result ≡ lines.is_open (attack.is_occupied men.now) a b }
 {
     between(a, b)
         .as_slice()
         .iter()
-        .all(|square| !is_taken(men, *square))
+        .all(|square| !is_occupied(men, *square))
 }
 
-pub fn is_taken(men: &[Man; 64], square: Square) -> bool
-    ensures { result ≡ attack.is_taken men.now square }
+/// Whether a man stands on a square.
+pub fn is_occupied(men: &[Man; 64], square: Square) -> bool
+    ensures { result ≡ attack.is_occupied men.now square }
 {
-    !is_same(men[usize::from(square.number())], Man::Empty)
+    !stands(men, square, Man::Empty)
 }
 
 // The squares that the man attacks from a square.
 #[tactic(auto, using(crate::proofs::Marked::marks_queen, crate::proofs::Marked::marks_none))]
 fn squares_attacked(man: Man, men: &[Man; 64], from: Square) -> u64
     requires { from < 64 }
-    ensures { Marks result (attack.attacks_as man (attack.is_taken men.now) from) }
+    ensures { IsBitboard result (attack.attacks_as man (attack.is_occupied men.now) from) }
 {
     match man {
         Man::K | Man::BlackK => king_squares(from),
@@ -170,20 +160,20 @@ fn squares_attacked(man: Man, men: &[Man; 64], from: Square) -> u64
 }
 
 fn king_squares(from: Square) -> u64
-    ensures { Marks result (steps.is_king_step from) }
+    ensures { IsBitboard result (steps.is_king_step from) }
 {
     marked(king_steps(from).as_slice())
 }
 
 fn knight_squares(from: Square) -> u64
-    ensures { Marks result (steps.is_knight_step from) }
+    ensures { IsBitboard result (steps.is_knight_step from) }
 {
     marked(knight_steps(from).as_slice())
 }
 
 fn orthogonal_squares(men: &[Man; 64], from: Square) -> u64
     requires { from < 64 }
-    ensures { Marks result (λ to. lines.is_orthogonal from to && lines.is_open (attack.is_taken men.now) from to) }
+    ensures { IsBitboard result (λ to. lines.is_orthogonal from to && lines.is_open (attack.is_occupied men.now) from to) }
 {
     seen(men, ray::<0, 1>(from).as_slice())
         | seen(men, ray::<0, -1>(from).as_slice())
@@ -193,7 +183,7 @@ fn orthogonal_squares(men: &[Man; 64], from: Square) -> u64
 
 fn diagonal_squares(men: &[Man; 64], from: Square) -> u64
     requires { from < 64 }
-    ensures { Marks result (λ to. lines.is_diagonal from to && lines.is_open (attack.is_taken men.now) from to) }
+    ensures { IsBitboard result (λ to. lines.is_diagonal from to && lines.is_open (attack.is_occupied men.now) from to) }
 {
     seen(men, ray::<1, 1>(from).as_slice())
         | seen(men, ray::<-1, 1>(from).as_slice())
@@ -201,14 +191,14 @@ fn diagonal_squares(men: &[Man; 64], from: Square) -> u64
         | seen(men, ray::<-1, -1>(from).as_slice())
 }
 
-// The squares up to and with the first that is taken.
+// The squares up to and with the first that is occupied.
 fn seen(men: &[Man; 64], squares: &[Square]) -> u64
-    ensures { Marks result (has (lines.seen (attack.is_taken men.now) squares.now)) }
+    ensures { IsBitboard result (contains (lines.seen (attack.is_occupied men.now) squares.now)) }
 {
     let mut mask = 0;
     for square in squares {
         mask |= 1 << square.number();
-        if is_taken(men, *square) {
+        if is_occupied(men, *square) {
             return mask;
         }
     }
@@ -217,7 +207,7 @@ fn seen(men: &[Man; 64], squares: &[Square]) -> u64
 
 // The squares of a list.
 fn marked(squares: &[Square]) -> u64
-    ensures { Marks result (has squares.now) }
+    ensures { IsBitboard result (contains squares.now) }
 {
     let mut mask = 0;
     for square in squares {
@@ -228,7 +218,7 @@ fn marked(squares: &[Square]) -> u64
 
 fn pawn_squares(side: Side, from: Square) -> u64
     requires { from < 64 }
-    ensures { Marks result (attack.is_pawn_attack side from) }
+    ensures { IsBitboard result (attack.is_pawn_attack side from) }
 {
     match side {
         Side::White => mark(Step::<-1, 1>::step(from)) | mark(Step::<1, 1>::step(from)),
@@ -237,7 +227,7 @@ fn pawn_squares(side: Side, from: Square) -> u64
 }
 
 fn mark(square: Option<Square>) -> u64
-    ensures { Marks result (attack.is_goal square) }
+    ensures { IsBitboard result (attack.is_goal square) }
 {
     match square {
         Some(square) => 1 << square.number(),

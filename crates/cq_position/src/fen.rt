@@ -7,6 +7,7 @@ use crate::men::opponent;
 use crate::position::{Position, has_kings, has_pawn_on_edge, has_too_many_men};
 use thiserror::Error;
 
+mod bytes;
 mod fields;
 mod placement;
 mod status;
@@ -14,10 +15,13 @@ mod writing;
 
 use fields::split_fields;
 use placement::read_placement;
-use status::{is_castling, is_passant, passant_kept, read_number, read_side, rights_kept};
+use status::{
+    is_castling_field, is_passant_field, passant_kept, read_number, read_side, rights_kept,
+};
 pub use writing::fen_text;
 
-/// Why a text is no position. Where several faults apply, the first in this order is answered.
+/// Why a text is no position: its form (PGN standard, section 16.1.3), or a position that no game has. Where several faults apply, the
+/// first in this order is answered.
 #[derive(Clone, Copy, Debug, PartialEq, Eq, Error)]
 pub enum FenFault {
     #[error("not six fields, nor four")]
@@ -42,10 +46,11 @@ pub enum FenFault {
     OpponentInCheck,
 }
 
-/// Reads a position from the text of its FEN, or answers the first fault that applies.
+/// Reads a position from the text of its FEN (PGN standard, section 16.1), or answers the first fault that applies.
 ///
-/// Fields are separated by spaces, which may also stand before and behind them. A text of four fields is read as with `0 1` behind them.
-/// The halfmove clock is not kept, and the move number 0 is read as 1.
+/// Fields are separated by spaces, which may also stand before and behind them. A text of four fields is read as with `0 1` behind
+/// them. The halfmove clock is not kept, and the move number 0 is read as 1. A right to castle counts only with king and rook at home,
+/// and an en passant square only where the opponent's pawn can just have passed it.
 #[tactic(auto, unfolding(crate::specs::Fen::fen_meaning, crate::specs::Fen::position_or_fault))]
 pub fn read_fen(text: &[u8]) -> Result<Position, FenFault>
     ensures { result ≡ fen_meaning text.now }
@@ -53,10 +58,10 @@ pub fn read_fen(text: &[u8]) -> Result<Position, FenFault>
     let fields = split_fields(text).ok_or(FenFault::Fields)?;
     let men = read_placement(fields.placement).ok_or(FenFault::Placement)?;
     let side = read_side(fields.side).ok_or(FenFault::Side)?;
-    if !is_castling(fields.castling) {
+    if !is_castling_field(fields.castling) {
         return Err(FenFault::Castling);
     }
-    if !is_passant(fields.passant) {
+    if !is_passant_field(fields.passant) {
         return Err(FenFault::EnPassant);
     }
     let _clock = read_number(fields.clock).ok_or(FenFault::Number)?;

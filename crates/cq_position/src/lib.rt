@@ -3,6 +3,7 @@
 
 pub mod attacks;
 pub mod fen;
+pub mod home;
 pub mod men;
 pub mod moves;
 pub mod position;
@@ -10,7 +11,7 @@ pub mod position;
 pub use attacks::{attacks_from, in_check};
 pub use fen::{FenFault, fen_text, read_fen};
 pub use men::{
-    Man, Promotion, Side, is_of_side, is_same, king_of, letter_of, man_of_letter, opponent,
+    Man, Promotion, Side, is_of_side, is_same, king_of, letter_of, man_of_letter, opponent, rook_of,
 };
 pub use moves::Move;
 pub use position::{Position, Rights, material};

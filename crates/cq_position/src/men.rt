@@ -10,7 +10,7 @@ pub enum Side {
     Black,
 }
 
-/// What stands on a square: a man of White (K to P), a man of Black, or nothing.
+/// What stands on a square: a man of White (`K` to `P`: king, queen, rook, bishop, knight, pawn), a man of Black, or nothing.
 #[derive(Clone, Copy, Debug, PartialEq, Eq)]
 pub enum Man {
     K,
@@ -28,7 +28,8 @@ pub enum Man {
     Empty,
 }
 
-/// What a pawn that reaches the last rank becomes; `None` for every other move.
+/// What a pawn that reaches the last rank becomes: a queen, a rook, a bishop or a knight (FIDE Laws of Chess, article 3.7); `None` for
+/// every other move.
 #[derive(Clone, Copy, Debug, PartialEq, Eq)]
 pub enum Promotion {
     None,
@@ -38,7 +39,7 @@ pub enum Promotion {
     N,
 }
 
-/// The man of a letter: `KQRBNP` for White, `kqrbnp` for Black, none for any other byte.
+/// The man of a letter: `KQRBNP` for White, `kqrbnp` for Black, None for any other byte (PGN standard, section 16.1.3.1).
 pub fn man_of_letter(letter: u8) -> Option<Man>
     ensures { result ≡ man_with_letter letter }
 {
@@ -59,7 +60,7 @@ pub fn man_of_letter(letter: u8) -> Option<Man>
     }
 }
 
-/// The letter of a man, upper case for White; none for the empty square.
+/// The letter of a man, upper case for White; None for the empty square (PGN standard, section 16.1.3.1).
 pub fn letter_of(man: Man) -> Option<u8>
     ensures { result ≡ letter_of_man man }
 {
@@ -80,14 +81,14 @@ pub fn letter_of(man: Man) -> Option<u8>
     }
 }
 
-// Whether two squares hold the same.
+/// Whether two squares hold the same: men of one kind and one side, or nothing.
 pub fn is_same(man: Man, other: Man) -> bool
     ensures { result ≡ same_man man other }
 {
     man as u8 == other as u8
 }
 
-// Whether a man is of a side.
+/// Whether a man is of a side; the empty square is of none.
 pub fn is_of_side(man: Man, side: Side) -> bool
     ensures { result ≡ men_spec.is_of_side side man }
 {
@@ -108,12 +109,22 @@ pub fn opponent(side: Side) -> Side
     }
 }
 
-/// The king of a side.
+/// The man that is the king of a side.
 pub fn king_of(side: Side) -> Man
     ensures { result ≡ men_spec.king_of side }
 {
     match side {
         Side::White => Man::K,
         Side::Black => Man::BlackK,
+    }
+}
+
+/// The man that is a rook of a side.
+pub fn rook_of(side: Side) -> Man
+    ensures { result ≡ men_spec.rook_of side }
+{
+    match side {
+        Side::White => Man::R,
+        Side::Black => Man::BlackR,
     }
 }

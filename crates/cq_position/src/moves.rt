@@ -7,13 +7,16 @@ use cq_geometry::Square;
 
 /// A move, or a null move, by which a side passes.
 ///
-/// Castling is the king's move of two squares. `promotion` is `None` but where a pawn reaches the last rank.
-/// A null move has `null` true, both squares a1 and the promotion `None`.
+/// Castling is the king's move of two squares. A null move has both squares a1 and the promotion `None`.
 #[derive(Clone, Copy, Debug, PartialEq, Eq)]
 pub struct Move {
+    /// The square that the man leaves.
     pub from: Square,
+    /// The square to which the man goes.
     pub to: Square,
+    /// What the man becomes; `None` but where a pawn reaches the last rank.
     pub promotion: Promotion,
+    /// Whether it is the null move.
     pub null: bool,
 }
 

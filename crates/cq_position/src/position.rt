@@ -9,20 +9,24 @@ use crate::men::{Man, Side, is_of_side, is_same};
 use cq_geometry::Square;
 use std::marker::Model;
 
-/// The rights to castle that are left.
+/// The rights to castle that are left (FIDE Laws of Chess, article 3.8.2).
 #[derive(Clone, Copy, Debug, PartialEq, Eq)]
 pub struct Rights {
+    /// White may castle with the rook of h1.
     pub white_kingside: bool,
+    /// White may castle with the rook of a1.
     pub white_queenside: bool,
+    /// Black may castle with the rook of h8.
     pub black_kingside: bool,
+    /// Black may castle with the rook of a8.
     pub black_queenside: bool,
 }
 
 /// A position: contracts see its board.
 ///
-/// It has one king of each side, no pawn on the first and the last rank and at most sixteen men of a side. A right to castle stands only
-/// with king and rook at home, and an en passant square only where the opponent's pawn can just have passed it. The side that is not to move
-/// is not in check. The number of the move is at least 1.
+/// It has one king of each side, no pawn on the first and the last rank and at most sixteen men of a side. A right to castle stands
+/// only with king and rook at home, and an en passant square only where the opponent's pawn can just have passed it. The side that is
+/// not to move is not in check. The number of the move is at least 1.
 #[derive(Clone, Copy, Debug, PartialEq, Eq)]
 pub struct Position {
     number: u32,
@@ -76,7 +80,7 @@ impl Position {
         }
     }
 
-    /// The position of these parts, which meet the conditions of a position.
+    /// The position of these parts, which meet the conditions of a position. `men` has the men of the squares a1, b1, .. h8.
     pub fn from_parts(
         number: u32,
         men: [Man; 64],
@@ -121,7 +125,7 @@ impl Position {
         self.side
     }
 
-    /// The en passant square that the position keeps: the one that the opponent's pawn has just passed by a double step.
+    /// The en passant square that the position keeps: one that the opponent's pawn can just have passed by a double step.
     pub fn passant(&self) -> Option<Square>
         ensures square { result ≡ self.now.passant }
         ensures kept { IsPosition self.now }
@@ -150,7 +154,7 @@ impl Position {
         self.rights
     }
 
-    /// The number of the move, from 1, which rises after Black's moves.
+    /// The number of the move, from 1 to 4,294,967,295, which rises after Black's moves.
     pub fn number(&self) -> u32
         ensures number { result ≡ self.now.number }
         ensures kept { IsPosition self.now }
@@ -159,7 +163,14 @@ impl Position {
     }
 }
 
-/// How many squares hold a man, or nothing where `Empty` is asked.
+/// Whether a square of the board holds a man, or nothing where `Empty` is asked. `men` has the men of the squares a1, b1, .. h8.
+pub fn stands(men: &[Man; 64], square: Square, man: Man) -> bool
+    ensures { result ≡ board.stands men.now square man }
+{
+    is_same(men[usize::from(square.number())], man)
+}
+
+/// How many squares hold a man, or nothing where `Empty` is asked, from 0 to 64.
 pub fn material(position: &Position, man: Man) -> u32
     ensures { result ≡ count_of man position.now.men }
 {
@@ -173,14 +184,14 @@ fn count(men: &[Man; 64], man: Man) -> u32
     men.iter().filter(|m| is_same(**m, man)).count() as u32
 }
 
-// Whether there is one king of each side.
+/// Whether there is exactly one king of each side.
 pub fn has_kings(men: &[Man; 64]) -> bool
     ensures { result ≡ board.has_kings men.now }
 {
     count(men, Man::K) == 1 && count(men, Man::BlackK) == 1
 }
 
-// Whether a pawn stands on the first or the last rank.
+/// Whether a pawn of either side stands on the first or the last rank.
 pub fn has_pawn_on_edge(men: &[Man; 64]) -> bool
     ensures { result ≡ board.has_pawn_on_edge men.now }
 {
@@ -200,16 +211,16 @@ pub fn is_pawn(man: Man) -> bool
     is_same(man, Man::P) || is_same(man, Man::BlackP)
 }
 
-// Whether a side has more than sixteen men.
+/// Whether a side has more than sixteen men.
 pub fn has_too_many_men(men: &[Man; 64]) -> bool
     ensures { result ≡ board.has_too_many_men men.now }
 {
-    strength(men, Side::White) > 16 || strength(men, Side::Black) > 16
+    count_of_side(men, Side::White) > 16 || count_of_side(men, Side::Black) > 16
 }
 
 // How many men a side has.
-fn strength(men: &[Man; 64], side: Side) -> u32
-    ensures { result ≡ board.strength side men.now }
+fn count_of_side(men: &[Man; 64], side: Side) -> u32
+    ensures { result ≡ board.count_of_side side men.now }
 {
     men.iter().filter(|m| is_of_side(**m, side)).count() as u32
 }

@@ -8,7 +8,7 @@ use Rattle.cq_geometry.proofs.Board.{contains_filter}
 use Rattle.cq_position.specs.declared.moves.Move.{Move}
 use Rattle.cq_position.specs.Board.{Board}
 use Rattle.cq_position.specs.Attacks.{in_check}
-use Rattle.cq_position.specs.Legal.{Legal, can_move, after_pass}
+use Rattle.cq_position.specs.Legal.{Legal, is_pseudo_legal, after_pass}
 use Rattle.cq_position.specs.Moves.{null_move}
 use Rattle.cq_moves.specs.LegalMoves.{Precedes}
 use Rattle.cq_san.specs.declared.parts.Parts.{Parts}
@@ -117,7 +117,7 @@ exactly_ambiguous p (Some parts) r h = (λ e. subst (IsAnswer p parts) e h, λ k
 
 -- a legal move is no null move
 legal_is_no_pass : (p : Board) (m : Move) (q : Board) → Legal p m q → m.null ≡ true → ⊥
-unfolding can_move
+unfolding is_pseudo_legal
 legal_is_no_pass p m q g e = let h = g.moves in cc
 
 -- the null move alone fits its parts, where the side to move is not in check

@@ -4,10 +4,10 @@ use Rattle.cq_geometry.specs.Squares.{file_of, rank_of}
 use Rattle.cq_position.specs.declared.men.Man.{Man}
 use Rattle.cq_position.specs.declared.men.Man.TheVariants.{K, Q, R, B, N, P, BlackK, BlackQ, BlackR, BlackB, BlackN, BlackP}
 use Rattle.cq_position.specs.declared.men.Promotion.{Promotion}
-use Rattle.cq_position.specs.declared.men.Promotion.TheVariants.{None as NoPromotion, Q as ToQueen, R as ToRook, B as ToBishop, N as ToKnight}
 use Rattle.cq_position.specs.declared.men.Side.{Side}
 use Rattle.cq_position.specs.declared.men.Side.TheVariants.{White, Black}
 use Rattle.cq_position.specs.declared.moves.Move.{Move}
+use Rattle.cq_position.specs.Men.{promotion_number}
 use Rattle.cq_position.specs.Board.{Board, stands}
 use Rattle.cq_position.specs.Legal.{Legal, Passes, is_castling}
 use Rattle.cq_san.specs.declared.parts.Piece.{Piece}
@@ -30,14 +30,6 @@ man_of Black Rook = BlackR
 man_of Black Bishop = BlackB
 man_of Black Knight = BlackN
 man_of Black Pawn = BlackP
-
--- the place of a promotion in the order of the type
-abbrev pub promotion_number : Promotion → ℕ
-promotion_number NoPromotion = 0
-promotion_number ToQueen = 1
-promotion_number ToRook = 2
-promotion_number ToBishop = 3
-promotion_number ToKnight = 4
 
 -- a part that isn't given agrees with everything
 abbrev pub agrees_where_given : Option ℕ → ℕ → Bool

@@ -1,20 +1,29 @@
 //! The fields of a FEN text.
 ghost use Rattle.std.specs.Prelude.{◌≡◌, ◌==◌, [], ◌∷◌, not, position, MatchOption};
 ghost use Rattle.cq_position.specs.Fen.{fields, field_texts};
+ghost use Rattle.cq_position.specs.FenBytes.{space};
 ghost use Rattle.cq_position.specs.Reading.{texts_of};
 
-// The six fields of a text.
+use crate::fen::bytes::SPACE;
+
+/// The six fields of a text, each without spaces and not empty (PGN standard, section 16.1.3).
 #[derive(Clone, Copy)]
 pub struct Fields<'a> {
+    /// The men, rank by rank from the eighth down (section 16.1.3.1).
     pub placement: &'a [u8],
+    /// The side to move (section 16.1.3.2).
     pub side: &'a [u8],
+    /// The rights to castle (section 16.1.3.3).
     pub castling: &'a [u8],
+    /// The en passant square (section 16.1.3.4).
     pub passant: &'a [u8],
+    /// The halfmove clock (section 16.1.3.5).
     pub clock: &'a [u8],
+    /// The number of the move (section 16.1.3.6).
     pub number: &'a [u8],
 }
 
-// The fields, where there are six, or four.
+/// The fields of a text, where there are six, or four, which are read as with the clock `0` and the number `1`; None for any other count.
 pub fn split_fields(text: &[u8]) -> Option<Fields<'_>>
     ensures { MatchOption result (field_texts (fields text.now) ≡ None) (λ f. field_texts (fields text.now) ≡ Some (texts_of f)) }
 {
@@ -53,18 +62,18 @@ fn first_field(text: &[u8]) -> Option<(&[u8], &[u8])>
 {
     let start = place_beside_spaces(text)?;
     let text = &text[start..];
-    let end = place_of(text, b' ').unwrap_or(text.len());
+    let end = place_of(text, SPACE).unwrap_or(text.len());
     Some((&text[..end], &text[end..]))
 }
 
 // The place of the first byte that is no space.
 fn place_beside_spaces(text: &[u8]) -> Option<usize>
-    ensures { result ≡ position (λ b. not (b == 32)) text.now }
+    ensures { result ≡ position (λ b. not (b == space)) text.now }
 {
-    text.iter().position(|b| *b != b' ')
+    text.iter().position(|b| *b != SPACE)
 }
 
-// The first place of a byte.
+/// The first place of a byte in a text, from 0; None where the text lacks it.
 pub fn place_of(text: &[u8], byte: u8) -> Option<usize>
     ensures { result ≡ position (λ b. b == byte) text.now }
 {

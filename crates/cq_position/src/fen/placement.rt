@@ -2,12 +2,16 @@
 ghost use Rattle.std.specs.Prelude.{◌≡◌, ◌∷◌, false, MatchOption};
 ghost use Rattle.std.specs.Option.{option_copied};
 ghost use Rattle.cq_position.specs.Fen.{parts, is_rank, is_rank_byte, rank_squares, is_placement, placed_men};
+ghost use Rattle.cq_position.specs.FenBytes.{slash};
 ghost use Rattle.cq_position.specs.Reading.{SomeIfTrue, IsRunOf, ranks_left};
 
+use crate::fen::bytes::SLASH;
 use crate::fen::fields::place_of;
 use crate::men::{Man, man_of_letter};
 
-// The men of eight ranks, from a1 to h8.
+/// The men of the squares a1, b1, .. h8 from the text of eight ranks, from the eighth down with a slash between two (PGN standard,
+/// section 16.1.3.1); None where there are more or fewer ranks, a byte is neither a digit from 1 to 8 nor a man's letter, or a rank has
+/// not eight squares.
 pub fn read_placement(text: &[u8]) -> Option<[Man; 64]>
     ensures { SomeIfTrue result (is_placement text.now) (placed_men text.now) }
 {
@@ -29,9 +33,9 @@ pub fn read_placement(text: &[u8]) -> Option<[Man; 64]>
 // The text of the first rank, and what stands behind its slash, if there is one.
 #[tactic(auto, using(crate::proofs::Splitting::one_part, crate::proofs::Splitting::first_of_parts, std::proofs::lemmas::List::take_rest))]
 fn cut_rank(text: &[u8]) -> (&[u8], Option<&[u8]>)
-    ensures { parts 47 text.now ≡ result.0.now ∷ ranks_left (option_copied result.1) }
+    ensures { parts slash text.now ≡ result.0.now ∷ ranks_left (option_copied result.1) }
 {
-    match place_of(text, b'/') {
+    match place_of(text, SLASH) {
         None => (text, None),
         Some(end) => (&text[..end], Some(&text[end + 1..])),
     }

@@ -1,50 +1,81 @@
 //! The fields of a FEN text behind its men.
-ghost use Rattle.std.specs.Prelude.{◌≡◌, ◌-◌, true};
+ghost use Rattle.std.specs.Prelude.{◌≡◌, ◌-◌, ◌&&◌, true};
 ghost use Rattle.std.specs.List.{list_all};
 ghost use Rattle.cq_position.specs.Fen.{is_side, side_named, is_number, value_of_digits};
 ghost use Rattle.cq_position.specs.Fen as fen;
+ghost use Rattle.cq_position.specs.FenBytes.{digit_zero};
 ghost use Rattle.cq_position.specs.Board as board;
 ghost use Rattle.cq_position.specs.Reading.{SomeIfTrue};
 
-use crate::men::{Man, Side, is_same};
-use crate::position::Rights;
+use crate::fen::bytes::{DASH, right_letter, side_letter};
+use crate::home::{king_home, rook_home};
+use crate::men::{Man, Side, is_same, king_of, rook_of};
+use crate::position::{Rights, stands};
 use cq_geometry::{Square, rank, square_at};
 
-// The side to move.
+/// The side to move, which `w` or `b` names (PGN standard, section 16.1.3.2); None for any other text.
 pub fn read_side(text: &[u8]) -> Option<Side>
     ensures { SomeIfTrue result (is_side text.now) (side_named text.now) }
 {
-    match text {
-        b"w" => Some(Side::White),
-        b"b" => Some(Side::Black),
-        _ => None,
+    if is_byte_alone(text, side_letter(Side::White)) {
+        Some(Side::White)
+    } else if is_byte_alone(text, side_letter(Side::Black)) {
+        Some(Side::Black)
+    } else {
+        None
     }
 }
 
-// Whether the text is a dash or names rights to castle.
-pub fn is_castling(text: &[u8]) -> bool
-    ensures { result ≡ fen.is_castling text.now }
+/// Whether the text is a dash, or one or more letters of `KQkq` (PGN standard, section 16.1.3.3).
+pub fn is_castling_field(text: &[u8]) -> bool
+    ensures { result ≡ fen.is_castling_field text.now }
 {
-    is_dash(text) || names_rights(text)
+    is_byte_alone(text, DASH) || names_rights(text)
 }
 
+#[tactic(auto, using(crate::proofs::Joined::some_letters))]
 fn names_rights(text: &[u8]) -> bool
+    ensures { result ≡ (fen.is_not_empty text.now && list_all fen.is_castling_letter text.now) }
+{
+    match text {
+        [] => false,
+        [_, ..] => are_castling_letters(text),
+    }
+}
+
+fn are_castling_letters(text: &[u8]) -> bool
     ensures { result ≡ list_all fen.is_castling_letter text.now }
 {
-    text.iter().all(|b| matches!(*b, b'K' | b'Q' | b'k' | b'q'))
+    text.iter().all(|b| is_castling_letter(*b))
 }
 
-// The rights named whose king and rook stand at home.
+fn is_castling_letter(byte: u8) -> bool
+    ensures { result ≡ fen.is_castling_letter byte }
+{
+    byte == right_letter(Side::White, true)
+        || byte == right_letter(Side::White, false)
+        || byte == right_letter(Side::Black, true)
+        || byte == right_letter(Side::Black, false)
+}
+
+/// The rights to castle that the text's letters name, those whose king and rook stand at home.
 pub fn rights_kept(men: &[Man; 64], text: &[u8]) -> Rights
     ensures value { result ≡ fen.rights_kept men.now text.now }
     ensures stand { board.rights_stand men.now result ≡ true }
 {
     Rights {
-        white_kingside: has_letter(text, b'K') && are_home(men, Side::White, true),
-        white_queenside: has_letter(text, b'Q') && are_home(men, Side::White, false),
-        black_kingside: has_letter(text, b'k') && are_home(men, Side::Black, true),
-        black_queenside: has_letter(text, b'q') && are_home(men, Side::Black, false),
+        white_kingside: right_counts(men, text, Side::White, true),
+        white_queenside: right_counts(men, text, Side::White, false),
+        black_kingside: right_counts(men, text, Side::Black, true),
+        black_queenside: right_counts(men, text, Side::Black, false),
     }
+}
+
+// Whether the text names a right whose king and rook stand at home.
+fn right_counts(men: &[Man; 64], text: &[u8], side: Side, kingside: bool) -> bool
+    ensures { result ≡ fen.right_counts men.now text.now side kingside }
+{
+    has_letter(text, right_letter(side, kingside)) && are_home(men, side, kingside)
 }
 
 fn has_letter(text: &[u8], letter: u8) -> bool
@@ -57,39 +88,38 @@ fn has_letter(text: &[u8], letter: u8) -> bool
 fn are_home(men: &[Man; 64], side: Side, kingside: bool) -> bool
     ensures { result ≡ board.are_home men.now side kingside }
 {
-    let (king, king_home, rook) = match side {
-        Side::White => (Man::K, 4, Man::R),
-        Side::Black => (Man::BlackK, 60, Man::BlackR),
-    };
-    let rook_home = match (side, kingside) {
-        (Side::White, true) => 7,
-        (Side::White, false) => 0,
-        (Side::Black, true) => 63,
-        (Side::Black, false) => 56,
-    };
-    is_same(men[king_home], king) && is_same(men[rook_home], rook)
+    stands(men, king_home(side), king_of(side))
+        && stands(men, rook_home(side, kingside), rook_of(side))
 }
 
-fn is_dash(text: &[u8]) -> bool
-    ensures { result ≡ fen.is_byte_alone 45 text.now }
-{
-    matches!(text, b"-")
-}
-
-// Whether the text is a dash or names a square of rank 3 or 6.
-pub fn is_passant(text: &[u8]) -> bool
-    ensures { result ≡ fen.is_passant text.now }
+fn is_byte_alone(text: &[u8], byte: u8) -> bool
+    ensures { result ≡ fen.is_byte_alone byte text.now }
 {
     match text {
-        [byte] => *byte == b'-',
+        [first] => *first == byte,
+        _ => false,
+    }
+}
+
+/// Whether the text is a dash or names a square of rank 3 or 6 (PGN standard, section 16.1.3.4).
+pub fn is_passant_field(text: &[u8]) -> bool
+    ensures { result ≡ fen.is_passant_field text.now }
+{
+    is_byte_alone(text, DASH) || names_passant_square(text)
+}
+
+fn names_passant_square(text: &[u8]) -> bool
+    ensures { result ≡ fen.names_passant_square text.now }
+{
+    match text {
         [file, rank] => matches!(*file, b'a'..=b'h') && matches!(*rank, b'3' | b'6'),
         _ => false,
     }
 }
 
-// The square named, where a pawn can just have passed it.
+/// The en passant square that the text names, where a pawn of the opponent can just have passed it; None else, and for a dash.
 pub fn passant_kept(men: &[Man; 64], side: Side, text: &[u8]) -> Option<Square>
-    requires { fen.is_passant text.now ≡ true }
+    requires { fen.is_passant_field text.now ≡ true }
     ensures value { result ≡ fen.passant_kept men.now side text.now }
     ensures stands { board.passant_stands men.now side result ≡ true }
 {
@@ -125,7 +155,7 @@ fn was_passed(men: &[Man; 64], side: Side, square: Square) -> bool
     }
 }
 
-// A number of 1 to 9 digits.
+/// The number that 1 to 9 digits write, from 0 to 999,999,999 (PGN standard, sections 16.1.3.5 and 16.1.3.6); None for any other text.
 pub fn read_number(text: &[u8]) -> Option<u32>
     ensures { SomeIfTrue result (is_number text.now) (value_of_digits text.now) }
 {
@@ -141,7 +171,7 @@ pub fn read_number(text: &[u8]) -> Option<u32>
 
 // The number that a digit stands for.
 fn digit_of(byte: u8) -> Option<u32>
-    ensures { SomeIfTrue result (fen.is_digit byte) (byte - 48) }
+    ensures { SomeIfTrue result (fen.is_digit byte) (byte - digit_zero) }
 {
     match byte {
         b'0'..=b'9' => Some(u32::from(byte - b'0')),

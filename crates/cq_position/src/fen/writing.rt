@@ -1,18 +1,20 @@
 //! Writing the FEN text of a position.
-ghost use Rattle.std.specs.Prelude.{◌≡◌, ◌++◌, ◌∷◌, [], ◌≤◌, IfOk, OnOk, length};
+ghost use Rattle.std.specs.Prelude.{◌≡◌, ◌++◌, ◌∷◌, [], ◌≤◌, IfOk, OnOk, length, if◌then◌else◌};
 ghost use Rattle.cq_position.specs.Men.{letter_of_man};
 ghost use Rattle.cq_position.specs.Fen.{fen_meaning};
+ghost use Rattle.cq_position.specs.FenBytes.{slash};
 ghost use Rattle.cq_position.specs.FenText as fen_text;
 ghost use Rattle.cq_position.specs.Position.{IsPosition};
 
+use crate::fen::bytes::{DASH, SLASH, SPACE, right_letter, side_letter};
 use crate::men::{Man, Side, letter_of};
 use crate::position::{Position, Rights};
 use cq_geometry::{Square, file, rank};
 use cq_outside::{Bytes, NoMemory};
 use std::alloc::Global;
 
-/// The FEN text of a position: six fields, the halfmove clock 0, the rights in the order `KQkq`, and the en passant square that the position
-/// keeps.
+/// The FEN text of a position: six fields, the halfmove clock 0, the rights in the order `KQkq`, and the en passant square that the
+/// position keeps.
 #[tactic(auto, using(crate::proofs::RoundTrip::reads_back))]
 pub fn fen_text(alloc: Global, position: &Position) -> Result<Bytes, NoMemory>
     ensures text { IfOk result (λ text. text ≡ fen_text.fen_of position.now) }
@@ -30,10 +32,11 @@ fn written(alloc: Global, position: &Position) -> Result<Bytes, NoMemory>
 {
     let mut text = Bytes::new(alloc);
     push_placement(&mut text, position.men())?;
-    text.push_all(side_text(position.side()))?;
+    text.push_all(&[SPACE, side_letter(position.side()), SPACE])?;
     push_rights(&mut text, position.rights())?;
+    push_byte(&mut text, SPACE)?;
     push_passant(&mut text, position.passant())?;
-    text.push_all(b" 0 ")?;
+    text.push_all(&[SPACE, b'0', SPACE])?;
     text.push_number(i64::from(position.number()))?;
     Ok(text)
 }
@@ -69,9 +72,9 @@ fn push_rank(text: &mut Bytes, row: &[Man]) -> Result<(), NoMemory>
 // A slash and a rank.
 fn push_next_rank(text: &mut Bytes, row: &[Man]) -> Result<(), NoMemory>
     requires { length row.now ≤ 8 }
-    ensures { OnOk result (text.new ≡ text.old ++ 47 ∷ fen_text.rank_text 0 row.now) }
+    ensures { OnOk result (text.new ≡ text.old ++ slash ∷ fen_text.rank_text 0 row.now) }
 {
-    text.push_all(b"/")?;
+    push_byte(text, SLASH)?;
     push_rank(text, row)
 }
 
@@ -85,7 +88,7 @@ fn push_man(text: &mut Bytes, empty: u8, man: Man) -> Result<u8, NoMemory>
         return Ok(empty + 1);
     };
     push_run(text, empty)?;
-    text.push_all(&[letter])?;
+    push_byte(text, letter)?;
     Ok(0)
 }
 
@@ -97,21 +100,12 @@ fn push_run(text: &mut Bytes, empty: u8) -> Result<(), NoMemory>
     if empty == 0 {
         return Ok(());
     }
-    text.push_all(&[b'0' + empty])
+    push_byte(text, b'0' + empty)
 }
 
-fn side_text(side: Side) -> &'static [u8]
-    ensures { result.now ≡ 32 ∷ (fen_text.side_text side ++ 32 ∷ []) }
-{
-    match side {
-        Side::White => b" w ",
-        Side::Black => b" b ",
-    }
-}
-
-// The rights, or a dash, and a space.
+// The rights, or a dash.
 fn push_rights(text: &mut Bytes, rights: Rights) -> Result<(), NoMemory>
-    ensures { OnOk result (text.new ≡ text.old ++ fen_text.castling_text rights ++ 32 ∷ []) }
+    ensures { OnOk result (text.new ≡ text.old ++ fen_text.castling_text rights) }
 {
     let Rights {
         white_kingside,
@@ -120,24 +114,30 @@ fn push_rights(text: &mut Bytes, rights: Rights) -> Result<(), NoMemory>
         black_queenside,
     } = rights;
     if white_kingside || white_queenside || black_kingside || black_queenside {
-        push_if(text, white_kingside, b'K')?;
-        push_if(text, white_queenside, b'Q')?;
-        push_if(text, black_kingside, b'k')?;
-        push_if(text, black_queenside, b'q')?;
-        text.push_all(b" ")
+        push_letter_if(text, white_kingside, right_letter(Side::White, true))?;
+        push_letter_if(text, white_queenside, right_letter(Side::White, false))?;
+        push_letter_if(text, black_kingside, right_letter(Side::Black, true))?;
+        push_letter_if(text, black_queenside, right_letter(Side::Black, false))
     } else {
-        text.push_all(b"- ")
+        push_byte(text, DASH)
     }
 }
 
-fn push_if(text: &mut Bytes, right: bool, letter: u8) -> Result<(), NoMemory>
-    ensures { OnOk result (text.new ≡ text.old ++ fen_text.letter_if right letter) }
+// The letter of a right that is left.
+fn push_letter_if(text: &mut Bytes, right: bool, letter: u8) -> Result<(), NoMemory>
+    ensures { OnOk result (text.new ≡ text.old ++ (if right then letter ∷ [] else [])) }
 {
     if right {
-        text.push_all(&[letter])
+        push_byte(text, letter)
     } else {
         Ok(())
     }
+}
+
+fn push_byte(text: &mut Bytes, byte: u8) -> Result<(), NoMemory>
+    ensures { OnOk result (text.new ≡ text.old ++ byte ∷ []) }
+{
+    text.push_all(&[byte])
 }
 
 // The en passant square, or a dash.
@@ -145,7 +145,7 @@ fn push_passant(text: &mut Bytes, passant: Option<Square>) -> Result<(), NoMemor
     ensures { OnOk result (text.new ≡ text.old ++ fen_text.passant_text passant) }
 {
     match passant {
-        None => text.push_all(b"-"),
+        None => push_byte(text, DASH),
         Some(square) => text.push_all(&[b'a' + file(square), b'1' + rank(square)]),
     }
 }

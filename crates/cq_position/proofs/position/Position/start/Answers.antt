@@ -13,7 +13,7 @@ invariant_of-result c = record {
   few_enough = refl;
   rights = refl;
   passed = refl;
-  quiet = refl;
+  opponent_not_in_check = refl;
   numbered = omega arith;
   fits = omega arith;
 }

@@ -8,9 +8,9 @@ bit_of true = 1
 bit_of false = 0
 
 -- bit k is set exactly where the square k passes the test
-pub record Marks (mask : ℕ) (test : ℕ → Bool) : Type 0 where
+pub record IsBitboard (mask : ℕ) (test : ℕ → Bool) : Type 0 where
   pub bit : (k : ℕ) → k < 64 → bit_at mask k ≡ bit_of (test k)
 
 -- whether a list has the square
-abbrev pub has : List ℕ → ℕ → Bool
-has xs square = list_any (λ x. x == square) xs
+abbrev pub contains : List ℕ → ℕ → Bool
+contains xs square = list_any (λ x. x == square) xs

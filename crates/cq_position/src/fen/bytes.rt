@@ -1,0 +1,36 @@
+//! The bytes of a FEN text (PGN standard, section 16.1.3).
+ghost use Rattle.std.specs.Prelude.{◌≡◌};
+ghost use Rattle.cq_position.specs.FenBytes as fen_bytes;
+
+use crate::men::Side;
+
+/// The byte between two fields.
+pub const SPACE: u8 = b' ';
+
+/// The byte between two ranks.
+pub const SLASH: u8 = b'/';
+
+/// The byte in the place of the rights to castle, or of the en passant square, where there is none.
+pub const DASH: u8 = b'-';
+
+/// The letter of a side: `w` or `b` (section 16.1.3.2).
+pub fn side_letter(side: Side) -> u8
+    ensures { result ≡ fen_bytes.side_letter side }
+{
+    match side {
+        Side::White => b'w',
+        Side::Black => b'b',
+    }
+}
+
+/// The letter of a side's right to castle, on the king's side `K` or `k` and on the queen's `Q` or `q` (section 16.1.3.3).
+pub fn right_letter(side: Side, kingside: bool) -> u8
+    ensures { result ≡ fen_bytes.right_letter side kingside }
+{
+    match (side, kingside) {
+        (Side::White, true) => b'K',
+        (Side::White, false) => b'Q',
+        (Side::Black, true) => b'k',
+        (Side::Black, false) => b'q',
+    }
+}
