@@ -32,7 +32,7 @@ promotion_of_letter c =
     if c == 81 then ToQueen else (if c == 82 then ToRook else (if c == 66 then ToBishop else (if c == 78 then ToKnight else NoPromotion)))
 
 abbrev pub is_promotion : ℕ → Bool
-is_promotion c = (c == 81) || (c == 82) || (c == 66) || (c == 78)
+is_promotion c = (c == 81) || ((c == 82) || ((c == 66) || (c == 78)))
 
 -- the letters of the pieces
 abbrev pub piece_of_letter : ℕ → Option Piece
