@@ -6,3 +6,4 @@ pub mod SignsSpelled
 pub mod Taken
 pub mod MoveRead
 pub mod SignsRead
+pub mod Grammar
