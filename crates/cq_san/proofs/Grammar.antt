@@ -11,7 +11,7 @@ use Rattle.cq_san.specs.declared.parts.Piece.{Piece}
 use Rattle.cq_san.specs.declared.parts.PieceMove.{PieceMove}
 use Rattle.cq_san.specs.declared.parts.Parts.{Parts}
 use Rattle.cq_san.specs.declared.parts.Parts.TheVariants.{Castling, Null, Moved}
-use Rattle.cq_san.specs.Parts.{is_short_castling, is_long_castling, is_null, is_sign, without_all, without, is_coordinate, rank_at_end, file_at_end, promotion_at_end, before_promotion, before_goal, before_rank, before_file, piece_of, piece_move, move_parts, without_signs, parts_of}
+use Rattle.cq_san.specs.FromEnd.{is_short_castling, is_long_castling, is_null, is_sign, without_all, without, is_coordinate, rank_at_end, file_at_end, promotion_at_end, before_promotion, before_goal, before_rank, before_file, piece_of, piece_move, move_parts, without_signs, parts_from_end}
 use Rattle.cq_san.specs.Spelling.{SpellsMove, SpellsCastling, WithSigns, Spells}
 use Rattle.cq_san.proofs.Taken.{EndsOtherwise}
 use Rattle.cq_san.proofs.MoveSpelled.{move_spelled}
@@ -52,8 +52,8 @@ not_null : (text : List ℕ) (p : Parts) (b : Bool) → is_null text ≡ b → m
 not_null text p true e h = let none = null_is_no_move text e in absurd (cc)
 not_null text p false e h = h
 
-read_with_signs : (text body signs : List ℕ) (p : Parts) → without_signs text ≡ body → move_parts body ≡ Some p → parts_of text ≡ Some p
-unfolding parts_of
+read_with_signs : (text body signs : List ℕ) (p : Parts) → without_signs text ≡ body → move_parts body ≡ Some p → parts_from_end text ≡ Some p
+unfolding parts_from_end
 read_with_signs text body signs p e h = not_null text p (is_null text) refl (ap move_parts e ∙ h)
 
 castling_read : (text : List ℕ) (kingside : Bool) → SpellsCastling text kingside
@@ -63,8 +63,8 @@ castling_read text true (inr e) = rw e (refl, refl)
 castling_read text false (inl e) = rw e (refl, refl)
 castling_read text false (inr e) = rw e (refl, refl)
 
-pub spelled_is_read : (text : List ℕ) (p : Parts) → Spells text p → parts_of text ≡ Some p
-unfolding parts_of
+pub spelled_is_read : (text : List ℕ) (p : Parts) → Spells text p → parts_from_end text ≡ Some p
+unfolding parts_from_end
 spelled_is_read text (Castling kingside) s =
     let read = castling_read s.body kingside s.is_text in
     read_with_signs text s.body s.signs (Castling kingside) (signs_gone text s.body s.signs s.joined s.are_signs read.1) read.0
@@ -129,18 +129,26 @@ null_or_move text p false e h =
     let body = without_signs text in
     with_signs text p (castling_spelled body p (is_short_castling body) (is_long_castling body) refl refl h)
 
-pub read_is_spelled : (text : List ℕ) (p : Parts) → parts_of text ≡ Some p → Spells text p
-unfolding parts_of
+pub read_is_spelled : (text : List ℕ) (p : Parts) → parts_from_end text ≡ Some p → Spells text p
+unfolding parts_from_end
 read_is_spelled text p h = null_or_move text p (is_null text) refl h
 
 -- so a text spells the parts that are read of it, and no others
-pub exactly_spelled : (text : List ℕ) (r : Option Parts) → r ≡ parts_of text → (p : Parts) → (r ≡ Some p) ↔ Spells text p
+pub exactly_spelled : (text : List ℕ) (r : Option Parts) → r ≡ parts_from_end text → (p : Parts) → (r ≡ Some p) ↔ Spells text p
 exactly_spelled text r e p = (λ h. read_is_spelled text p (sym e ∙ h), λ s. e ∙ spelled_is_read text p s)
 
-spells_none : (text : List ℕ) (o : Option Parts) → parts_of text ≡ o → ((p : Parts) → Spells text p → ⊥) → o ≡ None
+spells_none : (text : List ℕ) (o : Option Parts) → parts_from_end text ≡ o → ((p : Parts) → Spells text p → ⊥) → o ≡ None
 spells_none text None e h = refl
 spells_none text (Some p) e h = absurd (h p (read_is_spelled text p e))
 
-pub exactly_unspelled : (text : List ℕ) (r : Option Parts) → r ≡ parts_of text → (r ≡ None) ↔ ((p : Parts) → Spells text p → ⊥)
+read_or_not : (text : List ℕ) (o : Option Parts) → parts_from_end text ≡ o → ((p : Parts) × Spells text p) ⊎ ((p : Parts) → Spells text p → ⊥)
+read_or_not text None e = inr (λ p s. let read = spelled_is_read text p s in absurd (cc))
+read_or_not text (Some p) e = inl (p, read_is_spelled text p e)
+
+pub exactly_unspelled : (text : List ℕ) (r : Option Parts) → r ≡ parts_from_end text → (r ≡ None) ↔ ((p : Parts) → Spells text p → ⊥)
 exactly_unspelled text r e =
-    (λ h p s. let read = spelled_is_read text p s in absurd (cc), λ h. e ∙ spells_none text (parts_of text) refl h)
+    (λ h p s. let read = spelled_is_read text p s in absurd (cc), λ h. e ∙ spells_none text (parts_from_end text) refl h)
+
+-- every text spells some parts or none
+pub spells_or_not : (text : List ℕ) → ((p : Parts) × Spells text p) ⊎ ((p : Parts) → Spells text p → ⊥)
+spells_or_not text = read_or_not text (parts_from_end text) refl

@@ -1,4 +1,3 @@
-pub mod Meaning
 pub mod Agreeing
 pub mod Spelled
 pub mod MoveSpelled
@@ -7,3 +6,5 @@ pub mod Taken
 pub mod MoveRead
 pub mod SignsRead
 pub mod Grammar
+pub mod Meaning
+pub mod Rows

@@ -1,7 +1,6 @@
 -- What an answer says, from the list of the legal moves that agree with the parts.
-use Rattle.std.proofs.Common.{◌≡◌, ◌≢◌, zero, suc, ◌↔◌, true, false, List, [], ◌∷◌, Result, Ok, Err, Option, Some, None, refl, sym, ap, subst, ◌∙◌, inl, inr, arith}
+use Rattle.std.proofs.Common.{◌≡◌, ◌≢◌, ℕ, zero, suc, ◌↔◌, true, false, List, [], ◌∷◌, Result, Ok, Err, Option, Some, None, refl, sym, ap, subst, ◌∙◌, inl, inr, arith}
 use Rattle.std.specs.List.{All, AllPairs, Contains, filter}
-use Rattle.std.specs.Option.{IsSomeAnd}
 use Rattle.std.proofs.lemmas.List.Elements.{All-contains, All-contains_itself, All-filter, All-weaker, filter_passes}
 use Rattle.std.proofs.lemmas.List.Kept.{AllPairs-filter}
 use Rattle.cq_geometry.proofs.Board.{contains_filter}
@@ -16,7 +15,9 @@ use Rattle.cq_san.specs.declared.parts.Parts.TheVariants.{Castling, Null, Moved}
 use Rattle.cq_san.specs.declared.fault.SanFault.{SanFault}
 use Rattle.cq_san.specs.declared.fault.SanFault.TheVariants.{NotAMove, IllegalMove, AmbiguousMove}
 use Rattle.cq_san.specs.Fits.{Fits, agrees}
+use Rattle.cq_san.specs.Spelling.{Spells}
 use Rattle.cq_san.specs.Reading.{IsMeant, IsIllegal, IsAmbiguous, IsAnswer, IsReading, only}
+use Rattle.cq_san.proofs.Grammar.{spells_or_not}
 
 -- only the parts of a null move agree with the null move
 null_disagrees : (p : Board) (parts : Parts) → parts ≢ Null → agrees p parts null_move ≡ false
@@ -96,24 +97,29 @@ same_answer p parts (Err AmbiguousMove) (Err IllegalMove) h k = absurd (k.none_f
 same_answer p parts (Err AmbiguousMove) (Err AmbiguousMove) h k = refl
 
 -- so each answer comes exactly where it is right
-pub exactly_meant : (p : Board) (o : Option Parts) (r : Result Move SanFault) → IsReading p o r → (m : Move)
-    → (r ≡ Ok m) ↔ IsSomeAnd o (λ parts. IsMeant p parts m)
-exactly_meant p None r h m = (λ e. cc, λ k. absurd k)
-exactly_meant p (Some parts) r h m = (λ e. subst (IsAnswer p parts) e h, λ k. same_answer p parts r (Ok m) h k)
+answers_exactly : (p : Board) (text : List ℕ) (r s : Result Move SanFault) → IsReading p text r → s ≢ Err NotAMove
+    → (r ≡ s) ↔ ((parts : Parts) × Spells text parts × IsAnswer p parts s)
+answers_exactly p text r s h differ =
+    (λ e. elim (spells_or_not text) [
+      | inl k ↦ (k.0, k.1, subst (IsAnswer p k.0) e (h.spelled k.0 k.1))
+      | inr none ↦ absurd (differ (sym e ∙ h.unspelled none))
+    ], λ k. same_answer p k.0 r s (h.spelled k.0 k.1) k.2)
 
-pub exactly_no_move : (p : Board) (o : Option Parts) (r : Result Move SanFault) → IsReading p o r → (r ≡ Err NotAMove) ↔ (o ≡ None)
-exactly_no_move p None r h = (λ e. refl, λ k. h)
-exactly_no_move p (Some parts) r h = (λ e. absurd (subst (IsAnswer p parts) e h), λ k. cc)
+pub exactly_meant : (p : Board) (text : List ℕ) (r : Result Move SanFault) → IsReading p text r → (m : Move)
+    → (r ≡ Ok m) ↔ ((parts : Parts) × Spells text parts × IsMeant p parts m)
+exactly_meant p text r h m = answers_exactly p text r (Ok m) h (λ e. cc)
 
-pub exactly_illegal : (p : Board) (o : Option Parts) (r : Result Move SanFault) → IsReading p o r
-    → (r ≡ Err IllegalMove) ↔ IsSomeAnd o (λ parts. IsIllegal p parts)
-exactly_illegal p None r h = (λ e. cc, λ k. absurd k)
-exactly_illegal p (Some parts) r h = (λ e. subst (IsAnswer p parts) e h, λ k. same_answer p parts r (Err IllegalMove) h k)
+pub exactly_no_move : (p : Board) (text : List ℕ) (r : Result Move SanFault) → IsReading p text r
+    → (r ≡ Err NotAMove) ↔ ((parts : Parts) → Spells text parts → ⊥)
+exactly_no_move p text r h = (λ e parts s. subst (IsAnswer p parts) e (h.spelled parts s), h.unspelled)
 
-pub exactly_ambiguous : (p : Board) (o : Option Parts) (r : Result Move SanFault) → IsReading p o r
-    → (r ≡ Err AmbiguousMove) ↔ IsSomeAnd o (λ parts. IsAmbiguous p parts)
-exactly_ambiguous p None r h = (λ e. cc, λ k. absurd k)
-exactly_ambiguous p (Some parts) r h = (λ e. subst (IsAnswer p parts) e h, λ k. same_answer p parts r (Err AmbiguousMove) h k)
+pub exactly_illegal : (p : Board) (text : List ℕ) (r : Result Move SanFault) → IsReading p text r
+    → (r ≡ Err IllegalMove) ↔ ((parts : Parts) × Spells text parts × IsIllegal p parts)
+exactly_illegal p text r h = answers_exactly p text r (Err IllegalMove) h (λ e. cc)
+
+pub exactly_ambiguous : (p : Board) (text : List ℕ) (r : Result Move SanFault) → IsReading p text r
+    → (r ≡ Err AmbiguousMove) ↔ ((parts : Parts) × Spells text parts × IsAmbiguous p parts)
+exactly_ambiguous p text r h = answers_exactly p text r (Err AmbiguousMove) h (λ e. cc)
 
 -- a legal move is no null move
 legal_is_no_pass : (p : Board) (m : Move) (q : Board) → Legal p m q → m.null ≡ true → ⊥

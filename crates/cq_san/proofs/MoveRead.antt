@@ -9,7 +9,7 @@ use Rattle.cq_san.specs.declared.parts.Piece.{Piece}
 use Rattle.cq_san.specs.declared.parts.PieceMove.{PieceMove}
 use Rattle.cq_san.specs.declared.parts.Parts.{Parts}
 use Rattle.cq_san.specs.declared.parts.Parts.TheVariants.{Moved}
-use Rattle.cq_san.specs.Parts.{is_sign, is_mark, is_coordinate, without, rank_at_end, file_at_end, promotion_at_end, before_promotion, before_goal, before_rank, before_file, piece_of, piece_move}
+use Rattle.cq_san.specs.FromEnd.{is_sign, is_mark, is_coordinate, without, rank_at_end, file_at_end, promotion_at_end, before_promotion, before_goal, before_rank, before_file, piece_of, piece_move}
 use Rattle.cq_san.specs.Spelling.{NamesPromotion, SpellsMove}
 use Rattle.cq_san.proofs.Taken.{EndsOtherwise, NoLetter, named_taken, coordinate_taken, coordinate_otherwise, mark_taken, piece_taken, piece_otherwise, promotion_taken}
 

@@ -6,7 +6,7 @@ use Rattle.cq_san.specs.declared.parts.Piece.{Piece}
 use Rattle.cq_san.specs.declared.parts.PieceMove.{PieceMove}
 use Rattle.cq_san.specs.declared.parts.Parts.{Parts}
 use Rattle.cq_san.specs.declared.parts.Parts.TheVariants.{Moved}
-use Rattle.cq_san.specs.Parts.{is_mark, is_coordinate, without, rank_at_end, file_at_end, promotion_at_end, before_promotion, before_goal, before_rank, before_file, piece_of, piece_move}
+use Rattle.cq_san.specs.FromEnd.{is_mark, is_coordinate, without, rank_at_end, file_at_end, promotion_at_end, before_promotion, before_goal, before_rank, before_file, piece_of, piece_move}
 use Rattle.cq_san.specs.Spelling.{NamesFile, NamesRank, NamesIfGiven, NamesPromotion, SpellsMove}
 use Rattle.cq_san.proofs.Spelled.{coordinate_read, mark_read, piece_read, promotion_read}
 

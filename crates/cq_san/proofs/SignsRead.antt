@@ -2,7 +2,7 @@
 use Rattle.std.proofs.Common.{◌≡◌, ℕ, zero, suc, ◌<◌, true, false, List, [], ◌∷◌, ◌++◌, reverse, refl, sym, ap, ◌∙◌, inl, inr, arith, append_assoc}
 use Rattle.std.specs.List.{All}
 use Rattle.std.proofs.lemmas.List.{reverse-append, reverse-reverse}
-use Rattle.cq_san.specs.Parts.{is_sign, without_all, without_signs}
+use Rattle.cq_san.specs.FromEnd.{is_sign, without_all, without_signs}
 use Rattle.cq_san.specs.Spelling.{IsSign, WithSigns}
 use Rattle.cq_san.proofs.Taken.{EndsOtherwise}
 

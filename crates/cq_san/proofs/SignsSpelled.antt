@@ -5,7 +5,7 @@ use Rattle.std.proofs.lemmas.Bool.{eqb-true}
 use Rattle.std.proofs.lemmas.List.{append-nil, reverse-append, reverse-reverse}
 use Rattle.std.proofs.lemmas.List.Elements.{All-nil, All-cons, All-append}
 use Rattle.std.proofs.Math.Dec.{eqb}
-use Rattle.cq_san.specs.Parts.{is_sign, without_all, without_signs}
+use Rattle.cq_san.specs.FromEnd.{is_sign, without_all, without_signs}
 use Rattle.cq_san.specs.Spelling.{IsSign, WithSigns}
 
 -- what was taken off

@@ -5,7 +5,7 @@ use Rattle.cq_position.specs.declared.men.Promotion.{Promotion}
 use Rattle.cq_position.specs.declared.men.Promotion.TheVariants.{None as NoPromotion, Q as ToQueen, R as ToRook, B as ToBishop, N as ToKnight}
 use Rattle.cq_san.specs.declared.parts.Piece.{Piece}
 use Rattle.cq_san.specs.declared.parts.Piece.TheVariants.{King, Queen, Rook, Bishop, Knight, Pawn}
-use Rattle.cq_san.specs.Parts.{is_mark, is_equals, is_coordinate, without, coordinate_at_end, promotion_at_end, before_promotion, piece_of}
+use Rattle.cq_san.specs.FromEnd.{is_mark, is_equals, is_coordinate, without, coordinate_at_end, promotion_at_end, before_promotion, piece_of}
 use Rattle.cq_san.specs.Spelling.{NamesPiece, NamesCoordinate, NamesRank, NamesIfGiven, IsMark, NamesPromotion}
 
 -- no byte that passes the test stands at the end of the text, which is given backwards
