@@ -1,8 +1,7 @@
 -- Reading a text from its end is the grammar: the parts that are read are those that the text spells.
-use Rattle.std.proofs.Common.{◌≡◌, ◌≢◌, ◌⊎◌, ◌↔◌, ℕ, Bool, true, false, cond, ◌||◌, List, [], ◌∷◌, reverse, Option, Some, None, option_map, option_and_then, refl, sym, ap, subst, ◌∙◌, inl, inr}
+use Rattle.std.proofs.Common.{◌≡◌, ◌⊎◌, ◌↔◌, ℕ, Bool, true, false, cond, ◌||◌, List, reverse, Option, Some, None, option_map, option_and_then, refl, sym, ap, subst, ◌∙◌, inl, inr}
 use Rattle.std.specs.Prelude.{codes}
 use Rattle.std.specs.Str.{bytes_eq}
-use Rattle.std.proofs.lemmas.Bool.{cases_Bool}
 use Rattle.std.proofs.lemmas.List.{reverse-reverse}
 use Rattle.std.proofs.lemmas.Slice.Eq.{bytes_eq-Decides}
 use Rattle.cq_geometry.specs.Squares.{square_of}
@@ -12,7 +11,7 @@ use Rattle.cq_san.specs.declared.parts.PieceMove.{PieceMove}
 use Rattle.cq_san.specs.declared.parts.Parts.{Parts}
 use Rattle.cq_san.specs.declared.parts.Parts.TheVariants.{Castling, Null, Moved}
 use Rattle.cq_san.specs.FromEnd.{is_short_castling, is_long_castling, is_null, is_sign, without_all, without, is_coordinate, rank_at_end, file_at_end, promotion_at_end, before_promotion, before_goal, before_rank, before_file, piece_of, piece_move, move_parts, without_signs, parts_from_end}
-use Rattle.cq_san.specs.Spelling.{SpellsMove, SpellsCastling, WithSigns, Spells}
+use Rattle.cq_san.specs.Spelling.{SpellsMove, SpellsCastling, Spells}
 use Rattle.cq_san.proofs.Taken.{EndsOtherwise}
 use Rattle.cq_san.proofs.MoveSpelled.{move_spelled}
 use Rattle.cq_san.proofs.MoveRead.{move_read, move_no_sign}

@@ -1,5 +1,5 @@
 -- What an answer says, from the list of the legal moves that agree with the parts.
-use Rattle.std.proofs.Common.{◌≡◌, ◌≢◌, ℕ, zero, suc, ◌↔◌, true, false, List, [], ◌∷◌, Result, Ok, Err, Option, Some, None, refl, sym, ap, subst, ◌∙◌, inl, inr, arith}
+use Rattle.std.proofs.Common.{◌≡◌, ◌≢◌, ℕ, zero, suc, ◌↔◌, true, false, List, [], ◌∷◌, Result, Ok, Err, refl, sym, ap, subst, ◌∙◌, inl, inr, arith}
 use Rattle.std.specs.List.{All, AllPairs, Contains, filter}
 use Rattle.std.proofs.lemmas.List.Elements.{All-contains, All-contains_itself, All-filter, All-weaker, filter_passes}
 use Rattle.std.proofs.lemmas.List.Kept.{AllPairs-filter}
@@ -99,11 +99,13 @@ same_answer p parts (Err AmbiguousMove) (Err AmbiguousMove) h k = refl
 -- so each answer comes exactly where it is right
 answers_exactly : (p : Board) (text : List ℕ) (r s : Result Move SanFault) → IsReading p text r → s ≢ Err NotAMove
     → (r ≡ s) ↔ ((parts : Parts) × Spells text parts × IsAnswer p parts s)
-answers_exactly p text r s h differ =
-    (λ e. elim (spells_or_not text) [
-      | inl k ↦ (k.0, k.1, subst (IsAnswer p k.0) e (h.spelled k.0 k.1))
-      | inr none ↦ absurd (differ (sym e ∙ h.unspelled none))
-    ], λ k. same_answer p k.0 r s (h.spelled k.0 k.1) k.2)
+answers_exactly p text r s h differ = (
+  λ e. elim (spells_or_not text) [
+    | inl k ↦ (k.0, k.1, subst (IsAnswer p k.0) e (h.spelled k.0 k.1))
+    | inr none ↦ absurd (differ (sym e ∙ h.unspelled none))
+  ],
+  λ k. same_answer p k.0 r s (h.spelled k.0 k.1) k.2,
+)
 
 pub exactly_meant : (p : Board) (text : List ℕ) (r : Result Move SanFault) → IsReading p text r → (m : Move)
     → (r ≡ Ok m) ↔ ((parts : Parts) × Spells text parts × IsMeant p parts m)

@@ -1,5 +1,5 @@
 -- What is spelled as a move of a piece is read as that move.
-use Rattle.std.proofs.Common.{◌≡◌, ℕ, ◌+◌, ◌<◌, Bool, true, false, List, [], ◌∷◌, ◌++◌, reverse, Option, Some, None, option_map, option_and_then, refl, sym, ap, subst, ◌∙◌, inl, inr, arith, append_assoc}
+use Rattle.std.proofs.Common.{◌≡◌, ℕ, ◌+◌, ◌<◌, false, List, ◌++◌, reverse, Option, Some, option_map, option_and_then, refl, sym, ap, subst, ◌∙◌, inl, inr, arith, append_assoc}
 use Rattle.std.proofs.lemmas.Bool.Decides.{nat_tests}
 use Rattle.std.proofs.lemmas.List.{reverse-append}
 use Rattle.cq_geometry.specs.Squares.{file_of, rank_of, square_of}
@@ -7,7 +7,6 @@ use Rattle.cq_position.specs.declared.men.Promotion.{Promotion}
 use Rattle.cq_position.specs.declared.men.Promotion.TheVariants.{None as NoPromotion, Q as ToQueen, R as ToRook, B as ToBishop, N as ToKnight}
 use Rattle.cq_san.specs.declared.parts.Piece.{Piece}
 use Rattle.cq_san.specs.declared.parts.PieceMove.{PieceMove}
-use Rattle.cq_san.specs.declared.parts.Parts.{Parts}
 use Rattle.cq_san.specs.declared.parts.Parts.TheVariants.{Moved}
 use Rattle.cq_san.specs.FromEnd.{is_sign, is_mark, is_coordinate, without, rank_at_end, file_at_end, promotion_at_end, before_promotion, before_goal, before_rank, before_file, piece_of, piece_move}
 use Rattle.cq_san.specs.Spelling.{NamesPromotion, SpellsMove}

@@ -1,12 +1,11 @@
 -- What is read as a move of a piece is spelled as one.
-use Rattle.std.proofs.Common.{◌≡◌, ℕ, ◌+◌, ◌<◌, List, [], ◌∷◌, ◌++◌, reverse, Option, Some, None, option_map, option_and_then, refl, sym, ap, subst, ◌∙◌, arith, append_assoc}
+use Rattle.std.proofs.Common.{◌≡◌, ℕ, ◌<◌, List, ◌++◌, reverse, Option, Some, None, option_map, option_and_then, refl, sym, ap, subst, ◌∙◌, arith, append_assoc}
 use Rattle.cq_geometry.specs.Squares.{file_of, rank_of, square_of}
 use Rattle.cq_position.specs.declared.men.Promotion.{Promotion}
 use Rattle.cq_san.specs.declared.parts.Piece.{Piece}
 use Rattle.cq_san.specs.declared.parts.PieceMove.{PieceMove}
-use Rattle.cq_san.specs.declared.parts.Parts.{Parts}
 use Rattle.cq_san.specs.declared.parts.Parts.TheVariants.{Moved}
-use Rattle.cq_san.specs.FromEnd.{is_mark, is_coordinate, without, rank_at_end, file_at_end, promotion_at_end, before_promotion, before_goal, before_rank, before_file, piece_of, piece_move}
+use Rattle.cq_san.specs.FromEnd.{is_coordinate, without, rank_at_end, file_at_end, promotion_at_end, before_promotion, before_goal, before_rank, before_file, piece_of, piece_move}
 use Rattle.cq_san.specs.Spelling.{NamesFile, NamesRank, NamesIfGiven, NamesPromotion, SpellsMove}
 use Rattle.cq_san.proofs.Spelled.{coordinate_read, mark_read, piece_read, promotion_read}
 

@@ -1,9 +1,9 @@
 -- A text with signs behind it is read without them.
-use Rattle.std.proofs.Common.{◌≡◌, ℕ, zero, suc, ◌<◌, true, false, List, [], ◌∷◌, ◌++◌, reverse, refl, sym, ap, ◌∙◌, inl, inr, arith, append_assoc}
+use Rattle.std.proofs.Common.{◌≡◌, ℕ, suc, true, List, [], ◌∷◌, ◌++◌, reverse, refl, ap, ◌∙◌, inl, inr, arith, append_assoc}
 use Rattle.std.specs.List.{All}
 use Rattle.std.proofs.lemmas.List.{reverse-append, reverse-reverse}
 use Rattle.cq_san.specs.FromEnd.{is_sign, without_all, without_signs}
-use Rattle.cq_san.specs.Spelling.{IsSign, WithSigns}
+use Rattle.cq_san.specs.Spelling.{IsSign}
 use Rattle.cq_san.proofs.Taken.{EndsOtherwise}
 
 sign_passes : (c : ℕ) → IsSign c → is_sign c ≡ true

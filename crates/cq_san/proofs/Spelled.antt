@@ -1,5 +1,5 @@
 -- What is read at the end of a text is spelled there.
-use Rattle.std.proofs.Common.{◌≡◌, ℕ, ◌+◌, ◌-◌, ◌<◌, ◌≤◌, Bool, true, false, cond, ◌||◌, List, [], ◌∷◌, ◌++◌, reverse, Option, Some, None, refl, sym, ap, subst, ◌∙◌, inl, inr, arith, append_assoc}
+use Rattle.std.proofs.Common.{◌≡◌, ℕ, ◌+◌, ◌-◌, ◌<◌, ◌≤◌, Bool, true, false, cond, ◌||◌, List, [], ◌∷◌, ◌++◌, reverse, Option, Some, None, refl, sym, ap, subst, inl, inr, arith}
 use Rattle.std.proofs.lemmas.Bool.{eqb-true}
 use Rattle.std.proofs.lemmas.Bool.Decides.{nat_tests}
 use Rattle.std.proofs.lemmas.List.{append-nil, reverse-append}
@@ -8,7 +8,7 @@ use Rattle.cq_position.specs.declared.men.Promotion.{Promotion}
 use Rattle.cq_position.specs.declared.men.Promotion.TheVariants.{None as NoPromotion, Q as ToQueen, R as ToRook, B as ToBishop, N as ToKnight}
 use Rattle.cq_san.specs.declared.parts.Piece.{Piece}
 use Rattle.cq_san.specs.declared.parts.Piece.TheVariants.{King, Queen, Rook, Bishop, Knight, Pawn}
-use Rattle.cq_san.specs.FromEnd.{is_mark, is_equals, is_coordinate, is_promotion, without, coordinate_at_end, promotion_of_letter, promotion_at_end, before_promotion, piece_of_letter, piece_of}
+use Rattle.cq_san.specs.FromEnd.{is_mark, is_equals, is_coordinate, without, coordinate_at_end, promotion_at_end, before_promotion, piece_of_letter, piece_of}
 use Rattle.cq_san.specs.Spelling.{NamesPiece, NamesCoordinate, NamesIfGiven, IsMark, NamesPromotion}
 
 -- a text, given backwards, ends with one of a kind, and the rest stands before that
