@@ -13,7 +13,7 @@ const FIRST_FILE: u8 = b'a';
 
 const FIRST_RANK: u8 = b'1';
 
-/// What moves, named in SAN by a letter of `KQRBNP`, or by none for a pawn.
+/// What moves, named by a letter of `KQRBNP`, or by none for a pawn (PGN standard 8.2.3.2).
 #[derive(Clone, Copy, Debug, PartialEq, Eq)]
 pub enum Piece {
     King,
@@ -24,13 +24,18 @@ pub enum Piece {
     Pawn,
 }
 
-/// A move of one piece: the file and the rank from which it goes, from 0, where the text gives them, and the square to which it goes.
+/// A move of one piece, as far as the text tells it.
 #[derive(Clone, Copy, Debug)]
 pub struct PieceMove {
+    /// The piece that moves.
     pub piece: Piece,
+    /// The file from which it goes, 0 to 7 for `a` to `h`, where the text gives it.
     pub file: Option<u8>,
+    /// The rank from which it goes, 0 to 7 for `1` to `8`, where the text gives it.
     pub rank: Option<u8>,
+    /// The square to which it goes.
     pub goal: Square,
+    /// The piece that the pawn becomes, or `Promotion::None`.
     pub promotion: Promotion,
 }
 
@@ -41,10 +46,11 @@ pub enum Parts {
     Castling { kingside: bool },
     /// The null move, by which a side passes.
     Null,
+    /// A move of one piece.
     Moved(PieceMove),
 }
 
-/// The parts that a text spells, or None where it spells none, as no move does (PGN standard 8.2.3).
+/// The parts that a text spells, or None where it spells no move (PGN standard 8.2.3).
 ///
 /// The null moves `Z0` and `--` stand alone. Any other move may have any number of `+` and `#` behind it. Castling is written with letters `O` or
 /// with zeros. Any other move is an optional letter of `KQRBNP`, an optional file of `a` to `h`, an optional rank of `1` to `8`, an optional `x`
