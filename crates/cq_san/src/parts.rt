@@ -62,6 +62,7 @@ pub fn parts_of(text: &[u8]) -> Option<Parts>
     parts_from_end(text)
 }
 
+// The same, read from the end of the text, where each part is known by its bytes.
 #[tactic(auto, unfolding(crate::specs::FromEnd::parts_from_end))]
 fn parts_from_end(text: &[u8]) -> Option<Parts>
     ensures { result ≡ from_end.parts_from_end text.now }
