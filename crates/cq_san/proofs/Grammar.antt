@@ -51,9 +51,9 @@ not_null : (text : List ℕ) (p : Parts) (b : Bool) → is_null text ≡ b → m
 not_null text p true e h = let none = null_is_no_move text e in absurd (cc)
 not_null text p false e h = h
 
-read_with_signs : (text body signs : List ℕ) (p : Parts) → without_signs text ≡ body → move_parts body ≡ Some p → parts_from_end text ≡ Some p
+read_with_signs : (text body : List ℕ) (p : Parts) → without_signs text ≡ body → move_parts body ≡ Some p → parts_from_end text ≡ Some p
 unfolding parts_from_end
-read_with_signs text body signs p e h = not_null text p (is_null text) refl (ap move_parts e ∙ h)
+read_with_signs text body p e h = not_null text p (is_null text) refl (ap move_parts e ∙ h)
 
 castling_read : (text : List ℕ) (kingside : Bool) → SpellsCastling text kingside
     → (move_parts text ≡ Some (Castling kingside)) × EndsOtherwise is_sign (reverse text)
@@ -66,11 +66,11 @@ pub spelled_is_read : (text : List ℕ) (p : Parts) → Spells text p → parts_
 unfolding parts_from_end
 spelled_is_read text (Castling kingside) s =
     let read = castling_read s.body kingside s.is_text in
-    read_with_signs text s.body s.signs (Castling kingside) (signs_gone text s.body s.signs s.joined s.are_signs read.1) read.0
+    read_with_signs text s.body (Castling kingside) (signs_gone text s.body s.signs s.joined s.are_signs read.1) read.0
 spelled_is_read text Null (inl e) = rw e refl
 spelled_is_read text Null (inr e) = rw e refl
 spelled_is_read text (Moved m) s =
-    read_with_signs text s.body s.signs (Moved m) (signs_gone text s.body s.signs s.joined s.are_signs (move_no_sign s.body m s.is_text))
+    read_with_signs text s.body (Moved m) (signs_gone text s.body s.signs s.joined s.are_signs (move_no_sign s.body m s.is_text))
     (read_as_move s.body m (is_short_castling s.body) (is_long_castling s.body) refl refl (move_read s.body m s.is_text))
 
 -- what is read of a text without signs
