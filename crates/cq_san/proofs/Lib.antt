@@ -1,2 +1,10 @@
-pub mod Meaning
 pub mod Agreeing
+pub mod Spelled
+pub mod MoveSpelled
+pub mod SignsSpelled
+pub mod Taken
+pub mod MoveRead
+pub mod SignsRead
+pub mod Grammar
+pub mod Meaning
+pub mod Rows

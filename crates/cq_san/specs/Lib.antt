@@ -1,3 +1,4 @@
-pub mod Parts
+pub mod Spelling
+pub mod FromEnd
 pub mod Fits
 pub mod Reading

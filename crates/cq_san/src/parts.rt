@@ -1,7 +1,9 @@
 //! The parts of a text in Standard Algebraic Notation.
-ghost use Rattle.std.specs.Prelude.{◌≡◌, ◌<◌, reverse, IfSome};
-ghost use Rattle.cq_san.specs.Parts as part;
-ghost use Rattle.cq_san.specs.Parts.{without, is_mark};
+ghost use Rattle.std.specs.Prelude.{◌≡◌, ◌↔◌, ◌<◌, reverse, IfSome};
+ghost use Rattle.cq_san.specs.declared.parts.Parts.{Parts as PartsValue};
+ghost use Rattle.cq_san.specs.FromEnd as from_end;
+ghost use Rattle.cq_san.specs.FromEnd.{without, is_mark};
+ghost use Rattle.cq_san.specs.Spelling.{Spells};
 
 use cq_geometry::{Square, square_at};
 use cq_position::Promotion;
@@ -11,7 +13,7 @@ const FIRST_FILE: u8 = b'a';
 
 const FIRST_RANK: u8 = b'1';
 
-/// What moves, named in SAN by a letter of `KQRBNP`, or by none for a pawn.
+/// What moves, named by a letter of `KQRBNP`, or by none for a pawn (PGN standard 8.2.3.2).
 #[derive(Clone, Copy, Debug, PartialEq, Eq)]
 pub enum Piece {
     King,
@@ -22,13 +24,18 @@ pub enum Piece {
     Pawn,
 }
 
-/// A move of one piece: the file and the rank from which it goes, from 0, where the text gives them, and the square to which it goes.
+/// A move of one piece, as far as the text tells it.
 #[derive(Clone, Copy, Debug)]
 pub struct PieceMove {
+    /// The piece that moves.
     pub piece: Piece,
+    /// The file from which it goes, 0 to 7 for `a` to `h`, where the text gives it.
     pub file: Option<u8>,
+    /// The rank from which it goes, 0 to 7 for `1` to `8`, where the text gives it.
     pub rank: Option<u8>,
+    /// The square to which it goes.
     pub goal: Square,
+    /// The piece that the pawn becomes, or `Promotion::None`.
     pub promotion: Promotion,
 }
 
@@ -39,17 +46,26 @@ pub enum Parts {
     Castling { kingside: bool },
     /// The null move, by which a side passes.
     Null,
+    /// A move of one piece.
     Moved(PieceMove),
 }
 
-/// The parts of a text, or None where the text is no move.
+/// The parts that a text spells, or None where it spells no move (PGN standard 8.2.3).
 ///
-/// The null moves `Z0` and `--` stand alone. Behind any other move any number of `+` and `#` are let go (PGN standard 8.2.3). Castling is written
-/// with letters `O` or with zeros. Any other move is an optional letter of `KQRBNP`, an optional file, an optional rank, an optional `x` or `-`,
-/// a file and a rank, and an optional promotion: an optional `=` and a letter of `QRBN`.
-#[tactic(auto, unfolding(crate::specs::Parts::parts_of))]
+/// The null moves `Z0` and `--` stand alone. Any other move may have any number of `+` and `#` behind it. Castling is written with letters `O` or
+/// with zeros. Any other move is an optional letter of `KQRBNP`, an optional file of `a` to `h`, an optional rank of `1` to `8`, an optional `x`
+/// or `-`, a file and a rank, and an optional promotion: an optional `=` and a letter of `QRBN`. No text spells two moves.
 pub fn parts_of(text: &[u8]) -> Option<Parts>
-    ensures { result ≡ part.parts_of text.now }
+    ensures spelled { (parts : PartsValue) → (result ≡ Some parts) ↔ Spells text.now parts }
+    ensures none { (result ≡ None) ↔ ((parts : PartsValue) → Spells text.now parts → ⊥) }
+{
+    parts_from_end(text)
+}
+
+// The same, read from the end of the text, where each part is known by its bytes.
+#[tactic(auto, unfolding(crate::specs::FromEnd::parts_from_end))]
+fn parts_from_end(text: &[u8]) -> Option<Parts>
+    ensures { result ≡ from_end.parts_from_end text.now }
 {
     if text == b"Z0".as_slice() || text == b"--".as_slice() {
         Some(Parts::Null)
@@ -59,9 +75,9 @@ pub fn parts_of(text: &[u8]) -> Option<Parts>
 }
 
 // The text without the signs of check and mate at its end.
-#[tactic(auto, unfolding(crate::specs::Parts::without_all))]
+#[tactic(auto, unfolding(crate::specs::FromEnd::without_all))]
 fn without_signs(text: &[u8]) -> &[u8]
-    ensures { result.now ≡ part.without_signs text.now }
+    ensures { result.now ≡ from_end.without_signs text.now }
 {
     let mut left = text;
     while let [front @ .., b'+' | b'#'] = left {
@@ -71,7 +87,7 @@ fn without_signs(text: &[u8]) -> &[u8]
 }
 
 fn move_parts(text: &[u8]) -> Option<Parts>
-    ensures { result ≡ part.move_parts text.now }
+    ensures { result ≡ from_end.move_parts text.now }
 {
     if text == b"O-O".as_slice() || text == b"0-0".as_slice() {
         Some(Parts::Castling { kingside: true })
@@ -83,7 +99,7 @@ fn move_parts(text: &[u8]) -> Option<Parts>
 }
 
 fn piece_move(text: &[u8]) -> Option<Parts>
-    ensures { result ≡ part.piece_move (reverse text.now) }
+    ensures { result ≡ from_end.piece_move (reverse text.now) }
 {
     let (promotion, text) = split_promotion(text);
     let (rank, text) = split_coordinate(text, FIRST_RANK);
@@ -103,8 +119,8 @@ fn piece_move(text: &[u8]) -> Option<Parts>
 
 // The promotion at the end, and the text before it.
 fn split_promotion(text: &[u8]) -> (Promotion, &[u8])
-    ensures promotion { result.0 ≡ part.promotion_at_end (reverse text.now) }
-    ensures before { reverse result.1.now ≡ part.before_promotion (reverse text.now) }
+    ensures promotion { result.0 ≡ from_end.promotion_at_end (reverse text.now) }
+    ensures before { reverse result.1.now ≡ from_end.before_promotion (reverse text.now) }
 {
     match text {
         [front @ .., b'Q'] => (Promotion::Q, without_equals(front)),
@@ -116,7 +132,7 @@ fn split_promotion(text: &[u8]) -> (Promotion, &[u8])
 }
 
 fn without_equals(text: &[u8]) -> &[u8]
-    ensures { reverse result.now ≡ without part.is_equals (reverse text.now) }
+    ensures { reverse result.now ≡ without from_end.is_equals (reverse text.now) }
 {
     match text {
         [front @ .., b'='] => front,
@@ -136,8 +152,8 @@ fn without_mark(text: &[u8]) -> &[u8]
 // The file or rank at the end, of which the first is written with this byte, and the text before it.
 fn split_coordinate(text: &[u8], first: u8) -> (Option<u8>, &[u8])
     requires { first < 248 }
-    ensures coordinate { result.0 ≡ part.coordinate_at_end first (reverse text.now) }
-    ensures before { reverse result.1.now ≡ without (part.is_coordinate first) (reverse text.now) }
+    ensures coordinate { result.0 ≡ from_end.coordinate_at_end first (reverse text.now) }
+    ensures before { reverse result.1.now ≡ without (from_end.is_coordinate first) (reverse text.now) }
     ensures below { IfSome result.0 (λ n. n < 8) }
 {
     match text {
@@ -148,7 +164,7 @@ fn split_coordinate(text: &[u8], first: u8) -> (Option<u8>, &[u8])
 
 // The piece of a letter, or a pawn where there is none.
 fn piece_of(text: &[u8]) -> Option<Piece>
-    ensures { result ≡ part.piece_of (reverse text.now) }
+    ensures { result ≡ from_end.piece_of (reverse text.now) }
 {
     match text {
         [] | b"P" => Some(Piece::Pawn),

@@ -69,6 +69,8 @@ fn texts_at_the_start(rt: HostRuntime) -> Result<(), Fail> {
             (b"--+", Err(SanFault::NotAMove)),
             (b"Z0#", Err(SanFault::NotAMove)),
             (b"O-O-O-O", Err(SanFault::NotAMove)),
+            (b"O-0", Err(SanFault::NotAMove)),
+            (b"ex4", Err(SanFault::NotAMove)),
         ],
     )
 }

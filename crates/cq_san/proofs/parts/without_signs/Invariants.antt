@@ -1,5 +1,5 @@
 use Rattle.std.proofs.Common.{◌≡◌, length, reverse}
-use Rattle.cq_san.specs.Parts.{without_all, is_sign}
+use Rattle.cq_san.specs.FromEnd.{without_all, is_sign}
 use Rattle.cq_san.proofs.parts.without_signs.Given as goal
 
 -- the signs that are gone are signs at the end

@@ -1,7 +1,7 @@
--- What a text in Standard Algebraic Notation says of a move (PGN standard 8.2.3).
+-- How the code reads a text in Standard Algebraic Notation: from its end. What callers are promised is the grammar, `Spells`.
 --
--- The text is read from its end, where each part is known by its bytes: the signs of check and mate, the promotion, the goal, the mark of a capture,
--- the rank and the file from which the move goes, and the letter of the piece. So `back` is always a text backwards, its last byte first.
+-- At its end each part is known by its bytes: the signs of check and mate, the promotion, the goal, the mark of a capture, the rank and the file
+-- from which the move goes, and the letter of the piece. So `back` is always a text backwards, its last byte first.
 use Rattle.std.specs.Prelude.{ℕ, ◌+◌, ◌-◌, ◌==◌, Bool, true, false, ◌&&◌, ◌||◌, nat_le, nat_lt, List, [], ◌∷◌, reverse, codes, Option, Some, None, option_map, option_and_then, if◌then◌else◌}
 use Rattle.std.specs.Str.{bytes_eq}
 use Rattle.cq_geometry.specs.Squares.{square_of}
@@ -32,7 +32,7 @@ promotion_of_letter c =
     if c == 81 then ToQueen else (if c == 82 then ToRook else (if c == 66 then ToBishop else (if c == 78 then ToKnight else NoPromotion)))
 
 abbrev pub is_promotion : ℕ → Bool
-is_promotion c = (c == 81) || (c == 82) || (c == 66) || (c == 78)
+is_promotion c = (c == 81) || ((c == 82) || ((c == 66) || (c == 78)))
 
 -- the letters of the pieces
 abbrev pub piece_of_letter : ℕ → Option Piece
@@ -126,6 +126,6 @@ is_null text = bytes_eq text (codes "Z0") || bytes_eq text (codes "--")
 abbrev pub without_signs : List ℕ → List ℕ
 without_signs text = reverse (without_all is_sign (reverse text))
 
--- the parts of a text, none where it is no move
-unfoldable pub parts_of : List ℕ → Option Parts
-parts_of text = if is_null text then Some Null else move_parts (without_signs text)
+-- the parts that are read, none where the text is no move
+unfoldable pub parts_from_end : List ℕ → Option Parts
+parts_from_end text = if is_null text then Some Null else move_parts (without_signs text)
