@@ -1,6 +1,7 @@
 pub mod Lines
 pub mod Tags
 pub mod Fronts
+pub mod Archives
 pub mod Exports
 pub mod MoreGames
 pub mod Taken

@@ -1,0 +1,5 @@
+use Rattle.cq_run.proofs.Archives.{reads_games}
+use Rattle.cq_run.proofs.laws.archives_are_their_games.Goals as goal
+
+pub returns : goal.returns
+returns c = reads_games
