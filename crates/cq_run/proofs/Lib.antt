@@ -4,6 +4,7 @@ pub mod Fronts
 pub mod Archives
 pub mod Exports
 pub mod MoreGames
+pub mod Starts
 pub mod Taken
 pub mod Written
 pub mod Promises

@@ -1,5 +1,5 @@
 -- The games of an archive of bare games.
-use Rattle.std.specs.Prelude.{◌≡◌, ◌⊎◌, ℕ, ◌+◌, Bool, true, false, not, ◌&&◌, List, [], ◌∷◌, ◌++◌, length, Option, Result, Ok, Err, codes}
+use Rattle.std.specs.Prelude.{◌≡◌, ◌⊎◌, ℕ, ◌+◌, Bool, true, false, not, ◌&&◌, List, [], ◌∷◌, ◌++◌, length, Option, Result, Ok, Err, slice_range, codes}
 use Rattle.std.specs.List.{list_all, flat_map}
 use Rattle.std.specs.Option.{option_map}
 use Rattle.cq_position.specs.declared.fen.FenFault.{FenFault}
@@ -32,6 +32,10 @@ pub record IsOfGames (archive : List ℕ) (texts : List (List ℕ)) : Type 0 whe
 unfoldable pub games_from : ℕ → ℕ → List (List ℕ) → List Game
 games_from number start [] = []
 games_from number start (text ∷ texts) = record { number = number; start = start; text = text } ∷ games_from (number + 1) (start + length (bare_game text)) texts
+
+-- the tag pair of a game stands in the archive where the game starts
+abbrev pub HasTagAtStart : List ℕ → Game → Type 0
+HasTagAtStart archive game = slice_range archive game.start (game.start + length (fen_tag game.text)) ≡ fen_tag game.text
 
 -- the games of an archive; none where it is no archive of bare games
 abbrev pub games_in : List ℕ → Option (List Game)
