@@ -1,4 +1,4 @@
--- What reading the archive leaves.
+-- What reading the archive leaves, as the private functions give it.
 use Rattle.std.specs.Prelude.{◌≡◌, Result, Ok, Err}
 use Rattle.cq_outside.specs.Faults.{Rose}
 use Rattle.cq_outside.specs.declared.bytes.Bytes.{Bytes}
