@@ -1,5 +1,5 @@
 -- The front of an archive, by its first lines.
-use Rattle.std.proofs.Common.{◌≡◌, ℕ, ◌+◌, ◌≤◌, ◌<◌, Bool, true, false, cond, List, [], ◌∷◌, ◌++◌, length, length-append, Option, Some, None, arith, sym, ap, ◌∙◌, refl}
+use Rattle.std.proofs.Common.{◌≡◌, ℕ, ◌+◌, ◌≤◌, Bool, true, false, cond, List, [], ◌∷◌, ◌++◌, length, length-append, Option, Some, None, arith, sym, ap, ◌∙◌, refl}
 use Rattle.std.specs.Prelude.{codes, ◌==◌, not, IfSome, IfNone}
 use denote.Ref.{Bor}
 use Rattle.std.proofs.lemmas.Bool.{not-true, not-false}
@@ -10,17 +10,17 @@ use Rattle.cq_run.specs.Games.{bare_game}
 use Rattle.cq_run.specs.BareGames.{texts_in, texts_in_lines, lines_of, text_in_tag}
 
 -- an archive of one line
-unended : (tag : List ℕ) → texts_in_lines (tag ∷ []) ≡ cond (length tag == 0) (Some []) None
+pub unended : (tag : List ℕ) → texts_in_lines (tag ∷ []) ≡ cond (length tag == 0) (Some []) None
 unfolding texts_in_lines
 unended tag = refl
 
 -- an archive of a game and more lines
-game_first : (tag marker : List ℕ) (lines : List (List ℕ)) → texts_in_lines (tag ∷ marker ∷ lines)
+pub game_first : (tag marker : List ℕ) (lines : List (List ℕ)) → texts_in_lines (tag ∷ marker ∷ lines)
     ≡ cond (bytes_eq marker (codes "*")) (option_and_then (λ text. option_map (λ texts. text ∷ texts) (texts_in_lines lines)) (text_in_tag tag)) None
 unfolding texts_in_lines
 game_first tag marker lines = refl
 
-empty_line : texts_in_lines ([] ∷ []) ≡ texts_in_lines []
+pub empty_line : texts_in_lines ([] ∷ []) ≡ texts_in_lines []
 unfolding texts_in_lines
 empty_line = refl
 

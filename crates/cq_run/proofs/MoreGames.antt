@@ -45,12 +45,12 @@ answered_more query answer game games =
 answered_all : (query : ManOnSquare) (answer : Answer) → join_of answer (answer_of query []) ≡ answer
 answered_all query answer = same_answer _ _ _ _ _ _ _ _ _ _ (append-nil answer.exports) (append-nil answer.faults) (omega arith) (omega arith) (omega arith)
 
-first_game : (number start : ℕ) (text : List ℕ) (texts : List (List ℕ))
+pub first_game : (number start : ℕ) (text : List ℕ) (texts : List (List ℕ))
     → games_from number start (text ∷ texts) ≡ record { number = number; start = start; text = text } ∷ games_from (number + 1) (start + length (bare_game text)) texts
 unfolding games_from
 first_game number start text texts = refl
 
-no_games : (number start : ℕ) → games_from number start [] ≡ []
+pub no_games : (number start : ℕ) → games_from number start [] ≡ []
 unfolding games_from
 no_games number start = refl
 

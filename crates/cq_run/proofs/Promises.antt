@@ -14,7 +14,7 @@ use Rattle.cq_run.specs.Games.{Game, games_in}
 use Rattle.cq_run.specs.Answer.{answer_of}
 use Rattle.cq_run.specs.Reading.{ReadsArchive}
 use Rattle.cq_run.specs.Writing.{WritesAnswer}
-use Rattle.cq_run.specs.Promise.{NoWriteFailed, Answers, Call, DeskView, SinkView, Sinks, Texts, MayBe, ReadsWhole, Overruns, OpensAtMost, Writes, WritesFront, IsUnwritten, StopsWriting, HasAll, Says, IsOneOf, Promise, archive_of, archive_limit, asked_query, texts_of, texts_of_text, texts_of_query, texts_found, texts_of_answer}
+use Rattle.cq_run.specs.Promise.{NoWriteFailed, Answers, Call, DeskView, SinkView, Sinks, Texts, MayBe, ReadsWhole, TakesTooMuch, Overruns, OpensAtMost, Writes, WritesFront, IsUnwritten, StopsWriting, ToldOther, HasAll, Says, IsOneOf, Promise, archive_of, archive_limit, asked_query, texts_of, texts_of_text, texts_of_query, texts_found, texts_of_answer}
 use Rattle.cq_run.proofs.Taken.{unopened, not_overrun}
 
 -- a sink that was not written to has taken nothing more
@@ -54,6 +54,7 @@ words_written call none same out unfailed err =
       words_always = λ _. inl refl;
       query_always = λ text e _. cc;
       too_long_always = λ much. absurd (not_overrun call.desk call.desk_after (ap (λ (d : DeskView). d.told) same) much);
+      archive_always = λ other. absurd (no_query call.words [] other.query none other.asks);
       complete = λ all. absurd (no_query call.words [] all.query none all.asks);
     }
 
@@ -77,6 +78,7 @@ words_unwritten call count none same out failed err =
       words_always = λ _. inr (inl refl);
       query_always = λ text e _. cc;
       too_long_always = λ much. absurd (not_overrun call.desk call.desk_after (ap (λ (d : DeskView). d.told) same) much);
+      archive_always = λ other. absurd (no_query call.words [] other.query none other.asks);
       complete = λ all. absurd (no_query call.words [] all.query none all.asks);
     }
 
@@ -91,17 +93,19 @@ is_asked call query asks = ap (option_and_then query_of) asks.words ∙ asks.spe
 
 -- what is left to show where a query is asked
 promise_of : (status : Status) (call : Call) (query : ManOnSquare) → Asks call query → OpensAtMost call.desk call.desk_after → Says status call
-    → (Overruns call.desk call.desk_after → IsOneOf status (ArchiveTooLong ∷ NoMemory ∷ [])) → (HasAll call → IsOneOf status (Done ∷ DoneWithRefusals ∷ NoMemory ∷ [])) → Promise status call
-promise_of status call query asks opens says too_long complete = record {
+    → (Overruns call.desk call.desk_after → IsOneOf status (ArchiveTooLong ∷ NoMemory ∷ [])) → (ToldOther call → IsOneOf status (NotYetRead ∷ NoMemory ∷ []))
+    → (HasAll call → IsOneOf status (Done ∷ DoneWithRefusals ∷ NoMemory ∷ [])) → Promise status call
+promise_of status call query asks opens says too_long other complete = record {
   says = says;
   opens = opens;
   words_unopened = λ none. absurd (no_query call.words [] query none (is_asked call query asks));
   words_always = λ none. absurd (no_query call.words [] query none (is_asked call query asks));
-  query_always = λ text e other.
+  query_always = λ text e unread.
       let same : Some asks.text ≡ Some text = sym asks.words ∙ e in
-      let spelled : Some query ≡ None = sym asks.spells ∙ (ap (option_and_then query_of) same ∙ other) in
+      let spelled : Some query ≡ None = sym asks.spells ∙ (ap (option_and_then query_of) same ∙ unread) in
       cc;
   too_long_always = too_long;
+  archive_always = other;
   complete = complete;
 }
 
@@ -110,17 +114,23 @@ within : (left : Option (List ℕ)) (archive taken : List ℕ) → length archiv
 within None archive taken few many takes = takes
 within (Some rest) archive taken few many takes = let lengths : length archive ≡ length (taken ++ rest) = ap length takes in omega (arith, lengths, length-append taken rest)
 
+-- an archive that is told and within the limit is not too long
+not_too_long : (call : Call) (archive : List ℕ) → archive_of call.desk ≡ Some archive → length archive ≤ archive_limit → TakesTooMuch call.desk call.desk_after → ⊥
+not_too_long call archive tells few much =
+    within call.desk_after.left archive much.taken few much.long (subst (λ told. Consumes told call.desk_after.left much.taken) tells much.takes)
+
 -- the archive could not be read
 pub unread : (status : Status) (call : Call) (query : ManOnSquare) → Asks call query → IsUnwritten call.sinks → ReadsArchive call.desk call.desk_after (Err status) → Promise status call
 unread OpenFault call query asks same read =
-    promise_of OpenFault call query asks read.opens (read.reads.0, read.reads.1, same) (λ much. absurd (read.reads.2 much)) (λ all. absurd (all.no_open read.reads.0))
+    promise_of OpenFault call query asks read.opens (read.reads.0, read.reads.1, read.reads.2, same) (λ much. absurd (read.reads.3 much))
+    (λ other. absurd (other.no_open read.reads.0)) (λ all. absurd (all.no_open read.reads.0))
 unread ReadFault call query asks same read =
-    promise_of ReadFault call query asks read.opens (read.reads.0, read.reads.1, same) (λ much. absurd (read.reads.2 much)) (λ all. absurd (all.no_read read.reads.0))
+    promise_of ReadFault call query asks read.opens (read.reads.0, read.reads.1, same) (λ much. absurd (read.reads.2 much))
+    (λ other. absurd (other.no_read read.reads.0)) (λ all. absurd (all.no_read read.reads.0))
 unread ArchiveTooLong call query asks same read =
     promise_of ArchiveTooLong call query asks read.opens (read.reads.0, read.reads.1, same) (λ _. inl refl)
-    (λ all. absurd (within call.desk_after.left all.archive read.reads.0.taken all.within read.reads.0.long
-    (subst (λ archive. Consumes archive call.desk_after.left read.reads.0.taken) all.tells read.reads.0.takes)))
-unread NoMemory call query asks same read = promise_of NoMemory call query asks read.opens (stopped call same) (λ _. inr (inl refl)) (λ _. inr (inr (inl refl)))
+    (λ other. absurd (not_too_long call other.archive other.tells other.within read.reads.0)) (λ all. absurd (not_too_long call all.archive all.tells all.within read.reads.0))
+unread NoMemory call query asks same read = promise_of NoMemory call query asks read.opens (stopped call same) (λ _. inr (inl refl)) (λ _. inr (inl refl)) (λ _. inr (inr (inl refl)))
 unread Done call query asks same read = absurd read.reads
 unread DoneWithRefusals call query asks same read = absurd read.reads
 unread QueryRefused call query asks same read = absurd read.reads
@@ -130,7 +140,7 @@ unread NotYetRead call query asks same read = absurd read.reads
 
 -- no memory for the answer
 pub unanswered : (call : Call) (query : ManOnSquare) → Asks call query → OpensAtMost call.desk call.desk_after → IsUnwritten call.sinks → Promise NoMemory call
-unanswered call query asks opens same = promise_of NoMemory call query asks opens (stopped call same) (λ _. inr (inl refl)) (λ _. inr (inr (inl refl)))
+unanswered call query asks opens same = promise_of NoMemory call query asks opens (stopped call same) (λ _. inr (inl refl)) (λ _. inr (inl refl)) (λ _. inr (inr (inl refl)))
 
 games_of_answer : (query : ManOnSquare) (answer : Answer) (games : Option (List Game)) → Some answer ≡ option_map (answer_of query) games → (all : List Game) × (games ≡ Some all) × (answer ≡ answer_of query all)
 games_of_answer query answer None e = cc
@@ -150,9 +160,16 @@ pub held_other : (call : Call) (query : ManOnSquare) (archive : List ℕ) → As
 held_other call query archive asks same opens reads none =
     let other = no_games query (games_in archive) none in
     promise_of NotYetRead call query asks opens
-    (inr (record { query = query; archive = archive; asks = is_asked call query asks; reads = reads.0; other = other }), same) (λ much. absurd (reads.1 much))
+    (inr (record { query = query; archive = archive; asks = is_asked call query asks; reads = reads.0; other = other }), same) (λ much. absurd (reads.1 much)) (λ _. inl refl)
     (λ all. let e : archive ≡ all.archive = told_is (archive_of call.desk) archive all.archive reads.0.is all.tells in
     let games : None ≡ Some all.games = sym other ∙ (ap games_in e ∙ all.holds) in absurd cc)
+
+-- the archive holds bare games
+held_games : (call : Call) (archive : List ℕ) (games : List Game) → ReadsWhole call.desk call.desk_after archive → games_in archive ≡ Some games → ToldOther call → ⊥
+held_games call archive games reads holds told =
+    let e : archive ≡ told.archive = told_is (archive_of call.desk) archive told.archive reads.is told.tells in
+    let none : Some games ≡ None = sym holds ∙ (ap games_in e ∙ told.other) in
+    cc
 
 -- the texts of an answer are those of the words and the archive
 texts_are : (call : Call) (query : ManOnSquare) (archive : List ℕ) (answer : Answer) (games : List Game) → Asks call query → games_in archive ≡ Some games
@@ -184,21 +201,21 @@ pub wrote : (status : Status) (call : Call) (query : ManOnSquare) (archive : Lis
 wrote Done call query archive answer asks opens reads found writes =
     let games = games_of_answer query answer (games_in archive) found in
     promise_of Done call query asks opens (answers call query archive answer games.0 (λ refused. refused ≡ 0) asks reads.0 games.1 games.2 writes)
-    (λ much. absurd (reads.1 much)) (λ _. inl refl)
+    (λ much. absurd (reads.1 much)) (λ other. absurd (held_games call archive games.0 reads.0 games.1 other)) (λ _. inl refl)
 wrote DoneWithRefusals call query archive answer asks opens reads found writes =
     let games = games_of_answer query answer (games_in archive) found in
     promise_of DoneWithRefusals call query asks opens (answers call query archive answer games.0 (λ refused. 0 < refused) asks reads.0 games.1 games.2 writes)
-    (λ much. absurd (reads.1 much)) (λ _. inr (inl refl))
+    (λ much. absurd (reads.1 much)) (λ other. absurd (held_games call archive games.0 reads.0 games.1 other)) (λ _. inr (inl refl))
 wrote WriteFault call query archive answer asks opens reads found writes =
     let games = games_of_answer query answer (games_in archive) found in
     promise_of WriteFault call query asks opens
     (writes.0, record { archive = archive; is = reads.0.is; front = subst (WritesFront call.sinks) (texts_are call query archive answer games.0 asks games.1 games.2) writes.1 })
-    (λ much. absurd (reads.1 much)) (λ all. absurd (all.no_write writes.0))
+    (λ much. absurd (reads.1 much)) (λ other. absurd (held_games call archive games.0 reads.0 games.1 other)) (λ all. absurd (all.no_write writes.0))
 wrote NoMemory call query archive answer asks opens reads found writes =
     let games = games_of_answer query answer (games_in archive) found in
     promise_of NoMemory call query asks opens
     (record { archive = archive; is = reads.0.is; front = subst (WritesFront call.sinks) (texts_are call query archive answer games.0 asks games.1 games.2) writes })
-    (λ _. inr (inl refl)) (λ _. inr (inr (inl refl)))
+    (λ _. inr (inl refl)) (λ _. inr (inl refl)) (λ _. inr (inr (inl refl)))
 wrote QueryRefused call query archive answer asks opens reads found writes = absurd writes
 wrote WordsRefused call query archive answer asks opens reads found writes = absurd writes
 wrote OpenFault call query archive answer asks opens reads found writes = absurd writes

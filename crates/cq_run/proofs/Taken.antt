@@ -4,14 +4,14 @@ use Rattle.std.specs.Option.{option_map}
 use Rattle.std.specs.Io.KnownBytes.{Consumes}
 use Rattle.cq_outside.specs.Told.{Told, Opens, bytes_of}
 use Rattle.cq_outside.specs.Flow.{TakesAtMost}
-use Rattle.cq_run.specs.Promise.{DeskView, IsOpen, Overruns, OpensAtMost, archive_of, archive_limit, standard_input, with_archive_open}
+use Rattle.cq_run.specs.Promise.{DeskView, OpenedOnce, Overruns, OpensAtMost, archive_of, archive_limit, standard_input, with_archive_open}
 
 opens_on : (before opened : Option Told) (left : Option (List ℕ)) → Opens before opened standard_input left → opened ≡ option_map with_archive_open before
 opens_on None opened left opens = opens
 opens_on (Some told) opened left opens = opens.0
 
 -- the archive stays open while it is read
-pub still_open : (desk after : DeskView) (opened : Option Told) (left : Option (List ℕ)) → Opens desk.told opened standard_input left → after.told ≡ opened → IsOpen desk after
+pub still_open : (desk after : DeskView) (opened : Option Told) (left : Option (List ℕ)) → Opens desk.told opened standard_input left → after.told ≡ opened → OpenedOnce desk after
 still_open desk after opened left opens e = e ∙ opens_on desk.told opened left opens
 
 -- of the same bytes less the same rest, as many were taken
@@ -44,7 +44,7 @@ no_overrun desk after few much =
     (ap (option_map (λ (t : Told). bytes_of t.files standard_input)) much.tells) few.takes much.too_much.takes few.few much.too_much.long
 
 -- the archive was opened, and at most so many bytes were taken from it
-pub opened_once : (desk after : DeskView) (most : ℕ) → most ≤ archive_limit + 1 → IsOpen desk after → TakesAtMost most (archive_of desk) after.left → OpensAtMost desk after
+pub opened_once : (desk after : DeskView) (most : ℕ) → most ≤ archive_limit + 1 → OpenedOnce desk after → TakesAtMost most (archive_of desk) after.left → OpensAtMost desk after
 opened_once desk after most fits opened few = record { opens = inr opened; takes = λ _. record { bytes = few.bytes; takes = few.takes; few = omega (arith, few.few) } }
 
 -- a desk on which nothing was opened is not one with the archive open

@@ -25,7 +25,7 @@ answer_of query games = record {
   refused = length (filter is_refused games);
 }
 
--- an answer, and then another
+-- an answer, and then another, as the private functions give it
 abbrev pub join_of : Answer → Answer → Answer
 join_of first second = record {
   exports = first.exports ++ second.exports;
@@ -35,7 +35,7 @@ join_of first second = record {
   refused = first.refused + second.refused;
 }
 
--- an answer, and then that to one more game
+-- an answer, and then that to one more game, as the private functions give it
 abbrev pub with_game : ManOnSquare → Answer → Game → Answer
 with_game query answer game = join_of answer (answer_of query (game ∷ []))
 

@@ -1,4 +1,4 @@
--- What stands at the front of an archive of bare games.
+-- What stands at the front of an archive of bare games, as the private functions give it.
 use Rattle.std.specs.Prelude.{◌≡◌, ℕ, ◌+◌, ◌≤◌, List, [], ◌∷◌, length, Option, None, Some}
 use Rattle.std.specs.Option.{option_map}
 use Rattle.cq_run.specs.BareGames.{texts_in}

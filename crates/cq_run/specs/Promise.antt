@@ -65,15 +65,15 @@ archive_limit = 2 ^ 30
 abbrev pub with_archive_open : Told → Told
 with_archive_open told = record { files = told.files; opened = told.opened ++ standard_input ∷ [] }
 
--- the archive was opened, and is the open file at the end
-abbrev pub IsOpen : DeskView → DeskView → Type 0
-IsOpen desk after = after.told ≡ option_map with_archive_open desk.told
+-- the archive was opened, once, and no other file was
+abbrev pub OpenedOnce : DeskView → DeskView → Type 0
+OpenedOnce desk after = after.told ≡ option_map with_archive_open desk.told
 
 -- these are the bytes of the archive, which was opened and read to its end
 pub record ReadsWhole (desk after : DeskView) (archive : List ℕ) : Type 0 where
   pub is : MayBe (archive_of desk) archive
   pub within : length archive ≤ archive_limit
-  pub opened : IsOpen desk after
+  pub opened : OpenedOnce desk after
   pub at_end : IsAtEnd after.left
 
 -- more than its limit was taken from the archive
@@ -86,13 +86,13 @@ pub record TakesTooMuch (desk after : DeskView) : Type 0 where
 pub record Overruns (desk after : DeskView) : Type 0 where
   pub told : Told
   pub tells : desk.told ≡ Some told
-  pub opened : IsOpen desk after
+  pub opened : OpenedOnce desk after
   pub too_much : TakesTooMuch desk after
 
 -- No other file was opened than the archive, and that at most once. At most one byte more than its limit was taken from it.
 pub record OpensAtMost (desk after : DeskView) : Type 0 where
-  pub opens : (after.told ≡ desk.told) ⊎ IsOpen desk after
-  pub takes : IsOpen desk after → TakesAtMost (archive_limit + 1) (archive_of desk) after.left
+  pub opens : (after.told ≡ desk.told) ⊎ OpenedOnce desk after
+  pub takes : OpenedOnce desk after → TakesAtMost (archive_limit + 1) (archive_of desk) after.left
 
 -- the texts for the two sinks
 pub record Texts : Type 0 where
@@ -186,11 +186,12 @@ Says Done call = Answers call (λ refused. refused ≡ 0)
 Says DoneWithRefusals call = Answers call (λ refused. 0 < refused)
 Says QueryRefused call = ⊥
 Says WordsRefused call = (query_text call.words ≡ None) × Writes call.sinks (texts_of call.words []) × NoWriteFailed call.sinks
-Says OpenFault call = Rose call.desk.open_faults call.desk_after.open_faults × (call.desk_after.told ≡ call.desk.told) × IsUnwritten call.sinks
-Says ReadFault call = Rose call.desk.read_faults call.desk_after.read_faults × IsOpen call.desk call.desk_after × IsUnwritten call.sinks
+Says OpenFault call =
+    Rose call.desk.open_faults call.desk_after.open_faults × (call.desk_after.told ≡ call.desk.told) × (call.desk_after.left ≡ call.desk.left) × IsUnwritten call.sinks
+Says ReadFault call = Rose call.desk.read_faults call.desk_after.read_faults × OpenedOnce call.desk call.desk_after × IsUnwritten call.sinks
 Says WriteFault call = SinkFailed call.sinks × StopsWriting call
 Says NoMemory call = StopsWriting call
-Says ArchiveTooLong call = TakesTooMuch call.desk call.desk_after × IsOpen call.desk call.desk_after × IsUnwritten call.sinks
+Says ArchiveTooLong call = TakesTooMuch call.desk call.desk_after × OpenedOnce call.desk call.desk_after × IsUnwritten call.sinks
 Says NotYetRead call = (AsksOther call ⊎ HoldsOther call) × IsUnwritten call.sinks
 
 -- the status is one of these
@@ -211,6 +212,17 @@ pub record HasAll (call : Call) : Type 0 where
   pub no_read : Rose call.desk.read_faults call.desk_after.read_faults → ⊥
   pub no_write : SinkFailed call.sinks → ⊥
 
+-- accepted words and query, an archive of another form within the limit, and no count of the desk that rose; the sinks may fail
+pub record ToldOther (call : Call) : Type 0 where
+  pub query : ManOnSquare
+  pub archive : List ℕ
+  pub asks : asked_query call ≡ Some query
+  pub tells : archive_of call.desk ≡ Some archive
+  pub within : length archive ≤ archive_limit
+  pub other : games_in archive ≡ None
+  pub no_open : Rose call.desk.open_faults call.desk_after.open_faults → ⊥
+  pub no_read : Rose call.desk.read_faults call.desk_after.read_faults → ⊥
+
 -- what `run` promises of its status
 pub record Promise (status : Status) (call : Call) : Type 0 where
   pub says : Says status call
@@ -219,6 +231,7 @@ pub record Promise (status : Status) (call : Call) : Type 0 where
   pub words_always : query_text call.words ≡ None → IsOneOf status (WordsRefused ∷ WriteFault ∷ NoMemory ∷ [])
   pub query_always : (text : List ℕ) → query_text call.words ≡ Some text → query_of text ≡ None → status ≡ NotYetRead
   pub too_long_always : Overruns call.desk call.desk_after → IsOneOf status (ArchiveTooLong ∷ NoMemory ∷ [])
+  pub archive_always : ToldOther call → IsOneOf status (NotYetRead ∷ NoMemory ∷ [])
   pub complete : HasAll call → IsOneOf status (Done ∷ DoneWithRefusals ∷ NoMemory ∷ [])
 
 -- the views of a desk and of the sinks, by what their types tell

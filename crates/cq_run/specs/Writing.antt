@@ -1,4 +1,4 @@
--- What writing an answer leaves.
+-- What writing an answer leaves, as the private functions give it.
 use Rattle.std.specs.Prelude.{◌≡◌, ◌<◌}
 use Rattle.cq_run.specs.declared.answer.Answer.{Answer}
 use Rattle.cq_run.specs.declared.status.Status.{Status}

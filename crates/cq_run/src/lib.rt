@@ -3,6 +3,7 @@
 
 mod answer;
 mod bare_games;
+mod laws;
 mod query;
 mod reading;
 mod status;
@@ -12,5 +13,6 @@ mod top_call;
 mod words;
 mod writing;
 
+pub use laws::archives_are_their_games;
 pub use status::Status;
 pub use top_call::run;

@@ -9,7 +9,7 @@ pub enum Status {
     Done,
     /// All games are answered, and some are refused.
     DoneWithRefusals,
-    /// The query is faulty.
+    /// The query is faulty. It does not come yet: a faulty query is answered as one that is not yet read.
     QueryRefused,
     /// The words are not those of a command.
     WordsRefused,

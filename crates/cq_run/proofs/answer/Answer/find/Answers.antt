@@ -1,6 +1,6 @@
-use Rattle.std.proofs.Common.{◌≡◌, ◌+◌, ◌≤◌, length, arith, refl}
+use Rattle.std.proofs.Common.{◌+◌, ◌≤◌, length, arith}
 use Rattle.cq_run.proofs.Fronts.{behind_game, place_behind}
-use Rattle.cq_run.proofs.MoreGames.{answered_nothing, stop_at_end, stop_at_other, go_on, counts_more}
+use Rattle.cq_run.proofs.MoreGames.{answered_nothing, stop_at_end, go_on, counts_more}
 use Rattle.cq_run.proofs.answer.Answer.find.Goals as goal
 
 pub games-init : goal.games-init
