@@ -11,7 +11,8 @@ use Rattle.std.proofs.lemmas.List.{append_assoc, length-append, length-take-le, 
 use Rattle.pgn_lexer.specs.Grammar.{IsLexeme, IsLongest}
 use Rattle.pgn_lexer.specs.Lexemes.{Lexeme, end, lexeme, lexemes, lexemes_from, first_at}
 use Rattle.pgn_lexer.specs.Local.{IsUnsettled, may_grow, Settles, Grows}
-use Rattle.pgn_lexer.specs.Bytes.{is_white, continues_symbol}
+use Rattle.pgn_lexer.specs.Bytes.{continues_symbol}
+use Rattle.cq_outside.specs.Text.{is_white}
 use Rattle.pgn_lexer.specs.Readings.{reading, symbol, single}
 use Rattle.pgn_lexer.specs.declared.token.LexemeKind.{LexemeKind}
 use Rattle.pgn_lexer.specs.declared.token.LexemeKind.TheVariants.{EscapeLine, Token}

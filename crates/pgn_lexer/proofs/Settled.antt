@@ -6,7 +6,8 @@ use Rattle.std.specs.Char.{is_ascii_digit, is_ascii_alphanumeric}
 use Rattle.std.specs.Str.Parse.{digits_value}
 use Rattle.std.proofs.lemmas.Bool.{cases_lt, cases_Bool}
 use Rattle.std.proofs.lemmas.List.{take_all, take-append-le, take-take, length-take-le, length-append, append_assoc}
-use Rattle.pgn_lexer.specs.Bytes.{is_white, ends_line, continues_symbol}
+use Rattle.pgn_lexer.specs.Bytes.{ends_line, continues_symbol}
+use Rattle.cq_outside.specs.Text.{is_white}
 use Rattle.pgn_lexer.specs.Grammar.{Lacks, IsPlain, IsBody, IsNumbered, IsSuffix, IsLexeme, IsLongest}
 use Rattle.pgn_lexer.specs.Readings.{reading, single}
 use Rattle.pgn_lexer.specs.declared.token.LexemeKind.{LexemeKind}

@@ -1,7 +1,7 @@
 //! Laws of the lexemes of a text, for the crates above. Each is proved for all texts; to call one costs nothing.
 ghost use Rattle.std.specs.Prelude.{◌≡◌, ◌+◌, ℕ, Bool, false, List, ◌∷◌, drop, slice_range};
 ghost use Rattle.std.specs.List.{AllByRecursion};
-ghost use Rattle.pgn_lexer.specs.Bytes.{is_white};
+ghost use Rattle.cq_outside.specs.Text.{is_white};
 ghost use Rattle.pgn_lexer.specs.Lexemes.{lexeme, lexemes, first_at};
 ghost use Rattle.pgn_lexer.specs.Readings.{reading};
 ghost use Rattle.pgn_lexer.specs.Grammar.{IsLongest};
