@@ -1,3 +1,4 @@
+pub mod Digits
 pub mod Entries
 pub mod Growth
 pub mod Moves

@@ -29,4 +29,4 @@ pub use source::Source;
 pub use sure_desk::SureDesk;
 pub use sure_sink::SureSink;
 pub use sure_source::SureSource;
-pub use text::is_white;
+pub use text::{decimal_up_to, digits_len, is_white};

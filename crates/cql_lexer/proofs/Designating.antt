@@ -4,16 +4,19 @@ use Rattle.std.specs.Prelude.{option_and_then}
 use Rattle.std.specs.Option.{option_map, option_or}
 use Rattle.std.proofs.str.Laws.{order}
 use Rattle.std.specs.Prelude.{◌&&◌}
-use Rattle.std.proofs.lemmas.Bool.{and_parts, cases_eq, eqb-true}
+use Rattle.std.specs.Int.{is_in_range}
+use Rattle.std.proofs.lemmas.Bool.{and_parts, cases_eq, eqb-true, leb-true}
 use Rattle.std.proofs.lemmas.Option.{cond_some}
 use Rattle.std.proofs.lemmas.List.{take-take, drop-take, take_rest}
 use Rattle.cql_syntax.specs.declared.leaves.Designator.{Designator}
 use Rattle.cql_lexer.specs.Designators.{group, men_of, in_brackets, squares_of, specification, specifications, rectangle, men_then_squares, designator, men_on, any_men, all_squares}
 use Rattle.cql_lexer.specs.Longest.{longest}
-use Rattle.cql_lexer.proofs.Digits.{in_range}
 use Rattle.cql_lexer.proofs.Longest.{Within, Nothing, some_or_none, none_some, longest_some, longest_none, longest_parts, longest_nothing}
 use Rattle.cql_lexer.proofs.Groups.{Opens, opens}
 use Rattle.cql_lexer.proofs.Fronts.{men_group-other, men_plain-other, squares_group-other, squares_plain}
+
+in_range : (first last b : ℕ) → is_in_range first last b ≡ true → (first ≤ b) × (b ≤ last)
+in_range first last b e = (leb-true first b (and_parts _ _ e).0, leb-true b last (and_parts _ _ e).1)
 
 -- only fronts of one length can be men
 record OnlyLength (text : List ℕ) (n : ℕ) : Type 0 where

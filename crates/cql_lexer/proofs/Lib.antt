@@ -6,7 +6,6 @@ pub mod Groups
 pub mod Fronts
 pub mod Designating
 pub mod Eights
-pub mod Digits
 pub mod Marks
 mod Rows
 pub mod Steps

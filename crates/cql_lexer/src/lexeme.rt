@@ -6,10 +6,10 @@ ghost use Rattle.cql_lexer.specs.Characters.{begins, begins_name_or_squares};
 ghost use Rattle.cql_lexer.specs.Lexemes.{IsFront, file_name, outcome, quoted, number, named, named_or_squares, mark_number, mark, first_lexeme};
 ghost use Rattle.cql_lexer.specs.Longest.{front, longest};
 
-use crate::characters::{decimal_at_most, digits_len, file_name_len, find, name_len};
+use crate::characters::{file_name_len, find, name_len};
 use crate::designators::designator_at;
 use crate::expected::Expected;
-use cq_outside::{Bytes, NoMemory, Refusal};
+use cq_outside::{Bytes, NoMemory, Refusal, decimal_up_to, digits_len};
 use cql_syntax::words::place_in;
 use cql_syntax::{Outcome, QueryReason, QueryTokenKind, is_reserved, word_number};
 use std::alloc::Global;
@@ -87,20 +87,21 @@ fn quoted(alloc: Global, text: &[u8]) -> Result<Lexeme, Refusal<QueryReason>>
 }
 
 // A number.
-#[tactic(auto, using(crate::proofs::Digits::front_digits), unfolding(crate::specs::Lexemes::number))]
+#[tactic(auto, unfolding(crate::specs::Lexemes::number))]
 fn number(text: &[u8]) -> Result<Lexeme, QueryReason>
     requires { IsTrue (begins is_ascii_digit text.now) }
     ensures value { result ≡ number text.now }
     ensures front { IfOk result (λ lexeme. IsFront lexeme text.now) }
 {
     let len = digits_len(text);
-    match decimal_at_most(NUMBER_LIMIT, &text[..len]) {
-        Some(number) => Ok(Lexeme {
-            kind: QueryTokenKind::Number(number),
-            len,
-        }),
-        None => Err(QueryReason::NumberTooLarge),
+    let number = decimal_up_to(NUMBER_LIMIT + 1, &text[..len]);
+    if number > NUMBER_LIMIT {
+        return Err(QueryReason::NumberTooLarge);
     }
+    Ok(Lexeme {
+        kind: QueryTokenKind::Number(number),
+        len,
+    })
 }
 
 // A word, a reserved name or another name.

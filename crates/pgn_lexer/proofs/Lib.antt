@@ -1,7 +1,6 @@
 pub mod Apart
 pub mod Bodies
 pub mod Fronts
-pub mod Glyphs
 pub mod Lists
 pub mod Local
 pub mod Places

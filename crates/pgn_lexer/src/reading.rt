@@ -1,12 +1,11 @@
 //! The longest reading at a place.
-ghost use Rattle.std.specs.Prelude.{◌≡◌, false, ◌+◌, ◌-◌, ◌<◌, ◌≤◌, ℕ, ◌==◌, min, length, drop, slice_index};
-ghost use Rattle.std.specs.List.{prefix_len, position_or_len, AllPass};
-ghost use Rattle.std.specs.Char.{is_ascii_digit};
-ghost use Rattle.std.specs.Str.Parse.{digits_value};
+ghost use Rattle.std.specs.Prelude.{◌≡◌, false, ◌+◌, ◌-◌, ◌<◌, ◌≤◌, ℕ, ◌==◌, length, drop, slice_index};
+ghost use Rattle.std.specs.List.{prefix_len, position_or_len};
 ghost use Rattle.pgn_lexer.specs.Bytes.{ends_line, continues_symbol};
 ghost use Rattle.pgn_lexer.specs.Readings.{token, comment, line_comment, escape_line, is_special, body_len, text, symbol, nag, good_suffix, poor_suffix, null_move, single, reading};
 
 use crate::token::{LexemeKind, Reading, TokenKind};
+use cq_outside::{decimal_up_to, digits_len};
 use memchr::{memchr, memchr3};
 
 /// Whether a symbol goes on with this byte.
@@ -40,14 +39,6 @@ fn symbol_len(bytes: &[u8]) -> usize
     ensures within { result ≤ length bytes.now }
 {
     bytes.iter().take_while(|b| continues_symbol(**b)).count()
-}
-
-/// How many bytes at the front are digits.
-fn digits_len(bytes: &[u8]) -> usize
-    ensures value { result ≡ prefix_len is_ascii_digit bytes.now }
-    ensures within { result ≤ length bytes.now }
-{
-    bytes.iter().take_while(|b| b.is_ascii_digit()).count()
 }
 
 /// A comment from its brace; `rest` is what stands behind that.
@@ -137,21 +128,11 @@ fn symbol(rest: &[u8]) -> Reading
     token(TokenKind::Symbol, symbol_len(rest) + 1)
 }
 
-/// The number that digits write, every one above 255 as 256.
-#[tactic(auto, using(crate::proofs::Glyphs::glyph_more, crate::proofs::Glyphs::digit_is))]
-fn glyph(digits: &[u8]) -> u32
-    requires { AllPass is_ascii_digit digits.now }
-    ensures { result ≡ min 256 (digits_value 10 digits.now) }
-{
-    let mut number = 0;
-    for digit in digits {
-        number = (number * 10 + u32::from(*digit - b'0')).min(256);
-    }
-    number
-}
+/// What every glyph's number above the standard's range is read as.
+const BEYOND_GLYPHS: u32 = 256;
 
 /// A glyph from its dollar sign.
-#[tactic(auto, using(crate::proofs::Glyphs::front_digits), unfolding(crate::specs::Readings::nag))]
+#[tactic(auto, unfolding(crate::specs::Readings::nag))]
 fn nag(rest: &[u8]) -> Reading
     ensures { result ≡ nag rest.now }
 {
@@ -159,7 +140,8 @@ fn nag(rest: &[u8]) -> Reading
     if digits == 0 {
         token(TokenKind::BadByte, 1)
     } else {
-        token(TokenKind::Nag(glyph(&rest[..digits])), digits + 1)
+        let glyph = decimal_up_to(BEYOND_GLYPHS, &rest[..digits]);
+        token(TokenKind::Nag(glyph), digits + 1)
     }
 }
 

@@ -26,12 +26,12 @@ front_digits text i d h =
     ap is_ascii_digit (get_or-take (prefix_len is_ascii_digit text) text i d within) ∙ prefix_len_passes is_ascii_digit text i d within
 
 -- cutting at a bound after each digit is cutting at the end
-cut : (value m n d bound : ℕ) → value ≡ min m bound → n ≡ m * 10 + d → min (10 * value + d) bound ≡ min n bound
+cut : (value m n d bound : ℕ) → value ≡ min bound m → n ≡ m * 10 + d → min (10 * value + d) bound ≡ min bound n
 cut value m n d bound before more = omega arith
 
 -- one more digit
-pub number_more : (value bound : ℕ) (digits : List ℕ) (i : ℕ) → i < length digits → is_ascii_digit (get_or digits i 0) ≡ true → value ≡ min (digits_value 10 (take i digits)) bound
-    → min (10 * value + (get_or digits i 0 - 48)) bound ≡ min (digits_value 10 (take (i + 1) digits)) bound
+pub number_more : (value bound : ℕ) (digits : List ℕ) (i : ℕ) → i < length digits → is_ascii_digit (get_or digits i 0) ≡ true → value ≡ min bound (digits_value 10 (take i digits))
+    → min (10 * value + (get_or digits i 0 - 48)) bound ≡ min bound (digits_value 10 (take (i + 1) digits))
 number_more value bound digits i within digit before =
     let d = get_or digits i 0 in
     let front = digits_value 10 (take i digits) in
