@@ -1,6 +1,7 @@
 use crate::{
     Bytes, Desk, Failed, FileDesk, Gate, NoMemory, OpenFault, OpenGate, Refusal, Sink, Source,
-    StdSink, SureDesk, SureSink, SureSource, is_white, read_piece, read_up_to, write_all_of,
+    StdSink, SureDesk, SureSink, SureSource, decimal_up_to, digits_len, is_white, read_piece,
+    read_up_to, write_all_of,
 };
 use std::fs;
 use std::test::Fail;
@@ -39,6 +40,23 @@ fn white_space_is_tab_to_carriage_return_and_the_space(rt: HostRuntime) {
     for b in 0..=255 {
         let white = b"\t\n\x0b\x0c\r ".contains(&b);
         assert_eq!(rt; is_white(b), white, "at {b}");
+    }
+}
+
+#[test]
+fn digits_are_read_up_to_a_bound(rt: HostRuntime) {
+    let rows = [
+        (b"".as_slice(), 0, 0),
+        (b"x1", 0, 0),
+        (b"007x", 3, 7),
+        (b"256", 3, 256),
+        (b"257 ", 3, 256),
+        (b"99999999999999999999999", 23, 256),
+    ];
+    for (text, len, number) in rows {
+        let digits = digits_len(text);
+        assert_eq!(rt; digits, len, "in {text:?}");
+        assert_eq!(rt; decimal_up_to(256, &text[..digits]), number, "in {text:?}");
     }
 }
 

@@ -1,5 +1,5 @@
 //! Worked rows through the top call, over the forms in memory.
-use crate::{Status, run};
+use crate::{Status, archives_are_their_games, run};
 use cq_outside::{NoMemory, OpenGate, SureDesk, SureSink};
 use std::alloc::{AllocError, Global};
 use std::process::Abort;
@@ -65,6 +65,7 @@ const TWO_EXPORTS: &str =
 
 #[test]
 fn worked_rows(rt: HostRuntime) -> Result<(), Fail> {
+    archives_are_their_games();
     let alloc = rt.alloc();
     let none = "games 0 matched 0 refused 0\n";
     let one = "games 1 matched 1 refused 0\n";

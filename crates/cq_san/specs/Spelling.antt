@@ -1,4 +1,8 @@
 -- How a move is spelled in Standard Algebraic Notation (PGN standard 8.2.3), in the order in which its parts are written.
+--
+-- It is more lenient than the standard in these points. Castling may be written with zeros. A pawn may be named by `P`. `-` may stand
+-- where `x` does, and either before any goal, a captured man on it or not. The origin may be given where it isn't needed. A promotion
+-- may go without `=`. Any number of signs may follow, whatever the move does. `Z0` and `--` are null moves, which the standard lacks.
 use Rattle.std.specs.Prelude.{◌≡◌, ◌⊎◌, ℕ, ◌+◌, ◌<◌, Bool, true, false, List, [], ◌∷◌, ◌++◌, codes, Option, Some, None}
 use Rattle.std.specs.List.{All}
 use Rattle.cq_geometry.specs.Squares.{file_of, rank_of}

@@ -1,5 +1,5 @@
 //! Cuts of archives from outside, and calls that find memory.
-use crate::{Span, cut_whole, games_have_their_tokens, games_stand_apart};
+use crate::{Span, closed_games_stay, cut_whole, games_have_their_tokens, games_stand_apart};
 use pgn_lexer::tokens;
 use std::test::Fail;
 
@@ -50,6 +50,7 @@ static ROWS: [Row<'static>; 31] = [
 fn archives_have_their_games(rt: HostRuntime) -> Result<(), Fail> {
     games_have_their_tokens();
     games_stand_apart();
+    closed_games_stay();
     for (archive, want) in ROWS.iter() {
         assert!(rt; archive.len() <= 64);
         let found = cut_whole(rt.alloc(), archive)?;

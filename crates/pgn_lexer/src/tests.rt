@@ -4,8 +4,8 @@ use crate::TokenKind::{
     Symbol, Text, UnclosedComment, UnclosedText,
 };
 use crate::{
-    LexemeKind, Reading, Token, TokenKind, lexemes_are_local, lexemes_stand_apart, longest_reading,
-    next_lexeme, readings_are_longest, tokens,
+    LexemeKind, Reading, Token, TokenKind, fronts_settle, lexemes_are_local, lexemes_follow,
+    lexemes_stand_apart, longest_reading, next_lexeme, readings_are_longest, readings_grow, tokens,
 };
 use cq_outside::is_white;
 use std::test::Fail;
@@ -156,6 +156,9 @@ fn readings_and_lexemes_are_found(rt: HostRuntime) {
     lexemes_stand_apart();
     lexemes_are_local();
     readings_are_longest();
+    readings_grow();
+    lexemes_follow();
+    fronts_settle();
     let escape = Reading {
         kind: LexemeKind::EscapeLine,
         len: 3,
