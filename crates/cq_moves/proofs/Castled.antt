@@ -14,7 +14,7 @@ use Rattle.cq_position.specs.declared.moves.Move.{Move}
 use Rattle.cq_position.specs.Men.{opponent, king_of}
 use Rattle.cq_position.specs.Board.{Board, man_at, stands, castling_right, king_home, rook_home}
 use Rattle.cq_position.specs.Attacks.{attacks, attacks_as, is_occupied, is_attacked}
-use Rattle.cq_position.specs.Legal.{moves_as, castles, castling_goal, castling_crossed, is_castling, is_none}
+use Rattle.cq_position.specs.Legal.{goes_as, castles, castling_goal, castling_crossed, is_castling, is_none}
 use Rattle.cq_moves.proofs.Boards.{stands-is}
 
 -- the squares of castling are on the board, and apart
@@ -135,21 +135,21 @@ king_attacks : (side : Side) (men : List Man) (a b : ℕ) → man_at men a ≡ k
 unfolding attacks
 king_attacks side men a b is e = king_step side (is_occupied men) a b (subst (λ (man : Man). attacks_as man (is_occupied men) a b ≡ true) is e)
 
-king_moves : (side : Side) (p : Board) (m : Move) → moves_as (king_of side) p m ≡ true
-    → (attacks p.men m.from m.to || castles p m.from m.to true || castles p m.from m.to false) ≡ true
-king_moves White p m e = (and_parts (attacks p.men m.from m.to || castles p m.from m.to true || castles p m.from m.to false) (is_none m.promotion) e).0
-king_moves Black p m e = (and_parts (attacks p.men m.from m.to || castles p m.from m.to true || castles p m.from m.to false) (is_none m.promotion) e).0
+king_moves : (side : Side) (p : Board) (a b : ℕ) → goes_as (king_of side) p a b ≡ true
+    → (attacks p.men a b || castles p a b true || castles p a b false) ≡ true
+king_moves White p a b e = e
+king_moves Black p a b e = e
 
 no_step : (a b : ℕ) → is_king_step a b ≡ true → files_apart a b ≡ 2 → ⊥
 no_step a b step two = let one : distance a b ≡ 1 = eqb-true (distance a b) 1 step in omega arith
 
 -- a king that goes two files castles
-pub castles_when : (p : Board) (m : Move) → moves_as (man_at p.men m.from) p m ≡ true → is_castling p m ≡ true → Castles p m true ⊎ Castles p m false
-castles_when p m moves castling =
+pub castles_when : (p : Board) (m : Move) → goes_as (man_at p.men m.from) p m.from m.to ≡ true → is_castling p m ≡ true → Castles p m true ⊎ Castles p m false
+castles_when p m goes castling =
     let t = and_parts (stands p.men m.from (king_of p.side)) (files_apart m.from m.to == 2) castling in
     let king = stands-is p.men m.from (king_of p.side) t.0 in
     let two = eqb-true (files_apart m.from m.to) 2 t.1 in
-    let ways = king_moves p.side p m (subst (λ (man : Man). moves_as man p m ≡ true) king moves) in
+    let ways = king_moves p.side p m.from m.to (subst (λ (man : Man). goes_as man p m.from m.to ≡ true) king goes) in
     elim (or_cases (attacks p.men m.from m.to || castles p m.from m.to true) (castles p m.from m.to false) ways) [
       | inl rest ↦ elim (or_cases (attacks p.men m.from m.to) (castles p m.from m.to true) rest) [
         | inl step ↦ absurd (no_step m.from m.to (king_attacks p.side p.men m.from m.to king step) two)

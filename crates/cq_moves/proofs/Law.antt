@@ -10,9 +10,8 @@ use Rattle.cq_position.specs.declared.moves.Move.{Move}
 use Rattle.cq_position.specs.Men.{is_of_side, opponent, king_of}
 use Rattle.cq_position.specs.Board.{Board, man_at, stands, is_pawn}
 use Rattle.cq_position.specs.Attacks.{in_check}
-use Rattle.cq_position.specs.Legal.{is_none, promotes_rightly, moves_as, is_pseudo_legal, men_after, after, Legal}
+use Rattle.cq_position.specs.Legal.{goes_as, reaches, promotes, is_pseudo_legal, men_after, after, Legal}
 use Rattle.cq_moves.specs.Legality.{is_safe, legal_test}
-use Rattle.cq_moves.specs.Reach.{goes_as, reaches, promotes}
 
 -- what passes the test is legal
 pub test_leads : (p : Board) (m : Move) → legal_test p m ≡ true → Legal p m (after p m)
@@ -30,47 +29,6 @@ legal_passes p m q l =
 
 pub legal_law : (p : Board) (m : Move) → (legal_test p m ≡ true) ↔ ((q : Board) × Legal p m q)
 legal_law p m = (λ h. (after p m, test_leads p m h), λ l. legal_passes p m l.0 l.1)
-
--- how a man moves is where it goes, and what it becomes
-moves_in_parts : (man : Man) (p : Board) (m : Move)
-    → moves_as man p m ≡ (goes_as man p m.from m.to && cond (is_pawn man) (promotes_rightly p.side m) (is_none m.promotion))
-moves_in_parts K p m = refl
-moves_in_parts Q p m = refl
-moves_in_parts R p m = refl
-moves_in_parts B p m = refl
-moves_in_parts N p m = refl
-moves_in_parts P p m = refl
-moves_in_parts BlackK p m = refl
-moves_in_parts BlackQ p m = refl
-moves_in_parts BlackR p m = refl
-moves_in_parts BlackB p m = refl
-moves_in_parts BlackN p m = refl
-moves_in_parts BlackP p m = refl
-moves_in_parts Empty p m = refl
-
-and_assoc : (x y z : Bool) → (x && y && z) ≡ (x && (y && z))
-and_assoc true y z = refl
-and_assoc false y z = refl
-
-regroup : (a b c d e f g : Bool) → (a && b && c && d && e && (f && g)) ≡ (a && b && (c && d && e && f) && g)
-regroup true true true true true f g = refl
-regroup true true true true false f g = refl
-regroup true true true false e f g = refl
-regroup true true false d e f g = refl
-regroup true false c d e f g = refl
-regroup false b c d e f g = refl
-
-pub pseudo_legal_in_parts : (p : Board) (m : Move)
-    → is_pseudo_legal p m ≡ (not m.null && ltb m.to 64 && reaches p m.from m.to && promotes p m)
-unfolding is_pseudo_legal reaches
-pseudo_legal_in_parts p m =
-    let a = not m.null in
-    let b = ltb m.to 64 in
-    let c = is_of_side p.side (man_at p.men m.from) in
-    let d = not (is_of_side p.side (man_at p.men m.to)) in
-    let e = not (stands p.men m.to (king_of (opponent p.side))) in
-    ap (λ t. a && b && c && d && e && t) (moves_in_parts (man_at p.men m.from) p m)
-    ∙ regroup a b c d e (goes_as (man_at p.men m.from) p m.from m.to) (promotes p m)
 
 -- a move that can be made has squares of the board, and isn't the null move
 pub record IsOnBoard (m : Move) : Type 0 where
@@ -100,9 +58,9 @@ pub record Moves (p : Board) (m : Move) : Type 0 where
   pub promotes_so : promotes p m ≡ true
 
 pub what_moves : (p : Board) (m : Move) → legal_test p m ≡ true → Moves p m
-unfolding legal_test reaches
+unfolding legal_test is_pseudo_legal reaches
 what_moves p m h =
-    let can = sym (pseudo_legal_in_parts p m) ∙ (and_parts (is_pseudo_legal p m) (is_safe p m) h).0 in
+    let can = (and_parts (is_pseudo_legal p m) (is_safe p m) h).0 in
     let reach_and_become = and_parts (not m.null && ltb m.to 64 && reaches p m.from m.to) (promotes p m) can in
     let start = and_parts (not m.null && ltb m.to 64) (reaches p m.from m.to) reach_and_become.0 in
     let first = and_parts (not m.null) (ltb m.to 64) start.0 in
@@ -127,10 +85,10 @@ legal_on_board p m long h =
 
 -- the test for a null move, and in parts for another move to a square of the board
 pub null_fails : (p : Board) (m : Move) → m.null ≡ true → legal_test p m ≡ false
-unfolding legal_test
-null_fails p m h = rw (pseudo_legal_in_parts p m, h) refl
+unfolding legal_test is_pseudo_legal
+null_fails p m h = rw h refl
 
 pub passes_in_parts : (p : Board) (m : Move) → m.null ≡ false → m.to < 64
     → legal_test p m ≡ (reaches p m.from m.to && promotes p m && is_safe p m)
-unfolding legal_test
-passes_in_parts p m h k = rw (pseudo_legal_in_parts p m, h, lt-ltb m.to 64 k) refl
+unfolding legal_test is_pseudo_legal
+passes_in_parts p m h k = rw (h, lt-ltb m.to 64 k) refl

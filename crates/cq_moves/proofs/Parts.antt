@@ -9,9 +9,9 @@ use Rattle.cq_geometry.specs.Squares.{squares}
 use Rattle.cq_position.specs.declared.men.Promotion.{Promotion}
 use Rattle.cq_position.specs.declared.moves.Move.{Move}
 use Rattle.cq_position.specs.Board.{Board}
+use Rattle.cq_position.specs.Legal.{reaches, promotes}
 use Rattle.cq_moves.specs.Legality.{is_safe, legal_test}
 use Rattle.cq_moves.specs.LegalMoves.{promotions, move_of, moves_between, moves_from, all_moves, legal_list, legal_from, legal_between}
-use Rattle.cq_moves.specs.Reach.{reaches, promotes}
 use Rattle.cq_moves.proofs.Lists.{filter-flat_map, filter-map, filter-none, flat_map-take_more, list_any-flat_map}
 use Rattle.cq_moves.proofs.Law.{passes_in_parts}
 

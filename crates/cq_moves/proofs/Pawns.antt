@@ -1,5 +1,5 @@
 -- How a pawn moves, by ranks and files.
-use Rattle.std.proofs.Common.{◌≡◌, ◌≢◌, ℕ, ◌+◌, ◌-◌, ◌/◌, ◌<◌, Bool, true, false, not, ◌&&◌, ◌||◌, Option, Some, None, List, length, refl, sym, ap, ◌∙◌, subst, inl, inr, arith}
+use Rattle.std.proofs.Common.{◌≡◌, ◌≢◌, ℕ, ◌+◌, ◌-◌, ◌/◌, ◌<◌, Bool, true, false, cond, not, ◌&&◌, ◌||◌, Option, Some, None, List, length, refl, sym, ap, ◌∙◌, subst, inl, inr, arith}
 use Rattle.std.specs.Prelude.{if◌then◌else◌, ◌==◌, slice_set}
 use Rattle.std.proofs.lemmas.Bool.{eq-eqb, ne_eqb, eqb-true, cases_Bool, and_parts, or_cases, not-true, not-false}
 use Rattle.cq_geometry.specs.Squares.{file_of, rank_of, square_of}
@@ -14,9 +14,9 @@ use Rattle.cq_position.specs.declared.moves.Move.{Move}
 use Rattle.cq_position.specs.Men.{is_of_side, opponent, pawn_of}
 use Rattle.cq_position.specs.Board.{Board, man_at, stands, is_pawn, was_passed, passant_stands}
 use Rattle.cq_position.specs.Attacks.{is_goal, is_occupied, is_pawn_attack}
-use Rattle.cq_position.specs.Legal.{moves_as, pawn_moves, promotes_rightly, is_none, promoted, last_rank, is_single_step, is_double_step, middle, men_moved, is_passing_capture}
+use Rattle.cq_position.specs.Legal.{goes_as, pawn_moves, promotes_rightly, is_none, promoted, last_rank, is_single_step, is_double_step, middle, men_moved, is_passing_capture}
 use Rattle.cq_moves.proofs.Boards.{IsEdge, stands-is, stands_there, man_at-set_same, man_at-set_other, length-set_man}
-use Rattle.cq_moves.proofs.Steps.{Goes, own_pawn, unpromoted, promoted-none}
+use Rattle.cq_moves.proofs.Steps.{Goes, own_pawn, promoted-none}
 
 -- a double step over an empty square to an empty square
 pub record DoubleStep (men : List Man) (side : Side) (a b : ℕ) : Type 0 where
@@ -56,15 +56,18 @@ way_of p a b e =
       | inr h ↦ capture (and_parts (is_pawn_attack p.side a b) takes h).0
     ]
 
-as_pawn : (side : Side) (p : Board) (m : Move) → moves_as (pawn_of side) p m ≡ true → (pawn_moves p m.from m.to && promotes_rightly p.side m) ≡ true
-as_pawn White p m e = e
-as_pawn Black p m e = e
+as_pawn : (side : Side) (p : Board) (a b : ℕ) → goes_as (pawn_of side) p a b ≡ true → pawn_moves p a b ≡ true
+as_pawn White p a b e = e
+as_pawn Black p a b e = e
 
 pub pawn_goes : (p : Board) (m : Move) → Goes p m → is_pawn (man_at p.men m.from) ≡ true → PawnGoes p m
 pawn_goes p m g pawn =
     let own = own_pawn p.side (man_at p.men m.from) g.own pawn in
-    let t = and_parts (pawn_moves p m.from m.to) (promotes_rightly p.side m) (as_pawn p.side p m (subst (λ (man : Man). moves_as man p m ≡ true) own g.moves)) in
-    record { way = way_of p m.from m.to t.0; promotes = t.1 }
+    let steps = as_pawn p.side p m.from m.to (subst (λ (man : Man). goes_as man p m.from m.to ≡ true) own g.goes) in
+    record {
+      way = way_of p m.from m.to steps;
+      promotes = sym (ap (λ t. cond t (promotes_rightly p.side m) (is_none m.promotion)) pawn) ∙ g.promotes_so;
+    }
 
 -- a pawn's goal is not on the first rank as its side sees it
 ahead_up : (side : Side) (a b : ℕ) → a < 64 → b < 64 → is_single_step side a b ≡ true → rank_of b ≢ last_rank (opponent side)
@@ -115,10 +118,9 @@ no_pawn_lands p m g edge =
           let up = goes_up p.men p.side m.from m.to g.from_board g.to_board goes.way in
           let there = eq-eqb (rank_of m.to) (last_rank p.side) (edge_ranks p.side m.to g.to_board edge up) in
           promoted-no_pawn p.side m.promotion man (must_promote (rank_of m.to == last_rank p.side) (is_none m.promotion) goes.promotes there)
-      | inr piece ↦ elim (unpromoted man p m g.moves) [
-        | inl pawn ↦ let e : true ≡ false = sym pawn ∙ piece in absurd (cc)
-        | inr none ↦ ap is_pawn (promoted-none p.side m.promotion man none) ∙ piece
-      ]
+      | inr piece ↦
+          let none = sym (ap (λ t. cond t (promotes_rightly p.side m) (is_none m.promotion)) piece) ∙ g.promotes_so in
+          ap is_pawn (promoted-none p.side m.promotion man none) ∙ piece
     ]
 
 may_not_promote : (there none : Bool) → (if there then not none else none) ≡ true → there ≡ false → none ≡ true

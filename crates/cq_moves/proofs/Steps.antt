@@ -1,5 +1,5 @@
 -- What a man that can move does, by its kind.
-use Rattle.std.proofs.Common.{◌≡◌, ◌≢◌, ◌<◌, ◌⊎◌, Bool, true, false, not, ◌&&◌, ◌||◌, length, refl, sym, ap, ◌∙◌, subst, inl, inr}
+use Rattle.std.proofs.Common.{◌≡◌, ◌≢◌, ◌<◌, ◌⊎◌, Bool, true, false, cond, not, ◌&&◌, ◌||◌, length, refl, sym, ap, ◌∙◌, subst, inl, inr}
 use Rattle.std.specs.Prelude.{nat_lt}
 use Rattle.std.proofs.lemmas.Bool.{ltb-true, and_parts, not-true}
 use Rattle.cq_position.specs.declared.men.Man.{Man}
@@ -11,8 +11,7 @@ use Rattle.cq_position.specs.declared.men.Side.TheVariants.{White, Black}
 use Rattle.cq_position.specs.declared.moves.Move.{Move}
 use Rattle.cq_position.specs.Men.{same_man, is_of_side, opponent, king_of, pawn_of}
 use Rattle.cq_position.specs.Board.{Board, man_at, stands, is_pawn}
-use Rattle.cq_position.specs.Attacks.{attacks}
-use Rattle.cq_position.specs.Legal.{is_pseudo_legal, moves_as, castles, is_none, promoted}
+use Rattle.cq_position.specs.Legal.{is_none, promotes_rightly, goes_as, reaches, promotes, is_pseudo_legal, promoted}
 use Rattle.cq_moves.proofs.Law.{owned_on_board}
 
 -- a man of the side to move goes to a square of the board on which no man of its side and no king stands
@@ -22,43 +21,37 @@ pub record Goes (p : Board) (m : Move) : Type 0 where
   pub own : is_of_side p.side (man_at p.men m.from) ≡ true
   pub not_own : is_of_side p.side (man_at p.men m.to) ≡ false
   pub no_king : stands p.men m.to (king_of (opponent p.side)) ≡ false
-  pub moves : moves_as (man_at p.men m.from) p m ≡ true
+  pub goes : goes_as (man_at p.men m.from) p m.from m.to ≡ true
+  pub promotes_so : promotes p m ≡ true
 
 pub apart : {p : Board} {m : Move} → Goes p m → m.from ≢ m.to
 apart {p} {m} g same = let e : true ≡ false = sym g.own ∙ ap (λ k. is_of_side p.side (man_at p.men k)) same ∙ g.not_own in cc
 
-six_parts : (a b c d e f : Bool) → (a && b && c && d && e && f) ≡ true
-    → (b ≡ true) × (c ≡ true) × (d ≡ true) × (e ≡ true) × (f ≡ true)
-six_parts true b c d e f t =
-    let f' = and_parts (b && c && d && e) f t in
-    let e' = and_parts (b && c && d) e f'.0 in
-    let d' = and_parts (b && c) d e'.0 in
-    let c' = and_parts b c d'.0 in
-    (c'.0, c'.1, d'.1, e'.1, f'.1)
-six_parts false b c d e f t = absurd (cc)
+six_parts : (a b c d e f g : Bool) → (a && b && (c && d && e && f) && g) ≡ true
+    → (b ≡ true) × (c ≡ true) × (d ≡ true) × (e ≡ true) × (f ≡ true) × (g ≡ true)
+six_parts true b c d e f g t =
+    let g' = and_parts (b && (c && d && e && f)) g t in
+    let b' = and_parts b (c && d && e && f) g'.0 in
+    let f' = and_parts (c && d && e) f b'.1 in
+    let e' = and_parts (c && d) e f'.0 in
+    let d' = and_parts c d e'.0 in
+    (b'.0, d'.0, d'.1, e'.1, f'.1, g'.1)
+six_parts false b c d e f g t = absurd (cc)
 
 pub goes : (p : Board) (m : Move) → length p.men ≡ 64 → is_pseudo_legal p m ≡ true → Goes p m
-unfolding is_pseudo_legal
+unfolding is_pseudo_legal reaches
 goes p m w e =
     let t = six_parts (not m.null) (nat_lt m.to 64) (is_of_side p.side (man_at p.men m.from)) (not (is_of_side p.side (man_at p.men m.to)))
-    (not (stands p.men m.to (king_of (opponent p.side)))) (moves_as (man_at p.men m.from) p m) e in
+    (not (stands p.men m.to (king_of (opponent p.side)))) (goes_as (man_at p.men m.from) p m.from m.to) (promotes p m) e in
     record {
       to_board = ltb-true m.to 64 t.0;
       from_board = owned_on_board p.side p.men m.from w t.1;
       own = t.1;
       not_own = not-true (is_of_side p.side (man_at p.men m.to)) t.2;
       no_king = not-true (stands p.men m.to (king_of (opponent p.side))) t.3;
-      moves = t.4;
+      goes = t.4;
+      promotes_so = t.5;
     }
-
--- only a pawn promotes
-pub unpromoted : (man : Man) (p : Board) (m : Move) → moves_as man p m ≡ true → (is_pawn man ≡ true) ⊎ (is_none m.promotion ≡ true)
-unpromoted P p m e = inl refl
-unpromoted BlackP p m e = inl refl
-unpromoted K p m e = inr (and_parts (attacks p.men m.from m.to || castles p m.from m.to true || castles p m.from m.to false) (is_none m.promotion) e).1
-unpromoted BlackK p m e = inr (and_parts (attacks p.men m.from m.to || castles p m.from m.to true || castles p m.from m.to false) (is_none m.promotion) e).1
-unpromoted Empty p m e = absurd (cc)
-unpromoted _ p m e = inr (and_parts (attacks p.men m.from m.to) (is_none m.promotion) e).1
 
 pub own_pawn : (side : Side) (man : Man) → is_of_side side man ≡ true → is_pawn man ≡ true → man ≡ pawn_of side
 own_pawn White P o e = refl
@@ -101,6 +94,12 @@ landed side promotion man own (inl pawn) =
 landed side promotion man own (inr none) =
     subst (λ (x : Man). Landed man x) (sym (promoted-none side promotion man none)) (record { sides = λ s. refl; kings = λ s. refl })
 
+-- only a pawn promotes
+unpromoted : (pawn rightly none : Bool) → cond pawn rightly none ≡ true → (pawn ≡ true) ⊎ (none ≡ true)
+unpromoted true rightly none e = inl refl
+unpromoted false rightly none e = inr e
+
 -- of a man that can move
 pub it_lands : (p : Board) (m : Move) → Goes p m → Landed (man_at p.men m.from) (promoted p.side m.promotion (man_at p.men m.from))
-it_lands p m g = landed p.side m.promotion (man_at p.men m.from) g.own (unpromoted (man_at p.men m.from) p m g.moves)
+it_lands p m g = landed p.side m.promotion (man_at p.men m.from) g.own
+    (unpromoted (is_pawn (man_at p.men m.from)) (promotes_rightly p.side m) (is_none m.promotion) g.promotes_so)

@@ -72,7 +72,7 @@ way_after p m stood g =
     let removed = slice_set (men_moved p m) (beside m.from m.to) Empty in
     let plain = cond (is_passing_capture p m) removed (men_moved p m) in
     elim (cases_Bool (is_castling p m)) [
-      | inl does ↦ elim (castles_when p m g.moves does) [
+      | inl does ↦ elim (castles_when p m g.goes does) [
         | inl c ↦ castled_so p m true does c
         | inr c ↦ castled_so p m false does c
       ]

@@ -1,4 +1,3 @@
 pub mod Legality
 pub mod LegalMoves
-pub mod Reach
 pub mod Outcome

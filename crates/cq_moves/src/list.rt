@@ -4,9 +4,9 @@ ghost use Rattle.std.specs.List.{All, AllPairs, Contains, filter};
 ghost use Rattle.cq_position.specs.declared.moves.Move.{Move as MoveValue};
 ghost use Rattle.cq_position.specs.Board.{Board};
 ghost use Rattle.cq_position.specs.Legal.{Legal};
+ghost use Rattle.cq_position.specs.Legal as legal;
 ghost use Rattle.cq_moves.specs.Legality.{legal_test};
 ghost use Rattle.cq_moves.specs.LegalMoves.{legal_list, legal_from, legal_between, Precedes};
-ghost use Rattle.cq_moves.specs.Reach as parts;
 
 use crate::legality::is_safe;
 use crate::reach::{promotes, reaches};
@@ -49,7 +49,7 @@ fn add_moves_from(position: &Position, from: Square, moves: &mut ArrayVec<Move, 
 
 // Adds the legal moves from one square to another, to which a man goes.
 fn add_moves_between(position: &Position, from: Square, to: Square, moves: &mut ArrayVec<Move, 512>)
-    requires reaches { parts.reaches position.now from to ≡ true }
+    requires reaches { legal.reaches position.now from to ≡ true }
     requires board { to < 64 }
     requires room { length moves.old.items + length (legal_between position.now from to) ≤ 512 }
     ensures { moves.new.items ≡ moves.old.items ++ legal_between position.now from to }
@@ -73,7 +73,7 @@ fn add_moves_between(position: &Position, from: Square, to: Square, moves: &mut 
 
 // Adds a move to a square to which a man goes, where it is legal.
 fn add_move(position: &Position, m: Move, moves: &mut ArrayVec<Move, 512>)
-    requires reaches { parts.reaches position.now m.from m.to ≡ true }
+    requires reaches { legal.reaches position.now m.from m.to ≡ true }
     requires board { m.to < 64 }
     requires null { m.null ≡ false }
     requires room { length moves.old.items + length (filter (legal_test position.now) (m ∷ [])) ≤ 512 }
@@ -87,7 +87,7 @@ fn add_move(position: &Position, m: Move, moves: &mut ArrayVec<Move, 512>)
 /// Whether a move to a square to which a man goes is legal.
 #[tactic(auto, using(crate::proofs::Parts::reached_move))]
 pub(crate) fn is_legal_there(position: &Position, m: &Move) -> bool
-    requires reaches { parts.reaches position.now m.now.from m.now.to ≡ true }
+    requires reaches { legal.reaches position.now m.now.from m.now.to ≡ true }
     requires board { m.now.to < 64 }
     requires null { m.now.null ≡ false }
     ensures { result ≡ legal_test position.now m.now }

@@ -3,10 +3,10 @@ ghost use Rattle.std.specs.Prelude.{◌≡◌, ◌<◌, ◌↔◌, IsTrue, true}
 ghost use Rattle.std.specs.List.{list_any};
 ghost use Rattle.cq_position.specs.Attacks as attack;
 ghost use Rattle.cq_position.specs.Bitboards.{IsBitboard};
+ghost use Rattle.cq_position.specs.Legal as legal;
 ghost use Rattle.cq_moves.specs.Legality.{legal_test};
 ghost use Rattle.cq_moves.specs.LegalMoves.{all_moves, moves_from, moves_between, move_of};
 ghost use Rattle.cq_moves.specs.Outcome.{IsMate, IsStalemate};
-ghost use Rattle.cq_moves.specs.Reach as parts;
 
 use crate::list::is_legal_there;
 use crate::reach::reaches;
@@ -63,7 +63,7 @@ fn has_legal_move_between(position: &Position, attacked: u64, from: Square, to: 
 
 // Whether a move is legal, to a square to which a man goes, for some promotion or none.
 fn has_legal_choice(position: &Position, from: Square, to: Square) -> bool
-    requires reaches { parts.reaches position.now from to ≡ true }
+    requires reaches { legal.reaches position.now from to ≡ true }
     requires board { to < 64 }
     ensures { result ≡ list_any (legal_test position.now) (moves_between from to) }
 {
@@ -75,7 +75,7 @@ fn has_legal_choice(position: &Position, from: Square, to: Square) -> bool
 }
 
 fn is_legal_choice(position: &Position, from: Square, to: Square, promotion: Promotion) -> bool
-    requires reaches { parts.reaches position.now from to ≡ true }
+    requires reaches { legal.reaches position.now from to ≡ true }
     requires board { to < 64 }
     ensures { result ≡ legal_test position.now (move_of from to promotion) }
 {

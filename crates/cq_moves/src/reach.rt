@@ -4,7 +4,6 @@ ghost use Rattle.std.specs.List.{list_all};
 ghost use Rattle.cq_position.specs.Attacks as attack;
 ghost use Rattle.cq_position.specs.Legal as legal;
 ghost use Rattle.cq_position.specs.Bitboards.{IsBitboard};
-ghost use Rattle.cq_moves.specs.Reach as parts;
 
 use crate::after::{is_goal, middle};
 use crate::castling::{castling_crossed, castling_goal};
@@ -16,10 +15,10 @@ use cq_position::{Man, Move, Position, Promotion, Side, is_of_side, is_same, kin
 
 /// Whether a man of the side to move goes from one square to another, which holds none of its own men and no king. Bit k of `attacked` is
 /// set where the man attacks the square k.
-#[tactic(auto, unfolding(crate::specs::Reach::reaches))]
+#[tactic(auto, unfolding(cq_position::specs::Legal::reaches))]
 pub(crate) fn reaches(position: &Position, attacked: u64, from: Square, to: Square) -> bool
     requires { IsBitboard attacked (attack.attacks position.now.men from) }
-    ensures reaches { result ≡ parts.reaches position.now from to }
+    ensures reaches { result ≡ legal.reaches position.now from to }
     ensures board { to < 64 }
 {
     let man = position.at(from);
@@ -33,7 +32,7 @@ pub(crate) fn reaches(position: &Position, attacked: u64, from: Square, to: Squa
 // Whether the man goes from one square to the other.
 fn goes(man: Man, position: &Position, attacked: u64, from: Square, to: Square) -> bool
     requires { IsBitboard attacked (attack.attacks position.now.men from) }
-    ensures { result ≡ parts.goes_as man position.now from to }
+    ensures { result ≡ legal.goes_as man position.now from to }
 {
     match man {
         Man::K | Man::BlackK => {
@@ -112,7 +111,7 @@ fn are_free(men: &[Man; 64], by: Side, squares: [Square; 3]) -> bool
 
 /// Whether the move promotes exactly where a pawn reaches the last rank (FIDE Laws of Chess, article 3.7).
 pub(crate) fn promotes(position: &Position, m: &Move) -> bool
-    ensures { result ≡ parts.promotes position.now m.now }
+    ensures { result ≡ legal.promotes position.now m.now }
 {
     if is_pawn(position.at(m.from)) && rank(m.to) == last_rank(position.side()) {
         !is_none(m.promotion)

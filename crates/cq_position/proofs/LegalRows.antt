@@ -14,7 +14,7 @@ use Rattle.cq_position.specs.declared.moves.Move.{Move}
 use Rattle.cq_position.specs.Board.{Board, start_board}
 use Rattle.cq_position.specs.Fen.{fen_meaning, fields, is_placement, placed_men, position_or_fault}
 use Rattle.cq_position.specs.Attacks.{attacks, is_attacked, in_check}
-use Rattle.cq_position.specs.Legal.{is_pseudo_legal, after, after_pass, Legal}
+use Rattle.cq_position.specs.Legal.{reaches, is_pseudo_legal, after, after_pass, Legal}
 
 abbrev move : ℕ → ℕ → Promotion → Move
 move a b promotion = record { from = a; to = b; promotion = promotion; null = false }
@@ -47,7 +47,7 @@ pawn_attacks = refl
 
 -- 1. e4 leads to the position of the standard's example
 king_pawn_step : Legal start_board (move 12 28 NoPromotion) (after start_board (move 12 28 NoPromotion))
-unfolding is_pseudo_legal after in_check is_attacked attacks squares between_squares
+unfolding is_pseudo_legal reaches after in_check is_attacked attacks squares between_squares
 king_pawn_step = record { moves = refl; leads = refl; safe = refl }
 
 king_pawn_board : Ok (after start_board (move 12 28 NoPromotion)) ≡ fen_meaning (codes "rnbqkbnr/pppppppp/8/8/4P3/8/PPPP1PPP/RNBQKBNR b KQkq e3 0 1")
@@ -55,7 +55,7 @@ unfolding after fen_meaning fields is_placement placed_men position_or_fault in_
 king_pawn_board = refl
 
 no_three_steps : is_pseudo_legal start_board (move 12 36 NoPromotion) ≡ false
-unfolding is_pseudo_legal in_check is_attacked attacks squares between_squares
+unfolding is_pseudo_legal reaches in_check is_attacked attacks squares between_squares
 no_three_steps = refl
 
 -- castling: the rook goes over the king; not through an attacked square, and not over a man
@@ -63,7 +63,7 @@ abbrev castler : List (ℕ × Man)
 castler = (4, K) ∷ (7, R) ∷ (60, BlackK) ∷ []
 
 castles_kingside : is_pseudo_legal (board castler White true None) (move 4 6 NoPromotion) ≡ true
-unfolding is_pseudo_legal in_check is_attacked attacks squares between_squares
+unfolding is_pseudo_legal reaches in_check is_attacked attacks squares between_squares
 castles_kingside = refl
 
 castled : (after (board castler White true None) (move 4 6 NoPromotion)).men ≡ set_up ((6, K) ∷ (5, R) ∷ (60, BlackK) ∷ [])
@@ -75,15 +75,15 @@ unfolding after
 rights_gone = refl
 
 not_through_attack : is_pseudo_legal (board (castler ++ (61, BlackR) ∷ []) White true None) (move 4 6 NoPromotion) ≡ false
-unfolding is_pseudo_legal in_check is_attacked attacks squares between_squares
+unfolding is_pseudo_legal reaches in_check is_attacked attacks squares between_squares
 not_through_attack = refl
 
 not_over_a_man : is_pseudo_legal (board (castler ++ (6, N) ∷ []) White true None) (move 4 6 NoPromotion) ≡ false
-unfolding is_pseudo_legal in_check is_attacked attacks squares between_squares
+unfolding is_pseudo_legal reaches in_check is_attacked attacks squares between_squares
 not_over_a_man = refl
 
 not_without_right : is_pseudo_legal (board castler White false None) (move 4 6 NoPromotion) ≡ false
-unfolding is_pseudo_legal in_check is_attacked attacks squares between_squares
+unfolding is_pseudo_legal reaches in_check is_attacked attacks squares between_squares
 not_without_right = refl
 
 -- en passant: the pawn on d5 is taken from e5 on d6
@@ -91,7 +91,7 @@ abbrev passing : Board
 passing = board ((4, K) ∷ (36, P) ∷ (35, BlackP) ∷ (60, BlackK) ∷ []) White false (Some 43)
 
 passing_capture : is_pseudo_legal passing (move 36 43 NoPromotion) ≡ true
-unfolding is_pseudo_legal in_check is_attacked attacks squares between_squares
+unfolding is_pseudo_legal reaches in_check is_attacked attacks squares between_squares
 passing_capture = refl
 
 captured : (after passing (move 36 43 NoPromotion)).men ≡ set_up ((4, K) ∷ (43, P) ∷ (60, BlackK) ∷ [])
@@ -107,7 +107,7 @@ unfolding after
 promotes = refl
 
 must_promote : is_pseudo_legal promoting (move 48 56 NoPromotion) ≡ false
-unfolding is_pseudo_legal in_check is_attacked attacks squares between_squares
+unfolding is_pseudo_legal reaches in_check is_attacked attacks squares between_squares
 must_promote = refl
 
 -- a pinned knight has no legal move: the king would stand in check

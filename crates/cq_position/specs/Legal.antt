@@ -1,5 +1,5 @@
 -- Which moves are legal in a position, and the position after each (FIDE Laws of Chess, articles 3.1 to 3.10).
-use Rattle.std.specs.Prelude.{◌≡◌, ℕ, ◌+◌, ◌-◌, ◌/◌, List, [], ◌∷◌, Bool, true, false, ◌&&◌, ◌||◌, not, ◌==◌, nat_lt, min, Option, Some, None, slice_set, if◌then◌else◌}
+use Rattle.std.specs.Prelude.{◌≡◌, ◌⊎◌, ℕ, ◌+◌, ◌-◌, ◌/◌, List, [], ◌∷◌, Bool, true, false, ◌&&◌, ◌||◌, not, ◌==◌, nat_lt, min, Option, Some, None, slice_set, if◌then◌else◌}
 use Rattle.std.specs.List.{list_all}
 use Rattle.cq_geometry.specs.Squares.{file_of, rank_of, square_of}
 use Rattle.cq_geometry.specs.Steps.{files_apart, ranks_apart}
@@ -73,23 +73,30 @@ castles p a b kingside =
     && is_open (is_occupied p.men) (king_home p.side) (rook_home p.side kingside)
     && list_all (λ square. not (is_attacked p.men (opponent p.side) square)) (a ∷ castling_crossed p.side kingside ∷ b ∷ [])
 
--- how each man moves: all but the pawn to what they attack (articles 3.2 to 3.6 and 3.8.1), and the king by castling too
-abbrev pub moves_as : Man → Board → Move → Bool
-moves_as K p m =
-    (attacks p.men m.from m.to || castles p m.from m.to true || castles p m.from m.to false) && is_none m.promotion
-moves_as BlackK p m =
-    (attacks p.men m.from m.to || castles p m.from m.to true || castles p m.from m.to false) && is_none m.promotion
-moves_as P p m = pawn_moves p m.from m.to && promotes_rightly p.side m
-moves_as BlackP p m = pawn_moves p m.from m.to && promotes_rightly p.side m
-moves_as Empty p m = false
-moves_as _ p m = attacks p.men m.from m.to && is_none m.promotion
+-- where each man goes, whatever it becomes there: all but the pawn to what they attack (articles 3.2 to 3.6 and 3.8.1), and the king by
+-- castling too
+abbrev pub goes_as : Man → Board → ℕ → ℕ → Bool
+goes_as K p a b = attacks p.men a b || castles p a b true || castles p a b false
+goes_as BlackK p a b = attacks p.men a b || castles p a b true || castles p a b false
+goes_as P p a b = pawn_moves p a b
+goes_as BlackP p a b = pawn_moves p a b
+goes_as Empty p a b = false
+goes_as _ p a b = attacks p.men a b
 
--- A pseudo-legal move: a man of the side to move moves as it does, to a square of the board without a man of its own side (article 3.1),
--- and captures no king (1.4.1). Whether its own king is attacked then is asked elsewhere.
+-- a man of the side to move goes to a square that holds none of its own men (article 3.1) and no king (1.4.1)
+unfoldable pub reaches : Board → ℕ → ℕ → Bool
+reaches p a b =
+    is_of_side p.side (man_at p.men a) && not (is_of_side p.side (man_at p.men b))
+    && not (stands p.men b (king_of (opponent p.side))) && goes_as (man_at p.men a) p a b
+
+-- a pawn promotes exactly on the last rank (article 3.7.3.3), and no other man does
+abbrev pub promotes : Board → Move → Bool
+promotes p m = if is_pawn (man_at p.men m.from) then promotes_rightly p.side m else is_none m.promotion
+
+-- A pseudo-legal move: a man of the side to move goes to a square of the board, and becomes what it may. Whether its own king is attacked
+-- then is asked elsewhere.
 unfoldable pub is_pseudo_legal : Board → Move → Bool
-is_pseudo_legal p m =
-    not m.null && nat_lt m.to 64 && is_of_side p.side (man_at p.men m.from) && not (is_of_side p.side (man_at p.men m.to))
-    && not (stands p.men m.to (king_of (opponent p.side))) && moves_as (man_at p.men m.from) p m
+is_pseudo_legal p m = not m.null && nat_lt m.to 64 && reaches p m.from m.to && promotes p m
 
 -- the man that stands on the goal after the move
 abbrev pub promoted : Side → Promotion → Man → Man
@@ -178,3 +185,7 @@ pub record Passes (p : Board) (m : Move) (q : Board) : Type 0 where
   pub null : m ≡ null_move
   pub leads : q ≡ after_pass p
   pub safe : in_check p.men p.side ≡ false
+
+-- a move leads to a position: it is legal, or the null move of a side that may pass
+abbrev pub Leads : Board → Move → Board → Type 0
+Leads p m q = Legal p m q ⊎ Passes p m q
