@@ -14,7 +14,7 @@ use Rattle.cq_position.specs.declared.moves.Move.{Move}
 use Rattle.cq_position.specs.Men.{opponent, king_of}
 use Rattle.cq_position.specs.Board.{Board, man_at, stands, castling_right, king_home, rook_home}
 use Rattle.cq_position.specs.Attacks.{attacks, attacks_as, is_occupied, is_attacked}
-use Rattle.cq_position.specs.Legal.{goes_as, castles, castling_goal, castling_crossed, is_castling, is_none}
+use Rattle.cq_position.specs.Legal.{goes_as, castles, castling_goal, castling_crossed, is_castling}
 use Rattle.cq_moves.proofs.Boards.{stands-is}
 
 -- the squares of castling are on the board, and apart

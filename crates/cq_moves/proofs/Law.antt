@@ -1,14 +1,14 @@
 -- The test of legality and its parts.
-use Rattle.std.proofs.Common.{◌≡◌, ℕ, ◌<◌, Bool, true, false, cond, not, ◌&&◌, ◌↔◌, ltb, List, length, refl, inl, inr, sym, ap, ◌∙◌, arith}
+use Rattle.std.proofs.Common.{◌≡◌, ℕ, ◌<◌, true, false, not, ◌&&◌, ◌↔◌, ltb, List, length, refl, inl, inr, sym, ap, ◌∙◌, arith}
 use Rattle.std.proofs.lemmas.Bool.{and_parts, and_from, not-true, not_from_false, ltb-true, lt-ltb, cases_lt, false≢true}
 use Rattle.std.proofs.lemmas.List.{get_or_past}
 use Rattle.cq_position.specs.declared.men.Man.{Man}
-use Rattle.cq_position.specs.declared.men.Man.TheVariants.{K, Q, R, B, N, P, BlackK, BlackQ, BlackR, BlackB, BlackN, BlackP, Empty}
+use Rattle.cq_position.specs.declared.men.Man.TheVariants.{Empty}
 use Rattle.cq_position.specs.declared.men.Side.{Side}
 use Rattle.cq_position.specs.declared.men.Side.TheVariants.{White, Black}
 use Rattle.cq_position.specs.declared.moves.Move.{Move}
 use Rattle.cq_position.specs.Men.{is_of_side, opponent, king_of}
-use Rattle.cq_position.specs.Board.{Board, man_at, stands, is_pawn}
+use Rattle.cq_position.specs.Board.{Board, man_at, stands}
 use Rattle.cq_position.specs.Attacks.{in_check}
 use Rattle.cq_position.specs.Legal.{goes_as, reaches, promotes, is_pseudo_legal, men_after, after, Legal}
 use Rattle.cq_moves.specs.Legality.{is_safe, legal_test}

@@ -1,11 +1,11 @@
 -- The tokens of a query are proper ones, and then one end.
-use Rattle.std.proofs.Common.{◌≡◌, ℕ, zero, suc, ◌+◌, ◌-◌, ◌<◌, ◌≤◌, Bool, true, false, cond, leb, ltb, List, [], ◌∷◌, ◌++◌, length, take, drop, Option, None, Some, Result, Ok, Err, refl, sym, ap, subst, ◌∙◌, ⊎_elim, arith}
-use Rattle.std.specs.Prelude.{nat_lt, nat_le, nat_eq, is_some, codes}
+use Rattle.std.proofs.Common.{◌≡◌, ℕ, zero, suc, ◌+◌, ◌-◌, ◌<◌, ◌≤◌, Bool, true, false, cond, leb, ltb, List, [], ◌∷◌, length, take, drop, Option, None, Some, Result, Ok, Err, refl, ap, subst, arith}
+use Rattle.std.specs.Prelude.{nat_eq, is_some, codes}
 use Rattle.std.specs.Option.{option_map}
 use Rattle.std.specs.List.{position, prefix_len, starts_with}
 use Rattle.std.specs.Char.{is_ascii_digit}
 use Rattle.std.specs.Str.Parse.{digits_value}
-use Rattle.std.proofs.lemmas.Bool.{cases_Bool, leb-true}
+use Rattle.std.proofs.lemmas.Bool.{leb-true}
 use Rattle.std.proofs.lemmas.List.Quantifiers.{position-Some}
 use Rattle.cql_syntax.specs.Words.{words, reserved_names, place_of}
 use Rattle.cql_syntax.specs.declared.leaves.Designator.{Designator}
@@ -24,7 +24,7 @@ use Rattle.cql_lexer.specs.Designators.{designator}
 use Rattle.cql_lexer.specs.Longest.{longest}
 use Rattle.cql_lexer.specs.Lexemes.{of_len, file_name, outcome, quoted, number, named, named_or_squares, marks, mark_number, mark, found_or, first_lexeme}
 use Rattle.cql_lexer.specs.Tokens.{IsProper, EndOnce, tokens_from, tokens_of, separator_len, token_at, with_front, expected_after, result_and_then}
-use Rattle.cql_lexer.proofs.Longest.{some_or_none, longest_parts}
+use Rattle.cql_lexer.proofs.Longest.{longest_parts}
 
 -- where a lexeme is found, it is proper
 abbrev Finds : Option Lexeme → Type 0

@@ -1,5 +1,5 @@
 -- The closed games of a front stay, whatever follows it.
-use Rattle.std.proofs.Common.{◌≡◌, ◌≢◌, ℕ, zero, suc, ◌+◌, ◌-◌, ◌<◌, ◌≤◌, ◌⊎◌, Bool, true, false, cond, List, [], ◌∷◌, ◌++◌, length, get_or, take, drop, refl, sym, ap, ap₂, ◌∙◌, subst, ⊎_elim, arith, true≢false, add-zero, eqb-true}
+use Rattle.std.proofs.Common.{◌≡◌, ℕ, suc, ◌+◌, ◌<◌, ◌≤◌, Bool, true, false, cond, List, [], ◌∷◌, ◌++◌, length, get_or, take, drop, refl, sym, ap, ap₂, ◌∙◌, subst, ⊎_elim, arith, true≢false, add-zero, eqb-true}
 use Rattle.std.specs.Prelude.{◌==◌, ◌&&◌, ◌||◌, not, nat_eq, codes, if◌then◌else◌}
 use Rattle.std.specs.List.{list_all, common_prefix_len, AllByRecursion, starts_with}
 use Rattle.std.proofs.lemmas.Bool.{cases_lt, cases_Bool, or_from, and_parts, false_from_ne_true}
@@ -7,7 +7,7 @@ use Rattle.std.specs.Str.{bytes_eq}
 use Rattle.std.proofs.lemmas.Slice.Eq.{bytes_eq-Decides}
 use Rattle.pgn_cut.proofs.Joins.{of_both, text_within}
 use Rattle.std.proofs.lemmas.Bool.Decides.{nat_tests}
-use Rattle.std.proofs.lemmas.List.{append_assoc, length-append, length-take-le, take_all, drop_all, get_or_push, take-append-le, drop-append-le, length-drop, append-nil}
+use Rattle.std.proofs.lemmas.List.{append_assoc, length-append, length-take-le, take_all, drop_all, get_or_push, drop-append-le, length-drop, append-nil}
 use Rattle.pgn_lexer.specs.Grammar.{IsLexeme, IsLongest}
 use Rattle.pgn_lexer.specs.Lexemes.{Lexeme, end, lexeme, lexemes, lexemes_from, first_at}
 use Rattle.pgn_lexer.specs.Local.{IsUnsettled, may_grow, Settles, Grows}
@@ -17,7 +17,7 @@ use Rattle.pgn_lexer.specs.Readings.{reading, symbol, single}
 use Rattle.pgn_lexer.specs.declared.token.LexemeKind.{LexemeKind}
 use Rattle.pgn_lexer.specs.declared.token.LexemeKind.TheVariants.{EscapeLine, Token}
 use Rattle.pgn_lexer.specs.declared.token.TokenKind.TheVariants.{Open, Close, Text, Symbol, Period, Star, LeftParen, RightParen, Nag, Null, Comment, LineComment, BadByte, UnclosedComment, UnclosedText}
-use Rattle.pgn_cut.specs.Cut.{is_result, marks, is_marker, depth, opens, has_movetext, is_passed_over, ends_before, ends_behind, span_to, cut_from, cut, same_span, closed, text_start, archive_lexemes}
+use Rattle.pgn_cut.specs.Cut.{is_result, marks, is_marker, depth, opens, has_movetext, is_passed_over, ends_before, ends_behind, span_to, cut_from, cut, same_span, closed, text_start}
 use Rattle.pgn_cut.specs.declared.span.Span.{Span}
 
 -- the games that some lexemes close, where `game` has those before them of the open game, and the lexemes of the game that is open behind them

@@ -1,16 +1,15 @@
 -- No lexeme at a place has more bytes than the reading there, and of as many there is no other.
 use Rattle.std.proofs.Common.{◌≡◌, ◌≢◌, ℕ, zero, suc, ◌+◌, ◌<◌, ◌≤◌, ◌⊎◌, Bool, true, false, cond, List, [], ◌∷◌, ◌++◌, length, get_or, take, drop, refl, sym, ap, ap₂, ◌∙◌, subst, ⊎_elim, arith, eqb-true, min, length-append, append_assoc}
-use Rattle.std.specs.Prelude.{◌==◌, ◌&&◌, ◌||◌, not, nat_lt, if◌then◌else◌, slice_index}
+use Rattle.std.specs.Prelude.{◌==◌, not, nat_lt, if◌then◌else◌, slice_index}
 use Rattle.std.specs.List.{AllByRecursion, prefix_len, position_or_len}
 use Rattle.std.specs.Char.{is_ascii_digit, is_ascii_alphanumeric}
 use Rattle.std.specs.Str.Parse.{digits_value}
 use Rattle.std.proofs.lemmas.Bool.{lt-ltb, false_from_ne_true, not_from_false, false≢true}
-use Rattle.std.proofs.lemmas.Bool.Decides.{nat_tests}
 use Rattle.std.proofs.lemmas.List.{length-take-le, take-append-drop, take_at, get_or_at}
 use Rattle.pgn_lexer.proofs.Bodies.{body_len-plain, body_len-escaped, body_len-backslash}
 use Rattle.pgn_lexer.specs.Bytes.{ends_line, continues_symbol}
-use Rattle.pgn_lexer.specs.Readings.{token, comment, line_comment, escape_line, ends_body, takes_next, body_len, text, symbol, nag, good_suffix, poor_suffix, null_move, single, reading}
-use Rattle.pgn_lexer.specs.Grammar.{Lacks, IsPlain, IsBody, IsSuffix, IsNumbered, IsLexeme, IsLongest}
+use Rattle.pgn_lexer.specs.Readings.{token, comment, line_comment, escape_line, body_len, text, symbol, nag, good_suffix, poor_suffix, null_move, single, reading}
+use Rattle.pgn_lexer.specs.Grammar.{Lacks, IsBody, IsSuffix, IsNumbered, IsLexeme, IsLongest}
 use Rattle.pgn_lexer.specs.declared.token.Reading.{Reading}
 use Rattle.pgn_lexer.specs.declared.token.LexemeKind.{LexemeKind}
 use Rattle.pgn_lexer.specs.declared.token.LexemeKind.TheVariants.{EscapeLine, Token}

@@ -1,5 +1,5 @@
 -- What a search for bytes finds.
-use Rattle.std.proofs.Common.{◌≡◌, ℕ, ◌<◌, ◌≤◌, Bool, List, Option, None, Some, length, get_or, sym, arith}
+use Rattle.std.proofs.Common.{◌≡◌, ℕ, ◌≤◌, Bool, List, Option, None, Some, length, get_or, sym, arith}
 use Rattle.std.specs.Option.{unwrap_or}
 use Rattle.std.specs.List.{position_or_len}
 use Rattle.std.proofs.lemmas.List.Sums.{position_or_len_is}

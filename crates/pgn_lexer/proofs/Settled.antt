@@ -1,14 +1,14 @@
 -- What of the lexemes of a front stays, whatever follows it.
-use Rattle.std.proofs.Common.{◌≡◌, ℕ, zero, suc, ◌+◌, ◌-◌, ◌<◌, ◌≤◌, ◌⊎◌, Bool, true, false, cond, List, [], ◌∷◌, ◌++◌, length, get_or, take, drop, refl, sym, ap, ap₂, ◌∙◌, subst, inl, inr, ⊎_elim, arith, true≢false, add-zero, min}
-use Rattle.std.specs.Prelude.{◌≢◌, codes}
+use Rattle.std.proofs.Common.{◌≡◌, ℕ, zero, suc, ◌+◌, ◌-◌, ◌<◌, ◌≤◌, Bool, true, false, cond, List, [], ◌∷◌, ◌++◌, length, get_or, take, drop, refl, sym, ap, ap₂, ◌∙◌, subst, inl, inr, ⊎_elim, arith, true≢false, add-zero, min}
+use Rattle.std.specs.Prelude.{◌≢◌}
 use Rattle.std.specs.List.{AllByRecursion}
-use Rattle.std.specs.Char.{is_ascii_digit, is_ascii_alphanumeric}
+use Rattle.std.specs.Char.{is_ascii_digit}
 use Rattle.std.specs.Str.Parse.{digits_value}
 use Rattle.std.proofs.lemmas.Bool.{cases_lt, cases_Bool}
 use Rattle.std.proofs.lemmas.List.{take_all, take-append-le, take-take, length-take-le, length-append, append_assoc}
 use Rattle.pgn_lexer.specs.Bytes.{ends_line, continues_symbol}
 use Rattle.cq_outside.specs.Text.{is_white}
-use Rattle.pgn_lexer.specs.Grammar.{Lacks, IsPlain, IsBody, IsNumbered, IsSuffix, IsLexeme, IsLongest}
+use Rattle.pgn_lexer.specs.Grammar.{IsBody, IsSuffix, IsLexeme}
 use Rattle.pgn_lexer.specs.Readings.{reading, single}
 use Rattle.pgn_lexer.specs.declared.token.LexemeKind.{LexemeKind}
 use Rattle.pgn_lexer.specs.declared.token.LexemeKind.TheVariants.{EscapeLine, Token}
