@@ -76,17 +76,21 @@ same_flag false = refl
 same_self : (s : Span) → same_span s s ≡ true
 same_self s = let flag = same_flag s.first in grind (arith, nat_tests, flag)
 
+-- the common front of two lists that begin with the same spans
+common_parts : (front xs ys : List Span) → take (common_prefix_len same_span (front ++ xs) (front ++ ys)) (front ++ xs) ≡ front ++ take (common_prefix_len same_span xs ys) xs
+common_parts [] xs ys = refl
+common_parts (s ∷ ss) xs ys =
+    let n = common_prefix_len same_span (ss ++ xs) (ss ++ ys) in
+    let one : 1 + n ≡ suc n = omega arith in
+    ap (λ t. take (cond t (1 + n) 0) (s ∷ ss ++ xs)) (same_self s) ∙ ap (λ k. take k (s ∷ ss ++ xs)) one ∙ ap (λ l. s ∷ l) (common_parts ss xs ys)
+
 take_none : {A : Type 0} (xs : List A) → take 0 xs ≡ []
 take_none [] = refl
 take_none (x ∷ xs) = refl
 
--- the common front of two lists that begin with the same spans
-pub common_front : (front xs ys : List Span) → common_prefix_len same_span xs ys ≡ 0 → take (common_prefix_len same_span (front ++ xs) (front ++ ys)) (front ++ xs) ≡ front
-common_front [] xs ys none = ap (λ n. take n xs) none ∙ take_none xs
-common_front (s ∷ ss) xs ys none =
-    let n = common_prefix_len same_span (ss ++ xs) (ss ++ ys) in
-    let one : 1 + n ≡ suc n = omega arith in
-    ap (λ t. take (cond t (1 + n) 0) (s ∷ ss ++ xs)) (same_self s) ∙ ap (λ k. take k (s ∷ ss ++ xs)) one ∙ ap (λ l. s ∷ l) (common_front ss xs ys none)
+common_front : (front xs ys : List Span) → common_prefix_len same_span xs ys ≡ 0 → take (common_prefix_len same_span (front ++ xs) (front ++ ys)) (front ++ xs) ≡ front
+common_front front xs ys none =
+    common_parts front xs ys ∙ ap (λ n. front ++ take n xs) none ∙ ap (λ l. front ++ l) (take_none xs) ∙ append-nil front
 
 -- the last game ends at the archive's end
 span_ends : (place : ℕ) (game : List Lexeme) → FirstEndsAt place (span_to place game)
@@ -394,3 +398,13 @@ module _ (follow : LexemesFollow) (grow : ReadingsGrow) (longest : AreLongest) (
       ∙ sym (ap (λ t. cond t 3 0) (and_assoc_false (239 == x) (187 == y) false other))))
       (cases_Bool ((239 == x) && (187 == y)))
   closed_stay (x ∷ y ∷ z ∷ zs) more = stay_behind_mark follow grow longest settle (x ∷ y ∷ z ∷ zs) more (λ m. refl)
+
+  -- so more bytes close more games
+  pub closed_grow : (front more : List ℕ) → (rest : List Span) × (closed (front ++ more) ≡ closed front ++ rest)
+  closed_grow front more =
+      let now = closed_stay front more in
+      let later = closed_stay front (more ++ 120 ∷ []) in (
+        take (common_prefix_len same_span now.0 later.0) now.0,
+        ap₂ (λ xs ys. take (common_prefix_len same_span xs ys) xs) now.1 (ap cut (append_assoc front more (120 ∷ [])) ∙ later.1)
+            ∙ common_parts (closed front) now.0 later.0,
+      )

@@ -26,9 +26,11 @@ pub fn games_have_their_tokens()
     lexemes_are_local();
 }
 
-/// The games that a front of an archive closes are the archive's first ones, whatever follows the front.
+/// The games that a front of an archive closes are the archive's first ones, and the first that any longer front closes,
+/// whatever follows.
 pub fn closed_games_stay()
-    ensures { (front more : List ℕ) → (rest : List ASpan) × (cut (front ++ more) ≡ closed front ++ rest) }
+    ensures stay { (front more : List ℕ) → (rest : List ASpan) × (cut (front ++ more) ≡ closed front ++ rest) }
+    ensures grow { (front more : List ℕ) → (rest : List ASpan) × (closed (front ++ more) ≡ closed front ++ rest) }
 {
     fronts_settle();
     lexemes_follow();
