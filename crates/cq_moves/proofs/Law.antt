@@ -10,7 +10,7 @@ use Rattle.cq_position.specs.declared.moves.Move.{Move}
 use Rattle.cq_position.specs.Men.{is_of_side, opponent, king_of}
 use Rattle.cq_position.specs.Board.{Board, man_at, stands}
 use Rattle.cq_position.specs.Attacks.{in_check}
-use Rattle.cq_position.specs.Legal.{goes_as, reaches, promotes, is_pseudo_legal, men_after, after, Legal}
+use Rattle.cq_position.specs.Legal.{goes_as, reaches, promotion_is_right, is_pseudo_legal, men_after, after, Legal}
 use Rattle.cq_moves.specs.Legality.{is_safe, legal_test}
 
 -- what passes the test is legal
@@ -55,13 +55,13 @@ pub record Moves (p : Board) (m : Move) : Type 0 where
   pub to : m.to < 64
   pub own : is_of_side p.side (man_at p.men m.from) ≡ true
   pub goes : goes_as (man_at p.men m.from) p m.from m.to ≡ true
-  pub promotes_so : promotes p m ≡ true
+  pub promotes_so : promotion_is_right p m ≡ true
 
 pub what_moves : (p : Board) (m : Move) → legal_test p m ≡ true → Moves p m
 unfolding legal_test is_pseudo_legal reaches
 what_moves p m h =
     let can = (and_parts (is_pseudo_legal p m) (is_safe p m) h).0 in
-    let reach_and_become = and_parts (not m.null && ltb m.to 64 && reaches p m.from m.to) (promotes p m) can in
+    let reach_and_become = and_parts (not m.null && ltb m.to 64 && reaches p m.from m.to) (promotion_is_right p m) can in
     let start = and_parts (not m.null && ltb m.to 64) (reaches p m.from m.to) reach_and_become.0 in
     let first = and_parts (not m.null) (ltb m.to 64) start.0 in
     let man = man_at p.men m.from in
@@ -89,6 +89,6 @@ unfolding legal_test is_pseudo_legal
 null_fails p m h = rw h refl
 
 pub passes_in_parts : (p : Board) (m : Move) → m.null ≡ false → m.to < 64
-    → legal_test p m ≡ (reaches p m.from m.to && promotes p m && is_safe p m)
+    → legal_test p m ≡ (reaches p m.from m.to && promotion_is_right p m && is_safe p m)
 unfolding legal_test is_pseudo_legal
 passes_in_parts p m h k = rw (h, lt-ltb m.to 64 k) refl

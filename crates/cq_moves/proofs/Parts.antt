@@ -9,7 +9,7 @@ use Rattle.cq_geometry.specs.Squares.{squares}
 use Rattle.cq_position.specs.declared.men.Promotion.{Promotion}
 use Rattle.cq_position.specs.declared.moves.Move.{Move}
 use Rattle.cq_position.specs.Board.{Board}
-use Rattle.cq_position.specs.Legal.{reaches, promotes}
+use Rattle.cq_position.specs.Legal.{reaches, promotion_is_right}
 use Rattle.cq_moves.specs.Legality.{is_safe, legal_test}
 use Rattle.cq_moves.specs.LegalMoves.{promotions, move_of, moves_between, moves_from, all_moves, legal_list, legal_from, legal_between}
 use Rattle.cq_moves.proofs.Lists.{filter-flat_map, filter-map, filter-none, flat_map-take_more, list_any-flat_map}
@@ -61,7 +61,7 @@ room_for_square part n h =
 
 fails_if_unreached : (p : Board) (m : Move) → m.null ≡ false → m.to < 64 → reaches p m.from m.to ≡ false → legal_test p m ≡ false
 fails_if_unreached p m null below shut =
-    passes_in_parts p m null below ∙ ap (λ t. t && promotes p m && is_safe p m) shut
+    passes_in_parts p m null below ∙ ap (λ t. t && promotion_is_right p m && is_safe p m) shut
 
 unreached_fail : (p : Board) (a b : ℕ) → b < 64 → reaches p a b ≡ false → All (λ m. legal_test p m ≡ false) (moves_between a b)
 unreached_fail p a b below shut =
@@ -87,9 +87,9 @@ any_parts p = list_any-flat_map (legal_test p) moves_from squares
 
 -- where a man goes, the move is judged by what it promotes to and by the king's safety
 pub reached_move : (p : Board) (m : Move) → m.null ≡ false → m.to < 64 → reaches p m.from m.to ≡ true
-    → legal_test p m ≡ (promotes p m && is_safe p m)
+    → legal_test p m ≡ (promotion_is_right p m && is_safe p m)
 reached_move p m null below open_ =
-    passes_in_parts p m null below ∙ ap (λ t. t && promotes p m && is_safe p m) open_
+    passes_in_parts p m null below ∙ ap (λ t. t && promotion_is_right p m && is_safe p m) open_
 
 -- the part of one more square is added, or is empty
 pub add_part : (part : ℕ → List Move) (n : ℕ) (old before after : List Move) → n < 64

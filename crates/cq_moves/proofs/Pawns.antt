@@ -14,7 +14,7 @@ use Rattle.cq_position.specs.declared.moves.Move.{Move}
 use Rattle.cq_position.specs.Men.{is_of_side, opponent, pawn_of}
 use Rattle.cq_position.specs.Board.{Board, man_at, stands, is_pawn, was_passed, passant_stands}
 use Rattle.cq_position.specs.Attacks.{is_goal, is_occupied, is_pawn_attack}
-use Rattle.cq_position.specs.Legal.{goes_as, pawn_moves, promotes_rightly, is_none, promoted, last_rank, is_single_step, is_double_step, middle, men_moved, is_passing_capture}
+use Rattle.cq_position.specs.Legal.{goes_as, pawn_moves, pawn_promotion_is_right, is_none, promoted, last_rank, is_single_step, is_double_step, middle, men_moved, is_en_passant_capture}
 use Rattle.cq_moves.proofs.Boards.{IsEdge, stands-is, stands_there, man_at-set_same, man_at-set_other, length-set_man}
 use Rattle.cq_moves.proofs.Steps.{Goes, own_pawn, promoted-none}
 
@@ -32,7 +32,7 @@ pub data PawnWay (men : List Man) (side : Side) (a b : ℕ) : Type 0 where
 
 pub record PawnGoes (p : Board) (m : Move) : Type 0 where
   pub way : PawnWay p.men p.side m.from m.to
-  pub promotes : promotes_rightly p.side m ≡ true
+  pub promotes : pawn_promotion_is_right p.side m ≡ true
 
 empty_square : (men : List Man) (square : ℕ) → not (is_occupied men square) ≡ true → man_at men square ≡ Empty
 empty_square men square e = stands-is men square Empty (not-false (stands men square Empty) (not-true (is_occupied men square) e))
@@ -66,7 +66,7 @@ pawn_goes p m g pawn =
     let steps = as_pawn p.side p m.from m.to (subst (λ (man : Man). goes_as man p m.from m.to ≡ true) own g.goes) in
     record {
       way = way_of p m.from m.to steps;
-      promotes = sym (ap (λ t. cond t (promotes_rightly p.side m) (is_none m.promotion)) pawn) ∙ g.promotes_so;
+      promotes = sym (ap (λ t. cond t (pawn_promotion_is_right p.side m) (is_none m.promotion)) pawn) ∙ g.promotes_so;
     }
 
 -- a pawn's goal is not on the first rank as its side sees it
@@ -119,7 +119,7 @@ no_pawn_lands p m g edge =
           let there = eq-eqb (rank_of m.to) (last_rank p.side) (edge_ranks p.side m.to g.to_board edge up) in
           promoted-no_pawn p.side m.promotion man (must_promote (rank_of m.to == last_rank p.side) (is_none m.promotion) goes.promotes there)
       | inr piece ↦
-          let none = sym (ap (λ t. cond t (promotes_rightly p.side m) (is_none m.promotion)) piece) ∙ g.promotes_so in
+          let none = sym (ap (λ t. cond t (pawn_promotion_is_right p.side m) (is_none m.promotion)) piece) ∙ g.promotes_so in
           ap is_pawn (promoted-none p.side m.promotion man none) ∙ piece
     ]
 
@@ -242,7 +242,7 @@ passed_goal : (men : List Man) (side : Side) (passant : Option ℕ) (square : �
 passed_goal men side None square e t = absurd (cc)
 passed_goal men side (Some goal) square e t = ap (was_passed men side) (sym (eqb-true goal square e)) ∙ t
 
-pub captures_when : (p : Board) (m : Move) → passant_stands p.men p.side p.passant ≡ true → Goes p m → is_passing_capture p m ≡ true → Captures p.men p.side m.from m.to
+pub captures_when : (p : Board) (m : Move) → passant_stands p.men p.side p.passant ≡ true → Goes p m → is_en_passant_capture p m ≡ true → Captures p.men p.side m.from m.to
 captures_when p m stood g e =
     let t = and_parts (is_pawn (man_at p.men m.from) && (files_apart m.from m.to == 1)) (is_goal p.passant m.to) e in
     let s = and_parts (is_pawn (man_at p.men m.from)) (files_apart m.from m.to == 1) t.0 in

@@ -20,7 +20,7 @@ use Rattle.cq_position.specs.Men.{is_of_side}
 use Rattle.cq_position.specs.Board.{Board, man_at, count_of_side, has_too_many_men, king_home, is_pawn}
 use Rattle.cq_position.specs.Position.{IsPosition}
 use Rattle.cq_position.specs.Attacks.{is_occupied, attacks, attacks_as, is_pawn_attack}
-use Rattle.cq_position.specs.Legal.{goes_as, is_none, promotes_rightly, is_single_step, is_double_step, castling_goal, castles, pawn_moves}
+use Rattle.cq_position.specs.Legal.{goes_as, is_none, pawn_promotion_is_right, is_single_step, is_double_step, castling_goal, castles, pawn_moves}
 use Rattle.cq_moves.specs.Legality.{legal_test}
 use Rattle.cq_moves.specs.LegalMoves.{moves_from, legal_from, legal_list}
 use Rattle.cq_moves.proofs.Lists.{filter-none, length-filter-within}
@@ -51,7 +51,7 @@ abbrev knight_may : Move → Bool
 knight_may m = is_knight_step m.from m.to && is_none m.promotion
 
 abbrev pawn_may : Side → Move → Bool
-pawn_may side m = pawn_goes side m.from m.to && promotes_rightly side m
+pawn_may side m = pawn_goes side m.from m.to && pawn_promotion_is_right side m
 
 abbrev may : Man → Side → Move → Bool
 may K side m = king_may side m
@@ -155,7 +155,7 @@ open_bishop p a b e h = or_right (is_orthogonal a b) (is_diagonal a b) (first_of
 
 record MayBecome (man : Man) (p : Board) (m : Move) : Type 0 where
   goes : goes_as man p m.from m.to ≡ true
-  becomes : cond (is_pawn man) (promotes_rightly p.side m) (is_none m.promotion) ≡ true
+  becomes : cond (is_pawn man) (pawn_promotion_is_right p.side m) (is_none m.promotion) ≡ true
 
 man_may : (man : Man) (p : Board) (m : Move) → AttacksAs man p m.from m.to → MayBecome man p m → may man p.side m ≡ true
 man_may K p m e h =
@@ -165,7 +165,7 @@ man_may R p m e h = and_from (queen_goes m.from m.to) (is_none m.promotion) (ope
 man_may B p m e h = and_from (queen_goes m.from m.to) (is_none m.promotion) (open_bishop p m.from m.to e h.goes) h.becomes
 man_may N p m e h = and_from (is_knight_step m.from m.to) (is_none m.promotion) (sym e ∙ h.goes) h.becomes
 man_may P p m e h =
-    and_from (pawn_goes p.side m.from m.to) (promotes_rightly p.side m) (pawn_moves_goes p m.from m.to h.goes) h.becomes
+    and_from (pawn_goes p.side m.from m.to) (pawn_promotion_is_right p.side m) (pawn_moves_goes p m.from m.to h.goes) h.becomes
 man_may BlackK p m e h =
     and_from (king_goes p.side m.from m.to) (is_none m.promotion) (king_moves_goes p m.from m.to (λ k. sym e ∙ k) h.goes) h.becomes
 man_may BlackQ p m e h = and_from (queen_goes m.from m.to) (is_none m.promotion) (open_queen p m.from m.to e h.goes) h.becomes
@@ -173,7 +173,7 @@ man_may BlackR p m e h = and_from (queen_goes m.from m.to) (is_none m.promotion)
 man_may BlackB p m e h = and_from (queen_goes m.from m.to) (is_none m.promotion) (open_bishop p m.from m.to e h.goes) h.becomes
 man_may BlackN p m e h = and_from (is_knight_step m.from m.to) (is_none m.promotion) (sym e ∙ h.goes) h.becomes
 man_may BlackP p m e h =
-    and_from (pawn_goes p.side m.from m.to) (promotes_rightly p.side m) (pawn_moves_goes p m.from m.to h.goes) h.becomes
+    and_from (pawn_goes p.side m.from m.to) (pawn_promotion_is_right p.side m) (pawn_moves_goes p m.from m.to h.goes) h.becomes
 man_may Empty p m e h = h.goes
 
 legal_may : (p : Board) (m : Move) → legal_test p m ≡ true → may (man_at p.men m.from) p.side m ≡ true

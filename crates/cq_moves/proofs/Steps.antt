@@ -11,7 +11,7 @@ use Rattle.cq_position.specs.declared.men.Side.TheVariants.{White, Black}
 use Rattle.cq_position.specs.declared.moves.Move.{Move}
 use Rattle.cq_position.specs.Men.{same_man, is_of_side, opponent, king_of, pawn_of}
 use Rattle.cq_position.specs.Board.{Board, man_at, stands, is_pawn}
-use Rattle.cq_position.specs.Legal.{is_none, promotes_rightly, goes_as, reaches, promotes, is_pseudo_legal, promoted}
+use Rattle.cq_position.specs.Legal.{is_none, pawn_promotion_is_right, goes_as, reaches, promotion_is_right, is_pseudo_legal, promoted}
 use Rattle.cq_moves.proofs.Law.{owned_on_board}
 
 -- a man of the side to move goes to a square of the board on which no man of its side and no king stands
@@ -22,7 +22,7 @@ pub record Goes (p : Board) (m : Move) : Type 0 where
   pub not_own : is_of_side p.side (man_at p.men m.to) ≡ false
   pub no_king : stands p.men m.to (king_of (opponent p.side)) ≡ false
   pub goes : goes_as (man_at p.men m.from) p m.from m.to ≡ true
-  pub promotes_so : promotes p m ≡ true
+  pub promotes_so : promotion_is_right p m ≡ true
 
 pub apart : {p : Board} {m : Move} → Goes p m → m.from ≢ m.to
 apart {p} {m} g same = let e : true ≡ false = sym g.own ∙ ap (λ k. is_of_side p.side (man_at p.men k)) same ∙ g.not_own in cc
@@ -42,7 +42,7 @@ pub goes : (p : Board) (m : Move) → length p.men ≡ 64 → is_pseudo_legal p 
 unfolding is_pseudo_legal reaches
 goes p m w e =
     let t = six_parts (not m.null) (nat_lt m.to 64) (is_of_side p.side (man_at p.men m.from)) (not (is_of_side p.side (man_at p.men m.to)))
-    (not (stands p.men m.to (king_of (opponent p.side)))) (goes_as (man_at p.men m.from) p m.from m.to) (promotes p m) e in
+    (not (stands p.men m.to (king_of (opponent p.side)))) (goes_as (man_at p.men m.from) p m.from m.to) (promotion_is_right p m) e in
     record {
       to_board = ltb-true m.to 64 t.0;
       from_board = owned_on_board p.side p.men m.from w t.1;
@@ -102,4 +102,4 @@ unpromoted false rightly none e = inr e
 -- of a man that can move
 pub it_lands : (p : Board) (m : Move) → Goes p m → Landed (man_at p.men m.from) (promoted p.side m.promotion (man_at p.men m.from))
 it_lands p m g = landed p.side m.promotion (man_at p.men m.from) g.own
-    (unpromoted (is_pawn (man_at p.men m.from)) (promotes_rightly p.side m) (is_none m.promotion) g.promotes_so)
+    (unpromoted (is_pawn (man_at p.men m.from)) (pawn_promotion_is_right p.side m) (is_none m.promotion) g.promotes_so)

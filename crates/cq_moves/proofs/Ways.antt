@@ -11,7 +11,7 @@ use Rattle.cq_position.specs.declared.moves.Move.{Move}
 use Rattle.cq_position.specs.declared.position.Rights.{Rights}
 use Rattle.cq_position.specs.Men.{king_of, rook_of}
 use Rattle.cq_position.specs.Board.{Board, man_at, stands, castling_right, king_home, rook_home, are_home, rights_stand, passant_stands}
-use Rattle.cq_position.specs.Legal.{castling_crossed, is_castling, is_passing_capture, men_moved, rook_moved, men_after, promoted}
+use Rattle.cq_position.specs.Legal.{castling_crossed, is_castling, is_en_passant_capture, men_moved, rook_moved, men_after, promoted}
 use Rattle.cq_moves.proofs.Boards.{stands-is, man_at-set_other}
 use Rattle.cq_moves.proofs.Steps.{Goes}
 use Rattle.cq_moves.proofs.Castled.{castling_squares, Castles, castles_when}
@@ -62,7 +62,7 @@ castled_so : (p : Board) (m : Move) (kingside : Bool) → is_castling p m ≡ tr
 castled_so p m kingside e c =
     let flag : nat_lt m.from m.to ≡ kingside = ap₂ nat_lt c.from_is c.to_is ∙ (castling_squares p.side kingside).way in
     let t = and_parts (stands p.men m.from (king_of p.side)) (files_apart m.from m.to == 2) e in
-    let plain = cond (is_passing_capture p m) (slice_set (men_moved p m) (beside m.from m.to) Empty) (men_moved p m) in
+    let plain = cond (is_en_passant_capture p m) (slice_set (men_moved p m) (beside m.from m.to) Empty) (men_moved p m) in
     castled kingside t.0 c
     (cond-true (is_castling p m) (rook_moved (men_moved p m) p.side (nat_lt m.from m.to)) plain e ∙ ap (rook_moved (men_moved p m) p.side) flag)
 
@@ -70,7 +70,7 @@ pub way_after : (p : Board) (m : Move) → passant_stands p.men p.side p.passant
 way_after p m stood g =
     let castling = rook_moved (men_moved p m) p.side (nat_lt m.from m.to) in
     let removed = slice_set (men_moved p m) (beside m.from m.to) Empty in
-    let plain = cond (is_passing_capture p m) removed (men_moved p m) in
+    let plain = cond (is_en_passant_capture p m) removed (men_moved p m) in
     elim (cases_Bool (is_castling p m)) [
       | inl does ↦ elim (castles_when p m g.goes does) [
         | inl c ↦ castled_so p m true does c
@@ -78,9 +78,9 @@ way_after p m stood g =
       ]
       | inr other ↦
           let first : men_after p m ≡ plain = cond-false (is_castling p m) castling plain other in
-          elim (cases_Bool (is_passing_capture p m)) [
-            | inl does ↦ captured (captures_when p m stood g does) (first ∙ cond-true (is_passing_capture p m) removed (men_moved p m) does)
-            | inr none ↦ moved (first ∙ cond-false (is_passing_capture p m) removed (men_moved p m) none)
+          elim (cases_Bool (is_en_passant_capture p m)) [
+            | inl does ↦ captured (captures_when p m stood g does) (first ∙ cond-true (is_en_passant_capture p m) removed (men_moved p m) does)
+            | inr none ↦ moved (first ∙ cond-false (is_en_passant_capture p m) removed (men_moved p m) none)
           ]
     ]
 

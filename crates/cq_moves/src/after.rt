@@ -19,7 +19,7 @@ pub fn men_after(position: &Position, m: &Move) -> [Man; 64]
     let mut men = men_moved(position, m);
     if is_castling(position, m) {
         move_rook(&mut men, position.side(), m.from.number() < m.to.number());
-    } else if is_passing_capture(position, m) {
+    } else if is_en_passant_capture(position, m) {
         men[usize::from(square_at(file(m.to), rank(m.from)).number())] = Man::Empty;
     }
     men
@@ -69,8 +69,8 @@ fn move_rook(men: &mut [Man; 64], side: Side, kingside: bool)
 }
 
 // A pawn that goes to the en passant square captures there.
-fn is_passing_capture(position: &Position, m: &Move) -> bool
-    ensures { result ≡ legal.is_passing_capture position.now m.now }
+fn is_en_passant_capture(position: &Position, m: &Move) -> bool
+    ensures { result ≡ legal.is_en_passant_capture position.now m.now }
 {
     is_pawn(position.at(m.from))
         && files_apart(m.from, m.to) == 1

@@ -5,7 +5,7 @@ ghost use Rattle.cq_position.specs.Legal.{Legal};
 ghost use Rattle.cq_moves.specs.Legality as legality;
 
 use crate::after::men_after;
-use crate::reach::{promotes, reaches};
+use crate::reach::{promotion_is_right, reaches};
 use cq_position::attacks::is_king_attacked;
 use cq_position::{Move, Position, attacks_from};
 
@@ -25,7 +25,7 @@ fn passes(position: &Position, m: &Move) -> bool
 {
     !m.null
         && reaches(position, attacks_from(position, m.from), m.from, m.to)
-        && promotes(position, m)
+        && promotion_is_right(position, m)
         && is_safe(position, m)
 }
 

@@ -9,7 +9,7 @@ ghost use Rattle.cq_moves.specs.Legality.{legal_test};
 ghost use Rattle.cq_moves.specs.LegalMoves.{legal_list, legal_from, legal_between, Precedes};
 
 use crate::legality::is_safe;
-use crate::reach::{promotes, reaches};
+use crate::reach::{promotion_is_right, reaches};
 use arrayvec::ArrayVec;
 use cq_geometry::Square;
 use cq_position::{Move, Position, Promotion, attacks_from, is_of_side};
@@ -92,5 +92,5 @@ pub(crate) fn is_legal_there(position: &Position, m: &Move) -> bool
     requires null { m.now.null ≡ false }
     ensures { result ≡ legal_test position.now m.now }
 {
-    promotes(position, m) && is_safe(position, m)
+    promotion_is_right(position, m) && is_safe(position, m)
 }

@@ -109,9 +109,9 @@ fn are_free(men: &[Man; 64], by: Side, squares: [Square; 3]) -> bool
     squares.iter().all(|square| !is_attacked(men, by, *square))
 }
 
-/// Whether the move promotes exactly where a pawn reaches the last rank (FIDE Laws of Chess, article 3.7).
-pub(crate) fn promotes(position: &Position, m: &Move) -> bool
-    ensures { result ≡ legal.promotes position.now m.now }
+/// Whether the move promotes where a pawn reaches the last rank, and nowhere else (FIDE Laws of Chess, article 3.7).
+pub(crate) fn promotion_is_right(position: &Position, m: &Move) -> bool
+    ensures { result ≡ legal.promotion_is_right position.now m.now }
 {
     if is_pawn(position.at(m.from)) && rank(m.to) == last_rank(position.side()) {
         !is_none(m.promotion)

@@ -1,4 +1,4 @@
--- White space, the same in every text.
+-- White space, the same in PGN and in queries.
 use Rattle.std.specs.Prelude.{ℕ, Bool, ◌==◌, ◌||◌}
 use Rattle.std.specs.Int.{is_in_range}
 

@@ -1,6 +1,6 @@
 //! The outside of the program, as the rest of it sees it: sources, sinks, a desk of files and a gate,
 //! each by what its calls promise, with forms in memory and a thin edge over the real system; and white
-//! space, which is the same in every text.
+//! space and decimal digits, which are the same in PGN and in queries.
 #![tactic(auto)]
 
 pub mod bytes;
@@ -29,4 +29,4 @@ pub use source::Source;
 pub use sure_desk::SureDesk;
 pub use sure_sink::SureSink;
 pub use sure_source::SureSource;
-pub use text::{decimal_up_to, digits_len, is_white};
+pub use text::{decimal_up_to, digits_len, is_white, white_len};

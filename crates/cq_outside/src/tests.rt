@@ -1,7 +1,7 @@
 use crate::{
     Bytes, Desk, Failed, FileDesk, Gate, NoMemory, OpenFault, OpenGate, Refusal, Sink, Source,
     StdSink, SureDesk, SureSink, SureSource, decimal_up_to, digits_len, is_white, read_piece,
-    read_up_to, write_all_of,
+    read_up_to, white_len, write_all_of,
 };
 use std::fs;
 use std::test::Fail;
@@ -40,6 +40,11 @@ fn white_space_is_tab_to_carriage_return_and_the_space(rt: HostRuntime) {
     for b in 0..=255 {
         let white = b"\t\n\x0b\x0c\r ".contains(&b);
         assert_eq!(rt; is_white(b), white, "at {b}");
+        assert_eq!(rt;
+            white_len(&[b, b, b'x']),
+            if white { 2 } else { 0 },
+            "at {b}"
+        );
     }
 }
 

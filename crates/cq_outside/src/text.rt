@@ -1,4 +1,4 @@
-//! White space and decimal digits, the same in every text.
+//! White space and decimal digits, the same in PGN and in queries.
 ghost use Rattle.std.specs.Prelude.{◌≡◌, ◌≤◌, length, min, take};
 ghost use Rattle.std.specs.List.{AllPass, prefix_len};
 ghost use Rattle.std.specs.Char.{is_ascii_digit};
@@ -12,6 +12,14 @@ pub fn is_white(b: u8) -> bool
     matches!(b, 0x09..=0x0d | b' ')
 }
 
+/// How many bytes at the front of a text are white space.
+pub fn white_len(text: &[u8]) -> usize
+    ensures value { result ≡ prefix_len is_white text.now }
+    ensures within { result ≤ length text.now }
+{
+    text.iter().take_while(|b| is_white(**b)).count()
+}
+
 /// How many digits stand at the front of a text.
 #[tactic(auto, using(crate::proofs::Digits::front_digits))]
 pub fn digits_len(text: &[u8]) -> usize
@@ -23,10 +31,10 @@ pub fn digits_len(text: &[u8]) -> usize
 }
 
 /// The number that decimal digits write, or `most` where it is greater. There may be any number of digits, zeros first
-/// among them.
+/// among them; no digits write 0.
 #[tactic(auto, using(crate::proofs::Digits::number_more, crate::proofs::Digits::digit_is))]
 pub fn decimal_up_to(most: u32, digits: &[u8]) -> u32
-    requires { AllPass is_ascii_digit digits.now }
+    requires digits { AllPass is_ascii_digit digits.now }
     ensures { result ≡ min most (digits_value 10 digits.now) }
 {
     let most = u64::from(most);

@@ -31,8 +31,8 @@ last_rank White = 7
 last_rank Black = 0
 
 -- a pawn promotes exactly on the last rank (article 3.7)
-abbrev pub promotes_rightly : Side → Move → Bool
-promotes_rightly side m = if rank_of m.to == last_rank side then not (is_none m.promotion) else is_none m.promotion
+abbrev pub pawn_promotion_is_right : Side → Move → Bool
+pawn_promotion_is_right side m = if rank_of m.to == last_rank side then not (is_none m.promotion) else is_none m.promotion
 
 -- one rank forward on the same file (article 3.7.1)
 abbrev pub is_single_step : Side → ℕ → ℕ → Bool
@@ -65,7 +65,7 @@ abbrev pub castling_crossed : Side → Bool → ℕ
 castling_crossed side true = king_home side + 1
 castling_crossed side false = king_home side - 1
 
--- Castling needs the right (article 3.8.2.1), no man between king and rook, and that the opponent attacks none of the squares where the
+-- Castling needs the right, which stands for king and rook at home, as every position keeps it (article 3.8.2.1), no man between king and rook, and that the opponent attacks none of the squares where the
 -- king stands, which it crosses and to which it goes (3.8.2.2).
 abbrev pub castles : Board → ℕ → ℕ → Bool → Bool
 castles p a b kingside =
@@ -90,13 +90,13 @@ reaches p a b =
     && not (stands p.men b (king_of (opponent p.side))) && goes_as (man_at p.men a) p a b
 
 -- a pawn promotes exactly on the last rank (article 3.7.3.3), and no other man does
-abbrev pub promotes : Board → Move → Bool
-promotes p m = if is_pawn (man_at p.men m.from) then promotes_rightly p.side m else is_none m.promotion
+abbrev pub promotion_is_right : Board → Move → Bool
+promotion_is_right p m = if is_pawn (man_at p.men m.from) then pawn_promotion_is_right p.side m else is_none m.promotion
 
 -- A pseudo-legal move: a man of the side to move goes to a square of the board, and becomes what it may. Whether its own king is attacked
 -- then is asked elsewhere.
 unfoldable pub is_pseudo_legal : Board → Move → Bool
-is_pseudo_legal p m = not m.null && nat_lt m.to 64 && reaches p m.from m.to && promotes p m
+is_pseudo_legal p m = not m.null && nat_lt m.to 64 && reaches p m.from m.to && promotion_is_right p m
 
 -- the man that stands on the goal after the move
 abbrev pub promoted : Side → Promotion → Man → Man
@@ -118,8 +118,8 @@ men_moved p m = slice_set (slice_set p.men m.from Empty) m.to (promoted p.side m
 abbrev pub is_castling : Board → Move → Bool
 is_castling p m = stands p.men m.from (king_of p.side) && (files_apart m.from m.to == 2)
 
-abbrev pub is_passing_capture : Board → Move → Bool
-is_passing_capture p m = is_pawn (man_at p.men m.from) && (files_apart m.from m.to == 1) && is_goal p.passant m.to
+abbrev pub is_en_passant_capture : Board → Move → Bool
+is_en_passant_capture p m = is_pawn (man_at p.men m.from) && (files_apart m.from m.to == 1) && is_goal p.passant m.to
 
 -- the rook goes over to the other side of the king; the pawn that was passed stands beside the one that captures it
 abbrev pub rook_moved : List Man → Side → Bool → List Man
@@ -129,10 +129,10 @@ rook_moved men side kingside =
 abbrev pub men_after : Board → Move → List Man
 men_after p m =
     if is_castling p m then rook_moved (men_moved p m) p.side (nat_lt m.from m.to)
-    else (if is_passing_capture p m then slice_set (men_moved p m) (square_of (file_of m.to) (rank_of m.from)) Empty
+    else (if is_en_passant_capture p m then slice_set (men_moved p m) (square_of (file_of m.to) (rank_of m.from)) Empty
     else men_moved p m)
 
--- A right to castle is left (article 3.8.2.1): a king's move ends both rights of its side, and a move from or to a rook's home square ends
+-- A right to castle stays (article 3.8.2.1): a king's move ends both rights of its side, and a move from or to a rook's home square ends
 -- the right with that rook.
 abbrev pub keeps_right : Board → Move → Side → Bool → Bool
 keeps_right p m side kingside =

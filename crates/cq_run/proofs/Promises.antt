@@ -14,7 +14,7 @@ use Rattle.cq_run.specs.Games.{Game, games_in}
 use Rattle.cq_run.specs.Answer.{answer_of}
 use Rattle.cq_run.specs.Reading.{ReadsArchive}
 use Rattle.cq_run.specs.Writing.{WritesAnswer}
-use Rattle.cq_run.specs.Promise.{NoWriteFailed, Answers, Call, DeskView, SinkView, Sinks, Texts, MayBe, ReadsWhole, TakesTooMuch, Overruns, OpensAtMost, Writes, WritesFront, IsUnwritten, StopsWriting, ToldOther, HasAll, Says, IsOneOf, Promise, archive_of, archive_limit, asked_query, texts_of, texts_of_text, texts_of_query, texts_found, texts_of_answer}
+use Rattle.cq_run.specs.Promise.{NoWriteFailed, Answers, Call, DeskView, SinkView, Sinks, Texts, MayBe, ReadsWhole, TakesTooMuch, Overruns, OpensAtMost, Writes, WritesFront, IsUnwritten, StopsWriting, TellsOtherArchive, HasAll, Says, IsOneOf, Promise, archive_of, archive_limit, asked_query, texts_of, texts_of_text, texts_of_query, texts_found, texts_of_answer}
 use Rattle.cq_run.proofs.Taken.{unopened, not_overrun}
 
 -- a sink that was not written to has taken nothing more
@@ -93,7 +93,7 @@ is_asked call query asks = ap (option_and_then query_of) asks.words ∙ asks.spe
 
 -- what is left to show where a query is asked
 promise_of : (status : Status) (call : Call) (query : ManOnSquare) → Asks call query → OpensAtMost call.desk call.desk_after → Says status call
-    → (Overruns call.desk call.desk_after → IsOneOf status (ArchiveTooLong ∷ NoMemory ∷ [])) → (ToldOther call → IsOneOf status (NotYetRead ∷ NoMemory ∷ []))
+    → (Overruns call.desk call.desk_after → IsOneOf status (ArchiveTooLong ∷ NoMemory ∷ [])) → (TellsOtherArchive call → IsOneOf status (NotYetRead ∷ NoMemory ∷ []))
     → (HasAll call → IsOneOf status (Done ∷ DoneWithRefusals ∷ NoMemory ∷ [])) → Promise status call
 promise_of status call query asks opens says too_long other complete = record {
   says = says;
@@ -122,7 +122,7 @@ not_too_long call archive tells few much =
 -- the archive could not be read
 pub unread : (status : Status) (call : Call) (query : ManOnSquare) → Asks call query → IsUnwritten call.sinks → ReadsArchive call.desk call.desk_after (Err status) → Promise status call
 unread OpenFault call query asks same read =
-    promise_of OpenFault call query asks read.opens (read.reads.0, read.reads.1, read.reads.2, same) (λ much. absurd (read.reads.3 much))
+    promise_of OpenFault call query asks read.opens (read.reads.0, read.reads.1, read.reads.2, read.reads.3, same) (λ much. absurd (read.reads.4 much))
     (λ other. absurd (other.no_open read.reads.0)) (λ all. absurd (all.no_open read.reads.0))
 unread ReadFault call query asks same read =
     promise_of ReadFault call query asks read.opens (read.reads.0, read.reads.1, same) (λ much. absurd (read.reads.2 much))
@@ -165,7 +165,7 @@ held_other call query archive asks same opens reads none =
     let games : None ≡ Some all.games = sym other ∙ (ap games_in e ∙ all.holds) in absurd cc)
 
 -- the archive holds bare games
-held_games : (call : Call) (archive : List ℕ) (games : List Game) → ReadsWhole call.desk call.desk_after archive → games_in archive ≡ Some games → ToldOther call → ⊥
+held_games : (call : Call) (archive : List ℕ) (games : List Game) → ReadsWhole call.desk call.desk_after archive → games_in archive ≡ Some games → TellsOtherArchive call → ⊥
 held_games call archive games reads holds told =
     let e : archive ≡ told.archive = told_is (archive_of call.desk) archive told.archive reads.is told.tells in
     let none : Some games ≡ None = sym holds ∙ (ap games_in e ∙ told.other) in

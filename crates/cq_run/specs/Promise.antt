@@ -65,7 +65,7 @@ archive_limit = 2 ^ 30
 abbrev pub with_archive_open : Told → Told
 with_archive_open told = record { files = told.files; opened = told.opened ++ standard_input ∷ [] }
 
--- the archive was opened, once, and no other file was
+-- as far as the desk tells, the archive was opened, once, and no other file was
 abbrev pub OpenedOnce : DeskView → DeskView → Type 0
 OpenedOnce desk after = after.told ≡ option_map with_archive_open desk.told
 
@@ -89,7 +89,8 @@ pub record Overruns (desk after : DeskView) : Type 0 where
   pub opened : OpenedOnce desk after
   pub too_much : TakesTooMuch desk after
 
--- No other file was opened than the archive, and that at most once. At most one byte more than its limit was taken from it.
+-- As far as the desk tells, no other file was opened than the archive, and that at most once, and at most one byte more than its limit was
+-- taken from it.
 pub record OpensAtMost (desk after : DeskView) : Type 0 where
   pub opens : (after.told ≡ desk.told) ⊎ OpenedOnce desk after
   pub takes : OpenedOnce desk after → TakesAtMost (archive_limit + 1) (archive_of desk) after.left
@@ -166,14 +167,14 @@ pub record Answers (call : Call) (AreRefused : ℕ → Type 0) : Type 0 where
   pub unfailed : NoWriteFailed call.sinks
 
 -- the query is of another form, and no file was opened
-pub record AsksOther (call : Call) : Type 0 where
+pub record AsksOtherQuery (call : Call) : Type 0 where
   pub text : List ℕ
   pub words : query_text call.words ≡ Some text
   pub other : query_of text ≡ None
   pub unopened : call.desk_after ≡ call.desk
 
 -- the archive is of another form, and it was read to its end
-pub record HoldsOther (call : Call) : Type 0 where
+pub record HoldsOtherArchive (call : Call) : Type 0 where
   pub query : ManOnSquare
   pub archive : List ℕ
   pub asks : asked_query call ≡ Some query
@@ -187,12 +188,13 @@ Says DoneWithRefusals call = Answers call (λ refused. 0 < refused)
 Says QueryRefused call = ⊥
 Says WordsRefused call = (query_text call.words ≡ None) × Writes call.sinks (texts_of call.words []) × NoWriteFailed call.sinks
 Says OpenFault call =
-    Rose call.desk.open_faults call.desk_after.open_faults × (call.desk_after.told ≡ call.desk.told) × (call.desk_after.left ≡ call.desk.left) × IsUnwritten call.sinks
+    Rose call.desk.open_faults call.desk_after.open_faults × (call.desk_after.told ≡ call.desk.told) × (call.desk_after.left ≡ call.desk.left)
+    × (call.desk_after.read_faults ≡ call.desk.read_faults) × IsUnwritten call.sinks
 Says ReadFault call = Rose call.desk.read_faults call.desk_after.read_faults × OpenedOnce call.desk call.desk_after × IsUnwritten call.sinks
 Says WriteFault call = SinkFailed call.sinks × StopsWriting call
 Says NoMemory call = StopsWriting call
 Says ArchiveTooLong call = TakesTooMuch call.desk call.desk_after × OpenedOnce call.desk call.desk_after × IsUnwritten call.sinks
-Says NotYetRead call = (AsksOther call ⊎ HoldsOther call) × IsUnwritten call.sinks
+Says NotYetRead call = (AsksOtherQuery call ⊎ HoldsOtherArchive call) × IsUnwritten call.sinks
 
 -- the status is one of these
 abbrev pub IsOneOf : Status → List Status → Type 0
@@ -213,7 +215,7 @@ pub record HasAll (call : Call) : Type 0 where
   pub no_write : SinkFailed call.sinks → ⊥
 
 -- accepted words and query, an archive of another form within the limit, and no count of the desk that rose; the sinks may fail
-pub record ToldOther (call : Call) : Type 0 where
+pub record TellsOtherArchive (call : Call) : Type 0 where
   pub query : ManOnSquare
   pub archive : List ℕ
   pub asks : asked_query call ≡ Some query
@@ -231,7 +233,7 @@ pub record Promise (status : Status) (call : Call) : Type 0 where
   pub words_always : query_text call.words ≡ None → IsOneOf status (WordsRefused ∷ WriteFault ∷ NoMemory ∷ [])
   pub query_always : (text : List ℕ) → query_text call.words ≡ Some text → query_of text ≡ None → status ≡ NotYetRead
   pub too_long_always : Overruns call.desk call.desk_after → IsOneOf status (ArchiveTooLong ∷ NoMemory ∷ [])
-  pub archive_always : ToldOther call → IsOneOf status (NotYetRead ∷ NoMemory ∷ [])
+  pub archive_always : TellsOtherArchive call → IsOneOf status (NotYetRead ∷ NoMemory ∷ [])
   pub complete : HasAll call → IsOneOf status (Done ∷ DoneWithRefusals ∷ NoMemory ∷ [])
 
 -- the views of a desk and of the sinks, by what their types tell

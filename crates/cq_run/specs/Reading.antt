@@ -9,7 +9,9 @@ use Rattle.cq_run.specs.Promise.{DeskView, ReadsWhole, OpenedOnce, TakesTooMuch,
 -- what each answer says; that no more than the limit was taken, where the answer is another
 abbrev pub Reads : DeskView → DeskView → Result Bytes Status → Type 0
 Reads desk after (Ok archive) = ReadsWhole desk after archive × (Overruns desk after → ⊥)
-Reads desk after (Err OpenFault) = Rose desk.open_faults after.open_faults × (after.told ≡ desk.told) × (after.left ≡ desk.left) × (Overruns desk after → ⊥)
+Reads desk after (Err OpenFault) =
+    Rose desk.open_faults after.open_faults × (after.told ≡ desk.told) × (after.left ≡ desk.left) × (after.read_faults ≡ desk.read_faults)
+    × (Overruns desk after → ⊥)
 Reads desk after (Err ReadFault) = Rose desk.read_faults after.read_faults × OpenedOnce desk after × (Overruns desk after → ⊥)
 Reads desk after (Err ArchiveTooLong) = TakesTooMuch desk after × OpenedOnce desk after
 Reads desk after (Err NoMemory) = Unit {0}

@@ -34,7 +34,7 @@ pub fn man_of(side: Side, piece: Piece) -> Man
     }
 }
 
-// The one move that agrees with the parts.
+/// The one move of a list that agrees with the parts; `IllegalMove` where none does, and `AmbiguousMove` where two or more do.
 pub fn only_agreeing(position: &Position, parts: &Parts, moves: &[Move]) -> Result<Move, SanFault>
     ensures { result ≡ only (filter (fit.agrees position.now parts.now) moves.now) }
 {

@@ -1,4 +1,6 @@
 //! Moves in Standard Algebraic Notation: reading a text as the one legal move that it means in a position.
+//!
+//! `specs/Spelling` says how a move is spelled, and where that is more lenient than the PGN standard; `specs/Fits` says which moves fit.
 #![tactic(auto)]
 
 pub mod fault;

@@ -1,10 +1,8 @@
 //! Kinds of bytes.
 ghost use Rattle.std.specs.Prelude.{◌≡◌, ◌==◌};
 ghost use Rattle.std.specs.List.{position, prefix_len};
-ghost use Rattle.cq_outside.specs.Text.{is_white};
 ghost use Rattle.cql_lexer.specs.Characters.{is_name_byte, is_file_byte};
 
-use cq_outside::is_white;
 use memchr::memchr;
 
 /// What names are made of.
@@ -19,13 +17,6 @@ pub fn is_file_byte(b: u8) -> bool
     ensures { result ≡ is_file_byte b }
 {
     b >= 0x21 && !matches!(b, b'"' | b'(' | b')')
-}
-
-/// How many white bytes stand at the front.
-pub fn white_len(text: &[u8]) -> usize
-    ensures { result ≡ prefix_len is_white text.now }
-{
-    text.iter().take_while(|b| is_white(**b)).count()
 }
 
 /// How many bytes of a name stand at the front.

@@ -5,10 +5,10 @@ ghost use Rattle.cql_syntax.specs.declared.token.QueryToken.{QueryToken};
 ghost use Rattle.cq_outside.specs.Refusals.{Gives};
 ghost use Rattle.cql_lexer.specs.Tokens.{separator_len, token_at, tokens_of, EndOnce};
 
-use crate::characters::{find, white_len};
+use crate::characters::find;
 use crate::expected::{Expected, expected_after};
 use crate::lexeme::{Lexeme, first_lexeme};
-use cq_outside::{NoMemory, Refusal};
+use cq_outside::{NoMemory, Refusal, white_len};
 use cql_syntax::{QueryFault, QueryReason, QueryToken, QueryTokenKind};
 use std::alloc::Global;
 

@@ -18,6 +18,7 @@ use Rattle.pgn_lexer.specs.declared.token.LexemeKind.{LexemeKind}
 use Rattle.pgn_lexer.specs.declared.token.LexemeKind.TheVariants.{EscapeLine, Token}
 use Rattle.pgn_lexer.specs.declared.token.TokenKind.TheVariants.{Open, Close, Text, Symbol, Period, Star, LeftParen, RightParen, Nag, Null, Comment, LineComment, BadByte, UnclosedComment, UnclosedText}
 use Rattle.pgn_cut.specs.Cut.{is_result, marks, is_marker, depth, opens, has_movetext, is_passed_over, ends_before, ends_behind, span_to, cut_from, cut, same_span, closed, text_start}
+use Rattle.pgn_cut.specs.Spans.{FinishesAt}
 use Rattle.pgn_cut.specs.declared.span.Span.{Span}
 
 -- the games that some lexemes close, where `game` has those before them of the open game, and the lexemes of the game that is open behind them
@@ -55,19 +56,15 @@ cut_splits place game (l ∷ ls) rest =
     (ap (λ s. span_to (end l) (game ++ l ∷ []) ++ s) (cut_splits place [] ls rest) ∙ sym (append_assoc (span_to (end l) (game ++ l ∷ [])) (closed_by [] ls) _))
     (cut_splits place (game ++ l ∷ []) ls rest)
 
--- the first of some spans, if there is one, ends at a place
-FirstEndsAt : ℕ → List Span → Type 0
-FirstEndsAt place [] = Unit {0}
-FirstEndsAt place (s ∷ ss) = s.end ≡ place
-
--- spans of which the first ones end elsewhere have no common front
-apart : (place : ℕ) (xs ys : List Span) → FirstEndsAt place xs → FirstEndsAt (place + 1) ys → common_prefix_len same_span xs ys ≡ 0
-unfolding FirstEndsAt
+-- spans of which each list has at most one, that end elsewhere, have no common front
+apart : (place : ℕ) (xs ys : List Span) → FinishesAt place xs → FinishesAt (place + 1) ys → common_prefix_len same_span xs ys ≡ 0
 apart place [] ys ends later = refl
-apart place (x ∷ xs) [] ends later = refl
-apart place (x ∷ xs) (y ∷ ys) ends later =
+apart place (x ∷ []) [] ends later = refl
+apart place (x ∷ []) (y ∷ []) ends later =
     let other : same_span x y ≡ false = grind (arith, nat_tests, ends, later) in
-    ap (λ t. cond t (1 + common_prefix_len same_span xs ys) 0) other
+    ap (λ t. cond t (1 + common_prefix_len same_span [] []) 0) other
+apart place (x ∷ []) (y ∷ z ∷ ys) ends later = absurd later
+apart place (x ∷ w ∷ xs) ys ends later = absurd ends
 
 same_flag : (b : Bool) → (if b then b else not b) ≡ true
 same_flag true = refl
@@ -93,17 +90,15 @@ common_front front xs ys none =
     common_parts front xs ys ∙ ap (λ n. front ++ take n xs) none ∙ ap (λ l. front ++ l) (take_none xs) ∙ append-nil front
 
 -- the last game ends at the archive's end
-span_ends : (place : ℕ) (game : List Lexeme) → FirstEndsAt place (span_to place game)
-unfolding FirstEndsAt
+span_ends : (place : ℕ) (game : List Lexeme) → FinishesAt place (span_to place game)
 span_ends place [] = tt
 span_ends place (l ∷ ls) = refl
 
-last_ends : (place : ℕ) (game : List Lexeme) → FirstEndsAt place (cut_from place game [])
-unfolding FirstEndsAt cut_from
-last_ends place game = of_both (FirstEndsAt place) (list_all (λ l. is_passed_over l.kind) game) [] (span_to place game) tt (span_ends place game)
+last_ends : (place : ℕ) (game : List Lexeme) → FinishesAt place (cut_from place game [])
+unfolding cut_from
+last_ends place game = of_both (FinishesAt place) (list_all (λ l. is_passed_over l.kind) game) [] (span_to place game) tt (span_ends place game)
 
-first_of_span : (place : ℕ) (game : List Lexeme) → FirstEndsAt place (span_to place game ++ [])
-unfolding FirstEndsAt
+first_of_span : (place : ℕ) (game : List Lexeme) → FinishesAt place (span_to place game ++ [])
 first_of_span place [] = tt
 first_of_span place (l ∷ ls) = refl
 
@@ -125,10 +120,10 @@ unfolding lexemes_from reading symbol x_behind
 x_alone at first = refl
 
 -- a game behind which x stands ends one byte later
-x_ends : (place at : ℕ) (first : Bool) (game : List Lexeme) → FirstEndsAt place (cut_from place game (lexemes at first (120 ∷ [])))
+x_ends : (place at : ℕ) (first : Bool) (game : List Lexeme) → FinishesAt place (cut_from place game (lexemes at first (120 ∷ [])))
 unfolding x_behind
 x_ends place at first game =
-    subst (FirstEndsAt place) (sym (ap (cut_from place game) (x_alone at first) ∙ goes_in place game (x_behind at first) [] refl refl)) (last_ends place (game ++ x_behind at first ∷ []))
+    subst (FinishesAt place) (sym (ap (cut_from place game) (x_alone at first) ∙ goes_in place game (x_behind at first) [] refl refl)) (last_ends place (game ++ x_behind at first ∷ []))
 
 -- a text that ends with x is no result
 ends_with_x : (xs ys : List ℕ) (n : ℕ) → length ys ≡ n + 1 → xs ++ 120 ∷ [] ≡ ys → get_or ys n 0 ≡ 120
@@ -231,6 +226,11 @@ all_push P (x ∷ xs) y all last = (all.0, all_push P xs y all.1 last)
 symbol_grows : (first : Bool) (text : List ℕ) → IsLexeme first (Token Symbol) text → IsLexeme first (Token Symbol) (text ++ 120 ∷ [])
 symbol_grows first text is = (is.0, is.1 ++ 120 ∷ [], ap (λ t. t ++ 120 ∷ []) is.2, is.3, all_push (λ c. continues_symbol c ≡ true) is.1 120 is.4 refl)
 
+-- what the closed games of a front are to the cut of any longer archive, and to that of the front itself
+record Closes (front : List ℕ) : Type 0 where
+  stay : (more : List ℕ) → (rest : List Span) × (cut (front ++ more) ≡ closed front ++ rest)
+  whole : (last : List Span) × (cut front ≡ closed front ++ last) × FinishesAt (length front) last
+
 -- what the laws of lexemes say
 abbrev pub FrontsSettle : Type 0
 FrontsSettle = (start : ℕ) (first : Bool) (front : List ℕ) → Settles start first front
@@ -255,22 +255,22 @@ module _ (follow : LexemesFollow) (grow : ReadingsGrow) (longest : AreLongest) w
 
   -- the games of a lexeme that reaches the end, alone behind a game
   whole_ends : (at : ℕ) (first : Bool) (game : List Lexeme) (b : ℕ) (bs : List ℕ) → is_white b ≡ false → (reading first b bs).len ≡ length (b ∷ bs) → may_grow (reading first b bs).kind ≡ true
-      → FirstEndsAt (at + length (b ∷ bs)) (cut_from (at + length (b ∷ bs)) game (lexemes at first (b ∷ bs)))
-  unfolding cut_from FirstEndsAt
+      → FinishesAt (at + length (b ∷ bs)) (cut_from (at + length (b ∷ bs)) game (lexemes at first (b ∷ bs)))
+  unfolding cut_from
   whole_ends at first game b bs dark whole grows =
       let l = lexeme at first b bs in
       let place = at + length (b ∷ bs) in
       let size : length l.text ≡ (reading first b bs).len = length-take-le (reading first b bs).len (b ∷ bs) (omega arith) in
       let ends : end l ≡ place = omega arith in
       let before : ends_before game l ≡ false = ap (λ t. t && first && has_movetext game) (grows_no_open (reading first b bs).kind grows) in
-      subst (FirstEndsAt place) (sym (ap (cut_from place game) (one_lexeme at first b bs dark whole)
+      subst (FinishesAt place) (sym (ap (cut_from place game) (one_lexeme at first b bs dark whole)
       ∙ ap (λ t. cond t (span_to at game ++ cut_from place (l ∷ []) []) (cond (ends_behind game l) (span_to (end l) (game ++ l ∷ []) ++ cut_from place [] []) (cut_from place (game ++ l ∷ []) []))) before
       ∙ ap (λ e. cond (ends_behind game l) (span_to e (game ++ l ∷ []) ++ cut_from place [] []) (cut_from place (game ++ l ∷ []) [])) ends))
-      (of_both (FirstEndsAt place) (ends_behind game l) (span_to place (game ++ l ∷ []) ++ []) (cut_from place (game ++ l ∷ []) []) (first_of_span place (game ++ l ∷ [])) (last_ends place (game ++ l ∷ [])))
+      (of_both (FinishesAt place) (ends_behind game l) (span_to place (game ++ l ∷ []) ++ []) (cut_from place (game ++ l ∷ []) []) (first_of_span place (game ++ l ∷ [])) (last_ends place (game ++ l ∷ [])))
 
   -- the reading of such a text with x behind it either takes the x or stays
   x_taken : (at : ℕ) (first : Bool) (game : List Lexeme) (b : ℕ) (bs : List ℕ) → is_white b ≡ false → length (b ∷ bs) < (reading first b (bs ++ 120 ∷ [])).len
-      → FirstEndsAt (at + length (b ∷ bs) + 1) (cut_from (at + length (b ∷ bs) + 1) game (lexemes at first (b ∷ bs ++ 120 ∷ [])))
+      → FinishesAt (at + length (b ∷ bs) + 1) (cut_from (at + length (b ∷ bs) + 1) game (lexemes at first (b ∷ bs ++ 120 ∷ [])))
   x_taken at first game b bs dark longer =
       let r = reading first b (bs ++ 120 ∷ []) in
       let l = lexeme at first b (bs ++ 120 ∷ []) in
@@ -282,7 +282,7 @@ module _ (follow : LexemesFollow) (grow : ReadingsGrow) (longest : AreLongest) w
       let all : take r.len (b ∷ bs ++ 120 ∷ []) ≡ b ∷ bs ++ 120 ∷ [] = take_all r.len (b ∷ bs ++ 120 ∷ []) (omega arith) in
       let is : IsLexeme first r.kind (b ∷ bs ++ 120 ∷ []) = subst (IsLexeme first r.kind) all long.reads in
       let no_marker : is_marker l ≡ false = ap (marks r.kind) all ∙ long_no_marker first r.kind (b ∷ bs) is (omega arith) in
-      subst (FirstEndsAt place) (sym (ap (cut_from place game) (one_lexeme at first b (bs ++ 120 ∷ []) dark whole)
+      subst (FinishesAt place) (sym (ap (cut_from place game) (one_lexeme at first b (bs ++ 120 ∷ []) dark whole)
       ∙ goes_in place game l [] (long_no_open first r.kind (b ∷ bs ++ 120 ∷ []) is (omega arith)) no_marker))
       (last_ends place (game ++ l ∷ []))
 
@@ -300,7 +300,7 @@ module _ (follow : LexemesFollow) (grow : ReadingsGrow) (longest : AreLongest) w
 
   x_left : (at : ℕ) (first : Bool) (game : List Lexeme) (b : ℕ) (bs : List ℕ) → is_white b ≡ false → (reading first b bs).len ≡ length (b ∷ bs) → may_grow (reading first b bs).kind ≡ true
       → (reading first b (bs ++ 120 ∷ [])).len ≤ length (b ∷ bs)
-      → FirstEndsAt (at + length (b ∷ bs) + 1) (cut_from (at + length (b ∷ bs) + 1) game (lexemes at first (b ∷ bs ++ 120 ∷ [])))
+      → FinishesAt (at + length (b ∷ bs) + 1) (cut_from (at + length (b ∷ bs) + 1) game (lexemes at first (b ∷ bs ++ 120 ∷ [])))
   x_left at first game b bs dark whole grows stays =
       let r = reading first b bs in
       let l = lexeme at first b (bs ++ 120 ∷ []) in
@@ -311,7 +311,7 @@ module _ (follow : LexemesFollow) (grow : ReadingsGrow) (longest : AreLongest) w
       let behind : drop (reading first b (bs ++ 120 ∷ [])).len (b ∷ bs ++ 120 ∷ []) ≡ 120 ∷ [] =
       ap (λ q. drop q.len (b ∷ bs ++ 120 ∷ [])) same ∙ drop-append-le r.len (b ∷ bs) (120 ∷ []) (omega arith) ∙ ap (λ t. t ++ 120 ∷ []) (drop_all r.len (b ∷ bs) (omega arith)) in
       let n = (reading first b (bs ++ 120 ∷ [])).len in
-      subst (FirstEndsAt place) (sym (ap (cut_from place game) (follow at first b (bs ++ 120 ∷ []) dark)
+      subst (FinishesAt place) (sym (ap (cut_from place game) (follow at first b (bs ++ 120 ∷ []) dark)
       ∙ goes_in place game l (lexemes (at + n) (first_at first (b ∷ bs ++ 120 ∷ []) n) (drop n (b ∷ bs ++ 120 ∷ []))) no_open no_marker
       ∙ ap (λ t. cut_from place (game ++ l ∷ []) (lexemes (at + n) (first_at first (b ∷ bs ++ 120 ∷ []) n) t)) behind))
       (x_ends place (at + n) (first_at first (b ∷ bs ++ 120 ∷ []) n) (game ++ l ∷ []))
@@ -326,10 +326,17 @@ module _ (follow : LexemesFollow) (grow : ReadingsGrow) (longest : AreLongest) w
       (⊎_elim (λ longer. x_taken at first game b bs unsettled.0 longer) (λ stays. x_left at first game b bs unsettled.0 unsettled.1 unsettled.2 stays)
       (cases_lt (length (b ∷ bs)) (reading first b (bs ++ 120 ∷ [])).len))
 
+  -- what a front leaves open is at most one game, which ends with it
+  open_finishes : (at : ℕ) (first : Bool) (game : List Lexeme) (bytes : List ℕ) → IsUnsettled first bytes
+      → FinishesAt (at + length bytes) (cut_from (at + length bytes) game (lexemes at first bytes))
+  unfolding lexemes_from
+  open_finishes at first game [] unsettled = last_ends (at + 0) game
+  open_finishes at first game (b ∷ bs) unsettled = whole_ends at first game b bs unsettled.0 unsettled.1 unsettled.2
+
   -- the closed games of a front, where what follows doesn't change the byte order mark
   module _ (settle : FrontsSettle) where
-    stay_behind_mark : (front more : List ℕ) → ((more : List ℕ) → text_start (front ++ more) ≡ text_start front) → (rest : List Span) × (cut (front ++ more) ≡ closed front ++ rest)
-    stay_behind_mark front more same =
+    closes_behind_mark : (front : List ℕ) → ((more : List ℕ) → text_start (front ++ more) ≡ text_start front) → Closes front
+    closes_behind_mark front same =
         let start = text_start front in
         let inside = text_within front in
         let text = drop start front in
@@ -354,7 +361,15 @@ module _ (follow : LexemesFollow) (grow : ReadingsGrow) (longest : AreLongest) w
         let closes : closed front ≡ games =
         ap₂ (λ xs ys. take (common_prefix_len same_span xs ys) xs) here (cuts (120 ∷ []))
         ∙ common_front games (cut_from (length front) game (lexemes (start + place) column left)) (C (120 ∷ [])) none in
-        (C more, cuts more ∙ ap (λ g. g ++ C more) (sym closes))
+        let last = cut_from (length front) game (lexemes (start + place) column left) in
+        record {
+          stay = λ more. (C more, cuts more ∙ ap (λ g. g ++ C more) (sym closes));
+          whole = (
+            last,
+            here ∙ ap (λ g. g ++ last) (sym closes),
+            subst (λ n. FinishesAt n (cut_from n game (lexemes (start + place) column left))) size (open_finishes (start + place) column game left s.unsettled),
+          );
+        }
 
 -- a part of a byte order mark closes nothing
 one_closes_nothing : closed (239 ∷ []) ≡ []
@@ -369,8 +384,23 @@ nothing_closes : closed [] ≡ []
 unfolding lexemes_from cut_from
 nothing_closes = refl
 
-stays_of : (front more : List ℕ) → closed front ≡ [] → (rest : List Span) × (cut (front ++ more) ≡ closed front ++ rest)
-stays_of front more none = (cut (front ++ more), ap (λ g. g ++ cut (front ++ more)) (sym none))
+nothing_finishes : FinishesAt 0 (cut [])
+unfolding lexemes_from cut_from
+nothing_finishes = tt
+
+one_finishes : FinishesAt 1 (cut (239 ∷ []))
+unfolding lexemes_from cut_from reading single
+one_finishes = refl
+
+two_finish : FinishesAt 2 (cut (239 ∷ 187 ∷ []))
+unfolding lexemes_from cut_from reading single
+two_finish = refl
+
+closes_nothing : (front : List ℕ) → closed front ≡ [] → FinishesAt (length front) (cut front) → Closes front
+closes_nothing front none finishes = record {
+  stay = λ more. (cut (front ++ more), ap (λ g. g ++ cut (front ++ more)) (sym none));
+  whole = (cut front, ap (λ g. g ++ cut front) (sym none), finishes);
+}
 
 both_false : (a : Bool) → (a && false) ≡ false
 both_false true = refl
@@ -382,22 +412,29 @@ and_assoc_false true false c is = refl
 and_assoc_false false b c is = refl
 
 module _ (follow : LexemesFollow) (grow : ReadingsGrow) (longest : AreLongest) (settle : FrontsSettle) where
-  pub closed_stay : (front more : List ℕ) → (rest : List Span) × (cut (front ++ more) ≡ closed front ++ rest)
-  closed_stay [] more = stays_of [] more nothing_closes
-  closed_stay (x ∷ []) more =
-      ⊎_elim (λ mark. stays_of (x ∷ []) more (ap (λ b. closed (b ∷ [])) (sym (eqb-true 239 x mark)) ∙ one_closes_nothing))
-      (λ other. stay_behind_mark follow grow longest settle (x ∷ []) more
+  closes : (front : List ℕ) → Closes front
+  closes [] = closes_nothing [] nothing_closes nothing_finishes
+  closes (x ∷ []) =
+      ⊎_elim (λ mark. subst (λ b. Closes (b ∷ [])) (eqb-true 239 x mark) (closes_nothing (239 ∷ []) one_closes_nothing one_finishes))
+      (λ other. closes_behind_mark follow grow longest settle (x ∷ [])
       (λ m. ap (λ t. cond (t && starts_with nat_eq m (187 ∷ 191 ∷ [])) 3 0) other ∙ sym (ap (λ t. cond t 3 0) (both_false (239 == x)))))
       (cases_Bool (239 == x))
-  closed_stay (x ∷ y ∷ []) more =
+  closes (x ∷ y ∷ []) =
       ⊎_elim (λ mark.
       let parts = and_parts (239 == x) (187 == y) mark in
-      stays_of (x ∷ y ∷ []) more (ap₂ (λ a b. closed (a ∷ b ∷ [])) (sym (eqb-true 239 x parts.0)) (sym (eqb-true 187 y parts.1)) ∙ two_close_nothing))
-      (λ other. stay_behind_mark follow grow longest settle (x ∷ y ∷ []) more
+      subst (λ b. Closes (b ∷ y ∷ [])) (eqb-true 239 x parts.0)
+      (subst (λ b. Closes (239 ∷ b ∷ [])) (eqb-true 187 y parts.1) (closes_nothing (239 ∷ 187 ∷ []) two_close_nothing two_finish)))
+      (λ other. closes_behind_mark follow grow longest settle (x ∷ y ∷ [])
       (λ m. ap (λ t. cond t 3 0) (and_assoc_false (239 == x) (187 == y) (starts_with nat_eq m (191 ∷ [])) other)
       ∙ sym (ap (λ t. cond t 3 0) (and_assoc_false (239 == x) (187 == y) false other))))
       (cases_Bool ((239 == x) && (187 == y)))
-  closed_stay (x ∷ y ∷ z ∷ zs) more = stay_behind_mark follow grow longest settle (x ∷ y ∷ z ∷ zs) more (λ m. refl)
+  closes (x ∷ y ∷ z ∷ zs) = closes_behind_mark follow grow longest settle (x ∷ y ∷ z ∷ zs) (λ m. refl)
+
+  pub closed_stay : (front more : List ℕ) → (rest : List Span) × (cut (front ++ more) ≡ closed front ++ rest)
+  closed_stay front = (closes front).stay
+
+  pub closed_whole : (front : List ℕ) → (last : List Span) × (cut front ≡ closed front ++ last) × FinishesAt (length front) last
+  closed_whole front = (closes front).whole
 
   -- so more bytes close more games
   pub closed_grow : (front more : List ℕ) → (rest : List Span) × (closed (front ++ more) ≡ closed front ++ rest)

@@ -80,3 +80,16 @@ closed_early = refl
 pub closed_late : closed (codes "* 1-0 ") ≡ span 0 1 true ∷ span 2 5 false ∷ []
 unfolding lexemes_from cut_from reading single symbol
 closed_late = refl
+
+-- a comment behind the last marker is no game, and a [ in the first column closes the game before it
+pub closed_comment : closed (codes "* {c}") ≡ span 0 1 true ∷ []
+unfolding lexemes_from cut_from reading single symbol comment
+closed_comment = refl
+
+pub closed_by_tag : closed (codes "1." ++ 10 ∷ codes "[") ≡ span 0 3 true ∷ []
+unfolding lexemes_from cut_from reading single symbol
+closed_by_tag = refl
+
+pub closed_longer : closed (codes "1. e4 1-0x *") ≡ span 0 12 true ∷ []
+unfolding lexemes_from cut_from reading single symbol
+closed_longer = refl

@@ -1,5 +1,5 @@
 -- How the games of an archive stand in it.
-use Rattle.std.specs.Prelude.{ℕ, ◌<◌, ◌≤◌, List, [], ◌∷◌}
+use Rattle.std.specs.Prelude.{◌≡◌, ℕ, ◌<◌, ◌≤◌, List, [], ◌∷◌}
 use Rattle.pgn_cut.specs.declared.span.Span.{Span}
 
 -- a span has at least one byte, and ends by a place
@@ -10,3 +10,9 @@ EndsBy place s = (s.start < s.end) × (s.end ≤ place)
 abbrev pub AreInOrder : ℕ → ℕ → List Span → Type 0
 AreInOrder from to [] = Unit {0}
 AreInOrder from to (s ∷ ss) = (from ≤ s.start) × EndsBy to s × AreInOrder s.end to ss
+
+-- at most one span, which ends at a place
+abbrev pub FinishesAt : ℕ → List Span → Type 0
+FinishesAt place [] = Unit {0}
+FinishesAt place (s ∷ []) = s.end ≡ place
+FinishesAt place (s ∷ t ∷ ss) = ⊥

@@ -3,7 +3,7 @@ ghost use Rattle.std.specs.Prelude.{◌≡◌, ◌++◌, ℕ, List, All, length}
 ghost use Rattle.pgn_cut.specs.Cut.{cut, closed};
 ghost use Rattle.pgn_cut.specs.Joined.{HasItsTokens};
 ghost use Rattle.pgn_cut.specs.declared.span.Span.{Span as ASpan};
-ghost use Rattle.pgn_cut.specs.Spans.{EndsBy, AreInOrder};
+ghost use Rattle.pgn_cut.specs.Spans.{EndsBy, AreInOrder, FinishesAt};
 
 use pgn_lexer::{
     fronts_settle, lexemes_are_local, lexemes_follow, lexemes_stand_apart, readings_are_longest,
@@ -27,9 +27,10 @@ pub fn games_have_their_tokens()
 }
 
 /// The games that a front of an archive closes are the archive's first ones, and the first that any longer front closes,
-/// whatever follows.
+/// whatever follows. A front has at most one game besides, which ends with it.
 pub fn closed_games_stay()
     ensures stay { (front more : List ℕ) → (rest : List ASpan) × (cut (front ++ more) ≡ closed front ++ rest) }
+    ensures whole { (front : List ℕ) → (last : List ASpan) × (cut front ≡ closed front ++ last) × FinishesAt (length front) last }
     ensures grow { (front more : List ℕ) → (rest : List ASpan) × (closed (front ++ more) ≡ closed front ++ rest) }
 {
     fronts_settle();

@@ -31,7 +31,8 @@ pub record StandsIn (start : ℕ) (first : Bool) (bytes : List ℕ) (l : Lexeme)
   pub to_end : end l ≤ start + length bytes
   pub column : l.first ≡ first_at first bytes (l.at - start)
 
--- whether a lexeme that reaches the end of a text may grow by what follows: the tokens of one byte alone never do
+-- Whether a lexeme that reaches the end of a text may grow by what follows, as far as its kind tells: only the tokens of one byte are sure
+-- not to. A comment that was closed can't either, and is left open all the same.
 abbrev pub may_grow : LexemeKind → Bool
 may_grow (Token Open) = false
 may_grow (Token Close) = false

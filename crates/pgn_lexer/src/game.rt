@@ -7,7 +7,7 @@ use crate::token::{LexemeKind, Token};
 use cq_outside::NoMemory;
 use std::alloc::Global;
 
-/// The tokens of a text of at most 2^24 bytes. `start` is the place of its first byte in the archive, from which the
+/// The tokens of a text of at most 2^24 bytes; escape lines give none. `start` is the place of its first byte in the archive, from which the
 /// tokens' places count, and `first` says whether that byte stands in the first column. Refused where no memory is found.
 pub fn tokens(alloc: Global, bytes: &[u8], start: u64, first: bool) -> Result<Vec<Token>, NoMemory>
     requires size { length bytes.now ≤ 2 ^ 24 }

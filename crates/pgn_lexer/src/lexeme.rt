@@ -1,13 +1,11 @@
 //! The lexemes of a text, one after the other.
 ghost use Rattle.std.specs.Prelude.{◌≡◌, ◌+◌, ◌<◌, ◌≤◌, ℕ, [], ◌∷◌, length, IfNone, IfSome};
-ghost use Rattle.std.specs.List.{prefix_len};
-ghost use Rattle.cq_outside.specs.Text.{is_white};
 ghost use Rattle.pgn_lexer.specs.Lexemes.{first_at, lexemes_at};
 ghost use Rattle.pgn_lexer.specs.Shown.{shown};
 
 use crate::reading::longest_reading;
 use crate::token::LexemeKind;
-use cq_outside::is_white;
+use cq_outside::white_len;
 
 /// A lexeme of some bytes: its place among them, whether it begins in the first column, its bytes and its kind.
 #[derive(Clone, Copy, Debug)]
@@ -16,14 +14,6 @@ pub struct Lexeme<'a> {
     pub first: bool,
     pub text: &'a [u8],
     pub kind: LexemeKind,
-}
-
-/// How many bytes at the front are white space.
-fn white_len(bytes: &[u8]) -> usize
-    ensures value { result ≡ prefix_len is_white bytes.now }
-    ensures within { result ≤ length bytes.now }
-{
-    bytes.iter().take_while(|b| is_white(**b)).count()
 }
 
 /// Whether the byte at a place stands in the first column; `first` says so of the first byte.

@@ -3,7 +3,7 @@
 //! `specs/Grammar` says which texts are lexemes of which kind. `specs/Readings` says what is read at a place, and
 //! `readings_are_longest` that this is the longest lexeme there. `specs/Lexemes` takes the readings off the front of a
 //! text, one after the other; `tokens` gives exactly these, without escape lines. The laws say that lexemes stand in
-//! order, and that those of a part of a text are the text's within it.
+//! order, that those of a part of a text are the text's within it, and which of a text's lexemes stay whatever follows it.
 #![tactic(auto)]
 
 pub mod game;

@@ -48,6 +48,7 @@ pub struct Token {
 pub enum LexemeKind {
     /// `%` in the first column, to the line's end.
     EscapeLine,
+    /// A token of this kind.
     Token(TokenKind),
 }
 

@@ -14,12 +14,10 @@ use cq_outside::{Bytes, NoMemory};
 use std::alloc::Global;
 
 /// The FEN text of a position: six fields, the halfmove clock 0, the rights in the order `KQkq`, and the en passant square that the
-/// position keeps.
+/// position keeps. It is read as the same position where the number has at most the nine digits that a FEN may have.
 #[tactic(auto, using(crate::proofs::RoundTrip::reads_back))]
 pub fn fen_text(alloc: Global, position: &Position) -> Result<Bytes, NoMemory>
     ensures text { IfOk result (λ text. text ≡ fen_text.fen_of position.now) }
-
-    // Reading it gives the position back, where its number has at most the nine digits that a FEN may have.
     ensures back { position.now.number ≤ 999999999 → IfOk result (λ text. fen_meaning text ≡ Ok position.now) }
 {
     written(alloc, position)

@@ -1,4 +1,4 @@
-use Rattle.pgn_cut.proofs.Closed.{closed_stay, closed_grow}
+use Rattle.pgn_cut.proofs.Closed.{closed_stay, closed_whole, closed_grow}
 use Rattle.pgn_cut.proofs.laws.closed_games_stay.Goals as goal
 
 pub returns : goal.returns
@@ -7,4 +7,4 @@ returns c =
     let grow = c.readings_grow.ensures in
     let longest = c.readings_are_longest.ensures in
     let settle = c.fronts_settle.ensures in
-    record { stay = closed_stay follow grow longest settle; grow = closed_grow follow grow longest settle }
+    record { stay = closed_stay follow grow longest settle; whole = closed_whole follow grow longest settle; grow = closed_grow follow grow longest settle }
