@@ -65,8 +65,8 @@ abbrev pub castling_crossed : Side → Bool → ℕ
 castling_crossed side true = king_home side + 1
 castling_crossed side false = king_home side - 1
 
--- Castling needs the right, which stands for king and rook at home, as every position keeps it (article 3.8.2.1), no man between king and rook, and that the opponent attacks none of the squares where the
--- king stands, which it crosses and to which it goes (3.8.2.2).
+-- Castling needs the right, which stands for king and rook at home, as every position keeps it (article 3.8.2.1), no man between king and
+-- rook, and that the opponent attacks none of the squares where the king stands, which it crosses and to which it goes (3.8.2.2).
 abbrev pub castles : Board → ℕ → ℕ → Bool → Bool
 castles p a b kingside =
     (a == king_home p.side) && (b == castling_goal p.side kingside) && castling_right p.rights p.side kingside
