@@ -1,16 +1,16 @@
 //! The legal moves of a chess position, and the position after each.
 #![tactic(auto)]
 
-pub mod after;
-pub mod castling;
-pub mod legality;
-pub mod list;
-pub mod next_position;
-pub mod outcome;
-pub mod passing;
-pub mod reach;
+mod after;
+mod castling;
+mod legality;
+mod list;
+mod next_position;
+mod outcome;
+mod passing;
+mod reach;
 
-pub use after::men_after;
+pub use after::is_castling;
 pub use legality::is_legal;
 pub use list::legal_moves;
 pub use next_position::play;

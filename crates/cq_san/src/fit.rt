@@ -7,7 +7,7 @@ ghost use Rattle.cq_san.specs.Reading.{only};
 use crate::fault::SanFault;
 use crate::parts::{Parts, Piece, PieceMove};
 use cq_geometry::{file, rank};
-use cq_moves::after::is_castling;
+use cq_moves::is_castling;
 use cq_position::{Man, Move, Position, Promotion, Side, is_same};
 
 /// The man of a side that is such a piece.

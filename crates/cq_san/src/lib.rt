@@ -3,10 +3,10 @@
 //! `specs/Spelling` says how a move is spelled, and where that is more lenient than the PGN standard; `specs/Fits` says which moves fit.
 #![tactic(auto)]
 
-pub mod fault;
-pub mod fit;
-pub mod parts;
-pub mod reading;
+mod fault;
+mod fit;
+mod parts;
+mod reading;
 
 pub use fault::SanFault;
 pub use parts::{Parts, Piece, PieceMove, parts_of};
