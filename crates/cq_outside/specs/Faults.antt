@@ -24,8 +24,3 @@ HasRefusalCause before now (Err NoMemory) = now ≡ before
 -- a count after a call that may fail: it rises by one where the call failed, up to the last value of a u64
 abbrev pub counted : {T E : Type 0} → ℕ → Result T E → ℕ
 counted before result = if is_ok result then before else min (before + 1) (2 ^ 64 - 1)
-
--- the two counts of a desk
-pub record FaultCounts : Type 0 where
-  pub reads : ℕ
-  pub opens : ℕ

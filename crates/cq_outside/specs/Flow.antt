@@ -10,7 +10,7 @@ Grew old None bytes = Unit {0}
 Grew None (Some new) bytes = ⊥
 Grew (Some old) (Some new) bytes = new ≡ old ++ bytes
 
--- what one write of these bytes did: as many as it answered were taken from the front; a failed write took nothing
+-- what one write of these bytes did: as many as it answered were taken from the start; a failed write took nothing
 abbrev pub WriteTakes : {E : Type 0} → Option (List ℕ) → Option (List ℕ) → Result ℕ E → List ℕ → Type 0
 WriteTakes old new result bytes =
     MatchResult result (λ n. Grew old new (take n bytes)) (λ _. Grew old new [])
@@ -21,7 +21,7 @@ pub record TakesAtMost (most : ℕ) (old new : Option (List ℕ)) : Type 0 where
   pub takes : Consumes old new bytes
   pub few : length bytes ≤ most
 
--- how much a refused call has taken at most, after a fault and where memory was wanted
+-- how much a refused call has taken at most, after a fault and where it is out of memory
 abbrev pub most_taken : {F : Type 0} → Refusal F → ℕ → ℕ → ℕ
 most_taken (Fault _) fault memory = fault
 most_taken NoMemory fault memory = memory

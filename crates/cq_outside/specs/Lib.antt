@@ -1,3 +1,4 @@
+pub mod Edge
 pub mod Faults
 pub mod Flow
 pub mod Kept

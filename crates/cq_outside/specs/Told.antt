@@ -18,7 +18,7 @@ pub record Told : Type 0 where
 abbrev pub bytes_of : Files → List ℕ → List ℕ
 bytes_of files name = unwrap_or (get files name) []
 
--- What opening a name did: it stands behind the names opened before, the files are the same,
+-- What opening a name did: it stands after the names opened before, the files are the same,
 -- and the bytes left are those of the file.
 abbrev pub Opens : Option Told → Option Told → List ℕ → Option (List ℕ) → Type 0
 Opens None new name left = new ≡ None

@@ -1,5 +1,7 @@
 //! A list of bytes that grows.
-ghost use Rattle.std.specs.Prelude.{◌≡◌, ◌++◌, ◌==◌, List, [], ℕ, length, IfOk, OnOk, OnErr};
+ghost use Rattle.std.specs.Prelude.{◌≡◌, ◌++◌, ◌==◌, ◌↔◌, List, [], ℕ, length, nat_eq, IfOk, OnOk, OnErr, IsTrue};
+ghost use Rattle.std.specs.Cmp.{partial_equiv_from_equiv};
+ghost use Rattle.std.specs.Cmp.Lexicographic.{pointwise, nat_list_eq_equiv};
 ghost use Rattle.std.specs.Fmt.{signed_decimal};
 
 use crate::faults::NoMemory;
@@ -17,6 +19,24 @@ impl Model for Bytes {
     ghost Value = { List ℕ };
 
     ghost view = { λ b. b.bytes.items };
+}
+
+impl PartialEq for Bytes {
+    ghost eq = { pointwise nat_eq };
+
+    ghost laws = { partial_equiv_from_equiv nat_list_eq_equiv };
+
+    /// Whether both are the same list.
+    fn eq(&self, other: &Bytes) -> bool
+        ensures value { result ≡ pointwise nat_eq self.now other.now }
+        ensures same { IsTrue result ↔ (self.now ≡ other.now) }
+    {
+        self.as_slice() == other.as_slice()
+    }
+}
+
+impl Eq for Bytes {
+    ghost laws = { nat_list_eq_equiv };
 }
 
 impl Bytes {
@@ -68,7 +88,7 @@ impl Bytes {
         Ok(())
     }
 
-    /// Adds the decimal digits of `n` at the end, behind a minus sign where it is below 0.
+    /// Adds the decimal digits of `n` at the end, after a minus sign where it is below 0.
     pub fn push_number(&mut self, n: i64) -> Result<(), NoMemory>
         ensures ok { OnOk result (self.new ≡ self.old ++ signed_decimal n) }
         ensures err { OnErr result (self.new ≡ self.old) }

@@ -1,7 +1,10 @@
-//! The trusted edge: a desk over the real files, and a sink over a real stream. Neither tells its bytes.
-//! An interrupted call counts as failed, as any other error does.
+//! The trusted edge: a desk over the real files, and a sink over a real stream. They tell their bytes as far as the
+//! readers and the writer that they stand on tell theirs. An interrupted call counts as failed, as any other error does.
 ghost use Rattle.std.specs.Prelude.{◌≡◌, ◌≤◌, ◌<◌, None, length, codes, IfOk, IsOk, OnOk, OnErr, IsSome, IsUtf8};
-ghost use Rattle.cq_outside.specs.Faults.{FaultCounts, HasCause, counted};
+ghost use Rattle.std.specs.Io.KnownBytes.{ReadConsumes, WriteAppends};
+ghost use Rattle.cq_outside.specs.Edge.{left_of, with_left, IsOpened};
+ghost use Rattle.cq_outside.specs.Faults.{HasCause, counted};
+ghost use Rattle.cq_outside.specs.declared.edge.Current.TheVariants.{Nothing};
 
 use crate::desk::Desk;
 use crate::faults::{Failed, NoMemory, OpenFault};
@@ -25,7 +28,8 @@ enum Current<F> {
 }
 
 /// A desk over the real files, which opens the name `-` as standard input. A name that is not UTF-8 has no
-/// file. Contracts see its counts of faults, each of which stops at the last value of a `u64`.
+/// file. Contracts see its counts of faults, each of which stops at the last value of a `u64`, what is open, and the
+/// bytes left of it and of standard input, where their readers tell them.
 #[derive(Drop)]
 pub struct FileDesk<R: Files + Drop, I: Read + Drop> {
     files: R,
@@ -36,18 +40,24 @@ pub struct FileDesk<R: Files + Drop, I: Read + Drop> {
 }
 
 impl<R: Files + Drop, I: Read + Drop> Model for FileDesk<R, I> {
-    ghost use Rattle.cq_outside.specs.Faults.{FaultCounts};
+    ghost use Rattle.cq_outside.specs.Edge.{RealDesk};
+    ghost use Rattle.cq_outside.specs.declared.edge.Current.TheVariants.{Nothing, Input, File};
 
-    ghost Value = { FaultCounts };
+    ghost Value = { RealDesk };
 
-    ghost view = { λ d. record { reads = d.read_faults; opens = d.open_faults } };
+    ghost view = { λ d. record {
+      reads = d.read_faults;
+      opens = d.open_faults;
+      input = I.remaining d.input;
+      current = elim d.current [ Nothing ↦ Nothing | Input ↦ Input | File file ↦ File (R.File.remaining file) ];
+    } };
 }
 
 impl<R: Files + Drop, I: Read + Drop> FileDesk<R, I> {
-    /// A desk on which no file is open, over the runtime's files and its standard input. It may be refused for
-    /// want of memory alone, of which this form takes none.
+    /// A desk on which nothing is open, over the runtime's files and its standard input. It takes no memory, and so
+    /// is never refused.
     pub fn new(_alloc: Global, files: R, input: I) -> Result<FileDesk<R, I>, NoMemory>
-        ensures { IfOk result (λ desk. desk ≡ record { reads = 0; opens = 0 }) }
+        ensures { result ≡ Ok (record { reads = 0; opens = 0; input = I.remaining input; current = Nothing }) }
     {
         Ok(FileDesk {
             files,
@@ -60,7 +70,7 @@ impl<R: Files + Drop, I: Read + Drop> FileDesk<R, I> {
 }
 
 impl<R: Files + Drop, I: Read + Drop> Source for FileDesk<R, I> {
-    ghost left = { λ _. None };
+    ghost left = { left_of };
 
     ghost faults = { λ d. d.reads };
 
@@ -68,8 +78,9 @@ impl<R: Files + Drop, I: Read + Drop> Source for FileDesk<R, I> {
 
     fn read(&mut self, buf: &mut [u8]) -> Result<usize, Failed>
         ensures bound { IfOk result (λ n. n ≤ length buf.old) }
+        ensures bytes { ReadConsumes (left_of self.old) (left_of self.new) result buf.new }
         ensures cause { HasCause self.old.reads self.new.reads result }
-        ensures counts { self.new ≡ record self.old { reads = counted self.old.reads result } }
+        ensures same { self.new ≡ with_left (record self.old { reads = counted self.old.reads result }) (left_of self.new) }
     {
         let moved = match &mut self.current {
             Current::Nothing => Ok(0),
@@ -102,7 +113,9 @@ impl<R: Files + Drop, I: Read + Drop> Desk for FileDesk<R, I> {
         ensures text { OnOk result (IsUtf8 name.now) }
         ensures failed { OnErr result (result ≡ Err OpenFault.Failed) }
         ensures cause { HasCause self.old.opens self.new.opens result }
-        ensures counts { self.new ≡ record self.old { opens = counted self.old.opens result } }
+        ensures opened { OnOk result (IsOpened name.now self.new.current) }
+        ensures same { self.new ≡ record self.old { opens = counted self.old.opens result; current = self.new.current } }
+        ensures kept { OnErr result (self.new.current ≡ self.old.current) }
     {
         if name == STANDARD_INPUT {
             self.current = Current::Input;
@@ -131,7 +144,8 @@ fn file_named<R: Files>(files: &R, name: &[u8]) -> Option<R::File>
     fs::open(files, path).ok()
 }
 
-/// A sink over a real stream. Contracts see its count of faults, which stops at the last value of a `u64`.
+/// A sink over a real stream. Contracts see its count of faults, which stops at the last value of a `u64`, and the
+/// bytes that the stream holds, where it tells them.
 #[derive(Drop)]
 pub struct StdSink<W: Write + Drop> {
     stream: W,
@@ -139,17 +153,17 @@ pub struct StdSink<W: Write + Drop> {
 }
 
 impl<W: Write + Drop> Model for StdSink<W> {
-    ghost use Rattle.std.specs.Prelude.{ℕ};
+    ghost use Rattle.cq_outside.specs.Edge.{RealSink};
 
-    ghost Value = { ℕ };
+    ghost Value = { RealSink };
 
-    ghost view = { λ s. s.faults };
+    ghost view = { λ s. record { faults = s.faults; contents = W.contents s.stream } };
 }
 
 impl<W: Write + Drop> StdSink<W> {
-    /// A sink over this stream. It may be refused for want of memory alone, of which this form takes none.
+    /// A sink over this stream. It takes no memory, and so is never refused.
     pub fn new(_alloc: Global, stream: W) -> Result<StdSink<W>, NoMemory>
-        ensures { IfOk result (λ sink. sink ≡ 0) }
+        ensures { result ≡ Ok (record { faults = 0; contents = W.contents stream }) }
     {
         Ok(StdSink { stream, faults: 0 })
     }
@@ -158,14 +172,15 @@ impl<W: Write + Drop> StdSink<W> {
 impl<W: Write + Drop> Sink for StdSink<W> {
     ghost taken = { λ _. None };
 
-    ghost faults = { λ s. s };
+    ghost faults = { λ s. s.faults };
 
     /// A write that takes none of the bytes that there are fails.
     fn write(&mut self, bytes: &[u8]) -> Result<usize, Failed>
         ensures bound { IfOk result (λ n. n ≤ length bytes.now) }
         ensures moves { IfOk result (λ n. 0 < length bytes.now → 0 < n) }
-        ensures cause { HasCause self.old self.new result }
-        ensures counts { self.new ≡ counted self.old result }
+        ensures bytes { WriteAppends self.old.contents self.new.contents result bytes.now }
+        ensures cause { HasCause self.old.faults self.new.faults result }
+        ensures counts { self.new.faults ≡ counted self.old.faults result }
     {
         match self.stream.write(bytes) {
             Ok(n) if n > 0 || bytes.is_empty() => Ok(n),

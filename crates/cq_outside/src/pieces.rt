@@ -75,8 +75,7 @@ fn append_piece<S: Source>(
     }
 }
 
-/// Writes until all of `bytes` is taken or a write fails. After a failure the sink has taken bytes from the
-/// front of `bytes` alone.
+/// Writes until all of `bytes` is taken or a write fails. After a failure the sink has taken a prefix of `bytes`.
 pub fn write_all_of<S: Sink>(sink: &mut S, bytes: &[u8]) -> Result<(), Failed>
     ensures ok { OnOk result (Grew (S.taken sink.old) (S.taken sink.new) bytes.now) }
     ensures err { OnErr result ((k : ℕ) × Grew (S.taken sink.old) (S.taken sink.new) (take k bytes.now)) }

@@ -13,7 +13,7 @@ pub trait Sink {
     /// How often a write has failed.
     ghost faults: { Self → ℕ };
 
-    /// Takes some of `bytes` from the front, and answers how many, at least 1 where there are any.
+    /// Takes a prefix of `bytes`, and answers how many, at least 1 where there are any.
     /// A write that fails takes nothing.
     fn write(&mut self, bytes: &[u8]) -> Result<usize, Failed>
         ensures bound { IfOk result (λ n. n ≤ length bytes.now) }

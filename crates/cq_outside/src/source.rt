@@ -16,7 +16,7 @@ pub trait Source {
     /// Which states may follow from a state by reads, none included.
     ghost follows: { Self → Self → Type 0 };
 
-    /// Moves some of the bytes left to the front of `buf`, and answers how many. It answers 0 for a buffer
+    /// Moves some of the bytes left to the start of `buf`, and answers how many. It answers 0 for a buffer
     /// that is not empty only where nothing is left. A read that fails takes nothing.
     fn read(&mut self, buf: &mut [u8]) -> Result<usize, Failed>
         ensures bound { IfOk result (λ n. n ≤ length buf.old) }

@@ -1,6 +1,8 @@
 //! A desk of files in memory that never fails.
-ghost use Rattle.std.specs.Prelude.{◌≡◌, ◌≢◌, ◌<◌, ◌++◌, List, [], ℕ, Some, length, take, slice_index_or, All, IfNone, IfSome, IfOk, OnOk, OnErr};
+ghost use Rattle.std.specs.Prelude.{◌≡◌, ◌≢◌, ◌<◌, ◌≤◌, ◌++◌, List, [], ℕ, Some, length, min, take, slice_index_or, All, IfNone, IfSome, IfOk, OnOk, OnErr};
+ghost use Rattle.std.specs.Io.KnownBytes.{ReadConsumes};
 ghost use Rattle.std.specs.FinMap as map;
+ghost use Rattle.cq_outside.specs.Faults.{HasCause};
 ghost use Rattle.cq_outside.specs.Told.{KnownDesk, told_of, bytes_of};
 
 use crate::bytes::Bytes;
@@ -93,7 +95,15 @@ impl Source for SureDesk {
 
     ghost follows = { λ s t. (told_of t ≡ told_of s) × ((bytes : List ℕ) × (s.left ≡ bytes ++ t.left)) };
 
-    fn read(&mut self, buf: &mut [u8]) -> Result<usize, Failed> {
+    /// Moves as many bytes as are left and fit `buf`.
+    fn read(&mut self, buf: &mut [u8]) -> Result<usize, Failed>
+        ensures fills { result ≡ Ok (min (length self.old.left) (length buf.old)) }
+        ensures bound { IfOk result (λ n. n ≤ length buf.old) }
+        ensures bytes { ReadConsumes (Some self.old.left) (Some self.new.left) result buf.new }
+        ensures cause { HasCause 0 0 result }
+        ensures same { self.new ≡ record self.old { left = self.new.left } }
+        ensures next { (bytes : List ℕ) × (self.old.left ≡ bytes ++ self.new.left) }
+    {
         self.current.read(buf)
     }
 

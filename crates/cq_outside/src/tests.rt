@@ -30,7 +30,7 @@ fn numbers_are_written_in_decimal(rt: HostRuntime) -> Result<(), Fail> {
     for (n, text) in rows {
         let mut bytes = Bytes::new(rt.alloc());
         bytes.push_number(n)?;
-        assert_eq!(rt; bytes.as_slice(), text);
+        assert_eq!(rt; bytes, Bytes::from_slice(rt.alloc(), text)?);
     }
     Ok(())
 }

@@ -12,7 +12,7 @@ pub fn is_white(b: u8) -> bool
     matches!(b, 0x09..=0x0d | b' ')
 }
 
-/// How many bytes at the front of a text are white space.
+/// How many bytes at the start of a text are white space.
 pub fn white_len(text: &[u8]) -> usize
     ensures value { result ≡ prefix_len is_white text.now }
     ensures within { result ≤ length text.now }
@@ -20,7 +20,7 @@ pub fn white_len(text: &[u8]) -> usize
     text.iter().take_while(|b| is_white(**b)).count()
 }
 
-/// How many digits stand at the front of a text.
+/// How many digits stand at the start of a text.
 #[tactic(auto, using(crate::proofs::Digits::front_digits))]
 pub fn digits_len(text: &[u8]) -> usize
     ensures value { result ≡ prefix_len is_ascii_digit text.now }
