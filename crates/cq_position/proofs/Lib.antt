@@ -1,3 +1,4 @@
+mod GameRows
 mod LegalRows
 mod Rows
 pub mod Joined
