@@ -1,3 +1,5 @@
+pub mod Trees
+pub mod Ancestors
 mod GameRows
 mod LegalRows
 mod Rows

@@ -1,5 +1,5 @@
 -- A game as plain data: its tags, its result, and the tree of its positions (PGN standard, section 8).
-use Rattle.std.specs.Prelude.{◌≡◌, ℕ, zero, suc, ◌+◌, ◌-◌, ◌<◌, ◌≤◌, ◌==◌, ◌&&◌, ◌||◌, nat_lt, Bool, true, false, List, [], ◌∷◌, ◌++◌, length, flat_map, filter, Option, Some, None, option_to_list, slice_index_or, Contains}
+use Rattle.std.specs.Prelude.{◌≡◌, ℕ, zero, suc, ◌+◌, ◌-◌, ◌<◌, ◌≤◌, ◌==◌, ◌&&◌, ◌||◌, nat_lt, Bool, true, false, List, [], ◌∷◌, ◌++◌, length, filter, Option, Some, None, slice_index_or, Contains}
 use Rattle.std.specs.List.{find, list_all, list_any, range_with_len}
 use Rattle.cq_position.specs.declared.games.GameResult.{GameResult}
 use Rattle.cq_position.specs.declared.moves.Move.{Move}
@@ -65,14 +65,15 @@ is_first_child_of nodes (Some p) n = is_number (first_child nodes p) n
 abbrev pub is_first_child : List Node → ℕ → Bool
 is_first_child nodes n = is_first_child_of nodes (node_at nodes n).parent n
 
--- n, its parent, and so on, at most so many nodes
-abbrev pub way_up_within : ℕ → List Node → ℕ → List ℕ
-way_up_within zero nodes n = []
-way_up_within (suc most) nodes n = n ∷ flat_map (way_up_within most nodes) (option_to_list (node_at nodes n).parent)
+-- a node, its parent, and so on, at most so many
+abbrev pub up_from : ℕ → List Node → Option ℕ → List ℕ
+up_from zero nodes n = []
+up_from (suc most) nodes None = []
+up_from (suc most) nodes (Some n) = n ∷ up_from most nodes (node_at nodes n).parent
 
 -- the way up from n: itself, its parent, and so on, up to the root; as parents come first it has at most n + 1 nodes
 unfoldable pub way_up : List Node → ℕ → List ℕ
-way_up nodes n = way_up_within (n + 1) nodes n
+way_up nodes n = up_from (n + 1) nodes (Some n)
 
 -- n or a descendant of it
 abbrev pub is_below : List Node → ℕ → ℕ → Bool
@@ -113,6 +114,12 @@ pub record IsPathUp (variations primary : Bool) (nodes : List Node) (n : ℕ) (p
   pub later : List ℕ
   pub begins : path ≡ n ∷ later
   pub goes : Along (λ k m. IsStep variations primary nodes m k) n later
+
+-- the same node but for its numeric annotation glyphs and comments
+pub record IsSamePlace (a b : Node) : Type 0 where
+  pub parent : a.parent ≡ b.parent
+  pub led_by : a.led_by ≡ b.led_by
+  pub position : a.position ≡ b.position
 
 -- the root has no parent, and no move led to it
 pub record IsRoot (node : Node) : Type 0 where
