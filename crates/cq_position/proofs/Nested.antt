@@ -14,7 +14,7 @@ IsElsewhere parent n = is_number n.parent parent ≡ false
 is_number_self : (o : Option ℕ) (p : ℕ) → o ≡ Some p → is_number o p ≡ true
 is_number_self o p is = ap (λ x. is_number x p) is ∙ eq-eqb p p refl
 
-is_number_other : (o : Option ℕ) (p q : ℕ) → o ≡ Some q → q ≢ p → is_number o p ≡ false
+pub is_number_other : (o : Option ℕ) (p q : ℕ) → o ≡ Some q → q ≢ p → is_number o p ≡ false
 is_number_other o p q is differ = ap (λ x. is_number x p) is ∙ false_from_ne_true (q == p) (λ e. differ (eqb-true q p e))
 
 skip_by : (t : Bool) (c d : Continuations) → t ≡ false → cond t c d ≡ d
@@ -99,7 +99,7 @@ elsewhere of parent k c other before =
 pub record IsOutside (parent k n : ℕ) (node : Node) : Type 0 where
   pub other : (q : ℕ) → node.parent ≡ Some q → (q ≢ parent) × ((q < k) ⊎ (k + n ≤ q))
 
-by_parent : (of : ℕ) (n : Node) (o : Option ℕ) → n.parent ≡ o → ((q : ℕ) → o ≡ Some q → q ≢ of) → IsElsewhere of n
+pub by_parent : (of : ℕ) (n : Node) (o : Option ℕ) → n.parent ≡ o → ((q : ℕ) → o ≡ Some q → q ≢ of) → IsElsewhere of n
 unfolding IsElsewhere
 by_parent of n None is differ = ap (λ x. is_number x of) is
 by_parent of n (Some q) is differ = is_number_other n.parent of q is (differ q refl)
