@@ -1,3 +1,4 @@
+pub mod Following
 pub mod Preorder
 pub mod Nested
 pub mod Trees
