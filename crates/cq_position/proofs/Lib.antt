@@ -1,3 +1,9 @@
+pub mod Following
+pub mod Preorder
+pub mod Nested
+pub mod Trees
+pub mod Ancestors
+mod GameRows
 mod LegalRows
 mod Rows
 pub mod Joined

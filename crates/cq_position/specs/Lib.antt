@@ -10,3 +10,5 @@ pub mod Reading
 pub mod Legal
 pub mod Bitboards
 pub mod FenText
+pub mod Games
+pub mod Continuations

@@ -6,6 +6,7 @@
 
 pub mod attacks;
 pub mod fen;
+pub mod games;
 pub mod home;
 pub mod men;
 pub mod moves;
@@ -13,6 +14,7 @@ pub mod position;
 
 pub use attacks::{attacks_from, in_check};
 pub use fen::{FenFault, fen_text, read_fen};
+pub use games::GameResult;
 pub use men::{
     Man, Promotion, Side, is_of_side, is_same, king_of, letter_of, man_of_letter, opponent, rook_of,
 };

@@ -1,0 +1,145 @@
+-- A game as plain data: its tags, its result, and the tree of its positions (PGN standard, section 8).
+use Rattle.std.specs.Prelude.{◌≡◌, ℕ, zero, suc, ◌+◌, ◌-◌, ◌<◌, ◌≤◌, ◌==◌, ◌&&◌, ◌||◌, nat_lt, Bool, true, false, List, [], ◌∷◌, ◌++◌, length, filter, Option, Some, None, slice_index_or, Contains}
+use Rattle.std.specs.List.{find, list_all, list_any, range_with_len}
+use Rattle.cq_position.specs.declared.games.GameResult.{GameResult}
+use Rattle.cq_position.specs.declared.moves.Move.{Move}
+use Rattle.cq_position.specs.Board.{Board, start_board}
+use Rattle.cq_position.specs.Legal.{Leads}
+
+-- A node is a position of a game. It has the number of the node before it and the move that led from there, which the root has not, and
+-- the numeric annotation glyphs (section 8.2.4) and the comments (section 5) that belong to the move; the root's comments belong to the game.
+pub record Node : Type 0 where
+  pub parent : Option ℕ
+  pub led_by : Option Move
+  pub position : Board
+  pub nags : List ℕ
+  pub comments : List (List ℕ)
+
+-- A game: the names and values of its tags (section 8.1) in the order in which each name first stands, values without the backslashes that
+-- escape a byte; its result; and its nodes, numbered from 0. The root, number 0, has the starting position.
+pub record Game : Type 0 where
+  pub tags : List (List ℕ × List ℕ)
+  pub result : GameResult
+  pub nodes : List Node
+
+-- what stands for a node that isn't there
+abbrev pub no_node : Node
+no_node = record { parent = None; led_by = None; position = start_board; nags = []; comments = [] }
+
+abbrev pub node_at : List Node → ℕ → Node
+node_at nodes n = slice_index_or nodes n no_node
+
+-- the numbers of the nodes
+abbrev pub numbers : List Node → List ℕ
+numbers nodes = range_with_len 0 (length nodes)
+
+-- there is a number, and it is n
+abbrev pub is_number : Option ℕ → ℕ → Bool
+is_number None n = false
+is_number (Some m) n = m == n
+
+-- the children of a node are those whose parent it is: the moves played after its position, the first of them in the line itself and the
+-- others as variations (section 8.2.5)
+abbrev pub is_child_of : List Node → ℕ → ℕ → Bool
+is_child_of nodes n k = is_number (node_at nodes k).parent n
+
+unfoldable pub children : List Node → ℕ → List ℕ
+children nodes n = filter (is_child_of nodes n) (numbers nodes)
+
+unfoldable pub first_child : List Node → ℕ → Option ℕ
+first_child nodes n = find (is_child_of nodes n) (numbers nodes)
+
+-- siblings have the same parent; the next sibling is the first that comes later
+abbrev pub is_later_sibling : List Node → Option ℕ → ℕ → ℕ → Bool
+is_later_sibling nodes None n k = false
+is_later_sibling nodes (Some p) n k = nat_lt n k && is_child_of nodes p k
+
+unfoldable pub next_sibling : List Node → ℕ → Option ℕ
+next_sibling nodes n = find (is_later_sibling nodes (node_at nodes n).parent n) (numbers nodes)
+
+-- whether a node is the first child of its parent
+abbrev pub is_first_child_of : List Node → Option ℕ → ℕ → Bool
+is_first_child_of nodes None n = false
+is_first_child_of nodes (Some p) n = is_number (first_child nodes p) n
+
+abbrev pub is_first_child : List Node → ℕ → Bool
+is_first_child nodes n = is_first_child_of nodes (node_at nodes n).parent n
+
+-- a node, its parent, and so on, at most so many
+abbrev pub up_from : ℕ → List Node → Option ℕ → List ℕ
+up_from zero nodes n = []
+up_from (suc most) nodes None = []
+up_from (suc most) nodes (Some n) = n ∷ up_from most nodes (node_at nodes n).parent
+
+-- the way up from n: itself, its parent, and so on, up to the root; as parents come first it has at most n + 1 nodes
+unfoldable pub way_up : List Node → ℕ → List ℕ
+way_up nodes n = up_from (n + 1) nodes (Some n)
+
+-- n or a descendant of it
+abbrev pub is_below : List Node → ℕ → ℕ → Bool
+is_below nodes n k = list_any (λ m. m == n) (way_up nodes k)
+
+-- the main line: the root and the first children that follow it
+abbrev pub is_main : List Node → ℕ → Bool
+is_main nodes n = list_all (λ m. (m == 0) || is_first_child nodes m) (way_up nodes n)
+
+unfoldable pub main_line : List Node → List ℕ
+main_line nodes = filter (is_main nodes) (numbers nodes)
+
+-- the searched tree: with variations all nodes, else the main line
+abbrev pub is_searched : Bool → List Node → ℕ → Bool
+is_searched variations nodes n = variations || is_main nodes n
+
+unfoldable pub searched : Bool → List Node → List ℕ
+searched variations nodes = filter (is_searched variations nodes) (numbers nodes)
+
+-- a step down goes from a node to a child of it in the searched tree, with `primary` to its first child alone
+pub record IsStep (variations primary : Bool) (nodes : List Node) (n k : ℕ) : Type 0 where
+  pub child : (node_at nodes k).parent ≡ Some n
+  pub is_in : is_searched variations nodes k ≡ true
+  pub first : primary ≡ true → is_first_child nodes k ≡ true
+
+-- a way along a relation, from n on
+abbrev pub Along : (ℕ → ℕ → Type 0) → ℕ → List ℕ → Type 0
+Along step n [] = Unit {0}
+Along step n (m ∷ ms) = step n m × Along step m ms
+
+-- the paths down from n are of such steps, and the paths up of the same steps backwards
+pub record IsPathDown (variations primary : Bool) (nodes : List Node) (n : ℕ) (path : List ℕ) : Type 0 where
+  pub later : List ℕ
+  pub begins : path ≡ n ∷ later
+  pub goes : Along (IsStep variations primary nodes) n later
+
+pub record IsPathUp (variations primary : Bool) (nodes : List Node) (n : ℕ) (path : List ℕ) : Type 0 where
+  pub later : List ℕ
+  pub begins : path ≡ n ∷ later
+  pub goes : Along (λ k m. IsStep variations primary nodes m k) n later
+
+-- the same node but for its numeric annotation glyphs and comments
+pub record IsSamePlace (a b : Node) : Type 0 where
+  pub parent : a.parent ≡ b.parent
+  pub led_by : a.led_by ≡ b.led_by
+  pub position : a.position ≡ b.position
+
+-- the root has no parent, and no move led to it
+pub record IsRoot (node : Node) : Type 0 where
+  pub parent : node.parent ≡ None
+  pub led_by : node.led_by ≡ None
+
+-- Every other node comes after its parent, from whose position a legal move or an allowed null move led to its own. The order is preorder:
+-- the parent is the node just before it, or an ancestor of that node.
+pub record IsChild (nodes : List Node) (n : ℕ) : Type 0 where
+  pub number : ℕ
+  pub move : Move
+  pub parent : (node_at nodes n).parent ≡ Some number
+  pub led_by : (node_at nodes n).led_by ≡ Some move
+  pub after : number < n
+  pub leads : Leads (node_at nodes number).position move (node_at nodes n).position
+  pub preorder : Contains (way_up nodes (n - 1)) number
+
+-- the nodes of a game: the root, and its descendants in preorder, at most 65,536 in all
+pub record IsTree (nodes : List Node) : Type 0 where
+  pub rooted : 0 < length nodes
+  pub few : length nodes ≤ 65536
+  pub root : IsRoot (node_at nodes 0)
+  pub children : (n : ℕ) → 0 < n → n < length nodes → IsChild nodes n
