@@ -8,3 +8,11 @@ pub mod SignsRead
 pub mod Grammar
 pub mod Meaning
 pub mod Rows
+pub mod Origin
+pub mod Writing
+pub mod PawnOrigin
+pub mod Alone
+pub mod Others
+pub mod Room
+pub mod Means
+pub mod Signs

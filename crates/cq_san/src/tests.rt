@@ -170,3 +170,41 @@ fn no_side_passes_in_check(rt: HostRuntime) -> Result<(), Fail> {
         ],
     )
 }
+
+// Each text is read, and the move that it means is written.
+fn check_written(rt: &impl Abort, fen: &[u8], rows: &[(&[u8], &str)]) -> Result<(), Fail> {
+    let position = read_fen(fen)?;
+    for (text, wanted) in rows {
+        let m = read_san(&position, text)?;
+        let written = san_text(&position, m);
+        assert_eq!(rt; written.as_str(), *wanted, "at {text:?}");
+    }
+    Ok(())
+}
+
+#[test]
+fn texts_that_are_written(rt: HostRuntime) -> Result<(), Fail> {
+    check_written(
+        &rt,
+        START,
+        &[(b"e2e4", "e4"), (b"Ng1-f3", "Nf3"), (b"--", "--")],
+    )?;
+    check_written(
+        &rt,
+        b"4r2k/8/8/8/4N3/8/8/1N2K3 w - - 0 1",
+        &[(b"Nd2", "Nd2")],
+    )?;
+    check_written(&rt, b"7k/P7/8/8/8/8/8/K7 w - - 0 1", &[(b"a8Q", "a8=Q+")])?;
+    check_written(
+        &rt,
+        b"r3k2r/8/8/3pP3/8/8/8/R3K2R w KQkq d6 0 1",
+        &[
+            (b"0-0", "O-O"),
+            (b"0-0-0", "O-O-O"),
+            (b"ed6", "exd6"),
+            (b"e6", "e6"),
+            (b"Rh1xh8", "Rxh8+"),
+            (b"Rf1", "Rf1"),
+        ],
+    )
+}
