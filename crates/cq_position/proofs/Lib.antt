@@ -1,6 +1,8 @@
 mod LegalRows
 mod Rows
+pub mod Equality
 pub mod Joined
+pub mod Legality
 pub mod Marked
 pub mod Numbers
 pub mod Placed
