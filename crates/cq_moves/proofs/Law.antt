@@ -1,6 +1,6 @@
 -- The test of legality and its parts.
-use Rattle.std.proofs.Common.{◌≡◌, ℕ, ◌<◌, true, false, not, ◌&&◌, ◌↔◌, ltb, List, length, refl, inl, inr, sym, ap, ◌∙◌, arith}
-use Rattle.std.proofs.lemmas.Bool.{and_parts, and_from, not-true, not_from_false, ltb-true, lt-ltb, cases_lt, false≢true}
+use Rattle.std.proofs.Common.{◌≡◌, ℕ, ◌<◌, true, false, not, ◌&&◌, ltb, List, length, refl, inl, inr, sym, ap, ◌∙◌, arith}
+use Rattle.std.proofs.lemmas.Bool.{and_parts, not-true, ltb-true, lt-ltb, cases_lt, false≢true}
 use Rattle.std.proofs.lemmas.List.{get_or_past}
 use Rattle.cq_position.specs.declared.men.Man.{Man}
 use Rattle.cq_position.specs.declared.men.Man.TheVariants.{Empty}
@@ -9,26 +9,8 @@ use Rattle.cq_position.specs.declared.men.Side.TheVariants.{White, Black}
 use Rattle.cq_position.specs.declared.moves.Move.{Move}
 use Rattle.cq_position.specs.Men.{is_of_side, opponent, king_of}
 use Rattle.cq_position.specs.Board.{Board, man_at, stands}
-use Rattle.cq_position.specs.Attacks.{in_check}
-use Rattle.cq_position.specs.Legal.{goes_as, reaches, promotion_is_right, is_pseudo_legal, men_after, after, Legal}
-use Rattle.cq_moves.specs.Legality.{is_safe, legal_test}
-
--- what passes the test is legal
-pub test_leads : (p : Board) (m : Move) → legal_test p m ≡ true → Legal p m (after p m)
-unfolding legal_test after
-test_leads p m h =
-    let both = and_parts (is_pseudo_legal p m) (is_safe p m) h in
-    record { moves = both.0; leads = refl; safe = not-true (in_check (men_after p m) p.side) both.1 }
-
--- what is legal passes the test
-pub legal_passes : (p : Board) (m : Move) (q : Board) → Legal p m q → legal_test p m ≡ true
-unfolding legal_test after
-legal_passes p m q l =
-    let safe : in_check (men_after p m) p.side ≡ false = ap (λ (b : Board). in_check b.men p.side) (sym l.leads) ∙ l.safe in
-    and_from (is_pseudo_legal p m) (is_safe p m) l.moves (not_from_false (in_check (men_after p m) p.side) safe)
-
-pub legal_law : (p : Board) (m : Move) → (legal_test p m ≡ true) ↔ ((q : Board) × Legal p m q)
-legal_law p m = (λ h. (after p m, test_leads p m h), λ l. legal_passes p m l.0 l.1)
+use Rattle.cq_position.specs.Legal.{goes_as, reaches, promotion_is_right, is_pseudo_legal}
+use Rattle.cq_position.specs.Legality.{is_safe, legal_test}
 
 -- a move that can be made has squares of the board, and isn't the null move
 pub record IsOnBoard (m : Move) : Type 0 where

@@ -21,7 +21,7 @@ use Rattle.cq_position.specs.Board.{Board, man_at, count_of_side, has_too_many_m
 use Rattle.cq_position.specs.Position.{IsPosition}
 use Rattle.cq_position.specs.Attacks.{is_occupied, attacks, attacks_as, is_pawn_attack}
 use Rattle.cq_position.specs.Legal.{goes_as, is_none, pawn_promotion_is_right, is_single_step, is_double_step, castling_goal, castles, pawn_moves}
-use Rattle.cq_moves.specs.Legality.{legal_test}
+use Rattle.cq_position.specs.Legality.{legal_test}
 use Rattle.cq_moves.specs.LegalMoves.{moves_from, legal_from, legal_list}
 use Rattle.cq_moves.proofs.Lists.{filter-none, length-filter-within}
 use Rattle.cq_moves.proofs.Law.{what_moves, owned_on_board}

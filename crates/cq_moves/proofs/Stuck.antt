@@ -4,7 +4,7 @@ use Rattle.std.specs.List.{list_any}
 use Rattle.std.proofs.lemmas.Bool.{not-true, not_from_false, false_from_ne_true, false≢true}
 use Rattle.cq_position.specs.Board.{Board}
 use Rattle.cq_position.specs.Attacks.{in_check}
-use Rattle.cq_moves.specs.Legality.{legal_test}
+use Rattle.cq_position.specs.Legality.{legal_test}
 use Rattle.cq_moves.specs.LegalMoves.{all_moves}
 use Rattle.cq_moves.specs.Outcome.{HasLegalMove, IsMate, IsStalemate}
 use Rattle.cq_moves.proofs.Order.{passing_is_legal, legal_is_passing}

@@ -7,7 +7,7 @@ use Rattle.cq_position.specs.declared.men.Promotion.TheVariants.{None as NoPromo
 use Rattle.cq_position.specs.declared.moves.Move.{Move}
 use Rattle.cq_position.specs.Board.{Board}
 use Rattle.cq_position.specs.Men.{promotion_number}
-use Rattle.cq_moves.specs.Legality.{legal_test}
+use Rattle.cq_position.specs.Legality.{legal_test}
 
 -- no promotion, and those to a queen, a rook, a bishop and a knight
 abbrev pub promotions : List Promotion

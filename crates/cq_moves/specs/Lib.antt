@@ -1,3 +1,2 @@
-pub mod Legality
 pub mod LegalMoves
 pub mod Outcome

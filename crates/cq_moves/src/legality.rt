@@ -2,7 +2,7 @@
 ghost use Rattle.std.specs.Prelude.{◌≡◌, ◌↔◌, IsTrue};
 ghost use Rattle.cq_position.specs.Board.{Board};
 ghost use Rattle.cq_position.specs.Legal.{Legal};
-ghost use Rattle.cq_moves.specs.Legality as legality;
+ghost use Rattle.cq_position.specs.Legality as legality;
 
 use crate::after::men_after;
 use crate::reach::{promotion_is_right, reaches};
@@ -11,7 +11,7 @@ use cq_position::{Move, Position, attacks_from};
 
 /// Whether a move is legal in a position: the man can make it, and the king of its side isn't attacked then (FIDE Laws of Chess, articles
 /// 3.1 to 3.10.1). A null move is none.
-#[tactic(auto, using(crate::proofs::Law::legal_law))]
+#[tactic(auto, using(cq_position::proofs::Legality::legal_law))]
 pub fn is_legal(position: &Position, m: Move) -> bool
     ensures { IsTrue result ↔ ((q : Board) × Legal position.now m q) }
 {

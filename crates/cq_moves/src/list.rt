@@ -5,7 +5,7 @@ ghost use Rattle.cq_position.specs.declared.moves.Move.{Move as MoveValue};
 ghost use Rattle.cq_position.specs.Board.{Board};
 ghost use Rattle.cq_position.specs.Legal.{Legal};
 ghost use Rattle.cq_position.specs.Legal as legal;
-ghost use Rattle.cq_moves.specs.Legality.{legal_test};
+ghost use Rattle.cq_position.specs.Legality.{legal_test};
 ghost use Rattle.cq_moves.specs.LegalMoves.{legal_list, legal_from, legal_between, Precedes};
 
 use crate::legality::is_safe;

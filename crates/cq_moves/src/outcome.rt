@@ -4,7 +4,7 @@ ghost use Rattle.std.specs.List.{list_any};
 ghost use Rattle.cq_position.specs.Attacks as attack;
 ghost use Rattle.cq_position.specs.Bitboards.{IsBitboard};
 ghost use Rattle.cq_position.specs.Legal as legal;
-ghost use Rattle.cq_moves.specs.Legality.{legal_test};
+ghost use Rattle.cq_position.specs.Legality.{legal_test};
 ghost use Rattle.cq_moves.specs.LegalMoves.{all_moves, moves_from, moves_between, move_of};
 ghost use Rattle.cq_moves.specs.Outcome.{IsMate, IsStalemate};
 

@@ -6,7 +6,9 @@ pub mod Ancestors
 mod GameRows
 mod LegalRows
 mod Rows
+pub mod Equality
 pub mod Joined
+pub mod Legality
 pub mod Marked
 pub mod Numbers
 pub mod Placed

@@ -8,6 +8,7 @@ pub mod FenBytes
 pub mod Fen
 pub mod Reading
 pub mod Legal
+pub mod Legality
 pub mod Bitboards
 pub mod FenText
 pub mod Games

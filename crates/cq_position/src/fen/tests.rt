@@ -66,6 +66,38 @@ fn each_fault_is_answered(rt: HostRuntime) {
     }
 }
 
+#[test]
+fn faults_have_their_messages(rt: HostRuntime) -> Result<(), Fail> {
+    let rows: [(FenFault, &str); 10] = [
+        (FenFault::Fields, "not six fields, nor four"),
+        (
+            FenFault::Placement,
+            "the men do not fill eight ranks of eight squares",
+        ),
+        (FenFault::Side, "the side to move is neither w nor b"),
+        (
+            FenFault::Castling,
+            "the rights to castle are neither - nor letters of KQkq",
+        ),
+        (
+            FenFault::EnPassant,
+            "the en passant square is neither - nor a square of rank 3 or 6",
+        ),
+        (FenFault::Number, "a number is not 1 to 9 digits"),
+        (FenFault::Kings, "not one king of each side"),
+        (FenFault::PawnOnEdge, "a pawn on the first or the last rank"),
+        (FenFault::TooManyMen, "more than sixteen men of one side"),
+        (
+            FenFault::OpponentInCheck,
+            "the side not to move is in check",
+        ),
+    ];
+    for (fault, message) in rows {
+        assert_eq!(rt; format!(in rt.alloc(); "{fault}")?.as_str(), message);
+    }
+    Ok(())
+}
+
 // The last has every kind of run, a right of each side alone, and an en passant square.
 #[test]
 fn text_of_a_position_is_its_fen(rt: HostRuntime) -> Result<(), Fail> {

@@ -1,7 +1,7 @@
 use Rattle.std.proofs.Common.{ℕ, ap, sym, ◌∙◌, arith}
 use Rattle.std.specs.List.{list_any}
 use Rattle.cq_position.proofs.Whole.{any_from-start, any_from-here, any_from-next, any_from-end}
-use Rattle.cq_moves.specs.Legality.{legal_test}
+use Rattle.cq_position.specs.Legality.{legal_test}
 use Rattle.cq_moves.specs.LegalMoves.{moves_from}
 use Rattle.cq_moves.proofs.Parts.{any_parts}
 use Rattle.cq_moves.proofs.outcome.has_legal_move.Goals as goal

@@ -2,7 +2,7 @@ use Rattle.std.proofs.Common.{ℕ, ap, ap₂, sym, ◌∙◌, arith}
 use Rattle.std.specs.List.{list_any}
 use Rattle.cq_position.specs.Men.{is_of_side}
 use Rattle.cq_position.proofs.Whole.{any_from-start, any_from-here, any_from-next, any_from-end}
-use Rattle.cq_moves.specs.Legality.{legal_test}
+use Rattle.cq_position.specs.Legality.{legal_test}
 use Rattle.cq_moves.specs.LegalMoves.{moves_between}
 use Rattle.cq_moves.proofs.Parts.{any_from_parts}
 use Rattle.cq_moves.proofs.Room.{other_has_none}

@@ -1,7 +1,7 @@
 use Rattle.std.proofs.Common.{◌≡◌}
 use Rattle.std.specs.List.{list_any}
 use Rattle.cq_position.proofs.Whole.{any_from}
-use Rattle.cq_moves.specs.Legality.{legal_test}
+use Rattle.cq_position.specs.Legality.{legal_test}
 use Rattle.cq_moves.specs.LegalMoves.{moves_from, moves_between}
 use Rattle.cq_moves.proofs.outcome.has_legal_move_from.Given as goal
 

@@ -9,6 +9,6 @@ use Rattle.cq_position.specs.Legal.{is_pseudo_legal, men_after}
 abbrev pub is_safe : Board → Move → Bool
 is_safe p m = not (in_check (men_after p m) p.side)
 
--- whether a move is legal (article 3.10.1)
+-- whether a move is legal (article 3.10.1): true exactly where it leads to some position
 unfoldable pub legal_test : Board → Move → Bool
 legal_test p m = is_pseudo_legal p m && is_safe p m
