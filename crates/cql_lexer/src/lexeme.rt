@@ -35,8 +35,11 @@ fn file_name(alloc: Global, expected: Expected, text: &[u8]) -> Result<Option<Le
     ensures value { IfOk result (λ found. found ≡ file_name expected text.now) }
     ensures front { IfOk result (λ found. IfSome found (λ lexeme. IsFront lexeme text.now)) }
 {
+    if expected != Expected::FileName {
+        return Ok(None);
+    }
     let len = file_name_len(text);
-    if expected != Expected::FileName || len == 0 {
+    if len == 0 {
         return Ok(None);
     }
     let kind = QueryTokenKind::FileName(Bytes::from_slice(alloc, &text[..len])?);
