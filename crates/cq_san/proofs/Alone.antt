@@ -21,7 +21,8 @@ use Rattle.cq_position.specs.Moves.{null_move}
 use Rattle.cq_position.specs.Position.{IsPosition}
 use Rattle.cq_moves.specs.LegalMoves.{legal_list}
 use Rattle.cq_moves.proofs.Boards.{stands-is, stands_there, same_man-itself}
-use Rattle.cq_moves.proofs.Law.{Moves, what_moves, legal_passes}
+use Rattle.cq_moves.proofs.Law.{Moves, what_moves}
+use Rattle.cq_position.proofs.Legality.{legal_passes}
 use Rattle.cq_moves.proofs.Order.{legal_is_listed}
 use Rattle.cq_moves.proofs.Castled.{Castles, castles_when, castling_squares}
 use Rattle.cq_san.specs.declared.parts.Piece.{Piece}
