@@ -1,7 +1,7 @@
 -- The tree of a list is that of its items.
 use Rattle.std.proofs.Common.{◌≡◌, ℕ, ◌+◌, ◌<◌, List, [], ◌∷◌, ◌++◌, length, get_or, take, refl, sym, ◌∙◌, ap}
 use Rattle.std.proofs.lemmas.List.{take_more}
-use Rattle.cql_syntax.specs.Trees.{filter, more_filters, with_filter, more_terms, with_term, more_parts, with_part}
+use Rattle.cql_syntax.specs.Trees.{filter_at, more_filters, with_filter, more_terms, with_term, more_parts, with_part}
 use Rattle.cql_syntax.specs.TreeOf.{filter_tree, form_tree, body_tree, filters_tree, filter_row, filters_in, filter_trees, terms_tree, term_row, terms_in, term_trees, parts_tree, part_row, parts_in, part_trees}
 use Rattle.cql_syntax.specs.declared.tree.Constituent.{Constituent}
 use Rattle.cql_syntax.specs.declared.tree.Filter.{Filter}
@@ -12,11 +12,11 @@ use Rattle.cql_syntax.specs.declared.tree.Terms.{Terms, Terms', roll-Terms, out-
 
 filter_row_is : {n : _} (k : Row_of-Filter n) → filter_row k ≡ filter_trees (items-the_row-Filter n k)
 filter_row_is end_of-Filter = refl
-filter_row_is (more_of-Filter i f rest) = ap (more_filters (filter i (form_tree f))) (filter_row_is rest)
+filter_row_is (more_of-Filter i f rest) = ap (more_filters (filter_at i (form_tree f))) (filter_row_is rest)
 
 term_row_is : {n : _} (k : Row_of-Term n) → term_row k ≡ term_trees (items-the_row-Term n k)
 term_row_is end_of-Term = refl
-term_row_is (more_of-Term minus i f rest) = ap (more_terms minus (filter i (form_tree f))) (term_row_is rest)
+term_row_is (more_of-Term minus i f rest) = ap (more_terms minus (filter_at i (form_tree f))) (term_row_is rest)
 
 part_row_is : {n : _} (k : Row_of-Constituent n) → part_row k ≡ part_trees (items-the_row-Constituent n k)
 part_row_is end_of-Constituent = refl

@@ -3,21 +3,22 @@ use Rattle.std.proofs.Common.{◌≡◌, false, refl}
 use Rattle.cq_symmetry.specs.declared.families.Family.TheVariants.{Flip, Shift}
 use Rattle.cql_syntax.specs.Kinds.{filter_kind}
 use Rattle.cql_syntax.specs.Places.{places, parts_places}
-use Rattle.cql_syntax.specs.Trees.{FilterTree, filter, number, plain, sum, pair, line, transform, any, FilterTrees, no_filters, more_filters, no_terms, path, PartTrees, no_parts, more_parts, atom, group}
+use Rattle.cql_syntax.specs.Trees.{FilterTree, filter_at, number, plain, sum_of, pair, line, transform, any, FilterTrees, no_filters, more_filters, no_terms, path, PartTrees, no_parts, more_parts, atom, group}
 use Rattle.cql_syntax.specs.Weights.{filter_weight, filters_weight, capped}
+use Rattle.cql_syntax.specs.declared.extents.Extent.TheVariants.{Any}
 use Rattle.cql_syntax.specs.declared.leaves.Kind.TheVariants.{Position, Set}
 use Rattle.cql_syntax.specs.declared.leaves.Mark.TheVariants.{Once, Star, Times}
 use Rattle.cql_syntax.specs.declared.leaves.Plain.TheVariants.{Check, Ply}
 use Rattle.cql_syntax.specs.declared.leaves.Pair.TheVariants.{Attacks, Less}
 
 abbrev check : FilterTree
-check = filter 0 (plain Check)
+check = filter_at 0 (plain Check)
 
 abbrev flip : FilterTree → FilterTree
-flip f = filter 0 (transform Flip f)
+flip f = filter_at 0 (transform Flip f)
 
 abbrev shift : FilterTree → FilterTree
-shift f = filter 0 (transform Shift f)
+shift f = filter_at 0 (transform Shift f)
 
 -- `flip flip flip flip flip check`
 abbrev five_flips : FilterTree
@@ -47,7 +48,7 @@ far_too_heavy-capped = refl
 abbrev long : PartTrees
 long = more_parts (group (more_parts (atom check) Once (more_parts (atom check) (Times 999999999 999999999) no_parts))) (Times 999999999 999999999) no_parts
 
-long-weight : filter_weight (filter 0 (line (path false false long))) ≡ 3
+long-weight : filter_weight (filter_at 0 (line (path false false Any long))) ≡ 3
 long-weight = refl
 
 -- and has 999999999 times a thousand million places
@@ -55,19 +56,19 @@ long-places : parts_places long ≡ 999999999000000000
 long-places = refl
 
 -- `line --> check{64}`
-check_64-places : places (path false false (more_parts (atom check) (Times 64 64) no_parts)) ≡ 64
+check_64-places : places (path false false Any (more_parts (atom check) (Times 64 64) no_parts)) ≡ 64
 check_64-places = refl
 
 -- `line --> (check --> check*){2,3} --> check{0}`
-mixed-places : places (path false false (more_parts (group (more_parts (atom check) Once (more_parts (atom check) Star no_parts))) (Times 2 3) (more_parts (atom check) (Times 0 0) no_parts))) ≡ 7
+mixed-places : places (path false false Any (more_parts (group (more_parts (atom check) Once (more_parts (atom check) Star no_parts))) (Times 2 3) (more_parts (atom check) (Times 0 0) no_parts))) ≡ 7
 mixed-places = refl
 
 -- a family has the kind of its part, and `any` the kind that it names
-flipped_pair-kind : filter_kind (flip (filter 5 (pair Attacks check check))) ≡ Set
+flipped_pair-kind : filter_kind (flip (filter_at 5 (pair Attacks check check))) ≡ Set
 flipped_pair-kind = refl
 
-comparison-kind : filter_kind (filter 0 (pair Less (filter 0 (plain Ply)) (filter 6 (number 3)))) ≡ Position
+comparison-kind : filter_kind (filter_at 0 (pair Less (filter_at 0 (plain Ply)) (filter_at 6 (number 3)))) ≡ Position
 comparison-kind = refl
 
-empty_sum-kind : filter_kind (filter 0 (any Set (more_filters (filter 0 (sum no_terms)) no_filters))) ≡ Set
+empty_sum-kind : filter_kind (filter_at 0 (any Set (more_filters (filter_at 0 (sum_of no_terms)) no_filters))) ≡ Set
 empty_sum-kind = refl

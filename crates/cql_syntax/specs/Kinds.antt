@@ -1,5 +1,5 @@
 -- The kind of a filter.
-use Rattle.cql_syntax.specs.Trees.{FilterTree, filter, FormTree, squares, number, name, plain, tagged, outcome, elo, unary, steps, chain, sum, pair, if_, square, line, transform, sort, comment, any}
+use Rattle.cql_syntax.specs.Trees.{FilterTree, filter_at, FormTree, designator, number, name, plain, tagged, outcome, elo, unary, direction, chain, sum_of, pair, if_, square, line, played, transform, sort, comment, any}
 use Rattle.cql_syntax.specs.declared.leaves.Chain.{Chain}
 use Rattle.cql_syntax.specs.declared.leaves.Chain.TheVariants.{Or, And, All, Union, Intersect, Product, Max, Min}
 use Rattle.cql_syntax.specs.declared.leaves.Kind.{Kind}
@@ -62,10 +62,10 @@ pair_kind Greater = Position
 -- A family has the kind of its part.
 abbrev mutual
   pub filter_kind : FilterTree → Kind
-  filter_kind (filter at f) = form_kind f
+  filter_kind (filter_at at f) = form_kind f
 
   pub form_kind : FormTree → Kind
-  form_kind (squares d) = Set
+  form_kind (designator d) = Set
   form_kind (number n) = Number
   form_kind (name text) = Set
   form_kind (plain word) = plain_kind word
@@ -73,13 +73,14 @@ abbrev mutual
   form_kind (outcome o) = Position
   form_kind (elo whose) = Number
   form_kind (unary u f) = unary_kind u
-  form_kind (steps way m n f) = Set
+  form_kind (direction way m n f) = Set
   form_kind (chain c fs) = chain_kind c
-  form_kind (sum ts) = Number
+  form_kind (sum_of ts) = Number
   form_kind (pair c f g) = pair_kind c
   form_kind (if_ f g h) = Position
   form_kind (square every text f g) = Position
   form_kind (line l) = Number
+  form_kind (played p) = Position
   form_kind (transform t f) = filter_kind f
   form_kind (sort least text f) = Position
   form_kind (comment text) = Position

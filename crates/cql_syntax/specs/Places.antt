@@ -15,7 +15,7 @@ copies (Times least most) = max 1 most
 -- An atom has one place, and a row of parts their sum. A line inside an atom counts by itself.
 abbrev mutual
   pub places : LineTree → ℕ
-  places (path back primary cs) = parts_places cs
+  places (path back primary extent cs) = parts_places cs
 
   pub parts_places : PartTrees → ℕ
   parts_places no_parts = 0

@@ -4,6 +4,7 @@ use Rattle.std.specs.Prelude.{ℕ, Bool, List}
 use Rattle.cq_symmetry.specs.declared.families.Family.{Family}
 use Rattle.cql_syntax.specs.declared.leaves.Chain.{Chain}
 use Rattle.cql_syntax.specs.declared.leaves.Designator.{Designator}
+use Rattle.cql_syntax.specs.declared.extents.Extent.{Extent}
 use Rattle.cql_syntax.specs.declared.leaves.Field.{Field}
 use Rattle.cql_syntax.specs.declared.leaves.Kind.{Kind}
 use Rattle.cql_syntax.specs.declared.leaves.Mark.{Mark}
@@ -17,10 +18,10 @@ use Rattle.cql_syntax.specs.declared.leaves.Way.{Way}
 mutual
   -- the byte at which the filter begins, and its form
   pub data FilterTree : Type 0 where
-    filter : ℕ → FormTree → FilterTree
+    filter_at : ℕ → FormTree → FilterTree
 
   pub data FormTree : Type 0 where
-    squares : Designator → FormTree
+    designator : Designator → FormTree
     number : ℕ → FormTree
     name : List ℕ → FormTree
     plain : Plain → FormTree
@@ -28,13 +29,14 @@ mutual
     outcome : Outcome → FormTree
     elo : Of → FormTree
     unary : Unary → FilterTree → FormTree
-    steps : Way → ℕ → ℕ → FilterTree → FormTree
+    direction : Way → ℕ → ℕ → FilterTree → FormTree
     chain : Chain → FilterTrees → FormTree
-    sum : TermTrees → FormTree
+    sum_of : TermTrees → FormTree
     pair : Pair → FilterTree → FilterTree → FormTree
     if_ : FilterTree → FilterTree → FilterTree → FormTree
     square : Bool → List ℕ → FilterTree → FilterTree → FormTree
     line : LineTree → FormTree
+    played : PlayedTree → FormTree
     transform : Family → FilterTree → FormTree
     sort : Bool → List ℕ → FilterTree → FormTree
     comment : List ℕ → FormTree
@@ -49,9 +51,18 @@ mutual
     no_terms : TermTrees
     more_terms : Bool → FilterTree → TermTrees → TermTrees
 
-  -- whether it goes up, whether through first children alone, and the parts
+  -- whether it goes up, whether through first children alone, the lengths that count, and the parts
   pub data LineTree : Type 0 where
-    path : Bool → Bool → PartTrees → LineTree
+    path : Bool → Bool → Extent → PartTrees → LineTree
+
+  -- what is asked of a move: the square that it came from, its goal, the square on which it took, and its goal where it promoted
+  pub data PlayedTree : Type 0 where
+    move_of : WrittenTree → WrittenTree → WrittenTree → WrittenTree → PlayedTree
+
+  -- a part that may be left out
+  pub data WrittenTree : Type 0 where
+    left_out : WrittenTree
+    written : FilterTree → WrittenTree
 
   -- the constituents of a line, each with its mark
   pub data PartTrees : Type 0 where

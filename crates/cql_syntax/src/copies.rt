@@ -1,9 +1,9 @@
 //! Copies of a query and its filters.
 ghost use Rattle.std.specs.Prelude.{◌≡◌, IfOk};
-ghost use Rattle.cql_syntax.specs.TreeOf.{filter_tree, form_tree, line_tree, body_tree, filters_tree, terms_tree, parts_tree, query_tree};
+ghost use Rattle.cql_syntax.specs.TreeOf.{filter_tree, form_tree, line_tree, played_tree, written_tree, body_tree, filters_tree, terms_tree, parts_tree, query_tree};
 
 use crate::tree::{
-    Body, Constituent, Constituents, Filter, Filters, Form, Line, Query, Term, Terms,
+    Body, Constituent, Constituents, Filter, Filters, Form, Line, Played, Query, Term, Terms,
 };
 use cq_outside::{Bytes, NoMemory};
 use std::alloc::Global;
@@ -71,6 +71,7 @@ impl Form {
                 Form::Square(*every, name, a.boxed(alloc)?, b.boxed(alloc)?)
             }
             Form::Line(line) => Form::Line(line.copy(alloc)?),
+            Form::Played(played) => Form::Played(played.copy(alloc)?),
             Form::Transform(family, a) => Form::Transform(*family, a.boxed(alloc)?),
             Form::Sort(least, name, a) => Form::Sort(
                 *least,
@@ -91,7 +92,35 @@ impl Line {
         Ok(Line {
             back: self.back,
             primary: self.primary,
+            extent: self.extent,
             parts: self.parts.copy(alloc)?,
+        })
+    }
+}
+
+impl Played {
+    #[cycle(copy)]
+    fn copy_written(
+        written: &Option<Box<Filter>>,
+        alloc: Global,
+    ) -> Result<Option<Box<Filter>>, NoMemory>
+        ensures { IfOk result (λ copied. written_tree copied ≡ written_tree written.now) }
+    {
+        match written {
+            Some(filter) => Ok(Some(filter.boxed(alloc)?)),
+            None => Ok(None),
+        }
+    }
+
+    #[cycle(copy)]
+    fn copy(&self, alloc: Global) -> Result<Played, NoMemory>
+        ensures { IfOk result (λ p. played_tree p ≡ played_tree self.now) }
+    {
+        Ok(Played {
+            origin: Played::copy_written(&self.origin, alloc)?,
+            goal: Played::copy_written(&self.goal, alloc)?,
+            taken: Played::copy_written(&self.taken, alloc)?,
+            promoted: Played::copy_written(&self.promoted, alloc)?,
         })
     }
 }

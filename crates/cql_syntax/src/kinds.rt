@@ -14,7 +14,7 @@ pub fn kind_of(f: &Filter) -> Kind
         Form::Squares(_) | Form::Name(_) | Form::Steps(..) => Kind::Set,
         Form::Number(_) | Form::Elo(_) | Form::Sum(_) | Form::Line(_) => Kind::Number,
         Form::Tagged(..) | Form::Outcome(_) | Form::Comment(_) => Kind::Position,
-        Form::If(..) | Form::Square(..) | Form::Sort(..) => Kind::Position,
+        Form::If(..) | Form::Square(..) | Form::Played(_) | Form::Sort(..) => Kind::Position,
         Form::Plain(word) => word.kind(),
         Form::Unary(unary, _) => unary.kind(),
         Form::Chain(chain, _) => chain.kind(),

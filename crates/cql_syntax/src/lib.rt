@@ -2,6 +2,7 @@
 #![tactic(auto)]
 
 pub mod copies;
+pub mod extents;
 pub mod fault;
 pub mod kinds;
 pub mod leaves;
@@ -12,10 +13,13 @@ pub mod tree;
 pub mod weights;
 pub mod words;
 
+pub use extents::{Extent, PathLength};
 pub use fault::{QueryFault, QueryReason};
 pub use kinds::kind_of;
 pub use leaves::{Chain, Designator, Field, Kind, Mark, Of, Outcome, Pair, Plain, Unary, Way};
 pub use token::{QueryToken, QueryTokenKind};
-pub use tree::{Body, Constituent, Constituents, Filter, Filters, Form, Line, Query, Term, Terms};
+pub use tree::{
+    Body, Constituent, Constituents, Filter, Filters, Form, Line, Played, Query, Term, Terms,
+};
 pub use weights::{WEIGHT_LIMIT, weight};
 pub use words::{is_reserved, word_number};

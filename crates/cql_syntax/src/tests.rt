@@ -58,6 +58,7 @@ fn repeated(alloc: Global, times: u32, depth: u32) -> Result<Filter, NoMemory> {
     Ok(filter(Form::Line(Line {
         back: false,
         primary: false,
+        extent: Extent::Any,
         parts,
     })))
 }

@@ -3,6 +3,7 @@ ghost use Rattle.std.specs.Prelude.{◌≡◌, ◌↔◌, ◌++◌, ◌∷◌, [
 ghost use Rattle.cql_syntax.specs.Trees.{no_filters, no_terms, no_parts, with_filter, with_term, with_part};
 ghost use Rattle.cql_syntax.specs.TreeOf.{filter_tree, body_tree, filters_in, terms_in, parts_in, filters_tree, terms_tree, parts_tree, filter_trees, term_trees, part_trees};
 
+use crate::extents::Extent;
 use crate::leaves::{Chain, Designator, Field, Kind, Mark, Of, Outcome, Pair, Plain, Unary, Way};
 use cq_outside::{Bytes, NoMemory};
 use cq_symmetry::Family;
@@ -41,6 +42,8 @@ pub enum Form {
     /// Whether it is asked of all squares, the name bound, the squares, and what is asked of each.
     Square(bool, Bytes, Box<Filter>, Box<Filter>),
     Line(Line),
+    /// The move that led to a position.
+    Played(Played),
     Transform(Family, Box<Filter>),
     /// Whether the least value counts, the name of the item, and the number.
     Sort(bool, Bytes, Box<Filter>),
@@ -66,7 +69,23 @@ pub struct Line {
     pub back: bool,
     /// Each step joins a node and its first child.
     pub primary: bool,
+    /// The lengths of the paths that count.
+    pub extent: Extent,
     pub parts: Constituents,
+}
+
+/// What is asked of the move that led to a position, part by part, where it is written.
+#[cycle(filter)]
+#[derive(Drop)]
+pub struct Played {
+    /// The squares that it may have come from.
+    pub origin: Option<Box<Filter>>,
+    /// The squares that it may have led to.
+    pub goal: Option<Box<Filter>>,
+    /// The squares on which it may have taken a man.
+    pub taken: Option<Box<Filter>>,
+    /// The squares on which it may have promoted a pawn.
+    pub promoted: Option<Box<Filter>>,
 }
 
 /// A part of a line.

@@ -1,10 +1,10 @@
 //! The weight of a query.
 ghost use Rattle.std.specs.Prelude.{◌≡◌, ◌+◌, ◌*◌, length};
 ghost use Rattle.cq_symmetry.specs.Families.{members};
-ghost use Rattle.cql_syntax.specs.TreeOf.{filter_tree, filters_tree, terms_tree, parts_tree, body_tree, query_tree};
-ghost use Rattle.cql_syntax.specs.Weights.{filter_weight, filters_weight, terms_weight, parts_weight, body_weight, query_weight, capped};
+ghost use Rattle.cql_syntax.specs.TreeOf.{filter_tree, filters_tree, terms_tree, parts_tree, body_tree, played_tree, written_tree, query_tree};
+ghost use Rattle.cql_syntax.specs.Weights.{filter_weight, filters_weight, terms_weight, parts_weight, body_weight, played_weight, written_weight, query_weight, capped};
 
-use crate::tree::{Body, Constituents, Filter, Filters, Form, Query, Terms};
+use crate::tree::{Body, Constituents, Filter, Filters, Form, Played, Query, Terms};
 use cq_symmetry::{Family, size};
 
 /// The greatest weight that a query may have.
@@ -50,6 +50,7 @@ fn weight_of(f: &Filter) -> u64
             weight_of_both(weight_of(condition), branches)
         }
         Form::Line(line) => weight_of_parts(&line.parts),
+        Form::Played(played) => weight_of_played(played),
         Form::Transform(family, part) => return weight_of_family(*family, weight_of(part)),
     };
     weight_of_both(1, parts)
@@ -86,6 +87,31 @@ fn weight_of_parts(parts: &Constituents) -> u64
         total = weight_of_both(total, weight_of_body(&part.body));
     }
     total
+}
+
+#[cycle(weigh)]
+fn weight_of_written(written: &Option<Box<Filter>>) -> u64
+    ensures { result ≡ capped (written_weight (written_tree written.now)) }
+{
+    match written {
+        Some(filter) => weight_of(filter),
+        None => 0,
+    }
+}
+
+#[cycle(weigh)]
+fn weight_of_played(played: &Played) -> u64
+    ensures { result ≡ capped (played_weight (played_tree played.now)) }
+{
+    let squares = weight_of_both(
+        weight_of_written(&played.origin),
+        weight_of_written(&played.goal),
+    );
+    let men = weight_of_both(
+        weight_of_written(&played.taken),
+        weight_of_written(&played.promoted),
+    );
+    weight_of_both(squares, men)
 }
 
 #[cycle(weigh)]
