@@ -10,7 +10,7 @@ use Rattle.std.proofs.lemmas.Bool.Decides.{nat_tests}
 use Rattle.std.proofs.lemmas.List.{append_assoc, length-append, length-take-le, take_all, drop_all, get_or_push, drop-append-le, length-drop, append-nil}
 use Rattle.pgn_lexer.specs.Grammar.{IsLexeme, IsLongest}
 use Rattle.pgn_lexer.specs.Lexemes.{Lexeme, end, lexeme, lexemes, lexemes_from, first_at}
-use Rattle.pgn_lexer.specs.Local.{IsUnsettled, may_grow, Settles, Grows}
+use Rattle.pgn_lexer.specs.Local.{IsUnsettled, is_left_open, Settles, Grows}
 use Rattle.pgn_lexer.specs.Bytes.{continues_symbol}
 use Rattle.cq_outside.specs.Text.{is_white}
 use Rattle.pgn_lexer.specs.Readings.{reading, symbol, single}
@@ -144,7 +144,7 @@ no_result xs =
     (no_text xs (codes "1/2-1/2") (λ same. let e = ends_with_x xs (codes "1/2-1/2") 6 refl same in absurd (omega arith)))
 
 -- a lexeme that may grow opens no tag pair
-grows_no_open : (kind : LexemeKind) → may_grow kind ≡ true → opens kind ≡ false
+grows_no_open : (kind : LexemeKind) → is_left_open kind ≡ true → opens kind ≡ false
 grows_no_open (Token Open) grows = absurd (true≢false (sym grows))
 grows_no_open (Token Close) grows = refl
 grows_no_open (Token Text) grows = refl
@@ -200,7 +200,7 @@ long_no_marker first (Token UnclosedComment) xs is some = refl
 long_no_marker first (Token UnclosedText) xs is some = refl
 long_no_marker first EscapeLine xs is some = refl
 
-kept_no_marker : (kind : LexemeKind) (text : List ℕ) → may_grow kind ≡ true → (kind ≡ Token Symbol → ⊥) → marks kind text ≡ false
+kept_no_marker : (kind : LexemeKind) (text : List ℕ) → is_left_open kind ≡ true → (kind ≡ Token Symbol → ⊥) → marks kind text ≡ false
 kept_no_marker (Token Star) text grows other = absurd (true≢false (sym grows))
 kept_no_marker (Token Symbol) text grows other = absurd (other refl)
 kept_no_marker (Token Open) text grows other = refl
@@ -254,7 +254,7 @@ module _ (follow : LexemesFollow) (grow : ReadingsGrow) (longest : AreLongest) w
       follow at first b bs dark ∙ ap (λ l. lexeme at first b bs ∷ lexemes (at + n) (first_at first (b ∷ bs) n) l) (drop_all n (b ∷ bs) (omega arith))
 
   -- the games of a lexeme that reaches the end, alone behind a game
-  whole_ends : (at : ℕ) (first : Bool) (game : List Lexeme) (b : ℕ) (bs : List ℕ) → is_white b ≡ false → (reading first b bs).len ≡ length (b ∷ bs) → may_grow (reading first b bs).kind ≡ true
+  whole_ends : (at : ℕ) (first : Bool) (game : List Lexeme) (b : ℕ) (bs : List ℕ) → is_white b ≡ false → (reading first b bs).len ≡ length (b ∷ bs) → is_left_open (reading first b bs).kind ≡ true
       → FinishesAt (at + length (b ∷ bs)) (cut_from (at + length (b ∷ bs)) game (lexemes at first (b ∷ bs)))
   unfolding cut_from
   whole_ends at first game b bs dark whole grows =
@@ -298,7 +298,7 @@ module _ (follow : LexemesFollow) (grow : ReadingsGrow) (longest : AreLongest) w
       let most = (longest first b (bs ++ 120 ∷ [])).longest (Token Symbol) (length (b ∷ bs) + 1) (omega arith) more in
       absurd (omega arith)
 
-  x_left : (at : ℕ) (first : Bool) (game : List Lexeme) (b : ℕ) (bs : List ℕ) → is_white b ≡ false → (reading first b bs).len ≡ length (b ∷ bs) → may_grow (reading first b bs).kind ≡ true
+  x_left : (at : ℕ) (first : Bool) (game : List Lexeme) (b : ℕ) (bs : List ℕ) → is_white b ≡ false → (reading first b bs).len ≡ length (b ∷ bs) → is_left_open (reading first b bs).kind ≡ true
       → (reading first b (bs ++ 120 ∷ [])).len ≤ length (b ∷ bs)
       → FinishesAt (at + length (b ∷ bs) + 1) (cut_from (at + length (b ∷ bs) + 1) game (lexemes at first (b ∷ bs ++ 120 ∷ [])))
   x_left at first game b bs dark whole grows stays =

@@ -1,5 +1,6 @@
 pub mod Apart
 pub mod Bodies
+pub mod Ended
 pub mod Fronts
 pub mod Lists
 pub mod Local
@@ -8,5 +9,6 @@ pub mod Longest
 mod Rows
 pub mod Settled
 pub mod Spelled
+pub mod Texts
 pub mod Walk
 pub mod Within

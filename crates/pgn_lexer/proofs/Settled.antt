@@ -14,7 +14,7 @@ use Rattle.pgn_lexer.specs.declared.token.LexemeKind.{LexemeKind}
 use Rattle.pgn_lexer.specs.declared.token.LexemeKind.TheVariants.{EscapeLine, Token}
 use Rattle.pgn_lexer.specs.declared.token.TokenKind.TheVariants.{Open, Close, Text, Symbol, Period, Star, LeftParen, RightParen, Nag, Null, Comment, LineComment, BadByte, UnclosedComment, UnclosedText}
 use Rattle.pgn_lexer.specs.Lexemes.{Lexeme, lexeme, lexemes_from, first_at}
-use Rattle.pgn_lexer.specs.Local.{may_grow, IsUnsettled, Settles, Grows}
+use Rattle.pgn_lexer.specs.Local.{is_left_open, IsUnsettled, Settles, Grows}
 use Rattle.pgn_lexer.proofs.Bodies.{IsUnfinished, plain_unfinished, escaped_unfinished}
 use Rattle.pgn_lexer.proofs.Fronts.{reading_same}
 use Rattle.pgn_lexer.proofs.Walk.{first_at-cons}
@@ -42,7 +42,7 @@ body_front (suc (suc n)) (b ∷ c ∷ bs) whole =
     (λ escaped. subst (λ x. IsUnfinished (x ∷ c ∷ take n bs)) (sym escaped.0) (escaped_unfinished c (take n bs) escaped.1 (body_front n bs escaped.2)))
     whole
 
-unfinished_front : (n : ℕ) (body : List ℕ) → n < length body → IsUnfinished body → IsUnfinished (take n body)
+pub unfinished_front : (n : ℕ) (body : List ℕ) → n < length body → IsUnfinished body → IsUnfinished (take n body)
 unfinished_front n body less = ⊎_elim (λ whole. body_front n body whole) (λ cut.
     let size : length body ≡ length cut.0 + 1 = ap length cut.1 ∙ length-append cut.0 (92 ∷ []) in
     let same : take n body ≡ take n cut.0 = ap (take n) cut.1 ∙ take-append-le n cut.0 (92 ∷ []) (omega arith) in
@@ -57,12 +57,11 @@ suffix_short g text =
     ⊎_elim (λ h. let e = ap length h.1 in omega arith) (λ h. let e = ap length h.1 in omega arith) h) h) h) h)
 
 -- a text is a lexeme of some kind
-IsSome : Bool → List ℕ → Type 0
+abbrev pub IsSome : Bool → List ℕ → Type 0
 IsSome first text = (kind : LexemeKind) × IsLexeme first kind text
 
 -- a front of a lexeme, of two bytes at least, is one too
 inner_front : (first : Bool) (kind : LexemeKind) (text : List ℕ) (n : ℕ) → suc (suc n) < length text → IsLexeme first kind text → IsSome first (take (suc (suc n)) text)
-unfolding IsSome
 inner_front first EscapeLine text n less h =
     subst (λ t. IsSome first (take (suc (suc n)) t)) (sym h.1) (EscapeLine, (take (suc n) h.0, refl, h.2, all_take (λ b. b ≢ 10) (suc n) h.0 h.3))
 inner_front first (Token Open) text n less h = let e = ap length h in absurd (omega arith)
@@ -101,8 +100,7 @@ inner_front first (Token UnclosedText) text n less h =
     subst (λ t. IsSome first (take (suc (suc n)) t)) (sym h.1) (Token UnclosedText, (take (suc n) h.0, refl, unfinished_front (suc n) h.0 (omega arith) h.2))
 
 -- every front of a lexeme is one
-lexeme_front : (first : Bool) (kind : LexemeKind) (text : List ℕ) (m : ℕ) → 0 < m → m ≤ length text → IsLexeme first kind text → IsSome first (take m text)
-unfolding IsSome
+pub lexeme_front : (first : Bool) (kind : LexemeKind) (text : List ℕ) (m : ℕ) → 0 < m → m ≤ length text → IsLexeme first kind text → IsSome first (take m text)
 lexeme_front first kind text zero some within h = absurd (omega arith)
 lexeme_front first kind text (suc zero) some within h = (Token BadByte, length-take-le 1 text within)
 lexeme_front first kind text (suc (suc n)) some within h =
@@ -131,7 +129,6 @@ grows first b bs more = record { longer = reading_grows first b bs more; same = 
 
 -- a reading that ends before the front does stays, whatever follows
 reading_stays : (first : Bool) (b : ℕ) (bs more : List ℕ) → (reading first b bs).len ≤ length bs → reading first b (bs ++ more) ≡ reading first b bs
-unfolding IsSome
 reading_stays first b bs more ends =
     let r = reading first b (bs ++ more) in
     let size : length (b ∷ bs ++ more) ≡ suc (length bs + length more) = ap suc (length-append bs more) in
@@ -184,7 +181,7 @@ module _ (first : Bool) where
 
 -- a token of one byte stays, whatever follows
 token_stays : (first : Bool) (b : ℕ) (bs more : List ℕ) → (kind : LexemeKind) → IsLexeme first kind (take (reading first b bs).len (b ∷ bs)) → (reading first b bs).len ≡ length (b ∷ bs)
-    → may_grow kind ≡ false → reading first b (bs ++ more) ≡ reading first b bs
+    → is_left_open kind ≡ false → reading first b (bs ++ more) ≡ reading first b bs
 token_stays first b bs more (Token Open) is whole fixed = one_byte first 91 (Token Open) b bs (open_always first) whole is more
 token_stays first b bs more (Token Close) is whole fixed = one_byte first 93 (Token Close) b bs (close_always first) whole is more
 token_stays first b bs more (Token Period) is whole fixed = one_byte first 46 (Token Period) b bs (period_always first) whole is more
@@ -249,7 +246,7 @@ lexeme_settles b bs at first dark stays rest =
     ∙ ap (λ t. (record { at = at; first = first; text = t; kind = r.kind }) ∷ lexemes_from (bs ++ more) (r.len - 1) (at + 1) (ends_line b)) (take-append-le r.len (b ∷ bs) more (omega arith)))
     rest
 
-last_unsettled : (b : ℕ) (bs : List ℕ) (at : ℕ) (first : Bool) → is_white b ≡ false → length bs < (reading first b bs).len → may_grow (reading first b bs).kind ≡ true → SettlesFrom (b ∷ bs) 0 at first
+last_unsettled : (b : ℕ) (bs : List ℕ) (at : ℕ) (first : Bool) → is_white b ≡ false → length bs < (reading first b bs).len → is_left_open (reading first b bs).kind ≡ true → SettlesFrom (b ∷ bs) 0 at first
 last_unsettled b bs at first dark reaches grows_ =
     let within = reading_within first b bs in
     record {
@@ -268,7 +265,7 @@ first_settles b bs at first dark rest =
     (λ reaches. ⊎_elim
     (λ grows_. last_unsettled b bs at first dark reaches grows_)
     (λ fixed. lexeme_settles b bs at first dark (λ more. token_stays first b bs more (reading first b bs).kind (is_longest first b bs).reads (omega arith) fixed) rest)
-    (cases_Bool (may_grow (reading first b bs).kind)))
+    (cases_Bool (is_left_open (reading first b bs).kind)))
     (λ ends. lexeme_settles b bs at first dark (λ more. reading_stays first b bs more ends) rest)
     (cases_lt (length bs) (reading first b bs).len)
 

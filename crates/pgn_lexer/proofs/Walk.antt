@@ -1,5 +1,6 @@
 -- The lexemes of a text from one place on: over white space, and over a lexeme.
-use Rattle.std.proofs.Common.{◌≡◌, ℕ, zero, suc, ◌+◌, ◌-◌, ◌<◌, ◌≤◌, Bool, false, cond, List, [], ◌∷◌, length, get_or, take, drop, refl, sym, ap, ap₂, ◌∙◌, subst, arith, add-zero}
+use Rattle.std.proofs.Common.{◌≡◌, ℕ, zero, suc, ◌+◌, ◌-◌, ◌<◌, ◌≤◌, Bool, false, cond, List, [], ◌∷◌, length, get_or, take, drop, refl, sym, ap, ap₂, ◌∙◌, subst, arith, add-zero, true}
+use Rattle.std.specs.Prelude.{map}
 use Rattle.std.specs.List.{prefix_len}
 use Rattle.std.proofs.lemmas.List.{get_or-drop, drop-drop, drop_all, drop_more, length-drop, take_rest, length-take-le}
 use Rattle.std.proofs.lemmas.List.Sums.{prefix_len_stops}
@@ -8,7 +9,7 @@ use Rattle.cq_outside.specs.Text.{is_white}
 use Rattle.pgn_lexer.specs.Bytes.{ends_line}
 use Rattle.pgn_lexer.specs.Readings.{reading}
 use Rattle.pgn_lexer.specs.declared.token.Reading.{Reading}
-use Rattle.pgn_lexer.specs.Lexemes.{lexeme, lexemes_from, lexemes_at, first_at}
+use Rattle.pgn_lexer.specs.Lexemes.{Lexeme, moved, lexeme, lexemes, lexemes_from, lexemes_at, first_at}
 
 -- the column at a place behind a place
 pub first_at-drop : (first : Bool) (bytes : List ℕ) (p n : ℕ) → first_at (first_at first bytes p) (drop p bytes) n ≡ first_at first bytes (p + n)
@@ -60,6 +61,34 @@ over_lexeme b bs at first dark =
     let e : suc before ≡ (reading first b bs).len = omega arith in
     ap (λ t. cond t (lexemes_from bs 0 (at + 1) (ends_line b)) (lexeme at first b bs ∷ lexemes_from bs before (at + 1) (ends_line b))) dark
     ∙ ap (λ ls. lexeme at first b bs ∷ ls) (over_inside (b ∷ bs) (suc before) at first ∙ ap (λ n. lexemes_from (drop n (b ∷ bs)) 0 (at + n) (first_at first (b ∷ bs) n)) e)
+
+-- over one byte of white space
+pub over_white_byte : (b : ℕ) (bs : List ℕ) (at : ℕ) (first : Bool) → is_white b ≡ true → lexemes_from (b ∷ bs) 0 at first ≡ lexemes_from bs 0 (at + 1) (ends_line b)
+unfolding lexemes_from
+over_white_byte b bs at first white =
+    ap (λ t. cond t (lexemes_from bs 0 (at + 1) (ends_line b)) (lexeme at first b bs ∷ lexemes_from bs ((reading first b bs).len - 1) (at + 1) (ends_line b))) white
+
+pub of_nothing : (at : ℕ) (first : Bool) → lexemes at first [] ≡ []
+unfolding lexemes_from
+of_nothing at first = refl
+
+-- the lexemes of a text that stands elsewhere
+both_moved : (n : ℕ) (t : Bool) (x : Lexeme) (xs ys xs' ys' : List Lexeme) → xs' ≡ map (moved n) xs → ys' ≡ map (moved n) ys → cond t xs' (moved n x ∷ ys') ≡ map (moved n) (cond t xs (x ∷ ys))
+both_moved n true x xs ys xs' ys' white dark = white
+both_moved n false x xs ys xs' ys' white dark = ap (λ l. moved n x ∷ l) dark
+
+pub all_moved : (n : ℕ) (bs : List ℕ) (inside at : ℕ) (first : Bool) → lexemes_from bs inside (at + n) first ≡ map (moved n) (lexemes_from bs inside at first)
+unfolding lexemes_from
+all_moved n [] inside at first = refl
+all_moved n (b ∷ bs) (suc inside) at first =
+    let e : at + n + 1 ≡ at + 1 + n = omega arith in
+    ap (λ p. lexemes_from bs inside p (ends_line b)) e ∙ all_moved n bs inside (at + 1) (ends_line b)
+all_moved n (b ∷ bs) zero at first =
+    let e : at + n + 1 ≡ at + 1 + n = omega arith in
+    let before : ℕ = (reading first b bs).len - 1 in
+    both_moved n (is_white b) (lexeme at first b bs) (lexemes_from bs 0 (at + 1) (ends_line b)) (lexemes_from bs before (at + 1) (ends_line b)) (lexemes_from bs 0 (at + n + 1) (ends_line b)) (lexemes_from bs before (at + n + 1) (ends_line b))
+    (ap (λ p. lexemes_from bs 0 p (ends_line b)) e ∙ all_moved n bs 0 (at + 1) (ends_line b))
+    (ap (λ p. lexemes_from bs before p (ends_line b)) e ∙ all_moved n bs before (at + 1) (ends_line b))
 
 -- the same of the lexemes behind a place
 module _ (start : ℕ) (first : Bool) (bytes : List ℕ) where

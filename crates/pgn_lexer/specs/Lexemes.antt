@@ -36,6 +36,10 @@ lexemes_from (b ∷ bs) zero at first =
 abbrev pub lexemes : ℕ → Bool → List ℕ → List Lexeme
 lexemes start first bytes = lexemes_from bytes 0 start first
 
+-- the same lexeme, so many bytes further on
+abbrev pub moved : ℕ → Lexeme → Lexeme
+moved n l = record { at = l.at + n; first = l.first; text = l.text; kind = l.kind }
+
 -- whether the byte at a place of a text stands in the first column; `first` says so of the first byte
 abbrev pub first_at : (first : Bool) → List ℕ → ℕ → Bool
 first_at first bytes zero = first

@@ -4,3 +4,5 @@ pub mod Lexemes
 pub mod Local
 pub mod Readings
 pub mod Shown
+pub mod Texts
+pub mod Whole

@@ -31,21 +31,21 @@ pub record StandsIn (start : ℕ) (first : Bool) (bytes : List ℕ) (l : Lexeme)
   pub to_end : end l ≤ start + length bytes
   pub column : l.first ≡ first_at first bytes (l.at - start)
 
--- Whether a lexeme that reaches the end of a text may grow by what follows, as far as its kind tells: only the tokens of one byte are sure
--- not to. A comment that was closed can't either, and is left open all the same.
-abbrev pub may_grow : LexemeKind → Bool
-may_grow (Token Open) = false
-may_grow (Token Close) = false
-may_grow (Token Period) = false
-may_grow (Token Star) = false
-may_grow (Token LeftParen) = false
-may_grow (Token RightParen) = false
-may_grow _ = true
+-- Whether a lexeme that reaches the end of a text is left open: only the tokens of one byte are not. A comment or string that was closed
+-- can't grow either, and is left open all the same.
+abbrev pub is_left_open : LexemeKind → Bool
+is_left_open (Token Open) = false
+is_left_open (Token Close) = false
+is_left_open (Token Period) = false
+is_left_open (Token Star) = false
+is_left_open (Token LeftParen) = false
+is_left_open (Token RightParen) = false
+is_left_open _ = true
 
--- what a front leaves open: nothing, or a byte whose longest reading is all that is left, and may grow
+-- what a front leaves open: nothing, or a byte whose longest reading is all that is left, and left open
 abbrev pub IsUnsettled : (first : Bool) → List ℕ → Type 0
 IsUnsettled first [] = Unit {0}
-IsUnsettled first (b ∷ bs) = (is_white b ≡ false) × ((reading first b bs).len ≡ length (b ∷ bs)) × (may_grow (reading first b bs).kind ≡ true)
+IsUnsettled first (b ∷ bs) = (is_white b ≡ false) × ((reading first b bs).len ≡ length (b ∷ bs)) × (is_left_open (reading first b bs).kind ≡ true)
 
 -- A front settles its lexemes up to a place: they stay, whatever follows the front, and those of what it leaves open come behind them.
 pub record Settles (start : ℕ) (first : Bool) (front : List ℕ) : Type 0 where

@@ -1,18 +1,23 @@
 //! The tokens of a game.
-ghost use Rattle.std.specs.Prelude.{◌≡◌, ◌<◌, ◌≤◌, ◌^◌, length, IfOk};
+ghost use Rattle.std.specs.Prelude.{◌≡◌, ◌<◌, ◌≤◌, ◌^◌, length, All, IfOk};
 ghost use Rattle.pgn_lexer.specs.Lexemes.{tokens_of};
+ghost use Rattle.pgn_lexer.specs.Texts.{IsTokenOf, AreTokensInOrder};
 
+use crate::laws::tokens_stand_apart;
 use crate::lexeme::next_lexeme;
 use crate::token::{LexemeKind, Token};
 use cq_outside::NoMemory;
 use std::alloc::Global;
 
-/// The tokens of a text of at most 2^24 bytes; escape lines give none. `start` is the place of its first byte in the archive, from which the
-/// tokens' places count, and `first` says whether that byte stands in the first column. Refused where no memory is found.
+/// The tokens of a text of at most 2^24 bytes; escape lines give none. `start` is the place of its first byte in the
+/// archive, from which the tokens' places count, and `first` says whether that byte stands in the first column. Refused
+/// where no memory is found.
 pub fn tokens(alloc: Global, bytes: &[u8], start: u64, first: bool) -> Result<Vec<Token>, NoMemory>
     requires size { length bytes.now ≤ 2 ^ 24 }
     requires place { start < 2 ^ 62 }
-    ensures { IfOk result (λ v. v.items ≡ tokens_of start first bytes.now) }
+    ensures value { IfOk result (λ v. v.items ≡ tokens_of start first bytes.now) }
+    ensures order { IfOk result (λ v. AreTokensInOrder start v.items) }
+    ensures each { IfOk result (λ v. All (IsTokenOf start bytes.now) v.items) }
 {
     let mut tokens = Vec::new(alloc);
     let mut at = 0;
@@ -26,5 +31,6 @@ pub fn tokens(alloc: Global, bytes: &[u8], start: u64, first: bool) -> Result<Ve
         }
         at = lexeme.at + lexeme.text.len();
     }
+    tokens_stand_apart();
     Ok(tokens)
 }

@@ -16,8 +16,9 @@ pub mod token;
 
 pub use game::tokens;
 pub use laws::{
-    fronts_settle, lexemes_are_local, lexemes_follow, lexemes_stand_apart, readings_are_longest,
-    readings_grow,
+    fronts_settle, lexemes_are_local, lexemes_are_spelled, lexemes_follow, lexemes_move,
+    lexemes_stand_apart, readings_are_longest, readings_grow, tokens_stand_apart,
+    white_space_is_passed, whole_lexemes_stay,
 };
 pub use lexeme::{Lexeme, next_lexeme};
 pub use reading::longest_reading;

@@ -86,7 +86,8 @@ fn plain_len(bytes: &[u8]) -> usize
 fn behind_backslash(rest: &[u8], at: usize) -> usize
     requires { at < length rest.now }
     ensures within { (at < result) × (result ≤ length rest.now) }
-    ensures goes_on { slice_index rest.now at ≡ 92 → body_len false (drop at rest.now) ≡ (result - at) + body_len false (drop result rest.now) }
+    ensures goes_on { slice_index rest.now at ≡ 92 →
+        body_len false (drop at rest.now) ≡ (result - at) + body_len false (drop result rest.now) }
 {
     match rest.get(at + 1) {
         None | Some(b'\n') => at + 1,

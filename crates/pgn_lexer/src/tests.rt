@@ -4,8 +4,10 @@ use crate::TokenKind::{
     Symbol, Text, UnclosedComment, UnclosedText,
 };
 use crate::{
-    LexemeKind, Reading, Token, TokenKind, fronts_settle, lexemes_are_local, lexemes_follow,
-    lexemes_stand_apart, longest_reading, next_lexeme, readings_are_longest, readings_grow, tokens,
+    LexemeKind, Reading, Token, TokenKind, fronts_settle, lexemes_are_local, lexemes_are_spelled,
+    lexemes_follow, lexemes_move, lexemes_stand_apart, longest_reading, next_lexeme,
+    readings_are_longest, readings_grow, tokens, tokens_stand_apart, white_space_is_passed,
+    whole_lexemes_stay,
 };
 use cq_outside::is_white;
 use std::test::Fail;
@@ -159,6 +161,11 @@ fn readings_and_lexemes_are_found(rt: HostRuntime) {
     readings_grow();
     lexemes_follow();
     fronts_settle();
+    lexemes_are_spelled();
+    tokens_stand_apart();
+    white_space_is_passed();
+    lexemes_move();
+    whole_lexemes_stay();
     let escape = Reading {
         kind: LexemeKind::EscapeLine,
         len: 3,
