@@ -37,7 +37,7 @@ use Rattle.cq_san.proofs.Origin.{origin_alone}
 use Rattle.cq_san.proofs.PawnOrigin.{pawn_origin}
 
 -- a man of a side is the man of his piece
-man_back : (side : Side) (man : Man) → is_of_side side man ≡ true → man_of side (piece_of_man man) ≡ man
+pub man_back : (side : Side) (man : Man) → is_of_side side man ≡ true → man_of side (piece_of_man man) ≡ man
 man_back White K e = refl
 man_back White Q e = refl
 man_back White R e = refl
@@ -53,7 +53,7 @@ man_back Black BlackP e = refl
 man_back White _ e = absurd (false≢true e)
 man_back Black _ e = absurd (false≢true e)
 
-promotion_back : (a b : Promotion) → is_same_promotion a b ≡ true → a ≡ b
+pub promotion_back : (a b : Promotion) → is_same_promotion a b ≡ true → a ≡ b
 promotion_back NoPromotion NoPromotion e = refl
 promotion_back ToQueen ToQueen e = refl
 promotion_back ToRook ToRook e = refl
@@ -61,12 +61,12 @@ promotion_back ToBishop ToBishop e = refl
 promotion_back ToKnight ToKnight e = refl
 promotion_back _ _ e = absurd (false≢true e)
 
-both_none : (a b : Promotion) → is_none a ≡ true → is_none b ≡ true → a ≡ b
+pub both_none : (a b : Promotion) → is_none a ≡ true → is_none b ≡ true → a ≡ b
 both_none NoPromotion NoPromotion e f = refl
 both_none _ _ e f = absurd (cc)
 
 -- moves are the same where their parts are
-same_move : (m n : Move) → n.from ≡ m.from → n.to ≡ m.to → n.promotion ≡ m.promotion → n.null ≡ m.null → n ≡ m
+pub same_move : (m n : Move) → n.from ≡ m.from → n.to ≡ m.to → n.promotion ≡ m.promotion → n.null ≡ m.null → n ≡ m
 same_move m n from to promotion null =
     ap (λ x. record { from = x; to = n.to; promotion = n.promotion; null = n.null }) from
     ∙ ap (λ x. record { from = m.from; to = x; promotion = n.promotion; null = n.null }) to
@@ -97,10 +97,10 @@ given_agrees p m = (
   choice_agrees (is_pawn (man_at p.men m.from)) None (rank_among (rivals_of p m) m) (rank_of m.from) refl (rank_agrees (rivals_of p m) m),
 )
 
-five_from : (a b c d e : Bool) → a ≡ true → b ≡ true → c ≡ true → d ≡ true → e ≡ true → (a && b && c && d && e) ≡ true
+pub five_from : (a b c d e : Bool) → a ≡ true → b ≡ true → c ≡ true → d ≡ true → e ≡ true → (a && b && c && d && e) ≡ true
 five_from a b c d e s t u v w = and_from (a && b && c && d) e (and_from (a && b && c) d (and_from (a && b) c (and_from a b s t) u) v) w
 
-five_parts : (a b c d e : Bool) → (a && b && c && d && e) ≡ true → (a ≡ true) × (b ≡ true) × (c ≡ true) × (d ≡ true) × (e ≡ true)
+pub five_parts : (a b c d e : Bool) → (a && b && c && d && e) ≡ true → (a ≡ true) × (b ≡ true) × (c ≡ true) × (d ≡ true) × (e ≡ true)
 five_parts a b c d e t =
     let e_ = and_parts (a && b && c && d) e t in
     let d_ = and_parts (a && b && c) d e_.0 in
@@ -120,15 +120,15 @@ parts_agree p m w plain =
     given.0 given.1 (itself m.to) (itself (promotion_number m.promotion)))
 
 -- what agrees in the parts of a man's move
-record AgreesSo (p : Board) (parts : PieceMove) (n : Move) : Type 0 where
-  plain : is_castling p n ≡ false
-  man : man_at p.men n.from ≡ man_of p.side parts.piece
-  file : agrees_where_given parts.file (file_of n.from) ≡ true
-  rank : agrees_where_given parts.rank (rank_of n.from) ≡ true
-  goal : n.to ≡ parts.goal
-  promotion : n.promotion ≡ parts.promotion
+pub record AgreesSo (p : Board) (parts : PieceMove) (n : Move) : Type 0 where
+  pub plain : is_castling p n ≡ false
+  pub man : man_at p.men n.from ≡ man_of p.side parts.piece
+  pub file : agrees_where_given parts.file (file_of n.from) ≡ true
+  pub rank : agrees_where_given parts.rank (rank_of n.from) ≡ true
+  pub goal : n.to ≡ parts.goal
+  pub promotion : n.promotion ≡ parts.promotion
 
-agrees_so : (p : Board) (parts : PieceMove) (n : Move) → agrees p (Moved parts) n ≡ true → AgreesSo p parts n
+pub agrees_so : (p : Board) (parts : PieceMove) (n : Move) → agrees p (Moved parts) n ≡ true → AgreesSo p parts n
 unfolding agrees
 agrees_so p parts n e =
     let t = and_parts (not n.null && not (is_castling p n)) (agrees_in_parts p parts n) e in
@@ -163,7 +163,7 @@ from_there p m n kept q legal w v a false piece =
     (subst (λ t. agrees_where_given (if t then (if is_capture p m then Some (file_of m.from) else None) else file_among (rivals_of p m) m) (file_of n.from) ≡ true) piece a.file)
     (subst (λ t. agrees_where_given (if t then None else rank_among (rivals_of p m) m) (rank_of n.from) ≡ true) piece a.rank)
 
-null_fails : (p : Board) (parts : PieceMove) (n : Move) → n ≡ null_move → agrees p (Moved parts) n ≡ true → ⊥
+pub null_fails : (p : Board) (parts : PieceMove) (n : Move) → n ≡ null_move → agrees p (Moved parts) n ≡ true → ⊥
 unfolding agrees
 null_fails p parts n is e = false≢true (ap (λ x. agrees p (Moved parts) x) (sym is) ∙ e)
 
@@ -181,10 +181,10 @@ moved_meant p m q kept legal w plain = record {
 }
 
 -- what castles: from where, to where, and as no promotion
-record CastlesSo (p : Board) (m : Move) : Type 0 where
-  from : m.from ≡ king_home p.side
-  to : m.to ≡ castling_goal p.side (goes_right m)
-  promotion : is_none m.promotion ≡ true
+pub record CastlesSo (p : Board) (m : Move) : Type 0 where
+  pub from : m.from ≡ king_home p.side
+  pub to : m.to ≡ castling_goal p.side (goes_right m)
+  pub promotion : is_none m.promotion ≡ true
 
 on_side : (p : Board) (m : Move) (kingside : Bool) → Castles p m kingside → m.to ≡ castling_goal p.side (goes_right m)
 on_side p m kingside c =
@@ -195,7 +195,7 @@ king_no_pawn : (side : Side) → is_pawn (king_of side) ≡ false
 king_no_pawn White = refl
 king_no_pawn Black = refl
 
-castles_so : (p : Board) (m : Move) → Moves p m → is_castling p m ≡ true → CastlesSo p m
+pub castles_so : (p : Board) (m : Move) → Moves p m → is_castling p m ≡ true → CastlesSo p m
 castles_so p m w castling =
     let king = stands-is p.men m.from (king_of p.side) (and_parts (stands p.men m.from (king_of p.side)) (files_apart m.from m.to == 2) castling).0 in
     let none : is_none m.promotion ≡ true = subst (λ t. cond t (pawn_promotion_is_right p.side m) (is_none m.promotion) ≡ true) (ap is_pawn king ∙ king_no_pawn p.side) w.promotes_so in
@@ -209,14 +209,14 @@ unfolding agrees
 castling_agrees p m true way null castling = and_from (not m.null && is_castling p m) (goes_right m) (and_from (not m.null) (is_castling p m) (not_from_false m.null null) castling) way
 castling_agrees p m false way null castling = and_from (not m.null && is_castling p m) (not (goes_right m)) (and_from (not m.null) (is_castling p m) (not_from_false m.null null) castling) (not_from_false (goes_right m) way)
 
-agrees_castling : (p : Board) (n : Move) (kingside : Bool) → agrees p (Castling kingside) n ≡ true → (n.null ≡ false) × (is_castling p n ≡ true) × (goes_right n ≡ kingside)
+pub agrees_castling : (p : Board) (n : Move) (kingside : Bool) → agrees p (Castling kingside) n ≡ true → (n.null ≡ false) × (is_castling p n ≡ true) × (goes_right n ≡ kingside)
 unfolding agrees
 agrees_castling p n true e =
     let t = and_parts (not n.null && is_castling p n) (goes_right n) e in let s = and_parts (not n.null) (is_castling p n) t.0 in (not-true n.null s.0, s.1, t.1)
 agrees_castling p n false e =
     let t = and_parts (not n.null && is_castling p n) (not (goes_right n)) e in let s = and_parts (not n.null) (is_castling p n) t.0 in (not-true n.null s.0, s.1, not-true (goes_right n) t.1)
 
-castling_meant : (p : Board) (m : Move) (q : Board) → Legal p m q → Moves p m → is_castling p m ≡ true → IsMeant p (Castling (goes_right m)) m
+pub castling_meant : (p : Board) (m : Move) (q : Board) → Legal p m q → Moves p m → is_castling p m ≡ true → IsMeant p (Castling (goes_right m)) m
 castling_meant p m q legal w castling = record {
   fits = record { next = q; leads = inl legal; agree = castling_agrees p m (goes_right m) refl w.null castling };
   alone = λ n f.

@@ -1,4 +1,3 @@
-pub mod Agreeing
 pub mod Spelled
 pub mod MoveSpelled
 pub mod SignsSpelled
@@ -16,3 +15,6 @@ pub mod Others
 pub mod Room
 pub mod Means
 pub mod Signs
+pub mod Candidates
+pub mod ByOrigins
+pub mod RivalSquares

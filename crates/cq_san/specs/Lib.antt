@@ -2,6 +2,8 @@ pub mod Spelling
 pub mod FromEnd
 pub mod Fits
 pub mod Reading
+pub mod Origins
 pub mod San
 pub mod Writing
+pub mod Rivals
 pub mod Signs

@@ -47,16 +47,6 @@ is_rival p m n = same_man (man_at p.men n.from) (man_at p.men m.from) && (n.to =
 abbrev pub rivals_of : Board → Move → List Move
 rivals_of p m = filter (is_rival p m) (legal_list p)
 
--- a part of the origin that another move shares
-abbrev pub file_part : ℕ → ℕ
-file_part square = file_of square
-
-abbrev pub rank_part : ℕ → ℕ
-rank_part square = rank_of square
-
-abbrev pub is_shared : (ℕ → ℕ) → Move → Move → Bool
-is_shared part m n = part m.from == part n.from
-
 -- the file, or the rank, tells the moving man from all of them
 abbrev pub tells : (ℕ → ℕ) → List Move → Move → Bool
 tells part others m = list_all (λ n. not (part m.from == part n.from)) others

@@ -7,6 +7,7 @@
 mod fault;
 mod fit;
 mod laws;
+mod origins;
 mod parts;
 mod reading;
 mod text;

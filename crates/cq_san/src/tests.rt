@@ -208,3 +208,18 @@ fn texts_that_are_written(rt: HostRuntime) -> Result<(), Fail> {
         ],
     )
 }
+
+#[test]
+fn faults_say_why(rt: HostRuntime) -> Result<(), Fail> {
+    for (fault, wanted) in [
+        (SanFault::NotAMove, "the text is no move"),
+        (SanFault::IllegalMove, "no legal move fits the text"),
+        (
+            SanFault::AmbiguousMove,
+            "more than one legal move fits the text",
+        ),
+    ] {
+        assert_eq!(rt; format!(in rt.alloc(); "{fault}")?.as_str(), wanted);
+    }
+    Ok(())
+}

@@ -1,23 +1,27 @@
 //! Writing a move in Standard Algebraic Notation.
-ghost use Rattle.std.specs.Prelude.{◌≡◌, Ok, ◌++◌, ◌+◌, ◌≤◌, ◌<◌, ◌&&◌, ◌||◌, not, [], length, ℕ, if◌then◌else◌, true, false, IfSome};
-ghost use Rattle.std.specs.List.{filter, list_all, list_any};
+ghost use Rattle.std.specs.Prelude.{◌≡◌, Ok, ◌++◌, ◌+◌, ◌≤◌, ◌<◌, ◌&&◌, ◌||◌, not, [], length, ℕ, if◌then◌else◌, Some, None, false, IfSome};
+ghost use Rattle.std.specs.List.{list_any};
 ghost use Rattle.cq_position.specs.Board.{Board};
 ghost use Rattle.cq_position.specs.Position.{IsPosition};
-ghost use Rattle.cq_position.specs.Legal.{Leads};
+ghost use Rattle.cq_geometry.specs.Squares as squares;
+ghost use Rattle.cq_position.specs.Legal.{Leads, Legal, is_castling};
 ghost use Rattle.cq_position.specs.Legal as legal;
-ghost use Rattle.cq_position.specs.Board.{is_pawn};
+ghost use Rattle.cq_position.specs.Board.{is_pawn, man_at};
 ghost use Rattle.cq_moves.specs.LegalMoves.{legal_list};
 ghost use Rattle.cq_position.specs.declared.moves.Move.{Move as MoveValue};
 ghost use Rattle.cq_san.specs.San.{san};
 ghost use Rattle.cq_san.specs.Writing as writing;
+ghost use Rattle.cq_san.specs.Rivals as rival;
 ghost use Rattle.cq_san.specs.Spelling.{Spells};
 ghost use Rattle.cq_san.specs.Reading.{IsMeant};
 
 use crate::fit::goes_right;
+use crate::origins::origins;
 use crate::parts::{Parts, Piece, PieceMove};
 use arrayvec::ArrayString;
-use cq_geometry::{file, files_apart, rank};
-use cq_moves::{is_castling, legal_moves, play};
+use cq_geometry::{Square, file, files_apart, rank};
+use cq_moves::{is_castling, is_mate, play};
+use cq_position::position::is_pawn;
 use cq_position::{Man, Move, Position, Promotion, in_check, is_same};
 
 // The piece that a man is.
@@ -32,32 +36,6 @@ fn piece_of_man(man: Man) -> Piece
         Man::N | Man::BlackN => Piece::Knight,
         Man::P | Man::BlackP | Man::Empty => Piece::Pawn,
     }
-}
-
-// Whether another man of the same kind goes to the same square.
-fn is_rival(position: &Position, m: &Move, n: &Move) -> bool
-    ensures { result ≡ writing.is_rival position.now m.now n.now }
-{
-    is_same(position.at(n.from), position.at(m.from)) && n.to == m.to && n.from != m.from
-}
-
-// Whether a rival is among the moves, and whether one from the same file or rank is.
-fn has_rival(position: &Position, m: &Move, moves: &[Move]) -> bool
-    ensures { result ≡ list_any (writing.is_rival position.now m.now) moves.now }
-{
-    moves.iter().any(|n| is_rival(position, m, n))
-}
-
-fn shares_file(position: &Position, m: &Move, moves: &[Move]) -> bool
-    ensures { result ≡ list_any (λ n. writing.is_rival position.now m.now n && writing.is_shared writing.file_part m.now n) moves.now }
-{
-    moves.iter().any(|n| is_rival(position, m, n) && file(m.from) == file(n.from))
-}
-
-fn shares_rank(position: &Position, m: &Move, moves: &[Move]) -> bool
-    ensures { result ≡ list_any (λ n. writing.is_rival position.now m.now n && writing.is_shared writing.rank_part m.now n) moves.now }
-{
-    moves.iter().any(|n| is_rival(position, m, n) && rank(m.from) == rank(n.from))
 }
 
 // Whether a man is captured, en passant too.
@@ -75,42 +53,103 @@ fn is_en_passant_capture(position: &Position, m: &Move) -> bool
         && position.passant() == Some(m.to)
 }
 
-fn is_pawn(man: Man) -> bool
-    ensures { result ≡ is_pawn man }
-{
-    matches!(man, Man::P | Man::BlackP)
+// What the legal moves of other men of the same kind to the same square have in common with a move.
+#[derive(Clone, Copy)]
+struct Rivals {
+    any: bool,
+    on_file: bool,
+    on_rank: bool,
 }
 
-// The file among the moves of others, and the rank.
-#[tactic(auto, using(crate::proofs::Others::file_by_others))]
-fn file_among(position: &Position, m: &Move, moves: &[Move]) -> Option<u8>
-    ensures { result ≡ writing.file_among (filter (writing.is_rival position.now m.now) moves.now) m.now }
-{
-    let any = has_rival(position, m, moves);
-    let file_shared = shares_file(position, m, moves);
-    let rank_shared = shares_rank(position, m, moves);
-    given(tells_by_file(any, file_shared, rank_shared), file(m.from))
+impl Rivals {
+    // The file of the origin, where it tells the man from all others or the rank alone doesn't.
+    fn file_of(&self, from: Square) -> Option<u8>
+        ensures { result ≡ (if self.now.any && (not self.now.on_file || self.now.on_rank) then Some (squares.file_of from) else None) }
+    {
+        if self.any && (!self.on_file || self.on_rank) {
+            Some(file(from))
+        } else {
+            None
+        }
+    }
+
+    // The rank of the origin, where the file alone doesn't tell the man from all others.
+    fn rank_of(&self, from: Square) -> Option<u8>
+        ensures { result ≡ (if self.now.any && self.now.on_file then Some (squares.rank_of from) else None) }
+    {
+        if self.any && self.on_file {
+            Some(rank(from))
+        } else {
+            None
+        }
+    }
 }
 
-#[tactic(auto, using(crate::proofs::Others::rank_by_others))]
-fn rank_among(position: &Position, m: &Move, moves: &[Move]) -> Option<u8>
-    ensures { result ≡ writing.rank_among (filter (writing.is_rival position.now m.now) moves.now) m.now }
+// The rivals of a plain move.
+fn rivals_of(position: &Position, m: &Move) -> Rivals
+    requires legal { (q : Board) × Legal position.now m.now q }
+    requires piece { is_pawn (man_at position.now.men m.now.from) ≡ false }
+    requires plain { is_castling position.now m.now ≡ false }
+    ensures any { result.any ≡ list_any (writing.is_rival position.now m.now) (legal_list position.now) }
+    ensures on_file { result.on_file ≡ list_any (rival.on_file position.now m.now) (legal_list position.now) }
+    ensures on_rank { result.on_rank ≡ list_any (rival.on_rank position.now m.now) (legal_list position.now) }
 {
-    let any = has_rival(position, m, moves);
-    let file_shared = shares_file(position, m, moves);
-    given(both(any, file_shared), rank(m.from))
+    let _side = position.side();
+    let origins = origins(position, &unplaced(position, m));
+    Rivals {
+        any: is_any_elsewhere(&origins, m.from),
+        on_file: is_any_on_file(&origins, m.from),
+        on_rank: is_any_on_rank(&origins, m.from),
+    }
 }
 
-fn tells_by_file(any: bool, file_shared: bool, rank_shared: bool) -> bool
-    ensures { result ≡ (any && (not file_shared || rank_shared)) }
+// The parts of a move without its origin.
+fn unplaced(position: &Position, m: &Move) -> PieceMove
+    ensures { result ≡ rival.unplaced position.now m.now }
 {
-    any && (!file_shared || rank_shared)
+    PieceMove {
+        piece: piece_of_man(position.at(m.from)),
+        file: None,
+        rank: None,
+        goal: m.to,
+        promotion: m.promotion,
+    }
 }
 
-fn both(a: bool, b: bool) -> bool
-    ensures { result ≡ (a && b) }
+fn is_any_elsewhere(origins: &[Square], from: Square) -> bool
+    ensures { result ≡ list_any (rival.is_elsewhere from) origins.now }
 {
-    a && b
+    origins.iter().any(|other| *other != from)
+}
+
+fn is_any_on_file(origins: &[Square], from: Square) -> bool
+    ensures { result ≡ list_any (rival.is_elsewhere_on_file from) origins.now }
+{
+    origins
+        .iter()
+        .any(|other| *other != from && file(from) == file(*other))
+}
+
+fn is_any_on_rank(origins: &[Square], from: Square) -> bool
+    ensures { result ≡ list_any (rival.is_elsewhere_on_rank from) origins.now }
+{
+    origins
+        .iter()
+        .any(|other| *other != from && rank(from) == rank(*other))
+}
+
+// The file and the rank that are given of the origin of a plain move.
+fn given_origin(position: &Position, m: &Move) -> (Option<u8>, Option<u8>)
+    requires legal { (q : Board) × Legal position.now m.now q }
+    requires plain { is_castling position.now m.now ≡ false }
+    ensures file { result.0 ≡ writing.given_file position.now m.now }
+    ensures rank { result.1 ≡ writing.given_rank position.now m.now }
+{
+    if is_pawn(position.at(m.from)) {
+        return (given(is_capture(position, m), file(m.from)), None);
+    }
+    let rivals = rivals_of(position, m);
+    (rivals.file_of(m.from), rivals.rank_of(m.from))
 }
 
 fn given(is_given: bool, part: u8) -> Option<u8>
@@ -119,61 +158,39 @@ fn given(is_given: bool, part: u8) -> Option<u8>
     if is_given { Some(part) } else { None }
 }
 
-// The file and the rank that are given of the origin.
-fn given_file(position: &Position, m: &Move, moves: &[Move]) -> Option<u8>
-    requires { moves.now ≡ legal_list position.now }
-    ensures { result ≡ writing.given_file position.now m.now }
-{
-    if is_pawn(position.at(m.from)) {
-        given(is_capture(position, m), file(m.from))
-    } else {
-        file_among(position, m, moves)
-    }
-}
-
-fn given_rank(position: &Position, m: &Move, moves: &[Move]) -> Option<u8>
-    requires { moves.now ≡ legal_list position.now }
-    ensures { result ≡ writing.given_rank position.now m.now }
-{
-    if is_pawn(position.at(m.from)) {
-        None
-    } else {
-        rank_among(position, m, moves)
-    }
-}
-
-// The parts that are written of a move.
-fn piece_parts(position: &Position, m: &Move, moves: &[Move]) -> PieceMove
-    requires { moves.now ≡ legal_list position.now }
+// The parts that are written of a plain move.
+fn piece_parts(position: &Position, m: &Move) -> PieceMove
+    requires legal { (q : Board) × Legal position.now m.now q }
+    requires plain { is_castling position.now m.now ≡ false }
     ensures { result ≡ writing.piece_parts position.now m.now }
 {
+    let (file, rank) = given_origin(position, m);
     PieceMove {
         piece: piece_of_man(position.at(m.from)),
-        file: given_file(position, m, moves),
-        rank: given_rank(position, m, moves),
+        file,
+        rank,
         goal: m.to,
         promotion: m.promotion,
     }
 }
 
-// The parts that are written of a move.
+// The parts that are written of a legal move.
 #[tactic(auto, unfolding(crate::specs::Writing::san_parts))]
-fn san_parts(position: &Position, m: &Move, moves: &[Move]) -> Parts
-    requires { moves.now ≡ legal_list position.now }
+fn san_parts(position: &Position, m: &Move) -> Parts
+    requires legal { (q : Board) × Legal position.now m.now q }
+    requires null { m.now.null ≡ false }
     ensures { result ≡ writing.san_parts position.now m.now }
 {
-    if m.null {
-        Parts::Null
-    } else if is_castling(position, m) {
+    if is_castling(position, m) {
         Parts::Castling {
             kingside: goes_right(m),
         }
     } else {
-        Parts::Moved(piece_parts(position, m, moves))
+        Parts::Moved(piece_parts(position, m))
     }
 }
 
-// Puts text behind the text so far.
+// Adds text at the end.
 fn push(text: &mut ArrayString<8>, more: &str)
     requires { length text.old.bytes + length more.now ≤ 8 }
     ensures { text.new.bytes ≡ text.old.bytes ++ more.now }
@@ -221,12 +238,13 @@ fn promotion_text(promotion: Promotion) -> &'static str
 fn sign_of(position: &Position) -> &'static str
     ensures { result.now ≡ writing.sign_of position.now }
 {
-    if !in_check(position, position.side()) {
-        ""
-    } else if legal_moves(position).is_empty() {
+    let side = position.side();
+    if is_mate(position) {
         "#"
-    } else {
+    } else if in_check(position, side) {
         "+"
+    } else {
+        ""
     }
 }
 
@@ -270,11 +288,10 @@ fn text_of(position: &Position, m: Move) -> ArrayString<8>
         push(&mut text, "--");
         return text;
     }
-    let moves = legal_moves(position);
     write_parts(
         &mut text,
         is_capture(position, &m),
-        &san_parts(position, &m, &moves),
+        &san_parts(position, &m),
     );
     push(&mut text, sign_of(&play(position, m)));
     text

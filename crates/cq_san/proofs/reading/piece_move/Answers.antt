@@ -1,0 +1,12 @@
+use Rattle.std.proofs.Common.{map, sym, ap, ◌∙◌, subst}
+use Rattle.cq_san.specs.declared.parts.Parts.TheVariants.{Moved}
+use Rattle.cq_san.specs.Origins.{move_from}
+use Rattle.cq_san.specs.Reading.{IsAnswer, only}
+use Rattle.cq_san.proofs.ByOrigins.{by_origins}
+use Rattle.cq_san.proofs.reading.piece_move.Goals as goal
+
+pub returns : goal.returns
+returns c =
+    subst (IsAnswer c.args.position.now (Moved c.args.parts.now))
+    (sym (c.only_from.ensures ∙ ap (λ squares. only (map (move_from c.args.parts.now) squares)) (c.deref.ensures.0 ∙ c.origins.ensures)))
+    (by_origins c.args.position.now c.args.parts.now c.side-side.ensures.kept.whole)

@@ -1,0 +1,77 @@
+//! The squares from which a move comes that agrees with the parts of a text.
+ghost use Rattle.std.specs.Prelude.{◌≡◌};
+ghost use Rattle.cq_position.specs.Legal as legal;
+ghost use Rattle.cq_position.specs.Legality.{legal_test};
+ghost use Rattle.cq_san.specs.Origins as origin;
+
+use crate::fit::agrees_in_parts;
+use crate::parts::PieceMove;
+use arrayvec::ArrayVec;
+use cq_geometry::Square;
+use cq_moves::{is_castling, is_legal};
+use cq_position::home::king_home;
+use cq_position::{Move, Position, Promotion, Side};
+
+/// The squares from which a legal move comes, other than castling, that agrees with the parts.
+pub(crate) fn origins(position: &Position, parts: &PieceMove) -> ArrayVec<Square, 64>
+    ensures { result.items ≡ origin.origins position.now parts.now }
+{
+    let mut found = ArrayVec::new();
+    for number in 0..64 {
+        let from = Square::new(number);
+        if is_origin(position, parts, from) {
+            found.push(from);
+        }
+    }
+    found
+}
+
+// The parts are asked before the laws of chess, which take longer.
+fn is_origin(position: &Position, parts: &PieceMove, from: Square) -> bool
+    ensures { result ≡ origin.is_origin position.now parts.now from }
+{
+    let m = move_from(parts, from);
+    agrees_in_parts(position, parts, &m) && !is_castling(position, &m) && passes(position, &m)
+}
+
+/// The move from a square to the goal that the parts tell.
+pub(crate) fn move_from(parts: &PieceMove, from: Square) -> Move
+    ensures { result ≡ origin.move_from parts.now from }
+{
+    Move {
+        from,
+        to: parts.goal,
+        promotion: parts.promotion,
+        null: false,
+    }
+}
+
+// Whether a move is legal.
+fn passes(position: &Position, m: &Move) -> bool
+    ensures { result ≡ legal_test position.now m.now }
+{
+    is_legal(position, *m)
+}
+
+/// The move by which a side castles, on the king's side or on the queen's.
+pub(crate) fn castling_move(side: Side, kingside: bool) -> Move
+    ensures { result ≡ origin.castling_move side kingside }
+{
+    Move {
+        from: king_home(side),
+        to: castling_goal(side, kingside),
+        promotion: Promotion::None,
+        null: false,
+    }
+}
+
+fn castling_goal(side: Side, kingside: bool) -> Square
+    ensures { result ≡ legal.castling_goal side kingside }
+{
+    match (side, kingside) {
+        (Side::White, true) => Square::new(6),
+        (Side::White, false) => Square::new(2),
+        (Side::Black, true) => Square::new(62),
+        (Side::Black, false) => Square::new(58),
+    }
+}
