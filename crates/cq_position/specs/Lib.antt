@@ -10,4 +10,5 @@ pub mod Reading
 pub mod Legal
 pub mod Legality
 pub mod Bitboards
+pub mod Outward
 pub mod FenText
