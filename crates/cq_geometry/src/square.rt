@@ -34,6 +34,7 @@ impl Default for Square {
 
 impl Square {
     /// The square of a number below 64.
+    #[inline]
     pub fn new(number: u8) -> Square
         requires { number < 64 }
         ensures { result ≡ number }
@@ -42,6 +43,7 @@ impl Square {
     }
 
     /// The square's number, below 64.
+    #[inline]
     pub fn number(self) -> u8
         ensures value { result ≡ self }
         ensures below { result < 64 }
@@ -51,6 +53,7 @@ impl Square {
 }
 
 /// The square of a file and a rank, both counted from 0.
+#[inline]
 pub fn square_at(file: u8, rank: u8) -> Square
     requires file { file < 8 }
     requires rank { rank < 8 }
@@ -62,6 +65,7 @@ pub fn square_at(file: u8, rank: u8) -> Square
 }
 
 /// The file, from 0 for the a-file to 7.
+#[inline]
 pub fn file(s: Square) -> u8
     ensures value { result ≡ file_of s }
     ensures below { result < 8 }
@@ -70,6 +74,7 @@ pub fn file(s: Square) -> u8
 }
 
 /// The rank, from 0 for the first to 7.
+#[inline]
 pub fn rank(s: Square) -> u8
     ensures value { result ≡ rank_of s }
     ensures below { result < 8 }
@@ -79,6 +84,7 @@ pub fn rank(s: Square) -> u8
 }
 
 /// How many files lie from one square to another, from 0 to 7.
+#[inline]
 pub fn files_apart(a: Square, b: Square) -> u8
     ensures value { result ≡ squares_apart.files_apart a b }
     ensures below { result < 8 }
@@ -87,6 +93,7 @@ pub fn files_apart(a: Square, b: Square) -> u8
 }
 
 /// How many ranks lie from one square to another, from 0 to 7.
+#[inline]
 pub fn ranks_apart(a: Square, b: Square) -> u8
     ensures value { result ≡ squares_apart.ranks_apart a b }
     ensures below { result < 8 }

@@ -7,6 +7,7 @@ use crate::square::{Square, file, rank, square_at};
 use arrayvec::ArrayVec;
 
 /// The file or rank `by` further, or None where that is off the board.
+#[inline]
 pub(crate) fn moved(coordinate: u8, by: i64) -> Option<u8>
     requires low { negsuc (2 ^ 33) ≤ℤ by }
     requires high { by ≤ℤ pos (2 ^ 33) }
@@ -26,6 +27,7 @@ pub struct Step<const DF: i8, const DR: i8>;
 
 impl<const DF: i8, const DR: i8> Step<DF, DR> {
     /// The square that the step leads to, or None where that is off the board.
+    #[inline]
     pub fn step(s: Square) -> Option<Square>
         requires files { (negsuc 1 ≤ℤ DF) × (DF ≤ℤ pos 2) }
         requires ranks { (negsuc 1 ≤ℤ DR) × (DR ≤ℤ pos 2) }

@@ -10,6 +10,7 @@ pub mod Equality
 pub mod Joined
 pub mod Legality
 pub mod Marked
+pub mod Attackers
 pub mod Numbers
 pub mod Placed
 pub mod RankTexts

@@ -1,5 +1,5 @@
 -- Sets of squares as numbers, and what they hold.
-use Rattle.std.proofs.Common.{◌≡◌, ℕ, ◌+◌, ◌*◌, ◌%◌, ◌^◌, ◌<◌, ◌≤◌, max, Bool, true, false, cond, ◌&&◌, ◌||◌, eqb, List, [], ◌∷◌, ◌++◌, map, length, take, drop, get_or, refl, sym, ap, ◌∙◌, arith, inl, inr, pos, negsuc}
+use Rattle.std.proofs.Common.{◌≡◌, ℕ, ◌+◌, ◌*◌, ◌%◌, ◌^◌, ◌<◌, ◌≤◌, max, Bool, true, false, cond, ◌&&◌, ◌||◌, eqb, List, [], ◌∷◌, map, Option, length, take, drop, get_or, refl, sym, ap, ◌∙◌, arith, inl, inr, pos, negsuc}
 use Rattle.std.specs.Prelude.{bit_or}
 use Rattle.std.specs.List.{filter}
 use Rattle.std.specs.Int.{w64}
@@ -26,26 +26,12 @@ same_test a b e = grind (arith, nat_tests)
 other_test : (a b : ℕ) → (a ≡ b → ⊥) → eqb a b ≡ false
 other_test a b ne = grind (arith, nat_tests)
 
-true_last : (b : Bool) → (b || true) ≡ true
-true_last true = refl
-true_last false = refl
-
 -- what passes the same test
 pub marks_same : (mask : ℕ) (t u : ℕ → Bool) → ((k : ℕ) → k < 64 → t k ≡ u k) → IsBitboard mask t → IsBitboard mask u
 marks_same mask t u same m = record { bit = λ k h. m.bit k h ∙ ap bit_of (same k h) }
 
 pub marks_none : IsBitboard 0 (λ k. false)
 marks_none = record { bit = λ k h. bit_at-zero k }
-
--- one more square
-pub marks_more : (mask : ℕ) (xs : List ℕ) (i s : ℕ) → i < length xs → s ≡ get_or xs i 0 → s < 64 → IsBitboard mask (contains (take i xs)) → IsBitboard (bit_or mask (1 * 2 ^ s % 18446744073709551616)) (contains (take (i + 1) xs))
-marks_more mask xs i s lt e low m = record {
-  bit = λ k h. elim (cases_eq k s) [
-    | inl same ↦ rw (list_any_more (λ x. eqb x k) xs i 0 lt, ← e, same_test s k (sym same), true_last) (rw same (bit_at_set_same w64 mask s low))
-    | inr other ↦
-        rw (list_any_more (λ x. eqb x k) xs i 0 lt, ← e, other_test s k (λ f. other (sym f)), or-false) (bit_at_set_other w64 mask s low k other ∙ m.bit k h)
-  ];
-}
 
 max_bits : (t u : Bool) → max (bit_of t) (bit_of u) ≡ bit_of (t || u)
 max_bits true true = refl
@@ -68,39 +54,58 @@ marks_one s low = record {
   ];
 }
 
-and_false : (b : Bool) → (b && false) ≡ false
-and_false true = refl
-and_false false = refl
+-- the squares of eight steps
+abbrev of_eight : Option ℕ → Option ℕ → Option ℕ → Option ℕ → Option ℕ → Option ℕ → Option ℕ → Option ℕ → ℕ → Bool
+of_eight a b c d e f g h k =
+    ((((((is_goal a k || is_goal b k) || is_goal c k) || is_goal d k) || is_goal e k) || is_goal f k) || is_goal g k) || is_goal h k
 
-filter_step : (t : ℕ → Bool) (x : ℕ) (xs : List ℕ) (k : ℕ) (b c : Bool) → t x ≡ b → eqb x k ≡ c → contains (filter t xs) k ≡ (t k && contains xs k) → contains (filter t (x ∷ xs)) k ≡ (t k && contains (x ∷ xs) k)
-filter_step t x xs k true true e f ih = let same : t k ≡ true = ap t (sym (eqb-true x k f)) ∙ e in rw (e, f, same) refl
-filter_step t x xs k true false e f ih = rw (e, f) ih
-filter_step t x xs k false true e f ih = let same : t k ≡ false = ap t (sym (eqb-true x k f)) ∙ e in rw (e, f, same) (ih ∙ rw same refl)
-filter_step t x xs k false false e f ih = rw (e, f) ih
+abbrev marks_eight : (a b c d e f g h : ℕ) → ℕ
+marks_eight a b c d e f g h = bit_or (bit_or (bit_or (bit_or (bit_or (bit_or (bit_or a b) c) d) e) f) g) h
 
--- a square is in a filtered list where it is in the list and passes
-has-filter : (t : ℕ → Bool) (xs : List ℕ) (k : ℕ) → contains (filter t xs) k ≡ (t k && contains xs k)
-has-filter t [] k = sym (and_false (t k))
-has-filter t (x ∷ xs) k = filter_step t x xs k (t x) (eqb x k) refl refl (has-filter t xs k)
+marked_eight : (a b c d e f g h : ℕ) (i j k l m n o p : Option ℕ)
+    → IsBitboard a (is_goal i) → IsBitboard b (is_goal j) → IsBitboard c (is_goal k) → IsBitboard d (is_goal l)
+    → IsBitboard e (is_goal m) → IsBitboard f (is_goal n) → IsBitboard g (is_goal o) → IsBitboard h (is_goal p)
+    → IsBitboard (marks_eight a b c d e f g h) (of_eight i j k l m n o p)
+marked_eight a b c d e f g h i j k l m n o p s t u v w x y z =
+    marks_or _ _ _ _ (marks_or _ _ _ _ (marks_or _ _ _ _ (marks_or _ _ _ _ (marks_or _ _ _ _ (marks_or _ _ _ _ (marks_or _ _ _ _ s t) u) v) w) x) y) z
 
-has-squares : (k : ℕ) → k < 64 → contains squares k ≡ true
+abbrev king_goal : ℕ → ℕ → Bool
+king_goal s =
+    of_eight (stepped (negsuc 0) (negsuc 0) s) (stepped (pos 0) (negsuc 0) s) (stepped (pos 1) (negsuc 0) s) (stepped (negsuc 0) (pos 0) s)
+    (stepped (pos 1) (pos 0) s) (stepped (negsuc 0) (pos 1) s) (stepped (pos 0) (pos 1) s) (stepped (pos 1) (pos 1) s)
+
+king_table : map (λ a. map (king_goal a) squares) squares ≡ map (λ a. map (is_king_step a) squares) squares
 unfolding squares
-has-squares k h = at_square (contains squares) (λ k. true) refl k h
+king_table = refl
 
-and_true : (b : Bool) → (b && true) ≡ b
-and_true true = refl
-and_true false = refl
+abbrev knight_goal : ℕ → ℕ → Bool
+knight_goal s =
+    of_eight (stepped (negsuc 0) (negsuc 1) s) (stepped (pos 1) (negsuc 1) s) (stepped (negsuc 1) (negsuc 0) s) (stepped (pos 2) (negsuc 0) s)
+    (stepped (negsuc 1) (pos 1) s) (stepped (pos 2) (pos 1) s) (stepped (negsuc 0) (pos 2) s) (stepped (pos 1) (pos 2) s)
 
-kept_squares : (t : ℕ → Bool) (k : ℕ) → k < 64 → contains (filter t squares) k ≡ t k
-kept_squares t k h = rw (has-filter t squares k, has-squares k h) (and_true (t k))
+knight_table : map (λ a. map (knight_goal a) squares) squares ≡ map (λ a. map (is_knight_step a) squares) squares
+unfolding squares
+knight_table = refl
 
-pub marks_king : (mask s : ℕ) → IsBitboard mask (contains (king_squares s)) → IsBitboard mask (is_king_step s)
-unfolding king_squares
-marks_king mask s m = marks_same mask _ _ (kept_squares (is_king_step s)) m
+pub marks_king : (s a b c d e f g h : ℕ) → s < 64
+    → IsBitboard a (is_goal (stepped (negsuc 0) (negsuc 0) s)) → IsBitboard b (is_goal (stepped (pos 0) (negsuc 0) s))
+    → IsBitboard c (is_goal (stepped (pos 1) (negsuc 0) s)) → IsBitboard d (is_goal (stepped (negsuc 0) (pos 0) s))
+    → IsBitboard e (is_goal (stepped (pos 1) (pos 0) s)) → IsBitboard f (is_goal (stepped (negsuc 0) (pos 1) s))
+    → IsBitboard g (is_goal (stepped (pos 0) (pos 1) s)) → IsBitboard h (is_goal (stepped (pos 1) (pos 1) s))
+    → IsBitboard (marks_eight a b c d e f g h) (is_king_step s)
+marks_king s a b c d e f g h low ma mb mc md me mf mg mh =
+    marks_same _ (king_goal s) (is_king_step s) (λ k within. at_squares king_goal is_king_step king_table s k low within)
+    (marked_eight a b c d e f g h _ _ _ _ _ _ _ _ ma mb mc md me mf mg mh)
 
-pub marks_knight : (mask s : ℕ) → IsBitboard mask (contains (knight_squares s)) → IsBitboard mask (is_knight_step s)
-unfolding knight_squares
-marks_knight mask s m = marks_same mask _ _ (kept_squares (is_knight_step s)) m
+pub marks_knight : (s a b c d e f g h : ℕ) → s < 64
+    → IsBitboard a (is_goal (stepped (negsuc 0) (negsuc 1) s)) → IsBitboard b (is_goal (stepped (pos 1) (negsuc 1) s))
+    → IsBitboard c (is_goal (stepped (negsuc 1) (negsuc 0) s)) → IsBitboard d (is_goal (stepped (pos 2) (negsuc 0) s))
+    → IsBitboard e (is_goal (stepped (negsuc 1) (pos 1) s)) → IsBitboard f (is_goal (stepped (pos 2) (pos 1) s))
+    → IsBitboard g (is_goal (stepped (negsuc 0) (pos 2) s)) → IsBitboard h (is_goal (stepped (pos 1) (pos 2) s))
+    → IsBitboard (marks_eight a b c d e f g h) (is_knight_step s)
+marks_knight s a b c d e f g h low ma mb mc md me mf mg mh =
+    marks_same _ (knight_goal s) (is_knight_step s) (λ k within. at_squares knight_goal is_knight_step knight_table s k low within)
+    (marked_eight a b c d e f g h _ _ _ _ _ _ _ _ ma mb mc md me mf mg mh)
 
 -- what is seen along the first of two lists, or the second, and so on
 or_four : (a b c d : Bool) → (((a || b) || c) || d) ≡ (a || (b || (c || (d || false))))
@@ -139,32 +144,43 @@ marks_queen occupied from a b m n =
     marks_same _ _ _ (λ k h. and_over_or (is_orthogonal from k) (is_diagonal from k) (is_open occupied from k))
     (marks_or a b (λ to. is_orthogonal from to && is_open occupied from to) (λ to. is_diagonal from to && is_open occupied from to) m n)
 
--- what has been seen so far, and what follows
-pub record IsSeenTo (occupied : ℕ → Bool) (xs : List ℕ) (i mask : ℕ) : Type 0 where
-  pub marked : IsBitboard mask (contains (take i xs))
-  pub rest : seen occupied xs ≡ take i xs ++ seen occupied (drop i xs)
+-- what has been seen of a list of squares, and what follows
+pub record IsSeenTo (occupied : ℕ → Bool) (whole rest : List ℕ) (mask : ℕ) : Type 0 where
+  pub test : ℕ → Bool
+  pub marked : IsBitboard mask test
+  pub parts : (k : ℕ) → contains (seen occupied whole) k ≡ (test k || contains (seen occupied rest) k)
 
-seen_rest : (occupied : ℕ → Bool) (x : ℕ) (xs : List ℕ) → seen occupied (x ∷ xs) ≡ x ∷ cond (occupied x) [] (seen occupied xs)
-seen_rest occupied x xs = refl
+pub seen_first : (occupied : ℕ → Bool) (whole : List ℕ) → IsSeenTo occupied whole whole 0
+seen_first occupied whole = record { test = λ k. false; marked = marks_none; parts = λ k. refl }
 
-pub IsSeenTo-more : (occupied : ℕ → Bool) (xs : List ℕ) (i s mask : ℕ) → i < length xs → s ≡ get_or xs i 0 → s < 64 → occupied s ≡ false → IsSeenTo occupied xs i mask
-    → IsSeenTo occupied xs (i + 1) (bit_or mask (1 * 2 ^ s % 18446744073709551616))
-IsSeenTo-more occupied xs i s mask lt e low free r = record {
-  marked = marks_more mask xs i s lt e low r.marked;
-  rest = r.rest ∙ rw (drop_more xs i 0 lt, take_more xs i 0 lt, ← e, free, append_assoc) refl;
+with_one : (mask next : ℕ) (test : ℕ → Bool) → next < 64 → IsBitboard mask test
+    → IsBitboard (bit_or mask (1 * 2 ^ next % 18446744073709551616)) (λ k. test k || eqb next k)
+with_one mask next test low m = marks_or mask (1 * 2 ^ next % 18446744073709551616) test (λ k. eqb next k) m (marks_one next low)
+
+or_regroup : (a b c : Bool) → (a || (b || c)) ≡ ((a || b) || c)
+or_regroup true b c = refl
+or_regroup false b c = refl
+
+pub seen_more : (occupied : ℕ → Bool) (whole now rest : List ℕ) (mask next : ℕ) → now ≡ next ∷ rest → next < 64 → occupied next ≡ false
+    → IsSeenTo occupied whole now mask → IsSeenTo occupied whole rest (bit_or mask (1 * 2 ^ next % 18446744073709551616))
+seen_more occupied whole now rest mask next e low free r = record {
+  test = λ k. r.test k || eqb next k;
+  marked = with_one mask next r.test low r.marked;
+  parts = λ k. r.parts k ∙ rw (e, free) (or_regroup (r.test k) (eqb next k) (contains (seen occupied rest) k));
 }
 
 -- the first that is occupied ends it
-pub seen_stops : (occupied : ℕ → Bool) (xs : List ℕ) (i s mask : ℕ) → i < length xs → s ≡ get_or xs i 0 → s < 64 → occupied s ≡ true → IsSeenTo occupied xs i mask
-    → IsBitboard (bit_or mask (1 * 2 ^ s % 18446744073709551616)) (contains (seen occupied xs))
-seen_stops occupied xs i s mask lt e low shut r =
-    let end : seen occupied xs ≡ take (i + 1) xs = r.rest ∙ rw (drop_more xs i 0 lt, take_more xs i 0 lt, ← e, shut) refl in
-    rw end (marks_more mask xs i s lt e low r.marked)
+pub seen_stops : (occupied : ℕ → Bool) (whole now rest : List ℕ) (mask next : ℕ) → now ≡ next ∷ rest → next < 64 → occupied next ≡ true
+    → IsSeenTo occupied whole now mask → IsBitboard (bit_or mask (1 * 2 ^ next % 18446744073709551616)) (contains (seen occupied whole))
+seen_stops occupied whole now rest mask next e low shut r =
+    marks_same _ (λ k. r.test k || eqb next k) (contains (seen occupied whole))
+    (λ k h. sym (r.parts k ∙ rw (e, shut) (ap (λ t. r.test k || t) (or-false (eqb next k)))))
+    (with_one mask next r.test low r.marked)
 
-pub seen_ends : (occupied : ℕ → Bool) (xs : List ℕ) (i mask : ℕ) → length xs ≤ i → IsSeenTo occupied xs i mask → IsBitboard mask (contains (seen occupied xs))
-seen_ends occupied xs i mask le r =
-    let end : seen occupied xs ≡ take i xs = r.rest ∙ rw (drop_all i xs le) (append-nil (take i xs)) in
-    rw end r.marked
+pub seen_ends : (occupied : ℕ → Bool) (whole now : List ℕ) (mask : ℕ) → now ≡ [] → IsSeenTo occupied whole now mask
+    → IsBitboard mask (contains (seen occupied whole))
+seen_ends occupied whole now mask e r =
+    marks_same mask r.test (contains (seen occupied whole)) (λ k h. sym (r.parts k ∙ rw e (or-false (r.test k)))) r.marked
 
 -- the two squares before a pawn
 white_pawn_table : map (λ a. map (λ b. is_goal (stepped (negsuc 0) (pos 1) a) b || is_goal (stepped (pos 1) (pos 1) a) b) squares) squares ≡ map (λ a. map (is_pawn_attack White a) squares) squares

@@ -10,6 +10,7 @@ pub mod Reading
 pub mod Legal
 pub mod Legality
 pub mod Bitboards
+pub mod Outward
 pub mod FenText
 pub mod Games
 pub mod Continuations

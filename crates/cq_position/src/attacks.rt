@@ -2,14 +2,14 @@
 ghost use Rattle.std.specs.Prelude.{◌≡◌, ◌&&◌, ◌||◌, ◌<◌};
 ghost use Rattle.cq_geometry.specs.Lines as lines;
 ghost use Rattle.cq_geometry.specs.Steps as steps;
+ghost use Rattle.cq_geometry.specs.Steps.{IsDirection, ray_from};
 ghost use Rattle.cq_position.specs.Attacks as attack;
 ghost use Rattle.cq_position.specs.Bitboards.{IsBitboard, contains};
 
-use crate::men::{Man, Side, is_of_side, king_of, opponent};
+use crate::men::{Man, Side, king_of, opponent};
+pub use crate::outward::is_attacked;
 use crate::position::{Position, stands};
-use cq_geometry::{
-    Square, Step, between, file, files_apart, king_steps, knight_steps, rank, ranks_apart, ray,
-};
+use cq_geometry::{Square, Step, between, files_apart, rank};
 
 /// The squares that the man on a square attacks, whatever stands there (FIDE Laws of Chess, articles 3.2 to 3.8): bit k of the
 /// answer is square k. An empty square attacks none.
@@ -48,59 +48,8 @@ fn is_attacked_king(men: &[Man; 64], side: Side, square: Square) -> bool
     stands(men, square, king_of(side)) && is_attacked(men, opponent(side), square)
 }
 
-/// Whether a man of a side attacks a square of this board, also where the man may not move (FIDE Laws of Chess, article 3.9.1).
-pub fn is_attacked(men: &[Man; 64], by: Side, square: Square) -> bool
-    ensures { result ≡ attack.is_attacked men.now by square }
-{
-    for number in 0..64 {
-        if is_attacker(men, by, Square::new(number), square) {
-            return true;
-        }
-    }
-    false
-}
-
-// Whether a man of the side attacks from one square to another.
-#[tactic(auto, unfolding(crate::specs::Attacks::attacks))]
-fn is_attacker(men: &[Man; 64], by: Side, from: Square, to: Square) -> bool
-    ensures { result ≡ attack.attacker men.now by to from }
-{
-    let man = men[usize::from(from.number())];
-    is_of_side(man, by) && is_attack(man, men, from, to)
-}
-
-// Whether the man attacks from one square to another.
-fn is_attack(man: Man, men: &[Man; 64], from: Square, to: Square) -> bool
-    ensures { result ≡ attack.attacks_as man (attack.is_occupied men.now) from to }
-{
-    match man {
-        Man::K | Man::BlackK => is_king_step(from, to),
-        Man::Q | Man::BlackQ => (is_orthogonal(from, to) || is_diagonal(from, to))
-            && is_open(men, from, to),
-        Man::R | Man::BlackR => is_orthogonal(from, to) && is_open(men, from, to),
-        Man::B | Man::BlackB => is_diagonal(from, to) && is_open(men, from, to),
-        Man::N | Man::BlackN => is_knight_step(from, to),
-        Man::P => is_pawn_attack(Side::White, from, to),
-        Man::BlackP => is_pawn_attack(Side::Black, from, to),
-        Man::Empty => false,
-    }
-}
-
-fn is_king_step(a: Square, b: Square) -> bool
-    ensures { result ≡ steps.is_king_step a b }
-{
-    files_apart(a, b).max(ranks_apart(a, b)) == 1
-}
-
-fn is_knight_step(a: Square, b: Square) -> bool
-    ensures { result ≡ steps.is_knight_step a b }
-{
-    let files = files_apart(a, b);
-    let ranks = ranks_apart(a, b);
-    files == 1 && ranks == 2 || files == 2 && ranks == 1
-}
-
 /// Whether a pawn of a side on `a` attacks `b`: one of the two squares diagonally in front of it (FIDE Laws of Chess, article 3.7.3).
+#[inline]
 pub fn is_pawn_attack(side: Side, a: Square, b: Square) -> bool
     ensures { result ≡ attack.is_pawn_attack side a b }
 {
@@ -108,20 +57,6 @@ pub fn is_pawn_attack(side: Side, a: Square, b: Square) -> bool
         Side::White => rank(b) == rank(a) + 1 && files_apart(a, b) == 1,
         Side::Black => rank(a) == rank(b) + 1 && files_apart(a, b) == 1,
     }
-}
-
-fn is_orthogonal(a: Square, b: Square) -> bool
-    ensures { result ≡ lines.is_orthogonal a b }
-{
-    a.number() != b.number() && (file(a) == file(b) || rank(a) == rank(b))
-}
-
-fn is_diagonal(a: Square, b: Square) -> bool
-    ensures { result ≡ lines.is_diagonal a b }
-{
-    a.number() != b.number()
-        && (7 + rank(a) - file(a) == 7 + rank(b) - file(b)
-            || file(a) + rank(a) == file(b) + rank(b))
 }
 
 /// Whether no man stands strictly between two squares of one rank, file or diagonal; true for other pairs.
@@ -135,6 +70,7 @@ pub fn is_open(men: &[Man; 64], a: Square, b: Square) -> bool
 }
 
 /// Whether a man stands on a square.
+#[inline]
 pub fn is_occupied(men: &[Man; 64], square: Square) -> bool
     ensures { result ≡ attack.is_occupied men.now square }
 {
@@ -160,58 +96,67 @@ fn squares_attacked(man: Man, men: &[Man; 64], from: Square) -> u64
 }
 
 fn king_squares(from: Square) -> u64
+    requires { from < 64 }
     ensures { IsBitboard result (steps.is_king_step from) }
 {
-    marked(king_steps(from).as_slice())
+    mark(Step::<-1, -1>::step(from))
+        | mark(Step::<0, -1>::step(from))
+        | mark(Step::<1, -1>::step(from))
+        | mark(Step::<-1, 0>::step(from))
+        | mark(Step::<1, 0>::step(from))
+        | mark(Step::<-1, 1>::step(from))
+        | mark(Step::<0, 1>::step(from))
+        | mark(Step::<1, 1>::step(from))
 }
 
 fn knight_squares(from: Square) -> u64
+    requires { from < 64 }
     ensures { IsBitboard result (steps.is_knight_step from) }
 {
-    marked(knight_steps(from).as_slice())
+    mark(Step::<-1, -2>::step(from))
+        | mark(Step::<1, -2>::step(from))
+        | mark(Step::<-2, -1>::step(from))
+        | mark(Step::<2, -1>::step(from))
+        | mark(Step::<-2, 1>::step(from))
+        | mark(Step::<2, 1>::step(from))
+        | mark(Step::<-1, 2>::step(from))
+        | mark(Step::<1, 2>::step(from))
 }
 
 fn orthogonal_squares(men: &[Man; 64], from: Square) -> u64
     requires { from < 64 }
     ensures { IsBitboard result (λ to. lines.is_orthogonal from to && lines.is_open (attack.is_occupied men.now) from to) }
 {
-    seen(men, ray::<0, 1>(from).as_slice())
-        | seen(men, ray::<0, -1>(from).as_slice())
-        | seen(men, ray::<-1, 0>(from).as_slice())
-        | seen(men, ray::<1, 0>(from).as_slice())
+    seen::<0, 1>(men, from)
+        | seen::<0, -1>(men, from)
+        | seen::<-1, 0>(men, from)
+        | seen::<1, 0>(men, from)
 }
 
 fn diagonal_squares(men: &[Man; 64], from: Square) -> u64
     requires { from < 64 }
     ensures { IsBitboard result (λ to. lines.is_diagonal from to && lines.is_open (attack.is_occupied men.now) from to) }
 {
-    seen(men, ray::<1, 1>(from).as_slice())
-        | seen(men, ray::<-1, 1>(from).as_slice())
-        | seen(men, ray::<1, -1>(from).as_slice())
-        | seen(men, ray::<-1, -1>(from).as_slice())
+    seen::<1, 1>(men, from)
+        | seen::<-1, 1>(men, from)
+        | seen::<1, -1>(men, from)
+        | seen::<-1, -1>(men, from)
 }
 
-// The squares up to and with the first that is occupied.
-fn seen(men: &[Man; 64], squares: &[Square]) -> u64
-    ensures { IsBitboard result (contains (lines.seen (attack.is_occupied men.now) squares.now)) }
+// The squares from a square in a direction, up to and with the first that is occupied.
+#[inline]
+fn seen<const DF: i8, const DR: i8>(men: &[Man; 64], from: Square) -> u64
+    requires { IsDirection DF DR }
+    ensures { IsBitboard result (contains (lines.seen (attack.is_occupied men.now) (ray_from DF DR from))) }
 {
     let mut mask = 0;
-    for square in squares {
-        mask |= 1 << square.number();
-        if is_occupied(men, *square) {
+    let mut at = from;
+    while let Some(next) = Step::<DF, DR>::step(at) {
+        mask |= 1 << next.number();
+        if is_occupied(men, next) {
             return mask;
         }
-    }
-    mask
-}
-
-// The squares of a list.
-fn marked(squares: &[Square]) -> u64
-    ensures { IsBitboard result (contains squares.now) }
-{
-    let mut mask = 0;
-    for square in squares {
-        mask |= 1 << square.number();
+        at = next;
     }
     mask
 }
@@ -226,6 +171,7 @@ fn pawn_squares(side: Side, from: Square) -> u64
     }
 }
 
+#[inline]
 fn mark(square: Option<Square>) -> u64
     ensures { IsBitboard result (attack.is_goal square) }
 {

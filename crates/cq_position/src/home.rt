@@ -6,6 +6,7 @@ use crate::men::Side;
 use cq_geometry::Square;
 
 /// The square on which a side's king stands at home.
+#[inline]
 pub fn king_home(side: Side) -> Square
     ensures { result ≡ board.king_home side }
 {
@@ -16,6 +17,7 @@ pub fn king_home(side: Side) -> Square
 }
 
 /// The square on which the rook of the king's side, or of the queen's side, stands at home.
+#[inline]
 pub fn rook_home(side: Side, kingside: bool) -> Square
     ensures { result ≡ board.rook_home side kingside }
 {

@@ -11,6 +11,7 @@ pub mod home;
 pub mod laws;
 pub mod men;
 pub mod moves;
+mod outward;
 pub mod position;
 
 pub use attacks::{attacks_from, in_check};

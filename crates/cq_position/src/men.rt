@@ -82,6 +82,7 @@ pub fn letter_of(man: Man) -> Option<u8>
 }
 
 /// Whether two squares hold the same: men of one kind and one side, or nothing.
+#[inline]
 pub fn is_same(man: Man, other: Man) -> bool
     ensures { result ≡ same_man man other }
 {
@@ -89,6 +90,7 @@ pub fn is_same(man: Man, other: Man) -> bool
 }
 
 /// Whether a man is of a side; the empty square is of none.
+#[inline]
 pub fn is_of_side(man: Man, side: Side) -> bool
     ensures { result ≡ men_spec.is_of_side side man }
 {
@@ -100,6 +102,7 @@ pub fn is_of_side(man: Man, side: Side) -> bool
 }
 
 /// The other side.
+#[inline]
 pub fn opponent(side: Side) -> Side
     ensures { result ≡ men_spec.opponent side }
 {
@@ -110,6 +113,7 @@ pub fn opponent(side: Side) -> Side
 }
 
 /// The man that is the king of a side.
+#[inline]
 pub fn king_of(side: Side) -> Man
     ensures { result ≡ men_spec.king_of side }
 {
@@ -120,6 +124,7 @@ pub fn king_of(side: Side) -> Man
 }
 
 /// The man that is a rook of a side.
+#[inline]
 pub fn rook_of(side: Side) -> Man
     ensures { result ≡ men_spec.rook_of side }
 {

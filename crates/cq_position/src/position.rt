@@ -101,6 +101,7 @@ impl Position {
     }
 
     /// What stands on a square.
+    #[inline]
     pub fn at(&self, square: Square) -> Man
         ensures man { result ≡ man_at self.now.men square }
         ensures board { square < 64 }
@@ -110,6 +111,7 @@ impl Position {
     }
 
     /// What stands on the squares a1, b1, .. h8.
+    #[inline]
     pub fn men(&self) -> &[Man; 64]
         ensures men { result.now ≡ self.now.men }
         ensures kept { IsPosition self.now }
@@ -118,6 +120,7 @@ impl Position {
     }
 
     /// The side to move.
+    #[inline]
     pub fn side(&self) -> Side
         ensures side { result ≡ self.now.side }
         ensures kept { IsPosition self.now }
@@ -126,6 +129,7 @@ impl Position {
     }
 
     /// The en passant square that the position keeps: one that the opponent's pawn can just have passed by a double step.
+    #[inline]
     pub fn passant(&self) -> Option<Square>
         ensures square { result ≡ self.now.passant }
         ensures kept { IsPosition self.now }
@@ -134,6 +138,7 @@ impl Position {
     }
 
     /// Whether a side has kept its right to castle on the king's side, or on the queen's side.
+    #[inline]
     pub fn may_castle(&self, side: Side, kingside: bool) -> bool
         ensures right { result ≡ castling_right self.now.rights side kingside }
         ensures kept { IsPosition self.now }
@@ -164,6 +169,7 @@ impl Position {
 }
 
 /// Whether a square of the board holds a man, or nothing where `Empty` is asked. `men` has the men of the squares a1, b1, .. h8.
+#[inline]
 pub fn stands(men: &[Man; 64], square: Square, man: Man) -> bool
     ensures { result ≡ board.stands men.now square man }
 {
@@ -205,6 +211,7 @@ fn has_pawn(squares: &[Man]) -> bool
 }
 
 /// Whether a man is a pawn of either side.
+#[inline]
 pub fn is_pawn(man: Man) -> bool
     ensures { result ≡ board.is_pawn man }
 {

@@ -4,6 +4,5 @@ use Rattle.cq_position.proofs.attacks.diagonal_squares.Goals as goal
 
 pub returns : goal.returns
 returns c =
-    marks_diagonal (is_occupied c.args.men.now) c.args.from _ _ _ _ c.requires (rw (c.as_slice.ensures.value, c.ray.ensures.squares) at c.seen.ensures)
-    (rw (c.as_slice-2.ensures.value, c.ray-2.ensures.squares) at c.seen-2.ensures) (rw (c.as_slice-3.ensures.value, c.ray-3.ensures.squares) at c.seen-3.ensures)
-    (rw (c.as_slice-4.ensures.value, c.ray-4.ensures.squares) at c.seen-4.ensures)
+    marks_diagonal (is_occupied c.args.men.now) c.args.from _ _ _ _ c.requires
+    c.seen.ensures c.seen-2.ensures c.seen-3.ensures c.seen-4.ensures
