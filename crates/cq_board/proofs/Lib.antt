@@ -1,0 +1,4 @@
+pub mod Increasing
+mod Totals
+pub mod Steps
+pub mod Dealing

@@ -1,0 +1,28 @@
+-- Workers that draw the numbers from 0 on.
+-- A state is the number that is drawn next and, for each worker, the list of the numbers that it drew. In the one event, a worker draws: the next
+-- number goes to the end of its list, and one more is next.
+use Rattle.std.specs.Prelude.{◌≡◌, ℕ, List, ◌==◌, if◌then◌else◌, nat_lt, sum_by, count_by}
+use Rattle.std.specs.List.Sorted.{IsStrictlyIncreasing}
+use mathlib.Core.Option.{some}
+use lib.ListN.{get_elem?}
+
+-- how often x stands in the list
+abbrev pub times : ℕ → List ℕ → ℕ
+times x xs = count_by (λ y. y == x) xs
+
+-- how often x stands in all lists together
+abbrev pub times_in : ℕ → List (List ℕ) → ℕ
+times_in x lists = sum_by (times x) lists
+
+-- once where x is below the next number, and else not at all
+abbrev pub once_below : ℕ → ℕ → ℕ
+once_below next x = if nat_lt x next then 1 else 0
+
+-- Each number below `next` stands once in all lists together, and nothing else stands there
+abbrev pub IsDrawnOnce : ℕ → List (List ℕ) → Type 0
+IsDrawnOnce next lists = (x : ℕ) → times_in x lists ≡ once_below next x
+
+-- The state is sound
+pub record IsSound (next : ℕ) (lists : List (List ℕ)) : Type 0 where
+  pub increasing : (worker : ℕ) (list : List ℕ) → get_elem? lists worker ≡ some list → IsStrictlyIncreasing list
+  pub once : IsDrawnOnce next lists

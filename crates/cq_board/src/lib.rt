@@ -1,0 +1,11 @@
+//! A board from which workers draw the numbers below `n`, each number once and by one worker, whatever the order of their steps.
+#![tactic(auto)]
+
+mod board;
+pub mod seat;
+mod view;
+
+pub use seat::{Board, ClaimSeat};
+
+#[cfg(test)]
+mod tests;

@@ -1,0 +1,64 @@
+//! What seats know of the draws, and the rule that each step keeps. No value of a view is made.
+use atomic_table::{Join, Play, Split, TableRule};
+use std::collections::LinkedList;
+
+/// What a board is told when it is made.
+#[derive(Clone, Copy, Debug)]
+pub struct Terms {
+    /// The board gives out the numbers below it.
+    pub numbers: u64,
+    pub seats: u64,
+}
+
+/// What a seat knows.
+pub struct View {
+    pub numbers: u64,
+    pub seats: u64,
+    pub drawn: LinkedList<u64>,
+    /// How many seats may still draw with this view.
+    pub passes: u64,
+}
+
+/// Each number below word 0 was drawn once.
+pub struct DrawnOnce;
+
+impl TableRule<(), View, Terms> for DrawnOnce {
+    ghost use Rattle.cq_board.specs.Views.{IsKept, first_view};
+
+    ghost holds = { λ terms s. IsKept terms s.words s.views };
+
+    ghost first = { first_view };
+}
+
+/// A seat draws the word, which grows by one.
+pub struct Draw;
+
+impl Play<(), View> for Draw {
+    ghost use Rattle.std.specs.Prelude.{◌≡◌};
+    ghost use Rattle.std.specs.List.Sorted.{IsStrictlyIncreasing};
+    ghost use Rattle.cq_board.specs.Views.{drawing};
+
+    ghost then = { λ _ before found after. (after ≡ (drawing before.0 found, before.1)) × IsStrictlyIncreasing after.0.drawn };
+}
+
+/// A seat hands out one of its passes.
+pub struct HandOut;
+
+impl Split<View> for HandOut {
+    ghost use Rattle.cq_board.specs.Views.{one_pass_less, one_pass};
+
+    ghost left = { one_pass_less };
+
+    ghost right = { one_pass };
+}
+
+/// A seat takes in another's numbers and passes.
+pub struct TakeIn;
+
+impl Join<View> for TakeIn {
+    ghost use Rattle.cq_board.specs.Views.{joined, spent};
+
+    ghost both = { joined };
+
+    ghost spent = { spent };
+}
