@@ -7,7 +7,7 @@ use Rattle.std.proofs.lemmas.List.Elements.{All-from_recursion}
 use Rattle.pgn_lexer.specs.Lexemes.{Lexeme, end, lexemes, tokens_among, first_at}
 use Rattle.pgn_lexer.specs.Local.{IsUncrossed, within, StandsIn}
 use Rattle.pgn_cut.specs.Cut.{is_passed_over, ends_before, ends_behind, span_to, cut_from, cut, byte_order_mark, text_start, archive_lexemes}
-use Rattle.pgn_cut.specs.Joined.{HasItsTokens}
+use Rattle.pgn_cut.specs.Joined.{HasItsTokens, game_bytes}
 use Rattle.pgn_cut.specs.declared.span.Span.{Span}
 
 -- what the laws of lexemes say
@@ -95,28 +95,33 @@ part_is archive start from to after also =
     let n : to - start - (from - start) ≡ to - from = omega arith in
     ap₂ (λ k l. take k l) n (drop-drop (from - start) start archive ∙ ap (λ k. drop k archive) a)
 
-pub joined : StandApart → AreLocal → (archive : List ℕ) → AllByRecursion (HasItsTokens archive) (cut archive)
+-- the lexemes of a game are the archive's within it
+abbrev pub HasItsLexemes : List ℕ → Span → Type 0
+HasItsLexemes archive game = lexemes game.start game.first (game_bytes archive game) ≡ within game.start game.end (archive_lexemes archive)
+
+pub joined : StandApart → AreLocal → (archive : List ℕ) → AllByRecursion (HasItsLexemes archive) (cut archive)
 joined apart are_local archive =
     let start = text_start archive in
     let text = drop start archive in
     let all = apart start true text in
     let inside = text_within archive in
     let whole : start + length text ≡ length archive = omega (arith, length-drop start archive) in
-    map_all (CleanSpan start text) (HasItsTokens archive)
+    map_all (CleanSpan start text) (HasItsLexemes archive)
     (λ game clean.
     let from_is : start + (game.start - start) ≡ game.start = let h = clean.begins.after in omega arith in
     let to_is : start + (game.end - start) ≡ game.end = let h = clean.ends.after in omega arith in
     let here = are_local start true text (game.start - start) (game.end - start)
     (subst (λ p. IsUncrossed p (lexemes start true text)) (sym from_is) clean.begins.uncrossed)
     (subst (λ p. IsUncrossed p (lexemes start true text)) (sym to_is) clean.ends.uncrossed) in
-    ap tokens_among
-    (ap₂ (λ c bytes. lexemes game.start c bytes) clean.column (sym (part_is archive start game.start game.end clean.begins.after clean.ends.after))
+    ap₂ (λ c bytes. lexemes game.start c bytes) clean.column (sym (part_is archive start game.start game.end clean.begins.after clean.ends.after))
     ∙ ap (λ p. lexemes p (first_at true text (game.start - start)) (slice_range text (game.start - start) (game.end - start))) (sym from_is)
     ∙ here
-    ∙ ap₂ (λ a b. within a b (lexemes start true text)) from_is to_is))
+    ∙ ap₂ (λ a b. within a b (lexemes start true text)) from_is to_is)
     (cut archive)
     (cut_clean start text (length archive) [] (archive_lexemes archive) (subst (Clean start text) whole (text_end start text all)) tt all)
 
--- the same, element by element
+-- and so its tokens, element by element
 pub all_joined : StandApart → AreLocal → (archive : List ℕ) → All (HasItsTokens archive) (cut archive)
-all_joined apart are_local archive = All-from_recursion (HasItsTokens archive) (cut archive) (joined apart are_local archive)
+all_joined apart are_local archive =
+    All-from_recursion (HasItsTokens archive) (cut archive)
+    (map_all (HasItsLexemes archive) (HasItsTokens archive) (λ game has. ap tokens_among has) (cut archive) (joined apart are_local archive))

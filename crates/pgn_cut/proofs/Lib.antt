@@ -2,6 +2,7 @@ pub mod Closed
 pub mod Joins
 pub mod Loop
 pub mod Meets
+pub mod OneGame
 pub mod Order
 pub mod Pushes
 mod Rows

@@ -1,13 +1,15 @@
 //! Laws of the cut, for the crates above. Each is proved for all archives; to call one costs nothing.
-ghost use Rattle.std.specs.Prelude.{◌≡◌, ◌++◌, ℕ, List, All, length};
+ghost use Rattle.std.specs.Prelude.{◌≡◌, ◌++◌, ℕ, Bool, List, All, length};
+ghost use Rattle.pgn_lexer.specs.Lexemes.{lexemes, tokens_of};
 ghost use Rattle.pgn_cut.specs.Cut.{cut, closed};
 ghost use Rattle.pgn_cut.specs.Joined.{HasItsTokens};
+ghost use Rattle.pgn_cut.specs.OneGame.{IsGameOfCut, IsGameIn, IsUncut, IsEndedByMarker};
 ghost use Rattle.pgn_cut.specs.declared.span.Span.{Span as ASpan};
 ghost use Rattle.pgn_cut.specs.Spans.{EndsBy, AreInOrder, FinishesAt};
 
 use pgn_lexer::{
-    fronts_settle, lexemes_are_local, lexemes_follow, lexemes_stand_apart, readings_are_longest,
-    readings_grow,
+    fronts_settle, lexemes_are_local, lexemes_are_spelled, lexemes_follow, lexemes_stand_apart,
+    readings_are_longest, readings_grow,
 };
 
 /// The games of a cut stand in their archive in order, each with at least one byte, and don't overlap.
@@ -26,8 +28,22 @@ pub fn games_have_their_tokens()
     lexemes_are_local();
 }
 
-/// The games that a front of an archive closes are the archive's first ones, and the first that any longer front closes,
-/// whatever follows. A front has at most one game besides, which ends with it.
+/// The bytes of each game of a cut are one game of a cut. No game ends within such bytes: no lexeme of theirs stands
+/// after a marker outside variations, no `[` in the first column after movetext, and so no token after such a marker.
+pub fn games_end_once()
+    ensures each { (archive : List ℕ) → All (IsGameIn archive) (cut archive) }
+    ensures lexemes { (start : ℕ) (first : Bool) (bytes : List ℕ) →
+        IsGameOfCut start first bytes → IsUncut (lexemes start first bytes) }
+    ensures tokens { (start : ℕ) (first : Bool) (bytes : List ℕ) →
+        IsGameOfCut start first bytes → IsEndedByMarker start bytes (tokens_of start first bytes) }
+{
+    lexemes_stand_apart();
+    lexemes_are_local();
+    lexemes_are_spelled();
+}
+
+/// The games that a prefix of an archive closes are the archive's first ones, and the first that any longer prefix
+/// closes, whatever follows. A prefix has at most one game besides, which ends with it.
 pub fn closed_games_stay()
     ensures stay { (front more : List ℕ) → (rest : List ASpan) × (cut (front ++ more) ≡ closed front ++ rest) }
     ensures whole { (front : List ℕ) → (last : List ASpan) × (cut front ≡ closed front ++ last) × FinishesAt (length front) last }

@@ -1,8 +1,8 @@
 //! An archive of PGN, cut into its games.
 //!
 //! `specs/Cut` says where games begin and end, by the lexemes of the whole archive; `cut_whole` gives exactly these.
-//! The laws say that games stand in order, that the tokens of a game are the archive's lexemes within it, and that the
-//! games which a front of an archive closes stay, whatever follows.
+//! The laws say that games stand in order, that the tokens of a game are the archive's lexemes within it, that no game
+//! ends within another, and that the games which a prefix of an archive closes stay, whatever follows.
 #![tactic(auto)]
 
 mod game;
@@ -12,6 +12,6 @@ pub mod span;
 mod tests;
 pub mod whole;
 
-pub use laws::{closed_games_stay, games_have_their_tokens, games_stand_apart};
+pub use laws::{closed_games_stay, games_end_once, games_have_their_tokens, games_stand_apart};
 pub use span::Span;
 pub use whole::cut_whole;

@@ -1,5 +1,7 @@
 //! Cuts of archives from outside, and calls that find memory.
-use crate::{Span, closed_games_stay, cut_whole, games_have_their_tokens, games_stand_apart};
+use crate::{
+    Span, closed_games_stay, cut_whole, games_end_once, games_have_their_tokens, games_stand_apart,
+};
 use pgn_lexer::tokens;
 use std::test::Fail;
 
@@ -49,6 +51,7 @@ static ROWS: [Row<'static>; 31] = [
 #[test]
 fn archives_have_their_games(rt: HostRuntime) -> Result<(), Fail> {
     games_have_their_tokens();
+    games_end_once();
     games_stand_apart();
     closed_games_stay();
     for (archive, want) in ROWS.iter() {

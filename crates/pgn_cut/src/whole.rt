@@ -1,11 +1,12 @@
 //! A whole archive, cut into its games.
 ghost use Rattle.std.specs.Prelude.{◌≡◌, ◌<◌, ◌≤◌, ◌^◌, length, All, IfOk};
 ghost use Rattle.pgn_cut.specs.Joined.{HasItsTokens};
+ghost use Rattle.pgn_cut.specs.OneGame.{IsGameIn};
 ghost use Rattle.pgn_cut.specs.Spans.{EndsBy, AreInOrder};
 ghost use Rattle.pgn_cut.specs.Cut.{text_start, cut};
 
 use crate::game::Game;
-use crate::laws::{games_have_their_tokens, games_stand_apart};
+use crate::laws::{games_end_once, games_have_their_tokens, games_stand_apart};
 use crate::span::Span;
 use cq_outside::NoMemory;
 use pgn_lexer::next_lexeme;
@@ -33,6 +34,7 @@ pub fn cut_whole(alloc: Global, archive: &[u8]) -> Result<Vec<Span>, NoMemory>
     ensures order { IfOk result (λ v. AreInOrder 0 (length archive.now) v.items) }
     ensures within { IfOk result (λ v. All (EndsBy (length archive.now)) v.items) }
     ensures tokens { IfOk result (λ v. All (HasItsTokens archive.now) v.items) }
+    ensures each { IfOk result (λ v. All (IsGameIn archive.now) v.items) }
 {
     let offset = text_start(archive);
     let text = &archive[offset..];
@@ -52,5 +54,6 @@ pub fn cut_whole(alloc: Global, archive: &[u8]) -> Result<Vec<Span>, NoMemory>
     }
     games_stand_apart();
     games_have_their_tokens();
+    games_end_once();
     Ok(spans)
 }
