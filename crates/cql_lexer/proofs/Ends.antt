@@ -7,7 +7,7 @@ use Rattle.std.specs.Char.{is_ascii_digit}
 use Rattle.std.specs.Str.Parse.{digits_value}
 use Rattle.std.proofs.lemmas.Bool.{leb-true}
 use Rattle.std.proofs.lemmas.List.Quantifiers.{position-Some}
-use Rattle.cql_syntax.specs.Words.{words, reserved_names, place_of}
+use Rattle.cql_syntax.specs.Words.{words, marks, reserved_names, place_of}
 use Rattle.cql_syntax.specs.declared.leaves.Designator.{Designator}
 use Rattle.cql_syntax.specs.declared.leaves.Outcome.TheVariants as outcomes
 use Rattle.cql_syntax.specs.declared.token.QueryToken.{QueryToken}
@@ -22,7 +22,7 @@ use Rattle.cql_lexer.specs.declared.lexeme.Lexeme.{Lexeme}
 use Rattle.cql_lexer.specs.Characters.{is_name_byte, is_file_byte, is_quote, begins, begins_name_or_squares}
 use Rattle.cql_lexer.specs.Designators.{designator}
 use Rattle.cql_lexer.specs.Longest.{longest}
-use Rattle.cql_lexer.specs.Lexemes.{of_len, file_name, outcome, quoted, number, named, named_or_squares, marks, mark_number, mark, found_or, first_lexeme}
+use Rattle.cql_lexer.specs.Lexemes.{of_len, file_name, outcome, quoted, number, named, named_or_squares, mark_number, mark, found_or, first_lexeme}
 use Rattle.cql_lexer.specs.Tokens.{IsProper, EndOnce, tokens_from, tokens_of, separator_len, token_at, with_front, expected_after, result_and_then}
 use Rattle.cql_lexer.proofs.Longest.{longest_parts}
 
@@ -88,7 +88,7 @@ number_proper text =
     let value = digits_value 10 (take (prefix_len is_ascii_digit text) text) in
     number_by (leb value 999999999) (prefix_len is_ascii_digit text) value (leb-true value 999999999)
 
-named_by : (o : Option ℕ) (b : Bool) (name : List ℕ) → ((k : ℕ) → o ≡ Some k → k < 69) → IsProper (elim o [ Some word ↦ Word word | None ↦ cond b (Reserved name) (Name name) ])
+named_by : (o : Option ℕ) (b : Bool) (name : List ℕ) → ((k : ℕ) → o ≡ Some k → k < 74) → IsProper (elim o [ Some word ↦ Word word | None ↦ cond b (Reserved name) (Name name) ])
 named_by None true name h = tt
 named_by None false name h = tt
 named_by (Some k) b name h = h k refl

@@ -1,6 +1,7 @@
 -- The longest mark at the front of a text.
 use Rattle.std.proofs.Common.{◌≡◌, ℕ, zero, suc, ◌<◌, ◌≤◌, Bool, true, ltb, leb, List, [], ◌∷◌, length, take, get_or, Some, ⊎_elim, refl, sym, subst, arith, length-take-le}
-use Rattle.cql_lexer.specs.Lexemes.{mark_number, marks}
+use Rattle.cql_lexer.specs.Lexemes.{mark_number}
+use Rattle.cql_syntax.specs.Words.{marks}
 use Rattle.cql_lexer.specs.Longest.{front, longest}
 use Rattle.std.specs.Prelude.{◌&&◌}
 use Rattle.std.specs.Option.{option_or}

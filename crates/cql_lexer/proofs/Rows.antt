@@ -1,6 +1,7 @@
 -- The definitions at worked rows.
 use Rattle.std.proofs.Common.{◌≡◌, ℕ, true, false, List, [], ◌∷◌, ◌++◌, Result, Ok, Err, refl}
 use Rattle.std.specs.Prelude.{codes}
+use Rattle.cql_syntax.specs.Words.{word_of}
 use Rattle.cql_syntax.specs.declared.fault.QueryFault.{QueryFault}
 use Rattle.cql_syntax.specs.declared.fault.QueryReason.{QueryReason}
 use Rattle.cql_syntax.specs.declared.fault.QueryReason.TheVariants.{BadByte, UnclosedText, NumberTooLarge}
@@ -72,8 +73,8 @@ unfolding tokens_of tokens_from separator_len first_lexeme file_name outcome nam
 name_or_bishop = refl
 
 -- a word, a name that is kept back and another name
-names : tokens_of (codes "check move moves") ≡ Ok (token 0 (Word 5) ∷ token 6 (Reserved (codes "move")) ∷ token 11 (Name (codes "moves")) ∷ token 16 End ∷ [])
-unfolding tokens_of tokens_from separator_len first_lexeme file_name outcome named named_or_squares longest longest_within designator men_on none_or_all squares_within
+names : tokens_of (codes "check echo moves") ≡ Ok (token 0 (Word 5) ∷ token 6 (Reserved (codes "echo")) ∷ token 11 (Name (codes "moves")) ∷ token 16 End ∷ [])
+unfolding tokens_of tokens_from separator_len first_lexeme file_name outcome named named_or_squares longest longest_within designator men_on none_or_all squares_within word_of
 names = refl
 
 -- digits begin a number and no name
@@ -98,17 +99,17 @@ comments = refl
 
 -- behind `input` the name of a file, in which `//` begins no comment; a text may stand there instead
 file_names : tokens_of (codes "input a//b output \"c d\"") ≡ Ok (token 0 (Word 1) ∷ token 6 (FileName (codes "a//b")) ∷ token 11 (Word 2) ∷ token 18 (Text (codes "c d")) ∷ token 23 End ∷ [])
-unfolding tokens_of tokens_from separator_len first_lexeme file_name outcome quoted named named_or_squares longest longest_within designator
+unfolding tokens_of tokens_from separator_len first_lexeme file_name outcome quoted named named_or_squares longest longest_within designator word_of
 file_names = refl
 
 -- behind `result` a result, even where a number goes on
 results : tokens_of (codes "result 1-00") ≡ Ok (token 0 (Word 19) ∷ token 7 (Outcome White) ∷ token 10 (Number 0) ∷ token 11 End ∷ [])
-unfolding tokens_of tokens_from separator_len first_lexeme file_name outcome number named named_or_squares longest longest_within designator
+unfolding tokens_of tokens_from separator_len first_lexeme file_name outcome number named named_or_squares longest longest_within designator word_of
 results = refl
 
 -- there alone `*` is a result, and else a mark
 stars : tokens_of (codes "result// c" ++ 10 ∷ codes "**") ≡ Ok (token 0 (Word 19) ∷ token 11 (Outcome Unfinished) ∷ token 12 (Mark 9) ∷ token 13 End ∷ [])
-unfolding tokens_of tokens_from separator_len first_lexeme file_name outcome named named_or_squares mark mark_number longest longest_within designator
+unfolding tokens_of tokens_from separator_len first_lexeme file_name outcome named named_or_squares mark mark_number longest longest_within designator word_of
 stars = refl
 
 -- the longest mark

@@ -4,7 +4,7 @@ use Rattle.std.specs.Option.{option_map}
 use Rattle.std.specs.List.{position, prefix_len, starts_with}
 use Rattle.std.specs.Char.{is_ascii_digit}
 use Rattle.std.specs.Str.Parse.{digits_value}
-use Rattle.cql_syntax.specs.Words.{words, reserved_names, place_of}
+use Rattle.cql_syntax.specs.Words.{words, marks, reserved_names, place_of}
 use Rattle.cql_syntax.specs.declared.leaves.Outcome.TheVariants as outcomes
 use Rattle.cql_syntax.specs.declared.token.QueryTokenKind.{QueryTokenKind}
 use Rattle.cql_syntax.specs.declared.token.QueryTokenKind.TheVariants.{Word, Reserved, Name, Squares, Number, Text, FileName, Outcome as OutcomeToken, Mark}
@@ -66,12 +66,6 @@ named_or_squares text =
     if begins begins_name_or_squares text
     then (elim squares [ Some found ↦ if nat_le run found.1 then Some (of_len found.1 (Squares found.0)) else name | None ↦ name ])
     else None
-
--- the marks in order
-abbrev pub marks : List (List ℕ)
-marks = codes "-->" ∷ codes "<--" ∷ codes "<=" ∷ codes ">=" ∷ codes "==" ∷ codes "<" ∷ codes ">" ∷ codes "+" ∷ codes "-"
-    ∷ codes "*" ∷ codes "?" ∷ codes "#" ∷ codes "|" ∷ codes "&" ∷ codes "~" ∷ codes "(" ∷ codes ")" ∷ codes "{" ∷ codes "}"
-    ∷ codes "," ∷ []
 
 -- the number of the mark that a whole text is
 unfoldable pub mark_number : List ℕ → Option ℕ

@@ -1,10 +1,12 @@
 -- The tokens of a query text.
-use Rattle.std.specs.Prelude.{◌≡◌, ◌<◌, ◌≤◌, ℕ, zero, suc, ◌+◌, ◌-◌, ◌||◌, ◌==◌, nat_lt, List, [], ◌∷◌, ◌++◌, length, Result, Ok, Err, if◌then◌else◌, codes, nat_eq, unwrap_or}
+use Rattle.std.specs.Prelude.{◌≡◌, ◌<◌, ◌≤◌, ℕ, zero, suc, ◌+◌, ◌-◌, ◌||◌, ◌==◌, nat_lt, List, [], ◌∷◌, ◌++◌, length, Option, None, Some, Result, Ok, Err, if◌then◌else◌, codes, nat_eq, unwrap_or}
 use Rattle.std.specs.List.{prefix_len, position, starts_with}
-use Rattle.cql_syntax.specs.Words.{input_word, output_word, result_word}
+use Rattle.cql_syntax.specs.Words.{word_of}
 use Rattle.cql_syntax.specs.declared.token.QueryToken.{QueryToken}
 use Rattle.cql_syntax.specs.declared.token.QueryTokenKind.{QueryTokenKind}
 use Rattle.cql_syntax.specs.declared.token.QueryTokenKind.TheVariants.{Word, Number, Mark, End}
+use Rattle.cql_syntax.specs.declared.words.Word.{Word as Meaning}
+use Rattle.cql_syntax.specs.declared.words.Word.TheVariants as meanings
 use Rattle.cql_syntax.specs.declared.fault.QueryFault.{QueryFault}
 use Rattle.cql_syntax.specs.declared.fault.QueryReason.TheVariants.{QueryTooLong}
 use Rattle.cql_lexer.specs.declared.expected.Expected.{Expected}
@@ -13,9 +15,16 @@ use Rattle.cq_outside.specs.Text.{is_white}
 use Rattle.cql_lexer.specs.Characters.{is_line_feed}
 use Rattle.cql_lexer.specs.Lexemes.{first_lexeme}
 
+-- what may stand directly behind a word, beside the tokens that may stand anywhere
+abbrev pub expected_after_word : Option Meaning → Expected
+expected_after_word (Some meanings.Input) = FileName
+expected_after_word (Some meanings.Output) = FileName
+expected_after_word (Some meanings.Result) = Outcome
+expected_after_word word = Token
+
 -- what may stand directly behind a token, beside the tokens that may stand anywhere
 abbrev pub expected_after : QueryTokenKind → Expected
-expected_after (Word word) = if word == input_word || word == output_word then FileName else (if word == result_word then Outcome else Token)
+expected_after (Word word) = expected_after_word (word_of word)
 expected_after kind = Token
 
 -- how many bytes at the front only separate tokens: white space, or `//` and what follows it on its line
@@ -57,9 +66,9 @@ tokens_of query =
     if nat_lt 65536 (length query) then Err (record { byte = 65536; reason = QueryTooLong })
     else tokens_from 0 0 Token query
 
--- a token other than the end, with its number in range: there are 69 words and 20 marks
+-- a token other than the end, with its number in range: there are 74 words and 20 marks
 abbrev pub IsProper : QueryTokenKind → Type 0
-IsProper (Word word) = word < 69
+IsProper (Word word) = word < 74
 IsProper (Number number) = number ≤ 999999999
 IsProper (Mark mark) = mark < 20
 IsProper End = ⊥

@@ -2,8 +2,7 @@
 ghost use Rattle.std.specs.Prelude.{◌≡◌};
 ghost use Rattle.cql_lexer.specs.Tokens.{expected_after};
 
-use cql_syntax::QueryTokenKind;
-use cql_syntax::words::{INPUT, OUTPUT, RESULT};
+use cql_syntax::{QueryTokenKind, Word, word_of};
 
 /// What may stand directly behind a token, beside the tokens that may stand anywhere.
 #[derive(Clone, Copy, Debug, PartialEq, Eq)]
@@ -21,8 +20,11 @@ pub fn expected_after(kind: &QueryTokenKind) -> Expected
     ensures { result ≡ expected_after kind.now }
 {
     match kind {
-        QueryTokenKind::Word(INPUT | OUTPUT) => Expected::FileName,
-        QueryTokenKind::Word(RESULT) => Expected::Outcome,
+        QueryTokenKind::Word(number) => match word_of(*number) {
+            Some(Word::Input | Word::Output) => Expected::FileName,
+            Some(Word::Result) => Expected::Outcome,
+            _ => Expected::Token,
+        },
         _ => Expected::Token,
     }
 }

@@ -10,17 +10,11 @@ use crate::characters::{file_name_len, find, name_len};
 use crate::designators::designator_at;
 use crate::expected::Expected;
 use cq_outside::{Bytes, NoMemory, Refusal, decimal_up_to, digits_len};
-use cql_syntax::words::place_in;
-use cql_syntax::{Outcome, QueryReason, QueryTokenKind, is_reserved, word_number};
+use cql_syntax::{Outcome, QueryReason, QueryTokenKind, is_reserved, mark_number, word_number};
 use std::alloc::Global;
 
 /// The greatest number.
 const NUMBER_LIMIT: u32 = 999_999_999;
-
-const MARKS: [&str; 20] = [
-    "-->", "<--", "<=", ">=", "==", "<", ">", "+", "-", "*", "?", "#", "|", "&", "~", "(", ")",
-    "{", "}", ",",
-];
 
 /// A token, and the number of its bytes.
 #[derive(Drop, Debug)]
@@ -125,24 +119,24 @@ fn named(alloc: Global, name: &[u8]) -> Result<QueryTokenKind, NoMemory>
 
 // The number of the mark that a whole text is.
 #[tactic(auto, unfolding(crate::specs::Lexemes::mark_number))]
-fn mark_number(text: &[u8]) -> Option<usize>
+fn mark_of(text: &[u8]) -> Option<u8>
     ensures value { result ≡ mark_number text.now }
     ensures bound { IfSome result (λ mark. mark < 20) }
 {
-    place_in(MARKS.as_slice(), text)
+    mark_number(text)
 }
 
 // The mark of the first so many bytes, where these are one.
-fn mark_front(len: usize, text: &[u8]) -> Option<(usize, usize)>
+fn mark_front(len: usize, text: &[u8]) -> Option<(u8, usize)>
     ensures value { result ≡ front mark_number len text.now }
     ensures bound { IfSome result (λ found. found.0 < 20) }
 {
-    Some((mark_number(text.get(..len)?)?, len))
+    Some((mark_of(text.get(..len)?)?, len))
 }
 
 // The longest mark at the front.
 #[tactic(auto, using(crate::proofs::Marks::mark_longest, crate::proofs::Marks::mark_fits))]
-fn mark_at(text: &[u8]) -> Option<(usize, usize)>
+fn mark_at(text: &[u8]) -> Option<(u8, usize)>
     ensures value { result ≡ longest mark_number text.now }
     ensures bound { IfSome result (λ found. found.0 < 20) }
     ensures front { IfSome result (λ found. (0 < found.1) × (found.1 ≤ length text.now)) }
@@ -160,7 +154,7 @@ fn mark(text: &[u8]) -> Option<Lexeme>
 {
     let (mark, len) = mark_at(text)?;
     Some(Lexeme {
-        kind: QueryTokenKind::Mark(mark as u8),
+        kind: QueryTokenKind::Mark(mark),
         len,
     })
 }

@@ -217,9 +217,9 @@ fn tokens_are_by_the_first_rule(rt: HostRuntime) -> Result<(), Fail> {
     gives(
         &rt,
         alloc,
-        b"move moves comment",
+        b"echo moves comment",
         &[
-            (0, Reserved(b"move")),
+            (0, Reserved(b"echo")),
             (5, Name(b"moves")),
             (11, Word(68)),
             (18, End),

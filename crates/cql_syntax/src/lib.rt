@@ -22,4 +22,4 @@ pub use tree::{
     Body, Constituent, Constituents, Filter, Filters, Form, Line, Played, Query, Term, Terms,
 };
 pub use weights::{WEIGHT_LIMIT, weight};
-pub use words::{is_reserved, word_number};
+pub use words::{Sign, Word, is_reserved, mark_number, sign_of, word_number, word_of};

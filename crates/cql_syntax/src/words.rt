@@ -1,101 +1,188 @@
-//! The words of the query language by number, and the names that are reserved.
-ghost use Rattle.std.specs.Prelude.{◌≡◌, is_some, codes};
-ghost use Rattle.std.specs.List.{position};
+//! The words and marks of the query language by number, and the names that are reserved.
+ghost use Rattle.std.specs.Prelude.{◌≡◌, is_some, map};
+ghost use Rattle.std.specs.List.{position, slice_get};
 ghost use Rattle.std.specs.Str.{bytes_eq};
-ghost use Rattle.cql_syntax.specs.Words.{words, reserved_names, place_of, input_word, output_word, result_word};
+ghost use Rattle.cql_syntax.specs.Words.{words, reserved_names, place_of, word_of, marks, sign_of};
 
-/// The words; a word's number is its place here.
-const WORDS: [&str; 69] = [
-    "cql",
-    "input",
-    "output",
-    "matchstring",
-    "variations",
-    "check",
-    "mate",
-    "stalemate",
-    "wtm",
-    "btm",
-    "initial",
-    "terminal",
-    "mainline",
-    "variation",
-    "hascomment",
-    "ply",
-    "movenumber",
-    "depth",
-    "year",
-    "result",
-    "player",
-    "event",
-    "site",
-    "elo",
-    "white",
-    "black",
-    "not",
-    "and",
-    "or",
-    "if",
-    "then",
-    "else",
-    "square",
-    "all",
-    "in",
-    "find",
-    "child",
-    "parent",
-    "line",
-    "primary",
-    "attacks",
-    "attackedby",
-    "between",
-    "light",
-    "dark",
-    "up",
-    "down",
-    "left",
-    "right",
-    "northeast",
-    "northwest",
-    "southeast",
-    "southwest",
-    "diagonal",
-    "orthogonal",
-    "anydirection",
-    "power",
-    "max",
-    "min",
-    "flip",
-    "rotate90",
-    "flipvertical",
-    "fliphorizontal",
-    "flipcolor",
-    "shift",
-    "shifthorizontal",
-    "shiftvertical",
-    "sort",
-    "comment",
+use crate::leaves::{Plain, Unary, Way};
+use cq_symmetry::Family;
+
+/// A word of the query language.
+#[derive(Clone, Copy, Debug, PartialEq, Eq)]
+pub enum Word {
+    Cql,
+    Input,
+    Output,
+    MatchString,
+    Variations,
+    /// A word that is a filter by itself.
+    Plain(Plain),
+    Result,
+    Player,
+    Event,
+    Site,
+    Elo,
+    White,
+    Black,
+    /// A word that stands before one filter.
+    Unary(Unary),
+    And,
+    Or,
+    If,
+    Then,
+    Else,
+    Square,
+    All,
+    In,
+    Line,
+    Primary,
+    Attacks,
+    AttackedBy,
+    Between,
+    /// A direction.
+    Way(Way),
+    Max,
+    Min,
+    /// A family of mappings.
+    Family(Family),
+    Sort,
+    Comment,
+    Move,
+    From,
+    To,
+    Capture,
+    Promote,
+}
+
+/// A mark of the query language.
+#[derive(Clone, Copy, Debug, PartialEq, Eq)]
+pub enum Sign {
+    Arrow,
+    BackArrow,
+    AtMost,
+    AtLeast,
+    Equal,
+    Less,
+    Greater,
+    Plus,
+    Minus,
+    Star,
+    Question,
+    Hash,
+    Bar,
+    Ampersand,
+    Tilde,
+    Open,
+    Close,
+    OpenBrace,
+    CloseBrace,
+    Comma,
+}
+
+/// The words, with what they stand for; a word's number is its place here.
+const WORDS: [(&str, Word); 74] = [
+    ("cql", Word::Cql),
+    ("input", Word::Input),
+    ("output", Word::Output),
+    ("matchstring", Word::MatchString),
+    ("variations", Word::Variations),
+    ("check", Word::Plain(Plain::Check)),
+    ("mate", Word::Plain(Plain::Mate)),
+    ("stalemate", Word::Plain(Plain::Stalemate)),
+    ("wtm", Word::Plain(Plain::Wtm)),
+    ("btm", Word::Plain(Plain::Btm)),
+    ("initial", Word::Plain(Plain::Initial)),
+    ("terminal", Word::Plain(Plain::Terminal)),
+    ("mainline", Word::Plain(Plain::Mainline)),
+    ("variation", Word::Plain(Plain::Variation)),
+    ("hascomment", Word::Plain(Plain::HasComment)),
+    ("ply", Word::Plain(Plain::Ply)),
+    ("movenumber", Word::Plain(Plain::MoveNumber)),
+    ("depth", Word::Plain(Plain::Depth)),
+    ("year", Word::Plain(Plain::Year)),
+    ("result", Word::Result),
+    ("player", Word::Player),
+    ("event", Word::Event),
+    ("site", Word::Site),
+    ("elo", Word::Elo),
+    ("white", Word::White),
+    ("black", Word::Black),
+    ("not", Word::Unary(Unary::Not)),
+    ("and", Word::And),
+    ("or", Word::Or),
+    ("if", Word::If),
+    ("then", Word::Then),
+    ("else", Word::Else),
+    ("square", Word::Square),
+    ("all", Word::All),
+    ("in", Word::In),
+    ("find", Word::Unary(Unary::Find)),
+    ("child", Word::Unary(Unary::Child)),
+    ("parent", Word::Unary(Unary::Parent)),
+    ("line", Word::Line),
+    ("primary", Word::Primary),
+    ("attacks", Word::Attacks),
+    ("attackedby", Word::AttackedBy),
+    ("between", Word::Between),
+    ("light", Word::Unary(Unary::Light)),
+    ("dark", Word::Unary(Unary::Dark)),
+    ("up", Word::Way(Way::Up)),
+    ("down", Word::Way(Way::Down)),
+    ("left", Word::Way(Way::Left)),
+    ("right", Word::Way(Way::Right)),
+    ("northeast", Word::Way(Way::Northeast)),
+    ("northwest", Word::Way(Way::Northwest)),
+    ("southeast", Word::Way(Way::Southeast)),
+    ("southwest", Word::Way(Way::Southwest)),
+    ("diagonal", Word::Way(Way::Diagonal)),
+    ("orthogonal", Word::Way(Way::Orthogonal)),
+    ("anydirection", Word::Way(Way::AnyDirection)),
+    ("power", Word::Unary(Unary::Power)),
+    ("max", Word::Max),
+    ("min", Word::Min),
+    ("flip", Word::Family(Family::Flip)),
+    ("rotate90", Word::Family(Family::Rotate90)),
+    ("flipvertical", Word::Family(Family::FlipVertical)),
+    ("fliphorizontal", Word::Family(Family::FlipHorizontal)),
+    ("flipcolor", Word::Family(Family::FlipColor)),
+    ("shift", Word::Family(Family::Shift)),
+    ("shifthorizontal", Word::Family(Family::ShiftHorizontal)),
+    ("shiftvertical", Word::Family(Family::ShiftVertical)),
+    ("sort", Word::Sort),
+    ("comment", Word::Comment),
+    ("move", Word::Move),
+    ("from", Word::From),
+    ("to", Word::To),
+    ("capture", Word::Capture),
+    ("promote", Word::Promote),
 ];
 
-/// The number of the word `input`, behind which the name of a file may stand.
-pub const INPUT: u16 = 1;
-
-/// The number of the word `output`, behind which the name of a file may stand.
-pub const OUTPUT: u16 = 2;
-
-/// The number of the word `result`, behind which a result of a game may stand.
-pub const RESULT: u16 = 19;
-
-/// A law: the words behind which a token may be of a kind that stands nowhere else have the numbers by which code and
-/// clauses name them.
-pub fn word_numbers_stand_for_their_words()
-    ensures input { (place_of (codes "input") words ≡ Some input_word) × (input_word ≡ INPUT) }
-    ensures output { (place_of (codes "output") words ≡ Some output_word) × (output_word ≡ OUTPUT) }
-    ensures result { (place_of (codes "result") words ≡ Some result_word) × (result_word ≡ RESULT) }
-{}
+/// The marks, with what they stand for; a mark's number is its place here.
+const MARKS: [(&str, Sign); 20] = [
+    ("-->", Sign::Arrow),
+    ("<--", Sign::BackArrow),
+    ("<=", Sign::AtMost),
+    (">=", Sign::AtLeast),
+    ("==", Sign::Equal),
+    ("<", Sign::Less),
+    (">", Sign::Greater),
+    ("+", Sign::Plus),
+    ("-", Sign::Minus),
+    ("*", Sign::Star),
+    ("?", Sign::Question),
+    ("#", Sign::Hash),
+    ("|", Sign::Bar),
+    ("&", Sign::Ampersand),
+    ("~", Sign::Tilde),
+    ("(", Sign::Open),
+    (")", Sign::Close),
+    ("{", Sign::OpenBrace),
+    ("}", Sign::CloseBrace),
+    (",", Sign::Comma),
+];
 
 /// Names that a query may not use.
-const RESERVED: [&str; 30] = [
+const RESERVED: [&str; 29] = [
     "echo",
     "loop",
     "while",
@@ -125,14 +212,22 @@ const RESERVED: [&str; 30] = [
     "singlecolor",
     "lastposition",
     "firstmatch",
-    "move",
 ];
 
-/// The place of a text in a table.
-pub fn place_in(table: &[&str], text: &[u8]) -> Option<usize>
-    ensures { result ≡ position (λ entry. bytes_eq entry.now text.now) table.now }
+// The place of a text in a table.
+fn place_in<T>(table: &[(&str, T)], text: &[u8]) -> Option<usize>
+    ensures { result ≡ position (λ row. bytes_eq row.0.now text.now) table.now }
 {
-    table.iter().position(|entry| entry.as_bytes() == text)
+    table.iter().position(|row| row.0.as_bytes() == text)
+}
+
+// What stands beside the text at a place of a table.
+#[tactic(auto, using(crate::proofs::Tables::column_get))]
+fn entry_at<T: Copy>(table: &[(&str, T)], place: usize) -> Option<T>
+    ensures { result ≡ slice_get (map (λ row. row.1) table.now) place }
+{
+    let (_, entry) = table.get(place)?;
+    Some(*entry)
 }
 
 /// The number of the word that a text is.
@@ -142,11 +237,41 @@ pub fn word_number(text: &[u8]) -> Option<u16>
     Some(place_in(WORDS.as_slice(), text)? as u16)
 }
 
+/// What the word of a number stands for.
+#[tactic(auto, unfolding(crate::specs::Words::word_of))]
+pub fn word_of(number: u16) -> Option<Word>
+    ensures { result ≡ word_of number }
+{
+    entry_at(WORDS.as_slice(), usize::from(number))
+}
+
+/// The number of the mark that a text is.
+pub fn mark_number(text: &[u8]) -> Option<u8>
+    ensures { result ≡ place_of text.now marks }
+{
+    Some(place_in(MARKS.as_slice(), text)? as u8)
+}
+
+/// What the mark of a number stands for.
+#[tactic(auto, unfolding(crate::specs::Words::sign_of))]
+pub fn sign_of(number: u8) -> Option<Sign>
+    ensures { result ≡ sign_of number }
+{
+    entry_at(MARKS.as_slice(), usize::from(number))
+}
+
+// The place of a text among these.
+fn place_among(names: &[&str], text: &[u8]) -> Option<usize>
+    ensures { result ≡ position (λ name. bytes_eq name.now text.now) names.now }
+{
+    names.iter().position(|name| name.as_bytes() == text)
+}
+
 /// Whether a text is a reserved name.
 pub fn is_reserved(text: &[u8]) -> bool
     ensures { result ≡ is_some (place_of text.now reserved_names) }
 {
-    place_in(RESERVED.as_slice(), text).is_some()
+    place_among(RESERVED.as_slice(), text).is_some()
 }
 
 #[cfg(test)]
@@ -157,20 +282,25 @@ mod tests {
     fn words_have_the_numbers_of_their_places(rt: HostRuntime) {
         let rows = [
             (b"cql".as_slice(), Some(0)),
-            (b"input".as_slice(), Some(INPUT)),
-            (b"output".as_slice(), Some(OUTPUT)),
+            (b"input".as_slice(), Some(1)),
+            (b"output".as_slice(), Some(2)),
             (b"check".as_slice(), Some(5)),
-            (b"result".as_slice(), Some(RESULT)),
+            (b"result".as_slice(), Some(19)),
             (b"up".as_slice(), Some(45)),
             (b"comment".as_slice(), Some(68)),
-            (b"move".as_slice(), None),
+            (b"move".as_slice(), Some(69)),
+            (b"promote".as_slice(), Some(73)),
+            (b"echo".as_slice(), None),
             (b"".as_slice(), None),
         ];
         for (text, number) in rows {
             assert_eq!(rt; word_number(text), number, "at {text:?}");
         }
-        assert!(rt; is_reserved(b"move"));
-        assert!(rt; !is_reserved(b"check"));
-        word_numbers_stand_for_their_words();
+        assert!(rt; is_reserved(b"echo"));
+        assert!(rt; !is_reserved(b"move"));
+        assert_eq!(rt; word_of(5), Some(Word::Plain(Plain::Check)));
+        assert_eq!(rt; word_of(74), None);
+        assert_eq!(rt; mark_number(b"<--"), Some(1));
+        assert_eq!(rt; sign_of(1), Some(Sign::BackArrow));
     }
 }
