@@ -1,0 +1,12 @@
+pub mod Rows
+pub mod Read
+pub mod Then
+pub mod Heading
+pub mod Told
+pub mod Stands
+pub mod Arranged
+pub mod Begun
+pub mod Pairs
+pub mod Whole
+pub mod Count
+pub mod Answer

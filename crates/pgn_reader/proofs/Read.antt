@@ -1,0 +1,282 @@
+-- What a line tells is what is read of its tokens.
+use Rattle.std.proofs.Common.{◌≡◌, ℕ, ◌+◌, ◌<◌, List, [], ◌∷◌, ◌++◌, length, Option, Some, None, Result, Ok, Err, Bool, true, false, refl, sym, ap, ap₂, ◌∙◌, subst, arith, append_assoc, append-nil}
+use Rattle.std.proofs.Common.{cond}
+use Rattle.std.proofs.lemmas.List.Sums.{sum_by-append}
+use Rattle.std.specs.Prelude.{nat_lt, fold, count_by}
+use Rattle.cq_position.specs.declared.moves.Move.{Move}
+use Rattle.cq_position.specs.declared.games.GameResult.{GameResult}
+use Rattle.cq_position.specs.Board.{Board}
+use Rattle.cq_position.specs.Continuations.{Played, Continuations, none, played}
+use Rattle.cq_san.specs.San.{san}
+use Rattle.pgn_lexer.specs.declared.token.TokenKind.{TokenKind}
+use Rattle.pgn_reader.specs.Words.{Word, Sense, plays, annotates, remarks, ends, opens, closes, means_nothing, out_of_place, sense, is_move, is_move_sense}
+use Rattle.pgn_reader.specs.Comments.{comment_of}
+use Rattle.pgn_reader.specs.Tags.{Tags}
+use Rattle.pgn_reader.specs.Line.{Line, nothing, word, variation, text, Place, beginning, led_to, moved, Told, nothing_told, glyph_told, remark_told, move_told, variation_told, beside, noted, TellsWord, Tells}
+use Rattle.pgn_reader.specs.Frame.{Row, rows, Frame, place, last_row, last_row_by, whole, begin, carried, advance, annotated, remarked, with_variation, wholly, wholly_by}
+use Rattle.pgn_reader.specs.Machine.{Head, State, at, ended, stuck, in_body, one_more, on_move, on_marker, on_opening, on_end, on_sense, feed, run}
+use Rattle.pgn_reader.proofs.Rows.{rows_beside, rows_none, rows_played, noted_twice}
+
+pub run_append : (s : State) (a b : List Word) → run s (a ++ b) ≡ run (run s a) b
+run_append s [] b = refl
+run_append s (t ∷ a) b = run_append (feed s t) a b
+
+-- a token of the movetext is read by what it means
+pub feed_is : (h : Head) (f : Frame) (k : List Frame) (w : Word) (s : Sense) → sense w ≡ s → feed (at h f k) w ≡ on_sense h f k w.kind s
+unfolding feed
+feed_is h f k w s is = ap (on_sense h f k w.kind) is
+
+-- heads that differ in the number of moves, by so many, and in whether tag pairs may come
+pub record Grown (h : Head) (n : ℕ) (j : Head) : Type 0 where
+  pub tags : j.tags ≡ h.tags
+  pub start : j.start ≡ h.start
+  pub moves : j.moves ≡ h.moves + n
+
+-- a frame after the rest of its line, which tells so much
+pub record Reads (h : Head) (f : Frame) (k : List Frame) (ts : List Word) (t : Told) : Type 0 where
+  pub head : Head
+  pub frame : Frame
+  pub is_run : run (at h f k) ts ≡ at head frame k
+  pub grown : Grown h (count_by is_move ts) head
+  pub place : place frame ≡ t.end
+  pub whole : whole frame ≡ wholly f t
+
+-- a told record by its parts
+pub wholly_same : (f : Frame) (t u : Told) → t ≡ u → wholly f t ≡ wholly f u
+wholly_same f t u is = ap (wholly f) is
+
+wholly_nothing_by : (f : Frame) (o : Option Move) → f.last ≡ o → f.moves ++ (last_row_by o f ++ (f.here ++ f.earlier))
+    ≡ f.moves ++ (wholly_by o f (nothing_told (place f)) ++ (f.here ++ (rows f.level none ++ f.earlier)))
+unfolding rows
+wholly_nothing_by f None is = refl
+wholly_nothing_by f (Some m) is =
+    ap₂ (λ x y. f.moves ++ (record { level = f.level; move = record { move = m; position = f.reached; nags = x; comments = y } } ∷ (f.here ++ f.earlier))) (sym (append-nil f.nags)) (sym (append-nil f.comments))
+
+pub wholly_nothing : (f : Frame) → whole f ≡ wholly f (nothing_told (place f))
+wholly_nothing f = wholly_nothing_by f f.last refl
+
+glyph_by : (f : Frame) (n : ℕ) (u : Told) (o : Option Move) → (annotated f n).moves ++ (wholly_by o (annotated f n) u ++ (f.here ++ (rows f.level u.variations ++ f.earlier)))
+    ≡ f.moves ++ (wholly_by o f (glyph_told n u) ++ (f.here ++ (rows f.level u.variations ++ f.earlier)))
+glyph_by f n u None =
+    ap (λ x. f.moves ++ (rows f.next (noted x (f.comments ++ u.comments) u.rest) ++ (f.here ++ (rows f.level u.variations ++ f.earlier)))) (append_assoc f.nags (n ∷ []) u.nags)
+glyph_by f n u (Some m) =
+    ap (λ x. f.moves ++ (record { level = f.level; move = record { move = m; position = f.reached; nags = x; comments = f.comments ++ u.comments } }
+    ∷ (rows f.next u.rest ++ (f.here ++ (rows f.level u.variations ++ f.earlier))))) (append_assoc f.nags (n ∷ []) u.nags)
+
+remark_by : (f : Frame) (c : List ℕ) (u : Told) (o : Option Move) → (remarked f c).moves ++ (wholly_by o (remarked f c) u ++ (f.here ++ (rows f.level u.variations ++ f.earlier)))
+    ≡ f.moves ++ (wholly_by o f (remark_told c u) ++ (f.here ++ (rows f.level u.variations ++ f.earlier)))
+remark_by f c u None =
+    ap (λ x. f.moves ++ (rows f.next (noted (f.nags ++ u.nags) x u.rest) ++ (f.here ++ (rows f.level u.variations ++ f.earlier)))) (append_assoc f.comments (comment_of c) u.comments)
+remark_by f c u (Some m) =
+    ap (λ x. f.moves ++ (record { level = f.level; move = record { move = m; position = f.reached; nags = f.nags ++ u.nags; comments = x } }
+    ∷ (rows f.next u.rest ++ (f.here ++ (rows f.level u.variations ++ f.earlier))))) (append_assoc f.comments (comment_of c) u.comments)
+
+-- the node of a move, with the glyphs and comments that wait for it, and then its own
+abbrev row_of : ℕ → Move → Board → List ℕ → List (List ℕ) → Row
+row_of level m q nags comments = record { level = level; move = record { move = m; position = q; nags = nags; comments = comments } }
+
+move_by : (f : Frame) (m : Move) (q : Board) (u : Told) (o : Option Move)
+    → (f.moves ++ last_row_by o f) ++ ((record { level = f.next; move = record { move = m; position = q; nags = carried o f.nags ++ u.nags; comments = carried o f.comments ++ u.comments } } ∷ rows (f.next + 1) u.rest)
+        ++ (rows f.next u.variations ++ (f.here ++ f.earlier)))
+    ≡ f.moves ++ (wholly_by o f (move_told m q u) ++ (f.here ++ (rows f.level none ++ f.earlier)))
+unfolding rows
+move_by f m q u None =
+    let tail = f.here ++ f.earlier in
+    let row : List ℕ → List (List ℕ) → List Row = λ x y. row_of f.next m q (x ++ u.nags) (y ++ u.comments) ∷ (rows (f.next + 1) u.rest ++ (rows f.next u.variations ++ tail)) in
+    ap (λ x. x ++ row f.nags f.comments) (append-nil f.moves)
+    ∙ ap₂ (λ x y. f.moves ++ row x y) (sym (append-nil f.nags)) (sym (append-nil f.comments))
+    ∙ ap (λ x. f.moves ++ (row_of f.next m q ((f.nags ++ []) ++ u.nags) ((f.comments ++ []) ++ u.comments) ∷ x)) (sym (append_assoc (rows (f.next + 1) u.rest) (rows f.next u.variations) tail))
+move_by f m q u (Some l) =
+    let tail = f.here ++ f.earlier in
+    let next : List Row = row_of f.next m q u.nags u.comments ∷ (rows (f.next + 1) u.rest ++ (rows f.next u.variations ++ tail)) in
+    append_assoc f.moves (row_of f.level l f.reached f.nags f.comments ∷ []) next
+    ∙ ap₂ (λ x y. f.moves ++ (row_of f.level l f.reached x y ∷ next)) (sym (append-nil f.nags)) (sym (append-nil f.comments))
+    ∙ ap (λ x. f.moves ++ (row_of f.level l f.reached (f.nags ++ []) (f.comments ++ []) ∷ (row_of f.next m q u.nags u.comments ∷ x))) (sym (append_assoc (rows (f.next + 1) u.rest) (rows f.next u.variations) tail))
+
+move_told_is : (f : Frame) (m : Move) (q : Board) (u : Told) → wholly (advance f m q) u ≡ wholly f (move_told m q u)
+move_told_is f m q u = move_by f m q u f.last
+
+variation_by : (g : Frame) (v u : Told) (inner : List Row) → inner ≡ rows g.level (noted v.nags v.comments v.rest) → (o : Option Move)
+    → g.moves ++ (wholly_by o (record g { here = g.here ++ inner }) u ++ ((g.here ++ inner) ++ (rows g.level u.variations ++ g.earlier)))
+    ≡ g.moves ++ (wholly_by o g (variation_told v u) ++ (g.here ++ (rows g.level (beside (noted v.nags v.comments v.rest) u.variations) ++ g.earlier)))
+variation_by g v u inner is o =
+    let tail : (g.here ++ inner) ++ (rows g.level u.variations ++ g.earlier) ≡ g.here ++ (rows g.level (beside (noted v.nags v.comments v.rest) u.variations) ++ g.earlier) =
+        append_assoc g.here inner (rows g.level u.variations ++ g.earlier)
+        ∙ ap (λ x. g.here ++ x) (sym (append_assoc inner (rows g.level u.variations) g.earlier))
+        ∙ ap (λ x. g.here ++ ((x ++ rows g.level u.variations) ++ g.earlier)) is
+        ∙ ap (λ x. g.here ++ (x ++ g.earlier)) (sym (rows_beside g.level (noted v.nags v.comments v.rest) u.variations)) in
+    by_last o tail
+  where
+    by_last : (o : Option Move) → (g.here ++ inner) ++ (rows g.level u.variations ++ g.earlier) ≡ g.here ++ (rows g.level (beside (noted v.nags v.comments v.rest) u.variations) ++ g.earlier)
+        → g.moves ++ (wholly_by o (record g { here = g.here ++ inner }) u ++ ((g.here ++ inner) ++ (rows g.level u.variations ++ g.earlier)))
+        ≡ g.moves ++ (wholly_by o g (variation_told v u) ++ (g.here ++ (rows g.level (beside (noted v.nags v.comments v.rest) u.variations) ++ g.earlier)))
+    by_last None tail = ap (λ x. g.moves ++ (wholly_by None g u ++ x)) tail
+    by_last (Some m) tail = ap (λ x. g.moves ++ (wholly_by (Some m) g u ++ x)) tail
+
+variation_told_is : (g f : Frame) (p : Board) (v u : Told) → whole f ≡ wholly (begin g.level p) v → v.variations ≡ none → wholly (with_variation g f) u ≡ wholly g (variation_told v u)
+unfolding rows
+variation_told_is g f p v u is alone =
+    let inner : whole f ≡ rows g.level (noted v.nags v.comments v.rest) =
+        is ∙ ap (λ x. rows g.level (noted v.nags v.comments v.rest) ++ (rows 0 x ++ [])) alone ∙ append-nil (rows g.level (noted v.nags v.comments v.rest)) in
+    variation_by g v u (whole f) inner g.last
+
+-- a line that has no move yet has no variations of a move before it
+alone_by : (depth : ℕ) (a b : Place) (u t : Told) (s : Sense) → TellsWord depth a s b u t → (b.before ≡ None → u.variations ≡ none) → a.before ≡ None → t.variations ≡ none
+alone_by depth a b u t (plays m) tells later is = ap (λ x. x.variations) tells.3
+alone_by depth a b u t (annotates n) tells later is = ap (λ x. x.variations) tells.1 ∙ later (ap (λ x. x.before) tells.0 ∙ is)
+alone_by depth a b u t (remarks c) tells later is = ap (λ x. x.variations) tells.1 ∙ later (ap (λ x. x.before) tells.0 ∙ is)
+alone_by depth a b u t (ends r) tells later is = ap (λ x. x.variations) tells.2 ∙ later (ap (λ x. x.before) tells.1 ∙ is)
+alone_by depth a b u t means_nothing tells later is = ap (λ x. x.variations) tells.1 ∙ later (ap (λ x. x.before) tells.0 ∙ is)
+alone_by depth a b u t opens tells later is = absurd tells
+alone_by depth a b u t closes tells later is = absurd tells
+alone_by depth a b u t (out_of_place r) tells later is = absurd tells
+
+pub alone : (l : Line) (depth : ℕ) (a : Place) (t : Told) → Tells depth a l t → a.before ≡ None → t.variations ≡ none
+alone nothing depth a t tells is = ap (λ x. x.variations) tells
+alone (word w rest) depth a t (b, u, now, later) is = alone_by depth a b u t (sense w) now (alone rest depth b u later) is
+alone (variation o inner c rest) depth a t (p, before, shallow, opening, closing, v, inside, q, has_move, u, later, told) is = absurd (let x : None ≡ Some p = sym is ∙ before in cc)
+
+-- a token and the rest of its line
+pub record WordReads (h : Head) (f : Frame) (k : List Frame) (w : Word) (s : Sense) (b : Place) (u t : Told) : Type 0 where
+  pub head : Head
+  pub frame : Frame
+  pub is_fed : feed (at h f k) w ≡ at head frame k
+  pub grown : Grown h (cond (is_move_sense s) 1 0) head
+  pub place : place frame ≡ b
+  pub whole : wholly frame u ≡ wholly f t
+  pub end : u.end ≡ t.end
+
+grown_body : (h : Head) → Grown h 0 (in_body h)
+grown_body h = record { tags = refl; start = refl; moves = let e : h.moves ≡ h.moves + 0 = omega arith in e }
+
+grown_same : (h : Head) → Grown h 0 h
+grown_same h = record { tags = refl; start = refl; moves = let e : h.moves ≡ h.moves + 0 = omega arith in e }
+
+grown_twice : (h i j : Head) (m n : ℕ) → Grown h m i → Grown i n j → Grown h (m + n) j
+grown_twice h i j m n a b = record { tags = b.tags ∙ a.tags; start = b.start ∙ a.start; moves = let e : j.moves ≡ h.moves + (m + n) = omega (arith, a.moves, b.moves) in e }
+
+marker_skipped : (h : Head) (f : Frame) (k : List Frame) (r : GameResult) → 0 < length k → on_marker h f k r ≡ at (in_body h) f k
+marker_skipped h f [] r deep = absurd (let e : 0 < 0 = deep in omega (arith, e))
+marker_skipped h f (g ∷ k) r deep = refl
+
+word_reads : (h : Head) (f : Frame) (k : List Frame) (w : Word) (b : Place) (u t : Told) (s : Sense) → sense w ≡ s → TellsWord (length k) (place f) s b u t → WordReads h f k w s b u t
+word_reads h f k w b u t (plays m) is (move, means, to, told) = record {
+  head = one_more h;
+  frame = advance f move (led_to f.reached move);
+  is_fed = feed_is h f k w (plays m) is ∙ ap (on_move h f k) means;
+  grown = record { tags = refl; start = refl; moves = refl };
+  place = sym to;
+  whole = move_told_is f move (led_to f.reached move) u ∙ ap (λ x. wholly f (move_told move x.reached u)) (sym to) ∙ ap (wholly f) (sym told);
+  end = ap (λ x. x.end) (sym told);
+}
+word_reads h f k w b u t (annotates n) is (to, told) = record {
+  head = in_body h;
+  frame = annotated f n;
+  is_fed = feed_is h f k w (annotates n) is;
+  grown = grown_body h;
+  place = sym to;
+  whole = glyph_by f n u f.last ∙ ap (wholly f) (sym told);
+  end = ap (λ x. x.end) (sym told);
+}
+word_reads h f k w b u t (remarks c) is (to, told) = record {
+  head = h;
+  frame = remarked f c;
+  is_fed = feed_is h f k w (remarks c) is;
+  grown = grown_same h;
+  place = sym to;
+  whole = remark_by f c u f.last ∙ ap (wholly f) (sym told);
+  end = ap (λ x. x.end) (sym told);
+}
+word_reads h f k w b u t (ends r) is (deep, to, told) = record {
+  head = in_body h;
+  frame = f;
+  is_fed = feed_is h f k w (ends r) is ∙ marker_skipped h f k r deep;
+  grown = grown_body h;
+  place = sym to;
+  whole = ap (wholly f) (sym told);
+  end = ap (λ x. x.end) (sym told);
+}
+word_reads h f k w b u t means_nothing is (to, told) = record {
+  head = in_body h;
+  frame = f;
+  is_fed = feed_is h f k w means_nothing is;
+  grown = grown_body h;
+  place = sym to;
+  whole = ap (wholly f) (sym told);
+  end = ap (λ x. x.end) (sym told);
+}
+word_reads h f k w b u t opens is wrong = absurd wrong
+word_reads h f k w b u t closes is wrong = absurd wrong
+word_reads h f k w b u t (out_of_place r) is wrong = absurd wrong
+
+below_is_true : (a b : ℕ) → a < b → nat_lt a b ≡ true
+below_is_true a b h = grind arith
+
+pub opening_read : (h : Head) (f : Frame) (k : List Frame) (w : Word) (p : Board) → sense w ≡ opens → f.before ≡ Some p → length k < 100 → feed (at h f k) w ≡ at (in_body h) (begin f.level p) (f ∷ k)
+opening_read h f k w p is before shallow =
+    feed_is h f k w opens is ∙ ap₂ (on_opening h f k) (below_is_true (length k) 100 shallow) before
+
+pub end_read : (h : Head) (f g : Frame) (k : List Frame) (w : Word) (p : Board) → sense w ≡ closes → f.before ≡ Some p → feed (at h f (g ∷ k)) w ≡ at (in_body h) (with_variation g f) k
+end_read h f g k w p is before = feed_is h f (g ∷ k) w closes is ∙ ap (on_end h f (g ∷ k)) before
+
+one_of : (w : Word) (s : Sense) → sense w ≡ s → ◌≡◌ {A = ℕ} (cond (is_move w) 1 0) (cond (is_move_sense s) 1 0)
+one_of w s is = ap (λ x. cond {A = ℕ} (is_move_sense x) 1 0) is
+
+-- the moves of tokens, the first of them apart
+pub counted_word : (w : Word) (rest : List Word) → ◌≡◌ {A = ℕ} (count_by is_move (w ∷ rest)) (cond (is_move w) 1 0 + count_by is_move rest)
+counted_word w rest =
+    let f : Word → ℕ = λ x. cond (is_move x) 1 0 in
+    let none : (n : ℕ) → 0 + n ≡ n = λ n. omega arith in
+    sum_by-append f (w ∷ []) rest ∙ ap (λ n. n + count_by is_move rest) (none (cond (is_move w) 1 0))
+
+counted : (o c : Word) (inner rest : List Word) → sense o ≡ opens → sense c ≡ closes
+    → count_by is_move (o ∷ (inner ++ c ∷ rest)) ≡ 0 + count_by is_move inner + 0 + count_by is_move rest
+counted o c inner rest opening closing =
+    let a = one_of o opens opening in
+    let b = one_of c closes closing in
+    let d = counted_word o (inner ++ c ∷ rest) in
+    let e = sum_by-append (λ w. cond (is_move w) 1 0) inner (c ∷ rest) in
+    let g = counted_word c rest in
+    omega (arith, a, b, d, e, g)
+
+-- what a line tells is what is read of its tokens, whatever lines are open around it
+pub told_is_read : (l : Line) (h : Head) (f : Frame) (k : List Frame) (d : ℕ) (t : Told) → d ≡ length k → Tells d (place f) l t → Reads h f k (text l) t
+told_is_read nothing h f k d t deep told = record {
+  head = h;
+  frame = f;
+  is_run = refl;
+  grown = grown_same h;
+  place = sym (ap (λ x. x.end) told);
+  whole = wholly_nothing f ∙ ap (wholly f) (sym told);
+}
+told_is_read (word w rest) h f k d t deep (b, u, now, later) =
+    let one : WordReads h f k w (sense w) b u t = word_reads h f k w b u t (sense w) refl (subst (λ n. TellsWord n (place f) (sense w) b u t) deep now) in
+    let more : Reads one.head one.frame k (text rest) u = told_is_read rest one.head one.frame k d u deep (subst (λ x. Tells d x rest u) (sym one.place) later) in
+    record {
+      head = more.head;
+      frame = more.frame;
+      is_run = ap (λ x. run x (text rest)) one.is_fed ∙ more.is_run;
+      grown = subst (λ n. Grown h n more.head) (sym (counted_word w (text rest))) (grown_twice h one.head more.head (cond (is_move w) 1 0) (count_by is_move (text rest)) one.grown more.grown);
+      place = more.place ∙ one.end;
+      whole = more.whole ∙ one.whole;
+    }
+told_is_read (variation o inner c rest) h f k d t deep (p, before, shallow, opening, closing, v, inside, q, has_move, u, later, told) =
+    let open_ : feed (at h f k) o ≡ at (in_body h) (begin f.level p) (f ∷ k) = opening_read h f k o p opening before (omega arith) in
+    let within : Reads (in_body h) (begin f.level p) (f ∷ k) (text inner) v = told_is_read inner (in_body h) (begin f.level p) (f ∷ k) (d + 1) v (omega arith) inside in
+    let close_ : feed (at within.head within.frame (f ∷ k)) c ≡ at (in_body within.head) (with_variation f within.frame) k =
+        end_read within.head within.frame f k c q closing (ap (λ x. x.before) within.place ∙ has_move) in
+    let more : Reads (in_body within.head) (with_variation f within.frame) k (text rest) u = told_is_read rest (in_body within.head) (with_variation f within.frame) k d u deep later in
+    record {
+      head = more.head;
+      frame = more.frame;
+      is_run = ap (λ x. run x (text inner ++ c ∷ text rest)) open_
+          ∙ run_append (at (in_body h) (begin f.level p) (f ∷ k)) (text inner) (c ∷ text rest)
+          ∙ ap (λ x. run x (c ∷ text rest)) within.is_run
+          ∙ ap (λ x. run x (text rest)) close_
+          ∙ more.is_run;
+      grown = subst (λ n. Grown h n more.head) (sym (counted o c (text inner) (text rest) opening closing))
+          (grown_twice h (in_body within.head) more.head (0 + count_by is_move (text inner) + 0) (count_by is_move (text rest))
+          (grown_twice h within.head (in_body within.head) (0 + count_by is_move (text inner)) 0 (grown_twice h (in_body h) within.head 0 (count_by is_move (text inner)) (grown_body h) within.grown) (grown_body within.head)) more.grown);
+      place = more.place ∙ ap (λ x. x.end) (sym told);
+      whole = more.whole ∙ variation_told_is f within.frame p v u within.whole (alone inner (d + 1) (beginning p) v inside refl) ∙ ap (wholly f) (sym told);
+    }

@@ -1,0 +1,27 @@
+-- Rows of continuations.
+use Rattle.std.proofs.Common.{◌≡◌, ℕ, ◌+◌, List, [], ◌∷◌, ◌++◌, refl, sym, ap, ap₂, ◌∙◌, append_assoc, append-nil}
+use Rattle.cq_position.specs.Continuations.{Played, Continuations, none, played}
+use Rattle.pgn_reader.specs.Line.{beside, noted}
+use Rattle.pgn_reader.specs.Frame.{Row, rows}
+
+pub rows_beside : (level : ℕ) (a b : Continuations) → rows level (beside a b) ≡ rows level a ++ rows level b
+unfolding rows
+rows_beside level none b = refl
+rows_beside level (played m next others) b =
+    ap (λ x. record { level = level; move = m } ∷ (rows (level + 1) next ++ x)) (rows_beside level others b)
+    ∙ ap (λ x. record { level = level; move = m } ∷ x) (sym (append_assoc (rows (level + 1) next) (rows level others) (rows level b)))
+
+pub rows_none : (level : ℕ) → rows level none ≡ []
+unfolding rows
+rows_none level = refl
+
+pub rows_played : (level : ℕ) (m : Played) (next others : Continuations)
+    → rows level (played m next others) ≡ record { level = level; move = m } ∷ (rows (level + 1) next ++ rows level others)
+unfolding rows
+rows_played level m next others = refl
+
+-- glyphs and comments that wait, and those after them
+pub noted_twice : (ns ms : List ℕ) (cs ds : List (List ℕ)) (c : Continuations) → noted ns cs (noted ms ds c) ≡ noted (ns ++ ms) (cs ++ ds) c
+noted_twice ns ms cs ds none = refl
+noted_twice ns ms cs ds (played m next others) =
+    ap₂ (λ x y. played (record m { nags = x; comments = y }) next others) (sym (append_assoc ns ms m.nags)) (sym (append_assoc cs ds m.comments))

@@ -1,0 +1,122 @@
+-- What is read is told.
+use Rattle.std.proofs.Common.{◌≡◌, ℕ, ◌+◌, ◌<◌, List, [], ◌∷◌, ◌++◌, length, Option, Some, None, Result, Ok, Err, Bool, true, false, cond, refl, sym, ap, ap₂, ◌∙◌, subst, arith, append_assoc, append-nil}
+use Rattle.std.specs.Prelude.{nat_lt, fold, count_by, ◌&&◌, codes}
+use Rattle.std.specs.List.{flat_map, list_all, AllByRecursion}
+use Rattle.std.proofs.lemmas.Grind.{flat_map-append}
+use Rattle.std.proofs.lemmas.List.Sums.{sum_by-append, fold-append}
+use Rattle.std.proofs.lemmas.List.Folds.{list_all-append}
+use Rattle.cq_position.specs.declared.moves.Move.{Move}
+use Rattle.cq_position.specs.declared.fen.FenFault.{FenFault}
+use Rattle.cq_position.specs.declared.games.GameResult.{GameResult}
+use Rattle.cq_position.specs.Board.{Board, start_board}
+use Rattle.cq_san.specs.declared.fault.SanFault.{SanFault}
+use Rattle.cq_san.specs.San.{san}
+use Rattle.pgn_lexer.specs.declared.token.TokenKind.{TokenKind}
+use Rattle.pgn_lexer.specs.declared.token.TokenKind.TheVariants.{Open, Close, Text, Symbol, Period, Star, LeftParen, RightParen, Nag, Null, Comment, LineComment, BadByte, UnclosedComment, UnclosedText}
+use Rattle.pgn_reader.specs.declared.fault.Reason.{Reason}
+use Rattle.pgn_reader.specs.Words.{Word, Sense, plays, annotates, remarks, ends, opens, closes, means_nothing, out_of_place, sense, is_comment, is_remark, is_move, is_move_sense}
+use Rattle.pgn_reader.specs.Tags.{Pair, IsPair, pair_text, Tags, with_tag, with_pair, tags_of, start_of, value_of}
+use Rattle.pgn_reader.specs.Line.{Line, nothing, word, variation, text, Place, beginning, led_to, moved, Told, nothing_told, variation_told, TellsWord, Tells}
+use Rattle.pgn_reader.specs.Games.{AreHeading, heading_text}
+use Rattle.pgn_reader.specs.Standing.{Begun, outermost, within, begun_text, HasHeading, InPair, StandsAt, after_opening, after_name}
+use Rattle.pgn_reader.specs.Frame.{Frame, place, begin, begin_game, advance, annotated, remarked, with_variation}
+use Rattle.pgn_reader.specs.Machine.{Head, State, opened, named, valued, at, ended, stuck, in_body, one_more, after_pairs, on_name, on_start, on_value, on_closing, on_move, on_marker, on_opening, on_end, on_misplaced, on_sense, feed, run, first}
+use Rattle.pgn_reader.proofs.Read.{counted_word}
+use Rattle.pgn_reader.proofs.Then.{then, text_then, end_same, Longer, tells_then}
+
+-- the innermost line of what has begun goes on
+abbrev pub longer : Begun → Line → Begun
+longer (outermost l) m = outermost (then l m)
+longer (within b o l) m = within b o (then l m)
+
+pub text_longer : (b : Begun) (m : Line) → begun_text (longer b m) ≡ begun_text b ++ text m
+text_longer (outermost l) m = text_then l m
+text_longer (within b o l) m = ap (λ x. begun_text b ++ o ∷ x) (text_then l m) ∙ sym (append_assoc (begun_text b) (o ∷ text l) (text m))
+
+-- what has begun leads to the lines that are open
+abbrev pub Stack : Board → Begun → Frame → List Frame → Type 0
+Stack start (outermost l) f [] = (t : Told) × Tells 0 (beginning start) l t × (t.end ≡ place f)
+Stack start (outermost l) f (g ∷ k) = ⊥
+Stack start (within b o l) f [] = ⊥
+Stack start (within b o l) f (g ∷ k) =
+    Stack start b g k × (p : Board) × (g.before ≡ Some p) × (length k < 100) × (sense o ≡ opens)
+    × (t : Told) × Tells (length k + 1) (beginning p) l t × (t.end ≡ place f)
+
+-- what a state in the movetext shows of the tokens
+pub record Shown (ts : List Word) (h : Head) (f : Frame) (k : List Frame) : Type 0 where
+  pub pairs : List Pair
+  pub has_heading : HasHeading pairs h.tags h.start
+  pub begun : Begun
+  pub stack : Stack h.start begun f k
+  pub joined : ts ≡ heading_text pairs ++ begun_text begun
+  pub moves : h.moves ≡ count_by is_move (begun_text begun)
+  pub heading : h.heading ≡ list_all is_comment (begun_text begun)
+
+-- the line goes on from one place to another
+pub stack_on : (start : Board) (b : Begun) (f g : Frame) (k : List Frame) (m : Line) (u : Told) → Stack start b f k
+    → ((d : ℕ) → d ≡ length k → Tells d (place f) m u) → u.end ≡ place g → Stack start (longer b m) g k
+stack_on start (outermost l) f g [] m u (t, tells, end) more to =
+    let all : Longer 0 (beginning start) (then l m) u.end = tells_then l m 0 (beginning start) t u tells (subst (λ x. Tells 0 x m u) (sym end) (more 0 refl)) in
+    (all.told, all.tells, all.end ∙ to)
+stack_on start (outermost l) f g (h ∷ k) m u wrong more to = absurd wrong
+stack_on start (within b o l) f g [] m u wrong more to = absurd wrong
+stack_on start (within b o l) f g (h ∷ k) m u (around, p, before, shallow, opening, t, tells, end) more to =
+    let all : Longer (length k + 1) (beginning p) (then l m) u.end =
+        tells_then l m (length k + 1) (beginning p) t u tells (subst (λ x. Tells (length k + 1) x m u) (sym end) (more (length k + 1) (omega arith))) in
+    (around, p, before, shallow, opening, all.told, all.tells, all.end ∙ to)
+
+-- heads before and after a token
+pub record Stepped (h : Head) (s : Sense) (j : Head) : Type 0 where
+  pub tags : j.tags ≡ h.tags
+  pub start : j.start ≡ h.start
+  pub moves : j.moves ≡ h.moves + cond (is_move_sense s) 1 0
+  pub heading : j.heading ≡ (h.heading && is_remark s)
+
+pub and_false : (a : Bool) → false ≡ (a && false)
+and_false true = refl
+and_false false = refl
+
+pub and_true : (a : Bool) → a ≡ (a && true)
+and_true true = refl
+and_true false = refl
+
+pub same_moves : (h : Head) → h.moves ≡ h.moves + 0
+same_moves h = omega arith
+
+-- what stands in the movetext after some tokens more
+pub shown_on : (ts more : List Word) (h j : Head) (f g : Frame) (k c : List Frame) (shown : Shown ts h f k) (b : Begun)
+    → begun_text b ≡ begun_text shown.begun ++ more → Stack h.start b g c → j.tags ≡ h.tags → j.start ≡ h.start
+    → j.moves ≡ h.moves + count_by is_move more → j.heading ≡ (h.heading && list_all is_comment more) → Shown (ts ++ more) j g c
+shown_on ts more h j f g k c shown b text_is stack tags start moves heading = record {
+  pairs = shown.pairs;
+  has_heading = record {
+    are_pairs = shown.has_heading.are_pairs;
+    are_tags = tags ∙ shown.has_heading.are_tags;
+    starts = ap start_of tags ∙ shown.has_heading.starts ∙ ap (λ x. Ok x) (sym start);
+  };
+  begun = b;
+  stack = subst (λ x. Stack x b g c) (sym start) stack;
+  joined = ap (λ x. x ++ more) shown.joined ∙ append_assoc (heading_text shown.pairs) (begun_text shown.begun) more ∙ ap (λ x. heading_text shown.pairs ++ x) (sym text_is);
+  moves = moves ∙ ap (λ n. n + count_by is_move more) shown.moves ∙ sym (sum_by-append (λ w. cond (is_move w) 1 0) (begun_text shown.begun) more) ∙ ap (count_by is_move) (sym text_is);
+  heading = heading ∙ ap (λ x. x && list_all is_comment more) shown.heading ∙ sym (list_all-append is_comment (begun_text shown.begun) more) ∙ ap (list_all is_comment) (sym text_is);
+}
+
+-- the counts of one token
+pub one_move : (h j : Head) (w : Word) (s : Sense) → sense w ≡ s → j.moves ≡ h.moves + cond (is_move_sense s) 1 0 → j.moves ≡ h.moves + count_by is_move (w ∷ [])
+one_move h j w s is moves =
+    let one : ◌≡◌ {A = ℕ} (cond (is_move w) 1 0) (cond (is_move_sense s) 1 0) = ap (λ x. cond {A = ℕ} (is_move_sense x) 1 0) is in
+    let all : ◌≡◌ {A = ℕ} (count_by is_move (w ∷ [])) (cond (is_move w) 1 0 + count_by is_move []) = counted_word w [] in
+    omega (arith, one, all, moves)
+
+pub one_comment : (h j : Head) (w : Word) (s : Sense) → sense w ≡ s → j.heading ≡ (h.heading && is_remark s) → j.heading ≡ (h.heading && list_all is_comment (w ∷ []))
+one_comment h j w s is heading = heading ∙ ap (λ x. h.heading && x) (and_true (is_remark s) ∙ ap (λ x. is_remark x && true) (sym is))
+
+-- a token that isn't a parenthesis
+pub word_stands : (ts : List Word) (h j : Head) (f g : Frame) (k : List Frame) (w : Word) (s : Sense) (u : Told) → sense w ≡ s → Shown ts h f k
+    → ((d : ℕ) → d ≡ length k → TellsWord d (place f) s (place g) (nothing_told (place g)) u) → Stepped h s j → Shown (ts ++ w ∷ []) j g k
+word_stands ts h j f g k w s u is shown tells step =
+    let line : Line = word w nothing in
+    let told : (d : ℕ) → d ≡ length k → Tells d (place f) line u = λ d e. (place g, nothing_told (place g), subst (λ x. TellsWord d (place f) x (place g) (nothing_told (place g)) u) (sym is) (tells d e), refl) in
+    shown_on ts (w ∷ []) h j f g k k shown (longer shown.begun line) (text_longer shown.begun line)
+      (stack_on h.start shown.begun f g k line u shown.stack told (sym (end_same (length k) (place f) (place g) (nothing_told (place g)) u s (tells (length k) refl))))
+      step.tags step.start (one_move h j w s is step.moves) (one_comment h j w s is step.heading)

@@ -1,0 +1,88 @@
+-- A line that is being read, and its nodes in preorder, each with its level in the tree.
+use Rattle.std.specs.Prelude.{ℕ, ◌+◌, List, [], ◌∷◌, ◌++◌, Option, Some, None}
+use Rattle.cq_position.specs.declared.moves.Move.{Move}
+use Rattle.cq_position.specs.Board.{Board}
+use Rattle.cq_position.specs.Moves.{null_move}
+use Rattle.cq_position.specs.Continuations.{Played, Continuations, none, played}
+use Rattle.pgn_reader.specs.Comments.{comment_of}
+use Rattle.pgn_reader.specs.Line.{Place, Told, noted, led_to}
+
+-- a node and the level of its parent; the root's children have the level 0
+pub record Row : Type 0 where
+  pub level : ℕ
+  pub move : Played
+
+-- the nodes of continuations in preorder
+unfoldable pub rows : ℕ → Continuations → List Row
+rows level none = []
+rows level (played move next others) = record { level = level; move = move } ∷ (rows (level + 1) next ++ rows level others)
+
+-- Where a line stands, the levels of its last move and of the next, and the last move, none before the first of a variation; at the root
+-- the null move stands for it. The glyphs and comments are the last move's, or wait for the first. Then the nodes of its earlier moves, of
+-- the variations after its last move, and of those after the earlier moves.
+pub record Frame : Type 0 where
+  pub before : Option Board
+  pub reached : Board
+  pub level : ℕ
+  pub next : ℕ
+  pub last : Option Move
+  pub nags : List ℕ
+  pub comments : List (List ℕ)
+  pub moves : List Row
+  pub here : List Row
+  pub earlier : List Row
+
+abbrev pub place : Frame → Place
+place f = record { before = f.before; reached = f.reached }
+
+abbrev pub last_row_by : Option Move → Frame → List Row
+last_row_by None f = []
+last_row_by (Some m) f = record { level = f.level; move = record { move = m; position = f.reached; nags = f.nags; comments = f.comments } } ∷ []
+
+abbrev pub last_row : Frame → List Row
+last_row f = last_row_by f.last f
+
+-- The nodes of a line in preorder: its moves, the variations after the last of them, and those after the earlier ones.
+abbrev pub whole : Frame → List Row
+whole f = f.moves ++ (last_row f ++ (f.here ++ f.earlier))
+
+abbrev pub begin : ℕ → Board → Frame
+begin level p = record {
+  before = None; reached = p; level = 0; next = level; last = None; nags = []; comments = []; moves = []; here = []; earlier = [];
+}
+
+abbrev pub begin_game : Board → Frame
+begin_game p = record {
+  before = None; reached = p; level = 0; next = 0; last = Some null_move; nags = []; comments = []; moves = []; here = []; earlier = [];
+}
+
+-- what waits for the first move goes over to it
+abbrev pub carried : {A : Type 0} → Option Move → List A → List A
+carried None xs = xs
+carried (Some m) xs = []
+
+abbrev pub advance : Frame → Move → Board → Frame
+advance f m q = record {
+  before = Some f.reached; reached = q; level = f.next; next = f.next + 1; last = Some m;
+  nags = carried f.last f.nags; comments = carried f.last f.comments;
+  moves = f.moves ++ last_row f; here = []; earlier = f.here ++ f.earlier;
+}
+
+abbrev pub annotated : Frame → ℕ → Frame
+annotated f n = record f { nags = f.nags ++ n ∷ [] }
+
+abbrev pub remarked : Frame → List ℕ → Frame
+remarked f text = record f { comments = f.comments ++ comment_of text }
+
+-- a variation after the last move
+abbrev pub with_variation : Frame → Frame → Frame
+with_variation f variation = record f { here = f.here ++ whole variation }
+
+-- the nodes of a line, the rest of which tells so much
+abbrev pub wholly_by : Option Move → Frame → Told → List Row
+wholly_by None f t = rows f.next (noted (f.nags ++ t.nags) (f.comments ++ t.comments) t.rest)
+wholly_by (Some m) f t =
+    record { level = f.level; move = record { move = m; position = f.reached; nags = f.nags ++ t.nags; comments = f.comments ++ t.comments } } ∷ rows f.next t.rest
+
+abbrev pub wholly : Frame → Told → List Row
+wholly f t = f.moves ++ (wholly_by f.last f t ++ (f.here ++ (rows f.level t.variations ++ f.earlier)))

@@ -1,0 +1,10 @@
+pub mod Words
+pub mod Comments
+pub mod Tags
+pub mod Line
+pub mod Games
+pub mod Standing
+pub mod Faults
+pub mod Frame
+pub mod Machine
+pub mod Arranged

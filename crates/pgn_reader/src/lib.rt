@@ -1,0 +1,6 @@
+//! Reading a game: its tags and its tree, or its first fault.
+#![tactic(auto)]
+
+pub mod fault;
+
+pub use fault::{GameFault, Reason};
