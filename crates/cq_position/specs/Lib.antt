@@ -10,5 +10,6 @@ pub mod Reading
 pub mod Legal
 pub mod Bitboards
 pub mod FenText
+pub mod Comments
 pub mod Games
 pub mod Continuations
