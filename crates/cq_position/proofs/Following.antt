@@ -1,14 +1,13 @@
 -- Nodes are a tree exactly where the moves of their continuations follow one another.
-use Rattle.std.proofs.Common.{◌≡◌, ℕ, zero, suc, ◌+◌, ◌-◌, ◌<◌, ◌≤◌, List, [], ◌∷◌, ◌++◌, length, Option, Some, None, refl, sym, ap, ap₂, ◌∙◌, subst, arith, append_assoc, append-nil, length-append}
+use Rattle.std.proofs.Common.{◌≡◌, ℕ, ◌+◌, ◌-◌, ◌<◌, ◌≤◌, List, [], ◌∷◌, ◌++◌, length, Some, refl, sym, ap, ◌∙◌, subst, arith, append_assoc, append-nil, length-append}
 use Rattle.std.specs.Prelude.{Contains}
 use Rattle.std.proofs.lemmas.List.{get_or_append_left}
 use Rattle.std.proofs.Math.Seq.{get_or-append_seam}
 use Rattle.std.proofs.lemmas.List.Elements.{Contains-append_right}
 use Rattle.cq_position.specs.declared.moves.Move.{Move}
-use Rattle.cq_position.specs.Board.{Board}
 use Rattle.cq_position.specs.Legal.{Leads}
-use Rattle.cq_position.specs.Games.{Node, no_node, node_at, way_up, IsRoot, IsChild, IsTree}
-use Rattle.cq_position.specs.Continuations.{Played, Continuations, none, played, size, node_of, nodes_from, Follows}
+use Rattle.cq_position.specs.Games.{Node, no_node, node_at, way_up, IsRoot, IsTree}
+use Rattle.cq_position.specs.Continuations.{Continuations, none, played, size, node_of, nodes_from, Follows}
 use Rattle.cq_position.proofs.Ancestors.{way_step, way_self, way_on}
 use Rattle.cq_position.proofs.Trees.{tree_first, way_in_prefix, tree_push}
 use Rattle.cq_position.proofs.Nested.{length_nodes}

@@ -1,5 +1,5 @@
 -- Worked rows of games: the trees of `1. e4 (1. d4) e5` and of a variation within a variation.
-use Rattle.std.proofs.Common.{◌≡◌, ℕ, ◌+◌, Bool, true, false, List, [], ◌∷◌, map, Option, Some, None, refl}
+use Rattle.std.proofs.Common.{◌≡◌, ℕ, true, false, List, [], ◌∷◌, map, Some, None, refl}
 use Rattle.cq_position.specs.declared.men.Promotion.TheVariants.{None as NoPromotion}
 use Rattle.cq_position.specs.declared.moves.Move.{Move}
 use Rattle.cq_position.specs.Board.{Board, start_board}

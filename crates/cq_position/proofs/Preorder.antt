@@ -1,15 +1,13 @@
 -- The nodes of a tree in preorder are those of its continuations.
-use Rattle.std.proofs.Common.{◌≡◌, ◌≢◌, ℕ, zero, suc, ◌+◌, ◌-◌, ◌<◌, ◌≤◌, ◌⊎◌, inl, inr, ⊎_elim, List, [], ◌∷◌, ◌++◌, length, Option, Some, None, refl, sym, ap, ap₂, ◌∙◌, subst, arith, append_assoc, append-nil, length-append}
-use Rattle.std.specs.Prelude.{Contains}
+use Rattle.std.proofs.Common.{◌≡◌, ◌≢◌, ℕ, zero, suc, ◌+◌, ◌-◌, ◌<◌, ◌≤◌, List, [], ◌∷◌, ◌++◌, length, Option, Some, None, refl, sym, ap, ap₂, ◌∙◌, subst, arith, append_assoc, append-nil, length-append}
 use Rattle.std.specs.List.{AllByRecursion}
 use Rattle.std.proofs.Math.Seq.{get_or-append_seam}
 use Rattle.cq_position.specs.declared.moves.Move.{Move}
-use Rattle.cq_position.specs.Board.{Board}
-use Rattle.cq_position.specs.Games.{Node, no_node, node_at, up_from, way_up, IsChild, IsTree}
-use Rattle.cq_position.specs.Continuations.{Played, Continuations, none, played, size, node_of, nodes_from, continuations, Follows}
-use Rattle.cq_position.proofs.Ancestors.{AreParentsFirst, way_step, way_head, way_root, way_self, way_on, reaches}
-use Rattle.cq_position.proofs.Trees.{tree_first, prefix_tree, way_in_prefix, MayFollow, tree_push}
-use Rattle.cq_position.proofs.Nested.{IsElsewhere, passed_over, taken, nothing_left, is_number_other, by_parent}
+use Rattle.cq_position.specs.Games.{Node, no_node, node_at, up_from, way_up, IsTree}
+use Rattle.cq_position.specs.Continuations.{Played, none, size, node_of, nodes_from, continuations}
+use Rattle.cq_position.proofs.Ancestors.{AreParentsFirst, way_step, way_head, way_root, reaches}
+use Rattle.cq_position.proofs.Trees.{tree_first}
+use Rattle.cq_position.proofs.Nested.{passed_over, taken, nothing_left, by_parent}
 
 -- numbers that fall, all of them below k
 pub Falls : ℕ → List ℕ → Type 0

@@ -1,12 +1,11 @@
 -- Trees of nodes: what they keep, and how they grow.
-use Rattle.std.proofs.Common.{◌≡◌, ◌≢◌, ℕ, zero, suc, ◌+◌, ◌-◌, ◌<◌, ◌≤◌, ◌⊎◌, inl, inr, ⊎_elim, List, [], ◌∷◌, ◌++◌, length, get_or, Option, Some, None, refl, sym, ap, ap₂, ◌∙◌, subst, arith, length-append}
+use Rattle.std.proofs.Common.{◌≡◌, ℕ, ◌+◌, ◌-◌, ◌<◌, ◌≤◌, ◌⊎◌, ⊎_elim, List, [], ◌∷◌, ◌++◌, length, Some, None, sym, ap, ◌∙◌, subst, arith, length-append}
 use Rattle.std.specs.Prelude.{Contains}
 use Rattle.std.proofs.lemmas.List.{get_or_append_left, get_or_past}
 use Rattle.std.proofs.Math.Seq.{get_or-append_seam}
 use Rattle.cq_position.specs.declared.moves.Move.{Move}
-use Rattle.cq_position.specs.Board.{Board}
 use Rattle.cq_position.specs.Legal.{Leads}
-use Rattle.cq_position.specs.Games.{Node, no_node, node_at, way_up, IsSamePlace, IsRoot, IsChild, IsTree}
+use Rattle.cq_position.specs.Games.{Node, no_node, node_at, way_up, IsSamePlace, IsChild, IsTree}
 use Rattle.cq_position.proofs.Ancestors.{AreParentsFirst, HaveSameParents, way_same}
 
 cases : (n k : ℕ) → (n ≡ 0) ⊎ ((0 < n) × (n < k)) ⊎ (k ≤ n)

@@ -1,9 +1,12 @@
 -- A game as plain data: its tags, its result, and the tree of its positions (PGN standard, section 8).
-use Rattle.std.specs.Prelude.{◌≡◌, ℕ, zero, suc, ◌+◌, ◌-◌, ◌<◌, ◌≤◌, ◌==◌, ◌&&◌, ◌||◌, nat_lt, Bool, true, false, List, [], ◌∷◌, ◌++◌, length, filter, Option, Some, None, slice_index_or, Contains}
+use Rattle.std.specs.Prelude.{◌≡◌, ◌≢◌, if◌then◌else◌, ℕ, zero, suc, ◌+◌, ◌-◌, ◌<◌, ◌≤◌, ◌==◌, ◌&&◌, ◌||◌, nat_lt, Bool, true, false, List, [], ◌∷◌, ◌++◌, length, filter, Option, Some, None, slice_index_or, slice_set, Contains}
+use Rattle.std.specs.Option.{option_map, is_some}
+use Rattle.std.specs.Str.{bytes_eq}
 use Rattle.std.specs.List.{find, list_all, list_any, range_with_len}
 use Rattle.cq_position.specs.declared.games.GameResult.{GameResult}
 use Rattle.cq_position.specs.declared.moves.Move.{Move}
 use Rattle.cq_position.specs.Board.{Board, start_board}
+use Rattle.cq_position.specs.Comments.{words, comment_of}
 use Rattle.cq_position.specs.Legal.{Leads}
 
 -- A node is a position of a game. It has the number of the node before it and the move that led from there, which the root has not, and
@@ -22,12 +25,43 @@ pub record Game : Type 0 where
   pub result : GameResult
   pub nodes : List Node
 
+-- the value of the tag with a name
+abbrev pub tag_value : List ℕ → List (List ℕ × List ℕ) → Option (List ℕ)
+tag_value name tags = option_map (λ t. t.1) (find (λ t. bytes_eq name t.0) tags)
+
+-- tags and one more: a name that is there keeps its value
+abbrev pub with_tag : List (List ℕ × List ℕ) → List ℕ → List ℕ → List (List ℕ × List ℕ)
+with_tag tags name value = if is_some (tag_value name tags) then tags else tags ++ (name, value) ∷ []
+
+-- the tag of a number, and an empty one where there is none
+abbrev pub tag_at : List (List ℕ × List ℕ) → ℕ → List ℕ × List ℕ
+tag_at tags i = slice_index_or tags i ([], [])
+
+-- no two tags have the same name
+pub record HaveDistinctNames (tags : List (List ℕ × List ℕ)) : Type 0 where
+  pub differ : (i j : ℕ) → i < j → j < length tags → (tag_at tags i).0 ≢ (tag_at tags j).0
+
 -- what stands for a node that isn't there
 abbrev pub no_node : Node
 no_node = record { parent = None; led_by = None; position = start_board; nags = []; comments = [] }
 
 abbrev pub node_at : List Node → ℕ → Node
 node_at nodes n = slice_index_or nodes n no_node
+
+-- a node without numeric annotation glyphs and comments
+abbrev pub bare_node : Option ℕ → Option Move → Board → Node
+bare_node parent led_by position = record { parent = parent; led_by = led_by; position = position; nags = []; comments = [] }
+
+-- a node with one more numeric annotation glyph, and with one more comment, of the words of a text
+abbrev pub with_nag : ℕ → Node → Node
+with_nag nag node = record node { nags = node.nags ++ nag ∷ [] }
+
+abbrev pub with_comment : List ℕ → Node → Node
+with_comment text node = record node { comments = node.comments ++ comment_of (words text) }
+
+-- nodes with a change of one of them
+abbrev pub with_node : List Node → ℕ → (Node → Node) → List Node
+with_node nodes n change = slice_set nodes n (change (node_at nodes n))
 
 -- the numbers of the nodes
 abbrev pub numbers : List Node → List ℕ

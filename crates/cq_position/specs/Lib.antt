@@ -12,5 +12,6 @@ pub mod Legality
 pub mod Bitboards
 pub mod Outward
 pub mod FenText
+pub mod Comments
 pub mod Games
 pub mod Continuations

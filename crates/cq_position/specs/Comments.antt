@@ -1,0 +1,14 @@
+-- The words of a comment, which are what a game keeps of it.
+use Rattle.std.specs.Prelude.{ℕ, List, [], ◌∷◌}
+use Rattle.std.specs.List.{filter, slice_split, join_with_byte}
+use Rattle.cq_outside.specs.Text.{is_white}
+use Rattle.cq_position.specs.Fen.{is_not_empty}
+
+-- the words of a text are its longest parts without white space, the empty ones left out
+unfoldable pub words : List ℕ → List (List ℕ)
+words text = filter is_not_empty (slice_split is_white text)
+
+-- the comment of some words: the words with single spaces between them; no words are no comment
+abbrev pub comment_of : List (List ℕ) → List (List ℕ)
+comment_of [] = []
+comment_of (word ∷ more) = join_with_byte 32 (word ∷ more) ∷ []

@@ -1,0 +1,210 @@
+//! A game.
+ghost use Rattle.std.specs.Option.{is_some};
+ghost use Rattle.std.specs.Prelude.{◌≡◌, ◌≢◌, ◌&&◌, not, ◌<◌, ◌≤◌, ◌+◌, ◌-◌, ◌↔◌, [], ◌∷◌, ◌++◌, length, slice_index_or, Some, None, OnOk, OnErr, IfOk, IfSome, IsNone, IsOk, Contains, All};
+ghost use Rattle.cq_position.specs.Legal.{Leads};
+ghost use Rattle.cq_position.specs.Games.{node_at, bare_node, with_nag, with_comment, with_node, way_up, children, first_child, next_sibling, is_main, main_line, IsTree};
+ghost use Rattle.pgn_tree.specs.Links.{linked_at, with_link, linked};
+
+use crate::node::Node;
+use crate::tags::Tags;
+use cq_outside::NoMemory;
+use cq_position::{GameResult, Move, Position};
+use std::alloc::Global;
+use std::marker::Model;
+
+/// A game: its tags, its result, and the tree of its positions, which contracts see as a list of nodes.
+///
+/// Nodes are numbered from 0 in preorder. Node 0 is the root; it has the starting position. Each other node has the position to which a
+/// legal move or an allowed null move led from the position of its parent. A game has at most 65,536 nodes.
+#[derive(Drop)]
+pub struct Game {
+    alloc: Global,
+    tags: Tags,
+    result: GameResult,
+    nodes: Vec<Node>,
+}
+
+impl Model for Game {
+    ghost use Rattle.cq_position.specs.Games.{Game};
+
+    ghost Value = { Game };
+
+    ghost use Rattle.pgn_tree.specs.GameInside.{game_inside};
+    ghost use Rattle.pgn_tree.specs.Links.{IsLinkedTree};
+
+    ghost view = { game_inside };
+
+    ghost invariant = { λ g. IsLinkedTree g.nodes.items };
+}
+
+impl Game {
+    /// A game of the starting position alone.
+    pub fn new(tags: Tags, ending: GameResult, start: Position) -> Result<Game, NoMemory>
+        ensures { IfOk result (λ g. g ≡ record { tags = tags; result = ending; nodes = bare_node None None start ∷ [] }) }
+    {
+        let alloc = tags.allocator();
+        let mut nodes = Vec::new(alloc);
+        nodes.push(Node::new(alloc, None, None, start, true))?;
+        Ok(Game {
+            alloc,
+            tags,
+            result: ending,
+            nodes,
+        })
+    }
+
+    /// How many nodes there are.
+    pub fn len(&self) -> u32
+        ensures len { result ≡ length self.now.nodes }
+        ensures kept { IsTree self.now.nodes }
+    {
+        self.nodes.len() as u32
+    }
+
+    /// The result.
+    pub fn result(&self) -> GameResult
+        ensures { result ≡ self.now.result }
+    {
+        self.result
+    }
+
+    /// The tags.
+    pub fn tags(&self) -> &Tags
+        ensures { result.now ≡ self.now.tags }
+    {
+        &self.tags
+    }
+
+    /// The number of a node's parent; None at the root, and nowhere else.
+    pub fn parent(&self, k: u32) -> Option<u32>
+        requires { k < length self.now.nodes }
+        ensures value { result ≡ (node_at self.now.nodes k).parent }
+    {
+        self.nodes[k as usize].parent()
+    }
+
+    /// The number of a node's first child; None where it has no child.
+    pub fn first_child(&self, k: u32) -> Option<u32>
+        requires { k < length self.now.nodes }
+        ensures value { result ≡ first_child self.now.nodes k }
+    {
+        self.nodes[k as usize].first_child()
+    }
+
+    /// The number of a node's next sibling; None where no sibling comes later.
+    pub fn next_sibling(&self, k: u32) -> Option<u32>
+        requires { k < length self.now.nodes }
+        ensures value { result ≡ next_sibling self.now.nodes k }
+    {
+        self.nodes[k as usize].next_sibling()
+    }
+
+    /// Whether a node is of the main line: the root, or a first child of a node of the main line.
+    pub fn is_main(&self, k: u32) -> bool
+        requires { k < length self.now.nodes }
+        ensures { result ≡ is_main self.now.nodes k }
+    {
+        self.nodes[k as usize].is_main()
+    }
+
+    /// The position of a node.
+    pub fn position(&self, k: u32) -> &Position
+        requires { k < length self.now.nodes }
+        ensures { result.now ≡ (node_at self.now.nodes k).position }
+    {
+        self.nodes[k as usize].position()
+    }
+
+    /// The move that led to a node; None at the root, and nowhere else.
+    pub fn move_to(&self, k: u32) -> Option<Move>
+        requires { k < length self.now.nodes }
+        ensures value { result ≡ (node_at self.now.nodes k).led_by }
+    {
+        self.nodes[k as usize].led_by()
+    }
+
+    /// The numeric annotation glyphs of a node, in order.
+    pub fn nags(&self, k: u32) -> &[u8]
+        requires { k < length self.now.nodes }
+        ensures { result.now ≡ (node_at self.now.nodes k).nags }
+    {
+        self.nodes[k as usize].nags()
+    }
+
+    /// How many comments a node has.
+    pub fn comments(&self, k: u32) -> usize
+        requires { k < length self.now.nodes }
+        ensures { result ≡ length (node_at self.now.nodes k).comments }
+    {
+        self.nodes[k as usize].comments()
+    }
+
+    /// Comment number `i` of a node, counted from 0: words with single spaces between them.
+    pub fn comment(&self, k: u32, i: usize) -> &[u8]
+        requires node { k < length self.now.nodes }
+        requires comment { i < length (node_at self.now.nodes k).comments }
+        ensures { result.now ≡ slice_index_or (node_at self.now.nodes k).comments i [] }
+    {
+        self.nodes[k as usize].comment(i)
+    }
+
+    /// Adds a node after all others, and answers its number.
+    ///
+    /// Its parent is the last node or an ancestor of that. The move is legal, or an allowed null move, in the parent's position, and leads
+    /// to the position.
+    pub fn add_node(&mut self, parent: u32, m: Move, p: Position) -> Result<u32, NoMemory>
+        requires node { parent < length self.old.nodes }
+        requires preorder { Contains (way_up self.old.nodes (length self.old.nodes - 1)) parent }
+        requires leads { Leads (node_at self.old.nodes parent).position m p }
+        requires few { length self.old.nodes < 65536 }
+        ensures ok { OnOk result (self.new ≡ record self.old { nodes = self.old.nodes ++ bare_node (Some parent) (Some m) p ∷ [] }) }
+        ensures number { IfOk result (λ k. k ≡ length self.old.nodes) }
+        ensures err { OnErr result (self.new ≡ self.old) }
+    {
+        let number = self.nodes.len() as u32;
+        let main = begins_main_line(&self.nodes[parent as usize]);
+        self.nodes
+            .push(Node::new(self.alloc, Some(parent), Some(m), p, main))?;
+        link(&mut self.nodes, parent, number);
+        Ok(number)
+    }
+
+    /// Adds a numeric annotation glyph to a node. The first four of a node take no memory.
+    pub fn add_nag(&mut self, k: u32, nag: u8) -> Result<(), NoMemory>
+        requires { k < length self.old.nodes }
+        ensures ok { OnOk result (self.new ≡ record self.old { nodes = with_node self.old.nodes k (with_nag nag) }) }
+        ensures err { OnErr result (self.new ≡ self.old) }
+        ensures room { length (node_at self.old.nodes k).nags < 4 → IsOk result }
+    {
+        self.nodes[k as usize].add_nag(nag)
+    }
+}
+
+// Whether the next child of a node is of the main line.
+fn begins_main_line(parent: &Node) -> bool
+    ensures { result ≡ (parent.now.main && not (is_some parent.now.first_child)) }
+{
+    parent.is_main() && parent.first_child().is_none()
+}
+
+// Ties the last node, number `k`, to the last child of its parent, or as first child to the parent itself.
+fn link(nodes: &mut Vec<Node>, parent: u32, k: u32)
+    requires parent { parent < length nodes.old.items }
+    requires last { IfSome (linked_at nodes.old.items parent).last_child (λ l. l < length nodes.old.items) }
+    ensures { nodes.new.items ≡ linked nodes.old.items parent k }
+{
+    let last = nodes[parent as usize].last_child();
+    link_before(nodes, last, parent, k);
+    nodes[parent as usize].set_last_child(k);
+}
+
+fn link_before(nodes: &mut Vec<Node>, last: Option<u32>, parent: u32, k: u32)
+    requires parent { parent < length nodes.old.items }
+    requires last { IfSome last (λ l. l < length nodes.old.items) }
+    ensures { nodes.new.items ≡ with_link nodes.old.items last parent k }
+{
+    match last {
+        Some(last) => nodes[last as usize].set_next_sibling(k),
+        None => nodes[parent as usize].set_first_child(k),
+    }
+}

@@ -1,0 +1,12 @@
+//! Whole games: the tags of a game and the tree of its positions.
+//!
+//! `cq_position/specs/Games` has what contracts see of a game, `specs/Links` what a game keeps besides.
+#![tactic(auto)]
+
+mod game;
+mod node;
+mod tags;
+
+pub use cq_position::GameResult;
+pub use game::Game;
+pub use tags::Tags;

@@ -1,0 +1,175 @@
+//! A node of a game.
+ghost use Rattle.std.specs.Prelude.{◌≡◌, ◌<◌, [], ◌∷◌, ◌++◌, length, slice_index_or, OnOk, OnErr, IsOk};
+ghost use Rattle.cq_position.specs.Games.{bare_node, with_nag};
+ghost use Rattle.pgn_tree.specs.Links.{IsSameLinked, unlinked, with_first_child, with_last_child, with_next_sibling};
+
+use cq_outside::{Bytes, NoMemory};
+use cq_position::{Move, Position};
+use smallvec::SmallVec;
+use std::alloc::Global;
+use std::marker::Model;
+
+/// A node and its links. Without a comment and with at most four numeric annotation glyphs it takes no memory but for itself.
+#[derive(Drop)]
+pub struct Node {
+    parent: Option<u32>,
+    first_child: Option<u32>,
+    last_child: Option<u32>,
+    next_sibling: Option<u32>,
+    main: bool,
+    led_by: Option<Move>,
+    position: Position,
+    nags: SmallVec<u8, 4>,
+    comments: Vec<Bytes>,
+}
+
+impl Model for Node {
+    ghost use Rattle.std.specs.Prelude.{◌≤◌};
+    ghost use Rattle.pgn_tree.specs.Links.{Linked};
+
+    ghost Value = { Linked };
+
+    ghost use Rattle.pgn_tree.specs.Inside.{node_inside};
+
+    ghost view = { node_inside };
+
+    ghost invariant = { λ n. 4 ≤ n.nags.capacity };
+}
+
+impl Node {
+    /// A node without numeric annotation glyphs, comments, children and siblings.
+    pub fn new(
+        alloc: Global,
+        parent: Option<u32>,
+        led_by: Option<Move>,
+        position: Position,
+        main: bool,
+    ) -> Node
+        ensures { result ≡ unlinked (bare_node parent led_by position) main }
+    {
+        Node {
+            parent,
+            first_child: None,
+            last_child: None,
+            next_sibling: None,
+            main,
+            led_by,
+            position,
+            nags: SmallVec::new(alloc),
+            comments: Vec::new(alloc),
+        }
+    }
+
+    /// The number of its parent; None at the root.
+    pub fn parent(&self) -> Option<u32>
+        ensures { result ≡ self.now.node.parent }
+    {
+        self.parent
+    }
+
+    /// The number of its first child.
+    pub fn first_child(&self) -> Option<u32>
+        ensures { result ≡ self.now.first_child }
+    {
+        self.first_child
+    }
+
+    /// The number of its last child.
+    pub fn last_child(&self) -> Option<u32>
+        ensures { result ≡ self.now.last_child }
+    {
+        self.last_child
+    }
+
+    /// The number of its next sibling.
+    pub fn next_sibling(&self) -> Option<u32>
+        ensures { result ≡ self.now.next_sibling }
+    {
+        self.next_sibling
+    }
+
+    /// Whether it is of the main line.
+    pub fn is_main(&self) -> bool
+        ensures { result ≡ self.now.main }
+    {
+        self.main
+    }
+
+    /// The move that led to it; None at the root.
+    pub fn led_by(&self) -> Option<Move>
+        ensures { result ≡ self.now.node.led_by }
+    {
+        self.led_by
+    }
+
+    /// Its position.
+    pub fn position(&self) -> &Position
+        ensures { result.now ≡ self.now.node.position }
+    {
+        &self.position
+    }
+
+    /// Its numeric annotation glyphs.
+    pub fn nags(&self) -> &[u8]
+        ensures { result.now ≡ self.now.node.nags }
+    {
+        self.nags.as_slice()
+    }
+
+    /// How many comments it has.
+    pub fn comments(&self) -> usize
+        ensures { result ≡ length self.now.node.comments }
+    {
+        self.comments.len()
+    }
+
+    /// Comment number `i`, counted from 0.
+    pub fn comment(&self, i: usize) -> &[u8]
+        requires { i < length self.now.node.comments }
+        ensures { result.now ≡ slice_index_or self.now.node.comments i [] }
+    {
+        self.comments[i].as_slice()
+    }
+
+    /// Sets the first child.
+    pub fn set_first_child(&mut self, child: u32)
+        ensures { self.new ≡ with_first_child child self.old }
+    {
+        self.first_child = Some(child);
+    }
+
+    /// Sets the last child.
+    pub fn set_last_child(&mut self, child: u32)
+        ensures { self.new ≡ with_last_child child self.old }
+    {
+        self.last_child = Some(child);
+    }
+
+    /// Sets the next sibling.
+    pub fn set_next_sibling(&mut self, sibling: u32)
+        ensures { self.new ≡ with_next_sibling sibling self.old }
+    {
+        self.next_sibling = Some(sibling);
+    }
+
+    /// Adds a numeric annotation glyph; the first four take no memory.
+    pub fn add_nag(&mut self, nag: u8) -> Result<(), NoMemory>
+        ensures ok { OnOk result (self.new ≡ record self.old { node = with_nag nag self.old.node }) }
+        ensures err { OnErr result (self.new ≡ self.old) }
+        ensures place { IsSameLinked self.old self.new }
+        ensures room { length self.old.node.nags < 4 → IsOk result }
+    {
+        self.nags.push(nag)?;
+        Ok(())
+    }
+
+    /// Adds a comment.
+    pub fn add_comment(&mut self, comment: Bytes) -> Result<(), NoMemory>
+        ensures ok { OnOk result (self.new ≡ record self.old { node = record self.old.node { comments = self.old.node.comments ++ comment ∷ [] } }) }
+        ensures err { OnErr result (self.new ≡ self.old) }
+        ensures place { IsSameLinked self.old self.new }
+    {
+        self.comments.push(comment)?;
+        Ok(())
+    }
+}
