@@ -11,4 +11,5 @@ pub mod Legal
 pub mod Legality
 pub mod Bitboards
 pub mod Outward
+pub mod King
 pub mod FenText
