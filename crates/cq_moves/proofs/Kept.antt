@@ -43,9 +43,9 @@ no_king_there p m g s = false_from_ne_true (stands p.men m.to (king_of s)) (λ e
     ])
 
 -- what a move keeps of the men: their squares, the kings, at most as many men of a side, and no pawn on the edge
-record Keeps (old men : List Man) : Type 0 where
-  whole : length men ≡ 64
-  kings : (s : Side) → count_of (king_of s) men ≡ count_of (king_of s) old
+pub record Keeps (old men : List Man) : Type 0 where
+  pub whole : length men ≡ 64
+  pub kings : (s : Side) → count_of (king_of s) men ≡ count_of (king_of s) old
   few : (s : Side) → count_of_side s men ≤ count_of_side s old
   edge : EdgeFree men
 
@@ -156,7 +156,7 @@ taken_keeps old men square side k h pawn =
       edge = EdgeFree-set men square Empty in_board (λ _. no_pawn_empty) k.edge;
     }
 
-after_keeps : (p : Board) (m : Move) → length p.men ≡ 64 → EdgeFree p.men → rights_stand p.men p.rights ≡ true → Goes p m → Way p m → Keeps p.men (men_after p m)
+pub after_keeps : (p : Board) (m : Move) → length p.men ≡ 64 → EdgeFree p.men → rights_stand p.men p.rights ≡ true → Goes p m → Way p m → Keeps p.men (men_after p m)
 after_keeps p m w free stood g (castled kingside king c is) =
     let r = rook_ready p m kingside stood c in
     subst (Keeps p.men) (sym is) (rook_keeps p.men (men_moved p m) p.side kingside (moved_keeps p m w free g) r.rook r.crossed)
@@ -175,7 +175,7 @@ same_after p m (captured c is) square from to off pawn =
     ap (λ x. man_at x square) is ∙ man_at-set_other (men_moved p m) (beside m.from m.to) square Empty (λ e. pawn (ap (man_at p.men) e ∙ c.pawn)) ∙ moved_other p m square from to
 same_after p m (moved is) square from to off pawn = ap (λ x. man_at x square) is ∙ moved_other p m square from to
 
-king_not_pawn : (s side : Side) → king_of s ≢ pawn_of side
+pub king_not_pawn : (s side : Side) → king_of s ≢ pawn_of side
 king_not_pawn White White e = cc
 king_not_pawn White Black e = cc
 king_not_pawn Black White e = cc

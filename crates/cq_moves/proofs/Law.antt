@@ -74,3 +74,8 @@ pub passes_in_parts : (p : Board) (m : Move) → m.null ≡ false → m.to < 64
     → legal_test p m ≡ (reaches p m.from m.to && promotion_is_right p m && is_safe p m)
 unfolding legal_test is_pseudo_legal
 passes_in_parts p m h k = rw (h, lt-ltb m.to 64 k) refl
+
+pub pseudo_legal_by_parts : (p : Board) (m : Move) → m.null ≡ false → m.to < 64 → reaches p m.from m.to ≡ true → promotion_is_right p m ≡ true
+    → is_pseudo_legal p m ≡ true
+unfolding is_pseudo_legal
+pseudo_legal_by_parts p m null below goes becomes = rw (null, lt-ltb m.to 64 below, goes, becomes) refl

@@ -10,3 +10,7 @@ pub mod Pawns
 pub mod Ways
 pub mod Kept
 pub mod Stuck
+pub mod Bits
+pub mod Candidates
+pub mod Safety
+pub mod Walk

@@ -1,19 +1,20 @@
 -- The legal moves part by part: from each square, to each square, by each promotion.
-use Rattle.std.proofs.Common.{◌≡◌, ℕ, ◌+◌, ◌<◌, ◌≤◌, true, false, ◌&&◌, List, [], ◌∷◌, ◌++◌, length, take, get_or, refl, sym, ap, ◌∙◌, subst, arith}
+use Rattle.std.proofs.Common.{◌≡◌, ℕ, ◌+◌, ◌<◌, ◌≤◌, Bool, true, false, cond, not, ◌&&◌, ◌==◌, List, [], ◌∷◌, ◌++◌, length, take, get_or, refl, sym, ap, ap₂, ◌∙◌, subst, arith}
 use Rattle.std.specs.List.{All, filter, flat_map, list_any}
 use Rattle.std.proofs.lemmas.List.{take_all, append_assoc, append-nil, length-append}
 use Rattle.std.proofs.lemmas.List.Elements.{All-map}
 use Rattle.std.proofs.lemmas.List.Folds.{length-flat_map-take, list_any_none}
 use Rattle.std.proofs.lemmas.List.FromFn.{get_or-range_with_len}
-use Rattle.cq_geometry.specs.Squares.{squares}
+use Rattle.cq_geometry.specs.Squares.{squares, rank_of}
 use Rattle.cq_position.specs.declared.men.Promotion.{Promotion}
+use Rattle.cq_position.specs.declared.men.Promotion.TheVariants.{None as NoPromotion, Q as ToQueen, R as ToRook, B as ToBishop, N as ToKnight}
 use Rattle.cq_position.specs.declared.moves.Move.{Move}
-use Rattle.cq_position.specs.Board.{Board}
-use Rattle.cq_position.specs.Legal.{reaches, promotion_is_right}
+use Rattle.cq_position.specs.Board.{Board, man_at, is_pawn}
+use Rattle.cq_position.specs.Legal.{reaches, promotion_is_right, is_pseudo_legal, is_none, last_rank}
 use Rattle.cq_position.specs.Legality.{is_safe, legal_test}
-use Rattle.cq_moves.specs.LegalMoves.{promotions, move_of, moves_between, moves_from, all_moves, legal_list, legal_from, legal_between}
+use Rattle.cq_moves.specs.LegalMoves.{promotions, move_of, moves_between, moves_from, all_moves, legal_list, legal_from, legal_between, if_legal, pieces, promotes}
 use Rattle.cq_moves.proofs.Lists.{filter-flat_map, filter-map, filter-none, flat_map-take_more, list_any-flat_map}
-use Rattle.cq_moves.proofs.Law.{passes_in_parts}
+use Rattle.cq_moves.proofs.Law.{passes_in_parts, pseudo_legal_by_parts}
 
 pub legal_list_parts : (p : Board) → legal_list p ≡ flat_map (legal_from p) squares
 unfolding legal_list all_moves legal_from
@@ -22,10 +23,6 @@ legal_list_parts p = filter-flat_map (legal_test p) moves_from squares
 pub legal_from_parts : (p : Board) (a : ℕ) → legal_from p a ≡ flat_map (legal_between p a) squares
 unfolding legal_from moves_from legal_between
 legal_from_parts p a = filter-flat_map (legal_test p) (moves_between a) squares
-
--- the move itself where it is legal
-abbrev pub if_legal : Board → ℕ → ℕ → Promotion → List Move
-if_legal p a b choice = filter (legal_test p) (move_of a b choice ∷ [])
 
 pub legal_between_parts : (p : Board) (a b : ℕ) → legal_between p a b ≡ flat_map (if_legal p a b) promotions
 unfolding legal_between
@@ -111,28 +108,63 @@ pub room_for_part : (part : ℕ → List Move) (n : ℕ) (old before : List Move
 room_for_part part n old before h e room =
     omega (arith, room_for_square part n h, ap length e, length-append old (so_far part n), room)
 
-pub room_for_goal : (p : Board) (a n : ℕ) (old before : List Move) → n < 64 → before ≡ old ++ so_far (legal_between p a) n
-    → length old + length (legal_from p a) ≤ 512 → length before + length (legal_between p a n) ≤ 512
-room_for_goal p a n old before h e room =
-    room_for_part (legal_between p a) n old before h e
-    (subst (λ (xs : List Move). length old + length xs ≤ 512) (legal_from_parts p a) room)
+-- where the choices have room, the next one has
+pub room_for_choice : (part : Promotion → List Move) (choices : List Promotion) (n : ℕ) (d : Promotion) (old before : List Move) → n < length choices
+    → before ≡ old ++ flat_map part (take n choices) → length old + length (flat_map part choices) ≤ 512
+    → length before + length (part (get_or choices n d)) ≤ 512
+room_for_choice part choices n d old before h e room =
+    omega (arith, length-flat_map-take part choices n d h, ap length e, length-append old (flat_map part (take n choices)), room)
 
-pub all_goals : (p : Board) (a n : ℕ) (old after : List Move) → 64 ≤ n → after ≡ old ++ so_far (legal_between p a) n
-    → after ≡ old ++ legal_from p a
-all_goals p a n old after h e =
-    e ∙ ap (λ xs. old ++ xs) (all_squares (legal_between p a) n h ∙ sym (legal_from_parts p a))
+pub all_choices : (part : Promotion → List Move) (choices : List Promotion) (n : ℕ) (old after : List Move) → length choices ≤ n
+    → after ≡ old ++ flat_map part (take n choices) → after ≡ old ++ flat_map part choices
+all_choices part choices n old after h e = e ∙ ap (λ xs. old ++ flat_map part xs) (take_all n choices h)
 
-pub room_for_promotion : (p : Board) (a b n : ℕ) (d : Promotion) (old before : List Move) → n < 5
-    → before ≡ old ++ flat_map (if_legal p a b) (take n promotions)
-    → length old + length (legal_between p a b) ≤ 512 → length before + length (if_legal p a b (get_or promotions n d)) ≤ 512
-room_for_promotion p a b n d old before h e room =
-    let fits = subst (λ (xs : List Move). length old + length xs ≤ 512) (legal_between_parts p a b) room in
-    let next = length-flat_map-take (if_legal p a b) promotions n d h in
-    omega (arith, next, ap length e, length-append old (flat_map (if_legal p a b) (take n promotions)), fits)
+-- which promotions are right, by whether the pawn reaches the last rank
+right_when : (pawn last none : Bool) (t : Bool) → (pawn && last) ≡ t
+    → cond pawn (cond last (not none) none) none ≡ cond t (not none) none
+right_when true true none t e = ap (λ b. cond b (not none) none) e
+right_when true false none t e = ap (λ b. cond b (not none) none) e
+right_when false last none t e = ap (λ b. cond b (not none) none) e
 
-pub all_promotions : (p : Board) (a b n : ℕ) (old after : List Move) → 5 ≤ n
-    → after ≡ old ++ flat_map (if_legal p a b) (take n promotions) → after ≡ old ++ legal_between p a b
-all_promotions p a b n old after h e =
-    e
-    ∙ ap (λ xs. old ++ flat_map (if_legal p a b) xs) (take_all n promotions h)
-    ∙ ap (λ xs. old ++ xs) (sym (legal_between_parts p a b))
+right_promotion : (p : Board) (a b : ℕ) (choice : Promotion) (t : Bool) → promotes p a b ≡ t
+    → promotion_is_right p (move_of a b choice) ≡ cond t (not (is_none choice)) (is_none choice)
+right_promotion p a b choice t e = right_when (is_pawn (man_at p.men a)) (rank_of b == last_rank p.side) (is_none choice) t e
+
+and_false : (s t : Bool) → (s && false && t) ≡ false
+and_false true t = refl
+and_false false t = refl
+
+wrong_is_none : (p : Board) (a b : ℕ) (choice : Promotion) → b < 64 → promotion_is_right p (move_of a b choice) ≡ false → if_legal p a b choice ≡ []
+wrong_is_none p a b choice below wrong =
+    let m = move_of a b choice in
+    let fails : legal_test p m ≡ false
+    = passes_in_parts p m refl below ∙ ap (λ t. reaches p a b && t && is_safe p m) wrong ∙ and_false (reaches p a b) (is_safe p m) in
+    ap (λ t. cond t (m ∷ []) []) fails
+
+-- a man that reaches no last rank as a pawn has one move to a square, and a pawn that does has four
+pub one_move : (p : Board) (a b : ℕ) → b < 64 → promotes p a b ≡ false → legal_between p a b ≡ if_legal p a b NoPromotion
+one_move p a b below plain =
+    let none = λ (choice : Promotion) (e : is_none choice ≡ false). wrong_is_none p a b choice below (right_promotion p a b choice false plain ∙ e) in
+    legal_between_parts p a b
+    ∙ ap (λ xs. if_legal p a b NoPromotion ++ xs)
+    (ap₂ (λ x y. x ++ y) (none ToQueen refl) (ap₂ (λ x y. x ++ y) (none ToRook refl) (ap₂ (λ x y. x ++ y) (none ToBishop refl) (ap (λ x. x ++ []) (none ToKnight refl)))))
+    ∙ append-nil (if_legal p a b NoPromotion)
+
+pub four_moves : (p : Board) (a b : ℕ) → b < 64 → promotes p a b ≡ true → legal_between p a b ≡ flat_map (if_legal p a b) pieces
+four_moves p a b below last =
+    legal_between_parts p a b
+    ∙ ap (λ xs. xs ++ flat_map (if_legal p a b) pieces) (wrong_is_none p a b NoPromotion below (right_promotion p a b NoPromotion true last))
+
+-- a move to a square to which a man goes is pseudo-legal where its promotion is right
+pub reached_is_pseudo_legal : (p : Board) (m : Move) → m.null ≡ false → m.to < 64 → reaches p m.from m.to ≡ true → promotion_is_right p m ≡ true
+    → is_pseudo_legal p m ≡ true
+reached_is_pseudo_legal = pseudo_legal_by_parts
+
+pub one_choice_more : (part : Promotion → List Move) (choices : List Promotion) (n : ℕ) (d : Promotion) (old before after : List Move) → n < length choices
+    → before ≡ old ++ flat_map part (take n choices) → after ≡ before ++ part (get_or choices n d)
+    → after ≡ old ++ flat_map part (take (n + 1) choices)
+one_choice_more part choices n d old before after h e f =
+    f
+    ∙ ap (λ xs. xs ++ part (get_or choices n d)) e
+    ∙ append_assoc old (flat_map part (take n choices)) (part (get_or choices n d))
+    ∙ ap (λ xs. old ++ xs) (sym (flat_map-take_more part choices n d h))

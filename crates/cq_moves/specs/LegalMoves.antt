@@ -1,17 +1,22 @@
 -- The legal moves of a position in their order.
-use Rattle.std.specs.Prelude.{◌≡◌, ℕ, ◌<◌, ◌⊎◌, false, List, [], ◌∷◌, map}
+use Rattle.std.specs.Prelude.{◌≡◌, ℕ, ◌<◌, ◌⊎◌, false, List, [], ◌∷◌, map, Bool, ◌&&◌, ◌==◌}
 use Rattle.std.specs.List.{filter, flat_map}
-use Rattle.cq_geometry.specs.Squares.{squares}
+use Rattle.cq_geometry.specs.Squares.{squares, rank_of}
 use Rattle.cq_position.specs.declared.men.Promotion.{Promotion}
 use Rattle.cq_position.specs.declared.men.Promotion.TheVariants.{None as NoPromotion, Q as ToQueen, R as ToRook, B as ToBishop, N as ToKnight}
 use Rattle.cq_position.specs.declared.moves.Move.{Move}
-use Rattle.cq_position.specs.Board.{Board}
+use Rattle.cq_position.specs.Board.{Board, man_at, is_pawn}
+use Rattle.cq_position.specs.Legal.{last_rank}
 use Rattle.cq_position.specs.Men.{promotion_number}
 use Rattle.cq_position.specs.Legality.{legal_test}
 
 -- no promotion, and those to a queen, a rook, a bishop and a knight
 abbrev pub promotions : List Promotion
 promotions = NoPromotion ∷ ToQueen ∷ ToRook ∷ ToBishop ∷ ToKnight ∷ []
+
+-- what a pawn becomes on the last rank
+abbrev pub pieces : List Promotion
+pieces = ToQueen ∷ ToRook ∷ ToBishop ∷ ToKnight ∷ []
 
 abbrev pub move_of : ℕ → ℕ → Promotion → Move
 move_of a b choice = record { from = a; to = b; promotion = choice; null = false }
@@ -35,6 +40,14 @@ legal_from p a = filter (legal_test p) (moves_from a)
 
 unfoldable pub legal_between : Board → ℕ → ℕ → List Move
 legal_between p a b = filter (legal_test p) (moves_between a b)
+
+-- the move itself where it is legal
+abbrev pub if_legal : Board → ℕ → ℕ → Promotion → List Move
+if_legal p a b choice = filter (legal_test p) (move_of a b choice ∷ [])
+
+-- a pawn goes to the last rank, where it promotes (FIDE Laws of Chess, article 3.7.3.3)
+abbrev pub promotes : Board → ℕ → ℕ → Bool
+promotes p a b = is_pawn (man_at p.men a) && (rank_of b == last_rank p.side)
 
 -- moves are ordered by the square from which they go, then by their goal, then by the promotion
 abbrev pub Precedes : Move → Move → Type 0

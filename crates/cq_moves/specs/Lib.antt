@@ -1,2 +1,4 @@
 pub mod LegalMoves
 pub mod Outcome
+pub mod Mover
+pub mod Candidates

@@ -68,8 +68,9 @@ fn move_rook(men: &mut [Man; 64], side: Side, kingside: bool)
     men[usize::from(castling_crossed(side, kingside).number())] = rook_of(side);
 }
 
-// A pawn that goes to the en passant square captures there.
-fn is_en_passant_capture(position: &Position, m: &Move) -> bool
+/// Whether the move captures on the en passant square: that of a pawn which goes there (FIDE Laws of Chess, article 3.7.3.2).
+#[inline]
+pub(crate) fn is_en_passant_capture(position: &Position, m: &Move) -> bool
     ensures { result ≡ legal.is_en_passant_capture position.now m.now }
 {
     is_pawn(position.at(m.from))

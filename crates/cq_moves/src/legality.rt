@@ -1,13 +1,18 @@
 //! Whether a move is legal.
-ghost use Rattle.std.specs.Prelude.{◌≡◌, ◌↔◌, IsTrue};
+ghost use Rattle.std.specs.Prelude.{◌≡◌, ◌↔◌, ◌==◌, IsTrue, true};
 ghost use Rattle.cq_position.specs.Board.{Board};
 ghost use Rattle.cq_position.specs.Legal.{Legal};
+ghost use Rattle.cq_position.specs.King.{IsKingSquare};
+ghost use Rattle.cq_position.specs.Legal as legal;
 ghost use Rattle.cq_position.specs.Legality as legality;
+ghost use Rattle.cq_moves.specs.Mover as mover;
 
 use crate::after::men_after;
 use crate::reach::{promotion_is_right, reaches};
-use cq_position::attacks::is_king_attacked;
-use cq_position::{Move, Position, attacks_from};
+use cq_geometry::Square;
+use cq_position::attacks::is_attacked;
+use cq_position::king::king_square;
+use cq_position::{Move, Position, attacks_from, opponent};
 
 /// Whether a move is legal in a position: the man can make it, and the king of its side isn't attacked then (FIDE Laws of Chess, articles
 /// 3.1 to 3.10.1). A null move is none.
@@ -19,19 +24,46 @@ pub fn is_legal(position: &Position, m: Move) -> bool
 }
 
 // The test, the cheap parts first.
-#[tactic(auto, using(crate::proofs::Law::null_fails, crate::proofs::Law::passes_in_parts))]
+#[tactic(auto, using(crate::proofs::Law::null_fails, crate::proofs::Law::passes_in_parts, crate::proofs::Law::pseudo_legal_by_parts))]
 fn passes(position: &Position, m: &Move) -> bool
     ensures { result ≡ legality.legal_test position.now m.now }
 {
     !m.null
         && reaches(position, attacks_from(position, m.from), m.from, m.to)
         && promotion_is_right(position, m)
-        && is_safe(position, m)
+        && is_safe(position, king_square(position, position.side()), m)
 }
 
-/// Whether the king of the side that moved isn't attacked after the move (FIDE Laws of Chess, article 3.9.2).
-pub(crate) fn is_safe(position: &Position, m: &Move) -> bool
+/// Whether the king of the side that moved isn't attacked after the move (FIDE Laws of Chess, article 3.9.2). `king` is its square before
+/// the move.
+#[tactic(auto, using(crate::proofs::Safety::safe_at_king))]
+pub(crate) fn is_safe(position: &Position, king: Square, m: &Move) -> bool
+    requires king { IsKingSquare position.now.men position.now.side king }
+    requires moves { legal.is_pseudo_legal position.now m.now ≡ true }
     ensures { result ≡ legality.is_safe position.now m.now }
 {
-    !is_king_attacked(&men_after(position, m), position.side())
+    !is_attacked(
+        &men_after(position, m),
+        opponent(position.side()),
+        king_after(king, m),
+    )
+}
+
+// Where the king stands after the move.
+fn king_after(king: Square, m: &Move) -> Square
+    ensures { result ≡ mover.king_after king m.now }
+{
+    if is_same_square(m.from, king) {
+        m.to
+    } else {
+        king
+    }
+}
+
+/// Whether two squares are the same.
+#[inline]
+pub(crate) fn is_same_square(a: Square, b: Square) -> bool
+    ensures { result ≡ (a == b) }
+{
+    a.number() == b.number()
 }

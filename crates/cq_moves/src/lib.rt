@@ -5,6 +5,7 @@ mod after;
 mod castling;
 mod legality;
 mod list;
+mod mover;
 mod next_position;
 mod outcome;
 mod passing;

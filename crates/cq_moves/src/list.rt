@@ -1,18 +1,19 @@
 //! The legal moves of a position.
-ghost use Rattle.std.specs.Prelude.{◌≡◌, ◌+◌, ◌≤◌, ◌<◌, ◌↔◌, ◌++◌, ◌∷◌, [], true, false, length};
-ghost use Rattle.std.specs.List.{All, AllPairs, Contains, filter};
+ghost use Rattle.std.specs.Prelude.{◌≡◌, ◌+◌, ◌≤◌, ◌<◌, ◌↔◌, ◌++◌, true, false, length};
+ghost use Rattle.std.specs.Int.{trailing_zeros, w64};
+ghost use Rattle.std.specs.List.{All, AllPairs, Contains, flat_map};
 ghost use Rattle.cq_position.specs.declared.moves.Move.{Move as MoveValue};
 ghost use Rattle.cq_position.specs.Board.{Board};
 ghost use Rattle.cq_position.specs.Legal.{Legal};
 ghost use Rattle.cq_position.specs.Legal as legal;
-ghost use Rattle.cq_position.specs.Legality.{legal_test};
-ghost use Rattle.cq_moves.specs.LegalMoves.{legal_list, legal_from, legal_between, Precedes};
+ghost use Rattle.cq_moves.specs.LegalMoves.{legal_list, legal_from, legal_between, if_legal, pieces, Precedes};
+ghost use Rattle.cq_moves.specs.Mover.{IsMover, IsOrigin};
 
-use crate::legality::is_safe;
-use crate::reach::{promotion_is_right, reaches};
+use crate::mover::{Mover, Origin, is_legal_there, mover_of, origin_of};
+use crate::reach::{candidates, promotes, reaches};
 use arrayvec::ArrayVec;
 use cq_geometry::Square;
-use cq_position::{Move, Position, Promotion, attacks_from, is_of_side};
+use cq_position::{Move, Position, Promotion, is_of_side};
 
 /// The legal moves of a position, each once, in the order of the squares from which they go, then of their goals, then of the promotions
 /// to a queen, a rook, a bishop and a knight. The null move is none of them.
@@ -23,74 +24,125 @@ pub fn legal_moves(position: &Position) -> ArrayVec<Move, 512>
     ensures members { (m : MoveValue) → Contains result.items m ↔ ((q : Board) × Legal position.now m q) }
 {
     let side = position.side();
+    let mover = mover_of(position);
     let mut moves = ArrayVec::new();
     for number in 0..64 {
         let from = Square::new(number);
         if is_of_side(position.at(from), side) {
-            add_moves_from(position, from, &mut moves);
+            add_moves_from(position, &mover, from, &mut moves);
         }
     }
     moves
 }
 
 // Adds the legal moves from a square.
-fn add_moves_from(position: &Position, from: Square, moves: &mut ArrayVec<Move, 512>)
-    requires { length moves.old.items + length (legal_from position.now from) ≤ 512 }
+fn add_moves_from(position: &Position, mover: &Mover, from: Square, moves: &mut ArrayVec<Move, 512>)
+    requires mover { IsMover position.now mover.now }
+    requires room { length moves.old.items + length (legal_from position.now from) ≤ 512 }
     ensures { moves.new.items ≡ moves.old.items ++ legal_from position.now from }
 {
-    let attacked = attacks_from(position, from);
-    for number in 0..64 {
-        let to = Square::new(number);
-        if reaches(position, attacked, from, to) {
-            add_moves_between(position, from, to, moves);
-        }
+    let origin = origin_of(position, mover, from);
+    let mut left = candidates(position, &origin);
+    while left != 0 {
+        let to = lowest_square(left);
+        left &= !(1 << to.number());
+        add_moves_to(position, mover, &origin, to, moves);
     }
 }
 
-// Adds the legal moves from one square to another, to which a man goes.
-fn add_moves_between(position: &Position, from: Square, to: Square, moves: &mut ArrayVec<Move, 512>)
-    requires reaches { legal.reaches position.now from to ≡ true }
+// Adds the legal moves to a square.
+fn add_moves_to(
+    position: &Position,
+    mover: &Mover,
+    origin: &Origin,
+    to: Square,
+    moves: &mut ArrayVec<Move, 512>,
+)
+    requires mover { IsMover position.now mover.now }
+    requires origin { IsOrigin position.now origin.now }
+    requires room { length moves.old.items + length (legal_between position.now origin.now.from to) ≤ 512 }
+    ensures { moves.new.items ≡ moves.old.items ++ legal_between position.now origin.now.from to }
+{
+    if reaches(position, origin.attacked, origin.from, to) {
+        add_moves_between(position, mover, origin, to, moves);
+    }
+}
+
+// Adds the legal moves to a square to which the man goes.
+fn add_moves_between(
+    position: &Position,
+    mover: &Mover,
+    origin: &Origin,
+    to: Square,
+    moves: &mut ArrayVec<Move, 512>,
+)
+    requires mover { IsMover position.now mover.now }
+    requires origin { IsOrigin position.now origin.now }
+    requires reaches { legal.reaches position.now origin.now.from to ≡ true }
     requires board { to < 64 }
-    requires room { length moves.old.items + length (legal_between position.now from to) ≤ 512 }
-    ensures { moves.new.items ≡ moves.old.items ++ legal_between position.now from to }
+    requires room { length moves.old.items + length (legal_between position.now origin.now.from to) ≤ 512 }
+    ensures { moves.new.items ≡ moves.old.items ++ legal_between position.now origin.now.from to }
 {
-    for promotion in [
-        Promotion::None,
-        Promotion::Q,
-        Promotion::R,
-        Promotion::B,
-        Promotion::N,
-    ] {
-        let m = Move {
-            from,
-            to,
-            promotion,
-            null: false,
-        };
-        add_move(position, m, moves);
+    if promotes(position, origin.from, to) {
+        add_promotions(position, mover, origin, to, moves);
+    } else {
+        add_move(position, mover, origin, to, Promotion::None, moves);
     }
 }
 
-// Adds a move to a square to which a man goes, where it is legal.
-fn add_move(position: &Position, m: Move, moves: &mut ArrayVec<Move, 512>)
-    requires reaches { legal.reaches position.now m.from m.to ≡ true }
-    requires board { m.to < 64 }
-    requires null { m.null ≡ false }
-    requires room { length moves.old.items + length (filter (legal_test position.now) (m ∷ [])) ≤ 512 }
-    ensures { moves.new.items ≡ moves.old.items ++ filter (legal_test position.now) (m ∷ []) }
+// Adds the legal promotions of a pawn that goes to a square.
+fn add_promotions(
+    position: &Position,
+    mover: &Mover,
+    origin: &Origin,
+    to: Square,
+    moves: &mut ArrayVec<Move, 512>,
+)
+    requires mover { IsMover position.now mover.now }
+    requires origin { IsOrigin position.now origin.now }
+    requires reaches { legal.reaches position.now origin.now.from to ≡ true }
+    requires board { to < 64 }
+    requires room { length moves.old.items + length (flat_map (if_legal position.now origin.now.from to) pieces) ≤ 512 }
+    ensures { moves.new.items ≡ moves.old.items ++ flat_map (if_legal position.now origin.now.from to) pieces }
 {
-    if is_legal_there(position, &m) {
+    for promotion in [Promotion::Q, Promotion::R, Promotion::B, Promotion::N] {
+        add_move(position, mover, origin, to, promotion, moves);
+    }
+}
+
+// Adds a move to a square to which the man goes, where it is legal.
+fn add_move(
+    position: &Position,
+    mover: &Mover,
+    origin: &Origin,
+    to: Square,
+    promotion: Promotion,
+    moves: &mut ArrayVec<Move, 512>,
+)
+    requires mover { IsMover position.now mover.now }
+    requires origin { IsOrigin position.now origin.now }
+    requires reaches { legal.reaches position.now origin.now.from to ≡ true }
+    requires board { to < 64 }
+    requires room { length moves.old.items + length (if_legal position.now origin.now.from to promotion) ≤ 512 }
+    ensures { moves.new.items ≡ moves.old.items ++ if_legal position.now origin.now.from to promotion }
+{
+    let m = Move {
+        from: origin.from,
+        to,
+        promotion,
+        null: false,
+    };
+    if is_legal_there(position, mover, origin, &m) {
         moves.push(m);
     }
 }
 
-/// Whether a move to a square to which a man goes is legal.
-#[tactic(auto, using(crate::proofs::Parts::reached_move))]
-pub(crate) fn is_legal_there(position: &Position, m: &Move) -> bool
-    requires reaches { legal.reaches position.now m.now.from m.now.to ≡ true }
-    requires board { m.now.to < 64 }
-    requires null { m.now.null ≡ false }
-    ensures { result ≡ legal_test position.now m.now }
+/// The lowest square of a set that is not empty.
+#[inline]
+pub(crate) fn lowest_square(set: u64) -> Square
+    requires { 0 < set }
+    ensures value { result ≡ trailing_zeros w64 set }
+    ensures board { result < 64 }
 {
-    promotion_is_right(position, m) && is_safe(position, m)
+    Square::new(set.trailing_zeros() as u8)
 }

@@ -1,17 +1,17 @@
 //! Mate and stalemate (FIDE Laws of Chess, articles 5.1.1 and 5.2.1).
 ghost use Rattle.std.specs.Prelude.{◌≡◌, ◌<◌, ◌↔◌, IsTrue, true};
 ghost use Rattle.std.specs.List.{list_any};
-ghost use Rattle.cq_position.specs.Attacks as attack;
-ghost use Rattle.cq_position.specs.Bitboards.{IsBitboard};
 ghost use Rattle.cq_position.specs.Legal as legal;
 ghost use Rattle.cq_position.specs.Legality.{legal_test};
 ghost use Rattle.cq_moves.specs.LegalMoves.{all_moves, moves_from, moves_between, move_of};
+ghost use Rattle.cq_moves.specs.Mover.{IsMover, IsOrigin};
 ghost use Rattle.cq_moves.specs.Outcome.{IsMate, IsStalemate};
 
-use crate::list::is_legal_there;
-use crate::reach::reaches;
+use crate::list::lowest_square;
+use crate::mover::{Mover, Origin, is_legal_there, mover_of, origin_of};
+use crate::reach::{candidates, reaches};
 use cq_geometry::Square;
-use cq_position::{Move, Position, Promotion, attacks_from, in_check, is_of_side};
+use cq_position::{Move, Position, Promotion, in_check, is_of_side};
 
 /// Whether the side to move is mated: it is in check and has no legal move.
 pub fn is_mate(position: &Position) -> bool
@@ -31,58 +31,77 @@ pub fn is_stalemate(position: &Position) -> bool
 fn has_legal_move(position: &Position) -> bool
     ensures { result ≡ list_any (legal_test position.now) all_moves }
 {
+    let mover = mover_of(position);
     for number in 0..64 {
-        if has_legal_move_from(position, Square::new(number)) {
+        if has_legal_move_from(position, &mover, Square::new(number)) {
             return true;
         }
     }
     false
 }
 
-fn has_legal_move_from(position: &Position, from: Square) -> bool
+fn has_legal_move_from(position: &Position, mover: &Mover, from: Square) -> bool
+    requires { IsMover position.now mover.now }
     ensures { result ≡ list_any (legal_test position.now) (moves_from from) }
 {
     if !is_of_side(position.at(from), position.side()) {
         return false;
     }
-    let attacked = attacks_from(position, from);
-    for number in 0..64 {
-        if has_legal_move_between(position, attacked, from, Square::new(number)) {
+    let origin = origin_of(position, mover, from);
+    let mut left = candidates(position, &origin);
+    while left != 0 {
+        let to = lowest_square(left);
+        left &= !(1 << to.number());
+        if has_legal_move_to(position, mover, &origin, to) {
             return true;
         }
     }
     false
 }
 
-fn has_legal_move_between(position: &Position, attacked: u64, from: Square, to: Square) -> bool
-    requires { IsBitboard attacked (attack.attacks position.now.men from) }
-    ensures { result ≡ list_any (legal_test position.now) (moves_between from to) }
+fn has_legal_move_to(position: &Position, mover: &Mover, origin: &Origin, to: Square) -> bool
+    requires mover { IsMover position.now mover.now }
+    requires origin { IsOrigin position.now origin.now }
+    ensures { result ≡ list_any (legal_test position.now) (moves_between origin.now.from to) }
 {
-    reaches(position, attacked, from, to) && has_legal_choice(position, from, to)
+    reaches(position, origin.attacked, origin.from, to)
+        && has_legal_choice(position, mover, origin, to)
 }
 
-// Whether a move is legal, to a square to which a man goes, for some promotion or none.
-fn has_legal_choice(position: &Position, from: Square, to: Square) -> bool
-    requires reaches { legal.reaches position.now from to ≡ true }
+// Whether a move is legal, to a square to which the man goes, for some promotion or none.
+fn has_legal_choice(position: &Position, mover: &Mover, origin: &Origin, to: Square) -> bool
+    requires mover { IsMover position.now mover.now }
+    requires origin { IsOrigin position.now origin.now }
+    requires reaches { legal.reaches position.now origin.now.from to ≡ true }
     requires board { to < 64 }
-    ensures { result ≡ list_any (legal_test position.now) (moves_between from to) }
+    ensures { result ≡ list_any (legal_test position.now) (moves_between origin.now.from to) }
 {
-    is_legal_choice(position, from, to, Promotion::None)
-        || is_legal_choice(position, from, to, Promotion::Q)
-        || is_legal_choice(position, from, to, Promotion::R)
-        || is_legal_choice(position, from, to, Promotion::B)
-        || is_legal_choice(position, from, to, Promotion::N)
+    is_legal_choice(position, mover, origin, to, Promotion::None)
+        || is_legal_choice(position, mover, origin, to, Promotion::Q)
+        || is_legal_choice(position, mover, origin, to, Promotion::R)
+        || is_legal_choice(position, mover, origin, to, Promotion::B)
+        || is_legal_choice(position, mover, origin, to, Promotion::N)
 }
 
-fn is_legal_choice(position: &Position, from: Square, to: Square, promotion: Promotion) -> bool
-    requires reaches { legal.reaches position.now from to ≡ true }
+fn is_legal_choice(
+    position: &Position,
+    mover: &Mover,
+    origin: &Origin,
+    to: Square,
+    promotion: Promotion,
+) -> bool
+    requires mover { IsMover position.now mover.now }
+    requires origin { IsOrigin position.now origin.now }
+    requires reaches { legal.reaches position.now origin.now.from to ≡ true }
     requires board { to < 64 }
-    ensures { result ≡ legal_test position.now (move_of from to promotion) }
+    ensures { result ≡ legal_test position.now (move_of origin.now.from to promotion) }
 {
     is_legal_there(
         position,
+        mover,
+        origin,
         &Move {
-            from,
+            from: origin.from,
             to,
             promotion,
             null: false,

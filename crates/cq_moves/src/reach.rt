@@ -4,11 +4,16 @@ ghost use Rattle.std.specs.List.{list_all};
 ghost use Rattle.cq_position.specs.Attacks as attack;
 ghost use Rattle.cq_position.specs.Legal as legal;
 ghost use Rattle.cq_position.specs.Bitboards.{IsBitboard};
+ghost use Rattle.cq_position.specs.Board.{man_at};
+ghost use Rattle.cq_moves.specs.Candidates.{is_ahead, is_candidate, is_castling_goal};
+ghost use Rattle.cq_moves.specs.LegalMoves as list;
+ghost use Rattle.cq_moves.specs.Mover.{IsOrigin};
 
 use crate::after::{is_goal, middle};
 use crate::castling::{castling_crossed, castling_goal};
-use cq_geometry::{Square, rank};
-use cq_position::attacks::{is_attacked, is_occupied, is_open, is_pawn_attack};
+use crate::mover::Origin;
+use cq_geometry::{Square, Step, rank};
+use cq_position::attacks::{is_attacked, is_occupied, is_open, is_pawn_attack, mark};
 use cq_position::home::{king_home, rook_home};
 use cq_position::position::is_pawn;
 use cq_position::{Man, Move, Position, Promotion, Side, is_of_side, is_same, king_of, opponent};
@@ -27,6 +32,44 @@ pub(crate) fn reaches(position: &Position, attacked: u64, from: Square, to: Squa
         && !is_of_side(other, position.side())
         && !is_same(other, king_of(opponent(position.side())))
         && goes(man, position, attacked, from, to)
+}
+
+/// A set that has each square to which the man goes: those that it attacks, those ahead of a pawn, and those to which a king castles. Bit k
+/// of the answer is square k.
+pub(crate) fn candidates(position: &Position, origin: &Origin) -> u64
+    requires { IsOrigin position.now origin.now }
+    ensures { IsBitboard result (is_candidate (man_at position.now.men origin.now.from) position.now origin.now.from) }
+{
+    candidates_of(position.at(origin.from), position, origin)
+}
+
+// The same, for the man on the square.
+fn candidates_of(man: Man, position: &Position, origin: &Origin) -> u64
+    requires { IsOrigin position.now origin.now }
+    ensures { IsBitboard result (is_candidate man position.now origin.now.from) }
+{
+    match man {
+        Man::K | Man::BlackK => origin.attacked | castling_goals(position.side()),
+        Man::P | Man::BlackP => origin.attacked | squares_ahead(position.side(), origin.from),
+        _ => origin.attacked,
+    }
+}
+
+// The squares to which a king castles.
+fn castling_goals(side: Side) -> u64
+    ensures { IsBitboard result (is_castling_goal side) }
+{
+    mark(Some(castling_goal(side, true))) | mark(Some(castling_goal(side, false)))
+}
+
+// The squares one and two ranks forward.
+fn squares_ahead(side: Side, from: Square) -> u64
+    ensures { IsBitboard result (is_ahead side from) }
+{
+    match side {
+        Side::White => mark(Step::<0, 1>::step(from)) | mark(Step::<0, 2>::step(from)),
+        Side::Black => mark(Step::<0, -1>::step(from)) | mark(Step::<0, -2>::step(from)),
+    }
 }
 
 // Whether the man goes from one square to the other.
@@ -113,11 +156,18 @@ fn are_free(men: &[Man; 64], by: Side, squares: [Square; 3]) -> bool
 pub(crate) fn promotion_is_right(position: &Position, m: &Move) -> bool
     ensures { result ≡ legal.promotion_is_right position.now m.now }
 {
-    if is_pawn(position.at(m.from)) && rank(m.to) == last_rank(position.side()) {
+    if promotes(position, m.from, m.to) {
         !is_none(m.promotion)
     } else {
         is_none(m.promotion)
     }
+}
+
+/// Whether a pawn goes to the last rank, where it promotes (FIDE Laws of Chess, article 3.7.3.3).
+pub(crate) fn promotes(position: &Position, from: Square, to: Square) -> bool
+    ensures { result ≡ list.promotes position.now from to }
+{
+    is_pawn(position.at(from)) && rank(to) == last_rank(position.side())
 }
 
 fn last_rank(side: Side) -> u8

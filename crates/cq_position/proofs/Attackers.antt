@@ -30,7 +30,7 @@ use Rattle.cq_position.specs.Bitboards.{contains}
 use Rattle.cq_position.specs.Outward.{first_man, is_straight, is_slanted, knight_of, first_is, holds, pawn_origins}
 
 -- ---- tests of some element
-any_same : {X : Type 0} (p q : X → Bool) → ((x : X) → p x ≡ q x) → (xs : List X) → list_any p xs ≡ list_any q xs
+pub any_same : {X : Type 0} (p q : X → Bool) → ((x : X) → p x ≡ q x) → (xs : List X) → list_any p xs ≡ list_any q xs
 any_same p q e [] = refl
 any_same p q e (x ∷ xs) = ap₂ (λ a b. a || b) (e x) (any_same p q e xs)
 
@@ -82,7 +82,7 @@ one_is_there : (x : ℕ) → x < 64 → list_any (λ a. x == a) squares ≡ true
 unfolding squares
 one_is_there x h = at_square (λ q. list_any (λ a. q == a) squares) (λ q. true) refl x h
 
-any_pick : (t : ℕ → Bool) (x : ℕ) → x < 64 → list_any (λ a. t a && x == a) squares ≡ t x
+pub any_pick : (t : ℕ → Bool) (x : ℕ) → x < 64 → list_any (λ a. t a && x == a) squares ≡ t x
 any_pick t x h =
     any_same (λ a. t a && x == a) (λ a. t x && x == a) (λ a. picks t x a (x == a) refl) squares
     ∙ any_and_const (t x) (λ a. x == a) squares

@@ -8,6 +8,7 @@ mod LegalRows
 mod Rows
 pub mod Equality
 pub mod Joined
+pub mod Kings
 pub mod Legality
 pub mod Marked
 pub mod Attackers
@@ -17,4 +18,5 @@ pub mod RankTexts
 pub mod Ranks
 pub mod RoundTrip
 pub mod Splitting
+pub mod Shields
 pub mod Whole

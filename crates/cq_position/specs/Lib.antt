@@ -11,6 +11,7 @@ pub mod Legal
 pub mod Legality
 pub mod Bitboards
 pub mod Outward
+pub mod King
 pub mod FenText
 pub mod Comments
 pub mod Games

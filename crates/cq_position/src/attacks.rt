@@ -78,14 +78,14 @@ pub fn is_occupied(men: &[Man; 64], square: Square) -> bool
 }
 
 // The squares that the man attacks from a square.
-#[tactic(auto, using(crate::proofs::Marked::marks_queen, crate::proofs::Marked::marks_none))]
+#[tactic(auto, using(crate::proofs::Marked::marks_none))]
 fn squares_attacked(man: Man, men: &[Man; 64], from: Square) -> u64
     requires { from < 64 }
     ensures { IsBitboard result (attack.attacks_as man (attack.is_occupied men.now) from) }
 {
     match man {
         Man::K | Man::BlackK => king_squares(from),
-        Man::Q | Man::BlackQ => orthogonal_squares(men, from) | diagonal_squares(men, from),
+        Man::Q | Man::BlackQ => queen_squares(men, from),
         Man::R | Man::BlackR => orthogonal_squares(men, from),
         Man::B | Man::BlackB => diagonal_squares(men, from),
         Man::N | Man::BlackN => knight_squares(from),
@@ -121,6 +121,15 @@ fn knight_squares(from: Square) -> u64
         | mark(Step::<2, 1>::step(from))
         | mark(Step::<-1, 2>::step(from))
         | mark(Step::<1, 2>::step(from))
+}
+
+/// The squares that a queen on a square attacks: bit k of the answer is square k (FIDE Laws of Chess, articles 3.4 and 3.5).
+
+pub fn queen_squares(men: &[Man; 64], from: Square) -> u64
+    requires { from < 64 }
+    ensures { IsBitboard result (λ to. (lines.is_orthogonal from to || lines.is_diagonal from to) && lines.is_open (attack.is_occupied men.now) from to) }
+{
+    orthogonal_squares(men, from) | diagonal_squares(men, from)
 }
 
 fn orthogonal_squares(men: &[Man; 64], from: Square) -> u64
@@ -171,8 +180,9 @@ fn pawn_squares(side: Side, from: Square) -> u64
     }
 }
 
+/// The set of a square alone, or of none where there is no square: bit k of the answer is square k.
 #[inline]
-fn mark(square: Option<Square>) -> u64
+pub fn mark(square: Option<Square>) -> u64
     ensures { IsBitboard result (attack.is_goal square) }
 {
     match square {

@@ -1,5 +1,12 @@
 //! Laws of positions and moves, for proofs in other crates.
-ghost use Rattle.std.specs.Prelude.{◌≡◌, ◌↔◌, IsTrue, true};
+ghost use Rattle.std.specs.Prelude.{◌≡◌, ◌↔◌, ◌<◌, ◌&&◌, ◌||◌, ℕ, List, length, IsTrue, true, false, slice_set};
+ghost use Rattle.cq_geometry.specs.Lines.{is_orthogonal, is_diagonal, is_open};
+ghost use Rattle.cq_position.specs.declared.men.Man.{Man as ManValue};
+ghost use Rattle.cq_position.specs.declared.men.Man.TheVariants.{Empty};
+ghost use Rattle.cq_position.specs.declared.men.Side.{Side as SideValue};
+ghost use Rattle.cq_position.specs.Attacks as attack;
+ghost use Rattle.cq_position.specs.King.{IsKingSquare};
+ghost use Rattle.cq_position.specs.Men.{opponent, is_of_side, same_man};
 ghost use Rattle.cq_position.specs.declared.moves.Move.{Move as MoveValue};
 ghost use Rattle.cq_position.specs.Board.{Board};
 ghost use Rattle.cq_position.specs.Legal.{Legal};
@@ -18,4 +25,27 @@ pub fn equal_positions_have_equal_parts(p: &Position, q: &Position) -> bool
 #[tactic(auto, using(crate::proofs::Legality::legal_law))]
 pub fn test_is_the_legal_relation()
     ensures { (p : Board) (m : MoveValue) → (legal_test p m ≡ true) ↔ ((q : Board) × Legal p m q) }
+{}
+
+/// A side is in check exactly where the opponent attacks the square of its king.
+#[tactic(auto, using(crate::proofs::Kings::check_is_at_king))]
+pub fn check_is_at_the_king()
+    ensures { (men : List ManValue) (side : SideValue) (k : ℕ) → IsKingSquare men side k →
+        attack.in_check men side ≡ attack.is_attacked men (opponent side) k }
+{}
+
+/// A man that no line from a square reaches first covers no attack on that square: the square is attacked no more where the man leaves.
+#[tactic(auto, using(crate::proofs::Shields::uncovers_nothing))]
+pub fn unseen_men_cover_nothing()
+    ensures { (men : List ManValue) (by : SideValue) (from k : ℕ) → from < length men → from < 64 → k < 64 →
+        ((is_orthogonal k from || is_diagonal k from) && is_open (attack.is_occupied men) k from) ≡ false →
+        attack.is_attacked men by k ≡ false → attack.is_attacked (slice_set men from Empty) by k ≡ false }
+{}
+
+/// A man of the other side that comes to a square opens no attack.
+#[tactic(auto, using(crate::proofs::Shields::covers_only))]
+pub fn men_that_come_open_nothing()
+    ensures { (men : List ManValue) (by : SideValue) (to : ℕ) (man : ManValue) (k : ℕ) → to < length men →
+        is_of_side by man ≡ false → same_man man Empty ≡ false →
+        attack.is_attacked men by k ≡ false → attack.is_attacked (slice_set men to man) by k ≡ false }
 {}

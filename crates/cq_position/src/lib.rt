@@ -8,6 +8,7 @@ pub mod attacks;
 pub mod fen;
 pub mod games;
 pub mod home;
+pub mod king;
 pub mod laws;
 pub mod men;
 pub mod moves;

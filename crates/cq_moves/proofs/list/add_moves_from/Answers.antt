@@ -1,33 +1,48 @@
-use Rattle.std.proofs.Common.{length, ◌++◌, sym, ap, ◌∙◌, arith, subst, ℕ, ◌+◌, ◌≤◌}
-use Rattle.cq_moves.specs.LegalMoves.{legal_between}
-use Rattle.cq_moves.proofs.Parts.{add_part, add_nothing, none_between_unreached, room_for_goal, all_goals}
+use Rattle.std.proofs.Common.{◌≡◌, ◌<◌, ◌≤◌, ◌+◌, ◌^◌, ◌++◌, List, length, sym, ap, ◌∙◌, subst, arith, rules}
+use Rattle.std.proofs.lemmas.List.{length-append}
+use Rattle.cq_moves.specs.LegalMoves.{legal_from, legal_between}
+use Rattle.cq_moves.proofs.Bits.{walk_on, walk_room, walk_shorter, walk_ends}
+use Rattle.cq_moves.proofs.Walk.{walk_begins}
 use Rattle.cq_moves.proofs.list.add_moves_from.Goals as goal
-use Rattle.cq_moves.proofs.list.add_moves_from.Goals.{then-reaches, else-reaches}
 
-pub add_moves_between-requires-clause-room : goal.add_moves_between-requires-clause-room
-add_moves_between-requires-clause-room c =
-    subst (λ (to : ℕ). length c.loop-number.moves.items + length (legal_between c.args.position.now c.args.from to) ≤ 512)
-    (sym c.new-to.ensures)
-    (room_for_goal c.args.position.now c.args.from c.loop-number.number c.args.moves.now.items c.loop-number.moves.items
-    (omega arith) c.loop-number.invariant c.requires)
+pub loop-left-init : goal.loop-left-init
+loop-left-init c =
+    let low : c.args.from < 64 = search rules in
+    walk_begins c.args.position.now c.candidates-left.result c.origin_of-origin.result.from c.args.moves.now.items c.candidates-left.ensures
+    (omega (arith, c.origin_of-origin.ensures.from, low))
 
-pub loop-number-preserved : goal.loop-number-preserved
-loop-number-preserved c =
-    let part = legal_between c.args.position.now c.args.from in
-    elim c.if-reaches.branch [
-      | then-reaches w ↦
-          add_part part c.loop-number.number c.args.moves.now.items c.loop-number.moves.items c.if-reaches.moves.items
-          (omega arith) c.loop-number.invariant
-          (ap (λ v. v.items) w.moves-is ∙ w.add_moves_between.ensures ∙ ap (λ to. c.loop-number.moves.items ++ part to) c.new-to.ensures)
-      | else-reaches w ↦
-          ap (λ v. v.items) w.moves-is
-          ∙ add_nothing part c.loop-number.number c.args.moves.now.items c.loop-number.moves.items (omega arith) c.loop-number.invariant
-          (ap part (sym c.new-to.ensures)
-          ∙ none_between_unreached c.args.position.now c.args.from c.new-to.result c.reaches.ensures.board
-          (sym c.reaches.ensures.reaches ∙ w.if-reaches.false))
-    ]
+pub add_moves_to-requires-clause-room : goal.add_moves_to-requires-clause-room
+add_moves_to-requires-clause-room c =
+    let p = c.args.position.now in
+    let from = c.origin_of-origin.result.from in
+    let some : 0 < c.loop-left.left = omega arith in
+    let fits : c.loop-left.left < 2 ^ 64 = search rules in
+    let whole = c.args.moves.now.items ++ legal_from p from in
+    let same = ap (λ a. length (legal_from p a)) c.origin_of-origin.ensures.from in
+    let room : length whole ≤ 512 = omega (arith, length-append c.args.moves.now.items (legal_from p from), same, c.requires.room) in
+    walk_room (legal_between p from) whole c.loop-left.moves.items c.loop-left.left c.lowest_square-to.result some fits
+    c.lowest_square-to.ensures.value c.loop-left.invariant room
+
+pub loop-left-smaller : goal.loop-left-smaller
+loop-left-smaller c =
+    let some : 0 < c.loop-left.left = omega arith in
+    let fits : c.loop-left.left < 2 ^ 64 = search rules in
+    walk_shorter c.loop-left.left c.lowest_square-to.result c.number.result some fits c.lowest_square-to.ensures.value c.number.ensures.value
+
+pub loop-left-preserved : goal.loop-left-preserved
+loop-left-preserved c =
+    let p = c.args.position.now in
+    let from = c.origin_of-origin.result.from in
+    let some : 0 < c.loop-left.left = omega arith in
+    let fits : c.loop-left.left < 2 ^ 64 = search rules in
+    walk_on (legal_between p from) (c.args.moves.now.items ++ legal_from p from) c.loop-left.moves.items c.add_moves_to.new.moves.items
+    c.loop-left.left c.lowest_square-to.result c.number.result some fits c.lowest_square-to.ensures.value c.number.ensures.value
+    c.add_moves_to.ensures c.loop-left.invariant
 
 pub returns : goal.returns
 returns c =
-    all_goals c.args.position.now c.args.from c.loop-number.number c.args.moves.now.items c.loop-number.moves.items
-    (omega arith) c.loop-number.invariant
+    let p = c.args.position.now in
+    let from = c.origin_of-origin.result.from in
+    walk_ends (legal_between p from) (c.args.moves.now.items ++ legal_from p from) c.loop-left.moves.items c.loop-left.left
+    c.loop-left-test.false c.loop-left.invariant
+    ∙ ap (λ a. c.args.moves.now.items ++ legal_from p a) c.origin_of-origin.ensures.from

@@ -10,8 +10,8 @@ use Rattle.cq_moves.proofs.Room.{room_for_origin, none_from_other}
 use Rattle.cq_moves.proofs.list.legal_moves.Goals as goal
 use Rattle.cq_moves.proofs.list.legal_moves.Goals.{then-is_of_side, else-is_of_side}
 
-pub add_moves_from-requires : goal.add_moves_from-requires
-add_moves_from-requires c =
+pub add_moves_from-requires-clause-room : goal.add_moves_from-requires-clause-room
+add_moves_from-requires-clause-room c =
     subst (λ (from : ℕ). length c.loop-number.moves.items + length (legal_from c.args.position.now from) ≤ 512)
     (sym c.new-from.ensures)
     (room_for_origin c.args.position.now c.loop-number.number c.loop-number.moves.items c.side-side.ensures.kept

@@ -1,11 +1,11 @@
-use Rattle.std.proofs.Common.{ℕ, ap, ap₂, sym, ◌∙◌, arith}
+use Rattle.std.proofs.Common.{◌≡◌, ◌<◌, ◌^◌, ℕ, sym, ap, ap₂, ◌∙◌, arith, rules}
 use Rattle.std.specs.List.{list_any}
 use Rattle.cq_position.specs.Men.{is_of_side}
-use Rattle.cq_position.proofs.Whole.{any_from-start, any_from-here, any_from-next, any_from-end}
 use Rattle.cq_position.specs.Legality.{legal_test}
-use Rattle.cq_moves.specs.LegalMoves.{moves_between}
-use Rattle.cq_moves.proofs.Parts.{any_from_parts}
+use Rattle.cq_moves.specs.LegalMoves.{moves_from, moves_between}
+use Rattle.cq_moves.proofs.Bits.{walk_shorter, any_here, any_later, any_nowhere}
 use Rattle.cq_moves.proofs.Room.{other_has_none}
+use Rattle.cq_moves.proofs.Walk.{any_begins}
 use Rattle.cq_moves.proofs.outcome.has_legal_move_from.Goals as goal
 
 pub returns-then-not-is_of_side : goal.returns-then-not-is_of_side
@@ -13,23 +13,44 @@ returns-then-not-is_of_side c =
     sym (other_has_none c.args.position.now c.args.from
     (ap₂ is_of_side (sym c.side.ensures.side) (sym c.at.ensures.man) ∙ sym c.is_of_side.ensures ∙ c.if-not-is_of_side.true))
 
-pub loop-number-init : goal.loop-number-init
-loop-number-init c =
-    any_from-start (λ b. list_any (legal_test c.args.position.now) (moves_between c.args.from b))
-    ∙ sym (any_from_parts c.args.position.now c.args.from)
+pub loop-left-init : goal.loop-left-init
+loop-left-init c =
+    let low : c.args.from < 64 = search rules in
+    any_begins c.args.position.now c.candidates-left.result c.origin_of-origin.result.from c.candidates-left.ensures
+    (omega (arith, c.origin_of-origin.ensures.from, low))
 
-pub returns-then-has_legal_move_between : goal.returns-then-has_legal_move_between
-returns-then-has_legal_move_between c =
-    let test = λ (b : ℕ). list_any (legal_test c.args.position.now) (moves_between c.args.from b) in
-    let here = ap test (sym c.new.ensures) ∙ sym c.has_legal_move_between.ensures ∙ c.if-has_legal_move_between.true in
-    sym (any_from-here test c.loop-number.number (omega arith) here) ∙ c.loop-number.invariant
+pub loop-left-smaller : goal.loop-left-smaller
+loop-left-smaller c =
+    let some : 0 < c.loop-left.left = omega arith in
+    let fits : c.loop-left.left < 2 ^ 64 = search rules in
+    walk_shorter c.loop-left.left c.lowest_square-to.result c.number.result some fits c.lowest_square-to.ensures.value c.number.ensures.value
 
-pub loop-number-preserved : goal.loop-number-preserved
-loop-number-preserved c =
-    let test = λ (b : ℕ). list_any (legal_test c.args.position.now) (moves_between c.args.from b) in
-    let here = ap test (sym c.new.ensures) ∙ sym c.has_legal_move_between.ensures ∙ c.if-has_legal_move_between.false in
-    sym (any_from-next test c.loop-number.number (omega arith) here) ∙ c.loop-number.invariant
+pub returns-then-has_legal_move_to : goal.returns-then-has_legal_move_to
+returns-then-has_legal_move_to c =
+    let p = c.args.position.now in
+    let from = c.origin_of-origin.result.from in
+    let test = λ (b : ℕ). list_any (legal_test p) (moves_between from b) in
+    let some : 0 < c.loop-left.left = omega arith in
+    let fits : c.loop-left.left < 2 ^ 64 = search rules in
+    sym (any_here test c.loop-left.left c.lowest_square-to.result some fits c.lowest_square-to.ensures.value (sym c.if-has_legal_move_to.ensures))
+    ∙ c.loop-left.invariant
+    ∙ ap (λ a. list_any (legal_test p) (moves_from a)) c.origin_of-origin.ensures.from
+
+pub loop-left-preserved : goal.loop-left-preserved
+loop-left-preserved c =
+    let p = c.args.position.now in
+    let from = c.origin_of-origin.result.from in
+    let test = λ (b : ℕ). list_any (legal_test p) (moves_between from b) in
+    let some : 0 < c.loop-left.left = omega arith in
+    let fits : c.loop-left.left < 2 ^ 64 = search rules in
+    sym (any_later test c.loop-left.left c.lowest_square-to.result c.number.result some fits c.lowest_square-to.ensures.value
+    c.number.ensures.value (sym c.if-has_legal_move_to.ensures))
+    ∙ c.loop-left.invariant
 
 pub returns : goal.returns
 returns c =
-    sym (any_from-end (λ b. list_any (legal_test c.args.position.now) (moves_between c.args.from b)) c.loop-number.number (omega arith)) ∙ c.loop-number.invariant
+    let p = c.args.position.now in
+    let test = λ (b : ℕ). list_any (legal_test p) (moves_between c.origin_of-origin.result.from b) in
+    sym (any_nowhere test c.loop-left.left c.loop-left-test.false)
+    ∙ c.loop-left.invariant
+    ∙ ap (λ a. list_any (legal_test p) (moves_from a)) c.origin_of-origin.ensures.from

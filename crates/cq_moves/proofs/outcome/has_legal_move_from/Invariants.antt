@@ -1,11 +1,14 @@
-use Rattle.std.proofs.Common.{◌≡◌}
+use Rattle.std.proofs.Common.{◌≡◌, length}
 use Rattle.std.specs.List.{list_any}
-use Rattle.cq_position.proofs.Whole.{any_from}
 use Rattle.cq_position.specs.Legality.{legal_test}
 use Rattle.cq_moves.specs.LegalMoves.{moves_from, moves_between}
+use Rattle.cq_moves.proofs.Bits.{set_squares}
 use Rattle.cq_moves.proofs.outcome.has_legal_move_from.Given as goal
 
-abbrev pub invariant-loop-number : goal.invariant-loop-number
-invariant-loop-number l =
-    any_from (λ b. list_any (legal_test l.position) (moves_between l.from b)) l.number
-    ≡ list_any (legal_test l.position) (moves_from l.from)
+abbrev pub invariant-loop-left : goal.invariant-loop-left
+invariant-loop-left l =
+    list_any (λ b. list_any (legal_test l.position) (moves_between l.origin.from b)) (set_squares l.left)
+    ≡ list_any (legal_test l.position) (moves_from l.origin.from)
+
+abbrev pub decreases-loop-left : goal.decreases-loop-left
+decreases-loop-left l = length (set_squares l.left)

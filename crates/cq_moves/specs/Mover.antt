@@ -1,0 +1,37 @@
+-- What is known of the side that moves before its moves are looked at.
+use Rattle.std.specs.Prelude.{◌≡◌, ℕ, ◌<◌, false, slice_set, if◌then◌else◌, ◌==◌}
+use Rattle.std.specs.Int.{bit_at}
+use Rattle.cq_position.specs.declared.men.Man.TheVariants.{Empty}
+use Rattle.cq_position.specs.declared.moves.Move.{Move}
+use Rattle.cq_position.specs.Men.{opponent}
+use Rattle.cq_position.specs.Board.{Board}
+use Rattle.cq_position.specs.Position.{IsPosition}
+use Rattle.cq_position.specs.Attacks.{is_attacked}
+use Rattle.cq_position.specs.King.{IsKingSquare}
+use Rattle.cq_position.specs.Legal.{is_pseudo_legal, is_en_passant_capture}
+use Rattle.cq_position.specs.Legality.{is_safe}
+use Rattle.std.specs.Prelude.{true}
+use Rattle.cq_position.specs.Attacks.{attacks}
+use Rattle.cq_position.specs.Bitboards.{IsBitboard}
+use Rattle.cq_moves.specs.declared.mover.Mover.{Mover}
+use Rattle.cq_moves.specs.declared.mover.Origin.{Origin}
+
+-- a position, where its king stands, and a set of squares beside which each may be left without leaving the king attacked
+pub record IsMover (p : Board) (mover : Mover) : Type 0 where
+  pub kept : IsPosition p
+  pub king : IsKingSquare p.men p.side mover.king
+  pub shields : (square : ℕ) → square < 64 → bit_at mover.shields square ≡ 0
+      → is_attacked (slice_set p.men square Empty) (opponent p.side) mover.king ≡ false
+
+-- each move of the man on a square leaves its king safe, captures on the en passant square aside
+pub record IsUnexposed (p : Board) (from : ℕ) : Type 0 where
+  pub safe : (m : Move) → m.from ≡ from → is_pseudo_legal p m ≡ true → is_en_passant_capture p m ≡ false → is_safe p m ≡ true
+
+-- the squares that the man on a square attacks, and a flag that is false only where each of its moves leaves its king safe
+pub record IsOrigin (p : Board) (origin : Origin) : Type 0 where
+  pub attacked : IsBitboard origin.attacked (attacks p.men origin.from)
+  pub exposed : origin.exposed ≡ false → IsUnexposed p origin.from
+
+-- where the king stands after a move: it may be the man that moves
+abbrev pub king_after : ℕ → Move → ℕ
+king_after king m = if m.from == king then m.to else king
