@@ -2,16 +2,19 @@
 #![tactic(auto)]
 
 pub mod families;
+pub mod images;
 pub mod mappings;
 pub mod parts;
 
-pub use families::{Family, size};
+pub use families::{Family, member, size};
+pub use images::{changes_light, image, image_compass};
 pub use mappings::Mapping;
 pub use parts::SquarePart;
 
 #[cfg(test)]
 mod tests {
     use super::*;
+    use cq_geometry::Compass;
 
     fn may_be_shared<T: Send + Sync>(_value: &T) {}
 
@@ -30,6 +33,25 @@ mod tests {
         for (family, members) in cases {
             assert_eq!(rt; size(family), members, "{family:?}");
         }
+    }
+
+    #[test]
+    fn members_map_squares_and_directions(rt: HostRuntime) {
+        let c3 = SquarePart {
+            squares: 1 << 18,
+            whole_ranks: false,
+            whole_files: true,
+        };
+        // the quarter turns take c3 to c6, and the shift by five files and more takes it off the board
+        let turned = member(Family::Rotate90, 1);
+        let image_of_c3 = image(turned, c3);
+        assert!(rt;
+            matches!(image_of_c3, Some(part) if part.squares == 1 << 42 && part.whole_ranks && !part.whole_files)
+        );
+        assert!(rt; image(member(Family::ShiftHorizontal, 13), c3).is_none());
+        assert_eq!(rt; image_compass(turned, Compass::Up), Compass::Right);
+        assert!(rt; changes_light(turned));
+        assert!(rt; !changes_light(member(Family::Shift, 0)));
     }
 
     #[test]
