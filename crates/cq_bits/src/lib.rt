@@ -1,0 +1,6 @@
+//! Sets of squares as numbers of 64 bits: slides in the eight directions, what the men of a set attack, and what lies between two sets.
+#![tactic(auto)]
+
+pub mod slides;
+
+pub use slides::{BitSet64, slide};
