@@ -5,3 +5,4 @@ pub mod MainLine
 pub mod Linking
 pub mod Linked
 pub mod Changed
+pub mod Words

@@ -5,6 +5,7 @@ ghost use Rattle.cq_position.specs.Legal.{Leads};
 ghost use Rattle.cq_position.specs.Games.{node_at, bare_node, with_nag, with_comment, with_node, way_up, children, first_child, next_sibling, is_main, main_line, IsTree};
 ghost use Rattle.pgn_tree.specs.Links.{linked_at, with_link, linked};
 
+use crate::comment::single_spaced;
 use crate::node::Node;
 use crate::tags::Tags;
 use cq_outside::NoMemory;
@@ -177,6 +178,33 @@ impl Game {
         ensures room { length (node_at self.old.nodes k).nags < 4 → IsOk result }
     {
         self.nodes[k as usize].add_nag(nag)
+    }
+
+    /// Adds a comment to a node: the words of the text with single spaces between them. A text without words adds nothing.
+    pub fn add_comment(&mut self, k: u32, text: &[u8]) -> Result<(), NoMemory>
+        requires node { k < length self.old.nodes }
+        requires brace { All (λ b. b ≢ 125) text.now }
+        ensures ok { OnOk result (self.new ≡ record self.old { nodes = with_node self.old.nodes k (with_comment text.now) }) }
+        ensures err { OnErr result (self.new ≡ self.old) }
+    {
+        let comment = single_spaced(self.alloc, text)?;
+        if comment.is_empty() {
+            return Ok(());
+        }
+        self.nodes[k as usize].add_comment(comment)
+    }
+
+    /// The numbers of the nodes of the main line: the root, and the first children that follow it.
+    pub fn main_line(&self) -> Result<Vec<u32>, NoMemory>
+        ensures { IfOk result (λ line. line.items ≡ main_line self.now.nodes) }
+    {
+        let mut line = Vec::new(self.alloc);
+        for k in 0..self.len() {
+            if self.is_main(k) {
+                line.push(k)?;
+            }
+        }
+        Ok(line)
     }
 }
 
