@@ -6,3 +6,4 @@ pub mod Linking
 pub mod Linked
 pub mod Changed
 pub mod Words
+pub mod Causes

@@ -2,7 +2,7 @@
 ghost use Rattle.std.specs.Option.{is_some};
 ghost use Rattle.std.specs.Prelude.{◌≡◌, ◌≢◌, ◌&&◌, not, ◌<◌, ◌≤◌, ◌+◌, ◌-◌, ◌↔◌, [], ◌∷◌, ◌++◌, length, slice_index_or, Some, None, OnOk, OnErr, IfOk, IfSome, IsNone, IsOk, Contains, All};
 ghost use Rattle.cq_position.specs.Legal.{Leads};
-ghost use Rattle.cq_position.specs.Games.{node_at, bare_node, with_nag, with_comment, with_node, way_up, children, first_child, next_sibling, is_main, main_line, IsTree};
+ghost use Rattle.cq_position.specs.Games.{node_at, bare_node, with_nag, with_comment, with_node, way_up, children, first_child, next_sibling, is_main, main_line, IsLastSibling, IsTree};
 ghost use Rattle.pgn_tree.specs.Links.{linked_at, with_link, linked};
 
 use crate::comment::single_spaced;
@@ -80,6 +80,8 @@ impl Game {
     pub fn parent(&self, k: u32) -> Option<u32>
         requires { k < length self.now.nodes }
         ensures value { result ≡ (node_at self.now.nodes k).parent }
+        ensures root { IsNone result ↔ (k ≡ 0) }
+        ensures before { IfSome result (λ p. p < k) }
     {
         self.nodes[k as usize].parent()
     }
@@ -88,6 +90,8 @@ impl Game {
     pub fn first_child(&self, k: u32) -> Option<u32>
         requires { k < length self.now.nodes }
         ensures value { result ≡ first_child self.now.nodes k }
+        ensures none { IsNone result ↔ (children self.now.nodes k ≡ []) }
+        ensures after { IfSome result (λ c. (k < c) × (c < length self.now.nodes)) }
     {
         self.nodes[k as usize].first_child()
     }
@@ -96,6 +100,8 @@ impl Game {
     pub fn next_sibling(&self, k: u32) -> Option<u32>
         requires { k < length self.now.nodes }
         ensures value { result ≡ next_sibling self.now.nodes k }
+        ensures none { IsNone result ↔ IsLastSibling self.now.nodes k }
+        ensures after { IfSome result (λ s. (k < s) × (s < length self.now.nodes)) }
     {
         self.nodes[k as usize].next_sibling()
     }
@@ -120,6 +126,7 @@ impl Game {
     pub fn move_to(&self, k: u32) -> Option<Move>
         requires { k < length self.now.nodes }
         ensures value { result ≡ (node_at self.now.nodes k).led_by }
+        ensures root { IsNone result ↔ (k ≡ 0) }
     {
         self.nodes[k as usize].led_by()
     }
