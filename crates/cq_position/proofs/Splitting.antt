@@ -14,44 +14,49 @@ use Rattle.cq_position.specs.Fen.{fields, parts, is_not_empty}
 abbrev is_space : ℕ → Bool
 is_space b = eqb b 32
 
+-- the parts of a text between the bytes that pass a test, the empty ones left out
+unfoldable pub kept_parts : (ℕ → Bool) → List ℕ → List (List ℕ)
+kept_parts cuts text = filter is_not_empty (slice_split cuts text)
+
 -- one more than the length of what stands before
 one_more : (n : ℕ) → 1 + n ≡ suc n
 one_more n = omega arith
 
-fields-nil : fields [] ≡ []
-unfolding fields
-fields-nil = refl
+kept-nil : (p : ℕ → Bool) → kept_parts p [] ≡ []
+unfolding kept_parts
+kept-nil p = refl
 
--- spaces at the front are in no field
-drop_space : (x : ℕ) (xs : List ℕ) (b : Bool) → is_space x ≡ b → fields xs ≡ fields (drop (position_or_len (λ b. not (is_space b)) xs) xs)
-    → fields (x ∷ xs) ≡ fields (drop (position_or_len (λ b. not (is_space b)) (x ∷ xs)) (x ∷ xs))
-unfolding fields
-drop_space x xs true e ih = rw (e, one_more) ih
-drop_space x xs false e ih = rw e (rw e refl)
+module _ (cuts : ℕ → Bool) where
+  -- bytes that cut at the front are in no part
+  drop_cut : (x : ℕ) (xs : List ℕ) (b : Bool) → cuts x ≡ b → kept_parts cuts xs ≡ kept_parts cuts (drop (position_or_len (λ b. not (cuts b)) xs) xs)
+      → kept_parts cuts (x ∷ xs) ≡ kept_parts cuts (drop (position_or_len (λ b. not (cuts b)) (x ∷ xs)) (x ∷ xs))
+  unfolding kept_parts
+  drop_cut x xs true e ih = rw (e, one_more) ih
+  drop_cut x xs false e ih = rw e (rw e refl)
 
-pub fields-drop_spaces : (t : List ℕ) → fields t ≡ fields (drop (position_or_len (λ b. not (is_space b)) t) t)
-unfolding fields
-fields-drop_spaces [] = refl
-fields-drop_spaces (x ∷ xs) = drop_space x xs (is_space x) refl (fields-drop_spaces xs)
+  pub kept-drop_cuts : (t : List ℕ) → kept_parts cuts t ≡ kept_parts cuts (drop (position_or_len (λ b. not (cuts b)) t) t)
+  unfolding kept_parts
+  kept-drop_cuts [] = refl
+  kept-drop_cuts (x ∷ xs) = drop_cut x xs (cuts x) refl (kept-drop_cuts xs)
 
--- the first part reaches up to the first space, and the rest has the fields behind it
-abbrev FirstPart : List ℕ → ℕ → Type 0
-FirstPart t n = (rest : List (List ℕ)) × (slice_split is_space t ≡ take n t ∷ rest) × (filter is_not_empty rest ≡ fields (drop n t))
+  -- the first part reaches up to the first byte that cuts, and the rest has the parts after it
+  abbrev FirstPart : List ℕ → ℕ → Type 0
+  FirstPart t n = (rest : List (List ℕ)) × (slice_split cuts t ≡ take n t ∷ rest) × (filter is_not_empty rest ≡ kept_parts cuts (drop n t))
 
-first_part_more : (x : ℕ) (xs : List ℕ) (b : Bool) → is_space x ≡ b → FirstPart xs (position_or_len is_space xs) → FirstPart (x ∷ xs) (position_or_len is_space (x ∷ xs))
-unfolding fields
-first_part_more x xs true e ih = rw e (slice_split is_space xs, refl, rw e refl)
-first_part_more x xs false e ih = rw (e, one_more) (ih.0, ap (onto_first x) ih.1, ih.2)
+  first_part_more : (x : ℕ) (xs : List ℕ) (b : Bool) → cuts x ≡ b → FirstPart xs (position_or_len cuts xs) → FirstPart (x ∷ xs) (position_or_len cuts (x ∷ xs))
+  unfolding kept_parts
+  first_part_more x xs true e ih = rw e (slice_split cuts xs, refl, rw e refl)
+  first_part_more x xs false e ih = rw (e, one_more) (ih.0, ap (onto_first x) ih.1, ih.2)
 
-first_part : (t : List ℕ) → FirstPart t (position_or_len is_space t)
-unfolding fields
-first_part [] = ([], refl, refl)
-first_part (x ∷ xs) = first_part_more x xs (is_space x) refl (first_part xs)
+  first_part : (t : List ℕ) → FirstPart t (position_or_len cuts t)
+  unfolding kept_parts
+  first_part [] = ([], refl, refl)
+  first_part (x ∷ xs) = first_part_more x xs (cuts x) refl (first_part xs)
 
--- a text that begins with no space begins with a field
-pub fields-cut : (x : ℕ) (xs : List ℕ) → is_space x ≡ false → fields (x ∷ xs) ≡ take (position_or_len is_space (x ∷ xs)) (x ∷ xs) ∷ fields (drop (position_or_len is_space (x ∷ xs)) (x ∷ xs))
-unfolding fields
-fields-cut x xs e = let ih = first_part xs in rw (e, one_more, ih.1) (ap (λ rest. (x ∷ take (position_or_len is_space xs) xs) ∷ rest) ih.2)
+  -- a text that begins with no such byte begins with a part
+  pub kept-cut : (x : ℕ) (xs : List ℕ) → cuts x ≡ false → kept_parts cuts (x ∷ xs) ≡ take (position_or_len cuts (x ∷ xs)) (x ∷ xs) ∷ kept_parts cuts (drop (position_or_len cuts (x ∷ xs)) (x ∷ xs))
+  unfolding kept_parts
+  kept-cut x xs e = let ih = first_part xs in rw (e, one_more, ih.1) (ap (λ rest. (x ∷ take (position_or_len cuts xs) xs) ∷ rest) ih.2)
 
 -- where no element passes, the length is the place before which none does
 none_place : (p : ℕ → Bool) (t : List ℕ) (b : Bool) → ltb (position_or_len p t) (length t) ≡ b → None ≡ cond b (Some (position_or_len p t)) None → length t ≤ position_or_len p t
@@ -70,20 +75,31 @@ false_of : (b : Bool) → not b ≡ true → b ≡ false
 false_of true e = sym e
 false_of false e = refl
 
--- a text of spaces alone has no field
-pub spaces_alone : (t : List ℕ) → None ≡ position (λ b. not (is_space b)) t → fields t ≡ []
-spaces_alone t e =
-    let past = none_place (λ b. not (is_space b)) t _ refl e in
-    fields-drop_spaces t ∙ ap fields (drop_all _ t past) ∙ fields-nil
+module _ (cuts : ℕ → Bool) where
+  -- a text of such bytes alone has no part
+  pub cuts_alone : (t : List ℕ) → None ≡ position (λ b. not (cuts b)) t → kept_parts cuts t ≡ []
+  cuts_alone t e =
+      let past = none_place (λ b. not (cuts b)) t _ refl e in
+      kept-drop_cuts cuts t ∙ ap (kept_parts cuts) (drop_all _ t past) ∙ kept-nil cuts
 
--- the first field stands from the first byte that is no space to the next space
+  -- the first part stands from the first byte that doesn't cut to the next that does
+  pub first_of_kept : (t : List ℕ) (i : ℕ) → Some i ≡ position (λ b. not (cuts b)) t →
+      kept_parts cuts t ≡ take (unwrap_or (position cuts (drop i t)) (length (drop i t))) (drop i t) ∷ kept_parts cuts (drop (unwrap_or (position cuts (drop i t)) (length (drop i t))) (drop i t))
+  first_of_kept t i e =
+      let at = some_place (λ b. not (cuts b)) t i _ e in
+      let found = position-Some (λ b. not (cuts b)) t i 0 (sym e) in
+      let cut = drop_more t i 0 found.0 in
+      rw (unwrapped cuts (drop i t) _ refl) (kept-drop_cuts cuts t ∙ rw (← at, cut) (kept-cut cuts (get_or t i 0) (drop (i + 1) t) (false_of (cuts (get_or t i 0)) found.1)))
+
+-- fields are such parts
+pub spaces_alone : (t : List ℕ) → None ≡ position (λ b. not (is_space b)) t → fields t ≡ []
+unfolding fields kept_parts
+spaces_alone t e = cuts_alone is_space t e
+
 pub first_of_fields : (t : List ℕ) (i : ℕ) → Some i ≡ position (λ b. not (is_space b)) t →
     fields t ≡ take (unwrap_or (position is_space (drop i t)) (length (drop i t))) (drop i t) ∷ fields (drop (unwrap_or (position is_space (drop i t)) (length (drop i t))) (drop i t))
-first_of_fields t i e =
-    let at = some_place (λ b. not (is_space b)) t i _ e in
-    let found = position-Some (λ b. not (is_space b)) t i 0 (sym e) in
-    let cut = drop_more t i 0 found.0 in
-    rw (unwrapped is_space (drop i t) _ refl) (fields-drop_spaces t ∙ rw (← at, cut) (fields-cut (get_or t i 0) (drop (i + 1) t) (false_of (is_space (get_or t i 0)) found.1)))
+unfolding fields kept_parts
+first_of_fields t i e = first_of_kept is_space t i e
 
 -- a text without the byte is one part
 pub one_part : (t : List ℕ) (byte : ℕ) → None ≡ position (λ b. eqb b byte) t → parts byte t ≡ t ∷ []

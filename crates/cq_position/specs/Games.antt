@@ -91,6 +91,10 @@ is_later_sibling nodes (Some p) n k = nat_lt n k && is_child_of nodes p k
 unfoldable pub next_sibling : List Node → ℕ → Option ℕ
 next_sibling nodes n = find (is_later_sibling nodes (node_at nodes n).parent n) (numbers nodes)
 
+-- no node after n has the same parent
+pub record IsLastSibling (nodes : List Node) (n : ℕ) : Type 0 where
+  pub other : (k : ℕ) → n < k → k < length nodes → (node_at nodes k).parent ≢ (node_at nodes n).parent
+
 -- whether a node is the first child of its parent
 abbrev pub is_first_child_of : List Node → Option ℕ → ℕ → Bool
 is_first_child_of nodes None n = false

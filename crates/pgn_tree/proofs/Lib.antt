@@ -5,3 +5,5 @@ pub mod MainLine
 pub mod Linking
 pub mod Linked
 pub mod Changed
+pub mod Words
+pub mod Causes

@@ -16,7 +16,7 @@ use Rattle.pgn_tree.proofs.Linking.{length_nodes_of, nodes_of_push, linked_nodes
 some_is : (p q : ℕ) → Some p ≡ Some q → p ≡ q
 some_is p q e = cc
 
-number_is : (o : Option ℕ) (k : ℕ) → is_number o k ≡ true → o ≡ Some k
+pub number_is : (o : Option ℕ) (k : ℕ) → is_number o k ≡ true → o ≡ Some k
 number_is None k is = absurd cc
 number_is (Some m) k is = ap Some (eqb-true m k is)
 

@@ -24,7 +24,7 @@ pub nodes_of_push : (items : List Linked) (x : Linked) → nodes_of (items ++ x 
 nodes_of_push [] x = refl
 nodes_of_push (y ∷ ys) x = ap (λ l. y.node ∷ l) (nodes_of_push ys x)
 
-set_same : {A : Type 0} → (l : List A) (i : ℕ) (d : A) → slice_set l i (get_or l i d) ≡ l
+pub set_same : {A : Type 0} → (l : List A) (i : ℕ) (d : A) → slice_set l i (get_or l i d) ≡ l
 set_same [] i d = refl
 set_same (x ∷ xs) zero d = refl
 set_same (x ∷ xs) (suc i) d = ap (λ l. x ∷ l) (set_same xs i d)

@@ -1,15 +1,15 @@
 -- The main line after one more node.
-use Rattle.std.proofs.Common.{◌≡◌, ℕ, ◌<◌, Bool, true, false, cond, List, [], ◌∷◌, ◌++◌, length, Option, Some, None, refl, sym, ap, ap₂, ◌∙◌, arith}
+use Rattle.std.proofs.Common.{◌≡◌, ℕ, ◌+◌, ◌<◌, Bool, true, false, cond, List, [], ◌∷◌, ◌++◌, length, Option, Some, None, refl, sym, ap, ap₂, ◌∙◌, arith, add-one, append-nil}
 use Rattle.std.specs.Prelude.{◌&&◌, ◌||◌, ◌==◌, not, Contains}
 use Rattle.std.specs.Option.{is_some, option_or}
-use Rattle.std.specs.List.{list_all}
+use Rattle.std.specs.List.{filter, list_all, range_with_len}
 use Rattle.std.proofs.lemmas.Bool.{false_from_ne_true, eq-eqb}
-use Rattle.std.proofs.lemmas.List.Elements.{Contains-append_left, Contains-append_right, Contains-push}
+use Rattle.std.proofs.lemmas.List.Elements.{filter-append, Contains-append_left, Contains-append_right, Contains-push}
 use Rattle.std.proofs.Common.{eqb-true}
-use Rattle.cq_position.specs.Games.{Node, node_at, is_number, is_child_of, first_child, is_first_child, is_first_child_of, way_up, is_main, IsTree}
+use Rattle.cq_position.specs.Games.{Node, node_at, is_number, is_child_of, first_child, is_first_child, is_first_child_of, way_up, is_main, main_line, IsTree}
 use Rattle.cq_position.proofs.Ancestors.{way_step, way_root, reaches}
 use Rattle.cq_position.proofs.Trees.{tree_first, way_in_prefix}
-use Rattle.pgn_tree.proofs.Found.{find_within}
+use Rattle.pgn_tree.proofs.Found.{find_within, range_more}
 use Rattle.pgn_tree.proofs.Children.{old_node, new_node, first_more, some_or, has_first}
 
 list_all_agree : (f g : ℕ → Bool) (xs : List ℕ) → ((m : ℕ) → Contains xs m → f m ≡ g m) → list_all f xs ≡ list_all g xs
@@ -81,3 +81,22 @@ module _ (nodes : List Node) (x : Node) (tree : IsTree nodes) (later : IsTree (n
 
 pub root_is_main : (nodes : List Node) → IsTree nodes → is_main nodes 0 ≡ true
 root_is_main nodes tree = ap (list_all (in_line nodes)) (way_root nodes (tree_first nodes tree) 0 tree.root.parent)
+
+filter_more : (p : ℕ → Bool) (k : ℕ) → filter p (range_with_len 0 (k + 1)) ≡ filter p (range_with_len 0 k) ++ cond (p k) (k ∷ []) []
+filter_more p k =
+    ap (λ n. filter p (range_with_len 0 n)) (add-one k)
+    ∙ ap (filter p) (range_more 0 k ∙ ap (λ n. range_with_len 0 k ++ n ∷ []) (let e : 0 + k ≡ k = omega arith in e))
+    ∙ filter-append p (range_with_len 0 k) (k ∷ [])
+
+-- the main line of more and more nodes
+pub line_more : (nodes : List Node) (k : ℕ) (line new : List ℕ) → line ≡ filter (is_main nodes) (range_with_len 0 k) → true ≡ is_main nodes k → new ≡ line ++ k ∷ [] → new ≡ filter (is_main nodes) (range_with_len 0 (k + 1))
+line_more nodes k line new is main new_is =
+    new_is ∙ ap (λ l. l ++ k ∷ []) is ∙ ap (λ t. filter (is_main nodes) (range_with_len 0 k) ++ cond t (k ∷ []) []) main ∙ sym (filter_more (is_main nodes) k)
+
+pub line_same : (nodes : List Node) (k : ℕ) (line new : List ℕ) → line ≡ filter (is_main nodes) (range_with_len 0 k) → false ≡ is_main nodes k → new ≡ line → new ≡ filter (is_main nodes) (range_with_len 0 (k + 1))
+line_same nodes k line new is main new_is =
+    new_is ∙ is ∙ sym (append-nil (filter (is_main nodes) (range_with_len 0 k))) ∙ ap (λ t. filter (is_main nodes) (range_with_len 0 k) ++ cond t (k ∷ []) []) main ∙ sym (filter_more (is_main nodes) k)
+
+pub line_all : (nodes : List Node) (k : ℕ) (line : List ℕ) → line ≡ filter (is_main nodes) (range_with_len 0 k) → k ≡ length nodes → line ≡ main_line nodes
+unfolding main_line
+line_all nodes k line is all_ = is ∙ ap (λ n. filter (is_main nodes) (range_with_len 0 n)) all_

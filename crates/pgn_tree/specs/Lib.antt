@@ -1,3 +1,4 @@
 pub mod Links
 pub mod Inside
 pub mod GameInside
+pub mod Words

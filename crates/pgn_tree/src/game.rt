@@ -2,9 +2,10 @@
 ghost use Rattle.std.specs.Option.{is_some};
 ghost use Rattle.std.specs.Prelude.{◌≡◌, ◌≢◌, ◌&&◌, not, ◌<◌, ◌≤◌, ◌+◌, ◌-◌, ◌↔◌, [], ◌∷◌, ◌++◌, length, slice_index_or, Some, None, OnOk, OnErr, IfOk, IfSome, IsNone, IsOk, Contains, All};
 ghost use Rattle.cq_position.specs.Legal.{Leads};
-ghost use Rattle.cq_position.specs.Games.{node_at, bare_node, with_nag, with_comment, with_node, way_up, children, first_child, next_sibling, is_main, main_line, IsTree};
+ghost use Rattle.cq_position.specs.Games.{node_at, bare_node, with_nag, with_comment, with_node, way_up, children, first_child, next_sibling, is_main, main_line, IsLastSibling, IsTree};
 ghost use Rattle.pgn_tree.specs.Links.{linked_at, with_link, linked};
 
+use crate::comment::single_spaced;
 use crate::node::Node;
 use crate::tags::Tags;
 use cq_outside::NoMemory;
@@ -79,6 +80,8 @@ impl Game {
     pub fn parent(&self, k: u32) -> Option<u32>
         requires { k < length self.now.nodes }
         ensures value { result ≡ (node_at self.now.nodes k).parent }
+        ensures root { IsNone result ↔ (k ≡ 0) }
+        ensures before { IfSome result (λ p. p < k) }
     {
         self.nodes[k as usize].parent()
     }
@@ -87,6 +90,8 @@ impl Game {
     pub fn first_child(&self, k: u32) -> Option<u32>
         requires { k < length self.now.nodes }
         ensures value { result ≡ first_child self.now.nodes k }
+        ensures none { IsNone result ↔ (children self.now.nodes k ≡ []) }
+        ensures after { IfSome result (λ c. (k < c) × (c < length self.now.nodes)) }
     {
         self.nodes[k as usize].first_child()
     }
@@ -95,6 +100,8 @@ impl Game {
     pub fn next_sibling(&self, k: u32) -> Option<u32>
         requires { k < length self.now.nodes }
         ensures value { result ≡ next_sibling self.now.nodes k }
+        ensures none { IsNone result ↔ IsLastSibling self.now.nodes k }
+        ensures after { IfSome result (λ s. (k < s) × (s < length self.now.nodes)) }
     {
         self.nodes[k as usize].next_sibling()
     }
@@ -119,6 +126,7 @@ impl Game {
     pub fn move_to(&self, k: u32) -> Option<Move>
         requires { k < length self.now.nodes }
         ensures value { result ≡ (node_at self.now.nodes k).led_by }
+        ensures root { IsNone result ↔ (k ≡ 0) }
     {
         self.nodes[k as usize].led_by()
     }
@@ -177,6 +185,33 @@ impl Game {
         ensures room { length (node_at self.old.nodes k).nags < 4 → IsOk result }
     {
         self.nodes[k as usize].add_nag(nag)
+    }
+
+    /// Adds a comment to a node: the words of the text with single spaces between them. A text without words adds nothing.
+    pub fn add_comment(&mut self, k: u32, text: &[u8]) -> Result<(), NoMemory>
+        requires node { k < length self.old.nodes }
+        requires brace { All (λ b. b ≢ 125) text.now }
+        ensures ok { OnOk result (self.new ≡ record self.old { nodes = with_node self.old.nodes k (with_comment text.now) }) }
+        ensures err { OnErr result (self.new ≡ self.old) }
+    {
+        let comment = single_spaced(self.alloc, text)?;
+        if comment.is_empty() {
+            return Ok(());
+        }
+        self.nodes[k as usize].add_comment(comment)
+    }
+
+    /// The numbers of the nodes of the main line: the root, and the first children that follow it.
+    pub fn main_line(&self) -> Result<Vec<u32>, NoMemory>
+        ensures { IfOk result (λ line. line.items ≡ main_line self.now.nodes) }
+    {
+        let mut line = Vec::new(self.alloc);
+        for k in 0..self.len() {
+            if self.is_main(k) {
+                line.push(k)?;
+            }
+        }
+        Ok(line)
     }
 }
 

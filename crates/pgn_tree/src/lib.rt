@@ -3,6 +3,7 @@
 //! `cq_position/specs/Games` has what contracts see of a game, `specs/Links` what a game keeps besides.
 #![tactic(auto)]
 
+mod comment;
 mod game;
 mod node;
 mod tags;
