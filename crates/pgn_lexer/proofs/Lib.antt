@@ -9,6 +9,7 @@ pub mod Longest
 mod Rows
 pub mod Settled
 pub mod Spelled
+pub mod Tables
 pub mod Texts
 pub mod Walk
 pub mod Within

@@ -17,6 +17,7 @@ pub struct Lexeme<'a> {
 }
 
 /// Whether the byte at a place stands in the first column; `first` says so of the first byte.
+#[inline]
 fn in_first_column(bytes: &[u8], at: usize, first: bool) -> bool
     requires { at ≤ length bytes.now }
     ensures { result ≡ first_at first bytes.now at }
@@ -30,6 +31,7 @@ fn in_first_column(bytes: &[u8], at: usize, first: bool) -> bool
 
 /// The next lexeme from a place on, which no lexeme crosses. `first` says whether the first byte of all stands in the
 /// first column. None where white space alone is left.
+#[inline]
 pub fn next_lexeme(bytes: &[u8], at: usize, first: bool) -> Option<Lexeme<'_>>
     requires { at ≤ length bytes.now }
     ensures none { IfNone result ((start : ℕ) → lexemes_at start first bytes.now at ≡ []) }

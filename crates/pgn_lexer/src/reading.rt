@@ -8,11 +8,36 @@ use crate::token::{LexemeKind, Reading, TokenKind};
 use cq_outside::{decimal_up_to, digits_len};
 use memchr::{memchr, memchr3};
 
+/// Whether a symbol goes on with a byte, for each of the 256.
+const CONTINUES_SYMBOL: [bool; 256] = [
+    false, false, false, false, false, false, false, false, false, false, false, false, false,
+    false, false, false, false, false, false, false, false, false, false, false, false, false,
+    false, false, false, false, false, false, false, false, false, true, false, false, false,
+    false, false, false, false, true, false, true, false, true, true, true, true, true, true, true,
+    true, true, true, true, true, false, false, true, false, false, false, true, true, true, true,
+    true, true, true, true, true, true, true, true, true, true, true, true, true, true, true, true,
+    true, true, true, true, true, true, false, false, false, false, true, false, true, true, true,
+    true, true, true, true, true, true, true, true, true, true, true, true, true, true, true, true,
+    true, true, true, true, true, true, true, false, false, false, false, false, false, false,
+    false, false, false, false, false, false, false, false, false, false, false, false, false,
+    false, false, false, false, false, false, false, false, false, false, false, false, false,
+    false, false, false, false, false, false, false, false, false, false, false, false, false,
+    false, false, false, false, false, false, false, false, false, false, false, false, false,
+    false, false, false, false, false, false, false, false, false, false, false, false, false,
+    false, false, false, false, false, false, false, false, false, false, false, false, false,
+    false, false, false, false, false, false, false, false, false, false, false, false, false,
+    false, false, false, false, false, false, false, false, false, false, false, false, false,
+    false, false, false, false, false, false, false, false, false, false, false, false, false,
+    false, false, false, false, false, false, false, false, false,
+];
+
 /// Whether a symbol goes on with this byte.
+#[inline]
+#[tactic(auto, using(crate::proofs::Tables::symbol_table))]
 fn continues_symbol(b: u8) -> bool
     ensures { result ≡ continues_symbol b }
 {
-    b.is_ascii_alphanumeric() || matches!(b, b'_' | b'+' | b'#' | b'=' | b':' | b'-' | b'/')
+    CONTINUES_SYMBOL[b as usize]
 }
 
 /// A token of so many bytes.
@@ -33,7 +58,7 @@ fn place_of(byte: u8, bytes: &[u8]) -> usize
     memchr(byte, bytes).unwrap_or(bytes.len())
 }
 
-/// How many bytes at the front continue a symbol.
+/// How many bytes at the start continue a symbol.
 fn symbol_len(bytes: &[u8]) -> usize
     ensures value { result ≡ prefix_len continues_symbol bytes.now }
     ensures within { result ≤ length bytes.now }
@@ -41,7 +66,7 @@ fn symbol_len(bytes: &[u8]) -> usize
     bytes.iter().take_while(|b| continues_symbol(**b)).count()
 }
 
-/// A comment from its brace; `rest` is what stands behind that.
+/// A comment from its brace; `rest` is what stands after that.
 #[tactic(auto, unfolding(crate::specs::Readings::comment))]
 fn comment(rest: &[u8]) -> Reading
     ensures { result ≡ comment rest.now }
@@ -73,7 +98,7 @@ fn escape_line(rest: &[u8]) -> Reading
     }
 }
 
-/// How many bytes at the front of a string stand for themselves: those before a quote, a backslash or LF.
+/// How many bytes at the start of a string stand for themselves: those before a quote, a backslash or LF.
 fn plain_len(bytes: &[u8]) -> usize
     ensures value { result ≡ position_or_len is_special bytes.now }
     ensures within { result ≤ length bytes.now }
@@ -81,7 +106,7 @@ fn plain_len(bytes: &[u8]) -> usize
     memchr3(b'"', b'\\', b'\n', bytes).unwrap_or(bytes.len())
 }
 
-/// Where a string goes on behind its backslash at a place: behind the byte that it takes with it, which is never LF.
+/// Where a string goes on after its backslash at a place: after the byte that it takes with it, which is never LF.
 #[tactic(auto, using(crate::proofs::Bodies::escape_at_end, crate::proofs::Bodies::escape_of_line, crate::proofs::Bodies::escape_of_byte))]
 fn behind_backslash(rest: &[u8], at: usize) -> usize
     requires { at < length rest.now }
@@ -200,6 +225,7 @@ fn single(b: u8) -> Reading
 
 /// The reading of a byte, which is not white space, by its kind.
 #[tactic(auto, unfolding(crate::specs::Readings::reading))]
+#[inline]
 fn read(b: u8, rest: &[u8], first: bool) -> Reading
     ensures { result ≡ reading first b rest.now }
 {
@@ -217,9 +243,10 @@ fn read(b: u8, rest: &[u8], first: bool) -> Reading
     }
 }
 
-/// The longest reading of a byte that is not white space, with what stands behind it. `first` says whether the
+/// The longest reading of a byte that is not white space, with what stands after it. `first` says whether the
 /// byte stands in the first column.
 #[tactic(auto, using(crate::proofs::Within::reading_some, crate::proofs::Within::reading_within))]
+#[inline]
 pub fn longest_reading(b: u8, rest: &[u8], first: bool) -> Reading
     ensures value { result ≡ reading first b rest.now }
     ensures some { 0 < result.len }
