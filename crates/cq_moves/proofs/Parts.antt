@@ -10,11 +10,11 @@ use Rattle.cq_position.specs.declared.men.Promotion.{Promotion}
 use Rattle.cq_position.specs.declared.men.Promotion.TheVariants.{None as NoPromotion, Q as ToQueen, R as ToRook, B as ToBishop, N as ToKnight}
 use Rattle.cq_position.specs.declared.moves.Move.{Move}
 use Rattle.cq_position.specs.Board.{Board, man_at, is_pawn}
-use Rattle.cq_position.specs.Legal.{reaches, promotion_is_right, is_pseudo_legal, is_none, last_rank}
+use Rattle.cq_position.specs.Legal.{reaches, promotion_is_right, is_none, last_rank}
 use Rattle.cq_position.specs.Legality.{is_safe, legal_test}
 use Rattle.cq_moves.specs.LegalMoves.{promotions, move_of, moves_between, moves_from, all_moves, legal_list, legal_from, legal_between, if_legal, pieces, promotes}
 use Rattle.cq_moves.proofs.Lists.{filter-flat_map, filter-map, filter-none, flat_map-take_more, list_any-flat_map}
-use Rattle.cq_moves.proofs.Law.{passes_in_parts, pseudo_legal_by_parts}
+use Rattle.cq_moves.proofs.Law.{passes_in_parts}
 
 pub legal_list_parts : (p : Board) → legal_list p ≡ flat_map (legal_from p) squares
 unfolding legal_list all_moves legal_from
@@ -154,11 +154,6 @@ pub four_moves : (p : Board) (a b : ℕ) → b < 64 → promotes p a b ≡ true 
 four_moves p a b below last =
     legal_between_parts p a b
     ∙ ap (λ xs. xs ++ flat_map (if_legal p a b) pieces) (wrong_is_none p a b NoPromotion below (right_promotion p a b NoPromotion true last))
-
--- a move to a square to which a man goes is pseudo-legal where its promotion is right
-pub reached_is_pseudo_legal : (p : Board) (m : Move) → m.null ≡ false → m.to < 64 → reaches p m.from m.to ≡ true → promotion_is_right p m ≡ true
-    → is_pseudo_legal p m ≡ true
-reached_is_pseudo_legal = pseudo_legal_by_parts
 
 pub one_choice_more : (part : Promotion → List Move) (choices : List Promotion) (n : ℕ) (d : Promotion) (old before after : List Move) → n < length choices
     → before ≡ old ++ flat_map part (take n choices) → after ≡ before ++ part (get_or choices n d)

@@ -13,6 +13,7 @@ use cq_position::{Man, Move, Position, Promotion, Side, is_same, king_of, rook_o
 ///
 /// Castling takes the rook along, a capture on the en passant square takes away the pawn that has passed it, and a promotion puts the
 /// new man on the goal. The move is not judged: the mover's king may be left in check.
+#[inline]
 pub fn men_after(position: &Position, m: &Move) -> [Man; 64]
     ensures { result ≡ legal.men_after position.now m.now }
 {
@@ -26,6 +27,7 @@ pub fn men_after(position: &Position, m: &Move) -> [Man; 64]
 }
 
 // The man goes to its goal.
+#[inline]
 fn men_moved(position: &Position, m: &Move) -> [Man; 64]
     ensures { result ≡ legal.men_moved position.now m.now }
 {
@@ -37,6 +39,7 @@ fn men_moved(position: &Position, m: &Move) -> [Man; 64]
 }
 
 // The man that stands on the goal.
+#[inline]
 fn promoted(side: Side, promotion: Promotion, man: Man) -> Man
     ensures { result ≡ legal.promoted side promotion man }
 {
@@ -54,6 +57,7 @@ fn promoted(side: Side, promotion: Promotion, man: Man) -> Man
 }
 
 /// Whether the move is castling: the move of the side's king by two files (FIDE Laws of Chess, article 3.8.2).
+#[inline]
 pub fn is_castling(position: &Position, m: &Move) -> bool
     ensures { result ≡ legal.is_castling position.now m.now }
 {
@@ -79,6 +83,7 @@ pub(crate) fn is_en_passant_capture(position: &Position, m: &Move) -> bool
 }
 
 /// Whether there is a goal, and it is this square.
+#[inline]
 pub fn is_goal(goal: Option<Square>, square: Square) -> bool
     ensures { result ≡ attacks.is_goal goal square }
 {
@@ -89,6 +94,7 @@ pub fn is_goal(goal: Option<Square>, square: Square) -> bool
 }
 
 /// The square in the middle between two, as the one that a pawn's double step passes: of the two numbers the half of the sum.
+#[inline]
 pub fn middle(a: Square, b: Square) -> Square
     ensures { result ≡ legal.middle a b }
 {

@@ -6,6 +6,7 @@ use cq_geometry::Square;
 use cq_position::Side;
 
 /// The square to which the king castles.
+#[inline]
 pub fn castling_goal(side: Side, kingside: bool) -> Square
     ensures { result ≡ legal.castling_goal side kingside }
 {
@@ -18,6 +19,7 @@ pub fn castling_goal(side: Side, kingside: bool) -> Square
 }
 
 /// The square that the king crosses, to which the rook goes.
+#[inline]
 pub fn castling_crossed(side: Side, kingside: bool) -> Square
     ensures { result ≡ legal.castling_crossed side kingside }
 {

@@ -111,6 +111,7 @@ fn add_promotions(
 }
 
 // Adds a move to a square to which the man goes, where it is legal.
+#[inline]
 fn add_move(
     position: &Position,
     mover: &Mover,

@@ -21,6 +21,7 @@ use cq_position::{Man, Move, Position, Promotion, Side, is_of_side, is_same, kin
 /// Whether a man of the side to move goes from one square to another, which holds none of its own men and no king. Bit k of `attacked` is
 /// set where the man attacks the square k.
 #[tactic(auto, unfolding(cq_position::specs::Legal::reaches))]
+#[inline]
 pub(crate) fn reaches(position: &Position, attacked: u64, from: Square, to: Square) -> bool
     requires { IsBitboard attacked (attack.attacks position.now.men from) }
     ensures reaches { result ≡ legal.reaches position.now from to }
@@ -73,6 +74,7 @@ fn squares_ahead(side: Side, from: Square) -> u64
 }
 
 // Whether the man goes from one square to the other.
+#[inline]
 fn goes(man: Man, position: &Position, attacked: u64, from: Square, to: Square) -> bool
     requires { IsBitboard attacked (attack.attacks position.now.men from) }
     ensures { result ≡ legal.goes_as man position.now from to }
@@ -90,6 +92,7 @@ fn goes(man: Man, position: &Position, attacked: u64, from: Square, to: Square) 
 }
 
 // Whether a square is among the attacked ones.
+#[inline]
 fn attacks(position: &Position, attacked: u64, from: Square, to: Square) -> bool
     requires { IsBitboard attacked (attack.attacks position.now.men from) }
     ensures { result ≡ attack.attacks position.now.men from to }
@@ -98,6 +101,7 @@ fn attacks(position: &Position, attacked: u64, from: Square, to: Square) -> bool
 }
 
 // Whether a pawn steps or captures so.
+#[inline]
 fn pawn_moves(position: &Position, from: Square, to: Square) -> bool
     ensures { result ≡ legal.pawn_moves position.now from to }
 {
@@ -111,6 +115,7 @@ fn pawn_moves(position: &Position, from: Square, to: Square) -> bool
             && (is_of_side(position.at(to), opponent(side)) || is_goal(position.passant(), to))
 }
 
+#[inline]
 fn is_single_step(side: Side, from: Square, to: Square) -> bool
     ensures { result ≡ legal.is_single_step side from to }
 {
@@ -120,6 +125,7 @@ fn is_single_step(side: Side, from: Square, to: Square) -> bool
     }
 }
 
+#[inline]
 fn is_double_step(side: Side, from: Square, to: Square) -> bool
     ensures { result ≡ legal.is_double_step side from to }
 {
@@ -153,6 +159,7 @@ fn are_free(men: &[Man; 64], by: Side, squares: [Square; 3]) -> bool
 }
 
 /// Whether the move promotes where a pawn reaches the last rank, and nowhere else (FIDE Laws of Chess, article 3.7).
+#[inline]
 pub(crate) fn promotion_is_right(position: &Position, m: &Move) -> bool
     ensures { result ≡ legal.promotion_is_right position.now m.now }
 {
@@ -164,12 +171,14 @@ pub(crate) fn promotion_is_right(position: &Position, m: &Move) -> bool
 }
 
 /// Whether a pawn goes to the last rank, where it promotes (FIDE Laws of Chess, article 3.7.3.3).
+#[inline]
 pub(crate) fn promotes(position: &Position, from: Square, to: Square) -> bool
     ensures { result ≡ list.promotes position.now from to }
 {
     is_pawn(position.at(from)) && rank(to) == last_rank(position.side())
 }
 
+#[inline]
 fn last_rank(side: Side) -> u8
     ensures { result ≡ legal.last_rank side }
 {
@@ -179,6 +188,7 @@ fn last_rank(side: Side) -> u8
     }
 }
 
+#[inline]
 fn is_none(promotion: Promotion) -> bool
     ensures { result ≡ legal.is_none promotion }
 {
