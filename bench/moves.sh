@@ -1,7 +1,8 @@
 #!/bin/sh
-# Measures the legal moves: lists a second, texts in Standard Algebraic Notation read a second, and nodes a second of perft, beside
-# stockfish's perft in the same run where it is installed. It works on a temporary copy of the repository, and the gate doesn't run it.
-# Usage: bench/moves.sh [ROUNDS]     (rounds over the positions of bench/positions.txt, 100000 if left out)
+# Measures the legal moves by processor time: lists a second, texts in Standard Algebraic Notation read a second, and nodes a second of
+# perft, beside stockfish's perft in the same run where it is installed. Each line of positions.txt is a position and the texts of its
+# legal moves. The program is built in a temporary copy of the repository, and the gate doesn't run it.
+# Usage: bench/moves.sh [ROUNDS]     (rounds over the positions, 100000 if left out)
 set -eu
 
 here=$(cd "$(dirname "$0")" && pwd)
@@ -20,16 +21,18 @@ abbrev pub decreases-perft : goal.decreases-perft
 decreases-perft l = l.depth
 PROOF
 cat > "$copy/crates/bench_moves/src/main.rt" <<'PROGRAM'
-//! Measures the legal moves on the positions of standard input, each with the texts of its moves.
+//! Measures the legal moves on the positions of standard input, each with the texts of its moves, by the processor time that they take.
 #![tactic(auto)]
 
 use anyhow::{Context, Result};
 use cq_moves::{is_legal, legal_moves, play};
 use cq_position::{Position, read_fen};
 use cq_san::read_san;
+use std::alloc::Global;
 use std::env;
 use std::io;
-use std::time::{Duration, Instant};
+use std::rt::Env;
+use std::time::{CpuClock, Duration};
 
 // How many lines of so many legal moves lead on from a position.
 fn perft(position: &Position, depth: u32) -> u64 {
@@ -47,7 +50,8 @@ fn perft(position: &Position, depth: u32) -> u64 {
 }
 
 fn a_second(count: u64, time: Duration) -> u64 {
-    (u128::from(count).saturating_mul(1_000_000) / time.as_micros().max(1)) as u64
+    let micros = time.as_secs().saturating_mul(1_000_000).saturating_add(u64::from(time.subsec_micros()));
+    count.saturating_mul(1_000_000) / micros.max(1)
 }
 
 fn list_all(positions: &[Position], rounds: u32) -> u64 {
@@ -60,53 +64,83 @@ fn list_all(positions: &[Position], rounds: u32) -> u64 {
     moves
 }
 
-fn read_all(texts: &[(Position, &str)]) -> u64 {
+fn read_all(owners: &[Position], texts: &[&str], rounds: u32) -> u64 {
     let mut moves = 0u64;
-    for (position, text) in texts {
-        if read_san(position, text.as_bytes()).is_ok() {
-            moves = moves.saturating_add(1);
+    for _round in 0..rounds {
+        for (position, text) in owners.iter().zip(texts) {
+            if read_san(position, text.as_bytes()).is_ok() {
+                moves = moves.saturating_add(1);
+            }
         }
     }
     moves
 }
 
-fn main(rt: HostRuntime) -> Result<()> {
-    let alloc = rt.alloc();
+fn rounds_asked(rt: &(impl Env + AllocGlobal)) -> Result<u32> {
     let mut rounds = 1u32;
-    for word in env::args(&rt)?.skip(1) {
+    for word in env::args(rt)?.skip(1) {
         rounds = word.as_str().parse::<u32>()?;
     }
-    let text = io::read_to_string(alloc, rt.stdin())?;
+    Ok(rounds)
+}
+
+fn positions_of(alloc: Global, text: &str) -> Result<Vec<Position>> {
     let mut positions = Vec::new(alloc);
+    for line in text.lines() {
+        let (fen, _moves) = line.split_once("|").context("a position without its moves")?;
+        positions.push(read_fen(fen.as_bytes())?)?;
+    }
+    Ok(positions)
+}
+
+fn texts_of<'a>(alloc: Global, text: &'a str) -> Result<Vec<&'a str>> {
     let mut texts = Vec::new(alloc);
-    for line in text.as_str().lines() {
-        let (fen, moves) = line.split_once("|").context("a position without its moves")?;
-        let position = read_fen(fen.as_bytes())?;
-        positions.push(position)?;
+    for line in text.lines() {
+        let (_fen, moves) = line.split_once("|").context("a position without its moves")?;
         for san in moves.split(" ") {
-            texts.push((position, san))?;
+            texts.push(san)?;
         }
     }
+    Ok(texts)
+}
 
-    let start = Instant::now(&rt)?;
+// The position of each text.
+fn owners_of(alloc: Global, text: &str) -> Result<Vec<Position>> {
+    let mut owners = Vec::new(alloc);
+    for line in text.lines() {
+        let (fen, moves) = line.split_once("|").context("a position without its moves")?;
+        for _san in moves.split(" ") {
+            owners.push(read_fen(fen.as_bytes())?)?;
+        }
+    }
+    Ok(owners)
+}
+
+fn main(rt: HostRuntime) -> Result<()> {
+    let alloc = rt.alloc();
+    let rounds = rounds_asked(&rt)?;
+    let text = io::read_to_string(alloc, rt.stdin())?;
+    let positions = positions_of(alloc, text.as_str())?;
+    let texts = texts_of(alloc, text.as_str())?;
+    let owners = owners_of(alloc, text.as_str())?;
+
+    let start = rt.process_cpu_time()?;
     let moves = list_all(positions.as_slice(), rounds);
+    let time = rt.process_cpu_time()?.saturating_sub(start);
     let lists = (positions.len() as u64).saturating_mul(u64::from(rounds));
-    println!(rt; "legal lists a second: {}", a_second(lists, start.elapsed(&rt)?))?;
-    println!(rt; "legal moves a second: {}", a_second(moves, start.elapsed(&rt)?))?;
+    println!(rt; "legal lists a second: {}", a_second(lists, time))?;
+    println!(rt; "legal moves a second: {}", a_second(moves, time))?;
 
-    let start = Instant::now(&rt)?;
-    let mut read = 0u64;
-    for _round in 0..rounds / 30 + 1 {
-        read = read.saturating_add(read_all(texts.as_slice()));
-    }
-    println!(rt; "SAN texts read a second: {}", a_second(read, start.elapsed(&rt)?))?;
+    let start = rt.process_cpu_time()?;
+    let read = read_all(owners.as_slice(), texts.as_slice(), rounds / 10 + 1);
+    let time = rt.process_cpu_time()?.saturating_sub(start);
+    println!(rt; "SAN texts read a second: {}", a_second(read, time))?;
 
-    for (position, depth) in [(0, 5), (1, 4)] {
-        if let Some(position) = positions.as_slice().get(position) {
-            let start = Instant::now(&rt)?;
-            let nodes = perft(position, depth);
-            println!(rt; "perft {depth}: {nodes} nodes, {} a second", a_second(nodes, start.elapsed(&rt)?))?;
-        }
+    for (position, depth) in positions.as_slice().iter().zip([5, 4]) {
+        let start = rt.process_cpu_time()?;
+        let nodes = perft(position, depth);
+        let time = rt.process_cpu_time()?.saturating_sub(start);
+        println!(rt; "perft {depth}: {nodes} nodes, {} a second", a_second(nodes, time))?;
     }
     Ok(())
 }
@@ -119,12 +153,12 @@ PROGRAM
 stockfish=$(command -v stockfish || echo /usr/games/stockfish)
 if [ -x "$stockfish" ]; then
     number=0
-    for depth in 5 4; do
+    for depth in 6 5; do
         number=$((number + 1))
         fen=$(sed -n "${number}p" "$here/positions.txt" | cut -d'|' -f1)
-        before=$(date +%s%N)
-        nodes=$(printf 'position fen %s\ngo perft %s\nquit\n' "$fen" "$depth" | "$stockfish" | sed -n 's/^Nodes searched: //p')
-        after=$(date +%s%N)
-        echo "stockfish perft $depth: $nodes nodes, $((nodes * 1000000 / ((after - before) / 1000))) a second, its start included"
+        printf 'position fen %s\ngo perft %s\nquit\n' "$fen" "$depth" > "$copy/asked"
+        seconds=$(bash -c "TIMEFORMAT=%U; time '$stockfish' < '$copy/asked' > '$copy/told'" 2>&1)
+        nodes=$(sed -n 's/^Nodes searched: //p' "$copy/told")
+        echo "stockfish perft $depth: $nodes nodes, $(echo "$nodes $seconds" | awk '{ printf "%.0f", $1 / $2 }') a second"
     done
 fi
