@@ -40,10 +40,14 @@ impl Model for Game {
 
 impl Game {
     /// A game of the starting position alone.
-    pub fn new(tags: Tags, ending: GameResult, start: Position) -> Result<Game, NoMemory>
+    pub fn new(
+        alloc: Global,
+        tags: Tags,
+        ending: GameResult,
+        start: Position,
+    ) -> Result<Game, NoMemory>
         ensures { IfOk result (λ g. g ≡ record { tags = tags; result = ending; nodes = bare_node None None start ∷ [] }) }
     {
-        let alloc = tags.allocator();
         let mut nodes = Vec::new(alloc);
         nodes.push(Node::new(alloc, None, None, start, true))?;
         Ok(Game {

@@ -42,11 +42,6 @@ impl Tags {
         }
     }
 
-    /// The allocator that was given to `new`.
-    pub(crate) fn allocator(&self) -> Global {
-        self.alloc
-    }
-
     /// How many tags there are.
     pub fn len(&self) -> usize
         ensures len { result ≡ length self.now }
