@@ -13,7 +13,8 @@ use Rattle.pgn_lexer.specs.declared.token.TokenKind.{TokenKind}
 use Rattle.pgn_lexer.specs.declared.token.TokenKind.TheVariants.{Open, Close, Text, Symbol, Null, RightParen}
 use Rattle.pgn_reader.specs.declared.fault.Reason.{Reason}
 use Rattle.pgn_reader.specs.Words.{Word, Sense, plays, annotates, remarks, ends, opens, closes, means_nothing, out_of_place, sense}
-use Rattle.pgn_reader.specs.Tags.{Tags, tag_value, or_added, with_tag, start_by, start_of, value_of}
+use Rattle.cq_position.specs.Games.{tag_value, with_tag}
+use Rattle.pgn_reader.specs.Tags.{Tags, start_by, start_of, value_of}
 use Rattle.pgn_reader.specs.Line.{led_to}
 use Rattle.pgn_reader.specs.Frame.{Frame, begin, begin_game, advance, annotated, remarked, with_variation}
 use Rattle.pgn_reader.specs.Machine.{Head, State, opened, named, valued, at, ended, stuck, in_body, one_more, after_pairs, on_name, on_start, on_value, on_closing, on_move, on_marker, on_opening, on_end, on_bracket, on_misplaced, on_sense, feed, run, first}

@@ -10,7 +10,8 @@ use Rattle.cq_san.specs.San.{san}
 use Rattle.pgn_lexer.specs.declared.token.TokenKind.{TokenKind}
 use Rattle.pgn_lexer.specs.declared.token.TokenKind.TheVariants.{Open, Close, Text, Symbol}
 use Rattle.pgn_reader.specs.Words.{Word, Sense, plays, annotates, remarks, ends, opens, closes, means_nothing, out_of_place, sense}
-use Rattle.pgn_reader.specs.Tags.{Tags, with_tag, start_of, value_of}
+use Rattle.cq_position.specs.Games.{with_tag}
+use Rattle.pgn_reader.specs.Tags.{Tags, start_of, value_of}
 use Rattle.pgn_reader.specs.Line.{led_to}
 use Rattle.pgn_reader.specs.Frame.{Row, Frame, last_row_by, last_row, whole, begin, begin_game, advance, annotated, remarked, with_variation}
 use Rattle.pgn_reader.specs.Machine.{Head, State, opened, named, valued, at, ended, stuck, in_body, one_more, after_pairs, on_name, on_start, on_value, on_closing, on_move, on_marker, on_opening, on_end, on_bracket, on_misplaced, on_sense, feed, run, first}

@@ -1,10 +1,11 @@
 -- Tag pairs are read.
 use Rattle.std.proofs.Common.{◌≡◌, ℕ, ◌+◌, List, [], ◌∷◌, ◌++◌, Option, Some, None, Result, Ok, Err, Bool, true, false, cond, refl, sym, ap, ap₂, ◌∙◌, subst, append_assoc}
 use Rattle.std.specs.Prelude.{fold, codes, ◌&&◌}
-use Rattle.std.specs.List.{flat_map, list_all, AllByRecursion}
+use Rattle.std.specs.List.{flat_map, list_all, AllByRecursion, find}
+use Rattle.std.specs.Option.{option_map, option_or, is_some}
 use Rattle.std.specs.Str.{bytes_eq}
 use Rattle.std.proofs.lemmas.List.Concat.{flat_map-cons}
-use Rattle.std.proofs.lemmas.List.Folds.{list_all-append}
+use Rattle.std.proofs.lemmas.List.Folds.{list_all-append, find-append}
 use Rattle.cq_position.specs.Board.{Board}
 use Rattle.cq_position.specs.declared.fen.FenFault.{FenFault}
 use Rattle.cq_position.specs.Fen.{fen_meaning}
@@ -12,7 +13,8 @@ use Rattle.pgn_lexer.specs.declared.token.TokenKind.{TokenKind}
 use Rattle.pgn_lexer.specs.declared.token.TokenKind.TheVariants.{Open, Close, Text, Symbol}
 use Rattle.pgn_reader.specs.declared.fault.Reason.TheVariants.{BadTag}
 use Rattle.pgn_reader.specs.Words.{Word, Sense, plays, annotates, remarks, ends, opens, closes, means_nothing, out_of_place, sense, sense_of, is_comment, is_remark}
-use Rattle.pgn_reader.specs.Tags.{Pair, IsPair, pair_text, Tags, tag_value, or_added, with_tag, with_pair, start_by, start_of, value_of}
+use Rattle.cq_position.specs.Games.{tag_value, with_tag}
+use Rattle.pgn_reader.specs.Tags.{Pair, IsPair, pair_text, Tags, with_pair, start_by, start_of, value_of}
 use Rattle.pgn_reader.specs.Games.{AreHeading, heading_text}
 use Rattle.pgn_reader.specs.Frame.{Frame, begin_game, remarked}
 use Rattle.pgn_reader.specs.Machine.{Head, State, opened, named, valued, at, ended, stuck, after_pairs, on_name, on_start, on_value, on_closing, on_sense, feed, run}
@@ -54,17 +56,16 @@ comments_read (c ∷ cs) h f k all =
 
 -- the value of a name stays, whatever tags come
 pub value_stays : (name : List ℕ) (ts more : Tags) (v : List ℕ) → tag_value name ts ≡ Some v → tag_value name (ts ++ more) ≡ Some v
-unfolding tag_value
-value_stays name [] more v is = absurd (let x : None ≡ Some v = is in cc)
-value_stays name (t ∷ ts) more v is = by_test (bytes_eq t.0 name) (value_stays name ts more v) is
+value_stays name ts more v is =
+    ap (option_map (λ t. t.1)) (find-append (λ t. bytes_eq name t.0) ts more) ∙ by_first (find (λ t. bytes_eq name t.0) ts) is
   where
-    by_test : (b : Bool) → (tag_value name ts ≡ Some v → tag_value name (ts ++ more) ≡ Some v) → cond b (Some t.1) (tag_value name ts) ≡ Some v → cond b (Some t.1) (tag_value name (ts ++ more)) ≡ Some v
-    by_test true later is = is
-    by_test false later is = later is
+    by_first : (o : Option (List ℕ × List ℕ)) → option_map (λ t. t.1) o ≡ Some v → option_map (λ t. t.1) (option_or o (find (λ t. bytes_eq name t.0) more)) ≡ Some v
+    by_first None is = absurd (let x : None ≡ Some v = is in cc)
+    by_first (Some t) is = is
 
-pub value_kept : (name other value : List ℕ) (ts : Tags) (v : List ℕ) (o : Option (List ℕ)) → tag_value name ts ≡ Some v → tag_value name (or_added ts other value o) ≡ Some v
-value_kept name other value ts v None is = value_stays name ts ((other, value) ∷ []) v is
-value_kept name other value ts v (Some x) is = is
+pub value_kept : (name other value : List ℕ) (ts : Tags) (v : List ℕ) (b : Bool) → tag_value name ts ≡ Some v → tag_value name (cond b ts (ts ++ (other, value) ∷ [])) ≡ Some v
+value_kept name other value ts v false is = value_stays name ts ((other, value) ∷ []) v is
+value_kept name other value ts v true is = is
 
 -- the position in which the game begins can be read
 pub record IsRead (r : Result Board FenFault) : Type 0 where
@@ -72,10 +73,10 @@ pub record IsRead (r : Result Board FenFault) : Type 0 where
   pub is : r ≡ Ok start
 
 start_before_by : (name value : List ℕ) (ts : Tags) (o : Option (List ℕ)) → tag_value (codes "FEN") ts ≡ o → IsRead (start_of (with_tag ts name value)) → IsRead (start_of ts)
-unfolding start_of with_tag
+unfolding start_of
 start_before_by name value ts None is later = record { start = _; is = ap start_by is }
 start_before_by name value ts (Some v) is later =
-    let kept : tag_value (codes "FEN") (or_added ts name value (tag_value name ts)) ≡ Some v = value_kept (codes "FEN") name value ts v (tag_value name ts) is in
+    let kept : tag_value (codes "FEN") (with_tag ts name value) ≡ Some v = value_kept (codes "FEN") name value ts v (is_some (tag_value name ts)) is in
     record { start = later.start; is = ap start_by is ∙ sym (ap start_by kept) ∙ later.is }
 
 pub start_before : (name value : List ℕ) (ts : Tags) → IsRead (start_of (with_tag ts name value)) → IsRead (start_of ts)

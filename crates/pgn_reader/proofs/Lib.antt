@@ -10,3 +10,9 @@ pub mod Pairs
 pub mod Whole
 pub mod Count
 pub mod Answer
+pub mod Groups
+pub mod Moves
+pub mod Ends
+pub mod Symbols
+pub mod Strings
+pub mod Low

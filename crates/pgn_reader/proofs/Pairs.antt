@@ -2,6 +2,9 @@
 use Rattle.std.proofs.Common.{◌≡◌, ℕ, List, [], ◌∷◌, ◌++◌, Option, Some, None, Result, Ok, Err, Bool, true, false, cond, refl, sym, ap, ap₂, ◌∙◌, subst}
 use Rattle.std.specs.Prelude.{fold, codes}
 use Rattle.std.specs.Str.{bytes_eq}
+use Rattle.std.specs.List.{find}
+use Rattle.std.specs.Option.{option_map, option_or, is_some}
+use Rattle.std.proofs.lemmas.List.Folds.{find-append}
 use Rattle.cq_position.specs.declared.fen.FenFault.{FenFault}
 use Rattle.cq_position.specs.Board.{Board, start_board}
 use Rattle.cq_geometry.specs.Squares.{squares}
@@ -10,7 +13,8 @@ use Rattle.cq_position.specs.Attacks.{attacks, is_attacked, in_check}
 use Rattle.cq_position.specs.Fen.{fen_meaning, fields, is_placement, placed_men, position_or_fault}
 use Rattle.pgn_lexer.specs.declared.token.TokenKind.TheVariants.{Open, Close, Text, Symbol}
 use Rattle.pgn_reader.specs.Words.{Word}
-use Rattle.pgn_reader.specs.Tags.{Tags, tag_value, or_added, with_tag, start_by, start_of, unescaped, value_of}
+use Rattle.cq_position.specs.Games.{tag_value, with_tag}
+use Rattle.pgn_reader.specs.Tags.{Tags, start_by, start_of, unescaped, value_of}
 use Rattle.pgn_reader.specs.Frame.{begin_game}
 use Rattle.pgn_reader.specs.Machine.{Head, State, opened, named, valued, at, after_pairs, on_name, on_start, on_value, on_closing, feed, run}
 use Rattle.pgn_reader.proofs.Heading.{IsRead, value_stays}
@@ -38,15 +42,15 @@ unfolding value_of unescaped
 value_is = refl
 
 -- a name's value after a tag of it or of another name
-value_after : (name other value : List ℕ) (ts : Tags) → tag_value name ts ≡ None → tag_value name (ts ++ (other, value) ∷ []) ≡ cond (bytes_eq other name) (Some value) None
-unfolding tag_value
-value_after name other value [] is = refl
-value_after name other value (t ∷ ts) is = by_test (bytes_eq t.0 name) (value_after name other value ts) is
+value_after : (name other value : List ℕ) (ts : Tags) → tag_value name ts ≡ None → tag_value name (ts ++ (other, value) ∷ []) ≡ cond (bytes_eq name other) (Some value) None
+value_after name other value ts is =
+    ap (option_map (λ t. t.1)) (find-append (λ t. bytes_eq name t.0) ts ((other, value) ∷ [])) ∙ by_first (find (λ t. bytes_eq name t.0) ts) is (bytes_eq name other)
   where
-    by_test : (b : Bool) → (tag_value name ts ≡ None → tag_value name (ts ++ (other, value) ∷ []) ≡ cond (bytes_eq other name) (Some value) None)
-        → cond b (Some t.1) (tag_value name ts) ≡ None → cond b (Some t.1) (tag_value name (ts ++ (other, value) ∷ [])) ≡ cond (bytes_eq other name) (Some value) None
-    by_test true later is = absurd (let e : Some t.1 ≡ None = is in cc)
-    by_test false later is = later is
+    by_first : (o : Option (List ℕ × List ℕ)) → option_map (λ t. t.1) o ≡ None → (b : Bool)
+        → option_map (λ t. t.1) (option_or o (cond {A = Option (List ℕ × List ℕ)} b (Some (other, value)) None)) ≡ cond b (Some value) None
+    by_first None is true = refl
+    by_first None is false = refl
+    by_first (Some t) is b = absurd (let e : Some t.1 ≡ None = is in cc)
 
 read_by_test : (b : Bool) (text : List ℕ) → fen_meaning text ≡ Ok start_board → IsRead (start_by (cond b (Some text) None))
 read_by_test true text is = record { start = start_board; is = is }
@@ -56,18 +60,17 @@ read_added : (ts : Tags) (name text : List ℕ) → fen_meaning text ≡ Ok star
     → IsRead (start_of (ts ++ (name, text) ∷ []))
 unfolding start_of
 read_added ts name text is None none before =
-    subst (λ x. IsRead (start_by x)) (sym (value_after (codes "FEN") name text ts none)) (read_by_test (bytes_eq name (codes "FEN")) text is)
+    subst (λ x. IsRead (start_by x)) (sym (value_after (codes "FEN") name text ts none)) (read_by_test (bytes_eq (codes "FEN") name) text is)
 read_added ts name text is (Some v) there before =
     subst (λ x. IsRead (start_by x)) (there ∙ sym (value_stays (codes "FEN") ts ((name, text) ∷ []) v there)) before
 
-read_with : (ts : Tags) (name text : List ℕ) → fen_meaning text ≡ Ok start_board → (o : Option (List ℕ)) → IsRead (start_of ts) → IsRead (start_of (or_added ts name text o))
-read_with ts name text is None before = read_added ts name text is (tag_value (codes "FEN") ts) refl before
-read_with ts name text is (Some v) before = before
+read_with : (ts : Tags) (name text : List ℕ) → fen_meaning text ≡ Ok start_board → (b : Bool) → IsRead (start_of ts) → IsRead (start_of (cond b ts (ts ++ (name, text) ∷ [])))
+read_with ts name text is false before = read_added ts name text is (tag_value (codes "FEN") ts) refl before
+read_with ts name text is true before = before
 
 value_can_come : (ts : Tags) (name : List ℕ) → IsRead (start_of ts) → IsRead (start_of (with_tag ts name (value_of value_word.text)))
-unfolding with_tag
 value_can_come ts name before =
-    subst (λ x. IsRead (start_of (or_added ts name x (tag_value name ts)))) (sym value_is) (read_with ts name start_text start_is_read (tag_value name ts) before)
+    subst (λ x. IsRead (start_of (with_tag ts name x))) (sym value_is) (read_with ts name start_text start_is_read (is_some (tag_value name ts)) before)
 
 pub finishes_valued : (ts : Tags) (start : Board) → Finish (valued ts start)
 unfolding feed

@@ -10,7 +10,7 @@ use Rattle.cq_position.specs.Continuations.{Played, Continuations, none, played}
 use Rattle.cq_san.specs.San.{san}
 use Rattle.pgn_lexer.specs.declared.token.TokenKind.{TokenKind}
 use Rattle.pgn_reader.specs.Words.{Word, Sense, plays, annotates, remarks, ends, opens, closes, means_nothing, out_of_place, sense, is_move, is_move_sense}
-use Rattle.pgn_reader.specs.Comments.{comment_of}
+use Rattle.cq_position.specs.Comments.{words, comment_of}
 use Rattle.pgn_reader.specs.Tags.{Tags}
 use Rattle.pgn_reader.specs.Line.{Line, nothing, word, variation, text, Place, beginning, led_to, moved, Told, nothing_told, glyph_told, remark_told, move_told, variation_told, beside, noted, TellsWord, Tells}
 use Rattle.pgn_reader.specs.Frame.{Row, rows, Frame, place, last_row, last_row_by, whole, begin, carried, advance, annotated, remarked, with_variation, wholly, wholly_by}
@@ -66,10 +66,10 @@ glyph_by f n u (Some m) =
 remark_by : (f : Frame) (c : List ℕ) (u : Told) (o : Option Move) → (remarked f c).moves ++ (wholly_by o (remarked f c) u ++ (f.here ++ (rows f.level u.variations ++ f.earlier)))
     ≡ f.moves ++ (wholly_by o f (remark_told c u) ++ (f.here ++ (rows f.level u.variations ++ f.earlier)))
 remark_by f c u None =
-    ap (λ x. f.moves ++ (rows f.next (noted (f.nags ++ u.nags) x u.rest) ++ (f.here ++ (rows f.level u.variations ++ f.earlier)))) (append_assoc f.comments (comment_of c) u.comments)
+    ap (λ x. f.moves ++ (rows f.next (noted (f.nags ++ u.nags) x u.rest) ++ (f.here ++ (rows f.level u.variations ++ f.earlier)))) (append_assoc f.comments (comment_of (words c)) u.comments)
 remark_by f c u (Some m) =
     ap (λ x. f.moves ++ (record { level = f.level; move = record { move = m; position = f.reached; nags = f.nags ++ u.nags; comments = x } }
-    ∷ (rows f.next u.rest ++ (f.here ++ (rows f.level u.variations ++ f.earlier))))) (append_assoc f.comments (comment_of c) u.comments)
+    ∷ (rows f.next u.rest ++ (f.here ++ (rows f.level u.variations ++ f.earlier))))) (append_assoc f.comments (comment_of (words c)) u.comments)
 
 -- the node of a move, with the glyphs and comments that wait for it, and then its own
 abbrev row_of : ℕ → Move → Board → List ℕ → List (List ℕ) → Row

@@ -14,7 +14,8 @@ use Rattle.pgn_lexer.specs.declared.token.TokenKind.{TokenKind}
 use Rattle.pgn_lexer.specs.declared.token.TokenKind.TheVariants.{Open, Close, Text, Symbol}
 use Rattle.pgn_reader.specs.declared.fault.Reason.{Reason}
 use Rattle.pgn_reader.specs.Words.{Word, Sense, plays, annotates, remarks, ends, opens, closes, means_nothing, out_of_place, sense, is_comment, is_remark, is_move, is_move_sense}
-use Rattle.pgn_reader.specs.Tags.{Pair, IsPair, pair_text, Tags, with_tag, with_pair, tags_of, start_of, tag_value, value_of}
+use Rattle.cq_position.specs.Games.{with_tag, tag_value}
+use Rattle.pgn_reader.specs.Tags.{Pair, IsPair, pair_text, Tags, with_pair, tags_of, start_of, value_of}
 use Rattle.pgn_reader.specs.Line.{Line, nothing, word, variation, text, Place, beginning, led_to, moved, Told, nothing_told, glyph_told, remark_told, move_told, variation_told, TellsWord, Tells}
 use Rattle.pgn_reader.specs.Games.{AreHeading, heading_text}
 use Rattle.pgn_reader.specs.Standing.{Begun, outermost, within, begun_text, HasHeading, InPair, StandsAt, after_opening, after_name}
@@ -213,7 +214,7 @@ run_stands (w ∷ more) ts s stands =
     subst (λ x. Stands x (run (feed s w) more)) (append_assoc ts (w ∷ []) more) (run_stands more (ts ++ w ∷ []) (feed s w) (step_stands ts w s stands))
 
 first_stands : Stands [] first
-unfolding start_of tag_value
+unfolding start_of
 first_stands = record {
   pairs = [];
   has_heading = record { are_pairs = tt; are_tags = refl; starts = refl };

@@ -15,7 +15,8 @@ use Rattle.pgn_lexer.specs.declared.token.TokenKind.{TokenKind}
 use Rattle.pgn_lexer.specs.declared.token.TokenKind.TheVariants.{Open, Close, Text, Symbol, Period, Star, LeftParen, RightParen, Nag, Null, Comment, LineComment, BadByte, UnclosedComment, UnclosedText}
 use Rattle.pgn_reader.specs.declared.fault.Reason.{Reason}
 use Rattle.pgn_reader.specs.Words.{Word, Sense, plays, annotates, remarks, ends, opens, closes, means_nothing, out_of_place, sense, is_comment, is_remark, is_move, is_move_sense}
-use Rattle.pgn_reader.specs.Tags.{Pair, IsPair, pair_text, Tags, with_tag, with_pair, tags_of, start_of, value_of}
+use Rattle.cq_position.specs.Games.{with_tag}
+use Rattle.pgn_reader.specs.Tags.{Pair, IsPair, pair_text, Tags, with_pair, tags_of, start_of, value_of}
 use Rattle.pgn_reader.specs.Line.{Line, nothing, word, variation, text, Place, beginning, led_to, moved, Told, nothing_told, variation_told, TellsWord, Tells}
 use Rattle.pgn_reader.specs.Games.{AreHeading, heading_text}
 use Rattle.pgn_reader.specs.Standing.{Begun, outermost, within, begun_text, HasHeading, InPair, StandsAt, after_opening, after_name}

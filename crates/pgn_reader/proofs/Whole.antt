@@ -7,7 +7,8 @@ use Rattle.cq_position.specs.Moves.{null_move}
 use Rattle.cq_position.specs.Games.{Node, Game}
 use Rattle.cq_position.specs.Continuations.{Played, Continuations, none, nodes_from}
 use Rattle.pgn_reader.specs.Words.{Word, sense, ends, is_move}
-use Rattle.pgn_reader.specs.Tags.{Tags, tag_value, tags_of, start_of, result_of_tags}
+use Rattle.cq_position.specs.Games.{tag_value}
+use Rattle.pgn_reader.specs.Tags.{Tags, tags_of, start_of, result_of_tags}
 use Rattle.pgn_reader.specs.Line.{Line, text, Place, beginning, Told, Tells}
 use Rattle.pgn_reader.specs.Games.{heading_text, MarksEnd, root, nodes_told, game_told, SpellsAny}
 use Rattle.pgn_reader.specs.Standing.{Begun, outermost, within, begun_text, depth_of, Reaches, Standing, after_opening, after_name, after_value, in_movetext, after_marker, StandsAt, InMovetext, AfterMarker}
@@ -44,7 +45,7 @@ nodes_shown start t f is alone =
     ap (λ x. root start t.comments ∷ x) (sym (arranged_all t.rest)) ∙ sym (ap nodes_of_rows all)
 
 start_none : start_of [] ≡ Ok start_board
-unfolding start_of tag_value
+unfolding start_of
 start_none = refl
 
 end_by : (h : Head) (f : Frame) (tags : Tags) (marker : List Word) (result : GameResult) → h.tags ≡ tags → MarksEnd tags marker result → IsEnd (run (at h f []) marker) h f result

@@ -4,7 +4,7 @@ use Rattle.cq_position.specs.declared.moves.Move.{Move}
 use Rattle.cq_position.specs.Board.{Board}
 use Rattle.cq_position.specs.Moves.{null_move}
 use Rattle.cq_position.specs.Continuations.{Played, Continuations, none, played}
-use Rattle.pgn_reader.specs.Comments.{comment_of}
+use Rattle.cq_position.specs.Comments.{words, comment_of}
 use Rattle.pgn_reader.specs.Line.{Place, Told, noted, led_to}
 
 -- a node and the level of its parent; the root's children have the level 0
@@ -16,6 +16,11 @@ pub record Row : Type 0 where
 unfoldable pub rows : ℕ → Continuations → List Row
 rows level none = []
 rows level (played move next others) = record { level = level; move = move } ∷ (rows (level + 1) next ++ rows level others)
+
+-- the glyphs and the comments of a move
+pub record Noted : Type 0 where
+  pub nags : List ℕ
+  pub comments : List (List ℕ)
 
 -- Where a line stands, the levels of its last move and of the next, and the last move, none before the first of a variation; at the root
 -- the null move stands for it. The glyphs and comments are the last move's, or wait for the first. Then the nodes of its earlier moves, of
@@ -35,9 +40,13 @@ pub record Frame : Type 0 where
 abbrev pub place : Frame → Place
 place f = record { before = f.before; reached = f.reached }
 
+-- the node of the last move, if there is one
+abbrev pub node_of_last : ℕ → Option Move → Board → Noted → List Row
+node_of_last level None q notes = []
+node_of_last level (Some m) q notes = record { level = level; move = record { move = m; position = q; nags = notes.nags; comments = notes.comments } } ∷ []
+
 abbrev pub last_row_by : Option Move → Frame → List Row
-last_row_by None f = []
-last_row_by (Some m) f = record { level = f.level; move = record { move = m; position = f.reached; nags = f.nags; comments = f.comments } } ∷ []
+last_row_by o f = node_of_last f.level o f.reached (record { nags = f.nags; comments = f.comments })
 
 abbrev pub last_row : Frame → List Row
 last_row f = last_row_by f.last f
@@ -68,11 +77,18 @@ advance f m q = record {
   moves = f.moves ++ last_row f; here = []; earlier = f.here ++ f.earlier;
 }
 
+-- the two steps of it that the code takes first
+abbrev pub with_last_kept : Frame → Frame
+with_last_kept f = record f { nags = carried f.last f.nags; comments = carried f.last f.comments; moves = f.moves ++ last_row f }
+
+abbrev pub with_variations_kept : Frame → Frame
+with_variations_kept f = record f { here = []; earlier = f.here ++ f.earlier }
+
 abbrev pub annotated : Frame → ℕ → Frame
 annotated f n = record f { nags = f.nags ++ n ∷ [] }
 
 abbrev pub remarked : Frame → List ℕ → Frame
-remarked f text = record f { comments = f.comments ++ comment_of text }
+remarked f text = record f { comments = f.comments ++ comment_of (words text) }
 
 -- a variation after the last move
 abbrev pub with_variation : Frame → Frame → Frame

@@ -1,10 +1,13 @@
 pub mod Words
-pub mod Comments
 pub mod Tags
 pub mod Line
 pub mod Games
 pub mod Standing
 pub mod Faults
 pub mod Frame
+pub mod Inside
+pub mod RowInside
+pub mod LineInside
 pub mod Machine
 pub mod Arranged
+pub mod Shown

@@ -6,7 +6,7 @@ use Rattle.cq_position.specs.Legal.{after, after_pass}
 use Rattle.cq_position.specs.Continuations.{Played, Continuations, none, played}
 use Rattle.cq_san.specs.San.{san}
 use Rattle.pgn_reader.specs.Words.{Word, Sense, plays, annotates, remarks, ends, opens, closes, means_nothing, out_of_place, sense}
-use Rattle.pgn_reader.specs.Comments.{comment_of}
+use Rattle.cq_position.specs.Comments.{words, comment_of}
 
 -- A line: tokens, and variations, each a line between two tokens, its parentheses.
 pub data Line : Type 0 where
@@ -52,7 +52,7 @@ abbrev pub glyph_told : ℕ → Told → Told
 glyph_told n t = record t { nags = n ∷ t.nags }
 
 abbrev pub remark_told : List ℕ → Told → Told
-remark_told c t = record t { comments = comment_of c ++ t.comments }
+remark_told c t = record t { comments = comment_of (words c) ++ t.comments }
 
 -- a move to a place, and what stands after it: its own glyphs, comments and variations, and what is played after it
 abbrev pub move_told : Move → Board → Told → Told

@@ -9,7 +9,8 @@ use Rattle.cq_san.specs.San.{san}
 use Rattle.pgn_lexer.specs.declared.token.TokenKind.{TokenKind}
 use Rattle.pgn_lexer.specs.declared.token.TokenKind.TheVariants.{Open, Close, Text, Symbol}
 use Rattle.pgn_reader.specs.Words.{Word, Sense, plays, annotates, remarks, ends, opens, closes, means_nothing, out_of_place, sense}
-use Rattle.pgn_reader.specs.Tags.{Tags, with_tag, start_of, value_of}
+use Rattle.cq_position.specs.Games.{with_tag}
+use Rattle.pgn_reader.specs.Tags.{Tags, start_of, value_of}
 use Rattle.pgn_reader.specs.Line.{led_to}
 use Rattle.pgn_reader.specs.Frame.{Frame, begin, begin_game, advance, annotated, remarked, with_variation, whole}
 

@@ -10,11 +10,12 @@ use Rattle.cq_san.specs.declared.fault.SanFault.{SanFault}
 use Rattle.cq_san.specs.declared.fault.SanFault.TheVariants.{NotAMove as IsNoMove, IllegalMove as IsIllegal, AmbiguousMove as IsAmbiguous}
 use Rattle.cq_san.specs.San.{san}
 use Rattle.pgn_lexer.specs.declared.token.TokenKind.{TokenKind}
-use Rattle.pgn_lexer.specs.declared.token.TokenKind.TheVariants.{Open, Close, Text, Symbol, BadByte, UnclosedComment, UnclosedText}
+use Rattle.pgn_lexer.specs.declared.token.TokenKind.TheVariants.{Open, Close, Text, Symbol, Nag, BadByte, UnclosedComment, UnclosedText}
 use Rattle.pgn_reader.specs.declared.fault.Reason.{Reason}
-use Rattle.pgn_reader.specs.declared.fault.Reason.TheVariants.{BadByte as IsBadByte, UnclosedComment as IsUnclosedComment, UnclosedString, BadTag, BadFen, NotAMove, IllegalMove, AmbiguousMove, VariationWithoutMove, EmptyVariation, UnopenedVariation, UnclosedVariation, TooDeep, TooManyPositions}
+use Rattle.pgn_reader.specs.declared.fault.Reason.TheVariants.{BadByte as IsBadByte, UnclosedComment as IsUnclosedComment, UnclosedString, BadTag, BadFen, NagRange, NotAMove, IllegalMove, AmbiguousMove, VariationWithoutMove, EmptyVariation, UnopenedVariation, UnclosedVariation, TooDeep, TooManyPositions}
 use Rattle.pgn_reader.specs.Words.{Word, Sense, plays, annotates, remarks, ends, opens, closes, means_nothing, out_of_place, sense, is_comment, is_move}
-use Rattle.pgn_reader.specs.Tags.{Pair, Tags, with_tag, tags_of, start_of, value_of}
+use Rattle.cq_position.specs.Games.{with_tag}
+use Rattle.pgn_reader.specs.Tags.{Pair, Tags, tags_of, start_of, value_of}
 use Rattle.pgn_reader.specs.Line.{Line, text, Place, beginning, Told, Tells}
 use Rattle.pgn_reader.specs.Games.{heading_text, AreHeading, SpellsAny}
 
@@ -149,9 +150,9 @@ movetext_fault heading depth moves a kind (out_of_place reason) = misplaced_faul
 movetext_fault heading depth moves a kind _ = None
 
 -- nothing stands after a marker
-abbrev pub marker_fault : Sense → Option Reason
-marker_fault (out_of_place reason) = Some reason
-marker_fault _ = Some BadTag
+abbrev pub marker_fault : TokenKind → Option Reason
+marker_fault (Nag n) = Some (if nat_lt n 256 then BadTag else NagRange)
+marker_fault kind = Some (tag_reason kind)
 
 -- why a token is a fault where it stands, none where a game may go on with it
 abbrev pub fault_at : Standing → Word → Option Reason
@@ -159,7 +160,7 @@ fault_at (after_opening tags) w = name_fault w.kind
 fault_at (after_name tags name) w = value_fault w.kind (start_of (with_tag tags name (value_of w.text)))
 fault_at after_value w = closing_fault w.kind
 fault_at (in_movetext heading depth moves a) w = movetext_fault heading depth moves a w.kind (sense w)
-fault_at after_marker w = marker_fault (sense w)
+fault_at after_marker w = marker_fault w.kind
 
 -- why the end is one
 abbrev pub variations_fault : (depth : ℕ) → Option Reason

@@ -8,6 +8,7 @@ use Rattle.cq_position.specs.declared.games.GameResult.{GameResult}
 use Rattle.cq_position.specs.declared.games.GameResult.TheVariants.{Open as Undecided}
 use Rattle.cq_position.specs.Fen.{fen_meaning}
 use Rattle.pgn_lexer.specs.declared.token.TokenKind.TheVariants.{Open, Close, Text, Symbol}
+use Rattle.cq_position.specs.Games.{tag_value, with_tag}
 use Rattle.pgn_reader.specs.Words.{Word, is_comment, result_of_text}
 
 -- a tag pair, with the comments before it, which are dropped: section 8.1.1
@@ -42,19 +43,7 @@ value_of text = unescaped (take (length text - 2) (drop 1 text))
 abbrev pub Tags : Type 0
 Tags = List (List ℕ × List ℕ)
 
--- the value of a name
-unfoldable pub tag_value : List ℕ → Tags → Option (List ℕ)
-tag_value name [] = None
-tag_value name (t ∷ ts) = if bytes_eq t.0 name then Some t.1 else tag_value name ts
-
-abbrev pub or_added : Tags → List ℕ → List ℕ → Option (List ℕ) → Tags
-or_added ts name value None = ts ++ (name, value) ∷ []
-or_added ts name value (Some there) = ts
-
 -- the first tag of a name counts
-unfoldable pub with_tag : Tags → List ℕ → List ℕ → Tags
-with_tag ts name value = or_added ts name value (tag_value name ts)
-
 abbrev pub with_pair : Tags → Pair → Tags
 with_pair ts p = with_tag ts p.name.text (value_of p.value.text)
 

@@ -57,13 +57,17 @@ sense_of_symbol text = if list_all is_ascii_digit text then means_nothing else s
 unfoldable pub sense_of_glyph : ℕ → Sense
 sense_of_glyph n = if nat_lt n 256 then annotates n else out_of_place NagRange
 
+-- A comment is kept between braces, so that a closing brace in it becomes a closing parenthesis. Only a line comment can hold one.
+abbrev pub without_braces : List ℕ → List ℕ
+without_braces text = map (λ b. if b == 125 then 41 else b) text
+
 -- what stands between the braces of a comment
 unfoldable pub body_of : List ℕ → List ℕ
-body_of text = take (length text - 2) (drop 1 text)
+body_of text = without_braces (take (length text - 2) (drop 1 text))
 
--- what stands after the semicolon of a line comment; a closing brace becomes a closing parenthesis, so that it can stand between braces
+-- what stands after the semicolon of a line comment
 unfoldable pub line_body_of : List ℕ → List ℕ
-line_body_of text = map (λ b. if b == 125 then 41 else b) (drop 1 text)
+line_body_of text = without_braces (drop 1 text)
 
 abbrev pub sense_of : TokenKind → List ℕ → Sense
 sense_of Symbol text = sense_of_symbol text

@@ -2,5 +2,10 @@
 #![tactic(auto)]
 
 pub mod fault;
+mod line;
+mod notes;
+mod reader;
+mod row;
+mod text;
 
 pub use fault::{GameFault, Reason};

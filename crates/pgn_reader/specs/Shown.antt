@@ -1,0 +1,54 @@
+-- What contracts see of a game that is being read.
+use Rattle.std.specs.Prelude.{◌≡◌, ◌≢◌, ℕ, ◌+◌, ◌≤◌, List, [], ◌∷◌, length, reverse, Option, Some, Result, Ok, Err}
+use Rattle.cq_outside.specs.declared.faults.Refusal.{Refusal}
+use Rattle.cq_outside.specs.declared.faults.Refusal.TheVariants.{Fault, NoMemory}
+use Rattle.pgn_reader.specs.declared.fault.Reason.{Reason}
+use Rattle.pgn_reader.specs.declared.fault.Reason.TheVariants.{TooManyPositions}
+use Rattle.pgn_reader.specs.declared.reader.Reader.{Reader}
+use Rattle.pgn_reader.specs.declared.reader.Phase.{Phase}
+use Rattle.pgn_reader.specs.declared.reader.Phase.TheVariants.{Movetext, Opened, Named, Valued, Ended}
+use Rattle.pgn_reader.specs.Words.{Word, Sense}
+use Rattle.pgn_lexer.specs.declared.token.TokenKind.{TokenKind}
+use Rattle.pgn_reader.specs.Standing.{movetext_fault, moves_before}
+use Rattle.pgn_reader.specs.Frame.{Frame, place}
+use Rattle.pgn_reader.specs.Machine.{Head, State, opened, named, valued, at, ended, stuck, on_sense}
+use Rattle.pgn_reader.specs.Arranged.{standing_of}
+
+abbrev pub head_of : Reader → Head
+head_of r = record { tags = r.tags; start = r.start; heading = r.heading; moves = r.moves }
+
+abbrev pub shown_by : Phase → Reader → State
+shown_by Movetext r = at (head_of r) r.line (reverse r.around.items)
+shown_by Opened r = opened r.tags
+shown_by Named r = named r.tags r.name
+shown_by Valued r = valued r.tags r.start
+shown_by (Ended result) r = ended (head_of r) r.line result
+
+abbrev pub shown : Reader → State
+shown r = shown_by r.phase r
+
+-- A step of the reader: it goes on to a state, or it is refused. A refusal gives the reason, and there the state would be stuck, but where
+-- the limit of positions is passed.
+abbrev pub Steps : State → Option Reason → State → Result (Unit {0}) (Refusal Reason) → Type 0
+Steps next reason s (Ok done) = (next ≡ s) × (moves_before (standing_of s) ≤ 65535)
+Steps next reason s (Err (Fault found)) = (reason ≡ Some found) × (found ≢ TooManyPositions → next ≡ stuck)
+Steps next reason s (Err NoMemory) = Unit {0}
+
+-- a step of the movetext, by what a token means there
+abbrev pub IsSenseStep : Reader → TokenKind → Sense → Reader → Result (Unit {0}) (Refusal Reason) → Type 0
+IsSenseStep r kind s t result =
+    Steps (on_sense (head_of r) r.line (reverse r.around.items) kind s)
+    (movetext_fault r.heading (length (reverse r.around.items)) r.moves (place r.line) kind s) (shown t) result
+
+-- the levels of the lines that are open are no more than the moves
+pub record IsLowLine (moves : ℕ) (f : Frame) : Type 0 where
+  pub level : f.level ≤ moves
+  pub next : f.next ≤ moves
+
+abbrev pub AreLowLines : ℕ → List Frame → Type 0
+AreLowLines moves [] = Unit {0}
+AreLowLines moves (f ∷ k) = IsLowLine moves f × AreLowLines moves k
+
+abbrev pub IsLow : State → Type 0
+IsLow (at h f k) = AreLowLines h.moves (f ∷ k)
+IsLow _ = Unit {0}

@@ -1,0 +1,384 @@
+//! Reading a game token by token.
+ghost use Rattle.std.specs.Prelude.{◌≡◌, ◌≢◌, ◌≤◌, ◌<◌, ◌+◌, ◌^◌, ◌==◌, nat_lt, [], length, reverse, Ok, Some, None, OnOk, IfOk};
+ghost use Rattle.std.specs.List.{All};
+ghost use Rattle.cq_position.specs.Board.{Board};
+ghost use Rattle.cq_position.specs.Legal.{Leads};
+ghost use Rattle.cq_position.specs.Games.{with_tag};
+ghost use Rattle.cq_san.specs.San.{san};
+ghost use Rattle.pgn_lexer.specs.declared.token.TokenKind.{TokenKind as TokenKindValue};
+ghost use Rattle.pgn_reader.specs.Words.{plays, remarks, ends, opens, closes, means_nothing, out_of_place, sense_of, sense_of_symbol, sense_of_glyph, body_of, line_body_of, without_braces};
+ghost use Rattle.pgn_reader.specs.Inside.{HasNoBrace};
+ghost use Rattle.pgn_reader.specs.Tags.{start_of, value_of, unescaped};
+ghost use Rattle.pgn_reader.specs.Line.{led_to};
+ghost use Rattle.pgn_reader.specs.Standing.{fault_at, movetext_fault, move_fault, variation_fault, end_of_variation_fault, misplaced_fault, tag_reason, name_fault, value_fault, closing_fault, marker_fault, moves_before, san_reason};
+ghost use Rattle.pgn_reader.specs.Machine.{first, feed, on_name, on_value, on_closing, on_move, on_marker, on_opening, on_end, on_bracket, on_sense};
+ghost use Rattle.pgn_reader.specs.Arranged.{standing_of};
+ghost use Rattle.pgn_reader.specs.Shown.{shown, IsSenseStep, Steps, IsLow};
+
+use crate::fault::Reason;
+use crate::line::Line;
+use crate::text::{after_first, are_digits, inside, result_of_text, value_of, without_braces};
+use cq_moves::{pass, play};
+use cq_outside::{Bytes, NoMemory, Refusal};
+use cq_position::{FenFault, GameResult, Move, Position, read_fen};
+use cq_san::{SanFault, read_san};
+use pgn_lexer::TokenKind;
+use pgn_tree::Tags;
+use std::alloc::Global;
+use std::mem;
+
+/// How many variations may be open.
+const MOST_LEVELS: usize = 100;
+
+/// How many moves a game may have, as it has at most 65,536 positions.
+const MOST_MOVES: u32 = 65535;
+
+/// Where reading stands: in the movetext, after the bracket, the name or the value of a tag pair, or after the marker.
+#[derive(Clone, Copy)]
+pub enum Phase {
+    Movetext,
+    Opened,
+    Named,
+    Valued,
+    Ended(GameResult),
+}
+
+/// What was read of a game.
+#[derive(Drop)]
+pub struct Reader {
+    /// The tags, and the position in which the game begins by them.
+    pub tags: Tags,
+    pub start: Position,
+    /// The name of the tag pair that is open.
+    pub name: Bytes,
+    /// Whether tag pairs may still come.
+    pub heading: bool,
+    /// How many moves were read.
+    pub moves: u32,
+    /// The innermost line, and those around it, the outermost first.
+    pub line: Line,
+    pub around: Vec<Line>,
+    pub phase: Phase,
+}
+
+/// The position to which a move leads.
+#[tactic(auto)]
+fn position_after(position: &Position, step: &Move) -> Position
+    requires { (q : Board) × Leads position.now step.now q }
+    ensures { result ≡ led_to position.now step.now }
+{
+    if step.null {
+        pass(position).unwrap_or(*position)
+    } else {
+        play(position, *step)
+    }
+}
+
+/// Why a text means no move.
+fn reason_of(fault: SanFault) -> Reason
+    ensures { result ≡ san_reason fault }
+{
+    match fault {
+        SanFault::NotAMove => Reason::NotAMove,
+        SanFault::IllegalMove => Reason::IllegalMove,
+        SanFault::AmbiguousMove => Reason::AmbiguousMove,
+    }
+}
+
+/// The reason at a token that isn't the next one of its tag pair.
+fn tag_reason(kind: TokenKind) -> Reason
+    ensures { result ≡ tag_reason kind }
+{
+    match kind {
+        TokenKind::BadByte => Reason::BadByte,
+        TokenKind::UnclosedComment => Reason::UnclosedComment,
+        TokenKind::UnclosedText => Reason::UnclosedString,
+        _ => Reason::BadTag,
+    }
+}
+
+/// The reason at a token after the marker.
+fn marker_reason(kind: TokenKind) -> Reason
+    ensures { marker_fault kind ≡ Some result }
+{
+    match kind {
+        TokenKind::Nag(glyph) if glyph > 255 => Reason::NagRange,
+        _ => tag_reason(kind),
+    }
+}
+
+/// The position in which the game begins by its tags, or the fault of the FEN.
+#[tactic(auto, unfolding(crate::specs::Tags::start_of))]
+fn start_of(tags: &Tags) -> Result<Position, FenFault>
+    ensures { result ≡ start_of tags.now }
+{
+    match tags.get(b"FEN") {
+        Some(text) => read_fen(text),
+        None => Ok(Position::start()),
+    }
+}
+
+impl Reader {
+    /// Nothing is read yet.
+    pub fn new(alloc: Global) -> Reader
+        ensures { shown result ≡ first }
+    {
+        let start = Position::start();
+        Reader {
+            tags: Tags::new(alloc),
+            start,
+            name: Bytes::new(alloc),
+            heading: true,
+            moves: 0,
+            line: Line::of_game(alloc, start),
+            around: Vec::new(alloc),
+            phase: Phase::Movetext,
+        }
+    }
+
+    /// A move.
+    fn read_move(&mut self, alloc: Global, text: &[u8]) -> Result<(), Refusal<Reason>>
+        requires next { self.old.line.next ≤ self.old.moves }
+        requires phase { self.old.phase ≡ Phase.Movetext }
+        ensures { (kind : TokenKindValue) → IsSenseStep self.old kind (plays text.now) self.new result }
+    {
+        let step = match read_san(self.line.reached(), text) {
+            Ok(step) => step,
+            Err(fault) => return Err(Refusal::Fault(reason_of(fault))),
+        };
+        if self.moves >= MOST_MOVES {
+            return Err(Refusal::Fault(Reason::TooManyPositions));
+        }
+        let position = position_after(self.line.reached(), &step);
+        self.line.advance(alloc, step, position)?;
+        self.heading = false;
+        self.moves += 1;
+        Ok(())
+    }
+
+    /// A glyph.
+    #[tactic(auto, unfolding(crate::specs::Words::sense_of_glyph))]
+    fn read_glyph(&mut self, glyph: u32) -> Result<(), Refusal<Reason>>
+        requires phase { self.old.phase ≡ Phase.Movetext }
+        requires few { self.old.moves ≤ 65535 }
+        ensures { IsSenseStep self.old (TokenKind.Nag glyph) (sense_of_glyph glyph) self.new result }
+    {
+        if glyph > 255 {
+            return Err(Refusal::Fault(Reason::NagRange));
+        }
+        self.line.add_nag(glyph as u8)?;
+        self.heading = false;
+        Ok(())
+    }
+
+    /// A comment.
+    fn read_comment(&mut self, alloc: Global, body: &[u8]) -> Result<(), Refusal<Reason>>
+        requires phase { self.old.phase ≡ Phase.Movetext }
+        requires few { self.old.moves ≤ 65535 }
+        ensures { (kind : TokenKindValue) → IsSenseStep self.old kind (remarks (without_braces body.now)) self.new result }
+    {
+        let text = without_braces(alloc, body)?;
+        self.line.add_comment(text)?;
+        Ok(())
+    }
+
+    /// A result: within a variation it means nothing, else the game ends with it.
+    fn read_result(&mut self, ending: GameResult) -> Result<(), Refusal<Reason>>
+        requires phase { self.old.phase ≡ Phase.Movetext }
+        requires few { self.old.moves ≤ 65535 }
+        ensures { (kind : TokenKindValue) → IsSenseStep self.old kind (ends ending) self.new result }
+    {
+        if self.around.is_empty() {
+            self.phase = Phase::Ended(ending);
+        } else {
+            self.heading = false;
+        }
+        Ok(())
+    }
+
+    /// What means nothing.
+    fn pass_over(&mut self) -> Result<(), Refusal<Reason>>
+        requires phase { self.old.phase ≡ Phase.Movetext }
+        requires few { self.old.moves ≤ 65535 }
+        ensures { (kind : TokenKindValue) → IsSenseStep self.old kind means_nothing self.new result }
+    {
+        self.heading = false;
+        Ok(())
+    }
+
+    /// The parenthesis that opens a variation.
+    fn open_variation(&mut self, alloc: Global) -> Result<(), Refusal<Reason>>
+        requires phase { self.old.phase ≡ Phase.Movetext }
+        requires few { self.old.moves ≤ 65535 }
+        ensures { (kind : TokenKindValue) → IsSenseStep self.old kind opens self.new result }
+    {
+        let Some(before) = self.line.before() else {
+            return Err(Refusal::Fault(Reason::VariationWithoutMove));
+        };
+        if self.around.len() >= MOST_LEVELS {
+            return Err(Refusal::Fault(Reason::TooDeep));
+        }
+        let inner = Line::new(alloc, self.line.level(), before);
+        let outer = mem::replace(&mut self.line, inner);
+        self.around.push(outer)?;
+        self.heading = false;
+        Ok(())
+    }
+
+    /// The parenthesis that ends one.
+    fn end_variation(&mut self) -> Result<(), Refusal<Reason>>
+        requires phase { self.old.phase ≡ Phase.Movetext }
+        requires few { self.old.moves ≤ 65535 }
+        ensures { (kind : TokenKindValue) → IsSenseStep self.old kind closes self.new result }
+    {
+        if self.around.is_empty() {
+            return Err(Refusal::Fault(Reason::UnopenedVariation));
+        }
+        if self.line.before().is_none() {
+            return Err(Refusal::Fault(Reason::EmptyVariation));
+        }
+        match self.around.pop() {
+            Some(outer) => {
+                let inner = mem::replace(&mut self.line, outer);
+                self.line.add_variation(inner)?;
+                self.heading = false;
+                Ok(())
+            }
+            None => Err(Refusal::Fault(Reason::UnopenedVariation)),
+        }
+    }
+
+    /// A symbol: digits number a move, a marker ends the game, and any other is a move.
+    #[tactic(auto, unfolding(crate::specs::Words::sense_of_symbol))]
+    fn read_symbol(&mut self, alloc: Global, text: &[u8]) -> Result<(), Refusal<Reason>>
+        requires next { self.old.line.next ≤ self.old.moves }
+        requires phase { self.old.phase ≡ Phase.Movetext }
+        requires few { self.old.moves ≤ 65535 }
+        ensures { IsSenseStep self.old TokenKind.Symbol (sense_of_symbol text.now) self.new result }
+    {
+        if are_digits(text) {
+            return self.pass_over();
+        }
+        match result_of_text(text) {
+            Some(ending) => self.read_result(ending),
+            None => self.read_move(alloc, text),
+        }
+    }
+
+    /// A token that means nothing in the movetext, but that a bracket may open a tag pair.
+    fn read_misplaced(&mut self, kind: TokenKind, reason: Reason) -> Result<(), Refusal<Reason>>
+        requires phase { self.old.phase ≡ Phase.Movetext }
+        ensures { IsSenseStep self.old kind (out_of_place reason) self.new result }
+    {
+        match kind {
+            TokenKind::Open if self.heading => {
+                self.phase = Phase::Opened;
+                Ok(())
+            }
+            _ => Err(Refusal::Fault(reason)),
+        }
+    }
+
+    /// A token of the movetext, or a bracket that opens a tag pair.
+    #[tactic(auto, unfolding(crate::specs::Words::body_of, crate::specs::Words::line_body_of))]
+    fn read_movetext(
+        &mut self,
+        alloc: Global,
+        kind: TokenKind,
+        text: &[u8],
+    ) -> Result<(), Refusal<Reason>>
+        requires next { self.old.line.next ≤ self.old.moves }
+        requires phase { self.old.phase ≡ Phase.Movetext }
+        requires few { self.old.moves ≤ 65535 }
+        ensures { IsSenseStep self.old kind (sense_of kind text.now) self.new result }
+    {
+        match kind {
+            TokenKind::Symbol => self.read_symbol(alloc, text),
+            TokenKind::Null => self.read_move(alloc, text),
+            TokenKind::Period => self.pass_over(),
+            TokenKind::Star => self.read_result(GameResult::Open),
+            TokenKind::LeftParen => self.open_variation(alloc),
+            TokenKind::RightParen => self.end_variation(),
+            TokenKind::Nag(glyph) => self.read_glyph(glyph),
+            TokenKind::Comment => self.read_comment(alloc, inside(text)),
+            TokenKind::LineComment => self.read_comment(alloc, after_first(text)),
+            TokenKind::Open | TokenKind::Close | TokenKind::Text => {
+                self.read_misplaced(kind, Reason::BadTag)
+            }
+            TokenKind::BadByte => self.read_misplaced(kind, Reason::BadByte),
+            TokenKind::UnclosedComment => self.read_misplaced(kind, Reason::UnclosedComment),
+            TokenKind::UnclosedText => self.read_misplaced(kind, Reason::UnclosedString),
+        }
+    }
+
+    /// The name of a tag pair.
+    fn read_name(&mut self, alloc: Global, kind: TokenKind, text: &[u8]) -> Result<(), Refusal<Reason>>
+        requires phase { self.old.phase ≡ Phase.Opened }
+        ensures { Steps (on_name self.old.tags kind text.now) (name_fault kind) (shown self.new) result }
+    {
+        match kind {
+            TokenKind::Symbol => {
+                self.name = Bytes::from_slice(alloc, text)?;
+                self.phase = Phase::Named;
+                Ok(())
+            }
+            _ => Err(Refusal::Fault(tag_reason(kind))),
+        }
+    }
+
+    /// The value of a tag pair.
+    fn read_value(&mut self, alloc: Global, kind: TokenKind, text: &[u8]) -> Result<(), Refusal<Reason>>
+        requires phase { self.old.phase ≡ Phase.Named }
+        ensures { Steps (on_value (with_tag self.old.tags self.old.name (value_of text.now)) kind) (value_fault kind (start_of (with_tag self.old.tags self.old.name (value_of text.now)))) (shown self.new) result }
+    {
+        match kind {
+            TokenKind::Text => {
+                let value = value_of(alloc, text)?;
+                self.tags.add(self.name.as_slice(), value.as_slice())?;
+                match start_of(&self.tags) {
+                    Ok(start) => {
+                        self.start = start;
+                        self.phase = Phase::Valued;
+                        Ok(())
+                    }
+                    Err(_) => Err(Refusal::Fault(Reason::BadFen)),
+                }
+            }
+            _ => Err(Refusal::Fault(tag_reason(kind))),
+        }
+    }
+
+    /// The bracket that closes a tag pair. The comments before it are dropped.
+    fn read_closing(&mut self, alloc: Global, kind: TokenKind) -> Result<(), Refusal<Reason>>
+        requires phase { self.old.phase ≡ Phase.Valued }
+        ensures { Steps (on_closing self.old.tags self.old.start kind) (closing_fault kind) (shown self.new) result }
+    {
+        match kind {
+            TokenKind::Close => {
+                self.heading = true;
+                self.moves = 0;
+                self.line = Line::of_game(alloc, self.start);
+                self.around = Vec::new(alloc);
+                self.phase = Phase::Movetext;
+                Ok(())
+            }
+            _ => Err(Refusal::Fault(tag_reason(kind))),
+        }
+    }
+
+    /// Reads a token, or answers why no game goes on with it.
+    #[tactic(auto, unfolding(crate::specs::Machine::feed, crate::specs::Words::sense))]
+    pub fn feed(&mut self, alloc: Global, kind: TokenKind, text: &[u8]) -> Result<(), Refusal<Reason>>
+        requires low { IsLow (shown self.old) }
+        requires few { moves_before (standing_of (shown self.old)) ≤ 65535 }
+        ensures { Steps (feed (shown self.old) (record { kind = kind; text = text.now })) (fault_at (standing_of (shown self.old)) (record { kind = kind; text = text.now })) (shown self.new) result }
+    {
+        match self.phase {
+            Phase::Movetext => self.read_movetext(alloc, kind, text),
+            Phase::Opened => self.read_name(alloc, kind, text),
+            Phase::Named => self.read_value(alloc, kind, text),
+            Phase::Valued => self.read_closing(alloc, kind),
+            Phase::Ended(_) => Err(Refusal::Fault(marker_reason(kind))),
+        }
+    }
+}

@@ -1,0 +1,67 @@
+//! A node that is being read.
+ghost use Rattle.std.specs.Prelude.{◌≡◌};
+
+use crate::notes::Notes;
+use cq_position::{Move, Position};
+use std::marker::Model;
+
+/// A node, and the level of its parent in the tree; that of the root's children is 0.
+#[derive(Drop)]
+pub struct Row {
+    level: u32,
+    step: Move,
+    position: Position,
+    notes: Notes,
+}
+
+impl Model for Row {
+    ghost use Rattle.pgn_reader.specs.Frame.{Row};
+
+    ghost Value = { Row };
+
+    ghost use Rattle.pgn_reader.specs.RowInside.{row_inside};
+
+    ghost view = { row_inside };
+}
+
+impl Row {
+    /// The node of a move to a position, with its glyphs and comments.
+    pub fn new(level: u32, step: Move, position: Position, notes: Notes) -> Row
+        ensures { result ≡ record { level = level; move = record { move = step; position = position; nags = notes.nags; comments = notes.comments } } }
+    {
+        Row {
+            level,
+            step,
+            position,
+            notes,
+        }
+    }
+
+    /// The level of its parent.
+    pub fn level(&self) -> u32
+        ensures { result ≡ self.now.level }
+    {
+        self.level
+    }
+
+    /// The move.
+    pub fn step(&self) -> Move
+        ensures { result ≡ self.now.move.move }
+    {
+        self.step
+    }
+
+    /// The position after it.
+    pub fn position(&self) -> &Position
+        ensures { result.now ≡ self.now.move.position }
+    {
+        &self.position
+    }
+
+    /// Its glyphs and comments.
+    pub fn notes(&self) -> &Notes
+        ensures { result.now ≡ record { nags = self.now.move.nags; comments = self.now.move.comments } }
+    {
+        &self.notes
+    }
+}
