@@ -1,0 +1,155 @@
+-- The words of a line and of the variations, node by node.
+use Rattle.std.proofs.Common.{◌≡◌, ◌⊎◌, ℕ, zero, suc, ◌+◌, ◌-◌, ◌<◌, ◌≤◌, Bool, true, false, cond, ◌||◌, List, [], ◌∷◌, ◌++◌, length, Option, Some, None, refl, sym, ap, ap₂, ◌∙◌, subst, arith, append_assoc, append-nil, length-append, codes}
+use Rattle.std.specs.Option.{is_some}
+use Rattle.cq_position.specs.declared.men.Side.{Side}
+use Rattle.cq_position.specs.declared.men.Side.TheVariants.{White, Black}
+use Rattle.cq_position.specs.declared.moves.Move.{Move}
+use Rattle.cq_position.specs.Board.{Board}
+use Rattle.cq_position.specs.Games.{Node, node_at, first_child, next_sibling, IsTree}
+use Rattle.cq_position.specs.Continuations.{Played, Continuations, none, played}
+use Rattle.cq_position.proofs.Trees.{tree_first}
+use Rattle.pgn_export.specs.Words.{opened, closed, in_parens}
+use Rattle.pgn_export.specs.Movetext.{number_words, move_words, is_any, is_played, is_due, line_words, variation_words}
+use Rattle.pgn_export.specs.Places.{played_of, children_from, after_node, instead_of}
+use Rattle.pgn_export.proofs.Closed.{closed_later}
+use Rattle.pgn_export.proofs.Places.{Begins, no_child, has_child, no_sibling, has_sibling}
+
+no_mark : (ws : List (List ℕ)) → opened [] ws ≡ ws
+no_mark [] = refl
+no_mark (w ∷ ws) = refl
+
+-- the words of a first move, which begins with its number
+pub record Starts (ws : List (List ℕ)) : Type 0 where
+  pub first : List ℕ
+  pub others : List (List ℕ)
+  pub is : ws ≡ first ∷ others
+
+number_starts : (side : Side) (n : ℕ) (more : List (List ℕ)) → Starts (number_words side true n ++ more)
+number_starts White n more = record { first = _; others = more; is = refl }
+number_starts Black n more = record { first = _; others = more; is = refl }
+
+opened_starts : (mark : List ℕ) (ws more : List (List ℕ)) → Starts ws → opened mark (ws ++ more) ≡ opened mark ws ++ more
+opened_starts mark [] more s = absurd (let e : 0 ≡ suc (length s.others) = ap length s.is in omega (arith, e))
+opened_starts mark (w ∷ ws) more s = refl
+
+opened_some : (mark : List ℕ) (ws : List (List ℕ)) → Starts ws → Starts (opened mark ws)
+opened_some mark [] s = absurd (let e : 0 ≡ suc (length s.others) = ap length s.is in omega (arith, e))
+opened_some mark (w ∷ ws) s = record { first = mark ++ w; others = ws; is = refl }
+
+closed_starts : (mark : List ℕ) (xs ws : List (List ℕ)) → Starts ws → closed mark (xs ++ ws) ≡ xs ++ closed mark ws
+closed_starts mark xs [] s = absurd (let e : 0 ≡ suc (length s.others) = ap length s.is in omega (arith, e))
+closed_starts mark xs (w ∷ ws) s = closed_later mark xs w ws
+
+starts_more : (ws more : List (List ℕ)) → Starts ws → Starts (ws ++ more)
+starts_more ws more s = record { first = s.first; others = s.others ++ more; is = ap (λ l. l ++ more) s.is }
+
+starts_some : (ws : List (List ℕ)) → Starts ws → 0 < length ws
+starts_some ws s = let e = ap length s.is in omega (arith, e)
+
+or_false : (b : Bool) → b ≡ (b || false)
+or_false true = refl
+or_false false = refl
+
+module _ (nodes : List Node) (tree : IsTree nodes) where
+  position : ℕ → Board
+  position k = (node_at nodes k).position
+
+  -- the move that led to a child
+  pub led : (parent k : ℕ) → k < length nodes → (node_at nodes k).parent ≡ Some parent → (m : Move) × ((node_at nodes k).led_by ≡ Some m)
+  led parent k within is =
+      let before = (tree_first nodes tree).before k parent is in
+      let child = tree.children k (omega (arith, before)) within in
+      (child.move, child.led_by)
+
+  played_by : (parent k : ℕ) (o : Option ℕ) → k < length nodes → (node_at nodes k).parent ≡ Some parent → next_sibling nodes k ≡ o → is_some o ≡ is_played (instead_of nodes parent k)
+  played_by parent k None within is e = ap is_played (sym (no_sibling nodes tree parent k within is e))
+  played_by parent k (Some c) within is e =
+      let b = has_sibling nodes tree parent k c within is e in
+      let l = led parent c b.within b.child in
+      ap is_played (sym (b.begins l.0 l.1))
+
+  pub due_in_line : (parent k : ℕ) (m : Move) → k < length nodes → (node_at nodes k).parent ≡ Some parent
+      → (is_any (node_at nodes k).nags || is_any (node_at nodes k).comments || is_some (next_sibling nodes k)) ≡ is_due (played_of (node_at nodes k) m) (instead_of nodes parent k)
+  due_in_line parent k m within is =
+      ap (λ t. is_any (node_at nodes k).nags || is_any (node_at nodes k).comments || t) (played_by parent k (next_sibling nodes k) within is refl)
+
+  -- one move of the line, with the variations that replace it
+  pub line_step : (old before mid new : List (List ℕ)) (due next_due : Bool) (rest : List (List ℕ)) (at c : ℕ) → at < length nodes → first_child nodes at ≡ Some c
+      → before ++ line_words (node_at nodes at).position due (after_node nodes at) ≡ old ++ rest
+      → ((m : Move) → (node_at nodes c).led_by ≡ Some m → mid ≡ before ++ opened [] (move_words (node_at nodes at).position due (played_of (node_at nodes c) m)))
+      → new ≡ mid ++ variation_words (node_at nodes at).position (instead_of nodes at c)
+      → next_due ≡ (is_any (node_at nodes c).nags || is_any (node_at nodes c).comments || is_some (next_sibling nodes c))
+      → new ++ line_words (node_at nodes c).position next_due (after_node nodes c) ≡ old ++ rest
+  unfolding line_words
+  line_step old before mid new due next_due rest at c within e kept one two three =
+      let b = has_child nodes tree at c within e in
+      let l = led at c b.within b.child in
+      let m = played_of (node_at nodes c) l.0 in
+      let p = (node_at nodes at).position in
+      let mw = move_words p due m in
+      let vs = variation_words p (instead_of nodes at c) in
+      let lw = line_words (node_at nodes c).position next_due (after_node nodes c) in
+      ap (λ x. x ++ lw) (two ∙ ap (λ x. x ++ vs) (one l.0 l.1 ∙ ap (λ x. before ++ x) (no_mark mw)))
+      ∙ append_assoc (before ++ mw) vs lw
+      ∙ append_assoc before mw (vs ++ lw)
+      ∙ ap (λ d. before ++ (mw ++ (vs ++ line_words (node_at nodes c).position d (after_node nodes c)))) (three ∙ due_in_line at c l.0 b.within b.child)
+      ∙ ap (λ k. before ++ line_words p due k) (sym (b.begins l.0 l.1))
+      ∙ kept
+
+  pub line_end : (old words : List (List ℕ)) (due : Bool) (rest : List (List ℕ)) (at : ℕ) → at < length nodes → first_child nodes at ≡ None
+      → words ++ line_words (node_at nodes at).position due (after_node nodes at) ≡ old ++ rest → words ≡ old ++ rest
+  unfolding line_words
+  line_end old words due rest at within e kept =
+      sym (append-nil words) ∙ ap (λ k. words ++ line_words (node_at nodes at).position due k) (sym (no_child nodes tree at within e)) ∙ kept
+
+  -- the words of a variation so far, before its `)`
+  pub variation_some : (before mid inner : List (List ℕ)) (parent s : ℕ) → s < length nodes → (node_at nodes s).parent ≡ Some parent
+      → ((m : Move) → (node_at nodes s).led_by ≡ Some m → mid ≡ before ++ opened (codes "(") (move_words (node_at nodes parent).position true (played_of (node_at nodes s) m)))
+      → (more : List (List ℕ)) → inner ≡ mid ++ more → 0 < length inner
+  variation_some before mid inner parent s within is one more two =
+      let l = led parent s within is in
+      let p = (node_at nodes parent).position in
+      let ws = move_words p true (played_of (node_at nodes s) l.0) in
+      let some = starts_some (opened (codes "(") ws) (opened_some (codes "(") ws (number_starts p.side p.number _)) in
+      let a = length-append before (opened (codes "(") ws) in
+      let b = length-append mid more in
+      let c = ap length two in
+      let d = ap length (one l.0 l.1) in
+      omega (arith, some, a, b, c, d)
+
+  -- one variation
+  pub variation_step : (old before mid inner new rest : List (List ℕ)) (due : Bool) (parent at s : ℕ) → at < length nodes → (node_at nodes at).parent ≡ Some parent → next_sibling nodes at ≡ Some s
+      → before ++ variation_words (node_at nodes parent).position (instead_of nodes parent at) ≡ old ++ rest
+      → ((m : Move) → (node_at nodes s).led_by ≡ Some m → mid ≡ before ++ opened (codes "(") (move_words (node_at nodes parent).position true (played_of (node_at nodes s) m)))
+      → due ≡ (is_any (node_at nodes s).nags || is_any (node_at nodes s).comments)
+      → inner ≡ mid ++ line_words (node_at nodes s).position due (after_node nodes s)
+      → new ≡ closed (codes ")") inner
+      → new ++ variation_words (node_at nodes parent).position (instead_of nodes parent s) ≡ old ++ rest
+  unfolding variation_words
+  variation_step old before mid inner new rest due parent at s within is e kept one two three four =
+      let b = has_sibling nodes tree parent at s within is e in
+      let l = led parent s b.within b.child in
+      let m = played_of (node_at nodes s) l.0 in
+      let p = (node_at nodes parent).position in
+      let mw = move_words p true m in
+      let starts = number_starts p.side p.number _ in
+      let lw = line_words (node_at nodes s).position due (after_node nodes s) in
+      let vs = variation_words p (instead_of nodes parent s) in
+      let due_is : due ≡ is_due m none = two ∙ or_false (is_any (node_at nodes s).nags || is_any (node_at nodes s).comments) in
+      let whole : inner ≡ before ++ opened (codes "(") (mw ++ lw) =
+      three ∙ ap (λ x. x ++ lw) (one l.0 l.1) ∙ append_assoc before (opened (codes "(") mw) lw
+      ∙ ap (λ x. before ++ x) (sym (opened_starts (codes "(") mw lw starts)) in
+      let shut : new ≡ before ++ in_parens (mw ++ lw) =
+      four ∙ ap (closed (codes ")")) whole
+      ∙ closed_starts (codes ")") before (opened (codes "(") (mw ++ lw)) (opened_some (codes "(") (mw ++ lw) (starts_more mw lw starts)) in
+      ap (λ x. x ++ vs) shut
+      ∙ append_assoc before (in_parens (mw ++ lw)) vs
+      ∙ ap (λ d. before ++ (in_parens (mw ++ line_words (node_at nodes s).position d (after_node nodes s)) ++ vs)) due_is
+      ∙ ap (λ k. before ++ variation_words p k) (sym (b.begins l.0 l.1))
+      ∙ kept
+
+  pub variations_end : (old words rest : List (List ℕ)) (parent at : ℕ) → at < length nodes → (node_at nodes at).parent ≡ Some parent → next_sibling nodes at ≡ None
+      → words ++ variation_words (node_at nodes parent).position (instead_of nodes parent at) ≡ old ++ rest → words ≡ old ++ rest
+  unfolding variation_words
+  variations_end old words rest parent at within is e kept =
+      sym (append-nil words) ∙ ap (λ k. words ++ variation_words (node_at nodes parent).position k) (sym (no_sibling nodes tree parent at within is e)) ∙ kept

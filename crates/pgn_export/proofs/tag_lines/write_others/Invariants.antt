@@ -1,0 +1,9 @@
+use Rattle.std.proofs.Common.{◌≡◌, ◌++◌}
+use Rattle.std.specs.List.{flat_map}
+use Rattle.pgn_export.specs.Plain.{plain}
+use Rattle.pgn_export.specs.TagLines.{tag_line, other_tags}
+use Rattle.pgn_export.proofs.tag_lines.write_others.Given as goal
+
+-- what is written, and the lines of the tags that are left, are all
+abbrev pub invariant-loop-name : goal.invariant-loop-name
+invariant-loop-name l = l.out ++ flat_map tag_line (plain l.name-iterator) ≡ l.fn.out ++ flat_map tag_line (other_tags l.fn.tags)

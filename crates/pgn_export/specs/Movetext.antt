@@ -1,0 +1,70 @@
+-- The movetext as a list of words (PGN standard, section 8.2).
+use Rattle.std.specs.Prelude.{ℕ, Bool, true, false, ◌||◌, List, [], ◌∷◌, ◌++◌, map, codes, decimal, Option, Some, None, drop}
+use Rattle.std.specs.List.{flat_map}
+use Rattle.cq_position.specs.declared.games.GameResult.{GameResult}
+use Rattle.cq_position.specs.declared.games.GameResult.TheVariants.{White as WhiteWon, Black as BlackWon, Draw, Open as Undecided}
+use Rattle.cq_position.specs.declared.men.Side.{Side}
+use Rattle.cq_position.specs.declared.men.Side.TheVariants.{White, Black}
+use Rattle.cq_position.specs.Board.{Board}
+use Rattle.cq_position.specs.Continuations.{Played, Continuations, none, played, continuations}
+use Rattle.cq_position.specs.Games.{Node, Game, node_at}
+use Rattle.cq_san.specs.Writing.{san_text}
+use Rattle.pgn_export.specs.Words.{comment_words, in_parens}
+
+-- The number of a move (section 8.2.2) stands before each move of White. Before a move of Black it stands with three periods, where that is
+-- due: where the move begins the movetext or a variation, or follows a glyph, a comment or a variation.
+abbrev pub number_words : Side → (due : Bool) → ℕ → List (List ℕ)
+number_words White due number = (decimal number ++ codes ".") ∷ []
+number_words Black true number = (decimal number ++ codes "...") ∷ []
+number_words Black false number = []
+
+-- a numeric annotation glyph (section 8.2.4)
+abbrev pub nag_word : ℕ → List ℕ
+nag_word nag = codes "$" ++ decimal nag
+
+-- a move in the position before it: its number, its text, its glyphs and its comments
+abbrev pub move_words : Board → (due : Bool) → Played → List (List ℕ)
+move_words p due m =
+    number_words p.side due p.number ++ ((san_text p m.move ∷ []) ++ (map nag_word m.nags ++ flat_map comment_words m.comments))
+
+abbrev pub is_any : {A : Type 0} → List A → Bool
+is_any [] = false
+is_any (x ∷ xs) = true
+
+abbrev pub is_played : Continuations → Bool
+is_played none = false
+is_played (played m next others) = true
+
+-- whether a number is due after a move, its glyphs, its comments and its variations
+abbrev pub is_due : Played → (variations : Continuations) → Bool
+is_due m variations = is_any m.nags || is_any m.comments || is_played variations
+
+-- The words of what is played after a position: the first move, the variations that replace it, and the rest of the line. A variation has
+-- its own first move and the rest of its line; the others stand after it.
+unfoldable mutual
+  pub line_words : Board → (due : Bool) → Continuations → List (List ℕ)
+  line_words p due none = []
+  line_words p due (played m next others) =
+      move_words p due m ++ (variation_words p others ++ line_words m.position (is_due m others) next)
+
+  pub variation_words : Board → Continuations → List (List ℕ)
+  variation_words p none = []
+  variation_words p (played m next others) =
+      in_parens (move_words p true m ++ line_words m.position (is_due m none) next) ++ variation_words p others
+
+-- the marker at the end of a game (section 8.2.6), which is also the value of its Result tag (8.1.1.7)
+abbrev pub result_text : GameResult → List ℕ
+result_text WhiteWon = codes "1-0"
+result_text BlackWon = codes "0-1"
+result_text Draw = codes "1/2-1/2"
+result_text Undecided = codes "*"
+
+-- what is played in a game after its start
+abbrev pub played_in : Game → Continuations
+played_in g = continuations 0 1 (drop 1 g.nodes)
+
+-- the comments on the start, the line from there with its variations, and the marker
+abbrev pub movetext : Game → List (List ℕ)
+movetext g =
+    flat_map comment_words (node_at g.nodes 0).comments
+    ++ (line_words (node_at g.nodes 0).position true (played_in g) ++ (result_text g.result ∷ []))

@@ -1,0 +1,13 @@
+//! The export text of a game (PGN standard, section 3.2).
+//!
+//! `specs/TagLines`, `specs/Movetext` and `specs/Lines` say what the tag lines, the words of the movetext and their lines
+//! are, and `specs/Export` joins them.
+#![tactic(auto)]
+
+mod game;
+mod lines;
+mod movetext;
+mod tag_lines;
+mod words;
+
+pub use game::export;

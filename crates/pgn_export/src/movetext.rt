@@ -1,0 +1,254 @@
+//! The movetext of a game as words.
+ghost use Rattle.std.specs.Prelude.{◌≡◌, ◌≢◌, ◌<◌, ◌≤◌, ◌+◌, ◌++◌, ◌∷◌, ◌||◌, [], ℕ, map, length, Some, OnOk, IfOk, IfSome, None, decimal};
+ghost use Rattle.std.specs.List.{flat_map, prefix_len};
+ghost use Rattle.std.specs.Option.{is_some};
+ghost use Rattle.cq_position.specs.declared.moves.Move.{Move as MoveValue};
+ghost use Rattle.cq_position.specs.Board.{Board};
+ghost use Rattle.cq_position.specs.Comments.{words as words_of};
+ghost use Rattle.cq_position.specs.Games.{node_at, first_child, next_sibling};
+ghost use Rattle.cq_position.specs.Legal.{Leads};
+ghost use Rattle.cq_san.specs.Writing.{san_text};
+ghost use Rattle.pgn_export.specs.Movetext as movetext;
+ghost use Rattle.pgn_export.specs.Places.{played_of, after_node, instead_of};
+ghost use Rattle.pgn_export.specs.Words.{is_dark, opened, closed, comment_words};
+
+use crate::words::Words;
+use cq_outside::{NoMemory, is_white, white_len};
+use cq_position::{GameResult, Move, Position, Side};
+use cq_san::san_text;
+use itoa::Buffer;
+use pgn_tree::Game;
+
+/// The marker of a result.
+pub(crate) fn result_text(ending: GameResult) -> &'static [u8]
+    ensures { result.now ≡ movetext.result_text ending }
+{
+    match ending {
+        GameResult::White => b"1-0",
+        GameResult::Black => b"0-1",
+        GameResult::Draw => b"1/2-1/2",
+        GameResult::Open => b"*",
+    }
+}
+
+/// Adds the words of a game's movetext.
+pub(crate) fn write_movetext(words: &mut Words, game: &Game) -> Result<(), NoMemory>
+    ensures { OnOk result (words.new ≡ words.old ++ movetext.movetext game.now) }
+{
+    let _len = game.len();
+    write_comments(words, game, 0)?;
+    write_line(words, game, 0, true)?;
+    words.push(result_text(game.result()))?;
+    Ok(())
+}
+
+// Adds the words of what is played after a node. `due` says whether the number of a move of Black is due.
+#[cycle(writing)]
+fn write_line(words: &mut Words, game: &Game, of: u32, due: bool) -> Result<(), NoMemory>
+    requires { of < length game.now.nodes }
+    ensures { OnOk result (words.new ≡ words.old ++ movetext.line_words (node_at game.now.nodes of).position due (after_node game.now.nodes of)) }
+{
+    let _len = game.len();
+    let mut at = of;
+    let mut due = due;
+    while let Some(child) = child_of(game, at) {
+        write_move(words, game, b"", at, child, due)?;
+        write_variations(words, game, at, child)?;
+        due = is_due_in_line(game, child);
+        at = child;
+    }
+    Ok(())
+}
+
+// Adds the words of the variations that replace the move to a node, which was played after its parent.
+#[cycle(writing)]
+fn write_variations(
+    words: &mut Words,
+    game: &Game,
+    parent: u32,
+    beside: u32,
+) -> Result<(), NoMemory>
+    requires node { beside < length game.now.nodes }
+    requires parent { (node_at game.now.nodes beside).parent ≡ Some parent }
+    ensures { OnOk result (words.new ≡ words.old ++ movetext.variation_words (node_at game.now.nodes parent).position (instead_of game.now.nodes parent beside)) }
+{
+    let _len = game.len();
+    let mut at = beside;
+    while let Some(sibling) = sibling_of(game, parent, at) {
+        write_move(words, game, b"(", parent, sibling, true)?;
+        write_line(words, game, sibling, is_due(game, sibling))?;
+        words.extend_last(b")")?;
+        at = sibling;
+    }
+    Ok(())
+}
+
+// The first child of a node.
+fn child_of(game: &Game, k: u32) -> Option<u32>
+    requires { k < length game.now.nodes }
+    ensures value { result ≡ first_child game.now.nodes k }
+    ensures place { IfSome result (λ c. (k < c) × (c < length game.now.nodes) × ((node_at game.now.nodes c).parent ≡ Some k)) }
+{
+    let _len = game.len();
+    game.first_child(k)
+}
+
+// The next sibling of a node, which has the same parent.
+fn sibling_of(game: &Game, parent: u32, k: u32) -> Option<u32>
+    requires node { k < length game.now.nodes }
+    requires parent { (node_at game.now.nodes k).parent ≡ Some parent }
+    ensures value { result ≡ next_sibling game.now.nodes k }
+    ensures place { IfSome result (λ c. (k < c) × (c < length game.now.nodes) × ((node_at game.now.nodes c).parent ≡ Some parent)) }
+{
+    let _len = game.len();
+    game.next_sibling(k)
+}
+
+// Whether a number is due after a node in its line: after a glyph, a comment or a variation.
+fn is_due_in_line(game: &Game, k: u32) -> bool
+    requires { k < length game.now.nodes }
+    ensures { result ≡ (movetext.is_any (node_at game.now.nodes k).nags || movetext.is_any (node_at game.now.nodes k).comments || is_some (next_sibling game.now.nodes k)) }
+{
+    is_due(game, k) || game.next_sibling(k).is_some()
+}
+
+// Whether a number is due after a node without variations: after a glyph or a comment.
+fn is_due(game: &Game, k: u32) -> bool
+    requires { k < length game.now.nodes }
+    ensures { result ≡ (movetext.is_any (node_at game.now.nodes k).nags || movetext.is_any (node_at game.now.nodes k).comments) }
+{
+    !game.nags(k).is_empty() || game.comments(k) > 0
+}
+
+// Adds the words of the move that led from its parent to a node, after a mark: its number, its text, its glyphs and its comments.
+fn write_move(
+    words: &mut Words,
+    game: &Game,
+    mark: &[u8],
+    parent: u32,
+    k: u32,
+    due: bool,
+) -> Result<(), NoMemory>
+    requires node { k < length game.now.nodes }
+    requires parent { (node_at game.now.nodes k).parent ≡ Some parent }
+    ensures { OnOk result ((m : MoveValue) → (node_at game.now.nodes k).led_by ≡ Some m →
+        words.new ≡ words.old ++ opened mark.now (movetext.move_words (node_at game.now.nodes parent).position due (played_of (node_at game.now.nodes k) m))) }
+{
+    let _len = game.len();
+    let Some(m) = game.move_to(k) else {
+        return Ok(());
+    };
+    write_san(words, mark, game.position(parent), m, due)?;
+    write_nags(words, game.nags(k))?;
+    write_comments(words, game, k)
+}
+
+// Adds the words of a move's number and text, after a mark.
+fn write_san(
+    words: &mut Words,
+    mark: &[u8],
+    position: &Position,
+    m: Move,
+    due: bool,
+) -> Result<(), NoMemory>
+    requires { (q : Board) × Leads position.now m q }
+    ensures { OnOk result (words.new ≡ words.old
+        ++ opened mark.now (movetext.number_words position.now.side due position.now.number ++ san_text position.now m ∷ [])) }
+{
+    let san = san_text(position, m);
+    let number = position.number();
+    match (position.side(), due) {
+        (Side::White, _) => write_numbered(words, mark, number, b".", san.as_bytes()),
+        (Side::Black, true) => write_numbered(words, mark, number, b"...", san.as_bytes()),
+        (Side::Black, false) => words.push_joined(mark, san.as_bytes(), b""),
+    }
+}
+
+// Adds the word of a number, between a mark and periods, and a word after it.
+fn write_numbered(
+    words: &mut Words,
+    mark: &[u8],
+    number: u32,
+    periods: &[u8],
+    word: &[u8],
+) -> Result<(), NoMemory>
+    ensures { OnOk result (words.new ≡ words.old ++ ((mark.now ++ (decimal number ++ periods.now)) ∷ word.now ∷ [])) }
+{
+    write_number(words, mark, number, periods)?;
+    words.push(word)
+}
+
+// Adds the word of a number, between a mark and periods.
+fn write_number(words: &mut Words, mark: &[u8], number: u32, periods: &[u8]) -> Result<(), NoMemory>
+    ensures { OnOk result (words.new ≡ words.old ++ (mark.now ++ (decimal number ++ periods.now)) ∷ []) }
+{
+    words.push_joined(mark, Buffer::new().format(number).as_bytes(), periods)
+}
+
+// Adds the words of numeric annotation glyphs.
+fn write_nags(words: &mut Words, nags: &[u8]) -> Result<(), NoMemory>
+    ensures { OnOk result (words.new ≡ words.old ++ map movetext.nag_word nags.now) }
+{
+    for nag in nags {
+        write_number(words, b"$", u32::from(*nag), b"")?;
+    }
+    Ok(())
+}
+
+// Adds the words of the comments of a node.
+fn write_comments(words: &mut Words, game: &Game, k: u32) -> Result<(), NoMemory>
+    requires { k < length game.now.nodes }
+    ensures { OnOk result (words.new ≡ words.old ++ flat_map comment_words (node_at game.now.nodes k).comments) }
+{
+    for i in 0..game.comments(k) {
+        write_comment(words, game.comment(k, i))?;
+    }
+    Ok(())
+}
+
+// Adds the words of a comment, the first after `{` and the last before `}`.
+fn write_comment(words: &mut Words, text: &[u8]) -> Result<(), NoMemory>
+    ensures { OnOk result (words.new ≡ words.old ++ comment_words text.now) }
+{
+    let Some((word, rest)) = first_word(text) else {
+        return Ok(());
+    };
+    words.push_joined(b"{", word, b"")?;
+    write_words(words, rest)?;
+    words.extend_last(b"}")?;
+    Ok(())
+}
+
+// Adds the words of a text.
+fn write_words(words: &mut Words, text: &[u8]) -> Result<(), NoMemory>
+    ensures { OnOk result (words.new ≡ words.old ++ words_of text.now) }
+{
+    let mut rest = text;
+    while let Some((word, after)) = first_word(rest) {
+        words.push(word)?;
+        rest = after;
+    }
+    Ok(())
+}
+
+// The first word of a text, and what follows it; None where there is no word.
+fn first_word(text: &[u8]) -> Option<(&[u8], &[u8])>
+    ensures some { IfSome result (λ found. (words_of text.now ≡ found.0.now ∷ words_of found.1.now) × (length found.1.now < length text.now)) }
+    ensures none { result ≡ None → words_of text.now ≡ [] }
+{
+    let text = &text[white_len(text)..];
+    let len = word_len(text);
+    if len == 0 {
+        None
+    } else {
+        Some((&text[..len], &text[len..]))
+    }
+}
+
+// How many bytes at the start of a text are no white space.
+fn word_len(text: &[u8]) -> usize
+    ensures value { result ≡ prefix_len is_dark text.now }
+    ensures within { result ≤ length text.now }
+{
+    text.iter().take_while(|b| !is_white(**b)).count()
+}
