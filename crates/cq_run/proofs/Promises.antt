@@ -14,7 +14,7 @@ use Rattle.cq_run.specs.Games.{Game, games_in}
 use Rattle.cq_run.specs.Answer.{answer_of}
 use Rattle.cq_run.specs.Reading.{ReadsArchive}
 use Rattle.cq_run.specs.Writing.{WritesAnswer}
-use Rattle.cq_run.specs.Promise.{NoWriteFailed, Answers, Call, DeskView, SinkView, Sinks, Texts, MayBe, ReadsWhole, TakesTooMuch, Overruns, OpensAtMost, Writes, WritesFront, IsUnwritten, StopsWriting, TellsOtherArchive, HasAll, Says, IsOneOf, Promise, archive_of, archive_limit, asked_query, texts_of, texts_of_text, texts_of_query, texts_found, texts_of_answer}
+use Rattle.cq_run.specs.Promise.{NoInputFailed, NoWriteFailed, FailsToWrite, FindsNoMemory, AnswersItsFault, Answers, Call, DeskView, SinkView, Sinks, Texts, MayBe, ReadsWhole, TakesTooMuch, Overruns, OpensAtMost, Writes, WritesFront, IsUnwritten, StopsWriting, TellsOtherArchive, HasAll, Says, IsOneOf, Promise, archive_of, archive_limit, asked_query, texts_of, texts_of_text, texts_of_query, texts_found, texts_of_answer}
 use Rattle.cq_run.proofs.Taken.{unopened, not_overrun}
 
 -- a sink that was not written to has taken nothing more
@@ -34,22 +34,72 @@ pub wrote_no_front : (sinks : Sinks) (texts : Texts) → IsUnwritten sinks → W
 wrote_no_front sinks texts same = record { out_count = 0; err_count = 0; out = took_nothing sinks.out sinks.out_after same.out; err = took_nothing sinks.err sinks.err_after same.err }
 
 stopped : (call : Call) → IsUnwritten call.sinks → StopsWriting call
-stopped call same = let some = some_archive (archive_of call.desk) in record { archive = some.0; is = some.1; front = wrote_no_front call.sinks (texts_of call.words some.0) same }
+stopped call same =
+    let some = some_archive (archive_of call.desk) in
+    record { archive = some.0; is = some.1; front = wrote_no_front call.sinks (texts_of call.words some.0) same }
 
 no_query : (words : List (List ℕ)) (text : List ℕ) (query : ManOnSquare) → query_text words ≡ None → option_and_then query_of (query_text words) ≡ Some query → ⊥
 no_query words text query none some = let e : option_and_then query_of None ≡ Some query = ap (option_and_then query_of) (sym none) ∙ some in cc
+
+same_counts : (desk after : DeskView) → after ≡ desk → NoInputFailed desk after
+same_counts desk after same = record { opens = ap (λ (d : DeskView). d.open_faults) same; reads = ap (λ (d : DeskView). d.read_faults) same }
+
+unwritten_counts : (sinks : Sinks) → IsUnwritten sinks → NoWriteFailed sinks
+unwritten_counts sinks same = record { out = ap (λ (s : SinkView). s.faults) same.out; err = ap (λ (s : SinkView). s.faults) same.err }
+
+-- what each status says of the counts
+input_unfailed : (status : Status) (call : Call) → NoInputFailed call.desk call.desk_after → NoWriteFailed call.sinks → AnswersItsFault status call
+input_unfailed status call input sinks =
+    let opens = input.opens in
+    let reads = input.reads in
+    let out = sinks.out in
+    let err = sinks.err in
+    record {
+      opens = λ more. absurd (omega arith);
+      reads = λ more. absurd (omega arith);
+      out = λ more. absurd (omega arith);
+      err = λ more. absurd (omega arith);
+    }
+
+faults_answered : (status : Status) (call : Call) → (query_text call.words ≡ None → call.desk_after ≡ call.desk) → Says status call → AnswersItsFault status call
+faults_answered Done call unopened_ says = input_unfailed Done call says.input says.unfailed
+faults_answered DoneWithRefusals call unopened_ says = input_unfailed DoneWithRefusals call says.input says.unfailed
+faults_answered QueryRefused call unopened_ says = absurd says
+faults_answered WordsRefused call unopened_ says = input_unfailed WordsRefused call (same_counts call.desk call.desk_after (unopened_ says.0)) says.2
+faults_answered OpenFault call unopened_ says =
+    let reads = says.3 in
+    let sinks = unwritten_counts call.sinks says.4 in
+    let out = sinks.out in
+    let err = sinks.err in
+    record { opens = λ more. refl; reads = λ more. absurd (omega arith); out = λ more. absurd (omega arith); err = λ more. absurd (omega arith) }
+faults_answered ReadFault call unopened_ says =
+    let opens = says.1 in
+    let sinks = unwritten_counts call.sinks says.3 in
+    let out = sinks.out in
+    let err = sinks.err in
+    record { opens = λ more. absurd (omega arith); reads = λ more. refl; out = λ more. absurd (omega arith); err = λ more. absurd (omega arith) }
+faults_answered WriteFault call unopened_ says =
+    let input = says.input in
+    let opens = input.opens in
+    let reads = input.reads in
+    record { opens = λ more. absurd (omega arith); reads = λ more. absurd (omega arith); out = λ more. refl; err = λ more. refl }
+faults_answered NoMemory call unopened_ says = input_unfailed NoMemory call says.input says.unfailed
+faults_answered ArchiveTooLong call unopened_ says = input_unfailed ArchiveTooLong call says.2 (unwritten_counts call.sinks says.3)
+faults_answered NotYetRead call unopened_ says = input_unfailed NotYetRead call says.1 (unwritten_counts call.sinks says.2)
 
 -- words that are refused, and the usage line was written
 pub words_written : (call : Call) → query_text call.words ≡ None → call.desk_after ≡ call.desk → call.sinks.out_after ≡ call.sinks.out
     → call.sinks.err_after.faults ≡ call.sinks.err.faults → Grew call.sinks.err.taken call.sinks.err_after.taken usage_line → Promise WordsRefused call
 words_written call none same out unfailed err =
+    let says : Says WordsRefused call = (
+      none,
+      subst (λ (text : Option (List ℕ)). Writes call.sinks (texts_of_text text [])) (sym none) (record { out = took_nothing call.sinks.out call.sinks.out_after out; err = err }),
+      record { out = ap (λ (s : SinkView). s.faults) out; err = unfailed },
+    ) in
     record {
-      says = (
-        none,
-        subst (λ (text : Option (List ℕ)). Writes call.sinks (texts_of_text text [])) (sym none) (record { out = took_nothing call.sinks.out call.sinks.out_after out; err = err }),
-        record { out = ap (λ (s : SinkView). s.faults) out; err = unfailed },
-      );
+      says = says;
       opens = unopened call.desk call.desk_after (ap (λ (d : DeskView). d.told) same);
+      faults = faults_answered WordsRefused call (λ _. same) says;
       words_unopened = λ _. same;
       words_always = λ _. inl refl;
       query_always = λ text e _. cc;
@@ -63,17 +113,21 @@ pub words_unwritten : (call : Call) (count : ℕ) → query_text call.words ≡ 
     → Rose call.sinks.err.faults call.sinks.err_after.faults → Grew call.sinks.err.taken call.sinks.err_after.taken (take count usage_line) → Promise WriteFault call
 words_unwritten call count none same out failed err =
     let some = some_archive (archive_of call.desk) in
+    let says : FailsToWrite call = record {
+      failed = inr failed;
+      input = same_counts call.desk call.desk_after same;
+      reads = λ query asks. absurd (no_query call.words [] query none asks);
+      stops = record {
+        archive = some.0;
+        is = some.1;
+        front = subst (λ (text : Option (List ℕ)). WritesFront call.sinks (texts_of_text text some.0)) (sym none)
+            (record { out_count = 0; err_count = count; out = took_nothing call.sinks.out call.sinks.out_after out; err = err });
+      };
+    } in
     record {
-      says = (
-        inr failed,
-        record {
-          archive = some.0;
-          is = some.1;
-          front = subst (λ (text : Option (List ℕ)). WritesFront call.sinks (texts_of_text text some.0)) (sym none)
-              (record { out_count = 0; err_count = count; out = took_nothing call.sinks.out call.sinks.out_after out; err = err });
-        },
-      );
+      says = says;
       opens = unopened call.desk call.desk_after (ap (λ (d : DeskView). d.told) same);
+      faults = faults_answered WriteFault call (λ _. same) says;
       words_unopened = λ _. same;
       words_always = λ _. inr (inl refl);
       query_always = λ text e _. cc;
@@ -98,6 +152,7 @@ promise_of : (status : Status) (call : Call) (query : ManOnSquare) → Asks call
 promise_of status call query asks opens says too_long other complete = record {
   says = says;
   opens = opens;
+  faults = faults_answered status call (λ none. absurd (no_query call.words [] query none (is_asked call query asks))) says;
   words_unopened = λ none. absurd (no_query call.words [] query none (is_asked call query asks));
   words_always = λ none. absurd (no_query call.words [] query none (is_asked call query asks));
   query_always = λ text e unread.
@@ -125,12 +180,14 @@ unread OpenFault call query asks same read =
     promise_of OpenFault call query asks read.opens (read.reads.0, read.reads.1, read.reads.2, read.reads.3, same) (λ much. absurd (read.reads.4 much))
     (λ other. absurd (other.no_open read.reads.0)) (λ all. absurd (all.no_open read.reads.0))
 unread ReadFault call query asks same read =
-    promise_of ReadFault call query asks read.opens (read.reads.0, read.reads.1, same) (λ much. absurd (read.reads.2 much))
+    promise_of ReadFault call query asks read.opens (read.reads.0, read.reads.1, read.reads.2, same) (λ much. absurd (read.reads.3 much))
     (λ other. absurd (other.no_read read.reads.0)) (λ all. absurd (all.no_read read.reads.0))
 unread ArchiveTooLong call query asks same read =
-    promise_of ArchiveTooLong call query asks read.opens (read.reads.0, read.reads.1, same) (λ _. inl refl)
+    promise_of ArchiveTooLong call query asks read.opens (read.reads.0, read.reads.1, read.reads.2, same) (λ _. inl refl)
     (λ other. absurd (not_too_long call other.archive other.tells other.within read.reads.0)) (λ all. absurd (not_too_long call all.archive all.tells all.within read.reads.0))
-unread NoMemory call query asks same read = promise_of NoMemory call query asks read.opens (stopped call same) (λ _. inr (inl refl)) (λ _. inr (inl refl)) (λ _. inr (inr (inl refl)))
+unread NoMemory call query asks same read =
+    promise_of NoMemory call query asks read.opens (record { input = read.reads; unfailed = unwritten_counts call.sinks same; stops = stopped call same })
+    (λ _. inr (inl refl)) (λ _. inr (inl refl)) (λ _. inr (inr (inl refl)))
 unread Done call query asks same read = absurd read.reads
 unread DoneWithRefusals call query asks same read = absurd read.reads
 unread QueryRefused call query asks same read = absurd read.reads
@@ -139,8 +196,10 @@ unread WriteFault call query asks same read = absurd read.reads
 unread NotYetRead call query asks same read = absurd read.reads
 
 -- no memory for the answer
-pub unanswered : (call : Call) (query : ManOnSquare) → Asks call query → OpensAtMost call.desk call.desk_after → IsUnwritten call.sinks → Promise NoMemory call
-unanswered call query asks opens same = promise_of NoMemory call query asks opens (stopped call same) (λ _. inr (inl refl)) (λ _. inr (inl refl)) (λ _. inr (inr (inl refl)))
+pub unanswered : (call : Call) (query : ManOnSquare) → Asks call query → OpensAtMost call.desk call.desk_after → NoInputFailed call.desk call.desk_after → IsUnwritten call.sinks → Promise NoMemory call
+unanswered call query asks opens input same =
+    promise_of NoMemory call query asks opens (record { input = input; unfailed = unwritten_counts call.sinks same; stops = stopped call same })
+    (λ _. inr (inl refl)) (λ _. inr (inl refl)) (λ _. inr (inr (inl refl)))
 
 games_of_answer : (query : ManOnSquare) (answer : Answer) (games : Option (List Game)) → Some answer ≡ option_map (answer_of query) games → (all : List Game) × (games ≡ Some all) × (answer ≡ answer_of query all)
 games_of_answer query answer None e = cc
@@ -156,11 +215,11 @@ told_is (Some bytes) archive other may e = cc
 
 -- the archive holds no bare games
 pub held_other : (call : Call) (query : ManOnSquare) (archive : List ℕ) → Asks call query → IsUnwritten call.sinks → OpensAtMost call.desk call.desk_after
-    → ReadsWhole call.desk call.desk_after archive × (Overruns call.desk call.desk_after → ⊥) → None ≡ option_map (answer_of query) (games_in archive) → Promise NotYetRead call
+    → ReadsWhole call.desk call.desk_after archive × NoInputFailed call.desk call.desk_after × (Overruns call.desk call.desk_after → ⊥) → None ≡ option_map (answer_of query) (games_in archive) → Promise NotYetRead call
 held_other call query archive asks same opens reads none =
     let other = no_games query (games_in archive) none in
     promise_of NotYetRead call query asks opens
-    (inr (record { query = query; archive = archive; asks = is_asked call query asks; reads = reads.0; other = other }), same) (λ much. absurd (reads.1 much)) (λ _. inl refl)
+    (inr (record { query = query; archive = archive; asks = is_asked call query asks; reads = reads.0; other = other }), reads.1, same) (λ much. absurd (reads.2 much)) (λ _. inl refl)
     (λ all. let e : archive ≡ all.archive = told_is (archive_of call.desk) archive all.archive reads.0.is all.tells in
     let games : None ≡ Some all.games = sym other ∙ (ap games_in e ∙ all.holds) in absurd cc)
 
@@ -180,9 +239,9 @@ texts_are call query archive answer games asks holds found =
 
 -- the answer was written, and so many games are refused
 answers : (call : Call) (query : ManOnSquare) (archive : List ℕ) (answer : Answer) (games : List Game) (AreRefused : ℕ → Type 0) → Asks call query
-    → ReadsWhole call.desk call.desk_after archive → games_in archive ≡ Some games → answer ≡ answer_of query games
+    → ReadsWhole call.desk call.desk_after archive → NoInputFailed call.desk call.desk_after → games_in archive ≡ Some games → answer ≡ answer_of query games
     → AreRefused answer.refused × Writes call.sinks (texts_of_answer answer) × NoWriteFailed call.sinks → Answers call AreRefused
-answers call query archive answer games AreRefused asks reads holds found writes = record {
+answers call query archive answer games AreRefused asks reads input holds found writes = record {
   query = query;
   archive = archive;
   games = games;
@@ -191,30 +250,40 @@ answers call query archive answer games AreRefused asks reads holds found writes
   holds = holds;
   refused = subst (λ (a : Answer). AreRefused a.refused) found writes.0;
   writes = subst (λ (a : Answer). Writes call.sinks (texts_of_answer a)) found writes.1;
+  input = input;
   unfailed = writes.2;
 }
 
 -- the answer was written, or could not be
 pub wrote : (status : Status) (call : Call) (query : ManOnSquare) (archive : List ℕ) (answer : Answer) → Asks call query → OpensAtMost call.desk call.desk_after
-    → ReadsWhole call.desk call.desk_after archive × (Overruns call.desk call.desk_after → ⊥) → Some answer ≡ option_map (answer_of query) (games_in archive)
+    → ReadsWhole call.desk call.desk_after archive × NoInputFailed call.desk call.desk_after × (Overruns call.desk call.desk_after → ⊥) → Some answer ≡ option_map (answer_of query) (games_in archive)
     → WritesAnswer answer call.sinks status → Promise status call
 wrote Done call query archive answer asks opens reads found writes =
     let games = games_of_answer query answer (games_in archive) found in
-    promise_of Done call query asks opens (answers call query archive answer games.0 (λ refused. refused ≡ 0) asks reads.0 games.1 games.2 writes)
-    (λ much. absurd (reads.1 much)) (λ other. absurd (held_games call archive games.0 reads.0 games.1 other)) (λ _. inl refl)
+    promise_of Done call query asks opens (answers call query archive answer games.0 (λ refused. refused ≡ 0) asks reads.0 reads.1 games.1 games.2 writes)
+    (λ much. absurd (reads.2 much)) (λ other. absurd (held_games call archive games.0 reads.0 games.1 other)) (λ _. inl refl)
 wrote DoneWithRefusals call query archive answer asks opens reads found writes =
     let games = games_of_answer query answer (games_in archive) found in
-    promise_of DoneWithRefusals call query asks opens (answers call query archive answer games.0 (λ refused. 0 < refused) asks reads.0 games.1 games.2 writes)
-    (λ much. absurd (reads.1 much)) (λ other. absurd (held_games call archive games.0 reads.0 games.1 other)) (λ _. inr (inl refl))
+    promise_of DoneWithRefusals call query asks opens (answers call query archive answer games.0 (λ refused. 0 < refused) asks reads.0 reads.1 games.1 games.2 writes)
+    (λ much. absurd (reads.2 much)) (λ other. absurd (held_games call archive games.0 reads.0 games.1 other)) (λ _. inr (inl refl))
 wrote WriteFault call query archive answer asks opens reads found writes =
     let games = games_of_answer query answer (games_in archive) found in
     promise_of WriteFault call query asks opens
-    (writes.0, record { archive = archive; is = reads.0.is; front = subst (WritesFront call.sinks) (texts_are call query archive answer games.0 asks games.1 games.2) writes.1 })
-    (λ much. absurd (reads.1 much)) (λ other. absurd (held_games call archive games.0 reads.0 games.1 other)) (λ all. absurd (all.no_write writes.0))
+    (record {
+      failed = writes.0;
+      input = reads.1;
+      reads = λ _ _. (archive, reads.0);
+      stops = record { archive = archive; is = reads.0.is; front = subst (WritesFront call.sinks) (texts_are call query archive answer games.0 asks games.1 games.2) writes.1 };
+    })
+    (λ much. absurd (reads.2 much)) (λ other. absurd (held_games call archive games.0 reads.0 games.1 other)) (λ all. absurd (all.no_write writes.0))
 wrote NoMemory call query archive answer asks opens reads found writes =
     let games = games_of_answer query answer (games_in archive) found in
     promise_of NoMemory call query asks opens
-    (record { archive = archive; is = reads.0.is; front = subst (WritesFront call.sinks) (texts_are call query archive answer games.0 asks games.1 games.2) writes })
+    (record {
+      input = reads.1;
+      unfailed = writes.1;
+      stops = record { archive = archive; is = reads.0.is; front = subst (WritesFront call.sinks) (texts_are call query archive answer games.0 asks games.1 games.2) writes.0 };
+    })
     (λ _. inr (inl refl)) (λ _. inr (inl refl)) (λ _. inr (inr (inl refl)))
 wrote QueryRefused call query archive answer asks opens reads found writes = absurd writes
 wrote WordsRefused call query archive answer asks opens reads found writes = absurd writes

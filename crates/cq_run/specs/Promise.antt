@@ -139,6 +139,11 @@ pub record IsUnwritten (sinks : Sinks) : Type 0 where
   pub out : sinks.out_after ≡ sinks.out
   pub err : sinks.err_after ≡ sinks.err
 
+-- no open and no read failed
+pub record NoInputFailed (desk after : DeskView) : Type 0 where
+  pub opens : after.open_faults ≡ desk.open_faults
+  pub reads : after.read_faults ≡ desk.read_faults
+
 -- no write failed
 pub record NoWriteFailed (sinks : Sinks) : Type 0 where
   pub out : sinks.out_after.faults ≡ sinks.out.faults
@@ -154,7 +159,21 @@ pub record StopsWriting (call : Call) : Type 0 where
   pub is : MayBe (archive_of call.desk) archive
   pub front : WritesFront call.sinks (texts_of call.words archive)
 
--- The archive was read to its end, it is of games, so many of them are refused as is asked, and out and err have the exports and the report.
+-- A write failed, and nothing before it: where the words ask a query, the archive was read to its end.
+pub record FailsToWrite (call : Call) : Type 0 where
+  pub failed : SinkFailed call.sinks
+  pub input : NoInputFailed call.desk call.desk_after
+  pub reads : (query : ManOnSquare) → asked_query call ≡ Some query → (archive : List ℕ) × ReadsWhole call.desk call.desk_after archive
+  pub stops : StopsWriting call
+
+-- no memory was found, and no call of the desk or of a sink failed
+pub record FindsNoMemory (call : Call) : Type 0 where
+  pub input : NoInputFailed call.desk call.desk_after
+  pub unfailed : NoWriteFailed call.sinks
+  pub stops : StopsWriting call
+
+-- The archive was read to its end, it is of games, so many of them are refused as is asked, out and err have the exports
+-- and the report, and no call failed.
 pub record Answers (call : Call) (AreRefused : ℕ → Type 0) : Type 0 where
   pub query : ManOnSquare
   pub archive : List ℕ
@@ -164,6 +183,7 @@ pub record Answers (call : Call) (AreRefused : ℕ → Type 0) : Type 0 where
   pub holds : games_in archive ≡ Some games
   pub refused : AreRefused (answer_of query games).refused
   pub writes : Writes call.sinks (texts_of_answer (answer_of query games))
+  pub input : NoInputFailed call.desk call.desk_after
   pub unfailed : NoWriteFailed call.sinks
 
 -- the query is of another form, and no file was opened
@@ -190,11 +210,14 @@ Says WordsRefused call = (query_text call.words ≡ None) × Writes call.sinks (
 Says OpenFault call =
     Rose call.desk.open_faults call.desk_after.open_faults × (call.desk_after.told ≡ call.desk.told) × (call.desk_after.left ≡ call.desk.left)
     × (call.desk_after.read_faults ≡ call.desk.read_faults) × IsUnwritten call.sinks
-Says ReadFault call = Rose call.desk.read_faults call.desk_after.read_faults × OpenedOnce call.desk call.desk_after × IsUnwritten call.sinks
-Says WriteFault call = SinkFailed call.sinks × StopsWriting call
-Says NoMemory call = StopsWriting call
-Says ArchiveTooLong call = TakesTooMuch call.desk call.desk_after × OpenedOnce call.desk call.desk_after × IsUnwritten call.sinks
-Says NotYetRead call = (AsksOtherQuery call ⊎ HoldsOtherArchive call) × IsUnwritten call.sinks
+Says ReadFault call =
+    Rose call.desk.read_faults call.desk_after.read_faults × (call.desk_after.open_faults ≡ call.desk.open_faults)
+    × OpenedOnce call.desk call.desk_after × IsUnwritten call.sinks
+Says WriteFault call = FailsToWrite call
+Says NoMemory call = FindsNoMemory call
+Says ArchiveTooLong call =
+    TakesTooMuch call.desk call.desk_after × OpenedOnce call.desk call.desk_after × NoInputFailed call.desk call.desk_after × IsUnwritten call.sinks
+Says NotYetRead call = (AsksOtherQuery call ⊎ HoldsOtherArchive call) × NoInputFailed call.desk call.desk_after × IsUnwritten call.sinks
 
 -- the status is one of these
 abbrev pub IsOneOf : Status → List Status → Type 0
@@ -225,12 +248,20 @@ pub record TellsOtherArchive (call : Call) : Type 0 where
   pub no_open : Rose call.desk.open_faults call.desk_after.open_faults → ⊥
   pub no_read : Rose call.desk.read_faults call.desk_after.read_faults → ⊥
 
+-- a count that is greater than it was is answered by its own fault
+pub record AnswersItsFault (status : Status) (call : Call) : Type 0 where
+  pub opens : call.desk.open_faults < call.desk_after.open_faults → status ≡ OpenFault
+  pub reads : call.desk.read_faults < call.desk_after.read_faults → status ≡ ReadFault
+  pub out : call.sinks.out.faults < call.sinks.out_after.faults → status ≡ WriteFault
+  pub err : call.sinks.err.faults < call.sinks.err_after.faults → status ≡ WriteFault
+
 -- what `run` promises of its status
 pub record Promise (status : Status) (call : Call) : Type 0 where
   pub says : Says status call
   pub opens : OpensAtMost call.desk call.desk_after
+  pub faults : AnswersItsFault status call
   pub words_unopened : query_text call.words ≡ None → call.desk_after ≡ call.desk
-  pub words_always : query_text call.words ≡ None → IsOneOf status (WordsRefused ∷ WriteFault ∷ NoMemory ∷ [])
+  pub words_always : query_text call.words ≡ None → IsOneOf status (WordsRefused ∷ WriteFault ∷ [])
   pub query_always : (text : List ℕ) → query_text call.words ≡ Some text → query_of text ≡ None → status ≡ NotYetRead
   pub too_long_always : Overruns call.desk call.desk_after → IsOneOf status (ArchiveTooLong ∷ NoMemory ∷ [])
   pub archive_always : TellsOtherArchive call → IsOneOf status (NotYetRead ∷ NoMemory ∷ [])

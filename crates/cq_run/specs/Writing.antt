@@ -10,5 +10,5 @@ abbrev pub WritesAnswer : Answer → Sinks → Status → Type 0
 WritesAnswer answer sinks Done = (answer.refused ≡ 0) × Writes sinks (texts_of_answer answer) × NoWriteFailed sinks
 WritesAnswer answer sinks DoneWithRefusals = (0 < answer.refused) × Writes sinks (texts_of_answer answer) × NoWriteFailed sinks
 WritesAnswer answer sinks WriteFault = SinkFailed sinks × WritesFront sinks (texts_of_answer answer)
-WritesAnswer answer sinks NoMemory = WritesFront sinks (texts_of_answer answer)
+WritesAnswer answer sinks NoMemory = WritesFront sinks (texts_of_answer answer) × NoWriteFailed sinks
 WritesAnswer answer sinks _ = ⊥

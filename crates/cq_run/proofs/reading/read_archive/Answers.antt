@@ -15,5 +15,5 @@ returns-in-Err-Fault g c =
     let few = took_few before after _ _ _ c.in-Ok.ensures.opened taken in
     record {
       opens = opened_once before after _ (omega arith) opened few;
-      reads = (rw (← c.in-Ok.ensures.reads) cause.1, opened, no_overrun before after few);
+      reads = (rw (← c.in-Ok.ensures.reads) cause.1, g.met.D.Desk.keeps_open_faults c.open.new.self c.read_up_to.new.source c.read_up_to.ensures.next ∙ c.in-Ok.ensures.same (λ e. absurd cc), opened, no_overrun before after few);
     }

@@ -31,4 +31,4 @@ returns-in-Ok-None g c =
 pub returns : goal.returns
 returns g c =
     unanswered _ c.in-Some-read.query
-    (record { text = c.in-Some.text.now; words = c.in-Some.ensures; spells = sym c.in-Some-read.ensures }) c.in-Ok-read_archive.ensures.opens (record { out = refl; err = refl })
+    (record { text = c.in-Some.text.now; words = c.in-Some.ensures; spells = sym c.in-Some-read.ensures }) c.in-Ok-read_archive.ensures.opens c.in-Ok-read_archive.ensures.reads.1 (record { out = refl; err = refl })
