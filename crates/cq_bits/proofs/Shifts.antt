@@ -1,5 +1,5 @@
 -- A set that is shifted without the squares that would leave the board is the set one step further.
-use Rattle.std.proofs.Common.{true≢false, le-ltb, ◌≡◌, ℕ, zero, suc, ◌+◌, ◌-◌, ◌*◌, ◌/◌, ◌%◌, ◌^◌, ◌<◌, ◌≤◌, min, ◌⊎◌, inl, inr, ⊎_elim, ◌↔◌, Bool, true, false, ◌&&◌, ◌==◌, eq-eqb, eqb-true, ℤ, pos, negsuc, Option, Some, None, List, [], ◌∷◌, map, refl, sym, ap, ◌∙◌, subst, arith}
+use Rattle.std.proofs.Common.{true≢false, le-ltb, ◌≡◌, ℕ, zero, suc, ◌+◌, ◌-◌, ◌*◌, ◌/◌, ◌%◌, ◌^◌, ◌<◌, ◌≤◌, min, ◌⊎◌, inl, inr, Bool, true, false, ◌&&◌, ◌==◌, eq-eqb, eqb-true, ℤ, pos, negsuc, Option, Some, None, map, refl, sym, ap, ◌∙◌, subst, arith}
 use Rattle.std.specs.Prelude.{bit_and, option_and_then, IfSome}
 use Rattle.std.specs.Int.{bit_at}
 use Rattle.std.specs.Int.Signed.{le_z, lt_z}
@@ -13,7 +13,7 @@ use Rattle.cq_geometry.proofs.Tables.{at_square, at_squares}
 use Rattle.cq_geometry.proofs.Rays.{each_direction, stepped_board}
 use Rattle.cq_position.specs.Attacks.{is_goal}
 use Rattle.cq_bits.specs.Sets.{Has, has, IsSetOf, IsStepped}
-use Rattle.cq_bits.proofs.Bits.{in_both, both_have, nothing_there, shifted_up, not_shifted_up, shifted_down}
+use Rattle.cq_bits.proofs.Bits.{in_both, both_have, shifted_up, not_shifted_up, shifted_down}
 
 goal_is : (o : Option ℕ) (t : ℕ) → is_goal o t ≡ true → o ≡ Some t
 goal_is (Some g) t e = ap Some (eqb-true g t e)
@@ -144,9 +144,10 @@ unfolding squares
 same_square = refl
 
 pub unmoved : (set : ℕ) → IsSetOf set (IsStepped (pos 0) (pos 0) set)
-unmoved set t below =
-    ((λ h. (t, below, h, at_square (stepped (pos 0) (pos 0)) Some same_square t below)),
-     (λ p. subst (Has set) (some_same (sym (at_square (stepped (pos 0) (pos 0)) Some same_square p.0 p.1) ∙ p.3)) p.2))
+unmoved set t below = (
+  (λ h. (t, below, h, at_square (stepped (pos 0) (pos 0)) Some same_square t below)),
+  (λ p. subst (Has set) (some_same (sym (at_square (stepped (pos 0) (pos 0)) Some same_square p.0 p.1) ∙ p.3)) p.2),
+)
   where
     some_same : {a b : ℕ} → Some a ≡ Some b → a ≡ b
     some_same e = cc

@@ -1,6 +1,13 @@
 //! Sets of squares as numbers of 64 bits: slides in the eight directions, what the men of a set attack, and what lies between two sets.
 #![tactic(auto)]
 
+pub mod attacks;
+pub mod between;
 pub mod slides;
 
+pub use attacks::attacked;
+pub use between::between_all;
 pub use slides::{BitSet64, slide};
+
+#[cfg(test)]
+mod tests;

@@ -7,6 +7,7 @@ ghost use Rattle.cq_bits.specs.Sets.{IsSetOf, IsStepped, IsSlid};
 pub type BitSet64 = u64;
 
 const NOT_A_FILE: u64 = 0xfefe_fefe_fefe_fefe;
+
 const NOT_H_FILE: u64 = 0x7f7f_7f7f_7f7f_7f7f;
 
 /// The squares that are reached from a square of `from` in a direction through squares of `empty`, the first square included that

@@ -1,5 +1,5 @@
-use Rattle.std.proofs.Common.{◌≡◌, ◌+◌, ◌<◌, ◌≤◌, to_z, w8, subst, arith}
-use Rattle.cq_bits.proofs.Sliding.{Sliding, begins, slides_on, ends}
+use Rattle.std.proofs.Common.{arith}
+use Rattle.cq_bits.proofs.Sliding.{begins, slides_on, ends}
 use Rattle.cq_bits.proofs.slides.slide.Goals as goal
 
 pub loop-step-init : goal.loop-step-init

@@ -1,0 +1,120 @@
+//! What the men of a set attack.
+ghost use Rattle.std.specs.Prelude.{◌≡◌, ℕ, ◌<◌, ◌≤◌, ◌↔◌, ◌⊎◌, ◌&&◌, not, true};
+ghost use Rattle.cq_bits.specs.Sets.{Has, has, IsSetOf, IsAttacked, IsChosen, IsLeap, slides};
+ghost use Rattle.cq_position.specs.Board.{man_at};
+ghost use Rattle.cq_bits.specs.Kinds.{is_of_kind};
+
+use crate::slides::{BitSet64, slide};
+use cq_geometry::Square;
+use cq_position::{Man, Position, attacks_from};
+
+/// Expands to the union of the slides that are listed, each from its set in its direction.
+macro_rules! slides {
+    ($empty:expr; $(($from:expr, $files:literal, $ranks:literal)),*) => {
+        0 $(| slide::<$files, $ranks>($from, $empty))*
+    };
+}
+
+/// What may stand on a square.
+#[derive(Clone, Copy, Debug, PartialEq, Eq)]
+pub(crate) enum Kind {
+    /// Nothing.
+    Nothing,
+    /// A rook or a queen.
+    Straight,
+    /// A bishop or a queen.
+    Diagonal,
+}
+
+/// The squares that the men on the squares of `from` attack, whatever stands there (FIDE Laws of Chess, articles 3.1 to 3.8).
+pub fn attacked(position: &Position, from: BitSet64) -> BitSet64
+    ensures { IsSetOf result (IsAttacked position.now.men from) }
+{
+    let empty = chosen(position, Kind::Nothing, BitSet64::MAX);
+    let straight = chosen(position, Kind::Straight, from);
+    let diagonal = chosen(position, Kind::Diagonal, from);
+    let slides = slides!(empty;
+        (straight, 0, 1), (straight, 0, -1), (straight, -1, 0), (straight, 1, 0),
+        (diagonal, 1, 1), (diagonal, -1, 1), (diagonal, 1, -1), (diagonal, -1, -1)
+    );
+    slides | leaps(position, from)
+}
+
+/// The squares of `among` on which this stands.
+fn chosen(position: &Position, kind: Kind, among: BitSet64) -> BitSet64
+    ensures { IsSetOf result (IsChosen (is_of_kind kind) position.now.men among) }
+{
+    let mut set = 0;
+    for number in 0..64 {
+        let there = is_chosen(position, kind, among, number);
+        set = with_square(set, number, there);
+    }
+    set
+}
+
+/// Whether the square is one of `among` and this stands there.
+fn is_chosen(position: &Position, kind: Kind, among: BitSet64, number: u8) -> bool
+    requires { number < 64 }
+    ensures { result ≡ (has among number && is_of_kind kind (man_at position.now.men number)) }
+{
+    has_square(among, number) && is_kind(position.at(Square::new(number)), kind)
+}
+
+/// The squares that kings, knights and pawns attack from the squares of `from`.
+fn leaps(position: &Position, from: BitSet64) -> BitSet64
+    ensures { IsSetOf result (λ to. (square : ℕ) × (square < 64) × IsLeap position.now.men from square to) }
+{
+    let mut reached = 0;
+    for number in 0..64 {
+        reached |= leaps_from(position, from, number);
+    }
+    reached
+}
+
+/// What a king, a knight or a pawn attacks from this square, if it is one of `from`.
+fn leaps_from(position: &Position, from: BitSet64, number: u8) -> BitSet64
+    requires { number < 64 }
+    ensures { IsSetOf result (IsLeap position.now.men from number) }
+{
+    if is_leaper(position, from, number) {
+        attacks_from(position, Square::new(number))
+    } else {
+        0
+    }
+}
+
+/// Whether the square is one of `from` and neither a rook, a bishop nor a queen stands there.
+fn is_leaper(position: &Position, from: BitSet64, number: u8) -> bool
+    requires { number < 64 }
+    ensures { result ≡ (has from number && not (slides (man_at position.now.men number))) }
+{
+    let man = position.at(Square::new(number));
+    has_square(from, number) && !(is_kind(man, Kind::Straight) || is_kind(man, Kind::Diagonal))
+}
+
+fn is_kind(man: Man, kind: Kind) -> bool
+    ensures { result ≡ is_of_kind kind man }
+{
+    match kind {
+        Kind::Nothing => man == Man::Empty,
+        Kind::Straight => matches!(man, Man::Q | Man::R | Man::BlackQ | Man::BlackR),
+        Kind::Diagonal => matches!(man, Man::Q | Man::B | Man::BlackQ | Man::BlackB),
+    }
+}
+
+/// Whether the set has the square of this number.
+pub(crate) fn has_square(set: BitSet64, number: u8) -> bool
+    requires { number < 64 }
+    ensures { result ≡ has set number }
+{
+    (set >> number) & 1 == 1
+}
+
+/// The set, with the square of this number if `there`.
+#[tactic(auto, using(crate::proofs::Members::one_more))]
+pub(crate) fn with_square(set: BitSet64, number: u8, there: bool) -> BitSet64
+    requires { number < 64 }
+    ensures { (square : ℕ) → square < 64 → Has result square ↔ (Has set square ⊎ ((square ≡ number) × (there ≡ true))) }
+{
+    if there { set | 1 << number } else { set }
+}
