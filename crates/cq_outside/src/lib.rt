@@ -8,6 +8,7 @@ pub mod desk;
 pub mod edge;
 pub mod faults;
 pub mod gate;
+pub mod laws;
 pub mod pieces;
 pub mod sink;
 pub mod source;

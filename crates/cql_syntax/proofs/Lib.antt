@@ -1,4 +1,9 @@
+mod SetRows
 pub mod Lists
 pub mod Rows
 pub mod Tables
 pub mod Weighing
+mod NumberRows
+mod PositionRows
+mod LineRows
+mod FamilyRows

@@ -5,6 +5,7 @@ pub mod copies;
 pub mod extents;
 pub mod fault;
 pub mod kinds;
+pub mod laws;
 pub mod leaves;
 #[cfg(test)]
 mod tests;

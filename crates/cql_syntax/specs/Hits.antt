@@ -1,0 +1,56 @@
+-- The hits of a query in a game, the comments that mark them, and what its games are sorted by.
+use Rattle.std.specs.Prelude.{ℕ, Bool, List, [], ◌∷◌, ◌++◌, map, Option, ℤ, if◌then◌else◌}
+use Rattle.std.specs.List.{list_all, filter}
+use Rattle.std.specs.Int.{int_max, int_min}
+use Rattle.cq_position.specs.Games.{Game}
+use Rattle.cq_position.specs.Search.{SearchedTree, nodes_in}
+use Rattle.cql_syntax.specs.Meaning.{value, values}
+use Rattle.cql_syntax.specs.Trees.{FilterTree, filter_at, FormTree, sort, comment, FilterTrees, no_filters, more_filters, QueryTree}
+use Rattle.cql_syntax.specs.Values.{Value, holds, chosen_from}
+
+-- the tree that a query searches in a game
+abbrev pub tree_of : QueryTree → Game → SearchedTree
+tree_of q game = record { game = game; variations = q.variations }
+
+-- all items hold, in the empty context and without names
+abbrev pub is_hit : SearchedTree → FilterTrees → ℕ → Bool
+is_hit tree items n = list_all holds (values tree [] [] items n)
+
+-- the nodes of the searched tree at which all items hold, by number; a game matches where it has one
+unfoldable pub hits : QueryTree → Game → List ℕ
+hits q game = filter (is_hit (tree_of q game) q.items) (nodes_in (tree_of q game))
+
+-- the texts of the top comments, in the order of the items
+abbrev pub form_texts : FormTree → List (List ℕ)
+form_texts (comment text) = text ∷ []
+form_texts _ = []
+
+abbrev pub item_texts : FilterTree → List (List ℕ)
+item_texts (filter_at at f) = form_texts f
+
+abbrev pub comment_texts : FilterTrees → List (List ℕ)
+comment_texts no_filters = []
+comment_texts (more_filters f fs) = item_texts f ++ comment_texts fs
+
+-- the texts that each hit is marked with: the match string, and then the comments
+unfoldable pub marks : QueryTree → List (List ℕ)
+marks q = q.match_text ∷ comment_texts q.items
+
+-- by a sort item games are sorted with the greatest value over the hits, with `min` with the least
+abbrev pub key_of : Bool → List Value → Option ℤ
+key_of least vs = chosen_from (if least then int_min else int_max) vs
+
+abbrev pub form_keys : SearchedTree → List ℕ → FormTree → List (Option ℤ)
+form_keys tree found (sort least text f) = key_of least (map (value tree [] [] f) found) ∷ []
+form_keys tree found _ = []
+
+abbrev pub item_keys : SearchedTree → List ℕ → FilterTree → List (Option ℤ)
+item_keys tree found (filter_at at f) = form_keys tree found f
+
+abbrev pub all_keys : SearchedTree → List ℕ → FilterTrees → List (Option ℤ)
+all_keys tree found no_filters = []
+all_keys tree found (more_filters f fs) = item_keys tree found f ++ all_keys tree found fs
+
+-- one key for each sort item, the first item foremost
+unfoldable pub keys : QueryTree → Game → List (Option ℤ)
+keys q game = all_keys (tree_of q game) (hits q game) q.items

@@ -1,0 +1,53 @@
+//! The meaning of each word at worked rows, and laws of it for proofs in other crates.
+ghost use Rattle.cq_outside.specs.Spelling.{TestIsSpelling};
+ghost use Rattle.cql_syntax.specs.FamilyRows.{FamilyRows, DropRows, ImageRows};
+ghost use Rattle.cql_syntax.specs.LineRows.{LineRows, MoveRows};
+ghost use Rattle.cql_syntax.specs.NumberRows.{NumberRows, ComparisonRows};
+ghost use Rattle.cql_syntax.specs.PositionRows.{WordRows, HeaderRows, LogicRows, TreeRows};
+ghost use Rattle.cql_syntax.specs.SetRows.{SetRows, DirectionRows};
+ghost use Rattle.cql_syntax.specs.Values.{Value};
+ghost use Rattle.std.specs.Prelude.{ℕ};
+
+/// What the filters that are sets give in the initial array.
+#[tactic(auto, using(crate::proofs::SetRows::set_rows, crate::proofs::SetRows::direction_rows))]
+pub fn sets_are_as_worked()
+    ensures sets { SetRows }
+    ensures directions { DirectionRows }
+{}
+
+/// What the filters that are numbers give, and how numbers compare.
+#[tactic(auto, using(crate::proofs::NumberRows::number_rows, crate::proofs::NumberRows::comparison_rows))]
+pub fn numbers_are_as_worked()
+    ensures numbers { NumberRows }
+    ensures comparisons { ComparisonRows }
+{}
+
+/// Where the filters that are positions hold.
+#[tactic(auto, using(crate::proofs::PositionRows::word_rows, crate::proofs::PositionRows::header_rows, crate::proofs::PositionRows::logic_rows, crate::proofs::PositionRows::tree_rows))]
+pub fn positions_are_as_worked()
+    ensures words { WordRows }
+    ensures headers { HeaderRows }
+    ensures logic { LogicRows }
+    ensures tree { TreeRows }
+{}
+
+/// What lines give, and where the filter of the move holds.
+#[tactic(auto, using(crate::proofs::LineRows::line_rows, crate::proofs::LineRows::move_rows))]
+pub fn lines_and_moves_are_as_worked()
+    ensures lines { LineRows }
+    ensures moves { MoveRows }
+{}
+
+/// What families give, and which designators drop out of their members.
+#[tactic(auto, using(crate::proofs::FamilyRows::family_rows, crate::proofs::FamilyRows::drop_rows, crate::proofs::FamilyRows::image_rows))]
+pub fn families_are_as_worked()
+    ensures families { FamilyRows }
+    ensures drops { DropRows }
+    ensures images { ImageRows }
+{}
+
+/// A path passes the test of a line's pattern exactly where the pattern spells it.
+#[tactic(auto, using(cq_outside::proofs::SpellingLaw::spelling_law))]
+pub fn lines_are_tested_by_splits()
+    ensures { TestIsSpelling (ℕ → Value) }
+{}
