@@ -1,7 +1,7 @@
 #!/bin/sh
-# Measures the legal moves by processor time: lists a second, texts in Standard Algebraic Notation read a second, and nodes a second of
-# perft, beside stockfish's perft in the same run where it is installed. Each line of positions.txt is a position and the texts of its
-# legal moves. The program is built in a temporary copy of the repository, and the gate doesn't run it.
+# Measures the legal moves by processor time: lists a second, texts in Standard Algebraic Notation read and written a second, and nodes a
+# second of perft, beside stockfish's perft in the same run where it is installed. Each line of positions.txt is a position and the texts of
+# its legal moves. The program is built in a temporary copy of the repository, and the gate doesn't run it.
 # Usage: bench/moves.sh [ROUNDS]     (rounds over the positions, 100000 if left out)
 set -eu
 
@@ -27,7 +27,7 @@ cat > "$copy/crates/bench_moves/src/main.rt" <<'PROGRAM'
 use anyhow::{Context, Result};
 use cq_moves::{is_legal, legal_moves, play};
 use cq_position::{Position, read_fen};
-use cq_san::read_san;
+use cq_san::{read_san, san_text};
 use std::alloc::Global;
 use std::env;
 use std::io;
@@ -74,6 +74,19 @@ fn read_all(owners: &[Position], texts: &[&str], rounds: u32) -> u64 {
         }
     }
     moves
+}
+
+fn write_all(position: &Position, rounds: u32) -> u64 {
+    let moves = legal_moves(position);
+    let mut texts = 0u64;
+    for _round in 0..rounds {
+        for m in moves.as_slice() {
+            if is_legal(position, *m) && !san_text(position, *m).is_empty() {
+                texts = texts.saturating_add(1);
+            }
+        }
+    }
+    texts
 }
 
 fn rounds_asked(rt: &(impl Env + AllocGlobal)) -> Result<u32> {
@@ -135,6 +148,14 @@ fn main(rt: HostRuntime) -> Result<()> {
     let read = read_all(owners.as_slice(), texts.as_slice(), rounds / 10 + 1);
     let time = rt.process_cpu_time()?.saturating_sub(start);
     println!(rt; "SAN texts read a second: {}", a_second(read, time))?;
+
+    let start = rt.process_cpu_time()?;
+    let mut written = 0u64;
+    for position in positions.as_slice() {
+        written = written.saturating_add(write_all(position, rounds / 10 + 1));
+    }
+    let time = rt.process_cpu_time()?.saturating_sub(start);
+    println!(rt; "SAN texts written a second, each after the test of its move: {}", a_second(written, time))?;
 
     for (position, depth) in positions.as_slice().iter().zip([5, 4]) {
         let start = rt.process_cpu_time()?;

@@ -1,19 +1,19 @@
 -- An attacked square is one that an attacker is found from, outward along its lines and by its steps.
-use Rattle.std.proofs.Common.{◌≡◌, ℕ, ◌<◌, ◌+◌, Bool, true, false, cond, not, ◌&&◌, ◌||◌, ◌==◌, List, [], ◌∷◌, reverse, length, get_or, map, Option, Some, None, refl, inl, inr, sym, ap, ap₂, ◌∙◌, arith, pos, negsuc}
-use Rattle.std.specs.List.{All, Any, Contains, list_all, list_any, filter, filter_map}
+use Rattle.std.proofs.Common.{◌≡◌, ℕ, ◌<◌, Bool, true, false, cond, not, ◌&&◌, ◌||◌, ◌==◌, List, [], ◌∷◌, reverse, map, Option, Some, None, refl, inl, inr, sym, ap, ap₂, ◌∙◌, arith}
+use Rattle.std.specs.List.{All, list_all, list_any, filter}
 use Rattle.std.proofs.lemmas.Bool.{cases_Bool, eqb-true}
 use Rattle.std.proofs.Math.Bool.{or-false}
 use Rattle.std.proofs.lemmas.Bool.Decides.{nat_tests}
 use Rattle.std.proofs.lemmas.List.{reverse-append}
 use Rattle.std.proofs.lemmas.List.Elements.{All-head, All-tail, All-cons, All-nil, All-weaker}
-use Rattle.std.proofs.lemmas.List.Folds.{list_any_none, list_any-from_Any, list_all-append}
+use Rattle.std.proofs.lemmas.List.Folds.{list_all-append}
 use Rattle.cq_geometry.specs.declared.compass.Compass.{Compass}
 use Rattle.cq_geometry.specs.Squares.{squares, file_of, rank_of}
-use Rattle.cq_geometry.specs.Steps.{stepped, ray_from, files_apart, ranks_apart, is_king_step, is_knight_step, king_squares, knight_squares}
+use Rattle.cq_geometry.specs.Steps.{ray_from, is_king_step, is_knight_step, king_squares, knight_squares}
 use Rattle.cq_geometry.specs.Expansions.{king_goals, knight_goals, kept_goals}
 use Rattle.cq_geometry.specs.Directions.{files_of, ranks_of}
 use Rattle.cq_geometry.specs.Lines.{between_squares, is_open, is_orthogonal, is_diagonal, rising_of, falling_of, seen, sees, orthogonals, diagonals}
-use Rattle.cq_geometry.proofs.Board.{in_squares, squares_board}
+use Rattle.cq_geometry.proofs.Board.{squares_board}
 use Rattle.cq_geometry.proofs.Inside.{between_reversed}
 use Rattle.cq_geometry.proofs.Neighbors.{king_goals_kept, knight_goals_kept, king_steps_back, knight_steps_back}
 use Rattle.cq_geometry.proofs.Rays.{ray_board}

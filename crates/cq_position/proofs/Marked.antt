@@ -1,20 +1,16 @@
 -- Sets of squares as numbers, and what they hold.
-use Rattle.std.proofs.Common.{◌≡◌, ℕ, ◌+◌, ◌*◌, ◌%◌, ◌^◌, ◌<◌, ◌≤◌, max, Bool, true, false, cond, ◌&&◌, ◌||◌, eqb, List, [], ◌∷◌, map, Option, length, take, drop, get_or, refl, sym, ap, ◌∙◌, arith, inl, inr, pos, negsuc}
+use Rattle.std.proofs.Common.{◌≡◌, ℕ, ◌*◌, ◌%◌, ◌^◌, ◌<◌, max, Bool, true, false, ◌&&◌, ◌||◌, eqb, List, [], ◌∷◌, map, Option, refl, sym, ap, ◌∙◌, arith, inl, inr, pos, negsuc}
 use Rattle.std.specs.Prelude.{bit_or}
-use Rattle.std.specs.List.{filter}
-use Rattle.std.specs.Int.{w64}
 use Rattle.std.proofs.Math.Nat.{one-mul, mod-eq_of_lt}
 use Rattle.std.proofs.lemmas.Nat.{pow_below}
 use Rattle.std.proofs.Math.Bool.{or-false}
-use Rattle.std.proofs.lemmas.Bool.{cases_eq, eqb-true}
+use Rattle.std.proofs.lemmas.Bool.{cases_eq}
 use Rattle.std.proofs.lemmas.Bool.Decides.{nat_tests}
-use Rattle.std.proofs.lemmas.List.{take_more, drop_more, drop_all, append_assoc, append-nil}
-use Rattle.std.proofs.lemmas.List.Folds.{list_any_more}
-use Rattle.std.proofs.lemmas.Nat.Bits.{bit_at-zero, bit_at_or, bit_at_set_same, bit_at_set_other, bit_at-pow_same, bit_at-pow_other}
+use Rattle.std.proofs.lemmas.Nat.Bits.{bit_at-zero, bit_at_or, bit_at-pow_same, bit_at-pow_other}
 use Rattle.cq_geometry.specs.Squares.{squares}
-use Rattle.cq_geometry.specs.Steps.{stepped, is_king_step, is_knight_step, king_squares, knight_squares, ray_from}
+use Rattle.cq_geometry.specs.Steps.{stepped, is_king_step, is_knight_step, ray_from}
 use Rattle.cq_geometry.specs.Lines.{is_orthogonal, is_diagonal, is_open, seen}
-use Rattle.cq_geometry.proofs.Tables.{at_square, at_squares}
+use Rattle.cq_geometry.proofs.Tables.{at_squares}
 use Rattle.cq_geometry.proofs.Seen.{sees_orthogonals, sees_diagonals}
 use Rattle.cq_position.specs.declared.men.Side.TheVariants.{White, Black}
 use Rattle.cq_position.specs.Attacks.{is_goal, is_pawn_attack}

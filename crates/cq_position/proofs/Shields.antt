@@ -1,5 +1,5 @@
 -- Which attacks a man that leaves its square, or comes to one, uncovers or takes away.
-use Rattle.std.proofs.Common.{◌≡◌, ◌≢◌, ℕ, ◌<◌, Bool, true, false, cond, not, ◌&&◌, ◌||◌, ◌==◌, List, [], ◌∷◌, length, Option, Some, None, refl, inl, inr, sym, ap, ap₂, ◌∙◌, arith}
+use Rattle.std.proofs.Common.{◌≡◌, ◌≢◌, ℕ, ◌<◌, Bool, true, false, cond, not, ◌&&◌, ◌||◌, ◌==◌, List, [], ◌∷◌, length, Option, Some, None, refl, inl, inr, sym, ap, ap₂, ◌∙◌}
 use Rattle.std.specs.Prelude.{slice_set}
 use Rattle.std.specs.List.{list_all, list_any}
 use Rattle.std.proofs.lemmas.Bool.{cases_Bool, cases_eq, and_parts, and_from, or_parts, or_from, or_left, or_right, or_cases, eq-eqb, not-true, not_from_false, false_from_ne_true}
@@ -16,7 +16,7 @@ use Rattle.cq_position.specs.declared.men.Man.TheVariants.{K, Q, R, B, N, P, Bla
 use Rattle.cq_position.specs.declared.men.Side.{Side}
 use Rattle.cq_position.specs.declared.men.Side.TheVariants.{White, Black}
 use Rattle.cq_position.specs.Men.{same_man, is_of_side, king_of, pawn_of}
-use Rattle.cq_position.specs.Board.{man_at, stands}
+use Rattle.cq_position.specs.Board.{man_at}
 use Rattle.cq_position.specs.Attacks.{is_occupied, attacks_as, attacks, attacker, is_attacked}
 use Rattle.cq_position.specs.Bitboards.{contains}
 use Rattle.cq_position.specs.Outward.{first_man, is_straight, is_slanted, knight_of, first_is, holds, pawn_origins}

@@ -1,10 +1,8 @@
-use Rattle.std.proofs.Common.{◌≡◌, true, false, ap, ◌∙◌, sym, subst, arith, List}
-use Rattle.cq_position.specs.declared.men.Man.{Man}
+use Rattle.std.proofs.Common.{◌∙◌, sym, arith}
 use Rattle.cq_position.specs.Men.{king_of}
 use Rattle.cq_position.specs.Board.{stands}
-use Rattle.cq_position.specs.King.{IsKingSquare}
 use Rattle.cq_position.proofs.Kings.{king_somewhere, king_there, one_of_each}
-use Rattle.cq_position.proofs.Whole.{any_from, any_from-start, any_from-next, any_from-end}
+use Rattle.cq_position.proofs.Whole.{any_from-start, any_from-next, any_from-end}
 use Rattle.cq_position.proofs.king.king_square.Goals as goal
 
 pub loop-number-init : goal.loop-number-init

@@ -1,4 +1,4 @@
-use Rattle.std.proofs.Common.{◌≡◌, ℕ, Bool, true, false, refl, List, ◌∷◌, length, sym, ap, ◌∙◌, arith, to_z, w8}
+use Rattle.std.proofs.Common.{◌≡◌, ℕ, true, false, refl, List, ◌∷◌, length, sym, ap, ◌∙◌, arith, to_z, w8}
 use Rattle.cq_geometry.specs.Steps.{ray_from}
 use Rattle.cq_geometry.proofs.Rays.{ray_some, ray_none}
 use Rattle.cq_position.specs.declared.men.Man.{Man}
