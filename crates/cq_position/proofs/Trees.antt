@@ -1,12 +1,13 @@
 -- Trees of nodes: what they keep, and how they grow.
-use Rattle.std.proofs.Common.{◌≡◌, ℕ, ◌+◌, ◌-◌, ◌<◌, ◌≤◌, ◌⊎◌, ⊎_elim, List, [], ◌∷◌, ◌++◌, length, Some, None, sym, ap, ◌∙◌, subst, arith, length-append}
+use Rattle.std.proofs.Common.{◌≡◌, suc, zero, ℕ, ◌+◌, ◌-◌, ◌<◌, ◌≤◌, ◌⊎◌, ⊎_elim, List, [], ◌∷◌, ◌++◌, length, Some, None, sym, ap, ◌∙◌, subst, arith, length-append}
 use Rattle.std.specs.Prelude.{Contains}
 use Rattle.std.proofs.lemmas.List.{get_or_append_left, get_or_past}
 use Rattle.std.proofs.Math.Seq.{get_or-append_seam}
 use Rattle.cq_position.specs.declared.moves.Move.{Move}
 use Rattle.cq_position.specs.Legal.{Leads}
 use Rattle.cq_position.specs.Games.{Node, no_node, node_at, way_up, IsSamePlace, IsChild, IsTree}
-use Rattle.cq_position.proofs.Ancestors.{AreParentsFirst, HaveSameParents, way_same}
+use Rattle.cq_position.proofs.Ancestors.{AreParentsFirst, HaveSameParents, way_same, way_self, way_step}
+use Rattle.std.proofs.lemmas.List.Elements.{Contains-append_right}
 
 cases : (n k : ℕ) → (n ≡ 0) ⊎ ((0 < n) × (n < k)) ⊎ (k ≤ n)
 cases n k = grind arith
@@ -124,3 +125,21 @@ tree_push nodes x few may tree =
 
     new : (n : ℕ) → n ≡ length nodes → IsChild all n
     new n is = subst (IsChild all) (sym is) at_end
+
+root_within : (nodes : List Node) → IsTree nodes → (i n : ℕ) → n < i → n < length nodes → Contains (way_up nodes n) 0
+root_within nodes tree zero n h within = absurd (omega (arith, h))
+root_within nodes tree (suc i) n h within = ⊎_elim
+    (λ root. subst (λ k. Contains (way_up nodes k) 0) (sym root) (way_self nodes (tree_first nodes tree) 0))
+    (⊎_elim
+      (λ later. let child = tree.children n later.0 within in
+       subst (λ l. Contains l 0) (sym (way_step nodes (tree_first nodes tree) n child.number child.parent))
+       (Contains-append_right (n ∷ []) (way_up nodes child.number) 0 (root_within nodes tree i child.number (omega (arith, child.after, h)) (omega (arith, child.after, within)))))
+      (λ past. absurd (omega (arith, past, within))))
+    (cases n (length nodes))
+
+-- every way up ends at the root
+pub root_on_way : (nodes : List Node) → IsTree nodes → (n : ℕ) → n < length nodes → Contains (way_up nodes n) 0
+root_on_way nodes tree n h = root_within nodes tree (n + 1) n (omega arith) h
+
+pub self_on_way : (nodes : List Node) → IsTree nodes → (n : ℕ) → Contains (way_up nodes n) n
+self_on_way nodes tree n = way_self nodes (tree_first nodes tree) n
