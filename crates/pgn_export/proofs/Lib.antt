@@ -1,6 +1,5 @@
 pub mod Filled
 pub mod Closed
 pub mod Places
-pub mod Split
 pub mod Walk
 pub mod Puts

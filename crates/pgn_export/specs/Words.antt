@@ -1,6 +1,5 @@
 -- Words, and what stands directly before the first of them and directly after the last.
-use Rattle.std.specs.Prelude.{ℕ, Bool, not, List, [], ◌∷◌, ◌++◌, codes}
-use Rattle.cq_outside.specs.Text.{is_white}
+use Rattle.std.specs.Prelude.{ℕ, List, [], ◌∷◌, ◌++◌, codes}
 use Rattle.cq_position.specs.Comments.{words}
 
 abbrev pub opened : List ℕ → List (List ℕ) → List (List ℕ)
@@ -19,7 +18,3 @@ comment_words text = closed (codes "}") (opened (codes "{") (words text))
 -- a variation is written as its words, in parentheses (section 8.2.5)
 abbrev pub in_parens : List (List ℕ) → List (List ℕ)
 in_parens ws = closed (codes ")") (opened (codes "(") ws)
-
--- no white space
-abbrev pub is_dark : ℕ → Bool
-is_dark b = not (is_white b)

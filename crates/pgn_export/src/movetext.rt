@@ -1,6 +1,6 @@
 //! The movetext of a game as words.
 ghost use Rattle.std.specs.Prelude.{◌≡◌, ◌≢◌, ◌<◌, ◌≤◌, ◌+◌, ◌++◌, ◌∷◌, ◌||◌, [], ℕ, map, length, Some, OnOk, IfOk, IfSome, None, decimal};
-ghost use Rattle.std.specs.List.{flat_map, prefix_len};
+ghost use Rattle.std.specs.List.{flat_map};
 ghost use Rattle.std.specs.Option.{is_some};
 ghost use Rattle.cq_position.specs.declared.moves.Move.{Move as MoveValue};
 ghost use Rattle.cq_position.specs.Board.{Board};
@@ -10,14 +10,14 @@ ghost use Rattle.cq_position.specs.Legal.{Leads};
 ghost use Rattle.cq_san.specs.Writing.{san_text};
 ghost use Rattle.pgn_export.specs.Movetext as movetext;
 ghost use Rattle.pgn_export.specs.Places.{played_of, after_node, instead_of};
-ghost use Rattle.pgn_export.specs.Words.{is_dark, opened, closed, comment_words};
+ghost use Rattle.pgn_export.specs.Words.{opened, closed, comment_words};
 
 use crate::words::Words;
-use cq_outside::{NoMemory, is_white, white_len};
+use cq_outside::NoMemory;
 use cq_position::{GameResult, Move, Position, Side};
 use cq_san::san_text;
 use itoa::Buffer;
-use pgn_tree::Game;
+use pgn_tree::{Game, first_word};
 
 /// The marker of a result.
 pub(crate) fn result_text(ending: GameResult) -> &'static [u8]
@@ -229,26 +229,4 @@ fn write_words(words: &mut Words, text: &[u8]) -> Result<(), NoMemory>
         rest = after;
     }
     Ok(())
-}
-
-// The first word of a text, and what follows it; None where there is no word.
-fn first_word(text: &[u8]) -> Option<(&[u8], &[u8])>
-    ensures some { IfSome result (λ found. (words_of text.now ≡ found.0.now ∷ words_of found.1.now) × (length found.1.now < length text.now)) }
-    ensures none { result ≡ None → words_of text.now ≡ [] }
-{
-    let text = &text[white_len(text)..];
-    let len = word_len(text);
-    if len == 0 {
-        None
-    } else {
-        Some((&text[..len], &text[len..]))
-    }
-}
-
-// How many bytes at the start of a text are no white space.
-fn word_len(text: &[u8]) -> usize
-    ensures value { result ≡ prefix_len is_dark text.now }
-    ensures within { result ≤ length text.now }
-{
-    text.iter().take_while(|b| !is_white(**b)).count()
 }

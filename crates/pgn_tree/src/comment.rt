@@ -21,9 +21,9 @@ pub fn single_spaced(alloc: Global, text: &[u8]) -> Result<Bytes, NoMemory>
     Ok(comment)
 }
 
-// The first word, and what comes after it.
+/// The first word of a text, which white space ends, and what comes after it; None where the text has no word.
 #[tactic(auto, using(crate::proofs::Words::white_alone, crate::proofs::Words::first_of_words, crate::proofs::Words::shorter_after, std::proofs::lemmas::List::take_rest))]
-fn first_word(text: &[u8]) -> Option<(&[u8], &[u8])>
+pub fn first_word(text: &[u8]) -> Option<(&[u8], &[u8])>
     ensures words { MatchOption result (words text.now ≡ []) (λ cut. words text.now ≡ cut.0.now ∷ words cut.1.now) }
     ensures shorter { IfSome result (λ cut. length cut.1.now < length text.now) }
 {

@@ -8,6 +8,7 @@ mod game;
 mod node;
 mod tags;
 
+pub use comment::first_word;
 pub use cq_position::GameResult;
 pub use game::Game;
 pub use tags::Tags;
