@@ -30,8 +30,8 @@ use std::thread::Threads;
 /// - `ArchiveTooLong`: the archive has more than 2^30 bytes; nothing is written.
 /// - `NotYetRead`: the query or the archive is of another form; nothing is written.
 ///
-/// In all the others no count rose. `QueryRefused` does not come yet. The clause `Promise` says each of these exactly, and when an answer always comes; the
-/// table of statuses in README says what the program's user sees of it.
+/// In all the others no count rose. `QueryRefused` does not come yet. The clause `Promise` says each of these exactly, and
+/// when an answer always comes; the table of statuses in README says what the program's user sees of it.
 pub fn run<R: Threads + Sync, D: Desk, O: Sink, E: Sink, G: Gate + Sync>(
     _rt: &R,
     alloc: Global,
