@@ -3,6 +3,8 @@
 
 mod answer;
 mod bare_games;
+#[cfg(test)]
+mod failing;
 mod laws;
 mod query;
 mod reading;

@@ -13,7 +13,7 @@ use cq_outside::{Desk, Gate, NoMemory, Sink, write_all_of};
 use std::alloc::Global;
 use std::thread::Threads;
 
-/// Answers the words of a command, those behind the program's name.
+/// Answers the words of a command, those after the program's name.
 ///
 /// `eval TEXT` takes TEXT as the query and reads the archive from standard input, the desk's file `-`, to its end. `out`
 /// takes the exports of the games that match, in archive order, and `err` the report, or the usage line where the words
@@ -22,14 +22,16 @@ use std::thread::Threads;
 /// Answers:
 /// - `Done` or `DoneWithRefusals`: both sinks have taken all, and no game, or some, is refused for its FEN text.
 /// - `WordsRefused`: the words are others; the usage line is written.
-/// - `OpenFault` or `ReadFault`: a count of the desk rose; nothing is written.
-/// - `WriteFault`: a count of a sink rose; each sink has taken a front of its text, which may be all or nothing.
-/// - `NoMemory`: no memory was found; each sink has taken a front of its text.
+/// - `OpenFault` or `ReadFault`: that count of the desk rose, and no other; nothing is written.
+/// - `WriteFault`: a count of a sink rose, and none of the desk; the archive was read to its end, where a query is asked.
+///   Each sink has taken a prefix of its text, which may be all or nothing.
+/// - `NoMemory`: no memory was found, and no count rose; each sink has taken a prefix of its text. The words `eval TEXT`
+///   alone take memory.
 /// - `ArchiveTooLong`: the archive has more than 2^30 bytes; nothing is written.
 /// - `NotYetRead`: the query or the archive is of another form; nothing is written.
 ///
-/// `QueryRefused` does not come yet. The clause `Promise` says each of these exactly, and when an answer always comes; the
-/// table of statuses in README says what the program's user sees of it.
+/// In all the others no count rose. `QueryRefused` does not come yet. The clause `Promise` says each of these exactly, and
+/// when an answer always comes; the table of statuses in README says what the program's user sees of it.
 pub fn run<R: Threads + Sync, D: Desk, O: Sink, E: Sink, G: Gate + Sync>(
     _rt: &R,
     alloc: Global,
