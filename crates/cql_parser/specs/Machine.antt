@@ -1,0 +1,148 @@
+-- Reading token by token.
+use Rattle.std.specs.Prelude.{◌≡◌, ℕ, ◌+◌, Bool, true, false, List, [], ◌∷◌, ◌++◌, Option, Some, None, nat_le, fold}
+use Rattle.cql_syntax.specs.declared.token.QueryToken.{QueryToken}
+use Rattle.cql_parser.specs.declared.place.Context.{Context}
+use Rattle.cql_parser.specs.declared.place.Context.TheVariants.{Within}
+use Rattle.cql_parser.specs.declared.place.Heading.{Heading}
+use Rattle.cql_parser.specs.declared.place.Heading.TheVariants.{Start, ListDue, Params, FileDue, MatchDue, Over}
+use Rattle.cql_parser.specs.declared.place.Place.{Place}
+use Rattle.cql_parser.specs.declared.role.Joint.{Joint}
+use Rattle.cql_parser.specs.declared.role.Role.{Role}
+use Rattle.cql_parser.specs.declared.role.Role.TheVariants.{Word, Sign, Number, Name, Text, FileName, Outcome, Designator, End, Other}
+use Rattle.cql_parser.specs.Places.{role, heads, opens, goes, context, least, next, whole, level_of, depth_of, joint, joint_level, takes, joins}
+use Rattle.cql_parser.specs.Grammar.{Phrase, made, joined, Parts, first, add, put, root, end, Items, none, more}
+
+-- What is made of what is read: of the head of a query an H, of a rule's parts a D, of a filter an A, of items a B.
+pub record Builder (H D A B : Type 0) : Type 0 where
+  pub no_head : H
+  pub heard : H → QueryToken → H
+  pub first_of : QueryToken → Place → D
+  pub add_of : D → QueryToken → Place → D
+  pub put_of : D → A → Place → D
+  pub root_of : D → Place
+  pub end_of : D → Place
+  pub made_of : D → A
+  pub joined_of : ℕ → A → QueryToken → Joint → A → A
+  -- what is kept of a token between two filters
+  pub kept : QueryToken → QueryToken
+  pub none_of : B
+  pub more_of : B → A → B
+
+-- what is open: the parts of a rule, or a filter of a level and the token after it
+pub data Frame (D A : Type 0) : Type 0 where
+  Making : D → Frame D A
+  Joining : ℕ → A → QueryToken → Joint → Frame D A
+
+-- the innermost frame first; where no query goes on: for the depth alone, or by the grammar
+pub data State (H D A B : Type 0) : Type 0 where
+  Opening : H → Heading → State H D A B
+  Reading : H → B → List (Frame D A) → State H D A B
+  Done : H → B → State H D A B
+  Deep : State H D A B
+  Stuck : State H D A B
+
+-- how many rules that count are open
+abbrev pub depth : {H D A B : Type 0} → Builder H D A B → List (Frame D A) → ℕ
+depth m [] = 0
+depth m (Making d ∷ k) = depth m k + depth_of (m.root_of d)
+depth m (Joining l a x j ∷ k) = depth m k
+
+-- the least level of the filter that is due, and what is around it
+abbrev pub due : {H D A B : Type 0} → Builder H D A B → List (Frame D A) → ℕ
+due m [] = 0
+due m (Making d ∷ k) = least (m.end_of d)
+due m (Joining l a x j ∷ k) = joint_level j + 1
+
+abbrev pub around : {H D A B : Type 0} → Builder H D A B → List (Frame D A) → Context
+around m [] = Within
+around m (Making d ∷ k) = context (m.end_of d)
+around m (Joining l a x j ∷ k) = Within
+
+abbrev pub choose : {S : Type 0} → Bool → S → S → S
+choose true s u = s
+choose false s u = u
+
+abbrev pub open_if : {H D A B : Type 0} → Bool → Bool → State H D A B → State H D A B
+open_if true true s = s
+open_if true false s = Deep
+open_if false b s = Stuck
+
+abbrev pub begin_at : {H D A B : Type 0} → Builder H D A B → ℕ → H → B → List (Frame D A) → QueryToken → Option Place → State H D A B
+begin_at m limit h b k x None = Stuck
+begin_at m limit h b k x (Some s) =
+    open_if (nat_le (due m k) (level_of s)) (nat_le (depth m k + depth_of s) limit) (Reading h b (Making (m.first_of x s) ∷ k))
+
+-- a token where a filter is due
+abbrev pub start : {H D A B : Type 0} → Builder H D A B → ℕ → H → B → List (Frame D A) → QueryToken → Role → State H D A B
+start m limit h b k x r = begin_at m limit h b k x (opens (around m k) r)
+
+abbrev pub join : {H D A B : Type 0} → Builder H D A B → H → B → ℕ → A → List (Frame D A) → QueryToken → Option Joint → State H D A B
+join m h b l a k x None = Stuck
+join m h b l a k x (Some j) = choose (takes j l) (Reading h b (Joining l a (m.kept x) j ∷ k)) Stuck
+
+-- a token after an item
+abbrev pub after_item : {H D A B : Type 0} → Builder H D A B → ℕ → H → B → QueryToken → Role → State H D A B
+after_item m limit h b x End = Done h b
+after_item m limit h b x r = start m limit h b [] x r
+
+abbrev pub onward_by : {H D A B : Type 0} → Builder H D A B → ℕ → H → B → D → List (Frame D A) → QueryToken → Role → Option Place → Bool → State H D A B → State H D A B
+onward_by m limit h b d k x r (Some s) is_whole ended = Reading h b (Making (m.add_of d x s) ∷ k)
+onward_by m limit h b d k x r None true ended = ended
+onward_by m limit h b d k x r None false ended = start m limit h b (Making d ∷ k) x r
+
+-- a token after the parts of a rule; where the rule is at its end, what comes of the token is given
+abbrev pub onward : {H D A B : Type 0} → Builder H D A B → ℕ → H → B → D → List (Frame D A) → QueryToken → Role → State H D A B → State H D A B
+onward m limit h b d k x r ended = onward_by m limit h b d k x r (goes (m.end_of d) r) (whole (m.end_of d)) ended
+
+-- a token after a filter of a level
+unfoldable pub after : {H D A B : Type 0} → Builder H D A B → ℕ → H → B → ℕ → A → List (Frame D A) → QueryToken → Role → State H D A B
+after m limit h b l a [] x r = choose (joins 0 r) (join m h b l a [] x (joint r)) (after_item m limit h (m.more_of b a) x r)
+after m limit h b l a (Joining e f y j ∷ k) x r =
+    choose (joins (joint_level j + 1) r) (join m h b l a (Joining e f y j ∷ k) x (joint r))
+    (after m limit h b (joint_level j) (m.joined_of e f y j a) k x r)
+after m limit h b l a (Making d ∷ k) x r =
+    choose (joins (least (m.end_of d)) r) (join m h b l a (Making d ∷ k) x (joint r))
+    (onward m limit h b (m.put_of d a (next (m.end_of d))) k x r
+    (after m limit h b (level_of (m.root_of d)) (m.made_of (m.put_of d a (next (m.end_of d)))) k x r))
+
+abbrev pub head_to : {H D A B : Type 0} → Builder H D A B → H → Option Heading → State H D A B
+head_to m h None = Stuck
+head_to m h (Some Start) = Opening h Start
+head_to m h (Some ListDue) = Opening h ListDue
+head_to m h (Some Params) = Opening h Params
+head_to m h (Some FileDue) = Opening h FileDue
+head_to m h (Some MatchDue) = Opening h MatchDue
+head_to m h (Some Over) = Reading h m.none_of []
+
+unfoldable pub feed : {H D A B : Type 0} → Builder H D A B → ℕ → State H D A B → QueryToken → State H D A B
+feed m limit (Opening h place) x = head_to m (m.heard h x) (heads place (role x.kind))
+feed m limit (Reading h b []) x = start m limit h b [] x (role x.kind)
+feed m limit (Reading h b (Joining l a y j ∷ k)) x = start m limit h b (Joining l a y j ∷ k) x (role x.kind)
+feed m limit (Reading h b (Making d ∷ k)) x =
+    onward m limit h b d k x (role x.kind) (after m limit h b (level_of (m.root_of d)) (m.made_of d) k x (role x.kind))
+feed m limit (Done h b) x = Stuck
+feed m limit Deep x = Deep
+feed m limit Stuck x = Stuck
+
+abbrev pub run : {H D A B : Type 0} → Builder H D A B → ℕ → State H D A B → List QueryToken → State H D A B
+run m limit s ts = fold (feed m limit) s ts
+
+abbrev pub begun : {H D A B : Type 0} → Builder H D A B → State H D A B
+begun m = Opening m.no_head Start
+
+-- phrases as they are read
+abbrev pub written : Builder (List QueryToken) Parts Phrase Items
+written = record {
+  no_head = [];
+  heard = λ ts x. ts ++ (x ∷ []);
+  first_of = first;
+  add_of = add;
+  put_of = put;
+  root_of = root;
+  end_of = end;
+  made_of = made;
+  joined_of = λ l p x j q. joined p x j q;
+  kept = λ x. x;
+  none_of = none;
+  more_of = more;
+}

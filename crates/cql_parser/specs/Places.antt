@@ -1,0 +1,378 @@
+-- The places in the rules of the grammar, and what may stand at each.
+--
+-- A rule is written as the places that one passes along it. At a place a token may go on with the rule, a filter may be
+-- due, or the rule may be at its end. The levels of filters, from those that bind least: 0 or, 1 and, 2 pre, 3 comparison,
+-- 4 sum, 5 product, 6 union, 7 intersection, 8 pair, 9 unary, 10 primary.
+use Rattle.std.specs.Prelude.{ℕ, Bool, true, false, Option, None, Some, nat_le, nat_lt, ◌&&◌, if◌then◌else◌}
+use Rattle.cql_syntax.specs.Words.{word_of, sign_of}
+use Rattle.cql_syntax.specs.declared.leaves.Chain.{Chain}
+use Rattle.cql_syntax.specs.declared.leaves.Chain.TheVariants as chains
+use Rattle.cql_syntax.specs.declared.leaves.Pair.{Pair}
+use Rattle.cql_syntax.specs.declared.leaves.Pair.TheVariants as pairs
+use Rattle.cql_syntax.specs.declared.leaves.Unary.{Unary}
+use Rattle.cql_syntax.specs.declared.leaves.Unary.TheVariants as unaries
+use Rattle.cql_syntax.specs.declared.token.QueryTokenKind.{QueryTokenKind}
+use Rattle.cql_syntax.specs.declared.token.QueryTokenKind.TheVariants as tokens
+use Rattle.cql_syntax.specs.declared.words.Sign.{Sign as OneSign}
+use Rattle.cql_syntax.specs.declared.words.Sign.TheVariants as signs
+use Rattle.cql_syntax.specs.declared.words.Word.{Word as OneWord}
+use Rattle.cql_syntax.specs.declared.words.Word.TheVariants as meanings
+use Rattle.cql_parser.specs.declared.place.Context.{Context}
+use Rattle.cql_parser.specs.declared.place.Context.TheVariants.{Within, NoNumber, Along, Nowhere}
+use Rattle.cql_parser.specs.declared.place.Heading.{Heading}
+use Rattle.cql_parser.specs.declared.place.Heading.TheVariants.{Start, ListDue, Params, FileDue, MatchDue, Over}
+use Rattle.cql_parser.specs.declared.place.Place.{Place}
+use Rattle.cql_parser.specs.declared.place.Place.TheVariants.{Leaf, ResultDue, PlayerDue, TextDue, EloDue, Pre, PreDone, FindDue, Condition, ThenDue, Consequence, ElseDue, AllDue, NameDue, InDue, SquaresDue, MinDue, SortText, Tight, TightDone, Direction, OneNumber, TwoNumbers, BetweenOpen, BetweenFirst, BetweenSecond, BetweenClose, ListOpen, ListFirst, ListSecond, ListMore, Parens, ParensClose, Braces, BracesMore, Closed, LineStart, LineExtent, LineMost, LineArrow, Move, Origin, MovedFrom, Goal, MovedTo, Taken, MovedTaking, Promoted, Part, Bare, Count, Counted, UpTo, UpEnd, Marked}
+use Rattle.cql_parser.specs.declared.role.Joint.{Joint}
+use Rattle.cql_parser.specs.declared.role.Joint.TheVariants.{Chained, Added, Paired}
+use Rattle.cql_parser.specs.declared.role.Role.{Role}
+use Rattle.cql_parser.specs.declared.role.Role.TheVariants.{Word, Sign, Number, Name, Text, FileName, Outcome, Designator, End, Other}
+
+-- what a word or mark is, where there is one of the number
+abbrev pub word_role : Option OneWord → Role
+word_role (Some word) = Word word
+word_role None = Other
+
+abbrev pub sign_role : Option OneSign → Role
+sign_role (Some sign) = Sign sign
+sign_role None = Other
+
+-- what the grammar sees of a token; of a number, whether it is from 1 to 127
+unfoldable pub role : QueryTokenKind → Role
+role (tokens.Word number) = word_role (word_of number)
+role (tokens.Reserved name) = Other
+role (tokens.Name name) = Name
+role (tokens.Squares designator) = Designator
+role (tokens.Number number) = Number (nat_le 1 number && nat_le number 127)
+role (tokens.Text text) = Text
+role (tokens.FileName name) = FileName
+role (tokens.Outcome outcome) = Outcome
+role (tokens.Mark number) = sign_role (sign_of number)
+role tokens.End = End
+
+-- The head of a query, `cql ( {param} )`, where a parameter is `input` or `output` and the name of a file or a text,
+-- `matchstring` and a text, or `variations`.
+unfoldable pub heads : Heading → Role → Option Heading
+heads Start (Word meanings.Cql) = Some ListDue
+heads ListDue (Sign signs.Open) = Some Params
+heads Params (Word meanings.Input) = Some FileDue
+heads Params (Word meanings.Output) = Some FileDue
+heads Params (Word meanings.MatchString) = Some MatchDue
+heads Params (Word meanings.Variations) = Some Params
+heads Params (Sign signs.Close) = Some Over
+heads FileDue FileName = Some Params
+heads FileDue Text = Some Params
+heads MatchDue Text = Some Params
+heads heading role = None
+
+-- the place after a word that stands before one filter
+abbrev pub unary_place : Unary → Place
+unary_place unaries.Not = Pre
+unary_place unaries.Complement = Tight
+unary_place unaries.Count = Tight
+unary_place unaries.Power = Tight
+unary_place unaries.Light = Tight
+unary_place unaries.Dark = Tight
+unary_place unaries.Find = FindDue
+unary_place unaries.FindUp = Pre
+unary_place unaries.Child = Pre
+unary_place unaries.Parent = Pre
+
+-- the place after the first token of a filter, by the token
+abbrev pub begin : Role → Option Place
+begin Designator = Some Leaf
+begin (Number allowed) = Some Leaf
+begin Name = Some Leaf
+begin (Word (meanings.Plain word)) = Some Leaf
+begin (Word (meanings.Unary u)) = Some (unary_place u)
+begin (Word (meanings.Way way)) = Some Direction
+begin (Word (meanings.Family family)) = Some Pre
+begin (Word meanings.If) = Some Condition
+begin (Word meanings.Square) = Some AllDue
+begin (Word meanings.Line) = Some LineStart
+begin (Word meanings.Move) = Some Move
+begin (Word meanings.Sort) = Some MinDue
+begin (Word meanings.Result) = Some ResultDue
+begin (Word meanings.Player) = Some PlayerDue
+begin (Word meanings.Event) = Some TextDue
+begin (Word meanings.Site) = Some TextDue
+begin (Word meanings.Elo) = Some EloDue
+begin (Word meanings.Comment) = Some TextDue
+begin (Word meanings.Between) = Some BetweenOpen
+begin (Word meanings.Max) = Some ListOpen
+begin (Word meanings.Min) = Some ListOpen
+begin (Sign signs.Tilde) = Some Tight
+begin (Sign signs.Hash) = Some Tight
+begin (Sign signs.Open) = Some Parens
+begin (Sign signs.OpenBrace) = Some Braces
+begin role = None
+
+-- The same where a filter is due. Where a part of a line is due a
+-- parenthesis opens a group, which goes the way of the line. After a direction and two numbers no number begins the part.
+unfoldable pub opens : Context → Role → Option Place
+opens Nowhere role = None
+opens NoNumber (Number allowed) = None
+opens NoNumber role = begin role
+opens (Along back) (Sign signs.Open) = Some (Part true back)
+opens (Along back) role = begin role
+opens Within role = begin role
+
+-- the arrow of a line that goes this way
+abbrev pub arrow_place : Bool → Bool → OneSign → Option Place
+arrow_place group false signs.Arrow = Some (Part group false)
+arrow_place group true signs.BackArrow = Some (Part group true)
+arrow_place group back sign = None
+
+-- after a part of a line: one more part after the same arrow, or the end of the group
+abbrev pub part_goes : Bool → Bool → Role → Option Place
+part_goes true back (Sign signs.Close) = Some Closed
+part_goes group back (Sign sign) = arrow_place group back sign
+part_goes group back role = None
+
+-- The place to which a token goes on.
+unfoldable pub goes : Place → Role → Option Place
+-- `result RESULT`, `player [white|black] TEXT`, `event TEXT`, `site TEXT`, `comment TEXT`, `elo [white|black]`
+goes ResultDue Outcome = Some Leaf
+goes PlayerDue (Word meanings.White) = Some TextDue
+goes PlayerDue (Word meanings.Black) = Some TextDue
+goes PlayerDue Text = Some Leaf
+goes TextDue Text = Some Leaf
+goes EloDue (Word meanings.White) = Some Leaf
+goes EloDue (Word meanings.Black) = Some Leaf
+-- `find [<--] pre`
+goes FindDue (Sign signs.BackArrow) = Some Pre
+-- `if or then or else pre`
+goes ThenDue (Word meanings.Then) = Some Consequence
+goes ElseDue (Word meanings.Else) = Some Pre
+-- `square [all] NAME in union pre`
+goes AllDue (Word meanings.All) = Some NameDue
+goes AllDue Name = Some InDue
+goes NameDue Name = Some InDue
+goes InDue (Word meanings.In) = Some SquaresDue
+-- `sort [min] TEXT pre`
+goes MinDue (Word meanings.Min) = Some SortText
+goes MinDue Text = Some Pre
+goes SortText Text = Some Pre
+-- `DIRECTION [NUMBER [NUMBER]] nonum`
+goes Direction (Number allowed) = Some OneNumber
+goes OneNumber (Number allowed) = Some TwoNumbers
+-- `between ( or or )`, `max ( or or {or} )`, `( or )`, `{ item {item} }`
+goes BetweenOpen (Sign signs.Open) = Some BetweenFirst
+goes BetweenClose (Sign signs.Close) = Some Closed
+goes ListOpen (Sign signs.Open) = Some ListFirst
+goes ListMore (Sign signs.Close) = Some Closed
+goes ParensClose (Sign signs.Close) = Some Closed
+goes BracesMore (Sign signs.CloseBrace) = Some Closed
+-- `line [primary] [EXTENT EXTENT] ARROW con {ARROW con}`
+goes LineStart (Word meanings.Primary) = Some LineExtent
+goes LineStart (Number true) = Some LineMost
+goes LineStart (Sign signs.Arrow) = Some (Part false false)
+goes LineStart (Sign signs.BackArrow) = Some (Part false true)
+goes LineExtent (Number true) = Some LineMost
+goes LineExtent (Sign signs.Arrow) = Some (Part false false)
+goes LineExtent (Sign signs.BackArrow) = Some (Part false true)
+goes LineMost (Number true) = Some LineArrow
+goes LineArrow (Sign signs.Arrow) = Some (Part false false)
+goes LineArrow (Sign signs.BackArrow) = Some (Part false true)
+-- `move [from unary] [to unary] [capture unary] [promote unary]`
+goes Move (Word meanings.From) = Some Origin
+goes Move (Word meanings.To) = Some Goal
+goes Move (Word meanings.Capture) = Some Taken
+goes Move (Word meanings.Promote) = Some Promoted
+goes MovedFrom (Word meanings.To) = Some Goal
+goes MovedFrom (Word meanings.Capture) = Some Taken
+goes MovedFrom (Word meanings.Promote) = Some Promoted
+goes MovedTo (Word meanings.Capture) = Some Taken
+goes MovedTo (Word meanings.Promote) = Some Promoted
+goes MovedTaking (Word meanings.Promote) = Some Promoted
+-- the mark of a part: `*`, `+`, `?` or `{ NUMBER [, NUMBER] }`
+goes (Bare group back) (Sign signs.Star) = Some (Marked group back)
+goes (Bare group back) (Sign signs.Plus) = Some (Marked group back)
+goes (Bare group back) (Sign signs.Question) = Some (Marked group back)
+goes (Bare group back) (Sign signs.OpenBrace) = Some (Count group back)
+goes (Count group back) (Number allowed) = Some (Counted group back)
+goes (Counted group back) (Sign signs.CloseBrace) = Some (Marked group back)
+goes (Counted group back) (Sign signs.Comma) = Some (UpTo group back)
+goes (UpTo group back) (Number allowed) = Some (UpEnd group back)
+goes (UpEnd group back) (Sign signs.CloseBrace) = Some (Marked group back)
+-- a part of a line or group, with its mark or without one
+goes (Bare group back) role = part_goes group back role
+goes (Marked group back) role = part_goes group back role
+goes place role = None
+
+-- where a filter is due, what is around it
+unfoldable pub context : Place → Context
+context Pre = Within
+context FindDue = Within
+context Condition = Within
+context Consequence = Within
+context SquaresDue = Within
+context Tight = Within
+context Direction = Within
+context OneNumber = Within
+context TwoNumbers = NoNumber
+context BetweenFirst = Within
+context BetweenSecond = Within
+context ListFirst = Within
+context ListSecond = Within
+context ListMore = Within
+context Parens = Within
+context Braces = Within
+context BracesMore = Within
+context Origin = Within
+context Goal = Within
+context Taken = Within
+context Promoted = Within
+context (Part group back) = Along back
+context place = Nowhere
+
+-- the least level of the filter that is due
+unfoldable pub least : Place → ℕ
+least Pre = 2
+least FindDue = 2
+least Condition = 0
+least Consequence = 0
+least SquaresDue = 6
+least Tight = 9
+least Direction = 9
+least OneNumber = 9
+least TwoNumbers = 9
+least BetweenFirst = 0
+least BetweenSecond = 0
+least ListFirst = 0
+least ListSecond = 0
+least ListMore = 0
+least Parens = 0
+least Braces = 0
+least BracesMore = 0
+least Origin = 9
+least Goal = 9
+least Taken = 9
+least Promoted = 9
+least place = 10
+
+-- the place after it
+unfoldable pub next : Place → Place
+next Pre = PreDone
+next FindDue = PreDone
+next Condition = ThenDue
+next Consequence = ElseDue
+next SquaresDue = Pre
+next Tight = TightDone
+next Direction = TightDone
+next OneNumber = TightDone
+next TwoNumbers = TightDone
+next BetweenFirst = BetweenSecond
+next BetweenSecond = BetweenClose
+next ListFirst = ListSecond
+next ListSecond = ListMore
+next ListMore = ListMore
+next Parens = ParensClose
+next Braces = BracesMore
+next BracesMore = BracesMore
+next Origin = MovedFrom
+next Goal = MovedTo
+next Taken = MovedTaking
+next Promoted = PreDone
+next (Part group back) = Bare group back
+next place = Closed
+
+-- whether the rule may be at its end
+unfoldable pub whole : Place → Bool
+whole Leaf = true
+whole EloDue = true
+whole PreDone = true
+whole TightDone = true
+whole Closed = true
+whole Move = true
+whole MovedFrom = true
+whole MovedTo = true
+whole MovedTaking = true
+whole (Bare false back) = true
+whole (Marked false back) = true
+whole place = false
+
+-- the level of the filter whose first token leads to a place
+unfoldable pub level_of : Place → ℕ
+level_of Pre = 2
+level_of FindDue = 2
+level_of Condition = 2
+level_of AllDue = 2
+level_of MinDue = 2
+level_of LineStart = 2
+level_of Move = 2
+level_of Tight = 9
+level_of Direction = 9
+level_of place = 10
+
+-- how much deeper its parts stand
+unfoldable pub depth_of : Place → ℕ
+depth_of Pre = 1
+depth_of FindDue = 1
+depth_of Condition = 1
+depth_of AllDue = 1
+depth_of MinDue = 1
+depth_of LineStart = 1
+depth_of Move = 1
+depth_of Tight = 1
+depth_of Direction = 1
+depth_of BetweenOpen = 1
+depth_of ListOpen = 1
+depth_of Parens = 1
+depth_of Braces = 1
+depth_of (Part group back) = 1
+depth_of place = 0
+
+-- what a token between two filters makes of them
+unfoldable pub joint : Role → Option Joint
+joint (Word meanings.Or) = Some (Chained chains.Or)
+joint (Word meanings.And) = Some (Chained chains.And)
+joint (Word meanings.Attacks) = Some (Paired pairs.Attacks)
+joint (Word meanings.AttackedBy) = Some (Paired pairs.AttackedBy)
+joint (Sign signs.Less) = Some (Paired pairs.Less)
+joint (Sign signs.AtMost) = Some (Paired pairs.AtMost)
+joint (Sign signs.Equal) = Some (Paired pairs.Equal)
+joint (Sign signs.AtLeast) = Some (Paired pairs.AtLeast)
+joint (Sign signs.Greater) = Some (Paired pairs.Greater)
+joint (Sign signs.Plus) = Some (Added false)
+joint (Sign signs.Minus) = Some (Added true)
+joint (Sign signs.Star) = Some (Chained chains.Product)
+joint (Sign signs.Bar) = Some (Chained chains.Union)
+joint (Sign signs.Ampersand) = Some (Chained chains.Intersect)
+joint role = None
+
+abbrev pub chain_level : Chain → ℕ
+chain_level chains.Or = 0
+chain_level chains.And = 1
+chain_level chains.All = 9
+chain_level chains.Union = 6
+chain_level chains.Intersect = 7
+chain_level chains.Product = 5
+chain_level chains.Max = 9
+chain_level chains.Min = 9
+
+abbrev pub pair_level : Pair → ℕ
+pair_level pairs.Attacks = 8
+pair_level pairs.AttackedBy = 8
+pair_level pairs.Between = 9
+pair_level pairs.Less = 3
+pair_level pairs.AtMost = 3
+pair_level pairs.Equal = 3
+pair_level pairs.AtLeast = 3
+pair_level pairs.Greater = 3
+
+-- the level of a row of filters with such tokens between them
+unfoldable pub joint_level : Joint → ℕ
+joint_level (Chained c) = chain_level c
+joint_level (Added minus) = 4
+joint_level (Paired p) = pair_level p
+
+-- whether a filter of a level may stand before the token: a row goes on at its own level, a pair doesn't
+unfoldable pub takes : Joint → ℕ → Bool
+takes (Chained c) level = nat_le (chain_level c) level
+takes (Added minus) level = nat_le 4 level
+takes (Paired p) level = nat_lt (pair_level p) level
+
+-- whether a token joins filters to a row of at least this level
+abbrev pub joins : ℕ → Role → Bool
+joins level role = elim (joint role) [ Some j ↦ nat_le level (joint_level j) | None ↦ false ]

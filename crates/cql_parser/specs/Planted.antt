@@ -1,0 +1,34 @@
+-- The trees of what is read.
+use Rattle.std.specs.Prelude.{ℕ, List, [], ◌∷◌}
+use Rattle.cql_syntax.specs.Trees.{FilterTrees, no_filters, with_filter}
+use Rattle.cql_syntax.specs.declared.token.QueryToken.{QueryToken}
+use Rattle.cql_syntax.specs.declared.token.QueryTokenKind.TheVariants as tokens
+use Rattle.cql_parser.specs.declared.place.Place.{Place}
+use Rattle.cql_parser.specs.Drafts.{Node, Draft, draft_of, say, take, node_of, filter_of, joined_node, Opening, no_opening, hear}
+use Rattle.cql_parser.specs.Machine.{Builder}
+
+-- the place after the first token of a rule, the place after its last part, and what its parts say
+pub record Rule : Type 0 where
+  pub root : Place
+  pub end : Place
+  pub draft : Draft
+
+-- of a token between two filters nothing but what it makes of them is kept
+abbrev pub blank : QueryToken
+blank = record { at = 0; kind = tokens.End }
+
+abbrev pub planted : Builder Opening Rule Node FilterTrees
+planted = record {
+  no_head = no_opening;
+  heard = λ o x. hear o x x.kind;
+  first_of = λ x s. record { root = s; end = s; draft = draft_of x s };
+  add_of = λ r x s. record { root = r.root; end = s; draft = say r.draft x.kind r.end };
+  put_of = λ r a s. record { root = r.root; end = s; draft = take r.draft a r.end };
+  root_of = λ r. r.root;
+  end_of = λ r. r.end;
+  made_of = λ r. node_of r.draft;
+  joined_of = λ l p x j q. joined_node l p j q;
+  kept = λ x. blank;
+  none_of = no_filters;
+  more_of = λ fs a. with_filter fs (filter_of a);
+}

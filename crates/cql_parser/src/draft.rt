@@ -1,0 +1,434 @@
+//! A rule part by part, and the filter that it makes.
+ghost use Rattle.std.specs.Prelude.{◌≡◌, IfOk, OnOk};
+ghost use Rattle.std.specs.Option.{option_map};
+ghost use Rattle.cql_syntax.specs.TreeOf.{filter_tree, form_tree, body_tree, parts_tree, played_tree, written_tree};
+ghost use Rattle.cql_syntax.specs.Trees.{move_of};
+ghost use Rattle.cql_parser.specs.Drafts.{name_of, draft_of, say_word, next_part, say_sign, extent_of, say_number, say, take, need, field_of, search_of, form, form_of, with_body, node_of, filter_of, body_of as body_by};
+ghost use Rattle.cql_parser.specs.Shown.{node_shown, draft_shown};
+
+use crate::maker::{Maker, maker_of};
+use crate::place::Place;
+use cq_outside::{Bytes, NoMemory};
+use cql_syntax::{
+    Body, Chain, Constituent, Constituents, Extent, Field, Filter, Filters, Form, Line, Mark, Of,
+    Outcome, Pair, PathLength, Played, QueryToken, QueryTokenKind, Sign, Unary, Word, sign_of,
+    word_of,
+};
+use std::alloc::Global;
+
+/// A filter, or parts of a line in parentheses.
+#[derive(Drop)]
+pub enum Node {
+    Filter(Filter),
+    Group(Constituents),
+}
+
+/// What the tokens and filters along a rule say so far.
+#[derive(Drop)]
+pub struct Draft {
+    pub at: u32,
+    pub maker: Maker,
+    pub flag: bool,
+    pub back: bool,
+    pub side: Of,
+    pub result: Outcome,
+    pub text: Bytes,
+    pub least: u32,
+    pub most: u32,
+    pub extent: Extent,
+    pub slots: Slots,
+    pub row: Filters,
+    pub line: Parts,
+}
+
+/// The filters of a rule in which each has its place.
+#[derive(Drop)]
+pub struct Slots {
+    pub one: Option<Box<Filter>>,
+    pub two: Option<Box<Filter>>,
+    pub three: Option<Box<Filter>>,
+    pub last: Option<Box<Filter>>,
+}
+
+/// The parts of a line but for the last one, and the last one with its mark.
+#[derive(Drop)]
+pub struct Parts {
+    pub parts: Constituents,
+    pub body: Option<Body>,
+    pub mark: Mark,
+}
+
+// A name's text.
+fn copied_name(alloc: Global, kind: &QueryTokenKind) -> Result<Bytes, NoMemory>
+    ensures { IfOk result (λ text. text ≡ name_of kind.now) }
+{
+    match kind {
+        QueryTokenKind::Name(text) => Ok(Bytes::from_slice(alloc, text.as_slice())?),
+        _ => Ok(Bytes::new(alloc)),
+    }
+}
+
+// The lengths of paths from one number to another, both from 1 to 127.
+fn extent_between(least: Option<PathLength>, most: Option<PathLength>) -> Extent
+    ensures { result ≡ extent_of least most }
+{
+    match (least, most) {
+        (Some(least), Some(most)) => Extent::Within(least, most),
+        _ => Extent::Any,
+    }
+}
+
+impl Draft {
+    /// The first token of a rule, which leads to a place.
+    pub fn new(alloc: Global, token: &QueryToken, place: Place) -> Result<Draft, NoMemory>
+        ensures { IfOk result (λ d. draft_shown d ≡ draft_of token.now place) }
+    {
+        Ok(Draft {
+            at: token.at,
+            maker: maker_of(&token.kind, place),
+            flag: false,
+            back: false,
+            side: Of::Either,
+            result: Outcome::Unfinished,
+            text: copied_name(alloc, &token.kind)?,
+            least: 1,
+            most: 7,
+            extent: Extent::Any,
+            slots: Slots {
+                one: None,
+                two: None,
+                three: None,
+                last: None,
+            },
+            row: Filters::new(alloc),
+            line: Parts {
+                parts: Constituents::new(alloc),
+                body: None,
+                mark: Mark::Once,
+            },
+        })
+    }
+
+    // A word along the rule.
+    fn say_word(&mut self, word: Option<Word>)
+        ensures { draft_shown self.new ≡ say_word (draft_shown self.old) word }
+    {
+        match word {
+            Some(Word::White) => self.side = Of::White,
+            Some(Word::Black) => self.side = Of::Black,
+            Some(Word::All | Word::Min | Word::Primary) => self.flag = true,
+            _ => {}
+        }
+    }
+
+    // The next part of a line.
+    fn next_part(&mut self) -> Result<(), NoMemory>
+        ensures { OnOk result (draft_shown self.new ≡ next_part (draft_shown self.old)) }
+    {
+        if let Some(body) = self.line.body.take() {
+            self.line.parts.push(Constituent {
+                body,
+                mark: self.line.mark,
+            })?;
+        }
+        self.line.mark = Mark::Once;
+        Ok(())
+    }
+
+    // A mark along the rule.
+    fn say_sign(&mut self, sign: Option<Sign>) -> Result<(), NoMemory>
+        ensures { OnOk result (draft_shown self.new ≡ say_sign (draft_shown self.old) sign) }
+    {
+        match sign {
+            Some(Sign::Arrow) => self.next_part()?,
+            Some(Sign::BackArrow) => {
+                self.next_part()?;
+                self.back = true;
+            }
+            Some(Sign::Star) => self.line.mark = Mark::Star,
+            Some(Sign::Plus) => self.line.mark = Mark::Plus,
+            Some(Sign::Question) => self.line.mark = Mark::Maybe,
+            _ => {}
+        }
+        Ok(())
+    }
+
+    // A number along the rule.
+    fn say_number(&mut self, number: u32, place: Place)
+        ensures { draft_shown self.new ≡ say_number (draft_shown self.old) number place }
+    {
+        match place {
+            Place::OneNumber => {}
+            Place::LineMost => {
+                self.extent = extent_between(PathLength::new(self.least), PathLength::new(number));
+            }
+            Place::Count(..) => {
+                self.least = number;
+                self.line.mark = Mark::Times(number, number);
+            }
+            Place::UpTo(..) => self.line.mark = Mark::Times(self.least, number),
+            _ => self.least = number,
+        }
+        self.most = number;
+    }
+
+    /// A token along the rule, by the place before it.
+    pub fn add(&mut self, alloc: Global, token: &QueryToken, place: Place) -> Result<(), NoMemory>
+        ensures { OnOk result (draft_shown self.new ≡ say (draft_shown self.old) token.now.kind place) }
+    {
+        match &token.kind {
+            QueryTokenKind::Word(number) => self.say_word(word_of(*number)),
+            QueryTokenKind::Mark(number) => self.say_sign(sign_of(*number))?,
+            QueryTokenKind::Number(number) => self.say_number(*number, place),
+            QueryTokenKind::Text(text) | QueryTokenKind::Name(text) => {
+                self.text = Bytes::from_slice(alloc, text.as_slice())?;
+            }
+            QueryTokenKind::Outcome(outcome) => self.result = *outcome,
+            _ => {}
+        }
+        Ok(())
+    }
+
+    /// A filter along the rule, by the place before it.
+    pub fn put(&mut self, alloc: Global, node: Node, place: Place) -> Result<(), NoMemory>
+        ensures { OnOk result (draft_shown self.new ≡ take (draft_shown self.old) (node_shown node) place) }
+    {
+        match place {
+            Place::Condition | Place::SquaresDue | Place::BetweenFirst | Place::Origin => {
+                self.slots.one = Some(boxed(alloc, node)?);
+            }
+            Place::Consequence | Place::BetweenSecond | Place::Goal => {
+                self.slots.two = Some(boxed(alloc, node)?);
+            }
+            Place::Taken => self.slots.three = Some(boxed(alloc, node)?),
+            Place::ListFirst
+            | Place::ListSecond
+            | Place::ListMore
+            | Place::Braces
+            | Place::BracesMore => self.row.push(filter_in(node))?,
+            Place::Part(..) => self.line.body = Some(body_of(alloc, node)?),
+            _ => self.slots.last = Some(boxed(alloc, node)?),
+        }
+        Ok(())
+    }
+
+    // The form that the rule makes.
+    fn form(self, alloc: Global) -> Result<Form, NoMemory>
+        ensures { IfOk result (λ f. form_tree f ≡ form_of (draft_shown self) self.maker) }
+    {
+        let Draft {
+            maker,
+            flag,
+            back,
+            side,
+            result,
+            text,
+            least,
+            most,
+            extent,
+            slots,
+            row,
+            line,
+            ..
+        } = self;
+        Ok(match maker {
+            Maker::Designator(designator) => Form::Squares(designator),
+            Maker::Number(number) => Form::Number(number),
+            Maker::Name => Form::Name(text),
+            Maker::Plain(word) => Form::Plain(word),
+            Maker::Outcome => Form::Outcome(result),
+            Maker::Tagged(field) => Form::Tagged(field_of(field, side), text),
+            Maker::Elo => Form::Elo(side),
+            Maker::Comment => Form::Comment(text),
+            Maker::Unary(unary) => Form::Unary(search_of(unary, back), slots.last(alloc)?),
+            Maker::Direction(way) => Form::Steps(way, least, most, slots.last(alloc)?),
+            Maker::Family(family) => Form::Transform(family, slots.last(alloc)?),
+            Maker::If => {
+                let (condition, then, otherwise) = slots.three(alloc)?;
+                Form::If(condition, then, otherwise)
+            }
+            Maker::Square => {
+                let (squares, filter) = slots.first_and_last(alloc)?;
+                Form::Square(flag, text, squares, filter)
+            }
+            Maker::Sort => Form::Sort(flag, text, slots.last(alloc)?),
+            Maker::Between => {
+                let (first, second) = slots.two(alloc)?;
+                Form::Pair(Pair::Between, first, second)
+            }
+            Maker::List(chain) => Form::Chain(chain, row),
+            Maker::Parens => slots.inner(),
+            Maker::Line => Form::Line(Line {
+                back,
+                primary: flag,
+                extent,
+                parts: line.whole()?,
+            }),
+            Maker::Group => Form::Number(0),
+            Maker::Move => Form::Played(slots.played()),
+        })
+    }
+
+    /// What the rule makes at its end.
+    pub fn build(self, alloc: Global) -> Result<Node, NoMemory>
+        ensures { IfOk result (λ n. node_shown n ≡ node_of (draft_shown self)) }
+    {
+        match self.maker {
+            Maker::Group => {
+                let Draft { line, .. } = self;
+                Ok(Node::Group(line.whole()?))
+            }
+            _ => {
+                let at = self.at;
+                Ok(Node::Filter(Filter {
+                    at,
+                    form: self.form(alloc)?,
+                }))
+            }
+        }
+    }
+}
+
+impl Parts {
+    /// All parts.
+    fn whole(self) -> Result<Constituents, NoMemory>
+        ensures { IfOk result (λ cs. parts_tree cs ≡ with_body (parts_tree self.parts) (option_map body_tree self.body) self.mark) }
+    {
+        let Parts { parts, body, mark } = self;
+        let mut all = parts;
+        if let Some(body) = body {
+            all.push(Constituent { body, mark })?;
+        }
+        Ok(all)
+    }
+}
+
+impl Slots {
+    fn last(self, alloc: Global) -> Result<Box<Filter>, NoMemory>
+        ensures { IfOk result (λ f. filter_tree f.value ≡ need (written_tree self.last)) }
+    {
+        let Slots { last, .. } = self;
+        needed(alloc, last)
+    }
+
+    fn two(self, alloc: Global) -> Result<(Box<Filter>, Box<Filter>), NoMemory>
+        ensures { IfOk result (λ fs. (filter_tree fs.0.value ≡ need (written_tree self.one)) × (filter_tree fs.1.value ≡ need (written_tree self.two))) }
+    {
+        let Slots { one, two, .. } = self;
+        let first = needed(alloc, one)?;
+        Ok((first, needed(alloc, two)?))
+    }
+
+    fn first_and_last(self, alloc: Global) -> Result<(Box<Filter>, Box<Filter>), NoMemory>
+        ensures { IfOk result (λ fs. (filter_tree fs.0.value ≡ need (written_tree self.one)) × (filter_tree fs.1.value ≡ need (written_tree self.last))) }
+    {
+        let Slots { one, last, .. } = self;
+        let first = needed(alloc, one)?;
+        Ok((first, needed(alloc, last)?))
+    }
+
+    fn three(self, alloc: Global) -> Result<(Box<Filter>, Box<Filter>, Box<Filter>), NoMemory>
+        ensures { IfOk result (λ fs. (filter_tree fs.0.value ≡ need (written_tree self.one)) × (filter_tree fs.1.value ≡ need (written_tree self.two)) × (filter_tree fs.2.value ≡ need (written_tree self.last))) }
+    {
+        let Slots { one, two, last, .. } = self;
+        let first = needed(alloc, one)?;
+        let second = needed(alloc, two)?;
+        Ok((first, second, needed(alloc, last)?))
+    }
+
+    fn played(self) -> Played
+        ensures { played_tree result ≡ move_of (written_tree self.one) (written_tree self.two) (written_tree self.three) (written_tree self.last) }
+    {
+        let Slots {
+            one,
+            two,
+            three,
+            last,
+        } = self;
+        Played {
+            origin: one,
+            goal: two,
+            taken: three,
+            promoted: last,
+        }
+    }
+
+    // The form of a filter in parentheses.
+    fn inner(self) -> Form
+        ensures { form_tree result ≡ form (need (written_tree self.last)) }
+    {
+        let Slots { last, .. } = self;
+        match last {
+            Some(boxed) => {
+                let filter = Box::into_inner(boxed);
+                filter.form
+            }
+            None => Form::Number(0),
+        }
+    }
+}
+
+/// The filter of a part; parts of a line in parentheses stand nowhere but in a line.
+pub fn filter_in(node: Node) -> Filter
+    ensures { filter_tree result ≡ filter_of (node_shown node) }
+{
+    match node {
+        Node::Filter(filter) => filter,
+        Node::Group(_) => Filter {
+            at: 0,
+            form: Form::Number(0),
+        },
+    }
+}
+
+fn boxed(alloc: Global, node: Node) -> Result<Box<Filter>, NoMemory>
+    ensures { IfOk result (λ f. filter_tree f.value ≡ filter_of (node_shown node)) }
+{
+    Ok(Box::new(alloc, filter_in(node))?)
+}
+
+// A part of a line.
+fn body_of(alloc: Global, node: Node) -> Result<Body, NoMemory>
+    ensures { IfOk result (λ b. body_tree b ≡ body_by (node_shown node)) }
+{
+    match node {
+        Node::Filter(filter) => Ok(Body::Atom(Box::new(alloc, filter)?)),
+        Node::Group(parts) => Ok(Body::Group(parts)),
+    }
+}
+
+// A filter that a rule at its end has.
+fn needed(alloc: Global, filter: Option<Box<Filter>>) -> Result<Box<Filter>, NoMemory>
+    ensures { IfOk result (λ f. filter_tree f.value ≡ need (written_tree filter)) }
+{
+    match filter {
+        Some(filter) => Ok(filter),
+        None => Ok(Box::new(
+            alloc,
+            Filter {
+                at: 0,
+                form: Form::Number(0),
+            },
+        )?),
+    }
+}
+
+// Whose tag is meant.
+fn field_of(field: Field, side: Of) -> Field
+    ensures { result ≡ field_of field side }
+{
+    match field {
+        Field::Player(_) => Field::Player(side),
+        field => field,
+    }
+}
+
+// Which way `find` goes.
+fn search_of(unary: Unary, back: bool) -> Unary
+    ensures { result ≡ search_of unary back }
+{
+    match unary {
+        Unary::Find if back => Unary::FindUp,
+        unary => unary,
+    }
+}

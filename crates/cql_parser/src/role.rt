@@ -1,0 +1,160 @@
+//! What the grammar sees of a token.
+ghost use Rattle.std.specs.Prelude.{◌≡◌, ◌≤◌};
+ghost use Rattle.cql_parser.specs.Places.{role, word_role, sign_role, joint, joint_level, chain_level, pair_level, takes, joins};
+
+use cql_syntax::{Chain, Pair, QueryTokenKind, Sign, Word, sign_of, word_of};
+
+/// What a token between two filters makes of them.
+#[derive(Clone, Copy, Debug, PartialEq, Eq)]
+pub enum Joint {
+    Chained(Chain),
+    /// A sum; whether the filter after the token is subtracted.
+    Added(bool),
+    Paired(Pair),
+}
+
+/// What the grammar sees of a token.
+#[derive(Clone, Copy, Debug, PartialEq, Eq)]
+pub enum Role {
+    Word(Word),
+    Sign(Sign),
+    /// A number, and whether it is from 1 to 127.
+    Number(bool),
+    Name,
+    Text,
+    FileName,
+    Outcome,
+    Designator,
+    End,
+    /// A token that stands nowhere, as a reserved name.
+    Other,
+}
+
+// What a word is.
+fn word_role(word: Option<Word>) -> Role
+    ensures { result ≡ word_role word }
+{
+    match word {
+        Some(word) => Role::Word(word),
+        None => Role::Other,
+    }
+}
+
+// What a mark is.
+fn sign_role(sign: Option<Sign>) -> Role
+    ensures { result ≡ sign_role sign }
+{
+    match sign {
+        Some(sign) => Role::Sign(sign),
+        None => Role::Other,
+    }
+}
+
+/// What the grammar sees of a token.
+#[tactic(auto, unfolding(crate::specs::Places::role))]
+pub fn role_of(kind: &QueryTokenKind) -> Role
+    ensures { result ≡ role kind.now }
+{
+    match kind {
+        QueryTokenKind::Word(number) => word_role(word_of(*number)),
+        QueryTokenKind::Reserved(_) => Role::Other,
+        QueryTokenKind::Name(_) => Role::Name,
+        QueryTokenKind::Squares(_) => Role::Designator,
+        QueryTokenKind::Number(number) => Role::Number(1 <= *number && *number <= 127),
+        QueryTokenKind::Text(_) => Role::Text,
+        QueryTokenKind::FileName(_) => Role::FileName,
+        QueryTokenKind::Outcome(_) => Role::Outcome,
+        QueryTokenKind::Mark(number) => sign_role(sign_of(*number)),
+        QueryTokenKind::End => Role::End,
+    }
+}
+
+fn chain_level(chain: Chain) -> u8
+    ensures value { result ≡ chain_level chain }
+    ensures few { result ≤ 10 }
+{
+    match chain {
+        Chain::Or => 0,
+        Chain::And => 1,
+        Chain::Product => 5,
+        Chain::Union => 6,
+        Chain::Intersect => 7,
+        Chain::All | Chain::Max | Chain::Min => 9,
+    }
+}
+
+fn pair_level(pair: Pair) -> u8
+    ensures value { result ≡ pair_level pair }
+    ensures few { result ≤ 10 }
+{
+    match pair {
+        Pair::Less | Pair::AtMost | Pair::Equal | Pair::AtLeast | Pair::Greater => 3,
+        Pair::Attacks | Pair::AttackedBy => 8,
+        Pair::Between => 9,
+    }
+}
+
+/// The level of a row of filters with such tokens between them.
+#[tactic(auto, unfolding(crate::specs::Places::joint_level))]
+pub fn joint_level(joint: Joint) -> u8
+    ensures value { result ≡ joint_level joint }
+    ensures few { result ≤ 10 }
+{
+    match joint {
+        Joint::Chained(chain) => chain_level(chain),
+        Joint::Added(_) => 4,
+        Joint::Paired(pair) => pair_level(pair),
+    }
+}
+
+/// Whether a filter of a level may stand before the token.
+#[tactic(auto, unfolding(crate::specs::Places::takes))]
+pub fn takes(joint: Joint, level: u8) -> bool
+    ensures { result ≡ takes joint level }
+{
+    match joint {
+        Joint::Chained(chain) => chain_level(chain) <= level,
+        Joint::Added(_) => 4 <= level,
+        Joint::Paired(pair) => pair_level(pair) < level,
+    }
+}
+
+/// What a token between two filters makes of them, none of another token.
+#[tactic(auto, unfolding(crate::specs::Places::joint))]
+pub fn joint_of(role: Role) -> Option<Joint>
+    ensures { result ≡ joint role }
+{
+    match role {
+        Role::Word(word) => match word {
+            Word::Or => Some(Joint::Chained(Chain::Or)),
+            Word::And => Some(Joint::Chained(Chain::And)),
+            Word::Attacks => Some(Joint::Paired(Pair::Attacks)),
+            Word::AttackedBy => Some(Joint::Paired(Pair::AttackedBy)),
+            _ => None,
+        },
+        Role::Sign(sign) => match sign {
+            Sign::Less => Some(Joint::Paired(Pair::Less)),
+            Sign::AtMost => Some(Joint::Paired(Pair::AtMost)),
+            Sign::Equal => Some(Joint::Paired(Pair::Equal)),
+            Sign::AtLeast => Some(Joint::Paired(Pair::AtLeast)),
+            Sign::Greater => Some(Joint::Paired(Pair::Greater)),
+            Sign::Plus => Some(Joint::Added(false)),
+            Sign::Minus => Some(Joint::Added(true)),
+            Sign::Star => Some(Joint::Chained(Chain::Product)),
+            Sign::Bar => Some(Joint::Chained(Chain::Union)),
+            Sign::Ampersand => Some(Joint::Chained(Chain::Intersect)),
+            _ => None,
+        },
+        _ => None,
+    }
+}
+
+/// Whether a token joins filters to a row of at least this level.
+pub fn joins(level: u8, role: Role) -> bool
+    ensures { result ≡ joins level role }
+{
+    match joint_of(role) {
+        Some(joint) => level <= joint_level(joint),
+        None => false,
+    }
+}
