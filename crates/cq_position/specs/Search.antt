@@ -34,7 +34,8 @@ depth nodes n = count_by (begins_variation nodes) (way_up nodes n)
 -- The nodes to which a path goes on from a node: up (`back`) to its parent, or down to its children in the tree; with `primary` only
 -- between a node and its first child.
 abbrev pub next_in : SearchedTree → (back primary : Bool) → ℕ → List ℕ
-next_in tree true primary n = filter (λ p. not primary || is_first_child tree.game.nodes n) (option_to_list (node_at tree.game.nodes n).parent)
+next_in tree true primary n =
+    filter (λ p. not primary || is_first_child tree.game.nodes n) (option_to_list (node_at tree.game.nodes n).parent)
 next_in tree false primary n = filter (λ c. not primary || is_first_child tree.game.nodes c) (children_in tree n)
 
 -- the lists of one node up to so many that begin at n and go on so

@@ -7,3 +7,4 @@ mod NumberRows
 mod PositionRows
 mod LineRows
 mod FamilyRows
+mod HitRows

@@ -39,8 +39,8 @@ is_digit b = nat_le 48 b && nat_le b 57
 
 abbrev pub number_in : ℕ → List ℕ → Option ℤ
 number_in most text =
-    if nat_le 1 (length text) && nat_le (length text) most && list_all is_digit text then Some (pos (fold (λ n b. n * 10 + (b - 48)) 0 text))
-    else None
+    if nat_le 1 (length text) && nat_le (length text) most && list_all is_digit text
+    then Some (pos (fold (λ n b. n * 10 + (b - 48)) 0 text)) else None
 
 -- the first four bytes of the date, where they are digits
 abbrev pub year : Game → Option ℤ

@@ -1,8 +1,8 @@
 -- The hits of a query in a game, the comments that mark them, and what its games are sorted by.
-use Rattle.std.specs.Prelude.{ℕ, Bool, List, [], ◌∷◌, ◌++◌, map, Option, ℤ, if◌then◌else◌}
-use Rattle.std.specs.List.{list_all, filter}
+use Rattle.std.specs.Prelude.{ℕ, ◌==◌, fold, Bool, List, [], ◌∷◌, ◌++◌, map, Option, ℤ, if◌then◌else◌}
+use Rattle.std.specs.List.{list_all, list_any, filter}
 use Rattle.std.specs.Int.{int_max, int_min}
-use Rattle.cq_position.specs.Games.{Game}
+use Rattle.cq_position.specs.Games.{Game, Node, node_at, numbers, with_comment}
 use Rattle.cq_position.specs.Search.{SearchedTree, nodes_in}
 use Rattle.cql_syntax.specs.Meaning.{value, values}
 use Rattle.cql_syntax.specs.Trees.{FilterTree, filter_at, FormTree, sort, comment, FilterTrees, no_filters, more_filters, QueryTree}
@@ -35,6 +35,17 @@ comment_texts (more_filters f fs) = item_texts f ++ comment_texts fs
 -- the texts that each hit is marked with: the match string, and then the comments
 unfoldable pub marks : QueryTree → List (List ℕ)
 marks q = q.match_text ∷ comment_texts q.items
+
+-- The game in which each hit has the marks after its own comments, each as its words; a text without a word adds nothing.
+abbrev pub with_marks : List (List ℕ) → Node → Node
+with_marks texts node = fold (λ n text. with_comment text n) node texts
+
+abbrev pub marked_node : QueryTree → Game → ℕ → Node
+marked_node q game n =
+    if list_any (λ hit. hit == n) (hits q game) then with_marks (marks q) (node_at game.nodes n) else node_at game.nodes n
+
+unfoldable pub marked : QueryTree → Game → Game
+marked q game = record game { nodes = map (marked_node q game) (numbers game.nodes) }
 
 -- by a sort item games are sorted with the greatest value over the hits, with `min` with the least
 abbrev pub key_of : Bool → List Value → Option ℤ

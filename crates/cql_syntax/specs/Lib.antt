@@ -2,6 +2,7 @@ pub mod Contexts
 pub mod Extents
 pub mod FamilyRows
 pub mod Headers
+pub mod HitRows
 pub mod Hits
 pub mod Kinds
 pub mod LineRows

@@ -64,7 +64,8 @@ opening = record {
   tags = (codes "White", codes "Tal, M") ∷ (codes "Black", codes "Fine, R") ∷ (codes "Event", codes "Cup") ∷ (codes "Site", codes "Riga")
       ∷ (codes "Date", codes "1960.05.07") ∷ (codes "WhiteElo", codes "2700") ∷ (codes "BlackElo", codes "2650") ∷ [];
   result = WhiteWon;
-  nodes = root start_board ∷ move_node 0 (step 12 28 NoPromotion) after_e4 [] ∷ move_node 1 (step 52 36 NoPromotion) after_e5 (codes "x" ∷ [])
+  nodes = root start_board ∷ move_node 0 (step 12 28 NoPromotion) after_e4 []
+      ∷ move_node 1 (step 52 36 NoPromotion) after_e5 (codes "x" ∷ [])
       ∷ move_node 0 (step 11 27 NoPromotion) after_d4 [] ∷ [];
 }
 
@@ -108,7 +109,10 @@ bits_of (n ∷ ns) = 2 ^ n + bits_of ns
 
 -- men by their numbers on squares, neither whole ranks nor whole files
 abbrev pub on : List ℕ → List ℕ → FilterTree
-on men places = at (designator (record { men = bits_of men; part = record { squares = bits_of places; whole_ranks = false; whole_files = false } }))
+on men places = at (designator (record {
+  men = bits_of men;
+  part = record { squares = bits_of places; whole_ranks = false; whole_files = false };
+}))
 
 -- a man by its number on any square, and any man there
 abbrev pub all_squares : ℕ

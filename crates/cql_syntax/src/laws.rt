@@ -1,6 +1,7 @@
 //! The meaning of each word at worked rows, and laws of it for proofs in other crates.
 ghost use Rattle.cq_outside.specs.Spelling.{TestIsSpelling};
 ghost use Rattle.cql_syntax.specs.FamilyRows.{FamilyRows, DropRows, ImageRows};
+ghost use Rattle.cql_syntax.specs.HitRows.{HitRows};
 ghost use Rattle.cql_syntax.specs.LineRows.{LineRows, MoveRows};
 ghost use Rattle.cql_syntax.specs.NumberRows.{NumberRows, ComparisonRows};
 ghost use Rattle.cql_syntax.specs.PositionRows.{WordRows, HeaderRows, LogicRows, TreeRows};
@@ -44,6 +45,12 @@ pub fn families_are_as_worked()
     ensures families { FamilyRows }
     ensures drops { DropRows }
     ensures images { ImageRows }
+{}
+
+/// What queries hit, what they mark hits with, and what they sort by.
+#[tactic(auto, using(crate::proofs::HitRows::hit_rows))]
+pub fn hits_are_as_worked()
+    ensures { HitRows }
 {}
 
 /// A path passes the test of a line's pattern exactly where the pattern spells it.

@@ -1,0 +1,67 @@
+//! What a move led from and took.
+ghost use Rattle.std.specs.Prelude.{◌≡◌, not};
+ghost use Rattle.cq_position.specs.Legal.{is_none};
+ghost use Rattle.cq_position.specs.Men.{same_man};
+ghost use Rattle.cq_position.specs.declared.men.Man.TheVariants.{Empty};
+ghost use Rattle.cq_position.specs.Led.{taken_square};
+ghost use Rattle.cql_played.specs.Led.{led_as};
+
+use cq_geometry::{Square, file, rank, square_at};
+use cq_position::position::is_pawn;
+use cq_position::{Man, Move, Position, Promotion};
+
+/// What a move led from and took. Of castling these are the king's squares.
+#[derive(Clone, Copy, Debug, PartialEq, Eq)]
+pub struct Led {
+    /// The square that the man left.
+    pub origin: Square,
+    /// The square to which it went.
+    pub goal: Square,
+    /// The square of the man that it took: beside its origin where a pawn took in passing (FIDE Laws of Chess, article 3.7).
+    pub taken: Option<Square>,
+    /// Whether the move is a promotion.
+    pub promoted: bool,
+}
+
+/// What a move led from and took, given the position before it. None exactly where the move is null.
+#[tactic(auto, unfolding(cq_position::specs::Led::led))]
+pub fn led_by(before: &Position, m: Move) -> Option<Led>
+    ensures { result ≡ led_as before.now m }
+{
+    if m.null {
+        return None;
+    }
+    let played = &m;
+    Some(Led {
+        origin: played.from,
+        goal: played.to,
+        taken: taken_by(before, played),
+        promoted: is_promotion(played.promotion),
+    })
+}
+
+// The square on which a move takes a man.
+fn taken_by(before: &Position, m: &Move) -> Option<Square>
+    ensures { result ≡ taken_square before.now m.now }
+{
+    if is_man(before.at(m.to)) {
+        Some(m.to)
+    } else if is_pawn(before.at(m.from)) && file(m.from) != file(m.to) {
+        Some(square_at(file(m.to), rank(m.from)))
+    } else {
+        None
+    }
+}
+
+// Whether a man stands there.
+fn is_man(man: Man) -> bool
+    ensures { result ≡ not (same_man man Empty) }
+{
+    !matches!(man, Man::Empty)
+}
+
+fn is_promotion(promotion: Promotion) -> bool
+    ensures { result ≡ not (is_none promotion) }
+{
+    !matches!(promotion, Promotion::None)
+}

@@ -1,0 +1,23 @@
+-- The rows, by computation.
+use Rattle.std.proofs.Common.{refl}
+use Rattle.cq_geometry.specs.Squares as board
+use Rattle.cq_position.specs.Comments as comments
+use Rattle.cq_position.specs.Games as games
+use Rattle.cq_position.specs.Legal as legal
+use Rattle.cql_syntax.specs.Hits as found
+use Rattle.cql_syntax.specs.HitRows.{HitRows}
+use Rattle.cql_syntax.specs.Meaning.{value}
+
+pub hit_rows : HitRows
+unfolding value board.squares games.way_up games.first_child games.children games.searched legal.after comments.words found.hits found.marks found.marked found.keys
+hit_rows = record {
+  hits_in_variations = refl;
+  hits_on_main_line = refl;
+  all_items_hold = refl;
+  no_items = refl;
+  marks_in_order = refl;
+  greatest_key = refl;
+  least_key = refl;
+  no_key = refl;
+  marked_nodes = refl;
+}
