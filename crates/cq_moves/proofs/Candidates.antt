@@ -1,10 +1,8 @@
 -- Where a man goes is among its candidates.
 use Rattle.std.proofs.Common.{◌≡◌, ℕ, ◌<◌, Bool, true, false, not, ◌&&◌, ◌||◌, ◌==◌, map, refl, inl, inr, sym, ap, ◌∙◌}
-use Rattle.std.specs.List.{All}
 use Rattle.std.specs.Int.{bit_at}
 use Rattle.std.proofs.lemmas.Bool.{and_parts, or_cases, or_left, or_right, eqb-true, eq-eqb, false_from_ne_true}
 use Rattle.cq_geometry.specs.Squares.{squares}
-use Rattle.cq_geometry.proofs.Board.{squares_board}
 use Rattle.cq_geometry.proofs.Tables.{at_squares}
 use Rattle.cq_position.specs.declared.men.Man.{Man}
 use Rattle.cq_position.specs.declared.men.Man.TheVariants.{K, Q, R, B, N, P, BlackK, BlackQ, BlackR, BlackB, BlackN, BlackP, Empty}

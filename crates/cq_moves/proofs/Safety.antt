@@ -1,25 +1,25 @@
 -- When a move leaves the king safe.
-use Rattle.std.proofs.Common.{◌≡◌, ◌≢◌, ℕ, ◌<◌, Bool, true, false, cond, not, ◌&&◌, ◌==◌, List, length, refl, sym, ap, ◌∙◌, subst, inl, inr, arith}
+use Rattle.std.proofs.Common.{◌≡◌, ◌≢◌, ℕ, ◌<◌, true, false, cond, not, ◌==◌, length, refl, sym, ap, ◌∙◌, inl, inr, arith}
 use Rattle.std.specs.Prelude.{slice_set, nat_lt}
-use Rattle.std.proofs.lemmas.Bool.{cases_Bool, cases_eq, cond-true, cond-false, eq-eqb, eqb-true, false_from_ne_true, not_from_false, and_parts}
+use Rattle.std.proofs.lemmas.Bool.{cases_eq, cond-true, cond-false, eq-eqb, eqb-true, false_from_ne_true, not_from_false, and_parts}
 use Rattle.cq_geometry.specs.Steps.{files_apart}
 use Rattle.cq_position.specs.declared.men.Man.{Man}
 use Rattle.cq_position.specs.declared.men.Man.TheVariants.{K, Q, R, B, N, P, BlackK, BlackQ, BlackR, BlackB, BlackN, BlackP, Empty}
 use Rattle.cq_position.specs.declared.men.Side.{Side}
 use Rattle.cq_position.specs.declared.men.Side.TheVariants.{White, Black}
 use Rattle.cq_position.specs.declared.moves.Move.{Move}
-use Rattle.cq_position.specs.Men.{same_man, is_of_side, opponent, king_of, rook_of}
+use Rattle.cq_position.specs.Men.{same_man, is_of_side, opponent, king_of}
 use Rattle.cq_position.specs.Board.{Board, man_at, stands}
 use Rattle.cq_position.specs.Position.{IsPosition}
-use Rattle.cq_position.specs.Attacks.{is_attacked, in_check}
+use Rattle.cq_position.specs.Attacks.{is_attacked}
 use Rattle.cq_position.specs.King.{IsKingSquare}
-use Rattle.cq_position.specs.Legal.{is_pseudo_legal, is_castling, is_en_passant_capture, men_moved, men_after, rook_moved, promoted, castling_crossed}
+use Rattle.cq_position.specs.Legal.{is_pseudo_legal, is_castling, is_en_passant_capture, men_moved, men_after, rook_moved, promoted}
 use Rattle.cq_position.specs.Legality.{is_safe}
 use Rattle.cq_position.proofs.Kings.{king_there, one_of_each, check_is_at_king}
 use Rattle.cq_position.proofs.Shields.{covers_only}
 use Rattle.cq_moves.specs.Mover.{king_after, IsUnexposed}
-use Rattle.cq_moves.proofs.Boards.{stands-is, stands_there, man_at-set_same, man_at-set_other, length-set_man, EdgeFree-from}
-use Rattle.cq_moves.proofs.Steps.{Goes, goes, apart, it_lands}
+use Rattle.cq_moves.proofs.Boards.{stands-is, man_at-set_same, man_at-set_other, length-set_man, EdgeFree-from}
+use Rattle.cq_moves.proofs.Steps.{Goes, goes, it_lands}
 use Rattle.cq_moves.proofs.Castled.{castling_squares}
 use Rattle.cq_moves.proofs.Pawns.{beside}
 use Rattle.cq_moves.proofs.Ways.{Way, castled, captured, moved, way_after, moved_other, rook_other}

@@ -1,6 +1,6 @@
 -- The candidates of a man have all its legal moves.
 use Rattle.std.proofs.Common.{◌≡◌, ℕ, ◌<◌, false, ◌==◌, List, [], ◌++◌, sym, ap, ◌∙◌}
-use Rattle.std.specs.List.{All, flat_map, list_any}
+use Rattle.std.specs.List.{list_any}
 use Rattle.std.specs.Int.{bit_at}
 use Rattle.std.proofs.lemmas.List.Elements.{All-weaker}
 use Rattle.cq_geometry.specs.Squares.{squares}

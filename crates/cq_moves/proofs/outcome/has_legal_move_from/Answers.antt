@@ -1,4 +1,4 @@
-use Rattle.std.proofs.Common.{◌≡◌, ◌<◌, ◌^◌, ℕ, sym, ap, ap₂, ◌∙◌, arith, rules}
+use Rattle.std.proofs.Common.{◌<◌, ◌^◌, ℕ, sym, ap, ap₂, ◌∙◌, arith, rules}
 use Rattle.std.specs.List.{list_any}
 use Rattle.cq_position.specs.Men.{is_of_side}
 use Rattle.cq_position.specs.Legality.{legal_test}
