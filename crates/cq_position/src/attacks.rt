@@ -124,10 +124,10 @@ fn knight_squares(from: Square) -> u64
 }
 
 /// The squares that a queen on a square attacks: bit k of the answer is square k (FIDE Laws of Chess, articles 3.4 and 3.5).
-
 pub fn queen_squares(men: &[Man; 64], from: Square) -> u64
     requires { from < 64 }
-    ensures { IsBitboard result (λ to. (lines.is_orthogonal from to || lines.is_diagonal from to) && lines.is_open (attack.is_occupied men.now) from to) }
+    ensures { IsBitboard result (λ to.
+        (lines.is_orthogonal from to || lines.is_diagonal from to) && lines.is_open (attack.is_occupied men.now) from to) }
 {
     orthogonal_squares(men, from) | diagonal_squares(men, from)
 }
