@@ -10,7 +10,7 @@ ghost use Rattle.cq_position.specs.Men.{opponent, is_of_side, same_man};
 ghost use Rattle.cq_position.specs.declared.moves.Move.{Move as MoveValue};
 ghost use Rattle.cq_position.specs.Board.{Board};
 ghost use Rattle.cq_position.specs.Legal.{Legal};
-ghost use Rattle.cq_position.specs.Legality.{legal_test};
+ghost use Rattle.cq_position.specs.Legality.{legal_test, has_legal_move};
 
 use crate::position::Position;
 
@@ -25,6 +25,12 @@ pub fn equal_positions_have_equal_parts(p: &Position, q: &Position) -> bool
 #[tactic(auto, using(crate::proofs::Legality::legal_law))]
 pub fn test_is_the_legal_relation()
     ensures { (p : Board) (m : MoveValue) → (legal_test p m ≡ true) ↔ ((q : Board) × Legal p m q) }
+{}
+
+/// The side to move has a legal move by the test exactly where some move leads from the position to another.
+#[tactic(auto, using(crate::proofs::Legality::legal_move_law))]
+pub fn some_move_passes_where_one_is_legal()
+    ensures { (p : Board) → length p.men ≡ 64 → (has_legal_move p ≡ true) ↔ ((m : MoveValue) × (q : Board) × Legal p m q) }
 {}
 
 /// A side is in check exactly where the opponent attacks the square of its king.

@@ -8,3 +8,4 @@ mod PositionRows
 mod LineRows
 mod FamilyRows
 mod HitRows
+mod ValueKinds

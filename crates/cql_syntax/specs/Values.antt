@@ -25,6 +25,13 @@ pub data Value : Type 0 where
   as_squares : (ℕ → Bool) → Value
   as_number : Option ℤ → Value
 
+-- whether a value is of a kind
+abbrev pub is_of_kind : Kind → Value → Bool
+is_of_kind Position (as_truth b) = true
+is_of_kind Set (as_squares x) = true
+is_of_kind Number (as_number v) = true
+is_of_kind _ _ = false
+
 -- the squares of the board that pass a test
 abbrev pub squares_where : (ℕ → Bool) → Value
 squares_where test = as_squares (λ s. nat_lt s 64 && test s)

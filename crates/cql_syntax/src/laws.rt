@@ -1,13 +1,18 @@
 //! The meaning of each word at worked rows, and laws of it for proofs in other crates.
 ghost use Rattle.cq_outside.specs.Spelling.{TestIsSpelling};
+ghost use Rattle.cq_position.specs.Search.{SearchedTree};
+ghost use Rattle.cql_syntax.specs.Contexts.{Context};
 ghost use Rattle.cql_syntax.specs.FamilyRows.{FamilyRows, DropRows, ImageRows};
 ghost use Rattle.cql_syntax.specs.HitRows.{HitRows};
+ghost use Rattle.cql_syntax.specs.Kinds.{filter_kind};
 ghost use Rattle.cql_syntax.specs.LineRows.{LineRows, MoveRows};
+ghost use Rattle.cql_syntax.specs.Meaning.{Names, value};
 ghost use Rattle.cql_syntax.specs.NumberRows.{NumberRows, ComparisonRows};
 ghost use Rattle.cql_syntax.specs.PositionRows.{WordRows, HeaderRows, LogicRows, TreeRows};
 ghost use Rattle.cql_syntax.specs.SetRows.{SetRows, DirectionRows};
-ghost use Rattle.cql_syntax.specs.Values.{Value};
-ghost use Rattle.std.specs.Prelude.{ℕ};
+ghost use Rattle.cql_syntax.specs.Trees.{FilterTree};
+ghost use Rattle.cql_syntax.specs.Values.{Value, is_of_kind};
+ghost use Rattle.std.specs.Prelude.{◌≡◌, ℕ, true};
 
 /// What the filters that are sets give in the initial array.
 #[tactic(auto, using(crate::proofs::SetRows::set_rows, crate::proofs::SetRows::direction_rows))]
@@ -57,4 +62,11 @@ pub fn hits_are_as_worked()
 #[tactic(auto, using(cq_outside::proofs::SpellingLaw::spelling_law))]
 pub fn lines_are_tested_by_splits()
     ensures { TestIsSpelling (ℕ → Value) }
+{}
+
+/// The value of a filter is of the filter's kind.
+#[tactic(auto, using(crate::proofs::ValueKinds::value_is))]
+pub fn values_are_of_their_kind()
+    ensures { (tree : SearchedTree) (g : Context) (e : Names) (f : FilterTree) (n : ℕ) →
+        is_of_kind (filter_kind f) (value tree g e f n) ≡ true }
 {}
