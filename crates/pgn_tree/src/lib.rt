@@ -7,6 +7,8 @@ mod comment;
 mod game;
 mod node;
 mod tags;
+#[cfg(test)]
+mod tests;
 
 pub use cq_position::GameResult;
 pub use game::Game;
