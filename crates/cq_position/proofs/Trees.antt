@@ -131,10 +131,10 @@ root_within nodes tree zero n h within = absurd (omega (arith, h))
 root_within nodes tree (suc i) n h within = ⊎_elim
     (λ root. subst (λ k. Contains (way_up nodes k) 0) (sym root) (way_self nodes (tree_first nodes tree) 0))
     (⊎_elim
-      (λ later. let child = tree.children n later.0 within in
-       subst (λ l. Contains l 0) (sym (way_step nodes (tree_first nodes tree) n child.number child.parent))
-       (Contains-append_right (n ∷ []) (way_up nodes child.number) 0 (root_within nodes tree i child.number (omega (arith, child.after, h)) (omega (arith, child.after, within)))))
-      (λ past. absurd (omega (arith, past, within))))
+    (λ later. let child = tree.children n later.0 within in
+    subst (λ l. Contains l 0) (sym (way_step nodes (tree_first nodes tree) n child.number child.parent))
+    (Contains-append_right (n ∷ []) (way_up nodes child.number) 0 (root_within nodes tree i child.number (omega (arith, child.after, h)) (omega (arith, child.after, within)))))
+    (λ past. absurd (omega (arith, past, within))))
     (cases n (length nodes))
 
 -- every way up ends at the root

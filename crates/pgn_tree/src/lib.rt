@@ -7,6 +7,8 @@ mod comment;
 mod game;
 mod node;
 mod tags;
+#[cfg(test)]
+mod tests;
 
 pub use comment::first_word;
 pub use cq_position::GameResult;
