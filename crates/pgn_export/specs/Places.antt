@@ -1,8 +1,9 @@
 -- What is played after a node, and what is played instead of it, by the numbers of the nodes.
-use Rattle.std.specs.Prelude.{ℕ, ◌+◌, List, drop}
+use Rattle.std.specs.Prelude.{ℕ, ◌+◌, Bool, ◌||◌, List, drop}
 use Rattle.cq_position.specs.declared.moves.Move.{Move}
-use Rattle.cq_position.specs.Games.{Node}
+use Rattle.cq_position.specs.Games.{Node, node_at}
 use Rattle.cq_position.specs.Continuations.{Played, Continuations, continuations}
+use Rattle.pgn_export.specs.Movetext.{move_words, is_any, line_words, variation_words}
 
 -- what is written of a node to which a move led
 abbrev pub played_of : Node → Move → Played
@@ -19,3 +20,17 @@ after_node nodes k = children_from nodes k (k + 1)
 -- what is played instead of node k, of which the later siblings stand after it
 abbrev pub instead_of : List Node → (parent k : ℕ) → Continuations
 instead_of nodes parent k = children_from nodes parent (k + 1)
+
+-- the words of the move to a node, of the line after it, and of the variations that replace it
+abbrev pub words_to : List Node → (due : Bool) → (parent k : ℕ) → Move → List (List ℕ)
+words_to nodes due parent k m = move_words (node_at nodes parent).position due (played_of (node_at nodes k) m)
+
+abbrev pub words_after : List Node → (due : Bool) → ℕ → List (List ℕ)
+words_after nodes due k = line_words (node_at nodes k).position due (after_node nodes k)
+
+abbrev pub words_instead_of : List Node → (parent k : ℕ) → List (List ℕ)
+words_instead_of nodes parent k = variation_words (node_at nodes parent).position (instead_of nodes parent k)
+
+-- a node has a glyph or a comment
+abbrev pub has_notes : Node → Bool
+has_notes n = is_any n.nags || is_any n.comments

@@ -22,9 +22,14 @@ is_in_roster name = list_any (λ t. bytes_eq name t.0) roster || bytes_eq name (
 unfoldable pub roster_tag : List (List ℕ × List ℕ) → List ℕ × List ℕ → List ℕ × List ℕ
 roster_tag tags t = (t.0, unwrap_or (tag_value t.0 tags) t.1)
 
--- tags in the ASCII order of their names (section 8.1.1), each put in its place among those before; a name that is there takes the new value
+-- tags in the ASCII order of their names (section 8.1.1), each put in its place among those before; a name that is there takes
+-- the new value
 abbrev pub put : List (List ℕ × List ℕ) → List ℕ × List ℕ → List (List ℕ × List ℕ)
 put tags t = insert_entry (slice_cmp nat_cmp) tags t.0 t.1
+
+-- the same for the tags that are not of the roster alone
+abbrev pub put_other : List (List ℕ × List ℕ) → List ℕ × List ℕ → List (List ℕ × List ℕ)
+put_other tags t = if is_in_roster t.0 then tags else put tags t
 
 abbrev pub sorted : List (List ℕ × List ℕ) → List (List ℕ × List ℕ)
 sorted tags = fold put [] tags

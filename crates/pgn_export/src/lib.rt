@@ -11,3 +11,6 @@ mod tag_lines;
 mod words;
 
 pub use game::export;
+
+#[cfg(test)]
+mod tests;

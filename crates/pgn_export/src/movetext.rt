@@ -9,7 +9,7 @@ ghost use Rattle.cq_position.specs.Games.{node_at, first_child, next_sibling};
 ghost use Rattle.cq_position.specs.Legal.{Leads};
 ghost use Rattle.cq_san.specs.Writing.{san_text};
 ghost use Rattle.pgn_export.specs.Movetext as movetext;
-ghost use Rattle.pgn_export.specs.Places.{played_of, after_node, instead_of};
+ghost use Rattle.pgn_export.specs.Places.{words_to, words_after, words_instead_of, has_notes};
 ghost use Rattle.pgn_export.specs.Words.{opened, closed, comment_words};
 
 use crate::words::Words;
@@ -46,7 +46,7 @@ pub(crate) fn write_movetext(words: &mut Words, game: &Game) -> Result<(), NoMem
 #[cycle(writing)]
 fn write_line(words: &mut Words, game: &Game, of: u32, due: bool) -> Result<(), NoMemory>
     requires { of < length game.now.nodes }
-    ensures { OnOk result (words.new ≡ words.old ++ movetext.line_words (node_at game.now.nodes of).position due (after_node game.now.nodes of)) }
+    ensures { OnOk result (words.new ≡ words.old ++ words_after game.now.nodes due of) }
 {
     let _len = game.len();
     let mut at = of;
@@ -70,7 +70,7 @@ fn write_variations(
 ) -> Result<(), NoMemory>
     requires node { beside < length game.now.nodes }
     requires parent { (node_at game.now.nodes beside).parent ≡ Some parent }
-    ensures { OnOk result (words.new ≡ words.old ++ movetext.variation_words (node_at game.now.nodes parent).position (instead_of game.now.nodes parent beside)) }
+    ensures { OnOk result (words.new ≡ words.old ++ words_instead_of game.now.nodes parent beside) }
 {
     let _len = game.len();
     let mut at = beside;
@@ -107,7 +107,7 @@ fn sibling_of(game: &Game, parent: u32, k: u32) -> Option<u32>
 // Whether a number is due after a node in its line: after a glyph, a comment or a variation.
 fn is_due_in_line(game: &Game, k: u32) -> bool
     requires { k < length game.now.nodes }
-    ensures { result ≡ (movetext.is_any (node_at game.now.nodes k).nags || movetext.is_any (node_at game.now.nodes k).comments || is_some (next_sibling game.now.nodes k)) }
+    ensures { result ≡ (has_notes (node_at game.now.nodes k) || is_some (next_sibling game.now.nodes k)) }
 {
     is_due(game, k) || game.next_sibling(k).is_some()
 }
@@ -115,7 +115,7 @@ fn is_due_in_line(game: &Game, k: u32) -> bool
 // Whether a number is due after a node without variations: after a glyph or a comment.
 fn is_due(game: &Game, k: u32) -> bool
     requires { k < length game.now.nodes }
-    ensures { result ≡ (movetext.is_any (node_at game.now.nodes k).nags || movetext.is_any (node_at game.now.nodes k).comments) }
+    ensures { result ≡ (has_notes (node_at game.now.nodes k)) }
 {
     !game.nags(k).is_empty() || game.comments(k) > 0
 }
@@ -132,7 +132,7 @@ fn write_move(
     requires node { k < length game.now.nodes }
     requires parent { (node_at game.now.nodes k).parent ≡ Some parent }
     ensures { OnOk result ((m : MoveValue) → (node_at game.now.nodes k).led_by ≡ Some m →
-        words.new ≡ words.old ++ opened mark.now (movetext.move_words (node_at game.now.nodes parent).position due (played_of (node_at game.now.nodes k) m))) }
+        words.new ≡ words.old ++ opened mark.now (words_to game.now.nodes due parent k m)) }
 {
     let _len = game.len();
     let Some(m) = game.move_to(k) else {

@@ -1,5 +1,5 @@
 //! The tag lines of a game.
-ghost use Rattle.std.specs.Prelude.{◌≡◌, ◌++◌, not, filter, map, OnOk, IfOk, if◌then◌else◌};
+ghost use Rattle.std.specs.Prelude.{◌≡◌, ◌++◌, not, filter, map, OnOk, IfOk};
 ghost use Rattle.std.specs.List.{flat_map};
 ghost use Rattle.std.specs.Option.{unwrap_or};
 ghost use Rattle.cq_position.specs.Games.{tag_value};
@@ -123,7 +123,7 @@ fn put_other(
     name: &[u8],
     value: &[u8],
 ) -> Result<(), NoMemory>
-    ensures { OnOk result (plain others.new.entries ≡ (if tag_lines.is_in_roster name.now then plain others.old.entries else tag_lines.put (plain others.old.entries) (name.now, value.now))) }
+    ensures { OnOk result (plain others.new.entries ≡ tag_lines.put_other (plain others.old.entries) (name.now, value.now)) }
 {
     if is_in_roster(name) {
         return Ok(());
