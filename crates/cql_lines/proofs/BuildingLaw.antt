@@ -1,9 +1,9 @@
 -- The rules of a pattern are places for it.
-use Rattle.std.proofs.Common.{◌≡◌, ℕ, zero, suc, ◌+◌, ◌-◌, ◌*◌, ◌<◌, ◌≤◌, List, [], ◌∷◌, ◌++◌, length, refl, sym, ap, ◌∙◌, subst, Bool, true, false, Option, Some, None, arith, slice_get, length-append}
+use Rattle.std.proofs.Common.{◌≡◌, ℕ, zero, suc, ◌+◌, ◌-◌, ◌*◌, List, [], ◌∷◌, ◌++◌, length, refl, sym, ap, ◌∙◌, Bool, true, Some, None, arith, slice_get, length-append}
 use Rattle.cql_lines.specs.declared.automaton.Next.{Next}
 use Rattle.cql_lines.specs.declared.automaton.Rule.{Rule}
 use Rattle.cq_outside.specs.Spelling.{Pattern, one, nothing, joined, repeated}
-use Rattle.cql_lines.specs.Places.{when, begins, null_times, nullable, Built, BuiltTimes}
+use Rattle.cql_lines.specs.Places.{begins, null_times, nullable, Built, BuiltTimes}
 use Rattle.cql_lines.specs.Building.{size, firsts_times, firsts, rows_times, rows, IsPlain}
 
 get_left : (xs ys : List Rule) (i : ℕ) (r : Rule) → slice_get xs i ≡ Some r → slice_get (xs ++ ys) i ≡ Some r

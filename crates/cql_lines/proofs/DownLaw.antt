@@ -1,17 +1,13 @@
 -- One node more.
-use Rattle.std.proofs.Common.{◌≡◌, ◌==◌, ℕ, zero, suc, ◌+◌, ◌-◌, ◌<◌, ◌≤◌, max, Bool, true, false, List, [], ◌∷◌, ◌++◌, length, get_or, refl, sym, ap, ◌∙◌, subst, Option, Some, None, inl, inr, arith, slice_get}
+use Rattle.std.proofs.Common.{◌≡◌, ℕ, ◌+◌, ◌<◌, ◌≤◌, max, Bool, false, List, length, sym, ap, ◌∙◌, subst, Option, Some, None, inl, inr, arith}
 use Rattle.std.specs.Prelude.{◌⊎◌}
-use Rattle.std.proofs.lemmas.Bool.{cases_lt, cases_Bool, cases_eq}
-use Rattle.std.proofs.lemmas.Option.{slice_get_within, slice_get_past, slice_get-get_or}
+use Rattle.std.proofs.lemmas.Bool.{cases_lt, cases_eq}
 use Rattle.cql_lines.specs.declared.automaton.Rule.{Rule}
 use Rattle.cql_lines.specs.declared.table.Spot.{Spot}
-use Rattle.cql_lines.specs.Places.{IsIn, from, Accepts}
-use Rattle.cql_lines.specs.Ways.{Follow, FromPlace, Below, IsGreatest}
-use Rattle.cql_lines.specs.Lengths.{is_set, at, greatest_in, farther, place_value}
+use Rattle.cql_lines.specs.Ways.{FromPlace, Below, IsGreatest}
+use Rattle.cql_lines.specs.Lengths.{at}
 use Rattle.cql_lines.specs.Shapes.{joined, Edge}
-use Rattle.cql_lines.specs.Down.{holds, cell, Late, Stands, Read, IsLongest, found, AnswerAt, Passed}
-use Rattle.cql_lines.proofs.WaysLaw.{place_here, place_off, read_here}
-use Rattle.cql_lines.proofs.Bits.{greatest_small}
+use Rattle.cql_lines.specs.Down.{holds, cell, Late, Stands, Passed}
 
 -- the greatest of the numbers of two kinds
 pub greatest_of_two : (P Q R : ℕ → Type 0) (a b : ℕ) → IsGreatest P a → IsGreatest Q b → ((k : ℕ) → R k → P k ⊎ Q k) → ((k : ℕ) → P k → R k) → ((k : ℕ) → Q k → R k) → IsGreatest R (max a b)

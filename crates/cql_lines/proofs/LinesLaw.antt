@@ -1,11 +1,11 @@
 -- From what the places read to what the pattern spells.
-use Rattle.std.proofs.Common.{◌≡◌, ℕ, zero, suc, ◌+◌, ◌-◌, ◌*◌, ◌<◌, ◌≤◌, List, [], ◌∷◌, ◌++◌, length, refl, sym, ap, ◌∙◌, subst, Bool, true, false, Option, Some, None, inl, inr, arith, slice_get}
+use Rattle.std.proofs.Common.{◌≡◌, ℕ, zero, suc, ◌+◌, ◌-◌, ◌*◌, ◌<◌, List, [], ◌∷◌, ◌++◌, length, sym, ap, ◌∙◌, subst, Bool, true, false, Option, Some, None, inl, inr, arith, slice_get}
 use Rattle.std.specs.Prelude.{◌⊎◌}
 use Rattle.cql_lines.specs.declared.automaton.Next.{Next}
 use Rattle.cql_lines.specs.declared.automaton.Rule.{Rule}
 use Rattle.cql_lines.specs.declared.plain.Plain.{Plain as Given, Atom, Empty, Both', Star', Plus', Times'}
 use Rattle.cq_outside.specs.Spelling.{Pattern, one, nothing, joined, repeated}
-use Rattle.cql_lines.specs.Places.{when, begins, null_times, nullable, Built}
+use Rattle.cql_lines.specs.Places.{begins, null_times, nullable, Built}
 use Rattle.cql_lines.specs.Building.{size, firsts_times, firsts, rows_times, rows, IsPlain, AtomsBelow}
 use Rattle.cql_lines.specs.Ways.{Line}
 use Rattle.cql_lines.specs.Down.{Read, IsLongest, AnswerAt, holds}

@@ -1,12 +1,12 @@
 -- A bit that is put into a table, and a node that is added to a tree.
-use Rattle.std.proofs.Common.{◌≡◌, ◌≢◌, ℕ, zero, suc, ◌+◌, ◌<◌, ◌⊎◌, inl, inr, Bool, true, false, ◌&&◌, ◌||◌, not, List, [], ◌∷◌, ◌++◌, length, get_or, Option, Some, None, slice_get, slice_set, refl, sym, ap, ◌∙◌, subst, arith}
+use Rattle.std.proofs.Common.{◌≡◌, ◌≢◌, ℕ, zero, suc, ◌<◌, ◌⊎◌, inl, inr, Bool, true, false, ◌&&◌, ◌||◌, not, List, [], ◌∷◌, ◌++◌, length, get_or, Option, Some, None, slice_get, slice_set, refl, sym, ap, ◌∙◌, subst, arith}
 use Rattle.std.specs.Prelude.{if◌then◌else◌, IfSome}
 use Rattle.std.proofs.lemmas.Bool.{cases_eq}
 use Rattle.std.proofs.lemmas.List.{get_or-set_same, get_or-set_other}
 use Rattle.cql_lines.specs.declared.table.Spot.{Spot}
 use Rattle.cql_lines.specs.Lengths.{is_set, at}
 use Rattle.cql_lines.specs.Down.{holds}
-use Rattle.cql_lines.specs.Shapes.{joined, joined_by, is_searched, searched_by}
+use Rattle.cql_lines.specs.Shapes.{joined, joined_by, is_searched}
 
 pub put_here : (words : List ℕ) (node word atom : ℕ) → node < length words → is_set word atom ≡ true → holds (slice_set words node word) atom node ≡ true
 put_here words node word atom low set = ap (λ w. is_set w atom) (get_or-set_same words node word 0 low) ∙ set

@@ -1,5 +1,5 @@
 -- What a visit of a node leaves.
-use Rattle.std.proofs.Common.{◌≡◌, ℕ, zero, suc, ◌+◌, ◌-◌, ◌<◌, ◌≤◌, max, Bool, true, false, List, [], ◌∷◌, length, get_or, refl, sym, ap, ◌∙◌, subst, Option, Some, None, inl, inr, arith, slice_get}
+use Rattle.std.proofs.Common.{◌≡◌, ℕ, zero, suc, ◌+◌, ◌-◌, ◌<◌, ◌≤◌, Bool, true, false, List, length, get_or, refl, sym, ap, ◌∙◌, subst, Option, Some, None, inl, inr, arith, slice_get}
 use Rattle.std.specs.Prelude.{replicate}
 use Rattle.std.proofs.Common.{slice_set}
 use Rattle.std.proofs.lemmas.Bool.{cases_eq}
@@ -8,9 +8,9 @@ use Rattle.std.proofs.lemmas.List.{get_or-set_same, get_or-set_other, length-rep
 use Rattle.cql_lines.specs.declared.automaton.Rule.{Rule}
 use Rattle.cql_lines.specs.declared.table.Spot.{Spot}
 use Rattle.cql_lines.specs.Ways.{FromPlace, IsGreatest}
-use Rattle.cql_lines.specs.Lengths.{is_set, at, greatest_in, place_value}
+use Rattle.cql_lines.specs.Lengths.{is_set, at, place_value}
 use Rattle.cql_lines.specs.Shapes.{joined, joined_by, searched_by, is_searched, Edge}
-use Rattle.cql_lines.specs.Down.{holds, cell, Stands, Read, IsLongest, found, AnswerAt, Passed}
+use Rattle.cql_lines.specs.Down.{holds, cell, Stands, IsLongest, found, AnswerAt, Passed}
 use Rattle.cql_lines.proofs.DownLaw.{whole_row, stands_more, stands_same}
 use Rattle.cql_lines.proofs.OwnLaw.{own_known, own_small}
 

@@ -1,18 +1,16 @@
 -- The greatest length, place by place.
-use Rattle.std.proofs.Common.{◌≡◌, ◌==◌, ℕ, zero, suc, ◌+◌, ◌-◌, ◌<◌, ◌≤◌, max, Bool, true, false, List, [], ◌∷◌, ◌++◌, length, refl, sym, ap, ◌∙◌, subst, Option, Some, None, inl, inr, arith, slice_get}
-use Rattle.std.specs.Prelude.{◌⊎◌}
-use Rattle.std.specs.Int.{bit_at}
-use Rattle.std.proofs.lemmas.Bool.{cases_lt, cases_Bool, cases_eq, eqb-true}
+use Rattle.std.proofs.Common.{◌≡◌, ℕ, zero, suc, ◌<◌, ◌≤◌, max, Bool, true, false, List, [], ◌∷◌, ◌++◌, length, refl, sym, ap, ◌∙◌, subst, Some, inl, inr, arith, slice_get}
+use Rattle.std.proofs.lemmas.Bool.{cases_lt, cases_Bool, eqb-true}
 use Rattle.std.proofs.lemmas.Option.{slice_get_within}
 use Rattle.std.proofs.lemmas.List.{append-nil}
 use Rattle.cql_lines.specs.declared.automaton.Next.{Next}
 use Rattle.cql_lines.specs.declared.automaton.Rule.{Rule}
 use Rattle.cq_outside.specs.Spelling.{Pattern, Spells}
-use Rattle.cql_lines.specs.Places.{IsIn, from, Accepts, Built, nullable}
-use Rattle.cql_lines.specs.Ways.{Follow, Line, FromPlace, Below, IsGreatest}
+use Rattle.cql_lines.specs.Places.{IsIn, from, Accepts, Built}
+use Rattle.cql_lines.specs.Ways.{Line, FromPlace, Below, IsGreatest}
 use Rattle.cql_lines.specs.Down.{Read}
-use Rattle.cql_lines.specs.Lengths.{is_set, greatest_in, farther, place_value}
-use Rattle.cql_lines.proofs.PlacesLaw.{Front, Means, pattern_means, in_none}
+use Rattle.cql_lines.specs.Lengths.{is_set, greatest_in, farther}
+use Rattle.cql_lines.proofs.PlacesLaw.{pattern_means, in_none}
 
 pub set_is_in : (mask i : ℕ) → is_set mask i ≡ true → IsIn mask i
 set_is_in mask i e = search (eqb-true, e)

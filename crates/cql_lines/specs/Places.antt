@@ -1,5 +1,5 @@
 -- Places: an automaton that reads a list node by node.
-use Rattle.std.specs.Prelude.{◌≡◌, ℕ, zero, suc, ◌≤◌, ◌-◌, ◌^◌, List, [], ◌∷◌, ◌++◌, Bool, true, false, ◌&&◌, ◌||◌, Option, Some, None, slice_get, if◌then◌else◌, bit_or}
+use Rattle.std.specs.Prelude.{◌≡◌, ℕ, zero, suc, ◌-◌, ◌^◌, List, [], ◌∷◌, Bool, true, false, ◌&&◌, Option, Some, None, slice_get, if◌then◌else◌, bit_or}
 use Rattle.std.specs.Int.{bit_at}
 use Rattle.cql_lines.specs.declared.automaton.Next.{Next}
 use Rattle.cql_lines.specs.declared.automaton.Rule.{Rule}

@@ -1,5 +1,5 @@
 -- The tree of a pattern.
-use Rattle.std.specs.Prelude.{ℕ, Option, Some, None}
+use Rattle.std.specs.Prelude.{Some, None}
 use Rattle.cq_outside.specs.Spelling.{Pattern, one, nothing, joined, repeated}
 use Rattle.cql_lines.specs.declared.plain.Plain.{Plain as Given, Atom, Empty, Both', Star', Plus', Times'}
 

@@ -4,7 +4,7 @@ use Rattle.cql_lines.specs.declared.automaton.Rule.{Rule}
 use Rattle.cql_lines.specs.declared.table.Spot.{Spot}
 use Rattle.cql_lines.specs.Ways.{FromPlace, IsGreatest}
 use Rattle.cql_lines.specs.Lengths.{at}
-use Rattle.cql_lines.specs.Shapes.{joined, is_searched, Edge}
+use Rattle.cql_lines.specs.Shapes.{is_searched, Edge}
 use Rattle.cql_lines.specs.Down.{holds, cell}
 
 pub record StandsUp (words : List ℕ) (rules : List Rule) (primary : Bool) (spots : List Spot) (t : ℕ)

@@ -1,9 +1,8 @@
 -- Ways through a tree, and what a pattern spells on them.
-use Rattle.std.specs.Prelude.{◌≡◌, ℕ, zero, suc, ◌≤◌, ◌<◌, ◌+◌, List, [], ◌∷◌, Bool, true, false, Option, Some, None, length, slice_get}
-use Rattle.cql_lines.specs.declared.automaton.Next.{Next}
+use Rattle.std.specs.Prelude.{◌≡◌, ℕ, suc, ◌≤◌, ◌<◌, List, [], ◌∷◌, Bool, true, Some, length, slice_get}
 use Rattle.cql_lines.specs.declared.automaton.Rule.{Rule}
 use Rattle.cq_outside.specs.Spelling.{Pattern, Spells}
-use Rattle.cql_lines.specs.Places.{IsIn, Accepts}
+use Rattle.cql_lines.specs.Places.{Accepts}
 
 -- the nodes of w follow n, each joined to the one before
 abbrev pub Follow : (ℕ → ℕ → Type 0) → ℕ → List ℕ → Type 0

@@ -158,7 +158,7 @@ fn build_times(
     requires { length rules.old.items + n * size (plain_tree p.now) ≤ 64 }
     ensures rows { OnOk result (rules.new.items ≡ rules.old.items
         ++ rows_times (rows (plain_tree p.now)) (firsts (plain_tree p.now)) (nullable (plain_tree p.now)) (size (plain_tree p.now))
-            m n next (length rules.old.items)) }
+        m n next (length rules.old.items)) }
     ensures first { IfOk result (λ f.
         f ≡ firsts_times (firsts (plain_tree p.now)) (nullable (plain_tree p.now)) (size (plain_tree p.now)) n (length rules.old.items)) }
     ensures len { OnOk result (length rules.new.items ≡ length rules.old.items + n * size (plain_tree p.now)) }

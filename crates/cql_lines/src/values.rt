@@ -168,8 +168,8 @@ pub fn longest_down<L: Ledger>(
     ensures count { IfOk result (λ values. length values.items ≡ length shape.now.spots.items) }
     ensures values { IfOk result (λ values. (n : ℕ) → n < length shape.now.spots.items →
         AnswerAt (is_searched shape.now.spots.items n)
-            (Read (holds table.now.words.items) rules.now (Edge false shape.now.primary shape.now.spots.items) first n)
-            (get_or values.items n None)) }
+        (Read (holds table.now.words.items) rules.now (Edge false shape.now.primary shape.now.spots.items) first n)
+        (get_or values.items n None)) }
     ensures cost { steps.new ≤ steps.old + table.now.atoms * length shape.now.spots.items }
 {
     let nodes = shape.len();
@@ -242,8 +242,8 @@ pub fn longest_up<L: Ledger>(
     ensures count { IfOk result (λ values. length values.items ≡ length shape.now.spots.items) }
     ensures values { IfOk result (λ values. (n : ℕ) → n < length shape.now.spots.items →
         AnswerAt (is_searched shape.now.spots.items n)
-            (Read (holds table.now.words.items) rules.now (Edge true shape.now.primary shape.now.spots.items) first n)
-            (get_or values.items n None)) }
+        (Read (holds table.now.words.items) rules.now (Edge true shape.now.primary shape.now.spots.items) first n)
+        (get_or values.items n None)) }
     ensures cost { steps.new ≤ steps.old + table.now.atoms * length shape.now.spots.items }
 {
     let nodes = shape.len();

@@ -1,4 +1,4 @@
-use Rattle.std.proofs.Common.{◌≡◌, ℕ, ◌<◌, ◌∙◌, arith}
+use Rattle.std.proofs.Common.{◌∙◌, arith}
 use Rattle.cql_lines.proofs.Bits.{one_bit, or_bit_set, or_bit_other}
 use Rattle.cql_lines.proofs.looks.with_bit.Goals as goal
 

@@ -1,7 +1,7 @@
-use Rattle.std.proofs.Common.{◌≡◌, ℕ, ◌+◌, ◌*◌, ◌<◌, ◌≤◌, get_or, length, List, slice_get, Some, None, Option, ◌-◌, false, ◌∙◌, sym, ap, subst, arith, slice_set}
+use Rattle.std.proofs.Common.{◌≡◌, ℕ, ◌+◌, ◌*◌, ◌<◌, ◌≤◌, length, ◌-◌, false, ◌∙◌, sym, ap, subst, arith}
 use Rattle.std.proofs.lemmas.List.{length-set}
 use Rattle.std.specs.Prelude.{replicate}
-use Rattle.cql_lines.specs.Down.{Stands, AnswerAt, Read, holds}
+use Rattle.cql_lines.specs.Down.{Stands, Read, holds}
 use Rattle.cql_lines.specs.Shapes.{Edge, is_searched}
 use Rattle.cql_lines.proofs.VisitLaw.{stands_first, done_more}
 use Rattle.cql_lines.proofs.values.longest_down.Goals as goal

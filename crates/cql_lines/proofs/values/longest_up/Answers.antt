@@ -1,7 +1,7 @@
-use Rattle.std.proofs.Common.{◌≡◌, ℕ, ◌+◌, ◌*◌, ◌<◌, ◌≤◌, get_or, length, List, None, Option, true, ◌∙◌, sym, ap, subst, arith, slice_set}
+use Rattle.std.proofs.Common.{◌≡◌, ℕ, ◌+◌, ◌*◌, ◌<◌, ◌≤◌, length, true, ◌∙◌, sym, ap, subst, arith}
 use Rattle.std.specs.Prelude.{replicate}
 use Rattle.std.proofs.lemmas.List.{length-set}
-use Rattle.cql_lines.specs.Down.{AnswerAt, Read, holds}
+use Rattle.cql_lines.specs.Down.{Read, holds}
 use Rattle.cql_lines.specs.Up.{StandsUp}
 use Rattle.cql_lines.specs.Shapes.{Edge, is_searched}
 use Rattle.cql_lines.proofs.UpLaw.{stands_up_first, up_more}

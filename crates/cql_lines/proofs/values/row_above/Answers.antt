@@ -1,4 +1,4 @@
-use Rattle.std.proofs.Common.{◌≡◌, ◌∙◌, ℕ, None, Some, sym}
+use Rattle.std.proofs.Common.{◌∙◌, sym}
 use Rattle.cql_lines.proofs.VisitLaw.{zeros}
 use Rattle.cql_lines.proofs.values.row_above.Goals as goal
 

@@ -1,5 +1,5 @@
-use Rattle.std.proofs.Common.{◌≡◌, ℕ, ◌+◌, ◌<◌, ◌≤◌, ◌∙◌, get_or, length, List, [], slice_get, Some, ◌-◌, false, sym, arith, refl, ap}
-use Rattle.cql_lines.specs.Down.{found, Passed, Stands, AnswerAt, Read, holds}
+use Rattle.std.proofs.Common.{◌∙◌, length, false, sym, ap}
+use Rattle.cql_lines.specs.Down.{found, Read, holds}
 use Rattle.cql_lines.specs.Shapes.{Edge, is_searched}
 use Rattle.cql_lines.specs.Lengths.{greatest_in, at}
 use Rattle.cql_lines.proofs.VisitLaw.{unvisited, known_at, visited, answered}

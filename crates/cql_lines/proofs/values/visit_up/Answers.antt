@@ -1,5 +1,5 @@
-use Rattle.std.proofs.Common.{◌≡◌, ◌∙◌, ℕ, ◌+◌, ◌<◌, ◌≤◌, length, List, Some, false, true, sym, arith, ap}
-use Rattle.cql_lines.specs.Down.{found, AnswerAt, Read, holds}
+use Rattle.std.proofs.Common.{◌∙◌, length, true, sym, arith, ap}
+use Rattle.cql_lines.specs.Down.{found, Read, holds}
 use Rattle.cql_lines.specs.Shapes.{Edge, is_searched}
 use Rattle.cql_lines.specs.Lengths.{greatest_in, at}
 use Rattle.cql_lines.proofs.VisitLaw.{answered}

@@ -1,4 +1,4 @@
-use Rattle.cql_lines.proofs.Puts.{IsTree, push_keeps}
+use Rattle.cql_lines.proofs.Puts.{push_keeps}
 use Rattle.cql_lines.proofs.table.Shape.push.Goals as goal
 
 pub invariant_of-self : goal.invariant_of-self
