@@ -1,22 +1,13 @@
 -- The answers for a list of tokens.
-use Rattle.std.proofs.Common.{◌≡◌, ℕ, ◌+◌, ◌<◌, ◌≤◌, zero, suc, List, [], ◌∷◌, ◌++◌, Option, Some, None, Bool, true, false, refl, sym, ap, ap₂, ◌∙◌, subst, arith, append_assoc, append-nil}
-use Rattle.std.specs.Prelude.{nat_le, fold, ◌⊎◌}
+use Rattle.std.proofs.Common.{◌≡◌, ℕ, List, [], ◌∷◌, ◌++◌, refl, sym, ap, ap₂, ◌∙◌, subst}
 use Rattle.cql_syntax.specs.Trees.{QueryTree}
 use Rattle.cql_syntax.specs.declared.token.QueryToken.{QueryToken}
-use Rattle.cql_parser.specs.declared.place.Context.{Context}
-use Rattle.cql_parser.specs.declared.place.Heading.{Heading}
-use Rattle.cql_parser.specs.declared.place.Heading.TheVariants.{Start, ListDue, Params, FileDue, MatchDue, Over}
-use Rattle.cql_parser.specs.declared.place.Place.{Place}
-use Rattle.cql_parser.specs.declared.role.Joint.{Joint}
-use Rattle.cql_parser.specs.declared.role.Role.{Role}
-use Rattle.cql_parser.specs.declared.role.Role.TheVariants.{Word, Sign, Number, Name, Text, FileName, Outcome, Designator, End, Other}
-use Rattle.cql_parser.specs.Places.{role, heads, opens, goes, context, least, next, whole, level_of, depth_of, joint, joint_level, takes, joins}
-use Rattle.cql_parser.specs.Grammar.{Phrase, made, joined, Parts, first, add, put, root, end, Items, none, more, Fits, Goes, AllFit, Written, Begins}
+use Rattle.cql_parser.specs.Grammar.{Items, Begins}
 use Rattle.cql_parser.specs.Drafts.{query_of, opening, Spells}
-use Rattle.cql_parser.specs.Machine.{Frame, Making, Joining, State, Opening, Reading, Done, Deep, Stuck, depth, due, around, choose, open_if, begin_at, start, join, after_item, onward_by, onward, after, head_to, feed, run, begun, written}
+use Rattle.cql_parser.specs.Machine.{Opening, Reading, Done, Deep, Stuck, feed, begun, written}
 use Rattle.cql_parser.proofs.Begun.{Lives, alive}
-use Rattle.cql_parser.proofs.Read.{Frames, St, go, go_append, query_read}
-use Rattle.cql_parser.proofs.Told.{Stands, told, stands}
+use Rattle.cql_parser.proofs.Read.{St, go, go_append, query_read}
+use Rattle.cql_parser.proofs.Told.{Stands, told}
 
 -- a token list is written in one way
 abbrev IsDone : List QueryToken → Items → St → Type 0

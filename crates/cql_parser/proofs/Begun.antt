@@ -1,6 +1,6 @@
 -- What is begun may be brought to an end, and what is stuck may not.
-use Rattle.std.proofs.Common.{◌≡◌, ℕ, ◌+◌, ◌<◌, ◌≤◌, zero, suc, List, [], ◌∷◌, ◌++◌, Option, Some, None, Bool, true, false, refl, sym, ap, ap₂, ◌∙◌, subst, arith, append_assoc, append-nil}
-use Rattle.std.specs.Prelude.{nat_le, fold}
+use Rattle.std.proofs.Common.{◌≡◌, ℕ, ◌+◌, ◌<◌, ◌≤◌, zero, suc, List, [], ◌∷◌, ◌++◌, Option, Some, true, refl, sym, ap, ◌∙◌, subst, arith, append_assoc, append-nil}
+use Rattle.std.specs.Prelude.{fold}
 use Rattle.cql_syntax.specs.Words.{word_of, sign_of}
 use Rattle.cql_syntax.specs.declared.token.QueryToken.{QueryToken}
 use Rattle.cql_syntax.specs.declared.token.QueryTokenKind.{QueryTokenKind}
@@ -15,14 +15,13 @@ use Rattle.cql_parser.specs.declared.role.Joint.{Joint}
 use Rattle.cql_parser.specs.declared.role.Joint.TheVariants.{Chained, Added, Paired}
 use Rattle.cql_syntax.specs.declared.leaves.Chain.TheVariants as chains
 use Rattle.cql_syntax.specs.declared.leaves.Pair.TheVariants as pairs
-use Rattle.cql_parser.specs.declared.role.Role.{Role}
 use Rattle.cql_parser.specs.declared.role.Role.TheVariants.{End}
-use Rattle.cql_parser.specs.Places.{role, heads, opens, goes, context, least, next, whole, level_of, depth_of, joint, joint_level, takes, joins}
-use Rattle.cql_parser.specs.Grammar.{Phrase, made, joined, Parts, first, add, put, root, end, Items, none, more, text, texts, items_text, head, head_of, level, IsOver, AreOver, Fits, Goes, AllOver, AllFit, head_step, heading, IsSome, Written, Begins}
-use Rattle.cql_parser.specs.Machine.{Frame, Making, Joining, State, Opening, Reading, Done, Deep, Stuck, depth, due, around, feed, run, begun, written}
-use Rattle.cql_parser.proofs.Exits.{Exit, ended, by_token, by_check, exit, rank, check, IsExit, is_exit, Quiet, q_then, q_else, q_close, q_brace, q_check, q_end, quiet_role, quiet_joins, quiet_goes, IsQuiet, quiet_exit}
-use Rattle.cql_parser.proofs.Read.{Frames, St, go, go_append, query_read}
-use Rattle.cql_parser.proofs.Told.{Stands, Good, GoodReading, Has, Under, stack_text, told, one_more, two_more, regroup, joined_text, end_text}
+use Rattle.cql_parser.specs.Places.{role, heads, opens, goes, context, least, next, whole, level_of, depth_of, joint_level, takes}
+use Rattle.cql_parser.specs.Grammar.{Phrase, made, joined, Parts, first, add, put, root, end, Items, none, more, text, texts, items_text, head_of, level, IsOver, AreOver, Fits, Goes, AllFit, head_step, heading, Written, Begins}
+use Rattle.cql_parser.specs.Machine.{Making, Joining, Opening, Reading, Done, Deep, Stuck, depth, due, around, written}
+use Rattle.cql_parser.proofs.Exits.{Exit, ended, by_token, by_check, exit, rank, check, IsExit, is_exit, Quiet, q_check, q_end, quiet_role, quiet_joins, quiet_goes, IsQuiet, quiet_exit}
+use Rattle.cql_parser.proofs.Read.{Frames, St}
+use Rattle.cql_parser.proofs.Told.{Stands, Good, Has, Under, stack_text, one_more, two_more, regroup, joined_text, end_text}
 
 abbrev token : QueryTokenKind → QueryToken
 token kind = record { at = 0; kind = kind }

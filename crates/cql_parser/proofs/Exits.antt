@@ -1,5 +1,5 @@
 -- How each rule may be brought to its end.
-use Rattle.std.proofs.Common.{◌≡◌, ℕ, ◌+◌, ◌<◌, ◌≤◌, List, [], ◌∷◌, Option, Some, None, Bool, true, false, refl, arith}
+use Rattle.std.proofs.Common.{◌≡◌, ℕ, ◌<◌, ◌≤◌, [], ◌∷◌, Some, None, true, false, refl, arith}
 use Rattle.cql_syntax.specs.Words.{word_of, sign_of}
 use Rattle.cql_syntax.specs.declared.leaves.Outcome.TheVariants as outcomes
 use Rattle.cql_syntax.specs.declared.leaves.Plain.TheVariants as plains

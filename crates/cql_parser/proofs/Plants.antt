@@ -1,7 +1,7 @@
 -- The trees are those of the phrases.
 use Rattle.std.proofs.Common.{◌≡◌, ℕ, ◌+◌, List, [], ◌∷◌, ◌++◌, Option, Some, None, Bool, true, false, refl, sym, ap, ap₂, ◌∙◌}
 use Rattle.std.specs.Prelude.{nat_le, fold}
-use Rattle.cql_syntax.specs.Trees.{FilterTrees, no_filters, with_filter}
+use Rattle.cql_syntax.specs.Trees.{FilterTrees}
 use Rattle.cql_syntax.specs.declared.token.QueryToken.{QueryToken}
 use Rattle.cql_parser.specs.declared.place.Heading.{Heading}
 use Rattle.cql_parser.specs.declared.place.Heading.TheVariants.{Start, ListDue, Params, FileDue, MatchDue, Over}
@@ -9,12 +9,12 @@ use Rattle.cql_parser.specs.declared.place.Place.{Place}
 use Rattle.cql_parser.specs.declared.role.Joint.{Joint}
 use Rattle.cql_parser.specs.declared.role.Role.{Role}
 use Rattle.cql_parser.specs.declared.role.Role.TheVariants.{Word, Sign, Number, Name, Text, FileName, Outcome, Designator, End, Other}
-use Rattle.cql_parser.specs.Places.{role, heads, opens, goes, context, least, next, whole, level_of, depth_of, joint, joint_level, takes, joins}
-use Rattle.cql_parser.specs.Grammar.{Phrase, made, joined, Parts, first, add, put, root, end, Items, none, more, level}
+use Rattle.cql_parser.specs.Places.{role, heads, opens, goes, least, next, whole, level_of, depth_of, joint, joint_level, takes, joins}
+use Rattle.cql_parser.specs.Grammar.{Phrase, made, joined, Parts, first, put, root, end, Items, more, level}
 use Rattle.cql_parser.specs.Drafts.{Node, node, draft, trees, joined_node, node_of, opening, no_opening, hear, Opening as Head}
-use Rattle.cql_parser.specs.Machine.{Frame, Making, Joining, State, Opening, Reading, Done, Deep, Stuck, depth, due, around, choose, open_if, begin_at, start, join, after_item, onward_by, onward, after, head_to, feed, run, begun, written}
+use Rattle.cql_parser.specs.Machine.{Frame, Making, Joining, State, Opening, Reading, Done, Deep, Stuck, depth, due, around, choose, open_if, begin_at, start, join, after_item, onward_by, onward, after, head_to, feed, written}
 use Rattle.cql_parser.specs.Planted.{Rule, blank, planted}
-use Rattle.cql_parser.proofs.Read.{Frames, St, go}
+use Rattle.cql_parser.proofs.Read.{Frames, St}
 
 abbrev pub Grown : Type 0
 Grown = State Head Rule Node FilterTrees

@@ -1,13 +1,12 @@
 -- The grammar at worked rows.
-use Rattle.std.proofs.Common.{◌≡◌, ℕ, List, [], ◌∷◌, ◌++◌, Bool, true, false, Option, None, Some, refl, sym, ap, ◌∙◌, subst}
+use Rattle.std.proofs.Common.{◌≡◌, ℕ, List, [], ◌∷◌, true, false, refl, subst}
 use Rattle.std.specs.Prelude.{codes}
-use Rattle.cql_syntax.specs.Trees.{FilterTree, filter_at, number, plain, unary, chain, sum_of, pair, if_, square, line, designator, FilterTrees, no_filters, more_filters, no_terms, more_terms, path, no_parts, more_parts, atom, group, QueryTree}
+use Rattle.cql_syntax.specs.Trees.{filter_at, number, plain, chain, sum_of, line, FilterTrees, no_filters, more_filters, no_terms, more_terms, path, no_parts, more_parts, atom, group, QueryTree}
 use Rattle.cql_syntax.specs.Words.{word_of, sign_of}
 use Rattle.cql_syntax.specs.declared.extents.Extent.TheVariants as extents
-use Rattle.cql_syntax.specs.declared.leaves.Chain.TheVariants.{Or, And, All, Product}
+use Rattle.cql_syntax.specs.declared.leaves.Chain.TheVariants.{Or, And}
 use Rattle.cql_syntax.specs.declared.leaves.Mark.TheVariants.{Once, Star, Times}
 use Rattle.cql_syntax.specs.declared.leaves.Plain.TheVariants.{Check, Mate, Wtm}
-use Rattle.cql_syntax.specs.declared.leaves.Unary.TheVariants.{Not}
 use Rattle.cql_syntax.specs.declared.token.QueryToken.{QueryToken}
 use Rattle.cql_syntax.specs.declared.token.QueryTokenKind.{QueryTokenKind}
 use Rattle.cql_syntax.specs.declared.token.QueryTokenKind.TheVariants as tokens
@@ -15,7 +14,7 @@ use Rattle.cql_parser.specs.Places.{role, heads, opens, goes, context, least, ne
 use Rattle.cql_parser.specs.Makers.{maker}
 use Rattle.cql_parser.specs.Grammar.{Items, none}
 use Rattle.cql_parser.specs.Drafts.{query_of, opening, Spells}
-use Rattle.cql_parser.specs.Machine.{State, Opening, Reading, Done, Deep, Stuck, after, feed, begun, written}
+use Rattle.cql_parser.specs.Machine.{Done, Stuck, after, feed, begun, written}
 use Rattle.cql_parser.proofs.Answer.{done_spells}
 use Rattle.cql_parser.proofs.Read.{St, go}
 

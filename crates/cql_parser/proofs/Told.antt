@@ -1,20 +1,17 @@
 -- What is read is written.
-use Rattle.std.proofs.Common.{◌≡◌, ℕ, ◌+◌, ◌<◌, ◌≤◌, List, [], ◌∷◌, ◌++◌, Option, Some, None, Bool, true, false, refl, sym, ap, ap₂, ◌∙◌, subst, arith, append_assoc, append-nil}
+use Rattle.std.proofs.Common.{◌≡◌, ℕ, ◌+◌, ◌<◌, ◌≤◌, List, [], ◌∷◌, ◌++◌, Option, Some, None, Bool, true, false, refl, sym, ap, ◌∙◌, subst, arith, append_assoc, append-nil}
 use Rattle.std.specs.Prelude.{nat_le, fold}
 use Rattle.cql_syntax.specs.declared.token.QueryToken.{QueryToken}
-use Rattle.cql_parser.specs.declared.place.Context.{Context}
-use Rattle.cql_parser.specs.declared.place.Context.TheVariants.{Within}
 use Rattle.cql_parser.specs.declared.place.Heading.{Heading}
 use Rattle.cql_parser.specs.declared.place.Heading.TheVariants.{Start, ListDue, Params, FileDue, MatchDue, Over}
 use Rattle.cql_parser.specs.declared.place.Place.{Place}
 use Rattle.cql_parser.specs.declared.role.Joint.{Joint}
-use Rattle.cql_parser.specs.declared.role.Joint.TheVariants.{Chained, Added, Paired}
 use Rattle.cql_parser.specs.declared.role.Role.{Role}
 use Rattle.cql_parser.specs.declared.role.Role.TheVariants.{Word, Sign, Number, Name, Text, FileName, Outcome, Designator, End, Other}
-use Rattle.cql_parser.specs.Places.{role, heads, opens, goes, context, least, next, whole, level_of, depth_of, joint, joint_level, takes, joins}
-use Rattle.cql_parser.specs.Grammar.{Phrase, made, joined, Parts, first, add, put, root, end, Items, none, more, text, texts, items_text, head, head_of, level, IsOver, AreOver, Fits, Goes, AllOver, AllFit, head_step, heading, IsSome, Written}
-use Rattle.cql_parser.specs.Machine.{Frame, Making, Joining, State, Opening, Reading, Done, Deep, Stuck, depth, due, around, choose, open_if, begin_at, start, join, after_item, onward_by, onward, after, head_to, feed, run, begun, written}
-use Rattle.cql_parser.proofs.Read.{Frames, St, go, true_le, takes_low}
+use Rattle.cql_parser.specs.Places.{role, heads, opens, goes, least, next, whole, level_of, depth_of, joint, joint_level, takes, joins}
+use Rattle.cql_parser.specs.Grammar.{Phrase, made, joined, Parts, first, put, root, end, Items, more, text, texts, items_text, head, head_of, level, IsOver, AreOver, Fits, Goes, AllOver, AllFit, head_step, heading, Written}
+use Rattle.cql_parser.specs.Machine.{Making, Joining, Opening, Reading, Done, Deep, Stuck, depth, due, around, choose, open_if, begin_at, start, join, after_item, onward_by, onward, after, head_to, feed, begun, written}
+use Rattle.cql_parser.proofs.Read.{Frames, St, go, true_le}
 
 -- the tokens that what is open has read
 abbrev pub stack_text : Frames → List QueryToken

@@ -1,11 +1,10 @@
 -- The tree of a rule's parts, part by part.
-use Rattle.std.specs.Prelude.{◌≡◌, ℕ, ◌+◌, ◌==◌, Bool, true, false, List, [], ◌∷◌, Option, None, Some, fold, codes}
+use Rattle.std.specs.Prelude.{◌≡◌, ℕ, ◌==◌, Bool, true, false, List, [], Option, None, Some, fold, codes}
 use Rattle.cql_syntax.specs.Extents.{path_length}
 use Rattle.cql_syntax.specs.Words.{word_of, sign_of}
-use Rattle.cql_syntax.specs.Trees.{FilterTree, filter_at, FormTree, designator, number, name, plain, tagged, outcome, elo, unary, direction, chain, sum_of, pair, if_, square, line, played, transform, sort, comment, FilterTrees, no_filters, more_filters, with_filter, TermTrees, no_terms, more_terms, with_term, LineTree, path, PartTrees, no_parts, with_part, BodyTree, atom, group, PlayedTree, move_of, WrittenTree, left_out, written, QueryTree}
+use Rattle.cql_syntax.specs.Trees.{FilterTree, filter_at, FormTree, designator, number, name, plain, tagged, outcome, elo, unary, direction, chain, sum_of, pair, if_, square, line, played, transform, sort, comment, FilterTrees, no_filters, more_filters, with_filter, no_terms, more_terms, with_term, LineTree, path, PartTrees, no_parts, with_part, BodyTree, atom, group, move_of, WrittenTree, left_out, written, QueryTree}
 use Rattle.cql_syntax.specs.declared.extents.Extent.{Extent}
 use Rattle.cql_syntax.specs.declared.extents.Extent.TheVariants.{Any, Within}
-use Rattle.cql_syntax.specs.declared.leaves.Chain.{Chain}
 use Rattle.cql_syntax.specs.declared.leaves.Field.{Field}
 use Rattle.cql_syntax.specs.declared.leaves.Field.TheVariants as fields
 use Rattle.cql_syntax.specs.declared.leaves.Mark.{Mark}

@@ -1,5 +1,5 @@
 -- Reading token by token.
-use Rattle.std.specs.Prelude.{◌≡◌, ℕ, ◌+◌, Bool, true, false, List, [], ◌∷◌, ◌++◌, Option, Some, None, nat_le, fold}
+use Rattle.std.specs.Prelude.{ℕ, ◌+◌, Bool, true, false, List, [], ◌∷◌, ◌++◌, Option, Some, None, nat_le, fold}
 use Rattle.cql_syntax.specs.declared.token.QueryToken.{QueryToken}
 use Rattle.cql_parser.specs.declared.place.Context.{Context}
 use Rattle.cql_parser.specs.declared.place.Context.TheVariants.{Within}
@@ -8,7 +8,7 @@ use Rattle.cql_parser.specs.declared.place.Heading.TheVariants.{Start, ListDue, 
 use Rattle.cql_parser.specs.declared.place.Place.{Place}
 use Rattle.cql_parser.specs.declared.role.Joint.{Joint}
 use Rattle.cql_parser.specs.declared.role.Role.{Role}
-use Rattle.cql_parser.specs.declared.role.Role.TheVariants.{Word, Sign, Number, Name, Text, FileName, Outcome, Designator, End, Other}
+use Rattle.cql_parser.specs.declared.role.Role.TheVariants.{End}
 use Rattle.cql_parser.specs.Places.{role, heads, opens, goes, context, least, next, whole, level_of, depth_of, joint, joint_level, takes, joins}
 use Rattle.cql_parser.specs.Grammar.{Phrase, made, joined, Parts, first, add, put, root, end, Items, none, more}
 
@@ -85,13 +85,15 @@ abbrev pub after_item : {H D A B : Type 0} → Builder H D A B → ℕ → H →
 after_item m limit h b x End = Done h b
 after_item m limit h b x r = start m limit h b [] x r
 
-abbrev pub onward_by : {H D A B : Type 0} → Builder H D A B → ℕ → H → B → D → List (Frame D A) → QueryToken → Role → Option Place → Bool → State H D A B → State H D A B
+abbrev pub onward_by : {H D A B : Type 0} → Builder H D A B → ℕ → H → B → D → List (Frame D A) → QueryToken → Role
+    → Option Place → Bool → State H D A B → State H D A B
 onward_by m limit h b d k x r (Some s) is_whole ended = Reading h b (Making (m.add_of d x s) ∷ k)
 onward_by m limit h b d k x r None true ended = ended
 onward_by m limit h b d k x r None false ended = start m limit h b (Making d ∷ k) x r
 
 -- a token after the parts of a rule; where the rule is at its end, what comes of the token is given
-abbrev pub onward : {H D A B : Type 0} → Builder H D A B → ℕ → H → B → D → List (Frame D A) → QueryToken → Role → State H D A B → State H D A B
+abbrev pub onward : {H D A B : Type 0} → Builder H D A B → ℕ → H → B → D → List (Frame D A) → QueryToken → Role
+    → State H D A B → State H D A B
 onward m limit h b d k x r ended = onward_by m limit h b d k x r (goes (m.end_of d) r) (whole (m.end_of d)) ended
 
 -- a token after a filter of a level

@@ -1,5 +1,5 @@
 -- What the rules of the grammar make of their parts.
-use Rattle.std.specs.Prelude.{ℕ, Option, None, Some}
+use Rattle.std.specs.Prelude.{Option, Some}
 use Rattle.cql_syntax.specs.Words.{word_of, sign_of}
 use Rattle.cql_syntax.specs.declared.leaves.Chain.TheVariants as chains
 use Rattle.cql_syntax.specs.declared.leaves.Field.TheVariants as fields

@@ -3,7 +3,7 @@
 -- A rule is written as the places that one passes along it. At a place a token may go on with the rule, a filter may be
 -- due, or the rule may be at its end. The levels of filters, from those that bind least: 0 or, 1 and, 2 pre, 3 comparison,
 -- 4 sum, 5 product, 6 union, 7 intersection, 8 pair, 9 unary, 10 primary.
-use Rattle.std.specs.Prelude.{ℕ, Bool, true, false, Option, None, Some, nat_le, nat_lt, ◌&&◌, if◌then◌else◌}
+use Rattle.std.specs.Prelude.{ℕ, Bool, true, false, Option, None, Some, nat_le, nat_lt, ◌&&◌}
 use Rattle.cql_syntax.specs.Words.{word_of, sign_of}
 use Rattle.cql_syntax.specs.declared.leaves.Chain.{Chain}
 use Rattle.cql_syntax.specs.declared.leaves.Chain.TheVariants as chains

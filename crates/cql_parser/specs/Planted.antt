@@ -1,5 +1,4 @@
 -- The trees of what is read.
-use Rattle.std.specs.Prelude.{ℕ, List, [], ◌∷◌}
 use Rattle.cql_syntax.specs.Trees.{FilterTrees, no_filters, with_filter}
 use Rattle.cql_syntax.specs.declared.token.QueryToken.{QueryToken}
 use Rattle.cql_syntax.specs.declared.token.QueryTokenKind.TheVariants as tokens
