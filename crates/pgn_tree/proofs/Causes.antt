@@ -1,5 +1,5 @@
 -- When a step from a node leads nowhere, and between which numbers it leads.
-use Rattle.std.proofs.Common.{◌≡◌, ◌≢◌, ℕ, zero, suc, ◌+◌, ◌-◌, ◌<◌, ◌≤◌, ◌↔◌, Bool, true, false, cond, List, [], ◌∷◌, length, get_or, Option, Some, None, refl, sym, ap, ap₂, ◌∙◌, subst, arith, ⊎_elim, ◌⊎◌}
+use Rattle.std.proofs.Common.{◌≡◌, ℕ, zero, suc, ◌+◌, ◌<◌, ◌↔◌, Bool, true, false, cond, List, [], ◌∷◌, length, get_or, Option, Some, None, refl, sym, ap, ap₂, ◌∙◌, subst, arith, ⊎_elim, ◌⊎◌}
 use Rattle.std.specs.Prelude.{IfSome, IsNone, nat_lt, ◌&&◌}
 use Rattle.std.specs.Option.{is_some}
 use Rattle.std.specs.List.{find, filter, range_with_len}
@@ -7,7 +7,7 @@ use Rattle.std.proofs.lemmas.Bool.{lt-ltb, ltb-true, eq-eqb, false_from_ne_true}
 use Rattle.cq_position.specs.declared.moves.Move.{Move}
 use Rattle.cq_position.specs.Games.{Node, node_at, numbers, is_number, is_child_of, children, first_child, is_later_sibling, next_sibling, IsLastSibling, IsTree}
 use Rattle.cq_position.proofs.Trees.{tree_first}
-use Rattle.pgn_tree.proofs.Found.{find_within, find_none, find_some}
+use Rattle.pgn_tree.proofs.Found.{find_none, find_some}
 use Rattle.pgn_tree.specs.Links.{Linked, linked_at, nodes_of, IsLinkedTree}
 use Rattle.pgn_tree.proofs.Linking.{node_of}
 use Rattle.pgn_tree.proofs.Changed.{within_items}

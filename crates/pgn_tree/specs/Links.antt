@@ -1,5 +1,5 @@
 -- What a game keeps beside each node, so that every step from it is taken at once.
-use Rattle.std.specs.Prelude.{◌≡◌, ℕ, ◌<◌, ◌≤◌, Bool, true, false, List, length, map, slice_set, slice_index_or, Option, Some, None}
+use Rattle.std.specs.Prelude.{◌≡◌, ℕ, ◌<◌, ◌≤◌, Bool, true, false, List, [], ◌∷◌, ◌++◌, length, map, slice_set, slice_index_or, Option, Some, None}
 use Rattle.cq_position.specs.Games.{Node, no_node, IsSamePlace, IsTree, is_child_of, first_child, next_sibling, is_main}
 
 -- a node with its first and its last child, its next sibling, and whether it is of the main line
@@ -48,6 +48,9 @@ pub record IsLinkedTree (items : List Linked) : Type 0 where
 -- one node changes
 abbrev pub with_linked : List Linked → ℕ → (Linked → Linked) → List Linked
 with_linked items n change = slice_set items n (change (linked_at items n))
+
+abbrev pub with_kept_comment : List ℕ → Linked → Linked
+with_kept_comment comment x = record x { node = record x.node { comments = x.node.comments ++ comment ∷ [] } }
 
 abbrev pub with_first_child : ℕ → Linked → Linked
 with_first_child k x = record x { first_child = Some k }

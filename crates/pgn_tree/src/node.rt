@@ -1,7 +1,7 @@
 //! A node of a game.
 ghost use Rattle.std.specs.Prelude.{◌≡◌, ◌<◌, [], ◌∷◌, ◌++◌, length, slice_index_or, OnOk, OnErr, IsOk};
 ghost use Rattle.cq_position.specs.Games.{bare_node, with_nag};
-ghost use Rattle.pgn_tree.specs.Links.{IsSameLinked, unlinked, with_first_child, with_last_child, with_next_sibling};
+ghost use Rattle.pgn_tree.specs.Links.{IsSameLinked, unlinked, with_first_child, with_kept_comment, with_last_child, with_next_sibling};
 
 use cq_outside::{Bytes, NoMemory};
 use cq_position::{Move, Position};
@@ -165,7 +165,7 @@ impl Node {
 
     /// Adds a comment.
     pub fn add_comment(&mut self, comment: Bytes) -> Result<(), NoMemory>
-        ensures ok { OnOk result (self.new ≡ record self.old { node = record self.old.node { comments = self.old.node.comments ++ comment ∷ [] } }) }
+        ensures ok { OnOk result (self.new ≡ with_kept_comment comment self.old) }
         ensures err { OnErr result (self.new ≡ self.old) }
         ensures place { IsSameLinked self.old self.new }
     {
