@@ -1,14 +1,13 @@
 -- The first child of a node and its next sibling begin what is played after it and instead of it.
-use Rattle.std.proofs.Common.{◌≡◌, ◌≢◌, ◌⊎◌, ℕ, zero, suc, ◌+◌, ◌-◌, ◌<◌, ◌≤◌, Bool, true, false, cond, ◌&&◌, List, [], ◌∷◌, length, drop, get_or, Option, Some, None, refl, sym, ap, ap₂, ◌∙◌, subst, arith, eqb-true, inl, inr}
-use Rattle.std.specs.Prelude.{◌==◌, nat_lt, IfSome}
+use Rattle.std.proofs.Common.{◌≡◌, ℕ, zero, suc, ◌+◌, ◌-◌, ◌<◌, ◌≤◌, Bool, true, false, cond, ◌&&◌, List, length, drop, Option, Some, None, refl, sym, ap, ap₂, ◌∙◌, subst, arith, eqb-true}
+use Rattle.std.specs.Prelude.{nat_lt, IfSome}
 use Rattle.std.specs.List.{find, range_with_len}
-use Rattle.std.proofs.lemmas.Bool.{false_from_ne_true, eq-eqb, lt-ltb, ltb-true, false≢true, cases_Bool}
+use Rattle.std.proofs.lemmas.Bool.{false_from_ne_true, eq-eqb, lt-ltb, ltb-true, false≢true}
 use Rattle.std.proofs.lemmas.List.{drop_more, drop_all}
 use Rattle.cq_position.specs.declared.moves.Move.{Move}
 use Rattle.cq_position.specs.Legal.{Leads}
-use Rattle.cq_position.specs.Games.{Node, no_node, node_at, is_number, is_child_of, is_later_sibling, first_child, next_sibling, numbers, IsTree}
-use Rattle.cq_position.specs.Continuations.{Played, Continuations, none, played, continuations}
-use Rattle.cq_position.proofs.Ancestors.{AreParentsFirst}
+use Rattle.cq_position.specs.Games.{Node, no_node, node_at, is_number, is_child_of, is_later_sibling, first_child, next_sibling, IsTree}
+use Rattle.cq_position.specs.Continuations.{none, played, continuations}
 use Rattle.cq_position.proofs.Nested.{IsElsewhere, by_parent, passed_over, taken, nothing_left}
 use Rattle.cq_position.proofs.Trees.{tree_first}
 use Rattle.pgn_export.specs.Places.{played_of, children_from, after_node, instead_of}

@@ -1,18 +1,18 @@
 -- The words of a line and of the variations, node by node.
-use Rattle.std.proofs.Common.{◌≡◌, ◌⊎◌, ℕ, zero, suc, ◌+◌, ◌-◌, ◌<◌, ◌≤◌, Bool, true, false, cond, ◌||◌, List, [], ◌∷◌, ◌++◌, length, Option, Some, None, refl, sym, ap, ap₂, ◌∙◌, subst, arith, append_assoc, append-nil, length-append, codes}
+use Rattle.std.proofs.Common.{◌≡◌, ℕ, suc, ◌<◌, Bool, true, false, ◌||◌, List, [], ◌∷◌, ◌++◌, length, Option, Some, None, refl, sym, ap, ◌∙◌, arith, append_assoc, append-nil, length-append, codes}
 use Rattle.std.specs.Option.{is_some}
 use Rattle.cq_position.specs.declared.men.Side.{Side}
 use Rattle.cq_position.specs.declared.men.Side.TheVariants.{White, Black}
 use Rattle.cq_position.specs.declared.moves.Move.{Move}
 use Rattle.cq_position.specs.Board.{Board}
 use Rattle.cq_position.specs.Games.{Node, node_at, first_child, next_sibling, IsTree}
-use Rattle.cq_position.specs.Continuations.{Played, Continuations, none, played}
+use Rattle.cq_position.specs.Continuations.{none}
 use Rattle.cq_position.proofs.Trees.{tree_first}
 use Rattle.pgn_export.specs.Words.{opened, closed, in_parens}
 use Rattle.pgn_export.specs.Movetext.{number_words, move_words, is_any, is_played, is_due, line_words, variation_words}
-use Rattle.pgn_export.specs.Places.{played_of, children_from, after_node, instead_of}
+use Rattle.pgn_export.specs.Places.{played_of, after_node, instead_of}
 use Rattle.pgn_export.proofs.Closed.{closed_later}
-use Rattle.pgn_export.proofs.Places.{Begins, no_child, has_child, no_sibling, has_sibling}
+use Rattle.pgn_export.proofs.Places.{no_child, has_child, no_sibling, has_sibling}
 
 no_mark : (ws : List (List ℕ)) → opened [] ws ≡ ws
 no_mark [] = refl

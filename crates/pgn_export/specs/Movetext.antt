@@ -1,5 +1,5 @@
 -- The movetext as a list of words (PGN standard, section 8.2).
-use Rattle.std.specs.Prelude.{ℕ, Bool, true, false, ◌||◌, List, [], ◌∷◌, ◌++◌, map, codes, decimal, Option, Some, None, drop}
+use Rattle.std.specs.Prelude.{ℕ, Bool, true, false, ◌||◌, List, [], ◌∷◌, ◌++◌, map, codes, decimal, drop}
 use Rattle.std.specs.List.{flat_map}
 use Rattle.cq_position.specs.declared.games.GameResult.{GameResult}
 use Rattle.cq_position.specs.declared.games.GameResult.TheVariants.{White as WhiteWon, Black as BlackWon, Draw, Open as Undecided}
@@ -7,7 +7,7 @@ use Rattle.cq_position.specs.declared.men.Side.{Side}
 use Rattle.cq_position.specs.declared.men.Side.TheVariants.{White, Black}
 use Rattle.cq_position.specs.Board.{Board}
 use Rattle.cq_position.specs.Continuations.{Played, Continuations, none, played, continuations}
-use Rattle.cq_position.specs.Games.{Node, Game, node_at}
+use Rattle.cq_position.specs.Games.{Game, node_at}
 use Rattle.cq_san.specs.Writing.{san_text}
 use Rattle.pgn_export.specs.Words.{comment_words, in_parens}
 

@@ -1,4 +1,4 @@
-use Rattle.std.proofs.Common.{◌≡◌, ◌++◌, ◌∙◌, [], refl, sym, ap, length, take, drop, ◌-◌, arith, rules}
+use Rattle.std.proofs.Common.{◌++◌, ◌∙◌, ap, length, take, drop, ◌-◌, rules}
 use Rattle.pgn_export.specs.Column.{following}
 use Rattle.pgn_export.proofs.Filled.{first_word, next_word, no_word}
 use Rattle.pgn_export.proofs.lines.fill.Goals as goal

@@ -1,4 +1,4 @@
-use Rattle.std.proofs.Common.{◌≡◌, ◌++◌, ◌<◌, ◌≤◌, ◌+◌, ℕ, length, sym, ap, ◌∙◌, rules, arith}
+use Rattle.std.proofs.Common.{ℕ, sym, ◌∙◌, arith}
 use Rattle.cq_position.specs.Games.{node_at}
 use Rattle.pgn_export.specs.Movetext.{line_words, variation_words}
 use Rattle.pgn_export.specs.Places.{after_node, instead_of}

@@ -1,4 +1,4 @@
-use Rattle.std.proofs.Common.{◌≡◌, ◌++◌, ℕ, ◌+◌, ◌-◌, ◌<◌, ◌≤◌, Bool, List, length, Some}
+use Rattle.std.proofs.Common.{◌≡◌, ◌++◌, ℕ, ◌-◌, ◌<◌, ◌≤◌, Bool, List, length, Some}
 use Rattle.cq_position.specs.Games.{Node, node_at}
 use Rattle.pgn_export.specs.Movetext.{line_words, variation_words}
 use Rattle.pgn_export.specs.Places.{after_node, instead_of}

@@ -1,4 +1,4 @@
-use Rattle.std.proofs.Common.{codes, sym, ap, ◌∙◌, ◌++◌, ◌∷◌, []}
+use Rattle.std.proofs.Common.{codes}
 use Rattle.cq_position.specs.Comments.{words}
 use Rattle.pgn_export.proofs.Closed.{comment_written}
 use Rattle.pgn_export.proofs.movetext.write_comment.Goals as goal

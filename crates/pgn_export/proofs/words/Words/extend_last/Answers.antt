@@ -1,4 +1,4 @@
-use Rattle.std.proofs.Common.{◌≡◌, ◌++◌, ◌-◌, ◌+◌, length, suc, sym, ap, ◌∙◌, subst, arith, rules}
+use Rattle.std.proofs.Common.{◌++◌, ◌-◌, ap, ◌∙◌, rules}
 use Rattle.pgn_export.specs.Words.{closed}
 use Rattle.pgn_export.proofs.Closed.{last_closed}
 use Rattle.pgn_export.proofs.words.Words.extend_last.Goals as goal
