@@ -5,7 +5,7 @@ use Rattle.cq_position.specs.Board.{Board}
 use Rattle.cq_position.specs.Moves.{null_move}
 use Rattle.cq_position.specs.Continuations.{Played, Continuations, none, played}
 use Rattle.cq_position.specs.Comments.{words, comment_of}
-use Rattle.pgn_reader.specs.Line.{Place, Told, noted, led_to}
+use Rattle.pgn_reader.specs.Line.{Place, Told, noted}
 
 -- a node and the level of its parent; the root's children have the level 0
 pub record Row : Type 0 where
@@ -57,12 +57,30 @@ whole f = f.moves ++ (last_row f ++ (f.here ++ f.earlier))
 
 abbrev pub begin : ℕ → Board → Frame
 begin level p = record {
-  before = None; reached = p; level = 0; next = level; last = None; nags = []; comments = []; moves = []; here = []; earlier = [];
+  before = None;
+  reached = p;
+  level = 0;
+  next = level;
+  last = None;
+  nags = [];
+  comments = [];
+  moves = [];
+  here = [];
+  earlier = [];
 }
 
 abbrev pub begin_game : Board → Frame
 begin_game p = record {
-  before = None; reached = p; level = 0; next = 0; last = Some null_move; nags = []; comments = []; moves = []; here = []; earlier = [];
+  before = None;
+  reached = p;
+  level = 0;
+  next = 0;
+  last = Some null_move;
+  nags = [];
+  comments = [];
+  moves = [];
+  here = [];
+  earlier = [];
 }
 
 -- what waits for the first move goes over to it
@@ -72,9 +90,16 @@ carried (Some m) xs = []
 
 abbrev pub advance : Frame → Move → Board → Frame
 advance f m q = record {
-  before = Some f.reached; reached = q; level = f.next; next = f.next + 1; last = Some m;
-  nags = carried f.last f.nags; comments = carried f.last f.comments;
-  moves = f.moves ++ last_row f; here = []; earlier = f.here ++ f.earlier;
+  before = Some f.reached;
+  reached = q;
+  level = f.next;
+  next = f.next + 1;
+  last = Some m;
+  nags = carried f.last f.nags;
+  comments = carried f.last f.comments;
+  moves = f.moves ++ last_row f;
+  here = [];
+  earlier = f.here ++ f.earlier;
 }
 
 -- the two steps of it that the code takes first

@@ -1,9 +1,9 @@
 -- What a line of moves tells (PGN standard, section 8.2).
-use Rattle.std.specs.Prelude.{◌≡◌, ℕ, ◌+◌, ◌<◌, Bool, true, false, List, [], ◌∷◌, ◌++◌, Option, Some, None, Result, Ok, IsSome, if◌then◌else◌}
+use Rattle.std.specs.Prelude.{◌≡◌, ℕ, ◌+◌, ◌<◌, List, [], ◌∷◌, ◌++◌, Option, Some, None, Ok, if◌then◌else◌}
 use Rattle.cq_position.specs.declared.moves.Move.{Move}
 use Rattle.cq_position.specs.Board.{Board}
 use Rattle.cq_position.specs.Legal.{after, after_pass}
-use Rattle.cq_position.specs.Continuations.{Played, Continuations, none, played}
+use Rattle.cq_position.specs.Continuations.{Continuations, none, played}
 use Rattle.cq_san.specs.San.{san}
 use Rattle.pgn_reader.specs.Words.{Word, Sense, plays, annotates, remarks, ends, opens, closes, means_nothing, out_of_place, sense}
 use Rattle.cq_position.specs.Comments.{words, comment_of}
