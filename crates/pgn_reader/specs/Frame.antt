@@ -43,7 +43,8 @@ place f = record { before = f.before; reached = f.reached }
 -- the node of the last move, if there is one
 abbrev pub node_of_last : ℕ → Option Move → Board → Noted → List Row
 node_of_last level None q notes = []
-node_of_last level (Some m) q notes = record { level = level; move = record { move = m; position = q; nags = notes.nags; comments = notes.comments } } ∷ []
+node_of_last level (Some m) q notes =
+    record { level = level; move = record { move = m; position = q; nags = notes.nags; comments = notes.comments } } ∷ []
 
 abbrev pub last_row_by : Option Move → Frame → List Row
 last_row_by o f = node_of_last f.level o f.reached (record { nags = f.nags; comments = f.comments })
@@ -123,7 +124,10 @@ with_variation f variation = record f { here = f.here ++ whole variation }
 abbrev pub wholly_by : Option Move → Frame → Told → List Row
 wholly_by None f t = rows f.next (noted (f.nags ++ t.nags) (f.comments ++ t.comments) t.rest)
 wholly_by (Some m) f t =
-    record { level = f.level; move = record { move = m; position = f.reached; nags = f.nags ++ t.nags; comments = f.comments ++ t.comments } } ∷ rows f.next t.rest
+    record {
+      level = f.level;
+      move = record { move = m; position = f.reached; nags = f.nags ++ t.nags; comments = f.comments ++ t.comments };
+    } ∷ rows f.next t.rest
 
 abbrev pub wholly : Frame → Told → List Row
 wholly f t = f.moves ++ (wholly_by f.last f t ++ (f.here ++ (rows f.level t.variations ++ f.earlier)))

@@ -21,7 +21,8 @@ pub record Head : Type 0 where
   pub heading : Bool
   pub moves : ℕ
 
--- within a tag pair; or in the movetext, in a line, with the lines that are open around it, the innermost first; or after the marker; or stuck
+-- within a tag pair; or in the movetext, in a line, with the lines that are open around it, the innermost first; or after the marker; or
+-- stuck
 pub data State : Type 0 where
   opened : Tags → State
   named : Tags → List ℕ → State

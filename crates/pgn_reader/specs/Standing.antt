@@ -86,7 +86,8 @@ pub record AfterMarker (ts : List Word) : Type 0 where
 abbrev pub StandsAt : List Word → Standing → Type 0
 StandsAt ts (after_opening tags) = (opening : Word) × (opening.kind ≡ Open) × InPair ts tags (opening ∷ [])
 StandsAt ts (after_name tags text) =
-    (opening : Word) × (name : Word) × (opening.kind ≡ Open) × (name.kind ≡ Symbol) × (name.text ≡ text) × InPair ts tags (opening ∷ name ∷ [])
+    (opening : Word) × (name : Word) × (opening.kind ≡ Open) × (name.kind ≡ Symbol) × (name.text ≡ text)
+    × InPair ts tags (opening ∷ name ∷ [])
 StandsAt ts after_value =
     (tags : Tags) × (opening : Word) × (name : Word) × (value : Word) × (opening.kind ≡ Open) × (name.kind ≡ Symbol) × (value.kind ≡ Text)
     × InPair ts tags (opening ∷ name ∷ value ∷ [])

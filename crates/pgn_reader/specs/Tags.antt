@@ -32,7 +32,8 @@ pair_text p = p.comments ++ (p.opening ∷ p.name ∷ p.value ∷ p.closing ∷ 
 unfoldable pub unescaped : List ℕ → List ℕ
 unescaped [] = []
 unescaped (b ∷ []) = b ∷ []
-unescaped (b ∷ c ∷ bs) = if b == 92 then (if (c == 34) || (c == 92) then c ∷ unescaped bs else b ∷ unescaped (c ∷ bs)) else b ∷ unescaped (c ∷ bs)
+unescaped (b ∷ c ∷ bs) =
+    if b == 92 then (if (c == 34) || (c == 92) then c ∷ unescaped bs else b ∷ unescaped (c ∷ bs)) else b ∷ unescaped (c ∷ bs)
 
 -- the value of a string: what stands between its quotes
 unfoldable pub value_of : List ℕ → List ℕ

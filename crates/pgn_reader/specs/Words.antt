@@ -33,8 +33,8 @@ result_of_text text =
     else (if bytes_eq text (codes "1/2-1/2") then Some Draw
     else (if bytes_eq text (codes "*") then Some Undecided else None)))
 
--- What a token means in the movetext: a move, a numeric annotation glyph, a comment, a game's result, the beginning or the end of a variation,
--- or nothing. A token that may not stand there is out of place, for a reason.
+-- What a token means in the movetext: a move, a numeric annotation glyph, a comment, a game's result, the beginning or the end of a
+-- variation, or nothing. A token that may not stand there is out of place, for a reason.
 pub data Sense : Type 0 where
   plays : List ℕ → Sense
   annotates : ℕ → Sense

@@ -23,8 +23,8 @@ fn place_or(end: u64, tokens: &[Token], index: usize) -> u64
 
 /// Whether the bytes of a game spell one (PGN standard, sections 8.1 and 8.2), or their first fault.
 ///
-/// `start` is the place of the first byte in the archive, from which the fault's byte counts, and `first` says whether that byte stands in the
-/// first column. A fault stands at the first token such that no game begins with the tokens up to it, at the move that makes one position
+/// `start` is the place of the first byte in the archive, from which the fault's byte counts, and `first` says whether that byte stands
+/// in the first column. A fault stands at the first token such that no game begins with the tokens up to it, at the move that makes one position
 /// too many, or at the game's end where the tokens only begin one. A game of more than 2^24 bytes is refused before all other faults.
 pub fn check_game(
     alloc: Global,

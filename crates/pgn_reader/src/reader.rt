@@ -339,7 +339,8 @@ impl Reader {
         text: &[u8],
     ) -> Result<(), Refusal<Reason>>
         requires phase { self.old.phase ≡ Phase.Named }
-        ensures { Steps (on_value (with_tag self.old.tags self.old.name (value_of text.now)) kind) (value_fault kind (start_of (with_tag self.old.tags self.old.name (value_of text.now)))) (shown self.new) result }
+        ensures { Steps (on_value (with_tag self.old.tags self.old.name (value_of text.now)) kind)
+            (value_fault kind (start_of (with_tag self.old.tags self.old.name (value_of text.now)))) (shown self.new) result }
     {
         match kind {
             TokenKind::Text => {
@@ -386,7 +387,8 @@ impl Reader {
     ) -> Result<(), Refusal<Reason>>
         requires low { IsLow (shown self.old) }
         requires few { moves_in (shown self.old) ≤ 65535 }
-        ensures { Steps (feed (shown self.old) (record { kind = kind; text = text.now })) (fault_at (standing_of (shown self.old)) (record { kind = kind; text = text.now })) (shown self.new) result }
+        ensures { Steps (feed (shown self.old) (record { kind = kind; text = text.now }))
+            (fault_at (standing_of (shown self.old)) (record { kind = kind; text = text.now })) (shown self.new) result }
     {
         match self.phase {
             Phase::Movetext => self.read_movetext(alloc, kind, text),
