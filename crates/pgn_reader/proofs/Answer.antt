@@ -1,23 +1,23 @@
 -- What reading answers: the one game that is spelled, or the first fault.
-use Rattle.std.proofs.Common.{◌≡◌, ◌≢◌, ℕ, suc, ◌+◌, ◌<◌, ◌≤◌, ◌⊎◌, inl, inr, ◌↔◌, List, [], ◌∷◌, ◌++◌, length, take, Option, Some, None, Result, Ok, Err, Bool, true, false, cond, refl, sym, ap, ap₂, ◌∙◌, subst, arith, append_assoc, append-nil}
+use Rattle.std.proofs.Common.{◌≡◌, ◌≢◌, ℕ, suc, ◌+◌, ◌<◌, ◌≤◌, inl, inr, ◌↔◌, List, [], ◌∷◌, ◌++◌, length, take, Some, None, refl, sym, ap, ap₂, ◌∙◌, subst, arith}
 use Rattle.std.proofs.lemmas.List.{take_all}
 use Rattle.cq_position.specs.declared.games.GameResult.{GameResult}
 use Rattle.cq_position.specs.Board.{Board}
-use Rattle.cq_position.specs.Games.{Node, Game}
+use Rattle.cq_position.specs.Games.{Game}
 use Rattle.pgn_reader.specs.declared.fault.Reason.{Reason}
 use Rattle.pgn_reader.specs.declared.fault.Reason.TheVariants.{TooManyPositions}
 use Rattle.pgn_reader.specs.Words.{Word}
 use Rattle.pgn_reader.specs.Tags.{result_of_tags}
-use Rattle.pgn_reader.specs.Line.{Line, text, Place, beginning, Told, Tells}
+use Rattle.pgn_reader.specs.Line.{beginning, Tells}
 use Rattle.pgn_reader.specs.Games.{SpellsAny, Spells}
-use Rattle.pgn_reader.specs.Standing.{Begun, outermost, within, begun_text, depth_of, Reaches, Standing, after_opening, after_name, after_value, in_movetext, after_marker, StandsAt, InMovetext, AfterMarker, fault_at, fault_at_end, moves_before}
-use Rattle.pgn_reader.specs.Faults.{Begins, IsFaultOf, IsFaultOfEnd, IsFault}
+use Rattle.pgn_reader.specs.Standing.{Begun, outermost, within, depth_of, Reaches, StandsAt, fault_at, fault_at_end, moves_before}
+use Rattle.pgn_reader.specs.Faults.{Begins, IsFault}
 use Rattle.pgn_reader.specs.Frame.{Row, Frame, place, whole}
 use Rattle.pgn_reader.specs.Machine.{Head, State, opened, named, valued, at, ended, stuck, feed, run, first}
 use Rattle.pgn_reader.specs.Arranged.{way_on, nodes_by, nodes_of_rows, game_shown, standing_of}
 use Rattle.pgn_reader.proofs.Read.{run_append}
-use Rattle.pgn_reader.proofs.Told.{Stack, Shown}
-use Rattle.pgn_reader.proofs.Stands.{Valued, Marked, Stands, all_stands}
+use Rattle.pgn_reader.proofs.Told.{Stack}
+use Rattle.pgn_reader.proofs.Stands.{Stands, all_stands}
 use Rattle.pgn_reader.proofs.Whole.{IsEnd, IsRead, spelled_is_read, Spelled, spelled_marked, read_at, read_ended, begins, stuck_is_dead}
 use Rattle.pgn_reader.proofs.Count.{run_counts, first_counts, Counts}
 
@@ -68,10 +68,15 @@ fault_here ts i w s reason is live low more why dead few = record {
   standing = standing_of s;
   stands = stands_at (take i ts) s (subst (Stands (take i ts)) is (all_stands (take i ts))) live;
   few = few;
-  fault = inl (w, more, low, record {
-    why = why;
-    dead = λ other. stuck_is_dead (take i ts ++ w ∷ []) (run_append first (take i ts) (w ∷ []) ∙ ap (λ x. feed x w) is ∙ dead other);
-  });
+  fault = inl (
+    w,
+    more,
+    low,
+    record {
+      why = why;
+      dead = λ other. stuck_is_dead (take i ts ++ w ∷ []) (run_append first (take i ts) (w ∷ []) ∙ ap (λ x. feed x w) is ∙ dead other);
+    },
+  );
 }
 
 no_end_fault : (s : State) (h : Head) (f : Frame) (result : GameResult) (reason : Reason) → IsEnd s h f result → fault_at_end (standing_of s) ≡ Some reason → ⊥
@@ -88,11 +93,14 @@ fault_of_end ts s reason is live why few =
       standing = standing_of s;
       stands = subst (λ x. StandsAt x (standing_of s)) (sym all) (stands_at ts s (subst (Stands ts) is (all_stands ts)) live);
       few = few;
-      fault = inr (refl, record {
-        why = why;
-        dead = λ g spells. let r : IsRead ts g = spelled_is_read ts g spells in
-            no_end_fault s r.head r.frame r.result reason (subst (λ x. IsEnd x r.head r.frame r.result) is r.is_end) why;
-      });
+      fault = inr (
+        refl,
+        record {
+          why = why;
+          dead = λ g spells. let r : IsRead ts g = spelled_is_read ts g spells in
+              no_end_fault s r.head r.frame r.result reason (subst (λ x. IsEnd x r.head r.frame r.result) is r.is_end) why;
+        },
+      );
     }
 
 -- where reading ends there is one game

@@ -1,9 +1,9 @@
 -- The rows of continuations give their nodes.
-use Rattle.std.proofs.Common.{◌≡◌, ℕ, ◌+◌, ◌<◌, ◌≤◌, List, [], ◌∷◌, ◌++◌, length, take, get_or, refl, sym, ap, ap₂, ◌∙◌, subst, arith, append_assoc, append-nil, length-append}
-use Rattle.std.specs.Prelude.{slice_index, min}
+use Rattle.std.proofs.Common.{◌≡◌, ℕ, ◌+◌, ◌<◌, ◌≤◌, List, [], ◌∷◌, ◌++◌, length, take, refl, sym, ap, ◌∙◌, arith, append_assoc, append-nil, length-append}
+use Rattle.std.specs.Prelude.{slice_index}
 use Rattle.std.proofs.lemmas.List.{get_or_append_left, get_or-append-add, get_or-take, length-take-le}
 use Rattle.cq_position.specs.Games.{Node}
-use Rattle.cq_position.specs.Continuations.{Played, Continuations, none, played, size, nodes_from, node_of}
+use Rattle.cq_position.specs.Continuations.{Continuations, none, played, size, nodes_from, node_of}
 use Rattle.pgn_reader.specs.Frame.{Row, rows}
 use Rattle.pgn_reader.specs.Arranged.{way_on, nodes_by}
 
@@ -45,15 +45,15 @@ arranged (played m next others) level k way more later deep after =
     let beside : List Node = nodes_from (slice_index way level) (k + 1 + size next) others in
     let long : length down ≡ level + 2 = length_way way level k deep in
     let within : nodes_by down (k + 1) (rows (level + 1) next ++ (rows level others ++ more)) ≡ nodes_from (slice_index down (level + 1)) (k + 1) next ++ (beside ++ later) =
-        arranged next (level + 1) (k + 1) down (rows level others ++ more) (beside ++ later) (omega (arith, long)) (λ other deep_too agree.
-        let same : slice_index other level ≡ slice_index way level = agree level (omega arith) ∙ way_below way level k level deep (omega arith) in
-        arranged others level (k + 1 + size next) other more later (omega arith) (λ third deep_three agree_too.
-            ap (λ n. nodes_by third n more) (let e : k + 1 + size next + size others ≡ k + (1 + size next + size others) = omega arith in e)
-            ∙ after third deep_three (λ i low. agree_too i low ∙ agree i (omega arith) ∙ way_below way level k i deep low))
-        ∙ ap (λ n. nodes_from n (k + 1 + size next) others ++ later) same) in
+    arranged next (level + 1) (k + 1) down (rows level others ++ more) (beside ++ later) (omega (arith, long)) (λ other deep_too agree.
+    let same : slice_index other level ≡ slice_index way level = agree level (omega arith) ∙ way_below way level k level deep (omega arith) in
+    arranged others level (k + 1 + size next) other more later (omega arith) (λ third deep_three agree_too.
+    ap (λ n. nodes_by third n more) (let e : k + 1 + size next + size others ≡ k + (1 + size next + size others) = omega arith in e)
+    ∙ after third deep_three (λ i low. agree_too i low ∙ agree i (omega arith) ∙ way_below way level k i deep low))
+    ∙ ap (λ n. nodes_from n (k + 1 + size next) others ++ later) same) in
     ap (λ x. node_of (slice_index way level) m ∷ nodes_by down (k + 1) x) (append_assoc (rows (level + 1) next) (rows level others) more)
     ∙ ap (λ x. node_of (slice_index way level) m ∷ x) (within ∙ ap (λ n. nodes_from n (k + 1) next ++ (beside ++ later)) (way_end way level k deep)
-      ∙ sym (append_assoc (nodes_from k (k + 1) next) beside later))
+    ∙ sym (append_assoc (nodes_from k (k + 1) next) beside later))
 
 pub arranged_all : (c : Continuations) → nodes_by (0 ∷ []) 1 (rows 0 c) ≡ nodes_from 0 1 c
 arranged_all c =

@@ -1,24 +1,21 @@
 -- Where reading goes on, some game begins with the tokens.
-use Rattle.std.proofs.Common.{◌≡◌, ℕ, ◌+◌, ◌<◌, List, [], ◌∷◌, ◌++◌, length, Option, Some, None, Result, Ok, Err, Bool, true, false, cond, refl, sym, ap, ap₂, ◌∙◌, subst, arith, append_assoc, append-nil}
-use Rattle.std.specs.Prelude.{nat_lt, fold, codes}
-use Rattle.std.specs.Str.{bytes_eq}
+use Rattle.std.proofs.Common.{◌≡◌, ℕ, List, [], ◌∷◌, length, Option, Some, None, Result, Ok, Err, Bool, true, false, refl, sym, ap, ◌∙◌, subst}
+use Rattle.std.specs.Prelude.{nat_lt, codes}
 use Rattle.cq_position.specs.declared.moves.Move.{Move}
 use Rattle.cq_position.specs.declared.fen.FenFault.{FenFault}
 use Rattle.cq_position.specs.declared.games.GameResult.{GameResult}
-use Rattle.cq_position.specs.Board.{Board, start_board}
-use Rattle.cq_position.specs.Fen.{fen_meaning}
+use Rattle.cq_position.specs.Board.{Board}
 use Rattle.cq_san.specs.declared.fault.SanFault.{SanFault}
 use Rattle.cq_san.specs.San.{san}
 use Rattle.pgn_lexer.specs.declared.token.TokenKind.{TokenKind}
 use Rattle.pgn_lexer.specs.declared.token.TokenKind.TheVariants.{Open, Close, Text, Symbol, Null, RightParen}
-use Rattle.pgn_reader.specs.declared.fault.Reason.{Reason}
 use Rattle.pgn_reader.specs.Words.{Word, Sense, plays, annotates, remarks, ends, opens, closes, means_nothing, out_of_place, sense}
-use Rattle.cq_position.specs.Games.{tag_value, with_tag}
-use Rattle.pgn_reader.specs.Tags.{Tags, start_by, start_of, value_of}
+use Rattle.cq_position.specs.Games.{with_tag}
+use Rattle.pgn_reader.specs.Tags.{Tags, start_of, value_of}
 use Rattle.pgn_reader.specs.Line.{led_to}
-use Rattle.pgn_reader.specs.Frame.{Frame, begin, begin_game, advance, annotated, remarked, with_variation}
-use Rattle.pgn_reader.specs.Machine.{Head, State, opened, named, valued, at, ended, stuck, in_body, one_more, after_pairs, on_name, on_start, on_value, on_closing, on_move, on_marker, on_opening, on_end, on_bracket, on_misplaced, on_sense, feed, run, first}
-use Rattle.pgn_reader.proofs.Read.{run_append, feed_is, end_read}
+use Rattle.pgn_reader.specs.Frame.{Frame, advance, with_variation}
+use Rattle.pgn_reader.specs.Machine.{Head, State, opened, named, valued, at, ended, stuck, in_body, one_more, on_name, on_start, on_value, on_closing, on_move, on_marker, on_opening, on_end, on_bracket, on_sense, feed, run, first}
+use Rattle.pgn_reader.proofs.Read.{feed_is, end_read}
 
 -- a move leads from one position to another
 pub record Led (p q : Board) : Type 0 where
@@ -172,7 +169,7 @@ finishes_by g k outer h f keeps None is =
     let next : Frame = advance f opened.led.move (led_to f.reached opened.led.move) in
     let next_keeps : Keeps next (g ∷ k) = move_keeps h f (g ∷ k) opened.led.text keeps (Ok opened.led.move) means in
     filled h f (g ∷ k) opened.led.text opened.led.move means
-      (closed (one_more h) next g k f.reached refl (outer (in_body (one_more h)) (with_variation g next) (end_keeps (one_more h) next (g ∷ k) next_keeps (Some f.reached))))
+    (closed (one_more h) next g k f.reached refl (outer (in_body (one_more h)) (with_variation g next) (end_keeps (one_more h) next (g ∷ k) next_keeps (Some f.reached))))
 
 pub finishes : (k : List Frame) (h : Head) (f : Frame) → Keeps f k → Finish (at h f k)
 finishes [] h f keeps = record { more = []; head = h; frame = f; ends = refl }

@@ -1,6 +1,6 @@
 -- Each move has one row, and the root another.
-use Rattle.std.proofs.Common.{◌≡◌, ℕ, ◌+◌, List, [], ◌∷◌, ◌++◌, length, Option, Some, None, Result, Ok, Err, Bool, true, false, refl, sym, ap, ◌∙◌, subst, arith, length-append}
-use Rattle.std.specs.Prelude.{nat_lt, fold}
+use Rattle.std.proofs.Common.{◌≡◌, ℕ, ◌+◌, List, [], ◌∷◌, ◌++◌, length, Option, Some, None, Result, Ok, Err, Bool, true, false, refl, ap, ◌∙◌, arith, length-append}
+use Rattle.std.specs.Prelude.{nat_lt}
 use Rattle.cq_position.specs.declared.moves.Move.{Move}
 use Rattle.cq_position.specs.declared.fen.FenFault.{FenFault}
 use Rattle.cq_position.specs.declared.games.GameResult.{GameResult}
@@ -13,8 +13,8 @@ use Rattle.pgn_reader.specs.Words.{Word, Sense, plays, annotates, remarks, ends,
 use Rattle.cq_position.specs.Games.{with_tag}
 use Rattle.pgn_reader.specs.Tags.{Tags, start_of, value_of}
 use Rattle.pgn_reader.specs.Line.{led_to}
-use Rattle.pgn_reader.specs.Frame.{Row, Frame, last_row_by, last_row, whole, begin, begin_game, advance, annotated, remarked, with_variation}
-use Rattle.pgn_reader.specs.Machine.{Head, State, opened, named, valued, at, ended, stuck, in_body, one_more, after_pairs, on_name, on_start, on_value, on_closing, on_move, on_marker, on_opening, on_end, on_bracket, on_misplaced, on_sense, feed, run, first}
+use Rattle.pgn_reader.specs.Frame.{Frame, last_row_by, last_row, whole, advance, annotated, remarked, with_variation}
+use Rattle.pgn_reader.specs.Machine.{Head, State, opened, named, valued, at, ended, stuck, on_name, on_start, on_value, on_closing, on_move, on_marker, on_opening, on_end, on_bracket, on_sense, feed, run, first}
 
 -- how many rows the lines that are open have
 abbrev pub rows_in : List Frame → ℕ

@@ -1,15 +1,13 @@
 -- The end of a variation.
-use Rattle.std.proofs.Common.{◌≡◌, ℕ, List, [], ◌∷◌, ◌++◌, reverse, Option, Some, None, Bool, true, false, refl, sym, ap, ap₂, ◌∙◌, subst, ◌≤◌}
+use Rattle.std.proofs.Common.{◌≡◌, List, [], ◌∷◌, ◌++◌, reverse, Option, Some, None, true, refl, sym, ap, ap₂, ◌∙◌, subst, ◌≤◌}
 use Rattle.std.specs.Option.{is_some}
 use Rattle.std.proofs.lemmas.List.{reverse-append}
 use Rattle.cq_position.specs.Board.{Board}
 use Rattle.pgn_reader.specs.declared.reader.Reader.{Reader}
 use Rattle.pgn_reader.specs.declared.reader.Phase.TheVariants.{Movetext}
-use Rattle.pgn_reader.specs.Standing.{moves_before}
 use Rattle.pgn_reader.specs.Frame.{Frame, with_variation}
-use Rattle.pgn_reader.specs.Arranged.{standing_of}
-use Rattle.pgn_reader.specs.Shown.{head_of, shown_by, shown}
-use Rattle.pgn_reader.specs.Machine.{Head, State, at, in_body, on_end}
+use Rattle.pgn_reader.specs.Shown.{head_of, shown_by, shown, moves_in}
+use Rattle.pgn_reader.specs.Machine.{Head, at, in_body, on_end}
 
 end_some : (h : Head) (f g : Frame) (k : List Frame) (o : Option Board) → is_some o ≡ true → on_end h f (g ∷ k) o ≡ at (in_body h) (with_variation g f) k
 end_some h f g k None wrong = absurd cc
@@ -23,7 +21,7 @@ end_pops h f g k rest has popped =
 -- the reader after it
 pub record Ended (r s : Reader) : Type 0 where
   pub steps : on_end (head_of r) r.line (reverse r.around.items) r.line.before ≡ shown s
-  pub few : moves_before (standing_of (shown s)) ≤ 65535
+  pub few : moves_in (shown s) ≤ 65535
 
 pub end_step : (r s : Reader) (g : Frame) → r.phase ≡ Movetext → r.moves ≤ 65535 → is_some r.line.before ≡ true → r.around.items ≡ s.around.items ++ g ∷ [] → s.line ≡ with_variation g r.line
     → head_of s ≡ in_body (head_of r) → s.phase ≡ r.phase → Ended r s
@@ -31,5 +29,5 @@ end_step r s g phase few has popped line head same =
     let is : shown s ≡ at (head_of s) s.line (reverse s.around.items) = ap (λ p. shown_by p s) (same ∙ phase) in
     record {
       steps = end_pops (head_of r) r.line g r.around.items s.around.items has popped ∙ ap₂ (λ h f. at h f (reverse s.around.items)) (sym head) (sym line) ∙ sym is;
-      few = subst (λ x. moves_before (standing_of x) ≤ 65535) (sym is) (subst (λ h. h.moves ≤ 65535) (sym head) few);
+      few = subst (λ x. moves_in x ≤ 65535) (sym is) (subst (λ h. h.moves ≤ 65535) (sym head) few);
     }

@@ -1,15 +1,13 @@
 -- Tag pairs are read.
-use Rattle.std.proofs.Common.{◌≡◌, ℕ, ◌+◌, List, [], ◌∷◌, ◌++◌, Option, Some, None, Result, Ok, Err, Bool, true, false, cond, refl, sym, ap, ap₂, ◌∙◌, subst, append_assoc}
+use Rattle.std.proofs.Common.{◌≡◌, ℕ, List, [], ◌∷◌, ◌++◌, Option, Some, None, Result, Ok, Bool, true, false, cond, refl, sym, ap, ap₂, ◌∙◌}
 use Rattle.std.specs.Prelude.{fold, codes, ◌&&◌}
-use Rattle.std.specs.List.{flat_map, list_all, AllByRecursion, find}
+use Rattle.std.specs.List.{list_all, find}
 use Rattle.std.specs.Option.{option_map, option_or, is_some}
 use Rattle.std.specs.Str.{bytes_eq}
 use Rattle.std.proofs.lemmas.List.Concat.{flat_map-cons}
-use Rattle.std.proofs.lemmas.List.Folds.{list_all-append, find-append}
+use Rattle.std.proofs.lemmas.List.Folds.{find-append}
 use Rattle.cq_position.specs.Board.{Board}
 use Rattle.cq_position.specs.declared.fen.FenFault.{FenFault}
-use Rattle.cq_position.specs.Fen.{fen_meaning}
-use Rattle.pgn_lexer.specs.declared.token.TokenKind.{TokenKind}
 use Rattle.pgn_lexer.specs.declared.token.TokenKind.TheVariants.{Open, Close, Text, Symbol}
 use Rattle.pgn_reader.specs.declared.fault.Reason.TheVariants.{BadTag}
 use Rattle.pgn_reader.specs.Words.{Word, Sense, plays, annotates, remarks, ends, opens, closes, means_nothing, out_of_place, sense, sense_of, is_comment, is_remark}
@@ -17,7 +15,7 @@ use Rattle.cq_position.specs.Games.{tag_value, with_tag}
 use Rattle.pgn_reader.specs.Tags.{Pair, IsPair, pair_text, Tags, with_pair, start_by, start_of, value_of}
 use Rattle.pgn_reader.specs.Games.{AreHeading, heading_text}
 use Rattle.pgn_reader.specs.Frame.{Frame, begin_game, remarked}
-use Rattle.pgn_reader.specs.Machine.{Head, State, opened, named, valued, at, ended, stuck, after_pairs, on_name, on_start, on_value, on_closing, on_sense, feed, run}
+use Rattle.pgn_reader.specs.Machine.{Head, opened, named, valued, at, after_pairs, on_name, on_start, on_value, on_closing, on_sense, feed, run}
 use Rattle.pgn_reader.proofs.Read.{run_append, feed_is}
 
 -- comments are read before tag pairs as in the movetext

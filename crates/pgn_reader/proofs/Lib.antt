@@ -16,3 +16,5 @@ pub mod Ends
 pub mod Symbols
 pub mod Strings
 pub mod Low
+pub mod Slices
+pub mod Tokens

@@ -1,6 +1,6 @@
 -- The levels of the lines that are open are no more than the moves.
-use Rattle.std.proofs.Common.{◌≡◌, ℕ, ◌+◌, ◌≤◌, List, [], ◌∷◌, length, Option, Some, None, Result, Ok, Err, Bool, true, false, arith}
-use Rattle.std.specs.Prelude.{nat_lt, fold}
+use Rattle.std.proofs.Common.{ℕ, ◌+◌, List, [], ◌∷◌, length, Option, Some, None, Result, Ok, Err, Bool, true, false, arith}
+use Rattle.std.specs.Prelude.{nat_lt}
 use Rattle.cq_position.specs.declared.moves.Move.{Move}
 use Rattle.cq_position.specs.declared.fen.FenFault.{FenFault}
 use Rattle.cq_position.specs.declared.games.GameResult.{GameResult}
@@ -14,7 +14,7 @@ use Rattle.pgn_reader.specs.Words.{Word, Sense, plays, annotates, remarks, ends,
 use Rattle.pgn_reader.specs.Tags.{Tags, start_of, value_of}
 use Rattle.pgn_reader.specs.Frame.{Frame}
 use Rattle.pgn_reader.specs.Machine.{Head, State, opened, named, valued, at, ended, stuck, on_name, on_start, on_value, on_closing, on_move, on_marker, on_opening, on_end, on_bracket, on_sense, feed, run, first}
-use Rattle.pgn_reader.specs.Shown.{IsLowLine, AreLowLines, IsLow}
+use Rattle.pgn_reader.specs.Shown.{AreLowLines, IsLow}
 
 higher : (n : ℕ) (k : List Frame) → AreLowLines n k → AreLowLines (n + 1) k
 higher n [] low = tt
@@ -53,7 +53,6 @@ start_low tags (Err e) = tt
 value_low : (tags : Tags) (kind : TokenKind) → IsLow (on_value tags kind)
 value_low tags Text = start_low tags (start_of tags)
 value_low tags _ = tt
-
 
 closing_low : (tags : Tags) (start : Board) (kind : TokenKind) → IsLow (on_closing tags start kind)
 closing_low tags start Close = (record { level = omega arith; next = omega arith }, tt)

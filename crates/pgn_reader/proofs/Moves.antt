@@ -1,5 +1,5 @@
 -- The position after a move.
-use Rattle.std.proofs.Common.{◌≡◌, ℕ, Bool, true, false, not, cond, Option, Some, None, refl, sym, ap, ◌∙◌, subst, ◌⊎◌, inl, inr, ◌↔◌, nat_lt}
+use Rattle.std.proofs.Common.{◌≡◌, Bool, true, false, not, cond, Option, Some, None, refl, sym, ap, ◌∙◌, inl, inr, ◌↔◌, nat_lt}
 use Rattle.std.specs.Prelude.{◌&&◌, IsNone, IfSome}
 use Rattle.cq_position.specs.declared.moves.Move.{Move}
 use Rattle.cq_position.specs.Board.{Board}
@@ -19,7 +19,7 @@ unfolding is_pseudo_legal
 legal_not_null p q m legal =
     let a : (not m.null && nat_lt m.to 64 && reaches p m.from m.to && promotion_is_right p m) ≡ true = legal.moves in
     not_true m.null (and_left (not m.null) (nat_lt m.to 64) (and_left (not m.null && nat_lt m.to 64) (reaches p m.from m.to)
-      (and_left (not m.null && nat_lt m.to 64 && reaches p m.from m.to) (promotion_is_right p m) a)))
+    (and_left (not m.null && nat_lt m.to 64 && reaches p m.from m.to) (promotion_is_right p m) a)))
 
 -- where the null move leads, the side may pass
 pub null_passes : (p q : Board) (m : Move) → m.null ≡ true → Leads p m q → in_check p.men p.side ≡ false

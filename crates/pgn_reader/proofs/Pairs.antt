@@ -1,22 +1,21 @@
 -- A tag pair that has begun can end.
-use Rattle.std.proofs.Common.{◌≡◌, ℕ, List, [], ◌∷◌, ◌++◌, Option, Some, None, Result, Ok, Err, Bool, true, false, cond, refl, sym, ap, ap₂, ◌∙◌, subst}
-use Rattle.std.specs.Prelude.{fold, codes}
+use Rattle.std.proofs.Common.{◌≡◌, ℕ, List, [], ◌∷◌, ◌++◌, Option, Some, None, Ok, Bool, true, false, cond, refl, sym, ap, ◌∙◌, subst}
+use Rattle.std.specs.Prelude.{codes}
 use Rattle.std.specs.Str.{bytes_eq}
 use Rattle.std.specs.List.{find}
 use Rattle.std.specs.Option.{option_map, option_or, is_some}
 use Rattle.std.proofs.lemmas.List.Folds.{find-append}
-use Rattle.cq_position.specs.declared.fen.FenFault.{FenFault}
 use Rattle.cq_position.specs.Board.{Board, start_board}
 use Rattle.cq_geometry.specs.Squares.{squares}
 use Rattle.cq_geometry.specs.Lines.{between_squares}
 use Rattle.cq_position.specs.Attacks.{attacks, is_attacked, in_check}
 use Rattle.cq_position.specs.Fen.{fen_meaning, fields, is_placement, placed_men, position_or_fault}
-use Rattle.pgn_lexer.specs.declared.token.TokenKind.TheVariants.{Open, Close, Text, Symbol}
+use Rattle.pgn_lexer.specs.declared.token.TokenKind.TheVariants.{Close, Text, Symbol}
 use Rattle.pgn_reader.specs.Words.{Word}
 use Rattle.cq_position.specs.Games.{tag_value, with_tag}
 use Rattle.pgn_reader.specs.Tags.{Tags, start_by, start_of, unescaped, value_of}
 use Rattle.pgn_reader.specs.Frame.{begin_game}
-use Rattle.pgn_reader.specs.Machine.{Head, State, opened, named, valued, at, after_pairs, on_name, on_start, on_value, on_closing, feed, run}
+use Rattle.pgn_reader.specs.Machine.{opened, named, valued, on_start, feed, run}
 use Rattle.pgn_reader.proofs.Heading.{IsRead, value_stays}
 use Rattle.pgn_reader.proofs.Begun.{Finish}
 

@@ -1,21 +1,18 @@
 -- What a line tells is what is read of its tokens.
-use Rattle.std.proofs.Common.{◌≡◌, ℕ, ◌+◌, ◌<◌, List, [], ◌∷◌, ◌++◌, length, Option, Some, None, Result, Ok, Err, Bool, true, false, refl, sym, ap, ap₂, ◌∙◌, subst, arith, append_assoc, append-nil}
+use Rattle.std.proofs.Common.{◌≡◌, ℕ, ◌+◌, ◌<◌, List, [], ◌∷◌, ◌++◌, length, Option, Some, None, true, refl, sym, ap, ap₂, ◌∙◌, subst, arith, append_assoc, append-nil}
 use Rattle.std.proofs.Common.{cond}
 use Rattle.std.proofs.lemmas.List.Sums.{sum_by-append}
-use Rattle.std.specs.Prelude.{nat_lt, fold, count_by}
+use Rattle.std.specs.Prelude.{nat_lt, count_by}
 use Rattle.cq_position.specs.declared.moves.Move.{Move}
 use Rattle.cq_position.specs.declared.games.GameResult.{GameResult}
 use Rattle.cq_position.specs.Board.{Board}
-use Rattle.cq_position.specs.Continuations.{Played, Continuations, none, played}
-use Rattle.cq_san.specs.San.{san}
-use Rattle.pgn_lexer.specs.declared.token.TokenKind.{TokenKind}
+use Rattle.cq_position.specs.Continuations.{none}
 use Rattle.pgn_reader.specs.Words.{Word, Sense, plays, annotates, remarks, ends, opens, closes, means_nothing, out_of_place, sense, is_move, is_move_sense}
 use Rattle.cq_position.specs.Comments.{words, comment_of}
-use Rattle.pgn_reader.specs.Tags.{Tags}
-use Rattle.pgn_reader.specs.Line.{Line, nothing, word, variation, text, Place, beginning, led_to, moved, Told, nothing_told, glyph_told, remark_told, move_told, variation_told, beside, noted, TellsWord, Tells}
-use Rattle.pgn_reader.specs.Frame.{Row, rows, Frame, place, last_row, last_row_by, whole, begin, carried, advance, annotated, remarked, with_variation, wholly, wholly_by}
-use Rattle.pgn_reader.specs.Machine.{Head, State, at, ended, stuck, in_body, one_more, on_move, on_marker, on_opening, on_end, on_sense, feed, run}
-use Rattle.pgn_reader.proofs.Rows.{rows_beside, rows_none, rows_played, noted_twice}
+use Rattle.pgn_reader.specs.Line.{Line, nothing, word, variation, text, Place, beginning, led_to, Told, nothing_told, glyph_told, remark_told, move_told, variation_told, beside, noted, TellsWord, Tells}
+use Rattle.pgn_reader.specs.Frame.{Row, rows, Frame, place, last_row_by, whole, begin, carried, advance, annotated, remarked, with_variation, wholly, wholly_by}
+use Rattle.pgn_reader.specs.Machine.{Head, State, at, in_body, one_more, on_move, on_marker, on_opening, on_end, on_sense, feed, run}
+use Rattle.pgn_reader.proofs.Rows.{rows_beside}
 
 pub run_append : (s : State) (a b : List Word) → run s (a ++ b) ≡ run (run s a) b
 run_append s [] b = refl
@@ -77,7 +74,7 @@ row_of level m q nags comments = record { level = level; move = record { move = 
 
 move_by : (f : Frame) (m : Move) (q : Board) (u : Told) (o : Option Move)
     → (f.moves ++ last_row_by o f) ++ ((record { level = f.next; move = record { move = m; position = q; nags = carried o f.nags ++ u.nags; comments = carried o f.comments ++ u.comments } } ∷ rows (f.next + 1) u.rest)
-        ++ (rows f.next u.variations ++ (f.here ++ f.earlier)))
+    ++ (rows f.next u.variations ++ (f.here ++ f.earlier)))
     ≡ f.moves ++ (wholly_by o f (move_told m q u) ++ (f.here ++ (rows f.level none ++ f.earlier)))
 unfolding rows
 move_by f m q u None =
@@ -101,10 +98,10 @@ variation_by : (g : Frame) (v u : Told) (inner : List Row) → inner ≡ rows g.
     ≡ g.moves ++ (wholly_by o g (variation_told v u) ++ (g.here ++ (rows g.level (beside (noted v.nags v.comments v.rest) u.variations) ++ g.earlier)))
 variation_by g v u inner is o =
     let tail : (g.here ++ inner) ++ (rows g.level u.variations ++ g.earlier) ≡ g.here ++ (rows g.level (beside (noted v.nags v.comments v.rest) u.variations) ++ g.earlier) =
-        append_assoc g.here inner (rows g.level u.variations ++ g.earlier)
-        ∙ ap (λ x. g.here ++ x) (sym (append_assoc inner (rows g.level u.variations) g.earlier))
-        ∙ ap (λ x. g.here ++ ((x ++ rows g.level u.variations) ++ g.earlier)) is
-        ∙ ap (λ x. g.here ++ (x ++ g.earlier)) (sym (rows_beside g.level (noted v.nags v.comments v.rest) u.variations)) in
+    append_assoc g.here inner (rows g.level u.variations ++ g.earlier)
+    ∙ ap (λ x. g.here ++ x) (sym (append_assoc inner (rows g.level u.variations) g.earlier))
+    ∙ ap (λ x. g.here ++ ((x ++ rows g.level u.variations) ++ g.earlier)) is
+    ∙ ap (λ x. g.here ++ (x ++ g.earlier)) (sym (rows_beside g.level (noted v.nags v.comments v.rest) u.variations)) in
     by_last o tail
   where
     by_last : (o : Option Move) → (g.here ++ inner) ++ (rows g.level u.variations ++ g.earlier) ≡ g.here ++ (rows g.level (beside (noted v.nags v.comments v.rest) u.variations) ++ g.earlier)
@@ -117,7 +114,7 @@ variation_told_is : (g f : Frame) (p : Board) (v u : Told) → whole f ≡ wholl
 unfolding rows
 variation_told_is g f p v u is alone =
     let inner : whole f ≡ rows g.level (noted v.nags v.comments v.rest) =
-        is ∙ ap (λ x. rows g.level (noted v.nags v.comments v.rest) ++ (rows 0 x ++ [])) alone ∙ append-nil (rows g.level (noted v.nags v.comments v.rest)) in
+    is ∙ ap (λ x. rows g.level (noted v.nags v.comments v.rest) ++ (rows 0 x ++ [])) alone ∙ append-nil (rows g.level (noted v.nags v.comments v.rest)) in
     variation_by g v u (whole f) inner g.last
 
 -- a line that has no move yet has no variations of a move before it
@@ -264,7 +261,7 @@ told_is_read (variation o inner c rest) h f k d t deep (p, before, shallow, open
     let open_ : feed (at h f k) o ≡ at (in_body h) (begin f.level p) (f ∷ k) = opening_read h f k o p opening before (omega arith) in
     let within : Reads (in_body h) (begin f.level p) (f ∷ k) (text inner) v = told_is_read inner (in_body h) (begin f.level p) (f ∷ k) (d + 1) v (omega arith) inside in
     let close_ : feed (at within.head within.frame (f ∷ k)) c ≡ at (in_body within.head) (with_variation f within.frame) k =
-        end_read within.head within.frame f k c q closing (ap (λ x. x.before) within.place ∙ has_move) in
+    end_read within.head within.frame f k c q closing (ap (λ x. x.before) within.place ∙ has_move) in
     let more : Reads (in_body within.head) (with_variation f within.frame) k (text rest) u = told_is_read rest (in_body within.head) (with_variation f within.frame) k d u deep later in
     record {
       head = more.head;

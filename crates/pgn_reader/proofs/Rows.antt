@@ -1,8 +1,8 @@
 -- Rows of continuations.
-use Rattle.std.proofs.Common.{◌≡◌, ℕ, ◌+◌, List, [], ◌∷◌, ◌++◌, refl, sym, ap, ap₂, ◌∙◌, append_assoc, append-nil}
+use Rattle.std.proofs.Common.{◌≡◌, ℕ, ◌+◌, List, [], ◌∷◌, ◌++◌, refl, sym, ap, ap₂, ◌∙◌, append_assoc}
 use Rattle.cq_position.specs.Continuations.{Played, Continuations, none, played}
 use Rattle.pgn_reader.specs.Line.{beside, noted}
-use Rattle.pgn_reader.specs.Frame.{Row, rows}
+use Rattle.pgn_reader.specs.Frame.{rows}
 
 pub rows_beside : (level : ℕ) (a b : Continuations) → rows level (beside a b) ≡ rows level a ++ rows level b
 unfolding rows

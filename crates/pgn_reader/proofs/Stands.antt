@@ -1,9 +1,8 @@
 -- What each state shows of the tokens read.
-use Rattle.std.proofs.Common.{◌≡◌, ℕ, ◌+◌, ◌<◌, List, [], ◌∷◌, ◌++◌, length, Option, Some, None, Result, Ok, Err, Bool, true, false, cond, refl, sym, ap, ap₂, ◌∙◌, subst, arith, append_assoc, append-nil}
-use Rattle.std.specs.Prelude.{nat_lt, fold, count_by, ◌&&◌, codes}
-use Rattle.std.specs.List.{flat_map, list_all, AllByRecursion}
+use Rattle.std.proofs.Common.{◌≡◌, ℕ, ◌+◌, ◌<◌, List, [], ◌∷◌, ◌++◌, length, Option, Some, None, Result, Ok, Err, Bool, true, false, cond, refl, sym, ap, ◌∙◌, subst, arith, append_assoc, append-nil}
+use Rattle.std.specs.Prelude.{nat_lt, ◌&&◌}
 use Rattle.std.proofs.lemmas.Grind.{flat_map-append}
-use Rattle.std.proofs.lemmas.List.Sums.{sum_by-append, fold-append}
+use Rattle.std.proofs.lemmas.List.Sums.{fold-append}
 use Rattle.cq_position.specs.declared.moves.Move.{Move}
 use Rattle.cq_position.specs.declared.fen.FenFault.{FenFault}
 use Rattle.cq_position.specs.declared.games.GameResult.{GameResult}
@@ -12,15 +11,14 @@ use Rattle.cq_san.specs.declared.fault.SanFault.{SanFault}
 use Rattle.cq_san.specs.San.{san}
 use Rattle.pgn_lexer.specs.declared.token.TokenKind.{TokenKind}
 use Rattle.pgn_lexer.specs.declared.token.TokenKind.TheVariants.{Open, Close, Text, Symbol}
-use Rattle.pgn_reader.specs.declared.fault.Reason.{Reason}
-use Rattle.pgn_reader.specs.Words.{Word, Sense, plays, annotates, remarks, ends, opens, closes, means_nothing, out_of_place, sense, is_comment, is_remark, is_move, is_move_sense}
-use Rattle.cq_position.specs.Games.{with_tag, tag_value}
-use Rattle.pgn_reader.specs.Tags.{Pair, IsPair, pair_text, Tags, with_pair, tags_of, start_of, value_of}
-use Rattle.pgn_reader.specs.Line.{Line, nothing, word, variation, text, Place, beginning, led_to, moved, Told, nothing_told, glyph_told, remark_told, move_told, variation_told, TellsWord, Tells}
+use Rattle.pgn_reader.specs.Words.{Word, Sense, plays, annotates, remarks, ends, opens, closes, means_nothing, out_of_place, sense, is_remark, is_move_sense}
+use Rattle.cq_position.specs.Games.{with_tag}
+use Rattle.pgn_reader.specs.Tags.{Pair, IsPair, pair_text, Tags, with_pair, start_of, value_of}
+use Rattle.pgn_reader.specs.Line.{Line, nothing, variation, text, beginning, led_to, nothing_told, glyph_told, remark_told, move_told, variation_told, Tells}
 use Rattle.pgn_reader.specs.Games.{AreHeading, heading_text}
-use Rattle.pgn_reader.specs.Standing.{Begun, outermost, within, begun_text, HasHeading, InPair, StandsAt, after_opening, after_name}
+use Rattle.pgn_reader.specs.Standing.{Begun, outermost, within, begun_text, InPair, StandsAt, after_opening, after_name}
 use Rattle.pgn_reader.specs.Frame.{Frame, place, begin, begin_game, advance, annotated, remarked, with_variation}
-use Rattle.pgn_reader.specs.Machine.{Head, State, opened, named, valued, at, ended, stuck, in_body, one_more, after_pairs, on_name, on_start, on_value, on_closing, on_move, on_marker, on_opening, on_end, on_bracket, on_misplaced, on_sense, feed, run, first}
+use Rattle.pgn_reader.specs.Machine.{Head, State, opened, named, valued, at, ended, stuck, in_body, one_more, on_name, on_start, on_value, on_closing, on_move, on_marker, on_opening, on_end, on_bracket, on_sense, feed, run, first}
 use Rattle.pgn_reader.proofs.Told.{longer, text_longer, Stack, Shown, stack_on, Stepped, and_false, and_true, same_moves, shown_on, one_move, one_comment, word_stands}
 
 -- the value of a tag was read
@@ -71,7 +69,13 @@ name_stands ts tags w stands _ is = tt
 start_stands : (ts : List Word) (tags : Tags) (name : List ℕ) (w : Word) → Stands ts (named tags name) → w.kind ≡ Text → (r : Result Board FenFault)
     → start_of (with_tag tags name (value_of w.text)) ≡ r → Stands (ts ++ w ∷ []) (on_start (with_tag tags name (value_of w.text)) r)
 start_stands ts tags name w (o, n, is_open, is_symbol, named_is, in_pair) is (Ok start) starts = record {
-  tags = tags; opening = o; name = n; value = w; is_open = is_open; is_symbol = is_symbol; is_text = is;
+  tags = tags;
+  opening = o;
+  name = n;
+  value = w;
+  is_open = is_open;
+  is_symbol = is_symbol;
+  is_text = is;
   pair = part_on ts tags (o ∷ n ∷ []) w in_pair;
   are_tags = ap (λ x. with_tag tags x (value_of w.text)) (sym named_is);
   starts = starts;
@@ -128,7 +132,7 @@ move_stands ts h f k w m is shown (Err fault) means = tt
 move_stands ts h f k w m is shown (Ok move) means =
     let g : Frame = advance f move (led_to f.reached move) in
     word_stands ts h (one_more h) f g k w (plays m) (move_told move g.reached (nothing_told (place g))) is shown (λ d e. (move, means, refl, refl))
-      (record { tags = refl; start = refl; moves = refl; heading = and_false h.heading })
+    (record { tags = refl; start = refl; moves = refl; heading = and_false h.heading })
 
 marker_stands : (ts : List Word) (h : Head) (f : Frame) (k : List Frame) (w : Word) (r : GameResult) → sense w ≡ ends r → Shown ts h f k → Stands (ts ++ w ∷ []) (on_marker h f k r)
 marker_stands ts h f [] w r is shown = record { before = ts; marker = w; joined = refl; marks = is; shown = shown }
@@ -142,7 +146,7 @@ opening_stands ts h f k w is shown false low (Some p) before = tt
 opening_stands ts h f k w is shown true low (Some p) before =
     let step : Stepped h opens (in_body h) = body_step h opens refl refl in
     shown_on ts (w ∷ []) h (in_body h) f (begin f.level p) k (f ∷ k) shown (within shown.begun w nothing) refl
-      (shown.stack, p, before, low refl, is, nothing_told (beginning p), refl, refl) refl refl (one_move h (in_body h) w opens is step.moves) (one_comment h (in_body h) w opens is step.heading)
+    (shown.stack, p, before, low refl, is, nothing_told (beginning p), refl, refl) refl refl (one_move h (in_body h) w opens is step.moves) (one_comment h (in_body h) w opens is step.heading)
 
 -- the innermost line ends, and becomes a variation of the one around it
 pub record Closed (start : Board) (b : Begun) (f g : Frame) (k : List Frame) (w : Word) : Type 0 where
@@ -168,18 +172,22 @@ end_stands ts h f (g ∷ k) w is shown (Some q) before =
     let step : Stepped h closes (in_body h) = body_step h closes refl refl in
     let all : Closed h.start shown.begun f g k w = closed h.start shown.begun f g k w q is before shown.stack in
     shown_on ts (w ∷ []) h (in_body h) f (with_variation g f) (g ∷ k) k shown all.begun all.text_is all.stack refl refl
-      (one_move h (in_body h) w closes is step.moves) (one_comment h (in_body h) w closes is step.heading)
+    (one_move h (in_body h) w closes is step.moves) (one_comment h (in_body h) w closes is step.heading)
 
 bracket_stands : (ts : List Word) (h : Head) (f : Frame) (k : List Frame) (w : Word) → Shown ts h f k → (may : Bool) → h.heading ≡ may → (kind : TokenKind) → w.kind ≡ kind
     → Stands (ts ++ w ∷ []) (on_bracket may h.tags kind)
-bracket_stands ts h f k w shown true may Open is = (w, is, record {
-  pairs = shown.pairs;
-  start = h.start;
-  has_heading = shown.has_heading;
-  comments = begun_text shown.begun;
-  are_comments = sym shown.heading ∙ may;
-  joined = ap (λ x. x ++ w ∷ []) shown.joined ∙ append_assoc (heading_text shown.pairs) (begun_text shown.begun) (w ∷ []);
-})
+bracket_stands ts h f k w shown true may Open is = (
+  w,
+  is,
+  record {
+    pairs = shown.pairs;
+    start = h.start;
+    has_heading = shown.has_heading;
+    comments = begun_text shown.begun;
+    are_comments = sym shown.heading ∙ may;
+    joined = ap (λ x. x ++ w ∷ []) shown.joined ∙ append_assoc (heading_text shown.pairs) (begun_text shown.begun) (w ∷ []);
+  },
+)
 bracket_stands ts h f k w shown _ may _ is = tt
 
 below_is_true : (a b : ℕ) → nat_lt a b ≡ true → a < b
@@ -191,7 +199,7 @@ sense_stands ts h f k w shown (annotates n) is =
     word_stands ts h (in_body h) f (annotated f n) k w (annotates n) (glyph_told n (nothing_told (place f))) is shown (λ d e. (refl, refl)) (body_step h (annotates n) refl refl)
 sense_stands ts h f k w shown (remarks c) is =
     word_stands ts h h f (remarked f c) k w (remarks c) (remark_told c (nothing_told (place f))) is shown (λ d e. (refl, refl))
-      (record { tags = refl; start = refl; moves = same_moves h; heading = and_true h.heading })
+    (record { tags = refl; start = refl; moves = same_moves h; heading = and_true h.heading })
 sense_stands ts h f k w shown (ends r) is = marker_stands ts h f k w r is shown
 sense_stands ts h f k w shown opens is = opening_stands ts h f k w is shown (nat_lt (length k) 100) (below_is_true (length k) 100) f.before refl
 sense_stands ts h f k w shown closes is = end_stands ts h f k w is shown f.before refl

@@ -1,9 +1,9 @@
 -- What a symbol means.
-use Rattle.std.proofs.Common.{◌≡◌, ℕ, List, Option, Some, None, Bool, true, false, cond, refl, sym, ap, ◌∙◌}
+use Rattle.std.proofs.Common.{◌≡◌, ℕ, List, Option, true, false, cond, sym, ap, ◌∙◌}
 use Rattle.std.specs.List.{list_all}
 use Rattle.std.specs.Char.{is_ascii_digit}
 use Rattle.cq_position.specs.declared.games.GameResult.{GameResult}
-use Rattle.pgn_reader.specs.Words.{Sense, plays, ends, means_nothing, sense_of_marker, sense_of_symbol, result_of_text}
+use Rattle.pgn_reader.specs.Words.{means_nothing, sense_of_marker, sense_of_symbol, result_of_text}
 
 pub symbol_digits : (text : List ℕ) → list_all is_ascii_digit text ≡ true → means_nothing ≡ sense_of_symbol text
 unfolding sense_of_symbol

@@ -1,8 +1,7 @@
 -- One line after another.
-use Rattle.std.proofs.Common.{◌≡◌, ℕ, ◌+◌, ◌<◌, List, [], ◌∷◌, ◌++◌, length, Option, Some, None, Result, Ok, refl, sym, ap, ap₂, ◌∙◌, subst, append_assoc}
-use Rattle.cq_position.specs.Board.{Board}
-use Rattle.pgn_reader.specs.Words.{Word, Sense, plays, annotates, remarks, ends, opens, closes, means_nothing, out_of_place, sense}
-use Rattle.pgn_reader.specs.Line.{Line, nothing, word, variation, text, Place, beginning, Told, nothing_told, glyph_told, remark_told, move_told, variation_told, TellsWord, Tells}
+use Rattle.std.proofs.Common.{◌≡◌, ℕ, ◌∷◌, ◌++◌, refl, sym, ap, ◌∙◌, subst, append_assoc}
+use Rattle.pgn_reader.specs.Words.{Sense, plays, annotates, remarks, ends, opens, closes, means_nothing, out_of_place, sense}
+use Rattle.pgn_reader.specs.Line.{Line, nothing, word, variation, text, Place, Told, glyph_told, remark_told, move_told, variation_told, TellsWord, Tells}
 
 abbrev pub then : Line → Line → Line
 then nothing m = m

@@ -1,27 +1,17 @@
 -- What is read is told.
-use Rattle.std.proofs.Common.{◌≡◌, ℕ, ◌+◌, ◌<◌, List, [], ◌∷◌, ◌++◌, length, Option, Some, None, Result, Ok, Err, Bool, true, false, cond, refl, sym, ap, ap₂, ◌∙◌, subst, arith, append_assoc, append-nil}
-use Rattle.std.specs.Prelude.{nat_lt, fold, count_by, ◌&&◌, codes}
-use Rattle.std.specs.List.{flat_map, list_all, AllByRecursion}
-use Rattle.std.proofs.lemmas.Grind.{flat_map-append}
-use Rattle.std.proofs.lemmas.List.Sums.{sum_by-append, fold-append}
+use Rattle.std.proofs.Common.{◌≡◌, ℕ, ◌+◌, ◌<◌, List, [], ◌∷◌, ◌++◌, length, Some, Ok, Bool, true, false, cond, refl, sym, ap, ◌∙◌, subst, arith, append_assoc}
+use Rattle.std.specs.Prelude.{count_by, ◌&&◌}
+use Rattle.std.specs.List.{list_all}
+use Rattle.std.proofs.lemmas.List.Sums.{sum_by-append}
 use Rattle.std.proofs.lemmas.List.Folds.{list_all-append}
-use Rattle.cq_position.specs.declared.moves.Move.{Move}
-use Rattle.cq_position.specs.declared.fen.FenFault.{FenFault}
-use Rattle.cq_position.specs.declared.games.GameResult.{GameResult}
-use Rattle.cq_position.specs.Board.{Board, start_board}
-use Rattle.cq_san.specs.declared.fault.SanFault.{SanFault}
-use Rattle.cq_san.specs.San.{san}
-use Rattle.pgn_lexer.specs.declared.token.TokenKind.{TokenKind}
-use Rattle.pgn_lexer.specs.declared.token.TokenKind.TheVariants.{Open, Close, Text, Symbol, Period, Star, LeftParen, RightParen, Nag, Null, Comment, LineComment, BadByte, UnclosedComment, UnclosedText}
-use Rattle.pgn_reader.specs.declared.fault.Reason.{Reason}
-use Rattle.pgn_reader.specs.Words.{Word, Sense, plays, annotates, remarks, ends, opens, closes, means_nothing, out_of_place, sense, is_comment, is_remark, is_move, is_move_sense}
-use Rattle.cq_position.specs.Games.{with_tag}
-use Rattle.pgn_reader.specs.Tags.{Pair, IsPair, pair_text, Tags, with_pair, tags_of, start_of, value_of}
-use Rattle.pgn_reader.specs.Line.{Line, nothing, word, variation, text, Place, beginning, led_to, moved, Told, nothing_told, variation_told, TellsWord, Tells}
-use Rattle.pgn_reader.specs.Games.{AreHeading, heading_text}
-use Rattle.pgn_reader.specs.Standing.{Begun, outermost, within, begun_text, HasHeading, InPair, StandsAt, after_opening, after_name}
-use Rattle.pgn_reader.specs.Frame.{Frame, place, begin, begin_game, advance, annotated, remarked, with_variation}
-use Rattle.pgn_reader.specs.Machine.{Head, State, opened, named, valued, at, ended, stuck, in_body, one_more, after_pairs, on_name, on_start, on_value, on_closing, on_move, on_marker, on_opening, on_end, on_misplaced, on_sense, feed, run, first}
+use Rattle.cq_position.specs.Board.{Board}
+use Rattle.pgn_reader.specs.Words.{Word, Sense, opens, sense, is_comment, is_remark, is_move, is_move_sense}
+use Rattle.pgn_reader.specs.Tags.{Pair, start_of}
+use Rattle.pgn_reader.specs.Line.{Line, nothing, word, text, beginning, Told, nothing_told, TellsWord, Tells}
+use Rattle.pgn_reader.specs.Games.{heading_text}
+use Rattle.pgn_reader.specs.Standing.{Begun, outermost, within, begun_text, HasHeading}
+use Rattle.pgn_reader.specs.Frame.{Frame, place}
+use Rattle.pgn_reader.specs.Machine.{Head}
 use Rattle.pgn_reader.proofs.Read.{counted_word}
 use Rattle.pgn_reader.proofs.Then.{then, text_then, end_same, Longer, tells_then}
 
@@ -63,7 +53,7 @@ stack_on start (outermost l) f g (h ∷ k) m u wrong more to = absurd wrong
 stack_on start (within b o l) f g [] m u wrong more to = absurd wrong
 stack_on start (within b o l) f g (h ∷ k) m u (around, p, before, shallow, opening, t, tells, end) more to =
     let all : Longer (length k + 1) (beginning p) (then l m) u.end =
-        tells_then l m (length k + 1) (beginning p) t u tells (subst (λ x. Tells (length k + 1) x m u) (sym end) (more (length k + 1) (omega arith))) in
+    tells_then l m (length k + 1) (beginning p) t u tells (subst (λ x. Tells (length k + 1) x m u) (sym end) (more (length k + 1) (omega arith))) in
     (around, p, before, shallow, opening, all.told, all.tells, all.end ∙ to)
 
 -- heads before and after a token
@@ -119,5 +109,5 @@ word_stands ts h j f g k w s u is shown tells step =
     let line : Line = word w nothing in
     let told : (d : ℕ) → d ≡ length k → Tells d (place f) line u = λ d e. (place g, nothing_told (place g), subst (λ x. TellsWord d (place f) x (place g) (nothing_told (place g)) u) (sym is) (tells d e), refl) in
     shown_on ts (w ∷ []) h j f g k k shown (longer shown.begun line) (text_longer shown.begun line)
-      (stack_on h.start shown.begun f g k line u shown.stack told (sym (end_same (length k) (place f) (place g) (nothing_told (place g)) u s (tells (length k) refl))))
-      step.tags step.start (one_move h j w s is step.moves) (one_comment h j w s is step.heading)
+    (stack_on h.start shown.begun f g k line u shown.stack told (sym (end_same (length k) (place f) (place g) (nothing_told (place g)) u s (tells (length k) refl))))
+    step.tags step.start (one_move h j w s is step.moves) (one_comment h j w s is step.heading)

@@ -1,27 +1,25 @@
 -- The game that tokens spell, and the tokens that begin one.
-use Rattle.std.proofs.Common.{◌≡◌, ℕ, ◌+◌, ◌<◌, ◌≤◌, ◌⊎◌, inl, inr, ◌↔◌, List, [], ◌∷◌, ◌++◌, length, take, Option, Some, None, Result, Ok, Err, Bool, true, false, cond, refl, sym, ap, ap₂, ◌∙◌, subst, arith, append_assoc, append-nil}
-use Rattle.std.specs.Prelude.{fold, count_by}
+use Rattle.std.proofs.Common.{◌≡◌, ◌⊎◌, inl, inr, List, [], ◌∷◌, ◌++◌, Ok, true, refl, sym, ap, ap₂, ◌∙◌, subst, append_assoc, append-nil}
 use Rattle.cq_position.specs.declared.games.GameResult.{GameResult}
 use Rattle.cq_position.specs.Board.{Board, start_board}
 use Rattle.cq_position.specs.Moves.{null_move}
-use Rattle.cq_position.specs.Games.{Node, Game}
-use Rattle.cq_position.specs.Continuations.{Played, Continuations, none, nodes_from}
-use Rattle.pgn_reader.specs.Words.{Word, sense, ends, is_move}
-use Rattle.cq_position.specs.Games.{tag_value}
+use Rattle.cq_position.specs.Games.{Game}
+use Rattle.cq_position.specs.Continuations.{none}
+use Rattle.pgn_reader.specs.Words.{Word, ends}
 use Rattle.pgn_reader.specs.Tags.{Tags, tags_of, start_of, result_of_tags}
-use Rattle.pgn_reader.specs.Line.{Line, text, Place, beginning, Told, Tells}
+use Rattle.pgn_reader.specs.Line.{Line, text, beginning, Told, Tells}
 use Rattle.pgn_reader.specs.Games.{heading_text, MarksEnd, root, nodes_told, game_told, SpellsAny}
-use Rattle.pgn_reader.specs.Standing.{Begun, outermost, within, begun_text, depth_of, Reaches, Standing, after_opening, after_name, after_value, in_movetext, after_marker, StandsAt, InMovetext, AfterMarker}
+use Rattle.pgn_reader.specs.Standing.{Begun, outermost, within, begun_text}
 use Rattle.pgn_reader.specs.Faults.{Begins}
-use Rattle.pgn_reader.specs.Frame.{Row, rows, Frame, place, whole, begin_game, wholly}
-use Rattle.pgn_reader.specs.Machine.{Head, State, opened, named, valued, at, ended, stuck, after_pairs, on_marker, feed, run, first}
-use Rattle.pgn_reader.specs.Arranged.{nodes_by, nodes_of_rows, game_shown}
-use Rattle.pgn_reader.proofs.Read.{run_append, feed_is, Grown, Reads, told_is_read, alone}
+use Rattle.pgn_reader.specs.Frame.{rows, Frame, whole, begin_game, wholly}
+use Rattle.pgn_reader.specs.Machine.{Head, State, opened, named, valued, at, ended, stuck, after_pairs, feed, run, first}
+use Rattle.pgn_reader.specs.Arranged.{nodes_of_rows, game_shown}
+use Rattle.pgn_reader.proofs.Read.{run_append, feed_is, Reads, told_is_read, alone}
 use Rattle.pgn_reader.proofs.Heading.{pairs_read}
 use Rattle.pgn_reader.proofs.Told.{Stack, Shown}
-use Rattle.pgn_reader.proofs.Stands.{Valued, Marked, Stands, all_stands}
+use Rattle.pgn_reader.proofs.Stands.{Marked, Stands, all_stands}
 use Rattle.pgn_reader.proofs.Arranged.{arranged_all}
-use Rattle.pgn_reader.proofs.Begun.{Kept, Keeps, run_keeps, first_keeps, Finish, finishes}
+use Rattle.pgn_reader.proofs.Begun.{Kept, run_keeps, first_keeps, Finish, finishes}
 use Rattle.pgn_reader.proofs.Pairs.{finishes_opened, finishes_named, finishes_valued}
 
 -- where reading ends with a game: after the last token of its line, or after its marker
@@ -40,8 +38,8 @@ nodes_shown : (start : Board) (t : Told) (f : Frame) → whole f ≡ wholly (beg
 unfolding rows
 nodes_shown start t f is alone =
     let all : whole f ≡ record { level = 0; move = record { move = null_move; position = start; nags = t.nags; comments = t.comments } } ∷ rows 0 t.rest =
-        is ∙ ap (λ x. record { level = 0; move = record { move = null_move; position = start; nags = t.nags; comments = t.comments } } ∷ (rows 0 t.rest ++ (rows 0 x ++ []))) alone
-        ∙ ap (λ x. record { level = 0; move = record { move = null_move; position = start; nags = t.nags; comments = t.comments } } ∷ x) (append-nil (rows 0 t.rest)) in
+    is ∙ ap (λ x. record { level = 0; move = record { move = null_move; position = start; nags = t.nags; comments = t.comments } } ∷ (rows 0 t.rest ++ (rows 0 x ++ []))) alone
+    ∙ ap (λ x. record { level = 0; move = record { move = null_move; position = start; nags = t.nags; comments = t.comments } } ∷ x) (append-nil (rows 0 t.rest)) in
     ap (λ x. root start t.comments ∷ x) (sym (arranged_all t.rest)) ∙ sym (ap nodes_of_rows all)
 
 start_none : start_of [] ≡ Ok start_board
@@ -60,11 +58,11 @@ spelled_is_read ts g s =
     let heading : run first (heading_text s.pairs) ≡ after_pairs tags s.start = pairs_read s.pairs [] start_board s.start s.heading start_none s.starts in
     let line : Reads h (begin_game s.start) [] (text s.line) s.told = told_is_read s.line h (begin_game s.start) [] 0 s.told refl s.tells in
     let all : run first ts ≡ run (at line.head line.frame []) s.marker =
-        ap (run first) s.joined
-        ∙ run_append first (heading_text s.pairs) (text s.line ++ s.marker)
-        ∙ ap (λ x. run x (text s.line ++ s.marker)) heading
-        ∙ run_append (after_pairs tags s.start) (text s.line) s.marker
-        ∙ ap (λ x. run x s.marker) line.is_run in
+    ap (run first) s.joined
+    ∙ run_append first (heading_text s.pairs) (text s.line ++ s.marker)
+    ∙ ap (λ x. run x (text s.line ++ s.marker)) heading
+    ∙ run_append (after_pairs tags s.start) (text s.line) s.marker
+    ∙ ap (λ x. run x s.marker) line.is_run in
     record {
       head = line.head;
       frame = line.frame;

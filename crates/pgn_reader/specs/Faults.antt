@@ -1,8 +1,8 @@
 -- The first fault of a game's tokens.
-use Rattle.std.specs.Prelude.{◌≡◌, ◌≢◌, ℕ, ◌+◌, ◌^◌, ◌<◌, ◌≤◌, ◌⊎◌, List, [], ◌∷◌, ◌++◌, length, take, Bool, Option, Some, None, Result, Ok, Err}
+use Rattle.std.specs.Prelude.{◌≡◌, ◌≢◌, ℕ, ◌+◌, ◌<◌, ◌≤◌, ◌⊎◌, List, [], ◌∷◌, ◌++◌, length, take, Some}
 use Rattle.cq_position.specs.Games.{Game}
 use Rattle.pgn_reader.specs.declared.fault.Reason.{Reason}
-use Rattle.pgn_reader.specs.declared.fault.Reason.TheVariants.{TooManyPositions, GameTooLong}
+use Rattle.pgn_reader.specs.declared.fault.Reason.TheVariants.{TooManyPositions}
 use Rattle.pgn_reader.specs.Words.{Word}
 use Rattle.pgn_reader.specs.Games.{SpellsAny}
 use Rattle.pgn_reader.specs.Standing.{Standing, StandsAt, fault_at, fault_at_end, moves_before}

@@ -5,7 +5,7 @@ use Rattle.cq_position.specs.Board.{Board}
 use Rattle.cq_position.specs.Moves.{null_move}
 use Rattle.cq_position.specs.Continuations.{Played, Continuations, none, played}
 use Rattle.cq_position.specs.Comments.{words, comment_of}
-use Rattle.pgn_reader.specs.Line.{Place, Told, noted, led_to}
+use Rattle.pgn_reader.specs.Line.{Place, Told, noted}
 
 -- a node and the level of its parent; the root's children have the level 0
 pub record Row : Type 0 where
@@ -43,7 +43,8 @@ place f = record { before = f.before; reached = f.reached }
 -- the node of the last move, if there is one
 abbrev pub node_of_last : ℕ → Option Move → Board → Noted → List Row
 node_of_last level None q notes = []
-node_of_last level (Some m) q notes = record { level = level; move = record { move = m; position = q; nags = notes.nags; comments = notes.comments } } ∷ []
+node_of_last level (Some m) q notes =
+    record { level = level; move = record { move = m; position = q; nags = notes.nags; comments = notes.comments } } ∷ []
 
 abbrev pub last_row_by : Option Move → Frame → List Row
 last_row_by o f = node_of_last f.level o f.reached (record { nags = f.nags; comments = f.comments })
@@ -57,12 +58,30 @@ whole f = f.moves ++ (last_row f ++ (f.here ++ f.earlier))
 
 abbrev pub begin : ℕ → Board → Frame
 begin level p = record {
-  before = None; reached = p; level = 0; next = level; last = None; nags = []; comments = []; moves = []; here = []; earlier = [];
+  before = None;
+  reached = p;
+  level = 0;
+  next = level;
+  last = None;
+  nags = [];
+  comments = [];
+  moves = [];
+  here = [];
+  earlier = [];
 }
 
 abbrev pub begin_game : Board → Frame
 begin_game p = record {
-  before = None; reached = p; level = 0; next = 0; last = Some null_move; nags = []; comments = []; moves = []; here = []; earlier = [];
+  before = None;
+  reached = p;
+  level = 0;
+  next = 0;
+  last = Some null_move;
+  nags = [];
+  comments = [];
+  moves = [];
+  here = [];
+  earlier = [];
 }
 
 -- what waits for the first move goes over to it
@@ -72,9 +91,16 @@ carried (Some m) xs = []
 
 abbrev pub advance : Frame → Move → Board → Frame
 advance f m q = record {
-  before = Some f.reached; reached = q; level = f.next; next = f.next + 1; last = Some m;
-  nags = carried f.last f.nags; comments = carried f.last f.comments;
-  moves = f.moves ++ last_row f; here = []; earlier = f.here ++ f.earlier;
+  before = Some f.reached;
+  reached = q;
+  level = f.next;
+  next = f.next + 1;
+  last = Some m;
+  nags = carried f.last f.nags;
+  comments = carried f.last f.comments;
+  moves = f.moves ++ last_row f;
+  here = [];
+  earlier = f.here ++ f.earlier;
 }
 
 -- the two steps of it that the code takes first
@@ -98,7 +124,10 @@ with_variation f variation = record f { here = f.here ++ whole variation }
 abbrev pub wholly_by : Option Move → Frame → Told → List Row
 wholly_by None f t = rows f.next (noted (f.nags ++ t.nags) (f.comments ++ t.comments) t.rest)
 wholly_by (Some m) f t =
-    record { level = f.level; move = record { move = m; position = f.reached; nags = f.nags ++ t.nags; comments = f.comments ++ t.comments } } ∷ rows f.next t.rest
+    record {
+      level = f.level;
+      move = record { move = m; position = f.reached; nags = f.nags ++ t.nags; comments = f.comments ++ t.comments };
+    } ∷ rows f.next t.rest
 
 abbrev pub wholly : Frame → Told → List Row
 wholly f t = f.moves ++ (wholly_by f.last f t ++ (f.here ++ (rows f.level t.variations ++ f.earlier)))

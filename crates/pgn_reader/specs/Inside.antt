@@ -1,5 +1,5 @@
 -- What contracts see of the notes and the rows of a line.
-use Rattle.std.specs.Prelude.{ℕ, ◌≢◌, List, [], ◌∷◌, ◌++◌, flat_map}
+use Rattle.std.specs.Prelude.{ℕ, ◌≢◌, List, flat_map}
 use Rattle.std.specs.List.{All}
 use Rattle.cq_position.specs.Comments.{words, comment_of}
 use Rattle.pgn_reader.specs.declared.notes.Notes.TheInside.{Inside as NotesInside}

@@ -4,6 +4,7 @@ pub mod Line
 pub mod Games
 pub mod Standing
 pub mod Faults
+pub mod Verdict
 pub mod Frame
 pub mod Inside
 pub mod RowInside
@@ -11,3 +12,4 @@ pub mod LineInside
 pub mod Machine
 pub mod Arranged
 pub mod Shown
+pub mod Reading

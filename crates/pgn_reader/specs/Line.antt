@@ -1,9 +1,9 @@
 -- What a line of moves tells (PGN standard, section 8.2).
-use Rattle.std.specs.Prelude.{◌≡◌, ℕ, ◌+◌, ◌<◌, Bool, true, false, List, [], ◌∷◌, ◌++◌, Option, Some, None, Result, Ok, IsSome, if◌then◌else◌}
+use Rattle.std.specs.Prelude.{◌≡◌, ℕ, ◌+◌, ◌<◌, List, [], ◌∷◌, ◌++◌, Option, Some, None, Ok, if◌then◌else◌}
 use Rattle.cq_position.specs.declared.moves.Move.{Move}
 use Rattle.cq_position.specs.Board.{Board}
 use Rattle.cq_position.specs.Legal.{after, after_pass}
-use Rattle.cq_position.specs.Continuations.{Played, Continuations, none, played}
+use Rattle.cq_position.specs.Continuations.{Continuations, none, played}
 use Rattle.cq_san.specs.San.{san}
 use Rattle.pgn_reader.specs.Words.{Word, Sense, plays, annotates, remarks, ends, opens, closes, means_nothing, out_of_place, sense}
 use Rattle.cq_position.specs.Comments.{words, comment_of}
@@ -89,8 +89,8 @@ TellsWord depth a closes b u t = ⊥
 TellsWord depth a (out_of_place reason) b u t = ⊥
 
 -- What a line tells from a place on, within so many variations. A move is the one that its token means in the position reached. Glyphs and
--- comments belong to the move before them. A variation stands somewhere after a move of its line, begins in the position before that move, and
--- has a move; it is at most the hundredth level. A result within a variation means nothing.
+-- comments belong to the move before them. A variation stands somewhere after a move of its line, begins in the position before that move,
+-- and has a move; it is at most the hundredth level. A result within a variation means nothing.
 abbrev pub Tells : ℕ → Place → Line → Told → Type 0
 Tells depth a nothing t = t ≡ nothing_told a
 Tells depth a (word w rest) t = (b : Place) × (u : Told) × TellsWord depth a (sense w) b u t × Tells depth b rest u

@@ -1,5 +1,5 @@
 -- Reading token by token.
-use Rattle.std.specs.Prelude.{◌≡◌, ℕ, ◌+◌, ◌<◌, List, [], ◌∷◌, length, Option, Some, None, Result, Ok, Err, Bool, true, false, if◌then◌else◌, nat_lt, fold}
+use Rattle.std.specs.Prelude.{ℕ, ◌+◌, List, [], ◌∷◌, length, Option, Some, None, Result, Ok, Err, Bool, true, false, nat_lt, fold}
 use Rattle.cq_position.specs.declared.moves.Move.{Move}
 use Rattle.cq_position.specs.declared.fen.FenFault.{FenFault}
 use Rattle.cq_position.specs.declared.games.GameResult.{GameResult}
@@ -12,7 +12,7 @@ use Rattle.pgn_reader.specs.Words.{Word, Sense, plays, annotates, remarks, ends,
 use Rattle.cq_position.specs.Games.{with_tag}
 use Rattle.pgn_reader.specs.Tags.{Tags, start_of, value_of}
 use Rattle.pgn_reader.specs.Line.{led_to}
-use Rattle.pgn_reader.specs.Frame.{Frame, begin, begin_game, advance, annotated, remarked, with_variation, whole}
+use Rattle.pgn_reader.specs.Frame.{Frame, begin, begin_game, advance, annotated, remarked, with_variation}
 
 -- the tags, the position in which the game begins, whether tag pairs may still come, and the number of the moves so far
 pub record Head : Type 0 where
@@ -21,7 +21,8 @@ pub record Head : Type 0 where
   pub heading : Bool
   pub moves : ℕ
 
--- within a tag pair; or in the movetext, in a line, with the lines that are open around it, the innermost first; or after the marker; or stuck
+-- within a tag pair; or in the movetext, in a line, with the lines that are open around it, the innermost first; or after the marker; or
+-- stuck
 pub data State : Type 0 where
   opened : Tags → State
   named : Tags → List ℕ → State

@@ -1,5 +1,5 @@
 -- What contracts see of a game that is being read.
-use Rattle.std.specs.Prelude.{◌≡◌, ◌≢◌, ℕ, ◌+◌, ◌≤◌, List, [], ◌∷◌, length, reverse, Option, Some, Result, Ok, Err}
+use Rattle.std.specs.Prelude.{◌≡◌, ◌≢◌, ℕ, ◌≤◌, List, [], ◌∷◌, length, reverse, Option, Some, Result, Ok, Err}
 use Rattle.cq_outside.specs.declared.faults.Refusal.{Refusal}
 use Rattle.cq_outside.specs.declared.faults.Refusal.TheVariants.{Fault, NoMemory}
 use Rattle.pgn_reader.specs.declared.fault.Reason.{Reason}
@@ -7,12 +7,11 @@ use Rattle.pgn_reader.specs.declared.fault.Reason.TheVariants.{TooManyPositions}
 use Rattle.pgn_reader.specs.declared.reader.Reader.{Reader}
 use Rattle.pgn_reader.specs.declared.reader.Phase.{Phase}
 use Rattle.pgn_reader.specs.declared.reader.Phase.TheVariants.{Movetext, Opened, Named, Valued, Ended}
-use Rattle.pgn_reader.specs.Words.{Word, Sense}
+use Rattle.pgn_reader.specs.Words.{Sense}
 use Rattle.pgn_lexer.specs.declared.token.TokenKind.{TokenKind}
-use Rattle.pgn_reader.specs.Standing.{movetext_fault, moves_before}
+use Rattle.pgn_reader.specs.Standing.{movetext_fault}
 use Rattle.pgn_reader.specs.Frame.{Frame, place}
 use Rattle.pgn_reader.specs.Machine.{Head, State, opened, named, valued, at, ended, stuck, on_sense}
-use Rattle.pgn_reader.specs.Arranged.{standing_of}
 
 abbrev pub head_of : Reader → Head
 head_of r = record { tags = r.tags; start = r.start; heading = r.heading; moves = r.moves }
@@ -27,10 +26,16 @@ shown_by (Ended result) r = ended (head_of r) r.line result
 abbrev pub shown : Reader → State
 shown r = shown_by r.phase r
 
+-- how many moves were read
+abbrev pub moves_in : State → ℕ
+moves_in (at h f k) = h.moves
+moves_in (ended h f result) = h.moves
+moves_in _ = 0
+
 -- A step of the reader: it goes on to a state, or it is refused. A refusal gives the reason, and there the state would be stuck, but where
 -- the limit of positions is passed.
 abbrev pub Steps : State → Option Reason → State → Result (Unit {0}) (Refusal Reason) → Type 0
-Steps next reason s (Ok done) = (next ≡ s) × (moves_before (standing_of s) ≤ 65535)
+Steps next reason s (Ok done) = (next ≡ s) × (moves_in s ≤ 65535)
 Steps next reason s (Err (Fault found)) = (reason ≡ Some found) × (found ≢ TooManyPositions → next ≡ stuck)
 Steps next reason s (Err NoMemory) = Unit {0}
 

@@ -1,6 +1,6 @@
 -- Where the first tokens of a game stand, and why a token is a fault there.
-use Rattle.std.specs.Prelude.{◌≡◌, ℕ, zero, suc, ◌+◌, ◌<◌, ◌&&◌, nat_lt, Bool, true, false, List, [], ◌∷◌, ◌++◌, length, count_by, Option, Some, None, Result, Ok, Err, if◌then◌else◌}
-use Rattle.std.specs.List.{AllByRecursion, list_all}
+use Rattle.std.specs.Prelude.{◌≡◌, ℕ, zero, suc, ◌+◌, ◌<◌, nat_lt, Bool, true, List, [], ◌∷◌, ◌++◌, count_by, Option, Some, None, Result, Ok, Err, if◌then◌else◌}
+use Rattle.std.specs.List.{list_all}
 use Rattle.cq_position.specs.declared.moves.Move.{Move}
 use Rattle.cq_position.specs.declared.fen.FenFault.{FenFault}
 use Rattle.cq_position.specs.declared.games.GameResult.{GameResult}
@@ -13,7 +13,7 @@ use Rattle.pgn_lexer.specs.declared.token.TokenKind.{TokenKind}
 use Rattle.pgn_lexer.specs.declared.token.TokenKind.TheVariants.{Open, Close, Text, Symbol, Nag, BadByte, UnclosedComment, UnclosedText}
 use Rattle.pgn_reader.specs.declared.fault.Reason.{Reason}
 use Rattle.pgn_reader.specs.declared.fault.Reason.TheVariants.{BadByte as IsBadByte, UnclosedComment as IsUnclosedComment, UnclosedString, BadTag, BadFen, NagRange, NotAMove, IllegalMove, AmbiguousMove, VariationWithoutMove, EmptyVariation, UnopenedVariation, UnclosedVariation, TooDeep, TooManyPositions}
-use Rattle.pgn_reader.specs.Words.{Word, Sense, plays, annotates, remarks, ends, opens, closes, means_nothing, out_of_place, sense, is_comment, is_move}
+use Rattle.pgn_reader.specs.Words.{Word, Sense, plays, ends, opens, closes, out_of_place, sense, is_comment, is_move}
 use Rattle.cq_position.specs.Games.{with_tag}
 use Rattle.pgn_reader.specs.Tags.{Pair, Tags, tags_of, start_of, value_of}
 use Rattle.pgn_reader.specs.Line.{Line, text, Place, beginning, Told, Tells}
@@ -86,7 +86,8 @@ pub record AfterMarker (ts : List Word) : Type 0 where
 abbrev pub StandsAt : List Word → Standing → Type 0
 StandsAt ts (after_opening tags) = (opening : Word) × (opening.kind ≡ Open) × InPair ts tags (opening ∷ [])
 StandsAt ts (after_name tags text) =
-    (opening : Word) × (name : Word) × (opening.kind ≡ Open) × (name.kind ≡ Symbol) × (name.text ≡ text) × InPair ts tags (opening ∷ name ∷ [])
+    (opening : Word) × (name : Word) × (opening.kind ≡ Open) × (name.kind ≡ Symbol) × (name.text ≡ text)
+    × InPair ts tags (opening ∷ name ∷ [])
 StandsAt ts after_value =
     (tags : Tags) × (opening : Word) × (name : Word) × (value : Word) × (opening.kind ≡ Open) × (name.kind ≡ Symbol) × (value.kind ≡ Text)
     × InPair ts tags (opening ∷ name ∷ value ∷ [])

@@ -1,7 +1,6 @@
 -- The tag pairs of a game (PGN standard, section 8.1).
-use Rattle.std.specs.Prelude.{◌≡◌, ℕ, ◌-◌, ◌==◌, ◌||◌, Bool, true, false, List, [], ◌∷◌, ◌++◌, length, take, drop, fold, codes, Option, Some, None, Result, Ok, Err, if◌then◌else◌}
+use Rattle.std.specs.Prelude.{◌≡◌, ℕ, ◌-◌, ◌==◌, ◌||◌, true, List, [], ◌∷◌, ◌++◌, length, take, drop, fold, codes, Option, Some, None, Result, Ok, if◌then◌else◌}
 use Rattle.std.specs.List.{list_all}
-use Rattle.std.specs.Str.{bytes_eq}
 use Rattle.cq_position.specs.Board.{Board, start_board}
 use Rattle.cq_position.specs.declared.fen.FenFault.{FenFault}
 use Rattle.cq_position.specs.declared.games.GameResult.{GameResult}
@@ -33,7 +32,8 @@ pair_text p = p.comments ++ (p.opening ∷ p.name ∷ p.value ∷ p.closing ∷ 
 unfoldable pub unescaped : List ℕ → List ℕ
 unescaped [] = []
 unescaped (b ∷ []) = b ∷ []
-unescaped (b ∷ c ∷ bs) = if b == 92 then (if (c == 34) || (c == 92) then c ∷ unescaped bs else b ∷ unescaped (c ∷ bs)) else b ∷ unescaped (c ∷ bs)
+unescaped (b ∷ c ∷ bs) =
+    if b == 92 then (if (c == 34) || (c == 92) then c ∷ unescaped bs else b ∷ unescaped (c ∷ bs)) else b ∷ unescaped (c ∷ bs)
 
 -- the value of a string: what stands between its quotes
 unfoldable pub value_of : List ℕ → List ℕ

@@ -1,5 +1,5 @@
 -- The tokens of a game with their bytes, and what each means in the movetext (PGN standard, section 8.2).
-use Rattle.std.specs.Prelude.{ℕ, ◌+◌, ◌-◌, ◌==◌, Bool, true, false, List, [], ◌∷◌, length, take, drop, map, nat_lt, nat_eq, codes, Option, Some, None, if◌then◌else◌}
+use Rattle.std.specs.Prelude.{ℕ, ◌-◌, ◌==◌, Bool, true, false, List, length, take, drop, map, nat_lt, codes, Option, Some, None, if◌then◌else◌}
 use Rattle.std.specs.List.{list_all}
 use Rattle.std.specs.Str.{bytes_eq}
 use Rattle.std.specs.Char.{is_ascii_digit}
@@ -33,8 +33,8 @@ result_of_text text =
     else (if bytes_eq text (codes "1/2-1/2") then Some Draw
     else (if bytes_eq text (codes "*") then Some Undecided else None)))
 
--- What a token means in the movetext: a move, a numeric annotation glyph, a comment, a game's result, the beginning or the end of a variation,
--- or nothing. A token that may not stand there is out of place, for a reason.
+-- What a token means in the movetext: a move, a numeric annotation glyph, a comment, a game's result, the beginning or the end of a
+-- variation, or nothing. A token that may not stand there is out of place, for a reason.
 pub data Sense : Type 0 where
   plays : List ℕ → Sense
   annotates : ℕ → Sense

@@ -2,10 +2,15 @@
 #![tactic(auto)]
 
 pub mod fault;
+mod game;
 mod line;
 mod notes;
 mod reader;
+mod reading;
 mod row;
+#[cfg(test)]
+mod tests;
 mod text;
 
 pub use fault::{GameFault, Reason};
+pub use game::check_game;

@@ -10,10 +10,10 @@ ghost use Rattle.pgn_reader.specs.Words.{plays, remarks, ends, opens, closes, me
 ghost use Rattle.pgn_reader.specs.Inside.{HasNoBrace};
 ghost use Rattle.pgn_reader.specs.Tags.{start_of, value_of, unescaped};
 ghost use Rattle.pgn_reader.specs.Line.{led_to};
-ghost use Rattle.pgn_reader.specs.Standing.{fault_at, movetext_fault, move_fault, variation_fault, end_of_variation_fault, misplaced_fault, tag_reason, name_fault, value_fault, closing_fault, marker_fault, moves_before, san_reason};
+ghost use Rattle.pgn_reader.specs.Standing.{fault_at, movetext_fault, move_fault, variation_fault, end_of_variation_fault, misplaced_fault, tag_reason, name_fault, value_fault, closing_fault, marker_fault, san_reason};
 ghost use Rattle.pgn_reader.specs.Machine.{first, feed, on_name, on_value, on_closing, on_move, on_marker, on_opening, on_end, on_bracket, on_sense};
 ghost use Rattle.pgn_reader.specs.Arranged.{standing_of};
-ghost use Rattle.pgn_reader.specs.Shown.{shown, IsSenseStep, Steps, IsLow};
+ghost use Rattle.pgn_reader.specs.Shown.{shown, moves_in, IsSenseStep, Steps, IsLow};
 
 use crate::fault::Reason;
 use crate::line::Line;
@@ -312,7 +312,12 @@ impl Reader {
     }
 
     /// The name of a tag pair.
-    fn read_name(&mut self, alloc: Global, kind: TokenKind, text: &[u8]) -> Result<(), Refusal<Reason>>
+    fn read_name(
+        &mut self,
+        alloc: Global,
+        kind: TokenKind,
+        text: &[u8],
+    ) -> Result<(), Refusal<Reason>>
         requires phase { self.old.phase ≡ Phase.Opened }
         ensures { Steps (on_name self.old.tags kind text.now) (name_fault kind) (shown self.new) result }
     {
@@ -327,9 +332,15 @@ impl Reader {
     }
 
     /// The value of a tag pair.
-    fn read_value(&mut self, alloc: Global, kind: TokenKind, text: &[u8]) -> Result<(), Refusal<Reason>>
+    fn read_value(
+        &mut self,
+        alloc: Global,
+        kind: TokenKind,
+        text: &[u8],
+    ) -> Result<(), Refusal<Reason>>
         requires phase { self.old.phase ≡ Phase.Named }
-        ensures { Steps (on_value (with_tag self.old.tags self.old.name (value_of text.now)) kind) (value_fault kind (start_of (with_tag self.old.tags self.old.name (value_of text.now)))) (shown self.new) result }
+        ensures { Steps (on_value (with_tag self.old.tags self.old.name (value_of text.now)) kind)
+            (value_fault kind (start_of (with_tag self.old.tags self.old.name (value_of text.now)))) (shown self.new) result }
     {
         match kind {
             TokenKind::Text => {
@@ -368,10 +379,16 @@ impl Reader {
 
     /// Reads a token, or answers why no game goes on with it.
     #[tactic(auto, unfolding(crate::specs::Machine::feed, crate::specs::Words::sense))]
-    pub fn feed(&mut self, alloc: Global, kind: TokenKind, text: &[u8]) -> Result<(), Refusal<Reason>>
+    pub fn feed(
+        &mut self,
+        alloc: Global,
+        kind: TokenKind,
+        text: &[u8],
+    ) -> Result<(), Refusal<Reason>>
         requires low { IsLow (shown self.old) }
-        requires few { moves_before (standing_of (shown self.old)) ≤ 65535 }
-        ensures { Steps (feed (shown self.old) (record { kind = kind; text = text.now })) (fault_at (standing_of (shown self.old)) (record { kind = kind; text = text.now })) (shown self.new) result }
+        requires few { moves_in (shown self.old) ≤ 65535 }
+        ensures { Steps (feed (shown self.old) (record { kind = kind; text = text.now }))
+            (fault_at (standing_of (shown self.old)) (record { kind = kind; text = text.now })) (shown self.new) result }
     {
         match self.phase {
             Phase::Movetext => self.read_movetext(alloc, kind, text),

@@ -27,7 +27,10 @@ impl Model for Row {
 impl Row {
     /// The node of a move to a position, with its glyphs and comments.
     pub fn new(level: u32, step: Move, position: Position, notes: Notes) -> Row
-        ensures { result ≡ record { level = level; move = record { move = step; position = position; nags = notes.nags; comments = notes.comments } } }
+        ensures { result ≡ record {
+          level = level;
+          move = record { move = step; position = position; nags = notes.nags; comments = notes.comments };
+        } }
     {
         Row {
             level,

@@ -50,11 +50,7 @@ pub fn inside(text: &[u8]) -> &[u8]
 pub fn after_first(text: &[u8]) -> &[u8]
     ensures { result.now ≡ drop 1 text.now }
 {
-    if text.is_empty() {
-        b""
-    } else {
-        &text[1..]
-    }
+    if text.is_empty() { b"" } else { &text[1..] }
 }
 
 /// The text of a comment, in which a closing brace becomes a closing parenthesis.

@@ -1,0 +1,128 @@
+-- The loop over the tokens.
+use Rattle.std.proofs.Common.{◌≡◌, ◌≢◌, ℕ, ◌+◌, ◌<◌, ◌≤◌, List, [], ◌∷◌, ◌++◌, length, take, map, get_or, Some, None, Err, refl, sym, ap, ◌∙◌, subst, arith}
+use Rattle.std.proofs.Common.{inl, inr, ◌↔◌, reverse}
+use Rattle.cq_position.specs.declared.games.GameResult.{GameResult}
+use Rattle.cq_position.specs.Games.{Game}
+use Rattle.std.proofs.lemmas.List.{take_all, take_more, get_or-map, length-map}
+use Rattle.cq_outside.specs.declared.faults.Refusal.{Refusal}
+use Rattle.cq_outside.specs.declared.faults.Refusal.TheVariants.{Fault}
+use Rattle.pgn_reader.specs.declared.fault.Reason.{Reason}
+use Rattle.pgn_reader.specs.declared.fault.Reason.TheVariants.{TooManyPositions}
+use Rattle.pgn_reader.specs.declared.reader.Reader.{Reader}
+use Rattle.pgn_reader.specs.declared.reader.Phase.{Phase}
+use Rattle.pgn_reader.specs.declared.reader.Phase.TheVariants.{Movetext, Opened, Named, Valued, Ended}
+use Rattle.pgn_reader.specs.Words.{Word}
+use Rattle.pgn_reader.specs.Tags.{result_of_tags}
+use Rattle.pgn_reader.specs.Games.{Spells}
+use Rattle.pgn_reader.specs.Standing.{fault_at, fault_at_end, variations_fault, moves_before}
+use Rattle.pgn_reader.specs.Frame.{Frame}
+use Rattle.pgn_reader.specs.Verdict.{IsSpelledOnce}
+use Rattle.pgn_reader.specs.Faults.{IsFault}
+use Rattle.pgn_reader.specs.Machine.{State, opened, named, valued, at, ended, stuck, feed, run, first}
+use Rattle.pgn_reader.specs.Arranged.{standing_of, game_shown}
+use Rattle.pgn_reader.specs.Shown.{head_of, shown_by, shown, moves_in, Steps, IsLow}
+use Rattle.pgn_reader.specs.Reading.{IsWhole}
+use Rattle.pgn_reader.proofs.Read.{run_append}
+use Rattle.pgn_reader.proofs.Whole.{IsEnd}
+use Rattle.pgn_reader.proofs.Answer.{fault_here, fault_of_end, read_iff}
+use Rattle.pgn_reader.proofs.Low.{run_low, first_low}
+
+-- the state of a reader is never stuck
+shown_lives_by : (p : Phase) (r : Reader) → shown_by p r ≡ stuck → ⊥
+shown_lives_by Movetext r is = cc
+shown_lives_by Opened r is = cc
+shown_lives_by Named r is = cc
+shown_lives_by Valued r is = cc
+shown_lives_by (Ended result) r is = cc
+
+pub shown_lives : (r : Reader) → shown r ≡ stuck → ⊥
+shown_lives r is = shown_lives_by r.phase r is
+
+few_before : (s : State) → moves_in s ≤ 65535 → moves_before (standing_of s) ≤ 65535
+few_before (opened tags) few = few
+few_before (named tags name) few = few
+few_before (valued tags start) few = few
+few_before (at h f k) few = few
+few_before (ended h f result) few = omega arith
+few_before stuck few = few
+
+-- one token more
+pub words_on : {A : Type 0} (word : A → Word) (tokens : List A) (i : ℕ) (d : A) → i < length tokens → take (i + 1) (map word tokens) ≡ take i (map word tokens) ++ word (get_or tokens i d) ∷ []
+words_on word tokens i d low =
+    let len : length (map word tokens) ≡ length tokens = length-map tokens word in
+    take_more (map word tokens) i (word d) (omega (arith, low, len)) ∙ ap (λ w. take i (map word tokens) ++ w ∷ []) (get_or-map word tokens i d (word d) low)
+
+pub run_on : {A : Type 0} (word : A → Word) (tokens : List A) (i : ℕ) (d : A) (s t : State) → i < length tokens → run first (take i (map word tokens)) ≡ s → feed s (word (get_or tokens i d)) ≡ t
+    → run first (take (i + 1) (map word tokens)) ≡ t
+run_on word tokens i d s t low is fed =
+    ap (run first) (words_on word tokens i d low) ∙ run_append first (take i (map word tokens)) (word (get_or tokens i d) ∷ []) ∙ ap (λ x. feed x (word (get_or tokens i d))) is ∙ fed
+
+pub low_here : (ts : List Word) (s : State) → run first ts ≡ s → IsLow s
+low_here ts s is = subst IsLow is (run_low ts first first_low)
+
+pub fault_in_loop : {A : Type 0} (word : A → Word) (tokens : List A) (i : ℕ) (d : A) (r : Reader) (reason : Reason) → i < length tokens
+    → run first (take i (map word tokens)) ≡ shown r → moves_in (shown r) ≤ 65535
+    → fault_at (standing_of (shown r)) (word (get_or tokens i d)) ≡ Some reason → (reason ≢ TooManyPositions → feed (shown r) (word (get_or tokens i d)) ≡ stuck)
+    → IsFault (map word tokens) i reason
+fault_in_loop word tokens i d r reason low is few why dead =
+    fault_here (map word tokens) i (word (get_or tokens i d)) (shown r) reason is (shown_lives r)
+    (let len : length (map word tokens) ≡ length tokens = length-map tokens word in omega (arith, low, len)) (words_on word tokens i d low) why dead (few_before (shown r) few)
+
+all_run : {A : Type 0} (word : A → Word) (tokens : List A) (i : ℕ) (s : State) → length tokens ≤ i → run first (take i (map word tokens)) ≡ s → run first (map word tokens) ≡ s
+all_run word tokens i s all is =
+    ap (run first) (sym (take_all i (map word tokens) (let len : length (map word tokens) ≡ length tokens = length-map tokens word in omega (arith, all, len)))) ∙ is
+
+pub end_in_loop : {A : Type 0} (word : A → Word) (tokens : List A) (i : ℕ) (r : Reader) (reason : Reason) → length tokens ≤ i → run first (take i (map word tokens)) ≡ shown r
+    → moves_in (shown r) ≤ 65535 → fault_at_end (standing_of (shown r)) ≡ Some reason → IsFault (map word tokens) (length tokens) reason
+end_in_loop word tokens i r reason all is few why =
+    subst (λ n. IsFault (map word tokens) n reason) (length-map tokens word) (fault_of_end (map word tokens) (shown r) reason (all_run word tokens i (shown r) all is) (shown_lives r) why (few_before (shown r) few))
+
+pub whole_in_loop : {A : Type 0} (word : A → Word) (tokens : List A) (i : ℕ) (r : Reader) → length tokens ≤ i → run first (take i (map word tokens)) ≡ shown r
+    → moves_in (shown r) ≤ 65535 → fault_at_end (standing_of (shown r)) ≡ None → IsWhole (map word tokens) r
+whole_in_loop word tokens i r all is few ends = record { is_run = all_run word tokens i (shown r) all is; few = few; ends = ends }
+
+-- a step that is refused for a reason
+pub fault_step : {A : Type 0} (word : A → Word) (tokens : List A) (i : ℕ) (d : A) (w : Word) (r : Reader) (after : State) (x : Refusal Reason) (reason : Reason) → w ≡ word (get_or tokens i d)
+    → i < length tokens → run first (take i (map word tokens)) ≡ shown r → moves_in (shown r) ≤ 65535 → x ≡ Fault reason
+    → Steps (feed (shown r) w) (fault_at (standing_of (shown r)) w) after (Err x) → IsFault (map word tokens) i reason
+fault_step word tokens i d w r after x reason same low is few found steps =
+    let known : Steps (feed (shown r) w) (fault_at (standing_of (shown r)) w) after (Err (Fault reason)) =
+    subst (λ y. Steps (feed (shown r) w) (fault_at (standing_of (shown r)) w) after (Err y)) found steps in
+    let here : Steps (feed (shown r) (word (get_or tokens i d))) (fault_at (standing_of (shown r)) (word (get_or tokens i d))) after (Err (Fault reason)) =
+    subst (λ v. Steps (feed (shown r) v) (fault_at (standing_of (shown r)) v) after (Err (Fault reason))) same known in
+    fault_in_loop word tokens i d r reason low is few here.0 here.1
+
+-- the game that ends with all tokens
+pub record EndOf (ts : List Word) (r : Reader) : Type 0 where
+  pub result : GameResult
+  pub is_end : IsEnd (run first ts) (head_of r) r.line result
+  pub few : r.moves ≤ 65535
+
+none_open : (k : List Frame) → variations_fault (length k) ≡ None → k ≡ []
+none_open [] is = refl
+none_open (f ∷ k) is = absurd cc
+
+end_by_phase : (ts : List Word) (r : Reader) (p : Phase) → r.phase ≡ p → run first ts ≡ shown_by p r → moves_in (shown_by p r) ≤ 65535 → fault_at_end (standing_of (shown_by p r)) ≡ None → EndOf ts r
+end_by_phase ts r Movetext phase is few ends = record {
+  result = result_of_tags r.tags;
+  is_end = inl (is ∙ ap (at (head_of r) r.line) (none_open (reverse r.around.items) ends), refl);
+  few = few;
+}
+end_by_phase ts r Opened phase is few ends = absurd (cc)
+end_by_phase ts r Named phase is few ends = absurd (cc)
+end_by_phase ts r Valued phase is few ends = absurd (cc)
+end_by_phase ts r (Ended result) phase is few ends = record { result = result; is_end = inr is; few = few }
+
+pub end_of : (ts : List Word) (r : Reader) → IsWhole ts r → EndOf ts r
+end_of ts r whole = end_by_phase ts r r.phase refl whole.is_run whole.few whole.ends
+
+-- the one game that is spelled
+pub one_game : (ts : List Word) (r : Reader) → IsWhole ts r → IsSpelledOnce ts
+one_game ts r whole =
+    let e : EndOf ts r = end_of ts r whole in
+    let iff : (g : Game) → Spells ts g ↔ (g ≡ game_shown (head_of r) r.line e.result) = read_iff ts (head_of r) r.line e.result e.is_end e.few in
+    record {
+      game = game_shown (head_of r) r.line e.result;
+      spells = (iff (game_shown (head_of r) r.line e.result)).1 refl;
+      alone = λ g spells. (iff g).0 spells;
+    }

@@ -1,0 +1,20 @@
+-- What reading the tokens of a game answers.
+use Rattle.std.specs.Prelude.{◌≡◌, ◌≤◌, List, None, Result, Ok, Err}
+use Rattle.pgn_reader.specs.declared.reader.Reader.{Reader}
+use Rattle.pgn_reader.specs.declared.reading.TokenFault.{TokenFault}
+use Rattle.pgn_reader.specs.Words.{Word}
+use Rattle.pgn_reader.specs.Standing.{fault_at_end}
+use Rattle.pgn_reader.specs.Faults.{IsFault}
+use Rattle.pgn_reader.specs.Machine.{run, first}
+use Rattle.pgn_reader.specs.Arranged.{standing_of}
+use Rattle.pgn_reader.specs.Shown.{shown, moves_in}
+
+-- all tokens were read, and a game ends with them
+pub record IsWhole (ts : List Word) (r : Reader) : Type 0 where
+  pub is_run : run first ts ≡ shown r
+  pub few : moves_in (shown r) ≤ 65535
+  pub ends : fault_at_end (standing_of (shown r)) ≡ None
+
+abbrev pub IsReading : List Word → Result Reader TokenFault → Type 0
+IsReading ts (Ok r) = IsWhole ts r
+IsReading ts (Err f) = IsFault ts f.index f.reason

@@ -1,0 +1,44 @@
+-- What the bytes of a game spell, and their fault.
+use Rattle.std.specs.Prelude.{◌≡◌, ℕ, ◌+◌, ◌^◌, ◌<◌, ◌≤◌, ◌⊎◌, Bool, List, length, slice_get, Option, Some, None, Result, Ok, Err}
+use Rattle.cq_outside.specs.declared.faults.Refusal.{Refusal}
+use Rattle.cq_outside.specs.declared.faults.Refusal.TheVariants.{Fault, NoMemory}
+use Rattle.cq_position.specs.Games.{Game}
+use Rattle.pgn_lexer.specs.declared.token.Token.{Token}
+use Rattle.pgn_lexer.specs.Lexemes.{tokens_of}
+use Rattle.pgn_reader.specs.declared.fault.GameFault.{GameFault}
+use Rattle.pgn_reader.specs.declared.fault.Reason.TheVariants.{GameTooLong}
+use Rattle.pgn_reader.specs.Words.{Word, words_of}
+use Rattle.pgn_reader.specs.Games.{Spells}
+use Rattle.pgn_reader.specs.Faults.{IsFault}
+
+-- one game is spelled, and no other
+pub record IsSpelledOnce (ts : List Word) : Type 0 where
+  pub game : Game
+  pub spells : Spells ts game
+  pub alone : (g : Game) → Spells ts g → g ≡ game
+
+-- the place of a token, or of the first byte after the game
+abbrev pub place_or : ℕ → Option Token → ℕ
+place_or end None = end
+place_or end (Some token) = token.at
+
+-- the bytes of a game whose first has the place `start` are too long
+pub record IsTooLong (start : ℕ) (bytes : List ℕ) (f : GameFault) : Type 0 where
+  pub long : 2 ^ 24 < length bytes
+  pub fault : f ≡ record { byte = start + 2 ^ 24; reason = GameTooLong }
+
+-- or their tokens have a fault
+pub record HasTokenFault (start : ℕ) (first : Bool) (bytes : List ℕ) (f : GameFault) : Type 0 where
+  pub short : length bytes ≤ 2 ^ 24
+  pub index : ℕ
+  pub fault : IsFault (words_of start first bytes) index f.reason
+  pub byte : f.byte ≡ place_or (start + length bytes) (slice_get (tokens_of start first bytes) index)
+
+abbrev pub IsGameFault : ℕ → Bool → List ℕ → GameFault → Type 0
+IsGameFault start first bytes f = IsTooLong start bytes f ⊎ HasTokenFault start first bytes f
+
+-- The answer to the bytes of a game: they spell one, or have a fault.
+abbrev pub IsVerdict : ℕ → Bool → List ℕ → Result (Unit {0}) (Refusal GameFault) → Type 0
+IsVerdict start first bytes (Ok done) = IsSpelledOnce (words_of start first bytes)
+IsVerdict start first bytes (Err (Fault f)) = IsGameFault start first bytes f
+IsVerdict start first bytes (Err NoMemory) = Unit {0}

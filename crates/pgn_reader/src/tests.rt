@@ -1,0 +1,56 @@
+//! Texts and their first faults.
+use crate::Reason::{
+    AmbiguousMove, BadByte, BadFen, BadTag, EmptyVariation, IllegalMove, NagRange, NotAMove,
+    UnclosedComment, UnclosedString, UnclosedVariation, UnopenedVariation, VariationWithoutMove,
+};
+use crate::{Reason, check_game};
+use cq_outside::{NoMemory, Refusal};
+use std::test::Fail;
+
+/// A text, and the place and the reason of its first fault.
+type Row<'a> = (&'a [u8], Option<(u64, Reason)>);
+
+static ROWS: [Row<'static>; 22] = [
+    (b"1. e4 e5 2. Nf3 *", None),
+    (b"1. e4 e5 2. Bc4 Nc6 3. Qh5 Nf6 4. Qxf7 1-0", None),
+    (
+        b"[Event \"a\"] {first} 1. e4 (1. d4 d5 (1... Nf6 2. c4) 2. c4 *) e5 $1 ; a } here\n",
+        None,
+    ),
+    (b"[FEN \"7k/P7/8/8/8/8/8/K7 w - - 0 1\"]\n1. a8Q *", None),
+    (b"[FEN \"8/8/8/8/8/8/8/K1k5 w - - 0 1\"][FEN \"x\"] *", None),
+    (b"1. e4 -- 2. e5", None),
+    (b"1. e4 ((", Some((7, VariationWithoutMove))),
+    (b"1. e4 (1. d4\n", Some((13, UnclosedVariation))),
+    (b"$1 [a \"b\"] *", Some((3, BadTag))),
+    (b"[1-0", Some((4, BadTag))),
+    (b"[a \"b\" $300", Some((7, BadTag))),
+    (b"1. e4 {never closed", Some((6, UnclosedComment))),
+    (b"1. e4 $256 *", Some((6, NagRange))),
+    (b"1. e5 *", Some((3, IllegalMove))),
+    (b"1. e4 e5 2. Bc5 zz (((", Some((12, IllegalMove))),
+    (b"1. xyz", Some((3, NotAMove))),
+    (b"1. e4 )", Some((6, UnopenedVariation))),
+    (b"1. e4 () *", Some((7, EmptyVariation))),
+    (b"[FEN \"x\"] *", Some((5, BadFen))),
+    (b"[Event \"over", Some((7, UnclosedString))),
+    (b"1. e4 ~", Some((6, BadByte))),
+    (
+        b"[FEN \"4k3/8/8/8/8/8/4K3/R6R w - - 0 1\"] 1. Rd1 *",
+        Some((43, AmbiguousMove)),
+    ),
+];
+
+#[test]
+fn texts_have_their_first_fault(rt: HostRuntime) -> Result<(), NoMemory> {
+    for (text, want) in ROWS.iter() {
+        let found = match check_game(rt.alloc(), text, 1000, true) {
+            Ok(()) => None,
+            Err(Refusal::Fault(fault)) => Some((fault.byte, fault.reason)),
+            Err(Refusal::NoMemory) => return Err(NoMemory),
+        };
+        let want = want.map(|(byte, reason)| (byte.wrapping_add(1000), reason));
+        assert_eq!(rt; found, want, "in {text:?}");
+    }
+    Ok(())
+}
