@@ -30,7 +30,9 @@ reaches files ranks occupied from to = contains (seen occupied (ray_from files r
 
 -- some square of the set reaches this one through the empty squares
 abbrev pub IsSlid : ℤ → ℤ → ℕ → ℕ → ℕ → Type 0
-IsSlid files ranks set empty to = (from : ℕ) × (from < 64) × Has set from × (reaches files ranks (λ square. not (has empty square)) from to ≡ true)
+IsSlid files ranks set empty to =
+    (from : ℕ) × (from < 64) × Has set from
+    × (reaches files ranks (λ square. not (has empty square)) from to ≡ true)
 
 -- a rook and a queen attack along their files and ranks (FIDE Laws of Chess, articles 3.3 and 3.4)
 abbrev pub goes_straight : Man → Bool

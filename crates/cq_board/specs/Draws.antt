@@ -1,6 +1,6 @@
 -- Workers that draw the numbers from 0 on.
--- A state is the number that is drawn next and, for each worker, the list of the numbers that it drew. In the one event, a worker draws: the next
--- number goes to the end of its list, and one more is next.
+-- A state is the number that is drawn next and, for each worker, the list of the numbers that it drew. In
+-- the one event, a worker draws: the next number goes to the end of its list, and one more is next.
 use Rattle.std.specs.Prelude.{◌≡◌, ℕ, List, ◌==◌, if◌then◌else◌, nat_lt, sum_by, count_by}
 use Rattle.std.specs.List.Sorted.{IsStrictlyIncreasing}
 use mathlib.Core.Option.{some}

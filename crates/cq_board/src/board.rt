@@ -42,9 +42,11 @@ impl Board {
         requires open { HasEnded seat.old → ⊥ }
         ensures seat { IsSeatOf self.now seat.new }
         ensures order { IsStrictlyIncreasing (drawn seat.new) }
-        ensures some { IfSome result (λ k. (k < numbers_of self.now) × (drawn seat.new ≡ drawn seat.old ++ k ∷ []) × (HasEnded seat.new → ⊥)) }
+        ensures some { IfSome result (λ k. (k < numbers_of self.now)
+            × (drawn seat.new ≡ drawn seat.old ++ k ∷ []) × (HasEnded seat.new → ⊥)) }
         ensures turns { IfSome result (λ k. length (drawn seat.old) ≤ k) }
-        ensures none { result ≡ None → ((k : ℕ) × (numbers_of self.now ≤ k) × (drawn seat.new ≡ drawn seat.old ++ k ∷ []) × HasEnded seat.new) }
+        ensures none { result ≡ None → ((k : ℕ) × (numbers_of self.now ≤ k)
+            × (drawn seat.new ≡ drawn seat.old ++ k ∷ []) × HasEnded seat.new) }
     {
         let found = self.table.shared.fetch_add::<Draw>(&mut seat.seat, 0, 1);
         if found < self.numbers {

@@ -1,0 +1,12 @@
+pub mod Bits
+pub mod BuildSteps
+pub mod BuildingLaw
+pub mod DownLaw
+pub mod Lists
+pub mod Puts
+pub mod LinesLaw
+pub mod OwnLaw
+pub mod PlacesLaw
+pub mod UpLaw
+pub mod VisitLaw
+pub mod WaysLaw

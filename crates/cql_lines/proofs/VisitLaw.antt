@@ -1,0 +1,90 @@
+-- What a visit of a node leaves.
+use Rattle.std.proofs.Common.{◌≡◌, ℕ, zero, suc, ◌+◌, ◌-◌, ◌<◌, ◌≤◌, Bool, true, false, List, length, get_or, refl, sym, ap, ◌∙◌, subst, Option, Some, None, inl, inr, arith, slice_get}
+use Rattle.std.specs.Prelude.{replicate}
+use Rattle.std.proofs.Common.{slice_set}
+use Rattle.std.proofs.lemmas.Bool.{cases_eq}
+use Rattle.std.proofs.lemmas.Option.{slice_get_past}
+use Rattle.std.proofs.lemmas.List.{get_or-set_same, get_or-set_other, length-replicate}
+use Rattle.cql_lines.specs.declared.automaton.Rule.{Rule}
+use Rattle.cql_lines.specs.declared.table.Spot.{Spot}
+use Rattle.cql_lines.specs.Ways.{FromPlace, IsGreatest}
+use Rattle.cql_lines.specs.Lengths.{is_set, at, place_value}
+use Rattle.cql_lines.specs.Shapes.{joined, joined_by, searched_by, is_searched, Edge}
+use Rattle.cql_lines.specs.Down.{holds, cell, Stands, IsLongest, found, AnswerAt, Passed}
+use Rattle.cql_lines.proofs.DownLaw.{whole_row, stands_more, stands_same}
+use Rattle.cql_lines.proofs.OwnLaw.{own_known, own_small}
+
+unsearched_by : (primary : Bool) (o : Option Spot) → searched_by o ≡ false → joined_by primary o ≡ None
+unsearched_by primary None e = refl
+unsearched_by primary (Some s) e = rw e refl
+
+pub answered : (s : Bool) (P : ℕ → Type 0) (o : Option ℕ) (m : ℕ) → s ≡ true → IsLongest P (found m) → o ≡ found m → AnswerAt s P o
+answered true P o m e l is = subst (IsLongest P) (sym is) l
+answered false P o m e l is = absurd (cc)
+
+module _ (words : List ℕ) (rules : List Rule) (primary : Bool) (spots : List Spot) (below : (n p : ℕ) → joined primary spots n ≡ Some p → p < n) where
+  pub unvisited : (n : ℕ) (rows : List (List ℕ)) → n < length spots → Stands words rules primary spots (length spots - n - 1) rows → is_searched spots n ≡ false
+      → Stands words rules primary spots (length spots - n) rows
+  unvisited n rows low s off =
+      let t : length spots - n - 1 + 1 ≡ length spots - n = omega arith in
+      subst (λ t. Stands words rules primary spots t rows) t
+      (stands_same words rules primary spots below (length spots - n - 1) n rows (omega arith) s (unsearched_by primary (slice_get spots n) off))
+
+  pub known_at : (n : ℕ) (rows : List (List ℕ)) (own : List ℕ) (held atoms : ℕ) → n < length spots → Stands words rules primary spots (length spots - n - 1) rows
+      → ((a : ℕ) → a < atoms → is_set held a ≡ is_set (at words n) a) → ((i : ℕ) (r : Rule) → slice_get rules i ≡ Some r → r.atom < atoms)
+      → ((i : ℕ) (r : Rule) → slice_get rules i ≡ Some r → at own i ≡ place_value r held (cell rows n) (length rules)) → ((i : ℕ) → length rules ≤ i → at own i ≡ 0)
+      → (i : ℕ) → IsGreatest (FromPlace (holds words) rules (Edge false primary spots) i n) (at own i)
+  known_at n rows own held atoms low s table few here past =
+      own_known words rules (Edge false primary spots) n held (cell rows n) own
+      (whole_row words rules primary spots below (length spots - n - 1) rows s n (omega arith))
+      (λ i r rule. table r.atom (few i r rule))
+      (record { here = here; past = past })
+
+  pub visited : (n : ℕ) (rows new : List (List ℕ)) (own : List ℕ) (held : ℕ) → n < length spots → Stands words rules primary spots (length spots - n - 1) rows
+      → ((i : ℕ) (r : Rule) → slice_get rules i ≡ Some r → at own i ≡ place_value r held (cell rows n) (length rules)) → ((i : ℕ) → length rules ≤ i → at own i ≡ 0)
+      → ((i : ℕ) → IsGreatest (FromPlace (holds words) rules (Edge false primary spots) i n) (at own i))
+      → Passed primary spots n rows new own → Stands words rules primary spots (length spots - n) new
+  visited n rows new own held low s here past known p =
+      let t : length spots - n - 1 + 1 ≡ length spots - n = omega arith in
+      subst (λ t. Stands words rules primary spots t new) t
+      (stands_more words rules primary spots below (length spots - n - 1) n rows new own (omega arith) s known
+      (own_small words rules (Edge false primary spots) held (length spots - n - 1) (cell rows n) own (s.small n) (record { here = here; past = past }))
+      p)
+
+pub zeros : (n i : ℕ) → at (replicate n 0) i ≡ 0
+zeros zero i = refl
+zeros (suc n) zero = refl
+zeros (suc n) (suc i) = zeros n i
+
+-- rows of zeros
+pub zero_cell : (m n i : ℕ) (row : List ℕ) → ((j : ℕ) → at row j ≡ 0) → (j : ℕ) → cell (replicate n row) i j ≡ 0
+zero_cell m zero i row z j = refl
+zero_cell m (suc n) zero row z j = z j
+zero_cell m (suc n) (suc i) row z j = zero_cell m n i row z j
+
+pub stands_first : (words : List ℕ) (rules : List Rule) (primary : Bool) (spots : List Spot) → Stands words rules primary spots 0 (replicate (length spots) (replicate 64 0))
+stands_first words rules primary spots = record {
+  count = length-replicate (length spots) (replicate 64 0);
+  small = λ n j. (let z = zero_cell 0 (length spots) n (replicate 64 0) (zeros 64) j in omega arith);
+  known = λ n j. record {
+    bounds = λ k l. absurd (
+        let past = slice_get_past spots l.0 (let h = l.1 in omega arith) in
+        let none : joined primary spots l.0 ≡ None = ap (joined_by primary) past in
+        let both = sym none ∙ l.2 in cc);
+    reached = λ some. absurd (let z = zero_cell 0 (length spots) n (replicate 64 0) (zeros 64) j in omega arith);
+  };
+}
+
+-- one answer more
+pub done_more : (P : ℕ → ℕ → Type 0) (searched : ℕ → Bool) (size : ℕ) (values : List (Option ℕ)) (v : Option ℕ) (turn node : ℕ) → length values ≡ size → node + turn + 1 ≡ size
+    → AnswerAt (searched node) (P node) v
+    → ((n : ℕ) → size ≤ n + turn → n < size → AnswerAt (searched n) (P n) (get_or values n None))
+    → (n : ℕ) → size ≤ n + (turn + 1) → n < size → AnswerAt (searched n) (P n) (get_or (slice_set values node v) n None)
+done_more P searched size values v turn node len e here before n late low = elim (cases_eq n node) [
+  | inl is ↦
+      let set : get_or (slice_set values node v) n None ≡ v = ap (λ k. get_or (slice_set values node v) k None) is ∙ get_or-set_same values node v None (omega arith) in
+      subst (AnswerAt (searched n) (P n)) (sym set) (subst (λ k. AnswerAt (searched k) (P k) v) (sym is) here)
+  | inr other ↦
+      let set : get_or (slice_set values node v) n None ≡ get_or values n None = get_or-set_other values node n v None other in
+      subst (AnswerAt (searched n) (P n)) (sym set) (before n (omega arith) low)
+]

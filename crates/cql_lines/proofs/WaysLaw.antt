@@ -1,0 +1,178 @@
+-- The greatest length, place by place.
+use Rattle.std.proofs.Common.{◌≡◌, ℕ, zero, suc, ◌<◌, ◌≤◌, max, Bool, true, false, List, [], ◌∷◌, ◌++◌, length, refl, sym, ap, ◌∙◌, subst, Some, inl, inr, arith, slice_get}
+use Rattle.std.proofs.lemmas.Bool.{cases_lt, cases_Bool, eqb-true}
+use Rattle.std.proofs.lemmas.Option.{slice_get_within}
+use Rattle.std.proofs.lemmas.List.{append-nil}
+use Rattle.cql_lines.specs.declared.automaton.Next.{Next}
+use Rattle.cql_lines.specs.declared.automaton.Rule.{Rule}
+use Rattle.cq_outside.specs.Spelling.{Pattern, Spells}
+use Rattle.cql_lines.specs.Places.{IsIn, from, Accepts, Built}
+use Rattle.cql_lines.specs.Ways.{Line, FromPlace, Below, IsGreatest}
+use Rattle.cql_lines.specs.Down.{Read}
+use Rattle.cql_lines.specs.Lengths.{is_set, greatest_in, farther}
+use Rattle.cql_lines.proofs.PlacesLaw.{pattern_means, in_none}
+
+pub set_is_in : (mask i : ℕ) → is_set mask i ≡ true → IsIn mask i
+set_is_in mask i e = search (eqb-true, e)
+
+pub in_is_set : (mask i : ℕ) → IsIn mask i → is_set mask i ≡ true
+in_is_set mask i e = rw e refl
+
+-- the greatest over some places
+pub greatest_bounds : (mask : ℕ) (values : ℕ → ℕ) (count j : ℕ) → j < count → IsIn mask j → values j ≤ greatest_in mask values count
+greatest_bounds mask values zero j low e = absurd (omega arith)
+greatest_bounds mask values (suc n) j low e = elim (cases_lt j n) [
+  | inl before ↦
+      let h = greatest_bounds mask values n j before e in
+      elim (cases_Bool (is_set mask n)) [
+        | inl set ↦ rw set (omega arith)
+        | inr unset ↦ rw unset h
+      ]
+  | inr last ↦
+      let same : n ≡ j = omega arith in
+      let set : is_set mask n ≡ true = ap (is_set mask) same ∙ in_is_set mask j e in
+      let v : values n ≡ values j = ap values same in
+      rw set (omega arith)
+]
+
+pub record Reached (mask : ℕ) (values : ℕ → ℕ) (count : ℕ) (m : ℕ) : Type 0 where
+  pub place : ℕ
+  pub low : place < count
+  pub is_in : IsIn mask place
+  pub is : values place ≡ m
+
+pub greatest_reached : (mask : ℕ) (values : ℕ → ℕ) (count : ℕ) → 0 < greatest_in mask values count → Reached mask values count (greatest_in mask values count)
+greatest_reached mask values zero some = absurd (omega arith)
+greatest_reached mask values (suc n) some = elim (cases_Bool (is_set mask n)) [
+  | inl set ↦
+      let here : greatest_in mask values (suc n) ≡ max (greatest_in mask values n) (values n) = rw set refl in
+      elim (cases_lt (values n) (greatest_in mask values n)) [
+        | inl less ↦
+            let before : 0 < greatest_in mask values n = omega arith in
+            let r = greatest_reached mask values n before in
+            record { place = r.place; low = omega (arith, r.low); is_in = r.is_in; is = omega (arith, r.is) }
+        | inr more ↦ record { place = n; low = omega arith; is_in = set_is_in mask n set; is = omega arith }
+      ]
+  | inr unset ↦
+      let here : greatest_in mask values (suc n) ≡ greatest_in mask values n = rw unset refl in
+      let before : 0 < greatest_in mask values n = omega arith in
+      let r = greatest_reached mask values n before in
+      record { place = r.place; low = omega (arith, r.low); is_in = r.is_in; is = r.is ∙ sym here }
+]
+
+more_than : (ends : Bool) (m k l : ℕ) → k ≡ suc l → l ≤ m → 0 < l → k ≤ farther ends m
+more_than ends zero k l e h p = absurd (omega arith)
+more_than true (suc m) k l e h p = omega arith
+more_than false (suc m) k l e h p = omega arith
+
+one_at_least : (ends : Bool) (m k : ℕ) → ends ≡ true → k ≡ 1 → k ≤ farther ends m
+one_at_least true zero k e h = omega arith
+one_at_least false zero k e h = absurd (cc)
+one_at_least true (suc m) k e h = omega arith
+one_at_least false (suc m) k e h = omega arith
+
+module _ (test : ℕ → ℕ → Bool) (rules : List Rule) (Edge : ℕ → ℕ → Type 0) where
+  -- all lengths of a place are those of its rule
+  place_bounds : (n i : ℕ) (below : ℕ → ℕ) → ((j : ℕ) → IsGreatest (Below test rules Edge j n) (below j)) → (r : Rule) → slice_get rules i ≡ Some r
+      → (k : ℕ) → FromPlace test rules Edge i n k → k ≤ farther r.after.ends (greatest_in r.after.places below (length rules))
+  place_bounds n i below known r rule k ([], follow, e, s, is, holds, read) =
+      let same : s ≡ r = (let both = sym is ∙ rule in cc) in
+      one_at_least r.after.ends (greatest_in r.after.places below (length rules)) k (ap (λ (t : Rule). t.after.ends) (sym same) ∙ read) e
+  place_bounds n i below known r rule k (c ∷ w, follow, e, s, is, holds, read) =
+      let same : s ≡ r = (let both = sym is ∙ rule in cc) in
+      let inside : IsIn r.after.places read.0 = subst (λ (t : Rule). IsIn t.after.places read.0) same read.2 in
+      let within = slice_get_within rules read.0 read.1 read.3 in
+      let longest = (known read.0).bounds (suc (length w)) (c, follow.0, (w, follow.1, refl, read.1, read.3, read.4, read.5)) in
+      let here = greatest_bounds r.after.places below (length rules) read.0 within inside in
+      more_than r.after.ends (greatest_in r.after.places below (length rules)) k (suc (length w)) e (omega arith) (omega arith)
+
+  pub alone : (n i : ℕ) (r : Rule) → slice_get rules i ≡ Some r → test r.atom n ≡ true → r.after.ends ≡ true → FromPlace test rules Edge i n 1
+  alone n i r rule holds ends = ([], tt, refl, r, rule, holds, ends)
+
+  pub onward : (n i : ℕ) (r : Rule) → slice_get rules i ≡ Some r → test r.atom n ≡ true → (j l : ℕ) → IsIn r.after.places j → Below test rules Edge j n l → FromPlace test rules Edge i n (suc l)
+  onward n i r rule holds j l inside (c, edge, (w, follow, e, s, is, held, read)) =
+      (c ∷ w, (edge, follow), ap suc e, r, rule, holds, (j, s, inside, is, held, read))
+
+  place_reached : (n i : ℕ) (below : ℕ → ℕ) → ((j : ℕ) → IsGreatest (Below test rules Edge j n) (below j)) → (r : Rule) → slice_get rules i ≡ Some r → test r.atom n ≡ true
+      → (ends : Bool) (m : ℕ) → r.after.ends ≡ ends → greatest_in r.after.places below (length rules) ≡ m → 0 < farther ends m → FromPlace test rules Edge i n (farther ends m)
+  place_reached n i below known r rule holds true zero e g some = alone n i r rule holds e
+  place_reached n i below known r rule holds false zero e g some = absurd (omega arith)
+  place_reached n i below known r rule holds ends (suc m) e g some =
+      let some' : 0 < greatest_in r.after.places below (length rules) = omega arith in
+      let b = greatest_reached r.after.places below (length rules) some' in
+      let is : below b.place ≡ suc m = b.is ∙ g in
+      let positive : 0 < below b.place = omega arith in
+      onward n i r rule holds b.place (suc m) b.is_in (subst (Below test rules Edge b.place n) is ((known b.place).reached positive))
+
+  -- one place at one node
+  pub place_here : (n i : ℕ) (below : ℕ → ℕ) → ((j : ℕ) → IsGreatest (Below test rules Edge j n) (below j)) → (r : Rule) → slice_get rules i ≡ Some r
+      → test r.atom n ≡ true → IsGreatest (FromPlace test rules Edge i n) (farther r.after.ends (greatest_in r.after.places below (length rules)))
+  place_here n i below known r rule holds = record {
+    bounds = λ k f. place_bounds n i below known r rule k f;
+    reached = λ some. place_reached n i below known r rule holds r.after.ends (greatest_in r.after.places below (length rules)) refl refl some;
+  }
+
+  pub place_off : (n i : ℕ) (r : Rule) → slice_get rules i ≡ Some r → test r.atom n ≡ false → IsGreatest (FromPlace test rules Edge i n) 0
+  place_off n i r rule off = record {
+    bounds = λ k f. absurd (let both = sym f.4 ∙ rule in let same : f.3 ≡ r = cc in let h = f.5 in let h' = ap (λ (t : Rule). test t.atom n) same in cc);
+    reached = λ some. absurd (omega arith);
+  }
+
+  pub end : Next
+  end = record { places = 0; ends = true }
+
+  at_end : (v : List ℕ) → Accepts test rules (record { places = 0; ends = true }) v → v ≡ []
+  at_end [] t = refl
+  at_end (x ∷ v) t = absurd (in_none t.0 t.2)
+
+  -- the whole pattern at one node, from its first places
+  pub line_here : (p : Pattern ℕ) (f : ℕ) → Built rules p (record { places = 0; ends = true }) f → (n : ℕ) (values : ℕ → ℕ)
+      → ((i : ℕ) → IsGreatest (FromPlace test rules Edge i n) (values i)) → IsGreatest (Line test Edge p n) (greatest_in f values (length rules))
+  line_here p f built n values known =
+      let m = pattern_means test rules p in
+      record {
+        bounds = λ k line.
+            let read : Accepts test rules (from f) (n ∷ line.0) = subst (λ w. Accepts test rules (from f) (n ∷ w)) (append-nil line.0) (m.complete (record { places = 0; ends = true }) f n line.0 [] built line.3 refl) in
+            let within = slice_get_within rules read.0 read.1 read.3 in
+            let one = (known read.0).bounds k (line.0, line.1, line.2, read.1, read.3, read.4, read.5) in
+            let here = greatest_bounds f values (length rules) read.0 within read.2 in
+            omega arith;
+        reached = λ some.
+            let b = greatest_reached f values (length rules) some in
+            let positive : 0 < values b.place = omega (arith, b.is) in
+            let w = (known b.place).reached positive in
+            let front = m.sound (record { places = 0; ends = true }) f (n ∷ w.0) built (b.place, w.3, b.is_in, w.4, w.5, w.6) in
+            let none = at_end front.v front.read in
+            let whole : n ∷ w.0 ≡ front.x ∷ front.u = front.whole ∙ ap (λ v. front.x ∷ (front.u ++ v)) none ∙ ap (λ u. front.x ∷ u) (append-nil front.u) in
+            (w.0, w.1, sym b.is ∙ w.2, subst (Spells test p) (sym whole) front.spelled);
+      }
+
+  -- some of the places, at one node
+  pub read_here : (f n : ℕ) (values : ℕ → ℕ) → ((i : ℕ) → IsGreatest (FromPlace test rules Edge i n) (values i)) → IsGreatest (Read test rules Edge f n) (greatest_in f values (length rules))
+  read_here f n values known = record {
+    bounds = λ k line.
+        let read = line.3 in
+        let within = slice_get_within rules read.0 read.1 read.3 in
+        let one = (known read.0).bounds k (line.0, line.1, line.2, read.1, read.3, read.4, read.5) in
+        let here = greatest_bounds f values (length rules) read.0 within read.2 in
+        omega arith;
+    reached = λ some.
+        let b = greatest_reached f values (length rules) some in
+        let positive : 0 < values b.place = omega (arith, b.is) in
+        let w = (known b.place).reached positive in
+        (w.0, w.1, sym b.is ∙ w.2, (b.place, w.3, b.is_in, w.4, w.5, w.6));
+  }
+
+  -- what the first places read is what the pattern spells
+  pub read_spelled : (p : Pattern ℕ) (f : ℕ) → Built rules p (record { places = 0; ends = true }) f → (n k : ℕ) → Read test rules Edge f n k → Line test Edge p n k
+  read_spelled p f built n k r =
+      let m = pattern_means test rules p in
+      let front = m.sound (record { places = 0; ends = true }) f (n ∷ r.0) built r.3 in
+      let none = at_end front.v front.read in
+      let whole : n ∷ r.0 ≡ front.x ∷ front.u = front.whole ∙ ap (λ v. front.x ∷ (front.u ++ v)) none ∙ ap (λ u. front.x ∷ u) (append-nil front.u) in
+      (r.0, r.1, r.2, subst (Spells test p) (sym whole) front.spelled)
+
+  pub spelled_read : (p : Pattern ℕ) (f : ℕ) → Built rules p (record { places = 0; ends = true }) f → (n k : ℕ) → Line test Edge p n k → Read test rules Edge f n k
+  spelled_read p f built n k line =
+      let m = pattern_means test rules p in
+      (line.0, line.1, line.2, subst (λ w. Accepts test rules (from f) (n ∷ w)) (append-nil line.0) (m.complete (record { places = 0; ends = true }) f n line.0 [] built line.3 refl))

@@ -1,0 +1,55 @@
+-- The rules of a pattern, numbered from a place on: those of what comes after a part stand before its own.
+use Rattle.std.specs.Prelude.{ℕ, zero, suc, ◌+◌, ◌-◌, ◌*◌, ◌^◌, ◌<◌, List, [], ◌∷◌, ◌++◌, Bool, true, Some, None, bit_or}
+use Rattle.cql_lines.specs.declared.automaton.Next.{Next}
+use Rattle.cql_lines.specs.declared.automaton.Rule.{Rule}
+use Rattle.cq_outside.specs.Spelling.{Pattern, one, nothing, joined, repeated}
+use Rattle.cql_lines.specs.Places.{when, begins, null_times, nullable}
+
+-- how many rules a pattern has
+abbrev pub size : Pattern ℕ → ℕ
+size (one a) = 1
+size nothing = 0
+size (joined p q) = size q + size p
+size (repeated least (Some n) p) = n * size p
+size (repeated least None p) = size p
+
+-- the places that read the first node
+abbrev pub firsts_times : (ℕ → ℕ) → Bool → ℕ → ℕ → ℕ → ℕ
+firsts_times first b len zero k = 0
+firsts_times first b len (suc n) k = bit_or (first (k + n * len)) (when b (firsts_times first b len n k))
+
+abbrev pub firsts : Pattern ℕ → ℕ → ℕ
+firsts (one a) k = 2 ^ k
+firsts nothing k = 0
+firsts (joined p q) k = bit_or (firsts p (k + size q)) (when (nullable p) (firsts q k))
+firsts (repeated least (Some n) p) k = firsts_times (firsts p) (nullable p) (size p) n k
+firsts (repeated least None p) k = firsts p k
+
+abbrev pub rows_times : (Next → ℕ → List Rule) → (ℕ → ℕ) → Bool → ℕ → ℕ → ℕ → Next → ℕ → List Rule
+rows_times row first b len m zero next k = []
+rows_times row first b len m (suc n) next k =
+    rows_times row first b len (m - 1) n next k ++ row (begins (firsts_times first b len n k) (null_times b (m - 1) n) next) (k + n * len)
+
+abbrev pub rows : Pattern ℕ → Next → ℕ → List Rule
+rows (one a) next k = record { atom = a; after = next } ∷ []
+rows nothing next k = []
+rows (joined p q) next k = rows q next k ++ rows p (begins (firsts q k) (nullable q) next) (k + size q)
+rows (repeated least (Some n) p) next k = rows_times (rows p) (firsts p) (nullable p) (size p) least n next k
+rows (repeated least None p) next k = rows p (begins (firsts p k) true next) k
+
+-- without an end only from none or one
+abbrev pub IsPlain : Pattern ℕ → Type 0
+IsPlain (one a) = Unit {0}
+IsPlain nothing = Unit {0}
+IsPlain (joined p q) = IsPlain p × IsPlain q
+IsPlain (repeated least (Some n) p) = IsPlain p
+IsPlain (repeated zero None p) = IsPlain p
+IsPlain (repeated (suc zero) None p) = IsPlain p
+IsPlain (repeated (suc (suc m)) None p) = ⊥
+
+-- all atoms are below a number
+abbrev pub AtomsBelow : Pattern ℕ → ℕ → Type 0
+AtomsBelow (one a) n = a < n
+AtomsBelow nothing n = Unit {0}
+AtomsBelow (joined p q) n = AtomsBelow p n × AtomsBelow q n
+AtomsBelow (repeated least most p) n = AtomsBelow p n

@@ -1,0 +1,51 @@
+-- What the rows of lengths tell, as they are filled from the last node to the first.
+use Rattle.std.specs.Prelude.{◌≡◌, ℕ, zero, suc, ◌+◌, ◌≤◌, List, [], ◌∷◌, Bool, true, false, Option, Some, None, length, get_or, max}
+use Rattle.cql_lines.specs.declared.automaton.Rule.{Rule}
+use Rattle.cql_lines.specs.declared.table.Spot.{Spot}
+use Rattle.cql_lines.specs.Places.{from, Accepts}
+use Rattle.cql_lines.specs.Ways.{Follow, FromPlace, IsGreatest}
+use Rattle.cql_lines.specs.Lengths.{is_set, at}
+use Rattle.cql_lines.specs.Shapes.{joined, Edge}
+
+-- a table's word for a node has a bit for each atom
+abbrev pub holds : List ℕ → ℕ → ℕ → Bool
+holds words a n = is_set (at words n) a
+
+abbrev pub cell : List (List ℕ) → ℕ → ℕ → ℕ
+cell rows n j = at (get_or rows n []) j
+
+-- a way of k nodes from some node joined to n, among the last t, that the place j begins
+abbrev pub Late : List ℕ → List Rule → Bool → List Spot → ℕ → ℕ → ℕ → ℕ → Type 0
+Late words rules primary spots t n j k =
+    (c : ℕ) × (length spots ≤ c + t) × (joined primary spots c ≡ Some n)
+    × FromPlace (holds words) rules (Edge false primary spots) j c k
+
+pub record Stands (words : List ℕ) (rules : List Rule) (primary : Bool) (spots : List Spot) (t : ℕ)
+    (rows : List (List ℕ)) : Type 0 where
+  pub count : length rows ≡ length spots
+  pub small : (n j : ℕ) → cell rows n j ≤ t
+  pub known : (n j : ℕ) → IsGreatest (Late words rules primary spots t n j) (cell rows n j)
+
+-- some way of k nodes from n is read, its first node by one of the places f
+abbrev pub Read : (ℕ → ℕ → Bool) → List Rule → (ℕ → ℕ → Type 0) → ℕ → ℕ → ℕ → Type 0
+Read test rules Edge f n k = (w : List ℕ) × Follow Edge n w × (k ≡ suc (length w)) × Accepts test rules (from f) (n ∷ w)
+
+-- the answer is the greatest number, or none where there is none
+abbrev pub IsLongest : (ℕ → Type 0) → Option ℕ → Type 0
+IsLongest P None = (k : ℕ) → P k → ⊥
+IsLongest P (Some m) = P m × ((k : ℕ) → P k → k ≤ m)
+
+abbrev pub found : ℕ → Option ℕ
+found zero = None
+found (suc m) = Some (suc m)
+
+-- what is answered at a node
+abbrev pub AnswerAt : Bool → (ℕ → Type 0) → Option ℕ → Type 0
+AnswerAt true P o = IsLongest P o
+AnswerAt false P o = o ≡ None
+
+-- what a node's row gives to the row of its parent
+pub record Passed (primary : Bool) (spots : List Spot) (n : ℕ) (rows new : List (List ℕ)) (own : List ℕ) : Type 0 where
+  pub count : length new ≡ length rows
+  pub parent : (p j : ℕ) → joined primary spots n ≡ Some p → cell new p j ≡ max (cell rows p j) (at own j)
+  pub others : (p j : ℕ) → (joined primary spots n ≡ Some p → ⊥) → cell new p j ≡ cell rows p j

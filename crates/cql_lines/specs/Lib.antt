@@ -1,0 +1,11 @@
+pub mod Building
+pub mod Down
+pub mod Lengths
+pub mod Places
+pub mod Shapes
+pub mod TreeOf
+pub mod Up
+pub mod Ways
+pub mod PatternTrees
+pub mod Automata
+pub mod Values

@@ -1,0 +1,180 @@
+//! How the automaton of a pattern is built.
+
+ghost use Rattle.std.specs.Prelude.{◌≡◌, ℕ, ◌+◌, ◌-◌, ◌*◌, ◌<◌, ◌≤◌, ◌&&◌, ◌||◌, ◌++◌, length, IfOk, OnOk, true, false, bit_or};
+ghost use Rattle.cql_lines.specs.Building.{AtomsBelow, size, firsts, firsts_times, rows, rows_times};
+ghost use Rattle.cql_lines.specs.Places.{begins, when, nullable, null_times};
+ghost use Rattle.cql_lines.specs.TreeOf.{plain_tree};
+ghost use Rattle.cql_lines.specs.PatternTrees.{pattern_tree};
+ghost use Rattle.cql_lines.specs.Automata.{IsAutomatonOf, UsesBelow};
+
+use crate::automaton::{Automaton, Next, Rule};
+use crate::pattern::Pattern;
+use crate::plain::{Plain, plain_of};
+use cq_outside::NoMemory;
+use std::alloc::{AllocError, Global};
+
+impl Automaton {
+    /// The automaton of a pattern of at most 64 places.
+    #[tactic(auto, using(crate::proofs::LinesLaw::built_of))]
+    pub fn build(alloc: Global, pattern: &Pattern) -> Result<Automaton, NoMemory>
+        requires places { size (pattern_tree pattern.now) ≤ 64 }
+        ensures automaton { IfOk result (λ a. IsAutomatonOf a (pattern_tree pattern.now)) }
+        ensures atoms { IfOk result (λ a. (atoms : ℕ) → AtomsBelow (pattern_tree pattern.now) atoms → UsesBelow a atoms) }
+    {
+        let plain = plain_of(alloc, pattern)?;
+        let mut rules = vec![in alloc]?;
+        let end = Next {
+            places: 0,
+            ends: true,
+        };
+        let first = build(&plain, end, &mut rules)?;
+        Ok(Automaton { rules, first })
+    }
+}
+
+/// Whether it spells the empty list.
+#[cycle(nullable)]
+pub fn is_nullable(p: &Plain) -> bool
+    ensures { result ≡ nullable (plain_tree p.now) }
+{
+    match p {
+        Plain::Atom(_) => false,
+        Plain::Empty | Plain::Star(_) => true,
+        Plain::Both(a, b) => is_nullable(a) && is_nullable(b),
+        Plain::Plus(a) => is_nullable(a),
+        Plain::Times(m, n, a) => *m == 0 || (*m <= *n && is_nullable(a)),
+    }
+}
+
+/// How many places it has.
+#[cycle(size)]
+pub fn size_of(p: &Plain) -> usize
+    requires { size (plain_tree p.now) ≤ 64 }
+    ensures { result ≡ size (plain_tree p.now) }
+{
+    match p {
+        Plain::Atom(_) => 1,
+        Plain::Empty => 0,
+        Plain::Star(a) | Plain::Plus(a) => size_of(a),
+        Plain::Both(a, b) => size_of(b) + size_of(a),
+        Plain::Times(_, n, a) => {
+            if *n == 0 {
+                return 0;
+            }
+            *n as usize * size_of(a)
+        }
+    }
+}
+
+fn begin(first: u64, empty: bool, next: Next) -> Next
+    ensures { result ≡ begins first empty next }
+{
+    Next {
+        places: with_where(first, empty, next.places),
+        ends: empty && next.ends,
+    }
+}
+
+fn with_where(first: u64, empty: bool, more: u64) -> u64
+    ensures { result ≡ bit_or first (when empty more) }
+{
+    if empty { first | more } else { first }
+}
+
+/// The places that read its first node, where its places begin at a number.
+#[cycle(first)]
+pub fn first_of(p: &Plain, at: usize) -> u64
+    requires { at + size (plain_tree p.now) ≤ 64 }
+    ensures { result ≡ firsts (plain_tree p.now) at }
+{
+    match p {
+        Plain::Atom(_) => 1 << at,
+        Plain::Empty => 0,
+        Plain::Star(a) | Plain::Plus(a) => first_of(a, at),
+        Plain::Both(a, b) => {
+            let more = first_of(b, at);
+            with_where(first_of(a, at + size_of(b)), is_nullable(a), more)
+        }
+        Plain::Times(_, n, a) => first_of_times(a, *n, at),
+    }
+}
+
+#[cycle(first)]
+fn first_of_times(p: &Plain, n: u32, at: usize) -> u64
+    requires { at + n * size (plain_tree p.now) ≤ 64 }
+    ensures { result ≡ firsts_times (firsts (plain_tree p.now)) (nullable (plain_tree p.now)) (size (plain_tree p.now)) n at }
+{
+    if n == 0 {
+        return 0;
+    }
+    let len = size_of(p);
+    let empty = is_nullable(p);
+    let mut first = 0;
+    for k in 0..n {
+        first = with_where(first_of(p, at + k as usize * len), empty, first);
+    }
+    first
+}
+
+/// Adds the places of a pattern, after which a path goes on by `next`, and answers those that read its first node.
+#[cycle(build)]
+pub fn build(p: &Plain, next: Next, rules: &mut Vec<Rule>) -> Result<u64, AllocError>
+    requires { length rules.old.items + size (plain_tree p.now) ≤ 64 }
+    ensures rows { OnOk result (rules.new.items ≡ rules.old.items ++ rows (plain_tree p.now) next (length rules.old.items)) }
+    ensures first { IfOk result (λ f. f ≡ firsts (plain_tree p.now) (length rules.old.items)) }
+    ensures len { OnOk result (length rules.new.items ≡ length rules.old.items + size (plain_tree p.now)) }
+{
+    match p {
+        Plain::Atom(atom) => {
+            let first = 1 << rules.len();
+            rules.push(Rule {
+                atom: *atom,
+                after: next,
+            })?;
+            Ok(first)
+        }
+        Plain::Empty => Ok(0),
+        Plain::Star(a) | Plain::Plus(a) => {
+            let first = first_of(a, rules.len());
+            build(a, begin(first, true, next), rules)
+        }
+        Plain::Both(a, b) => {
+            let more = build(b, next, rules)?;
+            let first = build(a, begin(more, is_nullable(b), next), rules)?;
+            Ok(with_where(first, is_nullable(a), more))
+        }
+        Plain::Times(m, n, a) => build_times(a, *m, *n, next, rules),
+    }
+}
+
+#[cycle(build)]
+fn build_times(
+    p: &Plain,
+    m: u32,
+    n: u32,
+    next: Next,
+    rules: &mut Vec<Rule>,
+) -> Result<u64, AllocError>
+    requires { length rules.old.items + n * size (plain_tree p.now) ≤ 64 }
+    ensures rows { OnOk result (rules.new.items ≡ rules.old.items
+        ++ rows_times (rows (plain_tree p.now)) (firsts (plain_tree p.now)) (nullable (plain_tree p.now)) (size (plain_tree p.now))
+        m n next (length rules.old.items)) }
+    ensures first { IfOk result (λ f.
+        f ≡ firsts_times (firsts (plain_tree p.now)) (nullable (plain_tree p.now)) (size (plain_tree p.now)) n (length rules.old.items)) }
+    ensures len { OnOk result (length rules.new.items ≡ length rules.old.items + n * size (plain_tree p.now)) }
+{
+    let empty = is_nullable(p);
+    let mut first = 0;
+    let mut null = m <= n;
+    for k in 0..n {
+        first = with_where(build(p, begin(first, null, next), rules)?, empty, first);
+        null = null_after(m, n - 1 - k, empty, null);
+    }
+    Ok(first)
+}
+
+fn null_after(m: u32, left: u32, empty: bool, null: bool) -> bool
+    ensures { (k : ℕ) → null ≡ null_times empty (m - left - 1) k → result ≡ null_times empty (m - left) (k + 1) }
+{
+    m <= left || (empty && null)
+}

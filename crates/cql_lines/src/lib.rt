@@ -1,0 +1,19 @@
+//! Lines: for each node of a tree the greatest length of a path from it, down or up, that a pattern spells. No path is listed: each place
+//! of the pattern keeps the greatest length that it reads from a node, and passes it on to the nodes joined to that one.
+#![tactic(auto)]
+
+pub mod automaton;
+mod build;
+pub mod lines;
+mod looks;
+pub mod pattern;
+mod plain;
+pub mod steps;
+pub mod table;
+mod values;
+
+pub use automaton::Automaton;
+pub use lines::line_values;
+pub use pattern::{Pattern, Patterns};
+pub use steps::Steps;
+pub use table::{AtomTable, Shape};
