@@ -15,17 +15,13 @@ abbrev pub Times : (List ℕ → Type 0) → ℕ → List ℕ → Type 0
 Times Part zero w = w ≡ []
 Times Part (suc k) w = (u : List ℕ) × (v : List ℕ) × (w ≡ u ++ v) × Part u × Times Part k v
 
--- a permitted number of parts in order
-abbrev pub Repeats : (List ℕ → Type 0) → ℕ → Option ℕ → List ℕ → Type 0
-Repeats Part least most w = (k : ℕ) × (least ≤ k) × IfSome most (λ m. k ≤ m) × Times Part k w
-
 -- What a pattern spells, where a test says of what stands in it which items pass: a pattern after another spells what splits into what
 -- each spells, and a repeated one what splits into a permitted number of parts.
 abbrev pub Spells : {A : Type 0} → (A → ℕ → Bool) → Pattern A → List ℕ → Type 0
 Spells test (one a) w = (n : ℕ) × (w ≡ n ∷ []) × (test a n ≡ true)
 Spells test nothing w = w ≡ []
 Spells test (joined p q) w = (u : List ℕ) × (v : List ℕ) × (w ≡ u ++ v) × Spells test p u × Spells test q v
-Spells test (repeated least most p) w = Repeats (Spells test p) least most w
+Spells test (repeated least most p) w = (k : ℕ) × (least ≤ k) × IfSome most (λ m. k ≤ m) × Times (Spells test p) k w
 
 -- the same as a test: some split of a list passes
 abbrev pub splits : (List ℕ → List ℕ → Bool) → List ℕ → Bool

@@ -1,13 +1,17 @@
 -- The places read what the pattern spells.
 use Rattle.std.proofs.Common.{◌≡◌, ℕ, zero, suc, ◌-◌, ◌^◌, ◌≤◌, Bool, true, false, ◌&&◌, List, [], ◌∷◌, ◌++◌, length, refl, sym, ap, ◌∙◌, subst, Option, Some, None, inl, inr, arith, append_assoc, length-append, slice_get}
-use Rattle.std.specs.Prelude.{◌⊎◌, bit_or}
+use Rattle.std.specs.Prelude.{IfSome, ◌⊎◌, bit_or}
 use Rattle.std.specs.Int.{bit_at}
 use Rattle.std.proofs.lemmas.Nat.Bits.{bit_at_or, bit_at-zero, bit_at-lt, bit_at-pow_same, bit_at-pow_other}
 use Rattle.std.proofs.lemmas.Bool.{cases_eq}
 use Rattle.cql_lines.specs.declared.automaton.Next.{Next}
 use Rattle.cql_lines.specs.declared.automaton.Rule.{Rule}
-use Rattle.cq_outside.specs.Spelling.{Pattern, one, nothing, joined, repeated, Times, Repeats, Spells}
+use Rattle.cq_outside.specs.Spelling.{Pattern, one, nothing, joined, repeated, Times, Spells}
 use Rattle.cql_lines.specs.Places.{IsIn, from, when, begins, Accepts, null_times, null_repeated, nullable, BuiltTimes, BuiltRepeated, Built}
+
+-- a split into a permitted number of parts
+abbrev Repeats : (List ℕ → Type 0) → ℕ → Option ℕ → List ℕ → Type 0
+Repeats Part least most w = (k : ℕ) × (least ≤ k) × IfSome most (λ m. k ≤ m) × Times Part k w
 
 pub in_left : (a b i : ℕ) → IsIn a i → IsIn (bit_or a b) i
 in_left a b i e = let h = bit_at_or a b i in let l = bit_at-lt b i in omega arith
