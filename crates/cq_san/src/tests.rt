@@ -1,6 +1,7 @@
 use super::*;
+use arrayvec::ArrayString;
 use cq_geometry::{file, rank};
-use cq_position::{Move, Promotion, read_fen};
+use cq_position::{Move, Position, Promotion, read_fen};
 use std::process::Abort;
 use std::test::Fail;
 
@@ -171,13 +172,23 @@ fn no_side_passes_in_check(rt: HostRuntime) -> Result<(), Fail> {
     )
 }
 
+// The move that a text means, written.
+fn rewritten(position: &Position, text: &[u8]) -> Result<ArrayString<8>, SanFault> {
+    match read_san(position, text) {
+        Ok(m) => Ok(san_text(position, m)),
+        Err(fault) => Err(fault),
+    }
+}
+
 // Each text is read, and the move that it means is written.
 fn check_written(rt: &impl Abort, fen: &[u8], rows: &[(&[u8], &str)]) -> Result<(), Fail> {
     let position = read_fen(fen)?;
     for (text, wanted) in rows {
-        let m = read_san(&position, text)?;
-        let written = san_text(&position, m);
-        assert_eq!(rt; written.as_str(), *wanted, "at {text:?}");
+        assert_eq!(rt;
+            rewritten(&position, text)?.as_str(),
+            *wanted,
+            "at {text:?}"
+        );
     }
     Ok(())
 }
