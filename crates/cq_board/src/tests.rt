@@ -1,5 +1,4 @@
 use super::*;
-use std::thread;
 
 fn is_shared<T: Send + Sync>() {}
 
@@ -7,6 +6,8 @@ fn is_sent<T: Send>() {}
 
 #[test]
 fn two_seats_draw_in_turn(rt: HostRuntime) -> Result<(), cq_outside::NoMemory> {
+    is_shared::<Board>();
+    is_sent::<ClaimSeat>();
     let (board, mut seats) = Board::make(rt.alloc(), 3, 2)?;
     let mut second = seats.pop().unwrap();
     let mut first = seats.pop().unwrap();
