@@ -48,6 +48,8 @@ pub image_rows : ImageRows
 unfolding value fits designator_image image mask_of image_compass changes_light board.squares
 image_rows = record {
   whole_rank_stays = refl;
+  inner_family_first = refl;
+  outer_family_last = refl;
   mirrored_light = refl;
   mirrored_dark = refl;
   turned_direction = refl;

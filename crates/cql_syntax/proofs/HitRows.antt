@@ -13,11 +13,12 @@ unfolding value board.squares games.way_up games.first_child games.children game
 hit_rows = record {
   hits_in_variations = refl;
   hits_on_main_line = refl;
-  all_items_hold = refl;
+  no_node_at_which_all_items_hold = refl;
   no_items = refl;
   marks_in_order = refl;
   greatest_key = refl;
   least_key = refl;
+  least_of_several = refl;
   no_key = refl;
   marked_nodes = refl;
 }

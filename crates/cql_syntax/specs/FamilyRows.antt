@@ -14,7 +14,7 @@ use Rattle.cql_syntax.specs.declared.leaves.Chain.TheVariants.{Union}
 use Rattle.cql_syntax.specs.declared.leaves.Of.TheVariants.{Black as OfBlack}
 use Rattle.cql_syntax.specs.declared.leaves.Outcome.TheVariants.{Black as BlackWins, Draw}
 use Rattle.cql_syntax.specs.declared.leaves.Plain.TheVariants.{Btm, Year}
-use Rattle.cql_syntax.specs.declared.leaves.Unary.TheVariants.{Not, Count, Light, Dark}
+use Rattle.cql_syntax.specs.declared.leaves.Unary.TheVariants.{Not, Light, Dark}
 use Rattle.cql_syntax.specs.declared.leaves.Way.TheVariants.{Up}
 
 -- White's king on b3, Black's on h8
@@ -77,7 +77,9 @@ abbrev ranks_of_men : FilterTree
 ranks_of_men = at (designator (record { men = 2 ^ 0; part = record { squares = 16711680; whole_ranks = true; whole_files = false } }))
 
 pub record ImageRows : Type 0 where
-  pub whole_rank_stays : worked kings (transform ShiftHorizontal (at (unary Count ranks_of_men))) 0 ≡ Some (pos 1)
+  pub whole_rank_stays : truth kings (transform ShiftHorizontal (at (unary Not ranks_of_men))) 0 ≡ false
+  pub inner_family_first : found kings (transform ShiftHorizontal (at (transform Flip (on (0 ∷ []) (2 ∷ []))))) 0 ≡ 17 ∷ []
+  pub outer_family_last : found kings (transform Flip (at (transform ShiftHorizontal (on (0 ∷ []) (2 ∷ []))))) 0 ≡ []
   pub mirrored_light : truth kings (transform FlipHorizontal (at (unary Light (on (0 ∷ []) (22 ∷ []))))) 0 ≡ false
   pub mirrored_dark : truth kings (transform FlipHorizontal (at (unary Dark (on (0 ∷ []) (22 ∷ []))))) 0 ≡ true
   pub turned_direction : found kings (transform Rotate90 (at (direction Up 1 1 (on (0 ∷ []) (13 ∷ 17 ∷ []))))) 0 ≡ 18 ∷ 25 ∷ []

@@ -45,6 +45,7 @@ pub record LineRows : Type 0 where
   pub not_through_a_variation : primary false ((wtm, Once) ∷ (at (plain Variation), Once) ∷ []) 0 ≡ None
   pub searched_tree_alone : worked main_of (line (path false false Any (parts ((wtm, Once) ∷ (at (plain Variation), Once) ∷ [])))) 0 ≡ None
   pub upwards : up ((wtm, Once) ∷ (btm, Once) ∷ (wtm, Once) ∷ []) 2 ≡ Some (pos 3)
+  pub up_from_a_variation : up ((king, Star) ∷ []) 3 ≡ Some (pos 2)
   pub not_upwards : up ((wtm, Once) ∷ (btm, Once) ∷ []) 0 ≡ None
   pub up_by_first_children : primary true ((king, Star) ∷ []) 2 ≡ Some (pos 3)
   pub not_up_from_a_variation : primary true ((king, Star) ∷ []) 3 ≡ Some (pos 1)
@@ -86,7 +87,8 @@ pub record MoveRows : Type 0 where
   pub nothing_moved_to_the_root : truth all_of any_move 0 ≡ false
   pub passed : truth passing any_move 1 ≡ false
   pub pawn_moved : truth all_of (from (anywhere 5)) 1 ≡ true
-  pub left_at_the_parent : truth all_of (from (on (5 ∷ []) (28 ∷ []))) 1 ≡ false
+  pub left_at_the_parent : truth all_of (from (on (5 ∷ []) (12 ∷ []))) 1 ≡ true
+  pub did_not_come_from_e4 : truth all_of (from (on (5 ∷ []) (28 ∷ []))) 1 ≡ false
   pub to_e4 : truth all_of (to (on (5 ∷ []) (28 ∷ []))) 1 ≡ true
   pub not_to_e2 : truth all_of (to (on (5 ∷ []) (12 ∷ []))) 1 ≡ false
   pub took_in_passing : truth in_passing (capture (on (11 ∷ []) (35 ∷ []))) 1 ≡ true

@@ -69,7 +69,7 @@ directions_of Diagonal = diagonals
 directions_of Orthogonal = orthogonals
 directions_of AnyDirection = compasses
 
--- the side to move is in check, and it has a legal move (FIDE Laws of Chess, articles 3.9.1, 5.1.1 and 5.2.1)
+-- the side to move is in check (FIDE Laws of Chess, article 3.9.1); mate and stalemate ask besides for a legal move (5.1.1 and 5.2.1)
 abbrev pub is_check : Board → Bool
 is_check p = in_check p.men p.side
 

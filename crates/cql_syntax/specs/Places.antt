@@ -1,4 +1,4 @@
--- The places of a line: the states of its automaton that its atoms stand for.
+-- The places of a line, which bound the states of its automaton: an atom's places stand for it as often as its marks repeat it.
 use Rattle.std.specs.Prelude.{ℕ, ◌+◌, ◌*◌, max}
 use Rattle.cql_syntax.specs.Trees.{LineTree, path, PartTrees, no_parts, more_parts, BodyTree, atom, group}
 use Rattle.cql_syntax.specs.declared.leaves.Mark.{Mark}

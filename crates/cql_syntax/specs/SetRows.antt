@@ -35,7 +35,7 @@ pub record SetRows : Type 0 where
   pub named : bound ((codes "y", 7) ∷ (codes "x", 5) ∷ []) ≡ 5 ∷ []
   pub inner_hides_outer : bound ((codes "x", 6) ∷ (codes "x", 5) ∷ []) ≡ 6 ∷ []
   pub unnamed : bound ((codes "y", 7) ∷ []) ≡ []
-  pub complement : found all_of (unary Complement (at (unary Complement white))) 0 ≡ 4 ∷ []
+  pub complement_of_complement : found all_of (unary Complement (at (unary Complement white))) 0 ≡ 4 ∷ []
   pub complement_of_all : found all_of (unary Complement (at (chain Intersect (filters [])))) 0 ≡ []
   pub union : found all_of (chain Union (filters (white ∷ black ∷ []))) 0 ≡ 4 ∷ 60 ∷ []
   pub union_of_none : found all_of (chain Union (filters [])) 0 ≡ []
