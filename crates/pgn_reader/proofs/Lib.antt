@@ -18,3 +18,4 @@ pub mod Strings
 pub mod Low
 pub mod Slices
 pub mod Tokens
+pub mod Follows
