@@ -19,3 +19,4 @@ pub mod Low
 pub mod Slices
 pub mod Tokens
 pub mod Follows
+pub mod Building

@@ -1,6 +1,7 @@
 //! Reading a game: its tags and its tree, or its first fault.
 #![tactic(auto)]
 
+mod build;
 pub mod fault;
 mod game;
 mod line;
