@@ -15,7 +15,7 @@ use pgn_tree::{Game, Tags};
 use std::alloc::Global;
 
 /// The game of rows in preorder, of which the first is the root's.
-pub fn game_of(
+pub fn game_of_rows(
     alloc: Global,
     tags: Tags,
     ending: GameResult,

@@ -14,4 +14,4 @@ mod tests;
 mod text;
 
 pub use fault::{GameFault, Reason};
-pub use game::check_game;
+pub use game::read_game;
