@@ -18,3 +18,5 @@ pub mod Strings
 pub mod Low
 pub mod Slices
 pub mod Tokens
+pub mod Follows
+pub mod Building

@@ -1,8 +1,8 @@
 -- The loop over the tokens.
 use Rattle.std.proofs.Common.{◌≡◌, ◌≢◌, ℕ, ◌+◌, ◌<◌, ◌≤◌, List, [], ◌∷◌, ◌++◌, length, take, map, get_or, Some, None, Err, refl, sym, ap, ◌∙◌, subst, arith}
 use Rattle.std.proofs.Common.{inl, inr, ◌↔◌, reverse}
-use Rattle.cq_position.specs.declared.games.GameResult.{GameResult}
-use Rattle.cq_position.specs.Games.{Game}
+use Rattle.cq_position.specs.Position.{IsPosition}
+use Rattle.cq_position.specs.Games.{Game, IsTree}
 use Rattle.std.proofs.lemmas.List.{take_all, take_more, get_or-map, length-map}
 use Rattle.cq_outside.specs.declared.faults.Refusal.{Refusal}
 use Rattle.cq_outside.specs.declared.faults.Refusal.TheVariants.{Fault}
@@ -12,20 +12,20 @@ use Rattle.pgn_reader.specs.declared.reader.Reader.{Reader}
 use Rattle.pgn_reader.specs.declared.reader.Phase.{Phase}
 use Rattle.pgn_reader.specs.declared.reader.Phase.TheVariants.{Movetext, Opened, Named, Valued, Ended}
 use Rattle.pgn_reader.specs.Words.{Word}
-use Rattle.pgn_reader.specs.Tags.{result_of_tags}
 use Rattle.pgn_reader.specs.Games.{Spells}
 use Rattle.pgn_reader.specs.Standing.{fault_at, fault_at_end, variations_fault, moves_before}
-use Rattle.pgn_reader.specs.Frame.{Frame}
-use Rattle.pgn_reader.specs.Verdict.{IsSpelledOnce}
+use Rattle.pgn_reader.specs.Frame.{Row, Frame, whole}
+use Rattle.pgn_reader.specs.Verdict.{IsOnlyGame}
 use Rattle.pgn_reader.specs.Faults.{IsFault}
 use Rattle.pgn_reader.specs.Machine.{State, opened, named, valued, at, ended, stuck, feed, run, first}
-use Rattle.pgn_reader.specs.Arranged.{standing_of, game_shown}
+use Rattle.pgn_reader.specs.Arranged.{standing_of, nodes_of_rows}
 use Rattle.pgn_reader.specs.Shown.{head_of, shown_by, shown, moves_in, Steps, IsLow}
-use Rattle.pgn_reader.specs.Reading.{IsWhole}
+use Rattle.pgn_reader.specs.Reading.{IsWhole, ending_by, game_of}
 use Rattle.pgn_reader.proofs.Read.{run_append}
 use Rattle.pgn_reader.proofs.Whole.{IsEnd}
 use Rattle.pgn_reader.proofs.Answer.{fault_here, fault_of_end, read_iff}
 use Rattle.pgn_reader.proofs.Low.{run_low, first_low}
+use Rattle.pgn_reader.proofs.Follows.{tree_shown}
 
 -- the state of a reader is never stuck
 shown_lives_by : (p : Phase) (r : Reader) → shown_by p r ≡ stuck → ⊥
@@ -92,37 +92,41 @@ fault_step word tokens i d w r after x reason same low is few found steps =
     subst (λ v. Steps (feed (shown r) v) (fault_at (standing_of (shown r)) v) after (Err (Fault reason))) same known in
     fault_in_loop word tokens i d r reason low is few here.0 here.1
 
--- the game that ends with all tokens
-pub record EndOf (ts : List Word) (r : Reader) : Type 0 where
-  pub result : GameResult
-  pub is_end : IsEnd (run first ts) (head_of r) r.line result
+-- the end of all tokens
+pub record IsEndOf (ts : List Word) (r : Reader) : Type 0 where
+  pub is_end : IsEnd (run first ts) (head_of r) r.line (ending_by r.phase r.tags)
   pub few : r.moves ≤ 65535
 
 none_open : (k : List Frame) → variations_fault (length k) ≡ None → k ≡ []
 none_open [] is = refl
 none_open (f ∷ k) is = absurd cc
 
-end_by_phase : (ts : List Word) (r : Reader) (p : Phase) → r.phase ≡ p → run first ts ≡ shown_by p r → moves_in (shown_by p r) ≤ 65535 → fault_at_end (standing_of (shown_by p r)) ≡ None → EndOf ts r
+end_by_phase : (ts : List Word) (r : Reader) (p : Phase) → r.phase ≡ p → run first ts ≡ shown_by p r → moves_in (shown_by p r) ≤ 65535 → fault_at_end (standing_of (shown_by p r)) ≡ None → IsEndOf ts r
 end_by_phase ts r Movetext phase is few ends = record {
-  result = result_of_tags r.tags;
-  is_end = inl (is ∙ ap (at (head_of r) r.line) (none_open (reverse r.around.items) ends), refl);
+  is_end = inl (is ∙ ap (at (head_of r) r.line) (none_open (reverse r.around.items) ends), ap (λ p. ending_by p r.tags) phase);
   few = few;
 }
 end_by_phase ts r Opened phase is few ends = absurd (cc)
 end_by_phase ts r Named phase is few ends = absurd (cc)
 end_by_phase ts r Valued phase is few ends = absurd (cc)
-end_by_phase ts r (Ended result) phase is few ends = record { result = result; is_end = inr is; few = few }
+end_by_phase ts r (Ended result) phase is few ends = record { is_end = inr (is ∙ ap (ended (head_of r) r.line) (ap (λ p. ending_by p r.tags) (sym phase))); few = few }
 
-pub end_of : (ts : List Word) (r : Reader) → IsWhole ts r → EndOf ts r
+pub end_of : (ts : List Word) (r : Reader) → IsWhole ts r → IsEndOf ts r
 end_of ts r whole = end_by_phase ts r r.phase refl whole.is_run whole.few whole.ends
 
 -- the one game that is spelled
-pub one_game : (ts : List Word) (r : Reader) → IsWhole ts r → IsSpelledOnce ts
-one_game ts r whole =
-    let e : EndOf ts r = end_of ts r whole in
-    let iff : (g : Game) → Spells ts g ↔ (g ≡ game_shown (head_of r) r.line e.result) = read_iff ts (head_of r) r.line e.result e.is_end e.few in
-    record {
-      game = game_shown (head_of r) r.line e.result;
-      spells = (iff (game_shown (head_of r) r.line e.result)).1 refl;
-      alone = λ g spells. (iff g).0 spells;
-    }
+pub only_game : (ts : List Word) (r : Reader) → IsWhole ts r → IsOnlyGame ts (game_of r)
+only_game ts r whole =
+    let e : IsEndOf ts r = end_of ts r whole in
+    let iff : (g : Game) → Spells ts g ↔ (g ≡ game_of r) = read_iff ts (head_of r) r.line (ending_by r.phase r.tags) e.is_end e.few in
+    record { spells = (iff (game_of r)).1 refl; alone = λ g spells. (iff g).0 spells }
+
+-- its nodes are a tree
+pub tree_of_rows : (ts : List Word) (r : Reader) (rows : List Row) → IsWhole ts r → IsPosition r.start → rows ≡ whole r.line → IsTree (nodes_of_rows rows)
+tree_of_rows ts r rows whole_ is all =
+    let e : IsEndOf ts r = end_of ts r whole_ in
+    subst (λ rs. IsTree (nodes_of_rows rs)) (sym all) (tree_shown ts (head_of r) r.line (ending_by r.phase r.tags) e.is_end e.few is)
+
+pub some_rows : (rows : List Row) → IsTree (nodes_of_rows rows) → 0 < length rows
+some_rows [] tree = tree.rooted
+some_rows (r ∷ rows) tree = omega arith

@@ -13,3 +13,4 @@ pub mod Machine
 pub mod Arranged
 pub mod Shown
 pub mod Reading
+pub mod Building

@@ -1,13 +1,18 @@
 -- What reading the tokens of a game answers.
 use Rattle.std.specs.Prelude.{◌≡◌, ◌≤◌, List, None, Result, Ok, Err}
+use Rattle.cq_position.specs.declared.games.GameResult.{GameResult}
+use Rattle.cq_position.specs.Games.{Game}
+use Rattle.pgn_reader.specs.declared.reader.Phase.{Phase}
+use Rattle.pgn_reader.specs.declared.reader.Phase.TheVariants.{Ended}
 use Rattle.pgn_reader.specs.declared.reader.Reader.{Reader}
 use Rattle.pgn_reader.specs.declared.reading.TokenFault.{TokenFault}
 use Rattle.pgn_reader.specs.Words.{Word}
+use Rattle.pgn_reader.specs.Tags.{Tags, result_of_tags}
 use Rattle.pgn_reader.specs.Standing.{fault_at_end}
 use Rattle.pgn_reader.specs.Faults.{IsFault}
 use Rattle.pgn_reader.specs.Machine.{run, first}
-use Rattle.pgn_reader.specs.Arranged.{standing_of}
-use Rattle.pgn_reader.specs.Shown.{shown, moves_in}
+use Rattle.pgn_reader.specs.Arranged.{standing_of, game_shown}
+use Rattle.pgn_reader.specs.Shown.{head_of, shown, moves_in}
 
 -- all tokens were read, and a game ends with them
 pub record IsWhole (ts : List Word) (r : Reader) : Type 0 where
@@ -18,3 +23,12 @@ pub record IsWhole (ts : List Word) (r : Reader) : Type 0 where
 abbrev pub IsReading : List Word → Result Reader TokenFault → Type 0
 IsReading ts (Ok r) = IsWhole ts r
 IsReading ts (Err f) = IsFault ts f.index f.reason
+
+-- the result of the marker, or without one that of the tags
+abbrev pub ending_by : Phase → Tags → GameResult
+ending_by (Ended result) tags = result
+ending_by _ tags = result_of_tags tags
+
+-- the game of which all tokens were read
+abbrev pub game_of : Reader → Game
+game_of r = game_shown (head_of r) r.line (ending_by r.phase r.tags)

@@ -11,9 +11,8 @@ use Rattle.pgn_reader.specs.Words.{Word, words_of}
 use Rattle.pgn_reader.specs.Games.{Spells}
 use Rattle.pgn_reader.specs.Faults.{IsFault}
 
--- one game is spelled, and no other
-pub record IsSpelledOnce (ts : List Word) : Type 0 where
-  pub game : Game
+-- a game is spelled, and no other
+pub record IsOnlyGame (ts : List Word) (game : Game) : Type 0 where
   pub spells : Spells ts game
   pub alone : (g : Game) → Spells ts g → g ≡ game
 
@@ -37,8 +36,8 @@ pub record HasTokenFault (start : ℕ) (first : Bool) (bytes : List ℕ) (f : Ga
 abbrev pub IsGameFault : ℕ → Bool → List ℕ → GameFault → Type 0
 IsGameFault start first bytes f = IsTooLong start bytes f ⊎ HasTokenFault start first bytes f
 
--- The answer to the bytes of a game: they spell one, or have a fault.
-abbrev pub IsVerdict : ℕ → Bool → List ℕ → Result (Unit {0}) (Refusal GameFault) → Type 0
-IsVerdict start first bytes (Ok done) = IsSpelledOnce (words_of start first bytes)
+-- The answer to the bytes of a game: the one that they spell, or their fault.
+abbrev pub IsVerdict : ℕ → Bool → List ℕ → Result Game (Refusal GameFault) → Type 0
+IsVerdict start first bytes (Ok game) = IsOnlyGame (words_of start first bytes) game
 IsVerdict start first bytes (Err (Fault f)) = IsGameFault start first bytes f
 IsVerdict start first bytes (Err NoMemory) = Unit {0}

@@ -1,6 +1,7 @@
 //! Reading a game: its tags and its tree, or its first fault.
 #![tactic(auto)]
 
+mod build;
 pub mod fault;
 mod game;
 mod line;
@@ -13,4 +14,4 @@ mod tests;
 mod text;
 
 pub use fault::{GameFault, Reason};
-pub use game::check_game;
+pub use game::read_game;

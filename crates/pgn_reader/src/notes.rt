@@ -1,7 +1,8 @@
 //! The glyphs and comments of a move.
 ghost use Rattle.std.specs.Prelude.{◌≡◌, [], ◌∷◌, ◌++◌, OnOk};
 ghost use Rattle.cq_position.specs.Comments.{words, comment_of};
-ghost use Rattle.pgn_reader.specs.Inside.{HasNoBrace};
+ghost use Rattle.std.specs.List.{All};
+ghost use Rattle.pgn_reader.specs.Inside.{HasNoBrace, comments_of};
 
 use cq_outside::NoMemory;
 use smallvec::SmallVec;
@@ -54,5 +55,20 @@ impl Notes {
     {
         self.comments.push(text)?;
         Ok(())
+    }
+
+    /// The glyphs.
+    pub fn nags(&self) -> &[u8]
+        ensures { result.now ≡ self.now.nags }
+    {
+        self.nags.as_slice()
+    }
+
+    /// The texts that give the comments.
+    pub fn comments(&self) -> &[Vec<u8>]
+        ensures value { comments_of (λ t. t.items) result.now ≡ self.now.comments }
+        ensures clean { All (λ t. HasNoBrace t.items) result.now }
+    {
+        self.comments.as_slice()
     }
 }

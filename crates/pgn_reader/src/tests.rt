@@ -3,7 +3,7 @@ use crate::Reason::{
     AmbiguousMove, BadByte, BadFen, BadTag, EmptyVariation, IllegalMove, NagRange, NotAMove,
     UnclosedComment, UnclosedString, UnclosedVariation, UnopenedVariation, VariationWithoutMove,
 };
-use crate::{Reason, check_game};
+use crate::{Reason, read_game};
 use cq_outside::{NoMemory, Refusal};
 use std::test::Fail;
 
@@ -44,8 +44,8 @@ static ROWS: [Row<'static>; 22] = [
 #[test]
 fn texts_have_their_first_fault(rt: HostRuntime) -> Result<(), NoMemory> {
     for (text, want) in ROWS.iter() {
-        let found = match check_game(rt.alloc(), text, 1000, true) {
-            Ok(()) => None,
+        let found = match read_game(rt.alloc(), text, 1000, true) {
+            Ok(_game) => None,
             Err(Refusal::Fault(fault)) => Some((fault.byte, fault.reason)),
             Err(Refusal::NoMemory) => return Err(NoMemory),
         };

@@ -1,0 +1,19 @@
+-- How a game is built of the rows of its line.
+use Rattle.std.specs.Prelude.{ℕ, ◌-◌, ◌<◌, List, ◌++◌, length, Contains}
+use Rattle.cq_position.specs.Games.{Node, node_at, way_up}
+use Rattle.cq_position.specs.Legal.{Leads}
+use Rattle.cq_position.specs.Continuations.{Played}
+
+-- a node with more glyphs, and with more comments
+abbrev pub with_nags : List ℕ → Node → Node
+with_nags nags node = record node { nags = node.nags ++ nags }
+
+abbrev pub with_comments : List (List ℕ) → Node → Node
+with_comments comments node = record node { comments = node.comments ++ comments }
+
+-- a move may be the next node: it leads from the position of its parent, which is the last node or an ancestor of it
+pub record IsNext (nodes : List Node) (parent : ℕ) (m : Played) : Type 0 where
+  pub node : parent < length nodes
+  pub preorder : Contains (way_up nodes (length nodes - 1)) parent
+  pub leads : Leads (node_at nodes parent).position m.move m.position
+  pub few : length nodes < 65536
