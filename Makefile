@@ -4,9 +4,9 @@ PROGRAM = crates/cqlpgn/out/cqlpgn
 
 .PHONY: demo test install
 
-# The positions of the sample archive with a white king on a1.
+# The games of the sample archive with a white queen on f7.
 demo:
-	cd crates/cqlpgn && rt run -- eval 'cql() Ka1' < ../../examples/positions.pgn
+	cd crates/cqlpgn && rt run -- eval 'cql() Qf7' < ../../examples/games.pgn
 
 test:
 	bash .ci/run

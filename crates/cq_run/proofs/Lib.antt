@@ -1,10 +1,5 @@
-pub mod Lines
-pub mod Tags
-pub mod Fronts
-pub mod Archives
-pub mod Exports
-pub mod MoreGames
-pub mod Starts
-pub mod Taken
-pub mod Written
-pub mod Promises
+mod Taken
+mod Written
+mod Answers
+mod Marks
+mod Promises

@@ -1,45 +1,82 @@
 -- What a query finds in games.
-use Rattle.std.specs.Prelude.{ℕ, ◌+◌, List, [], ◌∷◌, ◌++◌, length, codes, decimal}
-use Rattle.std.specs.List.{filter, flat_map}
-use Rattle.cq_run.specs.declared.query.ManOnSquare.{ManOnSquare}
+use Rattle.std.specs.Prelude.{ℕ, ◌+◌, Bool, true, false, List, [], ◌∷◌, ◌++◌, length, codes, decimal, count_by, Result, Ok, Err, if◌then◌else◌}
+use Rattle.std.specs.List.{flat_map}
+use Rattle.cq_position.specs.Games.{Game}
+use Rattle.pgn_export.specs.Export.{export_text}
+use Rattle.pgn_reader.specs.declared.fault.GameFault.{GameFault}
+use Rattle.pgn_reader.specs.declared.fault.Reason.{Reason}
+use Rattle.pgn_reader.specs.declared.fault.Reason.TheVariants.{BadByte, UnclosedComment, UnclosedString, BadTag, BadFen, NagRange, NotAMove, IllegalMove, AmbiguousMove, VariationWithoutMove, EmptyVariation, UnopenedVariation, UnclosedVariation, TooDeep, TooManyPositions, GameTooLong}
 use Rattle.cq_run.specs.declared.answer.Answer.{Answer}
-use Rattle.cq_run.specs.Games.{Game, matches, is_refused}
-use Rattle.cq_run.specs.Export.{export_of}
+use Rattle.cq_run.specs.Matches.{Matcher, has_match, marked}
+use Rattle.cq_run.specs.Outcomes.{Outcome}
 
--- the line of a fault in a FEN text, with the number of the game and the byte at which the fault stands
-abbrev pub fen_fault_line : ℕ → ℕ → List ℕ
-fen_fault_line number byte = codes "game " ++ decimal number ++ codes " byte " ++ decimal byte ++ codes ": bad FEN\n"
+-- the text of each reason
+abbrev pub reason_text : Reason → List ℕ
+reason_text BadByte = codes "bad byte"
+reason_text UnclosedComment = codes "unclosed comment"
+reason_text UnclosedString = codes "unclosed string"
+reason_text BadTag = codes "bad tag"
+reason_text BadFen = codes "bad FEN"
+reason_text NagRange = codes "NAG out of range"
+reason_text NotAMove = codes "not a move"
+reason_text IllegalMove = codes "illegal move"
+reason_text AmbiguousMove = codes "ambiguous move"
+reason_text VariationWithoutMove = codes "variation without move"
+reason_text EmptyVariation = codes "empty variation"
+reason_text UnopenedVariation = codes "unopened variation"
+reason_text UnclosedVariation = codes "unclosed variation"
+reason_text TooDeep = codes "too deep"
+reason_text TooManyPositions = codes "too many positions"
+reason_text GameTooLong = codes "game too long"
 
--- the line of a game that is refused: its fault stands at the quote before the FEN text
-abbrev pub fault_line : Game → List ℕ
-fault_line game = fen_fault_line game.number (game.start + 5)
+-- the line of a faulty game: its number, from 1, the byte of its fault, from 0, and the reason
+abbrev pub fault_line : ℕ → GameFault → List ℕ
+fault_line number fault =
+    codes "game " ++ decimal number ++ codes " byte " ++ decimal fault.byte ++ codes ": " ++ reason_text fault.reason ++ codes "\n"
 
--- the exports of the games that match and the lines of those that are refused, in their order, and how many games there are, match and
--- are refused
-abbrev pub answer_of : ManOnSquare → List Game → Answer
-answer_of query games = record {
-  exports = flat_map (λ game. export_of game.text) (filter (matches query) games);
-  faults = flat_map fault_line (filter is_refused games);
-  games = length games;
-  matched = length (filter (matches query) games);
-  refused = length (filter is_refused games);
+-- a game that matches is exported with its marks, any other is not
+abbrev pub export_if : Matcher → Outcome → List ℕ
+export_if query (Ok game) = if has_match query game then export_text (marked query game) else []
+export_if query (Err fault) = []
+
+abbrev pub fault_if : ℕ → Outcome → List ℕ
+fault_if number (Ok game) = []
+fault_if number (Err fault) = fault_line number fault
+
+abbrev pub is_match : Matcher → Outcome → Bool
+is_match query (Ok game) = has_match query game
+is_match query (Err fault) = false
+
+abbrev pub is_refused : Outcome → Bool
+is_refused (Ok game) = false
+is_refused (Err fault) = true
+
+-- the lines of the faulty games, the first game having this number
+unfoldable pub fault_lines : ℕ → List Outcome → List ℕ
+fault_lines number [] = []
+fault_lines number (r ∷ rs) = fault_if number r ++ fault_lines (number + 1) rs
+
+-- the exports of the games that match and the lines of the faulty ones, in their order, and how many games there are, match and are refused
+abbrev pub answer_of : Matcher → List Outcome → Answer
+answer_of query outcomes = record {
+  exports = flat_map (export_if query) outcomes;
+  faults = fault_lines 1 outcomes;
+  games = length outcomes;
+  matched = count_by (is_match query) outcomes;
+  refused = count_by is_refused outcomes;
 }
 
--- an answer, and then another, as the private functions give it
-abbrev pub join_of : Answer → Answer → Answer
-join_of first second = record {
-  exports = first.exports ++ second.exports;
-  faults = first.faults ++ second.faults;
-  games = first.games + second.games;
-  matched = first.matched + second.matched;
-  refused = first.refused + second.refused;
+-- an answer, and one more game, as the private functions give it
+abbrev pub with_game : Matcher → Answer → Outcome → Answer
+with_game query answer outcome = record {
+  exports = answer.exports ++ export_if query outcome;
+  faults = answer.faults ++ fault_if (answer.games + 1) outcome;
+  games = answer.games + 1;
+  matched = answer.matched + (if is_match query outcome then 1 else 0);
+  refused = answer.refused + (if is_refused outcome then 1 else 0);
 }
 
--- an answer, and then that to one more game, as the private functions give it
-abbrev pub with_game : ManOnSquare → Answer → Game → Answer
-with_game query answer game = join_of answer (answer_of query (game ∷ []))
-
--- the report: the lines of the games that are refused, and then the counts
+-- the report: the lines of the faulty games, and then the counts
 abbrev pub report_of : Answer → List ℕ
 report_of answer =
     answer.faults

@@ -1,11 +1,8 @@
 pub mod Status
-pub mod TagPair
 pub mod Words
+pub mod Outcomes
+pub mod Matches
 pub mod Query
-pub mod BareGames
-pub mod Front
-pub mod Games
-pub mod Export
 pub mod Answer
 pub mod Promise
 pub mod Reading

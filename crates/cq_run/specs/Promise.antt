@@ -10,8 +10,8 @@ use Rattle.cq_run.specs.declared.status.Status.TheVariants.{Done, DoneWithRefusa
 use Rattle.cq_run.specs.declared.query.ManOnSquare.{ManOnSquare}
 use Rattle.cq_run.specs.declared.answer.Answer.{Answer}
 use Rattle.cq_run.specs.Words.{query_text, usage_line}
-use Rattle.cq_run.specs.Query.{query_of}
-use Rattle.cq_run.specs.Games.{Game, games_in}
+use Rattle.cq_run.specs.Outcomes.{Outcome, HasGames}
+use Rattle.cq_run.specs.Query.{query_of, matcher_of}
 use Rattle.cq_run.specs.Answer.{answer_of, report_of}
 
 -- a desk at one moment: what it tells, what is left of the open file, and its counts of faults
@@ -104,31 +104,21 @@ pub record Texts : Type 0 where
 abbrev pub texts_of_answer : Answer → Texts
 texts_of_answer answer = record { out = answer.exports; err = report_of answer }
 
--- what a query finds in an archive, as texts; nothing where the archive is of another form
-abbrev pub texts_found : ManOnSquare → Option (List Game) → Texts
-texts_found query None = record { out = []; err = [] }
-texts_found query (Some games) = texts_of_answer (answer_of query games)
+-- what a query finds in the games of an archive, as texts
+abbrev pub texts_found : ManOnSquare → List Outcome → Texts
+texts_found query outcomes = texts_of_answer (answer_of (matcher_of query) outcomes)
 
--- What words and an archive give: for words that are refused the usage line, for a query and games the exports and the report,
--- and nothing for what is not read yet.
-abbrev pub texts_of_query : Option ManOnSquare → List ℕ → Texts
-texts_of_query None archive = record { out = []; err = [] }
-texts_of_query (Some query) archive = texts_found query (games_in archive)
-
-abbrev pub texts_of_text : Option (List ℕ) → List ℕ → Texts
-texts_of_text None archive = record { out = []; err = usage_line }
-texts_of_text (Some text) archive = texts_of_query (query_of text) archive
-
-abbrev pub texts_of : List (List ℕ) → List ℕ → Texts
-texts_of words archive = texts_of_text (query_text words) archive
+-- the texts of words that are refused
+abbrev pub texts_of_refusal : Texts
+texts_of_refusal = record { out = []; err = usage_line }
 
 -- the sinks have taken these texts
 pub record Writes (sinks : Sinks) (texts : Texts) : Type 0 where
   pub out : Grew sinks.out.taken sinks.out_after.taken texts.out
   pub err : Grew sinks.err.taken sinks.err_after.taken texts.err
 
--- each sink has taken bytes from the front of its text
-pub record WritesFront (sinks : Sinks) (texts : Texts) : Type 0 where
+-- each sink has taken a prefix of its text
+pub record WritesPrefix (sinks : Sinks) (texts : Texts) : Type 0 where
   pub out_count : ℕ
   pub err_count : ℕ
   pub out : Grew sinks.out.taken sinks.out_after.taken (take out_count texts.out)
@@ -153,38 +143,35 @@ pub record NoWriteFailed (sinks : Sinks) : Type 0 where
 abbrev pub SinkFailed : Sinks → Type 0
 SinkFailed sinks = Rose sinks.out.faults sinks.out_after.faults ⊎ Rose sinks.err.faults sinks.err_after.faults
 
--- each sink has taken a front of its text, for some bytes that may be the archive
-pub record StopsWriting (call : Call) : Type 0 where
-  pub archive : List ℕ
-  pub is : MayBe (archive_of call.desk) archive
-  pub front : WritesFront call.sinks (texts_of call.words archive)
-
--- A write failed, and nothing before it: where the words ask a query, the archive was read to its end.
-pub record FailsToWrite (call : Call) : Type 0 where
-  pub failed : SinkFailed call.sinks
+-- no count of the desk or of a sink rose
+pub record NothingFailed (call : Call) : Type 0 where
   pub input : NoInputFailed call.desk call.desk_after
-  pub reads : (query : ManOnSquare) → asked_query call ≡ Some query → (archive : List ℕ) × ReadsWhole call.desk call.desk_after archive
-  pub stops : StopsWriting call
+  pub writes : NoWriteFailed call.sinks
 
--- no memory was found, and no call of the desk or of a sink failed
-pub record FindsNoMemory (call : Call) : Type 0 where
-  pub input : NoInputFailed call.desk call.desk_after
-  pub unfailed : NoWriteFailed call.sinks
-  pub stops : StopsWriting call
-
--- The archive was read to its end, it is of games, so many of them are refused as is asked, out and err have the exports
--- and the report, and no call failed.
-pub record Answers (call : Call) (AreRefused : ℕ → Type 0) : Type 0 where
+-- The archive was read to its end; its games are read as these, and the sinks have taken what is said of what the query finds in them.
+pub record Finds (call : Call) (Takes : Answer → Type 0) : Type 0 where
   pub query : ManOnSquare
   pub archive : List ℕ
-  pub games : List Game
+  pub outcomes : List Outcome
   pub asks : asked_query call ≡ Some query
   pub reads : ReadsWhole call.desk call.desk_after archive
-  pub holds : games_in archive ≡ Some games
-  pub refused : AreRefused (answer_of query games).refused
-  pub writes : Writes call.sinks (texts_of_answer (answer_of query games))
-  pub input : NoInputFailed call.desk call.desk_after
-  pub unfailed : NoWriteFailed call.sinks
+  pub holds : HasGames archive outcomes
+  pub takes : Takes (answer_of (matcher_of query) outcomes)
+
+-- So many games are refused as is asked, and out and err have the exports and the report.
+pub record TakesAll (call : Call) (AreRefused : ℕ → Type 0) (answer : Answer) : Type 0 where
+  pub refused : AreRefused answer.refused
+  pub writes : Writes call.sinks (texts_of_answer answer)
+
+abbrev pub Answers : Call → (ℕ → Type 0) → Type 0
+Answers call AreRefused = Finds call (TakesAll call AreRefused)
+
+-- each sink has taken a prefix of its text: of the exports and the report, or of the usage line where the words are refused
+abbrev pub StopsAnswering : Call → Type 0
+StopsAnswering call = Finds call (λ answer. WritesPrefix call.sinks (texts_of_answer answer))
+
+abbrev pub StopsRefusing : Call → Type 0
+StopsRefusing call = (query_text call.words ≡ None) × WritesPrefix call.sinks texts_of_refusal
 
 -- the query is of another form, and no file was opened
 pub record AsksOtherQuery (call : Call) : Type 0 where
@@ -193,60 +180,55 @@ pub record AsksOtherQuery (call : Call) : Type 0 where
   pub other : query_of text ≡ None
   pub unopened : call.desk_after ≡ call.desk
 
--- the archive is of another form, and it was read to its end
-pub record HoldsOtherArchive (call : Call) : Type 0 where
-  pub query : ManOnSquare
-  pub archive : List ℕ
-  pub asks : asked_query call ≡ Some query
-  pub reads : ReadsWhole call.desk call.desk_after archive
-  pub other : games_in archive ≡ None
+-- the file could not be opened: the count of failed opens rose, and nothing else changed
+pub record FailsToOpen (call : Call) : Type 0 where
+  pub rose : Rose call.desk.open_faults call.desk_after.open_faults
+  pub told : call.desk_after.told ≡ call.desk.told
+  pub left : call.desk_after.left ≡ call.desk.left
+  pub reads : call.desk_after.read_faults ≡ call.desk.read_faults
+  pub unwritten : IsUnwritten call.sinks
+
+-- the archive could not be read: the count of failed reads rose, and no other
+pub record FailsToRead (call : Call) : Type 0 where
+  pub rose : Rose call.desk.read_faults call.desk_after.read_faults
+  pub opened : OpenedOnce call.desk call.desk_after
+  pub opens : call.desk_after.open_faults ≡ call.desk.open_faults
+  pub unwritten : IsUnwritten call.sinks
+
+-- a sink could not be written to: its count rose, and none of the desk
+pub record FailsToWrite (call : Call) : Type 0 where
+  pub rose : SinkFailed call.sinks
+  pub input : NoInputFailed call.desk call.desk_after
+  pub stops : StopsRefusing call ⊎ StopsAnswering call
 
 -- what each status says
 abbrev pub Says : Status → Call → Type 0
-Says Done call = Answers call (λ refused. refused ≡ 0)
-Says DoneWithRefusals call = Answers call (λ refused. 0 < refused)
+Says Done call = Answers call (λ refused. refused ≡ 0) × NothingFailed call
+Says DoneWithRefusals call = Answers call (λ refused. 0 < refused) × NothingFailed call
 Says QueryRefused call = ⊥
-Says WordsRefused call = (query_text call.words ≡ None) × Writes call.sinks (texts_of call.words []) × NoWriteFailed call.sinks
-Says OpenFault call =
-    Rose call.desk.open_faults call.desk_after.open_faults × (call.desk_after.told ≡ call.desk.told) × (call.desk_after.left ≡ call.desk.left)
-    × (call.desk_after.read_faults ≡ call.desk.read_faults) × IsUnwritten call.sinks
-Says ReadFault call =
-    Rose call.desk.read_faults call.desk_after.read_faults × (call.desk_after.open_faults ≡ call.desk.open_faults)
-    × OpenedOnce call.desk call.desk_after × IsUnwritten call.sinks
+Says WordsRefused call = (query_text call.words ≡ None) × Writes call.sinks texts_of_refusal × NothingFailed call
+Says OpenFault call = FailsToOpen call
+Says ReadFault call = FailsToRead call
 Says WriteFault call = FailsToWrite call
-Says NoMemory call = FindsNoMemory call
-Says ArchiveTooLong call =
-    TakesTooMuch call.desk call.desk_after × OpenedOnce call.desk call.desk_after × NoInputFailed call.desk call.desk_after × IsUnwritten call.sinks
-Says NotYetRead call = (AsksOtherQuery call ⊎ HoldsOtherArchive call) × NoInputFailed call.desk call.desk_after × IsUnwritten call.sinks
+Says NoMemory call = (IsUnwritten call.sinks ⊎ StopsAnswering call) × NothingFailed call
+Says ArchiveTooLong call = TakesTooMuch call.desk call.desk_after × OpenedOnce call.desk call.desk_after × IsUnwritten call.sinks × NothingFailed call
+Says NotYetRead call = AsksOtherQuery call × IsUnwritten call.sinks
 
 -- the status is one of these
 abbrev pub IsOneOf : Status → List Status → Type 0
 IsOneOf status [] = ⊥
 IsOneOf status (one ∷ more) = (status ≡ one) ⊎ IsOneOf status more
 
--- accepted words and query, an archive of bare games within the limit, and no count that rose
+-- accepted words and query, an archive within the limit, and no count that rose
 pub record HasAll (call : Call) : Type 0 where
   pub query : ManOnSquare
   pub archive : List ℕ
-  pub games : List Game
   pub asks : asked_query call ≡ Some query
   pub tells : archive_of call.desk ≡ Some archive
   pub within : length archive ≤ archive_limit
-  pub holds : games_in archive ≡ Some games
   pub no_open : Rose call.desk.open_faults call.desk_after.open_faults → ⊥
   pub no_read : Rose call.desk.read_faults call.desk_after.read_faults → ⊥
   pub no_write : SinkFailed call.sinks → ⊥
-
--- accepted words and query, an archive of another form within the limit, and no count of the desk that rose; the sinks may fail
-pub record TellsOtherArchive (call : Call) : Type 0 where
-  pub query : ManOnSquare
-  pub archive : List ℕ
-  pub asks : asked_query call ≡ Some query
-  pub tells : archive_of call.desk ≡ Some archive
-  pub within : length archive ≤ archive_limit
-  pub other : games_in archive ≡ None
-  pub no_open : Rose call.desk.open_faults call.desk_after.open_faults → ⊥
-  pub no_read : Rose call.desk.read_faults call.desk_after.read_faults → ⊥
 
 -- a count that is greater than it was is answered by its own fault
 pub record AnswersItsFault (status : Status) (call : Call) : Type 0 where
@@ -264,7 +246,6 @@ pub record Promise (status : Status) (call : Call) : Type 0 where
   pub words_always : query_text call.words ≡ None → IsOneOf status (WordsRefused ∷ WriteFault ∷ [])
   pub query_always : (text : List ℕ) → query_text call.words ≡ Some text → query_of text ≡ None → status ≡ NotYetRead
   pub too_long_always : Overruns call.desk call.desk_after → IsOneOf status (ArchiveTooLong ∷ NoMemory ∷ [])
-  pub archive_always : TellsOtherArchive call → IsOneOf status (NotYetRead ∷ NoMemory ∷ [])
   pub complete : HasAll call → IsOneOf status (Done ∷ DoneWithRefusals ∷ NoMemory ∷ [])
 
 -- the views of a desk and of the sinks, by what their types tell

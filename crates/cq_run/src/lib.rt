@@ -2,12 +2,11 @@
 #![tactic(auto)]
 
 mod answer;
-mod bare_games;
 #[cfg(test)]
 mod failing;
-mod laws;
 mod query;
 mod reading;
+mod report;
 mod status;
 #[cfg(test)]
 mod tests;
@@ -15,6 +14,5 @@ mod top_call;
 mod words;
 mod writing;
 
-pub use laws::archives_are_their_games;
 pub use status::Status;
 pub use top_call::run;

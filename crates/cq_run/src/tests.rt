@@ -1,153 +1,248 @@
 //! Worked rows through the top call, over the forms in memory.
-use crate::{Status, archives_are_their_games, run};
-use cq_outside::{NoMemory, OpenGate, SureDesk, SureSink};
-use std::alloc::{AllocError, Global};
+use crate::{Status, run};
+use cq_outside::{Bytes, NoMemory, OpenGate, SureDesk, SureSink};
+use std::alloc::Global;
 use std::process::Abort;
 use std::test::Fail;
 use std::thread::Threads;
 
-/// Asks that a call over an archive on standard input answers so, and that its sinks have taken these texts.
+const USAGE: &str = "usage: cqlpgn MODE QUERY [ARCHIVE] [--workers N] [--seed S] [--games G]\n";
+
+/// A game as it is written: its FEN text or none, its result and its movetext.
+type Written<'a> = (&'a str, &'a str, &'a str);
+
+/// The text of a game in export format, whose tags have their defaults.
+fn written(alloc: Global, game: Written<'_>) -> Result<Bytes, NoMemory> {
+    let (fen, result, movetext) = game;
+    let mut text = Bytes::new(alloc);
+    text.push_all(b"[Event \"?\"]\n[Site \"?\"]\n[Date \"????.??.??\"]\n[Round \"?\"]\n")?;
+    text.push_all(b"[White \"?\"]\n[Black \"?\"]\n[Result \"")?;
+    text.push_all(result.as_bytes())?;
+    text.push_all(b"\"]\n")?;
+    if !fen.is_empty() {
+        text.push_all(b"[FEN \"")?;
+        text.push_all(fen.as_bytes())?;
+        text.push_all(b"\"]\n[SetUp \"1\"]\n")?;
+    }
+    text.push_all(b"\n")?;
+    text.push_all(movetext.as_bytes())?;
+    text.push_all(b"\n\n")?;
+    Ok(text)
+}
+
+/// Asks that words over an archive on standard input are answered so, and that the sinks have taken these texts.
 fn expect<R: Threads + Sync + Abort>(
     rt: &R,
     alloc: Global,
     words: &[&str],
     archive: &str,
-    want: (Status, &str, &str),
-) -> Result<(), NoMemory> {
+    want: (Status, &[u8], &str),
+) -> Result<(), Fail> {
     let mut desk = SureDesk::new(alloc);
     desk.add(b"-", archive.as_bytes())?;
     let mut out = SureSink::new(alloc, 4096)?;
     let mut err = SureSink::new(alloc, 4096)?;
-    let words = texts(alloc, words)?;
+    let mut texts = Vec::new(alloc);
+    for word in words {
+        texts.push(String::from_str(alloc, word)?)?;
+    }
     let status = run(
         rt,
         alloc,
-        words.as_slice(),
+        texts.as_slice(),
         &mut desk,
         &mut out,
         &mut err,
         &OpenGate,
     );
-    assert_eq!(rt; status, want.0, "of {words:?}");
-    assert_eq!(rt; out.taken(), Some(want.1.as_bytes()), "out of {words:?}");
-    assert_eq!(rt; err.taken(), Some(want.2.as_bytes()), "err of {words:?}");
+    assert_eq!(rt; status, want.0, "of {archive:?}");
+    assert_eq!(rt; out.taken(), Some(want.1), "out of {archive:?}");
+    assert_eq!(rt; err.taken(), Some(want.2.as_bytes()), "err of {archive:?}");
     Ok(())
 }
 
-fn texts(alloc: Global, words: &[&str]) -> Result<Vec<String>, AllocError> {
-    let mut texts = Vec::new(alloc);
-    for word in words {
-        texts.push(String::from_str(alloc, word)?)?;
-    }
-    Ok(texts)
-}
+/// A query and an archive of one game that it finds, and how this is written.
+const FOUND: [(&str, &str, Written<'_>); 5] = [
+    (
+        "cql() Ka1",
+        "[FEN \"8/8/8/8/8/8/8/K1k5 w - - 0 1\"]\n*\n",
+        ("8/8/8/8/8/8/8/K1k5 w - - 0 1", "*", "{CQL} *"),
+    ),
+    (
+        "cql() Nf3",
+        "1. e4 e5 2. Nf3 *",
+        ("", "*", "1. e4 e5 2. Nf3 {CQL} *"),
+    ),
+    (
+        "cql() Qf7",
+        "1. e4 e5 2. Bc4 Nc6 3. Qh5 Nf6 4. Qxf7 1-0",
+        (
+            "",
+            "1-0",
+            "1. e4 e5 2. Bc4 Nc6 3. Qh5 Nf6 4. Qxf7# {CQL} 1-0",
+        ),
+    ),
+    (
+        "cql() Qa8",
+        "[FEN \"7k/P7/8/8/8/8/8/K7 w - - 0 1\"]\n1. a8Q *",
+        ("7k/P7/8/8/8/8/8/K7 w - - 0 1", "*", "1. a8=Q+ {CQL} *"),
+    ),
+    (
+        "cql() Pe4",
+        "{A} 1. e4 $1 {B} (1. d4 d5 (1... Nf6)) (1. --) 1... e5 *",
+        (
+            "",
+            "*",
+            "{A} 1. e4 $1 {B} {CQL} (1. d4 d5 (1... Nf6)) (1. --) 1... e5 {CQL} *",
+        ),
+    ),
+];
 
-const USAGE: &str = "usage: cqlpgn MODE QUERY [ARCHIVE] [--workers N] [--seed S] [--games G]\n";
-
-const NO_KINGS: &str = "[FEN \"8/8/8/8/8/8/8/8 w - - 0 1\"]\n*\n";
-
-/// The side that is not to move stands in check.
-const IN_CHECK: &str = "[FEN \"4k3/8/8/8/8/8/8/4RK2 w - - 0 1\"]\n*\n";
-
-const THEN_REFUSED: &str =
-    "[FEN \"8/8/8/8/8/8/8/K1k5 w - - 0 1\"]\n*\n[FEN \"8/8/8/8/8/8/8/8 w - - 0 1\"]\n*\n";
-
-const KING_ON_A1: &str = "[FEN \"8/8/8/8/8/8/8/K1k5 w - - 0 1\"]\n*\n";
-
-const KING_ON_A1_EXPORT: &str =
-    "[Event \"?\"]\n[Site \"?\"]\n[Date \"????.??.??\"]\n[Round \"?\"]\n[White \"?\"]\n[Black \"?\"]\n[Result \"*\"]\n[FEN \"8/8/8/8/8/8/8/K1k5 w - - 0 1\"]\n[SetUp \"1\"]\n\n{CQL} *\n\n";
-
-const THREE_GAMES: &str =
-    "[FEN \"8/8/8/8/8/8/8/K1k5 w - - 0 1\"]\n*\n[FEN \"8/8/8/8/8/8/8/k1K5 w - - 0 1\"]\n*\n[FEN \"7k/8/8/8/8/8/8/K7 b - - 5 9\"]\n*";
-
-const TWO_EXPORTS: &str =
-    "[Event \"?\"]\n[Site \"?\"]\n[Date \"????.??.??\"]\n[Round \"?\"]\n[White \"?\"]\n[Black \"?\"]\n[Result \"*\"]\n[FEN \"8/8/8/8/8/8/8/K1k5 w - - 0 1\"]\n[SetUp \"1\"]\n\n{CQL} *\n\n[Event \"?\"]\n[Site \"?\"]\n[Date \"????.??.??\"]\n[Round \"?\"]\n[White \"?\"]\n[Black \"?\"]\n[Result \"*\"]\n[FEN \"7k/8/8/8/8/8/8/K7 b - - 5 9\"]\n[SetUp \"1\"]\n\n{CQL} *\n\n";
+/// An archive, and the report of `cql() Kb4` over it, which it doesn't find.
+const REPORTS: [(&str, Status, &str); 24] = [
+    ("", Status::Done, "games 0 matched 0 refused 0\n"),
+    (
+        "1. e4 (1. d4) e5 *",
+        Status::Done,
+        "games 1 matched 0 refused 0\n",
+    ),
+    (
+        "1. e4 *\n1. e4 e5 2. Ke3 *\n1. d4 *\n",
+        Status::DoneWithRefusals,
+        "game 2 byte 20: illegal move\ngames 3 matched 0 refused 1\n",
+    ),
+    (
+        "1. d4 d5 2. Nf3 Nf6 3. Nd2 *",
+        Status::DoneWithRefusals,
+        "game 1 byte 23: ambiguous move\ngames 1 matched 0 refused 1\n",
+    ),
+    (
+        "1. e4 e5 2. Qh5 Nc6 3. Qxf7+ -- *",
+        Status::DoneWithRefusals,
+        "game 1 byte 29: illegal move\ngames 1 matched 0 refused 1\n",
+    ),
+    (
+        "1. e4 {never closed\n[Event \"x\"]\n1. d4 *\n",
+        Status::DoneWithRefusals,
+        "game 1 byte 6: unclosed comment\ngames 1 matched 0 refused 1\n",
+    ),
+    (
+        "[FEN \"4k3/8/8/8/8/8/8/4RK2 w - - 0 1\"]\n*",
+        Status::DoneWithRefusals,
+        "game 1 byte 5: bad FEN\ngames 1 matched 0 refused 1\n",
+    ),
+    (
+        "1. e4 1-0x *",
+        Status::DoneWithRefusals,
+        "game 1 byte 6: not a move\ngames 1 matched 0 refused 1\n",
+    ),
+    (
+        "[Event \"x",
+        Status::DoneWithRefusals,
+        "game 1 byte 7: unclosed string\ngames 1 matched 0 refused 1\n",
+    ),
+    (
+        "1. e4 ((",
+        Status::DoneWithRefusals,
+        "game 1 byte 7: variation without move\ngames 1 matched 0 refused 1\n",
+    ),
+    (
+        "1. e4 ()",
+        Status::DoneWithRefusals,
+        "game 1 byte 7: empty variation\ngames 1 matched 0 refused 1\n",
+    ),
+    (
+        "1. e4 )",
+        Status::DoneWithRefusals,
+        "game 1 byte 6: unopened variation\ngames 1 matched 0 refused 1\n",
+    ),
+    (
+        "1. e4 (1. d4",
+        Status::DoneWithRefusals,
+        "game 1 byte 12: unclosed variation\ngames 1 matched 0 refused 1\n",
+    ),
+    (
+        "1. e4 (1. d4\n",
+        Status::DoneWithRefusals,
+        "game 1 byte 13: unclosed variation\ngames 1 matched 0 refused 1\n",
+    ),
+    (
+        "1. e4 $256 *",
+        Status::DoneWithRefusals,
+        "game 1 byte 6: NAG out of range\ngames 1 matched 0 refused 1\n",
+    ),
+    (
+        "[Event \"x\"\n*",
+        Status::DoneWithRefusals,
+        "game 1 byte 11: bad tag\ngames 1 matched 0 refused 1\n",
+    ),
+    (
+        "]",
+        Status::DoneWithRefusals,
+        "game 1 byte 0: bad tag\ngames 1 matched 0 refused 1\n",
+    ),
+    (
+        "$1 [a \"b\"] *",
+        Status::DoneWithRefusals,
+        "game 1 byte 3: bad tag\ngames 1 matched 0 refused 1\n",
+    ),
+    (
+        "1. e4 \u{1} *",
+        Status::DoneWithRefusals,
+        "game 1 byte 6: bad byte\ngames 1 matched 0 refused 1\n",
+    ),
+    ("*\n*\n", Status::Done, "games 2 matched 0 refused 0\n"),
+    (
+        "{only a comment}",
+        Status::Done,
+        "games 0 matched 0 refused 0\n",
+    ),
+    (
+        "[Event \"x\"]\n",
+        Status::Done,
+        "games 1 matched 0 refused 0\n",
+    ),
+    (
+        "1. e4 Z0 2. d4 1/2-1/2",
+        Status::Done,
+        "games 1 matched 0 refused 0\n",
+    ),
+    ("\u{feff}*", Status::Done, "games 1 matched 0 refused 0\n"),
+];
 
 #[test]
-fn worked_rows(rt: HostRuntime) -> Result<(), Fail> {
-    archives_are_their_games();
+fn games_that_match_are_written(rt: HostRuntime) -> Result<(), Fail> {
     let alloc = rt.alloc();
-    let none = "games 0 matched 0 refused 0\n";
-    let one = "games 1 matched 1 refused 0\n";
-    let two = "games 3 matched 2 refused 0\n";
-    let refused = "game 1 byte 5: bad FEN\ngames 1 matched 0 refused 1\n";
-    let second = "game 2 byte 44: bad FEN\ngames 2 matched 1 refused 1\n";
-    expect(
-        &rt,
-        alloc,
-        &["eval", "cql() Ka1"],
-        KING_ON_A1,
-        (Status::Done, KING_ON_A1_EXPORT, one),
-    )?;
-    expect(
-        &rt,
-        alloc,
-        &["eval", "cql() kc1"],
-        KING_ON_A1,
-        (Status::Done, KING_ON_A1_EXPORT, one),
-    )?;
-    expect(
-        &rt,
-        alloc,
-        &["eval", "cql() Ka1"],
-        "",
-        (Status::Done, "", none),
-    )?;
-    expect(
-        &rt,
-        alloc,
-        &["eval", "cql() Ka1"],
-        THREE_GAMES,
-        (Status::Done, TWO_EXPORTS, two),
-    )?;
-    expect(
-        &rt,
-        alloc,
-        &["eval", "cql() Ka1"],
-        NO_KINGS,
-        (Status::DoneWithRefusals, "", refused),
-    )?;
-    expect(
-        &rt,
-        alloc,
-        &["eval", "cql() Ka1"],
-        IN_CHECK,
-        (Status::DoneWithRefusals, "", refused),
-    )?;
-    expect(
-        &rt,
-        alloc,
-        &["eval", "cql() Ka1"],
-        THEN_REFUSED,
-        (Status::DoneWithRefusals, KING_ON_A1_EXPORT, second),
-    )?;
-    expect(
-        &rt,
-        alloc,
-        &["eval", "cql() Ka1"],
-        "1. e4 *\n",
-        (Status::NotYetRead, "", ""),
-    )?;
-    expect(
-        &rt,
-        alloc,
-        &["eval", "cql() Ka9"],
-        KING_ON_A1,
-        (Status::NotYetRead, "", ""),
-    )?;
-    expect(
-        &rt,
-        alloc,
-        &["eval"],
-        KING_ON_A1,
-        (Status::WordsRefused, "", USAGE),
-    )?;
-    expect(
-        &rt,
-        alloc,
-        &["play", "cql() Ka1"],
-        KING_ON_A1,
-        (Status::WordsRefused, "", USAGE),
-    )?;
+    for (query, archive, game) in FOUND {
+        let text = written(alloc, game)?;
+        let want = (
+            Status::Done,
+            text.as_slice(),
+            "games 1 matched 1 refused 0\n",
+        );
+        expect(&rt, alloc, &["eval", query], archive, want)?;
+    }
+    Ok(())
+}
+
+#[test]
+fn faults_are_reported(rt: HostRuntime) -> Result<(), Fail> {
+    let alloc = rt.alloc();
+    for (archive, status, report) in REPORTS {
+        let want = (status, b"".as_slice(), report);
+        expect(&rt, alloc, &["eval", "cql() Kb4"], archive, want)?;
+    }
+    Ok(())
+}
+
+#[test]
+fn other_words_and_queries_are_turned_away(rt: HostRuntime) -> Result<(), Fail> {
+    let alloc = rt.alloc();
+    for (words, status, text) in [
+        (["eval", "cql() Ka9"], Status::NotYetRead, ""),
+        (["play", "cql() Ka1"], Status::WordsRefused, USAGE),
+    ] {
+        expect(&rt, alloc, &words, "*", (status, b"".as_slice(), text))?;
+    }
     Ok(())
 }

@@ -63,8 +63,7 @@ pub fn run<R: Threads + Sync, D: Desk, O: Sink, E: Sink, G: Gate + Sync>(
         Err(status) => return status,
     };
     match Answer::find(alloc, &query, archive.as_slice()) {
-        Ok(Some(answer)) => write_answer(alloc, &answer, out, err),
-        Ok(None) => Status::NotYetRead,
+        Ok(answer) => write_answer(alloc, &answer, out, err),
         Err(NoMemory) => Status::NoMemory,
     }
 }

@@ -36,8 +36,13 @@ pub record HasTokenFault (start : ℕ) (first : Bool) (bytes : List ℕ) (f : Ga
 abbrev pub IsGameFault : ℕ → Bool → List ℕ → GameFault → Type 0
 IsGameFault start first bytes f = IsTooLong start bytes f ⊎ HasTokenFault start first bytes f
 
--- The answer to the bytes of a game: the one that they spell, or their fault.
+-- What the bytes of a game are read as: the one game that they spell, where there are at most 2^24 of them, or their fault.
+abbrev pub IsRead : ℕ → Bool → List ℕ → Result Game GameFault → Type 0
+IsRead start first bytes (Ok game) = (length bytes ≤ 2 ^ 24) × IsOnlyGame (words_of start first bytes) game
+IsRead start first bytes (Err fault) = IsGameFault start first bytes fault
+
+-- the same of an answer that may also be out of memory
 abbrev pub IsVerdict : ℕ → Bool → List ℕ → Result Game (Refusal GameFault) → Type 0
-IsVerdict start first bytes (Ok game) = IsOnlyGame (words_of start first bytes) game
-IsVerdict start first bytes (Err (Fault f)) = IsGameFault start first bytes f
+IsVerdict start first bytes (Ok game) = IsRead start first bytes (Ok game)
+IsVerdict start first bytes (Err (Fault fault)) = IsRead start first bytes (Err fault)
 IsVerdict start first bytes (Err NoMemory) = Unit {0}

@@ -1,5 +1,5 @@
-use Rattle.std.proofs.Common.{refl, sym, ◌∙◌}
-use Rattle.cq_run.proofs.Promises.{words_written, words_unwritten, unread, unanswered, held_other, wrote}
+use Rattle.std.proofs.Common.{refl, sym}
+use Rattle.cq_run.proofs.Promises.{words_written, words_unwritten, unread, unanswered, wrote}
 use Rattle.cq_run.proofs.top_call.run.Goals as goal
 
 pub returns-in-Ok : goal.returns-in-Ok
@@ -14,21 +14,19 @@ returns-in-Err-read_archive g c =
     (record { text = c.in-Some.text.now; words = c.in-Some.ensures; spells = sym c.in-Some-read.ensures }) (record { out = refl; err = refl })
     c.in-Err-read_archive.ensures
 
-pub returns-in-Ok-Some : goal.returns-in-Ok-Some
-returns-in-Ok-Some g c =
-    wrote c.write_answer.result _ c.in-Some-read.query c.in-Ok-read_archive.archive c.in-Ok-Some.answer
-    (record { text = c.in-Some.text.now; words = c.in-Some.ensures; spells = sym c.in-Some-read.ensures })
-    c.in-Ok-read_archive.ensures.opens c.in-Ok-read_archive.ensures.reads
-    (rw c.as_slice.ensures at (sym c.in-Ok-Some.field-0-is ∙ c.in-Ok-Some.ensures)) c.write_answer.ensures
-
-pub returns-in-Ok-None : goal.returns-in-Ok-None
-returns-in-Ok-None g c =
-    held_other _ c.in-Some-read.query c.in-Ok-read_archive.archive
-    (record { text = c.in-Some.text.now; words = c.in-Some.ensures; spells = sym c.in-Some-read.ensures }) (record { out = refl; err = refl })
-    c.in-Ok-read_archive.ensures.opens c.in-Ok-read_archive.ensures.reads
-    (rw c.as_slice.ensures at (sym c.in-Ok-None.field-0-is ∙ c.in-Ok-None.ensures))
-
-pub returns : goal.returns
-returns g c =
-    unanswered _ c.in-Some-read.query
-    (record { text = c.in-Some.text.now; words = c.in-Some.ensures; spells = sym c.in-Some-read.ensures }) c.in-Ok-read_archive.ensures.opens c.in-Ok-read_archive.ensures.reads.1 (record { out = refl; err = refl })
+pub returns-in-Ok-find : goal.returns-in-Ok-find
+returns-in-Ok-find g c =
+    let read = c.in-Ok-read_archive.ensures in
+    let found = rw c.as_slice.ensures at c.in-Ok-find.ensures in
+    wrote c.write_answer.result _ c.in-Some-read.query c.in-Ok-read_archive.archive c.in-Ok-find.answer
+    (record {
+      asks = record { text = c.in-Some.text.now; words = c.in-Some.ensures; spells = sym c.in-Some-read.ensures };
+      opens = read.opens;
+      reads = read.reads.0;
+      counts = read.reads.1;
+      short = read.reads.2;
+      outcomes = found.0;
+      holds = found.1;
+      is = found.2;
+    })
+    c.write_answer.ensures
