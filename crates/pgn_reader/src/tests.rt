@@ -1,11 +1,14 @@
-//! Texts and their first faults.
+//! Texts, their trees and their first faults.
+ghost use Rattle.std.specs.Prelude.{◌<◌, length};
+
 use crate::Reason::{
     AmbiguousMove, BadByte, BadFen, BadTag, EmptyVariation, IllegalMove, NagRange, NotAMove,
     UnclosedComment, UnclosedString, UnclosedVariation, UnopenedVariation, VariationWithoutMove,
 };
-use crate::{Reason, read_game};
+use crate::{GameFault, Reason, read_game};
 use cq_outside::{NoMemory, Refusal};
-use std::test::Fail;
+use cq_position::GameResult;
+use pgn_tree::Game;
 
 /// A text, and the place and the reason of its first fault.
 type Row<'a> = (&'a [u8], Option<(u64, Reason)>);
@@ -51,6 +54,71 @@ fn texts_have_their_first_fault(rt: HostRuntime) -> Result<(), NoMemory> {
         };
         let want = want.map(|(byte, reason)| (byte.wrapping_add(1000), reason));
         assert_eq!(rt; found, want, "in {text:?}");
+    }
+    Ok(())
+}
+
+/// A node: its parent, its first child and its next sibling, its glyphs, and its first comment.
+type Node<'a> = (Option<u32>, Option<u32>, Option<u32>, &'a [u8], &'a [u8]);
+
+/// A text, the result of its game, and the nodes in preorder.
+type Tree<'a> = (&'a [u8], GameResult, &'a [Node<'a>]);
+
+static TREES: [Tree<'static>; 2] = [
+    (
+        b"1. e4 (1. d4) (1. c4) e5 *",
+        GameResult::Open,
+        &[
+            (None, Some(1), None, b"", b""),
+            (Some(0), Some(2), Some(3), b"", b""),
+            (Some(1), None, None, b"", b""),
+            (Some(0), None, Some(4), b"", b""),
+            (Some(0), None, None, b"", b""),
+        ],
+    ),
+    (
+        b"[Result \"0-1\"] {of  the game} $3 1. e4 $1 $2 ; a } b\n ({w} $4 1. d4) e5 {y} 2. --",
+        GameResult::Black,
+        &[
+            (None, Some(1), None, b"", b"of the game"),
+            (Some(0), Some(2), Some(4), b"\x01\x02", b"a ) b"),
+            (Some(1), Some(3), None, b"", b"y"),
+            (Some(2), None, None, b"", b""),
+            (Some(0), None, None, b"\x04", b"w"),
+        ],
+    ),
+];
+
+fn node_of(game: &Game, k: u32) -> Node<'_>
+    requires { k < length game.now.nodes }
+{
+    let comment = if game.comments(k) == 0 {
+        b""
+    } else {
+        game.comment(k, 0)
+    };
+    (
+        game.parent(k),
+        game.first_child(k),
+        game.next_sibling(k),
+        game.nags(k),
+        comment,
+    )
+}
+
+#[test]
+fn texts_have_their_trees(rt: HostRuntime) -> Result<(), Refusal<GameFault>> {
+    for (text, result, nodes) in TREES.iter() {
+        let game = read_game(rt.alloc(), text, 0, true)?;
+        assert_eq!(rt; game.result(), *result);
+        assert_eq!(rt; game.len() as usize, nodes.len());
+        for k in 0..game.len() {
+            assert_eq!(rt;
+                Some(node_of(&game, k)),
+                nodes.get(k as usize).copied(),
+                "node {k} of {text:?}"
+            );
+        }
     }
     Ok(())
 }
