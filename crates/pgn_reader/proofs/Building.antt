@@ -1,10 +1,9 @@
 -- A game grows by the rows of its line.
-use Rattle.std.proofs.Common.{◌≡◌, ℕ, zero, suc, ◌+◌, ◌-◌, ◌<◌, ◌≤◌, List, [], ◌∷◌, ◌++◌, length, take, drop, get_or, set, Some, None, refl, sym, ap, ◌∙◌, subst, arith, append_assoc, append-nil, length-append}
+use Rattle.std.proofs.Common.{◌≡◌, ℕ, ◌+◌, ◌-◌, ◌<◌, ◌≤◌, List, [], ◌∷◌, ◌++◌, length, take, drop, get_or, set, Some, refl, sym, ap, ◌∙◌, subst, arith, append_assoc, append-nil, length-append}
 use Rattle.std.specs.Prelude.{slice_index, Contains}
-use Rattle.std.proofs.lemmas.List.{get_or-set_same, set-get_or, set-set, set_at, length-set, take_more, take_all, flat_map_more, get_or_append_left, at_drop_more, at_drop_all}
+use Rattle.std.proofs.lemmas.List.{get_or-set_same, set-get_or, set-set, set_at, length-set, take_more, flat_map_more, get_or_append_left, at_drop_more, at_drop_all}
 use Rattle.std.proofs.Math.Seq.{get_or-append_seam}
 use Rattle.cq_position.specs.declared.moves.Move.{Move}
-use Rattle.cq_position.specs.Board.{Board}
 use Rattle.cq_position.specs.Comments.{words, comment_of}
 use Rattle.cq_position.specs.Legal.{Leads}
 use Rattle.cq_position.specs.Games.{Node, Game, no_node, node_at, bare_node, with_node, with_nag, with_comment, way_up, IsTree}

@@ -1,25 +1,25 @@
--- The nodes of the game that was read are a tree.
-use Rattle.std.proofs.Common.{◌≡◌, ℕ, ◌+◌, ◌<◌, ◌≤◌, inl, inr, length, List, [], Option, Some, None, Result, Ok, refl, sym, ap, ◌∙◌, subst, arith}
+-- Each move of a game that is read leads from the position before it, so its nodes are a tree.
+use Rattle.std.proofs.Common.{◌≡◌, ℕ, ◌+◌, ◌≤◌, inl, inr, length, List, Some, Result, Ok, refl, sym, ap, ◌∙◌, subst, arith}
 use Rattle.cq_position.specs.declared.moves.Move.{Move}
 use Rattle.cq_position.specs.declared.fen.FenFault.{FenFault}
 use Rattle.cq_position.specs.declared.games.GameResult.{GameResult}
 use Rattle.cq_position.specs.Board.{Board}
 use Rattle.cq_position.specs.Position.{IsPosition}
-use Rattle.cq_position.specs.Legal.{Leads, after_pass}
+use Rattle.cq_position.specs.Legal.{Leads}
 use Rattle.cq_position.specs.Games.{IsTree}
-use Rattle.cq_position.specs.Continuations.{Continuations, none, played, size, nodes_from, Follows}
+use Rattle.cq_position.specs.Continuations.{Continuations, none, played, Follows}
 use Rattle.cq_position.proofs.Nested.{length_nodes}
 use Rattle.cq_position.proofs.Following.{tree_of}
 use Rattle.cq_moves.proofs.Kept.{legal_is_position, after_pass_is_position}
 use Rattle.cq_san.specs.San.{san}
 use Rattle.cq_san.proofs.Means.{exact}
 use Rattle.pgn_reader.specs.Words.{Word, Sense, plays, annotates, remarks, ends, opens, closes, means_nothing, out_of_place, sense}
-use Rattle.pgn_reader.specs.Tags.{Tags, tags_of, start_of}
+use Rattle.pgn_reader.specs.Tags.{tags_of, start_of}
 use Rattle.pgn_reader.specs.Line.{Line, nothing, word, variation, Place, beginning, led_to, moved, Told, TellsWord, Tells, beside, noted}
-use Rattle.pgn_reader.specs.Games.{root, nodes_told, game_told, SpellsAny}
+use Rattle.pgn_reader.specs.Games.{root, nodes_told, SpellsAny}
 use Rattle.pgn_reader.specs.Words.{Word}
 use Rattle.pgn_reader.specs.Frame.{Frame, whole}
-use Rattle.pgn_reader.specs.Machine.{Head, State, at, ended, run, first}
+use Rattle.pgn_reader.specs.Machine.{Head, State, run, first}
 use Rattle.pgn_reader.specs.Arranged.{nodes_of_rows, game_shown}
 use Rattle.pgn_reader.proofs.Moves.{legal_not_null, led_by_null, led_by_other}
 use Rattle.pgn_reader.proofs.Stands.{Stands, all_stands}
@@ -50,12 +50,12 @@ meant_leads p text m is means =
       position = subst IsPosition same (leads_to_position p fits.next m is fits.leads);
     }
 
--- a place of positions
+-- a place that positions lead to
 pub record IsSound (a : Place) : Type 0 where
   pub reached : IsPosition a.reached
   pub before : (p : Board) → a.before ≡ Some p → IsPosition p
 
--- what is told at a place follows it
+-- what is told at a place follows from it
 pub record Followed (a : Place) (t : Told) : Type 0 where
   pub rest : Follows a.reached t.rest
   pub variations : (p : Board) → a.before ≡ Some p → Follows p t.variations
@@ -129,10 +129,10 @@ followed (variation opening inner closing rest) depth a t sound (p, before, shal
           (later.variations r e);
     })
 
--- a game that is spelled has a tree, where it begins in a position
-spelled_tree : (ts : List Word) (tags : Tags) (result : GameResult) (start : Board) (l : Line) (t : Told) → IsPosition start → Tells 0 (beginning start) l t
+-- what a line tells from a position is a tree
+told_tree : (start : Board) (l : Line) (t : Told) → IsPosition start → Tells 0 (beginning start) l t
     → length (nodes_told start t) ≤ 65536 → IsTree (nodes_told start t)
-spelled_tree ts tags result start l t is tells few =
+told_tree start l t is tells few =
     tree_of (root start t.comments) t.rest (record { parent = refl; led_by = refl })
     (let e = length_nodes 0 1 t.rest in omega (arith, e, few))
     (followed l 0 (beginning start) t (sound_beginning start is) tells).rest
@@ -152,5 +152,5 @@ tree_shown ts h f result is_end few is =
     let start : h.start ≡ s.start = ok_same h.start s.start (sym (starts_at ts (run first ts) h f result (all_stands ts) is_end) ∙ ap start_of tags ∙ s.starts) in
     let nodes : nodes_of_rows (whole f) ≡ nodes_told s.start s.told = ap (λ g. g.nodes) s.game in
     let short : length (nodes_of_rows (whole f)) ≤ 65536 = let a = all_nodes_length (whole f) in let b = whole_counts ts h f result is_end in omega (arith, a, b, few) in
-    subst IsTree (sym nodes) (spelled_tree ts (tags_of s.pairs) s.result s.start s.line s.told (subst IsPosition start is) s.tells
+    subst IsTree (sym nodes) (told_tree s.start s.line s.told (subst IsPosition start is) s.tells
     (let e = ap length nodes in omega (arith, e, short)))

@@ -30,7 +30,6 @@ fn place_or(end: u64, tokens: &[Token], index: usize) -> u64
 }
 
 /// The result of the marker, or without one that of the tags.
-#[tactic(auto, unfolding(crate::specs::Tags::result_of_tags))]
 fn ending_of(reader: &Reader) -> GameResult
     ensures { result ≡ ending_by reader.now.phase reader.now.tags }
 {
@@ -66,8 +65,11 @@ fn into_game(alloc: Global, reader: Reader) -> Result<Game, NoMemory>
 /// The game that its bytes spell (PGN standard, sections 8.1 and 8.2), or their first fault.
 ///
 /// `start` is the place of the first byte in the archive, from which the fault's byte counts, and `first` says whether that byte stands
-/// in the first column. A fault stands at the first token such that no game begins with the tokens up to it, at the move that makes one position
-/// too many, or at the game's end where the tokens only begin one. A game of more than 2^24 bytes is refused before all other faults.
+/// in the first column. Bytes that spell a game spell no other. Its nodes stand in preorder: a move, what is played after it, and then
+/// the variations that replace it.
+///
+/// A fault stands at the first token such that no game begins with the tokens up to it, at the move that makes one position too many,
+/// or at the game's end where the tokens only begin one. A game of more than 2^24 bytes is refused before all other faults.
 pub fn read_game(
     alloc: Global,
     bytes: &[u8],

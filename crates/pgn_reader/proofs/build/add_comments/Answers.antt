@@ -1,4 +1,4 @@
-use Rattle.std.proofs.Common.{◌≡◌, ◌+◌, [], List, ℕ, take, ap, ◌∙◌, Vec, Global}
+use Rattle.std.proofs.Common.{◌+◌, [], List, ℕ, take, ap, ◌∙◌, Vec, Global}
 use Rattle.std.proofs.lemmas.List.{take_all}
 use Rattle.cq_position.specs.Games.{Node, with_comment}
 use Rattle.pgn_reader.specs.Inside.{comments_of}

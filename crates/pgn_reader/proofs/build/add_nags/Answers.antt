@@ -1,4 +1,4 @@
-use Rattle.std.proofs.Common.{◌≡◌, ℕ, ◌+◌, [], take, get_or, ap, ◌∙◌}
+use Rattle.std.proofs.Common.{ℕ, ◌+◌, [], take, get_or, ap, ◌∙◌}
 use Rattle.std.proofs.lemmas.List.{take_all}
 use Rattle.cq_position.specs.Games.{with_nag}
 use Rattle.pgn_reader.specs.Building.{with_nags}

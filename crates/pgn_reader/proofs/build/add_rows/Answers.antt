@@ -1,6 +1,5 @@
-use Rattle.std.proofs.Common.{◌≡◌, ℕ, List, [], ◌∷◌, ◌++◌, length, drop, sym, ap, ◌∙◌, subst}
+use Rattle.std.proofs.Common.{[], ◌∷◌, ◌++◌, length, sym, ap, ◌∙◌, subst}
 use Rattle.std.specs.Prelude.{slice_index}
-use Rattle.cq_position.specs.Games.{Node, Game}
 use Rattle.cq_position.specs.Continuations.{node_of}
 use Rattle.pgn_reader.specs.Frame.{Row}
 use Rattle.pgn_reader.specs.Arranged.{way_on, nodes_by}

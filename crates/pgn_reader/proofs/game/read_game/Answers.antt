@@ -1,6 +1,6 @@
-use Rattle.std.proofs.Common.{◌≡◌, List, map, sym, ap, ◌∙◌, subst}
+use Rattle.std.proofs.Common.{List, map, sym, ◌∙◌, subst}
 use Rattle.pgn_reader.specs.Words.{Word, word_of}
-use Rattle.pgn_reader.specs.Reading.{IsReading, game_of}
+use Rattle.pgn_reader.specs.Reading.{IsReading}
 use Rattle.pgn_reader.specs.Verdict.{IsOnlyGame}
 use Rattle.pgn_reader.proofs.Tokens.{only_game}
 use Rattle.pgn_reader.proofs.game.read_game.Goals as goal
