@@ -7,5 +7,6 @@ mod NumberRows
 mod PositionRows
 mod LineRows
 mod FamilyRows
+mod FaultRows
 mod HitRows
 mod ValueKinds
