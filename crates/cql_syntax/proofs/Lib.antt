@@ -9,3 +9,5 @@ mod LineRows
 mod FamilyRows
 mod HitRows
 mod ValueKinds
+mod TreeLists
+mod EdgeRows

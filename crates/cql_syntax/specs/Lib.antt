@@ -1,4 +1,5 @@
 pub mod Contexts
+pub mod EdgeRows
 pub mod Extents
 pub mod FamilyRows
 pub mod Headers
@@ -12,6 +13,7 @@ pub mod Places
 pub mod PositionRows
 pub mod Samples
 pub mod SetRows
+pub mod TreeLists
 pub mod TreeOf
 pub mod Trees
 pub mod Values
