@@ -10,3 +10,5 @@ mod FamilyRows
 mod FaultRows
 mod HitRows
 mod ValueKinds
+mod TreeLists
+mod EdgeRows

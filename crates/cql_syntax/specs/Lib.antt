@@ -1,4 +1,5 @@
 pub mod Contexts
+pub mod EdgeRows
 pub mod Extents
 pub mod FamilyRows
 pub mod FaultRows
@@ -15,6 +16,7 @@ pub mod PositionRows
 pub mod Samples
 pub mod SetRows
 pub mod TreeFaults
+pub mod TreeLists
 pub mod TreeOf
 pub mod Trees
 pub mod Values
