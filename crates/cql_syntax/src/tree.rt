@@ -185,7 +185,7 @@ impl Filters {
     }
 
     /// What it takes memory from.
-    pub(crate) fn allocator(&self) -> Global {
+    pub fn allocator(&self) -> Global {
         *self.items.allocator()
     }
 }
