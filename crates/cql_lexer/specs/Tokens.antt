@@ -70,8 +70,8 @@ tokens_of query =
     if nat_lt 65536 (length query) then Err (record { byte = 65536; reason = QueryTooLong })
     else tokens_from 0 0 Token query
 
--- What a text reads as that begins at byte `at` of the query: separators are passed, else the first lexeme is a token, and what follows it is
--- read after it; the end is one token, and a fault ends the reading.
+-- What a text reads as that begins at byte `at` of the query: separators are passed, else the first lexeme is a token, and what
+-- follows it is read after it; the end is one token, and a fault ends the reading.
 pub data IsRead : ℕ → Expected → List ℕ → Result (List QueryToken) QueryFault → Type 0 where
   ended : (at : ℕ) (expected : Expected) → IsRead at expected [] (Ok (record { at = at; kind = End } ∷ []))
   separated : (at : ℕ) (expected : Expected) (text : List ℕ) (read : Result (List QueryToken) QueryFault)
