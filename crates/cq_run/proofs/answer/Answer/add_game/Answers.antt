@@ -17,5 +17,5 @@ returns c =
     sym (any_is_match query c.args.game c.in_ok-matches.matches.items c.in_ok-matches.ensures) ∙ search rules in
     on_ok c.push_all.result
     (λ e. exported query c.args.self.now c.args.game c.push_all.new.self some
-    (e ∙ ap (λ t. c.args.self.now.exports ++ t) (c.as_slice-2.ensures ∙ c.in_ok-export.ensures ∙ ap export_text c.in_ok-mark.ensures)))
+    (e ∙ ap (λ t. c.args.self.now.exports ++ t) (c.as_slice-2.ensures ∙ c.in_ok-export.ensures.text ∙ ap export_text c.in_ok-mark.ensures)))
     c.push_all.ensures.ok
