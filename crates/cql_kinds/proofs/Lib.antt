@@ -1,0 +1,4 @@
+pub mod Checked
+pub mod Loops
+pub mod Placing
+pub mod Walking
