@@ -1,3 +1,4 @@
+pub mod Arms
 pub mod Checked
 pub mod Loops
 pub mod Placing

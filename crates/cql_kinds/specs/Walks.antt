@@ -9,6 +9,9 @@ use Rattle.cql_syntax.specs.declared.fault.QueryReason.{QueryReason}
 use Rattle.cql_syntax.specs.declared.fault.QueryReason.TheVariants.{LineTooLong, TooManyMembers, TooManySquares}
 use Rattle.cql_kinds.specs.declared.firsts.Firsts.{Firsts}
 
+abbrev pub no_firsts : Firsts
+no_firsts = record { line = None; square = None; family = None }
+
 -- the byte, or the first of these where there is none
 abbrev pub or_first : Option ℕ → List ℕ → Option ℕ
 or_first (Some byte) bytes = Some byte

@@ -5,7 +5,7 @@ ghost use Rattle.cql_syntax.specs.Occurrences.{of_items, sorts_with};
 ghost use Rattle.cql_syntax.specs.TreeFaults.{checked, has_any};
 ghost use Rattle.cql_syntax.specs.TreeOf.{query_tree, filters_tree, filter_tree};
 ghost use Rattle.cql_syntax.specs.Weights.{query_weight};
-ghost use Rattle.cql_kinds.specs.Walks.{walked, limit_fault};
+ghost use Rattle.cql_kinds.specs.Walks.{no_firsts, walked, limit_fault};
 
 use crate::firsts::Firsts;
 use crate::names::Names;
@@ -32,7 +32,7 @@ fn sorts_with(sorts: usize, item: &Filter) -> usize
 
 // The first of each kind in the top items, or the first fault of a filter that breaks a rule.
 fn walk_items(alloc: Global, items: &Filters) -> Result<Firsts, Refusal<QueryFault>>
-    ensures { Gives (λ found. found) result (walked (record { line = None; square = None; family = None }) (of_items 0 (filters_tree items.now))) }
+    ensures { Gives (λ found. found) result (walked no_firsts (of_items 0 (filters_tree items.now))) }
 {
     let names = Names::Unbound;
     let mut found = Firsts {

@@ -38,7 +38,8 @@ fn wrong_kind(filter: &Filter, wanted: Kind) -> Option<QueryReason>
 
 // A sort that is no top item, or that four or more sort items stand before.
 fn misplaced_sort(item: Option<usize>) -> Option<QueryReason>
-    ensures { (least : Bool) (text : List ℕ) (f : FilterTree) → result ≡ first (below_top item (sort least text f) ++ past_four_sorts item (sort least text f)) }
+    ensures { (least : Bool) (text : List ℕ) (f : FilterTree) →
+        result ≡ first (below_top item (sort least text f) ++ past_four_sorts item (sort least text f)) }
 {
     match item {
         None => Some(QueryReason::NotAtTop),

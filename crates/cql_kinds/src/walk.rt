@@ -34,7 +34,7 @@ pub fn walk(
     walk_inner(alloc, &filter.form, standing, firsts.with(filter, standing))
 }
 
-#[tactic(auto, using(crate::proofs::Walking::walked_done, crate::proofs::Walking::walked_failed, crate::proofs::Walking::walked_none), unfolding(cql_syntax::specs::Occurrences::inner, cql_syntax::specs::Occurrences::of_line))]
+#[tactic(auto, using(crate::proofs::Walking::walked_none), unfolding(cql_syntax::specs::Occurrences::inner, cql_syntax::specs::Occurrences::of_line))]
 #[cycle(walk)]
 fn walk_inner(
     alloc: Global,
@@ -76,7 +76,7 @@ fn walk_inner(
     }
 }
 
-#[tactic(auto, using(crate::proofs::Walking::walked_done, crate::proofs::Walking::walked_failed, crate::proofs::Walking::walked_none), unfolding(cql_syntax::specs::Occurrences::all_of))]
+#[tactic(auto, unfolding(cql_syntax::specs::Occurrences::all_of))]
 #[cycle(walk)]
 fn walk_all(
     alloc: Global,
@@ -93,7 +93,7 @@ fn walk_all(
     Ok(found)
 }
 
-#[tactic(auto, using(crate::proofs::Walking::walked_done, crate::proofs::Walking::walked_failed, crate::proofs::Walking::walked_none), unfolding(cql_syntax::specs::Occurrences::of_terms))]
+#[tactic(auto, unfolding(cql_syntax::specs::Occurrences::of_terms))]
 #[cycle(walk)]
 fn walk_terms(
     alloc: Global,
@@ -110,7 +110,7 @@ fn walk_terms(
     Ok(found)
 }
 
-#[tactic(auto, using(crate::proofs::Walking::walked_done, crate::proofs::Walking::walked_failed, crate::proofs::Walking::walked_none), unfolding(cql_syntax::specs::Occurrences::of_parts))]
+#[tactic(auto, unfolding(cql_syntax::specs::Occurrences::of_parts))]
 #[cycle(walk)]
 fn walk_parts(
     alloc: Global,
@@ -159,7 +159,6 @@ fn walk_written(
     }
 }
 
-#[tactic(auto, using(crate::proofs::Walking::walked_done, crate::proofs::Walking::walked_failed), unfolding(cql_syntax::specs::Occurrences::of_played))]
 #[cycle(walk)]
 fn walk_played(
     alloc: Global,
