@@ -38,7 +38,7 @@ shown_lives_by (Ended result) r is = cc
 pub shown_lives : (r : Reader) → shown r ≡ stuck → ⊥
 shown_lives r is = shown_lives_by r.phase r is
 
-few_before : (s : State) → moves_in s ≤ 65535 → moves_before (standing_of s) ≤ 65535
+pub few_before : (s : State) → moves_in s ≤ 65535 → moves_before (standing_of s) ≤ 65535
 few_before (opened tags) few = few
 few_before (named tags name) few = few
 few_before (valued tags start) few = few
