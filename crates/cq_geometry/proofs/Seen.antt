@@ -42,7 +42,7 @@ shut_by : (occupied : ℕ → Bool) (front : List ℕ) (x : ℕ) (t : Bool) → 
 shut_by occupied front x t e =
     list_all-append (λ q. not (occupied q)) front (x ∷ []) ∙ ap (λ u. u && (not (occupied x) && true)) e
 
--- behind an occupied square nothing has a free way
+-- after an occupied square nothing has a free way
 blocked : (occupied : ℕ → Bool) (before : ℕ → List ℕ) (b : ℕ) (front xs : List ℕ)
     → Lists before front xs → all_free occupied front ≡ false → (has b xs && all_free occupied (before b)) ≡ false
 blocked occupied before b front [] h shut = refl

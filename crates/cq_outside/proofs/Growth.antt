@@ -27,7 +27,7 @@ consumed_on (Some os) None c xs ys f g = absurd f
 consumed_on (Some os) (Some bs) None xs ys f g = absurd g
 consumed_on (Some os) (Some bs) (Some cs) xs ys f g = f ∙ ap (λ l. xs ++ l) g ∙ sym (append_assoc xs ys cs)
 
--- what a read that was refused has taken, behind what was read before it
+-- what a read that was refused has taken, after what was read before it
 pub took_more : {F : Type 0} (a b c : Option (List ℕ)) (read : List ℕ) (refusal : Refusal F) (limit room : ℕ) → Consumes a b read → length read ≤ limit → room ≤ (limit + 1) - length read
     → TakesAtMost (most_taken refusal 0 room) b c → TakesAtMost (most_taken refusal limit (limit + 1)) a c
 took_more a b c read (Fault fault) limit room before short fits more =

@@ -6,8 +6,8 @@ use Rattle.cq_outside.specs.declared.edge.Current.TheVariants.{Nothing, Input, F
 -- A desk over the real files: how many reads and opens have failed, the bytes left of standard input, and what is open,
 -- a file with the bytes left of it. Bytes are known where their reader tells them.
 pub record RealDesk : Type 0 where
-  pub reads : ℕ
-  pub opens : ℕ
+  pub read_faults : ℕ
+  pub open_faults : ℕ
   pub input : Option (List ℕ)
   pub current : Current (Option (List ℕ))
 
@@ -19,8 +19,8 @@ left_of desk = elim desk.current [ Nothing ↦ Some [] | Input ↦ desk.input | 
 abbrev pub with_left : RealDesk → Option (List ℕ) → RealDesk
 with_left desk left = elim desk.current [
   | Nothing ↦ desk
-  | Input ↦ record { reads = desk.reads; opens = desk.opens; input = left; current = Input }
-  | File _ ↦ record { reads = desk.reads; opens = desk.opens; input = desk.input; current = File left }
+  | Input ↦ record { read_faults = desk.read_faults; open_faults = desk.open_faults; input = left; current = Input }
+  | File _ ↦ record { read_faults = desk.read_faults; open_faults = desk.open_faults; input = desk.input; current = File left }
 ]
 
 -- what is open once a name was opened: standard input for `-`, for any other name a file

@@ -22,7 +22,9 @@ bytes_of files name = unwrap_or (get files name) []
 -- and the bytes left are those of the file.
 abbrev pub Opens : Option Told → Option Told → List ℕ → Option (List ℕ) → Type 0
 Opens None new name left = new ≡ None
-Opens (Some old) new name left = (new ≡ Some (record { files = old.files; opened = old.opened ++ name ∷ [] })) × (left ≡ Some (bytes_of old.files name))
+Opens (Some old) new name left =
+    (new ≡ Some (record { files = old.files; opened = old.opened ++ name ∷ [] }))
+    × (left ≡ Some (bytes_of old.files name))
 
 -- a desk that tells all: its files, the names opened, and the bytes of the open file that are left
 pub record KnownDesk : Type 0 where
@@ -37,4 +39,7 @@ told_of desk = record { files = desk.files; opened = desk.opened }
 -- a desk that tells all is stored as its three parts
 abbrev pub known_desk_code : Coded KnownDesk
 known_desk_code =
-    code_by (Files × (List (List ℕ) × List ℕ)) (coded× (code (coded_list coded_ℕ) (coded_list coded_ℕ)) (coded× (coded_list (coded_list coded_ℕ)) (coded_list coded_ℕ))) (λ d. (d.files, (d.opened, d.left))) (λ p. record { files = p.0; opened = p.1.0; left = p.1.1 }) (λ _. refl)
+    code_by (Files × (List (List ℕ) × List ℕ))
+    (coded× (code (coded_list coded_ℕ) (coded_list coded_ℕ)) (coded× (coded_list (coded_list coded_ℕ)) (coded_list coded_ℕ)))
+    (λ d. (d.files, (d.opened, d.left)))
+    (λ p. record { files = p.0; opened = p.1.0; left = p.1.1 }) (λ _. refl)

@@ -46,8 +46,8 @@ impl<R: Files + Drop, I: Read + Drop> Model for FileDesk<R, I> {
     ghost Value = { RealDesk };
 
     ghost view = { λ d. record {
-      reads = d.read_faults;
-      opens = d.open_faults;
+      read_faults = d.read_faults;
+      open_faults = d.open_faults;
       input = I.remaining d.input;
       current = elim d.current [ Nothing ↦ Nothing | Input ↦ Input | File file ↦ File (R.File.remaining file) ];
     } };
@@ -57,7 +57,7 @@ impl<R: Files + Drop, I: Read + Drop> FileDesk<R, I> {
     /// A desk on which nothing is open, over the runtime's files and its standard input. It takes no memory, and so
     /// is never refused.
     pub fn new(_alloc: Global, files: R, input: I) -> Result<FileDesk<R, I>, NoMemory>
-        ensures { result ≡ Ok (record { reads = 0; opens = 0; input = I.remaining input; current = Nothing }) }
+        ensures { result ≡ Ok (record { read_faults = 0; open_faults = 0; input = I.remaining input; current = Nothing }) }
     {
         Ok(FileDesk {
             files,
@@ -72,15 +72,15 @@ impl<R: Files + Drop, I: Read + Drop> FileDesk<R, I> {
 impl<R: Files + Drop, I: Read + Drop> Source for FileDesk<R, I> {
     ghost left = { left_of };
 
-    ghost faults = { λ d. d.reads };
+    ghost faults = { λ d. d.read_faults };
 
-    ghost follows = { λ s t. (s.reads ≤ t.reads) × (t.opens ≡ s.opens) };
+    ghost follows = { λ s t. (s.read_faults ≤ t.read_faults) × (t.open_faults ≡ s.open_faults) };
 
     fn read(&mut self, buf: &mut [u8]) -> Result<usize, Failed>
         ensures bound { IfOk result (λ n. n ≤ length buf.old) }
         ensures bytes { ReadConsumes (left_of self.old) (left_of self.new) result buf.new }
-        ensures cause { HasCause self.old.reads self.new.reads result }
-        ensures same { self.new ≡ with_left (record self.old { reads = counted self.old.reads result }) (left_of self.new) }
+        ensures cause { HasCause self.old.read_faults self.new.read_faults result }
+        ensures same { self.new ≡ with_left (record self.old { read_faults = counted self.old.read_faults result }) (left_of self.new) }
     {
         let moved = match &mut self.current {
             Current::Nothing => Ok(0),
@@ -96,7 +96,7 @@ impl<R: Files + Drop, I: Read + Drop> Source for FileDesk<R, I> {
 
     ghost use Rattle.std.proofs.Common.{refl, ◌∙◌, le_refl, le_trans};
 
-    ghost follows_same = { λ s. (le_refl s.reads, refl) };
+    ghost follows_same = { λ s. (le_refl s.read_faults, refl) };
 
     ghost follows_on = { λ s t u f g. (le_trans f.0 g.0, g.1 ∙ f.1) };
 
@@ -106,15 +106,15 @@ impl<R: Files + Drop, I: Read + Drop> Source for FileDesk<R, I> {
 impl<R: Files + Drop, I: Read + Drop> Desk for FileDesk<R, I> {
     ghost told = { λ _. None };
 
-    ghost open_faults = { λ d. d.opens };
+    ghost open_faults = { λ d. d.open_faults };
 
     fn open(&mut self, _alloc: Global, name: &[u8]) -> Result<(), OpenFault>
         ensures input { name.now ≡ codes "-" → IsOk result }
         ensures text { OnOk result (IsUtf8 name.now) }
         ensures failed { OnErr result (result ≡ Err OpenFault.Failed) }
-        ensures cause { HasCause self.old.opens self.new.opens result }
+        ensures cause { HasCause self.old.open_faults self.new.open_faults result }
         ensures opened { OnOk result (IsOpened name.now self.new.current) }
-        ensures same { self.new ≡ record self.old { opens = counted self.old.opens result; current = self.new.current } }
+        ensures same { self.new ≡ record self.old { open_faults = counted self.old.open_faults result; current = self.new.current } }
         ensures kept { OnErr result (self.new.current ≡ self.old.current) }
     {
         if name == STANDARD_INPUT {

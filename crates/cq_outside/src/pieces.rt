@@ -62,7 +62,8 @@ fn append_piece<S: Source>(
     ensures added { IfOk result (λ n. (piece : List ℕ) × (length piece ≡ n) × (bytes.new ≡ bytes.old ++ piece)
         × Consumes (S.left source.old) (S.left source.new) piece) }
     ensures end { IfOk result (λ n. n ≡ 0 → 0 < length buffer.old → IsAtEnd (S.left source.new)) }
-    ensures taken { IfErr result (λ refusal. TakesAtMost (most_taken refusal 0 (length buffer.old)) (S.left source.old) (S.left source.new)) }
+    ensures taken { IfErr result (λ refusal.
+        TakesAtMost (most_taken refusal 0 (length buffer.old)) (S.left source.old) (S.left source.new)) }
     ensures cause { HasRefusalCause (S.faults source.old) (S.faults source.new) result }
     ensures next { S.follows source.old source.new }
 {

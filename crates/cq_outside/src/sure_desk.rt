@@ -111,7 +111,8 @@ impl Source for SureDesk {
 
     ghost follows_same = { λ s. (refl, ([], refl)) };
 
-    ghost follows_on = { λ s t u f g. (g.0 ∙ f.0, (f.1.0 ++ g.1.0, f.1.1 ∙ ap (λ l. f.1.0 ++ l) g.1.1 ∙ sym (append_assoc f.1.0 g.1.0 u.left))) };
+    ghost follows_on = { λ s t u f g.
+        (g.0 ∙ f.0, (f.1.0 ++ g.1.0, f.1.1 ∙ ap (λ l. f.1.0 ++ l) g.1.1 ∙ sym (append_assoc f.1.0 g.1.0 u.left))) };
 
     ghost never_falls = { λ s t f. lit≤ tt };
 }

@@ -3,6 +3,8 @@ pub mod Preorder
 pub mod Nested
 pub mod Trees
 pub mod Ancestors
+pub mod Comments
+pub mod Paths
 mod GameRows
 mod LegalRows
 mod Rows

@@ -13,7 +13,7 @@ use Rattle.cq_position.specs.Fen.{is_within, squares_of, is_rank_byte, rank_squa
 use Rattle.cq_position.specs.FenText.{run_text, letter_text, run_after, rank_text, placement_text}
 use Rattle.cq_position.proofs.Joined.{is_not, parts_join, all_join, all_weaker, is_not_empty-append}
 
--- a text of so many empty squares and the men behind them
+-- a text of so many empty squares and the men after them
 record Spells (text : List ℕ) (men : List Man) : Type 0 where
   bytes : list_all is_rank_byte text ≡ true
   squares : rank_squares text ≡ men

@@ -10,7 +10,7 @@ use Rattle.cq_position.specs.declared.men.Man.TheVariants.{Empty}
 use Rattle.cq_position.specs.Fen.{squares_of, is_rank_byte, rank_squares, is_rank}
 use Rattle.cq_position.specs.Reading.{IsRunOf}
 
--- the row has the squares of the first i bytes, and is empty behind them
+-- the row has the squares of the first i bytes, and is empty after them
 pub record IsRowTo (text : List ℕ) (i file : ℕ) (row : List Man) : Type 0 where
   pub fits : file ≤ 8
   pub squares : row ≡ rank_squares (take i text) ++ replicate (8 - file) Empty
@@ -24,7 +24,7 @@ replicate-first : (n : ℕ) (m : Man) → 1 ≤ n → replicate n m ≡ m ∷ re
 replicate-first zero m low = absurd (omega arith)
 replicate-first (suc n) m low = let e : suc n - 1 ≡ n = omega arith in rw e refl
 
--- a square behind the front, and those that were empty behind it
+-- a square after the front, and those that were empty after it
 set_first : (front : List Man) (n : ℕ) (m : Man) → 1 ≤ n → set (front ++ replicate n Empty) (length front) m ≡ front ++ m ∷ replicate (n - 1) Empty
 set_first front n m low = rw (replicate-first n Empty low) (set_at front Empty (replicate (n - 1) Empty) m (length front) refl)
 

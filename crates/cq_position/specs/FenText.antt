@@ -15,7 +15,7 @@ abbrev pub run_text : ℕ → List ℕ
 run_text zero = []
 run_text (suc n) = (digit_one + n) ∷ []
 
--- a man is its letter, behind the run of empty squares before it; an empty square goes to the run
+-- a man is its letter, after the run of empty squares before it; an empty square goes to the run
 abbrev pub letter_text : ℕ → Option ℕ → List ℕ
 letter_text empty None = []
 letter_text empty (Some letter) = run_text empty ++ letter ∷ []
@@ -24,7 +24,7 @@ abbrev pub run_after : ℕ → Option ℕ → ℕ
 run_after empty None = empty + 1
 run_after empty (Some letter) = 0
 
--- the text of a rank, behind so many empty squares
+-- the text of a rank, after so many empty squares
 abbrev pub rank_text : ℕ → List Man → List ℕ
 rank_text empty [] = run_text empty
 rank_text empty (man ∷ men) = letter_text empty (letter_of_man man) ++ rank_text (run_after empty (letter_of_man man)) men

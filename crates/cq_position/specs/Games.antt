@@ -1,5 +1,5 @@
 -- A game as plain data: its tags, its result, and the tree of its positions (PGN standard, section 8).
-use Rattle.std.specs.Prelude.{◌≡◌, ◌≢◌, if◌then◌else◌, ℕ, zero, suc, ◌+◌, ◌-◌, ◌<◌, ◌≤◌, ◌==◌, ◌&&◌, ◌||◌, nat_lt, Bool, true, false, List, [], ◌∷◌, ◌++◌, length, filter, Option, Some, None, slice_index_or, slice_set, Contains}
+use Rattle.std.specs.Prelude.{◌≡◌, ◌≢◌, if◌then◌else◌, ℕ, zero, suc, ◌+◌, ◌-◌, ◌<◌, ◌≤◌, ◌==◌, ◌&&◌, ◌||◌, nat_lt, Bool, true, false, List, [], ◌∷◌, ◌++◌, length, filter, Option, Some, None, slice_index_or, slice_set, Contains, All}
 use Rattle.std.specs.Option.{option_map, is_some}
 use Rattle.std.specs.Str.{bytes_eq}
 use Rattle.std.specs.List.{find, list_all, list_any, range_with_len}
@@ -58,6 +58,19 @@ with_nag nag node = record node { nags = node.nags ++ nag ∷ [] }
 
 abbrev pub with_comment : List ℕ → Node → Node
 with_comment text node = record node { comments = node.comments ++ comment_of (words text) }
+
+-- A comment as a game keeps it: words with single spaces between them, at least one, and no `}`, which would end it.
+pub record IsComment (comment : List ℕ) : Type 0 where
+  pub spaced : comment_of (words comment) ≡ comment ∷ []
+  pub no_brace : All (λ b. b ≢ 125) comment
+
+-- what a game keeps of the notes of a node: glyphs are numbers below 256 (PGN standard, section 8.2.4), and comments are such
+pub record HasNotes (node : Node) : Type 0 where
+  pub nags : All (λ nag. nag < 256) node.nags
+  pub comments : All IsComment node.comments
+
+abbrev pub HaveNotes : List Node → Type 0
+HaveNotes nodes = All HasNotes nodes
 
 -- nodes with a change of one of them
 abbrev pub with_node : List Node → ℕ → (Node → Node) → List Node
@@ -130,28 +143,6 @@ is_searched variations nodes n = variations || is_main nodes n
 
 unfoldable pub searched : Bool → List Node → List ℕ
 searched variations nodes = filter (is_searched variations nodes) (numbers nodes)
-
--- a step down goes from a node to a child of it in the searched tree, with `primary` to its first child alone
-pub record IsStep (variations primary : Bool) (nodes : List Node) (n k : ℕ) : Type 0 where
-  pub child : (node_at nodes k).parent ≡ Some n
-  pub is_in : is_searched variations nodes k ≡ true
-  pub first : primary ≡ true → is_first_child nodes k ≡ true
-
--- a way along a relation, from n on
-abbrev pub Along : (ℕ → ℕ → Type 0) → ℕ → List ℕ → Type 0
-Along step n [] = Unit {0}
-Along step n (m ∷ ms) = step n m × Along step m ms
-
--- the paths down from n are of such steps, and the paths up of the same steps backwards
-pub record IsPathDown (variations primary : Bool) (nodes : List Node) (n : ℕ) (path : List ℕ) : Type 0 where
-  pub later : List ℕ
-  pub begins : path ≡ n ∷ later
-  pub goes : Along (IsStep variations primary nodes) n later
-
-pub record IsPathUp (variations primary : Bool) (nodes : List Node) (n : ℕ) (path : List ℕ) : Type 0 where
-  pub later : List ℕ
-  pub begins : path ≡ n ∷ later
-  pub goes : Along (λ k m. IsStep variations primary nodes m k) n later
 
 -- the same node but for its numeric annotation glyphs and comments
 pub record IsSamePlace (a b : Node) : Type 0 where

@@ -21,7 +21,7 @@ texts_of f = record {
   number = f.number.now;
 }
 
--- the ranks behind a slash, none where no slash stood
+-- the ranks after a slash, none where no slash stood
 abbrev pub ranks_left : Option (List ℕ) → List (List ℕ)
 ranks_left None = []
 ranks_left (Some text) = parts slash text

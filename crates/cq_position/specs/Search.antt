@@ -1,6 +1,9 @@
 -- The tree of a game that a query searches, and the paths in it.
-use Rattle.std.specs.Prelude.{◌≡◌, ◌↔◌, ℕ, zero, suc, ◌+◌, ◌-◌, Bool, true, false, ◌&&◌, ◌||◌, not, ◌==◌, List, [], ◌∷◌, map, flat_map, filter, length, count_by, Option, Some, None, option_to_list, Contains}
-use Rattle.cq_position.specs.Games.{Game, Node, node_at, children, is_first_child, way_up, is_below, is_searched, searched, IsPathDown, IsPathUp, IsTree}
+use Rattle.std.specs.Prelude.{◌≡◌, ℕ, zero, suc, ◌+◌, ◌-◌, Bool, true, false, ◌&&◌, ◌||◌, not, ◌==◌, List, [], ◌∷◌, map, flat_map, filter, length, count_by, Option, Some, None, option_to_list}
+use Rattle.std.specs.List.{last_or, list_any}
+use Rattle.cq_position.specs.Board.{Board}
+use Rattle.cq_position.specs.Men.{man_number}
+use Rattle.cq_position.specs.Games.{Game, Node, node_at, children, is_first_child, way_up, is_below, is_searched, searched}
 
 -- a game, and whether the variations are searched too
 pub record SearchedTree : Type 0 where
@@ -31,8 +34,45 @@ begins_variation nodes n = not (n == 0) && not (is_first_child nodes n)
 abbrev pub depth : List Node → ℕ → ℕ
 depth nodes n = count_by (begins_variation nodes) (way_up nodes n)
 
--- The nodes to which a path goes on from a node: up (`back`) to its parent, or down to its children in the tree; with `primary` only
--- between a node and its first child.
+-- whether man number k stands in a position, and in some position of the tree
+unfoldable pub has_man : Board → ℕ → Bool
+has_man p k = list_any (λ m. man_number m == k) p.men
+
+unfoldable pub has_man_in : SearchedTree → ℕ → Bool
+has_man_in tree k = list_any (λ n. has_man (node_at tree.game.nodes n).position k) (nodes_in tree)
+
+-- A step down goes from a node to a child of it in the tree, and a step up from a node to its parent; with `primary` one of the two is the
+-- first child of the other.
+pub record IsStepDown (tree : SearchedTree) (primary : Bool) (n k : ℕ) : Type 0 where
+  pub child : (node_at tree.game.nodes k).parent ≡ Some n
+  pub is_in : is_searched tree.variations tree.game.nodes k ≡ true
+  pub first : primary ≡ true → is_first_child tree.game.nodes k ≡ true
+
+pub record IsStepUp (tree : SearchedTree) (primary : Bool) (n k : ℕ) : Type 0 where
+  pub parent : (node_at tree.game.nodes n).parent ≡ Some k
+  pub first : primary ≡ true → is_first_child tree.game.nodes n ≡ true
+
+abbrev pub IsStep : SearchedTree → (back primary : Bool) → ℕ → ℕ → Type 0
+IsStep tree false primary n k = IsStepDown tree primary n k
+IsStep tree true primary n k = IsStepUp tree primary n k
+
+-- from n each number leads to the next by a relation
+abbrev pub Along : (ℕ → ℕ → Type 0) → ℕ → List ℕ → Type 0
+Along step n [] = Unit {0}
+Along step n (m ∷ ms) = step n m × Along step m ms
+
+-- A path begins at a node and goes on by steps, all of them down, or with `back` all of them up.
+pub record IsPath (tree : SearchedTree) (back primary : Bool) (n : ℕ) (path : List ℕ) : Type 0 where
+  pub later : List ℕ
+  pub begins : path ≡ n ∷ later
+  pub goes : Along (IsStep tree back primary) n later
+
+-- the path down from a node of a game to another
+pub record IsDownPath (game : Game) (from to : ℕ) (path : List ℕ) : Type 0 where
+  pub goes : IsPath (record { game = game; variations = true }) false false from path
+  pub ends : last_or None path ≡ Some to
+
+-- The nodes to which a path goes on from a node.
 abbrev pub next_in : SearchedTree → (back primary : Bool) → ℕ → List ℕ
 next_in tree true primary n =
     filter (λ p. not primary || is_first_child tree.game.nodes n) (option_to_list (node_at tree.game.nodes n).parent)

@@ -48,7 +48,7 @@ pub enum FenFault {
 
 /// Reads a position from the text of its FEN (PGN standard, section 16.1), or answers the first fault that applies.
 ///
-/// Fields are separated by spaces, which may also stand before and behind them. A text of four fields is read as with `0 1` behind
+/// Fields are separated by spaces, which may also stand before and after them. A text of four fields is read as with `0 1` after
 /// them. The halfmove clock is not kept, and the move number 0 is read as 1. A right to castle counts only with king and rook at home,
 /// and an en passant square only where the opponent's pawn can just have passed it.
 #[tactic(auto, unfolding(crate::specs::Fen::fen_meaning, crate::specs::Fen::position_or_fault))]

@@ -1,5 +1,5 @@
 //! Laws of positions and moves, for proofs in other crates.
-ghost use Rattle.std.specs.Prelude.{◌≡◌, ◌↔◌, ◌<◌, ◌&&◌, ◌||◌, ℕ, List, length, IsTrue, true, false, slice_set};
+ghost use Rattle.std.specs.Prelude.{◌≡◌, ◌↔◌, ◌<◌, ◌&&◌, ◌||◌, ℕ, Bool, List, length, IsTrue, true, false, slice_set, Contains};
 ghost use Rattle.cq_geometry.specs.Lines.{is_orthogonal, is_diagonal, is_open};
 ghost use Rattle.cq_position.specs.declared.men.Man.{Man as ManValue};
 ghost use Rattle.cq_position.specs.declared.men.Man.TheVariants.{Empty};
@@ -9,8 +9,10 @@ ghost use Rattle.cq_position.specs.King.{IsKingSquare};
 ghost use Rattle.cq_position.specs.Men.{opponent, is_of_side, same_man};
 ghost use Rattle.cq_position.specs.declared.moves.Move.{Move as MoveValue};
 ghost use Rattle.cq_position.specs.Board.{Board};
+ghost use Rattle.cq_position.specs.Games.{IsTree};
 ghost use Rattle.cq_position.specs.Legal.{Legal};
 ghost use Rattle.cq_position.specs.Legality.{legal_test, has_legal_move};
+ghost use Rattle.cq_position.specs.Search.{SearchedTree, IsPath, paths};
 
 use crate::position::Position;
 
@@ -54,4 +56,11 @@ pub fn men_that_come_open_nothing()
     ensures { (men : List ManValue) (by : SideValue) (to : ℕ) (man : ManValue) (k : ℕ) → to < length men →
         is_of_side by man ≡ false → same_man man Empty ≡ false →
         attack.is_attacked men by k ≡ false → attack.is_attacked (slice_set men to man) by k ≡ false }
+{}
+
+/// The paths that are listed from a node of a game are exactly its paths, down or up, by any steps or `primary` ones alone.
+#[tactic(auto, using(crate::proofs::Paths::paths_law))]
+pub fn paths_are_listed()
+    ensures { (tree : SearchedTree) → IsTree tree.game.nodes → (back primary : Bool) (n : ℕ) (path : List ℕ) →
+        Contains (paths tree back primary n) path ↔ IsPath tree back primary n path }
 {}

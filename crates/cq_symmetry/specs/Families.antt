@@ -16,9 +16,9 @@ shifted east north = record { symmetry = 1; exchange = false; east = east; north
 abbrev pub exchanged : PlainMapping
 exchanged = record { symmetry = 3; exchange = true; east = pos 0; north = pos 0 }
 
--- from -7 to 7
-abbrev pub steps : List ℤ
-steps = negsuc 6 ∷ negsuc 5 ∷ negsuc 4 ∷ negsuc 3 ∷ negsuc 2 ∷ negsuc 1 ∷ negsuc 0
+-- how far a shift may go: from -7 to 7
+abbrev pub shift_lengths : List ℤ
+shift_lengths = negsuc 6 ∷ negsuc 5 ∷ negsuc 4 ∷ negsuc 3 ∷ negsuc 2 ∷ negsuc 1 ∷ negsuc 0
     ∷ pos 0 ∷ pos 1 ∷ pos 2 ∷ pos 3 ∷ pos 4 ∷ pos 5 ∷ pos 6 ∷ pos 7 ∷ []
 
 -- the members of a family
@@ -28,6 +28,6 @@ members Rotate90 = map turned (1 ∷ 7 ∷ 4 ∷ 6 ∷ [])
 members FlipVertical = map turned (1 ∷ 3 ∷ [])
 members FlipHorizontal = map turned (1 ∷ 2 ∷ [])
 members FlipColor = turned 1 ∷ exchanged ∷ []
-members Shift = flat_map (λ north. map (λ east. shifted east north) steps) steps
-members ShiftHorizontal = map (λ east. shifted east (pos 0)) steps
-members ShiftVertical = map (λ north. shifted (pos 0) north) steps
+members Shift = flat_map (λ north. map (λ east. shifted east north) shift_lengths) shift_lengths
+members ShiftHorizontal = map (λ east. shifted east (pos 0)) shift_lengths
+members ShiftVertical = map (λ north. shifted (pos 0) north) shift_lengths

@@ -1,3 +1,4 @@
 pub mod Families
 pub mod Images
 pub mod Mappings
+pub mod Parts

@@ -179,7 +179,7 @@ squares_behind : (text : List ℕ) (m : ℕ) → Nothing squares_of (length text
 squares_behind text zero v h = refl
 squares_behind text (suc m) v h = v.none (suc m) (omega arith) h
 
--- the squares behind the men in a front
+-- the squares after the men in a front
 behind : (text : List ℕ) (men n m : ℕ) → Within men_of (length text) text men n → m ≤ length text → n ≤ m → men_then_squares (take m text) ≡ option_map (men_on men) (squares_of (take (m - n) (drop n text)))
 behind text men n m w h long =
     join_some (take m text) men n (men_long text men n m w h long)
@@ -211,7 +211,7 @@ men_and_squares text men n squares k e f =
           (w.last m (omega (arith, v.positive)) b);
     })
 
--- squares, where there are men, but no squares behind them
+-- squares, where there are men, but no squares after them
 pub squares_beside_men : (text : List ℕ) (men n squares k : ℕ) → Some (men, n) ≡ longest men_of text → None ≡ longest squares_of (take (length text - n) (drop n text)) → Some (squares, k) ≡ longest squares_of text → Some (men_on any_men squares, k) ≡ longest designator text
 squares_beside_men text men n squares k e f g =
     let w = longest_parts men_of text men n (sym e) in

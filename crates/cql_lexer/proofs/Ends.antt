@@ -23,7 +23,8 @@ use Rattle.cql_lexer.specs.Characters.{is_name_byte, is_file_byte, is_quote, beg
 use Rattle.cql_lexer.specs.Designators.{designator}
 use Rattle.cql_lexer.specs.Longest.{longest}
 use Rattle.cql_lexer.specs.Lexemes.{of_len, file_name, outcome, quoted, number, named, named_or_squares, mark_number, mark, found_or, first_lexeme}
-use Rattle.cql_lexer.specs.Tokens.{IsProper, EndOnce, tokens_from, tokens_of, separator_len, token_at, with_front, expected_after, result_and_then}
+use Rattle.cql_lexer.specs.Tokens.{IsProper, IsProperDesignator, EndOnce, tokens_from, tokens_of, separator_len, token_at, with_front, expected_after, result_and_then}
+use Rattle.cql_lexer.proofs.Designated.{designator_proper}
 use Rattle.cql_lexer.proofs.Longest.{longest_parts}
 
 -- where a lexeme is found, it is proper
@@ -104,16 +105,17 @@ name_by : (b : Bool) (run : ℕ) (kind : QueryTokenKind) → IsProper kind → F
 name_by true run kind p = p
 name_by false run kind p = tt
 
-squares_by : (o : Option (Designator × ℕ)) (run : ℕ) (name : Option Lexeme) → Finds name → Finds (elim o [ Some found ↦ cond (leb run found.1) (Some (of_len found.1 (Squares found.0))) name | None ↦ name ])
-squares_by None run name p = p
-squares_by (Some found) run name p = finds_if (leb run found.1) (Some (of_len found.1 (Squares found.0))) name tt p
+squares_by : (o : Option (Designator × ℕ)) (run : ℕ) (name : Option Lexeme) → ((d : Designator) (len : ℕ) → o ≡ Some (d, len) → IsProperDesignator d) → Finds name → Finds (elim o [ Some found ↦ cond (leb run found.1) (Some (of_len found.1 (Squares found.0))) name | None ↦ name ])
+squares_by None run name h p = p
+squares_by (Some found) run name h p = finds_if (leb run found.1) (Some (of_len found.1 (Squares found.0))) name (h found.0 found.1 refl) p
 
 named_or_squares_proper : (text : List ℕ) → Finds (named_or_squares text)
 unfolding named_or_squares
 named_or_squares_proper text =
     let run = prefix_len is_name_byte text in
     let kind = named (take run text) in
-    finds_if (begins begins_name_or_squares text) _ None (squares_by (longest designator text) run (cond (ltb 0 run) (Some (of_len run kind)) None) (name_by (ltb 0 run) run kind (named_proper (take run text)))) tt
+    finds_if (begins begins_name_or_squares text) _ None (squares_by (longest designator text) run (cond (ltb 0 run) (Some (of_len run kind)) None)
+    (λ d len e. designator_proper (take len text) d (longest_parts designator text d len e).reads) (name_by (ltb 0 run) run kind (named_proper (take run text)))) tt
 
 mark_by : (o : Option (ℕ × ℕ)) → ((k len : ℕ) → o ≡ Some (k, len) → k < 20) → Finds (option_map (λ found. of_len found.1 (Mark found.0)) o)
 mark_by None h = tt

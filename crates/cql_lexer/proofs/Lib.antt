@@ -5,8 +5,10 @@ pub mod Longest
 pub mod Groups
 pub mod Fronts
 pub mod Designating
-pub mod Eights
+pub mod Whole
 pub mod Marks
 mod Rows
 pub mod Steps
+pub mod Designated
 pub mod Ends
+pub mod ReadOnce

@@ -7,19 +7,19 @@ use Rattle.std.proofs.lemmas.Bool.{le-leb, leb-true, eqb-true}
 use Rattle.cql_lexer.specs.Designators.{squares_within}
 
 -- the test passes at the numbers from the first on, so many
-abbrev all_on : (ℕ → Bool) → ℕ → ℕ → Bool
+abbrev pub all_on : (ℕ → Bool) → ℕ → ℕ → Bool
 all_on test first zero = true
 all_on test first (suc len) = test first && all_on test (first + 1) len
 
-and_parts : (a b : Bool) → (a && b) ≡ true → (a ≡ true) × (b ≡ true)
+pub and_parts : (a b : Bool) → (a && b) ≡ true → (a ≡ true) × (b ≡ true)
 and_parts true b h = (refl, h)
 and_parts false b h = (h, absurd (cc))
 
-first_or_above : (first k : ℕ) → first ≤ k → (k ≡ first) ⊎ (first + 1 ≤ k)
+pub first_or_above : (first k : ℕ) → first ≤ k → (k ≡ first) ⊎ (first + 1 ≤ k)
 first_or_above first k low = ⊎_elim (λ above. inr (omega arith)) (λ same. inl (omega arith)) (order first k)
 
 -- so it passes at each of them
-at_one : (test : ℕ → Bool) (first len : ℕ) → all_on test first len ≡ true → (k : ℕ) → first ≤ k → k < first + len → test k ≡ true
+pub at_one : (test : ℕ → Bool) (first len : ℕ) → all_on test first len ≡ true → (k : ℕ) → first ≤ k → k < first + len → test k ≡ true
 at_one test first zero all k low high = absurd (omega arith)
 at_one test first (suc len) all k low high =
     ⊎_elim

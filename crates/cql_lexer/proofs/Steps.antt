@@ -22,7 +22,7 @@ passes (suc n) at expected (b ∷ text) h =
     let e : at + 1 + n ≡ at + suc n = omega arith in
     passes n (at + 1) expected text (omega arith) ∙ ap (λ k. tokens_from 0 k expected (drop n text)) e
 
--- the same behind the first of them
+-- the same after the first of them
 passes_more : (n at : ℕ) (expected : Expected) (b : ℕ) (text : List ℕ) → 0 < n → n ≤ suc (length text) → tokens_from (n - 1) (at + 1) expected text ≡ tokens_from 0 (at + n) expected (drop n (b ∷ text))
 passes_more n at expected b text positive h =
     let place : at + 1 + (n - 1) ≡ at + n = omega arith in
@@ -32,14 +32,14 @@ passes_more n at expected b text positive h =
     ∙ ap (λ k. tokens_from 0 (at + n) expected (drop k (b ∷ text))) count
 
 -- white space and comments are passed
-pass_separator : (at : ℕ) (expected : Expected) (text : List ℕ) → 0 < separator_len text → separator_len text ≤ length text → 0 < length text → tokens_from 0 at expected text ≡ tokens_from 0 (at + separator_len text) expected (drop (separator_len text) text)
+pub pass_separator : (at : ℕ) (expected : Expected) (text : List ℕ) → 0 < separator_len text → separator_len text ≤ length text → 0 < length text → tokens_from 0 at expected text ≡ tokens_from 0 (at + separator_len text) expected (drop (separator_len text) text)
 unfolding tokens_from
 pass_separator at expected [] positive h some = absurd (omega arith)
 pass_separator at expected (b ∷ text) positive h some =
     cond-true (ltb 0 (separator_len (b ∷ text))) _ _ (lt-ltb _ _ positive) ∙ passes_more (separator_len (b ∷ text)) at expected b text positive h
 
 -- a token is read, and its bytes are passed
-pass_token : (at : ℕ) (expected : Expected) (text : List ℕ) (token : QueryToken) (len : ℕ) → 0 < length text → separator_len text ≡ 0 → token_at expected at text ≡ Ok (token, len) → 0 < len → len ≤ length text → tokens_from 0 at expected text ≡ with_front (token ∷ []) (tokens_from 0 (at + len) (expected_after token.kind) (drop len text))
+pub pass_token : (at : ℕ) (expected : Expected) (text : List ℕ) (token : QueryToken) (len : ℕ) → 0 < length text → separator_len text ≡ 0 → token_at expected at text ≡ Ok (token, len) → 0 < len → len ≤ length text → tokens_from 0 at expected text ≡ with_front (token ∷ []) (tokens_from 0 (at + len) (expected_after token.kind) (drop len text))
 unfolding tokens_from
 pass_token at expected [] token len some none found positive h = absurd (omega arith)
 pass_token at expected (b ∷ text) token len some none found positive h =
@@ -48,7 +48,7 @@ pass_token at expected (b ∷ text) token len some none found positive h =
     ∙ ap (with_front (token ∷ [])) (passes_more len at (expected_after token.kind) b text positive h)
 
 -- a fault ends the reading
-stop : (at : ℕ) (expected : Expected) (text : List ℕ) (fault : QueryFault) → 0 < length text → separator_len text ≡ 0 → token_at expected at text ≡ Err fault → tokens_from 0 at expected text ≡ Err fault
+pub stop : (at : ℕ) (expected : Expected) (text : List ℕ) (fault : QueryFault) → 0 < length text → separator_len text ≡ 0 → token_at expected at text ≡ Err fault → tokens_from 0 at expected text ≡ Err fault
 unfolding tokens_from
 stop at expected [] fault some none found = absurd (omega arith)
 stop at expected (b ∷ text) fault some none found =

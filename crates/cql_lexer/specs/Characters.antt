@@ -13,7 +13,7 @@ is_name_byte b = is_ascii_alphanumeric b || b == 95
 abbrev pub begins_name_or_squares : ℕ → Bool
 begins_name_or_squares b = is_ascii_alphabetic b || b == 95 || b == 46 || b == 91
 
--- what names of files are made of: the bytes behind the space, other than `"`, `(` and `)`
+-- what names of files are made of: the bytes after the space, other than `"`, `(` and `)`
 abbrev pub is_file_byte : ℕ → Bool
 is_file_byte b = nat_le 33 b && not (b == 34 || b == 40 || b == 41)
 

@@ -1,8 +1,10 @@
 -- Designators: men, squares, or men on squares, as `R`, `a1`, `[KQ]a-h2` and `.[a1,b2-3]`.
-use Rattle.std.specs.Prelude.{ℕ, zero, suc, ◌+◌, ◌-◌, ◌*◌, ◌/◌, ◌%◌, ◌^◌, min, max, Bool, ◌&&◌, ◌||◌, ◌==◌, List, [], ◌∷◌, length, take, drop, count_by, Option, None, Some, if◌then◌else◌, codes, bit_or, option_and_then}
-use Rattle.std.specs.List.{position, slice_split, list_all}
+use Rattle.std.specs.Prelude.{ℕ, zero, suc, ◌+◌, ◌-◌, ◌^◌, min, max, Bool, ◌&&◌, not, ◌==◌, List, [], ◌∷◌, length, take, drop, Option, None, Some, if◌then◌else◌, codes, bit_or, option_and_then}
+use Rattle.std.specs.List.{position, slice_split}
 use Rattle.std.specs.Option.{option_map, option_or}
 use Rattle.cq_geometry.specs.Squares.{file_of, rank_of}
+use Rattle.cq_symmetry.specs.Images.{is_in}
+use Rattle.cq_symmetry.specs.Parts.{are_whole_ranks, are_whole_files}
 use Rattle.cql_syntax.specs.declared.leaves.Designator.{Designator}
 use Rattle.std.specs.Int.{is_in_range}
 use Rattle.cql_lexer.specs.Characters.{is_comma, is_closing_bracket}
@@ -79,25 +81,9 @@ specifications text = united specification 0 (slice_split is_comma text)
 abbrev pub squares_of : List ℕ → Option ℕ
 squares_of text = option_or (specification text) (option_and_then specifications (in_brackets text))
 
--- a square stands in a set of squares
-abbrev pub has_square : ℕ → ℕ → Bool
-has_square squares square = squares / 2 ^ square % 2 == 1
-
-abbrev pub eight : List ℕ
-eight = 0 ∷ 1 ∷ 2 ∷ 3 ∷ 4 ∷ 5 ∷ 6 ∷ 7 ∷ []
-
--- none or all of eight squares stand in the set: the first, and then each so many further on
-unfoldable pub none_or_all : ℕ → ℕ → ℕ → Bool
-none_or_all squares first step =
-    let here = count_by (λ k. has_square squares (first + step * k)) eight in here == 0 || here == 8
-
--- every rank that has one of the squares has all eight of them
-abbrev pub are_whole_ranks : ℕ → Bool
-are_whole_ranks squares = list_all (λ rank. none_or_all squares (8 * rank) 1) eight
-
--- every file that has one of the squares has all eight of them
-abbrev pub are_whole_files : ℕ → Bool
-are_whole_files squares = list_all (λ file. none_or_all squares file 8) eight
+-- both squares stand in a set, or neither does
+abbrev pub are_alike : ℕ → ℕ → ℕ → Bool
+are_alike squares one other = if is_in squares one then is_in squares other else not (is_in squares other)
 
 -- men on squares
 unfoldable pub men_on : ℕ → ℕ → Designator

@@ -1,5 +1,5 @@
 -- One token at the front of a text, by the seven rules.
-use Rattle.std.specs.Prelude.{ℕ, ◌+◌, ◌<◌, ◌≤◌, nat_lt, nat_le, nat_eq, List, [], ◌∷◌, length, take, drop, Option, None, Some, Result, Ok, Err, if◌then◌else◌, is_some, codes}
+use Rattle.std.specs.Prelude.{ℕ, ◌+◌, ◌<◌, ◌≤◌, nat_lt, nat_le, nat_eq, List, length, take, drop, Option, None, Some, Result, Ok, Err, if◌then◌else◌, is_some, codes}
 use Rattle.std.specs.Option.{option_map}
 use Rattle.std.specs.List.{position, prefix_len, starts_with}
 use Rattle.std.specs.Char.{is_ascii_digit}
@@ -25,13 +25,13 @@ of_len len kind = record { kind = kind; len = len }
 abbrev pub IsFront : Lexeme → List ℕ → Type 0
 IsFront lexeme text = (0 < lexeme.len) × (lexeme.len ≤ length text)
 
--- 1. behind `input` or `output`: the name of a file, the longest run of its bytes
+-- 1. after `input` or `output`: the name of a file, the longest run of its bytes
 unfoldable pub file_name : Expected → List ℕ → Option Lexeme
 file_name expectations.FileName text =
     let len = prefix_len is_file_byte text in if nat_lt 0 len then Some (of_len len (FileName (take len text))) else None
 file_name expected text = None
 
--- 2. behind `result`: a result
+-- 2. after `result`: a result
 unfoldable pub outcome : Expected → List ℕ → Option Lexeme
 outcome expectations.Outcome text =
     if starts_with nat_eq text (codes "1/2-1/2") then Some (of_len 7 (OutcomeToken outcomes.Draw))
@@ -43,7 +43,11 @@ outcome expected text = None
 
 -- 3. at a quote: a text to the next quote, any bytes between
 unfoldable pub quoted : List ℕ → Result Lexeme QueryReason
-quoted text = elim (position is_quote (drop 1 text)) [ Some end ↦ Ok (of_len (end + 2) (Text (take end (drop 1 text)))) | None ↦ Err UnclosedText ]
+quoted text =
+    elim (position is_quote (drop 1 text)) [
+      | Some end ↦ Ok (of_len (end + 2) (Text (take end (drop 1 text))))
+      | None ↦ Err UnclosedText
+    ]
 
 -- 4. at a digit: a number, the run of digits
 unfoldable pub number : List ℕ → Result Lexeme QueryReason
@@ -54,7 +58,11 @@ number text =
 
 -- a word, a reserved name or another name
 unfoldable pub named : List ℕ → QueryTokenKind
-named name = elim (place_of name words) [ Some word ↦ Word word | None ↦ if is_some (place_of name reserved_names) then Reserved name else Name name ]
+named name =
+    elim (place_of name words) [
+      | Some word ↦ Word word
+      | None ↦ if is_some (place_of name reserved_names) then Reserved name else Name name
+    ]
 
 -- 5. at a letter, `_`, `.` or `[`: the longest designator, where it reaches the end of the run of letters, digits and
 -- `_`; else that run

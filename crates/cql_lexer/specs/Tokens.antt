@@ -1,10 +1,12 @@
 -- The tokens of a query text.
-use Rattle.std.specs.Prelude.{◌≡◌, ◌<◌, ◌≤◌, ℕ, zero, suc, ◌+◌, ◌-◌, ◌||◌, ◌==◌, nat_lt, List, [], ◌∷◌, ◌++◌, length, Option, None, Some, Result, Ok, Err, if◌then◌else◌, codes, nat_eq, unwrap_or}
+use Rattle.std.specs.Prelude.{◌≡◌, ◌<◌, ◌≤◌, ℕ, zero, suc, ◌+◌, ◌-◌, ◌^◌, nat_lt, List, [], ◌∷◌, ◌++◌, length, drop, Option, Some, Result, Ok, Err, if◌then◌else◌, codes, nat_eq, unwrap_or}
 use Rattle.std.specs.List.{prefix_len, position, starts_with}
+use Rattle.cq_symmetry.specs.Parts.{are_whole_ranks, are_whole_files}
 use Rattle.cql_syntax.specs.Words.{word_of}
+use Rattle.cql_syntax.specs.declared.leaves.Designator.{Designator}
 use Rattle.cql_syntax.specs.declared.token.QueryToken.{QueryToken}
 use Rattle.cql_syntax.specs.declared.token.QueryTokenKind.{QueryTokenKind}
-use Rattle.cql_syntax.specs.declared.token.QueryTokenKind.TheVariants.{Word, Number, Mark, End}
+use Rattle.cql_syntax.specs.declared.token.QueryTokenKind.TheVariants.{Word, Squares, Number, Mark, End}
 use Rattle.cql_syntax.specs.declared.words.Word.{Word as Meaning}
 use Rattle.cql_syntax.specs.declared.words.Word.TheVariants as meanings
 use Rattle.cql_syntax.specs.declared.fault.QueryFault.{QueryFault}
@@ -15,14 +17,14 @@ use Rattle.cq_outside.specs.Text.{is_white}
 use Rattle.cql_lexer.specs.Characters.{is_line_feed}
 use Rattle.cql_lexer.specs.Lexemes.{first_lexeme}
 
--- what may stand directly behind a word, beside the tokens that may stand anywhere
+-- what may stand directly after a word, beside the tokens that may stand anywhere
 abbrev pub expected_after_word : Option Meaning → Expected
 expected_after_word (Some meanings.Input) = FileName
 expected_after_word (Some meanings.Output) = FileName
 expected_after_word (Some meanings.Result) = Outcome
 expected_after_word word = Token
 
--- what may stand directly behind a token, beside the tokens that may stand anywhere
+-- what may stand directly after a token, beside the tokens that may stand anywhere
 abbrev pub expected_after : QueryTokenKind → Expected
 expected_after (Word word) = expected_after_word (word_of word)
 expected_after kind = Token
@@ -58,7 +60,9 @@ tokens_from (suc passed) at expected (b ∷ text) = tokens_from passed (at + 1) 
 tokens_from zero at expected (b ∷ text) =
     let separator = separator_len (b ∷ text) in
     if nat_lt 0 separator then tokens_from (separator - 1) (at + 1) expected text
-    else result_and_then (λ found. with_front (found.0 ∷ []) (tokens_from (found.1 - 1) (at + 1) (expected_after found.0.kind) text)) (token_at expected at (b ∷ text))
+    else result_and_then
+    (λ found. with_front (found.0 ∷ []) (tokens_from (found.1 - 1) (at + 1) (expected_after found.0.kind) text))
+    (token_at expected at (b ∷ text))
 
 -- the tokens of a query, or its first lexical fault
 unfoldable pub tokens_of : List ℕ → Result (List QueryToken) QueryFault
@@ -66,9 +70,32 @@ tokens_of query =
     if nat_lt 65536 (length query) then Err (record { byte = 65536; reason = QueryTooLong })
     else tokens_from 0 0 Token query
 
--- a token other than the end, with its number in range: there are 74 words and 20 marks
+-- What a text reads as that begins at byte `at` of the query: separators are passed, else the first lexeme is a token, and what
+-- follows it is read after it; the end is one token, and a fault ends the reading.
+pub data IsRead : ℕ → Expected → List ℕ → Result (List QueryToken) QueryFault → Type 0 where
+  ended : (at : ℕ) (expected : Expected) → IsRead at expected [] (Ok (record { at = at; kind = End } ∷ []))
+  separated : (at : ℕ) (expected : Expected) (text : List ℕ) (read : Result (List QueryToken) QueryFault)
+      → 0 < separator_len text → IsRead (at + separator_len text) expected (drop (separator_len text) text) read
+      → IsRead at expected text read
+  lexed : (at : ℕ) (expected : Expected) (text : List ℕ) (token : QueryToken) (len : ℕ) (read : Result (List QueryToken) QueryFault)
+      → 0 < length text → separator_len text ≡ 0 → token_at expected at text ≡ Ok (token, len)
+      → IsRead (at + len) (expected_after token.kind) (drop len text) read → IsRead at expected text (with_front (token ∷ []) read)
+  faulty : (at : ℕ) (expected : Expected) (text : List ℕ) (fault : QueryFault)
+      → 0 < length text → separator_len text ≡ 0 → token_at expected at text ≡ Err fault → IsRead at expected text (Err fault)
+
+-- men, squares, and flags that tell of the squares: there are 13 men, the empty square one of them
+pub record IsProperDesignator (designator : Designator) : Type 0 where
+  pub men : 0 < designator.men
+  pub men_fit : designator.men < 2 ^ 13
+  pub squares : 0 < designator.part.squares
+  pub squares_fit : designator.part.squares < 2 ^ 64
+  pub whole_ranks : designator.part.whole_ranks ≡ are_whole_ranks designator.part.squares
+  pub whole_files : designator.part.whole_files ≡ are_whole_files designator.part.squares
+
+-- a token other than the end, with its number in range, and of men on squares: there are 74 words and 20 marks
 abbrev pub IsProper : QueryTokenKind → Type 0
 IsProper (Word word) = word < 74
+IsProper (Squares designator) = IsProperDesignator designator
 IsProper (Number number) = number ≤ 999999999
 IsProper (Mark mark) = mark < 20
 IsProper End = ⊥

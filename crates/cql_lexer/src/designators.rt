@@ -1,8 +1,10 @@
 //! Men, squares, and men on squares.
-ghost use Rattle.std.specs.Prelude.{◌≡◌, ◌==◌, ◌<◌, ◌≤◌, ◌+◌, ◌*◌, length, count_by, IfSome};
+ghost use Rattle.std.specs.Prelude.{◌≡◌, ◌==◌, ◌<◌, ◌≤◌, ◌+◌, length, IfSome};
 ghost use Rattle.std.specs.Option.{option_map};
 ghost use Rattle.std.specs.List.{position};
-ghost use Rattle.cql_lexer.specs.Designators.{group, men_of_letter, men_of_letters, men_of, rectangle, squares_within, specification, specifications, squares_of, are_whole_ranks, are_whole_files, men_on, designator, has_square, man_letters, none_or_all, eight};
+ghost use Rattle.cql_lexer.specs.Designators.{group, men_of_letter, men_of_letters, men_of, rectangle, squares_within, specification, specifications, squares_of, are_alike, men_on, designator, man_letters};
+ghost use Rattle.cq_symmetry.specs.Images.{is_in};
+ghost use Rattle.cq_symmetry.specs.Parts.{are_whole_ranks, are_whole_files};
 ghost use Rattle.cql_lexer.specs.Longest.{front, longest};
 
 use crate::characters::find;
@@ -160,55 +162,44 @@ fn men_at(text: &[u8]) -> Option<(u16, usize)>
 }
 
 // Whether a square stands in a set.
-fn has_square(squares: u64, square: u8) -> bool
+fn is_in(squares: u64, square: u8) -> bool
     requires { square < 64 }
-    ensures { result ≡ has_square squares square }
+    ensures { result ≡ is_in squares square }
 {
     squares >> square & 1 == 1
 }
 
-// How many of eight squares stand in a set: the first, and then each so many further on.
-fn count_of_eight(squares: u64, first: u8, step: u8) -> u8
-    requires { first + step * 7 < 64 }
-    ensures { result ≡ count_by (λ k. has_square squares (first + step * k)) eight }
+// Whether both squares stand in a set, or neither does.
+fn are_alike(squares: u64, one: u8, other: u8) -> bool
+    requires one { one < 64 }
+    requires other { other < 64 }
+    ensures { result ≡ are_alike squares one other }
 {
-    let mut here = 0;
-    for k in 0..8 {
-        if has_square(squares, first + step * k) {
-            here += 1;
-        }
+    if is_in(squares, one) {
+        is_in(squares, other)
+    } else {
+        !is_in(squares, other)
     }
-    here
 }
 
-// Whether none or all of these squares stand in a set.
-#[tactic(auto, unfolding(crate::specs::Designators::none_or_all))]
-fn none_or_all(squares: u64, first: u8, step: u8) -> bool
-    requires { first + step * 7 < 64 }
-    ensures { result ≡ none_or_all squares first step }
-{
-    let here = count_of_eight(squares, first, step);
-    here == 0 || here == 8
-}
-
-// Whether every rank that has one of the squares has all of them.
+// Whether every rank that has one of the squares has all of them: each square is in the set as the first of its rank is.
 fn are_whole_ranks(squares: u64) -> bool
     ensures { result ≡ are_whole_ranks squares }
 {
-    for rank in 0..8 {
-        if !none_or_all(squares, 8 * rank, 1) {
+    for square in 0..64 {
+        if !are_alike(squares, square, 8 * (square / 8)) {
             return false;
         }
     }
     true
 }
 
-// Whether every file that has one of the squares has all of them.
+// Whether every file that has one of the squares has all of them: each square is in the set as the first of its file is.
 fn are_whole_files(squares: u64) -> bool
     ensures { result ≡ are_whole_files squares }
 {
-    for file in 0..8 {
-        if !none_or_all(squares, file, 8) {
+    for square in 0..64 {
+        if !are_alike(squares, square, square % 8) {
             return false;
         }
     }

@@ -73,10 +73,10 @@ fn quoted(alloc: Global, text: &[u8]) -> Result<Lexeme, Refusal<QueryReason>>
     ensures value { Gives (λ lexeme. lexeme) result (quoted text.now) }
     ensures front { IfOk result (λ lexeme. IsFront lexeme text.now) }
 {
-    let behind = &text[1..];
-    match find(b'"', behind) {
+    let inside = &text[1..];
+    match find(b'"', inside) {
         Some(end) => Ok(Lexeme {
-            kind: QueryTokenKind::Text(Bytes::from_slice(alloc, &behind[..end])?),
+            kind: QueryTokenKind::Text(Bytes::from_slice(alloc, &inside[..end])?),
             len: end + 2,
         }),
         None => Err(Refusal::Fault(QueryReason::UnclosedText)),

@@ -9,4 +9,4 @@ mod lexeme;
 mod tests;
 mod tokens;
 
-pub use tokens::{QUERY_LIMIT, query_tokens, tokens_end_once};
+pub use tokens::{QUERY_LIMIT, query_tokens, tokens_are_read, tokens_end_once};

@@ -1,9 +1,10 @@
 //! The tokens of a query text.
-ghost use Rattle.std.specs.Prelude.{◌≡◌, ◌<◌, ◌≤◌, ◌+◌, length, drop, IfOk, OnOk, OnErr};
-ghost use Rattle.std.specs.Prelude.{◌++◌, ◌∷◌, [], ℕ, List};
+ghost use Rattle.std.specs.Prelude.{◌≡◌, ◌<◌, ◌≤◌, ◌+◌, length, drop, IfOk, OnOk};
+ghost use Rattle.std.specs.Prelude.{◌++◌, ◌∷◌, ◌↔◌, [], ℕ, List, Result};
+ghost use Rattle.cql_syntax.specs.declared.fault.QueryFault.{QueryFault};
 ghost use Rattle.cql_syntax.specs.declared.token.QueryToken.{QueryToken};
 ghost use Rattle.cq_outside.specs.Refusals.{Gives};
-ghost use Rattle.cql_lexer.specs.Tokens.{separator_len, token_at, tokens_of, EndOnce};
+ghost use Rattle.cql_lexer.specs.Tokens.{separator_len, token_at, tokens_of, EndOnce, IsRead};
 
 use crate::characters::find;
 use crate::expected::{Expected, expected_after};
@@ -57,8 +58,10 @@ fn push(tokens: &mut Vec<QueryToken>, token: QueryToken) -> Result<(), NoMemory>
 
 /// The tokens of a query, ended by one end at the number of its bytes, or its first lexical fault: more than 65,536
 /// bytes, at byte 65,536, before all others; else the first of a bad byte, an unclosed text and a number too large.
+/// The numbers of the tokens are in range, and each designator has men, squares and the flags of these.
 pub fn query_tokens(alloc: Global, query: &[u8]) -> Result<Vec<QueryToken>, Refusal<QueryFault>>
-    ensures { Gives (λ tokens. tokens.items) result (tokens_of query.now) }
+    ensures value { Gives (λ tokens. tokens.items) result (tokens_of query.now) }
+    ensures proper { IfOk result (λ tokens. EndOnce (length query.now) tokens.items) }
 {
     if query.len() > QUERY_LIMIT {
         return Err(Refusal::Fault(QueryFault {
@@ -88,9 +91,17 @@ pub fn query_tokens(alloc: Global, query: &[u8]) -> Result<Vec<QueryToken>, Refu
     Ok(tokens)
 }
 
-/// A law: the tokens of a query are some with their numbers in range, none of which is an end, and then one end at the
-/// number of the query's bytes.
+/// A law: the tokens of a query are some with their numbers in range, designators with men, with squares and with flags
+/// that tell of these, none of which is an end, and then one end at the number of the query's bytes.
 #[tactic(auto, using(crate::proofs::Ends::tokens_end))]
 pub fn tokens_end_once()
     ensures { (query : List ℕ) (tokens : List QueryToken) → tokens_of query ≡ Ok tokens → EndOnce (length query) tokens }
+{}
+
+/// A law: a query of at most 65,536 bytes is read in one way. Separators are passed, else the first lexeme is a token, and
+/// what follows it is read after it.
+#[tactic(auto, using(crate::proofs::ReadOnce::reads_tokens))]
+pub fn tokens_are_read()
+    ensures { (query : List ℕ) (read : Result (List QueryToken) QueryFault) → length query ≤ 65536 →
+        IsRead 0 Expected.Token query read ↔ (tokens_of query ≡ read) }
 {}

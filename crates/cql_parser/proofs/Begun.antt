@@ -121,7 +121,7 @@ end_by (suc fuel) l n c ps by_check goes_ low is ok =
 pub end_parts : (l n : ℕ) (c : Context) (ps : Parts) → Goes l n c ps → Ended l n c ps
 end_parts l n c ps goes_ = end_by (rank (end ps)) l n c ps (exit (end ps)) goes_ (omega arith) refl (is_exit (end ps))
 
-begins_less : (l : ℕ) (ts more_ : List QueryToken) → Begins l (ts ++ more_) → Begins l ts
+pub begins_less : (l : ℕ) (ts more_ : List QueryToken) → Begins l (ts ++ more_) → Begins l ts
 begins_less l ts more_ b = record { rest = more_ ++ b.rest; query = subst (Written l) (append_assoc ts more_ b.rest) b.query }
 
 -- what follows where a rule is at its end

@@ -1,6 +1,7 @@
 mod Answer
 mod Begun
 mod Exits
+mod Faults
 mod Limits
 mod Plants
 mod Read

@@ -1,10 +1,32 @@
-//! Laws of the queries that token lists spell.
-ghost use Rattle.std.specs.Prelude.{◌≡◌, List};
+//! Laws of the queries that token lists spell, and of their faults.
+ghost use Rattle.std.specs.Prelude.{◌≡◌, ℕ, List, Ok};
 ghost use Rattle.cql_syntax.specs.Trees.{QueryTree};
+ghost use Rattle.cql_syntax.specs.declared.fault.QueryFault.{QueryFault};
 ghost use Rattle.cql_syntax.specs.declared.token.QueryToken.{QueryToken};
+ghost use Rattle.cql_lexer.specs.Tokens.{tokens_of};
 ghost use Rattle.cql_parser.specs.Drafts.{Spells};
+ghost use Rattle.cql_parser.specs.Faults.{IsEnded, IsFault};
+
+use cql_lexer::tokens_end_once;
 
 /// A law: a list of tokens spells at most one query.
 pub fn tokens_spell_at_most_one_query()
     ensures { (tokens : List QueryToken) (q r : QueryTree) → Spells 64 tokens q → Spells 64 tokens r → q ≡ r }
 {}
+
+/// A law: a list of tokens has at most one fault.
+pub fn tokens_have_at_most_one_fault()
+    ensures { (tokens : List QueryToken) (f g : QueryFault) → IsFault tokens f → IsFault tokens g → f ≡ g }
+{}
+
+/// A law: tokens that have a fault spell no query.
+pub fn faulty_tokens_spell_no_query()
+    ensures { (tokens : List QueryToken) (f : QueryFault) (q : QueryTree) → IsFault tokens f → Spells 64 tokens q → ⊥ }
+{}
+
+/// A law: the last of the tokens of a text is the end.
+pub fn tokens_of_a_text_are_ended()
+    ensures { (text : List ℕ) (tokens : List QueryToken) → tokens_of text ≡ Ok tokens → IsEnded tokens }
+{
+    tokens_end_once();
+}

@@ -7,5 +7,8 @@ mod NumberRows
 mod PositionRows
 mod LineRows
 mod FamilyRows
+mod FaultRows
 mod HitRows
 mod ValueKinds
+mod TreeLists
+mod EdgeRows

@@ -18,7 +18,7 @@ use Rattle.cql_syntax.specs.declared.leaves.Unary.TheVariants.{Not, Light, Dark}
 use Rattle.cql_syntax.specs.declared.leaves.Way.TheVariants.{Up}
 
 -- White's king on b3, Black's on h8
-abbrev kings : SearchedTree
+abbrev pub kings : SearchedTree
 kings = alone (bare White None ((17, K) ∷ (63, BlackK) ∷ []))
 
 -- the squares that a family of this square finds White's king on

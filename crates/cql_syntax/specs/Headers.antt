@@ -1,6 +1,7 @@
 -- What queries read of a game's tags and of its result.
 use Rattle.std.specs.Prelude.{ℕ, ◌+◌, ◌-◌, ◌*◌, Bool, true, false, ◌&&◌, ◌||◌, nat_le, if◌then◌else◌, List, [], length, take, drop, Option, Some, None, codes, fold, ℤ, pos}
 use Rattle.std.specs.List.{list_any, list_all, range_with_len, find}
+use Rattle.std.specs.Char.{is_ascii_digit}
 use Rattle.std.specs.Str.{bytes_eq}
 use Rattle.cq_position.specs.declared.games.GameResult.{GameResult}
 use Rattle.cq_position.specs.declared.games.GameResult.TheVariants.{White as WhiteWon, Black as BlackWon, Draw as Drawn, Open}
@@ -34,12 +35,9 @@ has_text game Event text = is_part_of text (tag game (codes "Event"))
 has_text game Site text = is_part_of text (tag game (codes "Site"))
 
 -- the number that a text writes, where it is digits alone and has at least one and at most so many
-abbrev pub is_digit : ℕ → Bool
-is_digit b = nat_le 48 b && nat_le b 57
-
 abbrev pub number_in : ℕ → List ℕ → Option ℤ
 number_in most text =
-    if nat_le 1 (length text) && nat_le (length text) most && list_all is_digit text
+    if nat_le 1 (length text) && nat_le (length text) most && list_all is_ascii_digit text
     then Some (pos (fold (λ n b. n * 10 + (b - 48)) 0 text)) else None
 
 -- the first four bytes of the date, where they are digits

@@ -25,10 +25,12 @@ pub record HitRows : Type 0 where
   pub hits_on_main_line : hits (asked false (btm ∷ [])) opening ≡ 1 ∷ []
   pub no_node_at_which_all_items_hold : hits (asked true (btm ∷ wtm ∷ [])) opening ≡ []
   pub no_items : hits (asked false []) opening ≡ 0 ∷ 1 ∷ 2 ∷ []
-  pub marks_in_order : marks (asked true (remark (codes "a") ∷ btm ∷ remark (codes "b") ∷ [])) ≡ codes "CQL" ∷ codes "a" ∷ codes "b" ∷ []
+  pub marks_in_order :
+      marks (asked true (remark (codes "a") ∷ btm ∷ remark (codes "b") ∷ [])) ≡ codes "CQL" ∷ codes "a" ∷ codes "b" ∷ []
   pub greatest_key : keys (asked true (by_ply false ∷ [])) opening ≡ Some (pos 2) ∷ []
   pub least_key : keys (asked true (btm ∷ by_ply true ∷ by_ply false ∷ [])) opening ≡ Some (pos 1) ∷ Some (pos 1) ∷ []
   pub least_of_several : keys (asked true (by_ply true ∷ [])) opening ≡ Some (pos 0) ∷ []
   pub no_key : keys (asked true (btm ∷ [])) opening ≡ []
-  pub marked_nodes : map (λ n. n.comments) (marked (asked false (wtm ∷ remark (codes " y  z ") ∷ remark (codes " ") ∷ [])) opening).nodes
+  pub marked_nodes :
+      map (λ n. n.comments) (marked (asked false (wtm ∷ remark (codes " y  z ") ∷ remark (codes " ") ∷ [])) opening).nodes
       ≡ (codes "CQL" ∷ codes "y z" ∷ []) ∷ [] ∷ (codes "x" ∷ codes "CQL" ∷ codes "y z" ∷ []) ∷ [] ∷ []

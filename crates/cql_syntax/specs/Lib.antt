@@ -1,6 +1,8 @@
 pub mod Contexts
+pub mod EdgeRows
 pub mod Extents
 pub mod FamilyRows
+pub mod FaultRows
 pub mod Headers
 pub mod HitRows
 pub mod Hits
@@ -8,12 +10,16 @@ pub mod Kinds
 pub mod LineRows
 pub mod Meaning
 pub mod NumberRows
+pub mod Occurrences
 pub mod Places
 pub mod PositionRows
 pub mod Samples
 pub mod SetRows
+pub mod TreeFaults
+pub mod TreeLists
 pub mod TreeOf
 pub mod Trees
 pub mod Values
+pub mod Wants
 pub mod Weights
 pub mod Words

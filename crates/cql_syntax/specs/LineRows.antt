@@ -43,7 +43,8 @@ pub record LineRows : Type 0 where
   pub too_short_a_game : down ((btm, Once) ∷ (wtm, Once) ∷ (btm, Once) ∷ []) 1 ≡ None
   pub through_a_variation : down ((wtm, Once) ∷ (at (plain Variation), Once) ∷ []) 0 ≡ Some (pos 2)
   pub not_through_a_variation : primary false ((wtm, Once) ∷ (at (plain Variation), Once) ∷ []) 0 ≡ None
-  pub searched_tree_alone : worked main_of (line (path false false Any (parts ((wtm, Once) ∷ (at (plain Variation), Once) ∷ [])))) 0 ≡ None
+  pub searched_tree_alone :
+      worked main_of (line (path false false Any (parts ((wtm, Once) ∷ (at (plain Variation), Once) ∷ [])))) 0 ≡ None
   pub upwards : up ((wtm, Once) ∷ (btm, Once) ∷ (wtm, Once) ∷ []) 2 ≡ Some (pos 3)
   pub up_from_a_variation : up ((king, Star) ∷ []) 3 ≡ Some (pos 2)
   pub not_upwards : up ((wtm, Once) ∷ (btm, Once) ∷ []) 0 ≡ None

@@ -15,7 +15,8 @@ use Rattle.cq_position.specs.Legal.{after, after_pass}
 use Rattle.cq_position.specs.Moves.{null_move}
 use Rattle.cq_position.specs.Search.{SearchedTree}
 use Rattle.cql_syntax.specs.Meaning.{value}
-use Rattle.cql_syntax.specs.Trees.{FilterTree, filter_at, FormTree, designator, number, FilterTrees, no_filters, more_filters, PartTrees, no_parts, more_parts, atom}
+use Rattle.cql_syntax.specs.TreeLists.{filters_from}
+use Rattle.cql_syntax.specs.Trees.{FilterTree, filter_at, FormTree, designator, number, FilterTrees, PartTrees, no_parts, more_parts, atom}
 use Rattle.cql_syntax.specs.Values.{holds, has, amount}
 use Rattle.cql_syntax.specs.declared.leaves.Mark.{Mark}
 
@@ -61,8 +62,8 @@ after_d4 = after start_board (step 11 27 NoPromotion)
 -- `1. e4 (1. d4) e5 {x}`: e4 is node 1, e5 is node 2 and d4 is node 3
 abbrev pub opening : Game
 opening = record {
-  tags = (codes "White", codes "Tal, M") ∷ (codes "Black", codes "Fine, R") ∷ (codes "Event", codes "Cup") ∷ (codes "Site", codes "Riga")
-      ∷ (codes "Date", codes "1960.05.07") ∷ (codes "WhiteElo", codes "2700") ∷ (codes "BlackElo", codes "2650") ∷ [];
+  tags = (codes "White", codes "Tal, M") ∷ (codes "Black", codes "Fine, R") ∷ (codes "Event", codes "Cup")
+      ∷ (codes "Site", codes "Riga") ∷ (codes "Date", codes "1960.05.07") ∷ (codes "WhiteElo", codes "2700") ∷ (codes "BlackElo", codes "2650") ∷ [];
   result = WhiteWon;
   nodes = root start_board ∷ move_node 0 (step 12 28 NoPromotion) after_e4 []
       ∷ move_node 1 (step 52 36 NoPromotion) after_e5 (codes "x" ∷ [])
@@ -128,8 +129,7 @@ abbrev pub num : ℕ → FilterTree
 num n = at (number n)
 
 abbrev pub filters : List FilterTree → FilterTrees
-filters [] = no_filters
-filters (f ∷ fs) = more_filters f (filters fs)
+filters fs = filters_from fs
 
 abbrev pub parts : List (FilterTree × Mark) → PartTrees
 parts [] = no_parts

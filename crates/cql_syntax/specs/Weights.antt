@@ -43,7 +43,8 @@ abbrev mutual
   line_weight (path back primary extent cs) = parts_weight cs
 
   pub played_weight : PlayedTree → ℕ
-  played_weight (move_of origin goal taken promoted) = written_weight origin + written_weight goal + written_weight taken + written_weight promoted
+  played_weight (move_of origin goal taken promoted) =
+      written_weight origin + written_weight goal + written_weight taken + written_weight promoted
 
   pub written_weight : WrittenTree → ℕ
   written_weight left_out = 0

@@ -4,7 +4,7 @@ use crate::leaves::Kind;
 use cq_outside::Bytes;
 
 /// The fault of a query, and where it stands.
-#[derive(Drop, Debug)]
+#[derive(Drop, Debug, PartialEq, Eq)]
 pub struct QueryFault {
     /// A place in the query's bytes, from 0.
     pub byte: u32,
@@ -12,7 +12,7 @@ pub struct QueryFault {
 }
 
 /// What is wrong with a query.
-#[derive(Drop, Debug)]
+#[derive(Drop, Debug, PartialEq, Eq)]
 pub enum QueryReason {
     /// A byte that begins no token.
     BadByte,

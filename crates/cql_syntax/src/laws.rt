@@ -2,6 +2,7 @@
 ghost use Rattle.cq_outside.specs.Spelling.{TestIsSpelling};
 ghost use Rattle.cq_position.specs.Search.{SearchedTree};
 ghost use Rattle.cql_syntax.specs.Contexts.{Context};
+ghost use Rattle.cql_syntax.specs.EdgeRows.{FitRows, ExchangeRows, EdgeRows};
 ghost use Rattle.cql_syntax.specs.FamilyRows.{FamilyRows, DropRows, ImageRows};
 ghost use Rattle.cql_syntax.specs.HitRows.{HitRows};
 ghost use Rattle.cql_syntax.specs.Kinds.{filter_kind};
@@ -10,6 +11,7 @@ ghost use Rattle.cql_syntax.specs.Meaning.{Names, value};
 ghost use Rattle.cql_syntax.specs.NumberRows.{NumberRows, ComparisonRows};
 ghost use Rattle.cql_syntax.specs.PositionRows.{WordRows, HeaderRows, LogicRows, TreeRows};
 ghost use Rattle.cql_syntax.specs.SetRows.{SetRows, DirectionRows};
+ghost use Rattle.cql_syntax.specs.TreeLists.{AreInverse, AreTreesOfEach, EndsAlike, filters_from, filters_of, parts_from, parts_of, terms_from, terms_of};
 ghost use Rattle.cql_syntax.specs.Trees.{FilterTree};
 ghost use Rattle.cql_syntax.specs.Values.{Value, is_of_kind};
 ghost use Rattle.std.specs.Prelude.{◌≡◌, ℕ, true};
@@ -52,6 +54,14 @@ pub fn families_are_as_worked()
     ensures images { ImageRows }
 {}
 
+/// Which filters fit a shift, what an exchange of colours and a turn make of leaves, and values at their edges.
+#[tactic(auto, using(crate::proofs::EdgeRows::fit_rows, crate::proofs::EdgeRows::exchange_rows, crate::proofs::EdgeRows::edge_rows))]
+pub fn edges_are_as_worked()
+    ensures fits { FitRows }
+    ensures exchanges { ExchangeRows }
+    ensures edges { EdgeRows }
+{}
+
 /// What queries hit, what they mark hits with, and what they sort by.
 #[tactic(auto, using(crate::proofs::HitRows::hit_rows))]
 pub fn hits_are_as_worked()
@@ -69,4 +79,14 @@ pub fn lines_are_tested_by_splits()
 pub fn values_are_of_their_kind()
     ensures { (tree : SearchedTree) (g : Context) (e : Names) (f : FilterTree) (n : ℕ) →
         is_of_kind (filter_kind f) (value tree g e f n) ≡ true }
+{}
+
+/// The lists of a query's tree are lists: each is one in one way, and the trees of values in a row are those of each.
+#[tactic(auto, using(crate::proofs::TreeLists::filter_lists, crate::proofs::TreeLists::term_lists, crate::proofs::TreeLists::part_lists, crate::proofs::TreeLists::ends_alike, crate::proofs::TreeLists::trees_of_each))]
+pub fn tree_lists_are_lists()
+    ensures filters { AreInverse filters_of filters_from }
+    ensures terms { AreInverse terms_of terms_from }
+    ensures parts { AreInverse parts_of parts_from }
+    ensures ends { EndsAlike }
+    ensures each { AreTreesOfEach }
 {}

@@ -4,6 +4,7 @@
 pub mod copies;
 pub mod extents;
 pub mod fault;
+pub mod fault_laws;
 pub mod kinds;
 pub mod laws;
 pub mod leaves;
@@ -11,6 +12,7 @@ pub mod leaves;
 mod tests;
 pub mod token;
 pub mod tree;
+pub mod typed;
 pub mod weights;
 pub mod words;
 
@@ -22,5 +24,6 @@ pub use token::{QueryToken, QueryTokenKind};
 pub use tree::{
     Body, Constituent, Constituents, Filter, Filters, Form, Line, Played, Query, Term, Terms,
 };
+pub use typed::TypedQuery;
 pub use weights::{WEIGHT_LIMIT, weight};
 pub use words::{Sign, Word, is_reserved, mark_number, sign_of, word_number, word_of};

@@ -109,7 +109,9 @@ fn agrees(
     kind: Kind,
     heavy: u64,
 ) -> Result<(), NoMemory> {
-    let copied = filter(form).copy(alloc)?;
+    let original = filter(form);
+    let copied = original.copy(alloc)?;
+    assert_eq!(rt; copied, original);
     assert_eq!(rt; kind_of(&copied), kind);
     let mut items = Filters::new(alloc);
     items.push(copied)?;
@@ -223,6 +225,19 @@ fn forms_of_several_parts_have_their_kinds(rt: HostRuntime) -> Result<(), Fail> 
     filters.push(check())?;
     assert_eq!(rt; filters.len(), 3);
     assert_eq!(rt; filters.as_slice().len(), 3);
+    Ok(())
+}
+
+#[test]
+fn trees_that_differ_are_not_equal(rt: HostRuntime) -> Result<(), Fail> {
+    let alloc = rt.alloc();
+    let two = checks(alloc, 2)?;
+    assert_ne!(rt; two, checks(alloc, 3)?);
+    let flipped = in_families(alloc, Family::Flip, 2)?;
+    assert_ne!(rt; flipped, in_families(alloc, Family::Flip, 1)?);
+    assert_ne!(rt; flipped, in_families(alloc, Family::Shift, 2)?);
+    assert_ne!(rt; repeated(alloc, 2, 2)?, repeated(alloc, 3, 2)?);
+    assert_eq!(rt; query(alloc, two)?, query(alloc, checks(alloc, 2)?)?);
     Ok(())
 }
 

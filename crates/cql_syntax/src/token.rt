@@ -4,7 +4,7 @@ use crate::leaves::{Designator, Outcome};
 use cq_outside::Bytes;
 
 /// A token, and where it stands.
-#[derive(Drop, Debug)]
+#[derive(Drop, Debug, PartialEq, Eq)]
 pub struct QueryToken {
     /// The place of its first byte in the query, from 0. Of the end, the number of bytes.
     pub at: u32,
@@ -12,7 +12,7 @@ pub struct QueryToken {
 }
 
 /// What a token is.
-#[derive(Drop, Debug)]
+#[derive(Drop, Debug, PartialEq, Eq)]
 pub enum QueryTokenKind {
     /// A word of the language, by its number in the list of the words, from 0.
     Word(u16),
@@ -26,9 +26,9 @@ pub enum QueryTokenKind {
     Number(u32),
     /// What stands between two quotes.
     Text(Bytes),
-    /// The name of a file behind `input` or `output`.
+    /// The name of a file after `input` or `output`.
     FileName(Bytes),
-    /// A result of a game behind `result`.
+    /// A result of a game after `result`.
     Outcome(Outcome),
     /// A mark, by its number, from 0, in `-->`, `<--`, `<=`, `>=`, `==`, `<`, `>`, `+`, `-`, `*`, `?`, `#`, `|`, `&`,
     /// `~`, `(`, `)`, `{`, `}`, `,`.

@@ -11,7 +11,7 @@ use std::alloc::Global;
 
 /// A filter, and the byte of the query text at which it begins, its own parentheses included.
 #[cycle(filter)]
-#[derive(Drop)]
+#[derive(Drop, Debug, PartialEq)]
 pub struct Filter {
     pub at: u32,
     pub form: Form,
@@ -19,7 +19,7 @@ pub struct Filter {
 
 /// What a filter asks.
 #[cycle(filter)]
-#[derive(Drop)]
+#[derive(Drop, Debug, PartialEq)]
 pub enum Form {
     Squares(Designator),
     Number(u32),
@@ -54,7 +54,7 @@ pub enum Form {
 
 /// A part of a sum.
 #[cycle(filter)]
-#[derive(Drop)]
+#[derive(Drop, Debug, PartialEq)]
 pub struct Term {
     /// The part is taken away.
     pub minus: bool,
@@ -63,7 +63,7 @@ pub struct Term {
 
 /// A pattern of the nodes along a path.
 #[cycle(filter)]
-#[derive(Drop)]
+#[derive(Drop, Debug, PartialEq)]
 pub struct Line {
     /// The path goes up, by `<--`.
     pub back: bool,
@@ -76,7 +76,7 @@ pub struct Line {
 
 /// What is asked of the move that led to a position, part by part, where it is written.
 #[cycle(filter)]
-#[derive(Drop)]
+#[derive(Drop, Debug, PartialEq)]
 pub struct Played {
     /// The squares that it may have come from.
     pub origin: Option<Box<Filter>>,
@@ -90,7 +90,7 @@ pub struct Played {
 
 /// A part of a line.
 #[cycle(filter)]
-#[derive(Drop)]
+#[derive(Drop, Debug, PartialEq)]
 pub struct Constituent {
     pub body: Body,
     pub mark: Mark,
@@ -98,7 +98,7 @@ pub struct Constituent {
 
 /// What a part of a line spells once.
 #[cycle(filter)]
-#[derive(Drop)]
+#[derive(Drop, Debug, PartialEq)]
 pub enum Body {
     /// One node at which the filter holds.
     Atom(Box<Filter>),
@@ -108,27 +108,27 @@ pub enum Body {
 
 /// A list of filters that grows.
 #[cycle(filter)]
-#[derive(Drop)]
+#[derive(Drop, Debug, PartialEq)]
 pub struct Filters {
     items: Vec<Filter>,
 }
 
 /// A list of the terms of a sum that grows.
 #[cycle(filter)]
-#[derive(Drop)]
+#[derive(Drop, Debug, PartialEq)]
 pub struct Terms {
     items: Vec<Term>,
 }
 
 /// A list of the parts of a line that grows.
 #[cycle(filter)]
-#[derive(Drop)]
+#[derive(Drop, Debug, PartialEq)]
 pub struct Constituents {
     items: Vec<Constituent>,
 }
 
 /// A query: its header's parameters and its top items.
-#[derive(Drop)]
+#[derive(Drop, Debug, PartialEq)]
 pub struct Query {
     /// All nodes of a game are searched, and not the main line alone.
     pub variations: bool,
@@ -185,7 +185,7 @@ impl Filters {
     }
 
     /// What it takes memory from.
-    pub(crate) fn allocator(&self) -> Global {
+    pub fn allocator(&self) -> Global {
         *self.items.allocator()
     }
 }

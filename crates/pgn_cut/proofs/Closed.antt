@@ -21,7 +21,7 @@ use Rattle.pgn_cut.specs.Cut.{is_result, marks, is_marker, depth, opens, has_mov
 use Rattle.pgn_cut.specs.Spans.{FinishesAt}
 use Rattle.pgn_cut.specs.declared.span.Span.{Span}
 
--- the games that some lexemes close, where `game` has those before them of the open game, and the lexemes of the game that is open behind them
+-- the games that some lexemes close, where `game` has those before them of the open game, and the lexemes of the game that is open after them
 closed_by : (game ls : List Lexeme) → List Span
 closed_by game [] = []
 closed_by game (l ∷ ls) =
@@ -44,7 +44,7 @@ choice_splits place rest true u a b c ca cb cc oa ob oc is_a is_b is_c = is_a
 choice_splits place rest false true a b c ca cb cc oa ob oc is_a is_b is_c = is_b
 choice_splits place rest false false a b c ca cb cc oa ob oc is_a is_b is_c = is_c
 
--- a cut goes on behind the games that its first lexemes close
+-- a cut goes on after the games that its first lexemes close
 cut_splits : (place : ℕ) (game ls rest : List Lexeme) → cut_from place game (ls ++ rest) ≡ closed_by game ls ++ cut_from place (open_by game ls) rest
 unfolding cut_from closed_by open_by
 cut_splits place game [] rest = refl
@@ -111,7 +111,7 @@ goes_in place game l ls no_open no_marker =
     ap (λ t. cond t (span_to l.at game ++ cut_from place (l ∷ []) ls) (cond (ends_behind game l) (span_to (end l) (game ++ l ∷ []) ++ cut_from place [] ls) (cut_from place (game ++ l ∷ []) ls))) before
     ∙ ap (λ t. cond t (span_to (end l) (game ++ l ∷ []) ++ cut_from place [] ls) (cut_from place (game ++ l ∷ []) ls)) behind
 
--- the letter x behind all as a lexeme
+-- the letter x after all as a lexeme
 x_behind : ℕ → Bool → Lexeme
 x_behind at first = record { at = at; first = first; text = 120 ∷ []; kind = Token Symbol }
 
@@ -119,7 +119,7 @@ x_alone : (at : ℕ) (first : Bool) → lexemes at first (120 ∷ []) ≡ x_behi
 unfolding lexemes_from reading symbol x_behind
 x_alone at first = refl
 
--- a game behind which x stands ends one byte later
+-- a game after which x stands ends one byte later
 x_ends : (place at : ℕ) (first : Bool) (game : List Lexeme) → FinishesAt place (cut_from place game (lexemes at first (120 ∷ [])))
 unfolding x_behind
 x_ends place at first game =
@@ -253,7 +253,7 @@ module _ (follow : LexemesFollow) (grow : ReadingsGrow) (longest : AreLongest) w
       let n = (reading first b bs).len in
       follow at first b bs dark ∙ ap (λ l. lexeme at first b bs ∷ lexemes (at + n) (first_at first (b ∷ bs) n) l) (drop_all n (b ∷ bs) (omega arith))
 
-  -- the games of a lexeme that reaches the end, alone behind a game
+  -- the games of a lexeme that reaches the end, alone after a game
   whole_ends : (at : ℕ) (first : Bool) (game : List Lexeme) (b : ℕ) (bs : List ℕ) → is_white b ≡ false → (reading first b bs).len ≡ length (b ∷ bs) → is_left_open (reading first b bs).kind ≡ true
       → FinishesAt (at + length (b ∷ bs)) (cut_from (at + length (b ∷ bs)) game (lexemes at first (b ∷ bs)))
   unfolding cut_from
@@ -268,7 +268,7 @@ module _ (follow : LexemesFollow) (grow : ReadingsGrow) (longest : AreLongest) w
       ∙ ap (λ e. cond (ends_behind game l) (span_to e (game ++ l ∷ []) ++ cut_from place [] []) (cut_from place (game ++ l ∷ []) [])) ends))
       (of_both (FinishesAt place) (ends_behind game l) (span_to place (game ++ l ∷ []) ++ []) (cut_from place (game ++ l ∷ []) []) (first_of_span place (game ++ l ∷ [])) (last_ends place (game ++ l ∷ [])))
 
-  -- the reading of such a text with x behind it either takes the x or stays
+  -- the reading of such a text with x after it either takes the x or stays
   x_taken : (at : ℕ) (first : Bool) (game : List Lexeme) (b : ℕ) (bs : List ℕ) → is_white b ≡ false → length (b ∷ bs) < (reading first b (bs ++ 120 ∷ [])).len
       → FinishesAt (at + length (b ∷ bs) + 1) (cut_from (at + length (b ∷ bs) + 1) game (lexemes at first (b ∷ bs ++ 120 ∷ [])))
   x_taken at first game b bs dark longer =

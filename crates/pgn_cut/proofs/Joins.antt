@@ -81,7 +81,7 @@ none_marked_twice : (a b : Bool) (n : ℕ) → cond (a && (b && false)) 3 0 ≤ 
 none_marked_twice true b n = none_marked b n
 none_marked_twice false b n = omega arith
 
--- the text behind a byte order mark
+-- the text after a byte order mark
 pub text_within : (archive : List ℕ) → text_start archive ≤ length archive
 text_within [] = omega arith
 text_within (x ∷ []) = none_marked (239 == x) 1

@@ -17,7 +17,7 @@ pub white_space : cut (codes "  " ++ 13 ∷ 10 ∷ []) ≡ []
 unfolding lexemes_from cut_from
 white_space = refl
 
--- a byte order mark is no part of a game, and the byte behind it stands in the first column
+-- a byte order mark is no part of a game, and the byte after it stands in the first column
 pub mark_alone : cut byte_order_mark ≡ []
 unfolding lexemes_from cut_from
 mark_alone = refl
@@ -58,7 +58,7 @@ pub longer_symbol : cut (codes "1. e4 1-0x *") ≡ span 0 12 true ∷ []
 unfolding lexemes_from cut_from reading single symbol
 longer_symbol = refl
 
--- comments behind the last marker are no game, but one that is never closed is
+-- comments after the last marker are no game, but one that is never closed is
 pub comment_behind : cut (codes "* {a} ;b") ≡ span 0 1 true ∷ []
 unfolding lexemes_from cut_from reading single comment line_comment
 comment_behind = refl
@@ -81,7 +81,7 @@ pub closed_late : closed (codes "* 1-0 ") ≡ span 0 1 true ∷ span 2 5 false �
 unfolding lexemes_from cut_from reading single symbol
 closed_late = refl
 
--- a comment behind the last marker is no game, and a [ in the first column closes the game before it
+-- a comment after the last marker is no game, and a [ in the first column closes the game before it
 pub closed_comment : closed (codes "* {c}") ≡ span 0 1 true ∷ []
 unfolding lexemes_from cut_from reading single symbol comment
 closed_comment = refl

@@ -20,7 +20,7 @@ marks _ text = false
 abbrev pub is_marker : Lexeme → Bool
 is_marker l = marks l.kind l.text
 
--- section 8.2.5: the depth of variations behind some lexemes of a game; a ) too many doesn't count
+-- section 8.2.5: the depth of variations after some lexemes of a game; a ) too many doesn't count
 abbrev pub nest : ℕ → LexemeKind → ℕ
 nest depth (Token LeftParen) = depth + 1
 nest depth (Token RightParen) = depth - 1
@@ -29,7 +29,7 @@ nest depth _ = depth
 abbrev pub depth : List Lexeme → ℕ
 depth game = fold (λ d l. nest d l.kind) 0 game
 
--- section 8.1: whether a tag pair is open behind some lexemes
+-- section 8.1: whether a tag pair is open after some lexemes
 abbrev pub opens_pair : Bool → LexemeKind → Bool
 opens_pair open_ (Token Open) = true
 opens_pair open_ (Token Close) = false
@@ -70,7 +70,7 @@ opens _ = false
 abbrev pub ends_before : List Lexeme → Lexeme → Bool
 ends_before game l = opens l.kind && l.first && has_movetext game
 
--- A game of these lexemes ends behind the next one: a marker outside variations.
+-- A game of these lexemes ends after the next one: a marker outside variations.
 abbrev pub ends_behind : List Lexeme → Lexeme → Bool
 ends_behind game l = is_marker l && depth game == 0
 

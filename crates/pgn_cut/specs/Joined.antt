@@ -11,4 +11,5 @@ game_bytes archive game = slice_range archive game.start game.end
 
 -- the tokens of a game are those among the archive's lexemes within it
 abbrev pub HasItsTokens : List ℕ → Span → Type 0
-HasItsTokens archive game = tokens_of game.start game.first (game_bytes archive game) ≡ tokens_among (within game.start game.end (archive_lexemes archive))
+HasItsTokens archive game =
+    tokens_of game.start game.first (game_bytes archive game) ≡ tokens_among (within game.start game.end (archive_lexemes archive))

@@ -18,7 +18,7 @@ abbrev pub span_from : ℕ → Option Start → Option Span
 span_from place None = None
 span_from place (Some start) = Some (record { start = start.at; end = place; first = start.first })
 
--- whether a tag pair is open behind some lexemes
+-- whether a tag pair is open after some lexemes
 abbrev pub in_pair : List Lexeme → Bool
 in_pair game = fold (λ open_ l. opens_pair open_ l.kind) false game
 
@@ -28,7 +28,8 @@ has_more game = not (list_all (λ l. is_passed_over l.kind) game)
 
 -- what is kept of a game with these lexemes
 unfoldable pub progress_of : List Lexeme → Game
-progress_of game = record { start = start_of game; depth = depth game; in_pair = in_pair game; has_movetext = has_movetext game; has_more = has_more game }
+progress_of game =
+    record { start = start_of game; depth = depth game; in_pair = in_pair game; has_movetext = has_movetext game; has_more = has_more game }
 
 -- A step over a lexeme is a step of the cut: whatever lexemes stand for the state before, some stand for the one now,
 -- and the games of what follows are the same but for the one that was closed.

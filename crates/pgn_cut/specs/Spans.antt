@@ -6,7 +6,7 @@ use Rattle.pgn_cut.specs.declared.span.Span.{Span}
 abbrev pub EndsBy : ℕ → Span → Type 0
 EndsBy place s = (s.start < s.end) × (s.end ≤ place)
 
--- spans stand in order from a place on: each ends by another place, and begins where the one before it ends or behind that
+-- spans stand in order from a place on: each ends by another place, and begins where the one before it ends or after that
 abbrev pub AreInOrder : ℕ → ℕ → List Span → Type 0
 AreInOrder from to [] = Unit {0}
 AreInOrder from to (s ∷ ss) = (from ≤ s.start) × EndsBy to s × AreInOrder s.end to ss

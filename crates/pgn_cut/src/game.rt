@@ -44,7 +44,7 @@ fn is_marker(lexeme: Lexeme<'_>) -> bool
     }
 }
 
-/// The depth of variations behind a lexeme.
+/// The depth of variations after a lexeme.
 fn nest(depth: usize, kind: LexemeKind) -> usize
     requires { depth < 2 ^ 62 }
     ensures value { result ≡ nest depth kind }
@@ -57,7 +57,7 @@ fn nest(depth: usize, kind: LexemeKind) -> usize
     }
 }
 
-/// Whether a tag pair is open behind a lexeme.
+/// Whether a tag pair is open after a lexeme.
 fn opens_pair(in_pair: bool, kind: LexemeKind) -> bool
     ensures { result ≡ opens_pair in_pair kind }
 {
@@ -140,7 +140,8 @@ impl Game {
     fn with(self, lexeme: Lexeme<'_>, offset: u64) -> Game
         requires depth { self.depth < 2 ^ 62 }
         requires place { offset + lexeme.at < 2 ^ 63 }
-        ensures value { (game : List ALexeme) → self ≡ progress_of game → result ≡ progress_of (game ++ shown offset lexeme.entry ∷ []) }
+        ensures value { (game : List ALexeme) → self ≡ progress_of game →
+            result ≡ progress_of (game ++ shown offset lexeme.entry ∷ []) }
         ensures deeper { result.depth ≤ self.depth + 1 }
     {
         let start = Start {
@@ -185,20 +186,21 @@ impl Game {
         opens(lexeme.kind) && lexeme.first && self.has_movetext
     }
 
-    /// Whether the game ends behind a lexeme: a marker outside variations.
+    /// Whether the game ends after a lexeme: a marker outside variations.
     fn ends_behind(self, lexeme: Lexeme<'_>) -> bool
         ensures { result ≡ (marks lexeme.entry.kind lexeme.entry.text.now && self.depth == 0) }
     {
         is_marker(lexeme) && self.depth == 0
     }
 
-    /// Meets the next lexeme of the archive, whose place counts from `offset`: the game that is open behind it, and the
+    /// Meets the next lexeme of the archive, whose place counts from `offset`: the game that is open after it, and the
     /// one that it closes, where it closes one.
     pub(crate) fn meet(self, lexeme: Lexeme<'_>, offset: u64) -> (Game, Option<Span>)
         requires depth { self.depth < 2 ^ 62 }
         requires place { offset + lexeme.at + length lexeme.text.now < 2 ^ 63 }
         ensures deeper { result.0.depth ≤ self.depth + 1 }
-        ensures cuts { (game : List ALexeme) → self ≡ progress_of game → IsStepOfCut result.0 result.1 (shown offset lexeme.entry) game }
+        ensures cuts { (game : List ALexeme) → self ≡ progress_of game →
+            IsStepOfCut result.0 result.1 (shown offset lexeme.entry) game }
     {
         let at = offset + lexeme.at as u64;
         if self.ends_before(lexeme) {

@@ -1,6 +1,6 @@
 //! Where a game stands in its archive.
 
-/// A game of an archive: the place of its first byte, the place behind its last, and whether its first byte stands in
+/// A game of an archive: the place of its first byte, the place after its last, and whether its first byte stands in
 /// the first column. Places count from the archive's first byte.
 #[derive(Clone, Copy, Debug, PartialEq, Eq)]
 pub struct Span {

@@ -11,7 +11,7 @@ use Rattle.pgn_lexer.proofs.Local.{text_len}
 use Rattle.pgn_lexer.proofs.Walk.{first_at-cons}
 use Rattle.pgn_lexer.proofs.Within.{of_both, reading_some, reading_within}
 
--- each begins where the one before ends, or behind that
+-- each begins where the one before ends, or after that
 pub in_order : (bs : List ℕ) (inside at : ℕ) (first : Bool) (q : ℕ) → q ≤ at + inside → AreInOrder q (lexemes_from bs inside at first)
 unfolding lexemes_from
 in_order [] inside at first q less = tt
@@ -25,7 +25,7 @@ in_order (b ∷ bs) zero at first q less =
     let some = reading_some first b bs in
     (omega arith, omega arith, in_order bs (r.len - 1) (at + 1) (ends_line b) (end (lexeme at first b bs)) (omega arith)))
 
--- lexemes in order begin behind what they begin behind, and so cross nothing before
+-- lexemes in order begin after what they begin after, and so cross nothing before
 all_behind : (q p : ℕ) (ls : List Lexeme) → AreInOrder q ls → p ≤ q → AllByRecursion (λ l. p ≤ l.at) ls
 all_behind q p [] order less = tt
 all_behind q p (l ∷ ls) order less =

@@ -66,7 +66,7 @@ unfolding body_len
 plain_front [] = refl
 plain_front (b ∷ bs) = by_first (is_special b) b (position_or_len is_special bs) bs (λ plain. body_len-plain b bs (plain_from b plain)) (plain_front bs)
 
--- a body behind a backslash at a place, which takes the next byte with it unless that is LF
+-- a body after a backslash at a place, which takes the next byte with it unless that is LF
 starts_escape : (rest : List ℕ) (at : ℕ) → at < length rest → get_or rest at 0 ≡ 92 → body_len false (drop at rest) ≡ 1 + body_len true (drop (at + 1) rest)
 starts_escape rest at within is = at_drop_more (body_len false) rest at 0 within ∙ ap (λ b. body_len false (b ∷ drop (at + 1) rest)) is ∙ body_len-backslash (drop (at + 1) rest)
 

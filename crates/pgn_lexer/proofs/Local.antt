@@ -26,7 +26,7 @@ text_len at first b bs =
     let fits = reading_within first b bs in
     length-take-le (reading first b bs).len (b ∷ bs) (omega arith)
 
--- lexemes begin at the place of the first byte or behind it
+-- lexemes begin at the place of the first byte or after it
 starts_after : (q : ℕ) (bs : List ℕ) (inside at : ℕ) (first : Bool) → q ≤ at → AllByRecursion (λ l. q ≤ l.at) (lexemes_from bs inside at first)
 unfolding lexemes_from
 starts_after q [] inside at first less = tt
@@ -36,7 +36,7 @@ starts_after q (b ∷ bs) zero at first less =
     (λ _. starts_after q bs 0 (at + 1) (ends_line b) (omega arith))
     (λ _. (less, starts_after q bs ((reading first b bs).len - 1) (at + 1) (ends_line b) (omega arith)))
 
--- a lexeme that doesn't cross a place behind its first byte ends by it
+-- a lexeme that doesn't cross a place after its first byte ends by it
 fits_before : (at : ℕ) (first : Bool) (b : ℕ) (bs : List ℕ) (m : ℕ) → (end (lexeme at first b bs) ≤ at + suc m) ⊎ (at + suc m ≤ at) → (reading first b bs).len ≤ suc m
 fits_before at first b bs m apart =
     let len = text_len at first b bs in

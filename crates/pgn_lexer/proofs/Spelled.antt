@@ -134,7 +134,7 @@ behind : Bool → List ℕ → List ℕ
 behind true l = 92 ∷ l
 behind false l = l
 
--- what is read of a string's body is one, and a quote behind it ends it whole
+-- what is read of a string's body is one, and a quote after it ends it whole
 record BodyRead (backslash : Bool) (bytes : List ℕ) (n : ℕ) : Type 0 where
   unfinished : IsUnfinished (behind backslash (take n bytes))
   whole : get_or bytes n 0 ≡ 34 → IsBody (behind backslash (take n bytes))

@@ -21,7 +21,7 @@ use Rattle.pgn_lexer.proofs.Local.{text_len}
 use Rattle.pgn_lexer.proofs.Spelled.{reading_reads}
 use Rattle.pgn_lexer.proofs.Within.{of_both}
 
--- a lexeme behind a place, and its bytes
+-- a lexeme after a place, and its bytes
 record IsBehind (at : ℕ) (bs : List ℕ) (l : Lexeme) : Type 0 where
   after : at ≤ l.at
   spelled : IsSpelled at bs l
@@ -79,7 +79,7 @@ module _ (start : ℕ) (first : Bool) (bytes : List ℕ) where
   Known : Lexeme → Type 0
   Known l = StandsIn start first bytes l × IsSpelled start bytes l
 
-  -- the token of a lexeme, with those of the lexemes behind it
+  -- the token of a lexeme, with those of the lexemes after it
   one_token : (l : Lexeme) (kind : LexemeKind) → l.kind ≡ kind → (ts : List GameToken) → Known l → AllByRecursion (IsTokenOf start bytes) ts → AllByRecursion (IsTokenOf start bytes) (token_if l.at (length l.text) kind ++ ts)
   unfolding Known
   one_token l EscapeLine is ts known rest = rest

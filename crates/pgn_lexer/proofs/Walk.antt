@@ -11,14 +11,14 @@ use Rattle.pgn_lexer.specs.Readings.{reading}
 use Rattle.pgn_lexer.specs.declared.token.Reading.{Reading}
 use Rattle.pgn_lexer.specs.Lexemes.{Lexeme, moved, lexeme, lexemes, lexemes_from, lexemes_at, first_at}
 
--- the column at a place behind a place
+-- the column at a place after a place
 pub first_at-drop : (first : Bool) (bytes : List ℕ) (p n : ℕ) → first_at (first_at first bytes p) (drop p bytes) n ≡ first_at first bytes (p + n)
 first_at-drop first bytes p zero = ap (first_at first bytes) (sym (add-zero p))
 first_at-drop first bytes p (suc k) =
     let e : p + suc k ≡ suc (p + k) = omega arith in
     ap ends_line (get_or-drop p bytes k 0) ∙ ap (first_at first bytes) (sym e)
 
--- behind the first byte the column is told by that
+-- after the first byte the column is told by that
 pub first_at-cons : (first : Bool) (b : ℕ) (bs : List ℕ) (n : ℕ) → first_at first (b ∷ bs) (suc n) ≡ first_at (ends_line b) bs n
 first_at-cons first b bs zero = refl
 first_at-cons first b bs (suc n) = refl
@@ -90,9 +90,9 @@ all_moved n (b ∷ bs) zero at first =
     (ap (λ p. lexemes_from bs 0 p (ends_line b)) e ∙ all_moved n bs 0 (at + 1) (ends_line b))
     (ap (λ p. lexemes_from bs before p (ends_line b)) e ∙ all_moved n bs before (at + 1) (ends_line b))
 
--- the same of the lexemes behind a place
+-- the same of the lexemes after a place
 module _ (start : ℕ) (first : Bool) (bytes : List ℕ) where
-  -- the lexemes of what is left behind a place, n bytes on
+  -- the lexemes of what is left after a place, n bytes on
   pub further : (p n : ℕ) → lexemes_from (drop n (drop p bytes)) 0 (start + p + n) (first_at (first_at first bytes p) (drop p bytes) n) ≡ lexemes_at start first bytes (p + n)
   further p n =
       let e : start + p + n ≡ start + (p + n) = omega arith in
@@ -125,7 +125,7 @@ dark_after_white bytes p within =
     let len = length-drop p bytes in
     ap is_white (sym (get_or-drop p bytes (prefix_len is_white (drop p bytes)) 0)) ∙ prefix_len_stops is_white (drop p bytes) 0 (omega arith)
 
--- the next lexeme, by what is found behind the white space at a place
+-- the next lexeme, by what is found after the white space at a place
 module _ (start : ℕ) (first : Bool) (bytes rest : List ℕ) (at white : ℕ) where
   here_next : (p : ℕ) → p < length bytes → is_white (get_or bytes p 0) ≡ false → (col : Bool) → col ≡ first_at first bytes p
       → (r : Reading) → r ≡ reading (first_at first bytes p) (get_or bytes p 0) (drop (p + 1) bytes) → rest ≡ drop p bytes → length (take r.len rest) ≡ r.len

@@ -32,11 +32,15 @@ IsBody (b ∷ c ∷ bs) = (IsPlain b × IsBody (c ∷ bs)) ⊎ ((b ≡ 92) × (c
 
 -- the glyphs 1 to 6 as suffixes: section 8.2.3.8 of the PGN standard
 abbrev pub IsSuffix : ℕ → List ℕ → Type 0
-IsSuffix n text = ((n ≡ 1) × (text ≡ codes "!")) ⊎ (((n ≡ 2) × (text ≡ codes "?")) ⊎ (((n ≡ 3) × (text ≡ codes "!!")) ⊎ (((n ≡ 4) × (text ≡ codes "??")) ⊎ (((n ≡ 5) × (text ≡ codes "!?")) ⊎ ((n ≡ 6) × (text ≡ codes "?!"))))))
+IsSuffix n text =
+    ((n ≡ 1) × (text ≡ codes "!")) ⊎ (((n ≡ 2) × (text ≡ codes "?")) ⊎ (((n ≡ 3) × (text ≡ codes "!!"))
+    ⊎ (((n ≡ 4) × (text ≡ codes "??")) ⊎ (((n ≡ 5) × (text ≡ codes "!?")) ⊎ ((n ≡ 6) × (text ≡ codes "?!"))))))
 
 -- a glyph by its number, every one above 255 as 256
 abbrev pub IsNumbered : ℕ → List ℕ → Type 0
-IsNumbered n text = (digits : List ℕ) × (text ≡ 36 ∷ digits) × (0 < length digits) × AllByRecursion (λ d. is_ascii_digit d ≡ true) digits × (n ≡ min 256 (digits_value 10 digits))
+IsNumbered n text =
+    (digits : List ℕ) × (text ≡ 36 ∷ digits) × (0 < length digits)
+    × AllByRecursion (λ d. is_ascii_digit d ≡ true) digits × (n ≡ min 256 (digits_value 10 digits))
 
 -- A text is a lexeme of a kind; `first` says whether it begins in the first column. Any one byte may be a bad one, and
 -- is read so only where nothing else is.
@@ -45,7 +49,9 @@ IsLexeme first EscapeLine text = (line : List ℕ) × (text ≡ 37 ∷ line) × 
 IsLexeme first (Token Open) text = text ≡ codes "["
 IsLexeme first (Token Close) text = text ≡ codes "]"
 IsLexeme first (Token Text) text = (body : List ℕ) × (text ≡ 34 ∷ body ++ 34 ∷ []) × IsBody body
-IsLexeme first (Token Symbol) text = (b : ℕ) × (more : List ℕ) × (text ≡ b ∷ more) × (is_ascii_alphanumeric b ≡ true) × AllByRecursion (λ c. continues_symbol c ≡ true) more
+IsLexeme first (Token Symbol) text =
+    (b : ℕ) × (more : List ℕ) × (text ≡ b ∷ more) × (is_ascii_alphanumeric b ≡ true)
+    × AllByRecursion (λ c. continues_symbol c ≡ true) more
 IsLexeme first (Token Period) text = text ≡ codes "."
 IsLexeme first (Token Star) text = text ≡ codes "*"
 IsLexeme first (Token LeftParen) text = text ≡ codes "("
@@ -56,7 +62,8 @@ IsLexeme first (Token Comment) text = (body : List ℕ) × (text ≡ 123 ∷ bod
 IsLexeme first (Token LineComment) text = (line : List ℕ) × (text ≡ 59 ∷ line) × Lacks 10 line
 IsLexeme first (Token BadByte) text = length text ≡ 1
 IsLexeme first (Token UnclosedComment) text = (body : List ℕ) × (text ≡ 123 ∷ body) × Lacks 125 body
-IsLexeme first (Token UnclosedText) text = (body : List ℕ) × (text ≡ 34 ∷ body) × (IsBody body ⊎ ((before : List ℕ) × (body ≡ before ++ 92 ∷ []) × IsBody before))
+IsLexeme first (Token UnclosedText) text =
+    (body : List ℕ) × (text ≡ 34 ∷ body) × (IsBody body ⊎ ((before : List ℕ) × (body ≡ before ++ 92 ∷ []) × IsBody before))
 
 -- A reading is the longest: it is a lexeme of its kind within the bytes, no lexeme at that place has more bytes, and of as many bytes
 -- there is no other, but that any byte may be a bad one.

@@ -15,13 +15,14 @@ pub record Lexeme : Type 0 where
   pub text : List ℕ
   pub kind : LexemeKind
 
--- the place behind a lexeme
+-- the place after a lexeme
 abbrev pub end : Lexeme → ℕ
 end l = l.at + length l.text
 
--- the lexeme at a place: the longest reading of the byte there and what stands behind it
+-- the lexeme at a place: the longest reading of the byte there and what stands after it
 abbrev pub lexeme : ℕ → Bool → ℕ → List ℕ → Lexeme
-lexeme at first b rest = record { at = at; first = first; text = take (reading first b rest).len (b ∷ rest); kind = (reading first b rest).kind }
+lexeme at first b rest =
+    record { at = at; first = first; text = take (reading first b rest).len (b ∷ rest); kind = (reading first b rest).kind }
 
 -- The lexemes of a text whose front `inside` bytes belong to the lexeme before. `at` is the place of its first byte,
 -- and `first` says whether that byte stands in the first column; any other byte does so where it follows LF.
@@ -45,7 +46,7 @@ abbrev pub first_at : (first : Bool) → List ℕ → ℕ → Bool
 first_at first bytes zero = first
 first_at first bytes (suc before) = ends_line (slice_index bytes before)
 
--- the lexemes that begin at a place of a text or behind it, where no lexeme crosses that place
+-- the lexemes that begin at a place of a text or after it, where no lexeme crosses that place
 abbrev pub lexemes_at : ℕ → Bool → List ℕ → ℕ → List Lexeme
 lexemes_at start first bytes place = lexemes_from (drop place bytes) 0 (start + place) (first_at first bytes place)
 

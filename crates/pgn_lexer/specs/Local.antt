@@ -8,7 +8,7 @@ use Rattle.pgn_lexer.specs.declared.token.LexemeKind.TheVariants.{Token}
 use Rattle.pgn_lexer.specs.declared.token.TokenKind.TheVariants.{Open, Close, Period, Star, LeftParen, RightParen}
 use Rattle.pgn_lexer.specs.Lexemes.{Lexeme, end, lexemes, first_at}
 
--- no lexeme crosses a place: each ends by it, or begins there or behind it
+-- no lexeme crosses a place: each ends by it, or begins there or after it
 abbrev pub IsUncrossed : ℕ → List Lexeme → Type 0
 IsUncrossed place ls = AllByRecursion (λ l. (end l ≤ place) ⊎ (place ≤ l.at)) ls
 
@@ -16,7 +16,7 @@ IsUncrossed place ls = AllByRecursion (λ l. (end l ≤ place) ⊎ (place ≤ l.
 abbrev pub within : ℕ → ℕ → List Lexeme → List Lexeme
 within from to ls = filter (λ l. nat_le from l.at && nat_lt l.at to) ls
 
--- lexemes stand in order from a place on: each has some bytes, and begins where the one before it ends or behind that
+-- lexemes stand in order from a place on: each has some bytes, and begins where the one before it ends or after that
 abbrev pub AreInOrder : ℕ → List Lexeme → Type 0
 AreInOrder from [] = Unit {0}
 AreInOrder from (l ∷ ls) = (from ≤ l.at) × (0 < length l.text) × AreInOrder (end l) ls
@@ -45,14 +45,16 @@ is_left_open _ = true
 -- what a front leaves open: nothing, or a byte whose longest reading is all that is left, and left open
 abbrev pub IsUnsettled : (first : Bool) → List ℕ → Type 0
 IsUnsettled first [] = Unit {0}
-IsUnsettled first (b ∷ bs) = (is_white b ≡ false) × ((reading first b bs).len ≡ length (b ∷ bs)) × (is_left_open (reading first b bs).kind ≡ true)
+IsUnsettled first (b ∷ bs) =
+    (is_white b ≡ false) × ((reading first b bs).len ≡ length (b ∷ bs)) × (is_left_open (reading first b bs).kind ≡ true)
 
--- A front settles its lexemes up to a place: they stay, whatever follows the front, and those of what it leaves open come behind them.
+-- A front settles its lexemes up to a place: they stay, whatever follows the front, and those of what it leaves open come after them.
 pub record Settles (start : ℕ) (first : Bool) (front : List ℕ) : Type 0 where
   pub settled : List Lexeme
   pub place : ℕ
   pub within : place ≤ length front
-  pub stay : (more : List ℕ) → lexemes start first (front ++ more) ≡ settled ++ lexemes (start + place) (first_at first front place) (drop place front ++ more)
+  pub stay : (more : List ℕ)
+      → lexemes start first (front ++ more) ≡ settled ++ lexemes (start + place) (first_at first front place) (drop place front ++ more)
   pub unsettled : IsUnsettled (first_at first front place) (drop place front)
 
 -- What follows a text makes its first reading longer or leaves it; a reading that fits into the text is that of the text.

@@ -13,7 +13,7 @@ use Rattle.pgn_lexer.specs.declared.token.Reading.{Reading}
 abbrev pub token : TokenKind → ℕ → Reading
 token kind len = record { kind = Token kind; len = len }
 
--- `rest` below is what stands behind the first byte of the reading
+-- `rest` below is what stands after the first byte of the reading
 
 -- section 5: a comment goes from { to the next }, and doesn't nest; without } it takes all the rest
 unfoldable pub comment : List ℕ → Reading
@@ -25,7 +25,7 @@ comment rest =
 unfoldable pub line_comment : List ℕ → Reading
 line_comment rest = token LineComment (position_or_len ends_line rest + 1)
 
--- section 6: % in the first column, and the line behind it
+-- section 6: % in the first column, and the line after it
 unfoldable pub escape_line : List ℕ → Reading
 escape_line rest = record { kind = EscapeLine; len = position_or_len ends_line rest + 1 }
 
@@ -91,7 +91,7 @@ single b =
     else (if b == 42 then token Star 1
     else token BadByte 1)))))
 
--- the longest reading of a byte, which isn't white space, with what stands behind it;
+-- the longest reading of a byte, which isn't white space, with what stands after it;
 -- `first` says whether the byte stands in the first column
 unfoldable pub reading : (first : Bool) → ℕ → List ℕ → Reading
 reading first b rest =

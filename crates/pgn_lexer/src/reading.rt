@@ -1,7 +1,7 @@
 //! The longest reading at a place.
-ghost use Rattle.std.specs.Prelude.{◌≡◌, false, ◌+◌, ◌-◌, ◌<◌, ◌≤◌, ℕ, ◌==◌, length, drop, slice_index};
+ghost use Rattle.std.specs.Prelude.{◌≡◌, false, ◌+◌, ◌-◌, ◌<◌, ◌≤◌, ◌==◌, length, drop, slice_index};
 ghost use Rattle.std.specs.List.{prefix_len, position_or_len};
-ghost use Rattle.pgn_lexer.specs.Bytes.{ends_line, continues_symbol};
+ghost use Rattle.pgn_lexer.specs.Bytes.{continues_symbol};
 ghost use Rattle.pgn_lexer.specs.Readings.{token, comment, line_comment, escape_line, is_special, body_len, text, symbol, nag, good_suffix, poor_suffix, null_move, single, reading};
 
 use crate::token::{LexemeKind, Reading, TokenKind};

@@ -9,7 +9,7 @@ pub enum TokenKind {
     Close,
     /// A string from its quote to its quote.
     Text,
-    /// A letter or digit with the letters, digits and `_ + # = : - /` behind it.
+    /// A letter or digit with the letters, digits and `_ + # = : - /` after it.
     Symbol,
     /// `.`
     Period,

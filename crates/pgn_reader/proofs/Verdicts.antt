@@ -28,7 +28,6 @@ use Rattle.pgn_reader.specs.Verdict.{IsOnlyGame, IsRead, place_or}
 use Rattle.pgn_reader.proofs.Read.{run_append}
 use Rattle.pgn_reader.proofs.Whole.{IsEnd}
 use Rattle.pgn_reader.proofs.Answer.{fault_here, fault_of_end, read_iff}
-use Rattle.pgn_reader.proofs.Tokens.{few_before}
 
 -- a step goes on within the limit of positions, or has a reason and is stuck, but where the limit is passed
 abbrev Passes : State → Option Reason → Type 0
@@ -120,7 +119,7 @@ game_at_end ts h f result is_end few =
     })
 
 fault_in_end : (ts : List Word) (s : State) (reason : Reason) → run first ts ≡ s → (s ≡ stuck → ⊥) → moves_in s ≤ 65535 → fault_at_end (standing_of s) ≡ Some reason → HasVerdict ts
-fault_in_end ts s reason is live few why = inr (length ts, reason, fault_of_end ts s reason is live why (few_before s few))
+fault_in_end ts s reason is live few why = inr (length ts, reason, fault_of_end ts s reason is live why few)
 
 at_end : (ts : List Word) (s : State) → run first ts ≡ s → (s ≡ stuck → ⊥) → moves_in s ≤ 65535 → HasVerdict ts
 at_end ts (opened tags) is live few = fault_in_end ts (opened tags) BadTag is live few refl
@@ -138,7 +137,7 @@ fault_at_word : (before : List Word) (w : Word) (after : List Word) (s : State) 
     → fault_at (standing_of s) w ≡ Some reason → Passes (feed s w) (Some reason) → HasVerdict (before ++ w ∷ after)
 fault_at_word before w after s reason is live few why dead =
     inr (length before, reason, fault_here (before ++ w ∷ after) (length before) w s reason (ap (run first) (take-append_seam before (w ∷ after)) ∙ is) live
-    (let e = length-append before (w ∷ after) in omega (arith, e)) (one_more_word before w after) why dead (few_before s few))
+    (let e = length-append before (w ∷ after) in omega (arith, e)) (one_more_word before w after) why dead few)
 
 verdict_by : (w : Word) (after before : List Word) (s : State) → run first before ≡ s → (s ≡ stuck → ⊥) → moves_in s ≤ 65535 → (o : Option Reason) → fault_at (standing_of s) w ≡ o
     → (Passes (feed s w) None → HasVerdict (before ++ w ∷ after)) → HasVerdict (before ++ w ∷ after)

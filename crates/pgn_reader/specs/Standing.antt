@@ -17,7 +17,7 @@ use Rattle.pgn_reader.specs.Words.{Word, Sense, plays, ends, opens, closes, out_
 use Rattle.cq_position.specs.Games.{with_tag}
 use Rattle.pgn_reader.specs.Tags.{Pair, Tags, tags_of, start_of, value_of}
 use Rattle.pgn_reader.specs.Line.{Line, text, Place, beginning, Told, Tells}
-use Rattle.pgn_reader.specs.Games.{heading_text, AreHeading, SpellsAny}
+use Rattle.pgn_reader.specs.Games.{heading_text, AreHeading, Spells}
 
 -- The beginning of a game's movetext: a line, or what begins so, the parenthesis of a variation, and the beginning of its line.
 pub data Begun : Type 0 where
@@ -80,7 +80,7 @@ pub record InMovetext (ts : List Word) (heading : Bool) (depth moves : ℕ) (a :
 -- after the marker of a game
 pub record AfterMarker (ts : List Word) : Type 0 where
   pub game : Game
-  pub spells : SpellsAny ts game
+  pub spells : Spells ts game
   pub marked : (before : List Word) × (marker : Word) × (result : GameResult) × (ts ≡ before ++ marker ∷ []) × (sense marker ≡ ends result)
 
 abbrev pub StandsAt : List Word → Standing → Type 0
@@ -138,7 +138,7 @@ end_of_variation_fault zero before = Some UnopenedVariation
 end_of_variation_fault (suc depth) None = Some EmptyVariation
 end_of_variation_fault (suc depth) (Some before) = None
 
--- a token that means nothing in the movetext, but that `[` may stand there while tag pairs may come
+-- a token that is out of place in the movetext, but that `[` may stand there while tag pairs may come
 abbrev pub misplaced_fault : (heading : Bool) → TokenKind → Reason → Option Reason
 misplaced_fault true Open reason = None
 misplaced_fault _ kind reason = Some reason

@@ -265,7 +265,7 @@ impl Reader {
         }
     }
 
-    /// A token that means nothing in the movetext, but that a bracket may open a tag pair.
+    /// A token that is out of place in the movetext, but that a bracket may open a tag pair.
     fn read_misplaced(&mut self, kind: TokenKind, reason: Reason) -> Result<(), Refusal<Reason>>
         requires phase { self.old.phase ≡ Phase.Movetext }
         ensures { IsSenseStep self.old kind (out_of_place reason) self.new result }

@@ -55,7 +55,7 @@ pub fn split_fields(text: &[u8]) -> Option<Fields<'_>>
     })
 }
 
-// The first field, and what stands behind it.
+// The first field, and what stands after it.
 #[tactic(auto, using(crate::proofs::Splitting::spaces_alone, crate::proofs::Splitting::first_of_fields, std::proofs::lemmas::List::take_rest))]
 fn first_field(text: &[u8]) -> Option<(&[u8], &[u8])>
     ensures { MatchOption result (fields text.now ≡ []) (λ cut. fields text.now ≡ cut.0.now ∷ fields cut.1.now) }

@@ -30,7 +30,7 @@ pub fn read_placement(text: &[u8]) -> Option<[Man; 64]>
     }
 }
 
-// The text of the first rank, and what stands behind its slash, if there is one.
+// The text of the first rank, and what stands after its slash, if there is one.
 #[tactic(auto, using(crate::proofs::Splitting::one_part, crate::proofs::Splitting::first_of_parts, std::proofs::lemmas::List::take_rest))]
 fn cut_rank(text: &[u8]) -> (&[u8], Option<&[u8]>)
     ensures { parts slash text.now ≡ result.0.now ∷ ranks_left (option_copied result.1) }

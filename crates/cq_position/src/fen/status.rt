@@ -1,4 +1,4 @@
-//! The fields of a FEN text behind its men.
+//! The fields of a FEN text after its men.
 ghost use Rattle.std.specs.Prelude.{◌≡◌, ◌-◌, ◌&&◌, true};
 ghost use Rattle.std.specs.List.{list_all};
 ghost use Rattle.cq_position.specs.Fen.{is_side, side_named, is_number, value_of_digits};

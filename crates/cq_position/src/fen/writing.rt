@@ -76,7 +76,7 @@ fn push_next_rank(text: &mut Bytes, row: &[Man]) -> Result<(), NoMemory>
     push_rank(text, row)
 }
 
-// A man behind so many empty squares; answers the empty squares not yet written.
+// A man after so many empty squares; answers the empty squares not yet written.
 fn push_man(text: &mut Bytes, empty: u8, man: Man) -> Result<u8, NoMemory>
     requires { empty ≤ 8 }
     ensures text { OnOk result (text.new ≡ text.old ++ fen_text.letter_text empty (letter_of_man man)) }

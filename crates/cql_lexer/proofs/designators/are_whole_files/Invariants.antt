@@ -1,7 +1,9 @@
 use Rattle.std.proofs.Common.{◌≡◌, drop}
 use Rattle.std.specs.List.{list_all}
-use Rattle.cql_lexer.specs.Designators.{none_or_all, are_whole_files, eight}
+use Rattle.cq_geometry.specs.Squares.{file_of, squares}
+use Rattle.cq_symmetry.specs.Parts.{are_whole_files}
+use Rattle.cql_lexer.specs.Designators.{are_alike}
 use Rattle.cql_lexer.proofs.designators.are_whole_files.Given as goal
 
-abbrev pub invariant-loop-file : goal.invariant-loop-file
-invariant-loop-file l = list_all (λ file. none_or_all l.squares file 8) (drop l.file eight) ≡ are_whole_files l.squares
+abbrev pub invariant-loop-square : goal.invariant-loop-square
+invariant-loop-square l = list_all (λ s. are_alike l.squares s (file_of s)) (drop l.square squares) ≡ are_whole_files l.squares

@@ -1,0 +1,6 @@
+//! Games whose hits are marked by comments.
+#![tactic(auto)]
+
+pub mod marking;
+
+pub use marking::mark;
