@@ -20,3 +20,4 @@ pub mod Slices
 pub mod Tokens
 pub mod Follows
 pub mod Building
+pub mod Verdicts

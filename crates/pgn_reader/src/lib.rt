@@ -4,6 +4,7 @@
 mod build;
 pub mod fault;
 mod game;
+pub mod laws;
 mod line;
 mod notes;
 mod reader;
@@ -15,3 +16,4 @@ mod text;
 
 pub use fault::{GameFault, Reason};
 pub use game::read_game;
+pub use laws::games_have_outcomes;
