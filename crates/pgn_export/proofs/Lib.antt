@@ -13,4 +13,6 @@ pub mod Written
 pub mod Pairs
 pub mod Said
 pub mod Ordered
+pub mod Faultless
 pub mod ReadBack
+mod Rows

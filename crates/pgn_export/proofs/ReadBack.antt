@@ -1,7 +1,9 @@
 -- The text of a normal game spells the game.
-use Rattle.std.proofs.Common.{◌≡◌, ℕ, ◌+◌, ◌<◌, ◌≤◌, Bool, true, false, cond, List, [], ◌∷◌, ◌++◌, length, Option, Some, None, refl, sym, ap, ap₂, ◌∙◌, subst, arith, append_assoc, append-nil, length-append}
+use Rattle.std.proofs.Common.{◌≡◌, ℕ, ◌+◌, ◌<◌, ◌≤◌, ◌^◌, ⊎_elim, Bool, true, false, cond, List, [], ◌∷◌, ◌++◌, length, Option, Some, None, refl, sym, ap, ap₂, ◌∙◌, subst, arith, append_assoc, append-nil, length-append}
 use Rattle.std.specs.Prelude.{Result, Ok, Err, IfOk, map}
 use Rattle.std.specs.List.{AllByRecursion, flat_map}
+use Rattle.cq_outside.specs.declared.faults.Refusal.{Refusal}
+use Rattle.cq_outside.specs.declared.faults.Refusal.TheVariants.{Fault, NoMemory}
 use Rattle.cq_position.specs.declared.games.GameResult.{GameResult}
 use Rattle.cq_position.specs.declared.moves.Move.{Move}
 use Rattle.cq_position.specs.Continuations.{Continuations, none, nodes_from, continuations, with_move, Follows}
@@ -11,15 +13,18 @@ use Rattle.cq_position.proofs.Following.{follows_of}
 use Rattle.cq_position.proofs.Preorder.{nodes_back}
 use Rattle.pgn_reader.specs.Games.{heading_text, root, MarksEnd, SpellsAny, Spells}
 use Rattle.pgn_reader.specs.Line.{text, beginning, Told, Tells}
+use Rattle.pgn_reader.specs.declared.fault.GameFault.{GameFault}
 use Rattle.pgn_reader.specs.Tags.{tags_of, start_of}
+use Rattle.pgn_reader.specs.Verdict.{IsVerdict}
 use Rattle.pgn_reader.specs.Words.{Word, ends, remarks, sense, words_of}
 use Rattle.pgn_export.specs.Export.{export_text}
 use Rattle.pgn_export.specs.Lines.{lines}
 use Rattle.pgn_export.specs.Movetext.{line_words, result_text, played_in, movetext}
-use Rattle.pgn_export.specs.Normal.{levels, IsNormal}
+use Rattle.pgn_export.specs.Normal.{levels, IsNormal, IsThisGame, IsReadAs}
 use Rattle.pgn_export.specs.TagLines.{tag_line, written_tags}
 use Rattle.pgn_export.specs.Words.{comment_words}
 use Rattle.pgn_export.proofs.Alike.{AreAlike, parts_of, alike_other, like_line}
+use Rattle.pgn_export.proofs.Faultless.{no_fault}
 use Rattle.pgn_export.proofs.Glued.{Said, said_more}
 use Rattle.pgn_export.proofs.Ordered.{written_as_they_are, tags_back}
 use Rattle.pgn_export.proofs.Pairs.{pair_of, are_heading, tags_told}
@@ -164,9 +169,29 @@ export_spells g tree notes distinct position normal start first = record {
   few = tree.few;
 }
 
--- and so does an answer that is that text
+-- what reading the text answers
+too_long : (limit n : ℕ) → limit < n → n ≤ limit → ⊥
+too_long limit n long short = omega (arith, long, short)
+
+read_back : (g : Game) (start : ℕ) (first : Bool) (text : List ℕ) (answer : Result Game (Refusal GameFault)) → Spells (words_of start first text) g → length text ≤ 2 ^ 24
+    → IsVerdict start first text answer → IsThisGame g answer
+read_back g start first text (Ok h) spells short verdict = sym (verdict.1.alone g spells)
+read_back g start first text (Err NoMemory) spells short verdict = tt
+read_back g start first text (Err (Fault fault)) spells short verdict =
+    ⊎_elim
+    (λ long. too_long (2 ^ 24) (length text) long.long short)
+    (λ f. no_fault (words_of start first text) g spells f.index fault.reason f.fault)
+    verdict
+
+-- so an answer that is the text of a normal game spells it, and is read as it
 pub answer_spells : {E : Type 0} (g : Game) (answer : Result (List ℕ) E) → IsTree g.nodes → HaveNotes g.nodes → HaveDistinctNames g.tags → IsPosition (node_at g.nodes 0).position
     → IfOk answer (λ text. text ≡ export_text g) → IfOk answer (λ text. IsNormal g → (start : ℕ) (first : Bool) → Spells (words_of start first text) g)
 answer_spells g (Ok text) tree notes distinct position is =
     λ normal start first. subst (λ t. Spells (words_of start first t) g) (sym is) (export_spells g tree notes distinct position normal start first)
 answer_spells g (Err e) tree notes distinct position is = tt
+
+pub answer_back : {E : Type 0} (g : Game) (answer : Result (List ℕ) E) → IfOk answer (λ text. text ≡ export_text g)
+    → IfOk answer (λ text. IsNormal g → (start : ℕ) (first : Bool) → Spells (words_of start first text) g) → IfOk answer (λ text. IsNormal g → IsReadAs text g)
+answer_back g (Ok text) is spelled = λ normal start first answer verdict.
+    read_back g start first text answer (spelled normal start first) (subst (λ t. length t ≤ 2 ^ 24) (sym is) normal.short) verdict
+answer_back g (Err e) is spelled = tt

@@ -1,15 +1,19 @@
 -- Which games are normal: those that are written as they are, so that they are read back from what is written.
-use Rattle.std.specs.Prelude.{◌≡◌, ℕ, ◌+◌, ◌≤◌, ◌^◌, true, not, List, [], ◌++◌, ◌∷◌, length, take, drop, map, max, codes, Some, None, Ok}
+use Rattle.std.specs.Prelude.{◌≡◌, ℕ, ◌+◌, ◌≤◌, ◌^◌, true, not, List, [], ◌++◌, ◌∷◌, length, take, drop, map, max, codes, Bool, Some, None, Result, Ok, Err}
 use Rattle.std.specs.Cmp.Lexicographic.{slice_cmp}
 use Rattle.std.specs.List.{AllByRecursion, list_all}
 use Rattle.std.specs.List.Sorted.{IsStrictlySortedBy}
 use Rattle.std.specs.Ordering.{nat_cmp}
+use Rattle.cq_outside.specs.declared.faults.Refusal.{Refusal}
+use Rattle.cq_outside.specs.declared.faults.Refusal.TheVariants.{Fault, NoMemory}
 use Rattle.cq_position.specs.Continuations.{Continuations, none, played}
 use Rattle.cq_position.specs.Games.{Game, node_at, tag_value}
 use Rattle.pgn_lexer.specs.Grammar.{Lacks, IsLexeme}
 use Rattle.pgn_lexer.specs.declared.token.LexemeKind.TheVariants.{Token}
 use Rattle.pgn_lexer.specs.declared.token.TokenKind.TheVariants.{Symbol}
+use Rattle.pgn_reader.specs.declared.fault.GameFault.{GameFault}
 use Rattle.pgn_reader.specs.Tags.{start_of}
+use Rattle.pgn_reader.specs.Verdict.{IsVerdict}
 use Rattle.pgn_reader.specs.Words.{result_of_text}
 use Rattle.pgn_export.specs.Export.{export_text}
 use Rattle.pgn_export.specs.Movetext.{played_in, result_text}
@@ -53,3 +57,14 @@ pub record IsNormal (g : Game) : Type 0 where
   pub few_levels : levels (played_in g) ≤ 100
   pub no_glyph : (node_at g.nodes 0).nags ≡ []
   pub short : length (export_text g) ≤ 2 ^ 24
+
+-- what was read is this game, where memory was found
+abbrev pub IsThisGame : Game → Result Game (Refusal GameFault) → Type 0
+IsThisGame g (Ok read) = read ≡ g
+IsThisGame g (Err (Fault fault)) = ⊥
+IsThisGame g (Err NoMemory) = Unit {0}
+
+-- a text is read as a game, wherever it stands in an archive
+abbrev pub IsReadAs : List ℕ → Game → Type 0
+IsReadAs text g =
+    (start : ℕ) (first : Bool) (answer : Result Game (Refusal GameFault)) → IsVerdict start first text answer → IsThisGame g answer

@@ -1,7 +1,7 @@
 //! The export text of a game.
 ghost use Rattle.std.specs.Prelude.{◌≡◌, ℕ, Bool, IfOk};
 ghost use Rattle.pgn_export.specs.Export.{export_text};
-ghost use Rattle.pgn_export.specs.Normal.{IsNormal};
+ghost use Rattle.pgn_export.specs.Normal.{IsNormal, IsReadAs};
 ghost use Rattle.pgn_reader.specs.Games.{Spells};
 ghost use Rattle.pgn_reader.specs.Words.{words_of};
 
@@ -20,12 +20,13 @@ use std::alloc::Global;
 /// movetext stands in lines of at most 79 bytes, but that a longer word stands alone, with single spaces between words; an
 /// empty line ends it. Numeric annotation glyphs and comments follow their move, then the variations that replace it.
 ///
-/// The text of a normal game, as `specs/Normal` says which these are, spells the game, wherever it stands in an archive: it
-/// is read as this game and as no other.
+/// The text of a normal game, as `specs/Normal` says which these are, spells the game, wherever it stands in an archive:
+/// `read_game` gives this game back.
 pub fn export(alloc: Global, game: &Game) -> Result<Bytes, NoMemory>
     ensures text { IfOk result (λ text. text ≡ export_text game.now) }
     ensures spelled { IfOk result (λ text. IsNormal game.now →
         (start : ℕ) (first : Bool) → Spells (words_of start first text) game.now) }
+    ensures back { IfOk result (λ text. IsNormal game.now → IsReadAs text game.now) }
 {
     // Read for what every game keeps.
     let _nodes = game.len();
