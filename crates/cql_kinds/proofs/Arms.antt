@@ -1,8 +1,8 @@
 -- What a walk finds in the forms that have several parts.
 use Rattle.std.proofs.Common.{◌≡◌, Bool, ℕ, List, ◌++◌, refl, ◌∙◌, ap, ap₂}
-use Rattle.cql_syntax.specs.Occurrences.{Standing, Occurrence, part_of, part_of_square, asked_of_each, occurrences, inner, of_played, of_written}
+use Rattle.cql_syntax.specs.Occurrences.{Standing, part_of, part_of_square, asked_of_each, occurrences, inner, of_played, of_written}
 use Rattle.cql_syntax.specs.Trees.{FilterTree, pair, if_, square, WrittenTree}
-use Rattle.cql_syntax.specs.TreeOf.{filter_tree, form_tree, played_tree, held_tree, written_tree}
+use Rattle.cql_syntax.specs.TreeOf.{filter_tree, played_tree, held_tree, written_tree}
 use Rattle.cql_syntax.specs.Wants.{pair_wants}
 use Rattle.cql_syntax.specs.declared.leaves.Kind.TheVariants.{Position, Set}
 use Rattle.cql_syntax.specs.declared.leaves.Pair.{Pair}

@@ -1,5 +1,5 @@
 -- What a walk finds in lists, item by item.
-use Rattle.std.proofs.Common.{◌≡◌, ◌≤◌, ◌<◌, ℕ, ◌+◌, List, ◌∷◌, ◌++◌, drop, get_or, length, Ok, refl, sym, ◌∙◌, ap}
+use Rattle.std.proofs.Common.{◌≡◌, ◌≤◌, ◌<◌, ℕ, ◌+◌, List, ◌∷◌, ◌++◌, drop, get_or, length, Ok, sym, ◌∙◌, ap}
 use Rattle.std.proofs.lemmas.List.{drop_more, drop_all}
 use Rattle.cql_syntax.specs.Occurrences.{Standing, top_item, occurrences, all_of, of_terms, of_parts, of_body, of_items, sorts_with}
 use Rattle.cql_syntax.specs.Trees.{FilterTrees}

@@ -7,6 +7,8 @@ mod names;
 mod places;
 mod rules;
 mod standing;
+#[cfg(test)]
+mod tests;
 mod walk;
 mod wants;
 
