@@ -1,11 +1,78 @@
 //! The fault of a query's tree.
-ghost use Rattle.std.specs.Prelude.{◌≡◌, false};
+ghost use Rattle.std.specs.Prelude.{◌≡◌, ◌<◌, ◌≤◌, ◌+◌, ◌^◌, nat_lt, false, None};
 ghost use Rattle.cq_outside.specs.Refusals.{Gives};
+ghost use Rattle.cql_syntax.specs.Occurrences.{of_items, sorts_with};
 ghost use Rattle.cql_syntax.specs.TreeFaults.{checked, has_any};
-ghost use Rattle.cql_syntax.specs.TreeOf.{query_tree};
+ghost use Rattle.cql_syntax.specs.TreeOf.{query_tree, filters_tree, filter_tree};
+ghost use Rattle.cql_syntax.specs.Weights.{query_weight};
+ghost use Rattle.cql_kinds.specs.Walks.{no_firsts, walked, limit_fault};
 
+use crate::firsts::Firsts;
+use crate::names::Names;
+use crate::rules::holds_brace;
+use crate::standing::Standing;
+use crate::walk::walk;
 use cq_outside::Refusal;
-use cql_syntax::{Query, QueryFault, TypedQuery};
+use cql_syntax::{
+    Filter, Filters, Form, Kind, Query, QueryFault, QueryReason, TypedQuery, WEIGHT_LIMIT, weight,
+};
+use std::alloc::Global;
+
+// How many sort items there are, with one item more.
+fn sorts_with(sorts: usize, item: &Filter) -> usize
+    requires { sorts + 1 < 2 ^ 64 }
+    ensures value { result ≡ sorts_with sorts (filter_tree item.now) }
+    ensures most { result ≤ sorts + 1 }
+{
+    match &item.form {
+        Form::Sort(..) => sorts + 1,
+        _ => sorts,
+    }
+}
+
+// The first of each kind in the top items, or the first fault of a filter that breaks a rule.
+fn walk_items(alloc: Global, items: &Filters) -> Result<Firsts, Refusal<QueryFault>>
+    ensures { Gives (λ found. found) result (walked no_firsts (of_items 0 (filters_tree items.now))) }
+{
+    let names = Names::Unbound;
+    let mut found = Firsts {
+        line: None,
+        square: None,
+        family: None,
+    };
+    let mut sorts = 0;
+    for item in items.as_slice() {
+        let standing = Standing {
+            wanted: Kind::Position,
+            names: &names,
+            squares: 0,
+            item: Some(sorts),
+        };
+        found = walk(alloc, item, standing, found)?;
+        sorts = sorts_with(sorts, item);
+    }
+    Ok(found)
+}
+
+// A limit that the query passes.
+fn limit_fault(firsts: Firsts, heavy: bool) -> Option<QueryFault>
+    ensures { result ≡ limit_fault firsts heavy }
+{
+    let (byte, reason) = match (firsts.line, firsts.square) {
+        (Some(byte), _) => (byte, QueryReason::LineTooLong),
+        (None, Some(byte)) => (byte, QueryReason::TooManySquares),
+        (None, None) if heavy => (firsts.family.unwrap_or(0), QueryReason::TooManyMembers),
+        (None, None) => return None,
+    };
+    Some(QueryFault { byte, reason })
+}
+
+// Whether the weight of a query is above 2^18.
+fn is_too_heavy(query: &Query) -> bool
+    ensures { result ≡ nat_lt (2 ^ 18) (query_weight (query_tree query.now)) }
+{
+    weight(query) > WEIGHT_LIMIT
+}
 
 /// The query again, where its tree has no fault, else the fault. Faults are looked for in this order:
 ///
@@ -19,6 +86,17 @@ pub fn check(query: &Query) -> Result<TypedQuery, Refusal<QueryFault>>
     requires { has_any (query_tree query.now) ≡ false }
     ensures { Gives (λ typed. query_tree typed.query) result (checked (query_tree query.now)) }
 {
-    let _ = query;
-    Err(Refusal::NoMemory)
+    if holds_brace(query.match_text.as_slice()) {
+        return Err(Refusal::Fault(QueryFault {
+            byte: query.match_at,
+            reason: QueryReason::TextHoldsBrace,
+        }));
+    }
+    let firsts = walk_items(query.items.allocator(), &query.items)?;
+    if let Some(fault) = limit_fault(firsts, is_too_heavy(query)) {
+        return Err(Refusal::Fault(fault));
+    }
+    Ok(TypedQuery {
+        query: query.copy()?,
+    })
 }

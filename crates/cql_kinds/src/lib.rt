@@ -2,5 +2,12 @@
 #![tactic(auto)]
 
 mod checking;
+mod firsts;
+mod names;
+mod places;
+mod rules;
+mod standing;
+mod walk;
+mod wants;
 
 pub use checking::check;

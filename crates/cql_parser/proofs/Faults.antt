@@ -1,5 +1,5 @@
 -- Tokens have one fault at most, and only where they spell no query.
-use Rattle.std.proofs.Common.{◌≡◌, ◌⊎◌, inl, inr, ℕ, List, [], ◌∷◌, ◌++◌, refl, sym, ap, ap₂, ◌∙◌, subst, append_assoc}
+use Rattle.std.proofs.Common.{◌≡◌, inl, inr, ℕ, List, [], ◌∷◌, ◌++◌, refl, sym, ap, ap₂, ◌∙◌, subst, append_assoc}
 use Rattle.cql_lexer.specs.Tokens.{EndOnce}
 use Rattle.cql_syntax.specs.Trees.{QueryTree}
 use Rattle.cql_syntax.specs.declared.fault.QueryFault.{QueryFault}

@@ -1,9 +1,12 @@
 mod Answer
 mod Begun
+mod Ends
 mod Exits
 mod Faults
+mod Frames
 mod Limits
 mod Plants
 mod Read
+mod Reading
 mod Rows
 mod Told

@@ -35,7 +35,7 @@ plant Deep = Deep
 plant Stuck = Stuck
 
 -- what is open is joined by filters of their level
-abbrev Leveled : Frames → Type 0
+abbrev pub Leveled : Frames → Type 0
 Leveled [] = Unit {0}
 Leveled (Making ps ∷ k) = Leveled k
 Leveled (Joining v p x j ∷ k) = (v ≡ level p) × Leveled k

@@ -1,8 +1,10 @@
 pub mod Drafts
 pub mod Faults
+pub mod Frames
 pub mod Grammar
 pub mod Machine
 pub mod Makers
 pub mod Places
 pub mod Planted
+pub mod Readers
 pub mod Shown

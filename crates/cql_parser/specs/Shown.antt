@@ -1,10 +1,13 @@
 -- What contracts see of the code's values.
 use Rattle.std.specs.Option.{option_map}
 use Rattle.cql_syntax.specs.TreeOf.{filter_tree, filters_tree, parts_tree, body_tree, written_tree}
-use Rattle.cql_parser.specs.Drafts.{Node, a_filter, a_group, Draft}
+use Rattle.cql_parser.specs.Drafts.{Node, a_filter, a_group, Draft, Opening}
+use Rattle.cql_parser.specs.Planted.{Rule}
 use Rattle.cql_parser.specs.declared.draft.Node.{Node as CodeNode}
 use Rattle.cql_parser.specs.declared.draft.Node.TheVariants as nodes
 use Rattle.cql_parser.specs.declared.draft.Draft.{Draft as CodeDraft}
+use Rattle.cql_parser.specs.declared.head.Head.{Head as CodeHead}
+use Rattle.cql_parser.specs.declared.rule.Rule.{Rule as CodeRule}
 
 abbrev pub node_shown : CodeNode → Node
 node_shown (nodes.Filter f) = a_filter (filter_tree f)
@@ -31,3 +34,9 @@ draft_shown d = record {
   body = option_map body_tree d.line.body;
   mark = d.line.mark;
 }
+
+abbrev pub rule_shown : CodeRule → Rule
+rule_shown r = record { root = r.root; end = r.end; draft = draft_shown r.draft }
+
+abbrev pub head_shown : CodeHead → Opening
+head_shown h = record { variations = h.variations; match_at = h.match_at; match_text = h.match_text; pending = h.pending }

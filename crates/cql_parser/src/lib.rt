@@ -2,14 +2,20 @@
 #![tactic(auto)]
 
 mod draft;
+mod head;
 mod laws;
 mod maker;
 mod parsing;
 mod place;
+mod reader;
 mod role;
+mod row;
+mod rule;
+mod stack;
 
 pub use laws::{
     faulty_tokens_spell_no_query, tokens_have_at_most_one_fault, tokens_of_a_text_are_ended,
     tokens_spell_at_most_one_query,
 };
-pub use parsing::{DEPTH_LIMIT, parse};
+pub use parsing::parse;
+pub use stack::DEPTH_LIMIT;

@@ -1,12 +1,33 @@
 //! Parsing the tokens of a query.
+ghost use Rattle.std.specs.Prelude.{◌≡◌, IfOk};
 ghost use Rattle.cql_parser.specs.Faults.{IsEnded, Parses};
+ghost use Rattle.cql_parser.specs.Readers.{reason_of};
 
-use cq_outside::Refusal;
-use cql_syntax::{Query, QueryFault, QueryToken};
+use crate::place::Heading;
+use crate::reader::{Reached, Reader};
+use cq_outside::{Bytes, NoMemory, Refusal};
+use cql_syntax::{Query, QueryFault, QueryReason, QueryToken, QueryTokenKind};
 use std::alloc::Global;
 
-/// How many constructs may be open at a place.
-pub const DEPTH_LIMIT: u32 = 64;
+// Why no query goes on with a token.
+fn reason_at(
+    alloc: Global,
+    kind: &QueryTokenKind,
+    reached: Reached,
+) -> Result<QueryReason, NoMemory>
+    ensures { IfOk result (λ reason. reason ≡ reason_of kind.now reached) }
+{
+    Ok(match kind {
+        QueryTokenKind::Reserved(name) => {
+            QueryReason::OutsideProfile(Bytes::from_slice(alloc, name.as_slice())?)
+        }
+        QueryTokenKind::End => QueryReason::UnexpectedEnd,
+        _ => match reached {
+            Reached::Deep => QueryReason::TooDeep,
+            _ => QueryReason::UnexpectedToken,
+        },
+    })
+}
 
 /// The query that the tokens of a text spell, or their fault. The fault is at the first token such that no query begins
 /// with the tokens up to it: a reserved name is outside the profile, at the end the query ends too early, a token that
@@ -16,5 +37,16 @@ pub fn parse(alloc: Global, tokens: &[QueryToken]) -> Result<Query, Refusal<Quer
     requires { IsEnded tokens.now }
     ensures { Parses tokens.now result }
 {
-    Err(Refusal::NoMemory)
+    let mut reader = Reader::new(alloc)?;
+    let mut reached = Reached::Opening(Heading::Start);
+    for token in tokens.iter() {
+        reached = reader.feed(alloc, reached, token)?;
+        if reached.is_fault() {
+            return Err(Refusal::Fault(QueryFault {
+                byte: token.at,
+                reason: reason_at(alloc, &token.kind, reached)?,
+            }));
+        }
+    }
+    Ok(reader.finish())
 }

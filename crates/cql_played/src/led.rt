@@ -1,10 +1,16 @@
 //! What a move led from and took.
-ghost use Rattle.std.specs.Prelude.{◌≡◌, not};
+ghost use Rattle.std.specs.Prelude.{◌≡◌, ◌↔◌, ℕ, Some, not};
 ghost use Rattle.cq_position.specs.Legal.{is_none};
 ghost use Rattle.cq_position.specs.Men.{same_man};
 ghost use Rattle.cq_position.specs.declared.men.Man.TheVariants.{Empty};
 ghost use Rattle.cq_position.specs.Led.{taken_square};
+ghost use Rattle.cq_position.specs.declared.moves.Move.{Move as MoveValue};
+ghost use Rattle.cq_position.specs.Board.{Board};
+ghost use Rattle.cq_position.specs.Position.{IsPosition};
+ghost use Rattle.cq_position.specs.Legal.{Leads};
+ghost use Rattle.cq_position.specs.Led.{led};
 ghost use Rattle.cql_played.specs.Led.{led_as};
+ghost use Rattle.cql_played.specs.Taken.{taken_by, IsGone};
 
 use cq_geometry::{Square, file, rank, square_at};
 use cq_position::position::is_pawn;
@@ -65,3 +71,11 @@ fn is_promotion(promotion: Promotion) -> bool
 {
     !matches!(promotion, Promotion::None)
 }
+
+/// The square on which a legal move takes a man is exactly the one on which a man of the other side stood before it and none stands after
+/// it; where there is no such square it takes none, as a null move never does.
+#[tactic(auto, using(crate::proofs::Taken::taken_law))]
+pub fn taken_men_are_gone()
+    ensures { (p : Board) (m : MoveValue) (q : Board) → IsPosition p → Leads p m q → (s : ℕ) →
+        (taken_by (led p m) ≡ Some s) ↔ IsGone p q s }
+{}

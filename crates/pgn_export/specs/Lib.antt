@@ -6,3 +6,4 @@ pub mod TagLines
 pub mod Places
 pub mod Plain
 pub mod Export
+pub mod Normal

@@ -1,6 +1,9 @@
 //! The export text of a game.
-ghost use Rattle.std.specs.Prelude.{◌≡◌, IfOk};
+ghost use Rattle.std.specs.Prelude.{◌≡◌, ℕ, Bool, IfOk};
 ghost use Rattle.pgn_export.specs.Export.{export_text};
+ghost use Rattle.pgn_export.specs.Normal.{IsNormal};
+ghost use Rattle.pgn_reader.specs.Games.{Spells};
+ghost use Rattle.pgn_reader.specs.Words.{words_of};
 
 use crate::lines::fill;
 use crate::movetext::write_movetext;
@@ -16,7 +19,22 @@ use std::alloc::Global;
 /// then the others in the ASCII order of their names; with a tag FEN the tag SetUp is 1. An empty line follows. The
 /// movetext stands in lines of at most 79 bytes, but that a longer word stands alone, with single spaces between words; an
 /// empty line ends it. Numeric annotation glyphs and comments follow their move, then the variations that replace it.
+///
+/// The text of a normal game, as `specs/Normal` says which these are, spells the game, wherever it stands in an archive: it
+/// is read as this game and as no other.
 pub fn export(alloc: Global, game: &Game) -> Result<Bytes, NoMemory>
+    ensures text { IfOk result (λ text. text ≡ export_text game.now) }
+    ensures spelled { IfOk result (λ text. IsNormal game.now →
+        (start : ℕ) (first : Bool) → Spells (words_of start first text) game.now) }
+{
+    // Read for what every game keeps.
+    let _nodes = game.len();
+    let _tags = game.tags().len();
+    let _side = game.position(0).side();
+    written(alloc, game)
+}
+
+fn written(alloc: Global, game: &Game) -> Result<Bytes, NoMemory>
     ensures { IfOk result (λ text. text ≡ export_text game.now) }
 {
     let mut words = Words::new(alloc);

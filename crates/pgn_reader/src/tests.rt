@@ -1,14 +1,16 @@
 //! Texts, their trees and their first faults.
-ghost use Rattle.std.specs.Prelude.{◌<◌, length};
+ghost use Rattle.std.specs.Prelude.{◌<◌, ◌^◌, length};
 
 use crate::Reason::{
-    AmbiguousMove, BadByte, BadFen, BadTag, EmptyVariation, IllegalMove, NagRange, NotAMove,
-    UnclosedComment, UnclosedString, UnclosedVariation, UnopenedVariation, VariationWithoutMove,
+    AmbiguousMove, BadByte, BadFen, BadTag, EmptyVariation, GameTooLong, IllegalMove, NagRange,
+    NotAMove, TooDeep, TooManyPositions, UnclosedComment, UnclosedString, UnclosedVariation,
+    UnopenedVariation, VariationWithoutMove,
 };
 use crate::{GameFault, Reason, read_game};
 use cq_outside::{NoMemory, Refusal};
 use cq_position::GameResult;
 use pgn_tree::Game;
+use std::alloc::Global;
 
 /// A text, and the place and the reason of its first fault.
 type Row<'a> = (&'a [u8], Option<(u64, Reason)>);
@@ -44,16 +46,72 @@ static ROWS: [Row<'static>; 22] = [
     ),
 ];
 
+fn fault_of(alloc: Global, text: &[u8], start: u64) -> Result<Option<(u64, Reason)>, NoMemory>
+    requires { start < 2 ^ 62 }
+{
+    match read_game(alloc, text, start, true) {
+        Ok(_game) => Ok(None),
+        Err(Refusal::Fault(fault)) => Ok(Some((fault.byte, fault.reason))),
+        Err(Refusal::NoMemory) => Err(NoMemory),
+    }
+}
+
 #[test]
 fn texts_have_their_first_fault(rt: HostRuntime) -> Result<(), NoMemory> {
     for (text, want) in ROWS.iter() {
-        let found = match read_game(rt.alloc(), text, 1000, true) {
-            Ok(_game) => None,
-            Err(Refusal::Fault(fault)) => Some((fault.byte, fault.reason)),
-            Err(Refusal::NoMemory) => return Err(NoMemory),
-        };
+        let found = fault_of(rt.alloc(), text, 1000)?;
         let want = want.map(|(byte, reason)| (byte.wrapping_add(1000), reason));
         assert_eq!(rt; found, want, "in {text:?}");
+    }
+    Ok(())
+}
+
+/// The parts of a long text, each with how often it stands there in a row, and its fault.
+type LongRow<'a> = (&'a [(&'a [u8], u32)], Option<(u64, Reason)>);
+
+// 100 levels of variations and one more, 65,536 positions and one more, 2^24 bytes and one more.
+static LIMITS: [LongRow<'static>; 6] = [
+    (
+        &[(b"1. e4 ", 1), (b"(1. d4 ", 100), (b") ", 100), (b"*", 1)],
+        None,
+    ),
+    (
+        &[(b"1. e4 ", 1), (b"(1. d4 ", 101), (b") ", 101), (b"*", 1)],
+        Some((706, TooDeep)),
+    ),
+    (
+        &[(b"Nf3 Nf6 Ng1 Ng8 ", 16_383), (b"Nf3 Nf6 Ng1 *", 1)],
+        None,
+    ),
+    (
+        &[(b"Nf3 Nf6 Ng1 Ng8 ", 16_384), (b"*", 1)],
+        Some((262_140, TooManyPositions)),
+    ),
+    (
+        &[(b"*", 1), (b"        ", 2_097_151), (b"       ", 1)],
+        None,
+    ),
+    (
+        &[(b"*", 1), (b"        ", 2_097_152)],
+        Some((16_777_216, GameTooLong)),
+    ),
+];
+
+fn joined(alloc: Global, parts: &[(&[u8], u32)]) -> Result<Vec<u8>, NoMemory> {
+    let mut text = Vec::new(alloc);
+    for (part, times) in parts {
+        for _turn in 0..*times {
+            text.extend_from_slice(part)?;
+        }
+    }
+    Ok(text)
+}
+
+#[test]
+fn games_are_read_up_to_their_limits(rt: HostRuntime) -> Result<(), NoMemory> {
+    for (parts, want) in LIMITS.iter() {
+        let text = joined(rt.alloc(), parts)?;
+        assert_eq!(rt; fault_of(rt.alloc(), &text, 0)?, *want);
     }
     Ok(())
 }

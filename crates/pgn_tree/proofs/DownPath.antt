@@ -11,7 +11,7 @@ use Rattle.cq_position.specs.Search.{SearchedTree, IsStep, Along, IsPath, IsDown
 use Rattle.cq_position.proofs.Ancestors.{way_step, way_head, reaches}
 use Rattle.cq_position.proofs.Trees.{tree_first}
 
-abbrev all_of : Game → SearchedTree
+abbrev pub all_of : Game → SearchedTree
 all_of g = record { game = g; variations = true }
 
 -- from the node that is reached, the nodes that were passed lead down to the one from which the way set out

@@ -10,3 +10,4 @@ pub mod Causes
 pub mod Notes
 pub mod DownPath
 pub mod Men
+pub mod Single

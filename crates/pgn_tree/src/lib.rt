@@ -5,6 +5,7 @@
 
 mod comment;
 mod game;
+pub mod laws;
 mod node;
 mod tags;
 #[cfg(test)]

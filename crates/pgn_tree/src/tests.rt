@@ -17,5 +17,8 @@ fn calls_find_memory(rt: HostRuntime) -> Result<(), Fail> {
     assert_eq!(rt; game.nags(0), b"\x0e".as_slice());
     assert_eq!(rt; game.comments(0), 1);
     assert_eq!(rt; game.main_line()?.as_slice(), [0].as_slice());
+    let path = game.down_path(0, 0)?;
+    assert_eq!(rt; path.as_ref().map(|p| p.as_slice()), Some([0].as_slice()));
+    assert_eq!(rt; game.men(false), 0b1_1111_1111_1111);
     Ok(())
 }

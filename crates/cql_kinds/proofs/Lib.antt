@@ -1,0 +1,5 @@
+pub mod Arms
+pub mod Checked
+pub mod Loops
+pub mod Placing
+pub mod Walking

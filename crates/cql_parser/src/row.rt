@@ -1,0 +1,108 @@
+//! Filters with a token between them.
+ghost use Rattle.std.specs.Prelude.{◌≡◌, ◌==◌, IfOk};
+ghost use Rattle.cql_syntax.specs.TreeOf.{filter_tree, form_tree};
+ghost use Rattle.cql_parser.specs.Drafts.{new_row, longer_row, row_of as row_by, subtracts, joined_node};
+ghost use Rattle.cql_parser.specs.Shown.{node_shown};
+
+use crate::draft::{Node, filter_in};
+use crate::role::{Joint, joint_level};
+use cq_outside::NoMemory;
+use cql_syntax::{Filter, Filters, Form, Term, Terms};
+use std::alloc::Global;
+
+// A row of two filters.
+fn new_row(alloc: Global, first: Filter, joint: Joint, second: Filter) -> Result<Form, NoMemory>
+    ensures { IfOk result (λ f. form_tree f ≡ new_row (filter_tree first) joint (filter_tree second)) }
+{
+    match joint {
+        Joint::Chained(chain) => {
+            let mut parts = Filters::new(alloc);
+            parts.push(first)?;
+            parts.push(second)?;
+            Ok(Form::Chain(chain, parts))
+        }
+        Joint::Added(minus) => {
+            let mut terms = Terms::new(alloc);
+            terms.push(Term {
+                minus: false,
+                filter: first,
+            })?;
+            terms.push(Term {
+                minus,
+                filter: second,
+            })?;
+            Ok(Form::Sum(terms))
+        }
+        Joint::Paired(pair) => {
+            let first = Box::new(alloc, first)?;
+            Ok(Form::Pair(pair, first, Box::new(alloc, second)?))
+        }
+    }
+}
+
+// Whether the filter after the token is taken away.
+fn subtracts(joint: Joint) -> bool
+    ensures { result ≡ subtracts joint }
+{
+    match joint {
+        Joint::Added(minus) => minus,
+        _ => false,
+    }
+}
+
+// A row, and one filter more at its end.
+fn longer_row(alloc: Global, row: Filter, joint: Joint, next: Filter) -> Result<Form, NoMemory>
+    ensures { IfOk result (λ f. form_tree f ≡ longer_row (form_tree row.form) (filter_tree row) joint (filter_tree next)) }
+{
+    let at = row.at;
+    match row.form {
+        Form::Chain(chain, parts) => {
+            let mut parts = parts;
+            parts.push(next)?;
+            Ok(Form::Chain(chain, parts))
+        }
+        Form::Sum(terms) => {
+            let mut terms = terms;
+            terms.push(Term {
+                minus: subtracts(joint),
+                filter: next,
+            })?;
+            Ok(Form::Sum(terms))
+        }
+        form => new_row(alloc, Filter { at, form }, joint, next),
+    }
+}
+
+// A filter and one more after a token, where the first is a row that goes on or becomes the first of a new row.
+fn row_of(
+    alloc: Global,
+    goes_on: bool,
+    first: Filter,
+    joint: Joint,
+    second: Filter,
+) -> Result<Filter, NoMemory>
+    ensures { IfOk result (λ f. filter_tree f ≡ row_by goes_on (filter_tree first) joint (filter_tree second)) }
+{
+    let at = first.at;
+    let form = if goes_on {
+        longer_row(alloc, first, joint, second)?
+    } else {
+        new_row(alloc, first, joint, second)?
+    };
+    Ok(Filter { at, form })
+}
+
+/// Two filters and a token between them; the first is of a level.
+pub fn joined(
+    alloc: Global,
+    level: u8,
+    first: Node,
+    joint: Joint,
+    second: Node,
+) -> Result<Node, NoMemory>
+    ensures { IfOk result (λ n. node_shown n ≡ joined_node level (node_shown first) joint (node_shown second)) }
+{
+    let goes_on = level == joint_level(joint);
+    let row = row_of(alloc, goes_on, filter_in(first), joint, filter_in(second))?;
+    Ok(Node::Filter(row))
+}

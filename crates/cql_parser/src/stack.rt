@@ -1,0 +1,128 @@
+//! What is open while a query is read.
+ghost use Rattle.std.specs.Prelude.{◌≡◌, ◌≤◌, [], ◌∷◌, OnOk};
+ghost use Rattle.cql_parser.specs.Machine.{depth as open_in, due as due_in, around as around_in};
+ghost use Rattle.cql_parser.specs.Planted.{planted};
+ghost use Rattle.cql_parser.specs.Frames.{frame_shown, stack_shown, opened, Popped};
+
+use crate::draft::Node;
+use crate::place::Context;
+use crate::role::{Joint, joint_level};
+use crate::rule::Rule;
+use cq_outside::NoMemory;
+use std::alloc::Global;
+
+/// How many constructs may be open at a place: parentheses, braces, and all that takes one filter or more but for the
+/// filters in a row and the parts of a line.
+pub const DEPTH_LIMIT: u32 = 64;
+
+/// Something open.
+#[derive(Drop)]
+pub enum Frame {
+    /// The parts of a rule.
+    Making(Rule),
+    /// A filter of a level, and what the token after it makes.
+    Joining(u8, Node, Joint),
+}
+
+/// What is open, the innermost last.
+#[derive(Drop)]
+pub struct Stack {
+    frames: Vec<Frame>,
+    depth: u32,
+    ghost counted: { depth ≡ open_in planted (stack_shown frames.items) },
+    ghost few: { depth ≤ 64 },
+}
+
+impl Frame {
+    // How many more rules that count are open with it.
+    fn depth(&self) -> u32
+        ensures value { result ≡ opened self.now }
+        ensures few { result ≤ 1 }
+    {
+        match self {
+            Frame::Making(rule) => rule.root.depth(),
+            Frame::Joining(..) => 0,
+        }
+    }
+
+    // The least level of the filter that is due after it.
+    fn due(&self) -> u8
+        ensures { result ≡ due_in planted (frame_shown self.now ∷ []) }
+    {
+        match self {
+            Frame::Making(rule) => rule.end.least(),
+            Frame::Joining(_, _, joint) => joint_level(*joint) + 1,
+        }
+    }
+
+    // What is around that filter.
+    fn around(&self) -> Context
+        ensures { result ≡ around_in planted (frame_shown self.now ∷ []) }
+    {
+        match self {
+            Frame::Making(rule) => rule.end.context(),
+            Frame::Joining(..) => Context::Within,
+        }
+    }
+}
+
+#[tactic(auto, using(crate::proofs::Frames::shown_more, crate::proofs::Frames::depth_more, crate::proofs::Frames::shown_none, crate::proofs::Frames::due_last, crate::proofs::Frames::due_none, crate::proofs::Frames::around_last, crate::proofs::Frames::around_none))]
+impl Stack {
+    /// Nothing open. Takes no memory.
+    pub fn new(alloc: Global) -> Stack
+        ensures { stack_shown result.frames.items ≡ [] }
+    {
+        Stack {
+            frames: Vec::new(alloc),
+            depth: 0,
+        }
+    }
+
+    /// How many rules that count are open.
+    pub fn depth(&self) -> u32
+        ensures value { result ≡ open_in planted (stack_shown self.now.frames.items) }
+        ensures few { result ≤ 64 }
+    {
+        self.depth
+    }
+
+    /// The least level of the filter that is due.
+    pub fn due(&self) -> u8
+        ensures { result ≡ due_in planted (stack_shown self.now.frames.items) }
+    {
+        match self.frames.last() {
+            Some(frame) => frame.due(),
+            None => 0,
+        }
+    }
+
+    /// What is around that filter.
+    pub fn around(&self) -> Context
+        ensures { result ≡ around_in planted (stack_shown self.now.frames.items) }
+    {
+        match self.frames.last() {
+            Some(frame) => frame.around(),
+            None => Context::Within,
+        }
+    }
+
+    /// One more.
+    pub fn push(&mut self, frame: Frame) -> Result<(), NoMemory>
+        requires { open_in planted (frame_shown frame ∷ stack_shown self.old.frames.items) ≤ 64 }
+        ensures { OnOk result (stack_shown self.new.frames.items ≡ frame_shown frame ∷ stack_shown self.old.frames.items) }
+    {
+        let more = frame.depth();
+        self.frames.push(frame)?;
+        self.depth += more;
+        Ok(())
+    }
+
+    /// The innermost.
+    pub fn pop(&mut self) -> Option<Frame>
+        ensures { Popped (stack_shown self.old.frames.items) (stack_shown self.new.frames.items) result }
+    {
+        let frame = self.frames.pop()?;
+        self.depth -= frame.depth();
+        Some(frame)
+    }
+}
