@@ -1,5 +1,5 @@
 mod Taken
-mod Written
+mod Sinks
 mod Answers
 mod Marks
 mod Promises

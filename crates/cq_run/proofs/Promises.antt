@@ -8,26 +8,15 @@ use Rattle.cq_outside.specs.declared.bytes.Bytes.{Bytes}
 use Rattle.cq_run.specs.declared.status.Status.{Status}
 use Rattle.cq_run.specs.declared.status.Status.TheVariants.{Done, DoneWithRefusals, QueryRefused, WordsRefused, OpenFault, ReadFault, WriteFault, NoMemory, ArchiveTooLong, NotYetRead}
 use Rattle.cq_run.specs.declared.query.ManOnSquare.{ManOnSquare}
-use Rattle.cq_run.specs.declared.answer.Answer.{Answer}
 use Rattle.cq_run.specs.Words.{query_text, usage_line}
 use Rattle.cq_run.specs.Query.{query_of, matcher_of}
 use Rattle.cq_run.specs.Outcomes.{Outcome, HasGames}
-use Rattle.cq_run.specs.Answer.{answer_of}
+use Rattle.cq_run.specs.Answer.{Answer, answer_of}
 use Rattle.cq_run.specs.Reading.{ReadsArchive}
-use Rattle.cq_run.specs.Writing.{WritesAnswer}
-use Rattle.cq_run.specs.Promise.{NoInputFailed, NoWriteFailed, AnswersItsFault, NothingFailed, Answers, Finds, TakesAll, StopsAnswering, FailsToOpen, FailsToRead, FailsToWrite, Call, DeskView, SinkView, Sinks, ReadsWhole, TakesTooMuch, Overruns, OpensAtMost, Writes, WritesPrefix, IsUnwritten, HasAll, Says, IsOneOf, Promise, archive_of, archive_limit, asked_query, texts_of_answer, texts_of_refusal}
+use Rattle.cq_run.specs.Writing.{AnswersArchive, WritesAnswer}
+use Rattle.cq_run.specs.Promise.{NoInputFailed, NoWriteFailed, AnswersItsFault, NothingFailed, Answers, Finds, TakesAll, StopsAnswering, SinkFailed, FailsToOpen, FailsToRead, FailsToWrite, Call, DeskView, SinkView, Sinks, ReadsWhole, TakesTooMuch, Overruns, OpensAtMost, Writes, WritesPrefix, IsUnwritten, HasAll, Says, IsOneOf, Promise, archive_of, archive_limit, asked_query, texts_of_answer, texts_of_refusal}
+use Rattle.cq_run.proofs.Sinks.{took_nothing, wrote_none, some_failed}
 use Rattle.cq_run.proofs.Taken.{unopened, not_overrun}
-
--- a sink that was not written to has taken nothing more
-pub unwritten : (taken : Option (List ℕ)) → Grew taken taken []
-unwritten None = tt
-unwritten (Some bytes) = sym (append-nil bytes)
-
-took_nothing : (before after : SinkView) → after ≡ before → Grew before.taken after.taken []
-took_nothing before after e = subst (λ (s : SinkView). Grew before.taken s.taken []) (sym e) (unwritten before.taken)
-
-wrote_none : (sinks : Sinks) → IsUnwritten sinks → NoWriteFailed sinks
-wrote_none sinks same = record { out = ap (λ (s : SinkView). s.faults) same.out; err = ap (λ (s : SinkView). s.faults) same.err }
 
 -- a desk that is the same has the same counts
 same_counts : (desk after : DeskView) → after ≡ desk → NoInputFailed desk after
@@ -44,10 +33,10 @@ none_rose status call none =
     let out = none.writes.out in
     let err = none.writes.err in
     record {
-      opens = λ more. absurd (omega arith);
-      reads = λ more. absurd (omega arith);
-      out = λ more. absurd (omega arith);
-      err = λ more. absurd (omega arith);
+      open_faults = λ more. absurd (omega arith);
+      read_faults = λ more. absurd (omega arith);
+      out_faults = λ more. absurd (omega arith);
+      err_faults = λ more. absurd (omega arith);
     }
 
 faults_answered : (status : Status) (call : Call) → Says status call → AnswersItsFault status call
@@ -60,17 +49,17 @@ faults_answered OpenFault call says =
     let sinks = wrote_none call.sinks says.unwritten in
     let out = sinks.out in
     let err = sinks.err in
-    record { opens = λ more. refl; reads = λ more. absurd (omega arith); out = λ more. absurd (omega arith); err = λ more. absurd (omega arith) }
+    record { open_faults = λ more. refl; read_faults = λ more. absurd (omega arith); out_faults = λ more. absurd (omega arith); err_faults = λ more. absurd (omega arith) }
 faults_answered ReadFault call says =
     let opens = says.opens in
     let sinks = wrote_none call.sinks says.unwritten in
     let out = sinks.out in
     let err = sinks.err in
-    record { opens = λ more. absurd (omega arith); reads = λ more. refl; out = λ more. absurd (omega arith); err = λ more. absurd (omega arith) }
+    record { open_faults = λ more. absurd (omega arith); read_faults = λ more. refl; out_faults = λ more. absurd (omega arith); err_faults = λ more. absurd (omega arith) }
 faults_answered WriteFault call says =
     let opens = says.input.opens in
     let reads = says.input.reads in
-    record { opens = λ more. absurd (omega arith); reads = λ more. absurd (omega arith); out = λ more. refl; err = λ more. refl }
+    record { open_faults = λ more. absurd (omega arith); read_faults = λ more. absurd (omega arith); out_faults = λ more. refl; err_faults = λ more. refl }
 faults_answered NoMemory call says = none_rose NoMemory call says.1
 faults_answered ArchiveTooLong call says = none_rose ArchiveTooLong call says.3
 faults_answered NotYetRead call says =
@@ -107,7 +96,7 @@ pub words_unwritten : (call : Call) (count : ℕ) → query_text call.words ≡ 
     → Rose call.sinks.err.faults call.sinks.err_after.faults → Grew call.sinks.err.taken call.sinks.err_after.taken (take count usage_line) → Promise WriteFault call
 words_unwritten call count none same out failed err =
     let says : Says WriteFault call = record {
-      rose = inr failed;
+      rose = inr (failed, ap (λ (s : SinkView). s.faults) out);
       input = same_counts call.desk call.desk_after same;
       stops = inl (none, record { out_count = 0; err_count = count; out = took_nothing call.sinks.out call.sinks.out_after out; err = err });
     } in
@@ -184,58 +173,69 @@ unread WordsRefused call query asks same read = absurd read.reads
 unread WriteFault call query asks same read = absurd read.reads
 unread NotYetRead call query asks same read = absurd read.reads
 
--- no memory for the answer
-pub unanswered : (call : Call) (query : ManOnSquare) (archive : Bytes) → Asks call query → ReadsArchive call.desk call.desk_after (Ok archive) → IsUnwritten call.sinks → Promise NoMemory call
-unanswered call query archive asks read same = unremembered call query asks read.opens read.reads.1 same
-
--- what was read of the archive, and what was found in it
-pub record Found (call : Call) (query : ManOnSquare) (archive : List ℕ) (answer : Answer) : Type 0 where
+-- the archive was read, and what was found in it is written as far as it could be
+pub record Answered (call : Call) (query : ManOnSquare) (archive : List ℕ) (status : Status) : Type 0 where
   pub asks : Asks call query
   pub opens : OpensAtMost call.desk call.desk_after
   pub reads : ReadsWhole call.desk call.desk_after archive
   pub counts : NoInputFailed call.desk call.desk_after
   pub short : Overruns call.desk call.desk_after → ⊥
-  pub outcomes : List Outcome
-  pub holds : HasGames archive outcomes
-  pub is : answer ≡ answer_of (matcher_of query) outcomes
+  pub answers : AnswersArchive (matcher_of query) archive call.sinks status
 
-finds : (call : Call) (query : ManOnSquare) (archive : List ℕ) (answer : Answer) (Takes : Answer → Type 0) → Found call query archive answer → Takes answer → Finds call Takes
-finds call query archive answer Takes found takes = record {
+finds : (call : Call) (query : ManOnSquare) (archive : List ℕ) (status : Status) (Takes : Answer → Type 0) → (answered : Answered call query archive status)
+    → Takes (answer_of (matcher_of query) answered.answers.outcomes) → Finds call Takes
+finds call query archive status Takes answered takes = record {
   query = query;
   archive = archive;
-  outcomes = found.outcomes;
-  asks = is_asked call query found.asks;
-  reads = found.reads;
-  holds = found.holds;
-  takes = subst Takes found.is takes;
+  outcomes = answered.answers.outcomes;
+  asks = is_asked call query answered.asks;
+  reads = answered.reads;
+  holds = answered.answers.holds;
+  takes = takes;
 }
 
--- the answer was written, or could not be
-pub wrote : (status : Status) (call : Call) (query : ManOnSquare) (archive : List ℕ) (answer : Answer) → Found call query archive answer
-    → WritesAnswer answer call.sinks status → Promise status call
-wrote Done call query archive answer found writes =
-    promise_of Done call query found.asks found.opens
-    (finds call query archive answer (TakesAll call (λ refused. refused ≡ 0)) found (record { refused = writes.0; writes = writes.1 }), nothing_failed call found.counts writes.2)
-    (λ much. absurd (found.short much)) (λ _. inl refl)
-wrote DoneWithRefusals call query archive answer found writes =
-    promise_of DoneWithRefusals call query found.asks found.opens
-    (finds call query archive answer (TakesAll call (λ refused. 0 < refused)) found (record { refused = writes.0; writes = writes.1 }), nothing_failed call found.counts writes.2)
-    (λ much. absurd (found.short much)) (λ _. inr (inl refl))
-wrote WriteFault call query archive answer found writes =
-    promise_of WriteFault call query found.asks found.opens
-    (record {
-      rose = writes.0;
-      input = found.counts;
-      stops = inr (finds call query archive answer (λ a. WritesPrefix call.sinks (texts_of_answer a)) found writes.1);
-    })
-    (λ much. absurd (found.short much)) (λ all. absurd (all.no_write writes.0))
-wrote NoMemory call query archive answer found writes =
-    promise_of NoMemory call query found.asks found.opens
-    (inr (finds call query archive answer (λ a. WritesPrefix call.sinks (texts_of_answer a)) found writes.0), nothing_failed call found.counts writes.1)
-    (λ _. inr (inl refl)) (λ _. inr (inr (inl refl)))
-wrote QueryRefused call query archive answer found writes = absurd writes
-wrote WordsRefused call query archive answer found writes = absurd writes
-wrote OpenFault call query archive answer found writes = absurd writes
-wrote ReadFault call query archive answer found writes = absurd writes
-wrote ArchiveTooLong call query archive answer found writes = absurd writes
-wrote NotYetRead call query archive answer found writes = absurd writes
+says_answered : (status : Status) (call : Call) (query : ManOnSquare) (archive : List ℕ) → Answered call query archive status → Says status call
+says_answered Done call query archive answered =
+    let writes = answered.answers.writes in (
+      finds call query archive Done (TakesAll call (λ refused. refused ≡ 0)) answered (record { refused = writes.0; writes = writes.1 }),
+      nothing_failed call answered.counts writes.2,
+    )
+says_answered DoneWithRefusals call query archive answered =
+    let writes = answered.answers.writes in (
+      finds call query archive DoneWithRefusals (TakesAll call (λ refused. 0 < refused)) answered (record { refused = writes.0; writes = writes.1 }),
+      nothing_failed call answered.counts writes.2,
+    )
+says_answered WriteFault call query archive answered = record {
+  rose = answered.answers.writes.0;
+  input = answered.counts;
+  stops = inr (finds call query archive WriteFault (λ a. WritesPrefix call.sinks (texts_of_answer a)) answered answered.answers.writes.1);
+}
+says_answered NoMemory call query archive answered = (
+  inr (finds call query archive NoMemory (λ a. WritesPrefix call.sinks (texts_of_answer a)) answered answered.answers.writes.0),
+  nothing_failed call answered.counts answered.answers.writes.1,
+)
+says_answered QueryRefused call query archive answered = absurd answered.answers.writes
+says_answered WordsRefused call query archive answered = absurd answered.answers.writes
+says_answered OpenFault call query archive answered = absurd answered.answers.writes
+says_answered ReadFault call query archive answered = absurd answered.answers.writes
+says_answered ArchiveTooLong call query archive answered = absurd answered.answers.writes
+says_answered NotYetRead call query archive answered = absurd answered.answers.writes
+
+-- which answer it is, where no write failed
+answer_is_one : (status : Status) (call : Call) (query : ManOnSquare) (archive : List ℕ) → Answered call query archive status → (SinkFailed call.sinks → ⊥)
+    → IsOneOf status (Done ∷ DoneWithRefusals ∷ NoMemory ∷ [])
+answer_is_one Done call query archive answered none = inl refl
+answer_is_one DoneWithRefusals call query archive answered none = inr (inl refl)
+answer_is_one NoMemory call query archive answered none = inr (inr (inl refl))
+answer_is_one WriteFault call query archive answered none = absurd (none (some_failed call.sinks answered.answers.writes.0))
+answer_is_one QueryRefused call query archive answered none = absurd answered.answers.writes
+answer_is_one WordsRefused call query archive answered none = absurd answered.answers.writes
+answer_is_one OpenFault call query archive answered none = absurd answered.answers.writes
+answer_is_one ReadFault call query archive answered none = absurd answered.answers.writes
+answer_is_one ArchiveTooLong call query archive answered none = absurd answered.answers.writes
+answer_is_one NotYetRead call query archive answered none = absurd answered.answers.writes
+
+pub wrote : (status : Status) (call : Call) (query : ManOnSquare) (archive : List ℕ) → Answered call query archive status → Promise status call
+wrote status call query archive answered =
+    promise_of status call query answered.asks answered.opens (says_answered status call query archive answered)
+    (λ much. absurd (answered.short much)) (λ all. answer_is_one status call query archive answered all.no_write)

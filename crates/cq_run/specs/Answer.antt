@@ -1,4 +1,4 @@
--- What a query finds in games.
+-- What a query finds in games, and how it is written.
 use Rattle.std.specs.Prelude.{ℕ, ◌+◌, Bool, true, false, List, [], ◌∷◌, ◌++◌, length, codes, decimal, count_by, Result, Ok, Err, if◌then◌else◌}
 use Rattle.std.specs.List.{flat_map}
 use Rattle.cq_position.specs.Games.{Game}
@@ -6,7 +6,7 @@ use Rattle.pgn_export.specs.Export.{export_text}
 use Rattle.pgn_reader.specs.declared.fault.GameFault.{GameFault}
 use Rattle.pgn_reader.specs.declared.fault.Reason.{Reason}
 use Rattle.pgn_reader.specs.declared.fault.Reason.TheVariants.{BadByte, UnclosedComment, UnclosedString, BadTag, BadFen, NagRange, NotAMove, IllegalMove, AmbiguousMove, VariationWithoutMove, EmptyVariation, UnopenedVariation, UnclosedVariation, TooDeep, TooManyPositions, GameTooLong}
-use Rattle.cq_run.specs.declared.answer.Answer.{Answer}
+use Rattle.cq_run.specs.declared.tally.Tally.{Tally}
 use Rattle.cq_run.specs.Matches.{Matcher, has_match, marked}
 use Rattle.cq_run.specs.Outcomes.{Outcome}
 
@@ -56,28 +56,32 @@ unfoldable pub fault_lines : ℕ → List Outcome → List ℕ
 fault_lines number [] = []
 fault_lines number (r ∷ rs) = fault_if number r ++ fault_lines (number + 1) rs
 
--- the exports of the games that match and the lines of the faulty ones, in their order, and how many games there are, match and are refused
-abbrev pub answer_of : Matcher → List Outcome → Answer
-answer_of query outcomes = record {
-  exports = flat_map (export_if query) outcomes;
-  faults = fault_lines 1 outcomes;
+-- the last line of a report: how many games there are, match and are refused
+abbrev pub summary_line : Tally → List ℕ
+summary_line tally =
+    codes "games " ++ decimal tally.games ++ codes " matched " ++ decimal tally.matched ++ codes " refused " ++ decimal tally.refused ++ codes "\n"
+
+-- how many of some games there are, match and are refused
+abbrev pub tally_of : Matcher → List Outcome → Tally
+tally_of query outcomes = record {
   games = length outcomes;
   matched = count_by (is_match query) outcomes;
   refused = count_by is_refused outcomes;
 }
 
--- an answer, and one more game, as the private functions give it
-abbrev pub with_game : Matcher → Answer → Outcome → Answer
-with_game query answer outcome = record {
-  exports = answer.exports ++ export_if query outcome;
-  faults = answer.faults ++ fault_if (answer.games + 1) outcome;
-  games = answer.games + 1;
-  matched = answer.matched + (if is_match query outcome then 1 else 0);
-  refused = answer.refused + (if is_refused outcome then 1 else 0);
+-- What a query finds in games: the exports of those that match and the lines of the faulty ones, in their order, and their numbers.
+pub record Answer : Type 0 where
+  pub exports : List ℕ
+  pub faults : List ℕ
+  pub tally : Tally
+
+abbrev pub answer_of : Matcher → List Outcome → Answer
+answer_of query outcomes = record {
+  exports = flat_map (export_if query) outcomes;
+  faults = fault_lines 1 outcomes;
+  tally = tally_of query outcomes;
 }
 
 -- the report: the lines of the faulty games, and then the counts
 abbrev pub report_of : Answer → List ℕ
-report_of answer =
-    answer.faults
-    ++ (codes "games " ++ decimal answer.games ++ codes " matched " ++ decimal answer.matched ++ codes " refused " ++ decimal answer.refused ++ codes "\n")
+report_of answer = answer.faults ++ summary_line answer.tally

@@ -8,11 +8,10 @@ use Rattle.cq_outside.specs.Told.{Told, bytes_of}
 use Rattle.cq_run.specs.declared.status.Status.{Status}
 use Rattle.cq_run.specs.declared.status.Status.TheVariants.{Done, DoneWithRefusals, QueryRefused, WordsRefused, OpenFault, ReadFault, WriteFault, NoMemory, ArchiveTooLong, NotYetRead}
 use Rattle.cq_run.specs.declared.query.ManOnSquare.{ManOnSquare}
-use Rattle.cq_run.specs.declared.answer.Answer.{Answer}
 use Rattle.cq_run.specs.Words.{query_text, usage_line}
 use Rattle.cq_run.specs.Outcomes.{Outcome, HasGames}
 use Rattle.cq_run.specs.Query.{query_of, matcher_of}
-use Rattle.cq_run.specs.Answer.{answer_of, report_of}
+use Rattle.cq_run.specs.Answer.{Answer, answer_of, report_of}
 
 -- a desk at one moment: what it tells, what is left of the open file, and its counts of faults
 pub record DeskView : Type 0 where
@@ -139,6 +138,12 @@ pub record NoWriteFailed (sinks : Sinks) : Type 0 where
   pub out : sinks.out_after.faults ≡ sinks.out.faults
   pub err : sinks.err_after.faults ≡ sinks.err.faults
 
+-- the count of one sink rose, and that of the other did not
+abbrev pub OneSinkFailed : Sinks → Type 0
+OneSinkFailed sinks =
+    (Rose sinks.out.faults sinks.out_after.faults × (sinks.err_after.faults ≡ sinks.err.faults))
+    ⊎ (Rose sinks.err.faults sinks.err_after.faults × (sinks.out_after.faults ≡ sinks.out.faults))
+
 -- a count of a sink rose
 abbrev pub SinkFailed : Sinks → Type 0
 SinkFailed sinks = Rose sinks.out.faults sinks.out_after.faults ⊎ Rose sinks.err.faults sinks.err_after.faults
@@ -160,7 +165,7 @@ pub record Finds (call : Call) (Takes : Answer → Type 0) : Type 0 where
 
 -- So many games are refused as is asked, and out and err have the exports and the report.
 pub record TakesAll (call : Call) (AreRefused : ℕ → Type 0) (answer : Answer) : Type 0 where
-  pub refused : AreRefused answer.refused
+  pub refused : AreRefused answer.tally.refused
   pub writes : Writes call.sinks (texts_of_answer answer)
 
 abbrev pub Answers : Call → (ℕ → Type 0) → Type 0
@@ -195,9 +200,9 @@ pub record FailsToRead (call : Call) : Type 0 where
   pub opens : call.desk_after.open_faults ≡ call.desk.open_faults
   pub unwritten : IsUnwritten call.sinks
 
--- a sink could not be written to: its count rose, and none of the desk
+-- a sink could not be written to: its count rose, and no other
 pub record FailsToWrite (call : Call) : Type 0 where
-  pub rose : SinkFailed call.sinks
+  pub rose : OneSinkFailed call.sinks
   pub input : NoInputFailed call.desk call.desk_after
   pub stops : StopsRefusing call ⊎ StopsAnswering call
 
@@ -232,10 +237,10 @@ pub record HasAll (call : Call) : Type 0 where
 
 -- a count that is greater than it was is answered by its own fault
 pub record AnswersItsFault (status : Status) (call : Call) : Type 0 where
-  pub opens : call.desk.open_faults < call.desk_after.open_faults → status ≡ OpenFault
-  pub reads : call.desk.read_faults < call.desk_after.read_faults → status ≡ ReadFault
-  pub out : call.sinks.out.faults < call.sinks.out_after.faults → status ≡ WriteFault
-  pub err : call.sinks.err.faults < call.sinks.err_after.faults → status ≡ WriteFault
+  pub open_faults : call.desk.open_faults < call.desk_after.open_faults → status ≡ OpenFault
+  pub read_faults : call.desk.read_faults < call.desk_after.read_faults → status ≡ ReadFault
+  pub out_faults : call.sinks.out.faults < call.sinks.out_after.faults → status ≡ WriteFault
+  pub err_faults : call.sinks.err.faults < call.sinks.err_after.faults → status ≡ WriteFault
 
 -- what `run` promises of its status
 pub record Promise (status : Status) (call : Call) : Type 0 where

@@ -1,108 +1,151 @@
-//! What a query finds in the games of an archive.
-ghost use Rattle.std.specs.Prelude.{◌≡◌, List, ℕ, ◌+◌, ◌<◌, ◌≤◌, ◌^◌, ◌++◌, [], Ok, Err, length, if◌then◌else◌, IfOk, OnOk};
+//! Answering a query over an archive: each export and each line is written as its game is answered.
+ghost use Rattle.std.specs.Prelude.{◌≡◌, ◌+◌, ◌<◌, ◌≤◌, ◌^◌, Ok, Err, length};
 ghost use Rattle.std.specs.List.{list_any};
 ghost use Rattle.pgn_cut.specs.Joined.{game_bytes};
 ghost use Rattle.pgn_cut.specs.OneGame.{IsGameIn};
 ghost use Rattle.pgn_cut.specs.Spans.{EndsBy};
 ghost use Rattle.pgn_reader.specs.Verdict.{IsRead};
 ghost use Rattle.cq_run.specs.Query.{matcher_of};
+ghost use Rattle.cq_run.specs.Matches.{Matcher};
+ghost use Rattle.cq_run.specs.Outcomes.{Outcome};
+ghost use Rattle.cq_run.specs.Promise.{SinkView, sink_view, sinks_of};
+ghost use Rattle.cq_run.specs.Writing.{AnswersArchive, AnswersGame, WritesSummary, WritesText};
 
 use crate::query::ManOnSquare;
-use crate::report::push_fault;
-use cq_outside::{Bytes, NoMemory, Refusal};
+use crate::report::{fault_line, summary_line};
+use crate::status::Status;
+use crate::tally::Tally;
+use cq_outside::{Failed, NoMemory, Refusal, Sink, write_all_of};
 use pgn_cut::{Span, cut_whole, games_end_once};
 use pgn_export::export;
-use pgn_reader::{GameFault, read_game};
+use pgn_reader::{GameFault, games_have_outcomes, read_game};
 use pgn_tree::Game;
 use std::alloc::Global;
 
-/// What a query finds: the exports of the games that match and the lines of those that are faulty, in their order, and
-/// how many games there are, match and are refused.
-#[derive(Drop, Debug)]
-pub struct Answer {
-    pub exports: Bytes,
-    pub faults: Bytes,
-    pub games: u64,
-    pub matched: u64,
-    pub refused: u64,
+/// Answers the query over an archive of at most 2^30 bytes: `out` takes the export of each game that matches, and `err` the
+/// line of each faulty game and, after the last game, the counts. A write that fails is the last one.
+pub fn answer_archive<O: Sink, E: Sink>(
+    alloc: Global,
+    query: &ManOnSquare,
+    archive: &[u8],
+    out: &mut O,
+    err: &mut E,
+) -> Status
+    requires { length archive.now ≤ 2 ^ 30 }
+    ensures { AnswersArchive (matcher_of query.now) archive.now (sinks_of (sink_view O.taken O.faults out.old) (sink_view O.taken O.faults out.new)
+        (sink_view E.taken E.faults err.old) (sink_view E.taken E.faults err.new)) result }
+{
+    games_end_once();
+    games_have_outcomes();
+    let Ok(games) = cut_whole(alloc, archive) else {
+        return Status::NoMemory;
+    };
+    let mut tally = Tally {
+        games: 0,
+        matched: 0,
+        refused: 0,
+    };
+    for i in 0..games.len() {
+        match answer_game(alloc, query, archive, games[i], &mut tally, out, err) {
+            Ok(()) => {}
+            Err(Refusal::Fault(_)) => return Status::WriteFault,
+            Err(Refusal::NoMemory) => return Status::NoMemory,
+        }
+    }
+    write_summary(alloc, tally, err)
 }
 
-impl Answer {
-    ghost use Rattle.cq_run.specs.Answer.{answer_of, with_game};
-    ghost use Rattle.cq_run.specs.Outcomes.{Outcome, HasGames};
-    ghost use Rattle.cq_run.specs.Matches.{Matcher};
-
-    /// What the query finds in an archive of at most 2^30 bytes.
-    pub fn find(alloc: Global, query: &ManOnSquare, archive: &[u8]) -> Result<Answer, NoMemory>
-        requires { length archive.now ≤ 2 ^ 30 }
-        ensures { IfOk result (λ answer. (outcomes : List Outcome) × HasGames archive.now outcomes × (answer ≡ answer_of (matcher_of query.now) outcomes)) }
-    {
-        games_end_once();
-        let games = cut_whole(alloc, archive)?;
-        let mut answer = Answer {
-            exports: Bytes::new(alloc),
-            faults: Bytes::new(alloc),
-            games: 0,
-            matched: 0,
-            refused: 0,
-        };
-        for i in 0..games.len() {
-            answer.add(alloc, query, archive, games[i])?;
-        }
-        Ok(answer)
+/// Writes the last line of the report.
+fn write_summary<E: Sink>(alloc: Global, tally: Tally, err: &mut E) -> Status
+    ensures { WritesSummary tally (sink_view E.taken E.faults err.old) (sink_view E.taken E.faults err.new) result }
+{
+    let Ok(line) = summary_line(alloc, tally) else {
+        return Status::NoMemory;
+    };
+    match write_all_of(err, line.as_slice()) {
+        Ok(()) if tally.refused == 0 => Status::Done,
+        Ok(()) => Status::DoneWithRefusals,
+        Err(_) => Status::WriteFault,
     }
+}
 
-    /// Adds one game of the archive.
-    fn add(
-        &mut self,
-        alloc: Global,
-        query: &ManOnSquare,
-        archive: &[u8],
-        game: Span,
-    ) -> Result<(), NoMemory>
-        requires within { EndsBy (length archive.now) game }
-        requires size { length archive.now ≤ 2 ^ 30 }
-        requires one { IsGameIn archive.now game }
-        requires games { self.old.games < 2 ^ 63 }
-        requires matched { self.old.matched ≤ self.old.games }
-        requires refused { self.old.refused ≤ self.old.games }
-        ensures { OnOk result ((outcome : Outcome) × IsRead game.start game.first (game_bytes archive.now game) outcome
-            × (self.new ≡ with_game (matcher_of query.now) self.old outcome)) }
-    {
-        let bytes = &archive[game.start as usize..game.end as usize];
-        match read_game(alloc, bytes, game.start, game.first) {
-            Ok(game) => self.add_game(alloc, query, game),
-            Err(Refusal::Fault(fault)) => self.add_fault(fault),
-            Err(Refusal::NoMemory) => Err(NoMemory),
-        }
+/// Answers one game of the archive. Memory is refused before anything of the game is written.
+fn answer_game<O: Sink, E: Sink>(
+    alloc: Global,
+    query: &ManOnSquare,
+    archive: &[u8],
+    game: Span,
+    tally: &mut Tally,
+    out: &mut O,
+    err: &mut E,
+) -> Result<(), Refusal<Failed>>
+    requires within { EndsBy (length archive.now) game }
+    requires size { length archive.now ≤ 2 ^ 30 }
+    requires one { IsGameIn archive.now game }
+    requires games { tally.old.games < 2 ^ 63 }
+    requires matched { tally.old.matched ≤ tally.old.games }
+    requires refused { tally.old.refused ≤ tally.old.games }
+    ensures { AnswersGame (matcher_of query.now) (IsRead game.start game.first (game_bytes archive.now game)) tally.old tally.new
+        (sinks_of (sink_view O.taken O.faults out.old) (sink_view O.taken O.faults out.new)
+        (sink_view E.taken E.faults err.old) (sink_view E.taken E.faults err.new)) result }
+{
+    let bytes = &archive[game.start as usize..game.end as usize];
+    match read_game(alloc, bytes, game.start, game.first) {
+        Ok(game) => write_match(alloc, query, game, tally, out),
+        Err(Refusal::Fault(fault)) => write_fault(alloc, fault, tally, err),
+        Err(Refusal::NoMemory) => Err(Refusal::NoMemory),
     }
+}
 
-    /// Adds a game that was read.
-    fn add_game(&mut self, alloc: Global, query: &ManOnSquare, game: Game) -> Result<(), NoMemory>
-        requires games { self.old.games < 2 ^ 63 }
-        requires matched { self.old.matched ≤ self.old.games }
-        ensures { OnOk result (self.new ≡ with_game (matcher_of query.now) self.old (Ok game)) }
-    {
-        self.games += 1;
-        let mut game = game;
-        let matches = query.matches(alloc, &game)?;
-        if !is_any(&matches) {
-            return Ok(());
-        }
-        self.matched += 1;
-        query.mark(&mut game, &matches)?;
-        self.exports.push_all(export(alloc, &game)?.as_slice())
+/// Writes the export of a game that was read, where it matches.
+fn write_match<O: Sink>(
+    alloc: Global,
+    query: &ManOnSquare,
+    game: Game,
+    tally: &mut Tally,
+    out: &mut O,
+) -> Result<(), Refusal<Failed>>
+    requires games { tally.old.games < 2 ^ 63 }
+    requires matched { tally.old.matched ≤ tally.old.games }
+    ensures { (err : SinkView) → AnswersGame (matcher_of query.now) (λ outcome. outcome ≡ Ok game) tally.old tally.new
+        (sinks_of (sink_view O.taken O.faults out.old) (sink_view O.taken O.faults out.new) err err) result }
+{
+    tally.games += 1;
+    let mut game = game;
+    let matches = query.matches(alloc, &game)?;
+    if !is_any(&matches) {
+        return Ok(());
     }
+    tally.matched += 1;
+    query.mark(&mut game, &matches)?;
+    write_to(out, export(alloc, &game)?.as_slice())
+}
 
-    /// Adds a game that is faulty.
-    fn add_fault(&mut self, fault: GameFault) -> Result<(), NoMemory>
-        requires games { self.old.games < 2 ^ 63 }
-        requires refused { self.old.refused ≤ self.old.games }
-        ensures { (query : Matcher) → OnOk result (self.new ≡ with_game query self.old (Err fault)) }
-    {
-        self.games += 1;
-        self.refused += 1;
-        push_fault(&mut self.faults, self.games, fault)
+/// Writes the line of a game that is faulty.
+fn write_fault<E: Sink>(
+    alloc: Global,
+    fault: GameFault,
+    tally: &mut Tally,
+    err: &mut E,
+) -> Result<(), Refusal<Failed>>
+    requires games { tally.old.games < 2 ^ 63 }
+    requires refused { tally.old.refused ≤ tally.old.games }
+    ensures { (query : Matcher) (out : SinkView) → AnswersGame query (λ outcome. outcome ≡ Err fault) tally.old tally.new
+        (sinks_of out out (sink_view E.taken E.faults err.old) (sink_view E.taken E.faults err.new)) result }
+{
+    tally.games += 1;
+    tally.refused += 1;
+    let line = fault_line(alloc, tally.games, fault)?;
+    write_to(err, line.as_slice())
+}
+
+/// Writes all of a text.
+fn write_to<S: Sink>(sink: &mut S, text: &[u8]) -> Result<(), Refusal<Failed>>
+    ensures { WritesText text.now (sink_view S.taken S.faults sink.old) (sink_view S.taken S.faults sink.new) result }
+{
+    match write_all_of(sink, text) {
+        Ok(()) => Ok(()),
+        Err(failed) => Err(Refusal::Fault(failed)),
     }
 }
 

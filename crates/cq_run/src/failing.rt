@@ -176,6 +176,26 @@ fn each_failure_has_its_status(rt: HostRuntime) -> Result<(), Fail> {
 }
 
 #[test]
+fn a_failed_write_is_the_last(rt: HostRuntime) -> Result<(), Fail> {
+    let alloc = rt.alloc();
+    let mut archive = String::from_str(alloc, "1. e5 *\n")?;
+    archive.push_str(ARCHIVE)?;
+    archive.push_str("1. e6 *\n")?;
+    let mut desk = SureDesk::new(alloc);
+    desk.add(b"-", archive.as_bytes())?;
+    let mut out = FailingSink { room: 9, faults: 0 };
+    let mut err = SureSink::new(alloc, 128)?;
+    let words = ["eval", "cql() Ka1"];
+    let status = status_of(&rt, alloc, &words, &mut desk, &mut out, &mut err)?;
+    assert_eq!(rt; status, Status::WriteFault);
+    assert_eq!(rt;
+        err.taken(),
+        Some(b"game 1 byte 3: illegal move\n".as_slice())
+    );
+    Ok(())
+}
+
+#[test]
 fn a_real_file_of_several_pieces_is_read_to_its_end(rt: HostRuntime) -> Result<(), Fail> {
     let alloc = rt.alloc();
     let name = "cq_run_long_archive_test.pgn";

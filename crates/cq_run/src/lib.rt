@@ -8,11 +8,11 @@ mod query;
 mod reading;
 mod report;
 mod status;
+mod tally;
 #[cfg(test)]
 mod tests;
 mod top_call;
 mod words;
-mod writing;
 
 pub use status::Status;
 pub use top_call::run;

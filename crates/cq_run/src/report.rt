@@ -1,10 +1,12 @@
 //! The lines of the report.
-ghost use Rattle.std.specs.Prelude.{◌≡◌, ◌++◌, OnOk};
+ghost use Rattle.std.specs.Prelude.{◌≡◌, IfOk};
 ghost use Rattle.cq_run.specs.Answer as lines;
 
+use crate::tally::Tally;
 use cq_outside::{Bytes, NoMemory};
 use itoa::Buffer;
 use pgn_reader::{GameFault, Reason};
+use std::alloc::Global;
 
 /// What is said of a faulty game.
 pub fn reason_text(reason: Reason) -> &'static [u8]
@@ -30,16 +32,32 @@ pub fn reason_text(reason: Reason) -> &'static [u8]
     }
 }
 
-/// Adds the line of a faulty game, whose number counts from 1.
-pub fn push_fault(report: &mut Bytes, number: u64, fault: GameFault) -> Result<(), NoMemory>
-    ensures { OnOk result (report.new ≡ report.old ++ lines.fault_line number fault) }
+/// The line of a faulty game, whose number counts from 1.
+pub fn fault_line(alloc: Global, number: u64, fault: GameFault) -> Result<Bytes, NoMemory>
+    ensures { IfOk result (λ line. line ≡ lines.fault_line number fault) }
 {
     let mut digits = Buffer::new();
-    report.push_all(b"game ")?;
-    report.push_all(digits.format(number).as_bytes())?;
-    report.push_all(b" byte ")?;
-    report.push_all(digits.format(fault.byte).as_bytes())?;
-    report.push_all(b": ")?;
-    report.push_all(reason_text(fault.reason))?;
-    report.push_all(b"\n")
+    let mut line = Bytes::from_slice(alloc, b"game ")?;
+    line.push_all(digits.format(number).as_bytes())?;
+    line.push_all(b" byte ")?;
+    line.push_all(digits.format(fault.byte).as_bytes())?;
+    line.push_all(b": ")?;
+    line.push_all(reason_text(fault.reason))?;
+    line.push_all(b"\n")?;
+    Ok(line)
+}
+
+/// The last line of a report: how many games there are, match and are refused.
+pub fn summary_line(alloc: Global, tally: Tally) -> Result<Bytes, NoMemory>
+    ensures { IfOk result (λ line. line ≡ lines.summary_line tally) }
+{
+    let mut digits = Buffer::new();
+    let mut line = Bytes::from_slice(alloc, b"games ")?;
+    line.push_all(digits.format(tally.games).as_bytes())?;
+    line.push_all(b" matched ")?;
+    line.push_all(digits.format(tally.matched).as_bytes())?;
+    line.push_all(b" refused ")?;
+    line.push_all(digits.format(tally.refused).as_bytes())?;
+    line.push_all(b"\n")?;
+    Ok(line)
 }

@@ -3,27 +3,26 @@ ghost use Rattle.std.specs.Prelude.{map};
 ghost use Rattle.std.specs.String.{string_bytes};
 ghost use Rattle.cq_run.specs.Promise.{Promise, desk_view, sink_view, sinks_of};
 
-use crate::answer::Answer;
+use crate::answer::answer_archive;
 use crate::query::ManOnSquare;
 use crate::reading::read_archive;
 use crate::status::Status;
 use crate::words::{USAGE, text_of_query};
-use crate::writing::write_answer;
-use cq_outside::{Desk, Gate, NoMemory, Sink, write_all_of};
+use cq_outside::{Desk, Gate, Sink, write_all_of};
 use std::alloc::Global;
 use std::thread::Threads;
 
 /// Answers the words of a command, those after the program's name.
 ///
 /// `eval TEXT` takes TEXT as the query and reads the archive from standard input, the desk's file `-`, to its end. `out`
-/// takes the exports of the games that match, in archive order, and `err` the report, or the usage line where the words
-/// are refused. `rt` and `gate` are not used yet.
+/// takes the exports of the games that match, in archive order, each as its game is answered, and `err` the report, or the
+/// usage line where the words are refused. `rt` and `gate` are not used yet.
 ///
 /// Answers:
 /// - `Done` or `DoneWithRefusals`: both sinks have taken all, and no game, or some, is refused for its FEN text.
 /// - `WordsRefused`: the words are others; the usage line is written.
 /// - `OpenFault` or `ReadFault`: that count of the desk rose, and no other; nothing is written.
-/// - `WriteFault`: a count of a sink rose, and none of the desk; the archive was read to its end, where a query is asked.
+/// - `WriteFault`: the count of one sink rose, and no other; the archive was read to its end, where a query is asked.
 ///   Each sink has taken a prefix of its text, which may be all or nothing.
 /// - `NoMemory`: no memory was found, and no count rose; each sink has taken a prefix of its text. The words `eval TEXT`
 ///   alone take memory.
@@ -62,8 +61,5 @@ pub fn run<R: Threads + Sync, D: Desk, O: Sink, E: Sink, G: Gate + Sync>(
         Ok(archive) => archive,
         Err(status) => return status,
     };
-    match Answer::find(alloc, &query, archive.as_slice()) {
-        Ok(answer) => write_answer(alloc, &answer, out, err),
-        Err(NoMemory) => Status::NoMemory,
-    }
+    answer_archive(alloc, &query, archive.as_slice(), out, err)
 }

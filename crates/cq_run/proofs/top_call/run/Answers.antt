@@ -1,5 +1,5 @@
 use Rattle.std.proofs.Common.{refl, sym}
-use Rattle.cq_run.proofs.Promises.{words_written, words_unwritten, unread, unanswered, wrote}
+use Rattle.cq_run.proofs.Promises.{words_written, words_unwritten, unread, wrote}
 use Rattle.cq_run.proofs.top_call.run.Goals as goal
 
 pub returns-in-Ok : goal.returns-in-Ok
@@ -14,19 +14,16 @@ returns-in-Err-read_archive g c =
     (record { text = c.in-Some.text.now; words = c.in-Some.ensures; spells = sym c.in-Some-read.ensures }) (record { out = refl; err = refl })
     c.in-Err-read_archive.ensures
 
-pub returns-in-Ok-find : goal.returns-in-Ok-find
-returns-in-Ok-find g c =
+pub returns : goal.returns
+returns g c =
     let read = c.in-Ok-read_archive.ensures in
-    let found = rw c.as_slice.ensures at c.in-Ok-find.ensures in
-    wrote c.write_answer.result _ c.in-Some-read.query c.in-Ok-read_archive.archive c.in-Ok-find.answer
+    let answers = rw c.as_slice.ensures at c.answer_archive.ensures in
+    wrote c.answer_archive.result _ c.in-Some-read.query c.in-Ok-read_archive.archive
     (record {
       asks = record { text = c.in-Some.text.now; words = c.in-Some.ensures; spells = sym c.in-Some-read.ensures };
       opens = read.opens;
       reads = read.reads.0;
       counts = read.reads.1;
       short = read.reads.2;
-      outcomes = found.0;
-      holds = found.1;
-      is = found.2;
+      answers = answers;
     })
-    c.write_answer.ensures
