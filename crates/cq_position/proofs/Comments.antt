@@ -97,7 +97,7 @@ no_space : ◌≢◌ {A = ℕ} 32 125
 no_space e = absurd (omega (arith, e))
 
 -- a comment of some words without a brace is kept as it is
-comments_kept : (t : List ℕ) (ws : List (List ℕ)) → words t ≡ ws → All (λ b. b ≢ 125) t → All IsComment (comment_of ws)
+pub comments_kept : (t : List ℕ) (ws : List (List ℕ)) → words t ≡ ws → All (λ b. b ≢ 125) t → All IsComment (comment_of ws)
 comments_kept t [] is brace = All-nil IsComment
 comments_kept t (w ∷ more) is brace =
     let whole : join_with_byte 32 (w ∷ more) ≡ join_with_byte 32 (words t) = ap (join_with_byte 32) (sym is) in

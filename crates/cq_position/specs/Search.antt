@@ -1,6 +1,8 @@
 -- The tree of a game that a query searches, and the paths in it.
 use Rattle.std.specs.Prelude.{◌≡◌, ℕ, zero, suc, ◌+◌, ◌-◌, Bool, true, false, ◌&&◌, ◌||◌, not, ◌==◌, List, [], ◌∷◌, map, flat_map, filter, length, count_by, Option, Some, None, option_to_list}
-use Rattle.std.specs.List.{last_or}
+use Rattle.std.specs.List.{last_or, list_any}
+use Rattle.cq_position.specs.Board.{Board}
+use Rattle.cq_position.specs.Men.{man_number}
 use Rattle.cq_position.specs.Games.{Game, Node, node_at, children, is_first_child, way_up, is_below, is_searched, searched}
 
 -- a game, and whether the variations are searched too
@@ -31,6 +33,13 @@ begins_variation nodes n = not (n == 0) && not (is_first_child nodes n)
 -- how many nodes on the way from the root to a node are not first children
 abbrev pub depth : List Node → ℕ → ℕ
 depth nodes n = count_by (begins_variation nodes) (way_up nodes n)
+
+-- whether man number k stands in a position, and in some position of the tree
+unfoldable pub has_man : Board → ℕ → Bool
+has_man p k = list_any (λ m. man_number m == k) p.men
+
+unfoldable pub has_man_in : SearchedTree → ℕ → Bool
+has_man_in tree k = list_any (λ n. has_man (node_at tree.game.nodes n).position k) (nodes_in tree)
 
 -- A step down goes from a node to a child of it in the tree, and a step up from a node to its parent; with `primary` one of the two is the
 -- first child of the other.

@@ -7,3 +7,6 @@ pub mod Linked
 pub mod Changed
 pub mod Words
 pub mod Causes
+pub mod Notes
+pub mod DownPath
+pub mod Men

@@ -82,7 +82,7 @@ module _ (nodes : List Node) (x : Node) (tree : IsTree nodes) (later : IsTree (n
 pub root_is_main : (nodes : List Node) → IsTree nodes → is_main nodes 0 ≡ true
 root_is_main nodes tree = ap (list_all (in_line nodes)) (way_root nodes (tree_first nodes tree) 0 tree.root.parent)
 
-filter_more : (p : ℕ → Bool) (k : ℕ) → filter p (range_with_len 0 (k + 1)) ≡ filter p (range_with_len 0 k) ++ cond (p k) (k ∷ []) []
+pub filter_more : (p : ℕ → Bool) (k : ℕ) → filter p (range_with_len 0 (k + 1)) ≡ filter p (range_with_len 0 k) ++ cond (p k) (k ∷ []) []
 filter_more p k =
     ap (λ n. filter p (range_with_len 0 n)) (add-one k)
     ∙ ap (filter p) (range_more 0 k ∙ ap (λ n. range_with_len 0 k ++ n ∷ []) (let e : 0 + k ≡ k = omega arith in e))

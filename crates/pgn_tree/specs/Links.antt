@@ -1,6 +1,6 @@
 -- What a game keeps beside each node, so that every step from it is taken at once.
 use Rattle.std.specs.Prelude.{◌≡◌, ℕ, ◌<◌, ◌≤◌, Bool, true, false, List, [], ◌∷◌, ◌++◌, length, map, slice_set, slice_index_or, Option, Some, None}
-use Rattle.cq_position.specs.Games.{Node, no_node, IsSamePlace, IsTree, is_child_of, first_child, next_sibling, is_main}
+use Rattle.cq_position.specs.Games.{Node, no_node, IsSamePlace, IsTree, HaveNotes, is_child_of, first_child, next_sibling, is_main}
 
 -- a node with its first and its last child, its next sibling, and whether it is of the main line
 pub record Linked : Type 0 where
@@ -44,6 +44,11 @@ pub record AreLinks (items : List Linked) : Type 0 where
 pub record IsLinkedTree (items : List Linked) : Type 0 where
   pub tree : IsTree (nodes_of items)
   pub links : AreLinks items
+
+-- and the notes of each node are those that a game keeps
+pub record IsKept (items : List Linked) : Type 0 where
+  pub linked : IsLinkedTree items
+  pub notes : HaveNotes (nodes_of items)
 
 -- one node changes
 abbrev pub with_linked : List Linked → ℕ → (Linked → Linked) → List Linked

@@ -1,15 +1,18 @@
 //! A game.
 ghost use Rattle.std.specs.Option.{is_some};
-ghost use Rattle.std.specs.Prelude.{◌≡◌, ◌≢◌, ◌&&◌, not, ◌<◌, ◌≤◌, ◌+◌, ◌-◌, ◌↔◌, [], ◌∷◌, ◌++◌, length, slice_index_or, Some, None, OnOk, OnErr, IfOk, IfSome, IsNone, IsOk, Contains, All};
+ghost use Rattle.std.specs.Int.{bit_at};
+ghost use Rattle.std.specs.Prelude.{◌≡◌, ◌≢◌, ◌&&◌, ◌||◌, ◌==◌, ◌^◌, ℕ, false, not, ◌<◌, ◌≤◌, ◌+◌, ◌-◌, ◌↔◌, [], ◌∷◌, ◌++◌, length, slice_index_or, Some, None, OnOk, OnErr, IfOk, IfSome, IsNone, IsOk, Contains, All};
 ghost use Rattle.cq_position.specs.Legal.{Leads};
-ghost use Rattle.cq_position.specs.Games.{node_at, bare_node, with_nag, with_comment, with_node, way_up, children, first_child, next_sibling, is_main, main_line, IsLastSibling, IsTree};
+ghost use Rattle.cq_position.specs.Games.{node_at, bare_node, with_nag, with_comment, with_node, way_up, children, first_child, next_sibling, is_main, main_line, IsLastSibling, IsTree, HaveNotes, is_below, is_searched};
+ghost use Rattle.cq_position.specs.Men.{man_number};
+ghost use Rattle.cq_position.specs.Search.{IsDownPath, has_man, has_man_in};
 ghost use Rattle.pgn_tree.specs.Links.{linked_at, with_link, linked};
 
 use crate::comment::single_spaced;
 use crate::node::Node;
 use crate::tags::Tags;
 use cq_outside::NoMemory;
-use cq_position::{GameResult, Move, Position};
+use cq_position::{GameResult, Man, Move, Position};
 use std::alloc::Global;
 use std::marker::Model;
 
@@ -31,11 +34,11 @@ impl Model for Game {
     ghost Value = { Game };
 
     ghost use Rattle.pgn_tree.specs.GameInside.{game_inside};
-    ghost use Rattle.pgn_tree.specs.Links.{IsLinkedTree};
+    ghost use Rattle.pgn_tree.specs.Links.{IsKept};
 
     ghost view = { game_inside };
 
-    ghost invariant = { λ g. IsLinkedTree g.nodes.items };
+    ghost invariant = { λ g. IsKept g.nodes.items };
 }
 
 impl Game {
@@ -62,6 +65,7 @@ impl Game {
     pub fn len(&self) -> u32
         ensures len { result ≡ length self.now.nodes }
         ensures kept { IsTree self.now.nodes }
+        ensures notes { HaveNotes self.now.nodes }
     {
         self.nodes.len() as u32
     }
@@ -217,6 +221,71 @@ impl Game {
         }
         Ok(line)
     }
+
+    /// The path down from a node to another, both included, over all nodes; None exactly where `to` is neither `from` nor a descendant of it.
+    pub fn down_path(&self, from: u32, to: u32) -> Result<Option<Vec<u32>>, NoMemory>
+        requires from { from < length self.now.nodes }
+        requires to { to < length self.now.nodes }
+        ensures none { IfOk result (λ path. IsNone path ↔ (is_below self.now.nodes from to ≡ false)) }
+        ensures path { IfOk result (λ path. IfSome path (λ p. IsDownPath self.now from to p.items)) }
+    {
+        let mut path = Vec::new(self.alloc);
+        let mut at = to;
+        while from < at {
+            path.push(at)?;
+            let Some(parent) = self.parent(at) else {
+                return Ok(None);
+            };
+            at = parent;
+        }
+        if at < from {
+            return Ok(None);
+        }
+        path.push(from)?;
+        path.reverse();
+        Ok(Some(path))
+    }
+
+    /// The men that stand in some position of the main line, or with `variations` in some position of the game: bit k is set exactly where
+    /// man number k of [`Man`] does, the empty square included. Takes no memory.
+    pub fn men(&self, variations: bool) -> u16
+        ensures { (k : ℕ) → (bit_at result k == 1) ≡ has_man_in (record { game = self.now; variations = variations }) k }
+    {
+        let mut men = 0;
+        for k in 0..self.len() {
+            men = self.with_men_at(men, variations, k);
+        }
+        men
+    }
+
+    // The men, and those of a node where it is searched.
+    fn with_men_at(&self, men: u16, variations: bool, k: u32) -> u16
+        requires { k < length self.now.nodes }
+        ensures { (b : ℕ) → (bit_at result b == 1) ≡ ((bit_at men b == 1) || (is_searched variations self.now.nodes k && has_man (node_at self.now.nodes k).position b)) }
+    {
+        if variations || self.is_main(k) {
+            return with_men_of(men, self.position(k));
+        }
+        men
+    }
+}
+
+// The men, and those of a position.
+fn with_men_of(men: u16, position: &Position) -> u16
+    ensures { (b : ℕ) → (bit_at result b == 1) ≡ ((bit_at men b == 1) || has_man position.now b) }
+{
+    let on_board = position.men();
+    let mut men = men;
+    for square in 0..64 {
+        men |= bit_of(on_board[square]);
+    }
+    men
+}
+
+fn bit_of(man: Man) -> u16
+    ensures { result ≡ 2 ^ man_number man }
+{
+    1 << (man as u8)
 }
 
 // Whether the next child of a node is of the main line.

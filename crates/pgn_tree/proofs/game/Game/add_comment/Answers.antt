@@ -3,6 +3,7 @@ use Rattle.std.proofs.lemmas.Result.{on_ok_weaker}
 use Rattle.cq_position.specs.Games.{Node, Game, with_comment, with_node}
 use Rattle.pgn_tree.proofs.Words.{no_comment, one_comment, same_node}
 use Rattle.pgn_tree.proofs.Changed.{kept_set, within_items, nodes_set}
+use Rattle.pgn_tree.proofs.Notes.{comment_notes}
 use Rattle.pgn_tree.proofs.game.Game.add_comment.Goals as goal
 
 pub returns-then-is_empty-clause-ok : goal.returns-then-is_empty-clause-ok
@@ -12,8 +13,12 @@ returns-then-is_empty-clause-ok c =
 
 pub invariant_of-self : goal.invariant_of-self
 invariant_of-self c =
-    kept_set c.self.inside.nodes.items c.args.k c.index_mut.result.now c.add_comment.new.self
-    (within_items c.self.inside.nodes.items c.args.k (ap (λ g. g.nodes) c.self.view_is) c.requires.node) c.index_mut.ensures.value c.add_comment.ensures.place c.self.invariant
+    let within = within_items c.self.inside.nodes.items c.args.k (ap (λ g. g.nodes) c.self.view_is) c.requires.node in
+    record {
+      linked = kept_set c.self.inside.nodes.items c.args.k c.index_mut.result.now c.add_comment.new.self within c.index_mut.ensures.value c.add_comment.ensures.place c.self.invariant.linked;
+      notes = comment_notes c.add_comment.result c.self.inside.nodes.items c.args.k c.args.text.now c.in_ok-comment.comment c.index_mut.result.now c.add_comment.new.self within
+          c.index_mut.ensures.value c.in_ok-comment.ensures c.if-is_empty.ensures c.requires.brace c.add_comment.ensures.ok c.add_comment.ensures.err c.self.invariant.notes;
+    }
 
 pub returns-clause-ok : goal.returns-clause-ok
 returns-clause-ok c =

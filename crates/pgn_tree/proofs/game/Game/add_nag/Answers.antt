@@ -1,13 +1,18 @@
-use Rattle.std.proofs.Common.{List, ap, ◌∙◌}
+use Rattle.std.proofs.Common.{List, ap, ◌∙◌, arith}
 use Rattle.std.proofs.lemmas.Result.{on_ok_weaker}
 use Rattle.cq_position.specs.Games.{Node, Game, with_nag, with_node}
 use Rattle.pgn_tree.proofs.Changed.{kept_set, within_items, nodes_set}
+use Rattle.pgn_tree.proofs.Notes.{nag_notes}
 use Rattle.pgn_tree.proofs.game.Game.add_nag.Goals as goal
 
 pub invariant_of-self : goal.invariant_of-self
 invariant_of-self c =
-    kept_set c.self.inside.nodes.items c.args.k c.index_mut.result.now c.add_nag.new.self
-    (within_items c.self.inside.nodes.items c.args.k (ap (λ g. g.nodes) c.self.view_is) c.requires) c.index_mut.ensures.value c.add_nag.ensures.place c.self.invariant
+    let within = within_items c.self.inside.nodes.items c.args.k (ap (λ g. g.nodes) c.self.view_is) c.requires in
+    record {
+      linked = kept_set c.self.inside.nodes.items c.args.k c.index_mut.result.now c.add_nag.new.self within c.index_mut.ensures.value c.add_nag.ensures.place c.self.invariant.linked;
+      notes = nag_notes c.add_nag.result c.self.inside.nodes.items c.args.k c.args.nag c.index_mut.result.now c.add_nag.new.self within c.index_mut.ensures.value (omega (arith, c.well_formed))
+          c.add_nag.ensures.ok c.add_nag.ensures.err c.self.invariant.notes;
+    }
 
 pub returns-clause-ok : goal.returns-clause-ok
 returns-clause-ok c =

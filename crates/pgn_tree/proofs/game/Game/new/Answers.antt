@@ -1,10 +1,11 @@
 use Rattle.std.proofs.Common.{◌++◌, ◌∷◌, [], None, refl, subst, sym, ap₂, ◌∙◌}
 use Rattle.cq_position.specs.Games.{bare_node}
-use Rattle.pgn_tree.specs.Links.{IsLinkedTree}
+use Rattle.pgn_tree.specs.Links.{IsKept}
 use Rattle.pgn_tree.proofs.Linked.{root_linked}
+use Rattle.pgn_tree.proofs.Notes.{first_notes}
 use Rattle.pgn_tree.proofs.game.Game.new.Goals as goal
 
 pub invariant_of-result : goal.invariant_of-result
 invariant_of-result c =
-    subst IsLinkedTree (sym (c.in_ok-push.ensures.items ∙ ap₂ (λ l x. l ++ x ∷ []) c.new-nodes.ensures.items c.new.ensures))
-    (root_linked (bare_node None None c.args.start) (record { parent = refl; led_by = refl }))
+    subst IsKept (sym (c.in_ok-push.ensures.items ∙ ap₂ (λ l x. l ++ x ∷ []) c.new-nodes.ensures.items c.new.ensures))
+    (record { linked = root_linked (bare_node None None c.args.start) (record { parent = refl; led_by = refl }); notes = first_notes c.args.start })
