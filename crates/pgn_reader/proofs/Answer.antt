@@ -14,11 +14,12 @@ use Rattle.pgn_reader.specs.Standing.{Begun, outermost, within, depth_of, Reache
 use Rattle.pgn_reader.specs.Faults.{Begins, IsFault}
 use Rattle.pgn_reader.specs.Frame.{Row, Frame, place, whole}
 use Rattle.pgn_reader.specs.Machine.{Head, State, opened, named, valued, at, ended, stuck, feed, run, first}
+use Rattle.pgn_reader.specs.Shown.{moves_in}
 use Rattle.pgn_reader.specs.Arranged.{way_on, nodes_by, nodes_of_rows, game_shown, standing_of}
 use Rattle.pgn_reader.proofs.Read.{run_append}
 use Rattle.pgn_reader.proofs.Told.{Stack}
 use Rattle.pgn_reader.proofs.Stands.{Stands, all_stands}
-use Rattle.pgn_reader.proofs.Whole.{IsEnd, IsRead, spelled_is_read, Spelled, spelled_marked, read_at, read_ended, begins, stuck_is_dead}
+use Rattle.pgn_reader.proofs.Whole.{IsEnd, IsRead, spelled_is_read, Spelled, read_at, read_ended, begins, stuck_is_dead}
 use Rattle.pgn_reader.proofs.Count.{run_counts, first_counts, Counts}
 
 -- the place that what has begun reaches, and how many variations are open
@@ -35,72 +36,6 @@ reached start (within b o l) f (g ∷ k) (around, p, before, shallow, opening, t
     record {
       reaches = (place g, outer.reaches, p, before, subst (λ n. n < 100) (sym outer.depth) shallow, opening, t, subst (λ n. Tells (n + 1) (beginning p) l t) (sym outer.depth) tells, end);
       depth = let e : depth_of b + 1 ≡ length (g ∷ k) = let d = outer.depth in omega (arith, d) in e;
-    }
-
-pub stands_at : (ts : List Word) (s : State) → Stands ts s → (s ≡ stuck → ⊥) → StandsAt ts (standing_of s)
-stands_at ts (opened tags) stands live = stands
-stands_at ts (named tags name) stands live = stands
-stands_at ts (valued tags start) v live = (v.tags, v.opening, v.name, v.value, v.is_open, v.is_symbol, v.is_text, v.pair)
-stands_at ts (at h f k) shown live =
-    let r : Reached h.start shown.begun f k = reached h.start shown.begun f k shown.stack in
-    record {
-      pairs = shown.pairs;
-      tags = h.tags;
-      start = h.start;
-      has_heading = shown.has_heading;
-      begun = shown.begun;
-      reaches = r.reaches;
-      joined = shown.joined;
-      depth_is = sym r.depth;
-      moves_are = shown.moves;
-      heading_is = shown.heading;
-    }
-stands_at ts (ended h f result) m live =
-    let spelled : Spelled ts = spelled_marked ts h f result m in
-    record { game = spelled.game; spells = spelled.spells; marked = (m.before, m.marker, result, m.joined, m.marks) }
-stands_at ts stuck stands live = absurd (live refl)
-
--- a token at which reading gets stuck, or that makes one position too many
-pub fault_here : (ts : List Word) (i : ℕ) (w : Word) (s : State) (reason : Reason) → run first (take i ts) ≡ s → (s ≡ stuck → ⊥) → i < length ts → take (i + 1) ts ≡ take i ts ++ w ∷ []
-    → fault_at (standing_of s) w ≡ Some reason → (reason ≢ TooManyPositions → feed s w ≡ stuck) → moves_before (standing_of s) ≤ 65535 → IsFault ts i reason
-fault_here ts i w s reason is live low more why dead few = record {
-  alive = begins (take i ts) s is live;
-  standing = standing_of s;
-  stands = stands_at (take i ts) s (subst (Stands (take i ts)) is (all_stands (take i ts))) live;
-  few = few;
-  fault = inl (
-    w,
-    more,
-    low,
-    record {
-      why = why;
-      dead = λ other. stuck_is_dead (take i ts ++ w ∷ []) (run_append first (take i ts) (w ∷ []) ∙ ap (λ x. feed x w) is ∙ dead other);
-    },
-  );
-}
-
-no_end_fault : (s : State) (h : Head) (f : Frame) (result : GameResult) (reason : Reason) → IsEnd s h f result → fault_at_end (standing_of s) ≡ Some reason → ⊥
-no_end_fault s h f result reason (inl there) why = let e : None ≡ Some reason = ap (λ x. fault_at_end (standing_of x)) (sym there.0) ∙ why in cc
-no_end_fault s h f result reason (inr there) why = let e : None ≡ Some reason = ap (λ x. fault_at_end (standing_of x)) (sym there) ∙ why in cc
-
--- the end, where the tokens only begin a game
-pub fault_of_end : (ts : List Word) (s : State) (reason : Reason) → run first ts ≡ s → (s ≡ stuck → ⊥) → fault_at_end (standing_of s) ≡ Some reason → moves_before (standing_of s) ≤ 65535
-    → IsFault ts (length ts) reason
-fault_of_end ts s reason is live why few =
-    let all : take (length ts) ts ≡ ts = take_all (length ts) ts (let e : length ts ≤ length ts = omega arith in e) in
-    record {
-      alive = subst Begins (sym all) (begins ts s is live);
-      standing = standing_of s;
-      stands = subst (λ x. StandsAt x (standing_of s)) (sym all) (stands_at ts s (subst (Stands ts) is (all_stands ts)) live);
-      few = few;
-      fault = inr (
-        refl,
-        record {
-          why = why;
-          dead = λ g spells. let r : IsRead ts g = spelled_is_read ts g spells in
-              no_end_fault s r.head r.frame r.result reason (subst (λ x. IsEnd x r.head r.frame r.result) is r.is_end) why;
-        },
-      );
     }
 
 -- where reading ends there is one game
@@ -154,3 +89,83 @@ read_iff ts h f result is_end few g = (
     few = let a = all_nodes_length (whole f) in let b = whole_counts ts h f result is_end in omega (arith, a, b, few);
   }),
 )
+
+-- where the tokens of a state stand
+stands_by : (ts : List Word) (s : State) → run first ts ≡ s → moves_in s ≤ 65535 → Stands ts s → (s ≡ stuck → ⊥) → StandsAt ts (standing_of s)
+stands_by ts (opened tags) is few stands live = stands
+stands_by ts (named tags name) is few stands live = stands
+stands_by ts (valued tags start) is few v live = (v.tags, v.opening, v.name, v.value, v.is_open, v.is_symbol, v.is_text, v.pair)
+stands_by ts (at h f k) is few shown live =
+    let r : Reached h.start shown.begun f k = reached h.start shown.begun f k shown.stack in
+    record {
+      pairs = shown.pairs;
+      tags = h.tags;
+      start = h.start;
+      has_heading = shown.has_heading;
+      begun = shown.begun;
+      reaches = r.reaches;
+      joined = shown.joined;
+      depth_is = sym r.depth;
+      moves_are = shown.moves;
+      heading_is = shown.heading;
+    }
+stands_by ts (ended h f result) is few m live = record {
+  game = game_shown h f result;
+  spells = (read_iff ts h f result (inr is) few (game_shown h f result)).1 refl;
+  marked = (m.before, m.marker, result, m.joined, m.marks);
+}
+stands_by ts stuck is few stands live = absurd (live refl)
+
+pub stands_at : (ts : List Word) (s : State) → run first ts ≡ s → moves_in s ≤ 65535 → (s ≡ stuck → ⊥) → StandsAt ts (standing_of s)
+stands_at ts s is few live = stands_by ts s is few (subst (Stands ts) is (all_stands ts)) live
+
+few_before : (s : State) → moves_in s ≤ 65535 → moves_before (standing_of s) ≤ 65535
+few_before (opened tags) few = few
+few_before (named tags name) few = few
+few_before (valued tags start) few = few
+few_before (at h f k) few = few
+few_before (ended h f result) few = omega arith
+few_before stuck few = few
+
+-- a token at which reading gets stuck, or that makes one position too many
+pub fault_here : (ts : List Word) (i : ℕ) (w : Word) (s : State) (reason : Reason) → run first (take i ts) ≡ s → (s ≡ stuck → ⊥) → i < length ts → take (i + 1) ts ≡ take i ts ++ w ∷ []
+    → fault_at (standing_of s) w ≡ Some reason → (reason ≢ TooManyPositions → feed s w ≡ stuck) → moves_in s ≤ 65535 → IsFault ts i reason
+fault_here ts i w s reason is live low more why dead few = record {
+  alive = begins (take i ts) s is live;
+  standing = standing_of s;
+  stands = stands_at (take i ts) s is few live;
+  few = few_before s few;
+  fault = inl (
+    w,
+    more,
+    low,
+    record {
+      why = why;
+      dead = λ other. stuck_is_dead (take i ts ++ w ∷ []) (run_append first (take i ts) (w ∷ []) ∙ ap (λ x. feed x w) is ∙ dead other);
+    },
+  );
+}
+
+no_end_fault : (s : State) (h : Head) (f : Frame) (result : GameResult) (reason : Reason) → IsEnd s h f result → fault_at_end (standing_of s) ≡ Some reason → ⊥
+no_end_fault s h f result reason (inl there) why = let e : None ≡ Some reason = ap (λ x. fault_at_end (standing_of x)) (sym there.0) ∙ why in cc
+no_end_fault s h f result reason (inr there) why = let e : None ≡ Some reason = ap (λ x. fault_at_end (standing_of x)) (sym there) ∙ why in cc
+
+-- the end, where the tokens only begin a game
+pub fault_of_end : (ts : List Word) (s : State) (reason : Reason) → run first ts ≡ s → (s ≡ stuck → ⊥) → fault_at_end (standing_of s) ≡ Some reason → moves_in s ≤ 65535
+    → IsFault ts (length ts) reason
+fault_of_end ts s reason is live why few =
+    let all : take (length ts) ts ≡ ts = take_all (length ts) ts (let e : length ts ≤ length ts = omega arith in e) in
+    record {
+      alive = subst Begins (sym all) (begins ts s is live);
+      standing = standing_of s;
+      stands = subst (λ x. StandsAt x (standing_of s)) (sym all) (stands_at ts s is few live);
+      few = few_before s few;
+      fault = inr (
+        refl,
+        record {
+          why = why;
+          dead = λ g spells. let r : IsRead ts g = spelled_is_read ts g spells in
+              no_end_fault s r.head r.frame r.result reason (subst (λ x. IsEnd x r.head r.frame r.result) is r.is_end) why;
+        },
+      );
+    }

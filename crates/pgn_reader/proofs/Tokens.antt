@@ -38,14 +38,6 @@ shown_lives_by (Ended result) r is = cc
 pub shown_lives : (r : Reader) → shown r ≡ stuck → ⊥
 shown_lives r is = shown_lives_by r.phase r is
 
-few_before : (s : State) → moves_in s ≤ 65535 → moves_before (standing_of s) ≤ 65535
-few_before (opened tags) few = few
-few_before (named tags name) few = few
-few_before (valued tags start) few = few
-few_before (at h f k) few = few
-few_before (ended h f result) few = omega arith
-few_before stuck few = few
-
 -- one token more
 pub words_on : {A : Type 0} (word : A → Word) (tokens : List A) (i : ℕ) (d : A) → i < length tokens → take (i + 1) (map word tokens) ≡ take i (map word tokens) ++ word (get_or tokens i d) ∷ []
 words_on word tokens i d low =
@@ -66,7 +58,7 @@ pub fault_in_loop : {A : Type 0} (word : A → Word) (tokens : List A) (i : ℕ)
     → IsFault (map word tokens) i reason
 fault_in_loop word tokens i d r reason low is few why dead =
     fault_here (map word tokens) i (word (get_or tokens i d)) (shown r) reason is (shown_lives r)
-    (let len : length (map word tokens) ≡ length tokens = length-map tokens word in omega (arith, low, len)) (words_on word tokens i d low) why dead (few_before (shown r) few)
+    (let len : length (map word tokens) ≡ length tokens = length-map tokens word in omega (arith, low, len)) (words_on word tokens i d low) why dead few
 
 all_run : {A : Type 0} (word : A → Word) (tokens : List A) (i : ℕ) (s : State) → length tokens ≤ i → run first (take i (map word tokens)) ≡ s → run first (map word tokens) ≡ s
 all_run word tokens i s all is =
@@ -75,7 +67,7 @@ all_run word tokens i s all is =
 pub end_in_loop : {A : Type 0} (word : A → Word) (tokens : List A) (i : ℕ) (r : Reader) (reason : Reason) → length tokens ≤ i → run first (take i (map word tokens)) ≡ shown r
     → moves_in (shown r) ≤ 65535 → fault_at_end (standing_of (shown r)) ≡ Some reason → IsFault (map word tokens) (length tokens) reason
 end_in_loop word tokens i r reason all is few why =
-    subst (λ n. IsFault (map word tokens) n reason) (length-map tokens word) (fault_of_end (map word tokens) (shown r) reason (all_run word tokens i (shown r) all is) (shown_lives r) why (few_before (shown r) few))
+    subst (λ n. IsFault (map word tokens) n reason) (length-map tokens word) (fault_of_end (map word tokens) (shown r) reason (all_run word tokens i (shown r) all is) (shown_lives r) why few)
 
 pub whole_in_loop : {A : Type 0} (word : A → Word) (tokens : List A) (i : ℕ) (r : Reader) → length tokens ≤ i → run first (take i (map word tokens)) ≡ shown r
     → moves_in (shown r) ≤ 65535 → fault_at_end (standing_of (shown r)) ≡ None → IsWhole (map word tokens) r
