@@ -1,6 +1,8 @@
 //! Games whose hits are marked by comments.
 #![tactic(auto)]
 
+mod copying;
+pub mod laws;
 pub mod marking;
 
 pub use marking::mark;

@@ -1,0 +1,274 @@
+-- Changes of one node after another.
+use Rattle.std.proofs.Common.{◌≡◌, ℕ, zero, suc, ◌+◌, ◌-◌, ◌<◌, ◌≤◌, Bool, true, false, ◌||◌, List, [], ◌∷◌, ◌++◌, length, take, drop, get_or, map, refl, sym, ap, ◌∙◌, subst, arith, eqb-true, inl, inr, append_assoc, append-nil, Some}
+use Rattle.std.specs.Prelude.{slice_set, All, AllPairs, if◌then◌else◌, ◌==◌, Contains}
+use Rattle.std.specs.List.{list_any}
+use Rattle.std.proofs.lemmas.Bool.{cases_eq, eq-eqb, ne_eqb}
+use Rattle.std.proofs.lemmas.List.{get_or-set_same, get_or-set_other, ext_get_or, take_more, take-append-drop, length-take-le, drop_all, drop_more, get_or-take, get_or_default}
+use Rattle.std.proofs.lemmas.List.Sums.{fold-append}
+use Rattle.std.proofs.lemmas.List.Folds.{list_any_more, Any-from_list_any}
+use Rattle.std.proofs.lemmas.List.FromFn.{length-map-range_with_len, get_or-map-range_with_len}
+use Rattle.std.proofs.Math.ListN.{length-set}
+use Rattle.std.proofs.Math.Seq.{set-append_seam, get_or-append_seam}
+use Rattle.cq_position.specs.Board.{Board}
+use Rattle.cq_position.specs.Legal.{Leads}
+use Rattle.cq_position.specs.declared.moves.Move.{Move}
+use Rattle.cq_position.specs.declared.games.GameResult.{GameResult}
+use Rattle.cq_position.specs.Games.{Game, Node, node_at, no_node, numbers, with_node, with_nag, with_comment, bare_node, IsComment, IsTree, way_up}
+use Rattle.cq_position.specs.Comments.{words, comment_of}
+use Rattle.cq_position.proofs.Trees.{prefix_tree, way_in_prefix}
+use Rattle.cql_syntax.specs.Hits.{with_marks, item_texts, comment_texts}
+use Rattle.cql_syntax.specs.TreeOf.{filter_tree, filter_trees}
+use Rattle.cql_syntax.specs.declared.tree.Filter.{Filter}
+use Rattle.cq_annotate.specs.Marking.{node_marked, game_marked}
+use Rattle.cq_annotate.specs.Copying.{with_nags, with_all_comments, with_notes_of}
+
+-- one change and then another
+pub twice : (nodes : List Node) (n : ℕ) (f g : Node → Node) → n < length nodes → with_node (with_node nodes n f) n g ≡ with_node nodes n (λ x. g (f x))
+twice nodes n f g h =
+    let once = with_node nodes n f in
+    let len : length once ≡ length nodes = length-set nodes n (f (node_at nodes n)) in
+    let here : node_at once n ≡ f (node_at nodes n) = get_or-set_same nodes n (f (node_at nodes n)) no_node h in
+    ext_get_or no_node (with_node once n g) (with_node nodes n (λ x. g (f x)))
+    (length-set once n (g (node_at once n)) ∙ len ∙ sym (length-set nodes n (g (f (node_at nodes n)))))
+    (λ i less. elim (cases_eq i n) [
+      | inl same ↦
+          ap (node_at (with_node once n g)) same ∙ get_or-set_same once n (g (node_at once n)) no_node (omega (arith, len, h)) ∙ ap g here
+          ∙ sym (ap (node_at (with_node nodes n (λ x. g (f x)))) same ∙ get_or-set_same nodes n (g (f (node_at nodes n))) no_node h)
+      | inr other ↦
+          get_or-set_other once n i (g (node_at once n)) no_node other ∙ get_or-set_other nodes n i (f (node_at nodes n)) no_node other
+          ∙ sym (get_or-set_other nodes n i (g (f (node_at nodes n))) no_node other)
+    ])
+
+-- no change
+pub unchanged : (nodes : List Node) (n : ℕ) → n < length nodes → with_node nodes n (λ x. x) ≡ nodes
+unchanged nodes n h =
+    ext_get_or no_node (with_node nodes n (λ x. x)) nodes (length-set nodes n (node_at nodes n))
+    (λ i less. elim (cases_eq i n) [
+      | inl same ↦ ap (node_at (with_node nodes n (λ x. x))) same ∙ get_or-set_same nodes n (node_at nodes n) no_node h ∙ sym (ap (node_at nodes) same)
+      | inr other ↦ get_or-set_other nodes n i (node_at nodes n) no_node other
+    ])
+
+-- the same change
+pub same_change : (nodes : List Node) (n : ℕ) (f g : Node → Node) → ((x : Node) → f x ≡ g x) → with_node nodes n f ≡ with_node nodes n g
+same_change nodes n f g e = ap (slice_set nodes n) (e (node_at nodes n))
+
+pub first_of : {A : Type 0} (P : A → Type 0) (x : A) (xs : List A) → All P (x ∷ xs) → P x
+first_of P x xs all = all 0 x (omega arith)
+
+pub rest_of : {A : Type 0} (P : A → Type 0) (x : A) (xs : List A) → All P (x ∷ xs) → All P xs
+rest_of P x xs all = λ k d h. all (suc k) d (omega (arith, h))
+
+pub left_of : {A : Type 0} (P : A → Type 0) (xs ys : List A) → All P (xs ++ ys) → All P xs
+left_of P [] ys all = λ k d h. absurd (omega (arith, h))
+left_of P (x ∷ xs) ys all = cons P x xs (first_of P x (xs ++ ys) all) (left_of P xs ys (rest_of P x (xs ++ ys) all))
+  where
+    cons : {A : Type 0} (P : A → Type 0) (x : A) (xs : List A) → P x → All P xs → All P (x ∷ xs)
+    cons P x xs p all zero d h = p
+    cons P x xs p all (suc k) d h = all k d (omega (arith, h))
+
+pub right_of : {A : Type 0} (P : A → Type 0) (xs ys : List A) → All P (xs ++ ys) → All P ys
+right_of P [] ys all = all
+right_of P (x ∷ xs) ys all = right_of P xs ys (rest_of P x (xs ++ ys) all)
+
+-- what is left to add to a node: the node as it stands with that is the node as it was with all
+pub record IsLeft (old now : Game) (n : ℕ) (left whole : Node → Node) : Type 0 where
+  pub tags : now.tags ≡ old.tags
+  pub ending : now.result ≡ old.result
+  pub count : length now.nodes ≡ length old.nodes
+  pub nodes : with_node now.nodes n left ≡ with_node old.nodes n whole
+
+pub all_left : (old : Game) (n : ℕ) (whole : Node → Node) → IsLeft old old n whole whole
+all_left old n whole = record { tags = refl; ending = refl; count = refl; nodes = refl }
+
+pub one_less : (old now new : Game) (n : ℕ) (left done rest whole : Node → Node) → n < length old.nodes → new ≡ record now { nodes = with_node now.nodes n done }
+    → ((x : Node) → left x ≡ rest (done x)) → IsLeft old now n left whole → IsLeft old new n rest whole
+one_less old now new n left done rest whole h is step so_far =
+    let inside : n < length now.nodes = omega (arith, h, so_far.count) in
+    subst (λ g. IsLeft old g n rest whole) (sym is) (record {
+      tags = so_far.tags;
+      ending = so_far.ending;
+      count = length-set now.nodes n (done (node_at now.nodes n)) ∙ so_far.count;
+      nodes = twice now.nodes n done rest inside ∙ sym (same_change now.nodes n left (λ x. rest (done x)) step) ∙ so_far.nodes;
+    })
+
+abbrev game_of : List (List ℕ × List ℕ) → GameResult → List Node → Game
+game_of tags ending nodes = record { tags = tags; result = ending; nodes = nodes }
+
+same_game : (t u : List (List ℕ × List ℕ)) (r s : GameResult) (m n : List Node) → t ≡ u → r ≡ s → m ≡ n → game_of t r m ≡ game_of u s n
+same_game t u r s m n e f g = cc
+
+pub none_left : (old now : Game) (n : ℕ) (left whole : Node → Node) → n < length old.nodes → ((x : Node) → left x ≡ x) → IsLeft old now n left whole → now ≡ record old { nodes = with_node old.nodes n whole }
+none_left old now n left whole h is so_far =
+    let inside : n < length now.nodes = omega (arith, h, so_far.count) in
+    let nodes : now.nodes ≡ with_node old.nodes n whole = sym (same_change now.nodes n left (λ x. x) is ∙ unchanged now.nodes n inside) ∙ so_far.nodes in
+    same_game now.tags old.tags now.result old.result now.nodes (with_node old.nodes n whole) so_far.tags so_far.ending nodes
+
+-- more comments of items
+pub marks_split : (xs ys : List (List ℕ)) (x : Node) → with_marks (xs ++ ys) x ≡ with_marks ys (with_marks xs x)
+marks_split xs ys x = fold-append (λ n text. with_comment text n) x xs ys
+
+pub texts_from : (items : List Filter) (i : ℕ) (f : Filter) → i < length items → f ≡ get_or items i f
+    → comment_texts (filter_trees (drop i items)) ≡ item_texts (filter_tree f) ++ comment_texts (filter_trees (drop (i + 1) items))
+texts_from items i f h is =
+    ap (λ l. comment_texts (filter_trees l)) (drop_more items i f h)
+    ∙ ap (λ g. item_texts (filter_tree g) ++ comment_texts (filter_trees (drop (i + 1) items))) (sym is)
+
+-- numeric annotation glyphs and comments one by one
+pub nags_from : (nags : List ℕ) (i nag : ℕ) → i < length nags → nag ≡ get_or nags i nag → (x : Node) → with_nags (drop i nags) x ≡ with_nags (drop (i + 1) nags) (with_nag nag x)
+nags_from nags i nag h is x =
+    ap (λ l. record x { nags = x.nags ++ l }) (drop_more nags i nag h ∙ ap (λ m. m ∷ drop (i + 1) nags) (sym is))
+    ∙ sym (ap (λ l. record x { nags = l }) (append_assoc x.nags (nag ∷ []) (drop (i + 1) nags)))
+
+pub comments_from : (comments : List (List ℕ)) (i : ℕ) (text : List ℕ) → i < length comments → text ≡ get_or comments i [] → All IsComment comments
+    → (x : Node) → with_all_comments (drop i comments) x ≡ with_all_comments (drop (i + 1) comments) (with_comment text x)
+comments_from comments i text h is all x =
+    let spaced : comment_of (words text) ≡ text ∷ [] = subst (λ t. comment_of (words t) ≡ t ∷ []) (sym is) (all i [] h).spaced in
+    ap (λ l. record x { comments = x.comments ++ l }) (drop_more comments i [] h ∙ ap (λ t. t ∷ drop (i + 1) comments) (sym is) ∙ ap (λ c. c ++ drop (i + 1) comments) (sym spaced))
+    ∙ sym (ap (λ l. record x { comments = l }) (append_assoc x.comments (comment_of (words text)) (drop (i + 1) comments)))
+
+pub no_nags_left : (nags : List ℕ) (i : ℕ) → length nags ≤ i → (x : Node) → with_nags (drop i nags) x ≡ x
+no_nags_left nags i h x = ap (λ l. record x { nags = l }) (ap (λ l. x.nags ++ l) (drop_all i nags h) ∙ append-nil x.nags)
+
+pub no_comments_left : (comments : List (List ℕ)) (i : ℕ) → length comments ≤ i → (x : Node) → with_all_comments (drop i comments) x ≡ x
+no_comments_left comments i h x = ap (λ l. record x { comments = l }) (ap (λ l. x.comments ++ l) (drop_all i comments h) ∙ append-nil x.comments)
+
+pub no_texts_left : (items : List Filter) (i : ℕ) → length items ≤ i → (x : Node) → with_marks (comment_texts (filter_trees (drop i items))) x ≡ x
+no_texts_left items i h x = ap (λ l. with_marks (comment_texts (filter_trees l)) x) (drop_all i items h)
+
+-- one node more of a copy
+pub at_seam : (xs : List Node) (x : Node) (k : ℕ) (f : Node → Node) → k ≡ length xs → f x ≡ f (node_at (xs ++ x ∷ []) k) → with_node (xs ++ x ∷ []) k f ≡ xs ++ f x ∷ []
+at_seam xs x k f at same = ap (slice_set (xs ++ x ∷ []) k) (sym same) ∙ ap (λ i. slice_set (xs ++ x ∷ []) i (f x)) at ∙ set-append_seam xs x [] (f x)
+
+-- the nodes increase, so that none is marked twice
+not_yet : (nodes : List ℕ) (i n : ℕ) → AllPairs (λ a b. a < b) nodes → i < length nodes → n ≡ get_or nodes i n → (b : Bool) → list_any (λ k. k == n) (take i nodes) ≡ b → b ≡ false
+not_yet nodes i n rise h is false e = refl
+not_yet nodes i n rise h is true e = absurd (
+    let found = Any-from_list_any (λ k. k == n) (take i nodes) e in
+    let few = length-take-le i nodes (omega (arith, h)) in
+    let less : found.0 < i = omega (arith, found.2, few) in
+    let same = eqb-true found.1 n found.4 in
+    let before = rise found.0 i n less h in
+    let here = get_or-take i nodes found.0 found.1 less ∙ get_or_default nodes found.0 found.1 n (omega (arith, less, h)) in
+    omega (arith, same, before, here, found.3, is))
+
+old_or : (b : Bool) (texts : List (List ℕ)) (x : Node) → b ≡ false → (if b then with_marks texts x else x) ≡ x
+old_or b texts x e = ap (λ t. if t then with_marks texts x else x) e
+
+new_or : (b : Bool) (texts : List (List ℕ)) (x : Node) → b ≡ true → (if b then with_marks texts x else x) ≡ with_marks texts x
+new_or b texts x e = ap (λ t. if t then with_marks texts x else x) e
+
+or_true : (b : Bool) → (b || true) ≡ true
+or_true true = refl
+or_true false = refl
+
+or_false : (b : Bool) → (b || false) ≡ b
+or_false true = refl
+or_false false = refl
+
+-- the marks of one node more
+pub marked_more : (texts : List (List ℕ)) (nodes : List ℕ) (old : Game) (i n : ℕ) → AllPairs (λ a b. a < b) nodes → i < length nodes → n ≡ get_or nodes i n → n < length old.nodes
+    → with_node (game_marked texts (take i nodes) old).nodes n (with_marks texts) ≡ (game_marked texts (take (i + 1) nodes) old).nodes
+marked_more texts nodes old i n rise h is inside =
+    let so_far = game_marked texts (take i nodes) old in
+    let next = game_marked texts (take (i + 1) nodes) old in
+    let len = length-map-range_with_len (node_marked texts (take i nodes) old) 0 (length old.nodes) in
+    let len_next = length-map-range_with_len (node_marked texts (take (i + 1) nodes) old) 0 (length old.nodes) in
+    let len_set = length-set so_far.nodes n (with_marks texts (node_at so_far.nodes n)) in
+    let at_i : (m : ℕ) → m < length old.nodes → node_at so_far.nodes m ≡ node_marked texts (take i nodes) old m =
+    λ m less. get_or-map-range_with_len (node_marked texts (take i nodes) old) 0 (length old.nodes) m m no_node less (omega arith) in
+    let at_next : (m : ℕ) → m < length old.nodes → node_at next.nodes m ≡ node_marked texts (take (i + 1) nodes) old m =
+    λ m less. get_or-map-range_with_len (node_marked texts (take (i + 1) nodes) old) 0 (length old.nodes) m m no_node less (omega arith) in
+    let asked : (m : ℕ) → list_any (λ k. k == m) (take (i + 1) nodes) ≡ (list_any (λ k. k == m) (take i nodes) || (n == m)) =
+    λ m. list_any_more (λ k. k == m) nodes i n h ∙ ap (λ k. list_any (λ k. k == m) (take i nodes) || (k == m)) (sym is) in
+    ext_get_or no_node (with_node so_far.nodes n (with_marks texts)) next.nodes (len_set ∙ len ∙ sym len_next)
+    (λ m less. let small : m < length old.nodes = omega (arith, less, len_set, len) in elim (cases_eq m n) [
+      | inl same ↦
+          ap (node_at (with_node so_far.nodes n (with_marks texts))) same
+          ∙ get_or-set_same so_far.nodes n (with_marks texts (node_at so_far.nodes n)) no_node (omega (arith, inside, len))
+          ∙ ap (with_marks texts) (at_i n inside ∙ old_or (list_any (λ k. k == n) (take i nodes)) texts (node_at old.nodes n) (not_yet nodes i n rise h is (list_any (λ k. k == n) (take i nodes)) refl))
+          ∙ sym (ap (node_at next.nodes) same ∙ at_next n inside ∙ new_or (list_any (λ k. k == n) (take (i + 1) nodes)) texts (node_at old.nodes n)
+          (asked n ∙ ap (λ b. list_any (λ k. k == n) (take i nodes) || b) (eq-eqb n n refl) ∙ or_true (list_any (λ k. k == n) (take i nodes))))
+      | inr other ↦
+          get_or-set_other so_far.nodes n m (with_marks texts (node_at so_far.nodes n)) no_node other ∙ at_i m small
+          ∙ sym (at_next m small ∙ ap (λ b. if b then with_marks texts (node_at old.nodes m) else node_at old.nodes m)
+          (asked m ∙ ap (λ b. list_any (λ k. k == m) (take i nodes) || b) (ne_eqb n m (λ e. other (sym e))) ∙ or_false (list_any (λ k. k == m) (take i nodes))))
+    ])
+
+pub marked_next : (texts : List (List ℕ)) (nodes : List ℕ) (old now new : Game) (i n : ℕ) → AllPairs (λ a b. a < b) nodes → i < length nodes → n ≡ get_or nodes i n → n < length old.nodes
+    → now ≡ game_marked texts (take i nodes) old → new ≡ record now { nodes = with_node now.nodes n (with_marks texts) } → new ≡ game_marked texts (take (i + 1) nodes) old
+marked_next texts nodes old now new i n rise h is inside so_far step =
+    step ∙ ap (λ (g : Game). record g { nodes = with_node g.nodes n (with_marks texts) }) so_far ∙ ap (λ l. record old { nodes = l }) (marked_more texts nodes old i n rise h is inside)
+
+pub none_marked : (texts : List (List ℕ)) (old : Game) → old ≡ game_marked texts (take 0 []) old
+none_marked texts old =
+    ap (λ l. record old { nodes = l }) (ext_get_or no_node old.nodes (map (node_marked texts [] old) (numbers old.nodes)) (sym (length-map-range_with_len (node_marked texts [] old) 0 (length old.nodes)))
+    (λ m less. sym (get_or-map-range_with_len (node_marked texts [] old) 0 (length old.nodes) m m no_node less (omega arith))))
+
+pub as_many : (texts : List (List ℕ)) (nodes : List ℕ) (old now : Game) → now ≡ game_marked texts nodes old → length now.nodes ≡ length old.nodes
+as_many texts nodes old now is = ap (λ g. length g.nodes) is ∙ length-map-range_with_len (node_marked texts nodes old) 0 (length old.nodes)
+
+-- what is asked where node number k is added to a copy of those before it
+pub record MayAdd (nodes : List Node) (k p : ℕ) : Type 0 where
+  pub within : p < length (take k nodes)
+  pub preorder : Contains (way_up (take k nodes) (length (take k nodes) - 1)) p
+  pub few : length (take k nodes) < 65536
+  pub here : node_at (take k nodes) p ≡ node_at nodes p
+  pub count : length (take k nodes) ≡ k
+
+pub may_add : (nodes : List Node) (k p : ℕ) → IsTree nodes → 0 < k → k < length nodes → (node_at nodes k).parent ≡ Some p → MayAdd nodes k p
+may_add nodes k p tree later h is =
+    let child = tree.children k later h in
+    let number : child.number ≡ p = some_is child.number p (sym child.parent ∙ is) in
+    let count = length-take-le k nodes (omega (arith, h)) in
+    let whole : take k nodes ++ drop k nodes ≡ nodes = take-append-drop k nodes in
+    let part : IsTree (take k nodes) = prefix_tree (take k nodes) (drop k nodes) (omega (arith, later, count)) (subst IsTree (sym whole) tree) in
+    let way : way_up (take k nodes) (k - 1) ≡ way_up nodes (k - 1) = way_in_prefix (take k nodes) (drop k nodes) (k - 1) part (omega (arith, later, count)) ∙ ap (λ l. way_up l (k - 1)) whole in
+    let last : length (take k nodes) - 1 ≡ k - 1 = omega (arith, count) in
+    record {
+      within = omega (arith, child.after, number, count);
+      preorder = subst (λ j. Contains (way_up (take k nodes) j) p) (sym last) (subst (λ l. Contains l p) (sym way) (subst (Contains (way_up nodes (k - 1))) number child.preorder));
+      few = omega (arith, count, h, tree.few);
+      here = get_or-take k nodes p no_node (omega (arith, child.after, number));
+      count = count;
+    }
+  where
+    some_is : (i j : ℕ) → Some i ≡ Some j → i ≡ j
+    some_is i j e = cc
+
+-- one change of a game and then another
+pub two_changes : (old mid new : Game) (n : ℕ) (f g h : Node → Node) → n < length old.nodes → mid ≡ record old { nodes = with_node old.nodes n f } → new ≡ record mid { nodes = with_node mid.nodes n g }
+    → ((x : Node) → g (f x) ≡ h x) → new ≡ record old { nodes = with_node old.nodes n h }
+two_changes old mid new n f g h inside first second both =
+    second ∙ ap (λ (m : Game). record m { nodes = with_node m.nodes n g }) first
+    ∙ ap (λ (l : List Node). record old { nodes = l }) (twice old.nodes n f g inside ∙ same_change old.nodes n (λ x. g (f x)) h both)
+
+-- the copy of one node more
+pub node_added : (old mid new : Game) (nodes : List Node) (k p : ℕ) (m : Move) (q : Board) → k < length nodes → old.nodes ≡ take k nodes
+    → (node_at nodes k).parent ≡ Some p → (node_at nodes k).led_by ≡ Some m → q ≡ (node_at nodes k).position
+    → mid ≡ record old { nodes = old.nodes ++ bare_node (Some p) (Some m) q ∷ [] } → new ≡ record mid { nodes = with_node mid.nodes k (with_notes_of (node_at nodes k)) }
+    → new ≡ record old { nodes = take (k + 1) nodes }
+node_added old mid new nodes k p m q h before parent led at first second =
+    let x = node_at nodes k in
+    let bare = bare_node (Some p) (Some m) q in
+    let count = length-take-le k nodes (omega (arith, h)) in
+    let noted : with_notes_of x bare ≡ x = with_parts p m q x (sym parent) (sym led) at in
+    let seam : node_at (take k nodes ++ bare ∷ []) k ≡ bare = ap (node_at (take k nodes ++ bare ∷ [])) (sym count) ∙ get_or-append_seam (take k nodes) bare [] no_node in
+    let set : with_node (take k nodes ++ bare ∷ []) k (with_notes_of x) ≡ take k nodes ++ with_notes_of x bare ∷ [] =
+    at_seam (take k nodes) bare k (with_notes_of x) (sym count) (ap (with_notes_of x) (sym seam)) in
+    second ∙ ap (λ (g : Game). record g { nodes = with_node g.nodes k (with_notes_of x) }) first
+    ∙ ap (λ (l : List Node). record old { nodes = with_node (l ++ bare ∷ []) k (with_notes_of x) }) before
+    ∙ ap (λ (l : List Node). record old { nodes = l }) (set ∙ ap (λ y. take k nodes ++ y ∷ []) noted ∙ sym (take_more nodes k no_node h))
+  where
+    with_parts : (p : ℕ) (m : Move) (q : Board) (x : Node) → Some p ≡ x.parent → Some m ≡ x.led_by → q ≡ x.position → with_notes_of x (bare_node (Some p) (Some m) q) ≡ x
+    with_parts p m q x a b e =
+        ap (λ o. with_notes_of x (bare_node o (Some m) q)) a ∙ ap (λ o. with_notes_of x (bare_node x.parent o q)) b ∙ ap (λ r. with_notes_of x (bare_node x.parent x.led_by r)) e
+
+-- the move to a node leads to its position
+pub move_is : (nodes : List Node) (k p : ℕ) (m : Move) → IsTree nodes → 0 < k → k < length nodes → (node_at nodes k).parent ≡ Some p → (node_at nodes k).led_by ≡ Some m
+    → Leads (node_at nodes p).position m (node_at nodes k).position
+move_is nodes k p m tree later h parent led =
+    let child = tree.children k later h in
+    let number : child.number ≡ p = (let e = sym child.parent ∙ parent in cc) in
+    let move : child.move ≡ m = (let e = sym child.led_by ∙ led in cc) in
+    subst (λ i. Leads (node_at nodes i).position m (node_at nodes k).position) number
+    (subst (λ s. Leads (node_at nodes child.number).position s (node_at nodes k).position) move child.leads)
