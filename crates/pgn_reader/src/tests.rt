@@ -180,3 +180,51 @@ fn texts_have_their_trees(rt: HostRuntime) -> Result<(), Refusal<GameFault>> {
     }
     Ok(())
 }
+
+/// Two nodes, and the path down from the first to the second.
+type Path<'a> = (u32, u32, Option<&'a [u32]>);
+
+// The nodes of `1. e4 (1. d4) (1. c4) e5 *`: the root, e4, e5, d4, c4.
+static PATHS: [Path<'static>; 5] = [
+    (0, 2, Some(&[0, 1, 2])),
+    (0, 4, Some(&[0, 4])),
+    (1, 1, Some(&[1])),
+    (1, 3, None),
+    (2, 0, None),
+];
+
+// The nodes of the path; None where the numbers are no nodes.
+fn path_of(game: &Game, from: u32, to: u32) -> Result<Option<Vec<u32>>, NoMemory> {
+    if from < game.len() && to < game.len() {
+        return game.down_path(from, to);
+    }
+    Ok(None)
+}
+
+fn is_path(path: &Option<Vec<u32>>, want: &Option<&[u32]>) -> bool {
+    match (path, want) {
+        (Some(path), Some(want)) => path.as_slice() == *want,
+        (None, None) => true,
+        _ => false,
+    }
+}
+
+#[test]
+fn trees_tell_their_paths(rt: HostRuntime) -> Result<(), Refusal<GameFault>> {
+    let game = read_game(rt.alloc(), b"1. e4 (1. d4) (1. c4) e5 *", 0, true)?;
+    for (from, to, want) in PATHS.iter() {
+        let path = path_of(&game, *from, *to)?;
+        assert!(rt; is_path(&path, want));
+    }
+    Ok(())
+}
+
+// White promotes in the variation alone: kings and a pawn, and with the variations a queen too.
+#[test]
+fn trees_tell_their_men(rt: HostRuntime) -> Result<(), Refusal<GameFault>> {
+    let text = b"[FEN \"4k3/P7/8/8/8/8/8/4K3 w - - 0 1\"] 1. Kd2 (1. a8Q) *";
+    let game = read_game(rt.alloc(), text, 0, true)?;
+    assert_eq!(rt; game.men(false), 0b1_0000_0110_0001);
+    assert_eq!(rt; game.men(true), 0b1_0000_0110_0011);
+    Ok(())
+}
