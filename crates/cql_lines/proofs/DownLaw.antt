@@ -1,5 +1,5 @@
 -- One node more.
-use Rattle.std.proofs.Common.{◌≡◌, ℕ, ◌+◌, ◌<◌, ◌≤◌, max, Bool, false, List, length, sym, ap, ◌∙◌, subst, Option, Some, None, inl, inr, arith}
+use Rattle.std.proofs.Common.{◌≡◌, ℕ, ◌+◌, ◌<◌, max, Bool, false, List, length, sym, ap, ◌∙◌, subst, Option, Some, None, inl, inr, arith}
 use Rattle.std.specs.Prelude.{◌⊎◌}
 use Rattle.std.proofs.lemmas.Bool.{cases_lt, cases_eq}
 use Rattle.cql_lines.specs.declared.automaton.Rule.{Rule}
@@ -8,6 +8,7 @@ use Rattle.cql_lines.specs.Ways.{FromPlace, Below, IsGreatest}
 use Rattle.cql_lines.specs.Lengths.{at}
 use Rattle.cql_lines.specs.Shapes.{joined, Edge}
 use Rattle.cql_lines.specs.Down.{holds, cell, Late, Stands, Passed}
+use Rattle.cql_lines.proofs.Measures.{Measure, Keeps, Joins}
 
 -- the greatest of the numbers of two kinds
 pub greatest_of_two : (P Q R : ℕ → Type 0) (a b : ℕ) → IsGreatest P a → IsGreatest Q b → ((k : ℕ) → R k → P k ⊎ Q k) → ((k : ℕ) → P k → R k) → ((k : ℕ) → Q k → R k) → IsGreatest R (max a b)
@@ -25,11 +26,14 @@ greatest_of_two P Q R a b p q split left right = record {
 pub same_greatest : (P R : ℕ → Type 0) (a : ℕ) → IsGreatest P a → ((k : ℕ) → R k → P k) → ((k : ℕ) → P k → R k) → IsGreatest R a
 same_greatest P R a p back on = record { bounds = λ k r. p.bounds k (back k r); reached = λ some. on a (p.reached some) }
 
-module _ (words : List ℕ) (rules : List Rule) (primary : Bool) (spots : List Spot) (below : (n p : ℕ) → joined primary spots n ≡ Some p → p < n) where
+pub none_greatest : (P : ℕ → Type 0) → ((k : ℕ) → P k → ⊥) → IsGreatest P 0
+none_greatest P never = record { bounds = λ k p. absurd (never k p); reached = λ some. absurd (omega (arith, some)) }
+
+module _ (Known : Measure) (join : ℕ → ℕ → ℕ) (same : Keeps Known) (two : Joins Known join) (words : List ℕ) (rules : List Rule) (primary : Bool) (spots : List Spot) (below : (n p : ℕ) → joined primary spots n ≡ Some p → p < n) where
   -- the row of a node is whole when its turn comes
-  pub whole_row : (t : ℕ) (rows : List (List ℕ)) → Stands words rules primary spots t rows → (n : ℕ) → n + t + 1 ≡ length spots → (j : ℕ) → IsGreatest (Below (holds words) rules (Edge false primary spots) j n) (cell rows n j)
+  pub whole_row : (t : ℕ) (rows : List (List ℕ)) → Stands Known words rules primary spots t rows → (n : ℕ) → n + t + 1 ≡ length spots → (j : ℕ) → Known (Below (holds words) rules (Edge false primary spots) j n) (cell rows n j)
   whole_row t rows s n e j =
-      same_greatest (Late words rules primary spots t n j) (Below (holds words) rules (Edge false primary spots) j n) (cell rows n j) (s.known n j)
+      same (Late words rules primary spots t n j) (Below (holds words) rules (Edge false primary spots) j n) (cell rows n j) (s.known n j)
       (λ k r. (r.0, (let h = below r.0 n r.1 in omega arith), r.1, r.2))
       (λ k l. (l.0, l.2, l.3))
 
@@ -43,18 +47,18 @@ module _ (words : List ℕ) (rules : List Rule) (primary : Bool) (spots : List S
   late_more : (t p j k : ℕ) → Late words rules primary spots t p j k → Late words rules primary spots (t + 1) p j k
   late_more t p j k l = (l.0, (let h = l.1 in omega arith), l.2, l.3)
 
-  known_parent : (t n p j : ℕ) (rows : List (List ℕ)) (own : ℕ) → n + t + 1 ≡ length spots → Stands words rules primary spots t rows → joined primary spots n ≡ Some p
-      → IsGreatest (FromPlace (holds words) rules (Edge false primary spots) j n) own → IsGreatest (Late words rules primary spots (t + 1) p j) (max (cell rows p j) own)
+  known_parent : (t n p j : ℕ) (rows : List (List ℕ)) (own : ℕ) → n + t + 1 ≡ length spots → Stands Known words rules primary spots t rows → joined primary spots n ≡ Some p
+      → Known (FromPlace (holds words) rules (Edge false primary spots) j n) own → Known (Late words rules primary spots (t + 1) p j) (join (cell rows p j) own)
   known_parent t n p j rows own e s up o =
-      greatest_of_two (Late words rules primary spots t p j) (FromPlace (holds words) rules (Edge false primary spots) j n) (Late words rules primary spots (t + 1) p j) (cell rows p j) own (s.known p j) o
+      two (Late words rules primary spots t p j) (FromPlace (holds words) rules (Edge false primary spots) j n) (Late words rules primary spots (t + 1) p j) (cell rows p j) own (s.known p j) o
       (λ k l. elim (late_split t n p j k e l) [ inl a ↦ inl a | inr b ↦ inr b.1 ])
       (λ k l. late_more t p j k l)
       (λ k f. (n, omega arith, up, f))
 
-  known_other : (t n p j : ℕ) (rows : List (List ℕ)) → n + t + 1 ≡ length spots → Stands words rules primary spots t rows → (joined primary spots n ≡ Some p → ⊥)
-      → IsGreatest (Late words rules primary spots (t + 1) p j) (cell rows p j)
+  known_other : (t n p j : ℕ) (rows : List (List ℕ)) → n + t + 1 ≡ length spots → Stands Known words rules primary spots t rows → (joined primary spots n ≡ Some p → ⊥)
+      → Known (Late words rules primary spots (t + 1) p j) (cell rows p j)
   known_other t n p j rows e s other =
-      same_greatest (Late words rules primary spots t p j) (Late words rules primary spots (t + 1) p j) (cell rows p j) (s.known p j)
+      same (Late words rules primary spots t p j) (Late words rules primary spots (t + 1) p j) (cell rows p j) (s.known p j)
       (λ k l. elim (late_split t n p j k e l) [ inl a ↦ a | inr b ↦ absurd (other b.0) ])
       (λ k l. late_more t p j k l)
 
@@ -62,24 +66,19 @@ module _ (words : List ℕ) (rules : List Rule) (primary : Bool) (spots : List S
   cases_joined None p = inr (λ e. cc)
   cases_joined (Some q) p = elim (cases_eq q p) [ inl is ↦ inl (ap Some is) | inr other ↦ inr (λ e. other (cc)) ]
 
-  pub stands_more : (t n : ℕ) (rows new : List (List ℕ)) (own : List ℕ) → n + t + 1 ≡ length spots → Stands words rules primary spots t rows
-      → ((i : ℕ) → IsGreatest (FromPlace (holds words) rules (Edge false primary spots) i n) (at own i)) → ((i : ℕ) → at own i ≤ t + 1)
-      → Passed primary spots n rows new own → Stands words rules primary spots (t + 1) new
-  stands_more t n rows new own e s known small p = record {
+  pub stands_more : (t n : ℕ) (rows new : List (List ℕ)) (own : List ℕ) → n + t + 1 ≡ length spots → Stands Known words rules primary spots t rows
+      → ((i : ℕ) → Known (FromPlace (holds words) rules (Edge false primary spots) i n) (at own i))
+      → Passed join primary spots n rows new own → Stands Known words rules primary spots (t + 1) new
+  stands_more t n rows new own e s known p = record {
     count = p.count ∙ s.count;
-    small = λ q j. elim (cases_joined (joined primary spots n) q) [
-      | inl up ↦ (let a = p.parent q j up in let b = s.small q j in let c = small j in omega arith)
-      | inr other ↦ (let a = p.others q j other in let b = s.small q j in omega arith)
-    ];
     known = λ q j. elim (cases_joined (joined primary spots n) q) [
-      | inl up ↦ subst (IsGreatest (Late words rules primary spots (t + 1) q j)) (sym (p.parent q j up)) (known_parent t n q j rows (at own j) e s up (known j))
-      | inr other ↦ subst (IsGreatest (Late words rules primary spots (t + 1) q j)) (sym (p.others q j other)) (known_other t n q j rows e s other)
+      | inl up ↦ subst (Known (Late words rules primary spots (t + 1) q j)) (sym (p.parent q j up)) (known_parent t n q j rows (at own j) e s up (known j))
+      | inr other ↦ subst (Known (Late words rules primary spots (t + 1) q j)) (sym (p.others q j other)) (known_other t n q j rows e s other)
     ];
   }
 
-  pub stands_same : (t n : ℕ) (rows : List (List ℕ)) → n + t + 1 ≡ length spots → Stands words rules primary spots t rows → joined primary spots n ≡ None → Stands words rules primary spots (t + 1) rows
+  pub stands_same : (t n : ℕ) (rows : List (List ℕ)) → n + t + 1 ≡ length spots → Stands Known words rules primary spots t rows → joined primary spots n ≡ None → Stands Known words rules primary spots (t + 1) rows
   stands_same t n rows e s none = record {
     count = s.count;
-    small = λ q j. (let b = s.small q j in omega arith);
     known = λ q j. known_other t n q j rows e s (λ up. let both = sym none ∙ up in cc);
   }

@@ -3,10 +3,13 @@ pub mod BuildSteps
 pub mod BuildingLaw
 pub mod DownLaw
 pub mod Lists
+pub mod Measures
 pub mod Puts
 pub mod LinesLaw
 pub mod OwnLaw
 pub mod PlacesLaw
+pub mod SetsLaw
+pub mod ShortLaw
 pub mod UpLaw
 pub mod VisitLaw
 pub mod WaysLaw

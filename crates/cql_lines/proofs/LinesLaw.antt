@@ -1,5 +1,5 @@
 -- From what the places read to what the pattern spells.
-use Rattle.std.proofs.Common.{◌≡◌, ℕ, zero, suc, ◌+◌, ◌-◌, ◌*◌, ◌<◌, List, [], ◌∷◌, ◌++◌, length, sym, ap, ◌∙◌, subst, Bool, true, false, Option, Some, None, inl, inr, arith, slice_get}
+use Rattle.std.proofs.Common.{◌≡◌, ℕ, zero, suc, ◌+◌, ◌-◌, ◌*◌, ◌<◌, ◌≤◌, List, [], ◌∷◌, ◌++◌, length, sym, ap, ◌∙◌, subst, Bool, true, false, Option, Some, None, inl, inr, arith, slice_get}
 use Rattle.std.specs.Prelude.{◌⊎◌}
 use Rattle.cql_lines.specs.declared.automaton.Next.{Next}
 use Rattle.cql_lines.specs.declared.automaton.Rule.{Rule}
@@ -9,13 +9,16 @@ use Rattle.cql_lines.specs.Places.{begins, null_times, nullable, Built}
 use Rattle.cql_lines.specs.Building.{size, firsts_times, firsts, rows_times, rows, IsPlain, AtomsBelow}
 use Rattle.cql_lines.specs.Ways.{Line}
 use Rattle.cql_lines.specs.Down.{Read, IsLongest, AnswerAt, holds}
-use Rattle.cql_lines.specs.Shapes.{Edge, is_searched}
+use Rattle.cql_lines.specs.Shapes.{is_searched}
 use Rattle.cql_lines.specs.declared.table.Spot.{Spot}
 use Rattle.cql_lines.specs.TreeOf.{plain_tree}
 use Rattle.cql_lines.specs.declared.automaton.Automaton.{Automaton}
-use Rattle.cql_lines.specs.Automata.{end, IsAutomatonOf, UsesBelow}
+use Rattle.cql_lines.specs.declared.table.Extent.{Extent}
+use Rattle.cql_lines.specs.Automata.{places, IsAutomatonOf}
+use Rattle.cql_lines.specs.Sets.{Between}
+use Rattle.cql_lines.specs.Values.{Allows}
 use Rattle.cql_lines.proofs.BuildingLaw.{Sit, rows_built}
-use Rattle.cql_lines.proofs.WaysLaw.{read_spelled, spelled_read}
+use Rattle.cql_lines.proofs.WaysLaw.{end, read_spelled, spelled_read}
 
 pub given_plain : (p : Given) → IsPlain (plain_tree p)
 given_plain (Atom a) = tt
@@ -61,20 +64,38 @@ same_answer : (s : Bool) (P Q : ℕ → Type 0) (o : Option ℕ) → ((k : ℕ) 
 same_answer true P Q o on back a = same_longest P Q o on back a
 same_answer false P Q o on back a = a
 
--- what the automaton of a pattern reads is what the pattern spells
-pub answer_spelled : (test : ℕ → ℕ → Bool) (Edge : ℕ → ℕ → Type 0) (a : Automaton) (p : Pattern ℕ) → IsAutomatonOf a p
-    → (s : Bool) (n : ℕ) (o : Option ℕ) → AnswerAt s (Read test a.rules.items Edge a.first n) o → AnswerAt s (Line test Edge p n) o
-answer_spelled test Edge a p of s n o answer =
-    let rules = a.rules.items in
-    let sit : Sit rules 0 (rows p end 0) = record { at = λ i r h. (let same : 0 + i ≡ i = omega arith in ap (slice_get rules) same ∙ ap (λ rs. slice_get rs i) of.rules ∙ h) } in
-    let built : Built rules p end a.first = subst (Built rules p end) (sym of.first) (rows_built rules p of.plain end 0 sit) in
-    same_answer s (Read test rules Edge a.first n) (Line test Edge p n) o
-    (λ k r. read_spelled test rules Edge p a.first built n k r)
-    (λ k l. spelled_read test rules Edge p a.first built n k l)
-    answer
+-- the automaton has the rules of the pattern
+pub record HasRulesOf (a : Automaton) (p : Pattern ℕ) : Type 0 where
+  pub rules : a.rules.items ≡ rows p end 0
+  pub first : a.first ≡ firsts p 0
+  pub plain : IsPlain p
 
-pub atoms_used : (a : Automaton) (p : Pattern ℕ) → IsAutomatonOf a p → (atoms : ℕ) → AtomsBelow p atoms → UsesBelow a atoms
-atoms_used a p of atoms below i r e = rows_atoms p atoms below end 0 i r (sym (ap (λ rs. slice_get rs i) of.rules) ∙ e)
+pub automaton_of : (a : Automaton) (p : Pattern ℕ) → HasRulesOf a p → IsAutomatonOf a p
+automaton_of a p of =
+    let rs = a.rules.items in
+    let sit : Sit rs 0 (rows p end 0) = record { at = λ i r h. (let same : 0 + i ≡ i = omega arith in ap (slice_get rs) same ∙ ap (λ x. slice_get x i) of.rules ∙ h) } in
+    let built : Built rs p end a.first = subst (Built rs p end) (sym of.first) (rows_built rs p of.plain end 0 sit) in
+    record { reads = λ test n w. (λ r. read_spelled test rs p a.first built n w r, λ e. spelled_read test rs p a.first built n w e) }
+
+-- the pattern has no more rules than places
+more_times : (n a b : ℕ) → a ≤ b → n * a ≤ n * b
+more_times zero a b h = omega arith
+more_times (suc n) a b h = (let i = more_times n a b h in grind (arith, h, i))
+
+pub size_places : (p : Pattern ℕ) → size p ≤ places p
+size_places (one a) = omega arith
+size_places nothing = omega arith
+size_places (joined p q) = (let h = size_places p in let i = size_places q in omega arith)
+size_places (repeated least None p) = size_places p
+size_places (repeated least (Some zero) p) = omega arith
+size_places (repeated least (Some (suc n)) p) = more_times (suc n) (size p) (places p) (size_places p)
+
+pub few_rules : (given : Given) (p : Pattern ℕ) (old : List Rule) → places p ≤ 64 → plain_tree given ≡ p → old ≡ [] → length old + size (plain_tree given) ≤ 64
+few_rules given p old few is none =
+    let a = size_places (plain_tree given) in
+    let b : places (plain_tree given) ≡ places p = ap places is in
+    let c : length old ≡ 0 = ap length none in
+    omega arith
 
 rules_are : (new old : List Rule) (row : ℕ → List Rule) → new ≡ old ++ row (length old) → old ≡ [] → new ≡ row 0
 rules_are new old row n o = n ∙ ap (λ (x : List Rule). x ++ row (length x)) o
@@ -82,18 +103,39 @@ rules_are new old row n o = n ∙ ap (λ (x : List Rule). x ++ row (length x)) o
 first_is : (f : ℕ) (old : List Rule) (first : ℕ → ℕ) → f ≡ first (length old) → old ≡ [] → f ≡ first 0
 first_is f old first e o = e ∙ ap (λ (x : List Rule). first (length x)) o
 
-pub built_of : (a : Automaton) (given : Given) (p : Pattern ℕ) → plain_tree given ≡ p → a.rules.items ≡ rows (plain_tree given) end 0 → a.first ≡ firsts (plain_tree given) 0 → IsAutomatonOf a p
-built_of a given p is rules first = subst (IsAutomatonOf a) is record { rules = rules; first = first; plain = given_plain given }
+pub atoms_on : (new : List Rule) (given : Given) (p : Pattern ℕ) (old : List Rule) → old ≡ [] → plain_tree given ≡ p → new ≡ old ++ rows (plain_tree given) end (length old)
+    → (atoms : ℕ) → AtomsBelow p atoms → (i : ℕ) (r : Rule) → slice_get new i ≡ Some r → r.atom < atoms
+atoms_on new given p old empty is rules atoms below i r e =
+    rows_atoms (plain_tree given) atoms (subst (λ q. AtomsBelow q atoms) (sym is) below) end 0 i r (sym (ap (λ x. slice_get x i) (rules_are new old (rows (plain_tree given) end) rules empty)) ∙ e)
+
+pub built_of : (a : Automaton) (given : Given) (p : Pattern ℕ) → plain_tree given ≡ p → a.rules.items ≡ rows (plain_tree given) end 0 → a.first ≡ firsts (plain_tree given) 0 → HasRulesOf a p
+built_of a given p is rules first = subst (HasRulesOf a) is record { rules = rules; first = first; plain = given_plain given }
 
 pub built_on : (a : Automaton) (given : Given) (p : Pattern ℕ) (old : List Rule) → old ≡ [] → plain_tree given ≡ p → a.rules.items ≡ old ++ rows (plain_tree given) end (length old) → a.first ≡ firsts (plain_tree given) (length old)
-    → IsAutomatonOf a p
+    → HasRulesOf a p
 built_on a given p old empty is rules first = built_of a given p is (rules_are a.rules.items old (rows (plain_tree given) end) rules empty) (first_is a.first old (firsts (plain_tree given)) first empty)
 
--- the same of an automaton's rules, whichever way the paths go
-pub value_is : (words : List ℕ) (a : Automaton) (rules : List Rule) (p : Pattern ℕ) (spots : List Spot) (primary back way : Bool) → rules ≡ a.rules.items → back ≡ way → IsAutomatonOf a p
-    → (n : ℕ) (o : Option ℕ) → AnswerAt (is_searched spots n) (Read (holds words) rules (Edge way primary spots) a.first n) o
-    → AnswerAt (is_searched spots n) (Line (holds words) (Edge back primary spots) p n) o
-value_is words a rules p spots primary back way is goes of n o answer =
-    subst (λ b. AnswerAt (is_searched spots n) (Line (holds words) (Edge b primary spots) p n) o) (sym goes)
-    (answer_spelled (holds words) (Edge way primary spots) a p of (is_searched spots n) n o
-    (subst (λ rs. AnswerAt (is_searched spots n) (Read (holds words) rs (Edge way primary spots) a.first n) o) is answer))
+-- what the automaton of a pattern reads on the way from a node is what the pattern spells
+module _ (words : List ℕ) (a : Automaton) (p : Pattern ℕ) (of : IsAutomatonOf a p) (spots : List Spot) (E : ℕ → ℕ → Type 0) where
+  line_of : (n k : ℕ) → Read (holds words) a.rules.items E a.first n k → Line (holds words) E p n k
+  line_of n k r = (r.0, r.1, r.2, (of.reads (holds words) n r.0).0 r.3)
+
+  read_of : (n k : ℕ) → Line (holds words) E p n k → Read (holds words) a.rules.items E a.first n k
+  read_of n k l = (l.0, l.1, l.2, (of.reads (holds words) n l.0).1 l.3)
+
+  pub value_of_all : (rules : List Rule) (extent : Option Extent) → rules ≡ a.rules.items → extent ≡ None → (n : ℕ) (o : Option ℕ) → AnswerAt (is_searched spots n) (Read (holds words) rules E a.first n) o
+      → AnswerAt (is_searched spots n) (λ k. Line (holds words) E p n k × Allows extent k) o
+  value_of_all rules extent is all n o answer =
+      subst (λ e. AnswerAt (is_searched spots n) (λ k. Line (holds words) E p n k × Allows e k) o) (sym all)
+      (same_answer (is_searched spots n) (Read (holds words) a.rules.items E a.first n) (λ k. Line (holds words) E p n k × Allows None k) o
+      (λ k r. (line_of n k r, tt)) (λ k l. read_of n k l.0)
+      (subst (λ rs. AnswerAt (is_searched spots n) (Read (holds words) rs E a.first n) o) is answer))
+
+  pub value_of_some : (rules : List Rule) (extent : Option Extent) (x : Extent) → rules ≡ a.rules.items → extent ≡ Some x → (n : ℕ) (o : Option ℕ)
+      → AnswerAt (is_searched spots n) (Between x.least x.most (Read (holds words) rules E a.first n)) o
+      → AnswerAt (is_searched spots n) (λ k. Line (holds words) E p n k × Allows extent k) o
+  value_of_some rules extent x is some n o answer =
+      subst (λ e. AnswerAt (is_searched spots n) (λ k. Line (holds words) E p n k × Allows e k) o) (sym some)
+      (same_answer (is_searched spots n) (Between x.least x.most (Read (holds words) a.rules.items E a.first n)) (λ k. Line (holds words) E p n k × Allows (Some x) k) o
+      (λ k r. (line_of n k r.0, (r.1, r.2))) (λ k l. (let h = l.1 in (read_of n k l.0, h.0, h.1)))
+      (subst (λ rs. AnswerAt (is_searched spots n) (Between x.least x.most (Read (holds words) rs E a.first n)) o) is answer))

@@ -5,14 +5,13 @@ use Rattle.std.proofs.lemmas.Bool.{cases_eq}
 use Rattle.std.proofs.lemmas.List.{get_or-set_same, get_or-set_other, length-set, length-replicate}
 use Rattle.cql_lines.specs.declared.automaton.Rule.{Rule}
 use Rattle.cql_lines.specs.declared.table.Spot.{Spot}
-use Rattle.cql_lines.specs.Ways.{FromPlace, Below, IsGreatest}
-use Rattle.cql_lines.specs.Lengths.{is_set, at, place_value}
+use Rattle.cql_lines.specs.Ways.{FromPlace, Below}
+use Rattle.cql_lines.specs.Lengths.{is_set, at}
 use Rattle.cql_lines.specs.Shapes.{joined, is_searched, Edge}
 use Rattle.cql_lines.specs.Down.{holds, cell, AnswerAt}
 use Rattle.cql_lines.specs.Up.{StandsUp, IsAbove}
-use Rattle.cql_lines.proofs.VisitLaw.{zeros, zero_cell}
-use Rattle.cql_lines.proofs.DownLaw.{same_greatest}
-use Rattle.cql_lines.proofs.OwnLaw.{own_known, own_small}
+use Rattle.cql_lines.proofs.Measures.{Measure, Keeps, HasNone, Goes}
+use Rattle.cql_lines.proofs.OwnLaw.{own_known}
 
 pub set_cell : (rows : List (List ℕ)) (n m j : ℕ) (own : List ℕ) → m ≡ n → n < length rows → cell (slice_set rows n own) m j ≡ at own j
 set_cell rows n m j own e low = ap (λ k. cell (slice_set rows n own) k j) e ∙ ap (λ r. at r j) (get_or-set_same rows n own [] low)
@@ -20,69 +19,56 @@ set_cell rows n m j own e low = ap (λ k. cell (slice_set rows n own) k j) e ∙
 pub other_cell : (rows : List (List ℕ)) (n m j : ℕ) (own : List ℕ) → (m ≡ n → ⊥) → cell (slice_set rows n own) m j ≡ cell rows m j
 other_cell rows n m j own e = ap (λ r. at r j) (get_or-set_other rows n m own [] e)
 
-module _ (words : List ℕ) (rules : List Rule) (primary : Bool) (spots : List Spot) (below : (n p : ℕ) → joined primary spots n ≡ Some p → (p < n) × (is_searched spots p ≡ true)) where
-  row_above : (t n : ℕ) (rows : List (List ℕ)) (row : List ℕ) (o : Option ℕ) → joined primary spots n ≡ o → n ≤ t → StandsUp words rules primary spots t rows → IsAbove o rows row
-      → (j : ℕ) → IsGreatest (Below (holds words) rules (Edge true primary spots) j n) (at row j)
-  row_above t n rows row None e low s a j = record {
-    bounds = λ k l. absurd (let both = sym l.1 ∙ e in cc);
-    reached = λ some. absurd (let z = a.of_none j refl in omega arith);
-  }
+module _ (Known : Measure) (same : Keeps Known) (none : HasNone Known) (words : List ℕ) (rules : List Rule) (primary : Bool) (spots : List Spot) (below : (n p : ℕ) → joined primary spots n ≡ Some p → (p < n) × (is_searched spots p ≡ true)) where
+  row_above : (t n : ℕ) (rows : List (List ℕ)) (row : List ℕ) (o : Option ℕ) → joined primary spots n ≡ o → n ≤ t → StandsUp Known words rules primary spots t rows → IsAbove o rows row
+      → (j : ℕ) → Known (Below (holds words) rules (Edge true primary spots) j n) (at row j)
+  row_above t n rows row None e low s a j =
+      subst (Known (Below (holds words) rules (Edge true primary spots) j n)) (sym (a.of_none j refl))
+      (none (Below (holds words) rules (Edge true primary spots) j n) (λ k l. (let both = sym l.1 ∙ e in cc)))
   row_above t n rows row (Some p) e low s a j =
       let b = below n p e in
-      subst (IsGreatest (Below (holds words) rules (Edge true primary spots) j n)) (sym (a.of_parent p j refl))
-      (same_greatest (FromPlace (holds words) rules (Edge true primary spots) j p) (Below (holds words) rules (Edge true primary spots) j n) (cell rows p j)
+      subst (Known (Below (holds words) rules (Edge true primary spots) j n)) (sym (a.of_parent p j refl))
+      (same (FromPlace (holds words) rules (Edge true primary spots) j p) (Below (holds words) rules (Edge true primary spots) j n) (cell rows p j)
       (s.known p j (let h = b.0 in omega arith) b.1)
       (λ k l. (let same : l.0 ≡ p = (let both = sym l.1 ∙ e in cc) in subst (λ c. FromPlace (holds words) rules (Edge true primary spots) j c k) same l.2))
       (λ k f. (p, e, f)))
 
-  pub above_known : (n : ℕ) (rows : List (List ℕ)) (row own : List ℕ) (held atoms : ℕ) → StandsUp words rules primary spots n rows → IsAbove (joined primary spots n) rows row
+  pub row_here : (n : ℕ) (rows : List (List ℕ)) (row : List ℕ) → StandsUp Known words rules primary spots n rows → IsAbove (joined primary spots n) rows row → (j : ℕ) → Known (Below (holds words) rules (Edge true primary spots) j n) (at row j)
+  row_here n rows row s a = row_above n n rows row (joined primary spots n) refl (omega arith) s a
+
+  pub above_known : (place : Rule → ℕ → (ℕ → ℕ) → ℕ → ℕ) (goes : Goes Known place) (n : ℕ) (rows : List (List ℕ)) (row own : List ℕ) (held atoms : ℕ) → StandsUp Known words rules primary spots n rows
+      → IsAbove (joined primary spots n) rows row
       → ((a : ℕ) → a < atoms → is_set held a ≡ is_set (at words n) a) → ((i : ℕ) (r : Rule) → slice_get rules i ≡ Some r → r.atom < atoms)
-      → ((i : ℕ) (r : Rule) → slice_get rules i ≡ Some r → at own i ≡ place_value r held (at row) (length rules)) → ((i : ℕ) → length rules ≤ i → at own i ≡ 0)
-      → (i : ℕ) → IsGreatest (FromPlace (holds words) rules (Edge true primary spots) i n) (at own i)
-  above_known n rows row own held atoms s a table few here past =
-      own_known words rules (Edge true primary spots) n held (at row) own (row_above n n rows row (joined primary spots n) refl (omega arith) s a)
-      (λ i r rule. table r.atom (few i r rule)) (record { here = here; past = past })
+      → ((i : ℕ) (r : Rule) → slice_get rules i ≡ Some r → at own i ≡ place r held (at row) (length rules)) → ((i : ℕ) → length rules ≤ i → at own i ≡ 0)
+      → (i : ℕ) → Known (FromPlace (holds words) rules (Edge true primary spots) i n) (at own i)
+  above_known place goes n rows row own held atoms s a table few here past =
+      own_known Known none place goes words rules (Edge true primary spots) n held (at row) own (row_here n rows row s a) (λ i r rule. table r.atom (few i r rule)) here past
 
-  small_above : (t : ℕ) (rows : List (List ℕ)) (row : List ℕ) (o : Option ℕ) → ((n j : ℕ) → cell rows n j ≤ t) → IsAbove o rows row → (j : ℕ) → at row j ≤ t
-  small_above t rows row None small a j = (let z = a.of_none j refl in omega arith)
-  small_above t rows row (Some p) small a j = (let z = a.of_parent p j refl in let h = small p j in omega arith)
-
-  pub above_small : (t n : ℕ) (rows : List (List ℕ)) (row : List ℕ) → StandsUp words rules primary spots t rows → IsAbove (joined primary spots n) rows row → (j : ℕ) → at row j ≤ t
-  above_small t n rows row s a j = small_above t rows row (joined primary spots n) s.small a j
-
-  pub stands_up : (n held : ℕ) (rows : List (List ℕ)) (row own : List ℕ) → n < length spots → StandsUp words rules primary spots n rows → IsAbove (joined primary spots n) rows row
-      → ((i : ℕ) (r : Rule) → slice_get rules i ≡ Some r → at own i ≡ place_value r held (at row) (length rules)) → ((i : ℕ) → length rules ≤ i → at own i ≡ 0)
-      → ((i : ℕ) → IsGreatest (FromPlace (holds words) rules (Edge true primary spots) i n) (at own i))
-      → StandsUp words rules primary spots (n + 1) (slice_set rows n own)
-  stands_up n held rows row own low s a here past known =
+  pub stands_up : (n : ℕ) (rows : List (List ℕ)) (own : List ℕ) → n < length spots → StandsUp Known words rules primary spots n rows
+      → ((i : ℕ) → Known (FromPlace (holds words) rules (Edge true primary spots) i n) (at own i))
+      → StandsUp Known words rules primary spots (n + 1) (slice_set rows n own)
+  stands_up n rows own low s known =
       let within : n < length rows = (let c = s.count in omega arith) in
-      let small = own_small words rules (Edge true primary spots) held n (at row) own (above_small n n rows row s a) (record { here = here; past = past }) in
       record {
         count = length-set rows n own ∙ s.count;
-        small = λ m j. elim (cases_eq m n) [
-          | inl is ↦ (let e = set_cell rows n m j own is within in let h = small j in omega arith)
-          | inr other ↦ (let e = other_cell rows n m j own other in let h = s.small m j in omega arith)
-        ];
         known = λ m j less on. elim (cases_eq m n) [
-          | inl is ↦ subst (IsGreatest (FromPlace (holds words) rules (Edge true primary spots) j m)) (sym (set_cell rows n m j own is within)) (subst (λ k. IsGreatest (FromPlace (holds words) rules (Edge true primary spots) j k) (at own j)) (sym is) (known j))
-          | inr other ↦ subst (IsGreatest (FromPlace (holds words) rules (Edge true primary spots) j m)) (sym (other_cell rows n m j own other)) (s.known m j (omega arith) on)
+          | inl is ↦ subst (Known (FromPlace (holds words) rules (Edge true primary spots) j m)) (sym (set_cell rows n m j own is within)) (subst (λ k. Known (FromPlace (holds words) rules (Edge true primary spots) j k) (at own j)) (sym is) (known j))
+          | inr other ↦ subst (Known (FromPlace (holds words) rules (Edge true primary spots) j m)) (sym (other_cell rows n m j own other)) (s.known m j (omega arith) on)
         ];
       }
 
-  pub stands_up_same : (n : ℕ) (rows : List (List ℕ)) → StandsUp words rules primary spots n rows → is_searched spots n ≡ false → StandsUp words rules primary spots (n + 1) rows
+  pub stands_up_same : (n : ℕ) (rows : List (List ℕ)) → StandsUp Known words rules primary spots n rows → is_searched spots n ≡ false → StandsUp Known words rules primary spots (n + 1) rows
   stands_up_same n rows s off = record {
     count = s.count;
-    small = λ m j. (let h = s.small m j in omega arith);
     known = λ m j less on. elim (cases_eq m n) [
       | inl is ↦ absurd (let both = sym off ∙ ap (is_searched spots) (sym is) ∙ on in cc)
       | inr other ↦ s.known m j (omega arith) on
     ];
   }
 
-pub stands_up_first : (words : List ℕ) (rules : List Rule) (primary : Bool) (spots : List Spot) → StandsUp words rules primary spots 0 (replicate (length spots) (replicate 64 0))
-stands_up_first words rules primary spots = record {
+pub stands_up_first : (Known : Measure) (words : List ℕ) (rules : List Rule) (primary : Bool) (spots : List Spot) → StandsUp Known words rules primary spots 0 (replicate (length spots) (replicate 64 0))
+stands_up_first Known words rules primary spots = record {
   count = length-replicate (length spots) (replicate 64 0);
-  small = λ n j. (let z = zero_cell 0 (length spots) n (replicate 64 0) (zeros 64) j in omega arith);
   known = λ n j less. absurd (omega (arith, less));
 }
 

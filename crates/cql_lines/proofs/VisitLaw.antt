@@ -7,49 +7,52 @@ use Rattle.std.proofs.lemmas.Option.{slice_get_past}
 use Rattle.std.proofs.lemmas.List.{get_or-set_same, get_or-set_other, length-replicate}
 use Rattle.cql_lines.specs.declared.automaton.Rule.{Rule}
 use Rattle.cql_lines.specs.declared.table.Spot.{Spot}
-use Rattle.cql_lines.specs.Ways.{FromPlace, IsGreatest}
-use Rattle.cql_lines.specs.Lengths.{is_set, at, place_value}
+use Rattle.cql_lines.specs.Ways.{FromPlace, Below}
+use Rattle.cql_lines.specs.Lengths.{is_set, at}
 use Rattle.cql_lines.specs.Shapes.{joined, joined_by, searched_by, is_searched, Edge}
-use Rattle.cql_lines.specs.Down.{holds, cell, Stands, IsLongest, found, AnswerAt, Passed}
+use Rattle.cql_lines.specs.Down.{holds, cell, Late, Stands, IsLongest, found, AnswerAt, Passed}
 use Rattle.cql_lines.proofs.DownLaw.{whole_row, stands_more, stands_same}
-use Rattle.cql_lines.proofs.OwnLaw.{own_known, own_small}
+use Rattle.cql_lines.proofs.OwnLaw.{own_known}
+use Rattle.cql_lines.proofs.Measures.{Measure, Keeps, Joins, HasNone, Goes}
 
 unsearched_by : (primary : Bool) (o : Option Spot) → searched_by o ≡ false → joined_by primary o ≡ None
 unsearched_by primary None e = refl
 unsearched_by primary (Some s) e = rw e refl
 
+pub answered_by : (s : Bool) (P : ℕ → Type 0) (o : Option ℕ) → s ≡ true → IsLongest P o → AnswerAt s P o
+answered_by true P o e l = l
+answered_by false P o e l = absurd (cc)
+
 pub answered : (s : Bool) (P : ℕ → Type 0) (o : Option ℕ) (m : ℕ) → s ≡ true → IsLongest P (found m) → o ≡ found m → AnswerAt s P o
 answered true P o m e l is = subst (IsLongest P) (sym is) l
 answered false P o m e l is = absurd (cc)
 
-module _ (words : List ℕ) (rules : List Rule) (primary : Bool) (spots : List Spot) (below : (n p : ℕ) → joined primary spots n ≡ Some p → p < n) where
-  pub unvisited : (n : ℕ) (rows : List (List ℕ)) → n < length spots → Stands words rules primary spots (length spots - n - 1) rows → is_searched spots n ≡ false
-      → Stands words rules primary spots (length spots - n) rows
+module _ (Known : Measure) (join : ℕ → ℕ → ℕ) (same : Keeps Known) (two : Joins Known join) (words : List ℕ) (rules : List Rule) (primary : Bool) (spots : List Spot) (below : (n p : ℕ) → joined primary spots n ≡ Some p → p < n) where
+  pub unvisited : (n : ℕ) (rows : List (List ℕ)) → n < length spots → Stands Known words rules primary spots (length spots - n - 1) rows → is_searched spots n ≡ false
+      → Stands Known words rules primary spots (length spots - n) rows
   unvisited n rows low s off =
       let t : length spots - n - 1 + 1 ≡ length spots - n = omega arith in
-      subst (λ t. Stands words rules primary spots t rows) t
-      (stands_same words rules primary spots below (length spots - n - 1) n rows (omega arith) s (unsearched_by primary (slice_get spots n) off))
+      subst (λ t. Stands Known words rules primary spots t rows) t
+      (stands_same Known join same two words rules primary spots below (length spots - n - 1) n rows (omega arith) s (unsearched_by primary (slice_get spots n) off))
 
-  pub known_at : (n : ℕ) (rows : List (List ℕ)) (own : List ℕ) (held atoms : ℕ) → n < length spots → Stands words rules primary spots (length spots - n - 1) rows
+  pub whole_at : (n : ℕ) (rows : List (List ℕ)) → n < length spots → Stands Known words rules primary spots (length spots - n - 1) rows → (j : ℕ) → Known (Below (holds words) rules (Edge false primary spots) j n) (cell rows n j)
+  whole_at n rows low s = whole_row Known join same two words rules primary spots below (length spots - n - 1) rows s n (omega arith)
+
+  pub known_at : (none : HasNone Known) (place : Rule → ℕ → (ℕ → ℕ) → ℕ → ℕ) (goes : Goes Known place) (n : ℕ) (rows : List (List ℕ)) (own : List ℕ) (held atoms : ℕ) → n < length spots
+      → Stands Known words rules primary spots (length spots - n - 1) rows
       → ((a : ℕ) → a < atoms → is_set held a ≡ is_set (at words n) a) → ((i : ℕ) (r : Rule) → slice_get rules i ≡ Some r → r.atom < atoms)
-      → ((i : ℕ) (r : Rule) → slice_get rules i ≡ Some r → at own i ≡ place_value r held (cell rows n) (length rules)) → ((i : ℕ) → length rules ≤ i → at own i ≡ 0)
-      → (i : ℕ) → IsGreatest (FromPlace (holds words) rules (Edge false primary spots) i n) (at own i)
-  known_at n rows own held atoms low s table few here past =
-      own_known words rules (Edge false primary spots) n held (cell rows n) own
-      (whole_row words rules primary spots below (length spots - n - 1) rows s n (omega arith))
-      (λ i r rule. table r.atom (few i r rule))
-      (record { here = here; past = past })
+      → ((i : ℕ) (r : Rule) → slice_get rules i ≡ Some r → at own i ≡ place r held (cell rows n) (length rules)) → ((i : ℕ) → length rules ≤ i → at own i ≡ 0)
+      → (i : ℕ) → Known (FromPlace (holds words) rules (Edge false primary spots) i n) (at own i)
+  known_at none place goes n rows own held atoms low s table few here past =
+      own_known Known none place goes words rules (Edge false primary spots) n held (cell rows n) own (whole_at n rows low s) (λ i r rule. table r.atom (few i r rule)) here past
 
-  pub visited : (n : ℕ) (rows new : List (List ℕ)) (own : List ℕ) (held : ℕ) → n < length spots → Stands words rules primary spots (length spots - n - 1) rows
-      → ((i : ℕ) (r : Rule) → slice_get rules i ≡ Some r → at own i ≡ place_value r held (cell rows n) (length rules)) → ((i : ℕ) → length rules ≤ i → at own i ≡ 0)
-      → ((i : ℕ) → IsGreatest (FromPlace (holds words) rules (Edge false primary spots) i n) (at own i))
-      → Passed primary spots n rows new own → Stands words rules primary spots (length spots - n) new
-  visited n rows new own held low s here past known p =
+  pub visited : (n : ℕ) (rows new : List (List ℕ)) (own : List ℕ) → n < length spots → Stands Known words rules primary spots (length spots - n - 1) rows
+      → ((i : ℕ) → Known (FromPlace (holds words) rules (Edge false primary spots) i n) (at own i))
+      → Passed join primary spots n rows new own → Stands Known words rules primary spots (length spots - n) new
+  visited n rows new own low s known p =
       let t : length spots - n - 1 + 1 ≡ length spots - n = omega arith in
-      subst (λ t. Stands words rules primary spots t new) t
-      (stands_more words rules primary spots below (length spots - n - 1) n rows new own (omega arith) s known
-      (own_small words rules (Edge false primary spots) held (length spots - n - 1) (cell rows n) own (s.small n) (record { here = here; past = past }))
-      p)
+      subst (λ t. Stands Known words rules primary spots t new) t
+      (stands_more Known join same two words rules primary spots below (length spots - n - 1) n rows new own (omega arith) s known p)
 
 pub zeros : (n i : ℕ) → at (replicate n 0) i ≡ 0
 zeros zero i = refl
@@ -62,17 +65,15 @@ zero_cell m zero i row z j = refl
 zero_cell m (suc n) zero row z j = z j
 zero_cell m (suc n) (suc i) row z j = zero_cell m n i row z j
 
-pub stands_first : (words : List ℕ) (rules : List Rule) (primary : Bool) (spots : List Spot) → Stands words rules primary spots 0 (replicate (length spots) (replicate 64 0))
-stands_first words rules primary spots = record {
+pub stands_first : (Known : Measure) (none : HasNone Known) (words : List ℕ) (rules : List Rule) (primary : Bool) (spots : List Spot) → Stands Known words rules primary spots 0 (replicate (length spots) (replicate 64 0))
+stands_first Known none words rules primary spots = record {
   count = length-replicate (length spots) (replicate 64 0);
-  small = λ n j. (let z = zero_cell 0 (length spots) n (replicate 64 0) (zeros 64) j in omega arith);
-  known = λ n j. record {
-    bounds = λ k l. absurd (
+  known = λ n j.
+      subst (Known (Late words rules primary spots 0 n j)) (sym (zero_cell 0 (length spots) n (replicate 64 0) (zeros 64) j))
+      (none (Late words rules primary spots 0 n j) (λ k l.
         let past = slice_get_past spots l.0 (let h = l.1 in omega arith) in
-        let none : joined primary spots l.0 ≡ None = ap (joined_by primary) past in
-        let both = sym none ∙ l.2 in cc);
-    reached = λ some. absurd (let z = zero_cell 0 (length spots) n (replicate 64 0) (zeros 64) j in omega arith);
-  };
+        let off : joined primary spots l.0 ≡ None = ap (joined_by primary) past in
+        let both = sym off ∙ l.2 in cc));
 }
 
 -- one answer more
@@ -88,3 +89,7 @@ done_more P searched size values v turn node len e here before n late low = elim
       let set : get_or (slice_set values node v) n None ≡ get_or values n None = get_or-set_other values node n v None other in
       subst (AnswerAt (searched n) (P n)) (sym set) (before n (omega arith) low)
 ]
+
+-- the same, whichever way the paths go
+pub whichever : (s : Bool) (P : Bool → ℕ → Type 0) (back way : Bool) (o : Option ℕ) → back ≡ way → AnswerAt s (P way) o → AnswerAt s (P back) o
+whichever s P back way o is a = subst (λ b. AnswerAt s (P b) o) (sym is) a

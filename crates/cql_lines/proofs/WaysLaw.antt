@@ -7,7 +7,7 @@ use Rattle.cql_lines.specs.declared.automaton.Next.{Next}
 use Rattle.cql_lines.specs.declared.automaton.Rule.{Rule}
 use Rattle.cq_outside.specs.Spelling.{Pattern, Spells}
 use Rattle.cql_lines.specs.Places.{IsIn, from, Accepts, Built}
-use Rattle.cql_lines.specs.Ways.{Line, FromPlace, Below, IsGreatest}
+use Rattle.cql_lines.specs.Ways.{FromPlace, Below, IsGreatest}
 use Rattle.cql_lines.specs.Down.{Read}
 use Rattle.cql_lines.specs.Lengths.{is_set, greatest_in, farther}
 use Rattle.cql_lines.proofs.PlacesLaw.{pattern_means, in_none}
@@ -118,35 +118,6 @@ module _ (test : ℕ → ℕ → Bool) (rules : List Rule) (Edge : ℕ → ℕ �
     reached = λ some. absurd (omega arith);
   }
 
-  pub end : Next
-  end = record { places = 0; ends = true }
-
-  at_end : (v : List ℕ) → Accepts test rules (record { places = 0; ends = true }) v → v ≡ []
-  at_end [] t = refl
-  at_end (x ∷ v) t = absurd (in_none t.0 t.2)
-
-  -- the whole pattern at one node, from its first places
-  pub line_here : (p : Pattern ℕ) (f : ℕ) → Built rules p (record { places = 0; ends = true }) f → (n : ℕ) (values : ℕ → ℕ)
-      → ((i : ℕ) → IsGreatest (FromPlace test rules Edge i n) (values i)) → IsGreatest (Line test Edge p n) (greatest_in f values (length rules))
-  line_here p f built n values known =
-      let m = pattern_means test rules p in
-      record {
-        bounds = λ k line.
-            let read : Accepts test rules (from f) (n ∷ line.0) = subst (λ w. Accepts test rules (from f) (n ∷ w)) (append-nil line.0) (m.complete (record { places = 0; ends = true }) f n line.0 [] built line.3 refl) in
-            let within = slice_get_within rules read.0 read.1 read.3 in
-            let one = (known read.0).bounds k (line.0, line.1, line.2, read.1, read.3, read.4, read.5) in
-            let here = greatest_bounds f values (length rules) read.0 within read.2 in
-            omega arith;
-        reached = λ some.
-            let b = greatest_reached f values (length rules) some in
-            let positive : 0 < values b.place = omega (arith, b.is) in
-            let w = (known b.place).reached positive in
-            let front = m.sound (record { places = 0; ends = true }) f (n ∷ w.0) built (b.place, w.3, b.is_in, w.4, w.5, w.6) in
-            let none = at_end front.v front.read in
-            let whole : n ∷ w.0 ≡ front.x ∷ front.u = front.whole ∙ ap (λ v. front.x ∷ (front.u ++ v)) none ∙ ap (λ u. front.x ∷ u) (append-nil front.u) in
-            (w.0, w.1, sym b.is ∙ w.2, subst (Spells test p) (sym whole) front.spelled);
-      }
-
   -- some of the places, at one node
   pub read_here : (f n : ℕ) (values : ℕ → ℕ) → ((i : ℕ) → IsGreatest (FromPlace test rules Edge i n) (values i)) → IsGreatest (Read test rules Edge f n) (greatest_in f values (length rules))
   read_here f n values known = record {
@@ -163,16 +134,25 @@ module _ (test : ℕ → ℕ → Bool) (rules : List Rule) (Edge : ℕ → ℕ �
         (w.0, w.1, sym b.is ∙ w.2, (b.place, w.3, b.is_in, w.4, w.5, w.6));
   }
 
-  -- what the first places read is what the pattern spells
-  pub read_spelled : (p : Pattern ℕ) (f : ℕ) → Built rules p (record { places = 0; ends = true }) f → (n k : ℕ) → Read test rules Edge f n k → Line test Edge p n k
-  read_spelled p f built n k r =
-      let m = pattern_means test rules p in
-      let front = m.sound (record { places = 0; ends = true }) f (n ∷ r.0) built r.3 in
-      let none = at_end front.v front.read in
-      let whole : n ∷ r.0 ≡ front.x ∷ front.u = front.whole ∙ ap (λ v. front.x ∷ (front.u ++ v)) none ∙ ap (λ u. front.x ∷ u) (append-nil front.u) in
-      (r.0, r.1, r.2, subst (Spells test p) (sym whole) front.spelled)
+-- nothing comes after
+abbrev pub end : Next
+end = record { places = 0; ends = true }
 
-  pub spelled_read : (p : Pattern ℕ) (f : ℕ) → Built rules p (record { places = 0; ends = true }) f → (n k : ℕ) → Line test Edge p n k → Read test rules Edge f n k
-  spelled_read p f built n k line =
+module _ (test : ℕ → ℕ → Bool) (rules : List Rule) where
+  at_end : (v : List ℕ) → Accepts test rules end v → v ≡ []
+  at_end [] t = refl
+  at_end (x ∷ v) t = absurd (in_none t.0 t.2)
+
+  -- what the first places read is what the pattern spells
+  pub read_spelled : (p : Pattern ℕ) (f : ℕ) → Built rules p end f → (n : ℕ) (w : List ℕ) → Accepts test rules (from f) (n ∷ w) → Spells test p (n ∷ w)
+  read_spelled p f built n w r =
       let m = pattern_means test rules p in
-      (line.0, line.1, line.2, subst (λ w. Accepts test rules (from f) (n ∷ w)) (append-nil line.0) (m.complete (record { places = 0; ends = true }) f n line.0 [] built line.3 refl))
+      let front = m.sound end f (n ∷ w) built r in
+      let none = at_end front.v front.read in
+      let whole : n ∷ w ≡ front.x ∷ front.u = front.whole ∙ ap (λ v. front.x ∷ (front.u ++ v)) none ∙ ap (λ u. front.x ∷ u) (append-nil front.u) in
+      subst (Spells test p) (sym whole) front.spelled
+
+  pub spelled_read : (p : Pattern ℕ) (f : ℕ) → Built rules p end f → (n : ℕ) (w : List ℕ) → Spells test p (n ∷ w) → Accepts test rules (from f) (n ∷ w)
+  spelled_read p f built n w spelled =
+      let m = pattern_means test rules p in
+      subst (λ u. Accepts test rules (from f) (n ∷ u)) (append-nil w) (m.complete end f n w [] built spelled refl)

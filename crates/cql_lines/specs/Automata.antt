@@ -1,20 +1,23 @@
 -- Automata as their callers see them.
-use Rattle.std.specs.Prelude.{◌≡◌, ℕ, ◌<◌, true, Some, slice_get}
-use Rattle.cq_outside.specs.Spelling.{Pattern}
-use Rattle.cql_lines.specs.declared.automaton.Next.{Next}
+use Rattle.std.specs.Prelude.{◌≡◌, ◌↔◌, ℕ, suc, ◌+◌, ◌*◌, ◌<◌, zero, List, ◌∷◌, Bool, Some, None, slice_get}
+use Rattle.cq_outside.specs.Spelling.{Pattern, one, nothing, joined, repeated, Spells}
 use Rattle.cql_lines.specs.declared.automaton.Rule.{Rule}
 use Rattle.cql_lines.specs.declared.automaton.Automaton.{Automaton}
-use Rattle.cql_lines.specs.Building.{rows, firsts, IsPlain}
+use Rattle.cql_lines.specs.Places.{from, Accepts}
 
--- nothing comes after
-abbrev pub end : Next
-end = record { places = 0; ends = true }
+-- The places of a pattern: an atom has one, a sequence the sum of those of its parts, and a repeated part as often its own as it may stand,
+-- but at least once.
+abbrev pub places : Pattern ℕ → ℕ
+places (one a) = 1
+places nothing = 0
+places (joined p q) = places p + places q
+places (repeated least None p) = places p
+places (repeated least (Some zero) p) = places p
+places (repeated least (Some (suc n)) p) = suc n * places p
 
--- The automaton is that of the pattern
+-- Whatever holds where, the automaton reads from its first places exactly the lists that the pattern spells, the empty one left aside.
 pub record IsAutomatonOf (a : Automaton) (p : Pattern ℕ) : Type 0 where
-  pub rules : a.rules.items ≡ rows p end 0
-  pub first : a.first ≡ firsts p 0
-  pub plain : IsPlain p
+  pub reads : (test : ℕ → ℕ → Bool) (n : ℕ) (w : List ℕ) → Accepts test a.rules.items (from a.first) (n ∷ w) ↔ Spells test p (n ∷ w)
 
 -- all atoms of the automaton are below a number
 abbrev pub UsesBelow : Automaton → ℕ → Type 0

@@ -1,9 +1,9 @@
 -- What the rows of lengths tell, as they are filled from the last node to the first.
-use Rattle.std.specs.Prelude.{◌≡◌, ℕ, zero, suc, ◌+◌, ◌≤◌, List, [], ◌∷◌, Bool, true, false, Option, Some, None, length, get_or, max}
+use Rattle.std.specs.Prelude.{◌≡◌, ℕ, zero, suc, ◌+◌, ◌≤◌, List, [], ◌∷◌, Bool, true, false, Option, Some, None, length, get_or}
 use Rattle.cql_lines.specs.declared.automaton.Rule.{Rule}
 use Rattle.cql_lines.specs.declared.table.Spot.{Spot}
 use Rattle.cql_lines.specs.Places.{from, Accepts}
-use Rattle.cql_lines.specs.Ways.{Follow, FromPlace, IsGreatest}
+use Rattle.cql_lines.specs.Ways.{Follow, FromPlace}
 use Rattle.cql_lines.specs.Lengths.{is_set, at}
 use Rattle.cql_lines.specs.Shapes.{joined, Edge}
 
@@ -20,11 +20,11 @@ Late words rules primary spots t n j k =
     (c : ℕ) × (length spots ≤ c + t) × (joined primary spots c ≡ Some n)
     × FromPlace (holds words) rules (Edge false primary spots) j c k
 
-pub record Stands (words : List ℕ) (rules : List Rule) (primary : Bool) (spots : List Spot) (t : ℕ)
-    (rows : List (List ℕ)) : Type 0 where
+-- Known says which number stands for the lengths that are of a kind: the greatest of them, or their set as bits
+pub record Stands (Known : (ℕ → Type 0) → ℕ → Type 0) (words : List ℕ) (rules : List Rule) (primary : Bool) (spots : List Spot)
+    (t : ℕ) (rows : List (List ℕ)) : Type 0 where
   pub count : length rows ≡ length spots
-  pub small : (n j : ℕ) → cell rows n j ≤ t
-  pub known : (n j : ℕ) → IsGreatest (Late words rules primary spots t n j) (cell rows n j)
+  pub known : (n j : ℕ) → Known (Late words rules primary spots t n j) (cell rows n j)
 
 -- some way of k nodes from n is read, its first node by one of the places f
 abbrev pub Read : (ℕ → ℕ → Bool) → List Rule → (ℕ → ℕ → Type 0) → ℕ → ℕ → ℕ → Type 0
@@ -45,7 +45,7 @@ AnswerAt true P o = IsLongest P o
 AnswerAt false P o = o ≡ None
 
 -- what a node's row gives to the row of its parent
-pub record Passed (primary : Bool) (spots : List Spot) (n : ℕ) (rows new : List (List ℕ)) (own : List ℕ) : Type 0 where
+pub record Passed (join : ℕ → ℕ → ℕ) (primary : Bool) (spots : List Spot) (n : ℕ) (rows new : List (List ℕ)) (own : List ℕ) : Type 0 where
   pub count : length new ≡ length rows
-  pub parent : (p j : ℕ) → joined primary spots n ≡ Some p → cell new p j ≡ max (cell rows p j) (at own j)
+  pub parent : (p j : ℕ) → joined primary spots n ≡ Some p → cell new p j ≡ join (cell rows p j) (at own j)
   pub others : (p j : ℕ) → (joined primary spots n ≡ Some p → ⊥) → cell new p j ≡ cell rows p j

@@ -1,18 +1,17 @@
 -- What the rows of lengths tell, as they are filled from the first node to the last.
-use Rattle.std.specs.Prelude.{◌≡◌, ℕ, ◌<◌, ◌≤◌, List, Bool, true, Option, Some, None, length}
+use Rattle.std.specs.Prelude.{◌≡◌, ℕ, ◌<◌, List, Bool, true, Option, Some, None, length}
 use Rattle.cql_lines.specs.declared.automaton.Rule.{Rule}
 use Rattle.cql_lines.specs.declared.table.Spot.{Spot}
-use Rattle.cql_lines.specs.Ways.{FromPlace, IsGreatest}
+use Rattle.cql_lines.specs.Ways.{FromPlace}
 use Rattle.cql_lines.specs.Lengths.{at}
 use Rattle.cql_lines.specs.Shapes.{is_searched, Edge}
 use Rattle.cql_lines.specs.Down.{holds, cell}
 
-pub record StandsUp (words : List ℕ) (rules : List Rule) (primary : Bool) (spots : List Spot) (t : ℕ)
-    (rows : List (List ℕ)) : Type 0 where
+pub record StandsUp (Known : (ℕ → Type 0) → ℕ → Type 0) (words : List ℕ) (rules : List Rule) (primary : Bool) (spots : List Spot)
+    (t : ℕ) (rows : List (List ℕ)) : Type 0 where
   pub count : length rows ≡ length spots
-  pub small : (n j : ℕ) → cell rows n j ≤ t
   pub known : (n j : ℕ) → n < t → is_searched spots n ≡ true
-      → IsGreatest (FromPlace (holds words) rules (Edge true primary spots) j n) (cell rows n j)
+      → Known (FromPlace (holds words) rules (Edge true primary spots) j n) (cell rows n j)
 
 -- the row of the node above, or zeros where there is none
 pub record IsAbove (above : Option ℕ) (rows : List (List ℕ)) (row : List ℕ) : Type 0 where

@@ -5,7 +5,7 @@ ghost use Rattle.cql_lines.specs.Building.{AtomsBelow, size, firsts, firsts_time
 ghost use Rattle.cql_lines.specs.Places.{begins, when, nullable, null_times};
 ghost use Rattle.cql_lines.specs.TreeOf.{plain_tree};
 ghost use Rattle.cql_lines.specs.PatternTrees.{pattern_tree};
-ghost use Rattle.cql_lines.specs.Automata.{IsAutomatonOf, UsesBelow};
+ghost use Rattle.cql_lines.specs.Automata.{places, IsAutomatonOf, UsesBelow};
 
 use crate::automaton::{Automaton, Next, Rule};
 use crate::pattern::Pattern;
@@ -15,9 +15,9 @@ use std::alloc::{AllocError, Global};
 
 impl Automaton {
     /// The automaton of a pattern of at most 64 places.
-    #[tactic(auto, using(crate::proofs::LinesLaw::built_of))]
+    #[tactic(auto, using(crate::proofs::LinesLaw::few_rules))]
     pub fn build(alloc: Global, pattern: &Pattern) -> Result<Automaton, NoMemory>
-        requires places { size (pattern_tree pattern.now) ≤ 64 }
+        requires places { places (pattern_tree pattern.now) ≤ 64 }
         ensures automaton { IfOk result (λ a. IsAutomatonOf a (pattern_tree pattern.now)) }
         ensures atoms { IfOk result (λ a. (atoms : ℕ) → AtomsBelow (pattern_tree pattern.now) atoms → UsesBelow a atoms) }
     {

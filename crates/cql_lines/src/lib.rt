@@ -8,6 +8,7 @@ pub mod lines;
 mod looks;
 pub mod pattern;
 mod plain;
+mod sets;
 pub mod steps;
 pub mod table;
 mod values;

@@ -5,14 +5,16 @@ ghost use Rattle.cql_lines.specs.Automata.{IsAutomatonOf, UsesBelow};
 ghost use Rattle.cql_lines.specs.Values.{IsValueAt};
 
 use crate::automaton::Automaton;
+use crate::sets::within;
 use crate::steps::Steps;
 use crate::table::{AtomTable, Shape};
-use crate::values::{longest_down, longest_up};
+use crate::values::longest;
 use cq_outside::NoMemory;
 use std::alloc::Global;
 use std::sync::ledger::Ledger;
 
-/// For each node the greatest length of a path from it that the pattern spells, or None where there is none or the node is not searched.
+/// For each node the greatest length of a path from it that the pattern spells and whose length the extent allows, or None where there is
+/// none or the node is not searched.
 /// A look at the table is a step: there is at most one for each atom and node.
 pub fn line_values<L: Ledger>(
     alloc: Global,
@@ -29,8 +31,9 @@ pub fn line_values<L: Ledger>(
     ensures cost { steps.new ≤ steps.old + table.now.atoms * length shape.now.spots.items }
 {
     let rules = automaton.rules.as_slice();
-    if shape.back {
-        return Ok(longest_up(alloc, rules, automaton.first, table, shape, steps)?);
+    let first = automaton.first;
+    match shape.extent {
+        Some(extent) => Ok(within(alloc, rules, first, extent, table, shape, steps)?),
+        None => Ok(longest(alloc, rules, first, table, shape, steps)?),
     }
-    Ok(longest_down(alloc, rules, automaton.first, table, shape, steps)?)
 }

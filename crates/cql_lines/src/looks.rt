@@ -1,11 +1,11 @@
 //! Tables and trees, filled and read.
-ghost use Rattle.std.specs.Prelude.{◌≡◌, ℕ, ◌+◌, ◌<◌, ◌≤◌, ◌||◌, ◌++◌, ◌∷◌, [], length, true, false, Some, IfOk, IfSome, OnOk, OnErr, replicate};
+ghost use Rattle.std.specs.Prelude.{◌≡◌, ℕ, ◌+◌, ◌<◌, ◌≤◌, ◌||◌, ◌++◌, ◌∷◌, [], length, true, false, Some, None, IfOk, IfSome, OnOk, OnErr, replicate};
 ghost use Rattle.cql_lines.specs.Lengths.{is_set, at};
 ghost use Rattle.cql_lines.specs.Down.{holds};
 ghost use Rattle.cql_lines.specs.Shapes.{joined, is_searched};
 
 use crate::steps::Steps;
-use crate::table::{AtomTable, Shape, Spot};
+use crate::table::{AtomTable, Extent, Shape, Spot};
 use cq_outside::NoMemory;
 use std::alloc::Global;
 use std::sync::ledger::Ledger;
@@ -74,14 +74,27 @@ fn with_bit(mask: u64, atom: u32, holds: bool) -> u64
 
 impl Shape {
     /// A tree without nodes, for paths down or, with `back`, up. With `primary` each step joins a node and its first child.
+    /// Paths of every length count.
     pub fn new(alloc: Global, back: bool, primary: bool) -> Shape
-        ensures { (result.spots.items ≡ []) × (result.back ≡ back) × (result.primary ≡ primary) }
+        ensures { (result.spots.items ≡ []) × (result.back ≡ back) × (result.primary ≡ primary) × (result.extent ≡ None) }
     {
         Shape {
             spots: Vec::new(alloc),
             back,
             primary,
+            extent: None,
         }
+    }
+
+    /// From now on only paths of `least` to `most` nodes count, both numbers from 1 to 127; of none, where `least` is above `most`.
+    pub fn limit(&mut self, least: u32, most: u32)
+        requires least { (0 < least) × (least ≤ 127) }
+        requires most { (0 < most) × (most ≤ 127) }
+        ensures extent { self.new.extent ≡ Some (record { least = least; most = most }) }
+        ensures tree { (self.new.spots.items ≡ self.old.spots.items) × (self.new.back ≡ self.old.back)
+            × (self.new.primary ≡ self.old.primary) }
+    {
+        self.extent = Some(Extent { least, most });
     }
 
     /// Adds a node: its parent, whether it is searched, and whether it is its parent's first child. A refused call changes nothing.
@@ -91,7 +104,7 @@ impl Shape {
         ensures more { OnOk result (self.new.spots.items
             ≡ self.old.spots.items ++ record { parent = parent; searched = searched; first = first } ∷ []) }
         ensures same { OnErr result (self.new.spots.items ≡ self.old.spots.items) }
-        ensures way { (self.new.back ≡ self.old.back) × (self.new.primary ≡ self.old.primary) }
+        ensures way { (self.new.back ≡ self.old.back) × (self.new.primary ≡ self.old.primary) × (self.new.extent ≡ self.old.extent) }
     {
         self.spots.push(Spot {
             parent,

@@ -1,6 +1,7 @@
 //! The greatest lengths.
 ghost use Rattle.std.specs.Prelude.{◌≡◌, ℕ, ◌+◌, ◌*◌, ◌<◌, ◌≤◌, ◌||◌, get_or, length, List, max, if◌then◌else◌, slice_get, Some, None, Option, ◌-◌, false, IfOk, replicate, true};
 ghost use Rattle.cql_lines.specs.Down.{found, Passed, Stands, AnswerAt, Read, holds};
+ghost use Rattle.cql_lines.specs.Ways.{IsGreatest};
 ghost use Rattle.cql_lines.specs.Shapes.{Edge, is_searched, joined};
 ghost use Rattle.cql_lines.specs.Up.{StandsUp, IsAbove};
 ghost use Rattle.cql_lines.specs.Lengths.{greatest_in, place_value, is_set, at};
@@ -96,7 +97,7 @@ fn found_length(m: u32) -> Option<u32>
 pub fn pass_up(shape: &Shape, node: usize, rows: &mut [[u32; 64]], own: &[u32; 64])
     requires node { node < length shape.now.spots.items }
     requires rows { length rows.old ≡ length shape.now.spots.items }
-    ensures { Passed shape.now.primary shape.now.spots.items node rows.old rows.new own.now }
+    ensures { Passed max shape.now.primary shape.now.spots.items node rows.old rows.new own.now }
 {
     let Some(above) = shape.joined_to(node) else {
         return;
@@ -119,9 +120,9 @@ pub fn visit_down<L: Ledger>(
     requires words { length table.now.words.items ≡ length shape.now.spots.items }
     requires nodes { length shape.now.spots.items ≤ 65536 }
     requires node { node < length shape.now.spots.items }
-    requires stands { Stands table.now.words.items rules.now shape.now.primary shape.now.spots.items
+    requires stands { Stands IsGreatest table.now.words.items rules.now shape.now.primary shape.now.spots.items
         (length shape.now.spots.items - node - 1) rows.old }
-    ensures stands { Stands table.now.words.items rules.now shape.now.primary shape.now.spots.items
+    ensures stands { Stands IsGreatest table.now.words.items rules.now shape.now.primary shape.now.spots.items
         (length shape.now.spots.items - node) rows.new }
     ensures value { AnswerAt (is_searched shape.now.spots.items node)
         (Read (holds table.now.words.items) rules.now (Edge false shape.now.primary shape.now.spots.items) first node) result }
@@ -146,7 +147,7 @@ fn blank_rows(alloc: Global, nodes: usize) -> Result<Vec<[u32; 64]>, AllocError>
     Ok(rows)
 }
 
-fn blank_values(alloc: Global, nodes: usize) -> Result<Vec<Option<u32>>, AllocError>
+pub fn blank_values(alloc: Global, nodes: usize) -> Result<Vec<Option<u32>>, AllocError>
     ensures { IfOk result (λ values. length values.items ≡ nodes) }
 {
     Ok(vec![in alloc; None; nodes]?)
@@ -210,8 +211,8 @@ pub fn visit_up<L: Ledger>(
     requires words { length table.now.words.items ≡ length shape.now.spots.items }
     requires nodes { length shape.now.spots.items ≤ 65536 }
     requires node { node < length shape.now.spots.items }
-    requires stands { StandsUp table.now.words.items rules.now shape.now.primary shape.now.spots.items node rows.old }
-    ensures stands { StandsUp table.now.words.items rules.now shape.now.primary shape.now.spots.items (node + 1) rows.new }
+    requires stands { StandsUp IsGreatest table.now.words.items rules.now shape.now.primary shape.now.spots.items node rows.old }
+    ensures stands { StandsUp IsGreatest table.now.words.items rules.now shape.now.primary shape.now.spots.items (node + 1) rows.new }
     ensures value { AnswerAt (is_searched shape.now.spots.items node)
         (Read (holds table.now.words.items) rules.now (Edge true shape.now.primary shape.now.spots.items) first node) result }
     ensures cost { steps.new ≤ steps.old + table.now.atoms }
@@ -254,4 +255,30 @@ pub fn longest_up<L: Ledger>(
         values[node] = visit_up(rules, first, table, shape, node, grid, steps);
     }
     Ok(values)
+}
+
+/// For each node the greatest length of a way that is read.
+pub fn longest<L: Ledger>(
+    alloc: Global,
+    rules: &[Rule],
+    first: u64,
+    table: &AtomTable,
+    shape: &Shape,
+    steps: &mut Steps<L>,
+) -> Result<Vec<Option<u32>>, AllocError>
+    requires count { length rules.now ≤ 64 }
+    requires atoms { (i : ℕ) (r : RuleValue) → slice_get rules.now i ≡ Some r → r.atom < table.now.atoms }
+    requires words { length table.now.words.items ≡ length shape.now.spots.items }
+    requires nodes { length shape.now.spots.items ≤ 65536 }
+    ensures count { IfOk result (λ values. length values.items ≡ length shape.now.spots.items) }
+    ensures values { IfOk result (λ values. (n : ℕ) → n < length shape.now.spots.items →
+        AnswerAt (is_searched shape.now.spots.items n)
+        (Read (holds table.now.words.items) rules.now (Edge shape.now.back shape.now.primary shape.now.spots.items) first n)
+        (get_or values.items n None)) }
+    ensures cost { steps.new ≤ steps.old + table.now.atoms * length shape.now.spots.items }
+{
+    if shape.back {
+        return Ok(longest_up(alloc, rules, first, table, shape, steps)?);
+    }
+    Ok(longest_down(alloc, rules, first, table, shape, steps)?)
 }

@@ -1,13 +1,15 @@
-use Rattle.std.proofs.Common.{true, false}
-use Rattle.cql_lines.proofs.LinesLaw.{value_is}
+use Rattle.cql_lines.specs.Shapes.{Edge}
+use Rattle.cql_lines.proofs.LinesLaw.{value_of_all, value_of_some}
 use Rattle.cql_lines.proofs.lines.line_values.Goals as goal
 
-pub returns-then-shape-clause-values : goal.returns-then-shape-clause-values
-returns-then-shape-clause-values g c = λ p of n low.
-    value_is c.args.table.now.words.items c.args.automaton.now c.as_slice-rules.result.now p c.args.shape.now.spots.items c.args.shape.now.primary c.args.shape.now.back true
-    c.as_slice-rules.ensures.value c.if-shape.true of n _ (c.in_ok-longest_up.ensures.values n low)
+pub returns-in_ok-within-in-Some-clause-values : goal.returns-in_ok-within-in-Some-clause-values
+returns-in_ok-within-in-Some-clause-values g c = λ p of n low.
+    let s = c.args.shape.now in
+    value_of_some c.args.table.now.words.items c.args.automaton.now p of s.spots.items (Edge s.back s.primary s.spots.items) c.as_slice-rules.result.now s.extent c.in-Some.extent
+    c.as_slice-rules.ensures.value c.in-Some.is n _ (c.in_ok-within-in-Some.ensures.values n low)
 
-pub returns-clause-values : goal.returns-clause-values
-returns-clause-values g c = λ p of n low.
-    value_is c.args.table.now.words.items c.args.automaton.now c.as_slice-rules.result.now p c.args.shape.now.spots.items c.args.shape.now.primary c.args.shape.now.back false
-    c.as_slice-rules.ensures.value c.if-shape.false of n _ (c.in_ok-longest_down.ensures.values n low)
+pub returns-in_ok-longest-in-None-clause-values : goal.returns-in_ok-longest-in-None-clause-values
+returns-in_ok-longest-in-None-clause-values g c = λ p of n low.
+    let s = c.args.shape.now in
+    value_of_all c.args.table.now.words.items c.args.automaton.now p of s.spots.items (Edge s.back s.primary s.spots.items) c.as_slice-rules.result.now s.extent
+    c.as_slice-rules.ensures.value c.in-None.is n _ (c.in_ok-longest-in-None.ensures.values n low)

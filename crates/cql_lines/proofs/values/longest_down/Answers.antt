@@ -3,6 +3,8 @@ use Rattle.std.proofs.lemmas.List.{length-set}
 use Rattle.std.specs.Prelude.{replicate}
 use Rattle.cql_lines.specs.Down.{Stands, Read, holds}
 use Rattle.cql_lines.specs.Shapes.{Edge, is_searched}
+use Rattle.cql_lines.specs.Ways.{IsGreatest}
+use Rattle.cql_lines.proofs.DownLaw.{none_greatest}
 use Rattle.cql_lines.proofs.VisitLaw.{stands_first, done_more}
 use Rattle.cql_lines.proofs.values.longest_down.Goals as goal
 
@@ -11,8 +13,8 @@ loop-turn-init g c = record {
   stands =
       let rows : c.as_mut_slice-grid.result.now ≡ replicate (length c.args.shape.now.spots.items) (replicate 64 0) =
       c.as_mut_slice-grid.ensures.value ∙ c.in_ok-rows.ensures ∙ ap (λ n. replicate n (replicate 64 0)) c.len-nodes.ensures in
-      subst (Stands c.args.table.now.words.items c.args.rules.now c.args.shape.now.primary c.args.shape.now.spots.items 0) (sym rows)
-      (stands_first c.args.table.now.words.items c.args.rules.now c.args.shape.now.primary c.args.shape.now.spots.items);
+      subst (Stands IsGreatest c.args.table.now.words.items c.args.rules.now c.args.shape.now.primary c.args.shape.now.spots.items 0) (sym rows)
+      (stands_first IsGreatest none_greatest c.args.table.now.words.items c.args.rules.now c.args.shape.now.primary c.args.shape.now.spots.items);
   size = c.in_ok-values.ensures ∙ c.len-nodes.ensures;
   done = λ n late low. absurd (omega arith);
   cost = omega arith;
@@ -32,14 +34,14 @@ more_cost a b s atoms turn h k = grind arith
 
 pub visit_down-requires-clause-stands : goal.visit_down-requires-clause-stands
 visit_down-requires-clause-stands g c =
-    subst (λ t. Stands c.args.table.now.words.items c.args.rules.now c.args.shape.now.primary c.args.shape.now.spots.items t c.loop-turn.grid)
+    subst (λ t. Stands IsGreatest c.args.table.now.words.items c.args.rules.now c.args.shape.now.primary c.args.shape.now.spots.items t c.loop-turn.grid)
     (sym (turn_of (length c.args.shape.now.spots.items) c.len-nodes.result c.loop-turn.turn c.len-nodes.ensures c.loop-turn-test.true))
     c.loop-turn.invariant.stands
 
 pub loop-turn-preserved : goal.loop-turn-preserved
 loop-turn-preserved g c = record {
   stands =
-      subst (λ t. Stands c.args.table.now.words.items c.args.rules.now c.args.shape.now.primary c.args.shape.now.spots.items t c.visit_down.new.rows)
+      subst (λ t. Stands IsGreatest c.args.table.now.words.items c.args.rules.now c.args.shape.now.primary c.args.shape.now.spots.items t c.visit_down.new.rows)
       (next_of (length c.args.shape.now.spots.items) c.len-nodes.result c.loop-turn.turn c.len-nodes.ensures c.loop-turn-test.true)
       c.visit_down.ensures.stands;
   size = length-set c.loop-turn.values.items (c.len-nodes.result - 1 - c.loop-turn.turn) c.visit_down.result ∙ c.loop-turn.invariant.size;

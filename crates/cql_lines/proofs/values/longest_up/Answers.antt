@@ -4,6 +4,7 @@ use Rattle.std.proofs.lemmas.List.{length-set}
 use Rattle.cql_lines.specs.Down.{Read, holds}
 use Rattle.cql_lines.specs.Up.{StandsUp}
 use Rattle.cql_lines.specs.Shapes.{Edge, is_searched}
+use Rattle.cql_lines.specs.Ways.{IsGreatest}
 use Rattle.cql_lines.proofs.UpLaw.{stands_up_first, up_more}
 use Rattle.cql_lines.proofs.values.longest_up.Goals as goal
 
@@ -12,8 +13,8 @@ loop-node-init g c = record {
   stands =
       let rows : c.as_mut_slice-grid.result.now ≡ replicate (length c.args.shape.now.spots.items) (replicate 64 0) =
       c.as_mut_slice-grid.ensures.value ∙ c.in_ok-rows.ensures ∙ ap (λ n. replicate n (replicate 64 0)) c.len-nodes.ensures in
-      subst (StandsUp c.args.table.now.words.items c.args.rules.now c.args.shape.now.primary c.args.shape.now.spots.items 0) (sym rows)
-      (stands_up_first c.args.table.now.words.items c.args.rules.now c.args.shape.now.primary c.args.shape.now.spots.items);
+      subst (StandsUp IsGreatest c.args.table.now.words.items c.args.rules.now c.args.shape.now.primary c.args.shape.now.spots.items 0) (sym rows)
+      (stands_up_first IsGreatest c.args.table.now.words.items c.args.rules.now c.args.shape.now.primary c.args.shape.now.spots.items);
   size = c.in_ok-values.ensures ∙ c.len-nodes.ensures;
   done = λ n low. absurd (omega (arith, low));
   cost = omega arith;
