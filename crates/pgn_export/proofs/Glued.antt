@@ -24,7 +24,7 @@ Glued (w ∷ []) text = text ≡ w
 Glued (w ∷ v ∷ ws) text = (b : ℕ) × (rest : List ℕ) × (text ≡ w ++ (b ∷ rest)) × (is_white b ≡ true) × Glued (v ∷ ws) rest
 
 -- a text before another is read as tokens like these, and then come those of the other
-pub record IsReadAs (first : Bool) (text more : List ℕ) (vs : List Word) : Type 0 where
+pub record IsYielded (first : Bool) (text more : List ℕ) (vs : List Word) : Type 0 where
   pub words : List Word
   pub column : Bool
   pub is : told first (text ++ more) ≡ words ++ told column more
@@ -32,7 +32,7 @@ pub record IsReadAs (first : Bool) (text more : List ℕ) (vs : List Word) : Typ
 
 -- words tell these tokens, whatever white space stands between two words
 abbrev pub Tell : List (List ℕ) → List Word → Type 0
-Tell ws vs = (first : Bool) (text more : List ℕ) → Glued ws text → IsApart more → IsReadAs first text more vs
+Tell ws vs = (first : Bool) (text more : List ℕ) → Glued ws text → IsApart more → IsYielded first text more vs
 
 -- the same of words of which there may be none
 pub Said : List (List ℕ) → List Word → Type 0

@@ -47,7 +47,8 @@ pub record AreInOrder (tags : List (List ℕ × List ℕ)) : Type 0 where
 
 -- A normal game: its tags can be written, and stand in export order; the tag Result tells its result (section 8.1.1.7); with a tag FEN the
 -- tag SetUp is 1 (9.7.1), and the game begins in the position of that tag, and without one in that of the initial array (9.7.2); its
--- variations have at most 100 levels; its start has no glyph; and its text has at most 2^24 bytes.
+-- variations have at most 100 levels; its start has no glyph; and its text has at most 2^24 bytes. That its moves are legal or allowed null
+-- moves every game keeps.
 pub record IsNormal (g : Game) : Type 0 where
   pub writable : AllByRecursion IsWritable g.tags
   pub order : AreInOrder g.tags
