@@ -20,7 +20,8 @@ IsDone h b Stuck = ⊥
 pub at_most_one : (l : ℕ) (ts : List QueryToken) (q r : QueryTree) → Spells l ts q → Spells l ts r → q ≡ r
 at_most_one l ts q r a b =
     let one : IsDone a.as_written.opening a.as_written.items (Done b.as_written.opening b.as_written.items) =
-    subst (IsDone a.as_written.opening a.as_written.items) (sym (query_read l ts a.as_written) ∙ query_read l ts b.as_written) (refl, refl) in
+    subst (IsDone a.as_written.opening a.as_written.items) (sym (query_read l ts a.as_written)
+    ∙ query_read l ts b.as_written) (refl, refl) in
     sym a.is ∙ ap₂ (λ h ps. query_of (opening h) ps) one.0 one.1 ∙ b.is
 
 -- what is stuck stays so
@@ -34,10 +35,13 @@ unfolding feed
 deep_stays l [] = refl
 deep_stays l (x ∷ ts) = deep_stays l ts
 
-never_done : (l : ℕ) (ts : List QueryToken) (s : St) → go l (begun written) ts ≡ s → ((more_ : List QueryToken) → go l s more_ ≡ s) → ((h : List QueryToken) (b : Items) → s ≡ Done h b → ⊥) → Begins l ts → ⊥
+never_done : (l : ℕ) (ts : List QueryToken) (s : St) → go l (begun written) ts ≡ s
+    → ((more_ : List QueryToken) → go l s more_ ≡ s) → ((h : List QueryToken) (b : Items) → s ≡ Done h b → ⊥)
+    → Begins l ts → ⊥
 never_done l ts s is stays undone b =
     undone b.query.opening b.query.items
-    (sym (stays b.rest) ∙ ap (λ u. go l u b.rest) (sym is) ∙ sym (go_append l (begun written) ts b.rest) ∙ query_read l (ts ++ b.rest) b.query)
+    (sym (stays b.rest) ∙ ap (λ u. go l u b.rest) (sym is) ∙ sym (go_append l (begun written) ts b.rest)
+    ∙ query_read l (ts ++ b.rest) b.query)
 
 pub stuck_is_dead : (l : ℕ) (ts : List QueryToken) → go l (begun written) ts ≡ Stuck → Begins l ts → ⊥
 stuck_is_dead l ts is = never_done l ts Stuck is (stuck_stays l) (λ h b e. cc)
@@ -48,7 +52,8 @@ deep_is_dead l ts is = never_done l ts Deep is (deep_stays l) (λ h b e. cc)
 pub living_begins : (l : ℕ) (ts : List QueryToken) → Lives (go l (begun written) ts) → Begins l ts
 living_begins l ts live = alive l ts (go l (begun written) ts) (told l ts) live
 
-pub done_spells : (l : ℕ) (ts : List QueryToken) (h : List QueryToken) (b : Items) → go l (begun written) ts ≡ Done h b → Spells l ts (query_of (opening h) b)
+pub done_spells : (l : ℕ) (ts : List QueryToken) (h : List QueryToken) (b : Items) → go l (begun written) ts ≡ Done h b
+    → Spells l ts (query_of (opening h) b)
 done_spells l ts h b is =
     let good = subst (Stands l ts) is (told l ts) in
     record { as_written = good.query; is = ap₂ (λ o ps. query_of (opening o) ps) good.opening_is good.items_is }

@@ -50,7 +50,8 @@ mutual
   pub are_quiet : (l n : ℕ) (c : Context) (ps : Parts) (q : Quiet) → Goes l n c ps → AreOver ps (quiet_role q)
   are_quiet l n c (first x s) q goes_ = tt
   are_quiet l n c (add ps x s) q goes_ = tt
-  are_quiet l n c (put ps p s) q goes_ = (over_quiet l (n + depth_of (root ps)) (context (end ps)) p q goes_.6, quiet_joins (least (end ps)) q)
+  are_quiet l n c (put ps p s) q goes_ =
+      (over_quiet l (n + depth_of (root ps)) (context (end ps)) p q goes_.6, quiet_joins (least (end ps)) q)
 
 few : (l n : ℕ) (c : Context) (ps : Parts) → Goes l n c ps → n + depth_of (root ps) ≤ l
 few l n c (first x s) goes_ = goes_.1
@@ -75,7 +76,8 @@ pub record Ended (l n : ℕ) (c : Context) (ps : Parts) : Type 0 where
   pub same_root : root parts ≡ root ps
   pub same_head : head_of parts ≡ head_of ps
 
-ended_after : (l n : ℕ) (c : Context) (ps qs : Parts) (more_ : List QueryToken) → texts qs ≡ texts ps ++ more_ → root qs ≡ root ps → head_of qs ≡ head_of ps → Ended l n c qs → Ended l n c ps
+ended_after : (l n : ℕ) (c : Context) (ps qs : Parts) (more_ : List QueryToken) → texts qs ≡ texts ps ++ more_ → root qs ≡ root ps
+    → head_of qs ≡ head_of ps → Ended l n c qs → Ended l n c ps
 ended_after l n c ps qs more_ longer root_ head_ e = record {
   parts = e.parts;
   goes_ = e.goes_;
@@ -87,14 +89,16 @@ ended_after l n c ps qs more_ longer root_ head_ e = record {
 }
 
 -- the token by which a rule goes on belongs to nothing before
-exit_over : (l n : ℕ) (c : Context) (ps : Parts) (t : QueryTokenKind) (p : Place) → Goes l n c ps → exit (end ps) ≡ by_token t p → AreOver ps (role t)
+exit_over : (l n : ℕ) (c : Context) (ps : Parts) (t : QueryTokenKind) (p : Place) → Goes l n c ps → exit (end ps) ≡ by_token t p
+    → AreOver ps (role t)
 exit_over l n c (first x s) t p goes_ is = tt
 exit_over l n c (add ps x s) t p goes_ is = tt
 exit_over l n c (put ps a s) t p goes_ is =
     let quiet : IsQuiet (by_token t p) = subst IsQuiet (ap exit goes_.0 ∙ is) (quiet_exit (end ps)) in
     subst (AreOver (put ps a s)) (sym quiet.1) (are_quiet l n c (put ps a s) quiet.0 goes_)
 
-end_by : (fuel l n : ℕ) (c : Context) (ps : Parts) (e : Exit) → Goes l n c ps → rank (end ps) ≤ fuel → exit (end ps) ≡ e → IsExit (end ps) e → Ended l n c ps
+end_by : (fuel l n : ℕ) (c : Context) (ps : Parts) (e : Exit) → Goes l n c ps → rank (end ps) ≤ fuel → exit (end ps) ≡ e
+    → IsExit (end ps) e → Ended l n c ps
 end_by fuel l n c ps ended goes_ low is ok = record {
   parts = ps;
   goes_ = goes_;
@@ -109,14 +113,24 @@ end_by zero l n c ps by_check goes_ low is ok = absurd (let h : rank (next (end 
 end_by (suc fuel) l n c ps (by_token t p) goes_ low is ok =
     let less : rank p ≤ fuel = (let h : rank p < rank (end ps) = ok.1 in omega arith) in
     let longer : Goes l n c (add ps (token t) p) = (ok.0, exit_over l n c ps t p goes_ is, goes_) in
-    ended_after l n c ps (add ps (token t) p) (token t ∷ []) refl refl refl (end_by fuel l n c (add ps (token t) p) (exit p) longer less refl (is_exit p))
+    ended_after l n c ps (add ps (token t) p) (token t ∷ []) refl refl refl
+    (end_by fuel l n c (add ps (token t) p) (exit p) longer less refl (is_exit p))
 end_by (suc fuel) l n c ps by_check goes_ low is ok =
     let less : rank (next (end ps)) ≤ fuel = (let h : rank (next (end ps)) < rank (end ps) = ok.4 in omega arith) in
     let high : least (end ps) ≤ level check_phrase = subst (λ m. least (end ps) ≤ m) (sym check_level) ok.1 in
     let over : AreOver ps (role (tokens.Word 5)) = subst (AreOver ps) (sym check_role) (are_quiet l n c ps q_check goes_) in
-    let longer : Goes l n c (put ps check_phrase (next (end ps))) =
-    (refl, ok.2, ap (goes (end ps)) check_role ∙ ok.3, over, high, goes_, check_fits l (n + depth_of (root ps)) (context (end ps)) ok.0 (few l n c ps goes_)) in
-    ended_after l n c ps (put ps check_phrase (next (end ps))) (check_token ∷ []) refl refl refl (end_by fuel l n c (put ps check_phrase (next (end ps))) (exit (next (end ps))) longer less refl (is_exit (next (end ps))))
+    let longer : Goes l n c (put ps check_phrase (next (end ps))) = (
+      refl,
+      ok.2,
+      ap (goes (end ps)) check_role
+          ∙ ok.3,
+      over,
+      high,
+      goes_,
+      check_fits l (n + depth_of (root ps)) (context (end ps)) ok.0 (few l n c ps goes_),
+    ) in
+    ended_after l n c ps (put ps check_phrase (next (end ps))) (check_token ∷ []) refl refl refl
+    (end_by fuel l n c (put ps check_phrase (next (end ps))) (exit (next (end ps))) longer less refl (is_exit (next (end ps))))
 
 pub end_parts : (l n : ℕ) (c : Context) (ps : Parts) → Goes l n c ps → Ended l n c ps
 end_parts l n c ps goes_ = end_by (rank (end ps)) l n c ps (exit (end ps)) goes_ (omega arith) refl (is_exit (end ps))
@@ -125,7 +139,10 @@ pub begins_less : (l : ℕ) (ts more_ : List QueryToken) → Begins l (ts ++ mor
 begins_less l ts more_ b = record { rest = more_ ++ b.rest; query = subst (Written l) (append_assoc ts more_ b.rest) b.query }
 
 -- what follows where a rule is at its end
-rule_ends : (l : ℕ) (h : List QueryToken) (b : Items) (d : Parts) (k : Frames) (ts : List QueryToken) → heading h ≡ Some Over → AllFit l b → Good l b k → due written k ≤ level_of (root d) → Under b k (role (head_of d).kind) → h ++ (items_text b ++ (stack_text k ++ texts d)) ≡ ts → (e : Ended l (depth written k) (around written k) d) → Has l h b (level_of (root e.parts)) (made e.parts) k (ts ++ e.rest)
+rule_ends : (l : ℕ) (h : List QueryToken) (b : Items) (d : Parts) (k : Frames) (ts : List QueryToken) → heading h ≡ Some Over
+    → AllFit l b → Good l b k → due written k ≤ level_of (root d) → Under b k (role (head_of d).kind)
+    → h ++ (items_text b ++ (stack_text k ++ texts d)) ≡ ts → (e : Ended l (depth written k) (around written k) d)
+    → Has l h b (level_of (root e.parts)) (made e.parts) k (ts ++ e.rest)
 rule_ends l h b d k ts heads_ all good low under spelled e = record {
   heads_ = heads_;
   all = all;
@@ -134,10 +151,12 @@ rule_ends l h b d k ts heads_ all good low under spelled e = record {
   fits = (e.goes_, e.is_whole);
   low = subst (λ s. due written k ≤ level_of s) (sym e.same_root) low;
   under = subst (λ x. Under b k (role x.kind)) (sym e.same_head) under;
-  spelled = ap (λ t. h ++ (items_text b ++ (stack_text k ++ t))) e.longer ∙ two_more h (items_text b) (stack_text k) (texts d) ts e.rest spelled;
+  spelled = ap (λ t. h ++ (items_text b ++ (stack_text k ++ t))) e.longer
+      ∙ two_more h (items_text b) (stack_text k) (texts d) ts e.rest spelled;
 }
 
-pub finish : (l : ℕ) (h : List QueryToken) (b : Items) (v : ℕ) (p : Phrase) (k : Frames) (ts : List QueryToken) → Has l h b v p k ts → Begins l ts
+pub finish : (l : ℕ) (h : List QueryToken) (b : Items) (v : ℕ) (p : Phrase) (k : Frames) (ts : List QueryToken) → Has l h b v p k ts
+    → Begins l ts
 finish l h b v p [] ts has = record {
   rest = token tokens.End ∷ [];
   query = record {
@@ -167,8 +186,10 @@ finish l h b v p (Joining e f y j ∷ k) ts has =
     })
 finish l h b v p (Making d ∷ k) ts has =
     let g = has.good.0 in
-    let goes_ : Goes l (depth written k) (around written k) (put d p (next (end d))) = (refl, has.under.0, has.under.1, has.under.2, has.low, g.goes_, has.fits) in
-    let spelled : h ++ (items_text b ++ (stack_text k ++ (texts d ++ text p))) ≡ ts = regroup h (items_text b) (stack_text k) (texts d) (text p) ts has.spelled in
+    let goes_ : Goes l (depth written k) (around written k) (put d p (next (end d))) =
+    (refl, has.under.0, has.under.1, has.under.2, has.low, g.goes_, has.fits) in
+    let spelled : h ++ (items_text b ++ (stack_text k ++ (texts d ++ text p))) ≡ ts =
+    regroup h (items_text b) (stack_text k) (texts d) (text p) ts has.spelled in
     let e = end_parts l (depth written k) (around written k) (put d p (next (end d))) goes_ in
     begins_less l ts e.rest
     (finish l h b (level_of (root e.parts)) (made e.parts) k (ts ++ e.rest)
@@ -178,7 +199,8 @@ check_opens : opens Within check ≡ Some Leaf
 unfolding opens
 check_opens = refl
 
-head_append : (ts more_ : List QueryToken) (o : Option Heading) → fold head_step o (ts ++ more_) ≡ fold head_step (fold head_step o ts) more_
+head_append : (ts more_ : List QueryToken) (o : Option Heading)
+    → fold head_step o (ts ++ more_) ≡ fold head_step (fold head_step o ts) more_
 head_append [] more_ o = refl
 head_append (t ∷ ts) more_ o = head_append ts more_ (head_step o t)
 
@@ -233,7 +255,9 @@ few_open l b (Making d ∷ k) good = few l (depth written k) (around written k) 
 few_open l b (Joining v p x j ∷ k) good = few_open l b k good.1
 
 -- `check` where a filter is due
-check_has : (l : ℕ) (h : List QueryToken) (b : Items) (k : Frames) (ts : List QueryToken) → heading h ≡ Some Over → AllFit l b → Good l b k → around written k ≡ Within → due written k ≤ 10 → Under b k (role (tokens.Word 5)) → h ++ (items_text b ++ stack_text k) ≡ ts → Has l h b (level check_phrase) check_phrase k (ts ++ (check_token ∷ []))
+check_has : (l : ℕ) (h : List QueryToken) (b : Items) (k : Frames) (ts : List QueryToken) → heading h ≡ Some Over → AllFit l b
+    → Good l b k → around written k ≡ Within → due written k ≤ 10 → Under b k (role (tokens.Word 5))
+    → h ++ (items_text b ++ stack_text k) ≡ ts → Has l h b (level check_phrase) check_phrase k (ts ++ (check_token ∷ []))
 check_has l h b k ts heads_ all good within low under spelled = record {
   heads_ = heads_;
   all = all;
@@ -249,14 +273,16 @@ pub alive : (l : ℕ) (ts : List QueryToken) (s : St) → Stands l ts s → Live
 alive l ts (Opening h place) good live =
     let over : heading (h ++ head_rest place) ≡ Some Over =
     head_append h (head_rest place) (Some Start) ∙ ap (λ o. fold head_step o (head_rest place)) good.1 ∙ head_rest_over place in
-    let has = check_has l (h ++ head_rest place) none [] (ts ++ head_rest place) over tt tt refl (omega arith) tt (append-nil (h ++ head_rest place) ∙ ap (λ t. t ++ head_rest place) good.0) in
+    let has = check_has l (h ++ head_rest place) none [] (ts ++ head_rest place) over tt tt refl (omega arith) tt
+    (append-nil (h ++ head_rest place) ∙ ap (λ t. t ++ head_rest place) good.0) in
     begins_less l ts (head_rest place) (begins_less l (ts ++ head_rest place) (check_token ∷ [])
     (finish l (h ++ head_rest place) none (level check_phrase) check_phrase [] ((ts ++ head_rest place) ++ (check_token ∷ [])) has))
 alive l ts (Reading h b []) good live =
     begins_less l ts (check_token ∷ []) (finish l h b (level check_phrase) check_phrase [] (ts ++ (check_token ∷ []))
     (check_has l h b [] ts good.heads_ good.fits good.good refl (omega arith) (good.fresh (role (tokens.Word 5))) good.spelled))
 alive l ts (Reading h b (Joining v p x j ∷ k)) good live =
-    begins_less l ts (check_token ∷ []) (finish l h b (level check_phrase) check_phrase (Joining v p x j ∷ k) (ts ++ (check_token ∷ []))
+    begins_less l ts (check_token ∷ [])
+    (finish l h b (level check_phrase) check_phrase (Joining v p x j ∷ k) (ts ++ (check_token ∷ []))
     (check_has l h b (Joining v p x j ∷ k) ts good.heads_ good.fits good.good refl (joint_few j) tt good.spelled))
 alive l ts (Reading h b (Making d ∷ k)) good live =
     let g = good.good.0 in

@@ -107,35 +107,44 @@ start_halts l h b k x = subst (λ o. Halts (begin_at written l h b k x o)) (sym 
 passes : (n : ℕ) (s u : St) → Halts u → Halts (choose (joins n End) s u)
 passes n s u halts = subst (λ t. Halts (choose t s u)) (sym (quiet_joins n q_end)) halts
 
-ends : (l : ℕ) (h : List QueryToken) (b : Items) (d : Parts) (k : Frames) (x : QueryToken) (w : Bool) (s : St) → Halts s → Halts (onward_by written l h b d k x End None w s)
+ends : (l : ℕ) (h : List QueryToken) (b : Items) (d : Parts) (k : Frames) (x : QueryToken) (w : Bool) (s : St) → Halts s
+    → Halts (onward_by written l h b d k x End None w s)
 ends l h b d k x true s halts = halts
 ends l h b d k x false s halts = start_halts l h b (Making d ∷ k) x
 
-onward_halts : (l : ℕ) (h : List QueryToken) (b : Items) (d : Parts) (k : Frames) (x : QueryToken) (s : St) → Halts s → Halts (onward written l h b d k x End s)
+onward_halts : (l : ℕ) (h : List QueryToken) (b : Items) (d : Parts) (k : Frames) (x : QueryToken) (s : St) → Halts s
+    → Halts (onward written l h b d k x End s)
 onward_halts l h b d k x s halts =
-    subst (λ o. Halts (onward_by written l h b d k x End o (whole (end d)) s)) (sym (goes_end (end d))) (ends l h b d k x (whole (end d)) s halts)
+    subst (λ o. Halts (onward_by written l h b d k x End o (whole (end d)) s)) (sym (goes_end (end d)))
+    (ends l h b d k x (whole (end d)) s halts)
 
-after_halts : (l : ℕ) (h : List QueryToken) (b : Items) (v : ℕ) (p : Phrase) (k : Frames) (x : QueryToken) → Halts (after written l h b v p k x End)
+after_halts : (l : ℕ) (h : List QueryToken) (b : Items) (v : ℕ) (p : Phrase) (k : Frames) (x : QueryToken)
+    → Halts (after written l h b v p k x End)
 unfolding after
 after_halts l h b v p [] x = passes 0 (join written h b v p [] x (joint End)) (after_item written l h (more b p) x End) tt
 after_halts l h b v p (Joining e f y j ∷ k) x =
-    passes (joint_level j + 1) (join written h b v p (Joining e f y j ∷ k) x (joint End)) (after written l h b (joint_level j) (joined f y j p) k x End)
+    passes (joint_level j + 1) (join written h b v p (Joining e f y j ∷ k) x (joint End))
+    (after written l h b (joint_level j) (joined f y j p) k x End)
     (after_halts l h b (joint_level j) (joined f y j p) k x)
 after_halts l h b v p (Making d ∷ k) x =
     let d' = put d p (next (end d)) in
-    passes (least (end d)) (join written h b v p (Making d ∷ k) x (joint End)) (onward written l h b d' k x End (after written l h b (level_of (root d)) (made d') k x End))
-    (onward_halts l h b d' k x (after written l h b (level_of (root d)) (made d') k x End) (after_halts l h b (level_of (root d)) (made d') k x))
+    passes (least (end d)) (join written h b v p (Making d ∷ k) x (joint End))
+    (onward written l h b d' k x End (after written l h b (level_of (root d)) (made d') k x End))
+    (onward_halts l h b d' k x (after written l h b (level_of (root d)) (made d') k x End)
+    (after_halts l h b (level_of (root d)) (made d') k x))
 
 end_halts : (l : ℕ) (s : St) (x : QueryToken) → role x.kind ≡ End → Halts (feed written l s x)
 unfolding feed
 end_halts l (Opening h place) x is =
-    subst (λ r. Halts (head_to written (h ++ (x ∷ [])) (heads place r))) (sym is) (subst (λ o. Halts (head_to written (h ++ (x ∷ [])) o)) (sym (heads_end place)) tt)
+    subst (λ r. Halts (head_to written (h ++ (x ∷ [])) (heads place r))) (sym is)
+    (subst (λ o. Halts (head_to written (h ++ (x ∷ [])) o)) (sym (heads_end place)) tt)
 end_halts l (Reading h b []) x is = subst (λ r. Halts (start written l h b [] x r)) (sym is) (start_halts l h b [] x)
 end_halts l (Reading h b (Joining v p y j ∷ k)) x is =
     subst (λ r. Halts (start written l h b (Joining v p y j ∷ k) x r)) (sym is) (start_halts l h b (Joining v p y j ∷ k) x)
 end_halts l (Reading h b (Making d ∷ k)) x is =
     subst (λ r. Halts (onward written l h b d k x r (after written l h b (level_of (root d)) (made d) k x r))) (sym is)
-    (onward_halts l h b d k x (after written l h b (level_of (root d)) (made d) k x End) (after_halts l h b (level_of (root d)) (made d) k x))
+    (onward_halts l h b d k x (after written l h b (level_of (root d)) (made d) k x End)
+    (after_halts l h b (level_of (root d)) (made d) k x))
 end_halts l (Done h b) x is = tt
 end_halts l Deep x is = tt
 end_halts l Stuck x is = tt
@@ -157,5 +166,6 @@ is_done Deep live halts = absurd live
 is_done Stuck live halts = absurd live
 
 -- where reading comes to the end, it is done
-pub end_is_done : (l : ℕ) (ts : List QueryToken) → IsEnded ts → Lives (go l (begun written) ts) → (h : List QueryToken) × (b : Items) × (go l (begun written) ts ≡ Done h b)
+pub end_is_done : (l : ℕ) (ts : List QueryToken) → IsEnded ts → Lives (go l (begun written) ts)
+    → (h : List QueryToken) × (b : Items) × (go l (begun written) ts ≡ Done h b)
 end_is_done l ts ended live = is_done (go l (begun written) ts) live (halts_from l ts (begun written) ended)

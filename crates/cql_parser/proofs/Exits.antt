@@ -144,7 +144,8 @@ check = Word (meanings.Plain plains.Check)
 abbrev pub IsExit : Place → Exit → Type 0
 IsExit s ended = whole s ≡ true
 IsExit s (by_token t p) = (goes s (role t) ≡ Some p) × (rank p < rank s)
-IsExit s by_check = (opens (context s) check ≡ Some Leaf) × (least s ≤ 10) × (whole s ≡ false) × (goes s check ≡ None) × (rank (next s) < rank s)
+IsExit s by_check = (opens (context s) check ≡ Some Leaf) × (least s ≤ 10) × (whole s ≡ false) × (goes s check ≡ None)
+    × (rank (next s) < rank s)
 
 pub is_exit : (s : Place) → IsExit s (exit s)
 unfolding goes opens context least next whole role word_of sign_of

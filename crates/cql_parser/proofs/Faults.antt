@@ -19,7 +19,9 @@ faulty_spells_none ts f q fault spells = fault.dead (record {
 })
 
 -- There is one place at most at which a list stops to have what each of its fronts has with it.
-one_place : (Has : List QueryToken → Type 0) → ((ts rest : List QueryToken) → Has (ts ++ rest) → Has ts) → (b c r s : List QueryToken) (x y : QueryToken) → b ++ (x ∷ r) ≡ c ++ (y ∷ s) → Has b → (Has (b ++ (x ∷ [])) → ⊥) → Has c → (Has (c ++ (y ∷ [])) → ⊥) → (b ≡ c) × (x ≡ y)
+one_place : (Has : List QueryToken → Type 0) → ((ts rest : List QueryToken) → Has (ts ++ rest) → Has ts)
+    → (b c r s : List QueryToken) (x y : QueryToken) → b ++ (x ∷ r) ≡ c ++ (y ∷ s) → Has b → (Has (b ++ (x ∷ [])) → ⊥)
+    → Has c → (Has (c ++ (y ∷ [])) → ⊥) → (b ≡ c) × (x ≡ y)
 one_place Has less [] [] r s x y is b not_b c not_c = (refl, cc)
 one_place Has less [] (z ∷ zs) r s x y is b not_b c not_c =
     absurd (not_b (subst (λ t. Has (t ∷ [])) (let e : z ≡ x = cc in e) (less (z ∷ []) zs c)))
@@ -53,7 +55,8 @@ one_reason ts (Mark m) p q a b = one_kind ts p q a b
 
 pub at_most_one_fault : (ts : List QueryToken) (f g : QueryFault) → IsFault ts f → IsFault ts g → f ≡ g
 at_most_one_fault ts f g a b =
-    let place = one_place (Begins 64) (begins_less 64) a.before b.before a.rest b.rest a.token b.token (a.spelled ∙ sym b.spelled) a.begins a.dead b.begins b.dead in
+    let place = one_place (Begins 64) (begins_less 64) a.before b.before a.rest b.rest a.token b.token (a.spelled
+    ∙ sym b.spelled) a.begins a.dead b.begins b.dead in
     let byte_is : f.byte ≡ g.byte = a.byte ∙ ap (λ x. x.at) place.1 ∙ sym b.byte in
     let reason : IsReason (a.before ++ (a.token ∷ [])) a.token.kind g.reason =
     subst (λ ts. IsReason ts a.token.kind g.reason) (sym (ap₂ (λ t x. t ++ (x ∷ [])) place.0 place.1))

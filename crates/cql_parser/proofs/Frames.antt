@@ -24,15 +24,19 @@ depth_more (CodeMaking rule) k = refl
 depth_more (CodeJoining level node joint) k = omega arith
 
 -- the innermost comes last
-last_shown : (fs : List CodeFrame) (f : CodeFrame) → slice_get fs (length fs - 1) ≡ Some f → stack_shown fs ≡ frame_shown f ∷ stack_shown (take (length fs - 1) fs)
+last_shown : (fs : List CodeFrame) (f : CodeFrame) → slice_get fs (length fs - 1) ≡ Some f
+    → stack_shown fs ≡ frame_shown f ∷ stack_shown (take (length fs - 1) fs)
 last_shown fs f h =
     let within : length fs - 1 < length fs = slice_get_within fs (length fs - 1) f h in
-    let all : fs ≡ take (length fs - 1) fs ++ f ∷ [] = sym (take_all (length fs - 1 + 1) fs (omega arith)) ∙ take_more fs (length fs - 1) f within ∙ ap (λ g. take (length fs - 1) fs ++ g ∷ []) (get_or_from_slice_get fs (length fs - 1) f f h) in
+    let all : fs ≡ take (length fs - 1) fs ++ f ∷ [] = sym (take_all (length fs - 1 + 1) fs (omega arith))
+    ∙ take_more fs (length fs - 1) f within
+    ∙ ap (λ g. take (length fs - 1) fs ++ g ∷ []) (get_or_from_slice_get fs (length fs - 1) f f h) in
     ap stack_shown all ∙ shown_more (take (length fs - 1) fs) f
 
 no_last : (fs : List CodeFrame) → slice_get fs (length fs - 1) ≡ None → stack_shown fs ≡ []
 no_last [] h = shown_none
-no_last (f ∷ fs) h = let some : slice_get (f ∷ fs) (length (f ∷ fs) - 1) ≡ Some (get_or (f ∷ fs) (length (f ∷ fs) - 1) f) = slice_get-get_or (f ∷ fs) (length (f ∷ fs) - 1) f (omega arith) in absurd cc
+no_last (f ∷ fs) h = let some : slice_get (f ∷ fs) (length (f ∷ fs) - 1) ≡ Some (get_or (f ∷ fs) (length (f ∷ fs) - 1) f) =
+    slice_get-get_or (f ∷ fs) (length (f ∷ fs) - 1) f (omega arith) in absurd cc
 
 due_top : (f : CodeFrame) (k : List (Frame Rule Node)) → due planted (frame_shown f ∷ k) ≡ due planted (frame_shown f ∷ [])
 due_top (CodeMaking rule) k = refl
@@ -42,13 +46,15 @@ around_top : (f : CodeFrame) (k : List (Frame Rule Node)) → around planted (fr
 around_top (CodeMaking rule) k = refl
 around_top (CodeJoining level node joint) k = refl
 
-pub due_last : (fs : List CodeFrame) (f : CodeFrame) → slice_get fs (length fs - 1) ≡ Some f → due planted (stack_shown fs) ≡ due planted (frame_shown f ∷ [])
+pub due_last : (fs : List CodeFrame) (f : CodeFrame) → slice_get fs (length fs - 1) ≡ Some f
+    → due planted (stack_shown fs) ≡ due planted (frame_shown f ∷ [])
 due_last fs f h = ap (due planted) (last_shown fs f h) ∙ due_top f (stack_shown (take (length fs - 1) fs))
 
 pub due_none : (fs : List CodeFrame) → slice_get fs (length fs - 1) ≡ None → due planted (stack_shown fs) ≡ 0
 due_none fs h = ap (due planted) (no_last fs h)
 
-pub around_last : (fs : List CodeFrame) (f : CodeFrame) → slice_get fs (length fs - 1) ≡ Some f → around planted (stack_shown fs) ≡ around planted (frame_shown f ∷ [])
+pub around_last : (fs : List CodeFrame) (f : CodeFrame) → slice_get fs (length fs - 1) ≡ Some f
+    → around planted (stack_shown fs) ≡ around planted (frame_shown f ∷ [])
 around_last fs f h = ap (around planted) (last_shown fs f h) ∙ around_top f (stack_shown (take (length fs - 1) fs))
 
 pub around_none : (fs : List CodeFrame) → slice_get fs (length fs - 1) ≡ None → around planted (stack_shown fs) ≡ Within

@@ -25,8 +25,16 @@ mutual
   more_goes : (l m n : ℕ) (c : Context) (ps : Parts) → Goes l n c ps → Goes (l + m) n c ps
   more_goes l m n c (first x s) goes_ = (goes_.0, (let h : n + depth_of s ≤ l = goes_.1 in omega arith))
   more_goes l m n c (add ps x s) goes_ = (goes_.0, goes_.1, more_goes l m n c ps goes_.2)
-  more_goes l m n c (put ps p s) goes_ =
-      (goes_.0, goes_.1, goes_.2, goes_.3, goes_.4, more_goes l m n c ps goes_.5, more_fits l m (n + depth_of (root ps)) (context (end ps)) p goes_.6)
+  more_goes l m n c (put ps p s) goes_ = (
+    goes_.0,
+    goes_.1,
+    goes_.2,
+    goes_.3,
+    goes_.4,
+    more_goes l m n c ps goes_.5,
+    more_fits l m (n + depth_of (root ps)) (context (end ps))
+        p goes_.6,
+  )
 
 more_all : (l m : ℕ) (ps : Items) → AllFit l ps → AllFit (l + m) ps
 more_all l m none fits = tt
@@ -56,7 +64,8 @@ pub record Raises (f : ℕ → St) (l : ℕ) : Type 0 where
 raises_same : (f : ℕ → St) (l : ℕ) → ((m : ℕ) → f (l + m) ≡ f l) → ((f l ≡ Deep) → ⊥) → Raises f l
 raises_same f l is not_deep = record { same = λ m h. is m; deep = λ e. absurd (not_deep e) }
 
-opens_by : (h : List QueryToken) (b : Items) (k : Frames) (n l : ℕ) (w : Bool) → nat_le n l ≡ w → Raises (λ limit. open_if true (nat_le n limit) (Reading h b k)) l
+opens_by : (h : List QueryToken) (b : Items) (k : Frames) (n l : ℕ) (w : Bool) → nat_le n l ≡ w
+    → Raises (λ limit. open_if true (nat_le n limit) (Reading h b k)) l
 opens_by h b k n l true is = record {
   same = λ m e. ap (λ w. open_if true w (Reading h b k)) (le_true n (l + m) (let g : n ≤ l = (grind arith) in omega arith) ∙ sym is);
   deep = λ e. absurd (let g : open_if true true (Reading h b k) ≡ Deep = sym (ap (λ w. open_if true w (Reading h b k)) is) ∙ e in cc);
@@ -66,25 +75,31 @@ opens_by h b k n l false is = record {
   deep = λ e. (n, subst (λ w. Lives (open_if true w (Reading h b k))) (sym (le_true n (l + n) (omega arith))) tt);
 }
 
-opens_raise : (h : List QueryToken) (b : Items) (k : Frames) (n : ℕ) (t : Bool) (l : ℕ) → Raises (λ limit. open_if t (nat_le n limit) (Reading h b k)) l
+opens_raise : (h : List QueryToken) (b : Items) (k : Frames) (n : ℕ) (t : Bool) (l : ℕ)
+    → Raises (λ limit. open_if t (nat_le n limit) (Reading h b k)) l
 opens_raise h b k n false l = raises_same (λ limit. Stuck) l (λ m. refl) (λ e. cc)
 opens_raise h b k n true l = opens_by h b k n l (nat_le n l) refl
 
-begin_raise : (h : List QueryToken) (b : Items) (k : Frames) (x : QueryToken) (o : Option Place) (l : ℕ) → Raises (λ limit. begin_at written limit h b k x o) l
+begin_raise : (h : List QueryToken) (b : Items) (k : Frames) (x : QueryToken) (o : Option Place) (l : ℕ)
+    → Raises (λ limit. begin_at written limit h b k x o) l
 begin_raise h b k x None l = raises_same (λ limit. Stuck) l (λ m. refl) (λ e. cc)
-begin_raise h b k x (Some s) l = opens_raise h b (Making (first x s) ∷ k) (depth written k + depth_of s) (nat_le (due written k) (level_of s)) l
+begin_raise h b k x (Some s) l =
+    opens_raise h b (Making (first x s) ∷ k) (depth written k + depth_of s) (nat_le (due written k) (level_of s)) l
 
-start_raise : (h : List QueryToken) (b : Items) (k : Frames) (x : QueryToken) (r : Role) (l : ℕ) → Raises (λ limit. start written limit h b k x r) l
+start_raise : (h : List QueryToken) (b : Items) (k : Frames) (x : QueryToken) (r : Role) (l : ℕ)
+    → Raises (λ limit. start written limit h b k x r) l
 start_raise h b k x r l = begin_raise h b k x (opens (around written k) r) l
 
-join_by : (h : List QueryToken) (b : Items) (v : ℕ) (p : Phrase) (k : Frames) (x : QueryToken) (j : Joint) (t : Bool) (l : ℕ) → Raises (λ limit. choose t (Reading h b (Joining v p x j ∷ k)) Stuck) l
+join_by : (h : List QueryToken) (b : Items) (v : ℕ) (p : Phrase) (k : Frames) (x : QueryToken) (j : Joint) (t : Bool) (l : ℕ)
+    → Raises (λ limit. choose t (Reading h b (Joining v p x j ∷ k)) Stuck) l
 join_by h b v p k x j true l = raises_same (λ limit. Reading h b (Joining v p x j ∷ k)) l (λ m. refl) (λ e. cc)
 join_by h b v p k x j false l = raises_same (λ limit. Stuck) l (λ m. refl) (λ e. cc)
 
 add_comm : (a b : ℕ) → a + b ≡ b + a
 add_comm a b = omega arith
 
-join_raise : (h : List QueryToken) (b : Items) (v : ℕ) (p : Phrase) (k : Frames) (x : QueryToken) (o : Option Joint) (l : ℕ) → Raises (λ limit. join written h b v p k x o) l
+join_raise : (h : List QueryToken) (b : Items) (v : ℕ) (p : Phrase) (k : Frames) (x : QueryToken) (o : Option Joint) (l : ℕ)
+    → Raises (λ limit. join written h b v p k x o) l
 join_raise h b v p k x None l = raises_same (λ limit. Stuck) l (λ m. refl) (λ e. cc)
 join_raise h b v p k x (Some j) l = join_by h b v p k x j (takes j v) l
 
@@ -92,7 +107,8 @@ choose_raise : (t : Bool) (f g : ℕ → St) (l : ℕ) → Raises f l → Raises
 choose_raise true f g l one other = one
 choose_raise false f g l one other = other
 
-item_raise : (h : List QueryToken) (b : Items) (x : QueryToken) (r : Role) (l : ℕ) → Raises (λ limit. after_item written limit h b x r) l
+item_raise : (h : List QueryToken) (b : Items) (x : QueryToken) (r : Role) (l : ℕ)
+    → Raises (λ limit. after_item written limit h b x r) l
 item_raise h b x End l = raises_same (λ limit. Done h b) l (λ m. refl) (λ e. cc)
 item_raise h b x (Word w) l = start_raise h b [] x (Word w) l
 item_raise h b x (Sign s) l = start_raise h b [] x (Sign s) l
@@ -104,24 +120,29 @@ item_raise h b x Outcome l = start_raise h b [] x Outcome l
 item_raise h b x Designator l = start_raise h b [] x Designator l
 item_raise h b x Other l = start_raise h b [] x Other l
 
-onward_raise : (h : List QueryToken) (b : Items) (d : Parts) (k : Frames) (x : QueryToken) (r : Role) (o : Option Place) (w : Bool) (f : ℕ → St) (l : ℕ) → Raises f l → Raises (λ limit. onward_by written limit h b d k x r o w (f limit)) l
+onward_raise : (h : List QueryToken) (b : Items) (d : Parts) (k : Frames) (x : QueryToken) (r : Role) (o : Option Place) (w : Bool) (f : ℕ
+    → St) (l : ℕ) → Raises f l → Raises (λ limit. onward_by written limit h b d k x r o w (f limit)) l
 onward_raise h b d k x r (Some s) w f l then_ = raises_same (λ limit. Reading h b (Making (add d x s) ∷ k)) l (λ m. refl) (λ e. cc)
 onward_raise h b d k x r None true f l then_ = then_
 onward_raise h b d k x r None false f l then_ = start_raise h b (Making d ∷ k) x r l
 
-after_raise : (h : List QueryToken) (b : Items) (v : ℕ) (p : Phrase) (k : Frames) (x : QueryToken) (r : Role) (l : ℕ) → Raises (λ limit. after written limit h b v p k x r) l
+after_raise : (h : List QueryToken) (b : Items) (v : ℕ) (p : Phrase) (k : Frames) (x : QueryToken) (r : Role) (l : ℕ)
+    → Raises (λ limit. after written limit h b v p k x r) l
 unfolding after
 after_raise h b v p [] x r l =
     choose_raise (joins 0 r) (λ limit. join written h b v p [] x (joint r)) (λ limit. after_item written limit h (more b p) x r) l
     (join_raise h b v p [] x (joint r) l) (item_raise h (more b p) x r l)
 after_raise h b v p (Joining e f y j ∷ k) x r l =
-    choose_raise (joins (joint_level j + 1) r) (λ limit. join written h b v p (Joining e f y j ∷ k) x (joint r)) (λ limit. after written limit h b (joint_level j) (joined f y j p) k x r) l
+    choose_raise (joins (joint_level j + 1) r) (λ limit. join written h b v p (Joining e f y j ∷ k) x (joint r))
+    (λ limit. after written limit h b (joint_level j) (joined f y j p) k x r) l
     (join_raise h b v p (Joining e f y j ∷ k) x (joint r) l) (after_raise h b (joint_level j) (joined f y j p) k x r l)
 after_raise h b v p (Making d ∷ k) x r l =
     choose_raise (joins (least (end d)) r) (λ limit. join written h b v p (Making d ∷ k) x (joint r))
-    (λ limit. onward written limit h b (put d p (next (end d))) k x r (after written limit h b (level_of (root d)) (made (put d p (next (end d)))) k x r)) l
+    (λ limit. onward written limit h b (put d p (next (end d))) k x r
+    (after written limit h b (level_of (root d)) (made (put d p (next (end d)))) k x r)) l
     (join_raise h b v p (Making d ∷ k) x (joint r) l)
-    (onward_raise h b (put d p (next (end d))) k x r (goes (next (end d)) r) (whole (next (end d))) (λ limit. after written limit h b (level_of (root d)) (made (put d p (next (end d)))) k x r) l
+    (onward_raise h b (put d p (next (end d))) k x r (goes (next (end d)) r) (whole (next (end d)))
+    (λ limit. after written limit h b (level_of (root d)) (made (put d p (next (end d)))) k x r) l
     (after_raise h b (level_of (root d)) (made (put d p (next (end d)))) k x r l))
 
 head_raise : (h : List QueryToken) (o : Option Heading) (l : ℕ) → Raises (λ limit. head_to written h o) l
@@ -139,7 +160,8 @@ feed_raise (Opening h place) x l live = head_raise (h ++ (x ∷ [])) (heads plac
 feed_raise (Reading h b []) x l live = start_raise h b [] x (role x.kind) l
 feed_raise (Reading h b (Joining v p y j ∷ k)) x l live = start_raise h b (Joining v p y j ∷ k) x (role x.kind) l
 feed_raise (Reading h b (Making d ∷ k)) x l live =
-    onward_raise h b d k x (role x.kind) (goes (end d) (role x.kind)) (whole (end d)) (λ limit. after written limit h b (level_of (root d)) (made d) k x (role x.kind)) l
+    onward_raise h b d k x (role x.kind) (goes (end d) (role x.kind)) (whole (end d))
+    (λ limit. after written limit h b (level_of (root d)) (made d) k x (role x.kind)) l
     (after_raise h b (level_of (root d)) (made d) k x (role x.kind) l)
 feed_raise (Done h b) x l live = raises_same (λ limit. Stuck) l (λ m. refl) (λ e. cc)
 feed_raise Deep x l live = absurd live
@@ -169,18 +191,22 @@ go_raise l m (x ∷ ts) s live =
     ∙ go_raise l m ts (feed written l s x) live
 
 -- at the first token that is too deep some query goes on within another limit
-pub deep_begins : (l : ℕ) (ts : List QueryToken) (x : QueryToken) → Lives (go l (begun written) ts) → feed written l (go l (begun written) ts) x ≡ Deep → (limit : ℕ) × Begins limit (ts ++ (x ∷ []))
+pub deep_begins : (l : ℕ) (ts : List QueryToken) (x : QueryToken) → Lives (go l (begun written) ts)
+    → feed written l (go l (begun written) ts) x ≡ Deep → (limit : ℕ) × Begins limit (ts ++ (x ∷ []))
 deep_begins l ts x live is =
     let found = (feed_raise (go l (begun written) ts) x l live).deep is in (
       l + found.0,
       living_begins (l + found.0) (ts ++ (x ∷ []))
-          (subst Lives (ap (λ u. feed written (l + found.0) u x) (sym (go_raise l found.0 ts (begun written) live)) ∙ sym (go_append (l + found.0) (begun written) ts (x ∷ []))) found.1),
+          (subst Lives (ap (λ u. feed written (l + found.0) u x) (sym (go_raise l found.0 ts (begun written) live))
+          ∙ sym (go_append (l + found.0) (begun written) ts (x ∷ []))) found.1),
     )
 
 -- at the first token at which reading is stuck no query goes on within any limit
-pub stuck_never_begins : (l : ℕ) (ts : List QueryToken) (x : QueryToken) → Lives (go l (begun written) ts) → feed written l (go l (begun written) ts) x ≡ Stuck → (limit : ℕ) → Begins limit (ts ++ (x ∷ [])) → ⊥
+pub stuck_never_begins : (l : ℕ) (ts : List QueryToken) (x : QueryToken) → Lives (go l (begun written) ts)
+    → feed written l (go l (begun written) ts) x ≡ Stuck → (limit : ℕ) → Begins limit (ts ++ (x ∷ [])) → ⊥
 stuck_never_begins l ts x live is limit b =
     let same = (feed_raise (go l (begun written) ts) x l live).same limit (λ e. let g : Stuck ≡ Deep = sym is ∙ e in cc) in
     stuck_is_dead (l + limit) (ts ++ (x ∷ []))
-    (go_append (l + limit) (begun written) ts (x ∷ []) ∙ ap (λ u. feed written (l + limit) u x) (go_raise l limit ts (begun written) live) ∙ same ∙ is)
+    (go_append (l + limit) (begun written) ts (x ∷ [])
+    ∙ ap (λ u. feed written (l + limit) u x) (go_raise l limit ts (begun written) live) ∙ same ∙ is)
     (subst (λ n. Begins n (ts ++ (x ∷ []))) (add_comm limit l) (more_begins limit l (ts ++ (x ∷ [])) b))

@@ -64,21 +64,27 @@ plant_open true true s = refl
 plant_open true false s = refl
 plant_open false w s = refl
 
-plant_begin : (l : ℕ) (h : List QueryToken) (b : Items) (k : Frames) (x : QueryToken) (o : Option Place) → begin_at planted l (opening h) (trees b) (plants k) x o ≡ plant (begin_at written l h b k x o)
+plant_begin : (l : ℕ) (h : List QueryToken) (b : Items) (k : Frames) (x : QueryToken) (o : Option Place)
+    → begin_at planted l (opening h) (trees b) (plants k) x o ≡ plant (begin_at written l h b k x o)
 plant_begin l h b k x None = refl
 plant_begin l h b k x (Some s) =
-    ap₂ (λ d n. open_if (nat_le d (level_of s)) (nat_le (n + depth_of s) l) (plant (Reading h b (Making (first x s) ∷ k)))) (due_same k) (depth_same k)
+    ap₂ (λ d n. open_if (nat_le d (level_of s)) (nat_le (n + depth_of s) l) (plant (Reading h b (Making (first x s) ∷ k))))
+    (due_same k) (depth_same k)
     ∙ plant_open (nat_le (due written k) (level_of s)) (nat_le (depth written k + depth_of s) l) (Reading h b (Making (first x s) ∷ k))
 
-plant_start : (l : ℕ) (h : List QueryToken) (b : Items) (k : Frames) (x : QueryToken) (r : Role) → start planted l (opening h) (trees b) (plants k) x r ≡ plant (start written l h b k x r)
+plant_start : (l : ℕ) (h : List QueryToken) (b : Items) (k : Frames) (x : QueryToken) (r : Role)
+    → start planted l (opening h) (trees b) (plants k) x r ≡ plant (start written l h b k x r)
 plant_start l h b k x r =
-    ap (λ c. begin_at planted l (opening h) (trees b) (plants k) x (opens c r)) (around_same k) ∙ plant_begin l h b k x (opens (around written k) r)
+    ap (λ c. begin_at planted l (opening h) (trees b) (plants k) x (opens c r)) (around_same k)
+    ∙ plant_begin l h b k x (opens (around written k) r)
 
-plant_join : (h : List QueryToken) (b : Items) (v : ℕ) (p : Phrase) (k : Frames) (x : QueryToken) (o : Option Joint) → join planted (opening h) (trees b) v (node p) (plants k) x o ≡ plant (join written h b v p k x o)
+plant_join : (h : List QueryToken) (b : Items) (v : ℕ) (p : Phrase) (k : Frames) (x : QueryToken) (o : Option Joint)
+    → join planted (opening h) (trees b) v (node p) (plants k) x o ≡ plant (join written h b v p k x o)
 plant_join h b v p k x None = refl
 plant_join h b v p k x (Some j) = plant_choose (takes j v) (Reading h b (Joining v p x j ∷ k)) Stuck
 
-plant_item : (l : ℕ) (h : List QueryToken) (b : Items) (x : QueryToken) (r : Role) → after_item planted l (opening h) (trees b) x r ≡ plant (after_item written l h b x r)
+plant_item : (l : ℕ) (h : List QueryToken) (b : Items) (x : QueryToken) (r : Role)
+    → after_item planted l (opening h) (trees b) x r ≡ plant (after_item written l h b x r)
 plant_item l h b x End = refl
 plant_item l h b x (Word w) = plant_start l h b [] x (Word w)
 plant_item l h b x (Sign s) = plant_start l h b [] x (Sign s)
@@ -90,12 +96,15 @@ plant_item l h b x Outcome = plant_start l h b [] x Outcome
 plant_item l h b x Designator = plant_start l h b [] x Designator
 plant_item l h b x Other = plant_start l h b [] x Other
 
-plant_onward : (l : ℕ) (h : List QueryToken) (b : Items) (ps : Parts) (k : Frames) (x : QueryToken) (r : Role) (o : Option Place) (w : Bool) (s : Grown) (u : St) → s ≡ plant u → onward_by planted l (opening h) (trees b) (rule ps) (plants k) x r o w s ≡ plant (onward_by written l h b ps k x r o w u)
+plant_onward : (l : ℕ) (h : List QueryToken) (b : Items) (ps : Parts) (k : Frames) (x : QueryToken) (r : Role) (o : Option Place)
+    (w : Bool) (s : Grown) (u : St) → s ≡ plant u
+    → onward_by planted l (opening h) (trees b) (rule ps) (plants k) x r o w s ≡ plant (onward_by written l h b ps k x r o w u)
 plant_onward l h b ps k x r (Some s) w e u is = refl
 plant_onward l h b ps k x r None true e u is = is
 plant_onward l h b ps k x r None false e u is = plant_start l h b (Making ps ∷ k) x r
 
-plant_after : (l : ℕ) (h : List QueryToken) (b : Items) (v : ℕ) (p : Phrase) (k : Frames) (x : QueryToken) (r : Role) → Leveled k → after planted l (opening h) (trees b) v (node p) (plants k) x r ≡ plant (after written l h b v p k x r)
+plant_after : (l : ℕ) (h : List QueryToken) (b : Items) (v : ℕ) (p : Phrase) (k : Frames) (x : QueryToken) (r : Role) → Leveled k
+    → after planted l (opening h) (trees b) v (node p) (plants k) x r ≡ plant (after written l h b v p k x r)
 unfolding after
 plant_after l h b v p [] x r leveled =
     ap₂ (choose (joins 0 r)) (plant_join h b v p [] x (joint r)) (plant_item l h (more b p) x r)
@@ -104,7 +113,8 @@ plant_after l h b v p (Joining e f y j ∷ k) x r leveled =
     ap₂ (choose (joins (joint_level j + 1) r)) (plant_join h b v p (Joining e f y j ∷ k) x (joint r))
     (ap (λ n. after planted l (opening h) (trees b) (joint_level j) (joined_node n (node f) j (node p)) (plants k) x r) leveled.0
     ∙ plant_after l h b (joint_level j) (joined f y j p) k x r leveled.1)
-    ∙ plant_choose (joins (joint_level j + 1) r) (join written h b v p (Joining e f y j ∷ k) x (joint r)) (after written l h b (joint_level j) (joined f y j p) k x r)
+    ∙ plant_choose (joins (joint_level j + 1) r) (join written h b v p (Joining e f y j ∷ k) x (joint r))
+    (after written l h b (joint_level j) (joined f y j p) k x r)
 plant_after l h b v p (Making d ∷ k) x r leveled =
     ap₂ (choose (joins (least (end d)) r)) (plant_join h b v p (Making d ∷ k) x (joint r))
     (plant_onward l h b (put d p (next (end d))) k x r (goes (next (end d)) r) (whole (next (end d)))
@@ -114,7 +124,8 @@ plant_after l h b v p (Making d ∷ k) x r leveled =
     ∙ plant_choose (joins (least (end d)) r) (join written h b v p (Making d ∷ k) x (joint r))
     (onward written l h b (put d p (next (end d))) k x r (after written l h b (level_of (root d)) (made (put d p (next (end d)))) k x r))
 
-open_snoc : (ts : List QueryToken) (x : QueryToken) (o : Head) → fold (λ o x. hear o x x.kind) o (ts ++ (x ∷ [])) ≡ hear (fold (λ o x. hear o x x.kind) o ts) x x.kind
+open_snoc : (ts : List QueryToken) (x : QueryToken) (o : Head)
+    → fold (λ o x. hear o x x.kind) o (ts ++ (x ∷ [])) ≡ hear (fold (λ o x. hear o x x.kind) o ts) x x.kind
 open_snoc [] x o = refl
 open_snoc (t ∷ ts) x o = open_snoc ts x (hear o t t.kind)
 
@@ -137,7 +148,8 @@ StateLeveled Stuck = Unit {0}
 pub plant_feed : (l : ℕ) (s : St) (x : QueryToken) → StateLeveled s → feed planted l (plant s) x ≡ plant (feed written l s x)
 unfolding feed
 plant_feed l (Opening h place) x leveled =
-    ap (λ o. head_to planted o (heads place (role x.kind))) (sym (open_snoc h x no_opening)) ∙ plant_head (h ++ (x ∷ [])) (heads place (role x.kind))
+    ap (λ o. head_to planted o (heads place (role x.kind))) (sym (open_snoc h x no_opening))
+    ∙ plant_head (h ++ (x ∷ [])) (heads place (role x.kind))
 plant_feed l (Reading h b []) x leveled = plant_start l h b [] x (role x.kind)
 plant_feed l (Reading h b (Joining v p y j ∷ k)) x leveled = plant_start l h b (Joining v p y j ∷ k) x (role x.kind)
 plant_feed l (Reading h b (Making d ∷ k)) x leveled =

@@ -49,36 +49,52 @@ abbrev mutual
 mutual
   unfolding feed after
 
-  pub feed_spine : (l n : ℕ) (c : Context) (h : List QueryToken) (b : Items) (p : Phrase) (k : Frames) (x : QueryToken) → Fits l n c p → IsOver p (role x.kind) → feed written l (Reading h b (spine p k)) x ≡ after written l h b (level p) p k x (role x.kind)
+  pub feed_spine : (l n : ℕ) (c : Context) (h : List QueryToken) (b : Items) (p : Phrase) (k : Frames) (x : QueryToken) → Fits l n c p
+      → IsOver p (role x.kind) → feed written l (Reading h b (spine p k)) x ≡ after written l h b (level p) p k x (role x.kind)
   feed_spine l n c h b (made ps) k x fits over =
       feed_spine_of l n c h b ps k x fits.0 over.0
-      ∙ ap₂ (λ o w. onward_by written l h b ps k x (role x.kind) o w (after written l h b (level_of (root ps)) (made ps) k x (role x.kind))) over.1 fits.1
+      ∙ ap₂ (λ o w. onward_by written l h b ps k x (role x.kind) o w
+      (after written l h b (level_of (root ps)) (made ps) k x (role x.kind))) over.1 fits.1
   feed_spine l n c h b (joined p y j q) k x fits over =
       feed_spine l n Within h b q (Joining (level p) p y j ∷ k) x fits.5 over.0
-      ∙ ap (λ t. choose t (join written h b (level q) q (Joining (level p) p y j ∷ k) x (joint (role x.kind))) (after written l h b (joint_level j) (joined p y j q) k x (role x.kind))) over.1
+      ∙ ap (λ t. choose t (join written h b (level q) q (Joining (level p) p y j ∷ k) x (joint (role x.kind)))
+      (after written l h b (joint_level j) (joined p y j q) k x (role x.kind))) over.1
 
-  pub feed_spine_of : (l n : ℕ) (c : Context) (h : List QueryToken) (b : Items) (ps : Parts) (k : Frames) (x : QueryToken) → Goes l n c ps → AreOver ps (role x.kind) → feed written l (Reading h b (spine_of ps k)) x ≡ onward written l h b ps k x (role x.kind) (after written l h b (level_of (root ps)) (made ps) k x (role x.kind))
+  pub feed_spine_of : (l n : ℕ) (c : Context) (h : List QueryToken) (b : Items) (ps : Parts) (k : Frames) (x : QueryToken)
+      → Goes l n c ps → AreOver ps (role x.kind)
+      → feed written l (Reading h b (spine_of ps k)) x
+      ≡ onward written l h b ps k x (role x.kind) (after written l h b (level_of (root ps)) (made ps) k x (role x.kind))
   feed_spine_of l n c h b (first y s) k x goes_ over = refl
   feed_spine_of l n c h b (add ps y s) k x goes_ over = refl
   feed_spine_of l n c h b (put ps p s) k x goes_ over =
       feed_spine l (n + depth_of (root ps)) (context (end ps)) h b p (Making ps ∷ k) x goes_.6 over.0
-      ∙ ap (λ t. choose t (join written h b (level p) p (Making ps ∷ k) x (joint (role x.kind))) (onward written l h b (put ps p (next (end ps))) k x (role x.kind) (after written l h b (level_of (root ps)) (made (put ps p (next (end ps)))) k x (role x.kind)))) over.1
-      ∙ ap (λ s. onward written l h b (put ps p s) k x (role x.kind) (after written l h b (level_of (root ps)) (made (put ps p s)) k x (role x.kind))) goes_.0
+      ∙ ap (λ t. choose t (join written h b (level p) p (Making ps ∷ k) x (joint (role x.kind)))
+      (onward written l h b (put ps p (next (end ps))) k x (role x.kind)
+      (after written l h b (level_of (root ps)) (made (put ps p (next (end ps)))) k x (role x.kind)))) over.1
+      ∙ ap (λ s. onward written l h b (put ps p s) k x (role x.kind)
+      (after written l h b (level_of (root ps)) (made (put ps p s)) k x (role x.kind))) goes_.0
 
 pub joins_true : (n : ℕ) (r : Role) (j : Joint) → joint r ≡ Some j → n ≤ joint_level j → joins n r ≡ true
 joins_true n r j is low = ap (λ o. elim o [ Some j ↦ nat_le n (joint_level j) | None ↦ false ]) is ∙ le_true n (joint_level j) low
 
 -- a token that makes a row longer
-pub join_read : (l : ℕ) (h : List QueryToken) (b : Items) (v : ℕ) (p : Phrase) (k : Frames) (x : QueryToken) (j : Joint) → joint (role x.kind) ≡ Some j → takes j v ≡ true → due written k ≤ joint_level j → after written l h b v p k x (role x.kind) ≡ Reading h b (Joining v p x j ∷ k)
+pub join_read : (l : ℕ) (h : List QueryToken) (b : Items) (v : ℕ) (p : Phrase) (k : Frames) (x : QueryToken) (j : Joint)
+    → joint (role x.kind) ≡ Some j → takes j v ≡ true → due written k ≤ joint_level j
+    → after written l h b v p k x (role x.kind) ≡ Reading h b (Joining v p x j ∷ k)
 unfolding after
 join_read l h b v p [] x j is takes_ low =
-    ap₂ (λ t o. choose t (join written h b v p [] x o) (after_item written l h (more b p) x (role x.kind))) (joins_true 0 (role x.kind) j is low) is
+    ap₂ (λ t o. choose t (join written h b v p [] x o) (after_item written l h (more b p) x (role x.kind)))
+    (joins_true 0 (role x.kind) j is low) is
     ∙ ap (λ t. choose t (Reading h b (Joining v p x j ∷ [])) Stuck) takes_
 join_read l h b v p (Joining e f y i ∷ k) x j is takes_ low =
-    ap₂ (λ t o. choose t (join written h b v p (Joining e f y i ∷ k) x o) (after written l h b (joint_level i) (joined f y i p) k x (role x.kind))) (joins_true (joint_level i + 1) (role x.kind) j is low) is
+    ap₂ (λ t o. choose t (join written h b v p (Joining e f y i ∷ k) x o)
+    (after written l h b (joint_level i) (joined f y i p) k x (role x.kind))) (joins_true (joint_level i + 1) (role x.kind) j is low) is
     ∙ ap (λ t. choose t (Reading h b (Joining v p x j ∷ Joining e f y i ∷ k)) Stuck) takes_
 join_read l h b v p (Making d ∷ k) x j is takes_ low =
-    ap₂ (λ t o. choose t (join written h b v p (Making d ∷ k) x o) (onward written l h b (put d p (next (end d))) k x (role x.kind) (after written l h b (level_of (root d)) (made (put d p (next (end d)))) k x (role x.kind)))) (joins_true (least (end d)) (role x.kind) j is low) is
+    ap₂ (λ t o. choose t (join written h b v p (Making d ∷ k) x o)
+    (onward written l h b (put d p (next (end d))) k x (role x.kind)
+    (after written l h b (level_of (root d)) (made (put d p (next (end d)))) k x (role x.kind))))
+    (joins_true (least (end d)) (role x.kind) j is low) is
     ∙ ap (λ t. choose t (Reading h b (Joining v p x j ∷ Making d ∷ k)) Stuck) takes_
 
 pub takes_low : (j : Joint) (c : ℕ) → takes j c ≡ true → joint_level j ≤ c
@@ -91,7 +107,9 @@ takes_low (Paired p) c h = grind arith
 mutual
   unfolding feed
 
-  pub read_phrase : (l : ℕ) (h : List QueryToken) (b : Items) (p : Phrase) (k : Frames) (u : St) → Fits l (depth written k) (around written k) p → due written k ≤ level p → feed written l u (head p) ≡ start written l h b k (head p) (role (head p).kind) → go l u (text p) ≡ Reading h b (spine p k)
+  pub read_phrase : (l : ℕ) (h : List QueryToken) (b : Items) (p : Phrase) (k : Frames) (u : St)
+      → Fits l (depth written k) (around written k) p → due written k ≤ level p
+      → feed written l u (head p) ≡ start written l h b k (head p) (role (head p).kind) → go l u (text p) ≡ Reading h b (spine p k)
   read_phrase l h b (made ps) k u fits low starts = read_parts l h b ps k u fits.0 low starts
   read_phrase l h b (joined p x j q) k u fits low starts =
       let least_ : due written k ≤ level p = (let g : joint_level j ≤ level p = takes_low j (level p) fits.1 in omega arith) in
@@ -104,19 +122,26 @@ mutual
       ∙ ap (λ s. go l s (text q)) over
       ∙ read_phrase l h b q (Joining (level p) p x j ∷ k) (Reading h b (Joining (level p) p x j ∷ k)) fits.5 upper refl
 
-  pub read_parts : (l : ℕ) (h : List QueryToken) (b : Items) (ps : Parts) (k : Frames) (u : St) → Goes l (depth written k) (around written k) ps → due written k ≤ level_of (root ps) → feed written l u (head_of ps) ≡ start written l h b k (head_of ps) (role (head_of ps).kind) → go l u (texts ps) ≡ Reading h b (spine_of ps k)
+  pub read_parts : (l : ℕ) (h : List QueryToken) (b : Items) (ps : Parts) (k : Frames) (u : St)
+      → Goes l (depth written k) (around written k) ps → due written k ≤ level_of (root ps)
+      → feed written l u (head_of ps) ≡ start written l h b k (head_of ps) (role (head_of ps).kind)
+      → go l u (texts ps) ≡ Reading h b (spine_of ps k)
   read_parts l h b (first x s) k u goes_ low starts =
       starts ∙ ap (begin_at written l h b k x) goes_.0
-      ∙ ap₂ (λ t w. open_if t w (Reading h b (Making (first x s) ∷ k))) (le_true (due written k) (level_of s) low) (le_true (depth written k + depth_of s) l goes_.1)
+      ∙ ap₂ (λ t w. open_if t w (Reading h b (Making (first x s) ∷ k))) (le_true (due written k) (level_of s) low)
+      (le_true (depth written k + depth_of s) l goes_.1)
   read_parts l h b (add ps x s) k u goes_ low starts =
       go_append l u (texts ps) (x ∷ [])
       ∙ ap (λ s. feed written l s x) (read_parts l h b ps k u goes_.2 low starts)
       ∙ feed_spine_of l (depth written k) (around written k) h b ps k x goes_.2 goes_.1
-      ∙ ap (λ o. onward_by written l h b ps k x (role x.kind) o (whole (end ps)) (after written l h b (level_of (root ps)) (made ps) k x (role x.kind))) goes_.0
+      ∙ ap (λ o. onward_by written l h b ps k x (role x.kind) o (whole (end ps))
+      (after written l h b (level_of (root ps)) (made ps) k x (role x.kind))) goes_.0
   read_parts l h b (put ps p s) k u goes_ low starts =
-      let again : feed written l (Reading h b (spine_of ps k)) (head p) ≡ start written l h b (Making ps ∷ k) (head p) (role (head p).kind) =
+      let again : feed written l (Reading h b (spine_of ps k)) (head p)
+      ≡ start written l h b (Making ps ∷ k) (head p) (role (head p).kind) =
       feed_spine_of l (depth written k) (around written k) h b ps k (head p) goes_.5 goes_.3
-      ∙ ap₂ (λ o w. onward_by written l h b ps k (head p) (role (head p).kind) o w (after written l h b (level_of (root ps)) (made ps) k (head p) (role (head p).kind))) goes_.2 goes_.1 in
+      ∙ ap₂ (λ o w. onward_by written l h b ps k (head p) (role (head p).kind) o w
+      (after written l h b (level_of (root ps)) (made ps) k (head p) (role (head p).kind))) goes_.2 goes_.1 in
       go_append l u (texts ps) (text p)
       ∙ ap (λ s. go l s (text p)) (read_parts l h b ps k u goes_.5 low starts)
       ∙ read_phrase l h b p (Making ps ∷ k) (Reading h b (spine_of ps k)) goes_.6 goes_.4 again
@@ -131,7 +156,8 @@ unfolding opens
 nothing_opens s is = cc
 
 -- a token that begins an item is no end
-pub item_starts : (l : ℕ) (h : List QueryToken) (b : Items) (x : QueryToken) (r : Role) (s : Place) → opens Within r ≡ Some s → after_item written l h b x r ≡ start written l h b [] x r
+pub item_starts : (l : ℕ) (h : List QueryToken) (b : Items) (x : QueryToken) (r : Role) (s : Place) → opens Within r ≡ Some s
+    → after_item written l h b x r ≡ start written l h b [] x r
 item_starts l h b x (Word w) s is = refl
 item_starts l h b x (Sign w) s is = refl
 item_starts l h b x (Number n) s is = refl
@@ -149,24 +175,30 @@ mutual
   opens_head l n c (made ps) fits = opens_head_of l n c ps fits.0
   opens_head l n c (joined p x j q) fits = opens_head l n c p fits.4
 
-  pub opens_head_of : (l n : ℕ) (c : Context) (ps : Parts) → Goes l n c ps → (s : Place) × (opens c (role (head_of ps).kind) ≡ Some s)
+  pub opens_head_of : (l n : ℕ) (c : Context) (ps : Parts) → Goes l n c ps
+      → (s : Place) × (opens c (role (head_of ps).kind) ≡ Some s)
   opens_head_of l n c (first x s) goes_ = (s, goes_.0)
   opens_head_of l n c (add ps x s) goes_ = opens_head_of l n c ps goes_.2
   opens_head_of l n c (put ps p s) goes_ = opens_head_of l n c ps goes_.5
 
 -- a token after items
-after_items : (l : ℕ) (h : List QueryToken) (ps : Items) (p : Phrase) (x : QueryToken) → Fits l 0 Within p → AllOver (more ps p) (role x.kind) → feed written l (read_items h (more ps p)) x ≡ after_item written l h (more ps p) x (role x.kind)
+after_items : (l : ℕ) (h : List QueryToken) (ps : Items) (p : Phrase) (x : QueryToken) → Fits l 0 Within p
+    → AllOver (more ps p) (role x.kind)
+    → feed written l (read_items h (more ps p)) x ≡ after_item written l h (more ps p) x (role x.kind)
 unfolding after
 after_items l h ps p x fits over =
     feed_spine l 0 Within h ps p [] x fits over.0
-    ∙ ap (λ t. choose t (join written h ps (level p) p [] x (joint (role x.kind))) (after_item written l h (more ps p) x (role x.kind))) over.1
+    ∙ ap (λ t. choose t (join written h ps (level p) p [] x (joint (role x.kind))) (after_item written l h (more ps p) x (role x.kind)))
+    over.1
 
-item_due : (l : ℕ) (h : List QueryToken) (ps : Items) (x : QueryToken) (s : Place) → AllFit l ps → AllOver ps (role x.kind) → opens Within (role x.kind) ≡ Some s → feed written l (read_items h ps) x ≡ start written l h ps [] x (role x.kind)
+item_due : (l : ℕ) (h : List QueryToken) (ps : Items) (x : QueryToken) (s : Place) → AllFit l ps → AllOver ps (role x.kind)
+    → opens Within (role x.kind) ≡ Some s → feed written l (read_items h ps) x ≡ start written l h ps [] x (role x.kind)
 unfolding feed
 item_due l h none x s fits over is = refl
 item_due l h (more ps p) x s fits over is = after_items l h ps p x fits.2 over ∙ item_starts l h (more ps p) x (role x.kind) s is
 
-pub items_read : (l : ℕ) (h : List QueryToken) (ps : Items) → AllFit l ps → go l (Reading h none []) (items_text ps) ≡ read_items h ps
+pub items_read : (l : ℕ) (h : List QueryToken) (ps : Items) → AllFit l ps
+    → go l (Reading h none []) (items_text ps) ≡ read_items h ps
 items_read l h none fits = refl
 items_read l h (more ps p) fits =
     let opened = opens_head l 0 Within p fits.2 in
@@ -195,18 +227,26 @@ heads_read l h [] (Some Params) is = absurd cc
 heads_read l h [] (Some FileDue) is = absurd cc
 heads_read l h [] (Some MatchDue) is = absurd cc
 heads_read l h [] (Some Over) is = ap (λ t. Reading t none []) (sym (append-nil h))
-heads_read l h (x ∷ ts) (Some Start) is = heads_read l (h ++ (x ∷ [])) ts (heads Start (role x.kind)) is ∙ ap (λ t. Reading t none []) (append_assoc h (x ∷ []) ts)
-heads_read l h (x ∷ ts) (Some ListDue) is = heads_read l (h ++ (x ∷ [])) ts (heads ListDue (role x.kind)) is ∙ ap (λ t. Reading t none []) (append_assoc h (x ∷ []) ts)
-heads_read l h (x ∷ ts) (Some Params) is = heads_read l (h ++ (x ∷ [])) ts (heads Params (role x.kind)) is ∙ ap (λ t. Reading t none []) (append_assoc h (x ∷ []) ts)
-heads_read l h (x ∷ ts) (Some FileDue) is = heads_read l (h ++ (x ∷ [])) ts (heads FileDue (role x.kind)) is ∙ ap (λ t. Reading t none []) (append_assoc h (x ∷ []) ts)
-heads_read l h (x ∷ ts) (Some MatchDue) is = heads_read l (h ++ (x ∷ [])) ts (heads MatchDue (role x.kind)) is ∙ ap (λ t. Reading t none []) (append_assoc h (x ∷ []) ts)
+heads_read l h (x ∷ ts) (Some Start) is = heads_read l (h ++ (x ∷ [])) ts (heads Start (role x.kind)) is
+    ∙ ap (λ t. Reading t none []) (append_assoc h (x ∷ []) ts)
+heads_read l h (x ∷ ts) (Some ListDue) is = heads_read l (h ++ (x ∷ [])) ts (heads ListDue (role x.kind)) is
+    ∙ ap (λ t. Reading t none []) (append_assoc h (x ∷ []) ts)
+heads_read l h (x ∷ ts) (Some Params) is = heads_read l (h ++ (x ∷ [])) ts (heads Params (role x.kind)) is
+    ∙ ap (λ t. Reading t none []) (append_assoc h (x ∷ []) ts)
+heads_read l h (x ∷ ts) (Some FileDue) is = heads_read l (h ++ (x ∷ [])) ts (heads FileDue (role x.kind)) is
+    ∙ ap (λ t. Reading t none []) (append_assoc h (x ∷ []) ts)
+heads_read l h (x ∷ ts) (Some MatchDue) is = heads_read l (h ++ (x ∷ [])) ts (heads MatchDue (role x.kind)) is
+    ∙ ap (λ t. Reading t none []) (append_assoc h (x ∷ []) ts)
 heads_read l h (x ∷ ts) (Some Over) is = absurd (never_over ts (ap (λ o. fold head_step o ts) (sym (no_heads (role x.kind))) ∙ is))
 
-whole_read : (l : ℕ) (ts opening : List QueryToken) (ps : Items) (x : QueryToken) → heading opening ≡ Some Over → IsSome ps → AllFit l ps → AllOver ps End → role x.kind ≡ End → opening ++ (items_text ps ++ (x ∷ [])) ≡ ts → go l (begun written) ts ≡ Done opening ps
+whole_read : (l : ℕ) (ts opening : List QueryToken) (ps : Items) (x : QueryToken) → heading opening ≡ Some Over → IsSome ps
+    → AllFit l ps → AllOver ps End → role x.kind ≡ End → opening ++ (items_text ps ++ (x ∷ [])) ≡ ts
+    → go l (begun written) ts ≡ Done opening ps
 whole_read l ts opening none x heads_ some fits over is spelled = absurd some
 whole_read l ts opening (more ps p) x heads_ some fits over is spelled =
     let ends : feed written l (read_items opening (more ps p)) x ≡ Done opening (more ps p) =
-    after_items l opening ps p x fits.2 (subst (λ r. AllOver (more ps p) r) (sym is) over) ∙ ap (after_item written l opening (more ps p) x) is in
+    after_items l opening ps p x fits.2 (subst (λ r. AllOver (more ps p) r) (sym is) over)
+    ∙ ap (after_item written l opening (more ps p) x) is in
     ap (go l (begun written)) (sym spelled)
     ∙ go_append l (begun written) opening (items_text (more ps p) ++ (x ∷ []))
     ∙ ap (λ s. go l s (items_text (more ps p) ++ (x ∷ []))) (heads_read l [] opening (Some Start) heads_)

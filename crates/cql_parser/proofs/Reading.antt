@@ -51,9 +51,11 @@ feeds : (ts : List QueryToken) (x : QueryToken) → read (ts ++ (x ∷ [])) ≡ 
 feeds ts x = go_append 64 (begun written) ts (x ∷ [])
 
 -- one token more
-pub same_on : (ts : List QueryToken) (x : QueryToken) (s u : Reached) (old new : Reader) → plant (read ts) ≡ state_shown s old → state_shown u new ≡ feed planted 64 (state_shown s old) x → plant (read (ts ++ (x ∷ []))) ≡ state_shown u new
+pub same_on : (ts : List QueryToken) (x : QueryToken) (s u : Reached) (old new : Reader) → plant (read ts) ≡ state_shown s old
+    → state_shown u new ≡ feed planted 64 (state_shown s old) x → plant (read (ts ++ (x ∷ []))) ≡ state_shown u new
 same_on ts x s u old new same fed =
-    ap plant (feeds ts x) ∙ sym (plant_feed 64 (read ts) x (state_leveled 64 ts (read ts) (told 64 ts))) ∙ ap (λ v. feed planted 64 v x) same ∙ sym fed
+    ap plant (feeds ts x) ∙ sym (plant_feed 64 (read ts) x (state_leveled 64 ts (read ts) (told 64 ts)))
+    ∙ ap (λ v. feed planted 64 v x) same ∙ sym fed
 
 -- what the code has says whether reading goes on
 abbrev Living : Grown → Type 0
@@ -77,7 +79,8 @@ living_lives (Done h b) live = tt
 living_lives Deep live = live
 living_lives Stuck live = live
 
-pub kept_on : (ts : List QueryToken) (x : QueryToken) (s u : Reached) (old new : Reader) → Keeps ts s old → state_shown u new ≡ feed planted 64 (state_shown s old) x → is_fault u ≡ false → Keeps (ts ++ (x ∷ [])) u new
+pub kept_on : (ts : List QueryToken) (x : QueryToken) (s u : Reached) (old new : Reader) → Keeps ts s old
+    → state_shown u new ≡ feed planted 64 (state_shown s old) x → is_fault u ≡ false → Keeps (ts ++ (x ∷ [])) u new
 kept_on ts x s u old new keeps fed fine =
     let same : plant (read (ts ++ (x ∷ []))) ≡ state_shown u new = same_on ts x s u old new keeps.same fed in
     record { same = same; lives = living_lives (read (ts ++ (x ∷ []))) (subst Living (sym same) (living_shown u new fine)) }
@@ -100,7 +103,8 @@ plant_stuck (Done h b) is = cc
 plant_stuck Deep is = cc
 plant_stuck Stuck is = refl
 
-too_deep : (ts : List QueryToken) (kind : QueryTokenKind) → (limit : ℕ) × Begins limit ts → IsReason ts kind (reason_of kind reached.Deep)
+too_deep : (ts : List QueryToken) (kind : QueryTokenKind) → (limit : ℕ) × Begins limit ts
+    → IsReason ts kind (reason_of kind reached.Deep)
 too_deep ts (Reserved name) some = refl
 too_deep ts End some = refl
 too_deep ts (Word w) some = inl (refl, some.0, some.1)
@@ -112,7 +116,8 @@ too_deep ts (FileName n) some = inl (refl, some.0, some.1)
 too_deep ts (Outcome o) some = inl (refl, some.0, some.1)
 too_deep ts (Mark m) some = inl (refl, some.0, some.1)
 
-unexpected : (ts : List QueryToken) (kind : QueryTokenKind) → ((limit : ℕ) → Begins limit ts → ⊥) → IsReason ts kind (reason_of kind reached.Stuck)
+unexpected : (ts : List QueryToken) (kind : QueryTokenKind) → ((limit : ℕ) → Begins limit ts → ⊥)
+    → IsReason ts kind (reason_of kind reached.Stuck)
 unexpected ts (Reserved name) never = refl
 unexpected ts End never = refl
 unexpected ts (Word w) never = inr (refl, never)
@@ -124,7 +129,9 @@ unexpected ts (FileName n) never = inr (refl, never)
 unexpected ts (Outcome o) never = inr (refl, never)
 unexpected ts (Mark m) never = inr (refl, never)
 
-pub fault_at : (ts rest : List QueryToken) (x : QueryToken) (s u : Reached) (old new : Reader) (f : QueryFault) → Keeps ts s old → state_shown u new ≡ feed planted 64 (state_shown s old) x → is_fault u ≡ true → f.byte ≡ x.at → f.reason ≡ reason_of x.kind u → IsFault (ts ++ (x ∷ rest)) f
+pub fault_at : (ts rest : List QueryToken) (x : QueryToken) (s u : Reached) (old new : Reader) (f : QueryFault) → Keeps ts s old
+    → state_shown u new ≡ feed planted 64 (state_shown s old) x → is_fault u ≡ true → f.byte ≡ x.at
+    → f.reason ≡ reason_of x.kind u → IsFault (ts ++ (x ∷ rest)) f
 fault_at ts rest x s (reached.Opening place) old new f keeps fed fails byte_is reason_is = absurd cc
 fault_at ts rest x s reached.Reading old new f keeps fed fails byte_is reason_is = absurd cc
 fault_at ts rest x s reached.Done old new f keeps fed fails byte_is reason_is = absurd cc
@@ -138,10 +145,12 @@ fault_at ts rest x s reached.Deep old new f keeps fed fails byte_is reason_is =
       begins = living_begins 64 ts keeps.lives;
       dead = deep_is_dead 64 (ts ++ (x ∷ [])) is;
       byte = byte_is;
-      reason = subst (IsReason (ts ++ (x ∷ [])) x.kind) (sym reason_is) (too_deep (ts ++ (x ∷ [])) x.kind (deep_begins 64 ts x keeps.lives (sym (feeds ts x) ∙ is)));
+      reason = subst (IsReason (ts ++ (x ∷ [])) x.kind) (sym reason_is)
+          (too_deep (ts ++ (x ∷ [])) x.kind (deep_begins 64 ts x keeps.lives (sym (feeds ts x) ∙ is)));
     }
 fault_at ts rest x s reached.Stuck old new f keeps fed fails byte_is reason_is =
-    let is : read (ts ++ (x ∷ [])) ≡ Stuck = plant_stuck (read (ts ++ (x ∷ []))) (same_on ts x s reached.Stuck old new keeps.same fed) in
+    let is : read (ts ++ (x ∷ [])) ≡ Stuck =
+    plant_stuck (read (ts ++ (x ∷ []))) (same_on ts x s reached.Stuck old new keeps.same fed) in
     record {
       before = ts;
       token = x;
@@ -150,16 +159,20 @@ fault_at ts rest x s reached.Stuck old new f keeps fed fails byte_is reason_is =
       begins = living_begins 64 ts keeps.lives;
       dead = stuck_is_dead 64 (ts ++ (x ∷ [])) is;
       byte = byte_is;
-      reason = subst (IsReason (ts ++ (x ∷ [])) x.kind) (sym reason_is) (unexpected (ts ++ (x ∷ [])) x.kind (stuck_never_begins 64 ts x keeps.lives (sym (feeds ts x) ∙ is)));
+      reason = subst (IsReason (ts ++ (x ∷ [])) x.kind) (sym reason_is)
+          (unexpected (ts ++ (x ∷ [])) x.kind (stuck_never_begins 64 ts x keeps.lives (sym (feeds ts x) ∙ is)));
     }
 
 -- a list from a place on
-pub split_at : (ts : List QueryToken) (i : ℕ) (d : QueryToken) → i < length ts → take i ts ++ (get_or ts i d ∷ drop (i + 1) ts) ≡ ts
+pub split_at : (ts : List QueryToken) (i : ℕ) (d : QueryToken) → i < length ts
+    → take i ts ++ (get_or ts i d ∷ drop (i + 1) ts) ≡ ts
 split_at ts i d low =
-    sym (append_assoc (take i ts) (get_or ts i d ∷ []) (drop (i + 1) ts)) ∙ ap (λ t. t ++ drop (i + 1) ts) (sym (take_more ts i d low)) ∙ take-append-drop (i + 1) ts
+    sym (append_assoc (take i ts) (get_or ts i d ∷ []) (drop (i + 1) ts)) ∙ ap (λ t. t ++ drop (i + 1) ts) (sym (take_more ts i d low))
+    ∙ take-append-drop (i + 1) ts
 
 -- the query at the end
-query_is : (s : Reached) (r : Reader) (h : Head) (b : FilterTrees) → Done h b ≡ state_shown s r → (h ≡ head_in r) × (b ≡ items_in r)
+query_is : (s : Reached) (r : Reader) (h : Head) (b : FilterTrees) → Done h b ≡ state_shown s r
+    → (h ≡ head_in r) × (b ≡ items_in r)
 query_is (reached.Opening place) r h b is = absurd (let g : Done h b ≡ Opening (head_in r) place = is in cc)
 query_is reached.Reading r h b is = absurd cc
 query_is reached.Done r h b is = (cc, cc)
@@ -170,32 +183,52 @@ pub all_read : (ts : List QueryToken) (s : Reached) (r : Reader) → IsEnded ts 
 all_read ts s r ended keeps =
     let done = end_is_done 64 ts ended keeps.lives in
     let found = query_is s r (opening done.0) (trees done.1) (sym (ap plant done.2) ∙ keeps.same) in
-    subst (Spells 64 ts) (ap₂ (λ (o : Head) (fs : FilterTrees). record { variations = o.variations; match_at = o.match_at; match_text = o.match_text; items = fs }) found.0 found.1)
+    subst (Spells 64 ts) (ap₂ (λ (o : Head) (fs : FilterTrees). record {
+      variations = o.variations;
+      match_at = o.match_at;
+      match_text =
+          o.match_text;
+      items = fs;
+    }) found.0 found.1)
     (done_spells 64 ts done.0 done.1 done.2)
 
 -- along the list of tokens
-pub kept_more : (ts : List QueryToken) (i : ℕ) (x : QueryToken) (s u : Reached) (old new : Reader) → i < length ts → x ≡ get_or ts i x → Keeps (take i ts) s old → state_shown u new ≡ feed planted 64 (state_shown s old) x → is_fault u ≡ false → Keeps (take (i + 1) ts) u new
+pub kept_more : (ts : List QueryToken) (i : ℕ) (x : QueryToken) (s u : Reached) (old new : Reader) → i < length ts
+    → x ≡ get_or ts i x → Keeps (take i ts) s old → state_shown u new ≡ feed planted 64 (state_shown s old) x
+    → is_fault u ≡ false → Keeps (take (i + 1) ts) u new
 kept_more ts i x s u old new low is keeps fed fine =
-    subst (λ t. Keeps t u new) (ap (λ y. take i ts ++ (y ∷ [])) is ∙ sym (take_more ts i x low)) (kept_on (take i ts) x s u old new keeps fed fine)
+    subst (λ t. Keeps t u new) (ap (λ y. take i ts ++ (y ∷ [])) is
+    ∙ sym (take_more ts i x low)) (kept_on (take i ts) x s u old new keeps fed fine)
 
-pub fault_here : (ts : List QueryToken) (i : ℕ) (x : QueryToken) (s u : Reached) (old new : Reader) (f : QueryFault) → i < length ts → x ≡ get_or ts i x → Keeps (take i ts) s old → state_shown u new ≡ feed planted 64 (state_shown s old) x → is_fault u ≡ true → f.byte ≡ x.at → f.reason ≡ reason_of x.kind u → IsFault ts f
+pub fault_here : (ts : List QueryToken) (i : ℕ) (x : QueryToken) (s u : Reached) (old new : Reader) (f : QueryFault) → i < length ts
+    → x ≡ get_or ts i x → Keeps (take i ts) s old → state_shown u new ≡ feed planted 64 (state_shown s old) x
+    → is_fault u ≡ true → f.byte ≡ x.at → f.reason ≡ reason_of x.kind u → IsFault ts f
 fault_here ts i x s u old new f low is keeps fed fails byte_is reason_is =
-    subst (λ t. IsFault t f) (ap (λ y. take i ts ++ (y ∷ drop (i + 1) ts)) is ∙ split_at ts i x low) (fault_at (take i ts) (drop (i + 1) ts) x s u old new f keeps fed fails byte_is reason_is)
+    subst (λ t. IsFault t f) (ap (λ y. take i ts ++ (y ∷ drop (i + 1) ts)) is
+    ∙ split_at ts i x low) (fault_at (take i ts) (drop (i + 1) ts) x s u old new f keeps fed fails byte_is reason_is)
 
-pub query_here : (ts : List QueryToken) (i : ℕ) (s : Reached) (r : Reader) (q : QueryTree) → length ts ≤ i → IsEnded ts → Keeps (take i ts) s r → q ≡ query_in r → Spells 64 ts q
-query_here ts i s r q all ended keeps is = subst (Spells 64 ts) (sym is) (all_read ts s r ended (subst (λ t. Keeps t s r) (take_all i ts all) keeps))
+pub query_here : (ts : List QueryToken) (i : ℕ) (s : Reached) (r : Reader) (q : QueryTree) → length ts ≤ i → IsEnded ts
+    → Keeps (take i ts) s r → q ≡ query_in r → Spells 64 ts q
+query_here ts i s r q all ended keeps is =
+    subst (Spells 64 ts) (sym is) (all_read ts s r ended (subst (λ t. Keeps t s r) (take_all i ts all) keeps))
 
 -- a token that joins a filter to the next one
 choose_true : {S : Type 0} (t : Bool) (s u : S) → t ≡ true → choose t s u ≡ s
 choose_true true s u is = refl
 choose_true false s u is = absurd cc
 
-pub after_joins : (h : Head) (b : FilterTrees) (v : ℕ) (a : Node) (k : List (Frame Rule Node)) (x : QueryToken) (r : Role) → joins (due planted k) r ≡ true → after planted 64 h b v a k x r ≡ join planted h b v a k x (joint r)
+pub after_joins : (h : Head) (b : FilterTrees) (v : ℕ) (a : Node) (k : List (Frame Rule Node)) (x : QueryToken) (r : Role)
+    → joins (due planted k) r ≡ true → after planted 64 h b v a k x r ≡ join planted h b v a k x (joint r)
 unfolding after
 after_joins h b v a [] x r is = choose_true (joins 0 r) _ _ is
 after_joins h b v a (Joining e f y j ∷ k) x r is = choose_true (joins (joint_level j + 1) r) _ _ is
 after_joins h b v a (Making d ∷ k) x r is = choose_true (joins (least d.end) r) _ _ is
 
-pub joined_after : (result : Result Reached NoMemory) (new old : Reader) (v : ℕ) (a : Node) (x : QueryToken) (r : Role) (u : Grown) → joins (due planted (frames_in old)) r ≡ true → after planted 64 (head_in old) (items_in old) v a (frames_in old) x r ≡ u → IfOk result (λ s. (y : QueryToken) → state_shown s new ≡ join planted (head_in old) (items_in old) v a (frames_in old) y (joint r)) → IfOk result (λ s. state_shown s new ≡ u)
-joined_after (Ok s) new old v a x r u yes_ is ok = ok x ∙ sym (after_joins (head_in old) (items_in old) v a (frames_in old) x r yes_) ∙ is
+pub joined_after : (result : Result Reached NoMemory) (new old : Reader) (v : ℕ) (a : Node) (x : QueryToken) (r : Role) (u : Grown)
+    → joins (due planted (frames_in old)) r ≡ true → after planted 64 (head_in old) (items_in old) v a (frames_in old) x r ≡ u
+    → IfOk result (λ s. (y : QueryToken)
+    → state_shown s new ≡ join planted (head_in old) (items_in old) v a (frames_in old) y (joint r))
+    → IfOk result (λ s. state_shown s new ≡ u)
+joined_after (Ok s) new old v a x r u yes_ is ok = ok x ∙ sym (after_joins (head_in old) (items_in old) v a (frames_in old) x r yes_)
+    ∙ is
 joined_after (Err e) new old v a x r u yes_ is ok = tt

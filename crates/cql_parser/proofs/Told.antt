@@ -83,8 +83,10 @@ two_more a b c e ts d is = ap (λ t. a ++ (b ++ t)) (sym (append_assoc c e d)) �
 pub regroup : (a b c d e ts : Tokens) → a ++ (b ++ ((c ++ d) ++ e)) ≡ ts → a ++ (b ++ (c ++ (d ++ e))) ≡ ts
 regroup a b c d e ts is = ap (λ t. a ++ (b ++ t)) (sym (append_assoc c d e)) ∙ is
 
-pub joined_text : (a b c d e ts : Tokens) (y : QueryToken) → a ++ (b ++ ((c ++ (d ++ (y ∷ []))) ++ e)) ≡ ts → a ++ (b ++ (c ++ (d ++ (y ∷ e)))) ≡ ts
-joined_text a b c d e ts y is = ap (λ t. a ++ (b ++ (c ++ t))) (sym (append_assoc d (y ∷ []) e)) ∙ regroup a b c (d ++ (y ∷ [])) e ts is
+pub joined_text : (a b c d e ts : Tokens) (y : QueryToken) → a ++ (b ++ ((c ++ (d ++ (y ∷ []))) ++ e)) ≡ ts
+    → a ++ (b ++ (c ++ (d ++ (y ∷ e)))) ≡ ts
+joined_text a b c d e ts y is = ap (λ t. a ++ (b ++ (c ++ t))) (sym (append_assoc d (y ∷ []) e))
+    ∙ regroup a b c (d ++ (y ∷ [])) e ts is
 
 item_text : (a b c ts : Tokens) → a ++ (b ++ c) ≡ ts → a ++ ((b ++ c) ++ []) ≡ ts
 item_text a b c ts is = ap (λ t. a ++ t) (append-nil (b ++ c)) ∙ is
@@ -93,7 +95,8 @@ pub end_text : (a b c ts d : Tokens) → a ++ (b ++ c) ≡ ts → a ++ ((b ++ c)
 end_text a b c ts d is = sym (append_assoc a (b ++ c) d) ∙ ap (λ t. t ++ d) is
 
 -- a choice stands where each of both does
-split : (l : ℕ) (ts : Tokens) (t : Bool) (s u : St) → (t ≡ true → Stands l ts s) → (t ≡ false → Stands l ts u) → Stands l ts (choose t s u)
+split : (l : ℕ) (ts : Tokens) (t : Bool) (s u : St) → (t ≡ true → Stands l ts s) → (t ≡ false → Stands l ts u)
+    → Stands l ts (choose t s u)
 split l ts true s u f g = f refl
 split l ts false s u f g = g refl
 
@@ -104,24 +107,38 @@ pub record Waits (l : ℕ) (h : List QueryToken) (b : Items) (k : Frames) (ts : 
   pub good : Good l b k
   pub spelled : h ++ (items_text b ++ stack_text k) ≡ ts
 
-opened : (l : ℕ) (h : Tokens) (b : Items) (k : Frames) (ts : Tokens) (x : QueryToken) (r : Role) (s : Place) (t w : Bool) → role x.kind ≡ r → Waits l h b k ts → Under b k r → opens (around written k) r ≡ Some s → nat_le (due written k) (level_of s) ≡ t → nat_le (depth written k + depth_of s) l ≡ w → Stands l (ts ++ (x ∷ [])) (open_if t w (Reading h b (Making (first x s) ∷ k)))
+opened : (l : ℕ) (h : Tokens) (b : Items) (k : Frames) (ts : Tokens) (x : QueryToken) (r : Role) (s : Place) (t w : Bool)
+    → role x.kind ≡ r → Waits l h b k ts → Under b k r → opens (around written k) r ≡ Some s
+    → nat_le (due written k) (level_of s) ≡ t → nat_le (depth written k + depth_of s) l ≡ w
+    → Stands l (ts ++ (x ∷ [])) (open_if t w (Reading h b (Making (first x s) ∷ k)))
 opened l h b k ts x r s true true is waits under opens_ low few =
     record {
       heads_ = waits.heads_;
       fits = waits.fits;
-      good = (record { goes_ = (ap (opens (around written k)) is ∙ opens_, true_le _ _ few); low = true_le _ _ low; under = subst (Under b k) (sym is) under }, waits.good);
+      good = (
+        record {
+          goes_ = (ap (opens (around written k)) is ∙ opens_, true_le _ _ few);
+          low = true_le _ _ low;
+          under =
+              subst (Under b k) (sym is) under;
+        },
+        waits.good,
+      );
       fresh = λ q. tt;
       spelled = one_more h (items_text b) (stack_text k) ts (x ∷ []) waits.spelled;
     }
 opened l h b k ts x r s true false is waits under opens_ low few = tt
 opened l h b k ts x r s false w is waits under opens_ low few = tt
 
-begins_at : (l : ℕ) (h : Tokens) (b : Items) (k : Frames) (ts : Tokens) (x : QueryToken) (r : Role) (o : Option Place) → role x.kind ≡ r → Waits l h b k ts → Under b k r → opens (around written k) r ≡ o → Stands l (ts ++ (x ∷ [])) (begin_at written l h b k x o)
+begins_at : (l : ℕ) (h : Tokens) (b : Items) (k : Frames) (ts : Tokens) (x : QueryToken) (r : Role) (o : Option Place)
+    → role x.kind ≡ r → Waits l h b k ts → Under b k r → opens (around written k) r ≡ o
+    → Stands l (ts ++ (x ∷ [])) (begin_at written l h b k x o)
 begins_at l h b k ts x r None is waits under opens_ = tt
 begins_at l h b k ts x r (Some s) is waits under opens_ =
     opened l h b k ts x r s (nat_le (due written k) (level_of s)) (nat_le (depth written k + depth_of s) l) is waits under opens_ refl refl
 
-starts : (l : ℕ) (h : Tokens) (b : Items) (k : Frames) (ts : Tokens) (x : QueryToken) (r : Role) → role x.kind ≡ r → Waits l h b k ts → Under b k r → Stands l (ts ++ (x ∷ [])) (start written l h b k x r)
+starts : (l : ℕ) (h : Tokens) (b : Items) (k : Frames) (ts : Tokens) (x : QueryToken) (r : Role) → role x.kind ≡ r
+    → Waits l h b k ts → Under b k r → Stands l (ts ++ (x ∷ [])) (start written l h b k x r)
 starts l h b k ts x r is waits under = begins_at l h b k ts x r (opens (around written k) r) is waits under refl
 
 -- a filter is read
@@ -135,19 +152,36 @@ pub record Has (l : ℕ) (h : List QueryToken) (b : Items) (v : ℕ) (p : Phrase
   pub under : Under b k (role (head p).kind)
   pub spelled : h ++ (items_text b ++ (stack_text k ++ text p)) ≡ ts
 
-joins_to : (l : ℕ) (h : Tokens) (b : Items) (v : ℕ) (p : Phrase) (k : Frames) (ts : Tokens) (x : QueryToken) (o : Option Joint) → Has l h b v p k ts → IsOver p (role x.kind) → joint (role x.kind) ≡ o → elim o [ Some j ↦ nat_le (due written k) (joint_level j) | None ↦ false ] ≡ true → Stands l (ts ++ (x ∷ [])) (join written h b v p k x o)
+joins_to : (l : ℕ) (h : Tokens) (b : Items) (v : ℕ) (p : Phrase) (k : Frames) (ts : Tokens) (x : QueryToken) (o : Option Joint)
+    → Has l h b v p k ts → IsOver p (role x.kind) → joint (role x.kind) ≡ o
+    → elim o [ Some j ↦ nat_le (due written k) (joint_level j) | None ↦ false ] ≡ true
+    → Stands l (ts ++ (x ∷ [])) (join written h b v p k x o)
 joins_to l h b v p k ts x None has over is low = tt
 joins_to l h b v p k ts x (Some j) has over is low = split l (ts ++ (x ∷ [])) (takes j v) (Reading h b (Joining v p x j ∷ k)) Stuck
     (λ takes_. record {
       heads_ = has.heads_;
       fits = has.all;
-      good = (record { is = is; takes_ = takes_; leveled = has.leveled; over = over; fits = has.fits; low = true_le _ _ low; under = has.under }, has.good);
+      good = (
+        record {
+          is = is;
+          takes_ = takes_;
+          leveled = has.leveled;
+          over = over;
+          fits = has.fits;
+          low = true_le _ _ low;
+          under =
+              has.under;
+        },
+        has.good,
+      );
       fresh = λ q. tt;
       spelled = two_more h (items_text b) (stack_text k) (text p) ts (x ∷ []) has.spelled;
     })
     (λ e. tt)
 
-items_end : (l : ℕ) (h : Tokens) (b : Items) (p : Phrase) (ts : Tokens) (x : QueryToken) (r : Role) → role x.kind ≡ r → Waits l h (more b p) [] ts → AllOver (more b p) r → h ++ (items_text b ++ text p) ≡ ts → Stands l (ts ++ (x ∷ [])) (after_item written l h (more b p) x r)
+items_end : (l : ℕ) (h : Tokens) (b : Items) (p : Phrase) (ts : Tokens) (x : QueryToken) (r : Role) → role x.kind ≡ r
+    → Waits l h (more b p) [] ts → AllOver (more b p) r → h ++ (items_text b ++ text p) ≡ ts
+    → Stands l (ts ++ (x ∷ [])) (after_item written l h (more b p) x r)
 items_end l h b p ts x End is waits over spelled = record {
   query = record {
     opening = h;
@@ -173,7 +207,10 @@ items_end l h b p ts x Outcome is waits over spelled = starts l h (more b p) [] 
 items_end l h b p ts x Designator is waits over spelled = starts l h (more b p) [] ts x Designator is waits over
 items_end l h b p ts x Other is waits over spelled = starts l h (more b p) [] ts x Other is waits over
 
-goes_on : (l : ℕ) (h : Tokens) (b : Items) (ps : Parts) (k : Frames) (ts : Tokens) (x : QueryToken) (e : St) (o : Option Place) (w : Bool) → Waits l h b (Making ps ∷ k) ts → AreOver ps (role x.kind) → goes (end ps) (role x.kind) ≡ o → whole (end ps) ≡ w → (whole (end ps) ≡ true → goes (end ps) (role x.kind) ≡ None → Stands l (ts ++ (x ∷ [])) e) → Stands l (ts ++ (x ∷ [])) (onward_by written l h b ps k x (role x.kind) o w e)
+goes_on : (l : ℕ) (h : Tokens) (b : Items) (ps : Parts) (k : Frames) (ts : Tokens) (x : QueryToken) (e : St) (o : Option Place) (w : Bool)
+    → Waits l h b (Making ps ∷ k) ts → AreOver ps (role x.kind) → goes (end ps) (role x.kind) ≡ o → whole (end ps) ≡ w
+    → (whole (end ps) ≡ true → goes (end ps) (role x.kind) ≡ None → Stands l (ts ++ (x ∷ [])) e)
+    → Stands l (ts ++ (x ∷ [])) (onward_by written l h b ps k x (role x.kind) o w e)
 goes_on l h b ps k ts x e (Some s) w waits over goes_ is ended = record {
   heads_ = waits.heads_;
   fits = waits.fits;
@@ -182,16 +219,28 @@ goes_on l h b ps k ts x e (Some s) w waits over goes_ is ended = record {
   spelled = two_more h (items_text b) (stack_text k) (texts ps) ts (x ∷ []) waits.spelled;
 }
 goes_on l h b ps k ts x e None true waits over goes_ is ended = ended is goes_
-goes_on l h b ps k ts x e None false waits over goes_ is ended = starts l h b (Making ps ∷ k) ts x (role x.kind) refl waits (is, goes_, over)
+goes_on l h b ps k ts x e None false waits over goes_ is ended =
+    starts l h b (Making ps ∷ k) ts x (role x.kind) refl waits (is, goes_, over)
 
-pub after_stands : (l : ℕ) (h : Tokens) (b : Items) (v : ℕ) (p : Phrase) (k : Frames) (ts : Tokens) (x : QueryToken) → Has l h b v p k ts → IsOver p (role x.kind) → Stands l (ts ++ (x ∷ [])) (after written l h b v p k x (role x.kind))
+pub after_stands : (l : ℕ) (h : Tokens) (b : Items) (v : ℕ) (p : Phrase) (k : Frames) (ts : Tokens) (x : QueryToken)
+    → Has l h b v p k ts → IsOver p (role x.kind) → Stands l (ts ++ (x ∷ [])) (after written l h b v p k x (role x.kind))
 unfolding after
 after_stands l h b v p [] ts x has over =
-    split l (ts ++ (x ∷ [])) (joins 0 (role x.kind)) (join written h b v p [] x (joint (role x.kind))) (after_item written l h (more b p) x (role x.kind))
+    split l (ts ++ (x ∷ [])) (joins 0 (role x.kind)) (join written h b v p [] x (joint (role x.kind)))
+    (after_item written l h (more b p) x (role x.kind))
     (λ low. joins_to l h b v p [] ts x (joint (role x.kind)) has over refl low)
-    (λ high. items_end l h b p ts x (role x.kind) refl (record { heads_ = has.heads_; fits = (has.under, has.all, has.fits); good = tt; spelled = item_text h (items_text b) (text p) ts has.spelled }) (over, high) has.spelled)
+    (λ high. items_end l h b p ts x (role x.kind) refl
+    (record {
+      heads_ = has.heads_;
+      fits = (has.under, has.all, has.fits);
+      good = tt;
+      spelled =
+          item_text h (items_text b) (text p) ts has.spelled;
+    }) (over, high) has.spelled)
 after_stands l h b v p (Joining e f y j ∷ k) ts x has over =
-    split l (ts ++ (x ∷ [])) (joins (joint_level j + 1) (role x.kind)) (join written h b v p (Joining e f y j ∷ k) x (joint (role x.kind))) (after written l h b (joint_level j) (joined f y j p) k x (role x.kind))
+    split l (ts ++ (x ∷ [])) (joins (joint_level j + 1) (role x.kind))
+    (join written h b v p (Joining e f y j ∷ k) x (joint (role x.kind)))
+    (after written l h b (joint_level j) (joined f y j p) k x (role x.kind))
     (λ low. joins_to l h b v p (Joining e f y j ∷ k) ts x (joint (role x.kind)) has over refl low)
     (λ high.
     let g = has.good.0 in
@@ -208,14 +257,25 @@ after_stands l h b v p (Joining e f y j ∷ k) ts x has over =
     }) (over, high))
 after_stands l h b v p (Making d ∷ k) ts x has over =
     split l (ts ++ (x ∷ [])) (joins (least (end d)) (role x.kind)) (join written h b v p (Making d ∷ k) x (joint (role x.kind)))
-    (onward written l h b (put d p (next (end d))) k x (role x.kind) (after written l h b (level_of (root d)) (made (put d p (next (end d)))) k x (role x.kind)))
+    (onward written l h b (put d p (next (end d))) k x (role x.kind)
+    (after written l h b (level_of (root d)) (made (put d p (next (end d)))) k x (role x.kind)))
     (λ low. joins_to l h b v p (Making d ∷ k) ts x (joint (role x.kind)) has over refl low)
     (λ high.
     let g = has.good.0 in
-    let goes_ : Goes l (depth written k) (around written k) (put d p (next (end d))) = (refl, has.under.0, has.under.1, has.under.2, has.low, g.goes_, has.fits) in
-    let spelled : h ++ (items_text b ++ (stack_text k ++ (texts d ++ text p))) ≡ ts = regroup h (items_text b) (stack_text k) (texts d) (text p) ts has.spelled in
-    goes_on l h b (put d p (next (end d))) k ts x (after written l h b (level_of (root d)) (made (put d p (next (end d)))) k x (role x.kind)) (goes (next (end d)) (role x.kind)) (whole (next (end d)))
-    (record { heads_ = has.heads_; fits = has.all; good = (record { goes_ = goes_; low = g.low; under = g.under }, has.good.1); spelled = spelled })
+    let goes_ : Goes l (depth written k) (around written k) (put d p (next (end d))) =
+    (refl, has.under.0, has.under.1, has.under.2, has.low, g.goes_, has.fits) in
+    let spelled : h ++ (items_text b ++ (stack_text k ++ (texts d ++ text p))) ≡ ts =
+    regroup h (items_text b) (stack_text k) (texts d) (text p) ts has.spelled in
+    goes_on l h b (put d p (next (end d))) k ts x
+    (after written l h b (level_of (root d)) (made (put d p (next (end d)))) k x (role x.kind)) (goes (next (end d)) (role x.kind))
+    (whole (next (end d)))
+    (record {
+      heads_ = has.heads_;
+      fits = has.all;
+      good = (record { goes_ = goes_; low = g.low; under = g.under }, has.good.1);
+      spelled =
+          spelled;
+    })
     (over, high) refl refl
     (λ ended none_. after_stands l h b (level_of (root d)) (made (put d p (next (end d)))) k ts x (record {
       heads_ = has.heads_;
@@ -228,7 +288,8 @@ after_stands l h b v p (Making d ∷ k) ts x has over =
       spelled = spelled;
     }) ((over, high), none_)))
 
-fold_snoc : (ts : List QueryToken) (x : QueryToken) (o : Option Heading) → fold head_step o (ts ++ (x ∷ [])) ≡ head_step (fold head_step o ts) x
+fold_snoc : (ts : List QueryToken) (x : QueryToken) (o : Option Heading)
+    → fold head_step o (ts ++ (x ∷ [])) ≡ head_step (fold head_step o ts) x
 fold_snoc [] x o = refl
 fold_snoc (t ∷ ts) x o = fold_snoc ts x (head_step o t)
 
@@ -245,15 +306,18 @@ heads_to l h (Some MatchDue) is = (refl, is)
 heads_to l h (Some Over) is = record { heads_ = is; fits = tt; good = tt; fresh = λ r. tt; spelled = append-nil h }
 
 -- each state stands for the tokens that were read
-pub stands : (l : ℕ) (ts : List QueryToken) (s : St) (x : QueryToken) → Stands l ts s → Stands l (ts ++ (x ∷ [])) (feed written l s x)
+pub stands : (l : ℕ) (ts : List QueryToken) (s : St) (x : QueryToken) → Stands l ts s
+    → Stands l (ts ++ (x ∷ [])) (feed written l s x)
 unfolding feed
 stands l ts (Opening h place) x good =
     subst (λ t. Stands l (t ++ (x ∷ [])) (head_to written (h ++ (x ∷ [])) (heads place (role x.kind)))) good.0
     (heads_to l (h ++ (x ∷ [])) (heads place (role x.kind)) (head_snoc h x ∙ ap (λ o. head_step o x) good.1))
 stands l ts (Reading h b []) x good =
-    starts l h b [] ts x (role x.kind) refl (record { heads_ = good.heads_; fits = good.fits; good = tt; spelled = good.spelled }) (good.fresh (role x.kind))
+    starts l h b [] ts x (role x.kind) refl (record { heads_ = good.heads_; fits = good.fits; good = tt; spelled = good.spelled })
+    (good.fresh (role x.kind))
 stands l ts (Reading h b (Joining v p y j ∷ k)) x good =
-    starts l h b (Joining v p y j ∷ k) ts x (role x.kind) refl (record { heads_ = good.heads_; fits = good.fits; good = good.good; spelled = good.spelled }) tt
+    starts l h b (Joining v p y j ∷ k) ts x (role x.kind) refl
+    (record { heads_ = good.heads_; fits = good.fits; good = good.good; spelled = good.spelled }) tt
 stands l ts (Reading h b (Making d ∷ k)) x good =
     goes_on l h b d k ts x (after written l h b (level_of (root d)) (made d) k x (role x.kind)) (goes (end d) (role x.kind)) (whole (end d))
     (record { heads_ = good.heads_; fits = good.fits; good = good.good; spelled = good.spelled })
@@ -274,7 +338,9 @@ stands l ts Stuck x good = tt
 
 stands_from : (l : ℕ) (a ts : List QueryToken) (s : St) → Stands l a s → Stands l (a ++ ts) (go l s ts)
 stands_from l a [] s good = subst (λ t. Stands l t s) (sym (append-nil a)) good
-stands_from l a (x ∷ ts) s good = subst (λ t. Stands l t (go l (feed written l s x) ts)) (append_assoc a (x ∷ []) ts) (stands_from l (a ++ (x ∷ [])) ts (feed written l s x) (stands l a s x good))
+stands_from l a (x ∷ ts) s good =
+    subst (λ t. Stands l t (go l (feed written l s x) ts)) (append_assoc a (x ∷ []) ts)
+    (stands_from l (a ++ (x ∷ [])) ts (feed written l s x) (stands l a s x good))
 
 pub told : (l : ℕ) (ts : List QueryToken) → Stands l ts (go l (begun written) ts)
 told l ts = stands_from l [] ts (begun written) (refl, refl)

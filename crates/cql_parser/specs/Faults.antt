@@ -25,7 +25,8 @@ abbrev pub IsReason : List QueryToken → QueryTokenKind → QueryReason → Typ
 IsReason ts (Reserved name) reason = reason ≡ OutsideProfile name
 IsReason ts End reason = reason ≡ UnexpectedEnd
 IsReason ts kind reason =
-    ((reason ≡ TooDeep) × (limit : ℕ) × Begins limit ts) ⊎ ((reason ≡ UnexpectedToken) × ((limit : ℕ) → Begins limit ts → ⊥))
+    ((reason ≡ TooDeep) × (limit : ℕ) × Begins limit ts)
+    ⊎ ((reason ≡ UnexpectedToken) × ((limit : ℕ) → Begins limit ts → ⊥))
 
 -- the first token such that no query begins with the tokens up to it
 pub record IsFault (ts : List QueryToken) (fault : QueryFault) : Type 0 where

@@ -94,7 +94,8 @@ abbrev mutual
   Goes limit n c (first x s) = (opens c (role x.kind) ≡ Some s) × (n + depth_of s ≤ limit)
   Goes limit n c (add ps x s) = (goes (end ps) (role x.kind) ≡ Some s) × AreOver ps (role x.kind) × Goes limit n c ps
   Goes limit n c (put ps p s) =
-      (next (end ps) ≡ s) × (whole (end ps) ≡ false) × (goes (end ps) (role (head p).kind) ≡ None) × AreOver ps (role (head p).kind)
+      (next (end ps) ≡ s) × (whole (end ps) ≡ false) × (goes (end ps) (role (head p).kind) ≡ None)
+      × AreOver ps (role (head p).kind)
       × (least (end ps) ≤ level p) × Goes limit n c ps × Fits limit (n + depth_of (root ps)) (context (end ps)) p
 
 -- a token after filters in a row belongs to none of them

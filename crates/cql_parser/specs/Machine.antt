@@ -67,7 +67,8 @@ open_if true true s = s
 open_if true false s = Deep
 open_if false b s = Stuck
 
-abbrev pub begin_at : {H D A B : Type 0} → Builder H D A B → ℕ → H → B → List (Frame D A) → QueryToken → Option Place → State H D A B
+abbrev pub begin_at : {H D A B : Type 0} → Builder H D A B → ℕ → H → B → List (Frame D A) → QueryToken → Option Place
+    → State H D A B
 begin_at m limit h b k x None = Stuck
 begin_at m limit h b k x (Some s) =
     open_if (nat_le (due m k) (level_of s)) (nat_le (depth m k + depth_of s) limit) (Reading h b (Making (m.first_of x s) ∷ k))
@@ -76,7 +77,8 @@ begin_at m limit h b k x (Some s) =
 abbrev pub start : {H D A B : Type 0} → Builder H D A B → ℕ → H → B → List (Frame D A) → QueryToken → Role → State H D A B
 start m limit h b k x r = begin_at m limit h b k x (opens (around m k) r)
 
-abbrev pub join : {H D A B : Type 0} → Builder H D A B → H → B → ℕ → A → List (Frame D A) → QueryToken → Option Joint → State H D A B
+abbrev pub join : {H D A B : Type 0} → Builder H D A B → H → B → ℕ → A → List (Frame D A) → QueryToken → Option Joint
+    → State H D A B
 join m h b l a k x None = Stuck
 join m h b l a k x (Some j) = choose (takes j l) (Reading h b (Joining l a (m.kept x) j ∷ k)) Stuck
 
@@ -97,7 +99,8 @@ abbrev pub onward : {H D A B : Type 0} → Builder H D A B → ℕ → H → B �
 onward m limit h b d k x r ended = onward_by m limit h b d k x r (goes (m.end_of d) r) (whole (m.end_of d)) ended
 
 -- a token after a filter of a level
-unfoldable pub after : {H D A B : Type 0} → Builder H D A B → ℕ → H → B → ℕ → A → List (Frame D A) → QueryToken → Role → State H D A B
+unfoldable pub after : {H D A B : Type 0} → Builder H D A B → ℕ → H → B → ℕ → A → List (Frame D A) → QueryToken → Role
+    → State H D A B
 after m limit h b l a [] x r = choose (joins 0 r) (join m h b l a [] x (joint r)) (after_item m limit h (m.more_of b a) x r)
 after m limit h b l a (Joining e f y j ∷ k) x r =
     choose (joins (joint_level j + 1) r) (join m h b l a (Joining e f y j ∷ k) x (joint r))

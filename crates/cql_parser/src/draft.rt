@@ -292,7 +292,8 @@ impl Draft {
 impl Parts {
     /// All parts.
     fn whole(self) -> Result<Constituents, NoMemory>
-        ensures { IfOk result (λ cs. parts_tree cs ≡ with_body (parts_tree self.parts) (option_map body_tree self.body) self.mark) }
+        ensures { IfOk result (λ cs.
+            parts_tree cs ≡ with_body (parts_tree self.parts) (option_map body_tree self.body) self.mark) }
     {
         let Parts { parts, body, mark } = self;
         let mut all = parts;
@@ -312,7 +313,9 @@ impl Slots {
     }
 
     fn two(self, alloc: Global) -> Result<(Box<Filter>, Box<Filter>), NoMemory>
-        ensures { IfOk result (λ fs. (filter_tree fs.0.value ≡ need (written_tree self.one)) × (filter_tree fs.1.value ≡ need (written_tree self.two))) }
+        ensures { IfOk result (λ fs.
+            (filter_tree fs.0.value ≡ need (written_tree self.one))
+            × (filter_tree fs.1.value ≡ need (written_tree self.two))) }
     {
         let Slots { one, two, .. } = self;
         let first = needed(alloc, one)?;
@@ -320,7 +323,9 @@ impl Slots {
     }
 
     fn first_and_last(self, alloc: Global) -> Result<(Box<Filter>, Box<Filter>), NoMemory>
-        ensures { IfOk result (λ fs. (filter_tree fs.0.value ≡ need (written_tree self.one)) × (filter_tree fs.1.value ≡ need (written_tree self.last))) }
+        ensures { IfOk result (λ fs.
+            (filter_tree fs.0.value ≡ need (written_tree self.one))
+            × (filter_tree fs.1.value ≡ need (written_tree self.last))) }
     {
         let Slots { one, last, .. } = self;
         let first = needed(alloc, one)?;
@@ -328,7 +333,10 @@ impl Slots {
     }
 
     fn three(self, alloc: Global) -> Result<(Box<Filter>, Box<Filter>, Box<Filter>), NoMemory>
-        ensures { IfOk result (λ fs. (filter_tree fs.0.value ≡ need (written_tree self.one)) × (filter_tree fs.1.value ≡ need (written_tree self.two)) × (filter_tree fs.2.value ≡ need (written_tree self.last))) }
+        ensures { IfOk result (λ fs.
+            (filter_tree fs.0.value ≡ need (written_tree self.one))
+            × (filter_tree fs.1.value ≡ need (written_tree self.two))
+            × (filter_tree fs.2.value ≡ need (written_tree self.last))) }
     {
         let Slots { one, two, last, .. } = self;
         let first = needed(alloc, one)?;
@@ -337,7 +345,8 @@ impl Slots {
     }
 
     fn played(self) -> Played
-        ensures { played_tree result ≡ move_of (written_tree self.one) (written_tree self.two) (written_tree self.three) (written_tree self.last) }
+        ensures { played_tree result ≡
+            move_of (written_tree self.one) (written_tree self.two) (written_tree self.three) (written_tree self.last) }
     {
         let Slots {
             one,

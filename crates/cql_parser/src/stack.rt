@@ -66,9 +66,9 @@ impl Frame {
     }
 }
 
-#[tactic(auto, using(crate::proofs::Frames::shown_more, crate::proofs::Frames::depth_more, crate::proofs::Frames::shown_none, crate::proofs::Frames::due_last, crate::proofs::Frames::due_none, crate::proofs::Frames::around_last, crate::proofs::Frames::around_none))]
 impl Stack {
     /// Nothing open. Takes no memory.
+    #[tactic(auto, using(crate::proofs::Frames::shown_none))]
     pub fn new(alloc: Global) -> Stack
         ensures { stack_shown result.frames.items ≡ [] }
     {
@@ -87,6 +87,7 @@ impl Stack {
     }
 
     /// The least level of the filter that is due.
+    #[tactic(auto, using(crate::proofs::Frames::due_last, crate::proofs::Frames::due_none))]
     pub fn due(&self) -> u8
         ensures { result ≡ due_in planted (stack_shown self.now.frames.items) }
     {
@@ -97,6 +98,7 @@ impl Stack {
     }
 
     /// What is around that filter.
+    #[tactic(auto, using(crate::proofs::Frames::around_last, crate::proofs::Frames::around_none))]
     pub fn around(&self) -> Context
         ensures { result ≡ around_in planted (stack_shown self.now.frames.items) }
     {
@@ -107,6 +109,7 @@ impl Stack {
     }
 
     /// One more.
+    #[tactic(auto, using(crate::proofs::Frames::shown_more, crate::proofs::Frames::depth_more))]
     pub fn push(&mut self, frame: Frame) -> Result<(), NoMemory>
         requires { open_in planted (frame_shown frame ∷ stack_shown self.old.frames.items) ≤ 64 }
         ensures { OnOk result (stack_shown self.new.frames.items ≡ frame_shown frame ∷ stack_shown self.old.frames.items) }
@@ -118,6 +121,7 @@ impl Stack {
     }
 
     /// The innermost.
+    #[tactic(auto, using(crate::proofs::Frames::shown_more, crate::proofs::Frames::depth_more, crate::proofs::Frames::shown_none))]
     pub fn pop(&mut self) -> Option<Frame>
         ensures { Popped (stack_shown self.old.frames.items) (stack_shown self.new.frames.items) result }
     {

@@ -6,4 +6,6 @@ use Rattle.cql_parser.proofs.reader.Reader.after.Goals as goal
 
 pub returns : goal.returns
 returns c =
-    joined_after c.join.result c.join.new.self c.frames.self c.frames.level (node_shown c.frames.node) c.args.token.now c.args.role _ (ap (λ n. joins n c.args.role) (sym c.due.ensures) ∙ sym c.joins.ensures ∙ c.frames-test.false) c.frames.invariant.same c.join.ensures
+    joined_after c.join.result c.join.new.self c.frames.self c.frames.level (node_shown c.frames.node) c.args.token.now c.args.role _
+    (ap (λ n. joins n c.args.role) (sym c.due.ensures) ∙ sym c.joins.ensures
+    ∙ c.frames-test.false) c.frames.invariant.same c.join.ensures
