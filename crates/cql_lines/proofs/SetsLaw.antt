@@ -94,7 +94,7 @@ module _ (test : ℕ → ℕ → Bool) (rules : List Rule) (Edge : ℕ → ℕ �
       let same : s ≡ r = (let both = sym is ∙ rule in cc) in
       let one : k ≡ 1 = e in
       subst (IsIn (bit_or (shifted (union_in r.after.places below (length rules))) (when r.after.ends 2))) (sym one)
-        (in_right (shifted (union_in r.after.places below (length rules))) (when r.after.ends 2) 1 (two_in r.after.ends (ap (λ (t : Rule). t.after.ends) (sym same) ∙ read)))
+      (in_right (shifted (union_in r.after.places below (length rules))) (when r.after.ends 2) 1 (two_in r.after.ends (ap (λ (t : Rule). t.after.ends) (sym same) ∙ read)))
   set_off n i below known r rule k low (c ∷ w, follow, e, s, is, holds, read) =
       let same : s ≡ r = (let both = sym is ∙ rule in cc) in
       let inside : IsIn r.after.places read.0 = subst (λ (t : Rule). IsIn t.after.places read.0) same read.2 in
@@ -104,27 +104,27 @@ module _ (test : ℕ → ℕ → Bool) (rules : List Rule) (Edge : ℕ → ℕ �
       let all = union_has r.after.places below (length rules) read.0 (suc (length w)) within inside has in
       let longer : suc (suc (length w)) < 128 = (let h = e in omega arith) in
       subst (IsIn (bit_or (shifted (union_in r.after.places below (length rules))) (when r.after.ends 2))) (sym e)
-        (in_left (shifted (union_in r.after.places below (length rules))) (when r.after.ends 2) (suc (suc (length w))) (shifted_bit (union_in r.after.places below (length rules)) (suc (length w)) longer ∙ all))
+      (in_left (shifted (union_in r.after.places below (length rules))) (when r.after.ends 2) (suc (suc (length w))) (shifted_bit (union_in r.after.places below (length rules)) (suc (length w)) longer ∙ all))
 
   -- the lengths of one place at one node
   pub place_set_here : (n i : ℕ) (below : ℕ → ℕ) → ((j : ℕ) → IsSet (Below test rules Edge j n) (below j)) → (r : Rule) → slice_get rules i ≡ Some r → test r.atom n ≡ true
       → IsSet (FromPlace test rules Edge i n) (bit_or (shifted (union_in r.after.places below (length rules))) (when r.after.ends 2))
   place_set_here n i below known r rule holds = record {
     on = λ k low e. set_on n i below known r rule holds k low e;
-    off = λ k low f. set_off n i below known r rule k low f
+    off = λ k low f. set_off n i below known r rule k low f;
   }
 
   pub place_set_off : (n i : ℕ) (r : Rule) → slice_get rules i ≡ Some r → test r.atom n ≡ false → IsSet (FromPlace test rules Edge i n) 0
   place_set_off n i r rule off = record {
     on = λ k low e. absurd (in_none k e);
-    off = λ k low f. absurd (let both = sym f.4 ∙ rule in let same : f.3 ≡ r = cc in let h = f.5 in let h' = ap (λ (t : Rule). test t.atom n) same in cc)
+    off = λ k low f. absurd (let both = sym f.4 ∙ rule in let same : f.3 ≡ r = cc in let h = f.5 in let h' = ap (λ (t : Rule). test t.atom n) same in cc);
   }
 
 -- numbers of two kinds
 pub set_of_two : (P Q R : ℕ → Type 0) (a b : ℕ) → IsSet P a → IsSet Q b → ((k : ℕ) → R k → P k ⊎ Q k) → ((k : ℕ) → P k → R k) → ((k : ℕ) → Q k → R k) → IsSet R (bit_or a b)
 set_of_two P Q R a b p q split left right = record {
-  on = λ k low e. elim (in_either a b k e) [ | inl x ↦ left k (p.on k low x) | inr y ↦ right k (q.on k low y) ];
-  off = λ k low r. elim (split k r) [ | inl x ↦ in_left a b k (p.off k low x) | inr y ↦ in_right a b k (q.off k low y) ]
+  on = λ k low e. elim (in_either a b k e) [ inl x ↦ left k (p.on k low x) | inr y ↦ right k (q.on k low y) ];
+  off = λ k low r. elim (split k r) [ inl x ↦ in_left a b k (p.off k low x) | inr y ↦ in_right a b k (q.off k low y) ];
 }
 
 pub same_set : (P R : ℕ → Type 0) (a : ℕ) → IsSet P a → ((k : ℕ) → R k → P k) → ((k : ℕ) → P k → R k) → IsSet R a

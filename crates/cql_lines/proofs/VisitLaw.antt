@@ -71,9 +71,9 @@ stands_first Known none words rules primary spots = record {
   known = λ n j.
       subst (Known (Late words rules primary spots 0 n j)) (sym (zero_cell 0 (length spots) n (replicate 64 0) (zeros 64) j))
       (none (Late words rules primary spots 0 n j) (λ k l.
-        let past = slice_get_past spots l.0 (let h = l.1 in omega arith) in
-        let off : joined primary spots l.0 ≡ None = ap (joined_by primary) past in
-        let both = sym off ∙ l.2 in cc));
+      let past = slice_get_past spots l.0 (let h = l.1 in omega arith) in
+      let off : joined primary spots l.0 ≡ None = ap (joined_by primary) past in
+      let both = sym off ∙ l.2 in cc));
 }
 
 -- one answer more

@@ -17,7 +17,8 @@ places (repeated least (Some (suc n)) p) = suc n * places p
 
 -- Whatever holds where, the automaton reads from its first places exactly the lists that the pattern spells, the empty one left aside.
 pub record IsAutomatonOf (a : Automaton) (p : Pattern ℕ) : Type 0 where
-  pub reads : (test : ℕ → ℕ → Bool) (n : ℕ) (w : List ℕ) → Accepts test a.rules.items (from a.first) (n ∷ w) ↔ Spells test p (n ∷ w)
+  pub reads : (test : ℕ → ℕ → Bool) (n : ℕ) (w : List ℕ)
+      → Accepts test a.rules.items (from a.first) (n ∷ w) ↔ Spells test p (n ∷ w)
 
 -- all atoms of the automaton are below a number
 abbrev pub UsesBelow : Automaton → ℕ → Type 0

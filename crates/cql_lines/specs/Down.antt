@@ -45,7 +45,8 @@ AnswerAt true P o = IsLongest P o
 AnswerAt false P o = o ≡ None
 
 -- what a node's row gives to the row of its parent
-pub record Passed (join : ℕ → ℕ → ℕ) (primary : Bool) (spots : List Spot) (n : ℕ) (rows new : List (List ℕ)) (own : List ℕ) : Type 0 where
+pub record Passed (join : ℕ → ℕ → ℕ) (primary : Bool) (spots : List Spot) (n : ℕ) (rows new : List (List ℕ))
+    (own : List ℕ) : Type 0 where
   pub count : length new ≡ length rows
   pub parent : (p j : ℕ) → joined primary spots n ≡ Some p → cell new p j ≡ join (cell rows p j) (at own j)
   pub others : (p j : ℕ) → (joined primary spots n ≡ Some p → ⊥) → cell new p j ≡ cell rows p j

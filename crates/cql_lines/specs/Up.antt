@@ -7,8 +7,8 @@ use Rattle.cql_lines.specs.Lengths.{at}
 use Rattle.cql_lines.specs.Shapes.{is_searched, Edge}
 use Rattle.cql_lines.specs.Down.{holds, cell}
 
-pub record StandsUp (Known : (ℕ → Type 0) → ℕ → Type 0) (words : List ℕ) (rules : List Rule) (primary : Bool) (spots : List Spot)
-    (t : ℕ) (rows : List (List ℕ)) : Type 0 where
+pub record StandsUp (Known : (ℕ → Type 0) → ℕ → Type 0) (words : List ℕ) (rules : List Rule) (primary : Bool)
+    (spots : List Spot) (t : ℕ) (rows : List (List ℕ)) : Type 0 where
   pub count : length rows ≡ length spots
   pub known : (n j : ℕ) → n < t → is_searched spots n ≡ true
       → Known (FromPlace (holds words) rules (Edge true primary spots) j n) (cell rows n j)

@@ -104,7 +104,8 @@ impl Shape {
         ensures more { OnOk result (self.new.spots.items
             ≡ self.old.spots.items ++ record { parent = parent; searched = searched; first = first } ∷ []) }
         ensures same { OnErr result (self.new.spots.items ≡ self.old.spots.items) }
-        ensures way { (self.new.back ≡ self.old.back) × (self.new.primary ≡ self.old.primary) × (self.new.extent ≡ self.old.extent) }
+        ensures way { (self.new.back ≡ self.old.back) × (self.new.primary ≡ self.old.primary)
+            × (self.new.extent ≡ self.old.extent) }
     {
         self.spots.push(Spot {
             parent,

@@ -19,7 +19,11 @@ fn with_lengths(set: u128, mask: u64, j: usize, more: u128) -> u128
     requires { j < 64 }
     ensures { result ≡ (if is_set mask j then bit_or set more else set) }
 {
-    if (mask >> j) & 1 == 1 { set | more } else { set }
+    if (mask >> j) & 1 == 1 {
+        set | more
+    } else {
+        set
+    }
 }
 
 /// The lengths of the first places that are in the mask.
@@ -134,7 +138,8 @@ pub fn visit_down<L: Ledger>(
     ensures stands { Stands IsSet table.now.words.items rules.now shape.now.primary shape.now.spots.items
         (length shape.now.spots.items - node) rows.new }
     ensures value { AnswerAt (is_searched shape.now.spots.items node)
-        (Between extent.least extent.most (Read (holds table.now.words.items) rules.now (Edge false shape.now.primary shape.now.spots.items) first node)) result }
+        (Between extent.least extent.most
+        (Read (holds table.now.words.items) rules.now (Edge false shape.now.primary shape.now.spots.items) first node)) result }
     ensures cost { steps.new ≤ steps.old + table.now.atoms }
 {
     if !shape.searched(node) {
@@ -143,7 +148,11 @@ pub fn visit_down<L: Ledger>(
     let held = table.held(node, steps);
     let own = own_sets(rules, held, &rows[node]);
     pass_up(shape, node, rows, &own);
-    greatest_within(union_of(first, &own, rules.len()), extent.least, extent.most)
+    greatest_within(
+        union_of(first, &own, rules.len()),
+        extent.least,
+        extent.most,
+    )
 }
 
 fn blank_rows(alloc: Global, nodes: usize) -> Result<Vec<[u128; 64]>, AllocError>
@@ -174,7 +183,8 @@ pub fn within_down<L: Ledger>(
     ensures count { IfOk result (λ values. length values.items ≡ length shape.now.spots.items) }
     ensures values { IfOk result (λ values. (n : ℕ) → n < length shape.now.spots.items →
         AnswerAt (is_searched shape.now.spots.items n)
-        (Between extent.least extent.most (Read (holds table.now.words.items) rules.now (Edge false shape.now.primary shape.now.spots.items) first n))
+        (Between extent.least extent.most
+        (Read (holds table.now.words.items) rules.now (Edge false shape.now.primary shape.now.spots.items) first n))
         (get_or values.items n None)) }
     ensures cost { steps.new ≤ steps.old + table.now.atoms * length shape.now.spots.items }
 {
@@ -221,7 +231,8 @@ pub fn visit_up<L: Ledger>(
     requires stands { StandsUp IsSet table.now.words.items rules.now shape.now.primary shape.now.spots.items node rows.old }
     ensures stands { StandsUp IsSet table.now.words.items rules.now shape.now.primary shape.now.spots.items (node + 1) rows.new }
     ensures value { AnswerAt (is_searched shape.now.spots.items node)
-        (Between extent.least extent.most (Read (holds table.now.words.items) rules.now (Edge true shape.now.primary shape.now.spots.items) first node)) result }
+        (Between extent.least extent.most
+        (Read (holds table.now.words.items) rules.now (Edge true shape.now.primary shape.now.spots.items) first node)) result }
     ensures cost { steps.new ≤ steps.old + table.now.atoms }
 {
     if !shape.searched(node) {
@@ -231,7 +242,11 @@ pub fn visit_up<L: Ledger>(
     let above = row_above(shape, node, rows);
     let own = own_sets(rules, held, &above);
     rows[node] = own;
-    greatest_within(union_of(first, &own, rules.len()), extent.least, extent.most)
+    greatest_within(
+        union_of(first, &own, rules.len()),
+        extent.least,
+        extent.most,
+    )
 }
 
 /// For each node the greatest allowed length of a way up that is read.
@@ -252,7 +267,8 @@ pub fn within_up<L: Ledger>(
     ensures count { IfOk result (λ values. length values.items ≡ length shape.now.spots.items) }
     ensures values { IfOk result (λ values. (n : ℕ) → n < length shape.now.spots.items →
         AnswerAt (is_searched shape.now.spots.items n)
-        (Between extent.least extent.most (Read (holds table.now.words.items) rules.now (Edge true shape.now.primary shape.now.spots.items) first n))
+        (Between extent.least extent.most
+        (Read (holds table.now.words.items) rules.now (Edge true shape.now.primary shape.now.spots.items) first n))
         (get_or values.items n None)) }
     ensures cost { steps.new ≤ steps.old + table.now.atoms * length shape.now.spots.items }
 {
