@@ -12,6 +12,8 @@ mod role;
 mod row;
 mod rule;
 mod stack;
+#[cfg(test)]
+mod tests;
 
 pub use laws::{
     faulty_tokens_spell_no_query, tokens_have_at_most_one_fault, tokens_of_a_text_are_ended,
