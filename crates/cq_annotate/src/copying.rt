@@ -52,7 +52,9 @@ fn add_notes(copied: &mut Game, game: &Game, k: u32) -> Result<(), NoMemory>
     requires copy { k < length copied.old.nodes }
     requires node { k < length game.now.nodes }
     requires notes { HaveNotes game.now.nodes }
-    ensures { OnOk result (copied.new ≡ record copied.old { nodes = with_node copied.old.nodes k (with_notes_of (node_at game.now.nodes k)) }) }
+    ensures { OnOk result (copied.new ≡ record copied.old {
+      nodes = with_node copied.old.nodes k (with_notes_of (node_at game.now.nodes k));
+    }) }
 {
     add_nags(copied, k, game.nags(k))?;
     add_comments(copied, game, k)?;
@@ -73,7 +75,9 @@ fn add_comments(copied: &mut Game, game: &Game, k: u32) -> Result<(), NoMemory>
     requires copy { k < length copied.old.nodes }
     requires node { k < length game.now.nodes }
     requires notes { HaveNotes game.now.nodes }
-    ensures { OnOk result (copied.new ≡ record copied.old { nodes = with_node copied.old.nodes k (with_all_comments (node_at game.now.nodes k).comments) }) }
+    ensures { OnOk result (copied.new ≡ record copied.old {
+      nodes = with_node copied.old.nodes k (with_all_comments (node_at game.now.nodes k).comments);
+    }) }
 {
     for i in 0..game.comments(k) {
         copied.add_comment(k, game.comment(k, i))?;

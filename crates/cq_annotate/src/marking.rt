@@ -32,7 +32,9 @@ pub fn mark(alloc: Global, game: &Game, nodes: &[u32], query: &Query) -> Result<
 fn add_marks(game: &mut Game, node: u32, query: &Query) -> Result<(), NoMemory>
     requires node { node < length game.old.nodes }
     requires brace { All (λ text. All (λ b. b ≢ 125) text) (marks (query_tree query.now)) }
-    ensures { OnOk result (game.new ≡ record game.old { nodes = with_node game.old.nodes node (with_marks (marks (query_tree query.now))) }) }
+    ensures { OnOk result (game.new ≡ record game.old {
+      nodes = with_node game.old.nodes node (with_marks (marks (query_tree query.now)));
+    }) }
 {
     game.add_comment(node, query.match_text.as_slice())?;
     add_comments(game, node, &query.items)?;
@@ -42,7 +44,9 @@ fn add_marks(game: &mut Game, node: u32, query: &Query) -> Result<(), NoMemory>
 fn add_comments(game: &mut Game, node: u32, items: &Filters) -> Result<(), NoMemory>
     requires node { node < length game.old.nodes }
     requires brace { All (λ text. All (λ b. b ≢ 125) text) (comment_texts (filters_tree items.now)) }
-    ensures { OnOk result (game.new ≡ record game.old { nodes = with_node game.old.nodes node (with_marks (comment_texts (filters_tree items.now))) }) }
+    ensures { OnOk result (game.new ≡ record game.old {
+      nodes = with_node game.old.nodes node (with_marks (comment_texts (filters_tree items.now)));
+    }) }
 {
     for item in items.as_slice() {
         add_comment_of(game, node, item)?;
@@ -54,7 +58,9 @@ fn add_comments(game: &mut Game, node: u32, items: &Filters) -> Result<(), NoMem
 fn add_comment_of(game: &mut Game, node: u32, item: &Filter) -> Result<(), NoMemory>
     requires node { node < length game.old.nodes }
     requires brace { All (λ text. All (λ b. b ≢ 125) text) (item_texts (filter_tree item.now)) }
-    ensures { OnOk result (game.new ≡ record game.old { nodes = with_node game.old.nodes node (with_marks (item_texts (filter_tree item.now))) }) }
+    ensures { OnOk result (game.new ≡ record game.old {
+      nodes = with_node game.old.nodes node (with_marks (item_texts (filter_tree item.now)));
+    }) }
 {
     match &item.form {
         Form::Comment(text) => game.add_comment(node, text.as_slice()),
