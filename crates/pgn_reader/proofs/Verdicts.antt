@@ -113,10 +113,13 @@ HasVerdict ts = ((game : Game) × IsOnlyGame ts game) ⊎ ((i : ℕ) × (reason 
 
 game_at_end : (ts : List Word) (h : Head) (f : Frame) (result : GameResult) → IsEnd (run first ts) h f result → h.moves ≤ 65535 → HasVerdict ts
 game_at_end ts h f result is_end few =
-    inl (game_shown h f result, record {
-      spells = (read_iff ts h f result is_end few (game_shown h f result)).1 refl;
-      alone = λ g spells. (read_iff ts h f result is_end few g).0 spells;
-    })
+    inl (
+      game_shown h f result,
+      record {
+        spells = (read_iff ts h f result is_end few (game_shown h f result)).1 refl;
+        alone = λ g spells. (read_iff ts h f result is_end few g).0 spells;
+      },
+    )
 
 fault_in_end : (ts : List Word) (s : State) (reason : Reason) → run first ts ≡ s → (s ≡ stuck → ⊥) → moves_in s ≤ 65535 → fault_at_end (standing_of s) ≡ Some reason → HasVerdict ts
 fault_in_end ts s reason is live few why = inr (length ts, reason, fault_of_end ts s reason is live why few)
@@ -136,8 +139,12 @@ one_more_word before w after = take-append-add before (w ∷ after) 1 ∙ ap (λ
 fault_at_word : (before : List Word) (w : Word) (after : List Word) (s : State) (reason : Reason) → run first before ≡ s → (s ≡ stuck → ⊥) → moves_in s ≤ 65535
     → fault_at (standing_of s) w ≡ Some reason → Passes (feed s w) (Some reason) → HasVerdict (before ++ w ∷ after)
 fault_at_word before w after s reason is live few why dead =
-    inr (length before, reason, fault_here (before ++ w ∷ after) (length before) w s reason (ap (run first) (take-append_seam before (w ∷ after)) ∙ is) live
-    (let e = length-append before (w ∷ after) in omega (arith, e)) (one_more_word before w after) why dead few)
+    inr (
+      length before,
+      reason,
+      fault_here (before ++ w ∷ after) (length before) w s reason (ap (run first) (take-append_seam before (w ∷ after)) ∙ is) live
+          (let e = length-append before (w ∷ after) in omega (arith, e)) (one_more_word before w after) why dead few,
+    )
 
 verdict_by : (w : Word) (after before : List Word) (s : State) → run first before ≡ s → (s ≡ stuck → ⊥) → moves_in s ≤ 65535 → (o : Option Reason) → fault_at (standing_of s) w ≡ o
     → (Passes (feed s w) None → HasVerdict (before ++ w ∷ after)) → HasVerdict (before ++ w ∷ after)
@@ -163,11 +170,10 @@ by_length : (start : ℕ) (first : Bool) (bytes : List ℕ) → (2 ^ 24 < length
 by_length start first bytes (inl long) _ =
     (Err (record { byte = start + 2 ^ 24; reason = GameTooLong }), inl (record { long = long; fault = refl }))
 by_length start first bytes (inr short) (inl (game, only)) = (Ok game, (short, only))
-by_length start first bytes (inr short) (inr (i, reason, fault)) =
-    (
-      Err (record { byte = place_or (start + length bytes) (slice_get (tokens_of start first bytes) i); reason = reason }),
-      inr (record { short = short; index = i; fault = fault; byte = refl }),
-    )
+by_length start first bytes (inr short) (inr (i, reason, fault)) = (
+  Err (record { byte = place_or (start + length bytes) (slice_get (tokens_of start first bytes) i); reason = reason }),
+  inr (record { short = short; index = i; fault = fault; byte = refl }),
+)
 
 pub verdict : (start : ℕ) (first : Bool) (bytes : List ℕ) → (r : Result Game GameFault) × IsRead start first bytes r
 verdict start first bytes = by_length start first bytes (long_or_short (2 ^ 24) (length bytes)) (verdict_of (words_of start first bytes))

@@ -8,5 +8,4 @@ ghost use Rattle.pgn_reader.specs.Verdict.{IsRead};
 #[tactic(auto, using(crate::proofs::Verdicts::verdict))]
 pub fn games_have_outcomes()
     ensures { (start : ℕ) (first : Bool) (bytes : List ℕ) → (outcome : Result Game GameFault) × IsRead start first bytes outcome }
-{
-}
+{}
