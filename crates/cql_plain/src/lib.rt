@@ -5,7 +5,17 @@
 #![tactic(auto)]
 
 pub mod at;
+mod combine;
+mod contexts;
+mod evaluate;
+mod fits;
+mod headers;
 pub mod names;
+mod numbers;
+mod sets;
+mod value;
+mod walks;
+mod words;
 
 pub use at::{holds_at, number_at, set_at};
 pub use names::Names;

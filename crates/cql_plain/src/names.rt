@@ -1,6 +1,10 @@
 //! The squares bound to names.
-ghost use Rattle.std.specs.Prelude.{◌≡◌, ◌<◌, [], ◌∷◌, length, drop, OnOk, OnErr};
+ghost use Rattle.std.specs.Prelude.{◌≡◌, ◌<◌, [], ◌∷◌, length, drop, IfOk, OnOk, OnErr};
+ghost use Rattle.cql_syntax.specs.Meaning.{is_bound_to};
+ghost use Rattle.cql_syntax.specs.Values.{squares_where};
+ghost use Rattle.cql_plain.specs.Shown.{meant};
 
+use crate::value::Value;
 use cq_geometry::Square;
 use cq_outside::{Bytes, NoMemory};
 use std::alloc::Global;
@@ -50,5 +54,38 @@ impl Names {
     {
         let kept = self.pairs.len() - 1;
         self.pairs.truncate(kept);
+    }
+
+    /// The same bindings, and one more inside of them.
+    pub(crate) fn with(&self, alloc: Global, name: &[u8], s: Square) -> Result<Names, NoMemory>
+        ensures { IfOk result (λ inner. inner ≡ (name.now, s) ∷ self.now) }
+    {
+        let mut inner = self.copy(alloc)?;
+        inner.bind(name, s)?;
+        Ok(inner)
+    }
+
+    fn copy(&self, alloc: Global) -> Result<Names, NoMemory>
+        ensures { IfOk result (λ same. same ≡ self.now) }
+    {
+        let mut copied = Names::new(alloc);
+        for pair in self.pairs.as_slice() {
+            copied.bind(pair.0.as_slice(), pair.1)?;
+        }
+        Ok(copied)
+    }
+
+    /// The square that is bound to a name, as a set; of a name that isn't bound there is none.
+    pub(crate) fn squares_of(&self, name: &[u8]) -> Value
+        ensures { meant result ≡ squares_where (is_bound_to self.now name.now) }
+    {
+        let mut kept = self.pairs.len();
+        while kept > 0 {
+            kept -= 1;
+            if self.pairs[kept].0.as_slice() == name {
+                return Value::Set(1 << self.pairs[kept].1.number());
+            }
+        }
+        Value::Set(0)
     }
 }
