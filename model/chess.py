@@ -131,6 +131,44 @@ def in_check(p, side):
 CORNER = {7: "K", 0: "Q", 63: "k", 56: "q"}
 
 
+def read_placement(text):
+    """the board, or None"""
+    rows = text.split(b"/")
+    if len(rows) != 8:
+        return None
+    board = [EMPTY] * 64
+    for i, row in enumerate(rows):
+        f = 0
+        for letter in map(chr, row):
+            if letter in "12345678":
+                f += int(letter)
+            elif letter in MEN and f < 8:
+                board[(7 - i) * 8 + f] = MEN.index(letter)
+                f += 1
+            else:
+                return None
+        if f != 8:
+            return None
+    return board
+
+
+def rights_that_count(board, text):
+    """the castling rights of the text with king and rook at home"""
+    homes = (("K", 4, 7, 0), ("Q", 4, 0, 0), ("k", 60, 63, 6), ("q", 60, 56, 6))
+    return "".join(
+        right
+        for right, king, rook, o in homes
+        if ord(right) in text and board[king] == KING + o and board[rook] == ROOK + o
+    )
+
+
+def square_that_counts(board, side, s):
+    """the en passant square where a pawn can just have passed it, or None"""
+    row, up, pawn = (5, 8, PAWN + 6) if side == 0 else (2, -8, PAWN)
+    passed = s >> 3 == row and board[s] == EMPTY and board[s - up] == pawn and board[s + up] == EMPTY
+    return s if passed else None
+
+
 def read_fen(text):
     """A position, or the name of the first fault."""
     fs = [x for x in text.split(b" ") if x]
@@ -138,27 +176,9 @@ def read_fen(text):
         fs += [b"0", b"1"]
     if len(fs) != 6:
         return "Fields"
-    rows = fs[0].split(b"/")
-    board = [EMPTY] * 64
-    if len(rows) != 8:
+    board = read_placement(fs[0])
+    if board is None:
         return "Placement"
-    for i, row in enumerate(rows):
-        f = 0
-        for c in row:
-            letter = chr(c)
-            if letter in "12345678":
-                f += int(letter)
-            elif letter in MEN:
-                if f > 7:
-                    return "Placement"
-                board[(7 - i) * 8 + f] = MEN.index(letter)
-                f += 1
-            else:
-                return "Placement"
-            if f > 8:
-                return "Placement"
-        if f != 8:
-            return "Placement"
     if fs[1] not in (b"w", b"b"):
         return "Side"
     side = 0 if fs[1] == b"w" else 1
@@ -178,18 +198,8 @@ def read_fen(text):
             return "TooManyMen"
     if is_attacked_king(board, 1 - side):
         return "OpponentInCheck"
-    castling = ""
-    if fs[2] != b"-":
-        for letter, ks, rs, o in (("K", 4, 7, 0), ("Q", 4, 0, 0), ("k", 60, 63, 6), ("q", 60, 56, 6)):
-            if ord(letter) in fs[2] and board[ks] == KING + o and board[rs] == ROOK + o:
-                castling += letter
-    en_passant = None
-    if fs[3] != b"-":
-        s = (fs[3][1] - 49) * 8 + fs[3][0] - 97
-        if side == 0 and (s >> 3) == 5 and board[s] == EMPTY and board[s - 8] == PAWN + 6 and board[s + 8] == EMPTY:
-            en_passant = s
-        if side == 1 and (s >> 3) == 2 and board[s] == EMPTY and board[s + 8] == PAWN and board[s - 8] == EMPTY:
-            en_passant = s
+    castling = rights_that_count(board, fs[2])
+    en_passant = None if fs[3] == b"-" else square_that_counts(board, side, (fs[3][1] - 49) * 8 + fs[3][0] - 97)
     return Position(board, side, castling, en_passant, max(1, int(fs[5])))
 
 
@@ -245,60 +255,54 @@ def play(p, m):
     return Position(board, 1 - p.side, castling, en_passant, min(p.number + p.side, 4294967295))
 
 
+def pawn_goals(p, fr):
+    up, first = (8, 1) if p.side == 0 else (-8, 6)
+    goals = [t for t in PAWN_ATTACKS[p.side][fr] if side_of(p.board[t]) == 1 - p.side or t == p.en_passant]
+    if p.board[fr + up] == EMPTY:
+        goals.append(fr + up)
+        if fr >> 3 == first and p.board[fr + 2 * up] == EMPTY:
+            goals.append(fr + 2 * up)
+    return goals
+
+
+def castling_goals(p, fr):
+    home = 4 if p.side == 0 else 60
+    if fr != home:
+        return []
+    goals = []
+    for right, step, free in (("Kk"[p.side], 1, 2), ("Qq"[p.side], -1, 3)):
+        is_free = all(p.board[home + i * step] == EMPTY for i in range(1, free + 1))
+        if (
+            right in p.castling
+            and is_free
+            and not any(attacked(p.board, home + i * step, 1 - p.side) for i in range(3))
+        ):
+            goals.append(home + 2 * step)
+    return goals
+
+
+def goals_of(p, fr):
+    man = p.board[fr] % 6
+    if man == PAWN:
+        return pawn_goals(p, fr)
+    goals = [t for t in attacks_list(p.board, fr) if side_of(p.board[t]) != p.side]
+    return goals + castling_goals(p, fr) if man == KING else goals
+
+
 def legal_moves(p):
+    """the legal moves but the null move, by square of origin and then by goal"""
     if p.legal is not None:
         return p.legal
-    out = []
-    board = p.board
-    me = p.side
-    o = 6 * me
-    up = 8 if me == 0 else -8
+    p.legal = []
     for fr in range(64):
-        m = board[fr]
-        if side_of(m) != me:
+        if side_of(p.board[fr]) != p.side:
             continue
-        goals = []
-        if m % 6 == PAWN:
-            for t in PAWN_ATTACKS[me][fr]:
-                if side_of(board[t]) == 1 - me or t == p.en_passant:
-                    goals.append(t)
-            if board[fr + up] == EMPTY:
-                goals.append(fr + up)
-                if (fr >> 3) == (1 if me == 0 else 6) and board[fr + 2 * up] == EMPTY:
-                    goals.append(fr + 2 * up)
-        else:
-            goals = [t for t in attacks_list(board, fr) if side_of(board[t]) != me]
-            if m % 6 == KING:
-                home = 4 if me == 0 else 60
-                if fr == home:
-                    if (
-                        "Kk"[me] in p.castling
-                        and board[home + 1] == EMPTY
-                        and board[home + 2] == EMPTY
-                        and not any(attacked(board, home + i, 1 - me) for i in (0, 1, 2))
-                    ):
-                        goals.append(home + 2)
-                    if (
-                        "Qq"[me] in p.castling
-                        and board[home - 1] == EMPTY
-                        and board[home - 2] == EMPTY
-                        and board[home - 3] == EMPTY
-                        and not any(attacked(board, home - i, 1 - me) for i in (0, 1, 2))
-                    ):
-                        goals.append(home - 2)
-        for to in sorted(goals):
-            if board[to] % 6 == KING and board[to] != EMPTY:
+        for to in sorted(goals_of(p, fr)):
+            if p.board[to] in (KING, KING + 6) or is_attacked_king(play(p, (fr, to, None)).board, p.side):
                 continue
-            q = play(p, (fr, to, None))
-            if is_attacked_king(q.board, me):
-                continue
-            if m % 6 == PAWN and (to >> 3) in (0, 7):
-                for pr in (QUEEN, ROOK, BISHOP, KNIGHT):
-                    out.append((fr, to, pr))
-            else:
-                out.append((fr, to, None))
-    p.legal = out
-    return out
+            is_promotion = p.board[fr] % 6 == PAWN and to >> 3 in (0, 7)
+            p.legal += [(fr, to, pr) for pr in ((QUEEN, ROOK, BISHOP, KNIGHT) if is_promotion else (None,))]
+    return p.legal
 
 
 def play_null(p):

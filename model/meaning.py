@@ -131,6 +131,48 @@ def fits(g, f):
     return all(fits(g, p) for p, _, _ in parts_of(f))
 
 
+def tags_of(of, g, white, black):
+    """the tag of the player named, or both"""
+    if of is None:
+        return [white, black]
+    return [white] if (of == "white") != exchanged(g) else [black]
+
+
+def in_range_all(operation, values):
+    """the values joined from the left, None where one is None or a result is out of range"""
+    if None in values:
+        return None
+    result = values[0]
+    for v in values[1:]:
+        result = operation(result, v)
+        if not LOWEST <= result <= HIGHEST:
+            return None
+    return result
+
+
+def steps_of_word(g, word):
+    """the steps of a direction's word under the mappings"""
+    if word == "diagonal":
+        return [COMPASS[c] for c in ("northeast", "northwest", "southeast", "southwest")]
+    if word == "orthogonal":
+        return [COMPASS[c] for c in ("up", "down", "left", "right")]
+    if word == "anydirection":
+        return list(COMPASS.values())
+    return [compass_image(g, COMPASS[word])]
+
+
+def steps_from(squares, steps, least, most):
+    """the squares that lie least to most steps from one of the squares"""
+    out = 0
+    for q in squares_of(squares):
+        for dx, dy in steps:
+            for i in range(least, min(most, 8) + 1):
+                f, r = (q & 7) + i * dx, (q >> 3) + i * dy
+                if on_board(f, r):
+                    out |= 1 << (r * 8 + f)
+    return out
+
+
 class Search:
     """the searched tree of a game and the meaning of filters in it"""
 
@@ -193,24 +235,7 @@ class Search:
             x = self.set(a[0], g, n, e)
             return x & (LIGHT if (k == "light") != light_changed(g) else ALL & ~LIGHT)
         if k == "direction":
-            x = self.set(a[3], g, n, e)
-            w, m, t = a[0], a[1], a[2]
-            if w == "diagonal":
-                ds = [COMPASS[c] for c in ("northeast", "northwest", "southeast", "southwest")]
-            elif w == "orthogonal":
-                ds = [COMPASS[c] for c in ("up", "down", "left", "right")]
-            elif w == "anydirection":
-                ds = list(COMPASS.values())
-            else:
-                ds = [compass_image(g, COMPASS[w])]
-            r = 0
-            for q in squares_of(x):
-                for dx, dy in ds:
-                    for i in range(m, min(t, 8) + 1):
-                        p = ((q & 7) + i * dx, (q >> 3) + i * dy)
-                        if on_board(*p):
-                            r |= 1 << (p[1] * 8 + p[0])
-            return r
+            return steps_from(self.set(a[3], g, n, e), steps_of_word(g, a[0]), a[1], a[2])
         x, y = self.set(a[0], g, n, e), self.set(a[1], g, n, e)
         if k == "attacks":
             return sum(1 << q for q in squares_of(x) if any(y >> t & 1 for t in attacks_list(board, q)))
@@ -241,89 +266,68 @@ class Search:
         if k == "power":
             return sum(POWER[n.pos.board[q]] for q in squares_of(self.set(a[0], g, n, e)))
         if k == "plain":
-            w = a[0]
-            if w == "movenumber":
-                return n.pos.number
-            if w == "year":
-                d = self.game.tags.get(b"Date", b"")[:4]
-                return int(d) if len(d) == 4 and all(c in DIGITS for c in d) else None
-            r = 0
-            x = n
-            while x.parent is not None:
-                if w == "ply" or x.parent.children[0] is not x:
-                    r += 1
-                x = x.parent
-            return r
+            return self.plain_number(a[0], n)
         if k == "elo":
-            of = a[0]
-            if of is not None and exchanged(g):
-                of = {"white": "black", "black": "white"}[of]
-            v = []
-            for w, t in (("white", b"WhiteElo"), ("black", b"BlackElo")):
-                d = self.game.tags.get(t, b"")
-                if of in (None, w) and re.fullmatch(b"[0-9]{1,9}", d):
-                    v.append(int(d))
-            return max(v) if v else None
+            return self.elo(a[0], g)
         if k == "line":
             return self.line(f, g, n, e)
         if k in ("max", "min"):
             v = [self.number(x, g, n, e) for x in a[0]]
             return None if None in v or not v else (max if k == "max" else min)(v)
-        r = None
-        first = True
-        for x in a[0]:
-            m, y = x if k == "sum" else (False, x)
-            y = self.number(y, g, n, e)
-            if y is None:
-                return None
-            if first:
-                r = -y if m else y
-                first = False
-            elif k == "product":
-                r = r * y
-            else:
-                r = r - y if m else r + y
-            if not LOWEST <= r <= HIGHEST:
-                return None
+        if k == "product":
+            return in_range_all(lambda x, y: x * y, [self.number(x, g, n, e) for x in a[0]])
+        values = [(minus, self.number(x, g, n, e)) for minus, x in a[0]]
+        return in_range_all(lambda x, y: x + y, [-v if minus and v is not None else v for minus, v in values])
+
+    def plain_number(self, w, n):
+        if w == "movenumber":
+            return n.pos.number
+        if w == "year":
+            d = self.game.tags.get(b"Date", b"")[:4]
+            return int(d) if len(d) == 4 and all(c in DIGITS for c in d) else None
+        r = 0
+        while n.parent is not None:
+            if w == "ply" or n.parent.children[0] is not n:
+                r += 1
+            n = n.parent
         return r
+
+    def elo(self, of, g):
+        texts = [self.game.tags.get(tag, b"") for tag in tags_of(of, g, b"WhiteElo", b"BlackElo")]
+        return max((int(t) for t in texts if re.fullmatch(b"[0-9]{1,9}", t)), default=None)
+
+    def plain(self, w, g, n):
+        p = n.pos
+        if w == "check":
+            return in_check(p, p.side)
+        if w == "mate":
+            return is_mate(p)
+        if w == "stalemate":
+            return is_stalemate(p)
+        if w in ("wtm", "btm"):
+            return (p.side == 0) == ((w == "wtm") != exchanged(g))
+        if w == "initial":
+            return n.parent is None
+        if w == "terminal":
+            return not self.children[n.no]
+        if w == "mainline":
+            return n.main
+        if w == "variation":
+            return not n.main
+        assert w == "hascomment"
+        return bool(n.comments)
 
     def position(self, f, g, n, e):
         k, a = f.form, f.args
-        p = n.pos
         if k == "plain":
-            w = a[0]
-            if w == "check":
-                return in_check(p, p.side)
-            if w == "mate":
-                return is_mate(p)
-            if w == "stalemate":
-                return is_stalemate(p)
-            if w in ("wtm", "btm"):
-                return (p.side == 0) == ((w == "wtm") != exchanged(g))
-            if w == "initial":
-                return n.parent is None
-            if w == "terminal":
-                return not self.children[n.no]
-            if w == "mainline":
-                return n.main
-            if w == "variation":
-                return not n.main
-            assert w == "hascomment"
-            return bool(n.comments)
+            return self.plain(a[0], g, n)
         if k == "result":
             r = a[0]
             if exchanged(g):
                 r = {"White": "Black", "Black": "White"}.get(r, r)
             return self.game.result == r
         if k == "player":
-            of = a[0]
-            if of is not None and exchanged(g):
-                of = {"white": "black", "black": "white"}[of]
-            return any(
-                a[1] in self.game.tags.get(t, b"")
-                for w, t in (("white", b"White"), ("black", b"Black"))
-                if of in (None, w)
-            )
+            return any(a[1] in self.game.tags.get(t, b"") for t in tags_of(a[0], g, b"White", b"Black"))
         if k in ("event", "site"):
             return a[0] in self.game.tags.get(k.capitalize().encode(), b"")
         if k == "not":
@@ -361,7 +365,11 @@ class Search:
             return True
         if k == "family":
             return any(self.holds(a[1], h, n, e) for h in self.fitting(g, f))
-        assert k == "move", k
+        assert k == "move"
+        return self.move(a, g, n, e)
+
+    def move(self, a, g, n, e):
+        """is the move that leads to the node one of the move filter's"""
         if n.parent is None or n.move is None:
             return False
         o, t, pr = n.move
@@ -378,6 +386,27 @@ class Search:
         if a[3] is not None and (pr is None or not self.set(a[3], g, n, e) >> t & 1):
             return False
         return True
+
+    def paths_up(self, n, primary):
+        path = [n]
+        while n.parent is not None and not (primary and n.parent.children[0] is not n):
+            n = n.parent
+            path.append(n)
+        return [path]
+
+    def paths_down(self, n, primary):
+        """each path from the node to a leaf of the searched tree"""
+        paths = []
+        open_paths = [[n]]
+        while open_paths:
+            w = open_paths.pop()
+            below = self.children[w[-1].no]
+            if primary:
+                below = [x for x in below if x.parent.children[0] is x]
+            if not below:
+                paths.append(w)
+            open_paths += [w + [x] for x in below]
+        return paths
 
     def line(self, f, g, n, e):
         back, primary, ext, parts = f.args
@@ -433,28 +462,8 @@ class Search:
         def ok(k):
             return k >= 1 and (ext is None or ext[0] <= k <= ext[1])
 
-        # all paths from n; a path is known by its last node, so only the length spelled of the longest is asked
-        paths = []
-        if back:
-            w = [n]
-            while True:
-                x = w[-1]
-                if x.parent is None or (primary and x.parent.children[0] is not x):
-                    break
-                w.append(x.parent)
-            paths.append(w)
-        else:
-            st = [[n]]
-            while st:
-                w = st.pop()
-                ks = self.children[w[-1].no]
-                if primary:
-                    ks = [x for x in ks if x.parent.children[0] is x]
-                if not ks:
-                    paths.append(w)
-                for x in ks:
-                    st.append(w + [x])
-        for w in paths:
+        # A path is known by its last node, so the length of the longest spelled part is all that is asked.
+        for w in self.paths_up(n, primary) if back else self.paths_down(n, primary):
             for k in seq(parts, w, {0}):
                 if ok(k) and (best is None or k > best):
                     best = k
