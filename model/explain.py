@@ -37,8 +37,10 @@ def flat(f, g):
         return W("elo", *([ex(a[0])] if a[0] else []))
     if k in ("event", "site", "comment"):
         return W(k, S(a[0]))
-    if k in ("not", "find", "find <--", "child", "parent", "~", "#", "power"):
+    if k in ("not", "find", "child", "parent", "~", "#", "power"):
         return W(k, flat(a[0], g))
+    if k == "find <--":
+        return W("find<--", flat(a[0], g))
     if k in ("light", "dark"):
         return W(k if not light_changed(g) else {"light": "dark", "dark": "light"}[k], flat(a[0], g))
     if k == "direction":

@@ -130,6 +130,7 @@ def cut(b):
 
 
 # Reading a game.
+MOST_BYTES, MOST_POSITIONS, MOST_LEVELS = 1 << 24, 65536, 100
 TOKEN_FAULTS = {"BadByte": "bad byte", "UnclosedComment": "unclosed comment", "UnclosedText": "unclosed string"}
 
 
@@ -147,10 +148,11 @@ class Game:
 
 
 class Level:
+    """an open line: its last node, its last move's node, and the notes that wait for its first move"""
+
     def __init__(self, at):
-        self.here = at
-        self.last = None
-        self.pending = []
+        self.here, self.last = at, None
+        self.comments, self.nags = [], []
 
 
 def unescape(s):
@@ -170,128 +172,148 @@ def words(t):
     return [w for w in re.split(rb"[\x09-\x0d\x20]+", bytes(t)) if w]
 
 
-def read_game(b, span, limit=1 << 24, maxnodes=65536, maxdepth=100):
+class GameFault(Exception):
+    def __init__(self, byte, reason):
+        self.byte, self.reason = byte, reason
+
+
+class Reader:
+    """reads a game's tokens in order; a fault is raised at the first token that no game continues with"""
+
+    def __init__(self, archive):
+        self.archive = archive
+        self.tags = {}
+        self.root = Node(None, None, START)
+        self.part_of_tag = None
+        self.name = None
+        self.levels = []
+        self.count = 1
+        self.result = None
+
+    def text(self, token):
+        return bytes(self.archive[token[0] : token[1]])
+
+    def token(self, token):
+        at, _, kind, _ = token
+        if kind == "Escape":
+            return
+        if kind in TOKEN_FAULTS:
+            raise GameFault(at, TOKEN_FAULTS[kind])
+        if self.part_of_tag is not None:
+            self.inside_tag(token)
+        elif kind in ("Close", "Text") or (kind == "Open" and self.levels):
+            raise GameFault(at, "bad tag")
+        elif kind == "Open":
+            self.part_of_tag = "name"
+        elif kind in ("Comment", "LineComment"):
+            self.comment(self.text(token), kind)
+        else:
+            self.movetext(token)
+
+    def inside_tag(self, token):
+        at, _, kind, _ = token
+        if self.part_of_tag == "name" and kind == "Symbol":
+            self.name = self.text(token)
+            self.part_of_tag = "value"
+        elif self.part_of_tag == "value" and kind == "Text":
+            if self.name not in self.tags:
+                self.tag(at, unescape(self.text(token)[1:-1]))
+            self.part_of_tag = "close"
+        elif self.part_of_tag == "close" and kind == "Close":
+            self.part_of_tag = None
+            self.root.comments = []
+        else:
+            raise GameFault(at, "bad tag")
+
+    def tag(self, at, value):
+        if self.name == b"FEN":
+            self.root.pos = read_fen(value)
+            if isinstance(self.root.pos, str):
+                raise GameFault(at, "bad FEN")
+        self.tags[self.name] = value
+
+    def comment(self, text, kind):
+        text = b" ".join(words(text[1:-1] if kind == "Comment" else text[1:].replace(b"}", b")")))
+        if text and self.levels and self.levels[-1].last is not None:
+            self.levels[-1].last.comments.append(text)
+        elif text and len(self.levels) > 1:
+            self.levels[-1].comments.append(text)
+        elif text:
+            self.root.comments.append(text)
+
+    def movetext(self, token):
+        at, _, kind, number = token
+        if not self.levels:
+            self.levels = [Level(self.root)]
+        if kind == "Nag":
+            self.nag(at, number)
+        elif kind == "Left":
+            self.open_variation(at)
+        elif kind == "Right":
+            self.close_variation(at)
+        elif is_marker(self.archive, token):
+            if len(self.levels) == 1:
+                self.result = MARKERS[self.text(token)]
+        elif kind != "Period" and not all(c in DIGITS for c in self.text(token)):
+            self.move(at, self.text(token))
+
+    def nag(self, at, number):
+        if number > 255:
+            raise GameFault(at, "NAG out of range")
+        level = self.levels[-1]
+        if level.last is not None:
+            level.last.nags.append(number)
+        elif len(self.levels) > 1:
+            level.nags.append(number)
+
+    def open_variation(self, at):
+        if self.levels[-1].last is None:
+            raise GameFault(at, "variation without move")
+        if len(self.levels) > MOST_LEVELS:
+            raise GameFault(at, "too deep")
+        self.levels.append(Level(self.levels[-1].last.parent))
+
+    def close_variation(self, at):
+        if len(self.levels) == 1:
+            raise GameFault(at, "unopened variation")
+        if self.levels[-1].last is None:
+            raise GameFault(at, "empty variation")
+        self.levels.pop()
+
+    def move(self, at, text):
+        level = self.levels[-1]
+        answer = read_san(level.here.pos, text)
+        if answer[0]:
+            raise GameFault(at, answer[0])
+        if self.count == MOST_POSITIONS:
+            raise GameFault(at, "too many positions")
+        self.count += 1
+        node = Node(level.here, answer[1], answer[2])
+        level.here.children.append(node)
+        node.comments, node.nags = level.comments, level.nags
+        level.comments, level.nags = [], []
+        level.here = level.last = node
+
+    def end(self, at):
+        if self.part_of_tag is not None:
+            raise GameFault(at, "bad tag")
+        if len(self.levels) > 1:
+            raise GameFault(at, "unclosed variation")
+        return make_game(self.tags, self.result or MARKERS.get(self.tags.get(b"Result"), "Open"), self.root)
+
+
+def read_game(archive, span):
     """('fault', byte, reason) or a Game"""
     start, end, tokens = span
-    if end - start > limit:
-        return ("fault", start + limit, "game too long")
-    tags = {}
-    order = []
-    tag = None
-    name = None
-    moved = False
-    lines = None
-    root = Node(None, None, None)
-    count = 1
-    result = None
-    root_comments = []
-    levels = None
-    pos0 = START
-    for t in tokens:
-        at, e, k, num = t
-        if k == "Escape":
-            continue
-        if k in TOKEN_FAULTS:
-            return ("fault", at, TOKEN_FAULTS[k])
-        txt = bytes(b[at:e])
-        if tag is not None:
-            if tag == 0 and k == "Symbol":
-                name = txt
-                tag = 1
-            elif tag == 1 and k == "Text":
-                val = unescape(txt[1:-1])
-                if name not in tags:
-                    if name == b"FEN":
-                        q = read_fen(val)
-                        if isinstance(q, str):
-                            return ("fault", at, "bad FEN")
-                        pos0 = q
-                    tags[name] = val
-                tag = 2
-            elif tag == 2 and k == "Close":
-                tag = None
-                root_comments = []
-            else:
-                return ("fault", at, "bad tag")
-            continue
-        if k in ("Close", "Text"):
-            return ("fault", at, "bad tag")
-        if k == "Open":
-            if moved:
-                return ("fault", at, "bad tag")
-            tag = 0
-            continue
-        if k in ("Comment", "LineComment"):
-            c = b" ".join(words(txt[1:-1] if k == "Comment" else txt[1:].replace(b"}", b")")))
-            if not c:
-                continue
-            if not moved:
-                root_comments.append(c)
-            else:
-                level = levels[-1]
-                if level.last is not None:
-                    level.last.comments.append(c)
-                elif len(levels) == 1:
-                    root_comments.append(c)
-                else:
-                    level.pending.append(("c", c))
-            continue
-        if not moved:
-            moved = True
-            root.pos = pos0
-            levels = [Level(root)]
-        assert result is None
-        level = levels[-1]
-        if k == "Nag":
-            if num > 255:
-                return ("fault", at, "NAG out of range")
-            if level.last is not None:
-                level.last.nags.append(num)
-            elif len(levels) > 1:
-                level.pending.append(("n", num))
-        elif k == "Period":
-            pass
-        elif k == "Left":
-            if level.last is None:
-                return ("fault", at, "variation without move")
-            if len(levels) - 1 >= maxdepth:
-                return ("fault", at, "too deep")
-            levels.append(Level(level.last.parent))
-        elif k == "Right":
-            if len(levels) == 1:
-                return ("fault", at, "unopened variation")
-            if level.last is None:
-                return ("fault", at, "empty variation")
-            levels.pop()
-        elif is_marker(b, t):
-            if len(levels) == 1:
-                result = MARKERS[txt]
-        elif k == "Symbol" and all(c in DIGITS for c in txt):
-            pass
-        else:
-            assert k in ("Symbol", "Null")
-            x = read_san(level.here.pos, txt)
-            if x[0]:
-                return ("fault", at, x[0])
-            if count >= maxnodes:
-                return ("fault", at, "too many positions")
-            count += 1
-            node = Node(level.here, x[1], x[2])
-            level.here.children.append(node)
-            for a, v in level.pending:
-                (node.comments if a == "c" else node.nags).append(v)
-            level.pending = []
-            level.here = node
-            level.last = node
-    if tag is not None:
-        return ("fault", end, "bad tag")
-    if levels is not None and len(levels) > 1:
-        return ("fault", end, "unclosed variation")
-    root.pos = pos0
-    root.comments = root_comments
-    if result is None:
-        result = MARKERS.get(tags.get(b"Result"), "Open")
-    return make_game(tags, result, root)
+    if end - start > MOST_BYTES:
+        return ("fault", start + MOST_BYTES, "game too long")
+    reader = Reader(archive)
+    try:
+        for token in tokens:
+            reader.token(token)
+        return reader.end(end)
+    except GameFault as fault:
+        return ("fault", fault.byte, fault.reason)
 
 
 def make_game(tags, result, root):

@@ -44,7 +44,7 @@ ONE_MAN = re.compile(rb"cql\(\) [KQRBNPkqrbnp][a-h][1-8]")
 
 
 def run_eval(text, b, stage="whole"):
-    """stage 'one man': other queries are not yet read; 'whole': top sorts are not yet read; 'sorts': all"""
+    """(status, out, err) of a program that reads the stage's queries; any other gives 9, not yet read"""
     if stage == "one man" and not ONE_MAN.fullmatch(text):
         return (9, b"", b"")
     try:

@@ -83,16 +83,6 @@ def squares_mask(t):
     return m
 
 
-def longest_spec(b, i):
-    """the longest specification that begins at i: its end or None"""
-    best = None
-    for pat in (rb"[a-h][1-8]", rb"[a-h]-[a-h][1-8]", rb"[a-h][1-8]-[1-8]", rb"[a-h]-[a-h][1-8]-[1-8]"):
-        x = re.compile(pat).match(b, i)
-        if x and (best is None or x.end() > best):
-            best = x.end()
-    return best
-
-
 def longest_squares(b, i):
     if i < len(b) and b[i] == 91:
         j = i + 1
@@ -108,7 +98,7 @@ def longest_squares(b, i):
                     nxt |= set(spec_ends(b, e + 1))
             ends = nxt
         return close
-    return longest_spec(b, i)
+    return max(spec_ends(b, i), default=None)
 
 
 def spec_ends(b, i):
@@ -223,9 +213,6 @@ class Filter:
 
     def __init__(self, at, form, *a):
         self.at, self.form, self.args = at, form, list(a)
-
-    def __repr__(self):
-        return "%s@%d(%s)" % (self.form, self.at, ", ".join(map(repr, self.args)))
 
 
 class Parser:
