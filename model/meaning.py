@@ -1,0 +1,481 @@
+"""What a filter means at a node of a game's tree: a set of squares, a number, or a truth value.
+
+A filter is asked under a tuple of mappings (the innermost family first) and an environment of named squares."""
+
+import re
+
+from chess import EMPTY, PAWN, attacks_list, between, in_check, is_mate, is_stalemate, on_board
+from pgn import DIGITS
+from query import FAMILIES, kind_of, parts_of
+
+SYMMETRIES = {
+    1: lambda f, r: (f, r),
+    2: lambda f, r: (7 - f, r),
+    3: lambda f, r: (f, 7 - r),
+    4: lambda f, r: (7 - f, 7 - r),
+    5: lambda f, r: (r, f),
+    6: lambda f, r: (7 - r, f),
+    7: lambda f, r: (r, 7 - f),
+    8: lambda f, r: (7 - r, 7 - f),
+}
+
+
+def members(fam):
+    """mappings (symmetry, exchange, east, north)"""
+    if fam == "flip":
+        return [(i, False, 0, 0) for i in range(1, 9)]
+    if fam == "rotate90":
+        return [(i, False, 0, 0) for i in (1, 7, 4, 6)]
+    if fam == "flipvertical":
+        return [(1, False, 0, 0), (3, False, 0, 0)]
+    if fam == "fliphorizontal":
+        return [(1, False, 0, 0), (2, False, 0, 0)]
+    if fam == "flipcolor":
+        return [(1, False, 0, 0), (3, True, 0, 0)]
+    if fam == "shift":
+        return [(1, False, e, n) for n in range(-7, 8) for e in range(-7, 8)]
+    if fam == "shifthorizontal":
+        return [(1, False, e, 0) for e in range(-7, 8)]
+    return [(1, False, 0, n) for n in range(-7, 8)]
+
+
+MEMBERS = {f: members(f) for f in FAMILIES}
+
+
+def image_under(m, d):
+    """a designator under one mapping, or None"""
+    men, sq, wr, wf = d
+    sy, ex, ea, no = m
+    if ex:
+        men = ((men & 63) << 6) | ((men >> 6) & 63) | (men & 4096)
+    if ea or no:
+        dx = 0 if wr else ea
+        dy = 0 if wf else no
+        mv = lambda f, r: (f + dx, r + dy)
+    else:
+        mv = SYMMETRIES[sy]
+    out = 0
+    for s in range(64):
+        if sq >> s & 1:
+            f, r = mv(s & 7, s >> 3)
+            if on_board(f, r):
+                out |= 1 << (r * 8 + f)
+    if out == 0:
+        return None
+    if sy >= 5:
+        wr, wf = wf, wr
+    return (men, out, wr, wf)
+
+
+_images = {}
+
+
+def image(g, d):
+    k = (g, d)
+    if k not in _images:
+        if len(_images) > 300000:
+            _images.clear()
+        x = d
+        for m in g:
+            x = image_under(m, x)
+            if x is None:
+                break
+        _images[k] = x
+    return _images[k]
+
+
+def exchanged(g):
+    return sum(m[1] for m in g) % 2 == 1
+
+
+def light_changed(g):
+    return sum(m[0] in (2, 3, 6, 7) for m in g) % 2 == 1
+
+
+COMPASS = {
+    "up": (0, 1),
+    "down": (0, -1),
+    "left": (-1, 0),
+    "right": (1, 0),
+    "northeast": (1, 1),
+    "northwest": (-1, 1),
+    "southeast": (1, -1),
+    "southwest": (-1, -1),
+}
+
+
+def compass_image(g, d):
+    for m in g:
+        o = SYMMETRIES[m[0]](0, 0)
+        t = SYMMETRIES[m[0]](*d)
+        d = (t[0] - o[0], t[1] - o[1])
+    return d
+
+
+LIGHT = sum(1 << s for s in range(64) if ((s & 7) + (s >> 3)) % 2 == 1)
+ALL = (1 << 64) - 1
+POWER = [0, 9, 5, 3, 3, 1] * 2 + [0]
+LOWEST, HIGHEST = -(1 << 63), (1 << 63) - 1
+
+
+def squares_of(m):
+    return [s for s in range(64) if m >> s & 1]
+
+
+def fits(g, f):
+    """decided by the designators and families that stand under no further family"""
+    if f.form == "designator":
+        return image(g, f.args[0]) is not None
+    if f.form == "family":
+        return any(fits((h,) + g, f.args[1]) for h in MEMBERS[f.args[0]])
+    return all(fits(g, p) for p, _, _ in parts_of(f))
+
+
+def tags_of(of, g, white, black):
+    """the tag of the player named, or both"""
+    if of is None:
+        return [white, black]
+    return [white] if (of == "white") != exchanged(g) else [black]
+
+
+def in_range_all(operation, values):
+    """the values joined from the left, None where one is None or a result is out of range"""
+    if None in values:
+        return None
+    result = values[0]
+    for v in values[1:]:
+        result = operation(result, v)
+        if not LOWEST <= result <= HIGHEST:
+            return None
+    return result
+
+
+def steps_of_word(g, word):
+    """the steps of a direction's word under the mappings"""
+    if word == "diagonal":
+        return [COMPASS[c] for c in ("northeast", "northwest", "southeast", "southwest")]
+    if word == "orthogonal":
+        return [COMPASS[c] for c in ("up", "down", "left", "right")]
+    if word == "anydirection":
+        return list(COMPASS.values())
+    return [compass_image(g, COMPASS[word])]
+
+
+def steps_from(squares, steps, least, most):
+    """the squares that lie least to most steps from one of the squares"""
+    out = 0
+    for q in squares_of(squares):
+        for dx, dy in steps:
+            for i in range(least, min(most, 8) + 1):
+                f, r = (q & 7) + i * dx, (q >> 3) + i * dy
+                if on_board(f, r):
+                    out |= 1 << (r * 8 + f)
+    return out
+
+
+class Search:
+    """the searched tree of a game and the meaning of filters in it"""
+
+    def __init__(self, game, variations):
+        self.game = game
+        self.var = variations
+        self.nodes = game.nodes if variations else [x for x in game.nodes if x.main]
+        self.children = {x.no: (x.children if variations else x.children[:1]) for x in self.nodes}
+        self.fit = {}
+
+    def fitting(self, g, f):
+        k = (id(f), g)
+        if k not in self.fit:
+            self.fit[k] = (f, [(h,) + g for h in MEMBERS[f.args[0]] if fits((h,) + g, f.args[1])])
+        return self.fit[k][1]
+
+    def descendants(self, n):
+        out = []
+        st = [n]
+        while st:
+            x = st.pop()
+            out.append(x)
+            st.extend(self.children[x.no])
+        return out
+
+    def holds(self, f, g, n, e):
+        k = kind_of(f)
+        if k == "set":
+            return self.set(f, g, n, e) != 0
+        if k == "number":
+            return self.number(f, g, n, e) is not None
+        return self.position(f, g, n, e)
+
+    def set(self, f, g, n, e):
+        k, a = f.form, f.args
+        board = n.pos.board
+        if k == "designator":
+            d = image(g, a[0])
+            return 0 if d is None else sum(1 << q for q in range(64) if d[1] >> q & 1 and d[0] >> board[q] & 1)
+        if k == "name":
+            return 1 << dict(e)[a[0]]
+        if k == "family":
+            r = 0
+            for h in self.fitting(g, f):
+                r |= self.set(a[1], h, n, e)
+            return r
+        if k == "~":
+            return ALL & ~self.set(a[0], g, n, e)
+        if k == "union":
+            r = 0
+            for x in a[0]:
+                r |= self.set(x, g, n, e)
+            return r
+        if k == "intersection":
+            r = ALL
+            for x in a[0]:
+                r &= self.set(x, g, n, e)
+            return r
+        if k in ("light", "dark"):
+            x = self.set(a[0], g, n, e)
+            return x & (LIGHT if (k == "light") != light_changed(g) else ALL & ~LIGHT)
+        if k == "direction":
+            return steps_from(self.set(a[3], g, n, e), steps_of_word(g, a[0]), a[1], a[2])
+        x, y = self.set(a[0], g, n, e), self.set(a[1], g, n, e)
+        if k == "attacks":
+            return sum(1 << q for q in squares_of(x) if any(y >> t & 1 for t in attacks_list(board, q)))
+        if k == "attackedby":
+            r = 0
+            for q in squares_of(y):
+                for t in attacks_list(board, q):
+                    r |= 1 << t
+            return r & x
+        assert k == "between"
+        r = 0
+        for p in squares_of(x):
+            for q in squares_of(y):
+                for t in between(p, q):
+                    r |= 1 << t
+        return r
+
+    def number(self, f, g, n, e):
+        k, a = f.form, f.args
+        if k == "number":
+            return a[0]
+        if k == "family":
+            v = [self.number(a[1], h, n, e) for h in self.fitting(g, f)]
+            v = [x for x in v if x is not None]
+            return max(v) if v else None
+        if k == "#":
+            return bin(self.set(a[0], g, n, e)).count("1")
+        if k == "power":
+            return sum(POWER[n.pos.board[q]] for q in squares_of(self.set(a[0], g, n, e)))
+        if k == "plain":
+            return self.plain_number(a[0], n)
+        if k == "elo":
+            return self.elo(a[0], g)
+        if k == "line":
+            return self.line(f, g, n, e)
+        if k in ("max", "min"):
+            v = [self.number(x, g, n, e) for x in a[0]]
+            return None if None in v or not v else (max if k == "max" else min)(v)
+        if k == "product":
+            return in_range_all(lambda x, y: x * y, [self.number(x, g, n, e) for x in a[0]])
+        values = [(minus, self.number(x, g, n, e)) for minus, x in a[0]]
+        return in_range_all(lambda x, y: x + y, [-v if minus and v is not None else v for minus, v in values])
+
+    def plain_number(self, w, n):
+        if w == "movenumber":
+            return n.pos.number
+        if w == "year":
+            d = self.game.tags.get(b"Date", b"")[:4]
+            return int(d) if len(d) == 4 and all(c in DIGITS for c in d) else None
+        r = 0
+        while n.parent is not None:
+            if w == "ply" or n.parent.children[0] is not n:
+                r += 1
+            n = n.parent
+        return r
+
+    def elo(self, of, g):
+        texts = [self.game.tags.get(tag, b"") for tag in tags_of(of, g, b"WhiteElo", b"BlackElo")]
+        return max((int(t) for t in texts if re.fullmatch(b"[0-9]{1,9}", t)), default=None)
+
+    def plain(self, w, g, n):
+        p = n.pos
+        if w == "check":
+            return in_check(p, p.side)
+        if w == "mate":
+            return is_mate(p)
+        if w == "stalemate":
+            return is_stalemate(p)
+        if w in ("wtm", "btm"):
+            return (p.side == 0) == ((w == "wtm") != exchanged(g))
+        if w == "initial":
+            return n.parent is None
+        if w == "terminal":
+            return not self.children[n.no]
+        if w == "mainline":
+            return n.main
+        if w == "variation":
+            return not n.main
+        assert w == "hascomment"
+        return bool(n.comments)
+
+    def position(self, f, g, n, e):
+        k, a = f.form, f.args
+        if k == "plain":
+            return self.plain(a[0], g, n)
+        if k == "result":
+            r = a[0]
+            if exchanged(g):
+                r = {"White": "Black", "Black": "White"}.get(r, r)
+            return self.game.result == r
+        if k == "player":
+            return any(a[1] in self.game.tags.get(t, b"") for t in tags_of(a[0], g, b"White", b"Black"))
+        if k in ("event", "site"):
+            return a[0] in self.game.tags.get(k.capitalize().encode(), b"")
+        if k == "not":
+            return not self.holds(a[0], g, n, e)
+        if k in ("and", "all"):
+            return all(self.holds(x, g, n, e) for x in a[0])
+        if k == "or":
+            return any(self.holds(x, g, n, e) for x in a[0])
+        if k == "if":
+            return self.holds(a[1] if self.holds(a[0], g, n, e) else a[2], g, n, e)
+        if k in ("<", "<=", "==", ">=", ">"):
+            x, y = self.number(a[0], g, n, e), self.number(a[1], g, n, e)
+            if x is None or y is None:
+                return False
+            return {"<": x < y, "<=": x <= y, "==": x == y, ">=": x >= y, ">": x > y}[k]
+        if k == "square":
+            v = [self.holds(a[3], g, n, e + ((a[1], q),)) for q in squares_of(self.set(a[2], g, n, e))]
+            return all(v) if a[0] else any(v)
+        if k == "find":
+            return any(self.holds(a[0], g, x, e) for x in self.descendants(n))
+        if k == "find <--":
+            x = n
+            while x is not None:
+                if self.holds(a[0], g, x, e):
+                    return True
+                x = x.parent
+            return False
+        if k == "child":
+            return any(self.holds(a[0], g, x, e) for x in self.children[n.no])
+        if k == "parent":
+            return n.parent is not None and self.holds(a[0], g, n.parent, e)
+        if k == "sort":
+            return self.number(a[2], g, n, e) is not None
+        if k == "comment":
+            return True
+        if k == "family":
+            return any(self.holds(a[1], h, n, e) for h in self.fitting(g, f))
+        assert k == "move"
+        return self.move(a, g, n, e)
+
+    def move(self, a, g, n, e):
+        """is the move that leads to the node one of the move filter's"""
+        if n.parent is None or n.move is None:
+            return False
+        o, t, pr = n.move
+        b = n.parent.pos.board
+        taken = t if b[t] != EMPTY else None
+        if b[t] == EMPTY and b[o] % 6 == PAWN and (o & 7) != (t & 7):
+            taken = (o >> 3) * 8 + (t & 7)
+        if a[0] is not None and not self.set(a[0], g, n.parent, e) >> o & 1:
+            return False
+        if a[1] is not None and not self.set(a[1], g, n, e) >> t & 1:
+            return False
+        if a[2] is not None and (taken is None or not self.set(a[2], g, n.parent, e) >> taken & 1):
+            return False
+        if a[3] is not None and (pr is None or not self.set(a[3], g, n, e) >> t & 1):
+            return False
+        return True
+
+    def paths_up(self, n, primary):
+        path = [n]
+        while n.parent is not None and not (primary and n.parent.children[0] is not n):
+            n = n.parent
+            path.append(n)
+        return [path]
+
+    def paths_down(self, n, primary):
+        """each path from the node to a leaf of the searched tree"""
+        paths = []
+        open_paths = [[n]]
+        while open_paths:
+            w = open_paths.pop()
+            below = self.children[w[-1].no]
+            if primary:
+                below = [x for x in below if x.parent.children[0] is x]
+            if not below:
+                paths.append(w)
+            open_paths += [w + [x] for x in below]
+        return paths
+
+    def line(self, f, g, n, e):
+        back, primary, ext, parts = f.args
+        memo = {}
+
+        def at(x, w):
+            k = (id(x), w.no)
+            if k not in memo:
+                memo[k] = self.holds(x, g, w, e)
+            return memo[k]
+
+        def ends(c, w, starts):
+            """the places where a part spelled by the constituent can end, begun at one of the starts"""
+            body, m = c
+
+            def once(st):
+                if body[0] == "atom":
+                    return {i + 1 for i in st if i < len(w) and at(body[1], w[i])}
+                return seq(body[1], w, st)
+
+            if m[0] == "once":
+                return once(starts)
+            lo, hi = {"*": (0, None), "+": (1, None), "?": (0, 1), "times": (m[1], m[2]) if len(m) > 1 else None}[m[0]]
+            if hi is not None and lo > hi:
+                return set()
+            cur = set(starts)
+            i = 0
+            out = set(cur) if lo == 0 else set()
+            while hi is None or i < hi:
+                nxt = once(cur)
+                i += 1
+                if hi is None and i > lo:
+                    new = nxt - out
+                    if not new:
+                        break
+                    out |= nxt
+                    cur = nxt
+                else:
+                    cur = nxt
+                    if i >= lo:
+                        out |= cur
+                if not cur:
+                    break
+            return out
+
+        def seq(cs, w, st):
+            for c in cs:
+                st = ends(c, w, st)
+            return st
+
+        best = None
+
+        def ok(k):
+            return k >= 1 and (ext is None or ext[0] <= k <= ext[1])
+
+        # A path is known by its last node, so the length of the longest spelled part is all that is asked.
+        for w in self.paths_up(n, primary) if back else self.paths_down(n, primary):
+            for k in seq(parts, w, {0}):
+                if ok(k) and (best is None or k > best):
+                    best = k
+        return best
+
+
+def hits(q, game):
+    s = Search(game, q["variations"])
+    return [n for n in s.nodes if all(s.holds(f, (), n, ()) for f in q["items"])], s
+
+
+def keys(q, hs, s):
+    return [
+        (min if f.args[0] else max)(s.number(f.args[2], (), n, ()) for n in hs) for f in q["items"] if f.form == "sort"
+    ]

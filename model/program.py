@@ -1,0 +1,66 @@
+"""The whole program as functions: `eval` of a query over an archive, and `check` of a query."""
+
+import re
+
+from pgn import cut, export, read_game
+from query import QueryFault, fault_line, read_query
+from meaning import hits, keys
+
+_games = {}
+
+
+def games_of(b):
+    if b not in _games:
+        if len(_games) > 50:
+            _games.clear()
+        _games[b] = [read_game(b, sp) for sp in cut(b)]
+    return _games[b]
+
+
+def answer(q, b):
+    """(status, out, err)"""
+    outs = []
+    err = bytearray()
+    gs = games_of(b)
+    refused = 0
+    for i, g in enumerate(gs):
+        if isinstance(g, tuple):
+            refused += 1
+            err += b"game %d byte %d: %s\n" % (i + 1, g[1], g[2].encode())
+            continue
+        hs, s = hits(q, g)
+        if hs:
+            texts = [q["match_text"]] + [f.args[0] for f in q["items"] if f.form == "comment"]
+            ks = keys(q, hs, s)
+            ks = [k if f.args[0] else -k for k, f in zip(ks, [f for f in q["items"] if f.form == "sort"])]
+            outs.append((ks, i, export(g, {n.no: texts for n in hs})))
+    outs.sort(key=lambda x: (x[0], x[1]))
+    err += b"games %d matched %d refused %d\n" % (len(gs), len(outs), refused)
+    return (1 if refused else 0, b"".join(x[2] for x in outs), bytes(err))
+
+
+USAGE = b"usage: cqlpgn MODE QUERY [ARCHIVE] [--workers N] [--seed S] [--games G]\n"
+ONE_MAN = re.compile(rb"cql\(\) [KQRBNPkqrbnp][a-h][1-8]")
+
+
+def run_eval(text, b, stage="whole"):
+    """(status, out, err) of a program that reads the stage's queries; any other gives 9, not yet read"""
+    if stage == "one man" and not ONE_MAN.fullmatch(text):
+        return (9, b"", b"")
+    try:
+        q = read_query(text)
+    except QueryFault as f:
+        return (2, b"", fault_line(f))
+    if stage == "designators" and any(f.form != "designator" for f in q["items"]):
+        return (9, b"", b"")
+    if stage != "sorts" and any(f.form == "sort" for f in q["items"]):
+        return (9, b"", b"")
+    return answer(q, b)
+
+
+def run_check(text):
+    try:
+        read_query(text)
+    except QueryFault as f:
+        return (2, b"", fault_line(f))
+    return (0, b"ok\n", b"")

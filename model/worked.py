@@ -1,0 +1,427 @@
+#!/usr/bin/env python3
+"""Worked examples with the answers a reader expects, checked on the model.
+
+    python3 worked.py [BINARY [STAGE]]
+
+With a binary each example is put through the program too and compared with the model; STAGE is as in fuzz.py.
+"""
+
+import os
+import subprocess
+import sys
+import tempfile
+
+import chess
+import pgn
+import query
+import meaning
+import program
+import explain
+
+MODEL, PROGRAM = "model", "program"
+counts = {MODEL: 0, PROGRAM: 0}
+differing = {MODEL: 0, PROGRAM: 0}
+binary = os.path.abspath(sys.argv[1]) if len(sys.argv) > 1 else None
+stage = sys.argv[2] if len(sys.argv) > 2 else "whole"
+
+
+def compare(side, name, got, want):
+    counts[side] += 1
+    if got != want:
+        differing[side] += 1
+        print("DIFFERS", side, name, "\n got ", got, "\n want", want)
+
+
+def equal(name, got, want):
+    compare(MODEL, name, got, want)
+
+
+def through_program(name, words, data, want, folder=None):
+    p = subprocess.run([binary] + words, input=data, capture_output=True, cwd=folder)
+    compare(PROGRAM, name, (p.returncode, p.stdout, p.stderr), want)
+
+
+def example(name, text, archive, out, err=None, status=None):
+    """what the query answers over the archive; err and status are compared where they are given"""
+    text_bytes, archive_bytes = text.encode(), archive.encode()
+    got_status, got_out, got_err = program.run_eval(text_bytes, archive_bytes, "sorts")
+    equal(name + ": out", got_out.decode(), out)
+    if err is not None:
+        equal(name + ": err", got_err.decode(), err)
+    if status is not None:
+        equal(name + ": status", got_status, status)
+    if binary and len(text) < 100000:
+        through_program(name, ["eval", text], archive_bytes, program.run_eval(text_bytes, archive_bytes, stage))
+
+
+def refused(name, archive, line):
+    """the archive's only game is faulty"""
+    example(name, "cql() initial", archive, "", line + "\ngames 1 matched 0 refused 1\n", 1)
+
+
+def exported(movetext, fen=None):
+    """the export text of a game with no tags but its FEN"""
+    tags = ['Event "?"', 'Site "?"', 'Date "????.??.??"', 'Round "?"', 'White "?"', 'Black "?"']
+    tags.append('Result "%s"' % movetext.split()[-1])
+    if fen:
+        tags += ['FEN "%s"' % fen, 'SetUp "1"']
+    return "".join("[%s]\n" % tag for tag in tags) + "\n" + movetext + "\n\n"
+
+
+def game(movetext, fen=None):
+    return ('[FEN "%s"]\n' % fen if fen else "") + movetext + "\n"
+
+
+CORNER = "8/8/8/8/8/8/8/K1k5 w - - 0 1"
+example(
+    "a man on a square", "cql() Ka1", game("*", CORNER), exported("{CQL} *", CORNER), "games 1 matched 1 refused 0\n", 0
+)
+example("an archive without games", "cql() check", "", "", "games 0 matched 0 refused 0\n", 0)
+SHORT_GAME = game("1. e4 e5 2. Nf3 *")
+example("a position after a move", "cql() Nf3", SHORT_GAME, exported("1. e4 e5 2. Nf3 {CQL} *"))
+MATE_GAME = game("1. e4 e5 2. Bc4 Nc6 3. Qh5 Nf6 4. Qxf7 1-0")
+example("mate", "cql() mate", MATE_GAME, exported("1. e4 e5 2. Bc4 Nc6 3. Qh5 Nf6 4. Qxf7# {CQL} 1-0"))
+VARIATION_GAME = game("1. e4 (1. d4) e5 *")
+example("a variation is not searched", "cql() Pd4", VARIATION_GAME, "", "games 1 matched 0 refused 0\n")
+example("a variation is searched", "cql(variations) Pd4", VARIATION_GAME, exported("1. e4 (1. d4 {CQL}) 1... e5 *"))
+example(
+    "the value of a line",
+    "cql() (line --> Pe4* --> Pe4) >= 2",
+    SHORT_GAME,
+    exported("1. e4 {CQL} 1... e5 {CQL} 2. Nf3 *"),
+)
+g = program.games_of(SHORT_GAME.encode())[0]
+s = meaning.Search(g, False)
+q = query.read_query(b"cql() (line --> Pe4* --> Pe4) >= 2")
+equal(
+    "the values of a line at each node", [s.number(q["items"][0].args[0], (), x, ()) for x in s.nodes], [None, 3, 2, 1]
+)
+example(
+    "colours exchanged",
+    "cql() flipcolor Qh5",
+    game("1. f3 e5 2. g4 Qh4# 0-1"),
+    exported("1. f3 e5 2. g4 Qh4# {CQL} 0-1"),
+)
+SHIFTED = ["4k3/8/8/8/7P/8/8/4K3 w - - 0 1", "4k3/8/8/8/2P5/8/8/4K3 w - - 0 1"]
+example(
+    "shifted together",
+    "cql() shift { Pa2 not Pb3 }",
+    "".join(game("*", f) for f in SHIFTED),
+    exported("{CQL} *", SHIFTED[1]),
+)
+MIRRORED = ["4k3/8/8/8/8/8/7K/8 w - - 0 1", "4k3/8/8/8/8/8/8/7K w - - 0 1"]
+example(
+    "a light square mirrored",
+    "cql() fliphorizontal { light Ka1-8 }",
+    "".join(game("*", f) for f in MIRRORED),
+    exported("{CQL} *", MIRRORED[0]),
+)
+example(
+    "a faulty game among others",
+    "cql() initial",
+    "1. e4 *\n1. e4 e5 2. Ke3 *\n1. d4 *\n",
+    exported("{CQL} 1. e4 *") + exported("{CQL} 1. d4 *"),
+    "game 2 byte 20: illegal move\ngames 3 matched 2 refused 1\n",
+    1,
+)
+example(
+    "an ambiguous move",
+    "cql() initial",
+    "1. d4 d5 2. Nf3 Nf6 3. Nd2 *\n",
+    "",
+    "game 1 byte 23: ambiguous move\ngames 1 matched 0 refused 1\n",
+    1,
+)
+PINNED = "4r2k/8/8/8/4N3/8/8/1N2K3 w - - 0 1"
+example(
+    "a pinned man makes no move ambiguous",
+    "cql() initial",
+    game("1. Nd2 *", PINNED),
+    exported("{CQL} 1. Nd2 *", PINNED),
+)
+example("a word outside the profile", "cql() echo", "", "", "query byte 6: outside profile echo\n", 2)
+example(
+    "a position where a set is wanted",
+    "cql() #check",
+    "",
+    "",
+    "query byte 7: kind mismatch, wanted set, found position\n",
+    2,
+)
+MEN = ["4k3/8/8/8/8/8/P7/4K3 w - - 0 1", "4k3/8/8/8/8/8/8/R3K3 w - - 0 1", "4k3/8/8/8/8/7P/8/4K3 w - - 0 1"]
+MEN_GAMES = "".join(game("*", f) for f in MEN)
+example(
+    "sorted, greatest first",
+    'cql() sort "p" power A',
+    MEN_GAMES,
+    "".join(exported("{CQL} *", MEN[i]) for i in (1, 0, 2)),
+)
+example(
+    "sorted, least first",
+    'cql() sort min "p" power A',
+    MEN_GAMES,
+    "".join(exported("{CQL} *", MEN[i]) for i in (0, 2, 1)),
+)
+equal("many small games", len(program.run_eval(b"cql() initial", b"*\n" * 2048)[1]), 208896)
+SERVER_GAME = (
+    '\ufeff[Event "Rated blitz game"]\r\n[Site "https://lichess.org/abcd1234"]\r\n[Date "2023.05.14"]\r\n'
+    '[Round "-"]\r\n[White "Müller"]\r\n[Black "anna"]\r\n[Result "1-0"]\r\n[WhiteElo "1850"]\r\n[BlackElo "1799"]\r\n'
+    '[TimeControl "180+2"]\r\n\r\n'
+    "1. e4 { [%clk 0:03:00] } 1... e5 { [%clk 0:03:00] } 2. Qh5!? { [%clk 0:02:58] } 2... Nc6 { [%clk 0:02:57] } "
+    "3. Bc4 $1 { [%clk 0:02:55] } 3... Nf6?? { [%clk 0:02:51] } 4. Qxf7# { [%clk 0:02:54] } 1-0\r\n"
+)
+SERVER_EXPORT = (
+    '[Event "Rated blitz game"]\n[Site "https://lichess.org/abcd1234"]\n[Date "2023.05.14"]\n[Round "-"]\n'
+    '[White "Müller"]\n[Black "anna"]\n[Result "1-0"]\n[BlackElo "1799"]\n[TimeControl "180+2"]\n[WhiteElo "1850"]\n\n'
+    "1. e4 {[%clk 0:03:00]} 1... e5 {[%clk 0:03:00]} 2. Qh5 $5 {[%clk 0:02:58]} 2...\n"
+    "Nc6 {[%clk 0:02:57]} 3. Bc4 $1 {[%clk 0:02:55]} 3... Nf6 $4 {[%clk 0:02:51]} 4.\n"
+    "Qxf7# {[%clk 0:02:54]} {mate} 1-0\n\n"
+)
+example(
+    "an archive as a server writes it",
+    'cql(matchstring "mate") mate year == 2023 elo white > 1800',
+    SERVER_GAME,
+    SERVER_EXPORT,
+)
+example("a null move", "cql() initial", "1. e4 (1. --) e5 *\n", exported("{CQL} 1. e4 (1. --) 1... e5 *"))
+example(
+    "a null move in check",
+    "cql() initial",
+    "1. e4 e5 2. Qh5 Nc6 3. Qxf7+ -- *\n",
+    "",
+    "game 1 byte 29: illegal move\ngames 1 matched 0 refused 1\n",
+)
+example(
+    "an unclosed comment takes the rest",
+    "cql() check",
+    '1. e4 {never closed\n[Event "x"]\n1. d4 *\n',
+    "",
+    "game 1 byte 6: unclosed comment\ngames 1 matched 0 refused 1\n",
+)
+equal("a line of 64 places", program.run_check(b"cql() line --> check{64}"), (0, b"ok\n", b""))
+equal("a line of 65 places", program.run_check(b"cql() line --> check{65}")[2], b"query byte 6: line too long\n")
+equal("as many members as fit", program.run_check(b"cql()" + b" flip flip flip flip flip check" * 7 + b" check")[0], 0)
+equal(
+    "one member too many",
+    program.run_check(b"cql()" + b" flip flip flip flip flip check" * 7 + b" check check")[2],
+    b"query byte 6: too many members\n",
+)
+
+
+def opened(text):
+    return explain.explain(query.read_query(text.encode())).decode()
+
+
+equal("the members of flipcolor", opened("cql() flipcolor Ka1"), "(union [K]:0000000000000001 [k]:0100000000000000)\n")
+example(
+    "the squares between",
+    "cql() R attacks k #between(R k) == 3",
+    game("*", "R3k3/8/8/8/8/8/8/4K3 b - - 0 1"),
+    exported("{CQL} *", "R3k3/8/8/8/8/8/8/4K3 b - - 0 1"),
+)
+example(
+    "the side not to move in check",
+    "cql() initial",
+    '[FEN "4k3/8/8/8/8/8/8/4RK2 w - - 0 1"]\n*\n',
+    "",
+    "game 1 byte 5: bad FEN\ngames 1 matched 0 refused 1\n",
+)
+equal("the start as FEN", chess.fen_text(chess.START), "rnbqkbnr/pppppppp/8/8/8/8/PPPPPPPP/RNBQKBNR w KQkq - 0 1")
+PROMOTION = "7k/P7/8/8/8/8/8/K7 w - - 0 1"
+PROMOTION_GAME = game("1. a8Q *", PROMOTION)
+example("a promotion", "cql() Qa8", PROMOTION_GAME, exported("1. a8=Q+ {CQL} *", PROMOTION))
+example(
+    "a result with a letter after it",
+    "cql() initial",
+    "1. e4 1-0x *\n",
+    "",
+    "game 1 byte 6: not a move\ngames 1 matched 0 refused 1\n",
+)
+example(
+    "an unclosed string",
+    "cql() initial",
+    '[Event "x',
+    "",
+    "game 1 byte 7: unclosed string\ngames 1 matched 0 refused 1\n",
+)
+example(
+    "a mate below", "cql() initial find mate", MATE_GAME, exported("{CQL} 1. e4 e5 2. Bc4 Nc6 3. Qh5 Nf6 4. Qxf7# 1-0")
+)
+MOVES = chess.legal_moves(chess.START)
+equal(
+    "the legal moves at the start",
+    (len(MOVES), chess.square_name(MOVES[0][0]), chess.square_name(MOVES[0][1])),
+    (20, "b1", "a3"),
+)
+FULL = chess.read_fen(b"r3k2r/p1ppqpb1/bn2pnp1/3PN3/1p2P3/2N2Q1p/PPPBBPPP/R3K2R w KQkq - 0 1")
+equal("the legal moves of a full position", len(chess.legal_moves(FULL)), 48)
+
+
+def perft(p, d):
+    return 1 if d == 0 else sum(perft(chess.play(p, x), d - 1) for x in chess.legal_moves(p))
+
+
+equal(
+    "perft",
+    [
+        perft(chess.START, 3),
+        perft(FULL, 2),
+        perft(chess.read_fen(b"8/2p5/3p4/KP5r/1R3p1k/8/4P1P1/8 w - - 0 1"), 4),
+        perft(chess.read_fen(b"r3k2r/Pppp1ppp/1b3nbN/nP6/BBP1P3/q4N2/Pp1P2PP/R2Q1RK1 w kq - 0 1"), 3),
+        perft(chess.read_fen(b"rnbq1k1r/pp1Pbppp/2p5/8/2B5/8/PPP1NnPP/RNBQK2R w KQ - 1 8"), 3),
+    ],
+    [8902, 2039, 43238, 9467, 62379],
+)
+equal(
+    "moves as they are written",
+    [chess.read_san(chess.START, t)[:2] for t in (b"e2e4", b"Ng1-f3", b"0-0", b"x")],
+    [(None, (12, 28, None)), (None, (6, 21, None)), ("illegal move",), ("not a move",)],
+)
+example(
+    "a FEN without kings",
+    "cql() Ka1",
+    '[FEN "8/8/8/8/8/8/8/8 w - - 0 1"]\n*\n',
+    "",
+    "game 1 byte 5: bad FEN\ngames 1 matched 0 refused 1\n",
+    1,
+)
+example(
+    "a variation before any move",
+    "cql() Ka1",
+    "1. e4 ((\n",
+    "",
+    "game 1 byte 7: variation without move\ngames 1 matched 0 refused 1\n",
+)
+example(
+    "a queen after her capture", "cql() Qf7", MATE_GAME, exported("1. e4 e5 2. Bc4 Nc6 3. Qh5 Nf6 4. Qxf7# {CQL} 1-0")
+)
+example("two men at once", "cql() Ka1 Kb1", game("*", CORNER), "", "games 1 matched 0 refused 0\n")
+example(
+    "all squares of a set",
+    'cql() square all x in K { x attacks _a2 } comment "corner"',
+    game("*", CORNER),
+    exported("{CQL} {corner} *", CORNER),
+)
+example("a product out of range", "cql() 999999999 * 999999999 * 999999999", "*\n", "", "games 1 matched 0 refused 0\n")
+equal(
+    "the members of flip",
+    opened("cql() flip Ka1"),
+    "(union [K]:0000000000000001 [K]:0000000000000080 [K]:0100000000000000 [K]:8000000000000000)\n",
+)
+equal(
+    "the members of rotate90",
+    opened("cql() rotate90 Ka1"),
+    "(union [K]:0000000000000001 [K]:0100000000000000 [K]:8000000000000000 [K]:0000000000000080)\n",
+)
+example(
+    "a man that is not there",
+    "cql() not Qa8",
+    game("*", "4k3/8/8/8/8/8/8/4K3 w - - 0 1"),
+    exported("{CQL} *", "4k3/8/8/8/8/8/8/4K3 w - - 0 1"),
+)
+example("a line to the root", "cql() (line <-- Nf3 <-- Pe4+) == 3", SHORT_GAME, exported("1. e4 e5 2. Nf3 {CQL} *"))
+example(
+    "a line to the end", "cql() (line --> wtm --> btm --> wtm) == 3", SHORT_GAME, exported("{CQL} 1. e4 e5 2. Nf3 *")
+)
+example("a part no times", "cql() line --> check{0}", SHORT_GAME, "", "games 1 matched 0 refused 0\n")
+example("an extent", "cql() (line 2 2 --> Pe4*) == 2", SHORT_GAME, exported("1. e4 {CQL} 1... e5 {CQL} 2. Nf3 *"))
+example("an extent of none", "cql() line 0 3 --> check", "", "", "query byte 11: unexpected token\n", 2)
+example("an extent above the limit", "cql() line 1 128 --> check", "", "", "query byte 13: unexpected token\n", 2)
+example("half an extent", "cql() line 2 --> check", "", "", "query byte 13: unexpected token\n", 2)
+example("an extent that nothing has", "cql() line 3 2 --> wtm", SHORT_GAME, "", "games 1 matched 0 refused 0\n")
+equal("an extent is kept", opened("cql() line 2 3 --> wtm"), "(line 2 3 --> wtm)\n")
+example("a move from and to", "cql() move from N to f3", SHORT_GAME, exported("1. e4 e5 2. Nf3 {CQL} *"))
+example(
+    "a capture in passing",
+    "cql() move capture pd5",
+    "1. e4 a6 2. e5 d5 3. exd6 *\n",
+    exported("1. e4 a6 2. e5 d5 3. exd6 {CQL} *"),
+)
+example(
+    "a promotion with colours exchanged",
+    "cql() flipcolor move promote q",
+    PROMOTION_GAME,
+    exported("1. a8=Q+ {CQL} *", PROMOTION),
+)
+example("a promotion of the other side", "cql() move promote q", PROMOTION_GAME, "")
+
+
+refused("an empty variation", "1. e4 ()", "game 1 byte 7: empty variation")
+refused("an unopened variation", "1. e4 )", "game 1 byte 6: unopened variation")
+refused("an unclosed variation", "1. e4 (1. d4", "game 1 byte 12: unclosed variation")
+refused("a glyph out of range", "1. e4 $256 *", "game 1 byte 6: NAG out of range")
+refused("an unclosed tag", '[Event "x"\n*', "game 1 byte 11: bad tag")
+refused("a tag that was not opened", "]", "game 1 byte 0: bad tag")
+refused("a bad byte", "1. e4 \x01 *", "game 1 byte 6: bad byte")
+refused("the 101st level", "1. e4 " + "(1. d4 " * 101, "game 1 byte 706: too deep")
+refused("a game too long", "{" + "x" * (1 << 24), "game 1 byte 16777216: game too long")
+example("an empty query", "", "", "", "query byte 0: unexpected end\n", 2)
+example("a query too long", " " * 65537, "", "", "query byte 65536: query too long\n", 2)
+example("the 65th open parenthesis", "cql() " + "(" * 65, "", "", "query byte 70: too deep\n", 2)
+example(
+    "several games",
+    "cql() Pd4",
+    "1. e4 *\n1. e4 e5 2. Ke3 *\n1. d4 *\n1. d4 d5 *\n",
+    exported("1. d4 {CQL} *") + exported("1. d4 {CQL} 1... d5 {CQL} *"),
+    "game 2 byte 20: illegal move\ngames 4 matched 2 refused 1\n",
+)
+
+
+def cut_at(archive):
+    return [(start, end) for start, end, _ in pgn.cut(archive)]
+
+
+equal(
+    "a result inside a tag ends the game",
+    (cut_at(b'[1-0 "x"]'), [x[1:] for x in program.games_of(b'[1-0 "x"]')]),
+    ([(0, 4), (5, 9)], [(4, "bad tag"), (5, "bad tag")]),
+)
+equal("a tag before any movetext ends no game", cut_at(b']\n[Event "x"]\n*'), [(0, 15)])
+refused("an unclosed variation at the end of a line", "1. e4 (1. d4\n", "game 1 byte 13: unclosed variation")
+refused("a tag after a glyph", '$1 [a "b"]', "game 1 byte 3: bad tag")
+equal(
+    "parentheses count as open constructs",
+    (
+        program.run_check(b"cql() " + b"not " * 64 + b"A (B)")[0],
+        program.run_check(b"cql() " + b"not " * 64 + b"A attacks ~B")[2],
+    ),
+    (0, b"query byte %d: too deep\n" % (6 + 256 + 10)),
+)
+equal(
+    "the longest designator",
+    [t[1:] for t in query.query_tokens(b"c3-6-7")][:3],
+    [("Squares", query.designator(None, b"c3-6")), ("Mark", "-"), ("Number", 7)],
+)
+QUERY_FILES = [
+    b"cql() line --> check{64}",
+    b"cql() line --> check{65}",
+    b"cql()" + b" flip flip flip flip flip check" * 7 + b" check",
+    b"cql()" + b" flip flip flip flip flip check" * 7 + b" check check",
+    b"cql() flipcolor Ka1",
+    b"",
+    b" " * 65537,
+    b" " * 65536,
+    b" " * 65535,
+    b" " * 65530 + b"cql() ",
+    b" " * 65525 + b"cql() check",
+    b" " * 65526 + b"cql() check",
+    b"cql() " + b"(" * 65,
+    b"cql() " + b"(" * 64 + b"A" + b")" * 64,
+    b"cql() \xff",
+    b'cql(input \xff\xfe) "\xff" A',
+    b'cql() player "\xff" A\x00',
+    b'cql() "',
+]
+if binary and stage != "one man":
+    with tempfile.TemporaryDirectory() as folder:
+        for number, text in enumerate(QUERY_FILES):
+            with open(os.path.join(folder, "q.cql"), "wb") as f:
+                f.write(text)
+            name = "query file %d" % number
+            through_program(name, ["check", "q.cql"], b"", program.run_check(text), folder)
+        through_program("a query file that is not there", ["check", "none.cql"], b"", (4, b"", b""), folder)
+    for words in (["eval"], ["check"], [], ["foo", "cql() A"], ["eval", "cql() A", "x", "y"]):
+        through_program("refused words", words, b"", (3, b"", program.USAGE))
+for side in (MODEL, PROGRAM):
+    print(side, counts[side], "examples,", differing[side], "differ")
+sys.exit(1 if any(differing.values()) else 0)
