@@ -17,4 +17,4 @@ returns g c = λ err.
     let some : has_match query c.args.game ≡ true =
     sym (any_is_match query c.args.game c.in_ok-matches.matches.items c.in_ok-matches.ensures) ∙ search rules in
     matched query c.args.game c.args.tally.now _ (sink_view g.O.Sink.taken g.O.Sink.faults c.args.out.now) (sink_view g.O.Sink.taken g.O.Sink.faults c.write_to.new.sink) err
-    c.as_slice-2.result.now c.write_to.result some refl (c.as_slice-2.ensures ∙ c.in_ok-export.ensures ∙ ap export_text c.in_ok-mark.ensures) c.write_to.ensures
+    c.as_slice-2.result.now c.write_to.result some refl (c.as_slice-2.ensures ∙ c.in_ok-export.ensures.text ∙ ap export_text c.in_ok-mark.ensures) c.write_to.ensures
