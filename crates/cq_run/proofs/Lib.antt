@@ -1,5 +1,7 @@
-mod Taken
 mod Sinks
+mod NoAny
+mod Texts
+mod Braces
 mod Answers
-mod Marks
-mod Promises
+mod Answered
+mod Doing

@@ -8,7 +8,7 @@ use Rattle.cq_outside.specs.declared.faults.Refusal.TheVariants.{Fault, NoMemory
 use Rattle.cq_run.specs.declared.status.Status.{Status}
 use Rattle.cq_run.specs.declared.status.Status.TheVariants.{Done, DoneWithRefusals, WriteFault, NoMemory}
 use Rattle.cq_run.specs.declared.tally.Tally.{Tally}
-use Rattle.cq_run.specs.Matches.{Matcher}
+use Rattle.cql_syntax.specs.Trees.{QueryTree}
 use Rattle.cq_run.specs.Outcomes.{Outcome, HasGames}
 use Rattle.cq_run.specs.Answer.{Answer, answer_of, export_if, fault_if, is_match, is_refused, summary_line}
 use Rattle.cq_run.specs.Promise.{SinkView, Sinks, Texts, Writes, WritesPrefix, IsUnwritten, OneSinkFailed, NoWriteFailed, texts_of_answer}
@@ -28,7 +28,7 @@ WritesSummary tally before after NoMemory = after ≡ before
 WritesSummary tally before after _ = ⊥
 
 -- one game more is counted
-abbrev pub tallied : Matcher → Tally → Outcome → Tally
+abbrev pub tallied : QueryTree → Tally → Outcome → Tally
 tallied query tally outcome = record {
   games = tally.games + 1;
   matched = tally.matched + (if is_match query outcome then 1 else 0);
@@ -36,11 +36,11 @@ tallied query tally outcome = record {
 }
 
 -- what is written of the game that follows so many
-abbrev pub texts_of_game : Matcher → ℕ → Outcome → Texts
+abbrev pub texts_of_game : QueryTree → ℕ → Outcome → Texts
 texts_of_game query games outcome = record { out = export_if query outcome; err = fault_if (games + 1) outcome }
 
 -- one game is answered: it is counted and written, or a write fails, or out of memory nothing of it is written
-abbrev pub AnswersGame : Matcher → (Outcome → Type 0) → Tally → Tally → Sinks → Result (Unit {0}) (Refusal Failed) → Type 0
+abbrev pub AnswersGame : QueryTree → (Outcome → Type 0) → Tally → Tally → Sinks → Result (Unit {0}) (Refusal Failed) → Type 0
 AnswersGame query Reads before after sinks (Ok _) =
     (outcome : Outcome) × Reads outcome × (after ≡ tallied query before outcome) × Writes sinks (texts_of_game query before.games outcome) × NoWriteFailed sinks
 AnswersGame query Reads before after sinks (Err (Fault _)) =
@@ -56,7 +56,7 @@ WritesAnswer answer sinks NoMemory = WritesPrefix sinks (texts_of_answer answer)
 WritesAnswer answer sinks _ = ⊥
 
 -- the games of an archive are read as these, and what the query finds in them is written
-pub record AnswersArchive (query : Matcher) (archive : List ℕ) (sinks : Sinks) (status : Status) : Type 0 where
+pub record AnswersArchive (query : QueryTree) (archive : List ℕ) (sinks : Sinks) (status : Status) : Type 0 where
   pub outcomes : List Outcome
   pub holds : HasGames archive outcomes
   pub writes : WritesAnswer (answer_of query outcomes) sinks status

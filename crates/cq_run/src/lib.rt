@@ -1,11 +1,12 @@
 //! The top call: what the words of a command answer.
 #![tactic(auto)]
 
-mod answer;
+mod answering;
+mod asked;
 #[cfg(test)]
 mod failing;
-mod query;
-mod reading;
+mod games;
+mod query_lines;
 mod report;
 mod status;
 mod tally;
@@ -14,5 +15,6 @@ mod tests;
 mod top_call;
 mod words;
 
+pub use answering::answer;
 pub use status::Status;
 pub use top_call::run;

@@ -30,16 +30,17 @@ fn written(alloc: Global, game: Written<'_>) -> Result<Bytes, NoMemory> {
     Ok(text)
 }
 
-/// Asks that words over an archive on standard input are answered so, and that the sinks have taken these texts.
+/// Asks that words over a file are answered so, and that the sinks have taken these texts. The name `-` is standard input.
 fn expect<R: Threads + Sync + Abort>(
     rt: &R,
     alloc: Global,
     words: &[&str],
-    archive: &str,
+    file: (&str, &str),
     want: (Status, &[u8], &str),
 ) -> Result<(), Fail> {
+    let (name, archive) = file;
     let mut desk = SureDesk::new(alloc);
-    desk.add(b"-", archive.as_bytes())?;
+    desk.add(name.as_bytes(), archive.as_bytes())?;
     let mut out = SureSink::new(alloc, 4096)?;
     let mut err = SureSink::new(alloc, 4096)?;
     let mut texts = Vec::new(alloc);
@@ -62,7 +63,7 @@ fn expect<R: Threads + Sync + Abort>(
 }
 
 /// A query and an archive of one game that it finds, and how this is written.
-const FOUND: [(&str, &str, Written<'_>); 5] = [
+const FOUND: [(&str, &str, Written<'_>); 7] = [
     (
         "cql() Ka1",
         "[FEN \"8/8/8/8/8/8/8/K1k5 w - - 0 1\"]\n*\n",
@@ -86,6 +87,20 @@ const FOUND: [(&str, &str, Written<'_>); 5] = [
         "cql() Qa8",
         "[FEN \"7k/P7/8/8/8/8/8/K7 w - - 0 1\"]\n1. a8Q *",
         ("7k/P7/8/8/8/8/8/K7 w - - 0 1", "*", "1. a8=Q+ {CQL} *"),
+    ),
+    (
+        "cql(variations) Pd4",
+        "1. e4 (1. d4) e5 *",
+        ("", "*", "1. e4 (1. d4 {CQL}) 1... e5 *"),
+    ),
+    (
+        "cql(matchstring \"mate\") Qf7 ke8",
+        "1. e4 e5 2. Bc4 Nc6 3. Qh5 Nf6 4. Qxf7 1-0",
+        (
+            "",
+            "1-0",
+            "1. e4 e5 2. Bc4 Nc6 3. Qh5 Nf6 4. Qxf7# {mate} 1-0",
+        ),
     ),
     (
         "cql() Pe4",
@@ -220,7 +235,7 @@ fn games_that_match_are_written(rt: HostRuntime) -> Result<(), Fail> {
             text.as_slice(),
             "games 1 matched 1 refused 0\n",
         );
-        expect(&rt, alloc, &["eval", query], archive, want)?;
+        expect(&rt, alloc, &["eval", query], ("-", archive), want)?;
     }
     Ok(())
 }
@@ -230,19 +245,95 @@ fn faults_are_reported(rt: HostRuntime) -> Result<(), Fail> {
     let alloc = rt.alloc();
     for (archive, status, report) in REPORTS {
         let want = (status, b"".as_slice(), report);
-        expect(&rt, alloc, &["eval", "cql() Kb4"], archive, want)?;
+        expect(&rt, alloc, &["eval", "cql() Kb4"], ("-", archive), want)?;
+    }
+    Ok(())
+}
+
+/// A query, and the line of its fault; none where it is accepted.
+const QUERIES: [(&str, &str); 14] = [
+    ("cql() flipcolor Ka1", ""),
+    ("cql() line --> check{64}", ""),
+    ("cql() line --> check{65}", "query byte 6: line too long\n"),
+    ("cql() line 3 2 --> wtm", ""),
+    ("cql() move from N to f3", ""),
+    ("cql() not move promote q", ""),
+    ("cql() move to", "query byte 13: unexpected end\n"),
+    (
+        "cql() move to f3 from N",
+        "query byte 17: unexpected token\n",
+    ),
+    (
+        "cql() line 0 3 --> check",
+        "query byte 11: unexpected token\n",
+    ),
+    ("cql() echo", "query byte 6: outside profile echo\n"),
+    (
+        "cql() #check",
+        "query byte 7: kind mismatch, wanted set, found position\n",
+    ),
+    ("cql() x", "query byte 6: unknown name x\n"),
+    ("cql() \"a", "query byte 6: unclosed text\n"),
+    ("", "query byte 0: unexpected end\n"),
+];
+
+#[test]
+fn queries_are_accepted_or_refused_at_their_byte(rt: HostRuntime) -> Result<(), Fail> {
+    let alloc = rt.alloc();
+    for (query, line) in QUERIES {
+        let want = if line.is_empty() {
+            (Status::Done, b"ok\n".as_slice(), line)
+        } else {
+            (Status::QueryRefused, b"".as_slice(), line)
+        };
+        expect(&rt, alloc, &["check", "q.cql"], ("q.cql", query), want)?;
+    }
+    let refused = (
+        Status::QueryRefused,
+        b"".as_slice(),
+        "query byte 6: outside profile echo\n",
+    );
+    expect(&rt, alloc, &["eval", "cql() echo"], ("-", "*"), refused)
+}
+
+#[test]
+fn a_query_of_one_byte_too_many_and_one_too_deep_are_refused(rt: HostRuntime) -> Result<(), Fail> {
+    let alloc = rt.alloc();
+    let mut long = String::new(alloc);
+    for _ in 0..65_537 {
+        long.push_str(" ")?;
+    }
+    let mut deep = String::from_str(alloc, "cql() ")?;
+    for _ in 0..65 {
+        deep.push_str("(")?;
+    }
+    for (query, line) in [
+        (long.as_str(), "query byte 65536: query too long\n"),
+        (deep.as_str(), "query byte 70: too deep\n"),
+    ] {
+        let want = (Status::QueryRefused, b"".as_slice(), line);
+        expect(&rt, alloc, &["check", "q.cql"], ("q.cql", query), want)?;
     }
     Ok(())
 }
 
 #[test]
-fn other_words_and_queries_are_turned_away(rt: HostRuntime) -> Result<(), Fail> {
+fn other_words_and_a_query_of_more_than_designators_are_turned_away(
+    rt: HostRuntime,
+) -> Result<(), Fail> {
     let alloc = rt.alloc();
     for (words, status, text) in [
-        (["eval", "cql() Ka9"], Status::NotYetRead, ""),
+        (["eval", "cql() sort \"p\" power A"], Status::NotYetRead, ""),
+        (["eval", "cql() Ka1 check"], Status::NotYetRead, ""),
         (["play", "cql() Ka1"], Status::WordsRefused, USAGE),
     ] {
-        expect(&rt, alloc, &words, "*", (status, b"".as_slice(), text))?;
+        expect(
+            &rt,
+            alloc,
+            &words,
+            ("-", "*"),
+            (status, b"".as_slice(), text),
+        )?;
     }
     Ok(())
 }
