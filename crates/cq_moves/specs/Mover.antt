@@ -25,7 +25,8 @@ pub record IsMover (p : Board) (mover : Mover) : Type 0 where
 
 -- each move of the man on a square leaves its king safe, captures on the en passant square aside
 pub record IsUnexposed (p : Board) (from : ℕ) : Type 0 where
-  pub safe : (m : Move) → m.from ≡ from → is_pseudo_legal p m ≡ true → is_en_passant_capture p m ≡ false → is_safe p m ≡ true
+  pub safe : (m : Move) → m.from ≡ from → is_pseudo_legal p m ≡ true → is_en_passant_capture p m ≡ false
+      → is_safe p m ≡ true
 
 -- the squares that the man on a square attacks, and a flag that is false only where each of its moves leaves its king safe
 pub record IsOrigin (p : Board) (origin : Origin) : Type 0 where

@@ -56,8 +56,8 @@ abbrev pub are_home : List Man → Side → Bool → Bool
 are_home men side kingside = stands men (king_home side) (king_of side) && stands men (rook_home side kingside) (rook_of side)
 
 -- Whether the opponent's pawn can just have passed the square by a double step (FIDE Laws of Chess, article 3.7), with this side to move:
--- the square is empty and on the side's sixth rank, and as the pawn's own side sees it, the pawn stands before the square, and the one behind
--- it, from which the pawn came, is empty.
+-- the square is empty and on the side's sixth rank, and as the pawn's own side sees it, the pawn stands before the square, and the one
+-- behind it, from which the pawn came, is empty.
 abbrev pub was_passed : List Man → Side → ℕ → Bool
 was_passed men White square =
     (rank_of square == 5) && stands men square Empty && stands men (square - 8) BlackP && stands men (square + 8) Empty

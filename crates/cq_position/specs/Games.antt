@@ -10,7 +10,8 @@ use Rattle.cq_position.specs.Comments.{words, comment_of}
 use Rattle.cq_position.specs.Legal.{Leads}
 
 -- A node is a position of a game. It has the number of the node before it and the move that led from there, which the root has not, and
--- the numeric annotation glyphs (section 8.2.4) and the comments (section 5) that belong to the move; the root's comments belong to the game.
+-- the numeric annotation glyphs (section 8.2.4) and the comments (section 5) that belong to the move; the root's comments belong to the
+-- game.
 pub record Node : Type 0 where
   pub parent : Option ℕ
   pub led_by : Option Move

@@ -1,4 +1,4 @@
--- What the sign behind a move says of the position to which it leads (PGN standard 8.2.3.5).
+-- What the sign after a move says of the position to which it leads (PGN standard 8.2.3.5).
 use Rattle.std.specs.Prelude.{◌≡◌, ◌↔◌, ℕ, List, [], true, false, codes}
 use Rattle.cq_position.specs.Board.{Board}
 use Rattle.cq_position.specs.Attacks.{in_check}

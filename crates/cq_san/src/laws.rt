@@ -18,7 +18,7 @@ pub fn written_is_read()
     ensures { (p : Board) (m : MoveValue) (q : Board) → IsPosition p → Leads p m q → san p (san_text p m) ≡ Ok m }
 {}
 
-/// The sign that is written behind a move says whether it gives check or mate.
+/// The sign that is written after a move says whether it gives check or mate.
 pub fn signs_mean()
     ensures { (p : Board) → length p.men ≡ 64 → SignsSay p (sign_of p) }
 {}

@@ -4,7 +4,7 @@ ghost use Rattle.cql_syntax.specs.Wants.{unary_wants, pair_wants};
 
 use cql_syntax::{Kind, Pair, Unary};
 
-/// What stands behind a word or mark.
+/// What stands after a word or mark.
 pub fn unary_wants(unary: Unary) -> Kind
     ensures { result ≡ unary_wants unary }
 {

@@ -29,7 +29,7 @@ fn main(rt: HostRuntime) -> ExitCode {
     ExitCode::from(status.exit_code())
 }
 
-// The words behind the program's name. Words that are no text are none that the program takes, as no words are.
+// The words after the program's name. Words that are no text are none that the program takes, as no words are.
 fn command_words(rt: &(impl Env + AllocGlobal)) -> Result<Vec<String>, NoMemory> {
     let mut words = Vec::new(rt.alloc());
     match env::args(rt) {
