@@ -5,6 +5,7 @@ mod Exits
 mod Faults
 mod Frames
 mod Limits
+mod NoAny
 mod Plants
 mod Read
 mod Reading

@@ -1,5 +1,6 @@
 //! Laws of the queries that token lists spell, and of their faults.
-ghost use Rattle.std.specs.Prelude.{◌≡◌, ℕ, List, Ok};
+ghost use Rattle.std.specs.Prelude.{◌≡◌, ℕ, List, Ok, false};
+ghost use Rattle.cql_syntax.specs.TreeFaults.{has_any};
 ghost use Rattle.cql_syntax.specs.Trees.{QueryTree};
 ghost use Rattle.cql_syntax.specs.declared.fault.QueryFault.{QueryFault};
 ghost use Rattle.cql_syntax.specs.declared.token.QueryToken.{QueryToken};
@@ -22,6 +23,11 @@ pub fn tokens_have_at_most_one_fault()
 /// A law: tokens that have a fault spell no query.
 pub fn faulty_tokens_spell_no_query()
     ensures { (tokens : List QueryToken) (f : QueryFault) (q : QueryTree) → IsFault tokens f → Spells 64 tokens q → ⊥ }
+{}
+
+/// A law: no filter of a query that tokens spell is an `Any`, which no text gives.
+pub fn spelled_queries_have_no_any()
+    ensures { (tokens : List QueryToken) (q : QueryTree) → Spells 64 tokens q → has_any q ≡ false }
 {}
 
 /// A law: the last of the tokens of a text is the end.

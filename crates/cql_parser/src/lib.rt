@@ -16,8 +16,8 @@ mod stack;
 mod tests;
 
 pub use laws::{
-    faulty_tokens_spell_no_query, tokens_have_at_most_one_fault, tokens_of_a_text_are_ended,
-    tokens_spell_at_most_one_query,
+    faulty_tokens_spell_no_query, spelled_queries_have_no_any, tokens_have_at_most_one_fault,
+    tokens_of_a_text_are_ended, tokens_spell_at_most_one_query,
 };
 pub use parsing::parse;
 pub use stack::DEPTH_LIMIT;

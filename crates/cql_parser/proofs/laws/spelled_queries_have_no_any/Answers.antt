@@ -1,0 +1,5 @@
+use Rattle.cql_parser.proofs.NoAny.{spelled_without_any}
+use Rattle.cql_parser.proofs.laws.spelled_queries_have_no_any.Goals as goal
+
+pub returns : goal.returns
+returns c = spelled_without_any 64
