@@ -1,7 +1,7 @@
 -- Answering game by game.
-use Rattle.std.proofs.Common.{◌≡◌, ℕ, ◌+◌, Bool, true, false, List, [], ◌∷◌, ◌++◌, length, length-append, take, drop, get_or, ◌<◌, ◌≤◌, ◌⊎◌, inl, inr, arith, refl, ap, ap₂, sym, ◌∙◌, append_assoc, append-nil, cond, subst, map, Ok, Err}
-use Rattle.std.specs.Prelude.{count_by, Result, ◌||◌}
-use Rattle.std.specs.List.{flat_map, list_any}
+use Rattle.std.proofs.Common.{◌≡◌, ℕ, ◌+◌, Bool, true, false, List, [], ◌∷◌, ◌++◌, length, length-append, take, drop, get_or, ◌<◌, ◌≤◌, inl, inr, arith, refl, ap, sym, ◌∙◌, append_assoc, append-nil, cond, subst, Ok, Err}
+use Rattle.std.specs.Prelude.{count_by, Result}
+use Rattle.std.specs.List.{flat_map}
 use Rattle.std.proofs.lemmas.Grind.{flat_map-append}
 use Rattle.std.proofs.lemmas.List.Sums.{fold-append}
 use Rattle.std.proofs.lemmas.List.{take_more, take_all, drop_more, take-append-drop}
@@ -9,7 +9,7 @@ use Rattle.cq_outside.specs.Flow.{Grew}
 use Rattle.cq_outside.specs.declared.faults.Failed.{Failed}
 use Rattle.cq_outside.specs.declared.faults.Refusal.{Refusal}
 use Rattle.cq_outside.specs.declared.faults.Refusal.TheVariants.{Fault, NoMemory as IsNoMemory}
-use Rattle.cq_position.specs.Games.{Game, numbers}
+use Rattle.cq_position.specs.Games.{Game}
 use Rattle.pgn_export.specs.Export.{export_text}
 use Rattle.pgn_cut.specs.declared.span.Span.{Span}
 use Rattle.pgn_cut.specs.Cut.{cut}
@@ -20,11 +20,12 @@ use Rattle.cq_run.specs.declared.status.Status.{Status}
 use Rattle.cq_run.specs.declared.status.Status.TheVariants.{Done, DoneWithRefusals, QueryRefused, WordsRefused, OpenFault, ReadFault, WriteFault, NoMemory, ArchiveTooLong, NotYetRead}
 use Rattle.cq_run.specs.declared.tally.Tally.{Tally}
 use Rattle.cq_run.specs.Outcomes.{Outcome, AreRead, HasGames}
-use Rattle.cq_run.specs.Matches.{Matcher, has_match, marked}
-use Rattle.cq_run.specs.Answer.{answer_of, tally_of, export_if, fault_if, fault_line, fault_lines, is_match, is_refused, summary_line}
-use Rattle.cq_run.specs.Promise.{SinkView, Sinks, Texts, Writes, WritesPrefix, IsUnwritten, NoWriteFailed, OneSinkFailed, sinks_of, texts_of_answer}
-use Rattle.cq_run.specs.Writing.{WritesText, AnswersGame, AnswersArchive, WritesAnswer, WritesSummary, tallied, texts_of_game}
-use Rattle.cq_run.proofs.Sinks.{unwritten, took_nothing, wrote_none, grew_on, Took, took_count, took_on, took_front, writes_prefix, fails_after, none_after}
+use Rattle.cql_syntax.specs.Hits.{marked}
+use Rattle.cql_syntax.specs.Trees.{QueryTree}
+use Rattle.cq_run.specs.Answer.{has_match, answer_of, tally_of, export_if, fault_if, fault_line, fault_lines, is_match, is_refused, summary_line}
+use Rattle.cq_run.specs.Promise.{SinkView, Sinks, Writes, WritesPrefix, IsUnwritten, NoWriteFailed, OneSinkFailed, sinks_of, texts_of_answer}
+use Rattle.cq_run.specs.Writing.{WritesText, AnswersGame, AnswersArchive, WritesSummary, tallied, texts_of_game}
+use Rattle.cq_run.proofs.Sinks.{unwritten, wrote_none, grew_on, Took, took_count, took_on, took_front, writes_prefix, fails_after, none_after}
 
 fault_lines_on : (n : ℕ) (rs ss : List Outcome) → fault_lines n (rs ++ ss) ≡ fault_lines n rs ++ fault_lines (n + length rs) ss
 unfolding fault_lines
@@ -42,14 +43,6 @@ no_fault_lines : (n : ℕ) → fault_lines n [] ≡ []
 unfolding fault_lines
 no_fault_lines n = refl
 
-any_mapped : (f : ℕ → Bool) (ns : List ℕ) → list_any (λ m. m) (map f ns) ≡ list_any f ns
-any_mapped f [] = refl
-any_mapped f (n ∷ ns) = ap (λ b. f n || b) (any_mapped f ns)
-
--- the answers for the nodes of a game have a yes exactly where the query matches
-pub any_is_match : (query : Matcher) (game : Game) (matches : List Bool) → matches ≡ map (query.matches game) (numbers game.nodes) → list_any (λ m. m) matches ≡ has_match query game
-any_is_match query game matches e = ap (list_any (λ m. m)) e ∙ any_mapped (query.matches game) (numbers game.nodes)
-
 abbrev tally_with : ℕ → ℕ → ℕ → Tally
 tally_with games matched refused = record { games = games; matched = matched; refused = refused }
 
@@ -57,7 +50,7 @@ same_tally : (games games' matched matched' refused refused' : ℕ) → games �
 same_tally games games' matched matched' refused refused' g m r = cc
 
 -- a game that does not match is counted, and nothing is written
-pub unmatched : (query : Matcher) (game : Game) (before after : Tally) (out err : SinkView) → has_match query game ≡ false → after ≡ tally_with (before.games + 1) before.matched before.refused
+pub unmatched : (query : QueryTree) (game : Game) (before after : Tally) (out err : SinkView) → has_match query game ≡ false → after ≡ tally_with (before.games + 1) before.matched before.refused
     → AnswersGame query (λ outcome. outcome ≡ Ok game) before after (sinks_of out out err err) (Ok tt)
 unmatched query game before after out err none e = (
   Ok game,
@@ -68,7 +61,7 @@ unmatched query game before after out err none e = (
 )
 
 -- a game that matches is counted, and its export is written
-pub matched : (query : Matcher) (game : Game) (before after : Tally) (out out' err : SinkView) (text : List ℕ) (result : Result (Unit {0}) (Refusal Failed)) → has_match query game ≡ true
+pub matched : (query : QueryTree) (game : Game) (before after : Tally) (out out' err : SinkView) (text : List ℕ) (result : Result (Unit {0}) (Refusal Failed)) → has_match query game ≡ true
     → after ≡ tally_with (before.games + 1) (before.matched + 1) before.refused → text ≡ export_text (marked query game) → WritesText text out out' result
     → AnswersGame query (λ outcome. outcome ≡ Ok game) before after (sinks_of out out' err err) result
 matched query game before after out out' err text (Ok _) some e is wrote = (
@@ -96,7 +89,7 @@ matched query game before after out out' err text (Err (Fault _)) some e is wrot
 matched query game before after out out' err text (Err IsNoMemory) some e is wrote = absurd wrote
 
 -- a faulty game is counted, and its line is written
-pub refused : (query : Matcher) (fault : GameFault) (before after : Tally) (out err err' : SinkView) (text : List ℕ) (result : Result (Unit {0}) (Refusal Failed))
+pub refused : (query : QueryTree) (fault : GameFault) (before after : Tally) (out err err' : SinkView) (text : List ℕ) (result : Result (Unit {0}) (Refusal Failed))
     → after ≡ tally_with (before.games + 1) before.matched (before.refused + 1) → text ≡ fault_line (before.games + 1) fault → WritesText text err err' result
     → AnswersGame query (λ outcome. outcome ≡ Err fault) before after (sinks_of out out err err') result
 refused query fault before after out err err' text (Ok _) e is wrote = (
@@ -115,14 +108,14 @@ refused query fault before after out err err' text (Err (Fault _)) e is wrote = 
 refused query fault before after out err err' text (Err IsNoMemory) e is wrote = absurd wrote
 
 -- a game that is read as an outcome is answered by this outcome
-pub read_as : (query : Matcher) (Reads : Outcome → Type 0) (r : Outcome) (before after : Tally) (sinks : Sinks) (result : Result (Unit {0}) (Refusal Failed)) → Reads r
+pub read_as : (query : QueryTree) (Reads : Outcome → Type 0) (r : Outcome) (before after : Tally) (sinks : Sinks) (result : Result (Unit {0}) (Refusal Failed)) → Reads r
     → AnswersGame query (λ outcome. outcome ≡ r) before after sinks result → AnswersGame query Reads before after sinks result
 read_as query Reads r before after sinks (Ok _) reads (outcome, is, counts, writes, unfailed) = (outcome, subst Reads (sym is) reads, counts, writes, unfailed)
 read_as query Reads r before after sinks (Err (Fault _)) reads (outcome, is, writes, failed) = (outcome, subst Reads (sym is) reads, writes, failed)
 read_as query Reads r before after sinks (Err IsNoMemory) reads same = same
 
 -- the first games of an archive are answered: counted, and written
-pub record FoundSoFar (query : Matcher) (archive : List ℕ) (spans : List Span) (count : ℕ) (sinks : Sinks) (tally : Tally) : Type 0 where
+pub record FoundSoFar (query : QueryTree) (archive : List ℕ) (spans : List Span) (count : ℕ) (sinks : Sinks) (tally : Tally) : Type 0 where
   pub outcomes : List Outcome
   pub are_read : AreRead archive (take count spans) outcomes
   pub counted : length outcomes ≡ count
@@ -131,7 +124,7 @@ pub record FoundSoFar (query : Matcher) (archive : List ℕ) (spans : List Span)
   pub err : Grew sinks.err.taken sinks.err_after.taken (fault_lines 1 outcomes)
   pub unfailed : NoWriteFailed sinks
 
-pub none_found : (query : Matcher) (archive : List ℕ) (spans : List Span) (out err : SinkView) → FoundSoFar query archive spans 0 (sinks_of out out err err) (tally_with 0 0 0)
+pub none_found : (query : QueryTree) (archive : List ℕ) (spans : List Span) (out err : SinkView) → FoundSoFar query archive spans 0 (sinks_of out out err err) (tally_with 0 0 0)
 none_found query archive spans out err = record {
   outcomes = [];
   are_read = tt;
@@ -151,10 +144,10 @@ are_read_on archive (s ∷ ss) ts (r ∷ rs) qs before after = (before.0, are_re
 counted_more : (test : Outcome → Bool) (rs : List Outcome) (r : Outcome) → count_by test (rs ++ r ∷ []) ≡ count_by test rs + cond (test r) 1 0
 counted_more test rs r = fold-append (λ a x. a + cond (test x) 1 0) 0 rs (r ∷ [])
 
-tallied_more : (query : Matcher) (rs : List Outcome) (r : Outcome) → tally_of query (rs ++ r ∷ []) ≡ tallied query (tally_of query rs) r
+tallied_more : (query : QueryTree) (rs : List Outcome) (r : Outcome) → tally_of query (rs ++ r ∷ []) ≡ tallied query (tally_of query rs) r
 tallied_more query rs r = same_tally _ _ _ _ _ _ (length-append rs (r ∷ [])) (counted_more (is_match query) rs r) (counted_more is_refused rs r)
 
-exports_more : (query : Matcher) (rs : List Outcome) (r : Outcome) → flat_map (export_if query) rs ++ export_if query r ≡ flat_map (export_if query) (rs ++ r ∷ [])
+exports_more : (query : QueryTree) (rs : List Outcome) (r : Outcome) → flat_map (export_if query) rs ++ export_if query r ≡ flat_map (export_if query) (rs ++ r ∷ [])
 exports_more query rs r =
     ap (λ l. flat_map (export_if query) rs ++ l) (sym (append-nil (export_if query r))) ∙ sym (flat_map-append (export_if query) rs (r ∷ []))
 
@@ -166,7 +159,7 @@ lines_more rs r n counted =
     ∙ sym (fault_lines_on 1 rs (r ∷ []))
 
 -- one more game
-pub found_more : (query : Matcher) (archive : List ℕ) (spans : List Span) (i : ℕ) (s : Span) (out out' out'' err err' err'' : SinkView) (tally new : Tally) → i < length spans → s ≡ get_or spans i s
+pub found_more : (query : QueryTree) (archive : List ℕ) (spans : List Span) (i : ℕ) (s : Span) (out out' out'' err err' err'' : SinkView) (tally new : Tally) → i < length spans → s ≡ get_or spans i s
     → FoundSoFar query archive spans i (sinks_of out out' err err') tally
     → AnswersGame query (IsRead s.start s.first (game_bytes archive s)) tally new (sinks_of out' out'' err' err'') (Ok tt)
     → FoundSoFar query archive spans (i + 1) (sinks_of out out'' err err'') new
@@ -205,7 +198,7 @@ all_games archive spans i rs qs e before after =
     subst (λ ss. AreRead archive ss (rs ++ qs)) (take-append-drop i spans ∙ e) (are_read_on archive (take i spans) (drop i spans) rs qs before after)
 
 -- no memory before anything was written
-pub none_answered : HaveOutcomes → (query : Matcher) (archive : List ℕ) (out err : SinkView) → AnswersArchive query archive (sinks_of out out err err) NoMemory
+pub none_answered : HaveOutcomes → (query : QueryTree) (archive : List ℕ) (out err : SinkView) → AnswersArchive query archive (sinks_of out out err err) NoMemory
 none_answered have query archive out err =
     let rest : Rest archive (cut archive) = rest_of have archive (cut archive) in
     record {
@@ -215,7 +208,7 @@ none_answered have query archive out err =
     }
 
 -- no memory for a game: what was written before stays
-pub forgotten : HaveOutcomes → (query : Matcher) (archive : List ℕ) (spans : List Span) (i : ℕ) (out out' out'' err err' err'' : SinkView) (tally : Tally) → spans ≡ cut archive
+pub forgotten : HaveOutcomes → (query : QueryTree) (archive : List ℕ) (spans : List Span) (i : ℕ) (out out' out'' err err' err'' : SinkView) (tally : Tally) → spans ≡ cut archive
     → FoundSoFar query archive spans i (sinks_of out out' err err') tally → IsUnwritten (sinks_of out' out'' err' err'')
     → AnswersArchive query archive (sinks_of out out'' err err'') NoMemory
 forgotten have query archive spans i out out' out'' err err' err'' tally e so_far same =
@@ -240,7 +233,7 @@ forgotten have query archive spans i out out' out'' err err' err'' tally e so_fa
     }
 
 -- a write that failed at a game
-pub stopped : HaveOutcomes → (query : Matcher) (archive : List ℕ) (spans : List Span) (i : ℕ) (s : Span) (out out' out'' err err' err'' : SinkView) (tally : Tally) → spans ≡ cut archive
+pub stopped : HaveOutcomes → (query : QueryTree) (archive : List ℕ) (spans : List Span) (i : ℕ) (s : Span) (out out' out'' err err' err'' : SinkView) (tally : Tally) → spans ≡ cut archive
     → i < length spans → s ≡ get_or spans i s → FoundSoFar query archive spans i (sinks_of out out' err err') tally
     → (r : Outcome) → IsRead s.start s.first (game_bytes archive s) r → WritesPrefix (sinks_of out' out'' err' err'') (texts_of_game query tally.games r)
     → OneSinkFailed (sinks_of out' out'' err' err'') → AnswersArchive query archive (sinks_of out out'' err err'') WriteFault
@@ -275,12 +268,12 @@ stopped have query archive spans i s out out' out'' err err' err'' tally e insid
     }
 
 -- all games were answered
-pub all_found : (query : Matcher) (archive : List ℕ) (spans : List Span) (i : ℕ) (sinks : Sinks) (tally : Tally) → length spans ≤ i → spans ≡ cut archive
+pub all_found : (query : QueryTree) (archive : List ℕ) (spans : List Span) (i : ℕ) (sinks : Sinks) (tally : Tally) → length spans ≤ i → spans ≡ cut archive
     → (found : FoundSoFar query archive spans i sinks tally) → HasGames archive found.outcomes
 all_found query archive spans i sinks tally all e found = subst (λ ss. AreRead archive ss found.outcomes) (take_all i spans all ∙ e) found.are_read
 
 -- the last line was written
-finished : (query : Matcher) (out out' err err' err'' : SinkView) (tally : Tally) (outcomes : List Outcome) → tally ≡ tally_of query outcomes
+finished : (query : QueryTree) (out out' err err' err'' : SinkView) (tally : Tally) (outcomes : List Outcome) → tally ≡ tally_of query outcomes
     → Grew out.taken out'.taken (flat_map (export_if query) outcomes) → Grew err.taken err'.taken (fault_lines 1 outcomes)
     → Grew err'.taken err''.taken (summary_line tally) → Writes (sinks_of out out' err err'') (texts_of_answer (answer_of query outcomes))
 finished query out out' err err' err'' tally outcomes is exports lines grew = record {
@@ -290,7 +283,7 @@ finished query out out' err err' err'' tally outcomes is exports lines grew = re
 }
 
 -- the last line could not be written
-unfinished : (query : Matcher) (archive : List ℕ) (spans : List Span) (i : ℕ) (out out' err err' err'' : SinkView) (tally : Tally) (count : ℕ) → length spans ≤ i → spans ≡ cut archive
+unfinished : (query : QueryTree) (archive : List ℕ) (spans : List Span) (i : ℕ) (out out' err err' err'' : SinkView) (tally : Tally) (count : ℕ) → length spans ≤ i → spans ≡ cut archive
     → FoundSoFar query archive spans i (sinks_of out out' err err') tally → Grew err'.taken err''.taken (take count (summary_line tally)) → OneSinkFailed (sinks_of out' out' err' err'')
     → AnswersArchive query archive (sinks_of out out' err err'') WriteFault
 unfinished query archive spans i out out' err err' err'' tally count all e found grew failed =
@@ -310,7 +303,7 @@ unfinished query archive spans i out out' err err' err'' tally count all e found
     }
 
 -- all games were answered, and the last line was written or could not be
-pub ended : HaveOutcomes → (status : Status) (query : Matcher) (archive : List ℕ) (spans : List Span) (i : ℕ) (out out' err err' err'' : SinkView) (tally : Tally) → length spans ≤ i
+pub ended : HaveOutcomes → (status : Status) (query : QueryTree) (archive : List ℕ) (spans : List Span) (i : ℕ) (out out' err err' err'' : SinkView) (tally : Tally) → length spans ≤ i
     → spans ≡ cut archive → FoundSoFar query archive spans i (sinks_of out out' err err') tally → WritesSummary tally err' err'' status
     → AnswersArchive query archive (sinks_of out out' err err'') status
 ended have Done query archive spans i out out' err err' err'' tally all e found writes = record {

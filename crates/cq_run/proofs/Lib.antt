@@ -1,5 +1,6 @@
-mod Taken
 mod Sinks
+mod Texts
+mod Braces
 mod Answers
-mod Marks
-mod Promises
+mod Answered
+mod Doing

@@ -1,5 +1,5 @@
 -- What a query finds in games, and how it is written.
-use Rattle.std.specs.Prelude.{ℕ, ◌+◌, Bool, true, false, List, [], ◌∷◌, ◌++◌, length, codes, decimal, count_by, Result, Ok, Err, if◌then◌else◌}
+use Rattle.std.specs.Prelude.{ℕ, ◌+◌, Bool, true, false, not, ◌==◌, List, [], ◌∷◌, ◌++◌, length, codes, decimal, count_by, Ok, Err, if◌then◌else◌}
 use Rattle.std.specs.List.{flat_map}
 use Rattle.cq_position.specs.Games.{Game}
 use Rattle.pgn_export.specs.Export.{export_text}
@@ -7,7 +7,8 @@ use Rattle.pgn_reader.specs.declared.fault.GameFault.{GameFault}
 use Rattle.pgn_reader.specs.declared.fault.Reason.{Reason}
 use Rattle.pgn_reader.specs.declared.fault.Reason.TheVariants.{BadByte, UnclosedComment, UnclosedString, BadTag, BadFen, NagRange, NotAMove, IllegalMove, AmbiguousMove, VariationWithoutMove, EmptyVariation, UnopenedVariation, UnclosedVariation, TooDeep, TooManyPositions, GameTooLong}
 use Rattle.cq_run.specs.declared.tally.Tally.{Tally}
-use Rattle.cq_run.specs.Matches.{Matcher, has_match, marked}
+use Rattle.cql_syntax.specs.Hits.{hits, marked}
+use Rattle.cql_syntax.specs.Trees.{QueryTree}
 use Rattle.cq_run.specs.Outcomes.{Outcome}
 
 -- the text of each reason
@@ -34,8 +35,12 @@ abbrev pub fault_line : ℕ → GameFault → List ℕ
 fault_line number fault =
     codes "game " ++ decimal number ++ codes " byte " ++ decimal fault.byte ++ codes ": " ++ reason_text fault.reason ++ codes "\n"
 
+-- whether the query matches at some node
+abbrev pub has_match : QueryTree → Game → Bool
+has_match query game = not (length (hits query game) == 0)
+
 -- a game that matches is exported with its marks, any other is not
-abbrev pub export_if : Matcher → Outcome → List ℕ
+abbrev pub export_if : QueryTree → Outcome → List ℕ
 export_if query (Ok game) = if has_match query game then export_text (marked query game) else []
 export_if query (Err fault) = []
 
@@ -43,7 +48,7 @@ abbrev pub fault_if : ℕ → Outcome → List ℕ
 fault_if number (Ok game) = []
 fault_if number (Err fault) = fault_line number fault
 
-abbrev pub is_match : Matcher → Outcome → Bool
+abbrev pub is_match : QueryTree → Outcome → Bool
 is_match query (Ok game) = has_match query game
 is_match query (Err fault) = false
 
@@ -59,10 +64,11 @@ fault_lines number (r ∷ rs) = fault_if number r ++ fault_lines (number + 1) rs
 -- the last line of a report: how many games there are, match and are refused
 abbrev pub summary_line : Tally → List ℕ
 summary_line tally =
-    codes "games " ++ decimal tally.games ++ codes " matched " ++ decimal tally.matched ++ codes " refused " ++ decimal tally.refused ++ codes "\n"
+    codes "games " ++ decimal tally.games ++ codes " matched " ++ decimal tally.matched
+    ++ codes " refused " ++ decimal tally.refused ++ codes "\n"
 
 -- how many of some games there are, match and are refused
-abbrev pub tally_of : Matcher → List Outcome → Tally
+abbrev pub tally_of : QueryTree → List Outcome → Tally
 tally_of query outcomes = record {
   games = length outcomes;
   matched = count_by (is_match query) outcomes;
@@ -75,7 +81,7 @@ pub record Answer : Type 0 where
   pub faults : List ℕ
   pub tally : Tally
 
-abbrev pub answer_of : Matcher → List Outcome → Answer
+abbrev pub answer_of : QueryTree → List Outcome → Answer
 answer_of query outcomes = record {
   exports = flat_map (export_if query) outcomes;
   faults = fault_lines 1 outcomes;

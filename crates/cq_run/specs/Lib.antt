@@ -1,9 +1,8 @@
 pub mod Status
 pub mod Words
+pub mod Queries
 pub mod Outcomes
-pub mod Matches
-pub mod Query
 pub mod Answer
 pub mod Promise
-pub mod Reading
 pub mod Writing
+pub mod Asked

@@ -8,7 +8,7 @@ use Rattle.cq_outside.specs.declared.faults.Refusal.TheVariants.{Fault, NoMemory
 use Rattle.cq_run.specs.declared.status.Status.{Status}
 use Rattle.cq_run.specs.declared.status.Status.TheVariants.{Done, DoneWithRefusals, WriteFault, NoMemory}
 use Rattle.cq_run.specs.declared.tally.Tally.{Tally}
-use Rattle.cq_run.specs.Matches.{Matcher}
+use Rattle.cql_syntax.specs.Trees.{QueryTree}
 use Rattle.cq_run.specs.Outcomes.{Outcome, HasGames}
 use Rattle.cq_run.specs.Answer.{Answer, answer_of, export_if, fault_if, is_match, is_refused, summary_line}
 use Rattle.cq_run.specs.Promise.{SinkView, Sinks, Texts, Writes, WritesPrefix, IsUnwritten, OneSinkFailed, NoWriteFailed, texts_of_answer}
@@ -16,19 +16,23 @@ use Rattle.cq_run.specs.Promise.{SinkView, Sinks, Texts, Writes, WritesPrefix, I
 -- writing a text to a sink: all of it was taken, or its count rose and a prefix was
 abbrev pub WritesText : List ℕ → SinkView → SinkView → Result (Unit {0}) (Refusal Failed) → Type 0
 WritesText text before after (Ok _) = Grew before.taken after.taken text × (after.faults ≡ before.faults)
-WritesText text before after (Err (Fault _)) = ((count : ℕ) × Grew before.taken after.taken (take count text)) × Rose before.faults after.faults
+WritesText text before after (Err (Fault _)) =
+    ((count : ℕ) × Grew before.taken after.taken (take count text)) × Rose before.faults after.faults
 WritesText text before after (Err IsNoMemory) = ⊥
 
 -- writing the last line of a report: the status tells whether a game is refused, or why not all of it is written
 abbrev pub WritesSummary : Tally → SinkView → SinkView → Status → Type 0
-WritesSummary tally before after Done = (tally.refused ≡ 0) × Grew before.taken after.taken (summary_line tally) × (after.faults ≡ before.faults)
-WritesSummary tally before after DoneWithRefusals = (0 < tally.refused) × Grew before.taken after.taken (summary_line tally) × (after.faults ≡ before.faults)
-WritesSummary tally before after WriteFault = ((count : ℕ) × Grew before.taken after.taken (take count (summary_line tally))) × Rose before.faults after.faults
+WritesSummary tally before after Done =
+    (tally.refused ≡ 0) × Grew before.taken after.taken (summary_line tally) × (after.faults ≡ before.faults)
+WritesSummary tally before after DoneWithRefusals =
+    (0 < tally.refused) × Grew before.taken after.taken (summary_line tally) × (after.faults ≡ before.faults)
+WritesSummary tally before after WriteFault =
+    ((count : ℕ) × Grew before.taken after.taken (take count (summary_line tally))) × Rose before.faults after.faults
 WritesSummary tally before after NoMemory = after ≡ before
 WritesSummary tally before after _ = ⊥
 
 -- one game more is counted
-abbrev pub tallied : Matcher → Tally → Outcome → Tally
+abbrev pub tallied : QueryTree → Tally → Outcome → Tally
 tallied query tally outcome = record {
   games = tally.games + 1;
   matched = tally.matched + (if is_match query outcome then 1 else 0);
@@ -36,13 +40,14 @@ tallied query tally outcome = record {
 }
 
 -- what is written of the game that follows so many
-abbrev pub texts_of_game : Matcher → ℕ → Outcome → Texts
+abbrev pub texts_of_game : QueryTree → ℕ → Outcome → Texts
 texts_of_game query games outcome = record { out = export_if query outcome; err = fault_if (games + 1) outcome }
 
 -- one game is answered: it is counted and written, or a write fails, or out of memory nothing of it is written
-abbrev pub AnswersGame : Matcher → (Outcome → Type 0) → Tally → Tally → Sinks → Result (Unit {0}) (Refusal Failed) → Type 0
+abbrev pub AnswersGame : QueryTree → (Outcome → Type 0) → Tally → Tally → Sinks → Result (Unit {0}) (Refusal Failed) → Type 0
 AnswersGame query Reads before after sinks (Ok _) =
-    (outcome : Outcome) × Reads outcome × (after ≡ tallied query before outcome) × Writes sinks (texts_of_game query before.games outcome) × NoWriteFailed sinks
+    (outcome : Outcome) × Reads outcome × (after ≡ tallied query before outcome)
+    × Writes sinks (texts_of_game query before.games outcome) × NoWriteFailed sinks
 AnswersGame query Reads before after sinks (Err (Fault _)) =
     (outcome : Outcome) × Reads outcome × WritesPrefix sinks (texts_of_game query before.games outcome) × OneSinkFailed sinks
 AnswersGame query Reads before after sinks (Err IsNoMemory) = IsUnwritten sinks
@@ -56,7 +61,7 @@ WritesAnswer answer sinks NoMemory = WritesPrefix sinks (texts_of_answer answer)
 WritesAnswer answer sinks _ = ⊥
 
 -- the games of an archive are read as these, and what the query finds in them is written
-pub record AnswersArchive (query : Matcher) (archive : List ℕ) (sinks : Sinks) (status : Status) : Type 0 where
+pub record AnswersArchive (query : QueryTree) (archive : List ℕ) (sinks : Sinks) (status : Status) : Type 0 where
   pub outcomes : List Outcome
   pub holds : HasGames archive outcomes
   pub writes : WritesAnswer (answer_of query outcomes) sinks status

@@ -217,3 +217,15 @@ fn a_real_file_of_several_pieces_is_read_to_its_end(rt: HostRuntime) -> Result<(
     fs::remove_file(&rt, name)?;
     Ok(())
 }
+
+#[test]
+fn a_query_without_a_file_is_not_opened(rt: HostRuntime) -> Result<(), Fail> {
+    let alloc = rt.alloc();
+    let mut desk = FileDesk::new(alloc, rt, b"".as_slice())?;
+    let mut out = SureSink::new(alloc, 0)?;
+    let mut err = SureSink::new(alloc, 0)?;
+    let words = ["check", "none.cql"];
+    let status = status_of(&rt, alloc, &words, &mut desk, &mut out, &mut err)?;
+    assert_eq!(rt; status, Status::OpenFault);
+    Ok(())
+}

@@ -1,11 +1,14 @@
 //! The top call: what the words of a command answer.
 #![tactic(auto)]
 
-mod answer;
+mod answering;
+mod asked;
 #[cfg(test)]
 mod failing;
-mod query;
-mod reading;
+mod games;
+mod query_lines;
+#[cfg(test)]
+mod query_rows;
 mod report;
 mod status;
 mod tally;
@@ -14,5 +17,6 @@ mod tests;
 mod top_call;
 mod words;
 
+pub use answering::answer;
 pub use status::Status;
 pub use top_call::run;

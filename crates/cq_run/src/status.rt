@@ -9,7 +9,7 @@ pub enum Status {
     Done,
     /// All games are answered, and some are refused.
     DoneWithRefusals,
-    /// The query is faulty. It does not come yet: a faulty query is answered as one that is not yet read.
+    /// The query is faulty.
     QueryRefused,
     /// The words are not those of a command.
     WordsRefused,
@@ -23,7 +23,7 @@ pub enum Status {
     NoMemory,
     /// The archive has more than 2^30 bytes.
     ArchiveTooLong,
-    /// The query or the archive is of a form that this version does not read.
+    /// The query has an item that is no designator, which this version does not answer.
     NotYetRead,
 }
 

@@ -1,6 +1,7 @@
 //! Worked rows through the top call, over the forms in memory.
-use crate::{Status, run};
-use cq_outside::{Bytes, NoMemory, OpenGate, SureDesk, SureSink};
+use crate::asked::read_query;
+use crate::{Status, answer, run};
+use cq_outside::{Bytes, NoMemory, OpenGate, SureDesk, SureSink, SureSource};
 use std::alloc::Global;
 use std::process::Abort;
 use std::test::Fail;
@@ -30,16 +31,17 @@ fn written(alloc: Global, game: Written<'_>) -> Result<Bytes, NoMemory> {
     Ok(text)
 }
 
-/// Asks that words over an archive on standard input are answered so, and that the sinks have taken these texts.
-fn expect<R: Threads + Sync + Abort>(
+/// Asks that words over a file are answered so, and that the sinks have taken these texts. The name `-` is standard input.
+pub fn expect<R: Threads + Sync + Abort>(
     rt: &R,
     alloc: Global,
     words: &[&str],
-    archive: &str,
+    file: (&str, &str),
     want: (Status, &[u8], &str),
 ) -> Result<(), Fail> {
+    let (name, archive) = file;
     let mut desk = SureDesk::new(alloc);
-    desk.add(b"-", archive.as_bytes())?;
+    desk.add(name.as_bytes(), archive.as_bytes())?;
     let mut out = SureSink::new(alloc, 4096)?;
     let mut err = SureSink::new(alloc, 4096)?;
     let mut texts = Vec::new(alloc);
@@ -62,7 +64,7 @@ fn expect<R: Threads + Sync + Abort>(
 }
 
 /// A query and an archive of one game that it finds, and how this is written.
-const FOUND: [(&str, &str, Written<'_>); 5] = [
+const FOUND: [(&str, &str, Written<'_>); 7] = [
     (
         "cql() Ka1",
         "[FEN \"8/8/8/8/8/8/8/K1k5 w - - 0 1\"]\n*\n",
@@ -86,6 +88,20 @@ const FOUND: [(&str, &str, Written<'_>); 5] = [
         "cql() Qa8",
         "[FEN \"7k/P7/8/8/8/8/8/K7 w - - 0 1\"]\n1. a8Q *",
         ("7k/P7/8/8/8/8/8/K7 w - - 0 1", "*", "1. a8=Q+ {CQL} *"),
+    ),
+    (
+        "cql(variations) Pd4",
+        "1. e4 (1. d4) e5 *",
+        ("", "*", "1. e4 (1. d4 {CQL}) 1... e5 *"),
+    ),
+    (
+        "cql(matchstring \"mate\") Qf7 ke8",
+        "1. e4 e5 2. Bc4 Nc6 3. Qh5 Nf6 4. Qxf7 1-0",
+        (
+            "",
+            "1-0",
+            "1. e4 e5 2. Bc4 Nc6 3. Qh5 Nf6 4. Qxf7# {mate} 1-0",
+        ),
     ),
     (
         "cql() Pe4",
@@ -220,7 +236,7 @@ fn games_that_match_are_written(rt: HostRuntime) -> Result<(), Fail> {
             text.as_slice(),
             "games 1 matched 1 refused 0\n",
         );
-        expect(&rt, alloc, &["eval", query], archive, want)?;
+        expect(&rt, alloc, &["eval", query], ("-", archive), want)?;
     }
     Ok(())
 }
@@ -230,19 +246,67 @@ fn faults_are_reported(rt: HostRuntime) -> Result<(), Fail> {
     let alloc = rt.alloc();
     for (archive, status, report) in REPORTS {
         let want = (status, b"".as_slice(), report);
-        expect(&rt, alloc, &["eval", "cql() Kb4"], archive, want)?;
+        expect(&rt, alloc, &["eval", "cql() Kb4"], ("-", archive), want)?;
     }
     Ok(())
 }
 
 #[test]
-fn other_words_and_queries_are_turned_away(rt: HostRuntime) -> Result<(), Fail> {
+fn other_words_and_other_queries_are_turned_away(rt: HostRuntime) -> Result<(), Fail> {
     let alloc = rt.alloc();
-    for (words, status, text) in [
-        (["eval", "cql() Ka9"], Status::NotYetRead, ""),
-        (["play", "cql() Ka1"], Status::WordsRefused, USAGE),
+    let none = b"".as_slice();
+    for (mode, query, status, text) in [
+        ("eval", "cql() sort \"p\" power A", Status::NotYetRead, ""),
+        ("eval", "cql() Ka1 check", Status::NotYetRead, ""),
+        (
+            "eval",
+            "cql() echo",
+            Status::QueryRefused,
+            "query byte 6: outside profile echo\n",
+        ),
+        ("play", "cql() Ka1", Status::WordsRefused, USAGE),
     ] {
-        expect(&rt, alloc, &words, "*", (status, b"".as_slice(), text))?;
+        expect(&rt, alloc, &[mode, query], ("-", "*"), (status, none, text))?;
+    }
+    let missed = "games 1 matched 0 refused 0\n";
+    for query in ["cql() Ka1 Kb1", "cql() Pd4"] {
+        let archive = "[FEN \"8/8/8/8/8/8/8/K1k5 w - - 0 1\"]\n*\n";
+        let want = (Status::Done, none, missed);
+        expect(&rt, alloc, &["eval", query], ("-", archive), want)?;
+    }
+    Ok(())
+}
+
+#[test]
+fn a_query_is_answered_over_a_source(rt: HostRuntime) -> Result<(), Fail> {
+    let alloc = rt.alloc();
+    let text = written(alloc, ("", "*", "1. e4 {CQL} e5 *"))?;
+    for (query, status, out_text, err_text) in [
+        (
+            "cql() Pe4 pe7",
+            Status::Done,
+            text.as_slice(),
+            "games 1 matched 1 refused 0\n",
+        ),
+        ("cql() check", Status::NotYetRead, b"".as_slice(), ""),
+    ] {
+        let query = read_query(alloc, query.as_bytes())?;
+        let mut source = SureSource::new(Bytes::from_slice(alloc, b"1. e4 e5 *")?);
+        let mut out = SureSink::new(alloc, 4096)?;
+        let mut err = SureSink::new(alloc, 4096)?;
+        let answered = answer(
+            &rt,
+            alloc,
+            &query,
+            1,
+            &mut source,
+            &mut out,
+            &mut err,
+            &OpenGate,
+        );
+        assert_eq!(rt; answered, status);
+        assert_eq!(rt; out.taken(), Some(out_text));
+        assert_eq!(rt; err.taken(), Some(err_text.as_bytes()));
     }
     Ok(())
 }

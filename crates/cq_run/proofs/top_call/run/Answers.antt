@@ -1,29 +1,25 @@
-use Rattle.std.proofs.Common.{refl, sym}
-use Rattle.cq_run.proofs.Promises.{words_written, words_unwritten, unread, wrote}
+use Rattle.std.proofs.Common.{◌≡◌, map, Some}
+use Rattle.std.specs.String.{string_bytes}
+use Rattle.cq_run.specs.declared.words.Mode.TheVariants.{Eval, Check}
+use Rattle.cq_run.specs.Promise.{sink_view, desk_view}
+use Rattle.cq_run.specs.Words.{job_of}
+use Rattle.cq_run.proofs.Doing.{words_promised, eval_promised, check_promised, usage_refuses}
 use Rattle.cq_run.proofs.top_call.run.Goals as goal
 
-pub returns-in-Ok : goal.returns-in-Ok
-returns-in-Ok g c = words_written _ c.in_default.ensures refl refl c.in-Ok.ensures.cause.same c.in-Ok.ensures.ok
+pub returns-in-Some-Eval-default : goal.returns-in-Some-Eval-default
+returns-in-Some-Eval-default g c =
+    let job : job_of (map string_bytes c.args.words.now) ≡ Some (record { mode = Eval; word = c.in-Some-Eval-default.text.now }) =
+    cc (c.in-Some-Eval-default.ensures, c.in-Some-Eval-default.field-0-0-is, c.in-Some-Eval-default.text-is) in
+    eval_promised c.tokens_spell_at_most_one_query.ensures c.faulty_tokens_spell_no_query.ensures _ c.evaluate.result _ c.in-Some-Eval-default.text.now job c.evaluate.ensures
 
-pub returns-in-Err : goal.returns-in-Err
-returns-in-Err g c = words_unwritten _ c.in-Err.ensures.err.0 c.in_default.ensures refl refl c.in-Err.ensures.cause.failed c.in-Err.ensures.err.1
+pub returns-in-Some-Check-default : goal.returns-in-Some-Check-default
+returns-in-Some-Check-default g c =
+    let job : job_of (map string_bytes c.args.words.now) ≡ Some (record { mode = Check; word = c.in-Some-Check-default.name.now }) =
+    cc (c.in-Some-Check-default.ensures, c.in-Some-Check-default.field-0-0-is, c.in-Some-Check-default.name-is) in
+    check_promised c.tokens_spell_at_most_one_query.ensures c.faulty_tokens_spell_no_query.ensures _ c.check_file.result _ c.in-Some-Check-default.name.now job c.check_file.ensures
 
-pub returns-in-Err-read_archive : goal.returns-in-Err-read_archive
-returns-in-Err-read_archive g c =
-    unread c.in-Err-read_archive.status _ c.in-Some-read.query
-    (record { text = c.in-Some.text.now; words = c.in-Some.ensures; spells = sym c.in-Some-read.ensures }) (record { out = refl; err = refl })
-    c.in-Err-read_archive.ensures
-
-pub returns : goal.returns
-returns g c =
-    let read = c.in-Ok-read_archive.ensures in
-    let answers = rw c.as_slice.ensures at c.answer_archive.ensures in
-    wrote c.answer_archive.result _ c.in-Some-read.query c.in-Ok-read_archive.archive
-    (record {
-      asks = record { text = c.in-Some.text.now; words = c.in-Some.ensures; spells = sym c.in-Some-read.ensures };
-      opens = read.opens;
-      reads = read.reads.0;
-      counts = read.reads.1;
-      short = read.reads.2;
-      answers = answers;
-    })
+pub returns-in-None : goal.returns-in-None
+returns-in-None g c =
+    words_promised _ c.refuse_words.result _ c.in-None.ensures
+    (usage_refuses c.refuse_words.result (desk_view g.D.Desk.told g.D.Source.left g.D.Source.faults g.D.Desk.open_faults c.args.desk.now) _
+    (c.refuse_words.ensures (sink_view g.O.Sink.taken g.O.Sink.faults c.args.out.now)))

@@ -1,0 +1,174 @@
+-- The promise of `answer`, from what its parts answer.
+use Rattle.std.proofs.Common.{◌≡◌, ℕ, ◌+◌, ◌≤◌, ◌<◌, true, false, List, [], ◌∷◌, ◌++◌, length, length-append, append-nil, Option, Some, None, refl, ap, sym, ◌∙◌, arith, subst, inl, inr}
+use Rattle.std.specs.Io.KnownBytes.{Consumes, IsAtEnd}
+use Rattle.cq_outside.specs.Faults.{Rose}
+use Rattle.cq_outside.specs.Flow.{TakesAtMost}
+use Rattle.cql_syntax.specs.Trees.{QueryTree}
+use Rattle.cq_run.specs.declared.status.Status.{Status}
+use Rattle.cq_run.specs.declared.status.Status.TheVariants.{Done, DoneWithRefusals, QueryRefused, WordsRefused, OpenFault, ReadFault, WriteFault, NoMemory, ArchiveTooLong, NotYetRead}
+use Rattle.cq_run.specs.Answer.{Answer, answer_of}
+use Rattle.cq_run.specs.Queries.{has_other}
+use Rattle.cq_run.specs.Promise.{SourceView, Sinks, Answering, MayBe, archive_limit, TakesTooMuch, Overruns, Finds, TakesAll, SaysOfAnswer, AnswerPromise, WritesPrefix, IsUnwritten, SinkFailed, IsOneOf, texts_of_answer}
+use Rattle.cq_run.specs.Writing.{AnswersArchive}
+use Rattle.cq_run.proofs.Sinks.{wrote_none, some_failed}
+
+may_be : (left after : Option (List ℕ)) (bytes : List ℕ) → Consumes left after bytes → IsAtEnd after → MayBe left bytes
+may_be None after bytes takes end = tt
+may_be (Some told) None bytes takes end = absurd takes
+may_be (Some told) (Some rest) bytes takes end = takes ∙ ap (λ l. bytes ++ l) end ∙ append-nil bytes
+
+-- of the same bytes less the same rest, as many were taken
+same_count : (told few taken : List ℕ) (after : Option (List ℕ)) → Consumes (Some told) after few → Consumes (Some told) after taken → length few ≡ length taken
+same_count told few taken None f g = absurd f
+same_count told few taken (Some rest) f g =
+    let lengths : length (few ++ rest) ≡ length (taken ++ rest) = ap length (sym f ∙ g) in
+    omega (arith, length-append few rest, length-append taken rest)
+
+-- where at most the limit was taken, the source is not overrun
+pub not_overrun : (source after : SourceView) → TakesAtMost archive_limit source.left after.left → Overruns source after → ⊥
+not_overrun source after few much =
+    let same = same_count much.told few.bytes much.too_much.bytes after.left (subst (λ l. Consumes l after.left few.bytes) much.tells few.takes)
+    (subst (λ l. Consumes l after.left much.too_much.bytes) much.tells much.too_much.takes) in
+    let a = few.few in
+    let b = much.too_much.long in
+    omega (arith, same, a, b)
+
+-- bytes that are told and within the limit are not too many
+consumed_few : (told bytes : List ℕ) (after : Option (List ℕ)) → Consumes (Some told) after bytes → length bytes ≤ length told
+consumed_few told bytes None takes = absurd takes
+consumed_few told bytes (Some rest) takes = let e : length told ≡ length (bytes ++ rest) = ap length takes in omega (arith, e, length-append bytes rest)
+
+not_too_long : (source after : SourceView) (told : List ℕ) → source.left ≡ Some told → length told ≤ archive_limit → TakesTooMuch source after → ⊥
+not_too_long source after told tells few much =
+    let less = consumed_few told much.bytes after.left (subst (λ l. Consumes l after.left much.bytes) tells much.takes) in
+    let long = much.long in
+    omega (arith, less, few, long)
+
+others_not : (q : QueryTree) (status : Status) → has_other q ≡ false → has_other q ≡ true → status ≡ NotYetRead
+others_not q status is_none is_some = cc
+
+abbrev pub asked : QueryTree → SourceView → SourceView → Sinks → Answering
+asked q source after sinks = record { query = q; source = source; source_after = after; sinks = sinks }
+
+nothing_taken : (left : Option (List ℕ)) → Consumes left left []
+nothing_taken None = tt
+nothing_taken (Some bytes) = refl
+
+-- a query with an item that is no designator
+pub other : (q : QueryTree) (source : SourceView) (sinks : Sinks) → has_other q ≡ true → IsUnwritten sinks → AnswerPromise NotYetRead (asked q source source sinks)
+other q source sinks others same =
+    let few : TakesAtMost archive_limit source.left source.left = record { bytes = []; takes = nothing_taken source.left; few = omega arith } in
+    record {
+      says = (others, refl, same);
+      takes = record { bytes = []; takes = nothing_taken source.left; few = omega arith };
+      other_always = λ _. refl;
+      too_long_always = λ much. absurd (not_overrun source source few much);
+      complete = λ all. absurd (let unsorted : has_other q ≡ false = all.plain in cc);
+    }
+
+one_more_most : (left after : Option (List ℕ)) → TakesAtMost archive_limit left after → TakesAtMost (archive_limit + 1) left after
+one_more_most left after few = record { bytes = few.bytes; takes = few.takes; few = let a = few.few in omega (arith, a) }
+
+-- a read that failed
+pub unread : (q : QueryTree) (source after : SourceView) (sinks : Sinks) → has_other q ≡ false → TakesAtMost archive_limit source.left after.left → Rose source.faults after.faults
+    → IsUnwritten sinks → AnswerPromise ReadFault (asked q source after sinks)
+unread q source after sinks unsorted few rose same = record {
+  says = (rose, same);
+  takes = one_more_most source.left after.left few;
+  other_always = λ yes. others_not q ReadFault unsorted yes;
+  too_long_always = λ much. absurd (not_overrun source after few much);
+  complete = λ all. absurd (all.no_read rose);
+}
+
+-- no memory to read
+pub unremembered : (q : QueryTree) (source after : SourceView) (sinks : Sinks) → has_other q ≡ false → TakesAtMost (archive_limit + 1) source.left after.left → after.faults ≡ source.faults
+    → IsUnwritten sinks → AnswerPromise NoMemory (asked q source after sinks)
+unremembered q source after sinks unsorted few counts same = record {
+  says = (inl same, record { source = counts; sinks = wrote_none sinks same });
+  takes = few;
+  other_always = λ yes. others_not q NoMemory unsorted yes;
+  too_long_always = λ _. inr (inl refl);
+  complete = λ _. inr (inr (inl refl));
+}
+
+-- more than the limit
+pub too_long : (q : QueryTree) (source after : SourceView) (sinks : Sinks) (bytes : List ℕ) → has_other q ≡ false → Consumes source.left after.left bytes → length bytes ≤ archive_limit + 1
+    → archive_limit < length bytes → after.faults ≡ source.faults → IsUnwritten sinks → AnswerPromise ArchiveTooLong (asked q source after sinks)
+too_long q source after sinks bytes unsorted takes few long counts same =
+    let much : TakesTooMuch source after = record { bytes = bytes; takes = takes; long = long } in
+    record {
+      says = (much, same, record { source = counts; sinks = wrote_none sinks same });
+      takes = record { bytes = bytes; takes = takes; few = few };
+      other_always = λ yes. others_not q ArchiveTooLong unsorted yes;
+      too_long_always = λ _. inl refl;
+      complete = λ all. absurd (not_too_long source after all.archive all.tells all.within much);
+    }
+
+-- the archive was read, and what was found in it is written as far as it could be
+pub record Answered (q : QueryTree) (source after : SourceView) (sinks : Sinks) (status : Status) : Type 0 where
+  pub archive : List ℕ
+  pub plain : has_other q ≡ false
+  pub takes : Consumes source.left after.left archive
+  pub within : length archive ≤ archive_limit
+  pub at_end : IsAtEnd after.left
+  pub counts : after.faults ≡ source.faults
+  pub answers : AnswersArchive q archive sinks status
+
+finds : (q : QueryTree) (source after : SourceView) (sinks : Sinks) (status : Status) (Takes : Answer → Type 0) → (answered : Answered q source after sinks status)
+    → Takes (answer_of q answered.answers.outcomes) → Finds (asked q source after sinks) Takes
+finds q source after sinks status Takes answered takes = record {
+  archive = answered.archive;
+  outcomes = answered.answers.outcomes;
+  reads = record { is = may_be source.left after.left answered.archive answered.takes answered.at_end; within = answered.within; at_end = answered.at_end };
+  holds = answered.answers.holds;
+  takes = takes;
+}
+
+says_answered : (status : Status) (q : QueryTree) (source after : SourceView) (sinks : Sinks) → Answered q source after sinks status → SaysOfAnswer status (asked q source after sinks)
+says_answered Done q source after sinks answered =
+    let writes = answered.answers.writes in (
+      finds q source after sinks Done (TakesAll (asked q source after sinks) (λ refused. refused ≡ 0)) answered (record { refused = writes.0; writes = writes.1 }),
+      record { source = answered.counts; sinks = writes.2 },
+    )
+says_answered DoneWithRefusals q source after sinks answered =
+    let writes = answered.answers.writes in (
+      finds q source after sinks DoneWithRefusals (TakesAll (asked q source after sinks) (λ refused. 0 < refused)) answered (record { refused = writes.0; writes = writes.1 }),
+      record { source = answered.counts; sinks = writes.2 },
+    )
+says_answered WriteFault q source after sinks answered =
+    let writes = answered.answers.writes in
+    (writes.0, answered.counts, finds q source after sinks WriteFault (λ a. WritesPrefix sinks (texts_of_answer a)) answered writes.1)
+says_answered NoMemory q source after sinks answered =
+    let writes = answered.answers.writes in (
+      inr (finds q source after sinks NoMemory (λ a. WritesPrefix sinks (texts_of_answer a)) answered writes.0),
+      record { source = answered.counts; sinks = writes.1 },
+    )
+says_answered QueryRefused q source after sinks answered = absurd answered.answers.writes
+says_answered WordsRefused q source after sinks answered = absurd answered.answers.writes
+says_answered OpenFault q source after sinks answered = absurd answered.answers.writes
+says_answered ReadFault q source after sinks answered = absurd answered.answers.writes
+says_answered ArchiveTooLong q source after sinks answered = absurd answered.answers.writes
+says_answered NotYetRead q source after sinks answered = absurd answered.answers.writes
+
+-- which answer it is, where no write failed
+answer_is_one : (status : Status) (q : QueryTree) (source after : SourceView) (sinks : Sinks) → Answered q source after sinks status → (SinkFailed sinks → ⊥)
+    → IsOneOf status (Done ∷ DoneWithRefusals ∷ NoMemory ∷ [])
+answer_is_one Done q source after sinks answered none = inl refl
+answer_is_one DoneWithRefusals q source after sinks answered none = inr (inl refl)
+answer_is_one NoMemory q source after sinks answered none = inr (inr (inl refl))
+answer_is_one WriteFault q source after sinks answered none = absurd (none (some_failed sinks answered.answers.writes.0))
+answer_is_one QueryRefused q source after sinks answered none = absurd answered.answers.writes
+answer_is_one WordsRefused q source after sinks answered none = absurd answered.answers.writes
+answer_is_one OpenFault q source after sinks answered none = absurd answered.answers.writes
+answer_is_one ReadFault q source after sinks answered none = absurd answered.answers.writes
+answer_is_one ArchiveTooLong q source after sinks answered none = absurd answered.answers.writes
+answer_is_one NotYetRead q source after sinks answered none = absurd answered.answers.writes
+
+pub answered_whole : (status : Status) (q : QueryTree) (source after : SourceView) (sinks : Sinks) → Answered q source after sinks status → AnswerPromise status (asked q source after sinks)
+answered_whole status q source after sinks answered = record {
+  says = says_answered status q source after sinks answered;
+  takes = record { bytes = answered.archive; takes = answered.takes; few = let w = answered.within in omega (arith, w) };
+  other_always = λ yes. others_not q status answered.plain yes;
+  too_long_always = λ much. absurd (not_overrun source after (record { bytes = answered.archive; takes = answered.takes; few = answered.within }) much);
+  complete = λ all. answer_is_one status q source after sinks answered all.no_write;
+}

@@ -1,0 +1,174 @@
+//! Answering a query over an archive: each export and each line is written as its game is answered.
+ghost use Rattle.std.specs.Prelude.{◌≡◌, ◌+◌, ◌<◌, ◌≤◌, ◌^◌, Ok, Err, true, length, All, AllPairs, IfOk};
+ghost use Rattle.cq_hits.specs.Designators.{are_designators};
+ghost use Rattle.cq_annotate.specs.Marking.{game_marked};
+ghost use Rattle.pgn_export.specs.Export.{export_text};
+ghost use Rattle.cql_syntax.specs.Hits.{marks};
+ghost use Rattle.pgn_cut.specs.Joined.{game_bytes};
+ghost use Rattle.pgn_cut.specs.OneGame.{IsGameIn};
+ghost use Rattle.pgn_cut.specs.Spans.{EndsBy};
+ghost use Rattle.pgn_reader.specs.Verdict.{IsRead};
+ghost use Rattle.cql_syntax.specs.TreeOf.{query_tree};
+ghost use Rattle.cql_syntax.specs.Trees.{QueryTree};
+ghost use Rattle.cq_run.specs.Outcomes.{Outcome};
+ghost use Rattle.cq_run.specs.Promise.{SinkView, sink_view, sinks_of};
+ghost use Rattle.cq_run.specs.Writing.{AnswersArchive, AnswersGame, WritesSummary, WritesText};
+
+use crate::report::{fault_line, summary_line};
+use crate::status::Status;
+use crate::tally::Tally;
+use cq_annotate::mark;
+use cq_hits::hits;
+use cq_outside::{Bytes, Failed, NoMemory, Refusal, Sink, write_all_of};
+use cql_syntax::TypedQuery;
+use pgn_cut::{Span, cut_whole, games_end_once};
+use pgn_export::export;
+use pgn_reader::{GameFault, games_have_outcomes, read_game};
+use pgn_tree::Game;
+use std::alloc::Global;
+
+/// Answers the query over an archive of at most 2^30 bytes: `out` takes the export of each game that matches, and `err` the
+/// line of each faulty game and, after the last game, the counts. A write that fails is the last one.
+pub fn answer_archive<O: Sink, E: Sink>(
+    alloc: Global,
+    query: &TypedQuery,
+    archive: &[u8],
+    out: &mut O,
+    err: &mut E,
+) -> Status
+    requires size { length archive.now ≤ 2 ^ 30 }
+    requires designators { are_designators (query_tree query.now.query).items ≡ true }
+    ensures { AnswersArchive (query_tree query.now.query) archive.now
+        (sinks_of (sink_view O.taken O.faults out.old) (sink_view O.taken O.faults out.new)
+        (sink_view E.taken E.faults err.old) (sink_view E.taken E.faults err.new)) result }
+{
+    games_end_once();
+    games_have_outcomes();
+    let Ok(games) = cut_whole(alloc, archive) else {
+        return Status::NoMemory;
+    };
+    let mut tally = Tally {
+        games: 0,
+        matched: 0,
+        refused: 0,
+    };
+    for i in 0..games.len() {
+        match answer_game(alloc, query, archive, games[i], &mut tally, out, err) {
+            Ok(()) => {}
+            Err(Refusal::Fault(_)) => return Status::WriteFault,
+            Err(Refusal::NoMemory) => return Status::NoMemory,
+        }
+    }
+    write_summary(alloc, tally, err)
+}
+
+/// Writes the last line of the report.
+fn write_summary<E: Sink>(alloc: Global, tally: Tally, err: &mut E) -> Status
+    ensures { WritesSummary tally (sink_view E.taken E.faults err.old) (sink_view E.taken E.faults err.new) result }
+{
+    let Ok(line) = summary_line(alloc, tally) else {
+        return Status::NoMemory;
+    };
+    match write_all_of(err, line.as_slice()) {
+        Ok(()) if tally.refused == 0 => Status::Done,
+        Ok(()) => Status::DoneWithRefusals,
+        Err(_) => Status::WriteFault,
+    }
+}
+
+/// Answers one game of the archive. Memory is refused before anything of the game is written.
+fn answer_game<O: Sink, E: Sink>(
+    alloc: Global,
+    query: &TypedQuery,
+    archive: &[u8],
+    game: Span,
+    tally: &mut Tally,
+    out: &mut O,
+    err: &mut E,
+) -> Result<(), Refusal<Failed>>
+    requires designators { are_designators (query_tree query.now.query).items ≡ true }
+    requires within { EndsBy (length archive.now) game }
+    requires size { length archive.now ≤ 2 ^ 30 }
+    requires one { IsGameIn archive.now game }
+    requires games { tally.old.games < 2 ^ 63 }
+    requires matched { tally.old.matched ≤ tally.old.games }
+    requires refused { tally.old.refused ≤ tally.old.games }
+    ensures { AnswersGame (query_tree query.now.query) (IsRead game.start game.first (game_bytes archive.now game)) tally.old tally.new
+        (sinks_of (sink_view O.taken O.faults out.old) (sink_view O.taken O.faults out.new)
+        (sink_view E.taken E.faults err.old) (sink_view E.taken E.faults err.new)) result }
+{
+    let bytes = &archive[game.start as usize..game.end as usize];
+    match read_game(alloc, bytes, game.start, game.first) {
+        Ok(game) => write_match(alloc, query, game, tally, out),
+        Err(Refusal::Fault(fault)) => write_fault(alloc, fault, tally, err),
+        Err(Refusal::NoMemory) => Err(Refusal::NoMemory),
+    }
+}
+
+/// Writes the export of a game that was read, where it matches.
+fn write_match<O: Sink>(
+    alloc: Global,
+    query: &TypedQuery,
+    game: Game,
+    tally: &mut Tally,
+    out: &mut O,
+) -> Result<(), Refusal<Failed>>
+    requires designators { are_designators (query_tree query.now.query).items ≡ true }
+    requires games { tally.old.games < 2 ^ 63 }
+    requires matched { tally.old.matched ≤ tally.old.games }
+    ensures { (err : SinkView) → AnswersGame (query_tree query.now.query) (λ outcome. outcome ≡ Ok game) tally.old tally.new
+        (sinks_of (sink_view O.taken O.faults out.old) (sink_view O.taken O.faults out.new) err err) result }
+{
+    tally.games += 1;
+    let found = hits(alloc, &query.query, &game)?;
+    let nodes = found.as_slice();
+    if nodes.is_empty() {
+        return Ok(());
+    }
+    tally.matched += 1;
+    let text = marked_text(alloc, query, &game, nodes)?;
+    write_to(out, text.as_slice())
+}
+
+/// The export of a game that is marked at some of its nodes.
+fn marked_text(
+    alloc: Global,
+    query: &TypedQuery,
+    game: &Game,
+    nodes: &[u32],
+) -> Result<Bytes, NoMemory>
+    requires increasing { AllPairs (λ m n. m < n) nodes.now }
+    requires inside { All (λ n. n < length game.now.nodes) nodes.now }
+    ensures { IfOk result (λ text. text ≡ export_text (game_marked (marks (query_tree query.now.query)) nodes.now game.now)) }
+{
+    let marked = mark(alloc, game, nodes, &query.query)?;
+    export(alloc, &marked)
+}
+
+/// Writes the line of a game that is faulty.
+fn write_fault<E: Sink>(
+    alloc: Global,
+    fault: GameFault,
+    tally: &mut Tally,
+    err: &mut E,
+) -> Result<(), Refusal<Failed>>
+    requires games { tally.old.games < 2 ^ 63 }
+    requires refused { tally.old.refused ≤ tally.old.games }
+    ensures { (query : QueryTree) (out : SinkView) → AnswersGame query (λ outcome. outcome ≡ Err fault) tally.old tally.new
+        (sinks_of out out (sink_view E.taken E.faults err.old) (sink_view E.taken E.faults err.new)) result }
+{
+    tally.games += 1;
+    tally.refused += 1;
+    let line = fault_line(alloc, tally.games, fault)?;
+    write_to(err, line.as_slice())
+}
+
+/// Writes all of a text.
+fn write_to<S: Sink>(sink: &mut S, text: &[u8]) -> Result<(), Refusal<Failed>>
+    ensures { WritesText text.now (sink_view S.taken S.faults sink.old) (sink_view S.taken S.faults sink.new) result }
+{
+    match write_all_of(sink, text) {
+        Ok(()) => Ok(()),
+        Err(failed) => Err(Refusal::Fault(failed)),
+    }
+}
