@@ -280,7 +280,7 @@ fn other_words_and_other_queries_are_turned_away(rt: HostRuntime) -> Result<(), 
 #[test]
 fn a_query_is_answered_over_a_source(rt: HostRuntime) -> Result<(), Fail> {
     let alloc = rt.alloc();
-    let text = written(alloc, ("", "*", "1. e4 {CQL} e5 *"))?;
+    let text = written(alloc, ("", "*", "1. e4 {CQL} 1... e5 *"))?;
     for (query, status, out_text, err_text) in [
         (
             "cql() Pe4 pe7",
