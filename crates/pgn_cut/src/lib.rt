@@ -8,6 +8,7 @@
 mod game;
 pub mod laws;
 pub mod span;
+mod state;
 #[cfg(test)]
 mod tests;
 pub mod whole;
