@@ -3,6 +3,7 @@ pub mod Joins
 pub mod Loop
 pub mod Meets
 pub mod OneGame
+pub mod OpenLexemes
 pub mod Order
 pub mod Pushes
 mod Rows
