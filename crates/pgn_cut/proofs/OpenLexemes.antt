@@ -21,7 +21,7 @@ use Rattle.pgn_lexer.specs.declared.token.LexemeKind.{LexemeKind}
 use Rattle.pgn_lexer.specs.declared.token.LexemeKind.TheVariants.{EscapeLine, Token}
 use Rattle.pgn_lexer.specs.declared.token.TokenKind.TheVariants.{Open, Close, Text, Symbol, Period, Star, LeftParen, RightParen, Nag, Null, Comment, LineComment, BadByte, UnclosedComment, UnclosedText}
 use Rattle.pgn_cut.specs.Cut.{is_result, marks}
-use Rattle.pgn_cut.specs.States.{IsPartOfText, BeginResults, IsOpen, begins_further, results_from, results_after, are_spelled, begun, takes, finishes, after, kind_at_end, kind_with_last, is_marker_at_end, EndsBefore, AreAlike, IsOneLexeme}
+use Rattle.pgn_cut.specs.States.{IsPartOfText, BeginResults, IsOpen, begins_further, results_from, results_after, are_spelled, begun, takes, finishes, after, kind_at_end, kind_with_last, is_marker_at_end, EndsBefore, AreAlike, IsOneLexeme, EndsAs}
 use Rattle.pgn_cut.specs.declared.state.Results.{Results}
 use Rattle.pgn_cut.specs.declared.state.State.{State}
 use Rattle.pgn_cut.specs.declared.state.State.TheVariants.{AtStart, OneOfMark, TwoOfMark, Between, InComment, InLine, InText, InSymbol, InNumber, InSuffix, InNull}
@@ -288,10 +288,6 @@ single_marks b =
     of_test P (b == 91) _ _ (λ e. other_byte b 91 refl e) (λ _. of_test P (b == 93) _ _ (λ e. other_byte b 93 refl e) (λ _. of_test P (b == 40) _ _ (λ e. other_byte b 40 refl e)
     (λ _. of_test P (b == 41) _ _ (λ e. other_byte b 41 refl e) (λ _. of_test P (b == 46) _ _ (λ e. other_byte b 46 refl e) (λ _. of_test P (b == 42) _ _ (λ e. e) (λ e. e))))))
 
--- an open lexeme, which a front of an archive leaves unsettled
-abbrev pub EndsAs : (first : Bool) (bytes : List ℕ) (asked : LexemeKind) (marker : Bool) (Before : List ℕ → Type 0) → Type 0
-EndsAs first bytes asked marker Before = IsOneLexeme first bytes asked marker Before × IsUnsettled first bytes
-
 module _ (follow : LexemesFollow) (alone : StandsAlone) (before : StaysBefore) where
   -- bytes of which the reading is known are one lexeme
   by_reading : (first : Bool) (b : ℕ) (bs : List ℕ) (asked read : LexemeKind) (marker : Bool) (Before : List ℕ → Type 0) → is_white b ≡ false → AreAlike asked read → marker ≡ marks read (b ∷ bs)
@@ -398,3 +394,17 @@ module _ (follow : LexemesFollow) (alone : StandsAlone) (before : StaysBefore) w
       let here = alone_read first b [] none in
       by_reading first b [] (reading first b []).kind (single b).kind (b == 42) (λ rest. Unit {0}) dark (subst (λ (q : Reading). AreAlike q.kind (single b).kind) (sym here) (same_kind (single b).kind)) (single_marks b)
       (λ rest e. alone_read first b rest none ∙ single_is b)
+
+  -- what is open is unsettled
+  pub unsettled : (first : Bool) (s : State) (bytes : List ℕ) → IsOpen first s bytes → IsUnsettled first bytes
+  unsettled first AtStart bytes is = absurd is
+  unsettled first OneOfMark bytes is = absurd is
+  unsettled first TwoOfMark bytes is = absurd is
+  unsettled first Between bytes is = subst (IsUnsettled first) (sym is) tt
+  unsettled first InComment bytes is = (ends first InComment bytes is (λ e. cc)).1
+  unsettled first InLine bytes is = (ends first InLine bytes is (λ e. cc)).1
+  unsettled first (InText t) bytes is = (ends first (InText t) bytes is (λ e. cc)).1
+  unsettled first (InSymbol r) bytes is = (ends first (InSymbol r) bytes is (λ e. cc)).1
+  unsettled first InNumber bytes is = (ends first InNumber bytes is (λ e. cc)).1
+  unsettled first InSuffix bytes is = (ends first InSuffix bytes is (λ e. cc)).1
+  unsettled first InNull bytes is = (ends first InNull bytes is (λ e. cc)).1

@@ -5,8 +5,8 @@ use Rattle.std.specs.List.{AllByRecursion, starts_with}
 use Rattle.std.specs.Char.{is_ascii_digit, is_ascii_alphanumeric}
 use Rattle.pgn_lexer.specs.Bytes.{ends_line, continues_symbol}
 use Rattle.pgn_lexer.specs.Grammar.{IsBody, IsLexeme}
-use Rattle.pgn_lexer.specs.Lexemes.{Lexeme, lexemes, first_at}
-use Rattle.pgn_lexer.specs.Readings.{reading, single}
+use Rattle.pgn_lexer.specs.Lexemes.{lexemes, first_at}
+use Rattle.pgn_lexer.specs.Local.{IsUnsettled}
 use Rattle.pgn_lexer.specs.declared.token.LexemeKind.{LexemeKind}
 use Rattle.pgn_lexer.specs.declared.token.LexemeKind.TheVariants.{EscapeLine, Token}
 use Rattle.pgn_lexer.specs.declared.token.TokenKind.TheVariants.{Text, Symbol, Null, Comment, LineComment, BadByte, UnclosedComment, UnclosedText}
@@ -117,6 +117,17 @@ abbrev pub is_marker_at_end : State → ℕ → Bool
 is_marker_at_end (InSymbol r) len = are_spelled r len
 is_marker_at_end _ len = false
 
+-- a part of a byte order mark is open
+abbrev pub is_in_mark : State → Bool
+is_in_mark AtStart = true
+is_in_mark OneOfMark = true
+is_in_mark TwoOfMark = true
+is_in_mark _ = false
+
+-- a byte belongs to the open lexeme, and leaves its state as it is
+abbrev pub Stays : State → ℕ → Type 0
+Stays s b = (takes s b ≡ true) × (finishes s b ≡ false) × ((len : ℕ) → after s len b ≡ s) × (s ≡ Between → ⊥)
+
 -- what is open ends before these bytes: there are none, or the first doesn't belong to it
 abbrev pub EndsBefore : State → List ℕ → Type 0
 EndsBefore s [] = Unit {0}
@@ -137,3 +148,8 @@ pub record IsOneLexeme (first : Bool) (bytes : List ℕ) (kind : LexemeKind) (ma
   pub marked : marker ≡ marks read bytes
   pub next : (at : ℕ) (rest : List ℕ) → Before rest → lexemes at first (bytes ++ rest)
       ≡ record { at = at; first = first; text = bytes; kind = read } ∷ lexemes (at + length bytes) (first_at first bytes (length bytes)) rest
+
+-- an open lexeme ends before certain bytes, by a kind that a cut takes for this one; where the archive ends, so does it, and
+-- whether it goes on is not settled
+abbrev pub EndsAs : (first : Bool) (bytes : List ℕ) (kind : LexemeKind) (marker : Bool) (Before : List ℕ → Type 0) → Type 0
+EndsAs first bytes kind marker Before = IsOneLexeme first bytes kind marker Before × IsUnsettled first bytes
