@@ -103,7 +103,7 @@ first_of_span place [] = tt
 first_of_span place (l ∷ ls) = refl
 
 -- a lexeme that neither ends the game before it nor marks an end goes to the game
-goes_in : (place : ℕ) (game : List Lexeme) (l : Lexeme) (ls : List Lexeme) → opens l.kind ≡ false → is_marker l ≡ false → cut_from place game (l ∷ ls) ≡ cut_from place (game ++ l ∷ []) ls
+pub goes_in : (place : ℕ) (game : List Lexeme) (l : Lexeme) (ls : List Lexeme) → opens l.kind ≡ false → is_marker l ≡ false → cut_from place game (l ∷ ls) ≡ cut_from place (game ++ l ∷ []) ls
 unfolding cut_from
 goes_in place game l ls no_open no_marker =
     let before : ends_before game l ≡ false = ap (λ t. t && l.first && has_movetext game) no_open in
@@ -380,15 +380,15 @@ module _ (follow : LexemesFollow) (grow : ReadingsGrow) (longest : AreLongest) w
         }
 
 -- a part of a byte order mark closes nothing
-one_closes_nothing : closed (239 ∷ []) ≡ []
+pub one_closes_nothing : closed (239 ∷ []) ≡ []
 unfolding lexemes_from cut_from reading single symbol
 one_closes_nothing = refl
 
-two_close_nothing : closed (239 ∷ 187 ∷ []) ≡ []
+pub two_close_nothing : closed (239 ∷ 187 ∷ []) ≡ []
 unfolding lexemes_from cut_from reading single symbol
 two_close_nothing = refl
 
-nothing_closes : closed [] ≡ []
+pub nothing_closes : closed [] ≡ []
 unfolding lexemes_from cut_from
 nothing_closes = refl
 

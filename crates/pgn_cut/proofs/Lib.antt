@@ -7,3 +7,4 @@ pub mod OpenLexemes
 pub mod Order
 pub mod Pushes
 mod Rows
+pub mod Streams

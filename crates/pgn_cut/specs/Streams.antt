@@ -14,6 +14,14 @@ use Rattle.pgn_cut.specs.declared.state.State.TheVariants.{AtStart, OneOfMark, T
 abbrev pub IsSound : Cutter → Type 0
 IsSound c = (c.game.depth ≤ 2 * c.place) × (c.at ≤ c.place)
 
+-- nothing is open at a place
+pub record IsBetween (c : Cutter) (place : ℕ) (column : Bool) : Type 0 where
+  pub state : c.state ≡ Between
+  pub at : c.at ≡ place
+  pub first : c.first ≡ column
+  pub place_ : c.place ≡ place
+  pub column_ : c.column ≡ column
+
 -- These bytes are a part of a byte order mark, of which another archive may have the rest.
 pub record IsInMark (c : Cutter) (fed : List ℕ) : Type 0 where
   pub part : ((c.state ≡ AtStart) × (fed ≡ []))
@@ -44,9 +52,8 @@ Stands c fed = IsInMark c fed ⊎ IsInText c fed
 pub record IsEnded (c : Cutter) (games : Option Span) (was : State) (fed : List ℕ) : Type 0 where
   pub kept : List Lexeme
   pub game : c.game ≡ progress_of kept
-  pub between : c.state ≡ Between
-  pub at : c.at ≡ length fed
-  pub column : c.column ≡ c.first
+  pub between : IsBetween c (length fed) c.first
+  pub shallow : c.game.depth ≤ 2 * length fed + 1
   pub cuts : (rest : List ℕ) → EndsBefore was rest → cut (fed ++ rest)
       ≡ (closed fed ++ option_to_list games) ++ cut_from (length fed + length rest) kept (lexemes c.at c.first rest)
 
@@ -59,6 +66,7 @@ pub record IsReady (c : Cutter) (fed : List ℕ) (b : ℕ) (games : List Span) :
   pub column : c.column ≡ first_at c.first bytes (length bytes)
   pub here : c.at + length bytes ≡ length fed
   pub place : c.place ≡ length fed
+  pub shallow : c.game.depth ≤ 2 * c.place + 1
   pub belongs : takes c.state b ≡ true
   pub cuts : (more : List ℕ) → cut (fed ++ b ∷ more)
       ≡ games ++ cut_from (length fed + length (b ∷ more)) kept (lexemes c.at c.first (bytes ++ b ∷ more))

@@ -8,7 +8,7 @@ ghost use Rattle.pgn_lexer.specs.declared.token.TokenKind.TheVariants.{BadByte};
 ghost use Rattle.pgn_cut.specs.Cut.{cut, closed};
 ghost use Rattle.pgn_cut.specs.Progress.{progress_of, IsStepOfCut, Shows};
 ghost use Rattle.pgn_cut.specs.States.{takes, is_in_mark, Stays};
-ghost use Rattle.pgn_cut.specs.Streams.{IsSound, IsInMark, IsInText, Stands, IsEnded, IsReady, HasTaken, StandsWith};
+ghost use Rattle.pgn_cut.specs.Streams.{IsBetween, IsSound, IsInMark, IsInText, Stands, IsEnded, IsReady, HasTaken, StandsWith};
 ghost use Rattle.pgn_cut.specs.declared.span.Span.{Span as ASpan};
 ghost use Rattle.pgn_cut.specs.declared.game.Look.{Look as ALook};
 ghost use Rattle.pgn_cut.specs.declared.state.State.TheVariants.{Between};
@@ -73,13 +73,22 @@ impl Cutter {
     pub fn new() -> Cutter
         ensures { Stands result [] }
     {
+        Cutter::in_mark(State::AtStart, 0)
+    }
+
+    /// The cutter in a byte order mark, of which so many bytes are read.
+    fn in_mark(state: State, place: u64) -> Cutter
+        ensures place { (result.state ≡ state) × (result.at ≡ 0) × (result.place ≡ place) }
+        ensures game { result.game ≡ progress_of [] }
+        ensures flat { result.game.depth ≡ 0 }
+    {
         Cutter {
-            state: State::AtStart,
+            state,
             game: Game::new(),
             at: 0,
             first: true,
-            place: 0,
-            column: true,
+            place,
+            column: false,
         }
     }
 
@@ -101,8 +110,7 @@ impl Cutter {
     fn met(self, end: u64, column: bool, kind: LexemeKind, marker: bool) -> (Cutter, Option<Span>)
         requires depth { self.game.depth < 2 ^ 63 }
         ensures deeper { result.0.game.depth ≤ self.game.depth + 1 }
-        ensures rest { (result.0.state ≡ Between) × (result.0.at ≡ end) × (result.0.first ≡ column) × (result.0.place ≡ end)
-            × (result.0.column ≡ column) }
+        ensures rest { IsBetween result.0 end column }
         ensures cuts { (game : List ALexeme) (l : ALexeme)
             → Shows (record { at = self.at; end = end; first = self.first; kind = kind; marker = marker }) l
             → self.game ≡ progress_of game → IsStepOfCut result.0.game result.1 l game }
@@ -116,5 +124,129 @@ impl Cutter {
         };
         let (game, closed) = self.game.meet(look);
         (Cutter::between(game, end, column), closed)
+    }
+
+    /// The cutter after a part of a byte order mark whose rest doesn't come, so that its bytes are lexemes.
+    fn unmarked(self) -> Cutter
+        requires { is_in_mark self.state ≡ true }
+        ensures counts { (result.game.depth ≤ 2) × (result.at ≤ 2) × (result.place ≡ result.at) }
+        ensures ends { (fed : List ℕ) → IsInMark self fed → IsEnded result None self.state fed }
+    {
+        open_lexemes_settle();
+        match self.state {
+            State::AtStart => Cutter::between(Game::new(), 0, true),
+            State::OneOfMark => Cutter::between(Game::new().with(bad_byte(0)), 1, false),
+            _ => Cutter::between(Game::new().with(bad_byte(0)).with(bad_byte(1)), 2, false),
+        }
+    }
+
+    /// The cutter where what is open ends at its place, and the game that is closed by that, where one is.
+    fn ended(self) -> (Cutter, Option<Span>)
+        requires depth { self.game.depth + 1 < 2 ^ 63 }
+        requires place { self.place < 2 ^ 62 }
+        requires at { self.at ≤ self.place }
+        ensures counts { (result.0.game.depth < 2 ^ 63) × (result.0.place < 2 ^ 62) × (result.0.at ≤ result.0.place) }
+        ensures ends { (fed : List ℕ) → Stands self fed → IsEnded result.0 result.1 self.state fed }
+    {
+        open_lexemes_settle();
+        match self.state {
+            State::AtStart | State::OneOfMark | State::TwoOfMark => (self.unmarked(), None),
+            State::Between => (self, None),
+            state => {
+                let marker = state.is_marker_at_end(self.place - self.at);
+                self.met(self.place, self.column, state.kind_at_end(), marker)
+            }
+        }
+    }
+
+    /// The cutter after one more byte of a byte order mark.
+    fn marked(self, b: u8) -> Cutter
+        requires { is_in_mark self.state ≡ true }
+        ensures { (fed : List ℕ) → IsInMark self fed → takes self.state b ≡ true → StandsWith result (fed ++ b ∷ []) (closed fed) }
+    {
+        open_lexemes_settle();
+        match self.state {
+            State::AtStart => Cutter::in_mark(State::OneOfMark, 1),
+            State::OneOfMark => Cutter::in_mark(State::TwoOfMark, 2),
+            _ => Cutter::between(Game::new(), 3, true),
+        }
+    }
+
+    /// The cutter after a byte that leaves a lexeme open.
+    fn with_open(self, state: State, column: bool) -> Cutter
+        requires { self.place < 2 ^ 62 }
+        ensures { result ≡ record { state = state; game = self.game; at = self.at; first = self.first; place = self.place + 1; column = column } }
+    {
+        Cutter {
+            state,
+            game: self.game,
+            at: self.at,
+            first: self.first,
+            place: self.place + 1,
+            column,
+        }
+    }
+
+    /// The cutter after a byte where nothing was open, and the game that the byte closes, where it closes one.
+    fn begun(self, b: u8) -> (Cutter, Option<Span>)
+        requires state { self.state ≡ Between }
+        requires depth { self.game.depth < 2 ^ 63 }
+        requires place { self.place < 2 ^ 62 }
+        ensures { (fed : List ℕ) (games : List ASpan) → IsReady self fed b games →
+            HasTaken result.0 (fed ++ b ∷ []) (games ++ option_to_list result.1) }
+    {
+        open_lexemes_settle();
+        let column = b == b'\n';
+        if is_white(b) {
+            return (Cutter::between(self.game, self.place + 1, column), None);
+        }
+        match State::begun(self.first, b) {
+            Some(state) => (self.with_open(state, column), None),
+            None => {
+                let kind = longest_reading(b, &[], self.first).kind;
+                self.met(self.place + 1, column, kind, b == b'*')
+            }
+        }
+    }
+
+    /// The cutter after a byte that belongs to what is open, and the game that the byte closes, where it closes one.
+    fn taken(self, b: u8) -> (Cutter, Option<Span>)
+        requires depth { self.game.depth < 2 ^ 63 }
+        requires place { self.place < 2 ^ 62 }
+        requires at { self.at ≤ self.place }
+        ensures { (fed : List ℕ) (games : List ASpan) → IsReady self fed b games →
+            HasTaken result.0 (fed ++ b ∷ []) (games ++ option_to_list result.1) }
+    {
+        if self.state.is_between() {
+            return self.begun(b);
+        }
+        open_lexemes_settle();
+        let column = b == b'\n';
+        if self.state.finishes(b) {
+            let kind = self.state.kind_with_last();
+            return self.met(self.place + 1, column, kind, false);
+        }
+        let state = self.state.after(self.place - self.at, b);
+        (self.with_open(state, column), None)
+    }
+
+    /// The cutter after one more byte, and the games that are closed before that and by that, where they are.
+    fn step(self, b: u8) -> (Cutter, Option<Span>, Option<Span>)
+        requires depth { self.game.depth + 1 < 2 ^ 63 }
+        requires place { self.place < 2 ^ 62 }
+        requires at { self.at ≤ self.place }
+        ensures { (fed : List ℕ) → Stands self fed →
+            StandsWith result.0 (fed ++ b ∷ []) (closed fed ++ (option_to_list result.1 ++ option_to_list result.2)) }
+    {
+        if !self.state.takes(b) {
+            let (cutter, before) = self.ended();
+            let (cutter, closed) = cutter.taken(b);
+            return (cutter, before, closed);
+        }
+        if self.state.is_in_mark() {
+            return (self.marked(b), None, None);
+        }
+        let (cutter, closed) = self.taken(b);
+        (cutter, None, closed)
     }
 }

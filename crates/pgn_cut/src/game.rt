@@ -215,7 +215,7 @@ impl Game {
     fn ends_behind(self, look: Look) -> bool
         ensures { result ≡ (look.marker && self.depth == 0) }
     {
-        look.marker && self.depth == 0
+        self.depth == 0 && look.marker
     }
 
     /// Meets the next lexeme of the archive, whose place counts from `offset`.

@@ -1,7 +1,8 @@
 //! What is open at a place of an archive that comes in pieces.
-ghost use Rattle.std.specs.Prelude.{◌≡◌, ◌&&◌, ◌==◌, ℕ, nat_lt, codes, slice_index, length};
+ghost use Rattle.std.specs.Prelude.{◌≡◌, ◌&&◌, ◌==◌, ℕ, true, false, nat_lt, codes, slice_index, length};
 ghost use Rattle.pgn_lexer.specs.Bytes.{continues_symbol};
-ghost use Rattle.pgn_cut.specs.States.{begins_further, results_from, results_after, are_spelled, takes, finishes, after, begun, kind_at_end, kind_with_last, is_marker_at_end};
+ghost use Rattle.pgn_cut.specs.States.{begins_further, results_from, results_after, are_spelled, takes, finishes, after, begun, is_in_mark, kind_at_end, kind_with_last, is_marker_at_end};
+ghost use Rattle.pgn_cut.specs.declared.state.State.TheVariants.{Between};
 
 use pgn_lexer::{LexemeKind, TokenKind};
 
@@ -94,6 +95,21 @@ impl State {
             b'-' => Some(State::InNull),
             _ => None,
         }
+    }
+
+    /// Whether nothing is open.
+    pub(crate) fn is_between(self) -> bool
+        ensures yes { result ≡ true → self ≡ Between }
+        ensures no { result ≡ false → self ≡ Between → ⊥ }
+    {
+        matches!(self, State::Between)
+    }
+
+    /// Whether a part of a byte order mark is open.
+    pub(crate) fn is_in_mark(self) -> bool
+        ensures { result ≡ is_in_mark self }
+    {
+        matches!(self, State::AtStart | State::OneOfMark | State::TwoOfMark)
     }
 
     /// Whether a byte belongs to what is open.
