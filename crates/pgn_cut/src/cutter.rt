@@ -152,9 +152,10 @@ impl Cutter {
         match self.state {
             State::AtStart | State::OneOfMark | State::TwoOfMark => (self.unmarked(), None),
             State::Between => (self, None),
-            state => {
-                let marker = state.is_marker_at_end(self.place - self.at);
-                self.met(self.place, self.column, state.kind_at_end(), marker)
+            _ => {
+                let kind = self.state.kind_at_end();
+                let marker = self.state.is_marker_at_end(self.place - self.at);
+                self.met(self.place, self.column, kind, marker)
             }
         }
     }
