@@ -6,6 +6,8 @@ pub mod Meets
 pub mod OneGame
 pub mod OpenLexemes
 pub mod Order
+pub mod Places
 pub mod Pushes
 mod Rows
+pub mod Runs
 pub mod Streams

@@ -125,8 +125,12 @@ is_in_mark TwoOfMark = true
 is_in_mark _ = false
 
 -- a byte belongs to the open lexeme, and leaves its state as it is
-abbrev pub Stays : State → ℕ → Type 0
-Stays s b = (takes s b ≡ true) × (finishes s b ≡ false) × ((len : ℕ) → after s len b ≡ s) × (s ≡ Between → ⊥)
+pub record Stays (s : State) (b : ℕ) : Type 0 where
+  pub takes_ : takes s b ≡ true
+  pub no_last : finishes s b ≡ false
+  pub same : (len : ℕ) → after s len b ≡ s
+  pub some : s ≡ Between → ⊥
+  pub no_mark : is_in_mark s ≡ false
 
 -- what is open ends before these bytes: there are none, or the first doesn't belong to it
 abbrev pub EndsBefore : State → List ℕ → Type 0

@@ -77,3 +77,9 @@ HasTaken c fed games = IsInText c fed × (closed fed ≡ games)
 
 abbrev pub StandsWith : Cutter → List ℕ → List Span → Type 0
 StandsWith c fed games = Stands c fed × (closed fed ≡ games)
+
+-- A cutter was fed these bytes and appended the games that they close, whatever it was fed before.
+pub record HasGained (was now : Cutter) (bytes : List ℕ) (before behind : List Span) : Type 0 where
+  pub gained : List Span
+  pub spans : behind ≡ before ++ gained
+  pub stands : (fed : List ℕ) → Stands was fed → StandsWith now (fed ++ bytes) (closed fed ++ gained)

@@ -1,5 +1,5 @@
 //! An archive that comes in pieces, cut into its games.
-ghost use Rattle.std.specs.Prelude.{◌≡◌, ◌+◌, ◌*◌, ◌<◌, ◌≤◌, ◌^◌, ◌++◌, ◌==◌, ℕ, Bool, true, false, List, [], ◌∷◌, None, Some, length, drop, OnOk, OnErr};
+ghost use Rattle.std.specs.Prelude.{◌≡◌, ◌+◌, ◌*◌, ◌<◌, ◌≤◌, ◌^◌, ◌++◌, ◌==◌, ℕ, Bool, true, false, List, [], ◌∷◌, None, Some, length, take, drop, OnOk, OnErr, IfOk};
 ghost use Rattle.std.specs.List.{AllByRecursion};
 ghost use Rattle.std.specs.Option.{option_to_list};
 ghost use Rattle.pgn_lexer.specs.Lexemes.{Lexeme as ALexeme};
@@ -8,7 +8,7 @@ ghost use Rattle.pgn_lexer.specs.declared.token.TokenKind.TheVariants.{BadByte};
 ghost use Rattle.pgn_cut.specs.Cut.{cut, closed};
 ghost use Rattle.pgn_cut.specs.Progress.{progress_of, IsStepOfCut, Shows};
 ghost use Rattle.pgn_cut.specs.States.{takes, is_in_mark, Stays};
-ghost use Rattle.pgn_cut.specs.Streams.{IsBetween, IsSound, IsInMark, IsInText, Stands, IsEnded, IsReady, HasTaken, StandsWith};
+ghost use Rattle.pgn_cut.specs.Streams.{IsBetween, IsSound, IsInMark, IsInText, Stands, IsEnded, IsReady, HasTaken, StandsWith, HasGained};
 ghost use Rattle.pgn_cut.specs.declared.span.Span.{Span as ASpan};
 ghost use Rattle.pgn_cut.specs.declared.game.Look.{Look as ALook};
 ghost use Rattle.pgn_cut.specs.declared.state.State.TheVariants.{Between};
@@ -18,7 +18,7 @@ use crate::laws::open_lexemes_settle;
 use crate::span::Span;
 use crate::state::State;
 use cq_outside::{NoMemory, is_white};
-use pgn_lexer::{LexemeKind, TokenKind, longest_reading};
+use pgn_lexer::{LexemeKind, TokenKind, longest_reading, white_space_is_passed};
 
 /// Cuts an archive that comes in pieces. It keeps none of its bytes: what is open at its place, where that begins, and
 /// what the open game shows so far.
@@ -249,5 +249,84 @@ impl Cutter {
         }
         let (cutter, closed) = self.taken(b);
         (cutter, None, closed)
+    }
+
+    /// The cutter after bytes that leave the open lexeme as it is.
+    fn passed(self, run: &[u8]) -> Cutter
+        requires some { 0 < length run.now }
+        requires place { self.place + length run.now < 2 ^ 63 }
+        ensures { (fed : List ℕ) → Stands self fed → AllByRecursion (Stays self.state) run.now →
+            StandsWith result (fed ++ run.now) (closed fed) }
+    {
+        open_lexemes_settle();
+        Cutter {
+            state: self.state,
+            game: self.game,
+            at: self.at,
+            first: self.first,
+            place: self.place + run.len() as u64,
+            column: run[run.len() - 1] == b'\n',
+        }
+    }
+
+    /// The cutter after some of the bytes that are left, and how many. The games that they close are appended.
+    fn turn(self, rest: &[u8], spans: &mut Vec<Span>) -> Result<(Cutter, usize), NoMemory>
+        requires some { 0 < length rest.now }
+        requires depth { self.game.depth + 1 < 2 ^ 63 }
+        requires place { self.place + length rest.now < 2 ^ 62 }
+        requires at { self.at ≤ self.place }
+        ensures took { IfOk result (λ r. (0 < r.1) × (r.1 ≤ length rest.now)) }
+        ensures gained { IfOk result (λ r. HasGained self r.0 (take r.1 rest.now) spans.old.items spans.new.items) }
+        ensures err { OnErr result (spans.new.items ≡ spans.old.items) }
+    {
+        let run = self.state.run_len(rest);
+        if run > 0 {
+            return Ok((self.passed(&rest[..run]), run));
+        }
+        let (cutter, before, closed) = self.step(rest[0]);
+        append(spans, before, closed)?;
+        Ok((cutter, 1))
+    }
+
+    /// Takes the next bytes of the archive, and appends the games that they close. Where no memory is found, the call is
+    /// refused, and leaves the cutter and the spans as they are. All bytes together are fewer than 2^62.
+    pub fn feed(&mut self, piece: &[u8], spans: &mut Vec<Span>) -> Result<(), NoMemory>
+        requires { (fed : List ℕ) × Stands self.old fed × (length fed + length piece.now < 2 ^ 62) }
+        ensures stands { OnOk result ((fed : List ℕ) → Stands self.old fed → Stands self.new (fed ++ piece.now)) }
+        ensures games { OnOk result ((fed : List ℕ) → Stands self.old fed →
+            spans.new.items ≡ spans.old.items ++ drop (length (closed fed)) (closed (fed ++ piece.now))) }
+        ensures unchanged { OnErr result ((self.new ≡ self.old) × (spans.new.items ≡ spans.old.items)) }
+    {
+        let before = spans.len();
+        let mut cutter = *self;
+        let mut at = 0;
+        while at < piece.len() {
+            match cutter.turn(&piece[at..], spans) {
+                Ok((next, taken)) => {
+                    cutter = next;
+                    at += taken;
+                }
+                Err(refusal) => {
+                    spans.truncate(before);
+                    return Err(refusal);
+                }
+            }
+        }
+        *self = cutter;
+        Ok(())
+    }
+
+    /// Appends the last game, where there is one, at the archive's end. Where no memory is found, the call is refused, and
+    /// leaves the cutter and the spans as they are.
+    pub fn finish(&mut self, spans: &mut Vec<Span>) -> Result<(), NoMemory>
+        requires { (fed : List ℕ) × Stands self.old fed × (length fed < 2 ^ 62) }
+        ensures games { OnOk result ((fed : List ℕ) → Stands self.old fed →
+            spans.new.items ≡ spans.old.items ++ drop (length (closed fed)) (cut fed)) }
+        ensures cutter { self.new ≡ self.old }
+        ensures unchanged { OnErr result (spans.new.items ≡ spans.old.items) }
+    {
+        white_space_is_passed();
+        let (cutter, closed) = self.ended();
+        append(spans, closed, cutter.game.last(cutter.place))
     }
 }

@@ -1,9 +1,12 @@
 //! What is open at a place of an archive that comes in pieces.
-ghost use Rattle.std.specs.Prelude.{◌≡◌, ◌&&◌, ◌==◌, ℕ, true, false, nat_lt, codes, slice_index, length};
+ghost use Rattle.std.specs.Prelude.{◌≡◌, ◌≤◌, ◌&&◌, ◌==◌, ℕ, true, false, take, nat_lt, codes, slice_index, length};
+ghost use Rattle.std.specs.List.{AllByRecursion, position_or_len};
+ghost use Rattle.pgn_lexer.specs.Readings.{is_special};
 ghost use Rattle.pgn_lexer.specs.Bytes.{continues_symbol};
-ghost use Rattle.pgn_cut.specs.States.{begins_further, results_from, results_after, are_spelled, takes, finishes, after, begun, is_in_mark, kind_at_end, kind_with_last, is_marker_at_end};
+ghost use Rattle.pgn_cut.specs.States.{begins_further, results_from, results_after, are_spelled, takes, finishes, after, begun, is_in_mark, Stays, kind_at_end, kind_with_last, is_marker_at_end};
 ghost use Rattle.pgn_cut.specs.declared.state.State.TheVariants.{Between};
 
+use memchr::{memchr, memchr3};
 use pgn_lexer::{LexemeKind, TokenKind};
 
 /// Which markers of a result begin with the bytes of a symbol.
@@ -75,6 +78,22 @@ fn continues_symbol(b: u8) -> bool
     ensures { result ≡ continues_symbol b }
 {
     b.is_ascii_alphanumeric() || matches!(b, b'_' | b'+' | b'#' | b'=' | b':' | b'-' | b'/')
+}
+
+/// The place of the first such byte, or the length where there is none.
+fn place_of(byte: u8, bytes: &[u8]) -> usize
+    ensures value { result ≡ position_or_len (λ b. b == byte) bytes.now }
+    ensures within { result ≤ length bytes.now }
+{
+    memchr(byte, bytes).unwrap_or(bytes.len())
+}
+
+/// How many bytes at the start of a string stand for themselves: those before a quote, a backslash or LF.
+fn plain_len(bytes: &[u8]) -> usize
+    ensures value { result ≡ position_or_len is_special bytes.now }
+    ensures within { result ≤ length bytes.now }
+{
+    memchr3(b'"', b'\\', b'\n', bytes).unwrap_or(bytes.len())
 }
 
 impl State {
@@ -185,6 +204,20 @@ impl State {
         match self {
             State::InSymbol(results) => results.are_spelled(len),
             _ => false,
+        }
+    }
+
+    /// How many bytes at the start of some surely leave what is open as it is: those of a comment, a line or a string
+    /// before the first that may end it.
+    pub(crate) fn run_len(self, bytes: &[u8]) -> usize
+        ensures within { result ≤ length bytes.now }
+        ensures stays { AllByRecursion (Stays self) (take result bytes.now) }
+    {
+        match self {
+            State::InComment => place_of(b'}', bytes),
+            State::InLine => place_of(b'\n', bytes),
+            State::InText(false) => plain_len(bytes),
+            _ => 0,
         }
     }
 }
