@@ -1,6 +1,7 @@
 pub mod Closed
 pub mod Joins
 pub mod Loop
+pub mod Loops
 pub mod Marks
 pub mod Meets
 pub mod OneGame

@@ -4,8 +4,8 @@ use Rattle.pgn_cut.specs.Streams.{Stands}
 use Rattle.pgn_cut.proofs.Runs.{last_games, on_ok, sound_of, place_of}
 use Rattle.pgn_cut.proofs.cutter.Cutter.finish.Goals as goal
 
-pub ended-requires : goal.ended-requires
-ended-requires c =
+pub ended-closed-requires : goal.ended-closed-requires
+ended-closed-requires c =
     let sound = sound_of c.args.self.now c.requires.0 c.requires.1 in
     let deep = sound.0 in
     let low = sound.1 in
