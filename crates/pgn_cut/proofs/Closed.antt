@@ -103,7 +103,7 @@ first_of_span place [] = tt
 first_of_span place (l ∷ ls) = refl
 
 -- a lexeme that neither ends the game before it nor marks an end goes to the game
-goes_in : (place : ℕ) (game : List Lexeme) (l : Lexeme) (ls : List Lexeme) → opens l.kind ≡ false → is_marker l ≡ false → cut_from place game (l ∷ ls) ≡ cut_from place (game ++ l ∷ []) ls
+pub goes_in : (place : ℕ) (game : List Lexeme) (l : Lexeme) (ls : List Lexeme) → opens l.kind ≡ false → is_marker l ≡ false → cut_from place game (l ∷ ls) ≡ cut_from place (game ++ l ∷ []) ls
 unfolding cut_from
 goes_in place game l ls no_open no_marker =
     let before : ends_before game l ≡ false = ap (λ t. t && l.first && has_movetext game) no_open in
@@ -333,6 +333,19 @@ module _ (follow : LexemesFollow) (grow : ReadingsGrow) (longest : AreLongest) w
   open_finishes at first game [] unsettled = last_ends (at + 0) game
   open_finishes at first game (b ∷ bs) unsettled = whole_ends at first game b bs unsettled.0 unsettled.1 unsettled.2
 
+  -- the closed games of a front are those that some of its lexemes close, where what they leave open is unsettled
+  pub closed_is : (front : List ℕ) (games : List Span) (at : ℕ) (first : Bool) (game : List Lexeme) (left : List ℕ) → IsUnsettled first left → at + length left ≡ length front
+      → ((more : List ℕ) → cut (front ++ more) ≡ games ++ cut_from (length front + length more) game (lexemes at first (left ++ more))) → closed front ≡ games
+  closed_is front games at first game left unsettled size cuts =
+      let last = cut_from (length front) game (lexemes at first left) in
+      let here : cut front ≡ games ++ last =
+      ap cut (sym (append-nil front)) ∙ cuts [] ∙ ap₂ (λ n t. games ++ cut_from n game (lexemes at first t)) (add-zero (length front)) (append-nil left) in
+      let none : common_prefix_len same_span last (cut_from (length front + 1) game (lexemes at first (left ++ 120 ∷ []))) ≡ 0 =
+      subst (λ n. common_prefix_len same_span (cut_from n game (lexemes at first left)) (cut_from (n + 1) game (lexemes at first (left ++ 120 ∷ []))) ≡ 0) size
+      (open_apart at first game left unsettled) in
+      ap₂ (λ xs ys. take (common_prefix_len same_span xs ys) xs) here (cuts (120 ∷ []))
+      ∙ common_front games last (cut_from (length front + 1) game (lexemes at first (left ++ 120 ∷ []))) none
+
   -- the closed games of a front, where what follows doesn't change the byte order mark
   module _ (settle : FrontsSettle) where
     closes_behind_mark : (front : List ℕ) → ((more : List ℕ) → text_start (front ++ more) ≡ text_start front) → Closes front
@@ -355,12 +368,7 @@ module _ (follow : LexemesFollow) (grow : ReadingsGrow) (longest : AreLongest) w
         ∙ cut_splits (length front + length m) [] s.settled (lexemes (start + place) column (left ++ m)) in
         let here : cut front ≡ games ++ cut_from (length front) game (lexemes (start + place) column left) =
         ap cut (sym (append-nil front)) ∙ cuts [] ∙ ap₂ (λ n t. games ++ cut_from n game (lexemes (start + place) column t)) (add-zero (length front)) (append-nil left) in
-        let none : common_prefix_len same_span (cut_from (length front) game (lexemes (start + place) column left)) (C (120 ∷ [])) ≡ 0 =
-        subst (λ n. common_prefix_len same_span (cut_from n game (lexemes (start + place) column left)) (cut_from (n + 1) game (lexemes (start + place) column (left ++ 120 ∷ []))) ≡ 0) size
-        (open_apart (start + place) column game left s.unsettled) in
-        let closes : closed front ≡ games =
-        ap₂ (λ xs ys. take (common_prefix_len same_span xs ys) xs) here (cuts (120 ∷ []))
-        ∙ common_front games (cut_from (length front) game (lexemes (start + place) column left)) (C (120 ∷ [])) none in
+        let closes : closed front ≡ games = closed_is front games (start + place) column game left s.unsettled size cuts in
         let last = cut_from (length front) game (lexemes (start + place) column left) in
         record {
           stay = λ more. (C more, cuts more ∙ ap (λ g. g ++ C more) (sym closes));
@@ -372,15 +380,15 @@ module _ (follow : LexemesFollow) (grow : ReadingsGrow) (longest : AreLongest) w
         }
 
 -- a part of a byte order mark closes nothing
-one_closes_nothing : closed (239 ∷ []) ≡ []
+pub one_closes_nothing : closed (239 ∷ []) ≡ []
 unfolding lexemes_from cut_from reading single symbol
 one_closes_nothing = refl
 
-two_close_nothing : closed (239 ∷ 187 ∷ []) ≡ []
+pub two_close_nothing : closed (239 ∷ 187 ∷ []) ≡ []
 unfolding lexemes_from cut_from reading single symbol
 two_close_nothing = refl
 
-nothing_closes : closed [] ≡ []
+pub nothing_closes : closed [] ≡ []
 unfolding lexemes_from cut_from
 nothing_closes = refl
 

@@ -1,8 +1,14 @@
 pub mod Closed
 pub mod Joins
 pub mod Loop
+pub mod Loops
+pub mod Marks
 pub mod Meets
 pub mod OneGame
+pub mod OpenLexemes
 pub mod Order
+pub mod Places
 pub mod Pushes
 mod Rows
+pub mod Runs
+pub mod Streams

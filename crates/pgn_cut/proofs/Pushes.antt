@@ -1,5 +1,5 @@
 -- What is kept of a game, with one more lexeme.
-use Rattle.std.proofs.Common.{◌≡◌, ℕ, Bool, true, false, cond, List, [], ◌∷◌, ◌++◌, Some, refl, sym, ap, ◌∙◌}
+use Rattle.std.proofs.Common.{◌≡◌, ℕ, Bool, true, false, cond, List, [], ◌∷◌, ◌++◌, Some, refl, sym, ap, ap₂, ◌∙◌}
 use Rattle.std.specs.Prelude.{not, ◌&&◌, ◌||◌, fold, if◌then◌else◌}
 use Rattle.std.specs.Option.{unwrap_or, option_to_list}
 use Rattle.std.specs.List.{list_all}
@@ -7,8 +7,9 @@ use Rattle.std.proofs.lemmas.List.Sums.{fold_push}
 use Rattle.std.proofs.lemmas.List.Recursion.{and_push}
 use Rattle.pgn_lexer.specs.Lexemes.{Lexeme}
 use Rattle.pgn_cut.specs.Cut.{depth, nest, opens_pair, is_movetext, movetext_in, has_movetext, is_passed_over, span_to, cut_from}
-use Rattle.pgn_cut.specs.Progress.{start_of, span_from, in_pair, has_more, progress_of}
+use Rattle.pgn_cut.specs.Progress.{start_of, span_from, in_pair, has_more, progress_of, Shows}
 use Rattle.pgn_cut.specs.declared.game.Game.{Game}
+use Rattle.pgn_cut.specs.declared.game.Look.{Look}
 
 or_assoc : (a b c : Bool) → (a || (b || c)) ≡ (a || b || c)
 or_assoc true b c = refl
@@ -54,6 +55,19 @@ progress_push game l was was_is now start_is depth_is pair_is movetext_is more_i
     let movetext : now.has_movetext ≡ has_movetext (game ++ l ∷ []) = movetext_is ∙ ap (λ w. w.has_movetext || (is_movetext l.kind && not w.in_pair)) was_is ∙ sym (movetext_push false game l) in
     let more : now.has_more ≡ has_more (game ++ l ∷ []) = more_is ∙ ap (λ w. w.has_more || not (is_passed_over l.kind)) was_is ∙ sym (all_push game l) in
     λ i. record { start = start i; depth = nests i; in_pair = pairs i; has_movetext = movetext i; has_more = more i }
+
+-- the same by what a look shows of the lexeme
+pub shown_push : (game : List Lexeme) (l : Lexeme) (look : Look) → Shows look l → (was : Game) → was ≡ progress_of game → (now : Game)
+    → now.start ≡ Some (unwrap_or was.start (record { at = look.at; first = look.first })) → now.depth ≡ nest was.depth look.kind → now.in_pair ≡ opens_pair was.in_pair look.kind
+    → now.has_movetext ≡ (was.has_movetext || (is_movetext look.kind && not was.in_pair)) → now.has_more ≡ (was.has_more || not (is_passed_over look.kind))
+    → now ≡ progress_of (game ++ l ∷ [])
+shown_push game l look shows was was_is now start_is depth_is pair_is movetext_is more_is =
+    progress_push game l was was_is now
+    (start_is ∙ ap₂ (λ a f. Some (unwrap_or was.start (record { at = a; first = f }))) shows.at shows.first)
+    (depth_is ∙ shows.alike.nests was.depth)
+    (pair_is ∙ shows.alike.pairs was.in_pair)
+    (movetext_is ∙ ap (λ m. was.has_movetext || (m && not was.in_pair)) shows.alike.movetext)
+    (more_is ∙ ap (λ p. was.has_more || not p) shows.alike.passed_over)
 
 -- the span of a game, by where it begins
 pub span_is : (place : ℕ) (game : List Lexeme) (was : Game) → was ≡ progress_of game → option_to_list (span_from place was.start) ≡ span_to place game

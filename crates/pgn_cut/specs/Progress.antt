@@ -2,11 +2,13 @@
 use Rattle.std.specs.Prelude.{ℕ, Bool, false, not, List, [], ◌∷◌, ◌++◌, ◌≡◌, Option, None, Some, fold}
 use Rattle.std.specs.List.{list_all}
 use Rattle.std.specs.Option.{option_to_list}
-use Rattle.pgn_lexer.specs.Lexemes.{Lexeme}
-use Rattle.pgn_cut.specs.Cut.{depth, opens_pair, has_movetext, is_passed_over, cut_from}
+use Rattle.pgn_lexer.specs.Lexemes.{Lexeme, end}
+use Rattle.pgn_cut.specs.Cut.{is_marker, depth, opens_pair, has_movetext, is_passed_over, cut_from}
 use Rattle.pgn_cut.specs.declared.span.Span.{Span}
 use Rattle.pgn_cut.specs.declared.game.Start.{Start}
+use Rattle.pgn_cut.specs.States.{AreAlike}
 use Rattle.pgn_cut.specs.declared.game.Game.{Game}
+use Rattle.pgn_cut.specs.declared.game.Look.{Look}
 
 -- where a game begins
 abbrev pub start_of : List Lexeme → Option Start
@@ -30,6 +32,14 @@ has_more game = not (list_all (λ l. is_passed_over l.kind) game)
 unfoldable pub progress_of : List Lexeme → Game
 progress_of game =
     record { start = start_of game; depth = depth game; in_pair = in_pair game; has_movetext = has_movetext game; has_more = has_more game }
+
+-- a look tells of a lexeme what a cut sees of it
+pub record Shows (look : Look) (l : Lexeme) : Type 0 where
+  pub at : look.at ≡ l.at
+  pub ends : look.end ≡ end l
+  pub first : look.first ≡ l.first
+  pub alike : AreAlike look.kind l.kind
+  pub marker : look.marker ≡ is_marker l
 
 -- A step over a lexeme is a step of the cut: whatever lexemes stand for the state before, some stand for the one now,
 -- and the games of what follows are the same but for the one that was closed.

@@ -4,7 +4,7 @@ ghost use Rattle.std.specs.Option.{option_to_list};
 ghost use Rattle.pgn_lexer.specs.Lexemes.{Lexeme as ALexeme};
 ghost use Rattle.pgn_lexer.specs.Shown.{shown};
 ghost use Rattle.pgn_cut.specs.Cut.{is_result, marks, nest, opens_pair, is_movetext, is_passed_over, opens, cut_from};
-ghost use Rattle.pgn_cut.specs.Progress.{progress_of, span_from, IsStepOfCut};
+ghost use Rattle.pgn_cut.specs.Progress.{progress_of, span_from, IsStepOfCut, Shows};
 
 use crate::span::Span;
 use pgn_lexer::{Lexeme, LexemeKind, TokenKind};
@@ -44,9 +44,36 @@ fn is_marker(lexeme: Lexeme<'_>) -> bool
     }
 }
 
+/// What a cut looks at of a lexeme, whose places count from the archive's first byte.
+#[derive(Clone, Copy)]
+pub(crate) struct Look {
+    pub(crate) at: u64,
+    pub(crate) end: u64,
+    pub(crate) first: bool,
+    pub(crate) kind: LexemeKind,
+    pub(crate) marker: bool,
+}
+
+impl Look {
+    /// A lexeme of some bytes; `offset` is the place of the first of them.
+    pub(crate) fn of(lexeme: Lexeme<'_>, offset: u64) -> Look
+        requires { offset + lexeme.at + length lexeme.text.now < 2 ^ 63 }
+        ensures { Shows result (shown offset lexeme.entry) }
+    {
+        let at = offset + lexeme.at as u64;
+        Look {
+            at,
+            end: at + lexeme.text.len() as u64,
+            first: lexeme.first,
+            kind: lexeme.kind,
+            marker: is_marker(lexeme),
+        }
+    }
+}
+
 /// The depth of variations after a lexeme.
 fn nest(depth: usize, kind: LexemeKind) -> usize
-    requires { depth < 2 ^ 62 }
+    requires { depth < 2 ^ 63 }
     ensures value { result ≡ nest depth kind }
     ensures step { result ≤ depth + 1 }
 {
@@ -135,25 +162,23 @@ impl Game {
         self.has_more || !is_passed_over(kind)
     }
 
-    /// The game with one more lexeme, whose place counts from `offset`.
-    #[tactic(auto, using(crate::proofs::Pushes::progress_push))]
-    fn with(self, lexeme: Lexeme<'_>, offset: u64) -> Game
-        requires depth { self.depth < 2 ^ 62 }
-        requires place { offset + lexeme.at < 2 ^ 63 }
-        ensures value { (game : List ALexeme) → self ≡ progress_of game →
-            result ≡ progress_of (game ++ shown offset lexeme.entry ∷ []) }
+    /// The game with one more lexeme.
+    pub(crate) fn with(self, look: Look) -> Game
+        requires depth { self.depth < 2 ^ 63 }
+        ensures value { (game : List ALexeme) (l : ALexeme) → Shows look l → self ≡ progress_of game →
+            result ≡ progress_of (game ++ l ∷ []) }
         ensures deeper { result.depth ≤ self.depth + 1 }
     {
         let start = Start {
-            at: offset + lexeme.at as u64,
-            first: lexeme.first,
+            at: look.at,
+            first: look.first,
         };
         Game {
             start: Some(self.start.unwrap_or(start)),
-            depth: nest(self.depth, lexeme.kind),
-            in_pair: opens_pair(self.in_pair, lexeme.kind),
-            has_movetext: self.sees_movetext(lexeme.kind),
-            has_more: self.sees_more(lexeme.kind),
+            depth: nest(self.depth, look.kind),
+            in_pair: opens_pair(self.in_pair, look.kind),
+            has_movetext: self.sees_movetext(look.kind),
+            has_more: self.sees_more(look.kind),
         }
     }
 
@@ -180,35 +205,43 @@ impl Game {
     }
 
     /// Whether the game ends before a lexeme: a `[` in the first column, where it has movetext.
-    fn ends_before(self, lexeme: Lexeme<'_>) -> bool
-        ensures { result ≡ (opens lexeme.entry.kind && lexeme.entry.first && self.has_movetext) }
+    fn ends_before(self, look: Look) -> bool
+        ensures { result ≡ (opens look.kind && look.first && self.has_movetext) }
     {
-        opens(lexeme.kind) && lexeme.first && self.has_movetext
+        opens(look.kind) && look.first && self.has_movetext
     }
 
     /// Whether the game ends after a lexeme: a marker outside variations.
-    fn ends_behind(self, lexeme: Lexeme<'_>) -> bool
-        ensures { result ≡ (marks lexeme.entry.kind lexeme.entry.text.now && self.depth == 0) }
+    fn ends_behind(self, look: Look) -> bool
+        ensures { result ≡ (look.marker && self.depth == 0) }
     {
-        is_marker(lexeme) && self.depth == 0
+        self.depth == 0 && look.marker
     }
 
-    /// Meets the next lexeme of the archive, whose place counts from `offset`: the game that is open after it, and the
-    /// one that it closes, where it closes one.
-    pub(crate) fn meet(self, lexeme: Lexeme<'_>, offset: u64) -> (Game, Option<Span>)
+    /// Meets the next lexeme of the archive, whose place counts from `offset`.
+    pub(crate) fn meet_lexeme(self, lexeme: Lexeme<'_>, offset: u64) -> (Game, Option<Span>)
         requires depth { self.depth < 2 ^ 62 }
         requires place { offset + lexeme.at + length lexeme.text.now < 2 ^ 63 }
         ensures deeper { result.0.depth ≤ self.depth + 1 }
         ensures cuts { (game : List ALexeme) → self ≡ progress_of game →
             IsStepOfCut result.0 result.1 (shown offset lexeme.entry) game }
     {
-        let at = offset + lexeme.at as u64;
-        if self.ends_before(lexeme) {
-            return (Game::new().with(lexeme, offset), self.span_to(at));
+        self.meet(Look::of(lexeme, offset))
+    }
+
+    /// Meets a lexeme: the game that is open after it, and the one that it closes, where it closes one.
+    pub(crate) fn meet(self, look: Look) -> (Game, Option<Span>)
+        requires depth { self.depth < 2 ^ 63 }
+        ensures deeper { result.0.depth ≤ self.depth + 1 }
+        ensures cuts { (game : List ALexeme) (l : ALexeme) → Shows look l → self ≡ progress_of game →
+            IsStepOfCut result.0 result.1 l game }
+    {
+        if self.ends_before(look) {
+            return (Game::new().with(look), self.span_to(look.at));
         }
-        let game = self.with(lexeme, offset);
-        if self.ends_behind(lexeme) {
-            return (Game::new(), game.span_to(at + lexeme.text.len() as u64));
+        let game = self.with(look);
+        if self.ends_behind(look) {
+            return (Game::new(), game.span_to(look.end));
         }
         (game, None)
     }

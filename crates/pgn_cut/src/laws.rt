@@ -1,13 +1,21 @@
 //! Laws of the cut, for the crates above. Each is proved for all archives; to call one costs nothing.
-ghost use Rattle.std.specs.Prelude.{◌≡◌, ◌++◌, ℕ, Bool, List, All, length};
+ghost use Rattle.std.specs.Prelude.{◌≡◌, ◌+◌, ◌++◌, ◌==◌, ℕ, Bool, true, false, List, [], ◌∷◌, None, All, length};
 ghost use Rattle.pgn_lexer.specs.Lexemes.{lexemes, tokens_of};
-ghost use Rattle.pgn_cut.specs.Cut.{cut, closed};
+ghost use Rattle.cq_outside.specs.Text.{is_white};
+ghost use Rattle.pgn_lexer.specs.Bytes.{ends_line};
+ghost use Rattle.pgn_lexer.specs.Lexemes.{Lexeme as ALexeme};
+ghost use Rattle.pgn_lexer.specs.Local.{IsUnsettled};
+ghost use Rattle.pgn_lexer.specs.Readings.{reading};
+ghost use Rattle.pgn_cut.specs.Cut.{cut_from, cut, closed};
+ghost use Rattle.pgn_cut.specs.States.{IsOpen, takes, finishes, begun, kind_at_end, kind_with_last, is_marker_at_end, EndsBefore, IsOneLexeme, EndsAs};
+ghost use Rattle.pgn_cut.specs.declared.state.State.{State as AState};
+ghost use Rattle.pgn_cut.specs.declared.state.State.TheVariants.{Between};
 ghost use Rattle.pgn_cut.specs.Joined.{HasItsTokens};
 ghost use Rattle.pgn_cut.specs.OneGame.{IsGameOfCut, IsGameIn, IsUncut, IsEndedByMarker};
 ghost use Rattle.pgn_cut.specs.declared.span.Span.{Span as ASpan};
 ghost use Rattle.pgn_cut.specs.Spans.{EndsBy, AreInOrder, FinishesAt};
 
-use pgn_lexer::{
+use pgn_lexer::{white_space_is_passed, whole_lexemes_stay,
     fronts_settle, lexemes_are_local, lexemes_are_spelled, lexemes_follow, lexemes_stand_apart,
     readings_are_longest, readings_grow,
 };
@@ -53,4 +61,28 @@ pub fn closed_games_stay()
     lexemes_follow();
     readings_grow();
     readings_are_longest();
+}
+
+/// What is read of an open lexeme and the bytes after it follows from its state and these: it ends before the first that
+/// doesn't belong to it, or with its last. A byte that opens none is white space or a lexeme by itself. And the games that
+/// a prefix of an archive closes are those before which its cut goes on, whatever follows, with what it leaves open.
+pub fn open_lexemes_settle()
+    ensures ends { (first : Bool) (s : AState) (bytes : List ℕ) → IsOpen first s bytes → (s ≡ Between → ⊥) →
+        EndsAs first bytes (kind_at_end s) (is_marker_at_end s (length bytes)) (EndsBefore s) }
+    ensures with_last { (first : Bool) (s : AState) (bytes : List ℕ) (b : ℕ) → IsOpen first s bytes → takes s b ≡ true →
+        finishes s b ≡ true → IsOneLexeme first (bytes ++ b ∷ []) (kind_with_last s) false (λ rest. Unit {0}) }
+    ensures alone { (first : Bool) (b : ℕ) → is_white b ≡ false → begun first b ≡ None →
+        IsOneLexeme first (b ∷ []) (reading first b []).kind (b == 42) (λ rest. Unit {0}) }
+    ensures white { (at : ℕ) (first : Bool) (b : ℕ) (bs : List ℕ) → is_white b ≡ true →
+        lexemes at first (b ∷ bs) ≡ lexemes (at + 1) (ends_line b) bs }
+    ensures closes { (front : List ℕ) (games : List ASpan) (at : ℕ) (first : Bool) (game : List ALexeme) (s : AState) (bytes : List ℕ) →
+        IsOpen first s bytes → at + length bytes ≡ length front →
+        ((more : List ℕ) → cut (front ++ more) ≡ games ++ cut_from (length front + length more) game (lexemes at first (bytes ++ more))) →
+        closed front ≡ games }
+{
+    lexemes_follow();
+    readings_grow();
+    readings_are_longest();
+    white_space_is_passed();
+    whole_lexemes_stay();
 }

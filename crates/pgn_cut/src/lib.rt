@@ -5,13 +5,16 @@
 //! ends within another, and that the games which a prefix of an archive closes stay, whatever follows.
 #![tactic(auto)]
 
+pub mod cutter;
 mod game;
 pub mod laws;
 pub mod span;
+mod state;
 #[cfg(test)]
 mod tests;
 pub mod whole;
 
-pub use laws::{closed_games_stay, games_end_once, games_have_their_tokens, games_stand_apart};
+pub use cutter::Cutter;
+pub use laws::{closed_games_stay, open_lexemes_settle, games_end_once, games_have_their_tokens, games_stand_apart};
 pub use span::Span;
 pub use whole::cut_whole;

@@ -42,7 +42,7 @@ pub fn cut_whole(alloc: Global, archive: &[u8]) -> Result<Vec<Span>, NoMemory>
     let mut game = Game::new();
     let mut at = 0;
     while let Some(lexeme) = next_lexeme(text, at, true) {
-        let (open, closed) = game.meet(lexeme, offset as u64);
+        let (open, closed) = game.meet_lexeme(lexeme, offset as u64);
         if let Some(span) = closed {
             spans.push(span)?;
         }

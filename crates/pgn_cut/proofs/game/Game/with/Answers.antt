@@ -1,8 +1,7 @@
 use Rattle.std.proofs.Common.{ap, Some}
-use Rattle.pgn_lexer.specs.Shown.{shown}
-use Rattle.pgn_cut.proofs.Pushes.{progress_push}
+use Rattle.pgn_cut.proofs.Pushes.{shown_push}
 use Rattle.pgn_cut.proofs.game.Game.with.Goals as goal
 
 pub returns-clause-value : goal.returns-clause-value
-returns-clause-value c = λ game is.
-    progress_push game (shown c.args.offset c.args.lexeme) c.args.self is _ (ap Some c.unwrap_or.ensures) c.nest.ensures.value c.opens_pair.ensures c.sees_movetext.ensures c.sees_more.ensures
+returns-clause-value c = λ game l shows is.
+    shown_push game l c.args.look shows c.args.self is _ (ap Some c.unwrap_or.ensures) c.nest.ensures.value c.opens_pair.ensures c.sees_movetext.ensures c.sees_more.ensures

@@ -1,0 +1,159 @@
+-- The state of a lexeme that is open at a place, because its end is still to come: which bytes it has, which bytes go on
+-- with it, and what it is where none does.
+use Rattle.std.specs.Prelude.{◌≡◌, ℕ, ◌+◌, Bool, true, false, not, ◌==◌, ◌||◌, ◌&&◌, ◌⊎◌, nat_eq, nat_lt, List, [], ◌∷◌, ◌++◌, length, slice_index, codes, Option, None, Some, if◌then◌else◌}
+use Rattle.std.specs.List.{AllByRecursion, starts_with}
+use Rattle.std.specs.Char.{is_ascii_digit, is_ascii_alphanumeric}
+use Rattle.pgn_lexer.specs.Bytes.{ends_line, continues_symbol}
+use Rattle.pgn_lexer.specs.Grammar.{IsBody, IsLexeme}
+use Rattle.pgn_lexer.specs.Lexemes.{lexemes, first_at}
+use Rattle.pgn_lexer.specs.Local.{IsUnsettled}
+use Rattle.pgn_lexer.specs.declared.token.LexemeKind.{LexemeKind}
+use Rattle.pgn_lexer.specs.declared.token.LexemeKind.TheVariants.{EscapeLine, Token}
+use Rattle.pgn_lexer.specs.declared.token.TokenKind.TheVariants.{Text, Symbol, Null, Comment, LineComment, BadByte, UnclosedComment, UnclosedText}
+use Rattle.pgn_cut.specs.Cut.{marks, nest, opens_pair, is_movetext, is_passed_over, opens}
+use Rattle.pgn_cut.specs.declared.state.Results.{Results}
+use Rattle.pgn_cut.specs.declared.state.State.{State}
+use Rattle.pgn_cut.specs.declared.state.State.TheVariants.{AtStart, OneOfMark, TwoOfMark, Between, InComment, InLine, InText, InSymbol, InNumber, InSuffix, InNull}
+
+-- the front of what stands between the quotes of a string; `backslash` says that its last byte takes the next one with it
+abbrev pub IsPartOfText : (backslash : Bool) → List ℕ → Type 0
+IsPartOfText false body = IsBody body
+IsPartOfText true body = (before : List ℕ) × (body ≡ before ++ 92 ∷ []) × IsBody before
+
+-- which results a symbol begins
+abbrev pub BeginResults : Results → List ℕ → Type 0
+BeginResults r bytes =
+    (r.white ≡ starts_with nat_eq (codes "1-0") bytes) × (r.black ≡ starts_with nat_eq (codes "0-1") bytes)
+    × (r.draw ≡ starts_with nat_eq (codes "1/2-1/2") bytes)
+
+-- Some bytes are those of the open lexeme. `first` says whether it begins in the first column.
+abbrev pub IsOpen : (first : Bool) → State → List ℕ → Type 0
+IsOpen first AtStart bytes = ⊥
+IsOpen first OneOfMark bytes = ⊥
+IsOpen first TwoOfMark bytes = ⊥
+IsOpen first Between bytes = bytes ≡ []
+IsOpen first InComment bytes = IsLexeme first (Token UnclosedComment) bytes
+IsOpen first InLine bytes = IsLexeme first (Token LineComment) bytes ⊎ IsLexeme first EscapeLine bytes
+IsOpen first (InText backslash) bytes = (body : List ℕ) × (bytes ≡ 34 ∷ body) × IsPartOfText backslash body
+IsOpen first (InSymbol r) bytes = IsLexeme first (Token Symbol) bytes × BeginResults r bytes
+IsOpen first InNumber bytes = (digits : List ℕ) × (bytes ≡ 36 ∷ digits) × AllByRecursion (λ d. is_ascii_digit d ≡ true) digits
+IsOpen first InSuffix bytes = (bytes ≡ codes "!") ⊎ (bytes ≡ codes "?")
+IsOpen first InNull bytes = bytes ≡ codes "-"
+
+-- a marker goes on with a byte at its place
+abbrev pub begins_further : List ℕ → ℕ → ℕ → Bool
+begins_further marker len b = nat_lt len (length marker) && b == slice_index marker len
+
+abbrev pub results_from : ℕ → Results
+results_from b = record { white = b == 49; black = b == 48; draw = b == 49 }
+
+abbrev pub results_after : Results → ℕ → ℕ → Results
+results_after r len b = record {
+  white = r.white && begins_further (codes "1-0") len b;
+  black = r.black && begins_further (codes "0-1") len b;
+  draw = r.draw && begins_further (codes "1/2-1/2") len b;
+}
+
+abbrev pub are_spelled : Results → ℕ → Bool
+are_spelled r len = ((r.white || r.black) && len == 3) || (r.draw && len == 7)
+
+-- what a byte opens, if it isn't a lexeme by itself
+abbrev pub begun : (first : Bool) → ℕ → Option State
+begun first b =
+    if is_ascii_alphanumeric b then Some (InSymbol (results_from b))
+    else (if b == 123 then Some InComment
+    else (if b == 59 then Some InLine
+    else (if b == 37 && first then Some InLine
+    else (if b == 34 then Some (InText false)
+    else (if b == 36 then Some InNumber
+    else (if b == 33 then Some InSuffix
+    else (if b == 63 then Some InSuffix
+    else (if b == 45 then Some InNull
+    else None))))))))
+
+-- whether a byte belongs to what is open
+abbrev pub takes : State → ℕ → Bool
+takes AtStart b = b == 239
+takes OneOfMark b = b == 187
+takes TwoOfMark b = b == 191
+takes Between b = true
+takes InComment b = true
+takes InLine b = not (ends_line b)
+takes (InText backslash) b = not (ends_line b)
+takes (InSymbol r) b = continues_symbol b
+takes InNumber b = is_ascii_digit b
+takes InSuffix b = b == 33 || b == 63
+takes InNull b = b == 45
+
+-- whether it is the last byte of the open lexeme
+abbrev pub finishes : State → ℕ → Bool
+finishes InComment b = b == 125
+finishes (InText backslash) b = b == 34 && not backslash
+finishes InSuffix b = true
+finishes InNull b = true
+finishes _ b = false
+
+-- the open lexeme, of `len` bytes, after one more
+abbrev pub after : State → (len : ℕ) → ℕ → State
+after (InText backslash) len b = InText (b == 92 && not backslash)
+after (InSymbol r) len b = InSymbol (results_after r len b)
+after s len b = s
+
+-- the kind of the open lexeme where no more bytes belong to it, or with its last byte, as far as a cut tells kinds apart
+abbrev pub kind_at_end : State → LexemeKind
+kind_at_end InComment = Token UnclosedComment
+kind_at_end InLine = Token LineComment
+kind_at_end (InText backslash) = Token UnclosedText
+kind_at_end (InSymbol r) = Token Symbol
+kind_at_end _ = Token BadByte
+
+abbrev pub kind_with_last : State → LexemeKind
+kind_with_last InComment = Token Comment
+kind_with_last (InText backslash) = Token Text
+kind_with_last _ = Token Null
+
+-- whether the open lexeme is a marker where it has so many bytes and no more belong to it
+abbrev pub is_marker_at_end : State → ℕ → Bool
+is_marker_at_end (InSymbol r) len = are_spelled r len
+is_marker_at_end _ len = false
+
+-- a part of a byte order mark is open
+abbrev pub is_in_mark : State → Bool
+is_in_mark AtStart = true
+is_in_mark OneOfMark = true
+is_in_mark TwoOfMark = true
+is_in_mark _ = false
+
+-- a byte belongs to the open lexeme, and leaves its state as it is
+pub record Stays (s : State) (b : ℕ) : Type 0 where
+  pub takes_ : takes s b ≡ true
+  pub no_last : finishes s b ≡ false
+  pub same : (len : ℕ) → after s len b ≡ s
+  pub some : s ≡ Between → ⊥
+  pub no_mark : is_in_mark s ≡ false
+
+-- what is open ends before these bytes: there are none, or the first doesn't belong to it
+abbrev pub EndsBefore : State → List ℕ → Type 0
+EndsBefore s [] = Unit {0}
+EndsBefore s (b ∷ bs) = takes s b ≡ false
+
+-- a cut doesn't tell two kinds apart
+pub record AreAlike (a b : LexemeKind) : Type 0 where
+  pub nests : (d : ℕ) → nest d a ≡ nest d b
+  pub pairs : (open_ : Bool) → opens_pair open_ a ≡ opens_pair open_ b
+  pub movetext : is_movetext a ≡ is_movetext b
+  pub passed_over : is_passed_over a ≡ is_passed_over b
+  pub opens_ : opens a ≡ opens b
+
+-- Some bytes are one lexeme before certain others, by a kind that a cut takes for this one.
+pub record IsOneLexeme (first : Bool) (bytes : List ℕ) (kind : LexemeKind) (marker : Bool) (Before : List ℕ → Type 0) : Type 0 where
+  pub read : LexemeKind
+  pub alike : AreAlike kind read
+  pub marked : marker ≡ marks read bytes
+  pub next : (at : ℕ) (rest : List ℕ) → Before rest → lexemes at first (bytes ++ rest)
+      ≡ record { at = at; first = first; text = bytes; kind = read } ∷ lexemes (at + length bytes) (first_at first bytes (length bytes)) rest
+
+-- an open lexeme ends before certain bytes, by a kind that a cut takes for this one; where the archive ends, so does it, and
+-- whether it goes on is not settled
+abbrev pub EndsAs : (first : Bool) (bytes : List ℕ) (kind : LexemeKind) (marker : Bool) (Before : List ℕ → Type 0) → Type 0
+EndsAs first bytes kind marker Before = IsOneLexeme first bytes kind marker Before × IsUnsettled first bytes

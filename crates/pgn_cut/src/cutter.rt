@@ -1,0 +1,332 @@
+//! An archive that comes in pieces, cut into its games.
+ghost use Rattle.std.specs.Prelude.{◌≡◌, ◌+◌, ◌*◌, ◌<◌, ◌≤◌, ◌^◌, ◌++◌, ◌==◌, ℕ, Bool, true, false, List, [], ◌∷◌, None, Some, length, take, drop, OnOk, OnErr, IfOk};
+ghost use Rattle.std.specs.List.{AllByRecursion};
+ghost use Rattle.std.specs.Option.{option_to_list};
+ghost use Rattle.pgn_lexer.specs.Lexemes.{Lexeme as ALexeme};
+ghost use Rattle.pgn_lexer.specs.declared.token.LexemeKind.TheVariants.{Token};
+ghost use Rattle.pgn_lexer.specs.declared.token.TokenKind.TheVariants.{BadByte};
+ghost use Rattle.pgn_cut.specs.Cut.{cut, closed};
+ghost use Rattle.pgn_cut.specs.Progress.{progress_of, IsStepOfCut, Shows};
+ghost use Rattle.pgn_cut.specs.States.{takes, is_in_mark, Stays};
+ghost use Rattle.pgn_cut.specs.Streams.{IsBetween, IsSound, IsInMark, IsInText, Stands, IsEnded, IsReady, HasTaken, StandsWith, HasGained};
+ghost use Rattle.pgn_cut.specs.declared.span.Span.{Span as ASpan};
+ghost use Rattle.pgn_cut.specs.declared.game.Look.{Look as ALook};
+ghost use Rattle.pgn_cut.specs.declared.state.State.TheVariants.{Between};
+
+use crate::game::{Game, Look};
+use crate::laws::open_lexemes_settle;
+use crate::span::Span;
+use crate::state::State;
+use cq_outside::{NoMemory, is_white};
+use pgn_lexer::{LexemeKind, TokenKind, longest_reading, white_space_is_passed};
+
+/// Cuts an archive that comes in pieces. It keeps none of its bytes: what is open at its place, where that begins, and
+/// what the open game shows so far.
+#[derive(Clone, Copy)]
+pub struct Cutter {
+    state: State,
+    game: Game,
+    at: u64,
+    first: bool,
+    place: u64,
+    column: bool,
+}
+
+/// A byte of a mark that turned out to be none.
+fn bad_byte(at: u64) -> Look
+    requires { at < 2 ^ 62 }
+    ensures { result ≡ record { at = at; end = at + 1; first = at == 0; kind = Token BadByte; marker = false } }
+{
+    Look {
+        at,
+        end: at + 1,
+        first: at == 0,
+        kind: LexemeKind::Token(TokenKind::BadByte),
+        marker: false,
+    }
+}
+
+/// Appends up to two spans, or leaves them as they are.
+fn append(
+    spans: &mut Vec<Span>,
+    first: Option<Span>,
+    second: Option<Span>,
+) -> Result<(), NoMemory>
+    ensures ok { OnOk result (spans.new.items ≡ spans.old.items ++ (option_to_list first ++ option_to_list second)) }
+    ensures err { OnErr result (spans.new.items ≡ spans.old.items) }
+{
+    let before = spans.len();
+    if let Some(span) = first {
+        spans.push(span)?;
+    }
+    if let Some(span) = second {
+        if spans.push(span).is_err() {
+            spans.truncate(before);
+            return Err(NoMemory);
+        }
+    }
+    Ok(())
+}
+
+impl Cutter {
+    /// A cutter that was fed nothing.
+    pub fn new() -> Cutter
+        ensures { Stands result [] }
+    {
+        Cutter::in_mark(State::AtStart, 0)
+    }
+
+    /// The cutter in a byte order mark, of which so many bytes are read.
+    fn in_mark(state: State, place: u64) -> Cutter
+        ensures place { (result.state ≡ state) × (result.at ≡ 0) × (result.place ≡ place) }
+        ensures game { result.game ≡ progress_of [] }
+        ensures flat { result.game.depth ≡ 0 }
+    {
+        Cutter {
+            state,
+            game: Game::new(),
+            at: 0,
+            first: true,
+            place,
+            column: false,
+        }
+    }
+
+    /// The cutter between lexemes at a place.
+    fn between(game: Game, place: u64, column: bool) -> Cutter
+        ensures { result ≡ record { state = Between; game = game; at = place; first = column; place = place; column = column } }
+    {
+        Cutter {
+            state: State::Between,
+            game,
+            at: place,
+            first: column,
+            place,
+            column,
+        }
+    }
+
+    /// The cutter after a lexeme from its place to another, and the game that it closes, where it closes one.
+    fn met(self, end: u64, column: bool, kind: LexemeKind, marker: bool) -> (Cutter, Option<Span>)
+        requires depth { self.game.depth < 2 ^ 63 }
+        ensures deeper { result.0.game.depth ≤ self.game.depth + 1 }
+        ensures rest { IsBetween result.0 end column }
+        ensures cuts { (game : List ALexeme) (l : ALexeme)
+            → Shows (record { at = self.at; end = end; first = self.first; kind = kind; marker = marker }) l
+            → self.game ≡ progress_of game → IsStepOfCut result.0.game result.1 l game }
+    {
+        let look = Look {
+            at: self.at,
+            end,
+            first: self.first,
+            kind,
+            marker,
+        };
+        let (game, closed) = self.game.meet(look);
+        (Cutter::between(game, end, column), closed)
+    }
+
+    /// The cutter after a part of a byte order mark whose rest doesn't come, so that its bytes are lexemes.
+    fn unmarked(self) -> Cutter
+        requires { is_in_mark self.state ≡ true }
+        ensures counts { (result.game.depth ≤ 2) × (result.at ≤ 2) × (result.place ≡ result.at) }
+        ensures ends { (fed : List ℕ) → IsInMark self fed → IsEnded result None self.state fed }
+    {
+        open_lexemes_settle();
+        match self.state {
+            State::AtStart => Cutter::between(Game::new(), 0, true),
+            State::OneOfMark => Cutter::between(Game::new().with(bad_byte(0)), 1, false),
+            _ => Cutter::between(Game::new().with(bad_byte(0)).with(bad_byte(1)), 2, false),
+        }
+    }
+
+    /// The cutter where what is open ends at its place, and the game that is closed by that, where one is.
+    fn ended(self) -> (Cutter, Option<Span>)
+        requires depth { self.game.depth + 1 < 2 ^ 63 }
+        requires place { self.place < 2 ^ 62 }
+        requires at { self.at ≤ self.place }
+        ensures counts { (result.0.game.depth < 2 ^ 63) × (result.0.place < 2 ^ 62) × (result.0.at ≤ result.0.place) }
+        ensures ends { (fed : List ℕ) → Stands self fed → IsEnded result.0 result.1 self.state fed }
+    {
+        open_lexemes_settle();
+        match self.state {
+            State::AtStart | State::OneOfMark | State::TwoOfMark => (self.unmarked(), None),
+            State::Between => (self, None),
+            _ => {
+                let kind = self.state.kind_at_end();
+                let marker = self.state.is_marker_at_end(self.place - self.at);
+                self.met(self.place, self.column, kind, marker)
+            }
+        }
+    }
+
+    /// The cutter after one more byte of a byte order mark.
+    fn marked(self, b: u8) -> Cutter
+        requires { is_in_mark self.state ≡ true }
+        ensures { (fed : List ℕ) → IsInMark self fed → takes self.state b ≡ true → StandsWith result (fed ++ b ∷ []) (closed fed) }
+    {
+        open_lexemes_settle();
+        match self.state {
+            State::AtStart => Cutter::in_mark(State::OneOfMark, 1),
+            State::OneOfMark => Cutter::in_mark(State::TwoOfMark, 2),
+            _ => Cutter::between(Game::new(), 3, true),
+        }
+    }
+
+    /// The cutter after a byte that leaves a lexeme open.
+    fn with_open(self, state: State, column: bool) -> Cutter
+        requires { self.place < 2 ^ 62 }
+        ensures { result ≡ record { state = state; game = self.game; at = self.at; first = self.first; place = self.place + 1; column = column } }
+    {
+        Cutter {
+            state,
+            game: self.game,
+            at: self.at,
+            first: self.first,
+            place: self.place + 1,
+            column,
+        }
+    }
+
+    /// The cutter after a byte where nothing was open, and the game that the byte closes, where it closes one.
+    fn begun(self, b: u8) -> (Cutter, Option<Span>)
+        requires state { self.state ≡ Between }
+        requires depth { self.game.depth < 2 ^ 63 }
+        requires place { self.place < 2 ^ 62 }
+        ensures { (fed : List ℕ) (games : List ASpan) → IsReady self fed b games →
+            HasTaken result.0 (fed ++ b ∷ []) (games ++ option_to_list result.1) }
+    {
+        open_lexemes_settle();
+        let column = b == b'\n';
+        if is_white(b) {
+            return (Cutter::between(self.game, self.place + 1, column), None);
+        }
+        match State::begun(self.first, b) {
+            Some(state) => (self.with_open(state, column), None),
+            None => {
+                let kind = longest_reading(b, &[], self.first).kind;
+                self.met(self.place + 1, column, kind, b == b'*')
+            }
+        }
+    }
+
+    /// The cutter after a byte that belongs to what is open, and the game that the byte closes, where it closes one.
+    fn taken(self, b: u8) -> (Cutter, Option<Span>)
+        requires depth { self.game.depth < 2 ^ 63 }
+        requires place { self.place < 2 ^ 62 }
+        requires at { self.at ≤ self.place }
+        ensures { (fed : List ℕ) (games : List ASpan) → IsReady self fed b games →
+            HasTaken result.0 (fed ++ b ∷ []) (games ++ option_to_list result.1) }
+    {
+        if self.state.is_between() {
+            return self.begun(b);
+        }
+        open_lexemes_settle();
+        let column = b == b'\n';
+        if self.state.finishes(b) {
+            let kind = self.state.kind_with_last();
+            return self.met(self.place + 1, column, kind, false);
+        }
+        let state = self.state.after(self.place - self.at, b);
+        (self.with_open(state, column), None)
+    }
+
+    /// The cutter after one more byte, and the games that are closed before that and by that, where they are.
+    fn step(self, b: u8) -> (Cutter, Option<Span>, Option<Span>)
+        requires depth { self.game.depth + 1 < 2 ^ 63 }
+        requires place { self.place < 2 ^ 62 }
+        requires at { self.at ≤ self.place }
+        ensures { (fed : List ℕ) → Stands self fed →
+            StandsWith result.0 (fed ++ b ∷ []) (closed fed ++ (option_to_list result.1 ++ option_to_list result.2)) }
+    {
+        if !self.state.takes(b) {
+            let (cutter, before) = self.ended();
+            let (cutter, closed) = cutter.taken(b);
+            return (cutter, before, closed);
+        }
+        if self.state.is_in_mark() {
+            return (self.marked(b), None, None);
+        }
+        let (cutter, closed) = self.taken(b);
+        (cutter, None, closed)
+    }
+
+    /// The cutter after bytes that leave the open lexeme as it is.
+    fn passed(self, run: &[u8]) -> Cutter
+        requires some { 0 < length run.now }
+        requires place { self.place + length run.now < 2 ^ 63 }
+        ensures { (fed : List ℕ) → Stands self fed → AllByRecursion (Stays self.state) run.now →
+            StandsWith result (fed ++ run.now) (closed fed) }
+    {
+        open_lexemes_settle();
+        Cutter {
+            state: self.state,
+            game: self.game,
+            at: self.at,
+            first: self.first,
+            place: self.place + run.len() as u64,
+            column: run[run.len() - 1] == b'\n',
+        }
+    }
+
+    /// The cutter after some of the bytes that are left, and how many. The games that they close are appended.
+    fn turn(self, rest: &[u8], spans: &mut Vec<Span>) -> Result<(Cutter, usize), NoMemory>
+        requires some { 0 < length rest.now }
+        requires depth { self.game.depth + 1 < 2 ^ 63 }
+        requires place { self.place + length rest.now < 2 ^ 62 }
+        requires at { self.at ≤ self.place }
+        ensures took { IfOk result (λ r. (0 < r.1) × (r.1 ≤ length rest.now)) }
+        ensures gained { IfOk result (λ r. HasGained self r.0 (take r.1 rest.now) spans.old.items spans.new.items) }
+        ensures err { OnErr result (spans.new.items ≡ spans.old.items) }
+    {
+        let run = self.state.run_len(rest);
+        if run > 0 {
+            return Ok((self.passed(&rest[..run]), run));
+        }
+        let (cutter, before, closed) = self.step(rest[0]);
+        append(spans, before, closed)?;
+        Ok((cutter, 1))
+    }
+
+    /// Takes the next bytes of the archive, and appends the games that they close. Where no memory is found, the call is
+    /// refused, and leaves the cutter and the spans as they are. All bytes together are fewer than 2^62.
+    pub fn feed(&mut self, piece: &[u8], spans: &mut Vec<Span>) -> Result<(), NoMemory>
+        requires { (fed : List ℕ) × Stands self.old fed × (length fed + length piece.now < 2 ^ 62) }
+        ensures stands { OnOk result ((fed : List ℕ) → Stands self.old fed → Stands self.new (fed ++ piece.now)) }
+        ensures games { OnOk result ((fed : List ℕ) → Stands self.old fed →
+            spans.new.items ≡ spans.old.items ++ drop (length (closed fed)) (closed (fed ++ piece.now))) }
+        ensures unchanged { OnErr result ((self.new ≡ self.old) × (spans.new.items ≡ spans.old.items)) }
+    {
+        let before = spans.len();
+        let mut cutter = *self;
+        let mut at = 0;
+        while at < piece.len() {
+            match cutter.turn(&piece[at..], spans) {
+                Ok((next, taken)) => {
+                    cutter = next;
+                    at += taken;
+                }
+                Err(refusal) => {
+                    spans.truncate(before);
+                    return Err(refusal);
+                }
+            }
+        }
+        *self = cutter;
+        Ok(())
+    }
+
+    /// Appends the last game, where there is one, at the archive's end. Where no memory is found, the call is refused, and
+    /// leaves the cutter and the spans as they are.
+    pub fn finish(&mut self, spans: &mut Vec<Span>) -> Result<(), NoMemory>
+        requires { (fed : List ℕ) × Stands self.old fed × (length fed < 2 ^ 62) }
+        ensures games { OnOk result ((fed : List ℕ) → Stands self.old fed →
+            spans.new.items ≡ spans.old.items ++ drop (length (closed fed)) (cut fed)) }
+        ensures cutter { self.new ≡ self.old }
+        ensures unchanged { OnErr result (spans.new.items ≡ spans.old.items) }
+    {
+        white_space_is_passed();
+        let (cutter, closed) = self.ended();
+        append(spans, closed, cutter.game.last(cutter.place))
+    }
+}

@@ -1,0 +1,223 @@
+//! What is open at a place of an archive that comes in pieces.
+ghost use Rattle.std.specs.Prelude.{◌≡◌, ◌≤◌, ◌&&◌, ◌==◌, ℕ, true, false, take, nat_lt, codes, slice_index, length};
+ghost use Rattle.std.specs.List.{AllByRecursion, position_or_len};
+ghost use Rattle.pgn_lexer.specs.Readings.{is_special};
+ghost use Rattle.pgn_lexer.specs.Bytes.{continues_symbol};
+ghost use Rattle.pgn_cut.specs.States.{begins_further, results_from, results_after, are_spelled, takes, finishes, after, begun, is_in_mark, Stays, kind_at_end, kind_with_last, is_marker_at_end};
+ghost use Rattle.pgn_cut.specs.declared.state.State.TheVariants.{Between};
+
+use memchr::{memchr, memchr3};
+use pgn_lexer::{LexemeKind, TokenKind};
+
+/// Which markers of a result begin with the bytes of a symbol.
+#[derive(Clone, Copy)]
+pub(crate) struct Results {
+    white: bool,
+    black: bool,
+    draw: bool,
+}
+
+/// What is open at a place: a part of a byte order mark at the archive's start, nothing, or a lexeme whose end is still to
+/// come.
+#[derive(Clone, Copy)]
+pub(crate) enum State {
+    AtStart,
+    OneOfMark,
+    TwoOfMark,
+    Between,
+    InComment,
+    InLine,
+    /// Whether a backslash takes the next byte with it.
+    InText(bool),
+    InSymbol(Results),
+    InNumber,
+    InSuffix,
+    InNull,
+}
+
+/// Whether a marker, of which so many bytes are read, goes on with a byte.
+fn begins_further(marker: &[u8], len: u64, b: u8) -> bool
+    ensures { result ≡ begins_further marker.now len b }
+{
+    len < marker.len() as u64 && b == marker[len as usize]
+}
+
+impl Results {
+    /// Those that begin with a byte.
+    fn from(b: u8) -> Results
+        ensures { result ≡ results_from b }
+    {
+        Results {
+            white: b == b'1',
+            black: b == b'0',
+            draw: b == b'1',
+        }
+    }
+
+    /// Those that go on with a byte after so many bytes.
+    fn after(self, len: u64, b: u8) -> Results
+        ensures { result ≡ results_after self len b }
+    {
+        Results {
+            white: self.white && begins_further(b"1-0", len, b),
+            black: self.black && begins_further(b"0-1", len, b),
+            draw: self.draw && begins_further(b"1/2-1/2", len, b),
+        }
+    }
+
+    /// Whether one of them has so many bytes.
+    fn are_spelled(self, len: u64) -> bool
+        ensures { result ≡ are_spelled self len }
+    {
+        ((self.white || self.black) && len == 3) || (self.draw && len == 7)
+    }
+}
+
+/// Whether a symbol goes on with a byte.
+fn continues_symbol(b: u8) -> bool
+    ensures { result ≡ continues_symbol b }
+{
+    b.is_ascii_alphanumeric() || matches!(b, b'_' | b'+' | b'#' | b'=' | b':' | b'-' | b'/')
+}
+
+/// The place of the first such byte, or the length where there is none.
+fn place_of(byte: u8, bytes: &[u8]) -> usize
+    ensures value { result ≡ position_or_len (λ b. b == byte) bytes.now }
+    ensures within { result ≤ length bytes.now }
+{
+    memchr(byte, bytes).unwrap_or(bytes.len())
+}
+
+/// How many bytes at the start of a string stand for themselves: those before a quote, a backslash or LF.
+fn plain_len(bytes: &[u8]) -> usize
+    ensures value { result ≡ position_or_len is_special bytes.now }
+    ensures within { result ≤ length bytes.now }
+{
+    memchr3(b'"', b'\\', b'\n', bytes).unwrap_or(bytes.len())
+}
+
+impl State {
+    /// What a byte opens that is not white space; `first` says whether it stands in the first column. None where it is a
+    /// lexeme by itself.
+    pub(crate) fn begun(first: bool, b: u8) -> Option<State>
+        ensures { result ≡ begun first b }
+    {
+        match b {
+            _ if b.is_ascii_alphanumeric() => Some(State::InSymbol(Results::from(b))),
+            b'{' => Some(State::InComment),
+            b';' => Some(State::InLine),
+            b'%' if first => Some(State::InLine),
+            b'"' => Some(State::InText(false)),
+            b'$' => Some(State::InNumber),
+            b'!' => Some(State::InSuffix),
+            b'?' => Some(State::InSuffix),
+            b'-' => Some(State::InNull),
+            _ => None,
+        }
+    }
+
+    /// Whether nothing is open.
+    pub(crate) fn is_between(self) -> bool
+        ensures yes { result ≡ true → self ≡ Between }
+        ensures no { result ≡ false → self ≡ Between → ⊥ }
+    {
+        matches!(self, State::Between)
+    }
+
+    /// Whether a part of a byte order mark is open.
+    pub(crate) fn is_in_mark(self) -> bool
+        ensures { result ≡ is_in_mark self }
+    {
+        matches!(self, State::AtStart | State::OneOfMark | State::TwoOfMark)
+    }
+
+    /// Whether a byte belongs to what is open.
+    pub(crate) fn takes(self, b: u8) -> bool
+        ensures { result ≡ takes self b }
+    {
+        match self {
+            State::AtStart => b == 0xef,
+            State::OneOfMark => b == 0xbb,
+            State::TwoOfMark => b == 0xbf,
+            State::Between | State::InComment => true,
+            State::InLine | State::InText(_) => b != b'\n',
+            State::InSymbol(_) => continues_symbol(b),
+            State::InNumber => b.is_ascii_digit(),
+            State::InSuffix => b == b'!' || b == b'?',
+            State::InNull => b == b'-',
+        }
+    }
+
+    /// Whether a byte that belongs to the open lexeme is its last, whatever follows.
+    pub(crate) fn finishes(self, b: u8) -> bool
+        ensures { result ≡ finishes self b }
+    {
+        match self {
+            State::InComment => b == b'}',
+            State::InText(backslash) => b == b'"' && !backslash,
+            State::InSuffix | State::InNull => true,
+            _ => false,
+        }
+    }
+
+    /// The open lexeme, of which so many bytes are read, after one more that isn't its last.
+    pub(crate) fn after(self, len: u64, b: u8) -> State
+        ensures { result ≡ after self len b }
+    {
+        match self {
+            State::InText(backslash) => State::InText(b == b'\\' && !backslash),
+            State::InSymbol(results) => State::InSymbol(results.after(len, b)),
+            _ => self,
+        }
+    }
+
+    /// The kind of the open lexeme where no more bytes belong to it, as far as a cut tells kinds apart.
+    pub(crate) fn kind_at_end(self) -> LexemeKind
+        ensures { result ≡ kind_at_end self }
+    {
+        let kind = match self {
+            State::InComment => TokenKind::UnclosedComment,
+            State::InLine => TokenKind::LineComment,
+            State::InText(_) => TokenKind::UnclosedText,
+            State::InSymbol(_) => TokenKind::Symbol,
+            _ => TokenKind::BadByte,
+        };
+        LexemeKind::Token(kind)
+    }
+
+    /// Its kind with its last byte.
+    pub(crate) fn kind_with_last(self) -> LexemeKind
+        ensures { result ≡ kind_with_last self }
+    {
+        let kind = match self {
+            State::InComment => TokenKind::Comment,
+            State::InText(_) => TokenKind::Text,
+            _ => TokenKind::Null,
+        };
+        LexemeKind::Token(kind)
+    }
+
+    /// Whether the open lexeme marks a result where it has so many bytes and no more belong to it.
+    pub(crate) fn is_marker_at_end(self, len: u64) -> bool
+        ensures { result ≡ is_marker_at_end self len }
+    {
+        match self {
+            State::InSymbol(results) => results.are_spelled(len),
+            _ => false,
+        }
+    }
+
+    /// How many bytes at the start of some surely leave what is open as it is: those of a comment, a line or a string
+    /// before the first that may end it.
+    pub(crate) fn run_len(self, bytes: &[u8]) -> usize
+        ensures within { result ≤ length bytes.now }
+        ensures stays { AllByRecursion (Stays self) (take result bytes.now) }
+    {
+        match self {
+            State::InComment => place_of(b'}', bytes),
+            State::InLine => place_of(b'\n', bytes),
+            State::InText(false) => plain_len(bytes),
+            _ => 0,
+        }
+    }
+}
