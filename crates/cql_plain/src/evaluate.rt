@@ -12,6 +12,9 @@ ghost use Rattle.cql_plain.specs.Members.{value_in_member, values_in_members};
 ghost use Rattle.cql_plain.specs.Shown.{meant, terms_meant};
 ghost use Rattle.cql_plain.specs.Trees.{searched_tree};
 
+mod lines;
+mod played;
+
 use crate::combine::{any_of, chain_of, if_of, pair_of, unary_here};
 use crate::contexts::{field_image, inside, of_image, outcome_image, unary_image, way_image, word_image};
 use crate::fits::fits;
@@ -27,6 +30,8 @@ use cq_outside::NoMemory;
 use cq_symmetry::{Family, Mapping, member, size as family_size};
 use cql_syntax::{Filter, Filters, Form, Terms, Unary, kind_of};
 use pgn_tree::Game;
+use lines::line_at;
+use played::played_at;
 use std::alloc::Global;
 
 /// What a filter gives at a node, in a context and with squares bound to names.
@@ -92,7 +97,8 @@ pub(crate) fn evaluate(
                 alloc, *every, name.as_slice(), squares, asked, game, variations, node, context, names,
             )
         }
-        Form::Line(_) | Form::Played(_) => Err(NoMemory),
+        Form::Line(line) => line_at(alloc, line, game, variations, node, context, names),
+        Form::Played(played) => played_at(alloc, played, game, variations, node, context, names),
         Form::Transform(family, part) => {
             family_value(alloc, *family, part, game, variations, node, context, names)
         }
