@@ -1,6 +1,6 @@
 -- The way up from a node, its children one by one, and the nodes below it.
 use Rattle.std.proofs.Common.{◌≡◌, ℕ, zero, suc, ◌+◌, ◌-◌, ◌<◌, ◌≤◌, Bool, true, false, ◌&&◌, ◌||◌, nat_lt, nat_eq, List, [], ◌∷◌, ◌++◌, length, cond, Option, Some, None, refl, sym, ap, ap₂, ◌∙◌, subst, arith, inl, inr, append_assoc, append-nil, map, eqb-true, ltb-true as ltb_holds, get_or, take, count_by}
-use Rattle.std.specs.Prelude.{◌==◌, IfSome, All, if◌then◌else◌, Contains}
+use Rattle.std.specs.Prelude.{option_to_list, ◌==◌, IfSome, All, if◌then◌else◌, Contains}
 use Rattle.std.specs.List.{filter, find, range_with_len, list_any}
 use Rattle.std.proofs.lemmas.Bool.{cases_lt, cases_eq, lt-ltb, le-ltb, eq-eqb, ne_eqb, cases_Bool}
 use Rattle.std.proofs.lemmas.List.FromFn.{length-range_with_len, get_or-range_with_len, map-range_with_len_more}
@@ -248,3 +248,11 @@ pub counted_more : (nodes : List Node) (way : List ℕ) (k d count one : ℕ) �
     → count ≡ count_by (begins_variation nodes) (take k way) → count + one ≡ count_by (begins_variation nodes) (take (k + 1) way)
 counted_more nodes way k d count one h is had =
     ap₂ (λ a b. a + b) had is ∙ sym (sum_by_more (λ m. cond (begins_variation nodes m) 1 0) way k d h)
+
+-- a parent is a node, if there is one
+one_inside : (count : ℕ) (o : Option ℕ) → IfSome o (λ m. m < count) → All (λ m. m < count) (option_to_list o)
+one_inside count None h = λ k d low. absurd (omega (arith, low))
+one_inside count (Some m) h = λ k d low. let first : k ≡ 0 = omega (arith, low) in subst (λ i. get_or (m ∷ []) i d < count) (sym first) h
+
+pub parent_inside : (nodes : List Node) (n : ℕ) → IsTree nodes → n < length nodes → All (λ m. m < length nodes) (option_to_list (node_at nodes n).parent)
+parent_inside nodes n tree h = one_inside (length nodes) (node_at nodes n).parent (within_up nodes n (node_at nodes n).parent tree refl h)

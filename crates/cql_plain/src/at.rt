@@ -39,7 +39,6 @@ pub fn holds_at(
 }
 
 /// The squares of a filter at a node of a game: bit k is square k. A filter that is no set has none.
-#[tactic(auto, using(crate::proofs::Masks::own_mask))]
 pub fn set_at(
     alloc: Global,
     f: &Filter,

@@ -13,6 +13,8 @@ mod headers;
 pub mod names;
 mod numbers;
 mod sets;
+#[cfg(test)]
+mod tests;
 mod value;
 mod walks;
 mod words;
