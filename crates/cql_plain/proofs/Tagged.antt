@@ -27,11 +27,11 @@ part_found text whole None none = none_found (is_part_of text whole) refl
     none_found : (b : Bool) → is_part_of text whole ≡ b → false ≡ b
     none_found false e = refl
     none_found true e = absurd (
-      let f = from_range (stands_at text whole) 0 (length whole + 1) e in
-      let same = (bytes_eq-Decides text (take (length text) (drop f.k whole))).0 f.passes in
-      let long = ap length same ∙ length-take (length text) (drop f.k whole) in
-      let rest = length-drop f.k whole in
-      none f.k (omega arith) (omega (arith, f.high)) (OccursAt-from_part whole text f.k (omega (arith, long, rest, f.high)) (sym same)))
+        let f = from_range (stands_at text whole) 0 (length whole + 1) e in
+        let same = (bytes_eq-Decides text (take (length text) (drop f.k whole))).0 f.passes in
+        let long = ap length same ∙ length-take (length text) (drop f.k whole) in
+        let rest = length-drop f.k whole in
+        none f.k (omega arith) (omega (arith, f.high)) (OccursAt-from_part whole text f.k (omega (arith, long, rest, f.high)) (sym same)))
 
 -- how far the number of some digits goes
 pub ten_to : (i : ℕ) → i ≤ 8 → 10 ^ i ≤ 100000000

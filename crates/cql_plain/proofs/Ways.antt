@@ -74,7 +74,7 @@ skips : (p : ℕ → Bool) (a n : ℕ) (o : Option ℕ) → p a ≡ false → af
 skips p a n None e = refl
 skips p a n (Some c) e =
     ap (λ l. c ∷ l) (sym (ap (λ b. cond b (a ∷ filter (λ k. nat_lt c k && p k) (range_with_len (a + 1) n)) (filter (λ k. nat_lt c k && p k) (range_with_len (a + 1) n)))
-      (ap (λ b. nat_lt c a && b) e ∙ and_false (nat_lt c a))))
+    (ap (λ b. nat_lt c a && b) e ∙ and_false (nat_lt c a))))
   where
     and_false : (b : Bool) → (b && false) ≡ false
     and_false true = refl

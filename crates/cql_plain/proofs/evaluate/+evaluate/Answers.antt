@@ -33,7 +33,7 @@ evaluate-returns-in-Transform t c =
     let f = c.args.f.now in
     let part = c.deref-in-Transform.result.now in
     let is : filter_tree f ≡ filter_at f.at (transform c.in-Transform.family (filter_tree part)) =
-        ap (λ form. filter_at f.at (form_tree form)) c.in-Transform.is ∙ ap (λ p. filter_at f.at (transform c.in-Transform.family (filter_tree p))) (sym c.deref-in-Transform.ensures) in
+    ap (λ form. filter_at f.at (form_tree form)) c.in-Transform.is ∙ ap (λ p. filter_at f.at (transform c.in-Transform.family (filter_tree p))) (sym c.deref-in-Transform.ensures) in
     subst (λ x. IfOk c.family_value.result (λ v. meant v ≡ x))
     (family_is (searched_tree c.args.game.now c.args.variations) c.args.context.now c.args.names.now c.in-Transform.family (filter_tree part) (filter_tree f) f.at c.args.node is)
     c.family_value.ensures
