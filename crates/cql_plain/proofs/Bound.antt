@@ -1,9 +1,8 @@
 -- Names that are looked up from the innermost on.
-use Rattle.std.proofs.Common.{◌≡◌, ℕ, ◌+◌, ◌-◌, ◌*◌, ◌%◌, ◌^◌, ◌<◌, ◌≤◌, Bool, true, false, ◌&&◌, nat_lt, List, [], ◌∷◌, ◌++◌, length, take, reverse, get_or, refl, sym, ap, ◌∙◌, arith}
+use Rattle.std.proofs.Common.{◌≡◌, ℕ, ◌+◌, ◌*◌, ◌%◌, ◌^◌, ◌<◌, ◌≤◌, true, false, ◌&&◌, nat_lt, List, [], ◌∷◌, length, take, reverse, get_or, sym, ap, ◌∙◌, arith}
 use Rattle.std.specs.Prelude.{◌==◌, if◌then◌else◌}
 use Rattle.std.specs.Str.{bytes_eq}
-use Rattle.std.proofs.lemmas.List.{take_more, take_all, reverse-append}
-use Rattle.cq_position.specs.Bitboards.{IsBitboard}
+use Rattle.std.proofs.lemmas.List.{take_more, reverse-append}
 use Rattle.cq_position.proofs.Marked.{marks_one, marks_same}
 use Rattle.cq_symmetry.specs.Images.{is_in}
 use Rattle.cql_syntax.specs.Meaning.{Names, is_bound_to}

@@ -11,7 +11,7 @@ use Rattle.cq_symmetry.specs.Mappings.{PlainMapping}
 use Rattle.cq_symmetry.specs.declared.families.Family.{Family}
 use Rattle.cql_syntax.specs.Contexts.{Context}
 use Rattle.cql_syntax.specs.Kinds.{filter_kind}
-use Rattle.cql_syntax.specs.Meaning.{Names, value, values, term_values, fits, fitting, position_at, unary_of}
+use Rattle.cql_syntax.specs.Meaning.{Names, value, values, term_values, fits, position_at, unary_of}
 use Rattle.cql_syntax.specs.Trees.{FilterTree, filter_at, transform, FilterTrees, no_filters, more_filters, with_filter, TermTrees, no_terms, more_terms, with_term}
 use Rattle.cql_syntax.specs.TreeOf.{filter_tree, filter_trees, term_trees}
 use Rattle.cql_syntax.specs.Values.{Value, as_truth, square_of, has, holds, any_of, complement_of, size_of, power_of, light_of, dark_of}

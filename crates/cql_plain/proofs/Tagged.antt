@@ -1,16 +1,16 @@
 -- Texts and numbers in tags.
-use Rattle.std.proofs.Common.{◌≡◌, ℕ, zero, suc, ◌+◌, ◌-◌, ◌*◌, ◌^◌, ◌<◌, ◌≤◌, Bool, true, false, ◌&&◌, List, [], ◌∷◌, length, take, drop, fold, get_or, Option, Some, None, refl, sym, ap, ◌∙◌, arith, nat_le, add-one}
+use Rattle.std.proofs.Common.{◌≡◌, ℕ, zero, suc, ◌+◌, ◌-◌, ◌*◌, ◌^◌, ◌<◌, ◌≤◌, Bool, true, false, List, ◌∷◌, length, take, drop, fold, get_or, Option, Some, None, refl, sym, ap, ◌∙◌, arith, nat_le, add-one}
 use Rattle.std.specs.Option.{is_some}
-use Rattle.std.specs.List.{list_any, list_all, range_with_len}
+use Rattle.std.specs.List.{list_all}
 use Rattle.std.specs.Str.{bytes_eq}
 use Rattle.std.proofs.lemmas.Bool.Decides.{nat_tests}
 use Rattle.std.proofs.lemmas.List.{drop_more, length-take, length-drop, drop_all}
 use Rattle.std.proofs.lemmas.Slice.Eq.{bytes_eq-Decides}
-use Rattle.memchr.specs.Find.{FindsNeedle, OccursAt}
+use Rattle.memchr.specs.Find.{FindsNeedle}
 use Rattle.memchr.proofs.lemmas.MatchLemmas.{OccursAt-part, OccursAt-from_part}
 use Rattle.cql_syntax.specs.Headers.{is_part_of}
 use Rattle.std.specs.Char.{is_ascii_digit}
-use Rattle.cql_plain.proofs.Ranges.{same_truth, left, right, from_range, in_range}
+use Rattle.cql_plain.proofs.Ranges.{left, right, from_range, in_range}
 
 stands_at : (text whole : List ℕ) → ℕ → Bool
 stands_at text whole k = bytes_eq text (take (length text) (drop k whole))

@@ -1,17 +1,17 @@
 -- The way up from a node, its children one by one, and the nodes below it.
-use Rattle.std.proofs.Common.{◌≡◌, ℕ, zero, suc, ◌+◌, ◌-◌, ◌<◌, ◌≤◌, Bool, true, false, ◌&&◌, ◌||◌, nat_lt, nat_eq, List, [], ◌∷◌, ◌++◌, length, cond, Option, Some, None, refl, sym, ap, ap₂, ◌∙◌, subst, arith, inl, inr, append_assoc, append-nil, map, eqb-true, ltb-true as ltb_holds, get_or, take, count_by}
+use Rattle.std.proofs.Common.{◌≡◌, ℕ, zero, suc, ◌+◌, ◌-◌, ◌<◌, ◌≤◌, Bool, true, false, ◌&&◌, ◌||◌, nat_lt, List, [], ◌∷◌, ◌++◌, length, cond, Option, Some, None, refl, sym, ap, ap₂, ◌∙◌, subst, arith, append_assoc, append-nil, map, eqb-true, ltb-true as ltb_holds, get_or, take, count_by}
 use Rattle.std.specs.Prelude.{option_to_list, ◌==◌, IfSome, All, if◌then◌else◌, Contains}
 use Rattle.std.specs.List.{filter, find, range_with_len, list_any}
-use Rattle.std.proofs.lemmas.Bool.{cases_lt, cases_eq, lt-ltb, le-ltb, eq-eqb, ne_eqb, cases_Bool}
+use Rattle.std.proofs.lemmas.Bool.{lt-ltb, le-ltb, eq-eqb, ne_eqb}
 use Rattle.std.proofs.lemmas.List.FromFn.{length-range_with_len, get_or-range_with_len, map-range_with_len_more}
 use Rattle.pgn_tree.proofs.MainLine.{filter_more}
 use Rattle.std.proofs.lemmas.List.Elements.{All-weaker, All-contains_itself, All-filter}
 use Rattle.std.proofs.lemmas.List.Sums.{sum_by_more}
 use Rattle.cq_position.specs.Games.{Node, node_at, way_up, up_from, is_below, is_child_of, is_number, children, first_child, next_sibling, is_later_sibling, is_searched, numbers, searched, IsTree}
-use Rattle.cq_position.specs.Search.{children_in, below_in, begins_variation}
+use Rattle.cq_position.specs.Search.{begins_variation}
 use Rattle.cq_position.proofs.Ancestors.{way_step, way_root, way_head, reaches}
 use Rattle.cq_position.proofs.Trees.{tree_first}
-use Rattle.cql_plain.proofs.Ranges.{left, right, range_last}
+use Rattle.cql_plain.proofs.Ranges.{left, right}
 
 -- the way up from a node that may not be there
 abbrev pub way_from : List Node → Option ℕ → List ℕ

@@ -1,4 +1,4 @@
-use Rattle.std.proofs.Common.{◌≡◌, ◌<◌, ◌^◌, ap, sym, ◌∙◌, arith}
+use Rattle.std.proofs.Common.{◌<◌, ◌^◌, ap, sym, ◌∙◌, arith}
 use Rattle.cql_syntax.specs.Meaning.{value}
 use Rattle.cql_syntax.specs.TreeOf.{filter_tree}
 use Rattle.cql_syntax.specs.Values.{has}

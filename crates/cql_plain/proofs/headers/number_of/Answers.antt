@@ -1,6 +1,6 @@
-use Rattle.std.proofs.Common.{◌≡◌, ◌≤◌, ◌+◌, ◌*◌, get_or, arith, ap, sym, subst}
+use Rattle.std.proofs.Common.{◌+◌, ◌*◌, get_or, arith, sym, subst}
 use Rattle.std.proofs.lemmas.List.{get_or_default}
-use Rattle.cql_plain.proofs.Tagged.{IsNumberSoFar, DigitNext, begins_number, digit_next, number_whole}
+use Rattle.cql_plain.proofs.Tagged.{IsNumberSoFar, begins_number, digit_next, number_whole}
 use Rattle.cql_plain.proofs.headers.number_of.Goals as goal
 
 pub loop-digit-init : goal.loop-digit-init

@@ -1,5 +1,4 @@
-use Rattle.std.proofs.Common.{◌≤◌, ◌<◌, Fits, w32, length, arith, ap, subst, sym}
-use Rattle.std.specs.Prelude.{if◌then◌else◌}
+use Rattle.std.proofs.Common.{◌<◌, length, arith, subst, sym}
 use Rattle.cql_plain.proofs.Ranges.{at_most_one}
 use Rattle.cql_plain.proofs.Ways.{way_length, on_way}
 use Rattle.cql_plain.proofs.walks.depth.Goals as goal

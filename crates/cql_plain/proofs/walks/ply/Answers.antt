@@ -1,5 +1,4 @@
-use Rattle.std.proofs.Common.{◌≤◌, Fits, w32, length, arith, ap}
-use Rattle.std.proofs.Math.Facts.{Fits-of_lt}
+use Rattle.std.proofs.Common.{arith}
 use Rattle.cql_plain.proofs.Ways.{way_length}
 use Rattle.cql_plain.proofs.walks.ply.Goals as goal
 
