@@ -1,0 +1,34 @@
+use Rattle.std.proofs.Common.{◌≡◌, ◌∷◌, take, drop, map, false}
+use Rattle.std.specs.List.{list_any, range_with_len}
+use Rattle.cq_symmetry.specs.Families.{members}
+use Rattle.cq_symmetry.specs.Images.{is_in}
+use Rattle.cql_syntax.specs.TreeOf.{filter_tree, filter_trees, term_trees}
+use Rattle.cql_syntax.specs.Meaning as meaning
+use Rattle.cql_syntax.specs.Values as spec
+use Rattle.cql_plain.specs.Asked.{settles}
+use Rattle.cql_plain.specs.Members.{values_in_members}
+use Rattle.cql_plain.specs.Shown.{meant, terms_meant}
+use Rattle.cql_plain.specs.Trees.{searched_tree}
+use Rattle.cql_plain.proofs.evaluate.+evaluate.Given as goal
+
+abbrev pub invariant-values_at-loop-filter : goal.invariant-values_at-loop-filter
+invariant-values_at-loop-filter l =
+    map meant l.values.items ≡ meaning.values (searched_tree l.game l.variations) l.context l.names (filter_trees (take l.filter-index l.filter-items)) l.node
+
+abbrev pub invariant-terms_at-loop-term : goal.invariant-terms_at-loop-term
+invariant-terms_at-loop-term l =
+    terms_meant l.values.items ≡ meaning.term_values (searched_tree l.game l.variations) l.context l.names (term_trees (take l.term-index l.term-items)) l.node
+
+abbrev pub invariant-some_node-loop-k : goal.invariant-some_node-loop-k
+invariant-some_node-loop-k l =
+    list_any (λ m. spec.holds (meaning.value (searched_tree l.game l.variations) l.context l.names (filter_tree l.part) m)) (drop l.k l.nodes)
+    ≡ list_any (λ m. spec.holds (meaning.value (searched_tree l.game l.variations) l.context l.names (filter_tree l.part) m)) l.nodes
+
+abbrev pub invariant-square_at-loop-number : goal.invariant-square_at-loop-number
+invariant-square_at-loop-number l =
+    list_any (settles l.every (is_in l.set) (λ s. spec.holds (meaning.value (searched_tree l.game l.variations) l.context ((l.name, s) ∷ l.names) (filter_tree l.asked) l.node)))
+    (range_with_len 0 l.number) ≡ false
+
+abbrev pub invariant-member_values-loop-k : goal.invariant-member_values-loop-k
+invariant-member_values-loop-k l =
+    map meant l.values.items ≡ values_in_members (searched_tree l.game l.variations) l.context l.names (take l.k (members l.family)) (filter_tree l.part) l.node

@@ -1,0 +1,19 @@
+-- What is asked of one square, and what a word makes of one value.
+use Rattle.std.specs.Prelude.{ℕ, Bool, ◌&&◌, not, List, if◌then◌else◌}
+use Rattle.cq_position.specs.declared.men.Man.{Man}
+use Rattle.cql_syntax.specs.Values.{Value, as_truth, holds, complement_of, size_of, power_of, light_of, dark_of}
+use Rattle.cql_syntax.specs.declared.leaves.Unary.{Unary}
+use Rattle.cql_syntax.specs.declared.leaves.Unary.TheVariants.{Complement, Count, Power, Light, Dark}
+
+-- a square of a set settles whether something is asked truly of every square of it, or of some
+abbrev pub settles : Bool → (set asked : ℕ → Bool) → ℕ → Bool
+settles every set asked square = set square && (if every then not (asked square) else asked square)
+
+-- what a word or mark makes of the value of its part at the same node
+abbrev pub of_value : List Man → Unary → Value → Value
+of_value men Complement x = complement_of x
+of_value men Count x = size_of x
+of_value men Power x = power_of men x
+of_value men Light x = light_of x
+of_value men Dark x = dark_of x
+of_value men word x = as_truth (not (holds x))

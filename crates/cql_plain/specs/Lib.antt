@@ -1,0 +1,6 @@
+pub mod Asked
+pub mod Members
+pub mod Names
+pub mod Shown
+pub mod Squares
+pub mod Trees

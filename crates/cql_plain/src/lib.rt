@@ -1,0 +1,23 @@
+//! The written meaning of queries: what a filter gives at a node of a game, member by member of each family and path by path of each
+//! line.
+//!
+//! `cql_syntax/specs/Meaning` has the meaning, `specs/Shown` how values are kept.
+#![tactic(auto)]
+
+pub mod at;
+mod combine;
+mod contexts;
+mod evaluate;
+mod fits;
+mod headers;
+pub mod names;
+mod numbers;
+mod sets;
+#[cfg(test)]
+mod tests;
+mod value;
+mod walks;
+mod words;
+
+pub use at::{holds_at, number_at, set_at};
+pub use names::Names;
