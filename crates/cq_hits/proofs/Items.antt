@@ -21,7 +21,7 @@ use Rattle.cql_syntax.specs.TreeOf.{filter_tree, filter_trees}
 use Rattle.cql_syntax.specs.Trees.{FilterTrees, QueryTree, filter_at, designator}
 use Rattle.cql_syntax.specs.Values.{holds}
 use Rattle.cql_syntax.specs.declared.tree.Filter.{Filter}
-use Rattle.cq_hits.specs.Designators.{is_designator, are_designators}
+use Rattle.cq_hits.specs.Sorts.{is_sort, have_sort}
 use Rattle.cq_hits.specs.Items.{item_holds}
 
 values_each : (tree : SearchedTree) (n : ℕ) (fs : List Filter) → values tree [] [] (filter_trees fs) n ≡ map (λ f. value tree [] [] (filter_tree f) n) fs
@@ -104,53 +104,7 @@ hits_are_inside q game =
     All-filter (is_hit (tree_of q game) q.items) (λ n. n < length game.nodes) (filter (is_searched q.variations game.nodes) (range_with_len 0 (length game.nodes)))
     (All-filter (is_searched q.variations game.nodes) (λ n. n < length game.nodes) (range_with_len 0 (length game.nodes)) (range_is_below (length game.nodes)))
 
--- all of some filters are designators where each is
-pub designators_each : (fs : List Filter) → are_designators (filter_trees fs) ≡ list_all (λ f. is_designator (filter_tree f)) fs
-designators_each [] = refl
-designators_each (f ∷ fs) = ap (λ b. is_designator (filter_tree f) && b) (designators_each fs)
-
-pub designator_at : (fs : List Filter) (items : FilterTrees) (i : ℕ) (d : Filter) → filter_trees fs ≡ items → are_designators items ≡ true → i < length fs
-    → is_designator (filter_tree (get_or fs i d)) ≡ true
-designator_at fs items i d same all inside =
-    AllPass-from_list_all (λ f. is_designator (filter_tree f)) fs (sym (designators_each fs) ∙ ap are_designators same ∙ all) i d inside
-
--- squares of the board, tested one after the other
-
-square_count : length squares ≡ 64
-unfolding squares
-square_count = refl
-
-square_is : (i d : ℕ) → i < 64 → get_or squares i d ≡ i
-unfolding squares
-square_is i d inside = let zero_more : 0 + i ≡ i = omega arith in get_or-range_with_len 0 64 i d inside ∙ zero_more
-
-none_and : (b c : Bool) → c ≡ false → (b && c) ≡ false
-none_and true c is = is
-none_and false c is = refl
-
-pub square_settles : (test : ℕ → Bool) (i : ℕ) → i < 64 → test i ≡ true → list_any (λ s. nat_lt s 64 && test s) squares ≡ true
-square_settles test i inside is =
-    let there : i < length squares = omega (arith, inside, square_count) in
-    let low : nat_lt i 64 ≡ true = lt-ltb i 64 inside in
-    list_any_at (λ s. nat_lt s 64 && test s) squares i 0 there
-    (ap (λ s. nat_lt s 64 && test s) (square_is i 0 inside) ∙ ap (λ b. b && test i) low ∙ is)
-
-pub square_fails : (test : ℕ → Bool) (i : ℕ) → i < 64 → list_any (λ s. nat_lt s 64 && test s) (take i squares) ≡ false → test i ≡ false
-    → list_any (λ s. nat_lt s 64 && test s) (take (i + 1) squares) ≡ false
-square_fails test i inside before is =
-    let there : i < length squares = omega (arith, inside, square_count) in
-    list_any_more (λ s. nat_lt s 64 && test s) squares i 0 there
-    ∙ ap (λ b. b || (nat_lt (get_or squares i 0) 64 && test (get_or squares i 0))) before
-    ∙ ap (λ s. nat_lt s 64 && test s) (square_is i 0 inside)
-    ∙ none_and (nat_lt i 64) (test i) is
-
-pub no_square : (test : ℕ → Bool) (i : ℕ) → 64 ≤ i → list_any (λ s. nat_lt s 64 && test s) (take i squares) ≡ false
-    → list_any (λ s. nat_lt s 64 && test s) squares ≡ false
-no_square test i all none =
-    ap (list_any (λ s. nat_lt s 64 && test s)) (sym (take_all i squares (omega (arith, all, square_count)))) ∙ none
-
--- a designator in the position of a node
-pub designator_holds : (tree : SearchedTree) (n at : ℕ) (d : Designator) (men : List Man) → (position_at tree n).men ≡ men
-    → holds (standing_of men (Some d)) ≡ holds (value tree [] [] (filter_at at (designator d)) n)
-unfolding value designator_image
-designator_holds tree n at d men same = ap (λ men. holds (standing_of men (Some d))) (sym same)
+-- one of some filters is a `sort` where one of them in a row is
+pub sort_in : (fs : List Filter) → have_sort (filter_trees fs) ≡ list_any (λ f. is_sort (filter_tree f)) fs
+sort_in [] = refl
+sort_in (f ∷ fs) = ap (λ b. is_sort (filter_tree f) || b) (sort_in fs)

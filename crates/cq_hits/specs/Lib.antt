@@ -1,2 +1,2 @@
-pub mod Designators
+pub mod Sorts
 pub mod Items

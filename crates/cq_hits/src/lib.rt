@@ -1,8 +1,8 @@
-//! The hits of a query in a game, of queries whose items are all designators.
+//! The hits of a query in a game: the nodes at which all of its items hold, by the plain evaluator.
 #![tactic(auto)]
 
-mod designators;
 mod matching;
+mod sorts;
 
-pub use designators::are_designators;
 pub use matching::hits;
+pub use sorts::have_sort;

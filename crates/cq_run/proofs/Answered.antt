@@ -7,7 +7,7 @@ use Rattle.cql_syntax.specs.Trees.{QueryTree}
 use Rattle.cq_run.specs.declared.status.Status.{Status}
 use Rattle.cq_run.specs.declared.status.Status.TheVariants.{Done, DoneWithRefusals, QueryRefused, WordsRefused, OpenFault, ReadFault, WriteFault, NoMemory, ArchiveTooLong, NotYetRead}
 use Rattle.cq_run.specs.Answer.{Answer, answer_of}
-use Rattle.cq_run.specs.Queries.{has_other}
+use Rattle.cq_run.specs.Queries.{has_sort}
 use Rattle.cq_run.specs.Promise.{SourceView, Sinks, Answering, MayBe, archive_limit, TakesTooMuch, Overruns, Finds, TakesAll, SaysOfAnswer, AnswerPromise, WritesPrefix, IsUnwritten, SinkFailed, IsOneOf, texts_of_answer}
 use Rattle.cq_run.specs.Writing.{AnswersArchive}
 use Rattle.cq_run.proofs.Sinks.{wrote_none, some_failed}
@@ -44,8 +44,8 @@ not_too_long source after told tells few much =
     let long = much.long in
     omega (arith, less, few, long)
 
-others_not : (q : QueryTree) (status : Status) → has_other q ≡ false → has_other q ≡ true → status ≡ NotYetRead
-others_not q status is_none is_some = cc
+sorts_not : (q : QueryTree) (status : Status) → has_sort q ≡ false → has_sort q ≡ true → status ≡ NotYetRead
+sorts_not q status is_none is_some = cc
 
 abbrev pub asked : QueryTree → SourceView → SourceView → Sinks → Answering
 asked q source after sinks = record { query = q; source = source; source_after = after; sinks = sinks }
@@ -54,52 +54,52 @@ nothing_taken : (left : Option (List ℕ)) → Consumes left left []
 nothing_taken None = tt
 nothing_taken (Some bytes) = refl
 
--- a query with an item that is no designator
-pub other : (q : QueryTree) (source : SourceView) (sinks : Sinks) → has_other q ≡ true → IsUnwritten sinks → AnswerPromise NotYetRead (asked q source source sinks)
-other q source sinks others same =
+-- a query with an item `sort`
+pub sorted : (q : QueryTree) (source : SourceView) (sinks : Sinks) → has_sort q ≡ true → IsUnwritten sinks → AnswerPromise NotYetRead (asked q source source sinks)
+sorted q source sinks others same =
     let few : TakesAtMost archive_limit source.left source.left = record { bytes = []; takes = nothing_taken source.left; few = omega arith } in
     record {
       says = (others, refl, same);
       takes = record { bytes = []; takes = nothing_taken source.left; few = omega arith };
-      other_always = λ _. refl;
+      sort_always = λ _. refl;
       too_long_always = λ much. absurd (not_overrun source source few much);
-      complete = λ all. absurd (let unsorted : has_other q ≡ false = all.plain in cc);
+      complete = λ all. absurd (let unsorted : has_sort q ≡ false = all.unsorted in cc);
     }
 
 one_more_most : (left after : Option (List ℕ)) → TakesAtMost archive_limit left after → TakesAtMost (archive_limit + 1) left after
 one_more_most left after few = record { bytes = few.bytes; takes = few.takes; few = let a = few.few in omega (arith, a) }
 
 -- a read that failed
-pub unread : (q : QueryTree) (source after : SourceView) (sinks : Sinks) → has_other q ≡ false → TakesAtMost archive_limit source.left after.left → Rose source.faults after.faults
+pub unread : (q : QueryTree) (source after : SourceView) (sinks : Sinks) → has_sort q ≡ false → TakesAtMost archive_limit source.left after.left → Rose source.faults after.faults
     → IsUnwritten sinks → AnswerPromise ReadFault (asked q source after sinks)
 unread q source after sinks unsorted few rose same = record {
   says = (rose, same);
   takes = one_more_most source.left after.left few;
-  other_always = λ yes. others_not q ReadFault unsorted yes;
+  sort_always = λ yes. sorts_not q ReadFault unsorted yes;
   too_long_always = λ much. absurd (not_overrun source after few much);
   complete = λ all. absurd (all.no_read rose);
 }
 
 -- no memory to read
-pub unremembered : (q : QueryTree) (source after : SourceView) (sinks : Sinks) → has_other q ≡ false → TakesAtMost (archive_limit + 1) source.left after.left → after.faults ≡ source.faults
+pub unremembered : (q : QueryTree) (source after : SourceView) (sinks : Sinks) → has_sort q ≡ false → TakesAtMost (archive_limit + 1) source.left after.left → after.faults ≡ source.faults
     → IsUnwritten sinks → AnswerPromise NoMemory (asked q source after sinks)
 unremembered q source after sinks unsorted few counts same = record {
   says = (inl same, record { source = counts; sinks = wrote_none sinks same });
   takes = few;
-  other_always = λ yes. others_not q NoMemory unsorted yes;
+  sort_always = λ yes. sorts_not q NoMemory unsorted yes;
   too_long_always = λ _. inr (inl refl);
   complete = λ _. inr (inr (inl refl));
 }
 
 -- more than the limit
-pub too_long : (q : QueryTree) (source after : SourceView) (sinks : Sinks) (bytes : List ℕ) → has_other q ≡ false → Consumes source.left after.left bytes → length bytes ≤ archive_limit + 1
+pub too_long : (q : QueryTree) (source after : SourceView) (sinks : Sinks) (bytes : List ℕ) → has_sort q ≡ false → Consumes source.left after.left bytes → length bytes ≤ archive_limit + 1
     → archive_limit < length bytes → after.faults ≡ source.faults → IsUnwritten sinks → AnswerPromise ArchiveTooLong (asked q source after sinks)
 too_long q source after sinks bytes unsorted takes few long counts same =
     let much : TakesTooMuch source after = record { bytes = bytes; takes = takes; long = long } in
     record {
       says = (much, same, record { source = counts; sinks = wrote_none sinks same });
       takes = record { bytes = bytes; takes = takes; few = few };
-      other_always = λ yes. others_not q ArchiveTooLong unsorted yes;
+      sort_always = λ yes. sorts_not q ArchiveTooLong unsorted yes;
       too_long_always = λ _. inl refl;
       complete = λ all. absurd (not_too_long source after all.archive all.tells all.within much);
     }
@@ -107,7 +107,7 @@ too_long q source after sinks bytes unsorted takes few long counts same =
 -- the archive was read, and what was found in it is written as far as it could be
 pub record Answered (q : QueryTree) (source after : SourceView) (sinks : Sinks) (status : Status) : Type 0 where
   pub archive : List ℕ
-  pub plain : has_other q ≡ false
+  pub unsorted : has_sort q ≡ false
   pub takes : Consumes source.left after.left archive
   pub within : length archive ≤ archive_limit
   pub at_end : IsAtEnd after.left
@@ -168,7 +168,7 @@ pub answered_whole : (status : Status) (q : QueryTree) (source after : SourceVie
 answered_whole status q source after sinks answered = record {
   says = says_answered status q source after sinks answered;
   takes = record { bytes = answered.archive; takes = answered.takes; few = let w = answered.within in omega (arith, w) };
-  other_always = λ yes. others_not q status answered.plain yes;
+  sort_always = λ yes. sorts_not q status answered.unsorted yes;
   too_long_always = λ much. absurd (not_overrun source after (record { bytes = answered.archive; takes = answered.takes; few = answered.within }) much);
   complete = λ all. answer_is_one status q source after sinks answered all.no_write;
 }

@@ -19,8 +19,8 @@ use Rattle.cq_run.specs.declared.status.Status.TheVariants.{Done, DoneWithRefusa
 use Rattle.cq_run.specs.declared.words.Mode.{Mode}
 use Rattle.cq_run.specs.declared.words.Mode.TheVariants.{Eval, Check}
 use Rattle.cq_run.specs.Words.{Job, job_of}
-use Rattle.cq_run.specs.Queries.{IsQuery, IsQueryFault, has_other}
-use Rattle.cq_run.specs.Promise.{SourceView, DeskView, Sinks, Call, SaysOfAnswer, NoInputFailed, with_open, Opened, FailsToOpen, IsUnmoved, RefusesWords, RefusesQuery, Evaluates, eval_refused, eval_not_yet, eval_unopened, eval_answered, eval_forgotten, TakesQuery, AcceptsQuery, ForgetsQuery, no_memory_to_open, no_memory_to_read, Checks, check_accepted, check_refused, check_unopened, check_unread, check_forgotten, Does, AnswersItsFault, AsksAll, AsksCheck, AsksOther, Promise, IsOneOf, IsUnwritten, NoWriteFailed, standard_input, query_limit}
+use Rattle.cq_run.specs.Queries.{IsQuery, IsQueryFault, has_sort}
+use Rattle.cq_run.specs.Promise.{SourceView, DeskView, Sinks, Call, SaysOfAnswer, NoInputFailed, with_open, Opened, FailsToOpen, IsUnmoved, RefusesWords, RefusesQuery, Evaluates, eval_refused, eval_not_yet, eval_unopened, eval_answered, eval_forgotten, TakesQuery, AcceptsQuery, ForgetsQuery, no_memory_to_open, no_memory_to_read, Checks, check_accepted, check_refused, check_unopened, check_unread, check_forgotten, Does, AnswersItsFault, AsksAll, AsksCheck, AsksSort, Promise, IsOneOf, IsUnwritten, NoWriteFailed, standard_input, query_limit}
 use Rattle.cq_run.specs.Asked.{AnswersInput, WritesUsage, call_of}
 use Rattle.cq_run.proofs.Sinks.{wrote_none}
 
@@ -195,7 +195,7 @@ faulty_refused one none text fault status call faulty (eval_forgotten is same) =
 accepted_answered : SpellOne → SpellNone → (status : Status) (call : Call) → (words : List (List ℕ)) (asks : AsksAll words call) → Evaluates asks.text status call → IsOneOf status (Done ∷ DoneWithRefusals ∷ NoMemory ∷ [])
 accepted_answered one none status call words asks (eval_refused fault faulty does same) = absurd (no_fault one none asks.text asks.query fault asks.accepted faulty)
 accepted_answered one none status call words asks (eval_not_yet query is other not_yet same unwritten) =
-    absurd (let e : has_other query ≡ false = ap has_other (one_query one asks.text query asks.query is asks.accepted) ∙ asks.plain in cc)
+    absurd (let e : has_sort query ≡ false = ap has_sort (one_query one asks.text query asks.query is asks.accepted) ∙ asks.unsorted in cc)
 accepted_answered one none status call words asks (eval_unopened query is plain is_open fails) = absurd (asks.nothing_rose.opens fails.rose)
 accepted_answered one none status call words asks (eval_forgotten is same) = inr (inr (inl is))
 accepted_answered one none status call words asks (eval_answered query is plain does) =
@@ -204,20 +204,20 @@ accepted_answered one none status call words asks (eval_answered query is plain 
       archive = bytes_of asks.told.files standard_input;
       tells = does.opened.bytes asks.told asks.tells;
       within = asks.within;
-      plain = ap has_other same ∙ asks.plain;
+      unsorted = ap has_sort same ∙ asks.unsorted;
       no_read = λ rose. asks.nothing_rose.reads (subst (λ n. Rose n call.desk_after.file.faults) does.opened.faults rose);
       no_write = asks.nothing_rose.writes;
     })
 
--- a query with an item that is no designator is not answered yet
-other_not_yet : SpellOne → SpellNone → (status : Status) (call : Call) → (words : List (List ℕ)) (asks : AsksOther words) → Evaluates asks.text status call → IsOneOf status (NotYetRead ∷ NoMemory ∷ [])
-other_not_yet one none status call words asks (eval_refused fault faulty does same) = absurd (no_fault one none asks.text asks.query fault asks.accepted faulty)
-other_not_yet one none status call words asks (eval_not_yet query is other not_yet same unwritten) = inl not_yet
-other_not_yet one none status call words asks (eval_unopened query is plain is_open fails) =
-    absurd (let e : has_other query ≡ true = ap has_other (one_query one asks.text query asks.query is asks.accepted) ∙ asks.other in cc)
-other_not_yet one none status call words asks (eval_answered query is plain does) =
-    absurd (let e : has_other query ≡ true = ap has_other (one_query one asks.text query asks.query is asks.accepted) ∙ asks.other in cc)
-other_not_yet one none status call words asks (eval_forgotten is same) = inr (inl is)
+-- a query with an item `sort` is not answered yet
+sort_not_yet : SpellOne → SpellNone → (status : Status) (call : Call) → (words : List (List ℕ)) (asks : AsksSort words) → Evaluates asks.text status call → IsOneOf status (NotYetRead ∷ NoMemory ∷ [])
+sort_not_yet one none status call words asks (eval_refused fault faulty does same) = absurd (no_fault one none asks.text asks.query fault asks.accepted faulty)
+sort_not_yet one none status call words asks (eval_not_yet query is other not_yet same unwritten) = inl not_yet
+sort_not_yet one none status call words asks (eval_unopened query is plain is_open fails) =
+    absurd (let e : has_sort query ≡ true = ap has_sort (one_query one asks.text query asks.query is asks.accepted) ∙ asks.sorted in cc)
+sort_not_yet one none status call words asks (eval_answered query is plain does) =
+    absurd (let e : has_sort query ≡ true = ap has_sort (one_query one asks.text query asks.query is asks.accepted) ∙ asks.sorted in cc)
+sort_not_yet one none status call words asks (eval_forgotten is same) = inr (inl is)
 
 -- What is taken of a file: all of it, or one byte more than the limit.
 
@@ -278,7 +278,7 @@ pub words_promised : (words : List (List ℕ)) (status : Status) (call : Call) �
 words_promised words status call none does = record {
   does = subst (λ job. Does job status call) (sym none) does;
   faults = words_faults status call does;
-  other_always = λ asks. absurd (let a = asks.job in cc);
+  sort_always = λ asks. absurd (let a = asks.job in cc);
   refused_always = λ asks. absurd (let a = asks.job in cc);
   check_refused_always = λ text fault asks faulty. absurd (let a = asks.job in cc);
   check_accepted_always = λ text query asks accepted. absurd (let a = asks.job in cc);
@@ -303,7 +303,7 @@ pub eval_promised : SpellOne → SpellNone → (words : List (List ℕ)) (status
 eval_promised one none words status call text job does = record {
   does = subst (λ job. Does job status call) (sym job) does;
   faults = evaluates_faults text status call does;
-  other_always = λ asks. other_not_yet one none status call words asks (subst (λ t. Evaluates t status call) (same_text words text asks.text job asks.job) does);
+  sort_always = λ asks. sort_not_yet one none status call words asks (subst (λ t. Evaluates t status call) (same_text words text asks.text job asks.job) does);
   refused_always = λ asks. faulty_refused one none text asks.fault status call
       (subst (λ t. IsQueryFault t asks.fault) (same_text words asks.text text asks.job job) asks.faulty) does;
   check_refused_always = λ found fault asks faulty. absurd (one_mode words asks.name text asks.job job);
@@ -318,7 +318,7 @@ pub check_promised : SpellOne → SpellNone → (words : List (List ℕ)) (statu
 check_promised one none words status call name job does = record {
   does = subst (λ job. Does job status call) (sym job) does;
   faults = checks_faults name status call does;
-  other_always = λ asks. absurd (one_mode words name asks.text job asks.job);
+  sort_always = λ asks. absurd (one_mode words name asks.text job asks.job);
   refused_always = λ asks. absurd (one_mode words name asks.text job asks.job);
   check_refused_always = λ text fault asks faulty. faulty_checked one none words status call text fault asks faulty
       (subst (λ n. Checks n status call) (same_name words name asks.name job asks.job) does);
@@ -373,7 +373,7 @@ usage_refuses NoMemory desk sinks wrote = absurd wrote
 usage_refuses ArchiveTooLong desk sinks wrote = absurd wrote
 usage_refuses NotYetRead desk sinks wrote = absurd wrote
 
-pub input_answered : (text : List ℕ) (query : QueryTree) (status : Status) (call : Call) → IsQuery text query → has_other query ≡ false → AnswersInput query status call
+pub input_answered : (text : List ℕ) (query : QueryTree) (status : Status) (call : Call) → IsQuery text query → has_sort query ≡ false → AnswersInput query status call
     → Evaluates text status call
 input_answered text query status call is plain (inl does) = eval_answered query is plain does
 input_answered text query status call is plain (inr (inl fails)) = eval_unopened query is plain fails.0 fails.1

@@ -12,7 +12,7 @@ use Rattle.cq_run.specs.declared.status.Status.TheVariants.{Done, DoneWithRefusa
 use Rattle.cq_run.specs.declared.words.Mode.{Mode}
 use Rattle.cq_run.specs.declared.words.Mode.TheVariants.{Eval, Check}
 use Rattle.cq_run.specs.Words.{Job, job_of, usage_line}
-use Rattle.cq_run.specs.Queries.{IsQuery, IsQueryFault, query_line, has_other}
+use Rattle.cq_run.specs.Queries.{IsQuery, IsQueryFault, query_line, has_sort}
 use Rattle.cq_run.specs.Outcomes.{Outcome, HasGames}
 use Rattle.cq_run.specs.Answer.{Answer, answer_of, report_of}
 
@@ -154,15 +154,15 @@ SaysOfAnswer ReadFault call = Rose call.source.faults call.source_after.faults �
 SaysOfAnswer WriteFault call = OneSinkFailed call.sinks × (call.source_after.faults ≡ call.source.faults) × Stops call
 SaysOfAnswer NoMemory call = (IsUnwritten call.sinks ⊎ Stops call) × NothingFails call
 SaysOfAnswer ArchiveTooLong call = TakesTooMuch call.source call.source_after × IsUnwritten call.sinks × NothingFails call
-SaysOfAnswer NotYetRead call = (has_other call.query ≡ true) × (call.source_after ≡ call.source) × IsUnwritten call.sinks
+SaysOfAnswer NotYetRead call = (has_sort call.query ≡ true) × (call.source_after ≡ call.source) × IsUnwritten call.sinks
 SaysOfAnswer _ call = ⊥
 
--- an archive within the limit, a query of designators alone, and no count that rose
+-- an archive within the limit, a query without an item `sort`, and no count that rose
 pub record AnswersAll (call : Answering) : Type 0 where
   pub archive : List ℕ
   pub tells : call.source.left ≡ Some archive
   pub within : length archive ≤ archive_limit
-  pub plain : has_other call.query ≡ false
+  pub unsorted : has_sort call.query ≡ false
   pub no_read : Rose call.source.faults call.source_after.faults → ⊥
   pub no_write : SinkFailed call.sinks → ⊥
 
@@ -170,7 +170,7 @@ pub record AnswersAll (call : Answering) : Type 0 where
 pub record AnswerPromise (status : Status) (call : Answering) : Type 0 where
   pub says : SaysOfAnswer status call
   pub takes : TakesAtMost (archive_limit + 1) call.source.left call.source_after.left
-  pub other_always : has_other call.query ≡ true → status ≡ NotYetRead
+  pub sort_always : has_sort call.query ≡ true → status ≡ NotYetRead
   pub too_long_always : Overruns call.source call.source_after → IsOneOf status (ArchiveTooLong ∷ NoMemory ∷ [])
   pub complete : AnswersAll call → IsOneOf status (Done ∷ DoneWithRefusals ∷ NoMemory ∷ [])
 
@@ -248,16 +248,16 @@ pub record AnswersOpened (query : QueryTree) (status : Status) (call : Call) : T
   pub opened : Opened standard_input call.desk call.desk_after archive
   pub answers : AnswerPromise status (record { query = query; source = archive; source_after = call.desk_after.file; sinks = call.sinks })
 
--- Words `eval TEXT`: before any file is opened, a faulty query is refused, and one with an item that is no designator is not answered yet;
--- any other is answered over the archive.
+-- Words `eval TEXT`: before any file is opened, a faulty query is refused, and one with an item `sort` is not answered yet; any other
+-- is answered over the archive.
 pub data Evaluates (text : List ℕ) (status : Status) (call : Call) : Type 0 where
   eval_refused : (fault : QueryFault) → IsQueryFault text fault → RefusesQuery fault status call.sinks
       → call.desk_after ≡ call.desk → Evaluates text status call
-  eval_not_yet : (query : QueryTree) → IsQuery text query → has_other query ≡ true → status ≡ NotYetRead
+  eval_not_yet : (query : QueryTree) → IsQuery text query → has_sort query ≡ true → status ≡ NotYetRead
       → call.desk_after ≡ call.desk → IsUnwritten call.sinks → Evaluates text status call
-  eval_unopened : (query : QueryTree) → IsQuery text query → has_other query ≡ false → status ≡ OpenFault
+  eval_unopened : (query : QueryTree) → IsQuery text query → has_sort query ≡ false → status ≡ OpenFault
       → FailsToOpen call → Evaluates text status call
-  eval_answered : (query : QueryTree) → IsQuery text query → has_other query ≡ false
+  eval_answered : (query : QueryTree) → IsQuery text query → has_sort query ≡ false
       → AnswersOpened query status call → Evaluates text status call
   eval_forgotten : status ≡ NoMemory → IsUnmoved call → Evaluates text status call
 
@@ -330,13 +330,13 @@ pub record NothingRose (call : Call) : Type 0 where
   pub reads : Rose call.desk.file.faults call.desk_after.file.faults → ⊥
   pub writes : SinkFailed call.sinks → ⊥
 
--- words `eval TEXT` with an accepted query of designators alone, and an archive that is told and within the limit
+-- words `eval TEXT` with an accepted query without an item `sort`, and an archive that is told and within the limit
 pub record AsksAll (words : List (List ℕ)) (call : Call) : Type 0 where
   pub text : List ℕ
   pub job : job_of words ≡ Some (record { mode = Eval; word = text })
   pub query : QueryTree
   pub accepted : IsQuery text query
-  pub plain : has_other query ≡ false
+  pub unsorted : has_sort query ≡ false
   pub told : Told
   pub tells : call.desk.told ≡ Some told
   pub within : length (bytes_of told.files standard_input) ≤ archive_limit
@@ -360,20 +360,20 @@ pub record AsksCheck (words : List (List ℕ)) (call : Call) (text : List ℕ) :
   pub opens : Rose call.desk.open_faults call.desk_after.open_faults → ⊥
   pub reads : Rose call.desk.file.faults call.desk_after.file.faults → ⊥
 
--- words `eval TEXT` with an accepted query of which an item is no designator
-pub record AsksOther (words : List (List ℕ)) : Type 0 where
+-- words `eval TEXT` with an accepted query of which an item is a `sort`
+pub record AsksSort (words : List (List ℕ)) : Type 0 where
   pub text : List ℕ
   pub job : job_of words ≡ Some (record { mode = Eval; word = text })
   pub query : QueryTree
   pub accepted : IsQuery text query
-  pub other : has_other query ≡ true
+  pub sorted : has_sort query ≡ true
 
 -- What `run` promises of its status: what was done, by what the words ask, that a count that rose is answered by its own fault,
 -- and when an answer always comes.
 pub record Promise (words : List (List ℕ)) (status : Status) (call : Call) : Type 0 where
   pub does : Does (job_of words) status call
   pub faults : AnswersItsFault status call
-  pub other_always : AsksOther words → IsOneOf status (NotYetRead ∷ NoMemory ∷ [])
+  pub sort_always : AsksSort words → IsOneOf status (NotYetRead ∷ NoMemory ∷ [])
   pub refused_always : AsksFaulty words → IsOneOf status (QueryRefused ∷ WriteFault ∷ NoMemory ∷ [])
   pub check_refused_always : (text : List ℕ) (fault : QueryFault) → AsksCheck words call text → IsQueryFault text fault
       → IsOneOf status (QueryRefused ∷ WriteFault ∷ NoMemory ∷ [])

@@ -1,5 +1,5 @@
 -- The query that a text is, or its fault, and the line that tells it.
-use Rattle.std.specs.Prelude.{◌≡◌, ◌⊎◌, ℕ, Bool, not, List, ◌++◌, None, Some, Ok, Err, codes, decimal}
+use Rattle.std.specs.Prelude.{◌≡◌, ◌⊎◌, ℕ, Bool, List, ◌++◌, None, Some, Ok, Err, codes, decimal}
 use Rattle.cql_syntax.specs.Trees.{QueryTree}
 use Rattle.cql_syntax.specs.TreeFaults.{tree_fault}
 use Rattle.cql_syntax.specs.declared.fault.QueryFault.{QueryFault}
@@ -8,7 +8,7 @@ use Rattle.cql_syntax.specs.declared.fault.QueryReason.TheVariants.{BadByte, Unc
 use Rattle.cql_syntax.specs.declared.leaves.Kind.{Kind}
 use Rattle.cql_syntax.specs.declared.leaves.Kind.TheVariants.{Position, Set, Number}
 use Rattle.cql_syntax.specs.declared.token.QueryToken.{QueryToken}
-use Rattle.cq_hits.specs.Designators.{are_designators}
+use Rattle.cq_hits.specs.Sorts.{have_sort}
 use Rattle.cql_lexer.specs.Tokens.{tokens_of}
 use Rattle.cql_parser.specs.Drafts.{Spells}
 use Rattle.cql_parser.specs.Faults.{IsFault}
@@ -39,9 +39,9 @@ pub record HasTreeFault (text : List ℕ) (fault : QueryFault) : Type 0 where
 abbrev pub IsQueryFault : List ℕ → QueryFault → Type 0
 IsQueryFault text fault = (tokens_of text ≡ Err fault) ⊎ HasParseFault text fault ⊎ HasTreeFault text fault
 
--- a query with an item that is no designator, which is not answered yet
-abbrev pub has_other : QueryTree → Bool
-has_other query = not (are_designators query.items)
+-- a query with an item `sort`, which is not answered yet
+abbrev pub has_sort : QueryTree → Bool
+has_sort query = have_sort query.items
 
 abbrev pub kind_text : Kind → List ℕ
 kind_text Position = codes "position"

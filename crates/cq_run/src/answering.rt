@@ -1,12 +1,12 @@
 //! Answering a query over an archive that is open.
-ghost use Rattle.std.specs.Prelude.{◌≤◌, ◌≡◌, not};
+ghost use Rattle.std.specs.Prelude.{◌≤◌, ◌≡◌};
 ghost use Rattle.cql_syntax.specs.TreeOf.{query_tree, filters_tree};
 ghost use Rattle.cq_run.specs.Promise.{AnswerPromise, source_view, sink_view, sinks_of};
-ghost use Rattle.cq_hits.specs.Designators.{are_designators as all_designators};
+ghost use Rattle.cq_hits.specs.Sorts.{have_sort as some_sort};
 
 use crate::games::answer_archive;
 use crate::status::Status;
-use cq_hits::are_designators;
+use cq_hits::have_sort;
 use cq_outside::{Gate, Refusal, Sink, Source, read_up_to};
 use cql_syntax::{Filters, TypedQuery};
 use std::alloc::Global;
@@ -25,7 +25,7 @@ const ARCHIVE_LIMIT: usize = 1 << 30;
 /// - `WriteFault`: the count of one sink rose, and no other; each sink has taken a prefix of its text.
 /// - `NoMemory`: no memory was found, and no count rose; each sink has taken a prefix of its text.
 /// - `ArchiveTooLong`: more than 2^30 bytes were taken; nothing is written.
-/// - `NotYetRead`: an item of the query is no designator, and nothing is read or written.
+/// - `NotYetRead`: an item of the query is a `sort`, and nothing is read or written.
 pub fn answer<R: Threads + Sync, S: Source, O: Sink, E: Sink, G: Gate + Sync>(
     _rt: &R,
     alloc: Global,
@@ -46,7 +46,7 @@ pub fn answer<R: Threads + Sync, S: Source, O: Sink, E: Sink, G: Gate + Sync>(
     }) }
     ensures next { S.follows source.old source.new }
 {
-    if has_other(&query.query.items) {
+    if has_sort(&query.query.items) {
         return Status::NotYetRead;
     }
     let archive = match read_up_to(source, alloc, ARCHIVE_LIMIT) {
@@ -60,9 +60,9 @@ pub fn answer<R: Threads + Sync, S: Source, O: Sink, E: Sink, G: Gate + Sync>(
     answer_archive(alloc, query, archive.as_slice(), out, err)
 }
 
-/// Whether an item is no designator.
-pub fn has_other(items: &Filters) -> bool
-    ensures { result ≡ not (all_designators (filters_tree items.now)) }
+/// Whether an item is a `sort`.
+pub fn has_sort(items: &Filters) -> bool
+    ensures { result ≡ some_sort (filters_tree items.now) }
 {
-    !are_designators(items)
+    have_sort(items)
 }

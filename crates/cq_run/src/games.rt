@@ -1,6 +1,5 @@
 //! Answering a query over an archive: each export and each line is written as its game is answered.
 ghost use Rattle.std.specs.Prelude.{◌≡◌, ◌+◌, ◌<◌, ◌≤◌, ◌^◌, Ok, Err, true, length, All, AllPairs, IfOk};
-ghost use Rattle.cq_hits.specs.Designators.{are_designators};
 ghost use Rattle.cq_annotate.specs.Marking.{game_marked};
 ghost use Rattle.pgn_export.specs.Export.{export_text};
 ghost use Rattle.cql_syntax.specs.Hits.{marks};
@@ -37,7 +36,6 @@ pub fn answer_archive<O: Sink, E: Sink>(
     err: &mut E,
 ) -> Status
     requires size { length archive.now ≤ 2 ^ 30 }
-    requires designators { are_designators (query_tree query.now.query).items ≡ true }
     ensures { AnswersArchive (query_tree query.now.query) archive.now
         (sinks_of (sink_view O.taken O.faults out.old) (sink_view O.taken O.faults out.new)
         (sink_view E.taken E.faults err.old) (sink_view E.taken E.faults err.new)) result }
@@ -86,7 +84,6 @@ fn answer_game<O: Sink, E: Sink>(
     out: &mut O,
     err: &mut E,
 ) -> Result<(), Refusal<Failed>>
-    requires designators { are_designators (query_tree query.now.query).items ≡ true }
     requires within { EndsBy (length archive.now) game }
     requires size { length archive.now ≤ 2 ^ 30 }
     requires one { IsGameIn archive.now game }
@@ -113,7 +110,6 @@ fn write_match<O: Sink>(
     tally: &mut Tally,
     out: &mut O,
 ) -> Result<(), Refusal<Failed>>
-    requires designators { are_designators (query_tree query.now.query).items ≡ true }
     requires games { tally.old.games < 2 ^ 63 }
     requires matched { tally.old.matched ≤ tally.old.games }
     ensures { (err : SinkView) → AnswersGame (query_tree query.now.query) (λ outcome. outcome ≡ Ok game) tally.old tally.new

@@ -23,7 +23,7 @@ pub enum Status {
     NoMemory,
     /// The archive has more than 2^30 bytes.
     ArchiveTooLong,
-    /// The query has an item that is no designator, which this version does not answer.
+    /// The query has an item `sort`, which this version does not answer.
     NotYetRead,
 }
 

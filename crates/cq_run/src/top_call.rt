@@ -5,7 +5,7 @@ ghost use Rattle.cql_syntax.specs.TreeOf.{query_tree};
 ghost use Rattle.cq_run.specs.Asked.{AnswersInput, WritesUsage, call_of};
 ghost use Rattle.cq_run.specs.Promise.{Promise, Evaluates, Checks, SinkView, desk_view, sink_view, sinks_of};
 
-use crate::answering::{answer, has_other};
+use crate::answering::{answer, has_sort};
 use crate::asked::{accept, read_query, refuse};
 use crate::status::Status;
 use crate::words::{Mode, USAGE, job_of};
@@ -38,7 +38,7 @@ const WORKERS: u32 = 4;
 /// - `WriteFault`: the count of one sink rose, and no other. Each sink has taken a prefix of its text.
 /// - `NoMemory`: no memory was found, and no count rose; each sink has taken a prefix of its text.
 /// - `ArchiveTooLong`: more than 2^30 bytes of the archive were taken; nothing is written.
-/// - `NotYetRead`: an item of the query of `eval` is no designator; no file is opened and nothing is written.
+/// - `NotYetRead`: an item of the query of `eval` is a `sort`; no file is opened and nothing is written.
 ///
 /// In all the others no count rose. The clause `Promise` says each of these exactly, and when an answer always comes; the
 /// table of statuses in README says what the program's user sees of it.
@@ -96,7 +96,7 @@ fn evaluate<R: Threads + Sync, D: Desk, O: Sink, E: Sink, G: Gate + Sync>(
         Err(Refusal::Fault(fault)) => return refuse(alloc, &fault, err),
         Err(Refusal::NoMemory) => return Status::NoMemory,
     };
-    if has_other(&query.query.items) {
+    if has_sort(&query.query.items) {
         return Status::NotYetRead;
     }
     answer_standard_input(rt, alloc, &query, desk, out, err, gate)

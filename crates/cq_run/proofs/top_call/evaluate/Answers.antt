@@ -10,11 +10,11 @@ returns-in-Err-Fault g c =
     let faulty = rw is at c.read_query.ensures in
     eval_refused c.in-Err-Fault.fault faulty (c.refuse.ensures (sink_view g.O.Sink.taken g.O.Sink.faults c.args.out.now)) refl
 
-pub returns-then-has_other : goal.returns-then-has_other
-returns-then-has_other g c =
-    eval_not_yet (query_tree c.in-Ok.query.query) c.in-Ok.ensures (sym c.has_other.ensures ∙ c.if-has_other.true) refl refl (record { out = refl; err = refl })
+pub returns-then-has_sort : goal.returns-then-has_sort
+returns-then-has_sort g c =
+    eval_not_yet (query_tree c.in-Ok.query.query) c.in-Ok.ensures (sym c.has_sort.ensures ∙ c.if-has_sort.true) refl refl (record { out = refl; err = refl })
 
 pub returns : goal.returns
 returns g c =
-    input_answered c.args.text.now (query_tree c.in-Ok.query.query) c.answer_standard_input.result _ c.in-Ok.ensures (sym c.has_other.ensures ∙ c.if-has_other.false)
+    input_answered c.args.text.now (query_tree c.in-Ok.query.query) c.answer_standard_input.result _ c.in-Ok.ensures (sym c.has_sort.ensures ∙ c.if-has_sort.false)
     c.answer_standard_input.ensures
