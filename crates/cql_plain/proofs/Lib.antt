@@ -3,6 +3,7 @@ pub mod Evaluated
 pub mod Filling
 pub mod Masks
 pub mod Mates
+pub mod PatternEnds
 pub mod Ranges
 pub mod Reaching
 pub mod Reversed

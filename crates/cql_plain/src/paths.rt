@@ -1,5 +1,5 @@
 //! The nodes that the paths from a node reach.
-ghost use Rattle.std.specs.Prelude.{◌≡◌, ◌<◌, ◌≤◌, ◌+◌, length, get_or, ℕ, true, false, IfOk, IfSome, None, option_map, pos};
+ghost use Rattle.std.specs.Prelude.{◌≡◌, ◌<◌, ◌≤◌, ◌+◌, length, get_or, replicate, ℕ, true, false, IfOk, IfSome, None, option_map, pos};
 ghost use Rattle.cq_position.specs.Games.{IsTree};
 ghost use Rattle.cql_syntax.specs.Meaning as meaning;
 ghost use Rattle.cql_syntax.specs.Values.{as_number};
@@ -103,7 +103,7 @@ fn paths_up(
     requires node { n < length game.now.nodes }
     ensures { IfOk result (λ steps. ArePaths (searched_tree game.now variations) true primary n steps.items) }
 {
-    let mut steps = vec![in alloc; None; game.len() as usize]?;
+    let mut steps = unreached(alloc, game.len())?;
     let mut next = Some(n);
     let mut reached = Reached {
         before: 0,
@@ -116,6 +116,17 @@ fn paths_up(
             length: reached.length + 1,
         };
         next = above(game, primary, k);
+    }
+    Ok(steps)
+}
+
+// Nodes of which none is reached yet.
+fn unreached(alloc: Global, nodes: u32) -> Result<Vec<Option<Reached>>, NoMemory>
+    ensures { IfOk result (λ steps. steps.items ≡ replicate nodes None) }
+{
+    let mut steps = Vec::new(alloc);
+    for _k in 0..nodes {
+        steps.push(None)?;
     }
     Ok(steps)
 }

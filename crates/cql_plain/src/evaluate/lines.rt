@@ -38,7 +38,7 @@ pub(super) fn line_at(
     ensures { IfOk result (λ v. meant v ≡ meaning.line_value (searched_tree game.now variations) context.now names.now (line_tree line.now) node) }
 {
     let steps = paths_from(alloc, game, variations, line.back, line.primary, node)?;
-    let starts = only_first(alloc, steps.len())?;
+    let starts = only_first(alloc, game.len() as usize)?;
     let parts = &line.parts;
     let ends = parts_ends(
         alloc, parts, steps.as_slice(), starts.as_slice(), game, variations, context, names,
