@@ -1,20 +1,27 @@
 -- One more value of a list of filters, of the terms of a sum, or of the members of a family; and squares that settle what is asked.
 use Rattle.std.proofs.Common.{◌≡◌, ℕ, zero, suc, ◌+◌, ◌<◌, Bool, true, false, not, ◌&&◌, ◌||◌, List, [], ◌∷◌, ◌++◌, map, take, length, get_or, refl, sym, ap, ◌∙◌, Some, None, add-one, cond}
 use Rattle.std.specs.Prelude.{slice_get, if◌then◌else◌, option_to_list, option_map, Option}
-use Rattle.std.specs.List.{filter, list_any, list_all}
+use Rattle.std.specs.List.{filter, list_any, list_all, range_with_len}
 use Rattle.std.proofs.lemmas.List.{append-nil}
 use Rattle.cq_geometry.specs.Squares.{squares}
 use Rattle.cq_position.specs.Search.{SearchedTree}
+use Rattle.cq_symmetry.specs.Families.{members}
+use Rattle.cq_symmetry.specs.Images.{is_in}
 use Rattle.cq_symmetry.specs.Mappings.{PlainMapping}
+use Rattle.cq_symmetry.specs.declared.families.Family.{Family}
 use Rattle.cql_syntax.specs.Contexts.{Context}
-use Rattle.cql_syntax.specs.Meaning.{Names, value, values, term_values, fits, fitting}
-use Rattle.cql_syntax.specs.Trees.{FilterTree, FilterTrees, no_filters, more_filters, with_filter, TermTrees, no_terms, more_terms, with_term}
+use Rattle.cql_syntax.specs.Kinds.{filter_kind}
+use Rattle.cql_syntax.specs.Meaning.{Names, value, values, term_values, fits, position_at, unary_of}
+use Rattle.cql_syntax.specs.Trees.{FilterTree, filter_at, transform, FilterTrees, no_filters, more_filters, with_filter, TermTrees, no_terms, more_terms, with_term}
 use Rattle.cql_syntax.specs.TreeOf.{filter_tree, filter_trees, term_trees}
-use Rattle.cql_syntax.specs.Values.{Value, as_truth, square_of, has}
+use Rattle.cql_syntax.specs.Values.{Value, as_truth, square_of, has, holds, any_of, complement_of, size_of, power_of, light_of, dark_of}
+use Rattle.cql_syntax.specs.declared.leaves.Unary.{Unary}
+use Rattle.cql_syntax.specs.declared.leaves.Unary.TheVariants.{Not, Complement, Count, Power, Light, Dark, Find, FindUp, Child, Parent}
 use Rattle.cql_syntax.specs.declared.tree.Filter.{Filter}
 use Rattle.cql_syntax.specs.declared.tree.Term.{Term}
 use Rattle.cql_syntax.proofs.Lists.{filter_trees_more, term_trees_more}
-use Rattle.cql_plain.specs.Asked.{settles}
+use Rattle.cql_plain.proofs.Ranges.{any_last, some_square}
+use Rattle.cql_plain.specs.Asked.{settles, of_value}
 use Rattle.cql_plain.specs.Members.{value_in_member, values_in_members}
 use Rattle.cql_plain.specs.Shown.{meant, terms_meant}
 use Rattle.cql_plain.specs.declared.value.Value.{Value as Kept}
@@ -115,3 +122,35 @@ by_settling false x asked found e = ap as_truth (some_kept (has x) asked squares
     same : (b : Bool) → b ≡ (if b then not false else false)
     same true = refl
     same false = refl
+
+-- one square settles it, and none so far does
+pub settled : (every : Bool) (x : Value) (asked : ℕ → Bool) (set s : ℕ) → has x ≡ is_in set → s < 64 → settles every (is_in set) asked s ≡ true → as_truth (not every) ≡ square_of every x asked
+settled every x asked set s is low e =
+    sym (by_settling every x asked true (sym (ap (λ h. list_any (settles every h asked) squares) is ∙ some_square (settles every (is_in set) asked) s low e)))
+
+pub never_settled : (every : Bool) (x : Value) (asked : ℕ → Bool) (set n : ℕ) → has x ≡ is_in set → n ≡ 64 → list_any (settles every (is_in set) asked) (range_with_len 0 n) ≡ false → as_truth every ≡ square_of every x asked
+unfolding squares
+never_settled every x asked set n is end e =
+    sym (by_settling every x asked false (sym (ap (λ h. list_any (settles every h asked) (range_with_len 0 64)) is ∙ ap (λ k. list_any (settles every (is_in set) asked) (range_with_len 0 k)) (sym end) ∙ e)))
+
+pub none_more : (test : ℕ → Bool) (n : ℕ) (b : Bool) → b ≡ test n → b ≡ false → list_any test (range_with_len 0 n) ≡ false → list_any test (range_with_len 0 (n + 1)) ≡ false
+none_more test n b is fails had = any_last test n ∙ ap (λ t. t || test n) had ∙ sym is ∙ fails
+
+-- a family's filter, and a word before a part
+pub family_is : (tree : SearchedTree) (g : Context) (e : Names) (family : Family) (part whole : FilterTree) (at n : ℕ) → whole ≡ filter_at at (transform family part)
+    → any_of (filter_kind part) (values_in_members tree g e (members family) part n) ≡ value tree g e whole n
+unfolding value
+family_is tree g e family part whole at n is = sym (ap (λ w. value tree g e w n) is)
+
+pub word_here : (tree : SearchedTree) (word : Unary) (v : ℕ → Value) (n : ℕ) (x : Value) → (word ≡ Find → ⊥) → (word ≡ FindUp → ⊥) → (word ≡ Child → ⊥) → (word ≡ Parent → ⊥)
+    → x ≡ v n → of_value (position_at tree n).men word x ≡ unary_of tree word v n
+word_here tree Not v n x a b c d is = ap (λ y. as_truth (not (holds y))) is
+word_here tree Complement v n x a b c d is = ap complement_of is
+word_here tree Count v n x a b c d is = ap size_of is
+word_here tree Power v n x a b c d is = ap (power_of (position_at tree n).men) is
+word_here tree Light v n x a b c d is = ap light_of is
+word_here tree Dark v n x a b c d is = ap dark_of is
+word_here tree Find v n x a b c d is = absurd (a refl)
+word_here tree FindUp v n x a b c d is = absurd (b refl)
+word_here tree Child v n x a b c d is = absurd (c refl)
+word_here tree Parent v n x a b c d is = absurd (d refl)

@@ -1,5 +1,5 @@
 -- Sets of squares as numbers of 64 bits.
-use Rattle.std.proofs.Common.{◌≡◌, ℕ, ◌+◌, ◌-◌, ◌*◌, ◌%◌, ◌^◌, ◌<◌, ◌≤◌, Bool, true, false, not, ◌&&◌, ◌||◌, nat_eq, nat_lt, refl, sym, ap, ap₂, ◌∙◌, arith, inl, inr, length, get_or, List, map, take, max, min}
+use Rattle.std.proofs.Common.{◌≡◌, ℕ, ◌+◌, ◌-◌, ◌^◌, ◌<◌, ◌≤◌, Bool, true, false, not, ◌&&◌, ◌||◌, nat_eq, nat_lt, refl, sym, ap, ap₂, ◌∙◌, arith, inl, inr, length, get_or, List, map, take, max, min}
 use Rattle.std.specs.List.{list_any, list_all, range_with_len}
 use Rattle.std.specs.Int.{bit_at, bit_not, w64}
 use Rattle.std.specs.Prelude.{bit_or, bit_and}
@@ -185,8 +185,19 @@ between_here a b mask s low m =
     let t = square_found (to f.k) (right (is_in a f.k) (list_any (to f.k) squares) f.passes) in
     let f_low : f.k < 64 = omega (arith, f.high) in
     let t_low : t.k < 64 = omega (arith, t.high) in
-    bit_in mask s ((m s low).1 (f.k, f_low, (t.k, t_low, (has_bit a f.k (left (is_in a f.k) (list_any (to f.k) squares) f.passes),
-      has_bit b t.k (left (is_in b t.k) (lies_between f.k t.k s) t.passes), right (is_in b t.k) (lies_between f.k t.k s) t.passes)))))
+    bit_in mask s ((m s low).1 (
+      f.k,
+      f_low,
+      (
+        t.k,
+        t_low,
+        (
+          has_bit a f.k (left (is_in a f.k) (list_any (to f.k) squares) f.passes),
+          has_bit b t.k (left (is_in b t.k) (lies_between f.k t.k s) t.passes),
+          right (is_in b t.k) (lies_between f.k t.k s) t.passes,
+        ),
+      ),
+    )))
 
 pub between_is : (a b mask : ℕ) → mask < 2 ^ 64 → IsSetOf mask (IsBetween a b)
     → is_in mask ≡ (λ s. nat_lt s 64 && list_any (λ f. is_in a f && list_any (λ t. is_in b t && lies_between f t s) squares) squares)

@@ -1,5 +1,5 @@
 -- A list that is kept from its end on.
-use Rattle.std.proofs.Common.{◌≡◌, ℕ, ◌+◌, ◌-◌, ◌<◌, List, ◌++◌, length, reverse, take, drop, sym, ap, ◌∙◌, arith}
+use Rattle.std.proofs.Common.{◌≡◌, ℕ, ◌-◌, ◌<◌, List, ◌++◌, length, reverse, take, drop, sym, ap, ◌∙◌, arith}
 use Rattle.std.proofs.lemmas.List.{length-reverse, length-drop, take-append-drop, reverse-append}
 use Rattle.std.proofs.Math.Seq.{drop-append_seam}
 

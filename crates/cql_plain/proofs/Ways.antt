@@ -1,16 +1,17 @@
 -- The way up from a node, its children one by one, and the nodes below it.
-use Rattle.std.proofs.Common.{◌≡◌, ℕ, zero, suc, ◌+◌, ◌-◌, ◌<◌, ◌≤◌, Bool, true, false, ◌&&◌, ◌||◌, nat_lt, nat_eq, List, [], ◌∷◌, ◌++◌, length, cond, Option, Some, None, refl, sym, ap, ap₂, ◌∙◌, subst, arith, inl, inr, append_assoc, append-nil, map, eqb-true, ltb-true as ltb_holds}
-use Rattle.std.specs.Prelude.{◌==◌, IfSome, All, if◌then◌else◌, Contains}
+use Rattle.std.proofs.Common.{◌≡◌, ℕ, zero, suc, ◌+◌, ◌-◌, ◌<◌, ◌≤◌, Bool, true, false, ◌&&◌, ◌||◌, nat_lt, List, [], ◌∷◌, ◌++◌, length, cond, Option, Some, None, refl, sym, ap, ap₂, ◌∙◌, subst, arith, append_assoc, append-nil, map, eqb-true, ltb-true as ltb_holds, get_or, take, count_by}
+use Rattle.std.specs.Prelude.{option_to_list, ◌==◌, IfSome, All, if◌then◌else◌, Contains}
 use Rattle.std.specs.List.{filter, find, range_with_len, list_any}
-use Rattle.std.proofs.lemmas.Bool.{cases_lt, cases_eq, lt-ltb, le-ltb, eq-eqb, ne_eqb, cases_Bool}
+use Rattle.std.proofs.lemmas.Bool.{lt-ltb, le-ltb, eq-eqb, ne_eqb}
 use Rattle.std.proofs.lemmas.List.FromFn.{length-range_with_len, get_or-range_with_len, map-range_with_len_more}
 use Rattle.pgn_tree.proofs.MainLine.{filter_more}
 use Rattle.std.proofs.lemmas.List.Elements.{All-weaker, All-contains_itself, All-filter}
-use Rattle.cq_position.specs.Games.{Node, node_at, way_up, is_below, is_child_of, is_number, children, first_child, next_sibling, is_later_sibling, is_searched, numbers, searched, IsTree}
-use Rattle.cq_position.specs.Search.{children_in, below_in}
+use Rattle.std.proofs.lemmas.List.Sums.{sum_by_more}
+use Rattle.cq_position.specs.Games.{Node, node_at, way_up, up_from, is_below, is_child_of, is_number, children, first_child, next_sibling, is_later_sibling, is_searched, numbers, searched, IsTree}
+use Rattle.cq_position.specs.Search.{begins_variation}
 use Rattle.cq_position.proofs.Ancestors.{way_step, way_root, way_head, reaches}
 use Rattle.cq_position.proofs.Trees.{tree_first}
-use Rattle.cql_plain.proofs.Ranges.{left, range_last}
+use Rattle.cql_plain.proofs.Ranges.{left, right}
 
 -- the way up from a node that may not be there
 abbrev pub way_from : List Node → Option ℕ → List ℕ
@@ -73,7 +74,7 @@ skips : (p : ℕ → Bool) (a n : ℕ) (o : Option ℕ) → p a ≡ false → af
 skips p a n None e = refl
 skips p a n (Some c) e =
     ap (λ l. c ∷ l) (sym (ap (λ b. cond b (a ∷ filter (λ k. nat_lt c k && p k) (range_with_len (a + 1) n)) (filter (λ k. nat_lt c k && p k) (range_with_len (a + 1) n)))
-      (ap (λ b. nat_lt c a && b) e ∙ and_false (nat_lt c a))))
+    (ap (λ b. nat_lt c a && b) e ∙ and_false (nat_lt c a))))
   where
     and_false : (b : Bool) → (b && false) ≡ false
     and_false true = refl
@@ -174,3 +175,84 @@ below_more nodes variations n k flags new_flags found new_found below there is b
 pub within_up : (nodes : List Node) (m : ℕ) (o : Option ℕ) → IsTree nodes → o ≡ (node_at nodes m).parent → m < length nodes → IfSome o (λ p. p < length nodes)
 within_up nodes m None tree is h = tt
 within_up nodes m (Some p) tree is h = let less = (tree_first nodes tree).before m p (sym is) in omega (arith, less, h)
+
+-- how many nodes are on the way up
+up_length : (i : ℕ) (nodes : List Node) (o : Option ℕ) → length (up_from i nodes o) ≤ i
+up_length zero nodes o = omega arith
+up_length (suc i) nodes None = omega arith
+up_length (suc i) nodes (Some n) = let rest = up_length i nodes (node_at nodes n).parent in omega (arith, rest)
+
+pub record HasFew (way : List ℕ) : Type 0 where
+  pub some_ : 1 ≤ length way
+  pub few : length way ≤ 65536
+
+way_few : (nodes : List Node) (n : ℕ) → IsTree nodes → n < length nodes → length (way_up nodes n) ≤ 65536
+unfolding way_up
+way_few nodes n tree h = let most = up_length (n + 1) nodes (Some n) in omega (arith, most, tree.few, h)
+
+pub way_length : (nodes : List Node) (n : ℕ) (way : List ℕ) → IsTree nodes → n < length nodes → way ≡ way_up nodes n → HasFew way
+way_length nodes n way tree h is =
+    let head = ap length (is ∙ way_head nodes (tree_first nodes tree) n) in
+    let few = way_few nodes n tree h in
+    let same = ap length is in
+    record { some_ = omega (arith, head); few = omega (arith, few, same) }
+
+-- what the search for a child finds is one
+find_passes_by : (p : ℕ → Bool) (x c : ℕ) (b : Bool) (rest : Option ℕ) → p x ≡ b → (rest ≡ Some c → p c ≡ true) → cond b (Some x) rest ≡ Some c → p c ≡ true
+find_passes_by p x c true rest is later e = let same : x ≡ c = cc in sym (ap p same) ∙ is
+find_passes_by p x c false rest is later e = later e
+
+find_passes : (p : ℕ → Bool) (xs : List ℕ) (c : ℕ) → find p xs ≡ Some c → p c ≡ true
+find_passes p [] c e = absurd (cc)
+find_passes p (x ∷ xs) c e = find_passes_by p x c (p x) (find p xs) refl (find_passes p xs c) e
+
+number_is : (o : Option ℕ) (n : ℕ) → is_number o n ≡ true → o ≡ Some n
+number_is None n e = cc
+number_is (Some m) n e = ap Some (eqb-true m n e)
+
+pub parent_of_first : (nodes : List Node) (n : ℕ) (o : Option ℕ) → o ≡ first_child nodes n → IfSome o (λ c. (node_at nodes c).parent ≡ Some n)
+unfolding first_child
+parent_of_first nodes n None is = tt
+parent_of_first nodes n (Some c) is = number_is (node_at nodes c).parent n (find_passes (is_child_of nodes n) (numbers nodes) c (sym is))
+
+pub parent_of_next : (nodes : List Node) (n c : ℕ) (o : Option ℕ) → (node_at nodes c).parent ≡ Some n → o ≡ next_sibling nodes c → IfSome o (λ d. (node_at nodes d).parent ≡ Some n)
+unfolding next_sibling
+parent_of_next nodes n c None parent is = tt
+parent_of_next nodes n c (Some d) parent is =
+    let found : find (is_later_sibling nodes (Some n) c) (numbers nodes) ≡ Some d = ap (λ p. find (is_later_sibling nodes p c) (numbers nodes)) (sym parent) ∙ sym is in
+    number_is (node_at nodes d).parent n (right (nat_lt c d) (is_child_of nodes n d) (find_passes (is_later_sibling nodes (Some n) c) (numbers nodes) d found))
+
+pub inside_of : (o : Option ℕ) (k count : ℕ) → IfSome o (λ s. (k < s) × (s < count)) → IfSome o (λ s. s < count)
+inside_of None k count h = tt
+inside_of (Some s) k count h = h.1
+
+-- one child more, where it is searched
+kept_one : (b : Bool) (c : ℕ) (found rest : List ℕ) → (found ++ (if b then c ∷ [] else [])) ++ rest ≡ found ++ cond b (c ∷ rest) rest
+kept_one true c found rest = append_assoc found (c ∷ []) rest
+kept_one false c found rest = ap (λ l. l ++ rest) (append-nil found)
+
+pub children_more : (nodes : List Node) (variations : Bool) (n c : ℕ) (o : Option ℕ) (found new_found whole : List ℕ) (there : Bool)
+    → (node_at nodes c).parent ≡ Some n → o ≡ next_sibling nodes c → there ≡ is_searched variations nodes c → new_found ≡ found ++ (if there then c ∷ [] else [])
+    → found ++ filter (is_searched variations nodes) (children_from nodes n (Some c)) ≡ whole → new_found ++ filter (is_searched variations nodes) (children_from nodes n o) ≡ whole
+children_more nodes variations n c o found new_found whole there parent is searched_ more had =
+    let test = is_searched variations nodes in
+    let rest = filter test (children_from nodes n o) in
+    ap (λ l. l ++ rest) more ∙ kept_one there c found rest ∙ ap (λ b. found ++ cond b (c ∷ rest) rest) searched_
+    ∙ sym (ap (λ l. found ++ filter test l) (child_next nodes n c o parent is)) ∙ had
+
+-- a node on the way up, and those of them that begin variations
+pub on_way : (nodes : List Node) (n k d : ℕ) (way : List ℕ) → IsTree nodes → n < length nodes → way ≡ way_up nodes n → k < length way → get_or way k d < length nodes
+on_way nodes n k d way tree h is low = subst (All (λ m. m < length nodes)) (sym is) (way_inside nodes n tree h) k d low
+
+pub counted_more : (nodes : List Node) (way : List ℕ) (k d count one : ℕ) → k < length way → one ≡ (if begins_variation nodes (get_or way k d) then 1 else 0)
+    → count ≡ count_by (begins_variation nodes) (take k way) → count + one ≡ count_by (begins_variation nodes) (take (k + 1) way)
+counted_more nodes way k d count one h is had =
+    ap₂ (λ a b. a + b) had is ∙ sym (sum_by_more (λ m. cond (begins_variation nodes m) 1 0) way k d h)
+
+-- a parent is a node, if there is one
+one_inside : (count : ℕ) (o : Option ℕ) → IfSome o (λ m. m < count) → All (λ m. m < count) (option_to_list o)
+one_inside count None h = λ k d low. absurd (omega (arith, low))
+one_inside count (Some m) h = λ k d low. let first : k ≡ 0 = omega (arith, low) in subst (λ i. get_or (m ∷ []) i d < count) (sym first) h
+
+pub parent_inside : (nodes : List Node) (n : ℕ) → IsTree nodes → n < length nodes → All (λ m. m < length nodes) (option_to_list (node_at nodes n).parent)
+parent_inside nodes n tree h = one_inside (length nodes) (node_at nodes n).parent (within_up nodes n (node_at nodes n).parent tree refl h)

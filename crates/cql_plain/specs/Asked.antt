@@ -1,9 +1,9 @@
 -- What is asked of one square, and what a word makes of one value.
-use Rattle.std.specs.Prelude.{ℕ, Bool, true, false, ◌&&◌, not, List, if◌then◌else◌}
+use Rattle.std.specs.Prelude.{ℕ, Bool, ◌&&◌, not, List, if◌then◌else◌}
 use Rattle.cq_position.specs.declared.men.Man.{Man}
 use Rattle.cql_syntax.specs.Values.{Value, as_truth, holds, complement_of, size_of, power_of, light_of, dark_of}
 use Rattle.cql_syntax.specs.declared.leaves.Unary.{Unary}
-use Rattle.cql_syntax.specs.declared.leaves.Unary.TheVariants.{Not, Complement, Count, Power, Light, Dark, Find, FindUp, Child, Parent}
+use Rattle.cql_syntax.specs.declared.leaves.Unary.TheVariants.{Complement, Count, Power, Light, Dark}
 
 -- a square of a set settles whether something is asked truly of every square of it, or of some
 abbrev pub settles : Bool → (set asked : ℕ → Bool) → ℕ → Bool

@@ -7,6 +7,7 @@ ghost use Rattle.cql_syntax.specs.TreeOf.{filter_tree};
 ghost use Rattle.cql_syntax.specs.Values.{holds, has, amount};
 ghost use Rattle.cql_plain.specs.Trees.{searched_tree};
 
+use crate::evaluate::evaluate;
 use crate::names::Names;
 use cq_outside::NoMemory;
 use cq_symmetry::Mapping;
@@ -31,7 +32,10 @@ pub fn holds_at(
     requires { node < length game.now.nodes }
     ensures { IfOk result (λ b. b ≡ holds (value (searched_tree game.now variations) context.now names.now (filter_tree f.now) node)) }
 {
-    Err(NoMemory)
+    // A game's nodes are a tree.
+    let _len = game.len();
+    let value = evaluate(alloc, f, game, variations, node, context, names)?;
+    Ok(value.holds())
 }
 
 /// The squares of a filter at a node of a game: bit k is square k. A filter that is no set has none.
@@ -47,7 +51,10 @@ pub fn set_at(
     requires { node < length game.now.nodes }
     ensures { IfOk result (λ set. set ≡ mask_of (has (value (searched_tree game.now variations) context.now names.now (filter_tree f.now) node))) }
 {
-    Err(NoMemory)
+    // A game's nodes are a tree.
+    let _len = game.len();
+    let value = evaluate(alloc, f, game, variations, node, context, names)?;
+    Ok(value.squares())
 }
 
 /// The number of a filter at a node of a game, where it has a value. A filter that is no number has none.
@@ -63,5 +70,8 @@ pub fn number_at(
     requires { node < length game.now.nodes }
     ensures { IfOk result (λ n. n ≡ amount (value (searched_tree game.now variations) context.now names.now (filter_tree f.now) node)) }
 {
-    Err(NoMemory)
+    // A game's nodes are a tree.
+    let _len = game.len();
+    let value = evaluate(alloc, f, game, variations, node, context, names)?;
+    Ok(value.number())
 }

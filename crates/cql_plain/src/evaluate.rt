@@ -16,7 +16,9 @@ mod lines;
 mod played;
 
 use crate::combine::{any_of, chain_of, if_of, pair_of, unary_here};
-use crate::contexts::{field_image, inside, of_image, outcome_image, unary_image, way_image, word_image};
+use crate::contexts::{
+    field_image, inside, of_image, outcome_image, unary_image, way_image, word_image,
+};
 use crate::fits::fits;
 use crate::headers::{has_text, is_result, rating};
 use crate::names::Names;
@@ -29,8 +31,8 @@ use cq_geometry::Square;
 use cq_outside::NoMemory;
 use cq_symmetry::{Family, Mapping, member, size as family_size};
 use cql_syntax::{Filter, Filters, Form, Terms, Unary, kind_of};
-use pgn_tree::Game;
 use lines::line_at;
+use pgn_tree::Game;
 use played::played_at;
 use std::alloc::Global;
 
@@ -94,7 +96,16 @@ pub(crate) fn evaluate(
         Form::Square(every, name, squares, asked) => {
             let squares = evaluate(alloc, squares, game, variations, node, context, names)?;
             square_at(
-                alloc, *every, name.as_slice(), squares, asked, game, variations, node, context, names,
+                alloc,
+                *every,
+                name.as_slice(),
+                squares,
+                asked,
+                game,
+                variations,
+                node,
+                context,
+                names,
             )
         }
         Form::Line(line) => line_at(alloc, line, game, variations, node, context, names),
@@ -134,19 +145,51 @@ fn unary_at(
     match word {
         Unary::Find => {
             let nodes = below(alloc, game, variations, node)?;
-            some_node(alloc, part, game, variations, nodes.as_slice(), context, names)
+            some_node(
+                alloc,
+                part,
+                game,
+                variations,
+                nodes.as_slice(),
+                context,
+                names,
+            )
         }
         Unary::FindUp => {
             let nodes = way_up(alloc, game, node)?;
-            some_node(alloc, part, game, variations, nodes.as_slice(), context, names)
+            some_node(
+                alloc,
+                part,
+                game,
+                variations,
+                nodes.as_slice(),
+                context,
+                names,
+            )
         }
         Unary::Child => {
             let nodes = children(alloc, game, variations, node)?;
-            some_node(alloc, part, game, variations, nodes.as_slice(), context, names)
+            some_node(
+                alloc,
+                part,
+                game,
+                variations,
+                nodes.as_slice(),
+                context,
+                names,
+            )
         }
         Unary::Parent => {
             let nodes = parents(alloc, game, node)?;
-            some_node(alloc, part, game, variations, nodes.as_slice(), context, names)
+            some_node(
+                alloc,
+                part,
+                game,
+                variations,
+                nodes.as_slice(),
+                context,
+                names,
+            )
         }
         _ => {
             let value = evaluate(alloc, part, game, variations, node, context, names)?;
@@ -249,7 +292,9 @@ fn square_at(
     let set = squares.squares();
     for number in 0..64 {
         let square = Square::new(number);
-        if decides(alloc, every, name, set, square, asked, game, variations, node, context, names)? {
+        if decides(
+            alloc, every, name, set, square, asked, game, variations, node, context, names,
+        )? {
             return Ok(Value::Truth(!every));
         }
     }
@@ -304,7 +349,15 @@ fn member_value(
     if !fits(alloc, part, longer.as_slice())? {
         return Ok(None);
     }
-    let value = evaluate(alloc, part, game, variations, node, longer.as_slice(), names)?;
+    let value = evaluate(
+        alloc,
+        part,
+        game,
+        variations,
+        node,
+        longer.as_slice(),
+        names,
+    )?;
     Ok(Some(value))
 }
 
@@ -326,7 +379,16 @@ fn member_values(
 {
     let mut values = Vec::new(alloc);
     for k in 0..family_size(family) {
-        let value = member_value(alloc, member(family, k), part, game, variations, node, context, names)?;
+        let value = member_value(
+            alloc,
+            member(family, k),
+            part,
+            game,
+            variations,
+            node,
+            context,
+            names,
+        )?;
         push_if_some(&mut values, value)?;
     }
     Ok(values)

@@ -30,9 +30,11 @@ pub(crate) fn fits(alloc: Global, f: &Filter, context: &[Mapping]) -> Result<boo
         Form::Pair(_, first, second) | Form::Square(.., first, second) => {
             Ok(fits(alloc, first, context)? && fits(alloc, second, context)?)
         }
-        Form::If(condition, then, otherwise) => Ok(fits(alloc, condition, context)?
-            && fits(alloc, then, context)?
-            && fits(alloc, otherwise, context)?),
+        Form::If(condition, then, otherwise) => Ok(
+            fits(alloc, condition, context)?
+                && fits(alloc, then, context)?
+                && fits(alloc, otherwise, context)?,
+        ),
         Form::Line(line) => parts_fit(alloc, &line.parts, context),
         Form::Played(played) => played_fits(alloc, played, context),
         Form::Transform(family, part) => member_fits(alloc, *family, part, context),
@@ -89,10 +91,12 @@ fn terms_fit(alloc: Global, terms: &Terms, context: &[Mapping]) -> Result<bool, 
 fn played_fits(alloc: Global, played: &Played, context: &[Mapping]) -> Result<bool, NoMemory>
     ensures { IfOk result (λ b. b ≡ meaning.played_fits context.now (played_tree played.now)) }
 {
-    Ok(written_fits(alloc, &played.origin, context)?
-        && written_fits(alloc, &played.goal, context)?
-        && written_fits(alloc, &played.taken, context)?
-        && written_fits(alloc, &played.promoted, context)?)
+    Ok(
+        written_fits(alloc, &played.origin, context)?
+            && written_fits(alloc, &played.goal, context)?
+            && written_fits(alloc, &played.taken, context)?
+            && written_fits(alloc, &played.promoted, context)?,
+    )
 }
 
 #[cycle(fit)]

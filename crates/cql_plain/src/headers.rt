@@ -1,6 +1,7 @@
 //! What filters read of a game's tags and of its result.
 ghost use Rattle.std.specs.Prelude.{◌≡◌, ◌≤◌, ◌+◌, ◌-◌, ◌*◌, fold, length, true};
 ghost use Rattle.std.specs.List.{list_all};
+ghost use Rattle.std.specs.Char.{is_ascii_digit};
 ghost use Rattle.cql_syntax.specs.Headers as spec;
 
 use crate::numbers::greater;
@@ -88,7 +89,7 @@ fn number_in(most: usize, text: &[u8]) -> Option<i64>
 }
 
 fn is_all_digits(text: &[u8]) -> bool
-    ensures { result ≡ list_all spec.is_digit text.now }
+    ensures { result ≡ list_all is_ascii_digit text.now }
 {
     text.iter().all(|b| b.is_ascii_digit())
 }
@@ -96,7 +97,7 @@ fn is_all_digits(text: &[u8]) -> bool
 // The number that up to nine digits write.
 fn number_of(text: &[u8]) -> u32
     requires few { length text.now ≤ 9 }
-    requires digits { list_all spec.is_digit text.now ≡ true }
+    requires digits { list_all is_ascii_digit text.now ≡ true }
     ensures { result ≡ fold (λ n b. n * 10 + (b - 48)) 0 text.now }
 {
     let mut number = 0;

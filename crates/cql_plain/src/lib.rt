@@ -16,6 +16,8 @@ mod numbers;
 mod paths;
 mod places;
 mod sets;
+#[cfg(test)]
+mod tests;
 mod value;
 mod walks;
 mod words;

@@ -141,7 +141,8 @@ fn count(set: u64) -> u32
     total
 }
 
-fn one_if(there: bool) -> u32
+/// 1 where something is so, else 0.
+pub(crate) fn one_if(there: bool) -> u32
     ensures { result ≡ (if there then 1 else 0) }
 {
     if there { 1 } else { 0 }

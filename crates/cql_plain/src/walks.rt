@@ -6,6 +6,7 @@ ghost use Rattle.cq_position.specs.Games.{IsTree};
 ghost use Rattle.cq_position.specs.Search as search_of;
 ghost use Rattle.cql_plain.specs.Trees.{searched_tree};
 
+use crate::numbers::one_if;
 use cq_outside::NoMemory;
 use pgn_tree::Game;
 use std::alloc::Global;
@@ -166,7 +167,7 @@ pub(crate) fn depth(alloc: Global, game: &Game, n: u32) -> Result<u32, NoMemory>
     let way = way_up(alloc, game, n)?;
     let mut count = 0;
     for k in 0..way.len() {
-        count += u32::from(begins_variation(game, way[k]));
+        count += one_if(begins_variation(game, way[k]));
     }
     Ok(count)
 }

@@ -1,9 +1,9 @@
-use Rattle.std.proofs.Common.{◌≡◌, ◌∷◌, true, false, sym, ◌∙◌, arith, ap}
+use Rattle.std.proofs.Common.{◌≡◌, ◌∷◌, true, false, sym, ◌∙◌, ap}
 use Rattle.cq_symmetry.specs.Families.{members}
 use Rattle.cq_symmetry.specs.Mappings.{PlainMapping}
 use Rattle.cql_syntax.specs.TreeOf.{filter_tree}
 use Rattle.cql_syntax.specs.Meaning as meaning
-use Rattle.cql_plain.proofs.Turns.{any_here, any_next, any_end}
+use Rattle.cql_plain.proofs.Turns.{any_here, any_next}
 use Rattle.cql_plain.proofs.fits.+fit.Goals as goal
 
 pub member_fits-returns-then-branch : goal.member_fits-returns-then-branch

@@ -1,14 +1,10 @@
-use Rattle.std.proofs.Common.{◌≡◌, ◌+◌, ◌≤◌, Bool, true, false, ℕ, ap, ◌∙◌, sym, arith, subst, count_by, refl}
+use Rattle.std.proofs.Common.{◌≡◌, ℕ, ap, ◌∙◌, arith, subst, count_by}
 use Rattle.std.specs.Prelude.{if◌then◌else◌}
 use Rattle.std.specs.List.{range_with_len}
 use Rattle.cq_geometry.specs.Squares as board
 use Rattle.cq_symmetry.specs.Images.{is_in}
-use Rattle.cql_plain.proofs.Ranges.{sum_last}
+use Rattle.cql_plain.proofs.Ranges.{at_most_one, sum_last}
 use Rattle.cql_plain.proofs.numbers.count.Goals as goal
-
-at_most_one : (b : Bool) → (if b then 1 else 0) ≤ 1
-at_most_one true = omega arith
-at_most_one false = omega arith
 
 pub loop-number-preserved : goal.loop-number-preserved
 loop-number-preserved c =

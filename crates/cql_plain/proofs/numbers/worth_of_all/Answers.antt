@@ -1,4 +1,4 @@
-use Rattle.std.proofs.Common.{◌≡◌, ◌+◌, ◌≤◌, Bool, true, false, ℕ, ap, ◌∙◌, sym, arith, subst, sum_by}
+use Rattle.std.proofs.Common.{◌≡◌, ◌≤◌, Bool, true, false, ap, ◌∙◌, arith, subst, sum_by}
 use Rattle.std.specs.Prelude.{if◌then◌else◌}
 use Rattle.std.specs.List.{range_with_len}
 use Rattle.cq_geometry.specs.Squares as board

@@ -1,4 +1,4 @@
-use Rattle.std.proofs.Common.{◌≡◌, ◌<◌, ◌++◌, ◌-◌, length, Some}
+use Rattle.std.proofs.Common.{◌≡◌, ◌<◌, ◌++◌, length, Some}
 use Rattle.std.specs.Prelude.{IfSome, filter}
 use Rattle.cq_position.specs.Games.{node_at, is_searched}
 use Rattle.cq_position.specs.Search.{children_in}

@@ -1,8 +1,8 @@
-use Rattle.std.proofs.Common.{◌≡◌, Some, None, false, refl, sym, ◌∙◌, arith, ap}
+use Rattle.std.proofs.Common.{◌≡◌, Some, sym, ◌∙◌, arith, ap}
 use Rattle.cql_syntax.specs.Contexts as contexts
 use Rattle.cql_syntax.specs.Meaning as meaning
 use Rattle.cql_syntax.specs.Values.{as_squares}
-use Rattle.cql_plain.proofs.Masks.{is_mask, none_pass}
+use Rattle.cql_plain.proofs.Masks.{is_mask}
 use Rattle.cql_plain.proofs.words.standing.Goals as goal
 
 pub returns-in-Some : goal.returns-in-Some
