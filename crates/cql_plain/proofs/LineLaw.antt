@@ -89,8 +89,7 @@ module _ (tree : SearchedTree) (is_tree : IsTree tree.game.nodes) (back primary 
         let r = (e.each (suc l.0)).0 l.1 in
         let zero_start = at_first (length steps) r.start (subst (λ xs. IsIn xs r.start) is r.begins) in
         let s = subst (λ i. Slice (GoesTo steps) i r.path (suc l.0)) zero_start r.leads in
-        let same : length r.path ≡ len = omega (arith, slice_length steps all.sound 0 r.path (suc l.0) s, l.2) in
-        (
+        let same : length r.path ≡ len = omega (arith, slice_length steps all.sound 0 r.path (suc l.0) s, l.2) in (
           r.path,
           (paths_law tree is_tree back primary n r.path).1 (slice_path r.path l.0 s),
           same,
@@ -106,8 +105,7 @@ module _ (tree : SearchedTree) (is_tree : IsTree tree.game.nodes) (back primary 
         let rest = path_slice 0 n path.later all.first path.goes in
         let s : Slice (GoesTo steps) 0 l.0 (suc rest.0) = subst (λ w. Slice (GoesTo steps) 0 w (suc rest.0)) (sym path.begins) (all.first, rest.1) in
         let spelled = (spelling_law (λ v m. holds (v m)) p l.0).0 (right (allows extent (length l.0)) (spells (λ v m. holds (v m)) p l.0) l.3) in
-        let begun : IsIn starts 0 = subst (λ xs. IsIn xs 0) (sym is) refl in
-        (
+        let begun : IsIn starts 0 = subst (λ xs. IsIn xs 0) (sym is) refl in (
           rest.0,
           (e.each (suc rest.0)).1 (record { start = 0; path = l.0; begins = begun; leads = s; spelled = spelled }),
           omega (arith, slice_length steps all.sound 0 l.0 (suc rest.0) s, l.2),

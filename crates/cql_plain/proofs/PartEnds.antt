@@ -64,7 +64,7 @@ module _ (steps : List (Option Reached)) (p : Pattern (ℕ → Value)) (least : 
     turns = begun (GoesTo steps) holds_of p least (IsIn starts) (IsIn here) (IsIn ends) (record {
       here = λ j. (λ h. sym (at_here j) ∙ h, λ h. at_here j ∙ h);
       ends = λ j h. let e = sym (at_ends j) ∙ h in
-        (eqb-true least 0 (left (nat_eq least 0) (get_or starts j false) e), right (nat_eq least 0) (get_or starts j false) e);
+          (eqb-true least 0 (left (nat_eq least 0) (get_or starts j false) e), right (nat_eq least 0) (get_or starts j false) e);
       all = λ j z h. at_ends j ∙ ap₂ (λ x y. x && y) (eq-eqb least 0 z) h;
     });
   }
@@ -99,13 +99,13 @@ module _ (steps : List (Option Reached)) (p : Pattern (ℕ → Value)) (least : 
     here_count = ap length is_here ∙ length_zip (λ b. b.0 && not (counts && b.1)) next ends same ∙ e.count ∙ a.here_count;
     ends_count = ap length is_ends ∙ length_zip (λ b. b.1 || (counts && b.0)) next ends same ∙ e.count ∙ a.here_count;
     turns = subst (λ k. Turns (GoesTo steps) holds_of p least k (IsIn starts) (IsIn new_here) (IsIn new_ends)) (let k : suc t ≡ t + 1 = omega arith in k)
-      (turned (GoesTo steps) holds_of p least t (IsIn starts) (IsIn next) (IsIn here) (IsIn ends) (IsIn new_here) (IsIn new_ends) e.each (record {
-        here = λ j h. left (get_or next j false) (not (counts && get_or ends j false)) (sym (at_here j) ∙ h);
-        fresh = λ j h. elim (fresh_by (get_or next j false) (get_or ends j false) counts h) [ inl new ↦ inl (at_here j ∙ new) | inr old ↦ inr old ];
-        kept = λ j h. at_ends j ∙ kept_by (get_or next j false) (get_or ends j false) counts h;
-        added = λ j l h. at_ends j ∙ ap (λ c. get_or ends j false || (c && get_or next j false)) (high l) ∙ new_by (get_or next j false) (get_or ends j false) h;
-        ends = λ j h. elim (added_by (get_or next j false) (get_or ends j false) counts (sym (at_ends j) ∙ h)) [ inl old ↦ inl old | inr new ↦ inr (low new.0, new.1) ];
-      }) a.turns);
+        (turned (GoesTo steps) holds_of p least t (IsIn starts) (IsIn next) (IsIn here) (IsIn ends) (IsIn new_here) (IsIn new_ends) e.each (record {
+          here = λ j h. left (get_or next j false) (not (counts && get_or ends j false)) (sym (at_here j) ∙ h);
+          fresh = λ j h. elim (fresh_by (get_or next j false) (get_or ends j false) counts h) [ inl new ↦ inl (at_here j ∙ new) | inr old ↦ inr old ];
+          kept = λ j h. at_ends j ∙ kept_by (get_or next j false) (get_or ends j false) counts h;
+          added = λ j l h. at_ends j ∙ ap (λ c. get_or ends j false || (c && get_or next j false)) (high l) ∙ new_by (get_or next j false) (get_or ends j false) h;
+          ends = λ j h. elim (added_by (get_or next j false) (get_or ends j false) counts (sym (at_ends j) ∙ h)) [ inl old ↦ inl old | inr new ↦ inr (low new.0, new.1) ];
+        }) a.turns);
   }
     where
       same : length ends ≡ length next
@@ -144,9 +144,9 @@ module _ (steps : List (Option Reached)) (p : Pattern (ℕ → Value)) (least : 
     count = a.ends_count;
     each = λ j. (
       λ h. let e = a.turns.ends j h in
-        (repeated_law (GoesTo steps) holds_of p least (Some most) (IsIn starts) j).1 (record { count = e.count; enough = e.enough; within = omega (arith, e.within, low); ends = e.ends }),
+          (repeated_law (GoesTo steps) holds_of p least (Some most) (IsIn starts) j).1 (record { count = e.count; enough = e.enough; within = omega (arith, e.within, low); ends = e.ends }),
       λ h. let r = (repeated_law (GoesTo steps) holds_of p least (Some most) (IsIn starts) j).0 h in
-        stopped (GoesTo steps) holds_of p least t (IsIn starts) (IsIn here) (IsIn ends) (none_in here none) a.turns r.count j r.enough r.ends,
+          stopped (GoesTo steps) holds_of p least t (IsIn starts) (IsIn here) (IsIn ends) (none_in here none) a.turns r.count j r.enough r.ends,
     );
   }
 
@@ -186,11 +186,11 @@ module _ (steps : List (Option Reached)) (sound : AreSteps steps) (tree : Search
     count = ends.count ∙ a.count;
     each = λ j. (
       λ h. (a.each j).0 ((joined_law (GoesTo steps) holds_of (marked c.mark (body_pattern tree g e (body_tree c.body))) (pattern tree g e (part_trees cs)) (IsIn places) j).1
-        (more_ends (GoesTo steps) holds_of (pattern tree g e (part_trees cs)) (IsIn new) (IsEnd (GoesTo steps) holds_of (marked c.mark (body_pattern tree g e (body_tree c.body))) (IsIn places))
-        (λ i s. (ends.each i).0 s) j h)),
+          (more_ends (GoesTo steps) holds_of (pattern tree g e (part_trees cs)) (IsIn new) (IsEnd (GoesTo steps) holds_of (marked c.mark (body_pattern tree g e (body_tree c.body))) (IsIn places))
+          (λ i s. (ends.each i).0 s) j h)),
       λ h. more_ends (GoesTo steps) holds_of (pattern tree g e (part_trees cs)) (IsEnd (GoesTo steps) holds_of (marked c.mark (body_pattern tree g e (body_tree c.body))) (IsIn places)) (IsIn new)
-        (λ i s. (ends.each i).1 s) j
-        ((joined_law (GoesTo steps) holds_of (marked c.mark (body_pattern tree g e (body_tree c.body))) (pattern tree g e (part_trees cs)) (IsIn places) j).0 ((a.each j).1 h)),
+          (λ i s. (ends.each i).1 s) j
+          ((joined_law (GoesTo steps) holds_of (marked c.mark (body_pattern tree g e (body_tree c.body))) (pattern tree g e (part_trees cs)) (IsIn places) j).0 ((a.each j).1 h)),
     );
   }
 
@@ -265,9 +265,9 @@ found_at f n k e = elim (cases_lt k n) [
     ap f (from_zero k ∙ sym (get_or-range_with_len 0 n k 0 less)) ∙ sym (get_or-map f (range_with_len 0 n) k 0 false (omega (arith, less, length-range_with_len 0 n))) ∙ e,
   )
   | inr past ↦ absurd (
-    let none : get_or (map f (range_with_len 0 n)) k false ≡ false =
+      let none : get_or (map f (range_with_len 0 n)) k false ≡ false =
       get_or_past (map f (range_with_len 0 n)) k false (omega (arith, past, length-map (range_with_len 0 n) f, length-range_with_len 0 n)) in
-    let both = sym none ∙ e in cc)
+      let both = sym none ∙ e in cc)
 ]
 
 at_found : (f : ℕ → Bool) (n k : ℕ) → k < n → f k ≡ true → get_or (map f (range_with_len 0 n)) k false ≡ true

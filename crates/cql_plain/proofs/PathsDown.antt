@@ -57,10 +57,13 @@ pub is_down : (tree : SearchedTree) (primary : Bool) (k p : ℕ) → IsStepDown 
 is_down tree primary k p s = rw s.is_in (is_above tree primary k p (record { parent = s.child; first = s.first }))
 
 pub parent_before : (nodes : List Node) (k p : ℕ) → IsTree nodes → (node_at nodes k).parent ≡ Some p → (p < k) × (k < length nodes)
-parent_before nodes k p tree is = ((tree_first nodes tree).before k p is, elim (cases_lt k (length nodes)) [
-  | inl less ↦ less
-  | inr past ↦ absurd (let e : None ≡ Some p = ap (λ x. x.parent) (sym (get_or_past nodes k no_node past)) ∙ is in cc)
-])
+parent_before nodes k p tree is = (
+  (tree_first nodes tree).before k p is,
+  elim (cases_lt k (length nodes)) [
+    | inl less ↦ less
+    | inr past ↦ absurd (let e : None ≡ Some p = ap (λ x. x.parent) (sym (get_or_past nodes k no_node past)) ∙ is in cc)
+  ],
+)
 
 -- How a node is reached: as the first of a path, or by another.
 pub record IsFirst (n k j : ℕ) (o : Option Reached) : Type 0 where
@@ -110,9 +113,9 @@ module _ (tree : SearchedTree) (is_tree : IsTree tree.game.nodes) (primary : Boo
   same_down : (steps : List (Option Reached)) (x : Option Reached) (i : ℕ) → i ≤ length steps
       → reached_down_by tree primary n (steps ++ x ∷ []) i ≡ reached_down_by tree primary n steps i
   same_down steps x i h = by_same steps (steps ++ x ∷ []) i (searched_above tree primary i) (i == n) (λ p is.
-    let s = down_is tree primary i p is in
-    let less = (parent_before tree.game.nodes i p is_tree s.child).0 in
-    get_before steps x None p (omega (arith, less)))
+      let s = down_is tree primary i p is in
+      let less = (parent_before tree.game.nodes i p is_tree s.child).0 in
+      get_before steps x None p (omega (arith, less)))
 
   low_by : (steps : List (Option Reached)) (i : ℕ) (o : Option ℕ) (b : Bool) → ((p : ℕ) → nodes_to (get_or steps p None) ≤ p + 1) → ((p : ℕ) → o ≡ Some p → p < i)
       → nodes_to (if b then Some (record { before = 0; length = 1 }) else reached_by steps o) ≤ i + 1
@@ -150,7 +153,7 @@ module _ (tree : SearchedTree) (is_tree : IsTree tree.game.nodes) (primary : Boo
     where
       low_last : nodes_to x ≤ k + 1
       low_last = subst (λ o. nodes_to o ≤ k + 1) (sym is)
-        (low_by steps k (searched_above tree primary k) (k == n) d.low (λ p e. (parent_before tree.game.nodes k p is_tree (down_is tree primary k p e).child).0))
+          (low_by steps k (searched_above tree primary k) (k == n) d.low (λ p e. (parent_before tree.game.nodes k p is_tree (down_is tree primary k p e).child).0))
 
       low_all : (i : ℕ) → nodes_to (get_or (steps ++ x ∷ []) i None) ≤ i + 1
       low_all i = elim (cases_lt i (length steps)) [
@@ -222,9 +225,9 @@ module _ (tree : SearchedTree) (is_tree : IsTree tree.game.nodes) (primary : Boo
         | inr other ↦ subst (λ p. IsStepDown tree primary p k) (omega (arith, other.1.place)) (step_of (suc i) k other.1)
       ];
       all = λ h i k reached step.
-        let less = parent_before tree.game.nodes k i is_tree step.child in
-        let from = later_by (suc i) i h (omega arith) reached in
-        ap place_before (d.told k less.1) ∙ by_down i k h reached (ne_eqb k n (λ e. omega (arith, e, less.0, from))) (is_down tree primary k i step);
+          let less = parent_before tree.game.nodes k i is_tree step.child in
+          let from = later_by (suc i) i h (omega arith) reached in
+          ap place_before (d.told k less.1) ∙ by_down i k h reached (ne_eqb k n (λ e. omega (arith, e, less.0, from))) (is_down tree primary k i step);
     }
       where
         few_at : (j : ℕ) → length_at steps j ≤ length steps

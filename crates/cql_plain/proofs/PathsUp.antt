@@ -122,15 +122,20 @@ module _ (tree : SearchedTree) (is_tree : IsTree tree.game.nodes) (primary : Boo
       ];
       goes = goes_more;
       due = λ m e. inr (record {
-        node = k; step = reached; place = ap (λ r. r.before) from ∙ omega arith; is = sym on ∙ e; reached = here; count = ap (λ r. r.length) from;
+        node = k;
+        step = reached;
+        place = ap (λ r. r.before) from ∙ omega arith;
+        is = sym on ∙ e;
+        reached = here;
+        count = ap (λ r. r.length) from;
       });
       clear = λ m i e h.
-        let less = above_before k m (sym on ∙ e) in
-        there i (λ same. omega (arith, same, less, h)) ∙ u.clear k i refl (omega (arith, less, h));
+          let less = above_before k m (sym on ∙ e) in
+          there i (λ same. omega (arith, same, less, h)) ∙ u.clear k i refl (omega (arith, less, h));
       inside = λ m e.
-        let less = above_before k m (sym on ∙ e) in
-        let old = u.inside k refl in
-        (omega (arith, less, old.0), omega (arith, less, old.1, ap (λ r. r.length) from));
+          let less = above_before k m (sym on ∙ e) in
+          let old = u.inside k refl in
+          (omega (arith, less, old.0), omega (arith, less, old.1, ap (λ r. r.length) from));
       few = λ i. elim (cases_eq i k) [
         | inl same ↦ omega (arith, ap nodes_to (ap (λ j. get_or new j None) same ∙ here), (u.inside k refl).1)
         | inr other ↦ omega (arith, ap nodes_to (there i other), u.few i)
@@ -178,10 +183,10 @@ module _ (tree : SearchedTree) (is_tree : IsTree tree.game.nodes) (primary : Boo
         | inr f ↦ subst (λ p. IsStepUp tree primary p k) (omega (arith, f.place, t.place)) (step_up f.node k f.is)
       ];
       all = λ h i k e s. let t = told_at h i e in
-        elim (u.goes i k t.step t.is (is_above tree primary i k (record { parent = s.parent; first = s.first }))) [
-        | inl old ↦ old
-        | inr due ↦ absurd (let e = due.0 in cc)
-      ];
+          elim (u.goes i k t.step t.is (is_above tree primary i k (record { parent = s.parent; first = s.first }))) [
+            | inl old ↦ old
+            | inr due ↦ absurd (let e = due.0 in cc)
+          ];
     }
       where
         few_at : (j : ℕ) → length_at steps j ≤ length steps

@@ -78,14 +78,19 @@ module _ {A : Type 0} (goes : ℕ → ℕ → Type 0) (test : A → ℕ → Bool
       let s = subst (λ w. Slice goes r.start w j) r.spelled.2 r.leads in
       let h = halves r.start r.spelled.0 r.spelled.1 j s in
       record {
-        start = h.middle; path = r.spelled.1; leads = h.after; spelled = r.spelled.4;
+        start = h.middle;
+        path = r.spelled.1;
+        leads = h.after;
+        spelled = r.spelled.4;
         begins = record { start = r.start; path = r.spelled.0; begins = r.begins; leads = h.before; spelled = r.spelled.3 };
       }
 
   joined_ends : (p q : Pattern A) (S : ℕ → Type 0) (j : ℕ) → IsEnd goes test q (IsEnd goes test p S) j → IsEnd goes test (joined p q) S j
   joined_ends p q S j r =
       record {
-        start = r.begins.start; path = r.begins.path ++ r.path; begins = r.begins.begins;
+        start = r.begins.start;
+        path = r.begins.path ++ r.path;
+        begins = r.begins.begins;
         leads = whole r.begins.start r.begins.path r.path r.start j r.begins.leads r.leads;
         spelled = (r.begins.path, r.path, refl, r.begins.spelled, r.spelled);
       }
@@ -121,7 +126,10 @@ module _ {A : Type 0} (goes : ℕ → ℕ → Type 0) (test : A → ℕ → Bool
   to_times p (suc k) S j r =
       let b = to_times p k S r.start r.begins in
       record {
-        start = b.start; path = b.path ++ r.path; begins = b.begins; leads = whole b.start b.path r.path r.start j b.leads r.leads;
+        start = b.start;
+        path = b.path ++ r.path;
+        begins = b.begins;
+        leads = whole b.start b.path r.path r.start j b.leads r.leads;
         parts = times_snoc (Spells test p) k b.path r.path b.parts r.spelled;
       }
 
@@ -134,7 +142,11 @@ module _ {A : Type 0} (goes : ℕ → ℕ → Type 0) (test : A → ℕ → Bool
 
   repeated_found : (p : Pattern A) (least : ℕ) (most : Option ℕ) (S : ℕ → Type 0) (j : ℕ) → IsEnd goes test (repeated least most p) S j → IsRepeated p least most S j
   repeated_found p least most S j r = record {
-    count = r.spelled.0; enough = r.spelled.1; within = r.spelled.2; ends = of_times p r.spelled.0 S r.start r.path j r.begins r.leads r.spelled.3 }
+    count = r.spelled.0;
+    enough = r.spelled.1;
+    within = r.spelled.2;
+    ends = of_times p r.spelled.0 S r.start r.path j r.begins r.leads r.spelled.3;
+  }
 
   repeated_ends : (p : Pattern A) (least : ℕ) (most : Option ℕ) (S : ℕ → Type 0) (j : ℕ) → IsRepeated p least most S j → IsEnd goes test (repeated least most p) S j
   repeated_ends p least most S j r =
@@ -162,7 +174,10 @@ module _ {A : Type 0} (goes : ℕ → ℕ → Type 0) (test : A → ℕ → Bool
             let l = ap length t.2 in let m = length-append t.0 t.1 in
             let s = short r.start r.path j r.leads in
             record {
-              start = r.start; path = r.path; begins = r.begins; leads = r.leads;
+              start = r.start;
+              path = r.path;
+              begins = r.begins;
+              leads = r.leads;
               spelled = (suc f.count, omega arith, omega (arith, f.few, s, l, m), (t.0, t.1, t.2, t.3, f.parts));
             }
 

@@ -46,7 +46,8 @@ pub(crate) fn meets_all(
     promoted: Option<Value>,
 ) -> bool
     ensures { (l : Option PlainLed) → led ≡ option_map as_led l →
-        result ≡ meaning.meets_all l (option_map meant origin) (option_map meant goal) (option_map meant taken) (option_map meant promoted) }
+        result ≡ meaning.meets_all l (option_map meant origin) (option_map meant goal)
+        (option_map meant taken) (option_map meant promoted) }
 {
     match &led {
         Some(led) => {

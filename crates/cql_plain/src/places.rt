@@ -40,11 +40,12 @@ pub(crate) fn fresh(
 ) -> Result<Vec<bool>, NoMemory>
     ensures { IfOk result (λ set. set.items ≡ map (λ b. b.0 && not (counts && b.1)) (zip next.now ends.now)) }
 {
-    Ok(next
-        .iter()
-        .zip(ends)
-        .map(|pair| *pair.0 && !(counts && *pair.1))
-        .collect(alloc)?)
+    Ok(
+        next.iter()
+            .zip(ends)
+            .map(|pair| *pair.0 && !(counts && *pair.1))
+            .collect(alloc)?,
+    )
 }
 
 /// The ends, and where they count the places that are reached next.
@@ -56,11 +57,12 @@ pub(crate) fn with_next(
 ) -> Result<Vec<bool>, NoMemory>
     ensures { IfOk result (λ set. set.items ≡ map (λ b. b.1 || (counts && b.0)) (zip next.now ends.now)) }
 {
-    Ok(next
-        .iter()
-        .zip(ends)
-        .map(|pair| *pair.1 || (counts && *pair.0))
-        .collect(alloc)?)
+    Ok(
+        next.iter()
+            .zip(ends)
+            .map(|pair| *pair.1 || (counts && *pair.0))
+            .collect(alloc)?,
+    )
 }
 
 /// Whether a set has some place.

@@ -35,13 +35,21 @@ pub(super) fn line_at(
 ) -> Result<Value, NoMemory>
     requires tree { IsTree game.now.nodes }
     requires node { node < length game.now.nodes }
-    ensures { IfOk result (λ v. meant v ≡ meaning.line_value (searched_tree game.now variations) context.now names.now (line_tree line.now) node) }
+    ensures { IfOk result (λ v. meant v ≡ meaning.line_value
+        (searched_tree game.now variations) context.now names.now (line_tree line.now) node) }
 {
     let steps = paths_from(alloc, game, variations, line.back, line.primary, node)?;
     let starts = only_first(alloc, game.len() as usize)?;
     let parts = &line.parts;
     let ends = parts_ends(
-        alloc, parts, steps.as_slice(), starts.as_slice(), game, variations, context, names,
+        alloc,
+        parts,
+        steps.as_slice(),
+        starts.as_slice(),
+        game,
+        variations,
+        context,
+        names,
     )?;
     Ok(number_of(longest(steps.as_slice(), ends.as_slice(), &line.extent)))
 }
@@ -63,15 +71,24 @@ fn parts_ends(
     requires nodes { length steps.now ≡ length game.now.nodes }
     requires steps { AreSteps steps.now }
     requires starts { length starts.now ≡ length steps.now + 1 }
-    ensures { IfOk result (λ ends. EndsOf steps.now (meaning.pattern (searched_tree game.now variations) context.now names.now (parts_tree parts.now))
-        starts.now ends.items) }
+    ensures { IfOk result (λ ends. EndsOf steps.now
+        (meaning.pattern (searched_tree game.now variations) context.now names.now (parts_tree parts.now)) starts.now ends.items) }
 {
     let mut places = where_counted(alloc, true, starts)?;
     for part in parts.as_slice() {
         let least = least_of(part.mark);
         let most = most_of(part.mark, steps.len() as u32);
         places = repeat(
-            alloc, &part.body, least, most, steps, places.as_slice(), game, variations, context, names,
+            alloc,
+            &part.body,
+            least,
+            most,
+            steps,
+            places.as_slice(),
+            game,
+            variations,
+            context,
+            names,
         )?;
     }
     Ok(places)
@@ -150,15 +167,19 @@ fn body_ends(
     requires nodes { length steps.now ≡ length game.now.nodes }
     requires steps { AreSteps steps.now }
     requires starts { length starts.now ≡ length steps.now + 1 }
-    ensures { IfOk result (λ ends. EndsOf steps.now (meaning.body_pattern (searched_tree game.now variations) context.now names.now (body_tree body.now))
-        starts.now ends.items) }
+    ensures { IfOk result (λ ends. EndsOf steps.now
+        (meaning.body_pattern (searched_tree game.now variations) context.now names.now (body_tree body.now)) starts.now ends.items) }
 {
     match body {
         Body::Atom(filter) => {
-            atom_ends(alloc, filter, steps, starts, game, variations, context, names)
+            atom_ends(
+                alloc, filter, steps, starts, game, variations, context, names,
+            )
         }
         Body::Group(parts) => {
-            parts_ends(alloc, parts, steps, starts, game, variations, context, names)
+            parts_ends(
+                alloc, parts, steps, starts, game, variations, context, names,
+            )
         }
     }
 }
@@ -179,13 +200,15 @@ fn atom_ends(
     requires nodes { length steps.now ≡ length game.now.nodes }
     requires steps { AreSteps steps.now }
     requires starts { length starts.now ≡ length steps.now + 1 }
-    ensures { IfOk result (λ ends. EndsOf steps.now (one (meaning.value (searched_tree game.now variations) context.now names.now (filter_tree filter.now)))
-        starts.now ends.items) }
+    ensures { IfOk result (λ ends. EndsOf steps.now
+        (one (meaning.value (searched_tree game.now variations) context.now names.now (filter_tree filter.now))) starts.now ends.items) }
 {
     let mut ends = Vec::new(alloc);
     ends.push(false)?;
     for k in 0..game.len() {
-        let passes = passes(alloc, filter, steps, starts, k, game, variations, context, names)?;
+        let passes = passes(
+            alloc, filter, steps, starts, k, game, variations, context, names,
+        )?;
         ends.push(passes)?;
     }
     Ok(ends)

@@ -32,13 +32,38 @@ pub(super) fn played_at(
 ) -> Result<Value, NoMemory>
     requires tree { IsTree game.now.nodes }
     requires node { node < length game.now.nodes }
-    ensures { IfOk result (λ v. meant v ≡ as_truth (meaning.played_value (searched_tree game.now variations) context.now names.now (played_tree played.now) node)) }
+    ensures { IfOk result (λ v. meant v ≡ as_truth (meaning.played_value
+        (searched_tree game.now variations) context.now names.now (played_tree played.now) node)) }
 {
     let before = before(game, variations, node);
-    let origin = written_at(alloc, &played.origin, game, variations, before, context, names)?;
+    let origin = written_at(
+        alloc,
+        &played.origin,
+        game,
+        variations,
+        before,
+        context,
+        names,
+    )?;
     let goal = written_at(alloc, &played.goal, game, variations, node, context, names)?;
-    let taken = written_at(alloc, &played.taken, game, variations, before, context, names)?;
-    let promoted = written_at(alloc, &played.promoted, game, variations, node, context, names)?;
+    let taken = written_at(
+        alloc,
+        &played.taken,
+        game,
+        variations,
+        before,
+        context,
+        names,
+    )?;
+    let promoted = written_at(
+        alloc,
+        &played.promoted,
+        game,
+        variations,
+        node,
+        context,
+        names,
+    )?;
     Ok(Value::Truth(meets_all(led_to(game, node), origin, goal, taken, promoted)))
 }
 
@@ -56,7 +81,8 @@ fn written_at(
 ) -> Result<Option<Value>, NoMemory>
     requires tree { IsTree game.now.nodes }
     requires node { node < length game.now.nodes }
-    ensures { IfOk result (λ v. option_map meant v ≡ meaning.written_value (searched_tree game.now variations) context.now names.now (written_tree written.now) node) }
+    ensures { IfOk result (λ v. option_map meant v ≡ meaning.written_value
+        (searched_tree game.now variations) context.now names.now (written_tree written.now) node) }
 {
     match written {
         Some(filter) => {

@@ -46,4 +46,4 @@ invariant-lines::repeat-loop-times l =
 abbrev pub invariant-lines::atom_ends-loop-k : goal.invariant-lines::atom_ends-loop-k
 invariant-lines::atom_ends-loop-k l =
     l.ends.items ≡ false ∷ map (λ k. comes_from l.starts (get_or l.steps k None)
-      && spec.holds (meaning.value (searched_tree l.game l.variations) l.context l.names (filter_tree l.filter) k)) (range_with_len 0 l.k)
+    && spec.holds (meaning.value (searched_tree l.game l.variations) l.context l.names (filter_tree l.filter) k)) (range_with_len 0 l.k)
