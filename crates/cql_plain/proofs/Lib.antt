@@ -1,8 +1,15 @@
 pub mod Bound
 pub mod Evaluated
 pub mod Filling
+pub mod Lengths
+pub mod LineLaw
+pub mod LineValue
 pub mod Masks
 pub mod Mates
+pub mod PartEnds
+pub mod PathsDown
+pub mod PathsUp
+pub mod PatternEnds
 pub mod Ranges
 pub mod Reaching
 pub mod Reversed

@@ -10,8 +10,11 @@ mod contexts;
 mod evaluate;
 mod fits;
 mod headers;
+mod led;
 pub mod names;
 mod numbers;
+mod paths;
+mod places;
 mod sets;
 #[cfg(test)]
 mod tests;

@@ -96,7 +96,7 @@ fn is_below_by(game: &Game, n: u32, k: u32, before: &[bool]) -> bool
     }
 }
 
-fn both(a: bool, b: bool) -> bool
+pub(crate) fn both(a: bool, b: bool) -> bool
     ensures { result ≡ (a && b) }
 {
     a && b

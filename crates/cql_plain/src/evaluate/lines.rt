@@ -1,20 +1,29 @@
 //! What a line gives at a node.
-ghost use Rattle.std.specs.Prelude.{◌≡◌, ◌<◌, length, IfOk};
+ghost use Rattle.std.specs.Prelude.{◌≡◌, ◌<◌, ◌≤◌, ◌+◌, ◌&&◌, length, get_or, Some, None, IfOk};
+ghost use Rattle.cq_outside.specs.Spelling.{one, repeated};
 ghost use Rattle.cq_position.specs.Games.{IsTree};
 ghost use Rattle.cql_syntax.specs.Meaning as meaning;
-ghost use Rattle.cql_syntax.specs.TreeOf.{line_tree};
+ghost use Rattle.cql_syntax.specs.TreeOf.{body_tree, filter_tree, line_tree, parts_tree};
+ghost use Rattle.cql_syntax.specs.Values as spec;
+ghost use Rattle.cql_plain.specs.Lines.{EndsOf, least_times, most_times};
+ghost use Rattle.cql_plain.specs.Paths.{AreSteps, comes_from as goes_from};
 ghost use Rattle.cql_plain.specs.Shown.{meant};
 ghost use Rattle.cql_plain.specs.Trees.{searched_tree};
 
+use super::evaluate;
 use crate::names::Names;
+use crate::paths::{Reached, longest, number_of, paths_from};
+use crate::places::{comes_from, fresh, has_some, only_first, where_counted, with_next};
 use crate::value::Value;
 use cq_outside::NoMemory;
 use cq_symmetry::Mapping;
-use cql_syntax::Line;
+use cql_syntax::{Body, Constituents, Filter, Line, Mark};
 use pgn_tree::Game;
 use std::alloc::Global;
 
 /// The greatest length of a path from a node that a line's pattern spells.
+#[cycle(evaluate)]
+#[tactic(auto, unfolding(cql_syntax::specs::Meaning::value))]
 pub(super) fn line_at(
     alloc: Global,
     line: &Line,
@@ -26,7 +35,209 @@ pub(super) fn line_at(
 ) -> Result<Value, NoMemory>
     requires tree { IsTree game.now.nodes }
     requires node { node < length game.now.nodes }
-    ensures { IfOk result (λ v. meant v ≡ meaning.line_value (searched_tree game.now variations) context.now names.now (line_tree line.now) node) }
+    ensures { IfOk result (λ v. meant v ≡ meaning.line_value
+        (searched_tree game.now variations) context.now names.now (line_tree line.now) node) }
 {
-    Err(NoMemory)
+    let steps = paths_from(alloc, game, variations, line.back, line.primary, node)?;
+    let starts = only_first(alloc, game.len() as usize)?;
+    let parts = &line.parts;
+    let ends = parts_ends(
+        alloc,
+        parts,
+        steps.as_slice(),
+        starts.as_slice(),
+        game,
+        variations,
+        context,
+        names,
+    )?;
+    Ok(number_of(longest(steps.as_slice(), ends.as_slice(), &line.extent)))
+}
+
+/// The places at which parts in a row end.
+#[cycle(evaluate)]
+#[tactic(auto, unfolding(cql_syntax::specs::Meaning::value))]
+fn parts_ends(
+    alloc: Global,
+    parts: &Constituents,
+    steps: &[Option<Reached>],
+    starts: &[bool],
+    game: &Game,
+    variations: bool,
+    context: &[Mapping],
+    names: &Names,
+) -> Result<Vec<bool>, NoMemory>
+    requires tree { IsTree game.now.nodes }
+    requires nodes { length steps.now ≡ length game.now.nodes }
+    requires steps { AreSteps steps.now }
+    requires starts { length starts.now ≡ length steps.now + 1 }
+    ensures { IfOk result (λ ends. EndsOf steps.now
+        (meaning.pattern (searched_tree game.now variations) context.now names.now (parts_tree parts.now)) starts.now ends.items) }
+{
+    let mut places = where_counted(alloc, true, starts)?;
+    for part in parts.as_slice() {
+        let least = least_of(part.mark);
+        let most = most_of(part.mark, steps.len() as u32);
+        places = repeat(
+            alloc,
+            &part.body,
+            least,
+            most,
+            steps,
+            places.as_slice(),
+            game,
+            variations,
+            context,
+            names,
+        )?;
+    }
+    Ok(places)
+}
+
+fn least_of(mark: Mark) -> u32
+    ensures { result ≡ least_times mark }
+{
+    match mark {
+        Mark::Once | Mark::Plus => 1,
+        Mark::Star | Mark::Maybe => 0,
+        Mark::Times(least, _) => least,
+    }
+}
+
+fn most_of(mark: Mark, nodes: u32) -> u32
+    requires { nodes ≤ 65536 }
+    ensures { result ≡ most_times mark nodes }
+{
+    match mark {
+        Mark::Once | Mark::Maybe => 1,
+        Mark::Star => nodes,
+        Mark::Plus => nodes + 1,
+        Mark::Times(_, most) => most,
+    }
+}
+
+/// The places at which a part ends that stands a number of times, from the least to the most.
+#[cycle(evaluate)]
+fn repeat(
+    alloc: Global,
+    body: &Body,
+    least: u32,
+    most: u32,
+    steps: &[Option<Reached>],
+    starts: &[bool],
+    game: &Game,
+    variations: bool,
+    context: &[Mapping],
+    names: &Names,
+) -> Result<Vec<bool>, NoMemory>
+    requires tree { IsTree game.now.nodes }
+    requires nodes { length steps.now ≡ length game.now.nodes }
+    requires steps { AreSteps steps.now }
+    requires starts { length starts.now ≡ length steps.now + 1 }
+    ensures { IfOk result (λ ends. EndsOf steps.now (repeated least (Some most)
+        (meaning.body_pattern (searched_tree game.now variations) context.now names.now (body_tree body.now))) starts.now ends.items) }
+{
+    let mut here = where_counted(alloc, true, starts)?;
+    let mut ends = where_counted(alloc, least == 0, starts)?;
+    for times in 0..most {
+        if !has_some(&here) {
+            return Ok(ends);
+        }
+        let next = body_ends(alloc, body, steps, &here, game, variations, context, names)?;
+        here = fresh(alloc, least <= times + 1, &next, &ends)?;
+        ends = with_next(alloc, least <= times + 1, &next, &ends)?;
+    }
+    Ok(ends)
+}
+
+/// The places at which a part ends that stands once.
+#[cycle(evaluate)]
+#[tactic(auto, unfolding(cql_syntax::specs::Meaning::value))]
+fn body_ends(
+    alloc: Global,
+    body: &Body,
+    steps: &[Option<Reached>],
+    starts: &[bool],
+    game: &Game,
+    variations: bool,
+    context: &[Mapping],
+    names: &Names,
+) -> Result<Vec<bool>, NoMemory>
+    requires tree { IsTree game.now.nodes }
+    requires nodes { length steps.now ≡ length game.now.nodes }
+    requires steps { AreSteps steps.now }
+    requires starts { length starts.now ≡ length steps.now + 1 }
+    ensures { IfOk result (λ ends. EndsOf steps.now
+        (meaning.body_pattern (searched_tree game.now variations) context.now names.now (body_tree body.now)) starts.now ends.items) }
+{
+    match body {
+        Body::Atom(filter) => {
+            atom_ends(
+                alloc, filter, steps, starts, game, variations, context, names,
+            )
+        }
+        Body::Group(parts) => {
+            parts_ends(
+                alloc, parts, steps, starts, game, variations, context, names,
+            )
+        }
+    }
+}
+
+/// The places after the nodes to which a path goes on from some place, and at which a filter holds.
+#[cycle(evaluate)]
+fn atom_ends(
+    alloc: Global,
+    filter: &Filter,
+    steps: &[Option<Reached>],
+    starts: &[bool],
+    game: &Game,
+    variations: bool,
+    context: &[Mapping],
+    names: &Names,
+) -> Result<Vec<bool>, NoMemory>
+    requires tree { IsTree game.now.nodes }
+    requires nodes { length steps.now ≡ length game.now.nodes }
+    requires steps { AreSteps steps.now }
+    requires starts { length starts.now ≡ length steps.now + 1 }
+    ensures { IfOk result (λ ends. EndsOf steps.now
+        (one (meaning.value (searched_tree game.now variations) context.now names.now (filter_tree filter.now))) starts.now ends.items) }
+{
+    let mut ends = Vec::new(alloc);
+    ends.push(false)?;
+    for k in 0..game.len() {
+        let passes = passes(
+            alloc, filter, steps, starts, k, game, variations, context, names,
+        )?;
+        ends.push(passes)?;
+    }
+    Ok(ends)
+}
+
+/// Whether a path goes on from some place to a node at which a filter holds.
+#[cycle(evaluate)]
+fn passes(
+    alloc: Global,
+    filter: &Filter,
+    steps: &[Option<Reached>],
+    starts: &[bool],
+    k: u32,
+    game: &Game,
+    variations: bool,
+    context: &[Mapping],
+    names: &Names,
+) -> Result<bool, NoMemory>
+    requires tree { IsTree game.now.nodes }
+    requires node { k < length game.now.nodes }
+    requires nodes { length steps.now ≡ length game.now.nodes }
+    requires steps { AreSteps steps.now }
+    requires starts { length starts.now ≡ length steps.now + 1 }
+    ensures { IfOk result (λ b. b ≡ (goes_from starts.now (get_or steps.now k None)
+        && spec.holds (meaning.value (searched_tree game.now variations) context.now names.now (filter_tree filter.now) k))) }
+{
+    if !comes_from(starts, steps, k) {
+        return Ok(false);
+    }
+    let value = evaluate(alloc, filter, game, variations, k, context, names)?;
+    Ok(value.holds())
 }

@@ -1,7 +1,7 @@
-use Rattle.std.proofs.Common.{rules, ◌≡◌, ◌<◌, ◌∷◌, ◌∙◌, ℕ, Bool, length, ap, sym, subst, arith}
+use Rattle.std.proofs.Common.{rules, ◌≡◌, ◌<◌, ◌∷◌, ◌∙◌, ℕ, Bool, length, ap, sym, subst, arith, ◌+◌, true, false, replicate, drop}
 use Rattle.std.specs.Prelude.{All, IfOk}
 use Rattle.cq_symmetry.specs.Families.{members}
-use Rattle.cql_syntax.specs.TreeOf.{filter_tree, form_tree}
+use Rattle.cql_syntax.specs.TreeOf.{filter_tree, form_tree, body_tree, part_trees, parts_tree}
 use Rattle.cql_syntax.specs.Trees.{filter_at, transform}
 use Rattle.cq_symmetry.specs.Images.{is_in}
 use Rattle.cql_syntax.specs.Meaning as meaning
@@ -11,6 +11,10 @@ use Rattle.cql_plain.specs.Shown.{meant}
 use Rattle.cql_plain.specs.Trees.{searched_tree}
 use Rattle.cql_plain.proofs.Evaluated.{values_more, terms_more, members_more, settled, never_settled, none_more, family_is, word_here}
 use Rattle.cql_plain.proofs.Ways.{below_inside, way_inside, children_inside, parent_inside}
+use Rattle.std.specs.List.{list_any}
+use Rattle.std.proofs.lemmas.Bool.{leb-true, le-leb}
+use Rattle.cql_plain.proofs.LineValue.{line_is}
+use Rattle.cql_plain.proofs.PartEnds.{AreParts, AreTurns, parts_begun, parts_more, parts_end, turns_begun, turns_next, turns_end, turns_stop, atom_law, atom_more}
 use Rattle.cql_plain.proofs.evaluate.+evaluate.Goals as goal
 
 pub values_at-loop-filter-preserved : goal.values_at-loop-filter-preserved
@@ -87,3 +91,61 @@ unary_at-returns-in_ok-value-in_default t c =
     let other = c.in_default in
     c.unary_here.ensures ∙ ap (λ p. of_value p.men c.args.word (meant c.in_ok-value-in_default.value)) c.position.ensures
     ∙ word_here tree c.args.word at c.args.node (meant c.in_ok-value-in_default.value) other.not-Find other.not-FindUp other.not-Child other.not-Parent c.in_ok-value-in_default.ensures
+
+pub lines::line_at-returns : goal.lines::line_at-returns
+lines::line_at-returns t c = c.number_of.ensures ∙ line_is (searched_tree c.args.game.now c.args.variations) c.requires.tree c.args.context.now c.args.names.now c.args.line.now c.args.node
+    c.in_ok-steps.steps.items c.as_slice.result.now c.as_slice-3.result.now c.in_ok-starts.starts.items c.as_slice-2.result.now c.in_ok-ends.ends.items c.as_slice-4.result.now c.longest.result
+    c.in_ok-steps.ensures (c.in_ok-starts.ensures ∙ ap (λ n. true ∷ replicate n false) (c.len.ensures.len ∙ sym c.in_ok-steps.ensures.count)) c.as_slice.ensures.value c.as_slice-2.ensures.value c.in_ok-ends.ensures
+    c.as_slice-3.ensures.value c.as_slice-4.ensures.value c.longest.ensures
+
+pub lines::parts_ends-loop-part-init : goal.lines::parts_ends-loop-part-init
+lines::parts_ends-loop-part-init t c =
+    parts_begun c.args.steps.now c.requires.steps (searched_tree c.args.game.now c.args.variations) c.args.context.now c.args.names.now c.args.starts.now (parts_tree c.args.parts.now)
+    (part_trees c.as_slice-part-items.result.now) c.in_ok-places.places.items c.in_ok-places.ensures c.as_slice-part-items.ensures.tree
+
+pub lines::parts_ends-loop-part-preserved : goal.lines::parts_ends-loop-part-preserved
+lines::parts_ends-loop-part-preserved t c =
+    parts_more c.args.steps.now c.requires.steps (searched_tree c.args.game.now c.args.variations) c.args.context.now c.args.names.now c.args.starts.now (parts_tree c.args.parts.now)
+    c.as_slice-part-items.result.now c.loop-part.part-index c.part-item.result c.least_of-least.result c.most_of-most.result c.loop-part.places.items c.as_slice.result.now c.in_ok-places-2.places.items
+    c.loop-part-test.true c.part-item.is c.least_of-least.ensures c.most_of-most.ensures c.as_slice.ensures.value c.in_ok-places-2.ensures c.loop-part.invariant
+
+pub lines::parts_ends-returns : goal.lines::parts_ends-returns
+lines::parts_ends-returns t c =
+    parts_end c.args.steps.now c.requires.steps (searched_tree c.args.game.now c.args.variations) c.args.context.now c.args.names.now c.args.starts.now (parts_tree c.args.parts.now)
+    c.as_slice-part-items.result.now c.loop-part.part-index c.loop-part.places.items c.loop-part-test.false c.loop-part.invariant
+
+pub lines::repeat-loop-times-init : goal.lines::repeat-loop-times-init
+lines::repeat-loop-times-init t c =
+    turns_begun c.args.steps.now (meaning.body_pattern (searched_tree c.args.game.now c.args.variations) c.args.context.now c.args.names.now (body_tree c.args.body.now)) c.args.least c.args.starts.now
+    c.in_ok-here.here.items c.in_ok-ends.ends.items c.in_ok-here.ensures c.in_ok-ends.ensures
+
+pub lines::repeat-loop-times-preserved : goal.lines::repeat-loop-times-preserved
+lines::repeat-loop-times-preserved t c =
+    turns_next c.args.steps.now (meaning.body_pattern (searched_tree c.args.game.now c.args.variations) c.args.context.now c.args.names.now (body_tree c.args.body.now)) c.args.least c.args.starts.now
+    c.loop-times.times c.loop-times.here.items c.loop-times.ends.items c.in_ok-next.next.items c.deref-in-loop-times.result.now c.deref-in-loop-times-2.result.now c.deref-in-loop-times-3.result.now
+    c.deref-in-loop-times-4.result.now c.deref-in-loop-times-5.result.now c.in_ok-here-2.here.items c.in_ok-ends-2.ends.items _
+    c.deref-in-loop-times.ensures.value c.deref-in-loop-times-2.ensures.value c.deref-in-loop-times-3.ensures.value c.deref-in-loop-times-4.ensures.value c.deref-in-loop-times-5.ensures.value
+    c.in_ok-next.ensures (λ e. leb-true c.args.least (c.loop-times.times + 1) e) (λ h. le-leb c.args.least (c.loop-times.times + 1) h) c.in_ok-here-2.ensures c.in_ok-ends-2.ensures c.loop-times.invariant
+
+pub lines::repeat-returns : goal.lines::repeat-returns
+lines::repeat-returns t c =
+    let all : c.loop-times.times ≡ c.args.most = omega arith in
+    let p = meaning.body_pattern (searched_tree c.args.game.now c.args.variations) c.args.context.now c.args.names.now (body_tree c.args.body.now) in
+    turns_end c.args.steps.now p c.args.least c.args.starts.now c.args.most c.loop-times.here.items c.loop-times.ends.items
+    (subst (λ k. AreTurns c.args.steps.now p c.args.least c.args.starts.now k c.loop-times.here.items c.loop-times.ends.items) all c.loop-times.invariant)
+
+pub lines::repeat-returns-then-not-has_some : goal.lines::repeat-returns-then-not-has_some
+lines::repeat-returns-then-not-has_some t c =
+    let p = meaning.body_pattern (searched_tree c.args.game.now c.args.variations) c.args.context.now c.args.names.now (body_tree c.args.body.now) in
+    turns_stop c.args.steps.now p c.args.least c.args.starts.now c.loop-times.times c.args.most c.loop-times.here.items c.loop-times.ends.items
+    (ap (list_any (λ x. x)) (sym c.deref.ensures.value) ∙ sym c.has_some.ensures ∙ c.if-not-has_some.true) (omega arith) c.loop-times.invariant
+
+pub lines::atom_ends-loop-k-preserved : goal.lines::atom_ends-loop-k-preserved
+lines::atom_ends-loop-k-preserved t c =
+    atom_more c.args.steps.now (meaning.value (searched_tree c.args.game.now c.args.variations) c.args.context.now c.args.names.now (filter_tree c.args.filter.now)) c.args.starts.now
+    c.loop-k.ends.items c.push-in-loop-k.new.self.items c.loop-k.k c.in_ok-passes.passes c.in_ok-passes.ensures c.in_ok-push-2.ensures.items c.loop-k.invariant
+
+pub lines::atom_ends-returns : goal.lines::atom_ends-returns
+lines::atom_ends-returns t c =
+    atom_law c.args.steps.now (meaning.value (searched_tree c.args.game.now c.args.variations) c.args.context.now c.args.names.now (filter_tree c.args.filter.now)) c.args.starts.now
+    c.loop-k.ends.items c.loop-k.k (omega (arith, c.requires.nodes, c.len-k-end.ensures.len)) c.requires.starts c.loop-k.invariant

@@ -1,14 +1,16 @@
-use Rattle.std.proofs.Common.{◌≡◌, ◌∷◌, take, drop, map, false}
+use Rattle.std.proofs.Common.{◌≡◌, ◌∷◌, take, drop, map, false, ◌&&◌, get_or, None}
 use Rattle.std.specs.List.{list_any, range_with_len}
 use Rattle.cq_symmetry.specs.Families.{members}
 use Rattle.cq_symmetry.specs.Images.{is_in}
-use Rattle.cql_syntax.specs.TreeOf.{filter_tree, filter_trees, term_trees}
+use Rattle.cql_syntax.specs.TreeOf.{filter_tree, filter_trees, term_trees, body_tree, part_trees, parts_tree}
 use Rattle.cql_syntax.specs.Meaning as meaning
 use Rattle.cql_syntax.specs.Values as spec
 use Rattle.cql_plain.specs.Asked.{settles}
 use Rattle.cql_plain.specs.Members.{values_in_members}
 use Rattle.cql_plain.specs.Shown.{meant, terms_meant}
 use Rattle.cql_plain.specs.Trees.{searched_tree}
+use Rattle.cql_plain.specs.Paths.{comes_from}
+use Rattle.cql_plain.proofs.PartEnds.{AreParts, AreTurns}
 use Rattle.cql_plain.proofs.evaluate.+evaluate.Given as goal
 
 abbrev pub invariant-values_at-loop-filter : goal.invariant-values_at-loop-filter
@@ -32,3 +34,16 @@ invariant-square_at-loop-number l =
 abbrev pub invariant-member_values-loop-k : goal.invariant-member_values-loop-k
 invariant-member_values-loop-k l =
     map meant l.values.items ≡ values_in_members (searched_tree l.game l.variations) l.context l.names (take l.k (members l.family)) (filter_tree l.part) l.node
+
+abbrev pub invariant-lines::parts_ends-loop-part : goal.invariant-lines::parts_ends-loop-part
+invariant-lines::parts_ends-loop-part l =
+    AreParts l.steps (searched_tree l.game l.variations) l.context l.names l.starts (parts_tree l.parts) (part_trees (drop l.part-index l.part-items)) l.places.items
+
+abbrev pub invariant-lines::repeat-loop-times : goal.invariant-lines::repeat-loop-times
+invariant-lines::repeat-loop-times l =
+    AreTurns l.steps (meaning.body_pattern (searched_tree l.game l.variations) l.context l.names (body_tree l.body)) l.least l.starts l.times l.here.items l.ends.items
+
+abbrev pub invariant-lines::atom_ends-loop-k : goal.invariant-lines::atom_ends-loop-k
+invariant-lines::atom_ends-loop-k l =
+    l.ends.items ≡ false ∷ map (λ k. comes_from l.starts (get_or l.steps k None)
+    && spec.holds (meaning.value (searched_tree l.game l.variations) l.context l.names (filter_tree l.filter) k)) (range_with_len 0 l.k)

@@ -1,0 +1,6 @@
+use Rattle.cql_plain.specs.Paths.{IsGreatest}
+use Rattle.cql_plain.proofs.Lengths.{IsLengthBelow}
+use Rattle.cql_plain.proofs.paths.longest.Given as goal
+
+abbrev pub invariant-loop-k : goal.invariant-loop-k
+invariant-loop-k l = IsGreatest (IsLengthBelow l.k l.steps l.ends l.extent) l.best
