@@ -6,6 +6,8 @@ mod asked;
 #[cfg(test)]
 mod failing;
 mod games;
+#[cfg(test)]
+mod meaning_rows;
 mod query_lines;
 #[cfg(test)]
 mod query_rows;

@@ -10,10 +10,10 @@ use std::thread::Threads;
 const USAGE: &str = "usage: cqlpgn MODE QUERY [ARCHIVE] [--workers N] [--seed S] [--games G]\n";
 
 /// A game as it is written: its FEN text or none, its result and its movetext.
-type Written<'a> = (&'a str, &'a str, &'a str);
+pub type Written<'a> = (&'a str, &'a str, &'a str);
 
 /// The text of a game in export format, whose tags have their defaults.
-fn written(alloc: Global, game: Written<'_>) -> Result<Bytes, NoMemory> {
+pub fn written(alloc: Global, game: Written<'_>) -> Result<Bytes, NoMemory> {
     let (fen, result, movetext) = game;
     let mut text = Bytes::new(alloc);
     text.push_all(b"[Event \"?\"]\n[Site \"?\"]\n[Date \"????.??.??\"]\n[Round \"?\"]\n")?;
@@ -257,7 +257,6 @@ fn other_words_and_other_queries_are_turned_away(rt: HostRuntime) -> Result<(), 
     let none = b"".as_slice();
     for (mode, query, status, text) in [
         ("eval", "cql() sort \"p\" power A", Status::NotYetRead, ""),
-        ("eval", "cql() Ka1 check", Status::NotYetRead, ""),
         (
             "eval",
             "cql() echo",
@@ -288,7 +287,12 @@ fn a_query_is_answered_over_a_source(rt: HostRuntime) -> Result<(), Fail> {
             text.as_slice(),
             "games 1 matched 1 refused 0\n",
         ),
-        ("cql() check", Status::NotYetRead, b"".as_slice(), ""),
+        (
+            "cql() sort \"p\" power A",
+            Status::NotYetRead,
+            b"".as_slice(),
+            "",
+        ),
     ] {
         let query = read_query(alloc, query.as_bytes())?;
         let mut source = SureSource::new(Bytes::from_slice(alloc, b"1. e4 e5 *")?);

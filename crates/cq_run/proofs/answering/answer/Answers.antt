@@ -43,4 +43,3 @@ returns-clause-answers g c =
       counts = c.in-Ok.ensures.cause;
       answers = answers;
     })
-
