@@ -1,24 +1,18 @@
 -- The items of a query one by one, and the nodes of a game.
-use Rattle.std.proofs.Common.{◌≤◌, ◌||◌, nat_lt, Some, AllPairs, All, ◌≡◌, ℕ, ◌+◌, ◌<◌, Bool, true, false, ◌&&◌, List, [], ◌∷◌, ◌++◌, length, get_or, refl, sym, ap, ◌∙◌, arith, map, take}
+use Rattle.std.proofs.Common.{◌||◌, AllPairs, All, ◌≡◌, ℕ, ◌+◌, ◌<◌, Bool, true, false, ◌&&◌, List, [], ◌∷◌, ◌++◌, length, get_or, refl, sym, ap, ◌∙◌, arith, map, take}
 use Rattle.std.specs.Prelude.{cond, if◌then◌else◌}
 use Rattle.std.specs.List.{list_all, list_any, filter, range_with_len}
-use Rattle.std.proofs.lemmas.Bool.{lt-ltb}
-use Rattle.std.proofs.lemmas.List.Sums.{AllPass-from_list_all}
-use Rattle.cq_geometry.specs.Squares.{squares}
-use Rattle.cq_position.specs.declared.men.Man.{Man}
-use Rattle.cql_syntax.specs.Contexts.{designator_image}
-use Rattle.cql_syntax.specs.declared.leaves.Designator.{Designator}
-use Rattle.std.proofs.lemmas.List.Folds.{list_any_at, list_any_more, list_all-map, list_all_more, list_all_at}
-use Rattle.std.proofs.lemmas.List.{map-id, append-nil, take_all}
+use Rattle.std.proofs.lemmas.List.Folds.{list_all-map, list_all_more, list_all_at}
+use Rattle.std.proofs.lemmas.List.{map-id, append-nil}
 use Rattle.std.proofs.lemmas.List.Kept.{AllPairs-filter}
 use Rattle.std.proofs.lemmas.List.Elements.{All-filter}
 use Rattle.std.proofs.lemmas.List.FromFn.{length-range_with_len, get_or-range_with_len, filter_of_map_range_with_len_more}
 use Rattle.cq_position.specs.Games.{Game, is_searched, searched}
 use Rattle.cq_position.specs.Search.{SearchedTree}
 use Rattle.cql_syntax.specs.Hits.{is_hit, tree_of, hits}
-use Rattle.cql_syntax.specs.Meaning.{value, values, standing_of, position_at}
+use Rattle.cql_syntax.specs.Meaning.{value, values}
 use Rattle.cql_syntax.specs.TreeOf.{filter_tree, filter_trees}
-use Rattle.cql_syntax.specs.Trees.{FilterTrees, QueryTree, filter_at, designator}
+use Rattle.cql_syntax.specs.Trees.{FilterTrees, QueryTree}
 use Rattle.cql_syntax.specs.Values.{holds}
 use Rattle.cql_syntax.specs.declared.tree.Filter.{Filter}
 use Rattle.cq_hits.specs.Sorts.{is_sort, have_sort}

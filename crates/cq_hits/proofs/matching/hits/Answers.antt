@@ -4,16 +4,16 @@ use Rattle.cql_syntax.specs.Hits.{is_hit, tree_of}
 use Rattle.cql_syntax.specs.TreeOf.{query_tree}
 use Rattle.cq_hits.proofs.Items.{found_below, one_found, none_found, all_found, hits_increase, hits_are_inside}
 use Rattle.cq_hits.proofs.matching.hits.Goals as goal
-use Rattle.cq_hits.proofs.matching.hits.Goals.{then-is_found+in_ok-push, else-is_found}
+use Rattle.cq_hits.proofs.matching.hits.Goals.{then-branch+in_ok-push, else-branch}
 
 pub loop-k-preserved : goal.loop-k-preserved
 loop-k-preserved c =
     let searched = is_searched c.args.query.now.variations c.args.game.now.nodes in
     let hit = is_hit (tree_of (query_tree c.args.query.now) c.args.game.now) (query_tree c.args.query.now).items in
-    elim c.if-is_found.branch [
-      | then-is_found+in_ok-push w ↦ ap (λ v. v.items) w.found-is ∙ w.in_ok-push.ensures.items ∙ ap (λ found. found ++ c.loop-k.k ∷ []) c.loop-k.invariant
-          ∙ sym (one_found searched hit c.loop-k.k (sym c.is_found.ensures ∙ w.if-is_found.true))
-      | else-is_found w ↦ ap (λ v. v.items) w.found-is ∙ c.loop-k.invariant ∙ sym (none_found searched hit c.loop-k.k (sym c.is_found.ensures ∙ w.if-is_found.false))
+    elim c.if-branch.branch [
+      | then-branch+in_ok-push w ↦ ap (λ v. v.items) w.found-is ∙ w.in_ok-push.ensures.items ∙ ap (λ found. found ++ c.loop-k.k ∷ []) c.loop-k.invariant
+          ∙ sym (one_found searched hit c.loop-k.k (sym c.in_ok-is_found.ensures ∙ w.if-branch.true))
+      | else-branch w ↦ ap (λ v. v.items) w.found-is ∙ c.loop-k.invariant ∙ sym (none_found searched hit c.loop-k.k (sym c.in_ok-is_found.ensures ∙ w.if-branch.false))
     ]
 
 pub returns : goal.returns
