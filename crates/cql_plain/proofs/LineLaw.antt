@@ -1,7 +1,7 @@
 -- The greatest length of the paths that a pattern spells is that of the places at which it ends.
-use Rattle.std.proofs.Common.{◌≡◌, ℕ, zero, suc, ◌+◌, ◌<◌, ◌≤◌, max, pos, Bool, true, false, ◌&&◌, List, [], ◌∷◌, length, get_or, replicate, Option, Some, None, option_map, refl, sym, ap, ap₂, ◌∙◌, subst, arith, inl, inr}
-use Rattle.std.specs.Prelude.{◌⊎◌, ◌↔◌, Contains, if◌then◌else◌}
-use Rattle.cq_outside.specs.Spelling.{Pattern, Spells, spells}
+use Rattle.std.proofs.Common.{◌≡◌, ℕ, zero, suc, ◌+◌, ◌<◌, ◌≤◌, max, pos, Bool, true, false, ◌&&◌, List, [], ◌∷◌, length, get_or, replicate, Option, Some, None, option_map, refl, sym, ap, ◌∙◌, subst, arith, inl, inr}
+use Rattle.std.specs.Prelude.{◌⊎◌, Contains, if◌then◌else◌}
+use Rattle.cq_outside.specs.Spelling.{Pattern, spells}
 use Rattle.cq_outside.proofs.SpellingLaw.{spelling_law}
 use Rattle.cq_position.specs.Games.{IsTree}
 use Rattle.cq_position.specs.Search.{SearchedTree, IsStep, Along, IsPath, paths}
@@ -9,9 +9,9 @@ use Rattle.cq_position.proofs.Paths.{paths_law}
 use Rattle.cql_syntax.specs.Meaning.{allows, longer, longest, line_of}
 use Rattle.cql_syntax.specs.Values.{Value, as_number, holds}
 use Rattle.cql_syntax.specs.declared.extents.Extent.{Extent}
-use Rattle.cql_plain.specs.Lines.{holds_of, EndsOf}
+use Rattle.cql_plain.specs.Lines.{EndsOf}
 use Rattle.cql_plain.specs.Paths.{GoesTo, length_at, AreSteps, ArePaths, IsLength, IsGreatest, with_number}
-use Rattle.cql_plain.specs.Places.{Slice, IsEnd, IsIn, AreEnds}
+use Rattle.cql_plain.specs.Places.{Slice, IsIn}
 use Rattle.cql_plain.specs.declared.paths.Reached.{Reached}
 use Rattle.cql_plain.proofs.Lengths.{greatest_with, left, right}
 

@@ -1,15 +1,15 @@
 -- The places at which the parts of a line end: loops over parts, over how often a part stands, and over nodes.
-use Rattle.std.proofs.Common.{◌≡◌, ℕ, zero, suc, ◌+◌, ◌<◌, ◌≤◌, Bool, true, false, not, ◌&&◌, ◌||◌, nat_le, nat_eq, List, [], ◌∷◌, ◌++◌, map, take, drop, length, get_or, Option, Some, None, refl, sym, ap, ap₂, ◌∙◌, subst, arith, inl, inr, eqb-true}
+use Rattle.std.proofs.Common.{◌≡◌, ℕ, zero, suc, ◌+◌, ◌<◌, ◌≤◌, Bool, true, false, not, ◌&&◌, ◌||◌, nat_eq, List, [], ◌∷◌, ◌++◌, map, drop, length, get_or, Option, Some, None, refl, sym, ap, ap₂, ◌∙◌, subst, arith, inl, inr, eqb-true}
 use Rattle.std.specs.Prelude.{◌⊎◌, ◌↔◌, zip}
 use Rattle.std.specs.List.{list_any, range_with_len}
 use Rattle.std.proofs.lemmas.Bool.{cases_lt, cases_Bool, eq-eqb}
 use Rattle.std.proofs.lemmas.List.{get_or_past, length-map, get_or-map}
 use Rattle.std.proofs.lemmas.List.FromFn.{length-range_with_len, get_or-range_with_len, map-range_with_len_more}
-use Rattle.cq_outside.specs.Spelling.{Pattern, one, nothing, joined, repeated}
+use Rattle.cq_outside.specs.Spelling.{Pattern, one, repeated}
 use Rattle.cq_position.specs.Search.{SearchedTree}
 use Rattle.cql_syntax.specs.Contexts.{Context}
 use Rattle.cql_syntax.specs.Meaning.{Names, marked, pattern, body_pattern, value}
-use Rattle.cql_syntax.specs.Trees.{PartTrees, BodyTree}
+use Rattle.cql_syntax.specs.Trees.{PartTrees}
 use Rattle.cql_syntax.specs.TreeOf.{body_tree, part_trees}
 use Rattle.cql_syntax.specs.Values.{Value, holds}
 use Rattle.cql_syntax.specs.declared.leaves.Mark.{Mark}
@@ -17,11 +17,11 @@ use Rattle.cql_syntax.specs.declared.leaves.Mark.TheVariants.{Once, Star, Plus, 
 use Rattle.cql_syntax.specs.declared.tree.Constituent.{Constituent}
 use Rattle.cql_plain.specs.Lines.{holds_of, EndsOf, least_times, most_times}
 use Rattle.cql_plain.specs.Paths.{place_before, GoesTo, AreSteps, comes_from}
-use Rattle.cql_plain.specs.Places.{IsEnd, IsIn, AreEnds}
+use Rattle.cql_plain.specs.Places.{IsEnd, IsIn}
 use Rattle.cql_plain.specs.declared.paths.Reached.{Reached}
 use Rattle.cql_plain.proofs.LineLaw.{short}
 use Rattle.cql_plain.proofs.Lengths.{left, right}
-use Rattle.cql_plain.proofs.PatternEnds.{Turns, IsBegun, begun, IsTurn, turned, stopped, IsRepeated, repeated_law, once_law, any_most, star_few, plus_few, joined_law, nothing_law, one_law, IsNext, more_ends}
+use Rattle.cql_plain.proofs.PatternEnds.{Turns, begun, turned, stopped, repeated_law, once_law, any_most, star_few, plus_few, joined_law, nothing_law, one_law, IsNext, more_ends}
 
 -- sets made of others
 get_zip : (f : Bool → Bool → Bool) → f false false ≡ false → (xs ys : List Bool) → length ys ≡ length xs → (j : ℕ)

@@ -1,12 +1,12 @@
 -- How the paths down from a node reach the others, as the list is filled.
-use Rattle.std.proofs.Common.{◌≡◌, ℕ, zero, suc, ◌+◌, ◌<◌, ◌≤◌, Bool, true, false, not, ◌||◌, List, [], ◌∷◌, ◌++◌, length, get_or, Option, Some, None, refl, sym, ap, ◌∙◌, subst, arith, inl, inr, add-one, eqb-true, length-append}
+use Rattle.std.proofs.Common.{◌≡◌, ℕ, zero, suc, ◌+◌, ◌<◌, ◌≤◌, Bool, true, false, not, ◌||◌, List, [], ◌∷◌, ◌++◌, length, get_or, Option, Some, None, refl, sym, ap, ◌∙◌, subst, arith, inl, inr, eqb-true, length-append}
 use Rattle.std.specs.Prelude.{◌⊎◌, ◌==◌, if◌then◌else◌, option_map}
-use Rattle.std.proofs.lemmas.Bool.{cases_lt, cases_Bool, eq-eqb, ne_eqb, cases_eq}
+use Rattle.std.proofs.lemmas.Bool.{cases_lt, eq-eqb, ne_eqb}
 use Rattle.std.proofs.lemmas.List.{get_or_past}
 use Rattle.cq_position.specs.Games.{Node, no_node, node_at, is_first_child, is_searched, IsTree}
-use Rattle.cq_position.specs.Search.{SearchedTree, IsStepDown, IsStepUp}
+use Rattle.cq_position.specs.Search.{SearchedTree, IsStepDown}
 use Rattle.cq_position.proofs.Trees.{tree_first}
-use Rattle.cql_plain.specs.Paths.{place_before, GoesTo, nodes_to, length_at, AreSteps, ArePaths, above, searched_above, reached_by, reached_down_by}
+use Rattle.cql_plain.specs.Paths.{place_before, GoesTo, nodes_to, length_at, ArePaths, above, searched_above, reached_by, reached_down_by}
 use Rattle.cql_plain.specs.declared.paths.Reached.{Reached}
 
 -- the end of a list

@@ -1,13 +1,12 @@
 -- How the paths up from a node reach the others, as the list is filled.
-use Rattle.std.proofs.Common.{◌≡◌, ◌≢◌, ℕ, zero, suc, ◌+◌, ◌<◌, ◌≤◌, Bool, true, false, List, [], ◌∷◌, length, get_or, replicate, Option, Some, None, refl, sym, ap, ◌∙◌, subst, arith, inl, inr, get_or-set_other, get_or-set_same, length-set}
+use Rattle.std.proofs.Common.{◌≡◌, ◌≢◌, ℕ, zero, suc, ◌+◌, ◌<◌, ◌≤◌, Bool, true, List, length, get_or, replicate, Option, Some, None, refl, sym, ap, ◌∙◌, subst, arith, inl, inr, get_or-set_other, get_or-set_same, length-set}
 use Rattle.std.specs.Prelude.{◌⊎◌, slice_set}
-use Rattle.std.proofs.lemmas.Bool.{cases_lt, cases_eq}
-use Rattle.std.proofs.lemmas.List.{get_or_past}
-use Rattle.cq_position.specs.Games.{Node, no_node, node_at, is_first_child, is_searched, IsTree}
-use Rattle.cq_position.specs.Search.{SearchedTree, IsStepDown, IsStepUp}
-use Rattle.cql_plain.specs.Paths.{place_before, GoesTo, nodes_to, length_at, AreSteps, ArePaths, above}
+use Rattle.std.proofs.lemmas.Bool.{cases_eq}
+use Rattle.cq_position.specs.Games.{IsTree}
+use Rattle.cq_position.specs.Search.{SearchedTree, IsStepUp}
+use Rattle.cql_plain.specs.Paths.{place_before, GoesTo, nodes_to, length_at, ArePaths, above}
 use Rattle.cql_plain.specs.declared.paths.Reached.{Reached}
-use Rattle.cql_plain.proofs.PathsDown.{some_same, IsAbove, above_is, is_above, parent_before}
+use Rattle.cql_plain.proofs.PathsDown.{some_same, above_is, is_above, parent_before}
 
 -- the path came to a node from another that is one step below it, and has one node more
 pub record IsFrom (tree : SearchedTree) (primary : Bool) (steps : List (Option Reached)) (k before nodes : ℕ) : Type 0 where

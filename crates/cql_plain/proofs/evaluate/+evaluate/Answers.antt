@@ -1,4 +1,4 @@
-use Rattle.std.proofs.Common.{rules, ◌≡◌, ◌<◌, ◌∷◌, ◌∙◌, ℕ, Bool, length, ap, sym, subst, arith, ◌+◌, true, false, replicate, drop}
+use Rattle.std.proofs.Common.{rules, ◌≡◌, ◌<◌, ◌∷◌, ◌∙◌, ℕ, Bool, length, ap, sym, subst, arith, ◌+◌, true, false, replicate}
 use Rattle.std.specs.Prelude.{All, IfOk}
 use Rattle.cq_symmetry.specs.Families.{members}
 use Rattle.cql_syntax.specs.TreeOf.{filter_tree, form_tree, body_tree, part_trees, parts_tree}
@@ -14,7 +14,7 @@ use Rattle.cql_plain.proofs.Ways.{below_inside, way_inside, children_inside, par
 use Rattle.std.specs.List.{list_any}
 use Rattle.std.proofs.lemmas.Bool.{leb-true, le-leb}
 use Rattle.cql_plain.proofs.LineValue.{line_is}
-use Rattle.cql_plain.proofs.PartEnds.{AreParts, AreTurns, parts_begun, parts_more, parts_end, turns_begun, turns_next, turns_end, turns_stop, atom_law, atom_more}
+use Rattle.cql_plain.proofs.PartEnds.{AreTurns, parts_begun, parts_more, parts_end, turns_begun, turns_next, turns_end, turns_stop, atom_law, atom_more}
 use Rattle.cql_plain.proofs.evaluate.+evaluate.Goals as goal
 
 pub values_at-loop-filter-preserved : goal.values_at-loop-filter-preserved

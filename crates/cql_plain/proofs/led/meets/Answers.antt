@@ -1,4 +1,4 @@
-use Rattle.std.proofs.Common.{◌≡◌, ap, ap₂, sym, ◌∙◌, option_map}
+use Rattle.std.proofs.Common.{ap, ap₂, sym, ◌∙◌, option_map}
 use Rattle.cql_syntax.specs.Meaning as meaning
 use Rattle.cql_plain.specs.Shown.{meant}
 use Rattle.cql_plain.proofs.led.meets.Goals as goal

@@ -1,4 +1,4 @@
-use Rattle.std.proofs.Common.{ap, sym, arith}
+use Rattle.std.proofs.Common.{ap, arith}
 use Rattle.cql_plain.specs.Paths.{nodes_to}
 use Rattle.cql_plain.proofs.paths.reached_down.Goals as goal
 

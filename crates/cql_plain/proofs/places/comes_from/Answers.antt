@@ -1,4 +1,4 @@
-use Rattle.std.proofs.Common.{ap, sym, ◌∙◌, arith}
+use Rattle.std.proofs.Common.{ap, arith}
 use Rattle.cql_plain.specs.Paths.{place_before}
 use Rattle.cql_plain.proofs.places.comes_from.Goals as goal
 
