@@ -83,10 +83,11 @@ marker_is r bytes (w, k, d) =
     ∙ ap (λ z. bytes_eq bytes (codes "1-0") || bytes_eq bytes (codes "0-1") || z) (sym (equal_is bytes (codes "1/2-1/2")))
 
 results_push : (r : Results) (bytes : List ℕ) (b : ℕ) → BeginResults r bytes → BeginResults (results_after r (length bytes) b) (bytes ++ b ∷ [])
-results_push r bytes b (w, k, d) =
-    (ap (λ t. t && begins_further (codes "1-0") (length bytes) b) w ∙ sym (begins_push bytes (codes "1-0") b),
-     ap (λ t. t && begins_further (codes "0-1") (length bytes) b) k ∙ sym (begins_push bytes (codes "0-1") b),
-     ap (λ t. t && begins_further (codes "1/2-1/2") (length bytes) b) d ∙ sym (begins_push bytes (codes "1/2-1/2") b))
+results_push r bytes b (w, k, d) = (
+  ap (λ t. t && begins_further (codes "1-0") (length bytes) b) w ∙ sym (begins_push bytes (codes "1-0") b),
+  ap (λ t. t && begins_further (codes "0-1") (length bytes) b) k ∙ sym (begins_push bytes (codes "0-1") b),
+  ap (λ t. t && begins_further (codes "1/2-1/2") (length bytes) b) d ∙ sym (begins_push bytes (codes "1/2-1/2") b),
+)
 
 results_begin : (b : ℕ) → BeginResults (results_from b) (b ∷ [])
 results_begin b = (grind (arith, nat_tests), grind (arith, nat_tests), grind (arith, nat_tests))

@@ -95,9 +95,10 @@ gains_on a b c xs ys p q r one two = record {
   spans = two.spans ∙ ap (λ l. l ++ two.gained) one.spans ∙ append_assoc p one.gained two.gained;
   stands = λ fed stands.
       let here = one.stands fed stands in
-      let next = two.stands (fed ++ xs) here.0 in
-      (subst (Stands c) (append_assoc fed xs ys) next.0,
-       ap closed (sym (append_assoc fed xs ys)) ∙ next.1 ∙ ap (λ g. g ++ two.gained) here.1 ∙ append_assoc (closed fed) one.gained two.gained);
+      let next = two.stands (fed ++ xs) here.0 in (
+        subst (Stands c) (append_assoc fed xs ys) next.0,
+        ap closed (sym (append_assoc fed xs ys)) ∙ next.1 ∙ ap (λ g. g ++ two.gained) here.1 ∙ append_assoc (closed fed) one.gained two.gained,
+      );
 }
 
 -- the games that are new

@@ -47,11 +47,7 @@ fn bad_byte(at: u64) -> Look
 }
 
 /// Appends up to two spans, or leaves them as they are.
-fn append(
-    spans: &mut Vec<Span>,
-    first: Option<Span>,
-    second: Option<Span>,
-) -> Result<(), NoMemory>
+fn append(spans: &mut Vec<Span>, first: Option<Span>, second: Option<Span>) -> Result<(), NoMemory>
     ensures ok { OnOk result (spans.new.items ≡ spans.old.items ++ (option_to_list first ++ option_to_list second)) }
     ensures err { OnErr result (spans.new.items ≡ spans.old.items) }
 {

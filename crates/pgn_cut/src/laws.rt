@@ -15,9 +15,9 @@ ghost use Rattle.pgn_cut.specs.OneGame.{IsGameOfCut, IsGameIn, IsUncut, IsEndedB
 ghost use Rattle.pgn_cut.specs.declared.span.Span.{Span as ASpan};
 ghost use Rattle.pgn_cut.specs.Spans.{EndsBy, AreInOrder, FinishesAt};
 
-use pgn_lexer::{white_space_is_passed, whole_lexemes_stay,
+use pgn_lexer::{
     fronts_settle, lexemes_are_local, lexemes_are_spelled, lexemes_follow, lexemes_stand_apart,
-    readings_are_longest, readings_grow,
+    readings_are_longest, readings_grow, white_space_is_passed, whole_lexemes_stay,
 };
 
 /// The games of a cut stand in their archive in order, each with at least one byte, and don't overlap.

@@ -15,6 +15,9 @@ mod tests;
 pub mod whole;
 
 pub use cutter::Cutter;
-pub use laws::{closed_games_stay, open_lexemes_settle, games_end_once, games_have_their_tokens, games_stand_apart};
+pub use laws::{
+    closed_games_stay, games_end_once, games_have_their_tokens, games_stand_apart,
+    open_lexemes_settle,
+};
 pub use span::Span;
 pub use whole::cut_whole;

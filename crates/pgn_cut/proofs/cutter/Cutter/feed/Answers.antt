@@ -29,9 +29,11 @@ loop-at-preserved c =
     c.requires.0 c.requires.1 c.requires.2 c.loop-at.invariant c.in-Ok.ensures.took.1 c.in-Ok.ensures.gained
 
 pub returns-in-Err-clause-unchanged : goal.returns-in-Err-clause-unchanged
-returns-in-Err-clause-unchanged c =
-    (refl, c.truncate.ensures.items ∙ feeding_back c.args.self.now c.loop-at.cutter c.args.piece.now c.loop-at.at c.args.spans.now.items c.loop-at.spans.items c.turn.new.spans.items c.len-before.result
-    c.loop-at.invariant c.in-Err.ensures.err (c.len-before.ensures ∙ c.args.spans.now.ok.0))
+returns-in-Err-clause-unchanged c = (
+  refl,
+  c.truncate.ensures.items ∙ feeding_back c.args.self.now c.loop-at.cutter c.args.piece.now c.loop-at.at c.args.spans.now.items c.loop-at.spans.items c.turn.new.spans.items c.len-before.result
+      c.loop-at.invariant c.in-Err.ensures.err (c.len-before.ensures ∙ c.args.spans.now.ok.0),
+)
 
 pub returns : goal.returns
 returns c =
