@@ -101,24 +101,26 @@ fn cut_in_pieces(alloc: Global, archive: &[u8], size: usize) -> Result<Vec<Span>
     Ok(spans)
 }
 
-/// How many bytes the pieces of an archive have.
-static SIZES: [usize; 4] = [1, 2, 3, 7];
+/// Whether an archive has the same games whole and in pieces of so many bytes.
+fn pieces_agree(alloc: Global, archive: &[u8], size: usize) -> Result<bool, NoMemory>
+    requires some { 0 < size }
+    requires size { size < 2 ^ 32 }
+    requires few { length archive.now < 2 ^ 62 }
+{
+    let pieces = cut_in_pieces(alloc, archive, size)?;
+    let whole = cut_whole(alloc, archive)?;
+    Ok(pieces.as_slice() == whole.as_slice())
+}
 
 #[test]
 fn pieces_of_any_size_have_the_same_games(rt: HostRuntime) -> Result<(), Fail> {
     open_lexemes_settle();
-    for (archive, want) in ROWS.iter() {
-        for size in SIZES.iter() {
-            assert!(rt; archive.len() <= 64);
-            assert!(rt; *size > 0 && *size <= 64);
-            let found = cut_in_pieces(rt.alloc(), archive, *size)?;
-            assert_eq!(rt; found.len(), want.len(), "in {archive:?}");
-            for (game, (start, end, first)) in found.iter().zip(want.iter()) {
-                assert_eq!(rt; game.start, *start, "in {archive:?}");
-                assert_eq!(rt; game.end, *end, "in {archive:?}");
-                assert_eq!(rt; game.first, *first, "in {archive:?}");
-            }
-        }
+    for (archive, _games) in ROWS.iter() {
+        assert!(rt; archive.len() <= 64);
+        assert!(rt; pieces_agree(rt.alloc(), archive, 1)?, "in {archive:?}");
+        assert!(rt; pieces_agree(rt.alloc(), archive, 2)?, "in {archive:?}");
+        assert!(rt; pieces_agree(rt.alloc(), archive, 3)?, "in {archive:?}");
+        assert!(rt; pieces_agree(rt.alloc(), archive, 7)?, "in {archive:?}");
     }
     Ok(())
 }
