@@ -7,6 +7,7 @@ pub mod Meets
 pub mod OneGame
 pub mod OpenLexemes
 pub mod Order
+pub mod Pieces
 pub mod Places
 pub mod Pushes
 mod Rows

@@ -2,7 +2,8 @@
 //!
 //! `specs/Cut` says where games begin and end, by the lexemes of the whole archive; `cut_whole` gives exactly these.
 //! The laws say that games stand in order, that the tokens of a game are the archive's lexemes within it, that no game
-//! ends within another, and that the games which a prefix of an archive closes stay, whatever follows.
+//! ends within another, and that the games which a prefix of an archive closes stay, whatever follows. A `Cutter` gives the
+//! games of an archive that comes in pieces.
 #![tactic(auto)]
 
 pub mod cutter;

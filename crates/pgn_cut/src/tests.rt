@@ -1,14 +1,20 @@
 //! Cuts of archives from outside, and calls that find memory.
+ghost use Rattle.std.specs.Prelude.{◌≡◌, ◌<◌, ◌^◌, length, IfOk};
+ghost use Rattle.pgn_cut.specs.Cut.{cut};
+
 use crate::{
-    Span, closed_games_stay, cut_whole, games_end_once, games_have_their_tokens, games_stand_apart,
+    Cutter, Span, closed_games_stay, cut_whole, games_end_once, games_have_their_tokens,
+    games_stand_apart, open_lexemes_settle,
 };
+use cq_outside::NoMemory;
 use pgn_lexer::tokens;
+use std::alloc::Global;
 use std::test::Fail;
 
 /// A row of the table: an archive, and the start, the end and the column of each of its games.
 type Row<'a> = (&'a [u8], &'a [(u64, u64, bool)]);
 
-static ROWS: [Row<'static>; 31] = [
+static ROWS: [Row<'static>; 36] = [
     (b"", &[]),
     (b" \r\n\t ", &[]),
     (b"\xef\xbb\xbf", &[]),
@@ -46,6 +52,14 @@ static ROWS: [Row<'static>; 31] = [
     (b"$1\n[a", &[(0, 3, true), (3, 5, true)]),
     (b"--\n[a", &[(0, 3, true), (3, 5, true)]),
     (b"\"a\"\n[b", &[(0, 6, true)]),
+    (b"\xef*", &[(0, 2, true)]),
+    (b"\xef", &[(0, 1, true)]),
+    (b"\xef\xbb", &[(0, 2, true)]),
+    (
+        b"1/2-1/2*0-1",
+        &[(0, 7, true), (7, 8, false), (8, 11, false)],
+    ),
+    (b"\"\\\"*\" $1!?--*", &[(0, 13, true)]),
 ];
 
 #[test]
@@ -64,6 +78,66 @@ fn archives_have_their_games(rt: HostRuntime) -> Result<(), Fail> {
             assert_eq!(rt; game.first, *first, "in {archive:?}");
         }
     }
+    Ok(())
+}
+
+/// The games of an archive that comes in pieces of so many bytes.
+fn cut_in_pieces(alloc: Global, archive: &[u8], size: usize) -> Result<Vec<Span>, NoMemory>
+    requires some { 0 < size }
+    requires size { size < 2 ^ 32 }
+    requires few { length archive.now < 2 ^ 62 }
+    ensures { IfOk result (λ v. v.items ≡ cut archive.now) }
+{
+    closed_games_stay();
+    let mut spans = Vec::new(alloc);
+    let mut cutter = Cutter::new();
+    let mut at = 0;
+    while at < archive.len() {
+        let end = (at + size).min(archive.len());
+        cutter.feed(&archive[at..end], &mut spans)?;
+        at = end;
+    }
+    cutter.finish(&mut spans)?;
+    Ok(spans)
+}
+
+/// Whether an archive has the same games whole and in pieces of so many bytes.
+fn pieces_agree(alloc: Global, archive: &[u8], size: usize) -> Result<bool, NoMemory>
+    requires some { 0 < size }
+    requires size { size < 2 ^ 32 }
+    requires few { length archive.now < 2 ^ 62 }
+{
+    let pieces = cut_in_pieces(alloc, archive, size)?;
+    let whole = cut_whole(alloc, archive)?;
+    Ok(pieces.as_slice() == whole.as_slice())
+}
+
+#[test]
+fn pieces_of_any_size_have_the_same_games(rt: HostRuntime) -> Result<(), Fail> {
+    open_lexemes_settle();
+    for (archive, _games) in ROWS.iter() {
+        assert!(rt; archive.len() <= 64);
+        assert!(rt; pieces_agree(rt.alloc(), archive, 1)?, "in {archive:?}");
+        assert!(rt; pieces_agree(rt.alloc(), archive, 2)?, "in {archive:?}");
+        assert!(rt; pieces_agree(rt.alloc(), archive, 3)?, "in {archive:?}");
+        assert!(rt; pieces_agree(rt.alloc(), archive, 7)?, "in {archive:?}");
+    }
+    Ok(())
+}
+
+#[test]
+fn a_marker_closes_a_game_once_it_is_whole(rt: HostRuntime) -> Result<(), Fail> {
+    let mut spans = Vec::new(rt.alloc());
+    let mut cutter = Cutter::new();
+    cutter.feed(b"1. e4 1-0", &mut spans)?;
+    assert_eq!(rt; spans.len(), 0);
+    cutter.feed(b"x *", &mut spans)?;
+    assert_eq!(rt; spans.len(), 1);
+    let game = spans.first().expect(&rt, "a game");
+    assert_eq!(rt; game.start, 0);
+    assert_eq!(rt; game.end, 12);
+    cutter.finish(&mut spans)?;
+    assert_eq!(rt; spans.len(), 1);
     Ok(())
 }
 
@@ -104,6 +178,7 @@ fn may_be_shared<T: Send + Sync + Drop>(_value: T) {}
 
 #[test]
 fn spans_may_be_shared() {
+    may_be_shared(Cutter::new());
     may_be_shared(Span {
         start: 0,
         end: 1,
