@@ -1,5 +1,5 @@
 -- A byte order mark, and bytes that begin one but are none.
-use Rattle.std.proofs.Common.{◌≡◌, ℕ, suc, ◌+◌, ◌≤◌, ◌⊎◌, Bool, true, false, cond, List, [], ◌∷◌, ◌++◌, length, take, drop, Option, None, refl, sym, ap, ap₂, ◌∙◌, subst, inl, inr, ⊎_elim, arith, zero-add, append-nil, true≢false}
+use Rattle.std.proofs.Common.{◌≡◌, ℕ, suc, ◌+◌, ◌≤◌, ◌⊎◌, Bool, true, false, cond, List, [], ◌∷◌, ◌++◌, length, drop, None, refl, sym, ap, ap₂, ◌∙◌, inl, inr, ⊎_elim, arith, zero-add, append-nil, true≢false}
 use Rattle.std.specs.Prelude.{◌==◌, ◌&&◌, nat_eq}
 use Rattle.std.specs.List.{starts_with}
 use Rattle.std.proofs.lemmas.Bool.Decides.{nat_tests}
@@ -10,7 +10,7 @@ use Rattle.pgn_lexer.specs.declared.token.LexemeKind.TheVariants.{Token}
 use Rattle.pgn_lexer.specs.declared.token.TokenKind.TheVariants.{BadByte}
 use Rattle.pgn_cut.specs.Cut.{cut_from, cut, closed, text_start}
 use Rattle.pgn_cut.specs.Progress.{progress_of, Shows}
-use Rattle.pgn_cut.specs.States.{IsOpen, begun, is_in_mark, takes, EndsBefore, IsOneLexeme}
+use Rattle.pgn_cut.specs.States.{IsOpen, begun, is_in_mark, EndsBefore, IsOneLexeme}
 use Rattle.pgn_cut.specs.Streams.{IsInMark, IsInText, IsEnded, StandsWith}
 use Rattle.pgn_cut.specs.declared.game.Game.{Game}
 use Rattle.pgn_cut.specs.declared.game.Look.{Look}

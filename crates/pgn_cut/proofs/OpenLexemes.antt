@@ -1,5 +1,5 @@
 -- What is read of an open lexeme and the bytes after it.
-use Rattle.std.proofs.Common.{◌≡◌, ◌≢◌, ℕ, suc, ◌+◌, ◌<◌, ◌⊎◌, Bool, true, false, cond, List, [], ◌∷◌, ◌++◌, length, get_or, take, drop, refl, sym, ap, ap₂, ◌∙◌, subst, inl, inr, ⊎_elim, arith, true≢false, eqb-true, zero-add}
+use Rattle.std.proofs.Common.{◌≡◌, ◌≢◌, ℕ, suc, ◌+◌, ◌<◌, ◌⊎◌, Bool, true, false, cond, List, [], ◌∷◌, ◌++◌, length, get_or, take, drop, refl, sym, ap, ap₂, ◌∙◌, subst, inl, inr, ⊎_elim, arith, true≢false, eqb-true}
 use Rattle.std.specs.Prelude.{not, ◌&&◌, ◌||◌, ◌==◌, nat_lt, nat_eq, min, codes, Option, None, Some}
 use Rattle.std.specs.List.{AllByRecursion, prefix_len, starts_with}
 use Rattle.std.specs.Str.{bytes_eq}
@@ -8,10 +8,10 @@ use Rattle.std.specs.Str.Parse.{digits_value}
 use Rattle.std.proofs.Math.Seq.{take-append_seam, drop-append_seam}
 use Rattle.std.proofs.lemmas.Bool.{cases_Bool, false≢true, or_parts, and_parts, eqb-false}
 use Rattle.std.proofs.lemmas.Bool.Decides.{nat_tests}
-use Rattle.std.proofs.lemmas.List.{append-nil, append_assoc, length-append, get_or_append_left, get_or_push}
+use Rattle.std.proofs.lemmas.List.{append-nil, append_assoc, get_or_append_left}
 use Rattle.cq_outside.specs.Text.{is_white}
 use Rattle.pgn_lexer.specs.Bytes.{ends_line, continues_symbol}
-use Rattle.pgn_lexer.specs.Grammar.{Lacks, IsPlain, IsBody, IsLexeme}
+use Rattle.pgn_lexer.specs.Grammar.{IsBody, IsLexeme}
 use Rattle.pgn_lexer.specs.Lexemes.{lexemes, first_at}
 use Rattle.pgn_lexer.specs.Readings.{reading, nag, good_suffix, poor_suffix, null_move, single}
 use Rattle.pgn_lexer.specs.Local.{IsUnsettled, is_left_open}
@@ -19,7 +19,7 @@ use Rattle.pgn_lexer.specs.Whole.{goes_on as goes_on_kind, IsEndedBy, IsReadWhol
 use Rattle.pgn_lexer.specs.declared.token.Reading.{Reading}
 use Rattle.pgn_lexer.specs.declared.token.LexemeKind.{LexemeKind}
 use Rattle.pgn_lexer.specs.declared.token.LexemeKind.TheVariants.{EscapeLine, Token}
-use Rattle.pgn_lexer.specs.declared.token.TokenKind.TheVariants.{Open, Close, Text, Symbol, Period, Star, LeftParen, RightParen, Nag, Null, Comment, LineComment, BadByte, UnclosedComment, UnclosedText}
+use Rattle.pgn_lexer.specs.declared.token.TokenKind.TheVariants.{Text, Symbol, Nag, Null, Comment, LineComment, BadByte, UnclosedComment, UnclosedText}
 use Rattle.pgn_cut.specs.Cut.{is_result, marks}
 use Rattle.pgn_cut.specs.States.{IsPartOfText, BeginResults, IsOpen, begins_further, results_from, results_after, are_spelled, begun, takes, finishes, after, kind_at_end, kind_with_last, is_marker_at_end, EndsBefore, AreAlike, IsOneLexeme, EndsAs}
 use Rattle.pgn_cut.specs.declared.state.Results.{Results}

@@ -1,9 +1,9 @@
 -- Bytes that leave an open lexeme as it is, many at once, and the games of many bytes.
-use Rattle.std.proofs.Common.{◌≡◌, ℕ, suc, ◌+◌, ◌-◌, ◌*◌, ◌<◌, ◌≤◌, Bool, true, false, cond, List, [], ◌∷◌, ◌++◌, length, get_or, take, drop, refl, sym, ap, ap₂, ◌∙◌, subst, inl, inr, ⊎_elim, arith, true≢false}
+use Rattle.std.proofs.Common.{◌≡◌, ℕ, suc, ◌+◌, ◌-◌, ◌<◌, Bool, true, false, cond, List, [], ◌∷◌, ◌++◌, length, get_or, take, drop, refl, sym, ap, ap₂, ◌∙◌, subst, inr, ⊎_elim, arith, true≢false}
 use Rattle.std.specs.Option.{option_to_list}
 use Rattle.std.specs.Prelude.{Option, Result, Ok, Err, OnOk, not, ◌==◌, ◌||◌, ◌&&◌}
 use Rattle.std.specs.List.{AllByRecursion, position_or_len}
-use Rattle.std.proofs.Math.Seq.{take-add, drop-append_seam}
+use Rattle.std.proofs.Math.Seq.{drop-append_seam}
 use Rattle.std.proofs.lemmas.Bool.{or_parts}
 use Rattle.std.proofs.lemmas.List.{append-nil, append_assoc, length-append, get_or-append-add}
 use Rattle.pgn_lexer.specs.Bytes.{ends_line}
@@ -12,11 +12,11 @@ use Rattle.pgn_lexer.specs.Readings.{is_special}
 use Rattle.pgn_cut.specs.Cut.{cut_from, cut, closed}
 use Rattle.pgn_cut.specs.Progress.{progress_of}
 use Rattle.pgn_cut.specs.States.{IsOpen, is_in_mark, Stays}
-use Rattle.pgn_cut.specs.Streams.{IsSound, IsInMark, IsInText, IsEnded, Stands, StandsWith, HasGained}
+use Rattle.pgn_cut.specs.Streams.{IsSound, IsEnded, Stands, StandsWith, HasGained}
 use Rattle.pgn_cut.specs.declared.span.Span.{Span}
 use Rattle.pgn_cut.specs.declared.cutter.Cutter.{Cutter}
 use Rattle.pgn_cut.specs.declared.state.State.{State}
-use Rattle.pgn_cut.specs.declared.state.State.TheVariants.{Between, InComment, InLine, InText}
+use Rattle.pgn_cut.specs.declared.state.State.TheVariants.{InComment, InLine, InText}
 use Rattle.pgn_cut.proofs.OpenLexemes.{goes_on}
 use Rattle.pgn_cut.proofs.Marks.{in_mark}
 use Rattle.pgn_cut.proofs.Streams.{Closes, text_is}

@@ -1,26 +1,20 @@
 -- What a cutter stands for, over one more byte.
-use Rattle.std.proofs.Common.{◌≡◌, ℕ, suc, ◌+◌, ◌*◌, ◌≤◌, ◌⊎◌, Bool, true, false, cond, List, [], ◌∷◌, ◌++◌, length, take, drop, Option, None, refl, sym, ap, ap₂, ◌∙◌, subst, inl, inr, ⊎_elim, arith, true≢false}
-use Rattle.std.specs.Prelude.{◌==◌, ◌&&◌, nat_eq}
+use Rattle.std.proofs.Common.{◌≡◌, ℕ, suc, ◌+◌, ◌≤◌, Bool, true, false, List, [], ◌∷◌, ◌++◌, length, Option, None, refl, sym, ap, ap₂, ◌∙◌, subst, arith}
+use Rattle.std.specs.Prelude.{◌==◌}
 use Rattle.std.specs.Option.{option_to_list}
-use Rattle.std.specs.List.{starts_with}
-use Rattle.std.proofs.lemmas.Bool.Decides.{nat_tests}
 use Rattle.std.proofs.lemmas.List.{append-nil, append_assoc, length-append, get_or_push}
 use Rattle.cq_outside.specs.Text.{is_white}
 use Rattle.pgn_lexer.specs.Bytes.{ends_line}
 use Rattle.pgn_lexer.specs.Lexemes.{Lexeme, lexemes, first_at}
 use Rattle.pgn_lexer.specs.declared.token.LexemeKind.{LexemeKind}
-use Rattle.pgn_lexer.specs.declared.token.LexemeKind.TheVariants.{Token}
-use Rattle.pgn_lexer.specs.declared.token.TokenKind.TheVariants.{BadByte}
-use Rattle.pgn_cut.specs.Cut.{cut_from, cut, closed, text_start}
+use Rattle.pgn_cut.specs.Cut.{cut_from, cut, closed}
 use Rattle.pgn_cut.specs.Progress.{progress_of, IsStepOfCut, Shows}
 use Rattle.pgn_cut.specs.States.{IsOpen, takes, EndsBefore, IsOneLexeme}
-use Rattle.pgn_cut.specs.Streams.{IsSound, IsBetween, IsInMark, IsInText, IsEnded, IsReady, HasTaken, StandsWith}
+use Rattle.pgn_cut.specs.Streams.{IsSound, IsBetween, IsInText, IsEnded, IsReady, HasTaken}
 use Rattle.pgn_cut.specs.declared.span.Span.{Span}
-use Rattle.pgn_cut.specs.declared.game.Game.{Game}
 use Rattle.pgn_cut.specs.declared.cutter.Cutter.{Cutter}
 use Rattle.pgn_cut.specs.declared.state.State.{State}
-use Rattle.pgn_cut.specs.declared.state.State.TheVariants.{AtStart, OneOfMark, TwoOfMark, Between}
-use Rattle.pgn_cut.proofs.Closed.{goes_in, one_closes_nothing, two_close_nothing, nothing_closes}
+use Rattle.pgn_cut.specs.declared.state.State.TheVariants.{Between}
 
 -- the laws of open lexemes that this stands on
 abbrev pub Closes : Type 0

@@ -151,7 +151,8 @@ pub record IsOneLexeme (first : Bool) (bytes : List ℕ) (kind : LexemeKind) (ma
   pub alike : AreAlike kind read
   pub marked : marker ≡ marks read bytes
   pub next : (at : ℕ) (rest : List ℕ) → Before rest → lexemes at first (bytes ++ rest)
-      ≡ record { at = at; first = first; text = bytes; kind = read } ∷ lexemes (at + length bytes) (first_at first bytes (length bytes)) rest
+      ≡ record { at = at; first = first; text = bytes; kind = read }
+      ∷ lexemes (at + length bytes) (first_at first bytes (length bytes)) rest
 
 -- an open lexeme ends before certain bytes, by a kind that a cut takes for this one; where the archive ends, so does it, and
 -- whether it goes on is not settled

@@ -172,7 +172,14 @@ impl Cutter {
     /// The cutter after a byte that leaves a lexeme open.
     fn with_open(self, state: State, column: bool) -> Cutter
         requires { self.place < 2 ^ 62 }
-        ensures { result ≡ record { state = state; game = self.game; at = self.at; first = self.first; place = self.place + 1; column = column } }
+        ensures { result ≡ record {
+          state = state;
+          game = self.game;
+          at = self.at;
+          first = self.first;
+          place = self.place + 1;
+          column = column;
+        } }
     {
         Cutter {
             state,

@@ -1,7 +1,6 @@
 use Rattle.std.proofs.Common.{◌∙◌, sym, subst, ap, [], ◌∷◌, ◌++◌}
 use Rattle.std.specs.Prelude.{◌==◌}
 use Rattle.pgn_cut.specs.States.{IsOpen, IsOneLexeme}
-use Rattle.pgn_cut.specs.declared.state.State.TheVariants.{Between}
 use Rattle.pgn_cut.proofs.OpenLexemes.{opens_lexeme}
 use Rattle.pgn_cut.proofs.Streams.{passes, stays_open, meets, Whenever}
 use Rattle.pgn_cut.proofs.cutter.Cutter.begun.Goals as goal

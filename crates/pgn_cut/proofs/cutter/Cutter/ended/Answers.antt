@@ -1,6 +1,5 @@
-use Rattle.std.proofs.Common.{◌≡◌, ◌-◌, true, false, None, ◌∙◌, sym, subst, ap, ⊎_elim, inl, inr, arith, length, true≢false}
+use Rattle.std.proofs.Common.{◌≡◌, ◌-◌, ◌∙◌, sym, subst, ap, ⊎_elim, arith, length, true≢false}
 use Rattle.pgn_cut.specs.States.{is_in_mark, kind_at_end, is_marker_at_end, EndsBefore, IsOneLexeme}
-use Rattle.pgn_cut.specs.Streams.{IsEnded}
 use Rattle.pgn_cut.proofs.Marks.{in_mark, fed_two}
 use Rattle.pgn_cut.proofs.Streams.{ends_here, ends_between}
 use Rattle.pgn_cut.proofs.cutter.Cutter.ended.Goals as goal

@@ -1,5 +1,4 @@
-use Rattle.std.proofs.Common.{◌≡◌, refl, sym, subst, ap, ◌∙◌, arith, take, ◌++◌, length}
-use Rattle.pgn_cut.specs.Streams.{Stands, HasGained}
+use Rattle.std.proofs.Common.{refl, ◌∙◌, arith}
 use Rattle.pgn_cut.proofs.Loops.{rest_len, feeding_start, feeding_turn, feeding_back, feeding_ends}
 use Rattle.pgn_cut.proofs.Runs.{new_games}
 use Rattle.pgn_cut.proofs.cutter.Cutter.feed.Goals as goal

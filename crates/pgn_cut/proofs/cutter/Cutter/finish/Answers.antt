@@ -1,6 +1,4 @@
-use Rattle.std.proofs.Common.{◌≡◌, refl, sym, ap, ◌∙◌, arith, List, ◌++◌, length, drop}
-use Rattle.pgn_cut.specs.Cut.{cut, closed}
-use Rattle.pgn_cut.specs.Streams.{Stands}
+use Rattle.std.proofs.Common.{refl, arith}
 use Rattle.pgn_cut.proofs.Runs.{last_games, on_ok, sound_of, place_of}
 use Rattle.pgn_cut.proofs.cutter.Cutter.finish.Goals as goal
 

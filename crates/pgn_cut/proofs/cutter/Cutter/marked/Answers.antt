@@ -1,4 +1,4 @@
-use Rattle.std.proofs.Common.{◌≡◌, ◌∙◌, sym, subst, ap, ap₂, [], ◌∷◌, ◌++◌, length, inl, inr, eqb-true, arith}
+use Rattle.std.proofs.Common.{◌≡◌, ◌∙◌, sym, subst, ap, ap₂, [], ◌∷◌, ◌++◌, length, inl, inr, eqb-true}
 use Rattle.pgn_cut.specs.Cut.{closed}
 use Rattle.pgn_cut.specs.States.{takes}
 use Rattle.pgn_cut.specs.Streams.{StandsWith}

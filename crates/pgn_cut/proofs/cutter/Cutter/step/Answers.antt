@@ -1,4 +1,4 @@
-use Rattle.std.proofs.Common.{◌≡◌, true, false, ◌∙◌, sym, subst, ap, ⊎_elim, inl, inr, append_assoc, append-nil, [], ◌++◌, true≢false}
+use Rattle.std.proofs.Common.{◌∙◌, sym, ⊎_elim, inr, append_assoc, append-nil, ◌++◌, true≢false}
 use Rattle.std.specs.Option.{option_to_list}
 use Rattle.pgn_cut.specs.Cut.{closed}
 use Rattle.pgn_cut.proofs.Marks.{in_mark, no_mark}

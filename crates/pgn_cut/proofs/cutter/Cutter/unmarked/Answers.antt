@@ -1,4 +1,4 @@
-use Rattle.std.proofs.Common.{◌≡◌, ◌∙◌, sym, subst, ap, ap₂, None, [], ◌∷◌, arith}
+use Rattle.std.proofs.Common.{◌∙◌, sym, subst, ap, None, [], ◌∷◌, arith}
 use Rattle.pgn_cut.specs.Streams.{IsEnded}
 use Rattle.pgn_cut.specs.declared.state.State.TheVariants.{AtStart, OneOfMark, TwoOfMark}
 use Rattle.pgn_cut.proofs.Marks.{fed_none, fed_one, fed_two, start_ends, one_ends, two_end, Gains}

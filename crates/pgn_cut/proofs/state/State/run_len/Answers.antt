@@ -1,4 +1,4 @@
-use Rattle.std.proofs.Common.{◌≡◌, ◌∙◌, sym, ap, subst, false, take}
+use Rattle.std.proofs.Common.{◌∙◌, sym, ap, subst, false, take}
 use Rattle.std.specs.Prelude.{◌==◌}
 use Rattle.std.specs.List.{AllByRecursion}
 use Rattle.pgn_lexer.specs.Readings.{is_special}
