@@ -1,14 +1,20 @@
 //! Queries with the words of the language, through `eval`: the game that each finds, as it is written, and games that it doesn't find.
 use crate::Status;
 use crate::tests::{Written, expect, written};
+use std::alloc::Global;
+use std::process::Abort;
 use std::test::Fail;
+use std::thread::Threads;
+
+/// A query, an archive, and the game that it finds, as it is written.
+type Row<'a> = (&'a str, &'a str, Written<'a>);
 
 const ITALIAN: &str = "1. e4 e5 2. Bc4 Nc6 3. Qh5 Nf6 4. Qxf7 1-0";
 
 const OPENED: &str = "1. e4 e5 2. Nf3 *";
 
-/// A query, an archive in which it finds one game, and how this is written.
-const FOUND: [(&str, &str, Written<'_>); 25] = [
+/// A query, an archive of one game, which it finds, and how this is written.
+const FOUND: [Row<'_>; 23] = [
     (
         "cql() mate",
         ITALIAN,
@@ -27,16 +33,6 @@ const FOUND: [(&str, &str, Written<'_>); 25] = [
         "cql() flipcolor Qh5",
         "1. f3 e5 2. g4 Qh4# 0-1",
         ("", "0-1", "1. f3 e5 2. g4 Qh4# {CQL} 0-1"),
-    ),
-    (
-        "cql() shift { Pa2 not Pb3 }",
-        "[FEN \"4k3/8/8/8/7P/8/8/4K3 w - - 0 1\"]\n*\n[FEN \"4k3/8/8/8/2P5/8/8/4K3 w - - 0 1\"]\n*\n",
-        ("4k3/8/8/8/2P5/8/8/4K3 w - - 0 1", "*", "{CQL} *"),
-    ),
-    (
-        "cql() fliphorizontal { light Ka1-8 }",
-        "[FEN \"4k3/8/8/8/8/8/7K/8 w - - 0 1\"]\n*\n[FEN \"4k3/8/8/8/8/8/8/7K w - - 0 1\"]\n*\n",
-        ("4k3/8/8/8/8/8/7K/8 w - - 0 1", "*", "{CQL} *"),
     ),
     (
         "cql() initial",
@@ -148,6 +144,20 @@ const FOUND: [(&str, &str, Written<'_>); 25] = [
     ),
 ];
 
+/// The same with an archive of two games, of which it finds one.
+const FOUND_OF_TWO: [Row<'_>; 2] = [
+    (
+        "cql() shift { Pa2 not Pb3 }",
+        "[FEN \"4k3/8/8/8/7P/8/8/4K3 w - - 0 1\"]\n*\n[FEN \"4k3/8/8/8/2P5/8/8/4K3 w - - 0 1\"]\n*\n",
+        ("4k3/8/8/8/2P5/8/8/4K3 w - - 0 1", "*", "{CQL} *"),
+    ),
+    (
+        "cql() fliphorizontal { light Ka1-8 }",
+        "[FEN \"4k3/8/8/8/8/8/7K/8 w - - 0 1\"]\n*\n[FEN \"4k3/8/8/8/8/8/8/7K w - - 0 1\"]\n*\n",
+        ("4k3/8/8/8/8/8/7K/8 w - - 0 1", "*", "{CQL} *"),
+    ),
+];
+
 /// A query and an archive of one game that it doesn't find.
 const MISSED: [(&str, &str); 8] = [
     ("cql() Pd4", "1. e4 (1. d4) e5 *"),
@@ -163,19 +173,34 @@ const MISSED: [(&str, &str); 8] = [
     ("cql() initial parent initial", OPENED),
 ];
 
+/// Asks that a query finds its game, and that the report is this.
+fn expect_found<R: Threads + Sync + Abort>(
+    rt: &R,
+    alloc: Global,
+    row: Row<'_>,
+    report: &str,
+) -> Result<(), Fail> {
+    let (query, archive, game) = row;
+    let text = written(alloc, game)?;
+    let want = (Status::Done, text.as_slice(), report);
+    expect(rt, alloc, &["eval", query], ("-", archive), want)
+}
+
 #[test]
 fn games_are_found_by_the_meaning_of_words(rt: HostRuntime) -> Result<(), Fail> {
     let alloc = rt.alloc();
-    for (query, archive, game) in FOUND {
-        let text = written(alloc, game)?;
-        let report = if archive.contains("*\n[") {
-            "games 2 matched 1 refused 0\n"
-        } else {
-            "games 1 matched 1 refused 0\n"
-        };
-        let want = (Status::Done, text.as_slice(), report);
-        expect(&rt, alloc, &["eval", query], ("-", archive), want)?;
+    for row in FOUND {
+        expect_found(&rt, alloc, row, "games 1 matched 1 refused 0\n")?;
     }
+    for row in FOUND_OF_TWO {
+        expect_found(&rt, alloc, row, "games 2 matched 1 refused 0\n")?;
+    }
+    Ok(())
+}
+
+#[test]
+fn games_are_missed_by_the_meaning_of_words(rt: HostRuntime) -> Result<(), Fail> {
+    let alloc = rt.alloc();
     for (query, archive) in MISSED {
         let want = (
             Status::Done,
