@@ -152,11 +152,12 @@ fn job_in(alloc: Global, matches: &ArgMatches<'_>) -> Result<Job, Refusal<WordsR
     }
 }
 
-/// What the words after the program's name ask. They are refused exactly where `clap` refuses them for another cause than memory, or gives
-/// matches that break a rule: on the mode, on the archive and on the options that a mode allows.
+/// What the words after the program's name ask. They are refused exactly where `clap` refuses them for another cause than memory, or
+/// gives matches that break a rule: on the mode, on the archive, or on the options that a mode allows.
 pub fn read_words(alloc: Global, words: &[String]) -> Result<Job, Refusal<WordsRefused>>
     ensures value { Answers (asked (map string_bytes words.now)) result }
-    ensures taken { takes line (map string_bytes words.now) ≡ true → Answers (job_in (matches_of line (map string_bytes words.now))) result }
+    ensures taken { takes line (map string_bytes words.now) ≡ true
+        → Answers (job_in (matches_of line (map string_bytes words.now))) result }
     ensures ranges { IfOk result IsInRange }
 {
     let matches = matched(alloc, words)?;
