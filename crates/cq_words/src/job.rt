@@ -1,0 +1,69 @@
+//! What the command words may ask.
+use cq_outside::Bytes;
+
+/// The most workers.
+pub const WORKERS_LIMIT: u64 = 64;
+
+/// The greatest seed.
+pub const SEED_LIMIT: u64 = 4_294_967_295;
+
+/// The most games that an archive is made of.
+pub const GAMES_LIMIT: u64 = 100_000;
+
+/// The greatest limit of an archive's bytes, which stands where no limit is given.
+pub const BYTES_LIMIT: u64 = 1_099_511_627_776;
+
+/// What the words ask.
+#[derive(Debug, PartialEq, Eq, Drop)]
+pub enum Job {
+    /// To answer the query in the file `query` over the archive in the file `archive`.
+    Run {
+        query: Bytes,
+        archive: Bytes,
+        workers: u32,
+        limit: u64,
+    },
+    /// To answer the query `text` over the archive in the file `archive`.
+    Eval {
+        text: Bytes,
+        archive: Bytes,
+        workers: u32,
+        limit: u64,
+    },
+    /// To say whether the query in the file `query` is accepted.
+    Check {
+        query: Bytes,
+    },
+    /// To write the flat form of the query in the file `query`.
+    Explain {
+        query: Bytes,
+    },
+    /// To answer the query `text` over an archive of so many games, made from the seed.
+    SelfRun {
+        text: Bytes,
+        seed: u32,
+        games: u32,
+        workers: u32,
+    },
+}
+
+/// How an archive is answered: by how many workers, and up to how many bytes of it.
+#[derive(Clone, Copy, Debug, PartialEq, Eq)]
+pub struct Settings {
+    /// From 1 to 64.
+    pub workers: u32,
+    /// From 1 to 2^40.
+    pub limit: u64,
+}
+
+// How an archive is made, and answered by how many workers.
+#[derive(Clone, Copy)]
+pub(crate) struct Making {
+    pub(crate) seed: u32,
+    pub(crate) games: u32,
+    pub(crate) workers: u32,
+}
+
+/// The words ask for nothing that the program does.
+#[derive(Clone, Copy, Debug, PartialEq, Eq)]
+pub struct WordsRefused;

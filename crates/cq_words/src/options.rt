@@ -1,0 +1,104 @@
+//! What the matches give of each argument.
+ghost use Rattle.std.specs.Prelude.{◌≡◌, ◌≤◌, IfSome, IfOk, option_map};
+ghost use Rattle.clap.specs.Words.{first_of, found_of, rows_of};
+ghost use Rattle.cq_words.specs.Jobs.{archive_in, has_more, is_given, making_in, number_of, number_or, settings_in, workers_in};
+
+use crate::job::{BYTES_LIMIT, GAMES_LIMIT, Making, SEED_LIMIT, Settings, WORKERS_LIMIT};
+use clap::ArgMatches;
+use cq_outside::{Bytes, NoMemory};
+use std::alloc::Global;
+
+// The text of an argument, where it is given.
+pub(crate) fn text_of<'a>(matches: &ArgMatches<'a>, id: &str) -> Option<&'a str>
+    ensures { option_map (λ text. text.now) result ≡ first_of id.now (rows_of (found_of matches.now)) }
+{
+    matches.get_str(id)
+}
+
+// Whether an argument is given.
+fn is_given(matches: &ArgMatches<'_>, id: &str) -> bool
+    ensures { result ≡ is_given (rows_of (found_of matches.now)) id.now }
+{
+    text_of(matches, id).is_some()
+}
+
+// The number that a text writes; none where it writes no number from `least` to `most`.
+fn number_of(text: &str, least: u64, most: u64) -> Option<u64>
+    ensures value { result ≡ number_of least most text.now }
+    ensures bounds { IfSome result (λ number. (least ≤ number) × (number ≤ most)) }
+{
+    match text.parse::<u64>() {
+        Ok(number) if least <= number && number <= most => Some(number),
+        _ => None,
+    }
+}
+
+// The number of an option, or its default; none where its text writes no number from `least` to `most`.
+fn number_in(matches: &ArgMatches<'_>, id: &str, least: u64, most: u64, default: u64) -> Option<u64>
+    requires { (least ≤ default) × (default ≤ most) }
+    ensures value { result ≡ number_or default least most (first_of id.now (rows_of (found_of matches.now))) }
+    ensures bounds { IfSome result (λ number. (least ≤ number) × (number ≤ most)) }
+{
+    match text_of(matches, id) {
+        Some(text) => number_of(text, least, most),
+        None => Some(default),
+    }
+}
+
+// The number of workers.
+fn workers_in(matches: &ArgMatches<'_>) -> Option<u32>
+    ensures value { result ≡ workers_in (rows_of (found_of matches.now)) }
+    ensures bounds { IfSome result (λ number. (1 ≤ number) × (number ≤ 64)) }
+{
+    Some(number_in(matches, "workers", 1, WORKERS_LIMIT, 4)? as u32)
+}
+
+// The settings of `run` and `eval`; none where an option is given that they don't take.
+pub(crate) fn settings_in(matches: &ArgMatches<'_>) -> Option<Settings>
+    ensures value { result ≡ settings_in (rows_of (found_of matches.now)) }
+    ensures bounds { IfSome result (λ s. (1 ≤ s.workers) × (s.workers ≤ 64) × (1 ≤ s.limit) × (s.limit ≤ 1099511627776)) }
+{
+    if is_given(matches, "seed") || is_given(matches, "games") {
+        return None;
+    }
+    let workers = workers_in(matches)?;
+    let limit = number_in(matches, "limit", 1, BYTES_LIMIT, BYTES_LIMIT)?;
+    Some(Settings { workers, limit })
+}
+
+// What `selfrun` is to make; none where an archive is given, or an option that it doesn't take.
+pub(crate) fn making_in(matches: &ArgMatches<'_>) -> Option<Making>
+    ensures value { result ≡ making_in (rows_of (found_of matches.now)) }
+    ensures bounds { IfSome result (λ m. (m.seed ≤ 4294967295) × (m.games ≤ 100000) × (1 ≤ m.workers) × (m.workers ≤ 64)) }
+{
+    if is_given(matches, "archive") || is_given(matches, "limit") {
+        return None;
+    }
+    let workers = workers_in(matches)?;
+    let seed = number_in(matches, "seed", 0, SEED_LIMIT, 1)? as u32;
+    let games = number_in(matches, "games", 0, GAMES_LIMIT, 100)? as u32;
+    Some(Making {
+        seed,
+        games,
+        workers,
+    })
+}
+
+// Whether an archive or an option is given.
+pub(crate) fn has_more(matches: &ArgMatches<'_>) -> bool
+    ensures { result ≡ has_more (rows_of (found_of matches.now)) }
+{
+    is_given(matches, "archive")
+        || is_given(matches, "workers")
+        || is_given(matches, "seed")
+        || is_given(matches, "games")
+        || is_given(matches, "limit")
+}
+
+// The name of the archive, which is standard input where no word gives one.
+pub(crate) fn archive_in(alloc: Global, matches: &ArgMatches<'_>) -> Result<Bytes, NoMemory>
+    ensures { IfOk result (λ name. name ≡ archive_in (rows_of (found_of matches.now))) }
+{
+    let name = text_of(matches, "archive").unwrap_or("-");
+    Bytes::from_slice(alloc, name.as_bytes())
+}

@@ -1,0 +1,129 @@
+//! The modes with their words, and words that are refused.
+use crate::{Job, WordsRefused, read_words};
+use cq_outside::{Bytes, NoMemory, Refusal};
+use std::alloc::Global;
+use std::process::Abort;
+use std::test::Fail;
+
+const MOST: u64 = 1_099_511_627_776;
+
+fn bytes(alloc: Global, text: &str) -> Result<Bytes, NoMemory> {
+    Bytes::from_slice(alloc, text.as_bytes())
+}
+
+// Asks that words with spaces between them are answered so.
+fn expect<R: Abort>(
+    rt: &R,
+    alloc: Global,
+    line: &str,
+    want: Result<Job, Refusal<WordsRefused>>,
+) -> Result<(), Fail> {
+    let mut words = Vec::new(alloc);
+    for word in line.split(' ') {
+        words.push(String::from_str(alloc, word)?)?;
+    }
+    assert_eq!(rt; read_words(alloc, words.as_slice()), want, "{line}");
+    Ok(())
+}
+
+/// Words of `run`, and the archive, the workers and the limit that they ask.
+const RUNS: [(&str, &str, u32, u64); 5] = [
+    ("run q", "-", 4, MOST),
+    ("run q a.pgn", "a.pgn", 4, MOST),
+    ("run q --workers 64 a.pgn --limit 1", "a.pgn", 64, 1),
+    ("run q --limit 8", "-", 4, 8),
+    ("--workers=1 run q --limit=1099511627776", "-", 1, MOST),
+];
+
+#[test]
+fn runs(rt: HostRuntime) -> Result<(), Fail> {
+    let alloc = rt.alloc();
+    for (line, archive, workers, limit) in RUNS {
+        let job = Job::Run {
+            query: bytes(alloc, "q")?,
+            archive: bytes(alloc, archive)?,
+            workers,
+            limit,
+        };
+        expect(&rt, alloc, line, Ok(job))?;
+    }
+    Ok(())
+}
+
+/// Words of `selfrun`, and the seed, the games and the workers that they ask.
+const SELF_RUNS: [(&str, u32, u32, u32); 3] = [
+    ("selfrun mate", 1, 100, 4),
+    ("selfrun mate --games 0 --seed 0", 0, 0, 4),
+    (
+        "selfrun mate --seed 4294967295 --games 100000 --workers 2",
+        4_294_967_295,
+        100_000,
+        2,
+    ),
+];
+
+#[test]
+fn self_runs(rt: HostRuntime) -> Result<(), Fail> {
+    let alloc = rt.alloc();
+    for (line, seed, games, workers) in SELF_RUNS {
+        let job = Job::SelfRun {
+            text: bytes(alloc, "mate")?,
+            seed,
+            games,
+            workers,
+        };
+        expect(&rt, alloc, line, Ok(job))?;
+    }
+    Ok(())
+}
+
+#[test]
+fn other_modes(rt: HostRuntime) -> Result<(), Fail> {
+    let alloc = rt.alloc();
+    let eval = Job::Eval {
+        text: bytes(alloc, "mate")?,
+        archive: bytes(alloc, "-")?,
+        workers: 4,
+        limit: MOST,
+    };
+    expect(&rt, alloc, "eval mate", Ok(eval))?;
+    let query = bytes(alloc, "q")?;
+    expect(&rt, alloc, "check q", Ok(Job::Check { query }))?;
+    let query = bytes(alloc, "q")?;
+    expect(&rt, alloc, "explain q", Ok(Job::Explain { query }))
+}
+
+/// Words that are refused.
+const REFUSED: [&str; 22] = [
+    "eval",
+    "--help",
+    "-h",
+    "--version",
+    "many q",
+    "eval q --workers 0",
+    "eval q --workers 65",
+    "eval q --workers",
+    "eval q --workers 1 --workers 1",
+    "eval q --limit 0",
+    "eval q --limit 1099511627777",
+    "selfrun q --seed 4294967296",
+    "selfrun q --games 100001",
+    "eval q --first",
+    "eval q a.pgn b",
+    "check q a.pgn",
+    "explain q --workers 2",
+    "check q --limit 2",
+    "eval q --seed 1",
+    "run q --games 1",
+    "selfrun q a.pgn",
+    "selfrun q --limit 3",
+];
+
+#[test]
+fn refused(rt: HostRuntime) -> Result<(), Fail> {
+    let alloc = rt.alloc();
+    for line in REFUSED {
+        expect(&rt, alloc, line, Err(Refusal::Fault(WordsRefused)))?;
+    }
+    Ok(())
+}
