@@ -1,0 +1,5 @@
+pub mod Comparing
+pub mod Orders
+pub mod Items
+pub mod OrderRows
+pub mod Counts
