@@ -1,6 +1,6 @@
 -- What an error of `clap` says of the words.
-use Rattle.std.proofs.Common.{◌≡◌, List, [], ◌∷◌, true, refl, sym, subst, ap, inl, inr}
-use Rattle.clap.specs.Words.{App, FailsBy, HasKind, Kinds, Text, fault_of, is_simple_and_free, kind_of, takes}
+use Rattle.std.proofs.Common.{◌≡◌, List, [], ◌∷◌, true, sym, subst, ap, inl, inr}
+use Rattle.clap.specs.Words.{App, HasKind, Kinds, Text, fault_of, is_simple_and_free, kind_of, takes}
 use Rattle.clap.specs.declared.error.Error.{Error}
 use Rattle.clap.specs.declared.error.kind.ErrorKind.TheVariants.{OutOfMemory}
 use Rattle.cq_outside.specs.declared.faults.Refusal.TheVariants.{Fault}

@@ -1,4 +1,4 @@
-use Rattle.std.proofs.Common.{◌∙◌, ap₂, rules}
+use Rattle.std.proofs.Common.{◌∙◌, ap₂}
 use Rattle.clap.specs.Words.{with_rule}
 use Rattle.cq_words.proofs.line.line.Goals as goal
 
