@@ -3,3 +3,5 @@ pub mod Orders
 pub mod Items
 pub mod OrderRows
 pub mod Counts
+pub mod OnlyOrder
+pub mod OneWay

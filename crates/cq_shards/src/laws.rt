@@ -1,9 +1,11 @@
-//! The order of answers at worked rows, and a law of keys for proofs in other crates.
-ghost use Rattle.std.specs.Prelude.{◌≡◌, length};
+//! The order of answers at worked rows, and laws of it for proofs in other crates.
+ghost use Rattle.std.specs.Prelude.{◌≡◌, Bool, List, length, AllPairs};
+ghost use Rattle.std.specs.List.Sorted.{IsPermutation};
 ghost use Rattle.cq_position.specs.Games.{Game};
 ghost use Rattle.cql_syntax.specs.Hits.{keys};
 ghost use Rattle.cql_syntax.specs.Trees.{QueryTree};
-ghost use Rattle.cq_shards.specs.Order.{directions};
+ghost use Rattle.cq_shards.specs.declared.answers.GameAnswer.{GameAnswer};
+ghost use Rattle.cq_shards.specs.Order.{ComesBefore, IsEarlier, directions};
 ghost use Rattle.cq_shards.specs.OrderRows.{OrderRows};
 
 /// Which of two answers comes first.
@@ -16,4 +18,12 @@ pub fn answers_are_ordered_as_worked()
 #[tactic(auto, using(crate::proofs::Counts::key_count))]
 pub fn games_have_a_key_for_each_sort_item()
     ensures { (q : QueryTree) (game : Game) → length (keys q game) ≡ length (directions q.items) }
+{}
+
+/// Answers stand in the order of their games in one way alone, and in that of their keys too.
+#[tactic(auto, using(crate::proofs::OneWay::one_order))]
+pub fn answers_have_one_order()
+    ensures games { (xs ys : List GameAnswer) → IsPermutation xs ys → AllPairs IsEarlier xs → AllPairs IsEarlier ys → xs ≡ ys }
+    ensures keys { (items : List Bool) (xs ys : List GameAnswer) → IsPermutation xs ys
+        → AllPairs (ComesBefore items) xs → AllPairs (ComesBefore items) ys → xs ≡ ys }
 {}
