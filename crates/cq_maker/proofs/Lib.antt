@@ -1,0 +1,4 @@
+pub mod Drawn
+pub mod Nodes
+pub mod Plies
+pub mod Games
