@@ -30,7 +30,6 @@ pub line_full : (n : ℕ) (p : Board) (x : ℕ) → n ≡ 0 → line n p x ≡ e
 unfolding line
 line_full n p x none_left = ap (λ i. line i p x) none_left
 
-
 pub line_step : (n k : ℕ) (p : Board) (x : ℕ) → is_over p ≡ false → n ≡ k + 1
     → line n p x ≡ extended (ply_drawn p x) (variation_drawn p (next x)) (line k (after p (move_drawn p x)) (after_variation (next x)))
 unfolding line

@@ -2,3 +2,4 @@ pub mod Drawn
 pub mod Nodes
 pub mod Plies
 pub mod Games
+mod Rows

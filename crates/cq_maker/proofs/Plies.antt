@@ -71,7 +71,7 @@ drawn_more start most parent last main main_then beside beside_then state state_
     let inner : List Node = nodes_from (parent + 1) (parent + 1 + 1) rest.moves in
     let old : List Node = nodes_of_rows (reverse beside) in
     let tail : nodes_from (parent + 1) (parent + 1 + 1) (line k r.position state_then).moves ++ nodes_of_rows (reverse beside_then)
-        ≡ inner ++ (nodes_from parent (parent + 1 + 1 + size rest.moves) v ++ old) =
+    ≡ inner ++ (nodes_from parent (parent + 1 + 1 + size rest.moves) v ++ old) =
     ap₂ (λ a b. a ++ b) (ap (λ l. nodes_from (parent + 1) (parent + 1 + 1) l.moves) is_rest) (beside_is parent (parent + 1 + 1 + size rest.moves) last (next state) beside beside_then beside_are) in
     record {
       few = omega (arith, less);
