@@ -1,15 +1,15 @@
 -- What is drawn: legal moves, so that those of a game follow one another.
-use Rattle.std.proofs.Common.{◌≡◌, ℕ, zero, suc, ◌+◌, ◌/◌, ◌^◌, ◌<◌, ◌≤◌, Bool, true, false, List, [], length, get_or, Some, inl, refl, sym, ap, ap₂, ◌∙◌, subst, arith, add-one}
+use Rattle.std.proofs.Common.{◌≡◌, ℕ, zero, suc, ◌+◌, ◌/◌, ◌^◌, ◌<◌, ◌≤◌, Bool, true, false, List, length, get_or, Some, inl, refl, sym, ap, ap₂, ◌∙◌, subst, arith, add-one}
 use Rattle.std.proofs.lemmas.Bool.{ne_eqb}
 use Rattle.std.proofs.lemmas.List.{get_or_default}
-use Rattle.std.specs.Prelude.{◌==◌, if◌then◌else◌, Contains}
+use Rattle.std.specs.Prelude.{◌==◌, if◌then◌else◌}
 use Rattle.std.proofs.lemmas.List.Elements.{Contains-get_or}
 use Rattle.std.proofs.Math.Nat.{mod-lt}
 use Rattle.cq_position.specs.declared.moves.Move.{Move}
 use Rattle.cq_position.specs.Board.{Board}
 use Rattle.cq_position.specs.Continuations.{none, played, size, node_of, Follows}
 use Rattle.cq_position.specs.Games.{Node, bare_node}
-use Rattle.cq_position.specs.Legal.{Leads, Legal, after}
+use Rattle.cq_position.specs.Legal.{Legal, after}
 use Rattle.cq_position.specs.Moves.{null_move}
 use Rattle.cq_moves.specs.LegalMoves.{legal_list}
 use Rattle.cq_moves.proofs.Order.{listed_is_legal}

@@ -1,5 +1,5 @@
 -- The nodes of a made game are a tree, and the archive grows by one game after another.
-use Rattle.std.proofs.Common.{◌≡◌, ℕ, zero, suc, ◌+◌, ◌-◌, ◌<◌, ◌≤◌, List, [], ◌∷◌, ◌++◌, None, refl, sym, ap, ap₂, ◌∙◌, subst, arith, append_assoc, append-nil, add-one}
+use Rattle.std.proofs.Common.{◌≡◌, ℕ, ◌+◌, ◌-◌, ◌<◌, ◌≤◌, List, [], ◌∷◌, ◌++◌, None, refl, sym, ap, ap₂, ◌∙◌, subst, arith, append_assoc, append-nil, add-one}
 use Rattle.std.specs.List.{flat_map}
 use Rattle.std.proofs.lemmas.List.Concat.{flat_map-cons}
 use Rattle.cq_position.specs.declared.games.GameResult.{GameResult}
@@ -11,7 +11,7 @@ use Rattle.cq_position.proofs.Trees.{prefix_tree}
 use Rattle.pgn_export.specs.Export.{export_text}
 use Rattle.cq_maker.specs.declared.row.Row.{Row}
 use Rattle.cq_maker.specs.Draws.{next, drawn}
-use Rattle.cq_maker.specs.Line.{Line, line}
+use Rattle.cq_maker.specs.Line.{line}
 use Rattle.cq_maker.specs.Made.{ending, line_made, tags_made, game_made, games_made, made}
 use Rattle.cq_maker.specs.Rows.{nodes_of_rows}
 use Rattle.cq_maker.proofs.Drawn.{below, line_follows, line_small}

@@ -1,6 +1,5 @@
 -- Numbers that are drawn, and an archive of no games.
 use Rattle.std.proofs.Common.{◌≡◌, [], refl}
-use Rattle.std.specs.List.{flat_map}
 use Rattle.cq_maker.specs.Draws.{next, drawn}
 use Rattle.cq_maker.specs.Made.{games_made, made}
 

@@ -1,5 +1,5 @@
 -- The moves that are drawn for a game. In each definition x is the state of the draws.
-use Rattle.std.specs.Prelude.{ℕ, zero, suc, ◌+◌, ◌==◌, Bool, [], length, slice_index_or, if◌then◌else◌}
+use Rattle.std.specs.Prelude.{ℕ, zero, suc, ◌==◌, Bool, [], length, slice_index_or, if◌then◌else◌}
 use Rattle.cq_position.specs.declared.moves.Move.{Move}
 use Rattle.cq_position.specs.Board.{Board}
 use Rattle.cq_position.specs.Continuations.{Played, Continuations, none, played}

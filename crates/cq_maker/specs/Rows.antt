@@ -1,5 +1,5 @@
 -- The moves of a game as rows, one for each node after the root.
-use Rattle.std.specs.Prelude.{ℕ, List, map, Some}
+use Rattle.std.specs.Prelude.{List, map, Some}
 use Rattle.cq_position.specs.Games.{Node, bare_node}
 use Rattle.cq_maker.specs.declared.row.Row.{Row}
 

@@ -1,4 +1,4 @@
-use Rattle.std.proofs.Common.{◌≡◌, ◌+◌, ◌<◌, ◌≤◌, ◌∙◌, ap, arith}
+use Rattle.std.proofs.Common.{◌<◌, ◌∙◌, arith}
 use Rattle.cq_maker.proofs.Games.{archive_first, archive_more, archive_end}
 use Rattle.cq_maker.proofs.archive.make_archive.Goals as goal
 

@@ -1,8 +1,5 @@
-use Rattle.std.proofs.Common.{◌≡◌, ◌∷◌, ◌++◌, [], get_or, length, take, sym, ap, ◌∙◌, subst}
-use Rattle.cq_position.specs.Games.{Node}
-use Rattle.cq_maker.specs.declared.row.Row.{Row}
-use Rattle.cq_maker.specs.Rows.{nodes_of_rows}
-use Rattle.cq_maker.proofs.Nodes.{MayFollow, follow_now}
+use Rattle.std.proofs.Common.{ap}
+use Rattle.cq_maker.proofs.Nodes.{follow_now}
 use Rattle.cq_maker.proofs.game.add_rows.Goals as goal
 
 pub add_node-requires-clause-node : goal.add_node-requires-clause-node

@@ -1,4 +1,4 @@
-use Rattle.std.proofs.Common.{◌≡◌, ◌==◌, ◌++◌, ◌∙◌, ap, sym, length, reverse}
+use Rattle.std.proofs.Common.{◌==◌, ◌++◌, ◌∙◌, ap, length}
 use Rattle.cq_position.specs.Continuations.{nodes_from}
 use Rattle.cq_maker.specs.Line.{variation_drawn, after_variation}
 use Rattle.cq_maker.specs.Rows.{nodes_of_rows}

@@ -1,4 +1,3 @@
-use Rattle.std.proofs.Common.{◌≡◌, ◌≤◌}
 use Rattle.cq_maker.proofs.Plies.{IsDrawn}
 use Rattle.cq_maker.proofs.line.draw_line.Given as goal
 

@@ -1,5 +1,4 @@
 use Rattle.std.proofs.Common.{◌≡◌, ◌∙◌, ap, get_or}
-use Rattle.cq_position.specs.declared.moves.Move.{Move}
 use Rattle.cq_maker.specs.Draws.{drawn}
 use Rattle.cq_maker.specs.Line.{move_drawn}
 use Rattle.cq_maker.proofs.Drawn.{is_drawn, leads_on, ply_is}

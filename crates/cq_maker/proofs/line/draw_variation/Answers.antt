@@ -1,7 +1,7 @@
-use Rattle.std.proofs.Common.{◌≡◌, ◌∙◌, ◌∷◌, [], sym, ap, true, false}
+use Rattle.std.proofs.Common.{◌∙◌, ◌∷◌, [], sym, ap}
 use Rattle.cq_position.specs.Continuations.{node_of, nodes_from}
 use Rattle.cq_maker.specs.Draws.{next}
-use Rattle.cq_maker.specs.Line.{ply_drawn, varies, variation_drawn}
+use Rattle.cq_maker.specs.Line.{ply_drawn, variation_drawn}
 use Rattle.cq_maker.proofs.Drawn.{does_vary, does_not_vary, after_one, after_none}
 use Rattle.cq_maker.proofs.Plies.{varied, not_varied, rows_pushed, nothing_pushed}
 use Rattle.cq_maker.proofs.line.draw_variation.Goals as goal
