@@ -1,0 +1,49 @@
+-- The moves that are drawn for a game. In each definition x is the state of the draws.
+use Rattle.std.specs.Prelude.{ℕ, zero, suc, ◌==◌, Bool, [], length, slice_index_or, if◌then◌else◌}
+use Rattle.cq_position.specs.declared.moves.Move.{Move}
+use Rattle.cq_position.specs.Board.{Board}
+use Rattle.cq_position.specs.Continuations.{Played, Continuations, none, played}
+use Rattle.cq_position.specs.Legal.{after}
+use Rattle.cq_position.specs.Moves.{null_move}
+use Rattle.cq_moves.specs.LegalMoves.{legal_list}
+use Rattle.cq_maker.specs.Draws.{next, drawn}
+
+-- no legal move is left: mate or stalemate (FIDE Laws of Chess, articles 5.1.1 and 5.2.1)
+unfoldable pub is_over : Board → Bool
+is_over p = length (legal_list p) == 0
+
+-- the legal move at the place that is drawn below their number; one draw
+unfoldable pub move_drawn : Board → ℕ → Move
+move_drawn p x = slice_index_or (legal_list p) (drawn x (length (legal_list p))) null_move
+
+-- that move, as it is played in a game: without glyphs and comments
+unfoldable pub ply_drawn : Board → ℕ → Played
+ply_drawn p x = record { move = move_drawn p x; position = after p (move_drawn p x); nags = []; comments = [] }
+
+-- After the move that is played a number below 16 is drawn. Where it is 0, a variation of one move is drawn from the same legal moves, which
+-- may be the move that is played.
+unfoldable pub varies : ℕ → Bool
+varies x = drawn x 16 == 0
+
+unfoldable pub variation_drawn : Board → ℕ → Continuations
+variation_drawn p x = if varies x then played (ply_drawn p (next x)) none none else none
+
+unfoldable pub after_variation : ℕ → ℕ
+after_variation x = if varies x then next (next x) else next x
+
+-- what is drawn for a game: its moves, the position after the last one that is played, and the state of the draws then
+pub record Line : Type 0 where
+  pub moves : Continuations
+  pub last : Board
+  pub state : ℕ
+
+-- a line with a move and its variation before it
+abbrev pub extended : Played → Continuations → Line → Line
+extended m variation l = record l { moves = played m l.moves variation }
+
+-- at most so many moves are played from a position
+unfoldable pub line : ℕ → Board → ℕ → Line
+line zero p x = record { moves = none; last = p; state = x }
+line (suc most) p x =
+    if is_over p then record { moves = none; last = p; state = x }
+    else extended (ply_drawn p x) (variation_drawn p (next x)) (line most (after p (move_drawn p x)) (after_variation (next x)))

@@ -1,0 +1,15 @@
+//! Archives of games that are made from a seed.
+//!
+//! `specs/Draws` says which numbers are drawn, `specs/Line` which moves they give, and `specs/Made` which archive these are.
+#![tactic(auto)]
+
+mod archive;
+mod draws;
+mod game;
+mod line;
+mod row;
+
+pub use archive::make_archive;
+
+#[cfg(test)]
+mod tests;
