@@ -2,6 +2,8 @@ pub mod Edge
 pub mod Faults
 pub mod Flow
 pub mod Kept
+pub mod MemSource
+pub mod ReadLaws
 pub mod Refusals
 pub mod Spelling
 pub mod Text

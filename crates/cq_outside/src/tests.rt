@@ -1,7 +1,7 @@
 use crate::{
-    Bytes, Desk, Failed, FileDesk, Gate, NoMemory, OpenFault, OpenGate, Refusal, Sink, Source,
-    StdSink, SureDesk, SureSink, SureSource, decimal_up_to, digits_len, is_white, read_piece,
-    read_up_to, white_len, write_all_of,
+    Bytes, Desk, Failed, FileDesk, Gate, MemSource, NoMemory, OpenFault, OpenGate, Refusal, Sink,
+    Source, StdSink, SureDesk, SureSink, SureSource, decimal_up_to, digits_len, is_white,
+    read_piece, read_up_to, white_len, write_all_of,
 };
 use std::fs;
 use std::test::Fail;
@@ -78,6 +78,39 @@ fn an_input_is_read_up_to_one_byte_more_than_the_limit(rt: HostRuntime) -> Resul
         let mut source = SureSource::new(Bytes::from_slice(rt.alloc(), b"abcde")?);
         let bytes = read_up_to(&mut source, rt.alloc(), limit)?;
         assert_eq!(rt; bytes.as_slice(), taken);
+    }
+    Ok(())
+}
+
+#[test]
+fn a_source_in_memory_gives_pieces_and_fails_at_given_reads(rt: HostRuntime) -> Result<(), Fail> {
+    // None is a read that fails.
+    let rows = [
+        (
+            2,
+            [].as_slice(),
+            [Some(2), Some(2), Some(1), Some(0)].as_slice(),
+        ),
+        (3, &[], &[Some(3), Some(2), Some(0)]),
+        (usize::MAX, &[], &[Some(4), Some(1), Some(0)]),
+        (3, &[0, 4], &[Some(3), Some(2), Some(0), None, Some(0)]),
+        (3, &[1], &[None, Some(3), Some(2), Some(0)]),
+        (
+            2,
+            &[4, 1, 2, 4],
+            &[None, None, Some(2), None, Some(2), Some(1), Some(0)],
+        ),
+    ];
+    for (piece, fails, answers) in rows {
+        let mut source = MemSource::new(rt.alloc(), b"abcde", piece, fails)?;
+        let mut bytes = Bytes::new(rt.alloc());
+        for answer in answers {
+            let mut buffer = [0; 4];
+            let moved = source.read(&mut buffer).ok();
+            assert_eq!(rt; moved, *answer, "at {piece} {fails:?}");
+            bytes.push_all(&buffer[..moved.unwrap_or(0)])?;
+        }
+        assert_eq!(rt; bytes.as_slice(), b"abcde".as_slice());
     }
     Ok(())
 }

@@ -1,0 +1,92 @@
+//! A source in memory that gives its bytes in pieces, and fails where it is told to.
+ghost use Rattle.std.specs.Prelude.{◌≡◌, ◌≤◌, ◌↔◌, Some, length, Contains, IfOk, IsErr};
+ghost use Rattle.std.specs.Io.KnownBytes.{ReadConsumes};
+ghost use Rattle.cq_outside.specs.Faults.{HasCause};
+ghost use Rattle.cq_outside.specs.MemSource.{Follows, after_read, answer_of, one_more};
+
+use crate::bytes::Bytes;
+use crate::faults::{Failed, NoMemory};
+use crate::source::Source;
+use crate::sure_source::SureSource;
+use std::alloc::Global;
+use std::marker::Model;
+
+/// A source of given bytes that gives at most so many of them in one read. The reads whose numbers are given fail, where
+/// the first read has the number 1. The counts of its reads and of its faults stop at the last value of a `u64`.
+#[derive(Drop, Debug)]
+pub struct MemSource {
+    rest: SureSource,
+    piece: usize,
+    fails: Vec<u64>,
+    reads: u64,
+    faults: u64,
+}
+
+impl Model for MemSource {
+    ghost use Rattle.std.specs.Prelude.{◌≤◌};
+    ghost use Rattle.cq_outside.specs.MemSource.{FailingSource};
+
+    ghost Value = { FailingSource };
+
+    ghost view = { λ s. record { left = s.rest; piece = s.piece; fails = s.fails.items; reads = s.reads; faults = s.faults } };
+
+    ghost invariant = { λ s. 1 ≤ s.piece };
+}
+
+impl MemSource {
+    /// A source that has these bytes left, gives at most `piece` of them in one read, and fails at the reads whose
+    /// numbers are in `fails`.
+    pub fn new(
+        alloc: Global,
+        bytes: &[u8],
+        piece: usize,
+        fails: &[u64],
+    ) -> Result<MemSource, NoMemory>
+        requires { 1 ≤ piece }
+        ensures { IfOk result (λ source. source ≡ record { left = bytes.now; piece = piece; fails = fails.now; reads = 0; faults = 0 }) }
+    {
+        Ok(MemSource {
+            rest: SureSource::new(Bytes::from_slice(alloc, bytes)?),
+            piece,
+            fails: Vec::from_slice(alloc, fails)?,
+            reads: 0,
+            faults: 0,
+        })
+    }
+}
+
+impl Source for MemSource {
+    ghost left = { λ s. Some s.left };
+
+    ghost faults = { λ s. s.faults };
+
+    ghost follows = { Follows };
+
+    /// Fails where the number of this read is one of those given, and else moves as many bytes as are left, fit `buf`
+    /// and make up a piece at most.
+    fn read(&mut self, buf: &mut [u8]) -> Result<usize, Failed>
+        ensures answer { result ≡ answer_of self.old (length buf.old) }
+        ensures listed { IsErr result ↔ Contains self.old.fails (one_more self.old.reads) }
+        ensures state { self.new ≡ after_read self.old (length buf.old) }
+        ensures bound { IfOk result (λ n. n ≤ length buf.old) }
+        ensures bytes { ReadConsumes (Some self.old.left) (Some self.new.left) result buf.new }
+        ensures cause { HasCause self.old.faults self.new.faults result }
+        ensures next { Follows self.old self.new }
+    {
+        self.reads = self.reads.saturating_add(1);
+        if self.fails.contains(&self.reads) {
+            self.faults = self.faults.saturating_add(1);
+            return Err(Failed);
+        }
+        let most = self.piece.min(buf.len());
+        self.rest.read(&mut buf[..most])
+    }
+
+    ghost use Rattle.cq_outside.specs.ReadLaws.{follows_itself, follows_on, faults_never_fall};
+
+    ghost follows_same = { follows_itself };
+
+    ghost follows_on = { follows_on };
+
+    ghost never_falls = { faults_never_fall };
+}
