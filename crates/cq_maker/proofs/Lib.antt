@@ -3,4 +3,5 @@ pub mod Nodes
 pub mod Plies
 pub mod Games
 pub mod Short
+pub mod Whole
 mod Rows

@@ -230,12 +230,12 @@ tags_short (t ∷ ts) =
     omega (arith, a, b, c, d)
 
 -- the tags of a made game, as they are written
-abbrev written_of : ℕ → GameResult → List (List ℕ × List ℕ)
+abbrev pub written_of : ℕ → GameResult → List (List ℕ × List ℕ)
 written_of number r =
     (codes "Event", codes "Selfrun") ∷ (codes "Site", codes "?") ∷ (codes "Date", codes "????.??.??") ∷ (codes "Round", decimal number)
     ∷ (codes "White", codes "?") ∷ (codes "Black", codes "?") ∷ (codes "Result", result_text r) ∷ []
 
-written_is : (number x : ℕ) → written_tags (game_made number (line_made x)) ≡ written_of number (ending (line_made x).last)
+pub written_is : (number x : ℕ) → written_tags (game_made number (line_made x)) ≡ written_of number (ending (line_made x).last)
 unfolding game_made roster_tag other_tags
 written_is number x = refl
 
@@ -257,7 +257,7 @@ tags_of_made number x few =
     let d = length-decimal-le 6 number (omega arith) (omega (arith, few)) (omega (arith, few)) in
     subst (λ ts. length (flat_map tag_line ts) ≤ 142) (sym (written_is number x)) (omega (arith, a, b, c, d))
 
-movetext_is : (number x : ℕ) → movetext (game_made number (line_made x)) ≡ line_words start_board true (line_made x).moves ++ (result_text (ending (line_made x).last) ∷ [])
+pub movetext_is : (number x : ℕ) → movetext (game_made number (line_made x)) ≡ line_words start_board true (line_made x).moves ++ (result_text (ending (line_made x).last) ∷ [])
 unfolding game_made
 movetext_is number x =
     ap (λ c. line_words start_board true c ++ (result_text (ending (line_made x).last) ∷ [])) (continuations_back (line_made x).moves)
@@ -278,7 +278,7 @@ movetext_short number x =
     let c = result_short r in
     subst (λ ws. weight ws ≤ 2694) (sym (movetext_is number x)) (omega (arith, a, b, c))
 
-game_short : (number x : ℕ) → number ≤ 100000 → length (export_text (game_made number (line_made x))) ≤ 4096
+pub game_short : (number x : ℕ) → number ≤ 100000 → length (export_text (game_made number (line_made x))) ≤ 4096
 game_short number x few =
     let g = game_made number (line_made x) in
     let a = tags_of_made number x few in
