@@ -4,4 +4,5 @@ pub mod Plies
 pub mod Games
 pub mod Short
 pub mod Whole
+pub mod Back
 mod Rows

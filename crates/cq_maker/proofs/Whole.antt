@@ -25,7 +25,7 @@ use Rattle.pgn_export.specs.TagLines.{tag_line, written_tags, roster_tag, other_
 use Rattle.pgn_export.proofs.Symbols.{number_digits}
 use Rattle.cq_maker.specs.Draws.{next, drawn}
 use Rattle.cq_maker.specs.Line.{is_over, move_drawn, ply_drawn, varies, variation_drawn, after_variation, line}
-use Rattle.cq_maker.specs.Made.{as_read, ending, line_made, game_made, games_made}
+use Rattle.cq_maker.specs.Made.{as_read, ending, line_made, game_made}
 use Rattle.cq_maker.proofs.Drawn.{line_over, line_step}
 use Rattle.cq_maker.proofs.Short.{written_of, written_is, game_short}
 
@@ -113,14 +113,14 @@ unfolding line_made
 made_levels x = line_levels (20 + drawn x 60) start_board (next x)
 
 -- a made game with the tags that are written
-abbrev whole : ℕ → ℕ → Game
+abbrev pub whole : ℕ → ℕ → Game
 whole number x = record {
   tags = written_of number (ending (line_made x).last);
   result = ending (line_made x).last;
   nodes = bare_node None None start_board ∷ nodes_from 0 1 (line_made x).moves;
 }
 
-whole_is : (number x : ℕ) → as_read (game_made number (line_made x)) ≡ whole number x
+pub whole_is : (number x : ℕ) → as_read (game_made number (line_made x)) ≡ whole number x
 unfolding game_made roster_tag other_tags
 whole_is number x = refl
 
@@ -128,12 +128,12 @@ whole_written : (number x : ℕ) → written_tags (whole number x) ≡ written_o
 unfolding roster_tag other_tags
 whole_written number x = refl
 
-whole_text : (number x : ℕ) → export_text (whole number x) ≡ export_text (game_made number (line_made x))
+pub whole_text : (number x : ℕ) → export_text (whole number x) ≡ export_text (game_made number (line_made x))
 unfolding game_made
 whole_text number x =
     ap (λ ts. flat_map tag_line ts ++ codes "\n" ++ lines (movetext (whole number x)) ++ codes "\n") (whole_written number x ∙ sym (written_is number x))
 
-whole_normal : (number x : ℕ) → number ≤ 100000 → IsNormal (whole number x)
+pub whole_normal : (number x : ℕ) → number ≤ 100000 → IsNormal (whole number x)
 unfolding start_of
 whole_normal number x few = record {
   writable = all_writable number (ending (line_made x).last) few;
@@ -145,19 +145,3 @@ whole_normal number x few = record {
   no_glyph = refl;
   short = subst (λ t. length t ≤ 2 ^ 24) (sym (whole_text number x)) (let s = game_short number x few in omega (arith, s));
 }
-
--- each game of an archive
-abbrev IsReadBack : Game → Type 0
-IsReadBack g = IsNormal (as_read g) × (export_text (as_read g) ≡ export_text g)
-
-game_back : (number x : ℕ) → number ≤ 100000 → IsReadBack (game_made number (line_made x))
-game_back number x few =
-    subst (λ g. IsNormal g × (export_text g ≡ export_text (game_made number (line_made x)))) (sym (whole_is number x)) (whole_normal number x few, whole_text number x)
-
-games_back : (number games x : ℕ) → number + games ≤ 100001 → AllByRecursion IsReadBack (games_made number games x)
-unfolding games_made
-games_back number zero x few = tt
-games_back number (suc games) x few = (game_back number x (omega (arith, few)), games_back (number + 1) games (line_made x).state (omega (arith, few)))
-
-pub archive_back : (seed games : ℕ) → games ≤ 100000 → AllByRecursion (λ g. IsNormal (as_read g) × (export_text (as_read g) ≡ export_text g)) (games_made 1 games seed)
-archive_back seed games few = games_back 1 games seed (omega (arith, few))
