@@ -1,0 +1,5 @@
+pub mod Items
+pub mod NeedsRows
+pub mod Needed
+pub mod KeysOver
+pub mod MenLaw

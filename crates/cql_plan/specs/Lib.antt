@@ -1,0 +1,4 @@
+pub mod Found
+pub mod Items
+pub mod Needs
+pub mod NeedsRows
