@@ -1,7 +1,6 @@
 -- The keys of items over nodes at which all of them hold.
 use Rattle.std.proofs.Common.{◌≡◌, ℕ, ◌+◌, ◌<◌, ◌≤◌, Bool, true, false, List, [], ◌∷◌, ◌++◌, length, get_or, take, drop, map, fold, All, Some, None, refl, sym, ap, ap₂, ◌∙◌, arith, subst}
-use Rattle.std.specs.Prelude.{Option, ℤ, is_some, if◌then◌else◌}
-use Rattle.std.specs.Int.{int_max, int_min}
+use Rattle.std.specs.Prelude.{Option, ℤ}
 use Rattle.std.specs.List.{list_all}
 use Rattle.std.proofs.lemmas.List.{map_more, map-append, drop_more, drop_all, take_all, append_assoc, append-nil}
 use Rattle.std.proofs.lemmas.List.Folds.{list_all_at}
@@ -13,6 +12,7 @@ use Rattle.cql_syntax.specs.TreeOf.{filter_tree, filter_trees}
 use Rattle.cql_syntax.specs.Trees.{FilterTree, FilterTrees}
 use Rattle.cql_syntax.specs.Values.{Value, amount, chosen_from, of_both}
 use Rattle.cql_syntax.specs.declared.tree.Filter.{Filter}
+use Rattle.cql_plan.specs.Found.{chosen}
 use Rattle.cql_plan.specs.Items.{item_holds}
 use Rattle.cql_plan.proofs.Items.{all_items}
 
@@ -30,9 +30,9 @@ first_key least at (n ∷ ns) a some is = is
 
 pub next_key : (least : Bool) (at : ℕ → Value) (ns : List ℕ) (k n : ℕ) (a b : ℤ) → k < length ns → n ≡ get_or ns k n
     → Some a ≡ key_of least (map at (take k ns)) → Some b ≡ amount (at n)
-    → Some ((if least then int_min else int_max) a b) ≡ key_of least (map at (take (k + 1) ns))
+    → Some (chosen least a b) ≡ key_of least (map at (take (k + 1) ns))
 next_key least at ns k n a b low here so more =
-    let choose = if least then int_min else int_max in
+    let choose = chosen least in
     chosen_more choose (map at (take k ns)) (at (get_or ns k n)) a b so (more ∙ ap (λ m. amount (at m)) here) ∙ sym (ap (chosen_from choose) (map_more at ns k n low))
 
 -- the keys so far, and those of the items that are left, are those of all

@@ -7,6 +7,8 @@ mod found;
 mod keys;
 pub mod laws;
 mod needs;
+mod plan;
 mod verdict;
 
+pub use plan::{Plan, match_game, may_hold};
 pub use verdict::Verdict;

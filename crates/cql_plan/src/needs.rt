@@ -1,7 +1,9 @@
 //! Whether a game has what a query needs.
 ghost use Rattle.std.specs.Prelude.{◌≡◌, ◌==◌, ℕ};
 ghost use Rattle.std.specs.Int.{bit_at};
+ghost use Rattle.cq_position.specs.Men.{man_number};
 ghost use Rattle.cq_position.specs.Search.{has_man_in};
+ghost use Rattle.cq_symmetry.specs.Images.{is_in};
 ghost use Rattle.cql_syntax.specs.TreeOf.{filter_tree, filters_tree};
 ghost use Rattle.cql_plain.specs.Trees.{searched_tree};
 ghost use Rattle.cql_plan.specs.Needs as spec;
@@ -78,9 +80,14 @@ fn some_passes(filters: &Filters, look: &Look) -> bool
 fn one_stands(designator: &Designator, look: &Look) -> bool
     ensures { result ≡ spec.designator_passes (searched_tree look.now.game.now look.now.variations) designator.now.men }
 {
-    let men = designator.men;
-    if men >> (Man::Empty as u16) & 1 == 1 {
+    if has_man(designator.men, Man::Empty) {
         return true;
     }
-    men & look.men != 0
+    designator.men & look.men != 0
+}
+
+fn has_man(men: u16, man: Man) -> bool
+    ensures { result ≡ is_in men (man_number man) }
+{
+    men >> (man as u16) & 1 == 1
 }
