@@ -1,0 +1,142 @@
+ghost use Rattle.std.specs.Prelude.{◌≡◌, ◌<◌, None, false, codes, IfOk};
+ghost use Rattle.cql_syntax.specs.TreeFaults.{tree_fault, has_any};
+ghost use Rattle.cql_syntax.specs.TreeOf.{filter_tree, filters_tree};
+ghost use Rattle.cql_syntax.specs.Trees.{no_filters, more_filters};
+
+use super::*;
+use cq_geometry::square_at;
+use cq_moves::{is_legal, play};
+use cq_outside::{Bytes, NoMemory};
+use cq_position::{GameResult, Move, Position, Promotion, read_fen};
+use cq_symmetry::SquarePart;
+use cql_lines::Steps;
+use cql_syntax::{Designator, Filter, Filters, Form, Plain, Query, TypedQuery, Unary};
+use pgn_tree::{Game, Tags};
+use std::alloc::Global;
+use std::marker::Brand;
+use std::sync::ledger::{Blank, Ledger};
+use std::test::Fail;
+
+fn filter(form: Form) -> Filter {
+    Filter { at: 6, form }
+}
+
+// A white queen on a8.
+fn queen() -> Filter {
+    let part = SquarePart {
+        squares: 1 << 56,
+        whole_ranks: false,
+        whole_files: false,
+    };
+    filter(Form::Squares(Designator { men: 2, part }))
+}
+
+fn not_queen(alloc: Global) -> Result<Filter, NoMemory> {
+    Ok(filter(Form::Unary(
+        Unary::Not,
+        Box::new(alloc, queen())?,
+    )))
+}
+
+fn by_ply(alloc: Global, least: bool) -> Result<Filter, NoMemory> {
+    Ok(filter(Form::Sort(
+        least,
+        Bytes::from_slice(alloc, b"p")?,
+        Box::new(alloc, filter(Form::Plain(Plain::Ply)))?,
+    )))
+}
+
+// The plan of the query of some items over the main line.
+fn plan_of(alloc: Global, items: Filters) -> Result<Plan, NoMemory>
+    requires accepted { tree_fault (record { variations = false; match_at = 0; match_text = codes "CQL"; items = filters_tree items }) ≡ None }
+    requires written { has_any (record { variations = false; match_at = 0; match_text = codes "CQL"; items = filters_tree items }) ≡ false }
+{
+    let query = Query {
+        variations: false,
+        match_at: 0,
+        match_text: Bytes::from_slice(alloc, b"CQL")?,
+        items,
+    };
+    Plan::make(alloc, &TypedQuery { query })
+}
+
+// The game of a position alone.
+fn game_of(alloc: Global, start: Position) -> Result<Game, NoMemory> {
+    Game::new(alloc, Tags::new(alloc), GameResult::Open, start)
+}
+
+fn counted<L: Ledger>(
+    alloc: Global,
+    plan: &Plan,
+    game: &Game,
+    blank: Blank,
+) -> Result<Verdict, NoMemory>
+    requires { (blank.name ≡ L.name) × (blank.parts ≡ L.parts) × (0 < blank.parts) }
+{
+    let mut steps = Steps::<L>::new(blank);
+    match_game(alloc, plan, game, &mut steps)
+}
+
+fn found(alloc: Global, plan: &Plan, game: &Game) -> Result<Verdict, NoMemory> {
+    counted::<Brand>(alloc, plan, game, Blank::new(1))
+}
+
+#[test]
+fn kings_alone_are_turned_away(rt: HostRuntime) -> Result<(), Fail> {
+    let alloc = rt.alloc();
+    let kings = game_of(alloc, read_fen(b"4k3/8/8/8/8/8/8/4K3 w - - 0 1")?)?;
+    let mut items = Filters::new(alloc);
+    items.push(queen())?;
+    let plan = plan_of(alloc, items)?;
+    assert_eq!(rt; plan.query().query.items.len(), 1);
+    assert!(rt; !may_hold(&plan, &kings));
+    assert_eq!(rt; found(alloc, &plan, &kings)?.nodes(), [].as_slice());
+    Ok(())
+}
+
+#[test]
+fn what_is_denied_is_not_needed(rt: HostRuntime) -> Result<(), Fail> {
+    let alloc = rt.alloc();
+    let kings = game_of(alloc, read_fen(b"4k3/8/8/8/8/8/8/4K3 w - - 0 1")?)?;
+    let mut items = Filters::new(alloc);
+    items.push(not_queen(alloc)?)?;
+    let plan = plan_of(alloc, items)?;
+    assert!(rt; may_hold(&plan, &kings));
+    let verdict = found(alloc, &plan, &kings)?;
+    assert_eq!(rt; verdict.nodes(), [0].as_slice());
+    assert_eq!(rt; verdict.keys(), [].as_slice());
+    Ok(())
+}
+
+// `1. a8=Q` from White's pawn on a7.
+fn promoted(alloc: Global, start: Position) -> Result<Game, NoMemory> {
+    let mut game = game_of(alloc, start)?;
+    let m = Move {
+        from: square_at(0, 6),
+        to: square_at(0, 7),
+        promotion: Promotion::Q,
+        null: false,
+    };
+    if is_legal(&start, m) {
+        game.add_node(0, m, play(&start, m))?;
+    }
+    Ok(game)
+}
+
+#[test]
+fn a_promoted_queen_is_found_and_sorted_by(rt: HostRuntime) -> Result<(), Fail> {
+    let alloc = rt.alloc();
+    let game = promoted(alloc, read_fen(b"7k/P7/8/8/8/8/8/K7 w - - 0 1")?)?;
+    let mut items = Filters::new(alloc);
+    items.push(queen())?;
+    let plan = plan_of(alloc, items)?;
+    assert!(rt; may_hold(&plan, &game));
+    assert_eq!(rt; found(alloc, &plan, &game)?.nodes(), [1].as_slice());
+    let mut sorts = Filters::new(alloc);
+    sorts.push(by_ply(alloc, false)?)?;
+    sorts.push(by_ply(alloc, true)?)?;
+    let verdict = found(alloc, &plan_of(alloc, sorts)?, &game)?;
+    assert_eq!(rt; verdict.nodes(), [0, 1].as_slice());
+    assert_eq!(rt; verdict.keys(), [1, 0].as_slice());
+    Ok(())
+}
