@@ -17,3 +17,5 @@ pub mod SameSound
 pub mod FlatSame
 pub mod FlatHits
 mod FlatRows
+pub mod FlatKept
+pub mod FlatFacts

@@ -1,5 +1,5 @@
 -- What the type of flat queries keeps of its items.
-use Rattle.std.specs.Prelude.{Bool, true, false, ◌&&◌, not, length, ◌==◌}
+use Rattle.std.specs.Prelude.{Bool, true, false, ◌&&◌, not, List, [], ◌∷◌}
 use Rattle.std.specs.List.{list_all, list_any}
 use Rattle.cql_syntax.specs.Kinds.{filter_kind}
 use Rattle.cql_syntax.specs.Leaves.{same_kind}
@@ -21,9 +21,13 @@ has_its_kind f = true
 unfoldable pub kinds_agree : FilterTrees → Bool
 kinds_agree items = list_all (λ o. has_its_kind o.form) (of_items 0 items)
 
+abbrev pub is_empty : {X : Type 0} → List X → Bool
+is_empty [] = true
+is_empty (x ∷ xs) = false
+
 -- a filter breaks no rule where it stands, is no line of more than 64 places and no `square` with four around it
 abbrev pub breaks_none : Occurrence → Bool
-breaks_none o = (length (broken_rules o) == 0) && not (is_long_line o.form) && not (is_fifth_square o.standing.squares o.form)
+breaks_none o = is_empty (broken_rules o) && not (is_long_line o.form) && not (is_fifth_square o.standing.squares o.form)
 
 -- no filter of these items breaks a rule; how heavy they are isn't asked
 unfoldable pub break_no_rule : FilterTrees → Bool
