@@ -2,5 +2,5 @@ pub mod Flattened
 pub mod Items
 pub mod NeedsRows
 pub mod Needed
-pub mod KeysOver
+pub mod ItemsHeld
 pub mod MenLaw

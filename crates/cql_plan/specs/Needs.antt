@@ -1,12 +1,15 @@
 -- What a query needs of a game, whatever the node: a game without it has no hit.
 use Rattle.std.specs.Prelude.{ℕ, Bool, true, false, ◌&&◌, ◌||◌}
 use Rattle.std.specs.List.{list_any, range_with_len}
+use Rattle.cq_position.specs.Games.{Game}
 use Rattle.cq_position.specs.Men.{man_number}
 use Rattle.cq_position.specs.Search.{SearchedTree, has_man_in}
 use Rattle.cq_position.specs.declared.men.Man.TheVariants.{Empty}
 use Rattle.cq_symmetry.specs.Images.{is_in}
+use Rattle.cql_syntax.specs.Flat.{flat_query}
 use Rattle.cql_syntax.specs.Headers.{has_text, is_result}
-use Rattle.cql_syntax.specs.Trees.{FilterTree, filter_at, FormTree, designator, tagged, outcome, chain, any, FilterTrees, no_filters, more_filters}
+use Rattle.cql_syntax.specs.Hits.{tree_of}
+use Rattle.cql_syntax.specs.Trees.{FilterTree, filter_at, FormTree, designator, tagged, outcome, chain, any, FilterTrees, no_filters, more_filters, QueryTree}
 use Rattle.cql_syntax.specs.declared.leaves.Chain.TheVariants.{Or, And, All, Union, Intersect}
 use Rattle.cql_syntax.specs.declared.leaves.Kind.TheVariants.{Position, Set}
 
@@ -18,7 +21,7 @@ one_stands tree men = list_any (λ k. is_in men k && has_man_in tree k) (range_w
 abbrev pub designator_passes : SearchedTree → ℕ → Bool
 designator_passes tree men = is_in men (man_number Empty) || one_stands tree men
 
--- Whether a game passes the needs of a filter. A filter that can hold in any game needs nothing.
+-- Whether a game passes the needs of a filter: its tags, its result, and its men. Every other filter needs nothing.
 unfoldable mutual
   pub passes : SearchedTree → FilterTree → Bool
   passes tree (filter_at at f) = form_passes tree f
@@ -43,3 +46,7 @@ unfoldable mutual
   pub some_passes : SearchedTree → FilterTrees → Bool
   some_passes tree no_filters = false
   some_passes tree (more_filters f fs) = passes tree f || some_passes tree fs
+
+-- a game passes the needs of a query where it passes those of all of its flat items
+abbrev pub query_passes : QueryTree → Game → Bool
+query_passes q game = all_pass (tree_of q game) (flat_query q).items

@@ -6,7 +6,7 @@ ghost use Rattle.cql_syntax.specs.Hits.{hits, tree_of};
 ghost use Rattle.cql_syntax.specs.Meaning.{Names, value};
 ghost use Rattle.cql_syntax.specs.Trees.{FilterTree, QueryTree};
 ghost use Rattle.cql_syntax.specs.Values.{holds};
-ghost use Rattle.cql_plan.specs.Needs.{passes, all_pass};
+ghost use Rattle.cql_plan.specs.Needs.{passes, all_pass, query_passes};
 ghost use Rattle.cql_plan.specs.NeedsRows.{DesignatorRows, HeaderRows, PartRows, OtherRows};
 
 /// Which games pass the needs of small filters.
@@ -25,8 +25,9 @@ pub fn what_holds_passes()
         → is_searched tree.variations tree.game.nodes n ≡ true → holds (value tree [] names f n) ≡ true → passes tree f ≡ true }
 {}
 
-/// A game with a hit passes the needs of the query's items.
-#[tactic(auto, using(crate::proofs::Needed::hits_pass))]
+/// A game with a hit passes the needs of the query's items, and those of its flat items.
+#[tactic(auto, using(crate::proofs::Needed::hits_pass, crate::proofs::Flattened::flat_passes))]
 pub fn games_with_a_hit_pass()
-    ensures { (q : QueryTree) (game : Game) → hits q game ≢ [] → all_pass (tree_of q game) q.items ≡ true }
+    ensures items { (q : QueryTree) (game : Game) → hits q game ≢ [] → all_pass (tree_of q game) q.items ≡ true }
+    ensures flat { (q : QueryTree) (game : Game) → hits q game ≢ [] → query_passes q game ≡ true }
 {}

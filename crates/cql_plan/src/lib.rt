@@ -8,6 +8,7 @@ mod keys;
 pub mod laws;
 mod needs;
 mod plan;
+mod stub;
 #[cfg(test)]
 mod tests;
 mod verdict;

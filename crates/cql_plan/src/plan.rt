@@ -1,16 +1,16 @@
 //! A plan of a query, and the match of one game.
 ghost use Rattle.std.specs.Prelude.{◌≡◌, ◌≢◌, ◌<◌, [], true, false, length, map, Some, All, AllPairs, IfOk};
 ghost use Rattle.cql_syntax.specs.Flat.{flat_query};
-ghost use Rattle.cql_syntax.specs.Hits.{hits, keys, tree_of};
+ghost use Rattle.cql_syntax.specs.Hits.{hits, keys};
 ghost use Rattle.cql_syntax.specs.Same.{same_filters};
 ghost use Rattle.cql_syntax.specs.TreeOf.{filters_tree, query_tree};
-ghost use Rattle.cql_plan.specs.Needs.{all_pass};
+ghost use Rattle.cql_plan.specs.Needs.{query_passes};
 
 use crate::needs::all_needed;
 use crate::verdict::{Verdict, find};
 use cq_outside::NoMemory;
 use cql_lines::Steps;
-use cql_rewrite::expand;
+use crate::stub::expand;
 use cql_syntax::{FlatQuery, TypedQuery};
 use pgn_tree::Game;
 use std::alloc::Global;
@@ -48,7 +48,7 @@ impl Plan {
 /// Whether a game has what the query needs; where it hasn't, there is no hit. The game's tags and men are looked at once, and no memory
 /// is taken.
 pub fn may_hold(plan: &Plan, game: &Game) -> bool
-    ensures value { result ≡ all_pass (tree_of (query_tree plan.now.query.query) game.now) (flat_query (query_tree plan.now.query.query)).items }
+    ensures value { result ≡ query_passes (query_tree plan.now.query.query) game.now }
     ensures hit { hits (query_tree plan.now.query.query) game.now ≢ [] → result ≡ true }
 {
     all_needed(&plan.flat.items, plan.flat.variations, game)
@@ -68,7 +68,7 @@ pub fn match_game<L: Ledger>(
     ensures inside { IfOk result (λ v. All (λ n. n < length game.now.nodes) v.nodes.items) }
     ensures keys { IfOk result (λ v. v.nodes.items ≢ [] → map Some v.keys.items ≡ keys (query_tree plan.now.query.query) game.now) }
     ensures no_keys { IfOk result (λ v. v.nodes.items ≡ [] → v.keys.items ≡ []) }
-    ensures turned_away { all_pass (tree_of (query_tree plan.now.query.query) game.now) (flat_query (query_tree plan.now.query.query)).items ≡ false
+    ensures turned_away { query_passes (query_tree plan.now.query.query) game.now ≡ false
         → IfOk result (λ v. v.nodes.items ≡ []) }
     ensures steps { _steps.new ≡ _steps.old }
 {

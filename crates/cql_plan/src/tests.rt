@@ -1,4 +1,5 @@
 ghost use Rattle.std.specs.Prelude.{◌≡◌, ◌<◌, None, false, codes, IfOk};
+ghost use Rattle.cq_position.specs.declared.men.Promotion.TheVariants.{Q};
 ghost use Rattle.cql_syntax.specs.TreeFaults.{tree_fault, has_any};
 ghost use Rattle.cql_syntax.specs.TreeOf.{filter_tree, filters_tree};
 ghost use Rattle.cql_syntax.specs.Trees.{no_filters, more_filters};
@@ -108,17 +109,23 @@ fn what_is_denied_is_not_needed(rt: HostRuntime) -> Result<(), Fail> {
     Ok(())
 }
 
-// `1. a8=Q` from White's pawn on a7.
-fn promoted(alloc: Global, start: Position) -> Result<Game, NoMemory> {
-    let mut game = game_of(alloc, start)?;
-    let m = Move {
+fn promotion() -> Move
+    ensures { result ≡ record { from = 48; to = 56; promotion = Q; null = false } }
+{
+    Move {
         from: square_at(0, 6),
         to: square_at(0, 7),
         promotion: Promotion::Q,
         null: false,
-    };
-    if is_legal(&start, m) {
-        game.add_node(0, m, play(&start, m))?;
+    }
+}
+
+// `1. a8=Q` from White's pawn on a7.
+fn promoted(alloc: Global, start: &Position) -> Result<Game, NoMemory> {
+    let mut game = game_of(alloc, *start)?;
+    if is_legal(start, promotion()) {
+        let next = play(start, promotion());
+        game.add_node(0, promotion(), next)?;
     }
     Ok(game)
 }
@@ -126,7 +133,7 @@ fn promoted(alloc: Global, start: Position) -> Result<Game, NoMemory> {
 #[test]
 fn a_promoted_queen_is_found_and_sorted_by(rt: HostRuntime) -> Result<(), Fail> {
     let alloc = rt.alloc();
-    let game = promoted(alloc, read_fen(b"7k/P7/8/8/8/8/8/K7 w - - 0 1")?)?;
+    let game = promoted(alloc, &read_fen(b"7k/P7/8/8/8/8/8/K7 w - - 0 1")?)?;
     let mut items = Filters::new(alloc);
     items.push(queen())?;
     let plan = plan_of(alloc, items)?;

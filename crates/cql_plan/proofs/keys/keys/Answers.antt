@@ -1,6 +1,6 @@
 use Rattle.cql_plain.specs.Trees.{searched_tree}
 use Rattle.cql_syntax.specs.TreeOf.{filters_tree}
-use Rattle.cql_plan.proofs.KeysOver.{item_at_hits}
+use Rattle.cql_plan.proofs.ItemsHeld.{item_at_hits}
 use Rattle.cql_plan.proofs.keys.keys.Goals as goal
 
 pub add_key-requires-clause-holds : goal.add_key-requires-clause-holds
