@@ -1,3 +1,4 @@
+pub mod Accepted
 pub mod Flattened
 pub mod Items
 pub mod NeedsRows

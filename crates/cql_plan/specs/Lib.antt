@@ -1,3 +1,4 @@
+pub mod Asked
 pub mod Found
 pub mod Items
 pub mod Needs

@@ -1,8 +1,8 @@
-ghost use Rattle.std.specs.Prelude.{◌≡◌, ◌<◌, None, false, codes, IfOk};
+ghost use Rattle.std.specs.Prelude.{◌≡◌, ◌<◌, false, IfOk};
 ghost use Rattle.cq_position.specs.declared.men.Promotion.TheVariants.{Q};
-ghost use Rattle.cql_syntax.specs.TreeFaults.{tree_fault, has_any};
 ghost use Rattle.cql_syntax.specs.TreeOf.{filter_tree, filters_tree};
-ghost use Rattle.cql_syntax.specs.Trees.{no_filters, more_filters};
+ghost use Rattle.cql_plan.specs.Asked as spec;
+ghost use Rattle.cql_plan.specs.Asked.{IsAccepted};
 
 use super::*;
 use cq_geometry::square_at;
@@ -18,39 +18,46 @@ use std::marker::Brand;
 use std::sync::ledger::{Blank, Ledger};
 use std::test::Fail;
 
-fn filter(form: Form) -> Filter {
-    Filter { at: 6, form }
-}
-
 // A white queen on a8.
-fn queen() -> Filter {
+fn queen() -> Filter
+    ensures { filter_tree result ≡ spec.queen }
+{
     let part = SquarePart {
         squares: 1 << 56,
         whole_ranks: false,
         whole_files: false,
     };
-    filter(Form::Squares(Designator { men: 2, part }))
+    Filter {
+        at: 6,
+        form: Form::Squares(Designator { men: 2, part }),
+    }
 }
 
-fn not_queen(alloc: Global) -> Result<Filter, NoMemory> {
-    Ok(filter(Form::Unary(
-        Unary::Not,
-        Box::new(alloc, queen())?,
-    )))
+fn not_queen(alloc: Global) -> Result<Filter, NoMemory>
+    ensures { IfOk result (λ f. filter_tree f ≡ spec.not_queen) }
+{
+    let part = Box::new(alloc, queen())?;
+    Ok(Filter {
+        at: 6,
+        form: Form::Unary(Unary::Not, part),
+    })
 }
 
-fn by_ply(alloc: Global, least: bool) -> Result<Filter, NoMemory> {
-    Ok(filter(Form::Sort(
-        least,
-        Bytes::from_slice(alloc, b"p")?,
-        Box::new(alloc, filter(Form::Plain(Plain::Ply)))?,
-    )))
+fn by_ply(alloc: Global, least: bool) -> Result<Filter, NoMemory>
+    ensures { IfOk result (λ f. filter_tree f ≡ spec.by_ply least) }
+{
+    let name = Bytes::from_slice(alloc, b"p")?;
+    let form = Form::Plain(Plain::Ply);
+    let number = Box::new(alloc, Filter { at: 6, form })?;
+    Ok(Filter {
+        at: 6,
+        form: Form::Sort(least, name, number),
+    })
 }
 
-// The plan of the query of some items over the main line.
+// The plan of a query over the main line.
 fn plan_of(alloc: Global, items: Filters) -> Result<Plan, NoMemory>
-    requires accepted { tree_fault (record { variations = false; match_at = 0; match_text = codes "CQL"; items = filters_tree items }) ≡ None }
-    requires written { has_any (record { variations = false; match_at = 0; match_text = codes "CQL"; items = filters_tree items }) ≡ false }
+    requires { IsAccepted (filters_tree items) }
 {
     let query = Query {
         variations: false,
@@ -59,6 +66,25 @@ fn plan_of(alloc: Global, items: Filters) -> Result<Plan, NoMemory>
         items,
     };
     Plan::make(alloc, &TypedQuery { query })
+}
+
+fn queen_plan(alloc: Global) -> Result<Plan, NoMemory> {
+    let mut items = Filters::new(alloc);
+    items.push(queen())?;
+    plan_of(alloc, items)
+}
+
+fn not_queen_plan(alloc: Global) -> Result<Plan, NoMemory> {
+    let mut items = Filters::new(alloc);
+    items.push(not_queen(alloc)?)?;
+    plan_of(alloc, items)
+}
+
+fn sorts_plan(alloc: Global) -> Result<Plan, NoMemory> {
+    let mut items = Filters::new(alloc);
+    items.push(by_ply(alloc, false)?)?;
+    items.push(by_ply(alloc, true)?)?;
+    plan_of(alloc, items)
 }
 
 // The game of a position alone.
@@ -86,9 +112,7 @@ fn found(alloc: Global, plan: &Plan, game: &Game) -> Result<Verdict, NoMemory> {
 fn kings_alone_are_turned_away(rt: HostRuntime) -> Result<(), Fail> {
     let alloc = rt.alloc();
     let kings = game_of(alloc, read_fen(b"4k3/8/8/8/8/8/8/4K3 w - - 0 1")?)?;
-    let mut items = Filters::new(alloc);
-    items.push(queen())?;
-    let plan = plan_of(alloc, items)?;
+    let plan = queen_plan(alloc)?;
     assert_eq!(rt; plan.query().query.items.len(), 1);
     assert!(rt; !may_hold(&plan, &kings));
     assert_eq!(rt; found(alloc, &plan, &kings)?.nodes(), [].as_slice());
@@ -99,9 +123,7 @@ fn kings_alone_are_turned_away(rt: HostRuntime) -> Result<(), Fail> {
 fn what_is_denied_is_not_needed(rt: HostRuntime) -> Result<(), Fail> {
     let alloc = rt.alloc();
     let kings = game_of(alloc, read_fen(b"4k3/8/8/8/8/8/8/4K3 w - - 0 1")?)?;
-    let mut items = Filters::new(alloc);
-    items.push(not_queen(alloc)?)?;
-    let plan = plan_of(alloc, items)?;
+    let plan = not_queen_plan(alloc)?;
     assert!(rt; may_hold(&plan, &kings));
     let verdict = found(alloc, &plan, &kings)?;
     assert_eq!(rt; verdict.nodes(), [0].as_slice());
@@ -134,15 +156,10 @@ fn promoted(alloc: Global, start: &Position) -> Result<Game, NoMemory> {
 fn a_promoted_queen_is_found_and_sorted_by(rt: HostRuntime) -> Result<(), Fail> {
     let alloc = rt.alloc();
     let game = promoted(alloc, &read_fen(b"7k/P7/8/8/8/8/8/K7 w - - 0 1")?)?;
-    let mut items = Filters::new(alloc);
-    items.push(queen())?;
-    let plan = plan_of(alloc, items)?;
+    let plan = queen_plan(alloc)?;
     assert!(rt; may_hold(&plan, &game));
     assert_eq!(rt; found(alloc, &plan, &game)?.nodes(), [1].as_slice());
-    let mut sorts = Filters::new(alloc);
-    sorts.push(by_ply(alloc, false)?)?;
-    sorts.push(by_ply(alloc, true)?)?;
-    let verdict = found(alloc, &plan_of(alloc, sorts)?, &game)?;
+    let verdict = found(alloc, &sorts_plan(alloc)?, &game)?;
     assert_eq!(rt; verdict.nodes(), [0, 1].as_slice());
     assert_eq!(rt; verdict.keys(), [1, 0].as_slice());
     Ok(())
