@@ -1,5 +1,5 @@
-ghost use Rattle.std.specs.Prelude.{◌≡◌, ◌<◌, false, IfOk};
-ghost use Rattle.cq_position.specs.declared.men.Promotion.TheVariants.{Q};
+ghost use Rattle.std.specs.Prelude.{◌≡◌, ◌<◌, [], ◌∷◌, None, IfOk};
+ghost use Rattle.cq_position.specs.Games.{bare_node};
 ghost use Rattle.cql_syntax.specs.TreeOf.{filter_tree, filters_tree};
 ghost use Rattle.cql_plan.specs.Asked as spec;
 ghost use Rattle.cql_plan.specs.Asked.{IsAccepted};
@@ -88,7 +88,9 @@ fn sorts_plan(alloc: Global) -> Result<Plan, NoMemory> {
 }
 
 // The game of a position alone.
-fn game_of(alloc: Global, start: Position) -> Result<Game, NoMemory> {
+fn game_of(alloc: Global, start: Position) -> Result<Game, NoMemory>
+    ensures { IfOk result (λ g. g.nodes ≡ bare_node None None start ∷ []) }
+{
     Game::new(alloc, Tags::new(alloc), GameResult::Open, start)
 }
 
@@ -131,23 +133,12 @@ fn what_is_denied_is_not_needed(rt: HostRuntime) -> Result<(), Fail> {
     Ok(())
 }
 
-fn promotion() -> Move
-    ensures { result ≡ record { from = 48; to = 56; promotion = Q; null = false } }
-{
-    Move {
-        from: square_at(0, 6),
-        to: square_at(0, 7),
-        promotion: Promotion::Q,
-        null: false,
-    }
-}
-
-// `1. a8=Q` from White's pawn on a7.
-fn promoted(alloc: Global, start: &Position) -> Result<Game, NoMemory> {
+// The game of one move, where it is legal.
+fn moved(alloc: Global, start: &Position, m: &Move) -> Result<Game, NoMemory> {
     let mut game = game_of(alloc, *start)?;
-    if is_legal(start, promotion()) {
-        let next = play(start, promotion());
-        game.add_node(0, promotion(), next)?;
+    if is_legal(start, *m) {
+        let next = play(start, *m);
+        game.add_node(0, *m, next)?;
     }
     Ok(game)
 }
@@ -155,7 +146,14 @@ fn promoted(alloc: Global, start: &Position) -> Result<Game, NoMemory> {
 #[test]
 fn a_promoted_queen_is_found_and_sorted_by(rt: HostRuntime) -> Result<(), Fail> {
     let alloc = rt.alloc();
-    let game = promoted(alloc, &read_fen(b"7k/P7/8/8/8/8/8/K7 w - - 0 1")?)?;
+    let promotion = Move {
+        from: square_at(0, 6),
+        to: square_at(0, 7),
+        promotion: Promotion::Q,
+        null: false,
+    };
+    let start = read_fen(b"7k/P7/8/8/8/8/8/K7 w - - 0 1")?;
+    let game = moved(alloc, &start, &promotion)?;
     let plan = queen_plan(alloc)?;
     assert!(rt; may_hold(&plan, &game));
     assert_eq!(rt; found(alloc, &plan, &game)?.nodes(), [1].as_slice());
