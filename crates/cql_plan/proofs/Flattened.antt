@@ -1,6 +1,5 @@
 -- A query by its flat items.
-use Rattle.std.proofs.Common.{◌≡◌, ℕ, Bool, true, false, List, [], refl, sym, ap, ap₂, ◌∙◌}
-use Rattle.std.specs.Prelude.{Option, ℤ}
+use Rattle.std.proofs.Common.{◌≡◌, Bool, true, [], sym, ap, ap₂, ◌∙◌}
 use Rattle.cq_position.specs.Games.{Game}
 use Rattle.cql_plain.specs.Trees.{searched_tree}
 use Rattle.cql_syntax.specs.Flat.{flat_query}

@@ -1,7 +1,7 @@
 -- The men of a game in one number, and those of a designator.
-use Rattle.std.proofs.Common.{◌≡◌, ℕ, ◌+◌, ◌^◌, ◌<◌, ◌≤◌, Bool, true, false, not, ◌&&◌, nat_eq, refl, sym, ap, ◌∙◌, arith}
+use Rattle.std.proofs.Common.{◌≡◌, ℕ, ◌^◌, ◌<◌, ◌≤◌, true, false, not, ◌&&◌, nat_eq, sym, ap, ◌∙◌, arith}
 use Rattle.std.specs.Prelude.{bit_and, ◌==◌}
-use Rattle.std.specs.Int.{bit_at, w64}
+use Rattle.std.specs.Int.{w64}
 use Rattle.std.specs.List.{list_any, range_with_len}
 use Rattle.std.proofs.Math.Facts.{Fits-lt-pow, Fits-of_lt, Fits-and}
 use Rattle.std.proofs.Math.Arith.{lt_of_le-ne}

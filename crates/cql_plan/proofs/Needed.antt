@@ -1,5 +1,5 @@
 -- What holds at a searched node passes the needs test.
-use Rattle.std.proofs.Common.{◌≡◌, ℕ, zero, suc, ◌<◌, ◌≤◌, All, Bool, true, false, List, [], ◌∷◌, length, refl, sym, ap, ◌∙◌, arith, subst, Some}
+use Rattle.std.proofs.Common.{◌≡◌, ℕ, zero, suc, ◌<◌, ◌≤◌, All, Bool, true, false, List, [], ◌∷◌, length, refl, ap, ◌∙◌, arith, Some}
 use Rattle.std.specs.Prelude.{◌&&◌, ◌||◌, ◌==◌, nat_lt, slice_index_or, if◌then◌else◌}
 use Rattle.std.specs.List.{list_all, list_any, range_with_len, filter}
 use Rattle.std.proofs.Math.Arith.{lt_of_le-ne}
@@ -7,7 +7,7 @@ use Rattle.std.proofs.lemmas.Bool.{eq-eqb}
 use Rattle.std.proofs.lemmas.List.Elements.{All-filter, filter_passes}
 use Rattle.cq_geometry.specs.Squares.{squares}
 use Rattle.cq_position.specs.Board.{man_at}
-use Rattle.cq_position.specs.Games.{Game, node_at, is_searched, searched}
+use Rattle.cq_position.specs.Games.{Game, is_searched, searched}
 use Rattle.cq_position.specs.Men.{man_number}
 use Rattle.cq_position.specs.Search.{SearchedTree, has_man, has_man_in, nodes_in}
 use Rattle.cq_position.specs.declared.men.Man.{Man}
@@ -132,6 +132,7 @@ intersection_then vs e =
 -- A filter that holds at a searched node passes, whatever squares are bound to names.
 mutual
   unfolding value passes designator_image
+
   pub held_passes : (tree : SearchedTree) (n : ℕ) (e : Names) → IsSearched tree n → (f : FilterTree) → holds (value tree [] e f n) ≡ true → passes tree f ≡ true
   held_passes tree n e is_node (filter_at at f) h = held_form tree n e is_node f h
 

@@ -1,5 +1,5 @@
 -- Which games pass the needs of filters.
-use Rattle.std.specs.Prelude.{◌≡◌, Bool, true, false, List, [], ◌∷◌, None, codes}
+use Rattle.std.specs.Prelude.{◌≡◌, true, false, List, [], ◌∷◌, None, codes}
 use Rattle.cq_position.specs.Search.{SearchedTree}
 use Rattle.cq_position.specs.declared.men.Man.TheVariants.{K, BlackK}
 use Rattle.cq_position.specs.declared.men.Side.TheVariants.{White as WhiteSide}

@@ -1,4 +1,4 @@
-use Rattle.std.proofs.Common.{◌≡◌, ◌∷◌, [], ◌-◌, None, length, Contains, inl, subst, sym, ap, arith, refl}
+use Rattle.std.proofs.Common.{◌∷◌, [], ◌-◌, None, length, Contains, inl, subst, sym, ap, arith, refl}
 use Rattle.cq_position.specs.Board.{Board}
 use Rattle.cq_position.specs.Games.{bare_node, node_at, way_up}
 use Rattle.cq_position.specs.Legal.{Leads}
