@@ -2,3 +2,4 @@ pub mod Turns
 pub mod Rows
 pub mod Made
 pub mod Texts
+pub mod Meant

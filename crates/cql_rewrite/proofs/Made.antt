@@ -3,12 +3,15 @@ use Rattle.std.proofs.Common.{◌≡◌, ℕ, zero, suc, ◌+◌, Bool, true, fa
 use Rattle.std.specs.Prelude.{slice_get, option_to_list, if◌then◌else◌}
 use Rattle.std.specs.List.{filter}
 use Rattle.std.proofs.lemmas.List.{append-nil}
+use Rattle.cq_symmetry.specs.Families.{members}
 use Rattle.cq_symmetry.specs.Mappings.{PlainMapping}
+use Rattle.cq_symmetry.specs.declared.families.Family.{Family}
 use Rattle.cql_syntax.specs.Contexts.{Context}
-use Rattle.cql_syntax.specs.Flat.{without, distinct, flat, flat_all, flat_terms, flat_parts, flat_body}
+use Rattle.cql_syntax.specs.Flat.{without, distinct, flat, flat_form, flat_all, flat_terms, flat_parts, flat_body}
+use Rattle.cql_syntax.specs.Kinds.{filter_kind}
 use Rattle.cql_syntax.specs.Meaning.{fits, fitting}
 use Rattle.cql_syntax.specs.Same.{same_filter}
-use Rattle.cql_syntax.specs.Trees.{FilterTree, FilterTrees, no_filters, more_filters, TermTrees, no_terms, more_terms, PartTrees, no_parts, more_parts, BodyTree, with_filter, with_term, with_part}
+use Rattle.cql_syntax.specs.Trees.{FilterTree, FormTree, transform, any, FilterTrees, no_filters, more_filters, TermTrees, no_terms, more_terms, PartTrees, no_parts, more_parts, BodyTree, with_filter, with_term, with_part}
 use Rattle.cql_syntax.specs.declared.leaves.Mark.{Mark}
 use Rattle.cql_syntax.proofs.SameSound.{filter_is}
 use Rattle.cql_rewrite.specs.Kept.{flat_if_fits, some_same, with_new}
@@ -110,3 +113,7 @@ pub members_made : (g : Context) (f : FilterTree) (ms : List PlainMapping) (k : 
 members_made g f ms k m old new o is had found more =
     more ∙ ap₂ with_new had found
     ∙ sym (ap (λ l. distinct (flats g f l)) (take_get ms k m is) ∙ ap distinct (flats_snoc g f (take k ms) m) ∙ distinct_more (flats g f (take k ms)) (flat_if_fits g m f))
+
+pub family_flat : (g : Context) (t : Family) (f : FilterTree) (form : FormTree) → form ≡ transform t f → any (filter_kind f) (distinct (flats g f (members t))) ≡ flat_form g form
+unfolding flat
+family_flat g t f form is = ap (flat_form g) (sym is)

@@ -210,6 +210,17 @@ with_term_text None false text = text
 with_term_text None true text = in_parens (codes "-") (codes "0" ∷ text ∷ [])
 with_term_text (Some before) minus text = in_parens (sign_word minus) (before ∷ text ∷ [])
 
+-- a part after its word, where it is written
+abbrev pub after_word : List ℕ → Option (List ℕ) → List ℕ
+after_word word None = []
+after_word word (Some part) = word ++ part
+
+-- the filter of the move, given its parts
+abbrev pub in_move : (origin goal taken promoted : Option (List ℕ)) → List ℕ
+in_move origin goal taken promoted =
+    ((((codes "(move" ++ after_word (codes " from ") origin) ++ after_word (codes " to ") goal) ++ after_word (codes " capture ") taken)
+    ++ after_word (codes " promote ") promoted) ++ codes ")"
+
 -- The text of each form. A sum is pairs from the left: `a - b + c` is `(+ (- a b) c)`.
 unfoldable mutual
   pub text : FilterTree → List ℕ
@@ -258,14 +269,11 @@ unfoldable mutual
   body_text (group cs) = in_parens (codes "seq") (part_texts cs)
 
   pub played_text : PlayedTree → List ℕ
-  played_text (move_of origin goal taken promoted) =
-      ((((codes "(move" ++ written_text (codes " from ") origin) ++ written_text (codes " to ") goal) ++ written_text (codes " capture ") taken)
-      ++ written_text (codes " promote ") promoted) ++ codes ")"
+  played_text (move_of origin goal taken promoted) = in_move (written_text origin) (written_text goal) (written_text taken) (written_text promoted)
 
-  -- a part after its word, where it is written
-  pub written_text : List ℕ → WrittenTree → List ℕ
-  written_text word left_out = []
-  written_text word (written f) = word ++ text f
+  pub written_text : WrittenTree → Option (List ℕ)
+  written_text left_out = None
+  written_text (written f) = Some (text f)
 
 -- texts with one LF between two of them
 abbrev pub on_lines : List (List ℕ) → List ℕ

@@ -1,11 +1,10 @@
 //! The flat form of a query.
-ghost use Rattle.std.specs.Prelude.{◌≡◌, ℕ, [], map, option_map, IfOk, OnOk};
-ghost use Rattle.cq_position.specs.Games.{Game};
-ghost use Rattle.cq_position.specs.Search.{SearchedTree};
+ghost use Rattle.std.specs.Prelude.{◌≡◌, [], map, option_map, IfOk, OnOk};
 ghost use Rattle.cq_symmetry.specs.Families.{members};
 ghost use Rattle.cql_syntax.specs.Flat as spec;
 ghost use Rattle.cql_syntax.specs.Meaning.{fitting};
-ghost use Rattle.cql_syntax.specs.TreeOf.{filter_tree, form_tree, filters_tree, terms_tree, line_tree, played_tree, written_tree, parts_tree, body_tree};
+ghost use Rattle.cql_syntax.specs.TreeOf.{filter_tree, form_tree, filters_tree, terms_tree, line_tree, played_tree, written_tree, parts_tree, body_tree, query_tree};
+ghost use Rattle.cql_rewrite.specs.Meant.{MeansTheSame};
 ghost use Rattle.cql_rewrite.specs.Kept.{with_new, some_same, flat_if_fits};
 
 use crate::contexts::{
@@ -26,9 +25,11 @@ use std::alloc::Global;
 ///
 /// Each flat form is made once, and compared with those alone that are kept of the same family, at most 225; a comparison ends at the
 /// first difference. So the work stays within a small multiple of the query's weight, which is at most 2^18.
+#[tactic(auto, using(crate::proofs::Meant::flat_means_the_same))]
 pub fn expand(alloc: Global, query: &TypedQuery) -> Result<FlatQuery, NoMemory>
     ensures variations { IfOk result (λ flat. flat.variations ≡ query.now.query.variations) }
     ensures items { IfOk result (λ flat. filters_tree flat.items ≡ spec.flat_all [] (filters_tree query.now.query.items)) }
+    ensures meaning { IfOk result (λ flat. MeansTheSame (query_tree query.now.query) (filters_tree flat.items)) }
 {
     let items = flat_all(alloc, &query.query.items, &[])?;
     Ok(FlatQuery {
@@ -40,7 +41,7 @@ pub fn expand(alloc: Global, query: &TypedQuery) -> Result<FlatQuery, NoMemory>
 /// The flat form of a filter in a context.
 #[cycle(flat)]
 #[tactic(auto, unfolding(cql_syntax::specs::Flat::flat))]
-fn flat(alloc: Global, f: &Filter, context: &[Mapping]) -> Result<Filter, NoMemory>
+pub(crate) fn flat(alloc: Global, f: &Filter, context: &[Mapping]) -> Result<Filter, NoMemory>
     ensures { IfOk result (λ r. filter_tree r ≡ spec.flat context.now (filter_tree f.now)) }
 {
     Ok(Filter {

@@ -9,6 +9,8 @@ pub mod flat;
 mod leaves;
 mod pieces;
 mod same;
+#[cfg(test)]
+mod tests;
 pub mod text;
 mod words;
 

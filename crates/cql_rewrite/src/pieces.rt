@@ -1,5 +1,5 @@
 //! Pieces of the flat text.
-ghost use Rattle.std.specs.Prelude.{◌≡◌, ◌++◌, ◌∷◌, ◌<◌, IfOk, OnOk};
+ghost use Rattle.std.specs.Prelude.{◌≡◌, ◌++◌, ◌∷◌, [], ◌%◌, ◌<◌, IfOk, OnOk};
 ghost use Rattle.std.specs.Fmt.{decimal};
 ghost use Rattle.cql_rewrite.specs.FlatText as spec;
 
@@ -97,7 +97,15 @@ fn push_hexadecimal(text: &mut Bytes, count: u32, n: u64) -> Result<(), NoMemory
         return Ok(());
     }
     push_hexadecimal(text, count - 1, n / 16)?;
-    text.push_all(&[hexadecimal_digit((n % 16) as u8)])
+    push_digit(text, n)
+}
+
+// Adds the last digit of a number.
+fn push_digit(text: &mut Bytes, n: u64) -> Result<(), NoMemory>
+    ensures { OnOk result (text.new ≡ text.old ++ (spec.hexadecimal_digit (n % 16) ∷ [])) }
+{
+    let digit = hexadecimal_digit((n % 16) as u8);
+    text.push_all(&[digit])
 }
 
 fn hexadecimal_digit(n: u8) -> u8
@@ -160,4 +168,40 @@ pub(crate) fn line_start(
             Ok(text)
         }
     }
+}
+
+/// The filter of the move, given its parts.
+pub(crate) fn in_move(
+    alloc: Global,
+    origin: Option<Bytes>,
+    goal: Option<Bytes>,
+    taken: Option<Bytes>,
+    promoted: Option<Bytes>,
+) -> Result<Bytes, NoMemory>
+    ensures { IfOk result (λ t. t ≡ spec.in_move origin goal taken promoted) }
+{
+    let mut text = Bytes::from_slice(alloc, b"(move")?;
+    push_written(&mut text, b" from ", origin)?;
+    push_written(&mut text, b" to ", goal)?;
+    push_written(&mut text, b" capture ", taken)?;
+    push_written(&mut text, b" promote ", promoted)?;
+    text.push_all(b")")?;
+    Ok(text)
+}
+
+// Adds a part after its word, where it is written.
+fn push_written(text: &mut Bytes, word: &[u8], part: Option<Bytes>) -> Result<(), NoMemory>
+    ensures { OnOk result (text.new ≡ text.old ++ spec.after_word word.now part) }
+{
+    match part {
+        Some(part) => push_both(text, word, part.as_slice()),
+        None => Ok(()),
+    }
+}
+
+fn push_both(text: &mut Bytes, first: &[u8], second: &[u8]) -> Result<(), NoMemory>
+    ensures { OnOk result (text.new ≡ text.old ++ (first.now ++ second.now)) }
+{
+    text.push_all(first)?;
+    text.push_all(second)
 }

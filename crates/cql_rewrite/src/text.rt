@@ -3,7 +3,9 @@ ghost use Rattle.std.specs.Prelude.{◌≡◌, IfOk, None, unwrap_or, codes, []}
 ghost use Rattle.cql_syntax.specs.TreeOf.{filter_tree, filters_tree, terms_tree, line_tree, played_tree, written_tree, parts_tree, body_tree};
 ghost use Rattle.cql_rewrite.specs.FlatText as spec;
 
-use crate::pieces::{designator, in_parens, line_start, marked, number, push_each, quoted};
+use crate::pieces::{
+    designator, in_move, in_parens, line_start, marked, number, push_each, quoted,
+};
 use crate::words::{
     any_word, chain_word, elo_word, family_word, field_word, outcome_word, pair_word, plain_word,
     sign_word, sort_word, square_word, unary_word, way_word,
@@ -37,7 +39,7 @@ fn on_lines(alloc: Global, texts: &[Bytes]) -> Result<Bytes, NoMemory>
 /// The text of a filter.
 #[cycle(text)]
 #[tactic(auto, unfolding(crate::specs::FlatText::text))]
-fn text_of(alloc: Global, f: &Filter) -> Result<Bytes, NoMemory>
+pub(crate) fn text_of(alloc: Global, f: &Filter) -> Result<Bytes, NoMemory>
     ensures { IfOk result (λ t. t ≡ spec.text (filter_tree f.now)) }
 {
     match &f.form {
@@ -200,36 +202,21 @@ fn body_of(alloc: Global, body: &Body) -> Result<Bytes, NoMemory>
 fn played_of(alloc: Global, played: &Played) -> Result<Bytes, NoMemory>
     ensures { IfOk result (λ t. t ≡ spec.played_text (played_tree played.now)) }
 {
-    let mut text = Bytes::from_slice(alloc, b"(move")?;
-    let origin = written_of(alloc, b" from ", &played.origin)?;
-    text.push_all(origin.as_slice())?;
-    let goal = written_of(alloc, b" to ", &played.goal)?;
-    text.push_all(goal.as_slice())?;
-    let taken = written_of(alloc, b" capture ", &played.taken)?;
-    text.push_all(taken.as_slice())?;
-    let promoted = written_of(alloc, b" promote ", &played.promoted)?;
-    text.push_all(promoted.as_slice())?;
-    text.push_all(b")")?;
-    Ok(text)
+    let origin = written_of(alloc, &played.origin)?;
+    let goal = written_of(alloc, &played.goal)?;
+    let taken = written_of(alloc, &played.taken)?;
+    let promoted = written_of(alloc, &played.promoted)?;
+    in_move(alloc, origin, goal, taken, promoted)
 }
 
-// A part after its word, where it is written.
+// The text of a part, where it is written.
 #[cycle(text)]
 #[tactic(auto, unfolding(crate::specs::FlatText::text))]
-fn written_of(
-    alloc: Global,
-    word: &[u8],
-    written: &Option<Box<Filter>>,
-) -> Result<Bytes, NoMemory>
-    ensures { IfOk result (λ t. t ≡ spec.written_text word.now (written_tree written.now)) }
+fn written_of(alloc: Global, written: &Option<Box<Filter>>) -> Result<Option<Bytes>, NoMemory>
+    ensures { IfOk result (λ t. t ≡ spec.written_text (written_tree written.now)) }
 {
     match written {
-        Some(filter) => {
-            let part = text_of(alloc, filter)?;
-            let mut text = Bytes::from_slice(alloc, word)?;
-            text.push_all(part.as_slice())?;
-            Ok(text)
-        }
-        None => Ok(Bytes::new(alloc)),
+        Some(filter) => Ok(Some(text_of(alloc, filter)?)),
+        None => Ok(None),
     }
 }
