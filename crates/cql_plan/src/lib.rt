@@ -8,7 +8,6 @@ mod keys;
 pub mod laws;
 mod needs;
 mod plan;
-mod stub;
 #[cfg(test)]
 mod tests;
 mod verdict;

@@ -7,10 +7,10 @@ ghost use Rattle.cql_syntax.specs.TreeOf.{filters_tree, query_tree};
 ghost use Rattle.cql_plan.specs.Needs.{query_passes};
 
 use crate::needs::all_needed;
-use crate::stub::expand;
 use crate::verdict::{Verdict, find};
 use cq_outside::NoMemory;
 use cql_lines::Steps;
+use cql_rewrite::expand;
 use cql_syntax::{FlatQuery, TypedQuery};
 use pgn_tree::Game;
 use std::alloc::Global;
