@@ -11,7 +11,7 @@ use memchr::memmem;
 use pgn_tree::Game;
 
 /// Whether a text is a part of a player's name, of either player's, or of the event's or the site's name.
-pub(crate) fn has_text(game: &Game, field: Field, text: &[u8]) -> bool
+pub fn has_text(game: &Game, field: Field, text: &[u8]) -> bool
     ensures { result ≡ spec.has_text game.now field text.now }
 {
     match field {
@@ -40,7 +40,7 @@ fn tag<'a>(game: &'a Game, name: &[u8]) -> &'a [u8]
 }
 
 /// Whether the result of a game is the one asked for.
-pub(crate) fn is_result(outcome: Outcome, ending: GameResult) -> bool
+pub fn is_result(outcome: Outcome, ending: GameResult) -> bool
     ensures { result ≡ spec.is_result outcome ending }
 {
     matches!(

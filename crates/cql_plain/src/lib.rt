@@ -9,7 +9,7 @@ mod combine;
 mod contexts;
 mod evaluate;
 mod fits;
-mod headers;
+pub mod headers;
 mod led;
 pub mod names;
 mod numbers;
@@ -23,4 +23,5 @@ mod walks;
 mod words;
 
 pub use at::{holds_at, number_at, set_at};
+pub use headers::{has_text, is_result};
 pub use names::Names;

@@ -12,3 +12,10 @@ mod HitRows
 mod ValueKinds
 mod TreeLists
 mod EdgeRows
+pub mod SameLeaves
+pub mod SameSound
+pub mod FlatSame
+pub mod FlatHits
+mod FlatRows
+pub mod FlatKept
+pub mod FlatFacts

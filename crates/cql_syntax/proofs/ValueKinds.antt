@@ -22,12 +22,12 @@ use Rattle.cql_syntax.specs.declared.leaves.Unary.{Unary}
 use Rattle.cql_syntax.specs.declared.leaves.Unary.TheVariants.{Not, Complement, Count, Power, Light, Dark, Find, FindUp, Child, Parent}
 
 -- what no mapping changes, no context changes
-kept : {A B : Type 0} (k : A → B) (by : PlainMapping → A → A) → ((m : PlainMapping) (x : A) → k (by m x) ≡ k x) → (g : Context) (x : A)
+pub kept : {A B : Type 0} (k : A → B) (by : PlainMapping → A → A) → ((m : PlainMapping) (x : A) → k (by m x) ≡ k x) → (g : Context) (x : A)
     → k (leaf_image by g x) ≡ k x
 kept k by same [] x = refl
 kept k by same (m ∷ g) x = kept k by same g (by m x) ∙ same m x
 
-word_kept : (b : Bool) (w : Plain) → plain_kind (if b then exchanged_word w else w) ≡ plain_kind w
+pub word_kept : (b : Bool) (w : Plain) → plain_kind (if b then exchanged_word w else w) ≡ plain_kind w
 word_kept false w = refl
 word_kept true Check = refl
 word_kept true Mate = refl
@@ -44,7 +44,7 @@ word_kept true MoveNumber = refl
 word_kept true Depth = refl
 word_kept true Year = refl
 
-light_kept : (b : Bool) (u : Unary) → unary_kind (if b then exchanged_light u else u) ≡ unary_kind u
+pub light_kept : (b : Bool) (u : Unary) → unary_kind (if b then exchanged_light u else u) ≡ unary_kind u
 light_kept false u = refl
 light_kept true Not = refl
 light_kept true Complement = refl

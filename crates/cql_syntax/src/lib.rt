@@ -5,6 +5,8 @@ pub mod copies;
 pub mod extents;
 pub mod fault;
 pub mod fault_laws;
+pub mod flat;
+pub mod flat_laws;
 pub mod kinds;
 pub mod laws;
 pub mod leaves;
@@ -18,6 +20,7 @@ pub mod words;
 
 pub use extents::{Extent, PathLength};
 pub use fault::{QueryFault, QueryReason};
+pub use flat::FlatQuery;
 pub use kinds::kind_of;
 pub use leaves::{Chain, Designator, Field, Kind, Mark, Of, Outcome, Pair, Plain, Unary, Way};
 pub use token::{QueryToken, QueryTokenKind};

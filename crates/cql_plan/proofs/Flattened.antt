@@ -1,0 +1,47 @@
+-- A query by its flat items.
+use Rattle.std.proofs.Common.{◌≡◌, Bool, true, [], sym, ap, ap₂, ◌∙◌}
+use Rattle.cq_position.specs.Games.{Game}
+use Rattle.cql_plain.specs.Trees.{searched_tree}
+use Rattle.cql_syntax.specs.Flat.{flat_query}
+use Rattle.cql_syntax.specs.Hits.{hits, keys, tree_of}
+use Rattle.cql_syntax.specs.Same.{same_filter, same_filters}
+use Rattle.cql_syntax.specs.Trees.{FilterTree, filter_at, chain, FilterTrees, no_filters, QueryTree}
+use Rattle.cql_syntax.specs.declared.leaves.Chain.TheVariants.{And}
+use Rattle.cql_syntax.proofs.FlatHits.{hits_same, keys_same}
+use Rattle.cql_syntax.proofs.SameSound.{same_law}
+use Rattle.cql_plan.specs.Found.{hits_in, keys_in}
+use Rattle.cql_plan.specs.Needs.{all_pass}
+use Rattle.cql_plan.proofs.Needed.{hits_pass}
+
+-- filters as one, and the filters of one
+as_one : FilterTrees → FilterTree
+as_one fs = filter_at 0 (chain And fs)
+
+parts_of : FilterTree → FilterTrees
+parts_of (filter_at i (chain c fs)) = fs
+parts_of f = no_filters
+
+filters_are : (fs gs : FilterTrees) → same_filters fs gs ≡ true → fs ≡ gs
+unfolding same_filter as_one parts_of
+filters_are fs gs e = ap parts_of ((same_law (as_one fs) (as_one gs)).0 e)
+
+pub filters_alike : (fs gs : FilterTrees) → fs ≡ gs → same_filters fs gs ≡ true
+unfolding same_filter as_one
+filters_alike fs gs e = (same_law (as_one fs) (as_one gs)).1 (ap as_one e)
+
+module _ (q : QueryTree) (game : Game) (variations : Bool) (items : FilterTrees) where
+  pub passes_is : same_filters items (flat_query q).items ≡ true → variations ≡ q.variations
+      → all_pass (searched_tree game variations) items ≡ all_pass (tree_of q game) (flat_query q).items
+  passes_is same searched = ap₂ (λ v fs. all_pass (searched_tree game v) fs) searched (filters_are items (flat_query q).items same)
+
+  pub hits_are : same_filters items (flat_query q).items ≡ true → variations ≡ q.variations → hits_in (searched_tree game variations) items ≡ hits q game
+  unfolding hits
+  hits_are same searched = ap₂ (λ v fs. hits_in (searched_tree game v) fs) searched (filters_are items (flat_query q).items same) ∙ hits_same q game
+
+  pub keys_are : same_filters items (flat_query q).items ≡ true → variations ≡ q.variations → keys_in (searched_tree game variations) items ≡ keys q game
+  unfolding hits keys
+  keys_are same searched = ap₂ (λ v fs. keys_in (searched_tree game v) fs) searched (filters_are items (flat_query q).items same) ∙ keys_same q game
+
+-- where the query has a hit, its flat items pass
+pub flat_passes : (q : QueryTree) (game : Game) → (hits q game ≡ [] → ⊥) → all_pass (tree_of q game) (flat_query q).items ≡ true
+flat_passes q game some = hits_pass (flat_query q) game (λ none. some (sym (hits_same q game) ∙ none))

@@ -1,0 +1,7 @@
+pub mod Accepted
+pub mod Flattened
+pub mod Items
+pub mod NeedsRows
+pub mod Needed
+pub mod ItemsHeld
+pub mod MenLaw

@@ -1,0 +1,22 @@
+use Rattle.std.proofs.Common.{◌≡◌, ◌≢◌, ◌∙◌, [], map, Some, IfOk, subst}
+use Rattle.cql_syntax.specs.TreeOf.{filters_tree, query_tree}
+use Rattle.cql_plan.proofs.Flattened.{passes_is, hits_are, keys_are}
+use Rattle.cql_plan.proofs.plan.match_game.Goals as goal
+
+pub returns-clause-nodes : goal.returns-clause-nodes
+returns-clause-nodes g c =
+    let plan = c.args.plan.now in
+    subst (λ ns. IfOk c.find.result (λ v. v.nodes.items ≡ ns))
+    (hits_are (query_tree plan.query.query) c.args.game.now plan.flat.variations (filters_tree plan.flat.items) plan.items plan.variations) c.find.ensures.nodes
+
+pub returns-clause-keys : goal.returns-clause-keys
+returns-clause-keys g c =
+    let plan = c.args.plan.now in
+    subst (λ ks. IfOk c.find.result (λ v. v.nodes.items ≢ [] → map Some v.keys.items ≡ ks))
+    (keys_are (query_tree plan.query.query) c.args.game.now plan.flat.variations (filters_tree plan.flat.items) plan.items plan.variations) c.find.ensures.keys
+
+pub returns-clause-turned_away : goal.returns-clause-turned_away
+returns-clause-turned_away g c = λ away.
+    let plan = c.args.plan.now in
+    c.find.ensures.turned_away
+    (passes_is (query_tree plan.query.query) c.args.game.now plan.flat.variations (filters_tree plan.flat.items) plan.items plan.variations ∙ away)

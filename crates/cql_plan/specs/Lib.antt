@@ -1,0 +1,5 @@
+pub mod Asked
+pub mod Found
+pub mod Items
+pub mod Needs
+pub mod NeedsRows

@@ -1,0 +1,16 @@
+//! A plan, made once of a query: it turns games away that the query can't match, and finds the hits and the keys of a game.
+//!
+//! `specs/Needs` has what turns a game away, `cql_syntax/specs/Hits` the hits and the keys.
+#![tactic(auto)]
+
+mod found;
+mod keys;
+pub mod laws;
+mod needs;
+mod plan;
+#[cfg(test)]
+mod tests;
+mod verdict;
+
+pub use plan::{Plan, match_game, may_hold};
+pub use verdict::Verdict;

@@ -1,0 +1,62 @@
+//! What a query finds in a game.
+ghost use Rattle.std.specs.Prelude.{◌≡◌, ◌≢◌, ◌<◌, [], false, length, map, Some, All, AllPairs, IfOk};
+ghost use Rattle.cql_syntax.specs.TreeOf.{filters_tree};
+ghost use Rattle.cql_plain.specs.Trees.{searched_tree};
+ghost use Rattle.cql_plan.specs.Found.{hits_in, keys_in};
+ghost use Rattle.cql_plan.specs.Needs.{all_pass};
+
+use crate::found::hits;
+use crate::keys::keys;
+use crate::needs::all_needed;
+use cq_outside::NoMemory;
+use cql_syntax::Filters;
+use pgn_tree::Game;
+use std::alloc::Global;
+
+/// The hits of a query in a game, and by what the game is sorted.
+#[derive(Drop, Debug)]
+pub struct Verdict {
+    pub(crate) nodes: Vec<u32>,
+    pub(crate) keys: Vec<i64>,
+}
+
+impl Verdict {
+    /// The numbers of the nodes at which the query hits, increasing.
+    pub fn nodes(&self) -> &[u32]
+        ensures { result.now ≡ self.now.nodes.items }
+    {
+        self.nodes.as_slice()
+    }
+
+    /// The keys of the sort items over the hits, the first item foremost; none where there is no hit.
+    pub fn keys(&self) -> &[i64]
+        ensures { result.now ≡ self.now.keys.items }
+    {
+        self.keys.as_slice()
+    }
+}
+
+/// What some items find in a game. A game that hasn't what they need is looked at once.
+pub(crate) fn find(
+    alloc: Global,
+    items: &Filters,
+    variations: bool,
+    game: &Game,
+) -> Result<Verdict, NoMemory>
+    ensures nodes { IfOk result (λ v. v.nodes.items ≡ hits_in (searched_tree game.now variations) (filters_tree items.now)) }
+    ensures increasing { IfOk result (λ v. AllPairs (λ m n. m < n) v.nodes.items) }
+    ensures inside { IfOk result (λ v. All (λ n. n < length game.now.nodes) v.nodes.items) }
+    ensures keys { IfOk result (λ v. v.nodes.items ≢ [] → map Some v.keys.items ≡ keys_in (searched_tree game.now variations) (filters_tree items.now)) }
+    ensures no_keys { IfOk result (λ v. v.nodes.items ≡ [] → v.keys.items ≡ []) }
+    ensures turned_away { all_pass (searched_tree game.now variations) (filters_tree items.now) ≡ false → IfOk result (λ v. v.nodes.items ≡ []) }
+{
+    if !all_needed(items, variations, game) {
+        return Ok(Verdict {
+            nodes: Vec::new(alloc),
+            keys: Vec::new(alloc),
+        });
+    }
+    let nodes = hits(alloc, items, variations, game)?;
+    let keys = keys(alloc, items, variations, game, nodes.as_slice())?;
+    Ok(Verdict { nodes, keys })
+}

@@ -1,0 +1,5 @@
+pub mod Turns
+pub mod Rows
+pub mod Made
+pub mod Texts
+pub mod Meant

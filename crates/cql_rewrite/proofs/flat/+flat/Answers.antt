@@ -1,0 +1,51 @@
+use Rattle.std.proofs.Common.{◌≡◌, ◌∙◌, sym, take, ap, ap₂, length, ◌≤◌, arith}
+use Rattle.std.proofs.lemmas.List.{take_all}
+use Rattle.cq_symmetry.specs.Families.{members}
+use Rattle.cql_syntax.specs.Flat as spec
+use Rattle.cql_syntax.specs.TreeOf.{filter_tree, form_tree, body_tree, filter_trees, term_trees, part_trees, filters_tree}
+use Rattle.cql_syntax.specs.Kinds.{filter_kind}
+use Rattle.cql_syntax.specs.Trees.{transform, any}
+use Rattle.cql_syntax.proofs.Lists.{filter_trees_more, term_trees_more, part_trees_more}
+use Rattle.cql_rewrite.proofs.Made.{flat_all_snoc, flat_terms_snoc, flat_parts_snoc, members_made, flats, family_flat}
+use Rattle.cql_rewrite.proofs.flat.+flat.Goals as goal
+
+pub flat_all-loop-filter-preserved : goal.flat_all-loop-filter-preserved
+flat_all-loop-filter-preserved t c =
+    let xs = c.as_slice-filter-items.result.now in let i = c.loop-filter.filter-index in let x = c.filter-item.result in
+    let more = ap (spec.flat_all c.args.context.now) (filter_trees_more xs i x c.loop-filter-test.true c.filter-item.is) in
+    let snoc = flat_all_snoc c.args.context.now (filter_trees (take i xs)) (filter_tree x) in
+    cc (more, snoc, c.in_ok-push.ensures.tree, c.in_ok-flat.ensures, c.loop-filter.invariant)
+
+pub flat_terms-loop-term-preserved : goal.flat_terms-loop-term-preserved
+flat_terms-loop-term-preserved t c =
+    let xs = c.as_slice-term-items.result.now in let i = c.loop-term.term-index in let x = c.term-item.result in
+    let more = ap (spec.flat_terms c.args.context.now) (term_trees_more xs i x c.loop-term-test.true c.term-item.is) in
+    let snoc = flat_terms_snoc c.args.context.now (term_trees (take i xs)) x.minus (filter_tree x.filter) in
+    cc (more, snoc, c.in_ok-push.ensures.tree, c.in_ok-flat.ensures, c.loop-term.invariant)
+
+pub flat_parts-loop-part-preserved : goal.flat_parts-loop-part-preserved
+flat_parts-loop-part-preserved t c =
+    let xs = c.as_slice-part-items.result.now in let i = c.loop-part.part-index in let x = c.part-item.result in
+    let more = ap (spec.flat_parts c.args.context.now) (part_trees_more xs i x c.loop-part-test.true c.part-item.is) in
+    let snoc = flat_parts_snoc c.args.context.now (part_trees (take i xs)) (body_tree x.body) x.mark in
+    cc (more, snoc, c.in_ok-push.ensures.tree, c.in_ok-flat_body.ensures, c.loop-part.invariant)
+
+pub flat_members-loop-k-preserved : goal.flat_members-loop-k-preserved
+flat_members-loop-k-preserved t c =
+    members_made c.args.context.now (filter_tree c.args.part.now) (members c.args.family) c.loop-k.k c.member.result (filters_tree c.loop-k.kept) (filters_tree c.keep_new.new.kept) _
+    c.member.ensures c.loop-k.invariant c.in_ok-found.ensures c.in_ok-keep_new.ensures
+
+pub flat_members-returns : goal.flat_members-returns
+flat_members-returns t c =
+    let ms = members c.args.family in
+    let all : length ms ≤ c.loop-k.k = omega (arith, c.loop-k-test.false, c.size-k-end.ensures) in
+    c.loop-k.invariant ∙ ap (λ l. spec.distinct (flats c.args.context.now (filter_tree c.args.part.now) l)) (take_all c.loop-k.k ms all)
+
+pub flat_form-returns-in_ok-members-in-Transform : goal.flat_form-returns-in_ok-members-in-Transform
+flat_form-returns-in_ok-members-in-Transform t c =
+    let part = c.deref-in-Transform.result.now in
+    let same = c.deref-in-Transform-2.ensures ∙ sym c.deref-in-Transform.ensures in
+    let is : form_tree c.args.f.now ≡ transform c.in-Transform.family (filter_tree part) =
+    ap form_tree c.in-Transform.is ∙ ap (λ p. transform c.in-Transform.family (filter_tree p)) (sym c.deref-in-Transform.ensures) in
+    ap₂ any (c.kind_of.ensures ∙ ap (λ p. filter_kind (filter_tree p)) same) c.in_ok-members-in-Transform.ensures
+    ∙ family_flat c.args.context.now c.in-Transform.family (filter_tree part) (form_tree c.args.f.now) is

@@ -1,0 +1,285 @@
+-- The text of a filter: names and numbers as they are written, and every other form in parentheses, after its word.
+use Rattle.std.specs.Prelude.{ℕ, zero, suc, ◌/◌, ◌%◌, ◌+◌, ◌==◌, nat_lt, Bool, true, false, List, [], ◌∷◌, ◌++◌, Option, None, Some, unwrap_or, codes, if◌then◌else◌}
+use Rattle.std.specs.Fmt.{decimal}
+use Rattle.cq_symmetry.specs.declared.families.Family.{Family}
+use Rattle.cq_symmetry.specs.declared.families.Family.TheVariants.{Flip, Rotate90, FlipVertical, FlipHorizontal, FlipColor, Shift, ShiftHorizontal, ShiftVertical}
+use Rattle.cql_syntax.specs.Trees.{FilterTree, filter_at, FormTree, designator, number, name, plain, tagged, outcome, elo, unary, direction, chain, sum_of, pair, if_, square, line, played, transform, sort, comment, any, FilterTrees, no_filters, more_filters, TermTrees, no_terms, more_terms, LineTree, path, PlayedTree, move_of, WrittenTree, left_out, written, PartTrees, no_parts, more_parts, BodyTree, atom, group}
+use Rattle.cql_syntax.specs.declared.extents.Extent.{Extent}
+use Rattle.cql_syntax.specs.declared.extents.Extent.TheVariants.{Any as AnyLength, Within}
+use Rattle.cql_syntax.specs.declared.leaves.Chain.{Chain}
+use Rattle.cql_syntax.specs.declared.leaves.Chain.TheVariants.{Or, And, All, Union, Intersect, Product, Max, Min}
+use Rattle.cql_syntax.specs.declared.leaves.Designator.{Designator}
+use Rattle.cql_syntax.specs.declared.leaves.Field.{Field}
+use Rattle.cql_syntax.specs.declared.leaves.Field.TheVariants.{Player, Event, Site}
+use Rattle.cql_syntax.specs.declared.leaves.Kind.{Kind}
+use Rattle.cql_syntax.specs.declared.leaves.Kind.TheVariants.{Position, Set, Number}
+use Rattle.cql_syntax.specs.declared.leaves.Mark.{Mark}
+use Rattle.cql_syntax.specs.declared.leaves.Mark.TheVariants.{Once, Star, Plus, Maybe, Times}
+use Rattle.cql_syntax.specs.declared.leaves.Of.{Of}
+use Rattle.cql_syntax.specs.declared.leaves.Of.TheVariants.{Either, White, Black}
+use Rattle.cql_syntax.specs.declared.leaves.Outcome.{Outcome}
+use Rattle.cql_syntax.specs.declared.leaves.Outcome.TheVariants.{White as WhiteWins, Black as BlackWins, Draw, Unfinished}
+use Rattle.cql_syntax.specs.declared.leaves.Pair.{Pair}
+use Rattle.cql_syntax.specs.declared.leaves.Pair.TheVariants.{Attacks, AttackedBy, Between, Less, AtMost, Equal, AtLeast, Greater}
+use Rattle.cql_syntax.specs.declared.leaves.Plain.{Plain}
+use Rattle.cql_syntax.specs.declared.leaves.Plain.TheVariants.{Check, Mate, Stalemate, Wtm, Btm, Initial, Terminal, Mainline, Variation, HasComment, Ply, MoveNumber, Depth, Year}
+use Rattle.cql_syntax.specs.declared.leaves.Unary.{Unary}
+use Rattle.cql_syntax.specs.declared.leaves.Unary.TheVariants.{Not, Complement, Count, Power, Light, Dark, Find, FindUp, Child, Parent}
+use Rattle.cql_syntax.specs.declared.leaves.Way.{Way}
+use Rattle.cql_syntax.specs.declared.leaves.Way.TheVariants.{Up, Down, Left, Right, Northeast, Northwest, Southeast, Southwest, Diagonal, Orthogonal, AnyDirection}
+
+-- texts, each after a byte
+abbrev pub each_after : ℕ → List (List ℕ) → List ℕ
+each_after byte [] = []
+each_after byte (t ∷ ts) = (byte ∷ t) ++ each_after byte ts
+
+-- `(word part part)`
+abbrev pub in_parens : List ℕ → List (List ℕ) → List ℕ
+in_parens word parts = ((codes "(" ++ word) ++ each_after 32 parts) ++ codes ")"
+
+-- between quotes
+abbrev pub quoted : List ℕ → List ℕ
+quoted text = (codes "\"" ++ text) ++ codes "\""
+
+-- words and marks
+
+abbrev pub plain_word : Plain → List ℕ
+plain_word Check = codes "check"
+plain_word Mate = codes "mate"
+plain_word Stalemate = codes "stalemate"
+plain_word Wtm = codes "wtm"
+plain_word Btm = codes "btm"
+plain_word Initial = codes "initial"
+plain_word Terminal = codes "terminal"
+plain_word Mainline = codes "mainline"
+plain_word Variation = codes "variation"
+plain_word HasComment = codes "hascomment"
+plain_word Ply = codes "ply"
+plain_word MoveNumber = codes "movenumber"
+plain_word Depth = codes "depth"
+plain_word Year = codes "year"
+
+abbrev pub outcome_word : Outcome → List ℕ
+outcome_word WhiteWins = codes "1-0"
+outcome_word BlackWins = codes "0-1"
+outcome_word Draw = codes "1/2-1/2"
+outcome_word Unfinished = codes "*"
+
+abbrev pub player_word : Of → List ℕ
+player_word Either = codes "player"
+player_word White = codes "player white"
+player_word Black = codes "player black"
+
+abbrev pub field_word : Field → List ℕ
+field_word (Player whose) = player_word whose
+field_word Event = codes "event"
+field_word Site = codes "site"
+
+abbrev pub elo_word : Of → List ℕ
+elo_word Either = codes "elo"
+elo_word White = codes "elo white"
+elo_word Black = codes "elo black"
+
+abbrev pub unary_word : Unary → List ℕ
+unary_word Not = codes "not"
+unary_word Complement = codes "~"
+unary_word Count = codes "#"
+unary_word Power = codes "power"
+unary_word Light = codes "light"
+unary_word Dark = codes "dark"
+unary_word Find = codes "find"
+unary_word FindUp = codes "find<--"
+unary_word Child = codes "child"
+unary_word Parent = codes "parent"
+
+abbrev pub way_word : Way → List ℕ
+way_word Up = codes "up"
+way_word Down = codes "down"
+way_word Left = codes "left"
+way_word Right = codes "right"
+way_word Northeast = codes "northeast"
+way_word Northwest = codes "northwest"
+way_word Southeast = codes "southeast"
+way_word Southwest = codes "southwest"
+way_word Diagonal = codes "diagonal"
+way_word Orthogonal = codes "orthogonal"
+way_word AnyDirection = codes "anydirection"
+
+abbrev pub chain_word : Chain → List ℕ
+chain_word Or = codes "or"
+chain_word And = codes "and"
+chain_word All = codes "all"
+chain_word Union = codes "|"
+chain_word Intersect = codes "&"
+chain_word Product = codes "*"
+chain_word Max = codes "max"
+chain_word Min = codes "min"
+
+abbrev pub pair_word : Pair → List ℕ
+pair_word Attacks = codes "attacks"
+pair_word AttackedBy = codes "attackedby"
+pair_word Between = codes "between"
+pair_word Less = codes "<"
+pair_word AtMost = codes "<="
+pair_word Equal = codes "=="
+pair_word AtLeast = codes ">="
+pair_word Greater = codes ">"
+
+abbrev pub family_word : Family → List ℕ
+family_word Flip = codes "flip"
+family_word Rotate90 = codes "rotate90"
+family_word FlipVertical = codes "flipvertical"
+family_word FlipHorizontal = codes "fliphorizontal"
+family_word FlipColor = codes "flipcolor"
+family_word Shift = codes "shift"
+family_word ShiftHorizontal = codes "shifthorizontal"
+family_word ShiftVertical = codes "shiftvertical"
+
+abbrev pub any_word : Kind → List ℕ
+any_word Position = codes "any"
+any_word Set = codes "union"
+any_word Number = codes "greatest"
+
+abbrev pub square_word : Bool → List ℕ
+square_word true = codes "square all"
+square_word false = codes "square"
+
+abbrev pub sort_word : Bool → List ℕ
+sort_word true = codes "sort min"
+sort_word false = codes "sort"
+
+abbrev pub sign_word : Bool → List ℕ
+sign_word true = codes "-"
+sign_word false = codes "+"
+
+abbrev pub line_word : Bool → List ℕ
+line_word true = codes "line primary"
+line_word false = codes "line"
+
+abbrev pub arrow_word : Bool → List ℕ
+arrow_word true = codes "<--"
+arrow_word false = codes "-->"
+
+-- designators: `[KQ]:` and then the squares
+
+-- a digit from 0 to f
+abbrev pub hexadecimal_digit : ℕ → ℕ
+hexadecimal_digit n = if nat_lt n 10 then 48 + n else 87 + n
+
+-- the last digits of a number, so many of them
+abbrev pub hexadecimal : ℕ → ℕ → List ℕ
+hexadecimal zero n = []
+hexadecimal (suc count) n = hexadecimal count (n / 16) ++ hexadecimal_digit (n % 16) ∷ []
+
+-- the letters of the men, and the empty square's, in the order of their bits
+abbrev pub men_letters : List ℕ
+men_letters = codes "KQRBNPkqrbnp_"
+
+abbrev pub letter_if : Bool → ℕ → List ℕ
+letter_if there letter = if there then letter ∷ [] else []
+
+-- those letters whose bits are there, the first the lowest bit's
+abbrev pub letters_of : ℕ → List ℕ → List ℕ
+letters_of bits [] = []
+letters_of bits (l ∷ ls) = letter_if (bits % 2 == 1) l ++ letters_of (bits / 2) ls
+
+abbrev pub designator_text : Designator → List ℕ
+designator_text d = ((codes "[" ++ letters_of d.men men_letters) ++ codes "]:") ++ hexadecimal 16 d.part.squares
+
+-- `{m,n}`
+abbrev pub times_word : ℕ → ℕ → List ℕ
+times_word least most = (((codes "{" ++ decimal least) ++ codes ",") ++ decimal most) ++ codes "}"
+
+-- a part of a line with its mark
+abbrev pub marked_text : Mark → List ℕ → List ℕ
+marked_text Once text = text
+marked_text Star text = in_parens (codes "*") (text ∷ [])
+marked_text Plus text = in_parens (codes "+") (text ∷ [])
+marked_text Maybe text = in_parens (codes "?") (text ∷ [])
+marked_text (Times least most) text = in_parens (times_word least most) (text ∷ [])
+
+-- the word of a line, its lengths where they are written, and its arrow
+abbrev pub line_start : Bool → Extent → Bool → List ℕ
+line_start primary AnyLength back = (line_word primary ++ codes " ") ++ arrow_word back
+line_start primary (Within least most) back =
+    (((((line_word primary ++ codes " ") ++ decimal least) ++ codes " ") ++ decimal most) ++ codes " ") ++ arrow_word back
+
+-- a term after those before it; a first one that is taken away is taken from 0
+abbrev pub with_term_text : Option (List ℕ) → Bool → List ℕ → List ℕ
+with_term_text None false text = text
+with_term_text None true text = in_parens (codes "-") (codes "0" ∷ text ∷ [])
+with_term_text (Some before) minus text = in_parens (sign_word minus) (before ∷ text ∷ [])
+
+-- a part after its word, where it is written
+abbrev pub after_word : List ℕ → Option (List ℕ) → List ℕ
+after_word word None = []
+after_word word (Some part) = word ++ part
+
+-- the filter of the move, given its parts
+abbrev pub in_move : (origin goal taken promoted : Option (List ℕ)) → List ℕ
+in_move origin goal taken promoted =
+    ((((codes "(move" ++ after_word (codes " from ") origin) ++ after_word (codes " to ") goal) ++ after_word (codes " capture ") taken)
+    ++ after_word (codes " promote ") promoted) ++ codes ")"
+
+-- The text of each form. A sum is pairs from the left: `a - b + c` is `(+ (- a b) c)`.
+unfoldable mutual
+  pub text : FilterTree → List ℕ
+  text (filter_at at f) = form_text f
+
+  pub form_text : FormTree → List ℕ
+  form_text (designator d) = designator_text d
+  form_text (number n) = decimal n
+  form_text (name bound) = bound
+  form_text (plain word) = plain_word word
+  form_text (tagged field value) = in_parens (field_word field) (quoted value ∷ [])
+  form_text (outcome o) = in_parens (codes "result") (outcome_word o ∷ [])
+  form_text (elo whose) = in_parens (elo_word whose) []
+  form_text (unary u f) = in_parens (unary_word u) (text f ∷ [])
+  form_text (direction way m n f) = in_parens (way_word way) (decimal m ∷ decimal n ∷ text f ∷ [])
+  form_text (chain c fs) = in_parens (chain_word c) (texts fs)
+  form_text (sum_of ts) = unwrap_or (sum_after None ts) (in_parens (codes "+") [])
+  form_text (pair c f g) = in_parens (pair_word c) (text f ∷ text g ∷ [])
+  form_text (if_ f g h) = in_parens (codes "if") (text f ∷ text g ∷ text h ∷ [])
+  form_text (square every bound f g) = in_parens (square_word every) (bound ∷ text f ∷ text g ∷ [])
+  form_text (line l) = line_text l
+  form_text (played p) = played_text p
+  form_text (transform t f) = in_parens (family_word t) (text f ∷ [])
+  form_text (sort least title f) = in_parens (sort_word least) (quoted title ∷ text f ∷ [])
+  form_text (comment note) = in_parens (codes "comment") (quoted note ∷ [])
+  form_text (any kind fs) = in_parens (any_word kind) (texts fs)
+
+  pub texts : FilterTrees → List (List ℕ)
+  texts no_filters = []
+  texts (more_filters f fs) = text f ∷ texts fs
+
+  -- the terms after the text of those before them
+  pub sum_after : Option (List ℕ) → TermTrees → Option (List ℕ)
+  sum_after before no_terms = before
+  sum_after before (more_terms minus f ts) = sum_after (Some (with_term_text before minus (text f))) ts
+
+  pub line_text : LineTree → List ℕ
+  line_text (path back primary extent cs) = in_parens (line_start primary extent back) (part_texts cs)
+
+  pub part_texts : PartTrees → List (List ℕ)
+  part_texts no_parts = []
+  part_texts (more_parts body mark cs) = marked_text mark (body_text body) ∷ part_texts cs
+
+  pub body_text : BodyTree → List ℕ
+  body_text (atom f) = text f
+  body_text (group cs) = in_parens (codes "seq") (part_texts cs)
+
+  pub played_text : PlayedTree → List ℕ
+  played_text (move_of origin goal taken promoted) = in_move (written_text origin) (written_text goal) (written_text taken) (written_text promoted)
+
+  pub written_text : WrittenTree → Option (List ℕ)
+  written_text left_out = None
+  written_text (written f) = Some (text f)
+
+-- texts with one LF between two of them
+abbrev pub on_lines : List (List ℕ) → List ℕ
+on_lines [] = []
+on_lines (t ∷ ts) = t ++ each_after 10 ts
+
+-- the text of the items of a query
+abbrev pub items_text : FilterTrees → List ℕ
+items_text items = on_lines (texts items)

@@ -1,0 +1,3 @@
+pub mod FlatText
+pub mod Kept
+pub mod Meant

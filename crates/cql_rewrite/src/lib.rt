@@ -1,0 +1,18 @@
+//! Transforms written out: a query becomes one without families that means the same at every node of every game, and has a text.
+//!
+//! `cql_syntax/specs/Flat` has the flat form, `specs/FlatText` its text.
+#![tactic(auto)]
+
+pub mod contexts;
+pub mod fits;
+pub mod flat;
+mod leaves;
+mod pieces;
+mod same;
+#[cfg(test)]
+mod tests;
+pub mod text;
+mod words;
+
+pub use flat::expand;
+pub use text::flat_text;

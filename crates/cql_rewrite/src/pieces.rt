@@ -1,0 +1,207 @@
+//! Pieces of the flat text.
+ghost use Rattle.std.specs.Prelude.{◌≡◌, ◌++◌, ◌∷◌, [], ◌%◌, ◌<◌, IfOk, OnOk};
+ghost use Rattle.std.specs.Fmt.{decimal};
+ghost use Rattle.cql_rewrite.specs.FlatText as spec;
+
+use crate::words::{arrow_word, line_word};
+use cq_outside::{Bytes, NoMemory};
+use cql_syntax::{Designator, Extent, Mark};
+use std::alloc::Global;
+
+/// A word and its parts in parentheses.
+pub(crate) fn in_parens(alloc: Global, word: &[u8], parts: &[Bytes]) -> Result<Bytes, NoMemory>
+    ensures { IfOk result (λ t. t ≡ spec.in_parens word.now parts.now) }
+{
+    let mut text = Bytes::from_slice(alloc, b"(")?;
+    text.push_all(word)?;
+    push_each(&mut text, b' ', parts)?;
+    text.push_all(b")")?;
+    Ok(text)
+}
+
+/// Adds texts, each after a byte.
+pub(crate) fn push_each(text: &mut Bytes, byte: u8, more: &[Bytes]) -> Result<(), NoMemory>
+    ensures { OnOk result (text.new ≡ text.old ++ spec.each_after byte more.now) }
+{
+    for part in more {
+        push_after(text, byte, part)?;
+    }
+    Ok(())
+}
+
+// Adds a text after a byte.
+fn push_after(text: &mut Bytes, byte: u8, part: &Bytes) -> Result<(), NoMemory>
+    ensures { OnOk result (text.new ≡ text.old ++ (byte ∷ part.now)) }
+{
+    text.push_all(&[byte])?;
+    text.push_all(part.as_slice())
+}
+
+/// A text between quotes.
+pub(crate) fn quoted(alloc: Global, value: &Bytes) -> Result<Bytes, NoMemory>
+    ensures { IfOk result (λ t. t ≡ spec.quoted value.now) }
+{
+    let mut text = Bytes::from_slice(alloc, b"\"")?;
+    text.push_all(value.as_slice())?;
+    text.push_all(b"\"")?;
+    Ok(text)
+}
+
+/// The digits of a number.
+pub(crate) fn number(alloc: Global, n: u32) -> Result<Bytes, NoMemory>
+    ensures { IfOk result (λ t. t ≡ decimal n) }
+{
+    let mut text = Bytes::new(alloc);
+    text.push_number(i64::from(n))?;
+    Ok(text)
+}
+
+/// The text of a designator.
+pub(crate) fn designator(alloc: Global, d: &Designator) -> Result<Bytes, NoMemory>
+    ensures { IfOk result (λ t. t ≡ spec.designator_text d.now) }
+{
+    let mut text = Bytes::from_slice(alloc, b"[")?;
+    push_letters(&mut text, d.men, b"KQRBNPkqrbnp_")?;
+    text.push_all(b"]:")?;
+    push_hexadecimal(&mut text, 16, d.part.squares)?;
+    Ok(text)
+}
+
+// Adds those letters whose bits are there, the first the lowest bit's.
+fn push_letters(text: &mut Bytes, men: u16, letters: &[u8]) -> Result<(), NoMemory>
+    ensures { OnOk result (text.new ≡ text.old ++ spec.letters_of men letters.now) }
+{
+    let mut bits = men;
+    for letter in letters {
+        push_letter(text, bits % 2 == 1, *letter)?;
+        bits /= 2;
+    }
+    Ok(())
+}
+
+// Adds a letter where it is there.
+fn push_letter(text: &mut Bytes, there: bool, letter: u8) -> Result<(), NoMemory>
+    ensures { OnOk result (text.new ≡ text.old ++ spec.letter_if there letter) }
+{
+    if there {
+        return text.push_all(&[letter]);
+    }
+    Ok(())
+}
+
+// Adds the last digits of a number, so many of them, from 0 to f.
+fn push_hexadecimal(text: &mut Bytes, count: u32, n: u64) -> Result<(), NoMemory>
+    ensures { OnOk result (text.new ≡ text.old ++ spec.hexadecimal count n) }
+{
+    if count == 0 {
+        return Ok(());
+    }
+    push_hexadecimal(text, count - 1, n / 16)?;
+    push_digit(text, n)
+}
+
+// Adds the last digit of a number.
+fn push_digit(text: &mut Bytes, n: u64) -> Result<(), NoMemory>
+    ensures { OnOk result (text.new ≡ text.old ++ (spec.hexadecimal_digit (n % 16) ∷ [])) }
+{
+    let digit = hexadecimal_digit((n % 16) as u8);
+    text.push_all(&[digit])
+}
+
+fn hexadecimal_digit(n: u8) -> u8
+    requires { n < 16 }
+    ensures { result ≡ spec.hexadecimal_digit n }
+{
+    if n < 10 { b'0' + n } else { b'a' - 10 + n }
+}
+
+/// A part of a line with its mark.
+pub(crate) fn marked(alloc: Global, mark: Mark, text: Bytes) -> Result<Bytes, NoMemory>
+    ensures { IfOk result (λ t. t ≡ spec.marked_text mark text) }
+{
+    match mark {
+        Mark::Once => Ok(text),
+        Mark::Star => in_parens(alloc, b"*", &[text]),
+        Mark::Plus => in_parens(alloc, b"+", &[text]),
+        Mark::Maybe => in_parens(alloc, b"?", &[text]),
+        Mark::Times(least, most) => {
+            let word = times_word(alloc, least, most)?;
+            in_parens(alloc, word.as_slice(), &[text])
+        }
+    }
+}
+
+// `{m,n}`.
+fn times_word(alloc: Global, least: u32, most: u32) -> Result<Bytes, NoMemory>
+    ensures { IfOk result (λ t. t ≡ spec.times_word least most) }
+{
+    let mut text = Bytes::from_slice(alloc, b"{")?;
+    text.push_number(i64::from(least))?;
+    text.push_all(b",")?;
+    text.push_number(i64::from(most))?;
+    text.push_all(b"}")?;
+    Ok(text)
+}
+
+/// The word of a line, its lengths where they are written, and its arrow.
+pub(crate) fn line_start(
+    alloc: Global,
+    primary: bool,
+    extent: &Extent,
+    back: bool,
+) -> Result<Bytes, NoMemory>
+    ensures { IfOk result (λ t. t ≡ spec.line_start primary extent.now back) }
+{
+    let mut text = Bytes::from_slice(alloc, line_word(primary))?;
+    text.push_all(b" ")?;
+    match extent {
+        Extent::Any => {
+            text.push_all(arrow_word(back))?;
+            Ok(text)
+        }
+        Extent::Within(least, most) => {
+            text.push_number(i64::from(least.nodes()))?;
+            text.push_all(b" ")?;
+            text.push_number(i64::from(most.nodes()))?;
+            text.push_all(b" ")?;
+            text.push_all(arrow_word(back))?;
+            Ok(text)
+        }
+    }
+}
+
+/// The filter of the move, given its parts.
+pub(crate) fn in_move(
+    alloc: Global,
+    origin: Option<Bytes>,
+    goal: Option<Bytes>,
+    taken: Option<Bytes>,
+    promoted: Option<Bytes>,
+) -> Result<Bytes, NoMemory>
+    ensures { IfOk result (λ t. t ≡ spec.in_move origin goal taken promoted) }
+{
+    let mut text = Bytes::from_slice(alloc, b"(move")?;
+    push_written(&mut text, b" from ", origin)?;
+    push_written(&mut text, b" to ", goal)?;
+    push_written(&mut text, b" capture ", taken)?;
+    push_written(&mut text, b" promote ", promoted)?;
+    text.push_all(b")")?;
+    Ok(text)
+}
+
+// Adds a part after its word, where it is written.
+fn push_written(text: &mut Bytes, word: &[u8], part: Option<Bytes>) -> Result<(), NoMemory>
+    ensures { OnOk result (text.new ≡ text.old ++ spec.after_word word.now part) }
+{
+    match part {
+        Some(part) => push_both(text, word, part.as_slice()),
+        None => Ok(()),
+    }
+}
+
+fn push_both(text: &mut Bytes, first: &[u8], second: &[u8]) -> Result<(), NoMemory>
+    ensures { OnOk result (text.new ≡ text.old ++ (first.now ++ second.now)) }
+{
+    text.push_all(first)?;
+    text.push_all(second)
+}

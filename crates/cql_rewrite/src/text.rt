@@ -1,0 +1,222 @@
+//! The text of a flat query: a line for each item.
+ghost use Rattle.std.specs.Prelude.{◌≡◌, IfOk, None, unwrap_or, codes, []};
+ghost use Rattle.cql_syntax.specs.TreeOf.{filter_tree, filters_tree, terms_tree, line_tree, played_tree, written_tree, parts_tree, body_tree};
+ghost use Rattle.cql_rewrite.specs.FlatText as spec;
+
+use crate::pieces::{
+    designator, in_move, in_parens, line_start, marked, number, push_each, quoted,
+};
+use crate::words::{
+    any_word, chain_word, elo_word, family_word, field_word, outcome_word, pair_word, plain_word,
+    sign_word, sort_word, square_word, unary_word, way_word,
+};
+use cq_outside::{Bytes, NoMemory};
+use cql_syntax::{Body, Constituents, Filter, Filters, FlatQuery, Form, Line, Played, Terms};
+use std::alloc::Global;
+
+/// The text of a flat query: the texts of its items, with one LF between two of them and none at the end.
+pub fn flat_text(alloc: Global, query: &FlatQuery) -> Result<Bytes, NoMemory>
+    ensures { IfOk result (λ t. t ≡ spec.items_text (filters_tree query.now.items)) }
+{
+    let texts = texts_of(alloc, &query.items)?;
+    on_lines(alloc, texts.as_slice())
+}
+
+// Texts with one LF between two of them.
+fn on_lines(alloc: Global, texts: &[Bytes]) -> Result<Bytes, NoMemory>
+    ensures { IfOk result (λ t. t ≡ spec.on_lines texts.now) }
+{
+    match texts {
+        [] => Ok(Bytes::new(alloc)),
+        [first, rest @ ..] => {
+            let mut text = Bytes::from_slice(alloc, first.as_slice())?;
+            push_each(&mut text, b'\n', rest)?;
+            Ok(text)
+        }
+    }
+}
+
+/// The text of a filter.
+#[cycle(text)]
+#[tactic(auto, unfolding(crate::specs::FlatText::text))]
+pub(crate) fn text_of(alloc: Global, f: &Filter) -> Result<Bytes, NoMemory>
+    ensures { IfOk result (λ t. t ≡ spec.text (filter_tree f.now)) }
+{
+    match &f.form {
+        Form::Squares(d) => designator(alloc, d),
+        Form::Number(n) => number(alloc, *n),
+        Form::Name(name) => Bytes::from_slice(alloc, name.as_slice()),
+        Form::Plain(word) => Bytes::from_slice(alloc, plain_word(*word)),
+        Form::Tagged(field, value) => {
+            let value = quoted(alloc, value)?;
+            in_parens(alloc, field_word(*field), &[value])
+        }
+        Form::Outcome(outcome) => {
+            let outcome = Bytes::from_slice(alloc, outcome_word(*outcome))?;
+            in_parens(alloc, b"result", &[outcome])
+        }
+        Form::Elo(of) => in_parens(alloc, elo_word(*of), &[]),
+        Form::Unary(word, a) => {
+            let part = text_of(alloc, a)?;
+            in_parens(alloc, unary_word(*word), &[part])
+        }
+        Form::Steps(way, m, n, a) => {
+            let least = number(alloc, *m)?;
+            let most = number(alloc, *n)?;
+            let part = text_of(alloc, a)?;
+            in_parens(alloc, way_word(*way), &[least, most, part])
+        }
+        Form::Chain(chain, parts) => {
+            let texts = texts_of(alloc, parts)?;
+            in_parens(alloc, chain_word(*chain), texts.as_slice())
+        }
+        Form::Sum(terms) => sum_of(alloc, terms),
+        Form::Pair(pair, a, b) => {
+            let first = text_of(alloc, a)?;
+            let second = text_of(alloc, b)?;
+            in_parens(alloc, pair_word(*pair), &[first, second])
+        }
+        Form::If(a, b, c) => {
+            let condition = text_of(alloc, a)?;
+            let then = text_of(alloc, b)?;
+            let otherwise = text_of(alloc, c)?;
+            in_parens(alloc, b"if", &[condition, then, otherwise])
+        }
+        Form::Square(every, name, a, b) => {
+            let bound = Bytes::from_slice(alloc, name.as_slice())?;
+            let squares = text_of(alloc, a)?;
+            let asked = text_of(alloc, b)?;
+            in_parens(alloc, square_word(*every), &[bound, squares, asked])
+        }
+        Form::Line(line) => line_of(alloc, line),
+        Form::Played(played) => played_of(alloc, played),
+        Form::Transform(family, a) => {
+            let part = text_of(alloc, a)?;
+            in_parens(alloc, family_word(*family), &[part])
+        }
+        Form::Sort(least, name, a) => {
+            let title = quoted(alloc, name)?;
+            let part = text_of(alloc, a)?;
+            in_parens(alloc, sort_word(*least), &[title, part])
+        }
+        Form::Comment(note) => {
+            let note = quoted(alloc, note)?;
+            in_parens(alloc, b"comment", &[note])
+        }
+        Form::Any(kind, parts) => {
+            let texts = texts_of(alloc, parts)?;
+            in_parens(alloc, any_word(*kind), texts.as_slice())
+        }
+    }
+}
+
+#[cycle(text)]
+#[tactic(auto, unfolding(crate::specs::FlatText::text))]
+fn texts_of(alloc: Global, filters: &Filters) -> Result<Vec<Bytes>, NoMemory>
+    ensures { IfOk result (λ ts. ts.items ≡ spec.texts (filters_tree filters.now)) }
+{
+    let mut texts = Vec::new(alloc);
+    for filter in filters.as_slice() {
+        let text = text_of(alloc, filter)?;
+        texts.push(text)?;
+    }
+    Ok(texts)
+}
+
+// Pairs from the left.
+#[cycle(text)]
+#[tactic(auto, unfolding(crate::specs::FlatText::text))]
+fn sum_of(alloc: Global, terms: &Terms) -> Result<Bytes, NoMemory>
+    ensures { IfOk result (λ t. t ≡ unwrap_or (spec.sum_after None (terms_tree terms.now)) (spec.in_parens (codes "+") [])) }
+{
+    let mut before = None;
+    for term in terms.as_slice() {
+        let text = text_of(alloc, &term.filter)?;
+        before = Some(with_term(alloc, before, term.minus, text)?);
+    }
+    match before {
+        Some(text) => Ok(text),
+        None => in_parens(alloc, b"+", &[]),
+    }
+}
+
+// A term after those before it.
+fn with_term(
+    alloc: Global,
+    before: Option<Bytes>,
+    minus: bool,
+    text: Bytes,
+) -> Result<Bytes, NoMemory>
+    ensures { IfOk result (λ t. t ≡ spec.with_term_text before minus text) }
+{
+    match before {
+        Some(before) => in_parens(alloc, sign_word(minus), &[before, text]),
+        None if minus => {
+            let zero = Bytes::from_slice(alloc, b"0")?;
+            in_parens(alloc, b"-", &[zero, text])
+        }
+        None => Ok(text),
+    }
+}
+
+#[cycle(text)]
+#[tactic(auto, unfolding(crate::specs::FlatText::text))]
+fn line_of(alloc: Global, line: &Line) -> Result<Bytes, NoMemory>
+    ensures { IfOk result (λ t. t ≡ spec.line_text (line_tree line.now)) }
+{
+    let start = line_start(alloc, line.primary, &line.extent, line.back)?;
+    let texts = part_texts(alloc, &line.parts)?;
+    in_parens(alloc, start.as_slice(), texts.as_slice())
+}
+
+#[cycle(text)]
+#[tactic(auto, unfolding(crate::specs::FlatText::text))]
+fn part_texts(alloc: Global, parts: &Constituents) -> Result<Vec<Bytes>, NoMemory>
+    ensures { IfOk result (λ ts. ts.items ≡ spec.part_texts (parts_tree parts.now)) }
+{
+    let mut texts = Vec::new(alloc);
+    for part in parts.as_slice() {
+        let body = body_of(alloc, &part.body)?;
+        let text = marked(alloc, part.mark, body)?;
+        texts.push(text)?;
+    }
+    Ok(texts)
+}
+
+#[cycle(text)]
+#[tactic(auto, unfolding(crate::specs::FlatText::text))]
+fn body_of(alloc: Global, body: &Body) -> Result<Bytes, NoMemory>
+    ensures { IfOk result (λ t. t ≡ spec.body_text (body_tree body.now)) }
+{
+    match body {
+        Body::Atom(filter) => text_of(alloc, filter),
+        Body::Group(parts) => {
+            let texts = part_texts(alloc, parts)?;
+            in_parens(alloc, b"seq", texts.as_slice())
+        }
+    }
+}
+
+#[cycle(text)]
+#[tactic(auto, unfolding(crate::specs::FlatText::text))]
+fn played_of(alloc: Global, played: &Played) -> Result<Bytes, NoMemory>
+    ensures { IfOk result (λ t. t ≡ spec.played_text (played_tree played.now)) }
+{
+    let origin = written_of(alloc, &played.origin)?;
+    let goal = written_of(alloc, &played.goal)?;
+    let taken = written_of(alloc, &played.taken)?;
+    let promoted = written_of(alloc, &played.promoted)?;
+    in_move(alloc, origin, goal, taken, promoted)
+}
+
+// The text of a part, where it is written.
+#[cycle(text)]
+#[tactic(auto, unfolding(crate::specs::FlatText::text))]
+fn written_of(alloc: Global, written: &Option<Box<Filter>>) -> Result<Option<Bytes>, NoMemory>
+    ensures { IfOk result (λ t. t ≡ spec.written_text (written_tree written.now)) }
+{
+    match written {
+        Some(filter) => Ok(Some(text_of(alloc, filter)?)),
+        None => Ok(None),
+    }
+}
