@@ -8,8 +8,6 @@ pub mod fault_laws;
 pub mod kinds;
 pub mod laws;
 pub mod leaves;
-#[cfg(test)]
-mod tests;
 pub mod token;
 pub mod tree;
 pub mod typed;

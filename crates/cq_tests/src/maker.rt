@@ -1,5 +1,5 @@
 //! Archives that an independent model made, and calls that find memory.
-use super::*;
+use cq_maker::make_archive;
 use std::alloc::Global;
 use std::process::Abort;
 use std::test::Fail;
