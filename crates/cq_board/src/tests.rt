@@ -1,11 +1,19 @@
+//! Draws in turn, and by many threads.
+ghost use Rattle.std.specs.Prelude.{◌≡◌, All, length};
+ghost use Rattle.cq_board.specs.Seats.{IsSeatOf, HasEnded};
+
 use super::*;
+use cq_outside::NoMemory;
+use std::sync::atomic::{AtomicU32, Ordering};
+use std::thread;
+use std::thread::Threads;
 
 fn is_shared<T: Send + Sync>() {}
 
 fn is_sent<T: Send>() {}
 
 #[test]
-fn two_seats_draw_in_turn(rt: HostRuntime) -> Result<(), cq_outside::NoMemory> {
+fn two_seats_draw_in_turn(rt: HostRuntime) -> Result<(), NoMemory> {
     is_shared::<Board>();
     is_sent::<ClaimSeat>();
     let (board, mut seats) = Board::make(rt.alloc(), 3, 2)?;
@@ -23,11 +31,56 @@ fn two_seats_draw_in_turn(rt: HostRuntime) -> Result<(), cq_outside::NoMemory> {
 }
 
 #[test]
-fn a_board_of_no_numbers(rt: HostRuntime) -> Result<(), cq_outside::NoMemory> {
+fn a_board_of_no_numbers(rt: HostRuntime) -> Result<(), NoMemory> {
     let (board, mut seats) = Board::make(rt.alloc(), 0, 1)?;
     let mut seat = seats.pop().unwrap();
     assert_eq!(rt; board.claim(&mut seat), None);
     seats.push(seat)?;
     assert_eq!(rt; board.close(seats), Ok(1));
+    Ok(())
+}
+
+/// Draws until None, and counts how often each number was drawn.
+fn draw_all(board: &Board, seat: &mut ClaimSeat, times: &[AtomicU32])
+    requires seat { IsSeatOf board.now seat.old }
+    requires open { HasEnded seat.old → ⊥ }
+    ensures { IsSeatOf board.now seat.new }
+{
+    for _turn in 0..times.len() {
+        let Some(number) = board.claim(seat) else {
+            return;
+        };
+        if let Some(count) = times.get(number as usize) {
+            count.fetch_add(1, Ordering::Relaxed);
+        }
+    }
+    board.claim(seat);
+}
+
+fn draw_by_threads<R: Threads + Sync>(
+    rt: &R,
+    board: &Board,
+    seats: &mut [ClaimSeat],
+    times: &[AtomicU32],
+)
+    requires { All (λ s. IsSeatOf board.now s × (HasEnded s → ⊥)) seats.old }
+    ensures seats { All (IsSeatOf board.now) seats.new }
+    ensures count { length seats.new ≡ length seats.old }
+{
+    thread::for_each_mut(rt, seats, 4, &|_, seat| draw_all(board, seat, times));
+}
+
+#[test]
+fn four_threads_draw_each_number_once(rt: HostRuntime) -> Result<(), NoMemory> {
+    let (board, mut seats) = Board::make(rt.alloc(), 100_000, 4)?;
+    let mut times = Vec::new(rt.alloc());
+    for _ in 0..100_000 {
+        times.push(AtomicU32::new(0))?;
+    }
+    draw_by_threads(&rt, &board, seats.as_mut_slice(), times.as_slice());
+    for count in times.iter() {
+        assert_eq!(rt; count.load(Ordering::Relaxed), 1);
+    }
+    assert_eq!(rt; board.close(seats), Ok(100_004));
     Ok(())
 }

@@ -11,6 +11,7 @@ use Rattle.cq_position.specs.Continuations.{nodes_from}
 use Rattle.cq_position.specs.Games.{Game, bare_node}
 use Rattle.cq_position.specs.Men.{opponent}
 use Rattle.pgn_export.specs.Export.{export_text}
+use Rattle.pgn_export.specs.TagLines.{written_tags}
 use Rattle.cq_maker.specs.Draws.{next, drawn}
 use Rattle.cq_maker.specs.Line.{Line, line, is_over}
 
@@ -37,6 +38,10 @@ game_made number l = record {
   result = ending l.last;
   nodes = bare_node None None start_board ∷ nodes_from 0 1 l.moves;
 }
+
+-- a game as it is read back from its text: with all tags that are written
+abbrev pub as_read : Game → Game
+as_read g = record g { tags = written_tags g }
 
 -- so many games, numbered from a number on; the draws of each go on from those of the game before it
 unfoldable pub games_made : (number games x : ℕ) → List Game

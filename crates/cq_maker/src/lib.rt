@@ -6,6 +6,7 @@
 mod archive;
 mod draws;
 mod game;
+pub mod laws;
 mod line;
 mod row;
 

@@ -4,6 +4,8 @@
 #[cfg(test)]
 mod attacks;
 #[cfg(test)]
+mod bits;
+#[cfg(test)]
 mod export;
 #[cfg(test)]
 mod fen;

@@ -7,6 +7,7 @@ pub mod Measures
 pub mod Puts
 pub mod LinesLaw
 pub mod OwnLaw
+pub mod Parts
 pub mod PlacesLaw
 pub mod SetsLaw
 pub mod ShortLaw

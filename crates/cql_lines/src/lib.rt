@@ -18,3 +18,6 @@ pub use lines::line_values;
 pub use pattern::{Pattern, Patterns};
 pub use steps::Steps;
 pub use table::{AtomTable, Shape};
+
+#[cfg(test)]
+mod tests;

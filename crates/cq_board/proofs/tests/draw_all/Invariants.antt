@@ -1,0 +1,8 @@
+use Rattle.cq_board.specs.Seats.{IsSeatOf, HasEnded}
+use Rattle.cq_board.proofs.tests.draw_all.Given as goal
+
+abbrev pub invariant-loop-turn : goal.invariant-loop-turn
+invariant-loop-turn l = record {
+  ours : IsSeatOf l.board l.seat;
+  draws : HasEnded l.seat → ⊥;
+}

@@ -1,0 +1,19 @@
+//! Laws of made archives, for proofs in other crates.
+ghost use Rattle.std.specs.Prelude.{ℕ, ◌*◌, ◌≤◌, length};
+ghost use Rattle.std.specs.List.{AllByRecursion};
+ghost use Rattle.pgn_export.specs.Export.{export_text};
+ghost use Rattle.pgn_export.specs.Normal.{IsNormal, IsReadAs};
+ghost use Rattle.cq_maker.specs.Made as made;
+
+/// An archive of at most 100,000 games has at most 4,096 bytes a game.
+#[tactic(auto, using(crate::proofs::Short::made_short))]
+pub fn archives_are_short()
+    ensures { (seed games : ℕ) → games ≤ 100000 → length (made.made seed games) ≤ 4096 * games }
+{}
+
+/// Each game of an archive of at most 100,000, with all tags that are written, is normal, and is read back from the game's text.
+#[tactic(auto, using(crate::proofs::Back::archive_back))]
+pub fn games_are_read_back()
+    ensures { (seed games : ℕ) → games ≤ 100000
+        → AllByRecursion (λ g. IsNormal (made.as_read g) × IsReadAs (export_text g) (made.as_read g)) (made.games_made 1 games seed) }
+{}
