@@ -8,6 +8,3 @@ pub mod slides;
 pub use attacks::attacked;
 pub use between::between_all;
 pub use slides::{BitSet64, slide};
-
-#[cfg(test)]
-mod tests;

@@ -12,5 +12,3 @@ mod row;
 
 pub use archive::make_archive;
 
-#[cfg(test)]
-mod tests;

@@ -18,5 +18,3 @@ pub use next_position::play;
 pub use outcome::{is_mate, is_stalemate};
 pub use passing::pass;
 
-#[cfg(test)]
-mod tests;

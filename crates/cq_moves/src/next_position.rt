@@ -73,5 +73,3 @@ fn passant_after(position: &Position, m: &Move) -> Option<Square>
     }
 }
 
-#[cfg(test)]
-mod tests;

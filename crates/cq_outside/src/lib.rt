@@ -16,8 +16,6 @@ pub mod source;
 pub mod sure_desk;
 pub mod sure_sink;
 pub mod sure_source;
-#[cfg(test)]
-mod tests;
 pub mod text;
 
 pub use bytes::Bytes;

@@ -83,5 +83,3 @@ pub fn read_fen(text: &[u8]) -> Result<Position, FenFault>
     Ok(Position::from_parts(number.max(1), men, side, rights, passant))
 }
 
-#[cfg(test)]
-mod tests;

@@ -18,5 +18,3 @@ pub use parts::{Parts, Piece, PieceMove, parts_of};
 pub use reading::read_san;
 pub use text::san_text;
 
-#[cfg(test)]
-mod tests;

@@ -4,8 +4,6 @@
 mod answers;
 pub mod laws;
 mod order;
-#[cfg(test)]
-mod tests;
 
 pub use answers::{Answer, GameAnswer, Keys};
 pub use order::{by_keys, in_order};

@@ -7,8 +7,6 @@ mod line;
 mod mode;
 mod options;
 mod reading;
-#[cfg(test)]
-mod tests;
 
 pub use job::{Job, Settings, WordsRefused};
 pub use reading::read_words;

@@ -7,8 +7,6 @@ mod names;
 mod places;
 mod rules;
 mod standing;
-#[cfg(test)]
-mod tests;
 mod walk;
 mod wants;
 

@@ -5,8 +5,6 @@ mod characters;
 mod designators;
 mod expected;
 mod lexeme;
-#[cfg(test)]
-mod tests;
 mod tokens;
 
 pub use tokens::{QUERY_LIMIT, query_tokens, tokens_are_read, tokens_end_once};

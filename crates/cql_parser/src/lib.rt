@@ -12,8 +12,6 @@ mod role;
 mod row;
 mod rule;
 mod stack;
-#[cfg(test)]
-mod tests;
 
 pub use laws::{
     faulty_tokens_spell_no_query, spelled_queries_have_no_any, tokens_have_at_most_one_fault,

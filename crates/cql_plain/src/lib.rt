@@ -16,8 +16,6 @@ mod numbers;
 mod paths;
 mod places;
 mod sets;
-#[cfg(test)]
-mod tests;
 mod value;
 mod walks;
 mod words;

@@ -5,5 +5,3 @@ pub mod led;
 
 pub use led::{Led, led_by};
 
-#[cfg(test)]
-mod tests;

@@ -10,8 +10,6 @@ pub mod flat_laws;
 pub mod kinds;
 pub mod laws;
 pub mod leaves;
-#[cfg(test)]
-mod tests;
 pub mod token;
 pub mod tree;
 pub mod typed;

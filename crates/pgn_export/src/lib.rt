@@ -12,5 +12,3 @@ mod words;
 
 pub use game::export;
 
-#[cfg(test)]
-mod tests;

@@ -10,8 +10,6 @@ pub mod game;
 pub mod laws;
 pub mod lexeme;
 pub mod reading;
-#[cfg(test)]
-mod tests;
 pub mod token;
 
 pub use game::tokens;

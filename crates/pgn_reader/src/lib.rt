@@ -10,8 +10,6 @@ mod notes;
 mod reader;
 mod reading;
 mod row;
-#[cfg(test)]
-mod tests;
 mod text;
 
 pub use fault::{GameFault, Reason};

@@ -8,8 +8,6 @@ mod game;
 pub mod laws;
 mod node;
 mod tags;
-#[cfg(test)]
-mod tests;
 
 pub use comment::first_word;
 pub use cq_position::GameResult;

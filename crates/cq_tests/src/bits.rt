@@ -1,7 +1,7 @@
 //! Slides and sets by hand, and sets in positions from play.
 ghost use Rattle.std.specs.Prelude.{◌<◌};
 
-use super::*;
+use cq_bits::{BitSet64, attacked, between_all, slide};
 use cq_geometry::{Square, between};
 use cq_moves::{is_legal, legal_moves, play};
 use cq_position::{Position, Side, attacks_from, is_of_side, read_fen};

@@ -1,5 +1,5 @@
-use super::*;
 use cq_outside::Refusal;
+use cql_lexer::{query_tokens, tokens_are_read, tokens_end_once};
 use cql_syntax::{Outcome, QueryFault, QueryReason, QueryTokenKind};
 use std::alloc::Global;
 use std::process::Abort;

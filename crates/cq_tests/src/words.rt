@@ -1,6 +1,6 @@
 //! The modes with their words, and words that are refused.
-use crate::{Job, WordsRefused, read_words};
 use cq_outside::{Bytes, NoMemory, Refusal};
+use cq_words::{Job, WordsRefused, read_words};
 use std::alloc::Global;
 use std::process::Abort;
 use std::test::Fail;

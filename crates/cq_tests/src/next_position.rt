@@ -1,7 +1,6 @@
-use super::*;
-use crate::legality::is_legal;
-use cq_geometry::square_at;
-use cq_position::{Promotion, read_fen};
+use cq_geometry::{Square, square_at};
+use cq_moves::{is_legal, play};
+use cq_position::{Move, Promotion, read_fen};
 use std::test::Fail;
 
 // A position, the file and rank from which and to which a man moves, what it becomes, and the position after the move.

@@ -1,6 +1,6 @@
 ghost use Rattle.std.specs.Prelude.{◌≤◌, ◌<◌, slice_index};
 
-use super::*;
+use cq_geometry::{Compass, Square, Step, between, file, is_light, king_steps, knight_steps, rank, ray, square_at, toward};
 use arrayvec::ArrayVec;
 
 /// The square of a name as `e4`.

@@ -1,5 +1,5 @@
-use super::*;
 use cq_position::Position;
+use pgn_tree::{Game, GameResult, Tags};
 use std::test::Fail;
 
 #[test]

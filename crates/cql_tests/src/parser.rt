@@ -1,8 +1,8 @@
 //! Queries, and the first faults of texts.
 
-use super::*;
 use cq_outside::{Bytes, NoMemory, Refusal};
 use cql_lexer::query_tokens;
+use cql_parser::{parse, tokens_of_a_text_are_ended};
 use cql_syntax::{Query, QueryFault, weight};
 use std::alloc::{AllocError, Global};
 use std::process::Abort;

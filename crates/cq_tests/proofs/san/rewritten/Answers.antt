@@ -1,4 +1,4 @@
-use Rattle.cq_san.proofs.tests.rewritten.Goals as goal
+use Rattle.cq_tests.proofs.san.rewritten.Goals as goal
 
 pub san_text-requires : goal.san_text-requires
 san_text-requires c =

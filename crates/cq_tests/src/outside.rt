@@ -1,4 +1,4 @@
-use crate::{
+use cq_outside::{
     Bytes, Desk, Failed, FileDesk, Gate, MemSource, NoMemory, OpenFault, OpenGate, Refusal, Sink,
     Source, StdSink, SureDesk, SureSink, SureSource, decimal_up_to, digits_len, is_white,
     read_piece, read_up_to, white_len, write_all_of,

@@ -1,9 +1,9 @@
 //! A move from the start, a null move, and a pawn that is taken in passing.
 ghost use Rattle.std.specs.Prelude.{◌<◌};
 
-use crate::{Led, led_by};
 use cq_geometry::Square;
 use cq_position::{FenFault, Move, Position, Promotion, read_fen};
+use cql_played::{Led, led_by};
 
 fn step(from: u8, to: u8) -> Move
     requires from { from < 64 }

@@ -1,5 +1,5 @@
-use super::*;
 use cq_geometry::square_at;
+use cq_moves::{is_legal, is_mate, is_stalemate, legal_moves, pass, play};
 use cq_position::{Move, Position, Promotion, read_fen};
 use std::test::Fail;
 

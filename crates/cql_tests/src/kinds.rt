@@ -3,9 +3,9 @@ ghost use Rattle.cql_syntax.specs.TreeFaults.{has_any};
 ghost use Rattle.cql_syntax.specs.Trees.{filter_at, more_filters, no_filters};
 ghost use Rattle.cql_syntax.specs.TreeOf.{form_tree, query_tree};
 
-use super::*;
 use cq_outside::{Bytes, NoMemory, Refusal};
 use cq_symmetry::Family;
+use cql_kinds::check;
 use cql_syntax::{
     Body, Constituent, Constituents, Extent, Filter, Filters, Form, Line, Mark, Plain, Query,
     QueryReason, Unary,

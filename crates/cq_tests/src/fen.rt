@@ -1,8 +1,5 @@
-use super::*;
-use crate::men::{Man, Side};
-use crate::moves::Move;
-use crate::position::material;
 use cq_geometry::square_at;
+use cq_position::{FenFault, Man, Move, Position, Side, fen_text, material, read_fen};
 use std::mem::size_of;
 use std::test::Fail;
 

@@ -1,6 +1,6 @@
 //! Answers in both orders.
-use super::*;
 use cq_outside::{Bytes, NoMemory};
+use cq_shards::{Answer, GameAnswer, Keys, by_keys, in_order};
 use cql_syntax::{Filter, Filters, Form, Plain, Query};
 use pgn_reader::{GameFault, Reason};
 use std::alloc::Global;

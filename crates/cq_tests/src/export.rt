@@ -1,6 +1,6 @@
 //! Games as they are read and written.
-use super::*;
 use cq_outside::{Bytes, NoMemory, Refusal};
+use pgn_export::export;
 use pgn_reader::{GameFault, read_game};
 use std::alloc::Global;
 use std::process::Abort;

@@ -1,4 +1,4 @@
-use Rattle.cq_moves.proofs.tests.+perft.Given as goal
+use Rattle.cq_tests.proofs.moves.+perft.Given as goal
 
 abbrev pub decreases-perft : goal.decreases-perft
 decreases-perft l = l.depth

@@ -1,9 +1,9 @@
 //! Tokens of texts from outside, and calls that find memory.
-use crate::TokenKind::{
+use pgn_lexer::TokenKind::{
     BadByte, Close, Comment, LeftParen, LineComment, Nag, Null, Open, Period, RightParen, Star,
     Symbol, Text, UnclosedComment, UnclosedText,
 };
-use crate::{
+use pgn_lexer::{
     LexemeKind, Reading, Token, TokenKind, fronts_settle, lexemes_are_local, lexemes_are_spelled,
     lexemes_follow, lexemes_move, lexemes_stand_apart, longest_reading, next_lexeme,
     readings_are_longest, readings_grow, tokens, tokens_stand_apart, white_space_is_passed,

@@ -1,0 +1,23 @@
+//! Tests of the crates of queries: worked rows, and each public call once.
+#![tactic(auto)]
+
+#[cfg(test)]
+mod kinds;
+#[cfg(test)]
+mod lexer;
+#[cfg(test)]
+mod parser;
+#[cfg(test)]
+mod plain;
+#[cfg(test)]
+mod played;
+#[cfg(test)]
+mod shards;
+#[cfg(test)]
+mod shared;
+#[cfg(test)]
+mod symmetry;
+#[cfg(test)]
+mod syntax;
+#[cfg(test)]
+mod table;
