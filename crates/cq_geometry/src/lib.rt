@@ -10,4 +10,3 @@ pub use compass::{Compass, toward};
 pub use lines::{between, ray};
 pub use square::{Square, file, files_apart, is_light, rank, ranks_apart, square_at};
 pub use steps::{Step, king_steps, knight_steps};
-

@@ -11,4 +11,3 @@ mod line;
 mod row;
 
 pub use archive::make_archive;
-

@@ -17,4 +17,3 @@ pub use list::legal_moves;
 pub use next_position::play;
 pub use outcome::{is_mate, is_stalemate};
 pub use passing::pass;
-

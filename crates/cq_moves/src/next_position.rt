@@ -72,4 +72,3 @@ fn passant_after(position: &Position, m: &Move) -> Option<Square>
         None
     }
 }
-

@@ -82,4 +82,3 @@ pub fn read_fen(text: &[u8]) -> Result<Position, FenFault>
     let passant = passant_kept(&men, side, fields.passant);
     Ok(Position::from_parts(number.max(1), men, side, rights, passant))
 }
-

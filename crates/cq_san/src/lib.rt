@@ -17,4 +17,3 @@ pub use laws::{san_means, signs_mean, written_is_read};
 pub use parts::{Parts, Piece, PieceMove, parts_of};
 pub use reading::read_san;
 pub use text::san_text;
-

@@ -1,7 +1,10 @@
 ghost use Rattle.std.specs.Prelude.{◌≤◌, ◌<◌, slice_index};
 
-use cq_geometry::{Compass, Square, Step, between, file, is_light, king_steps, knight_steps, rank, ray, square_at, toward};
 use arrayvec::ArrayVec;
+use cq_geometry::{
+    Compass, Square, Step, between, file, is_light, king_steps, knight_steps, rank, ray, square_at,
+    toward,
+};
 
 /// The square of a name as `e4`.
 fn at(name: &[u8; 2]) -> Square

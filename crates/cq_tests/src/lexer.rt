@@ -1,4 +1,5 @@
 //! Tokens of texts from outside, and calls that find memory.
+use cq_outside::is_white;
 use pgn_lexer::TokenKind::{
     BadByte, Close, Comment, LeftParen, LineComment, Nag, Null, Open, Period, RightParen, Star,
     Symbol, Text, UnclosedComment, UnclosedText,
@@ -9,7 +10,6 @@ use pgn_lexer::{
     readings_are_longest, readings_grow, tokens, tokens_stand_apart, white_space_is_passed,
     whole_lexemes_stay,
 };
-use cq_outside::is_white;
 use std::test::Fail;
 
 /// A row of the table: a text, and the place, the length and the kind of each of its tokens.

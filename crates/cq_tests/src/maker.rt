@@ -1,6 +1,6 @@
 //! Archives that an independent model made, and calls that find memory.
-use cq_maker::make_archive;
 use cq_maker::laws::{archives_are_short, games_are_read_back};
+use cq_maker::make_archive;
 use std::alloc::Global;
 use std::process::Abort;
 use std::test::Fail;

@@ -1,13 +1,13 @@
 //! Texts, their trees and their first faults.
 ghost use Rattle.std.specs.Prelude.{◌<◌, ◌^◌, length};
 
+use cq_outside::{NoMemory, Refusal};
+use cq_position::GameResult;
 use pgn_reader::Reason::{
     AmbiguousMove, BadByte, BadFen, BadTag, EmptyVariation, GameTooLong, IllegalMove, NagRange,
     NotAMove, TooDeep, TooManyPositions, UnclosedComment, UnclosedString, UnclosedVariation,
     UnopenedVariation, VariationWithoutMove,
 };
-use cq_outside::{NoMemory, Refusal};
-use cq_position::GameResult;
 use pgn_reader::{GameFault, Reason, read_game};
 use pgn_tree::Game;
 use std::alloc::Global;

@@ -1,7 +1,7 @@
+use arrayvec::ArrayString;
 use cq_geometry::{file, rank};
 use cq_position::{Move, Position, Promotion, read_fen};
 use cq_san::{SanFault, read_san, san_text};
-use arrayvec::ArrayString;
 use std::process::Abort;
 use std::test::Fail;
 

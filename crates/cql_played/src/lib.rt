@@ -4,4 +4,3 @@
 pub mod led;
 
 pub use led::{Led, led_by};
-

@@ -1,6 +1,10 @@
 use cq_outside::{Bytes, NoMemory};
 use cq_symmetry::{Family, SquarePart};
-use cql_syntax::{Body, Chain, Constituent, Constituents, Designator, Extent, Field, Filter, Filters, Form, Kind, Line, Mark, Of, Outcome, Pair, Plain, Query, Term, Terms, Unary, WEIGHT_LIMIT, Way, kind_of, weight};
+use cql_syntax::{
+    Body, Chain, Constituent, Constituents, Designator, Extent, Field, Filter, Filters, Form, Kind,
+    Line, Mark, Of, Outcome, Pair, Plain, Query, Term, Terms, Unary, WEIGHT_LIMIT, Way, kind_of,
+    weight,
+};
 use std::alloc::Global;
 use std::process::Abort;
 use std::test::Fail;

@@ -11,4 +11,3 @@ mod tag_lines;
 mod words;
 
 pub use game::export;
-
