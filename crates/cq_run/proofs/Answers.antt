@@ -20,9 +20,10 @@ use Rattle.cq_run.specs.declared.status.Status.{Status}
 use Rattle.cq_run.specs.declared.status.Status.TheVariants.{Done, DoneWithRefusals, QueryRefused, WordsRefused, OpenFault, ReadFault, WriteFault, NoMemory, ArchiveTooLong, NotYetRead}
 use Rattle.cq_run.specs.declared.tally.Tally.{Tally}
 use Rattle.cq_run.specs.Outcomes.{Outcome, AreRead, HasGames}
+use Rattle.cq_report.specs.Games.{fault_line}
 use Rattle.cql_syntax.specs.Hits.{marked}
 use Rattle.cql_syntax.specs.Trees.{QueryTree}
-use Rattle.cq_run.specs.Answer.{has_match, answer_of, tally_of, export_if, fault_if, fault_line, fault_lines, is_match, is_refused, summary_line}
+use Rattle.cq_run.specs.Answer.{has_match, answer_of, tally_of, export_if, fault_if, fault_lines, is_match, is_refused, summary_of}
 use Rattle.cq_run.specs.Promise.{SinkView, Sinks, Writes, WritesPrefix, IsUnwritten, NoWriteFailed, OneSinkFailed, sinks_of, texts_of_answer}
 use Rattle.cq_run.specs.Writing.{WritesText, AnswersGame, AnswersArchive, WritesSummary, tallied, texts_of_game}
 use Rattle.cq_run.proofs.Sinks.{unwritten, wrote_none, grew_on, Took, took_count, took_on, took_front, writes_prefix, fails_after, none_after}
@@ -218,16 +219,16 @@ forgotten have query archive spans i out out' out'' err err' err'' tally e so_fa
     let grown_out : Grew out.taken out''.taken (flat_map (export_if query) before) = subst (λ (s : SinkView). Grew out.taken s.taken (flat_map (export_if query) before)) (sym same.out) so_far.out in
     let grown_err : Grew err.taken err''.taken (fault_lines 1 before) = subst (λ (s : SinkView). Grew err.taken s.taken (fault_lines 1 before)) (sym same.err) so_far.err in
     let exports : flat_map (export_if query) before ++ flat_map (export_if query) rest.outcomes ≡ flat_map (export_if query) all = sym (flat_map-append (export_if query) before rest.outcomes) in
-    let lines : fault_lines 1 before ++ (fault_lines (1 + length before) rest.outcomes ++ summary_line (tally_of query all)) ≡ fault_lines 1 all ++ summary_line (tally_of query all) =
-    sym (append_assoc (fault_lines 1 before) (fault_lines (1 + length before) rest.outcomes) (summary_line (tally_of query all)))
-    ∙ ap (λ l. l ++ summary_line (tally_of query all)) (sym (fault_lines_on 1 before rest.outcomes)) in
+    let lines : fault_lines 1 before ++ (fault_lines (1 + length before) rest.outcomes ++ summary_of (tally_of query all)) ≡ fault_lines 1 all ++ summary_of (tally_of query all) =
+    sym (append_assoc (fault_lines 1 before) (fault_lines (1 + length before) rest.outcomes) (summary_of (tally_of query all)))
+    ∙ ap (λ l. l ++ summary_of (tally_of query all)) (sym (fault_lines_on 1 before rest.outcomes)) in
     record {
       outcomes = all;
       holds = all_games archive spans i before rest.outcomes e so_far.are_read rest.are_read;
       writes = (
         writes_prefix (sinks_of out out'' err err'') (texts_of_answer (answer_of query all))
             (subst (Took out.taken out''.taken) exports (took_front out.taken out''.taken (flat_map (export_if query) before) (flat_map (export_if query) rest.outcomes) grown_out))
-            (subst (Took err.taken err''.taken) lines (took_front err.taken err''.taken (fault_lines 1 before) (fault_lines (1 + length before) rest.outcomes ++ summary_line (tally_of query all)) grown_err)),
+            (subst (Took err.taken err''.taken) lines (took_front err.taken err''.taken (fault_lines 1 before) (fault_lines (1 + length before) rest.outcomes ++ summary_of (tally_of query all)) grown_err)),
         none_after out out' out'' err err' err'' so_far.unfailed (wrote_none (sinks_of out' out'' err' err'') same),
       );
     }
@@ -246,7 +247,7 @@ stopped have query archive spans i s out out' out'' err err' err'' tally e insid
     let part : Grew err'.taken err''.taken (take writes.err_count (fault_if (1 + length before) r)) = subst (λ n. Grew err'.taken err''.taken (take writes.err_count (fault_if n r))) games writes.err in
     let exports : flat_map (export_if query) before ++ (export_if query r ++ flat_map (export_if query) after) ≡ flat_map (export_if query) all =
     sym (flat_map-append (export_if query) before (r ∷ after)) in
-    let last = summary_line (tally_of query all) in
+    let last = summary_of (tally_of query all) in
     let lines : fault_lines 1 before ++ (fault_if (1 + length before) r ++ (fault_lines (1 + length before + 1) after ++ last)) ≡ fault_lines 1 all ++ last =
     ap (λ l. fault_lines 1 before ++ l)
     (sym (append_assoc (fault_if (1 + length before) r) (fault_lines (1 + length before + 1) after) last) ∙ ap (λ l. l ++ last) (sym (fault_lines_from (1 + length before) r after)))
@@ -275,21 +276,21 @@ all_found query archive spans i sinks tally all e found = subst (λ ss. AreRead 
 -- the last line was written
 finished : (query : QueryTree) (out out' err err' err'' : SinkView) (tally : Tally) (outcomes : List Outcome) → tally ≡ tally_of query outcomes
     → Grew out.taken out'.taken (flat_map (export_if query) outcomes) → Grew err.taken err'.taken (fault_lines 1 outcomes)
-    → Grew err'.taken err''.taken (summary_line tally) → Writes (sinks_of out out' err err'') (texts_of_answer (answer_of query outcomes))
+    → Grew err'.taken err''.taken (summary_of tally) → Writes (sinks_of out out' err err'') (texts_of_answer (answer_of query outcomes))
 finished query out out' err err' err'' tally outcomes is exports lines grew = record {
   out = exports;
-  err = subst (λ t. Grew err.taken err''.taken (fault_lines 1 outcomes ++ summary_line t)) is
-      (grew_on err.taken err'.taken err''.taken (fault_lines 1 outcomes) (summary_line tally) lines grew);
+  err = subst (λ t. Grew err.taken err''.taken (fault_lines 1 outcomes ++ summary_of t)) is
+      (grew_on err.taken err'.taken err''.taken (fault_lines 1 outcomes) (summary_of tally) lines grew);
 }
 
 -- the last line could not be written
 unfinished : (query : QueryTree) (archive : List ℕ) (spans : List Span) (i : ℕ) (out out' err err' err'' : SinkView) (tally : Tally) (count : ℕ) → length spans ≤ i → spans ≡ cut archive
-    → FoundSoFar query archive spans i (sinks_of out out' err err') tally → Grew err'.taken err''.taken (take count (summary_line tally)) → OneSinkFailed (sinks_of out' out' err' err'')
+    → FoundSoFar query archive spans i (sinks_of out out' err err') tally → Grew err'.taken err''.taken (take count (summary_of tally)) → OneSinkFailed (sinks_of out' out' err' err'')
     → AnswersArchive query archive (sinks_of out out' err err'') WriteFault
 unfinished query archive spans i out out' err err' err'' tally count all e found grew failed =
     let rs = found.outcomes in
-    let last = summary_line (tally_of query rs) in
-    let part : Grew err'.taken err''.taken (take count last) = subst (λ t. Grew err'.taken err''.taken (take count (summary_line t))) found.is grew in
+    let last = summary_of (tally_of query rs) in
+    let part : Grew err'.taken err''.taken (take count last) = subst (λ t. Grew err'.taken err''.taken (take count (summary_of t))) found.is grew in
     record {
       outcomes = rs;
       holds = all_found query archive spans i (sinks_of out out' err err') tally all e found;

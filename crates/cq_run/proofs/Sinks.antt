@@ -1,6 +1,5 @@
 -- What sinks have taken.
-use Rattle.std.proofs.Common.{◌≡◌, ℕ, inl, inr, List, [], ◌++◌, length, take, drop, append-nil, append_assoc, Option, Some, None, Ok, Err, refl, sym, ap, ◌∙◌, subst}
-use Rattle.std.specs.Prelude.{Result, OnOk}
+use Rattle.std.proofs.Common.{◌≡◌, ℕ, inl, inr, List, [], ◌++◌, length, take, drop, append-nil, append_assoc, Option, Some, None, refl, sym, ap, ◌∙◌, subst}
 use Rattle.std.proofs.Math.Seq.{take-append_seam}
 use Rattle.std.proofs.lemmas.List.{take-append-drop}
 use Rattle.cq_outside.specs.Faults.{Rose}
@@ -76,13 +75,3 @@ none_after out mid_out new_out err mid_err new_err none later = record { out = l
 pub some_failed : (sinks : Sinks) → OneSinkFailed sinks → SinkFailed sinks
 some_failed sinks (inl (rose, same)) = inl rose
 some_failed sinks (inr (rose, same)) = inr rose
-
--- what holds of a success
-pub on_ok : {T E : Type 0} {A B : Type 0} (result : Result T E) → (A → B) → OnOk result A → OnOk result B
-on_ok (Ok x) f a = f a
-on_ok (Err e) f a = tt
-
--- a line to which two texts are added
-pub two_more : (line mid new a b c d : List ℕ) → mid ≡ line ++ (a ++ b) → new ≡ mid ++ (c ++ d) → new ≡ line ++ (((a ++ b) ++ c) ++ d)
-two_more line mid new a b c d e f =
-    f ∙ ap (λ l. l ++ (c ++ d)) e ∙ append_assoc line (a ++ b) (c ++ d) ∙ ap (λ l. line ++ l) (sym (append_assoc (a ++ b) c d))

@@ -10,7 +10,7 @@ use Rattle.cq_run.specs.declared.status.Status.TheVariants.{Done, DoneWithRefusa
 use Rattle.cq_run.specs.declared.tally.Tally.{Tally}
 use Rattle.cql_syntax.specs.Trees.{QueryTree}
 use Rattle.cq_run.specs.Outcomes.{Outcome, HasGames}
-use Rattle.cq_run.specs.Answer.{Answer, answer_of, export_if, fault_if, is_match, is_refused, summary_line}
+use Rattle.cq_run.specs.Answer.{Answer, answer_of, export_if, fault_if, is_match, is_refused, summary_of}
 use Rattle.cq_run.specs.Promise.{SinkView, Sinks, Texts, Writes, WritesPrefix, IsUnwritten, OneSinkFailed, NoWriteFailed, texts_of_answer}
 
 -- writing a text to a sink: all of it was taken, or its count rose and a prefix was
@@ -23,11 +23,11 @@ WritesText text before after (Err IsNoMemory) = ⊥
 -- writing the last line of a report: the status tells whether a game is refused, or why not all of it is written
 abbrev pub WritesSummary : Tally → SinkView → SinkView → Status → Type 0
 WritesSummary tally before after Done =
-    (tally.refused ≡ 0) × Grew before.taken after.taken (summary_line tally) × (after.faults ≡ before.faults)
+    (tally.refused ≡ 0) × Grew before.taken after.taken (summary_of tally) × (after.faults ≡ before.faults)
 WritesSummary tally before after DoneWithRefusals =
-    (0 < tally.refused) × Grew before.taken after.taken (summary_line tally) × (after.faults ≡ before.faults)
+    (0 < tally.refused) × Grew before.taken after.taken (summary_of tally) × (after.faults ≡ before.faults)
 WritesSummary tally before after WriteFault =
-    ((count : ℕ) × Grew before.taken after.taken (take count (summary_line tally))) × Rose before.faults after.faults
+    ((count : ℕ) × Grew before.taken after.taken (take count (summary_of tally))) × Rose before.faults after.faults
 WritesSummary tally before after NoMemory = after ≡ before
 WritesSummary tally before after _ = ⊥
 

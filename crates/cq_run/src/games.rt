@@ -13,12 +13,12 @@ ghost use Rattle.cq_run.specs.Outcomes.{Outcome};
 ghost use Rattle.cq_run.specs.Promise.{SinkView, sink_view, sinks_of};
 ghost use Rattle.cq_run.specs.Writing.{AnswersArchive, AnswersGame, WritesSummary, WritesText};
 
-use crate::report::{fault_line, summary_line};
 use crate::status::Status;
 use crate::tally::Tally;
 use cq_annotate::mark;
 use cq_hits::hits;
 use cq_outside::{Bytes, Failed, NoMemory, Refusal, Sink, write_all_of};
+use cq_report::{fault_line, summary_line};
 use cql_syntax::TypedQuery;
 use pgn_cut::{Span, cut_whole, games_end_once};
 use pgn_export::export;
@@ -26,7 +26,7 @@ use pgn_reader::{GameFault, games_have_outcomes, read_game};
 use pgn_tree::Game;
 use std::alloc::Global;
 
-/// Answers the query over an archive of at most 2^30 bytes: `out` takes the export of each game that matches, and `err` the
+/// Answers the query over an archive of fewer than 2^62 bytes: `out` takes the export of each game that matches, and `err` the
 /// line of each faulty game and, after the last game, the counts. A write that fails is the last one.
 pub fn answer_archive<O: Sink, E: Sink>(
     alloc: Global,
@@ -35,7 +35,7 @@ pub fn answer_archive<O: Sink, E: Sink>(
     out: &mut O,
     err: &mut E,
 ) -> Status
-    requires size { length archive.now ≤ 2 ^ 30 }
+    requires size { length archive.now < 2 ^ 62 }
     ensures { AnswersArchive (query_tree query.now.query) archive.now
         (sinks_of (sink_view O.taken O.faults out.old) (sink_view O.taken O.faults out.new)
         (sink_view E.taken E.faults err.old) (sink_view E.taken E.faults err.new)) result }
@@ -64,7 +64,7 @@ pub fn answer_archive<O: Sink, E: Sink>(
 fn write_summary<E: Sink>(alloc: Global, tally: Tally, err: &mut E) -> Status
     ensures { WritesSummary tally (sink_view E.taken E.faults err.old) (sink_view E.taken E.faults err.new) result }
 {
-    let Ok(line) = summary_line(alloc, tally) else {
+    let Ok(line) = summary_line(alloc, tally.games, tally.matched, tally.refused) else {
         return Status::NoMemory;
     };
     match write_all_of(err, line.as_slice()) {
@@ -85,7 +85,7 @@ fn answer_game<O: Sink, E: Sink>(
     err: &mut E,
 ) -> Result<(), Refusal<Failed>>
     requires within { EndsBy (length archive.now) game }
-    requires size { length archive.now ≤ 2 ^ 30 }
+    requires size { length archive.now < 2 ^ 62 }
     requires one { IsGameIn archive.now game }
     requires games { tally.old.games < 2 ^ 63 }
     requires matched { tally.old.matched ≤ tally.old.games }
@@ -155,7 +155,7 @@ fn write_fault<E: Sink>(
 {
     tally.games += 1;
     tally.refused += 1;
-    let line = fault_line(alloc, tally.games, fault)?;
+    let line = fault_line(alloc, tally.games, &fault)?;
     write_to(err, line.as_slice())
 }
 
