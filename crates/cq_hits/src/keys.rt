@@ -1,5 +1,5 @@
 //! What games are sorted by.
-ghost use Rattle.std.specs.Prelude.{◌≡◌, ◌<◌, [], Some, length, map, option_to_list, All, IfOk, if◌then◌else◌};
+ghost use Rattle.std.specs.Prelude.{◌≡◌, ◌<◌, ◌++◌, OnOk, [], Some, length, map, option_to_list, All, IfOk, if◌then◌else◌};
 ghost use Rattle.std.specs.Int.{int_max, int_min};
 ghost use Rattle.cql_syntax.specs.Hits.{hits as hits_of, item_keys, key_of, keys as keys_of, tree_of};
 ghost use Rattle.cql_syntax.specs.Meaning.{value};
@@ -29,11 +29,20 @@ pub fn keys_over(
     let mut found = Vec::new(alloc);
     let items = query.items.as_slice();
     for i in 0..items.len() {
-        if let Some(key) = item_key(alloc, query, game, nodes, &items[i])? {
-            found.push(key)?;
-        }
+        let key = item_key(alloc, query, game, nodes, &items[i])?;
+        push_some(&mut found, key)?;
     }
     Ok(found)
+}
+
+// Adds a key, where there is one.
+fn push_some(found: &mut Vec<i64>, key: Option<i64>) -> Result<(), NoMemory>
+    ensures { OnOk result (found.new.items ≡ found.old.items ++ option_to_list key) }
+{
+    if let Some(key) = key {
+        found.push(key)?;
+    }
+    Ok(())
 }
 
 // The key of an item that is a `sort`, where it has a value at each node; none of any other item.
@@ -78,7 +87,7 @@ fn chosen_over(
 
 // The greater of two numbers that both have a value, or the lesser; of the first number, the number.
 fn chosen(is_first: bool, least: bool, key: Option<i64>, value: Option<i64>) -> Option<i64>
-    ensures { result ≡ (if is_first then value else of_both (λ x y. Some (if least then int_min x y else int_max x y)) key value) }
+    ensures { result ≡ (if is_first then value else of_both (λ x y. Some ((if least then int_min else int_max) x y)) key value) }
 {
     if is_first {
         return value;

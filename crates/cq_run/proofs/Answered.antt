@@ -6,9 +6,8 @@ use Rattle.cq_outside.specs.Flow.{TakesAtMost}
 use Rattle.cql_syntax.specs.Trees.{QueryTree}
 use Rattle.cq_run.specs.declared.status.Status.{Status}
 use Rattle.cq_run.specs.declared.status.Status.TheVariants.{Done, DoneWithRefusals, QueryRefused, WordsRefused, OpenFault, ReadFault, WriteFault, NoMemory, ArchiveTooLong, NotYetRead}
-use Rattle.cq_run.specs.Answer.{Answer, answer_of}
-use Rattle.cq_run.specs.Queries.{has_sort}
-use Rattle.cq_run.specs.Promise.{SourceView, Sinks, Answering, MayBe, TakesTooMuch, Overruns, Finds, TakesAll, SaysOfAnswer, AnswerPromise, WritesPrefix, IsUnwritten, SinkFailed, IsOneOf, texts_of_answer}
+use Rattle.cq_run.specs.Outcomes.{Outcome}
+use Rattle.cq_run.specs.Promise.{SourceView, Sinks, Answering, MayBe, TakesTooMuch, Overruns, Finds, TakesAll, SaysOfAnswer, AnswerPromise, WritesPart, IsUnwritten, SinkFailed, IsOneOf}
 use Rattle.cq_run.specs.Writing.{AnswersArchive}
 use Rattle.cq_run.proofs.Sinks.{wrote_none, some_failed}
 
@@ -44,78 +43,55 @@ not_too_long limit source after told tells few much =
     let long = much.long in
     omega (arith, less, few, long)
 
-sorts_not : (q : QueryTree) (status : Status) → has_sort q ≡ false → has_sort q ≡ true → status ≡ NotYetRead
-sorts_not q status is_none is_some = cc
-
 abbrev pub asked : QueryTree → ℕ → SourceView → SourceView → Sinks → Answering
 asked q limit source after sinks = record { query = q; limit = limit; source = source; source_after = after; sinks = sinks }
-
-nothing_taken : (left : Option (List ℕ)) → Consumes left left []
-nothing_taken None = tt
-nothing_taken (Some bytes) = refl
-
--- a query with an item `sort`
-pub sorted : (q : QueryTree) (limit : ℕ) (source : SourceView) (sinks : Sinks) → has_sort q ≡ true → IsUnwritten sinks → AnswerPromise NotYetRead (asked q limit source source sinks)
-sorted q limit source sinks others same =
-    let few : TakesAtMost limit source.left source.left = record { bytes = []; takes = nothing_taken source.left; few = omega arith } in
-    record {
-      says = (others, refl, same);
-      takes = record { bytes = []; takes = nothing_taken source.left; few = omega arith };
-      sort_always = λ _. refl;
-      too_long_always = λ much. absurd (not_overrun limit source source few much);
-      complete = λ all. absurd (let unsorted : has_sort q ≡ false = all.unsorted in cc);
-    }
 
 one_more_most : (limit : ℕ) (left after : Option (List ℕ)) → TakesAtMost limit left after → TakesAtMost (limit + 1) left after
 one_more_most limit left after few = record { bytes = few.bytes; takes = few.takes; few = let a = few.few in omega (arith, a) }
 
 -- a read that failed
-pub unread : (q : QueryTree) (limit : ℕ) (source after : SourceView) (sinks : Sinks) → has_sort q ≡ false → TakesAtMost limit source.left after.left → Rose source.faults after.faults
+pub unread : (q : QueryTree) (limit : ℕ) (source after : SourceView) (sinks : Sinks) → TakesAtMost limit source.left after.left → Rose source.faults after.faults
     → IsUnwritten sinks → AnswerPromise ReadFault (asked q limit source after sinks)
-unread q limit source after sinks unsorted few rose same = record {
+unread q limit source after sinks few rose same = record {
   says = (rose, same);
   takes = one_more_most limit source.left after.left few;
-  sort_always = λ yes. sorts_not q ReadFault unsorted yes;
   too_long_always = λ much. absurd (not_overrun limit source after few much);
   complete = λ all. absurd (all.no_read rose);
 }
 
 -- no memory to read
-pub unremembered : (q : QueryTree) (limit : ℕ) (source after : SourceView) (sinks : Sinks) → has_sort q ≡ false → TakesAtMost (limit + 1) source.left after.left → after.faults ≡ source.faults
+pub unremembered : (q : QueryTree) (limit : ℕ) (source after : SourceView) (sinks : Sinks) → TakesAtMost (limit + 1) source.left after.left → after.faults ≡ source.faults
     → IsUnwritten sinks → AnswerPromise NoMemory (asked q limit source after sinks)
-unremembered q limit source after sinks unsorted few counts same = record {
+unremembered q limit source after sinks few counts same = record {
   says = (inl same, record { source = counts; sinks = wrote_none sinks same });
   takes = few;
-  sort_always = λ yes. sorts_not q NoMemory unsorted yes;
   too_long_always = λ _. inr (inl refl);
   complete = λ _. inr (inr (inl refl));
 }
 
 -- more than the limit
-pub too_long : (q : QueryTree) (limit : ℕ) (source after : SourceView) (sinks : Sinks) (bytes : List ℕ) → has_sort q ≡ false → Consumes source.left after.left bytes → length bytes ≤ limit + 1
+pub too_long : (q : QueryTree) (limit : ℕ) (source after : SourceView) (sinks : Sinks) (bytes : List ℕ) → Consumes source.left after.left bytes → length bytes ≤ limit + 1
     → limit < length bytes → after.faults ≡ source.faults → IsUnwritten sinks → AnswerPromise ArchiveTooLong (asked q limit source after sinks)
-too_long q limit source after sinks bytes unsorted takes few long counts same =
+too_long q limit source after sinks bytes takes few long counts same =
     let much : TakesTooMuch limit source after = record { bytes = bytes; takes = takes; long = long } in
     record {
       says = (much, same, record { source = counts; sinks = wrote_none sinks same });
       takes = record { bytes = bytes; takes = takes; few = few };
-      sort_always = λ yes. sorts_not q ArchiveTooLong unsorted yes;
-      too_long_always = λ _. inl refl;
+          too_long_always = λ _. inl refl;
       complete = λ all. absurd (not_too_long limit source after all.archive all.tells all.within much);
     }
 
 -- the archive was read, and what was found in it is written as far as it could be
 pub record Answered (q : QueryTree) (limit : ℕ) (source after : SourceView) (sinks : Sinks) (status : Status) : Type 0 where
   pub archive : List ℕ
-  pub unsorted : has_sort q ≡ false
   pub takes : Consumes source.left after.left archive
   pub within : length archive ≤ limit
   pub at_end : IsAtEnd after.left
   pub counts : after.faults ≡ source.faults
   pub answers : AnswersArchive q archive sinks status
 
-finds : (q : QueryTree) (limit : ℕ) (source after : SourceView) (sinks : Sinks) (status : Status) (Takes : Answer → Type 0) → (answered : Answered q limit source after sinks status)
-    → Takes (answer_of q answered.answers.outcomes) → Finds (asked q limit source after sinks) Takes
+finds : (q : QueryTree) (limit : ℕ) (source after : SourceView) (sinks : Sinks) (status : Status) (Takes : List Outcome → Type 0) → (answered : Answered q limit source after sinks status)
+    → Takes answered.answers.outcomes → Finds (asked q limit source after sinks) Takes
 finds q limit source after sinks status Takes answered takes = record {
   archive = answered.archive;
   outcomes = answered.answers.outcomes;
@@ -137,10 +113,10 @@ says_answered DoneWithRefusals q limit source after sinks answered =
     )
 says_answered WriteFault q limit source after sinks answered =
     let writes = answered.answers.writes in
-    (writes.0, answered.counts, finds q limit source after sinks WriteFault (λ a. WritesPrefix sinks (texts_of_answer a)) answered writes.1)
+    (writes.0, answered.counts, finds q limit source after sinks WriteFault (λ outcomes. WritesPart q outcomes sinks) answered writes.1)
 says_answered NoMemory q limit source after sinks answered =
     let writes = answered.answers.writes in (
-      inr (finds q limit source after sinks NoMemory (λ a. WritesPrefix sinks (texts_of_answer a)) answered writes.0),
+      inr (finds q limit source after sinks NoMemory (λ outcomes. WritesPart q outcomes sinks) answered writes.0),
       record { source = answered.counts; sinks = writes.1 },
     )
 says_answered QueryRefused q limit source after sinks answered = absurd answered.answers.writes
@@ -168,7 +144,6 @@ pub answered_whole : (status : Status) (q : QueryTree) (limit : ℕ) (source aft
 answered_whole status q limit source after sinks answered = record {
   says = says_answered status q limit source after sinks answered;
   takes = record { bytes = answered.archive; takes = answered.takes; few = let w = answered.within in omega (arith, w) };
-  sort_always = λ yes. sorts_not q status answered.unsorted yes;
   too_long_always = λ much. absurd (not_overrun limit source after (record { bytes = answered.archive; takes = answered.takes; few = answered.within }) much);
   complete = λ all. answer_is_one status q limit source after sinks answered all.no_write;
 }

@@ -28,9 +28,9 @@ use Rattle.cq_run.specs.declared.asked.Unasked.{Unasked}
 use Rattle.cq_run.specs.declared.asked.Unasked.TheVariants.{Faulty, Unopened, Unread, Forgotten}
 use Rattle.cq_run.specs.declared.status.Status.{Status}
 use Rattle.cq_run.specs.declared.status.Status.TheVariants.{Done, DoneWithRefusals, QueryRefused, WordsRefused, OpenFault, ReadFault, WriteFault, NoMemory, ArchiveTooLong, NotYetRead}
-use Rattle.cq_run.specs.Queries.{IsQuery, IsQueryFault, has_sort}
+use Rattle.cq_run.specs.Queries.{IsQuery, IsQueryFault}
 use Rattle.cq_run.specs.Promise.{SourceView, DeskView, Sinks, SaysOfAnswer, IsOneOf, IsUnwritten, NoWriteFailed}
-use Rattle.cq_run.specs.Run.{Call, from_desk, IsUnmoved, NoInputFailed, with_open, Opened, FailsToOpen, query_limit, TakesQuery, FailsToRead, ForgetsQuery, no_memory_to_open, no_memory_to_read, WritesUsage, RefusesQuery, AcceptsQuery, AnswersFile, archive_answered, archive_unopened, archive_forgotten, archive_not_yet, OverText, text_accepted, text_refused, text_forgotten, OverFile, file_accepted, file_refused, file_unopened, file_unread, file_forgotten, SaysAccepted, DoesJob, Does, job_done, words_refused, words_forgotten, Asks, AnswersItsFault, IsInFile, HasText, NothingRose, IsShort, IsWithin, good_answers, Promise}
+use Rattle.cq_run.specs.Run.{Call, from_desk, IsUnmoved, NoInputFailed, with_open, Opened, FailsToOpen, query_limit, TakesQuery, FailsToRead, ForgetsQuery, no_memory_to_open, no_memory_to_read, WritesUsage, RefusesQuery, AcceptsQuery, AnswersFile, archive_answered, archive_unopened, archive_forgotten, OverText, text_accepted, text_refused, text_forgotten, OverFile, file_accepted, file_refused, file_unopened, file_unread, file_forgotten, SaysAccepted, DoesJob, Does, job_done, words_refused, words_forgotten, Asks, AnswersItsFault, IsInFile, HasText, NothingRose, IsShort, IsWithin, good_answers, Promise}
 use Rattle.cq_run.specs.Asked.{ReadsFile, TellsWhy, call_of}
 use Rattle.cq_run.proofs.Sinks.{wrote_none, some_failed}
 
@@ -147,10 +147,9 @@ unopened_faults status call is fails same =
     subst (λ s. AnswersItsFault s call) (sym is) (at_open call (ap (λ (s : SourceView). s.faults) fails.file) (wrote_none call.sinks same))
 
 archive_faults : (archive : List ℕ) (limit : ℕ) (q : QueryTree) (status : Status) (call : Call) → AnswersFile archive limit q status call → AnswersItsFault status call
-archive_faults archive limit q status call (archive_answered file plain opened answers) = answer_faults archive limit q file status call opened answers.says
+archive_faults archive limit q status call (archive_answered file opened answers) = answer_faults archive limit q file status call opened answers.says
 archive_faults archive limit q status call (archive_unopened is fails same) = unopened_faults status call is fails same
 archive_faults archive limit q status call (archive_forgotten is same) = unmoved_faults status call same
-archive_faults archive limit q status call (archive_not_yet is sorted same) = unmoved_faults status call same
 
 -- counts that stood still up to a desk in between
 later_faults : (mid : DeskView) (status : Status) (call : Call) → NoInputFailed call.desk mid → AnswersItsFault status (from_desk mid call) → AnswersItsFault status call
@@ -218,11 +217,10 @@ not_twice : (status s : Status) → status ≡ s → status ≡ WordsRefused →
 not_twice status s is e = sym is ∙ e
 
 archive_not_words : (archive : List ℕ) (limit : ℕ) (q : QueryTree) (status : Status) (call : Call) → AnswersFile archive limit q status call → status ≡ WordsRefused → ⊥
-archive_not_words archive limit q status call (archive_answered file plain opened answers) e =
+archive_not_words archive limit q status call (archive_answered file opened answers) e =
     subst (λ s. SaysOfAnswer s (record { query = q; limit = limit; source = file; source_after = call.desk_after.file; sinks = call.sinks })) e answers.says
 archive_not_words archive limit q status call (archive_unopened is fails same) e = let f = not_twice status OpenFault is e in cc
 archive_not_words archive limit q status call (archive_forgotten is same) e = let f = not_twice status NoMemory is e in cc
-archive_not_words archive limit q status call (archive_not_yet is sorted same) e = let f = not_twice status NotYetRead is e in cc
 
 refusal_not_words : (fault : QueryFault) (status : Status) (sinks : Sinks) → RefusesQuery fault status sinks → status ≡ WordsRefused → ⊥
 refusal_not_words fault status sinks does e = subst (λ s. RefusesQuery fault s sinks) e does
@@ -316,20 +314,18 @@ job_refused_always one none (SelfRun word seed games workers) text fault status 
 
 -- an accepted query is answered
 
-archive_complete : (archive : List ℕ) (limit : ℕ) (q : QueryTree) (status : Status) (call : Call) → has_sort q ≡ false → (short : IsShort call archive limit) → (none : NothingRose call)
+archive_complete : (archive : List ℕ) (limit : ℕ) (q : QueryTree) (status : Status) (call : Call) → (short : IsShort call archive limit) → (none : NothingRose call)
     → AnswersFile archive limit q status call → IsOneOf status (Done ∷ DoneWithRefusals ∷ NoMemory ∷ [])
-archive_complete archive limit q status call unsorted short none (archive_answered file plain opened answers) =
+archive_complete archive limit q status call short none (archive_answered file opened answers) =
     answers.complete (record {
       archive = bytes_of short.told.files archive;
       tells = opened.bytes short.told short.tells;
       within = short.within;
-      unsorted = plain;
       no_read = λ rose. none.reads (subst (λ n. Rose n call.desk_after.file.faults) opened.faults rose);
       no_write = none.writes;
     })
-archive_complete archive limit q status call unsorted short none (archive_unopened is fails same) = absurd (none.opens fails.rose)
-archive_complete archive limit q status call unsorted short none (archive_forgotten is same) = inr (inr (inl is))
-archive_complete archive limit q status call unsorted short none (archive_not_yet is sorted same) = absurd cc
+archive_complete archive limit q status call short none (archive_unopened is fails same) = absurd (none.opens fails.rose)
+archive_complete archive limit q status call short none (archive_forgotten is same) = inr (inr (inl is))
 
 text_complete : SpellOne → SpellNone → (text : List ℕ) (query : QueryTree) (Accepted : QueryTree → Status → Call → Type 0) (good : List Status) (status : Status) (call : Call)
     → IsQuery text query → IsOneOf NoMemory good → (Accepted query status call → IsOneOf status good) → OverText text Accepted status call → IsOneOf status good
@@ -383,20 +379,20 @@ acceptance_is_one ReadFault call none does = absurd does
 acceptance_is_one ArchiveTooLong call none does = absurd does
 acceptance_is_one NotYetRead call none does = absurd does
 
-job_complete : SpellOne → SpellNone → (job : Job) (text : List ℕ) (query : QueryTree) (status : Status) (call : Call) → HasText call job text → IsQuery text query → has_sort query ≡ false
+job_complete : SpellOne → SpellNone → (job : Job) (text : List ℕ) (query : QueryTree) (status : Status) (call : Call) → HasText call job text → IsQuery text query
     → IsWithin call job → NothingRose call → DoesJob job status call → IsOneOf status (good_answers job)
-job_complete one no (Run name archive workers limit) text query status call has is plain short none does =
+job_complete one no (Run name archive workers limit) text query status call has is short none does =
     file_complete one no name text query (AnswersFile archive limit) (Done ∷ DoneWithRefusals ∷ NoMemory ∷ []) status call has is (inr (inr (inl refl)))
-    (λ mid found takes a. archive_complete archive limit query status (from_desk mid call) plain (short_later name archive limit mid found call takes short) (none_later name mid found call takes none) a)
+    (λ mid found takes a. archive_complete archive limit query status (from_desk mid call) (short_later name archive limit mid found call takes short) (none_later name mid found call takes none) a)
     does
-job_complete one no (Eval word archive workers limit) text query status call has is plain short none does =
+job_complete one no (Eval word archive workers limit) text query status call has is short none does =
     text_complete one no text query (AnswersFile archive limit) (Done ∷ DoneWithRefusals ∷ NoMemory ∷ []) status call is (inr (inr (inl refl)))
-    (λ a. archive_complete archive limit query status call plain short none a) (subst (λ t. OverText t (AnswersFile archive limit) status call) has does)
-job_complete one no (Check name) text query status call has is plain short none does =
+    (λ a. archive_complete archive limit query status call short none a) (subst (λ t. OverText t (AnswersFile archive limit) status call) has does)
+job_complete one no (Check name) text query status call has is short none does =
     file_complete one no name text query SaysAccepted (Done ∷ NoMemory ∷ []) status call has is (inr (inl refl))
     (λ mid found takes a. acceptance_is_one status call none a.0) does
-job_complete one no (Explain name) text query status call has is plain short none does = absurd has
-job_complete one no (SelfRun word seed games workers) text query status call has is plain short none does = absurd has
+job_complete one no (Explain name) text query status call has is short none does = absurd has
+job_complete one no (SelfRun word seed games workers) text query status call has is short none does = absurd has
 
 -- the words
 
@@ -418,9 +414,9 @@ job_promised one no words status call job value taken does = record {
   query_always_refused = λ other text fault asks has faulty.
       let same : job ≡ other = same_job other job (asks_answered words (Ok job) value taken (Some other) asks) in
       job_refused_always one no other text fault status call has faulty (subst (λ j. DoesJob j status call) same does);
-  complete = λ other text query asks has is plain short none.
+  complete = λ other text query asks has is short none.
       let same : job ≡ other = same_job other job (asks_answered words (Ok job) value taken (Some other) asks) in
-      job_complete one no other text query status call has is plain short none (subst (λ j. DoesJob j status call) same does);
+      job_complete one no other text query status call has is short none (subst (λ j. DoesJob j status call) same does);
 }
 
 usage_is_one : (status : Status) (sinks : Sinks) → WritesUsage status sinks → IsOneOf status (WordsRefused ∷ WriteFault ∷ NoMemory ∷ [])
@@ -447,7 +443,7 @@ refusal_promised words status desk sinks refused value taken does = record {
   words_never_refused = λ job asks e. not_asked words refused job value taken asks;
   words_always_refused = λ asks. usage_is_one status sinks does;
   query_always_refused = λ job text fault asks has faulty. absurd (not_asked words refused job value taken asks);
-  complete = λ job text query asks has is plain short none. absurd (not_asked words refused job value taken asks);
+  complete = λ job text query asks has is short none. absurd (not_asked words refused job value taken asks);
 }
 
 memory_is_good : (job : Job) → IsOneOf NoMemory (good_answers job)
@@ -466,7 +462,7 @@ forgetting_promised words desk sinks same =
       words_never_refused = λ job asks e. cc;
       words_always_refused = λ asks. inr (inr (inl refl));
       query_always_refused = λ job text fault asks has faulty. inr (inr (inl refl));
-      complete = λ job text query asks has is plain short none. memory_is_good job;
+      complete = λ job text query asks has is short none. memory_is_good job;
     }
 
 -- what opening a file did

@@ -51,16 +51,8 @@ took_on a b c xs ys more f t = record {
 pub took_front : (a b : Option (List ℕ)) (xs more : List ℕ) → Grew a b xs → Took a b (xs ++ more)
 took_front a b xs more f = record { part = xs; rest = more; is = refl; grew = f }
 
-prefix_of : (a b : Option (List ℕ)) (text : List ℕ) → (t : Took a b text) → Grew a b (take (length t.part) text)
+pub prefix_of : (a b : Option (List ℕ)) (text : List ℕ) → (t : Took a b text) → Grew a b (take (length t.part) text)
 prefix_of a b text t = subst (λ l. Grew a b (take (length t.part) l)) (sym t.is) (grew_part a b t.part t.rest t.grew)
-
-pub writes_prefix : (sinks : Sinks) (texts : Texts) → Took sinks.out.taken sinks.out_after.taken texts.out → Took sinks.err.taken sinks.err_after.taken texts.err → WritesPrefix sinks texts
-writes_prefix sinks texts out err = record {
-  out_count = length out.part;
-  err_count = length err.part;
-  out = prefix_of sinks.out.taken sinks.out_after.taken texts.out out;
-  err = prefix_of sinks.err.taken sinks.err_after.taken texts.err err;
-}
 
 -- where no write had failed, the one that failed after that is the only one
 pub fails_after : (out mid_out new_out err mid_err new_err : SinkView) → NoWriteFailed (sinks_of out mid_out err mid_err) → OneSinkFailed (sinks_of mid_out new_out mid_err new_err)

@@ -1,6 +1,5 @@
 -- What a query finds in games, and how it is written.
 use Rattle.std.specs.Prelude.{ℕ, ◌+◌, Bool, true, false, not, ◌==◌, List, [], ◌∷◌, ◌++◌, length, count_by, Ok, Err, if◌then◌else◌}
-use Rattle.std.specs.List.{flat_map}
 use Rattle.cq_position.specs.Games.{Game}
 use Rattle.pgn_export.specs.Export.{export_text}
 use Rattle.cq_report.specs.Games.{fault_line, summary_line}
@@ -47,19 +46,6 @@ tally_of query outcomes = record {
   refused = count_by is_refused outcomes;
 }
 
--- What a query finds in games: the exports of those that match and the lines of the faulty ones, in their order, and their numbers.
-pub record Answer : Type 0 where
-  pub exports : List ℕ
-  pub faults : List ℕ
-  pub tally : Tally
-
-abbrev pub answer_of : QueryTree → List Outcome → Answer
-answer_of query outcomes = record {
-  exports = flat_map (export_if query) outcomes;
-  faults = fault_lines 1 outcomes;
-  tally = tally_of query outcomes;
-}
-
 -- the report: the lines of the faulty games, and then the counts
-abbrev pub report_of : Answer → List ℕ
-report_of answer = answer.faults ++ summary_of answer.tally
+abbrev pub report_of : QueryTree → List Outcome → List ℕ
+report_of query outcomes = fault_lines 1 outcomes ++ summary_of (tally_of query outcomes)

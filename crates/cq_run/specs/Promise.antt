@@ -1,14 +1,15 @@
 -- What `answer` promises: what it answers, what out and err have taken then, and when each answer comes.
-use Rattle.std.specs.Prelude.{◌≡◌, ◌⊎◌, ℕ, ◌+◌, ◌≤◌, ◌<◌, true, false, List, [], ◌∷◌, ◌++◌, length, take, Option, None, Some}
+use Rattle.std.specs.Prelude.{◌≡◌, ◌⊎◌, ℕ, ◌+◌, ◌≤◌, ◌<◌, List, [], ◌∷◌, ◌++◌, length, take, Option, None, Some}
 use Rattle.std.specs.Io.KnownBytes.{Consumes, IsAtEnd}
 use Rattle.cq_outside.specs.Faults.{Rose}
 use Rattle.cq_outside.specs.Flow.{Grew, TakesAtMost}
 use Rattle.cq_outside.specs.Told.{Told}
 use Rattle.cql_syntax.specs.Trees.{QueryTree}
 use Rattle.cq_run.specs.declared.status.Status.{Status}
-use Rattle.cq_run.specs.declared.status.Status.TheVariants.{Done, DoneWithRefusals, ReadFault, WriteFault, NoMemory, ArchiveTooLong, NotYetRead}
+use Rattle.cq_run.specs.declared.status.Status.TheVariants.{Done, DoneWithRefusals, ReadFault, WriteFault, NoMemory, ArchiveTooLong}
 use Rattle.cq_run.specs.Outcomes.{Outcome, HasGames}
-use Rattle.cq_run.specs.Answer.{Answer, answer_of, report_of}
+use Rattle.cq_run.specs.Answer.{report_of, tally_of}
+use Rattle.cq_run.specs.Exports.{AreExports}
 
 -- a source at one moment: the bytes that are left, where it tells them, and its count of faults
 pub record SourceView : Type 0 where
@@ -113,29 +114,43 @@ pub record NothingFails (call : Answering) : Type 0 where
   pub source : call.source_after.faults ≡ call.source.faults
   pub sinks : NoWriteFailed call.sinks
 
--- an answer as texts: the exports and the report
-abbrev pub texts_of_answer : Answer → Texts
-texts_of_answer answer = record { out = answer.exports; err = report_of answer }
+-- out has taken the exports, and err the report
+pub record WritesWhole (query : QueryTree) (outcomes : List Outcome) (sinks : Sinks) : Type 0 where
+  pub exports : List ℕ
+  pub are : AreExports query outcomes exports
+  pub writes : Writes sinks (record { out = exports; err = report_of query outcomes })
 
--- The archive was read to its end; its games are read as these, and the sinks have taken what is said of what the query finds in them.
-pub record Finds (call : Answering) (Takes : Answer → Type 0) : Type 0 where
+-- so much of the exports was taken: a prefix; or nothing, as long as they are not in order
+abbrev pub TakesPart : QueryTree → List Outcome → SinkView → SinkView → Type 0
+TakesPart query outcomes out out_after =
+    Grew out.taken out_after.taken []
+    ⊎ ((exports : List ℕ) × AreExports query outcomes exports × ((count : ℕ) × Grew out.taken out_after.taken (take count exports)))
+
+-- out has taken a prefix of the exports, and err a prefix of the report
+pub record WritesPart (query : QueryTree) (outcomes : List Outcome) (sinks : Sinks) : Type 0 where
+  pub out : TakesPart query outcomes sinks.out sinks.out_after
+  pub err_count : ℕ
+  pub err : Grew sinks.err.taken sinks.err_after.taken (take err_count (report_of query outcomes))
+
+-- The archive was read to its end; its games are read as these, and of what the query finds in them so much was taken.
+pub record Finds (call : Answering) (Takes : List Outcome → Type 0) : Type 0 where
   pub archive : List ℕ
   pub outcomes : List Outcome
   pub reads : ReadsWhole call.limit call.source call.source_after archive
   pub holds : HasGames archive outcomes
-  pub takes : Takes (answer_of call.query outcomes)
+  pub takes : Takes outcomes
 
--- So many games are refused as is asked, and out and err have the exports and the report.
-pub record TakesAll (call : Answering) (AreRefused : ℕ → Type 0) (answer : Answer) : Type 0 where
-  pub refused : AreRefused answer.tally.refused
-  pub writes : Writes call.sinks (texts_of_answer answer)
+-- so many games are refused as is asked, and out and err have the exports and the report
+pub record TakesAll (call : Answering) (AreRefused : ℕ → Type 0) (outcomes : List Outcome) : Type 0 where
+  pub refused : AreRefused (tally_of call.query outcomes).refused
+  pub writes : WritesWhole call.query outcomes call.sinks
 
 abbrev pub Answers : Answering → (ℕ → Type 0) → Type 0
 Answers call AreRefused = Finds call (TakesAll call AreRefused) × NothingFails call
 
 -- each sink has taken a prefix of its text
 abbrev pub Stops : Answering → Type 0
-Stops call = Finds call (λ answer. WritesPrefix call.sinks (texts_of_answer answer))
+Stops call = Finds call (λ outcomes. WritesPart call.query outcomes call.sinks)
 
 -- what each status says
 abbrev pub SaysOfAnswer : Status → Answering → Type 0
@@ -145,15 +160,13 @@ SaysOfAnswer ReadFault call = Rose call.source.faults call.source_after.faults �
 SaysOfAnswer WriteFault call = OneSinkFailed call.sinks × (call.source_after.faults ≡ call.source.faults) × Stops call
 SaysOfAnswer NoMemory call = (IsUnwritten call.sinks ⊎ Stops call) × NothingFails call
 SaysOfAnswer ArchiveTooLong call = TakesTooMuch call.limit call.source call.source_after × IsUnwritten call.sinks × NothingFails call
-SaysOfAnswer NotYetRead call = (has_sort call.query ≡ true) × (call.source_after ≡ call.source) × IsUnwritten call.sinks
 SaysOfAnswer _ call = ⊥
 
--- an archive within the limit, a query without an item `sort`, and no count that rose
+-- an archive within the limit, and no count that rose
 pub record AnswersAll (call : Answering) : Type 0 where
   pub archive : List ℕ
   pub tells : call.source.left ≡ Some archive
   pub within : length archive ≤ call.limit
-  pub unsorted : has_sort call.query ≡ false
   pub no_read : Rose call.source.faults call.source_after.faults → ⊥
   pub no_write : SinkFailed call.sinks → ⊥
 
@@ -161,7 +174,6 @@ pub record AnswersAll (call : Answering) : Type 0 where
 pub record AnswerPromise (status : Status) (call : Answering) : Type 0 where
   pub says : SaysOfAnswer status call
   pub takes : TakesAtMost (call.limit + 1) call.source.left call.source_after.left
-  pub sort_always : has_sort call.query ≡ true → status ≡ NotYetRead
   pub too_long_always : Overruns call.limit call.source call.source_after → IsOneOf status (ArchiveTooLong ∷ NoMemory ∷ [])
   pub complete : AnswersAll call → IsOneOf status (Done ∷ DoneWithRefusals ∷ NoMemory ∷ [])
 

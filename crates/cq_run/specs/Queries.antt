@@ -1,10 +1,9 @@
 -- The query that a text is, or its fault.
-use Rattle.std.specs.Prelude.{◌≡◌, ◌⊎◌, ℕ, Bool, List, None, Some, Ok, Err}
+use Rattle.std.specs.Prelude.{◌≡◌, ◌⊎◌, ℕ, List, None, Some, Ok, Err}
 use Rattle.cql_syntax.specs.Trees.{QueryTree}
 use Rattle.cql_syntax.specs.TreeFaults.{tree_fault}
 use Rattle.cql_syntax.specs.declared.fault.QueryFault.{QueryFault}
 use Rattle.cql_syntax.specs.declared.token.QueryToken.{QueryToken}
-use Rattle.cq_hits.specs.Sorts.{have_sort}
 use Rattle.cql_lexer.specs.Tokens.{tokens_of}
 use Rattle.cql_parser.specs.Drafts.{Spells}
 use Rattle.cql_parser.specs.Faults.{IsFault}
@@ -34,7 +33,3 @@ pub record HasTreeFault (text : List ℕ) (fault : QueryFault) : Type 0 where
 -- that they spell.
 abbrev pub IsQueryFault : List ℕ → QueryFault → Type 0
 IsQueryFault text fault = (tokens_of text ≡ Err fault) ⊎ HasParseFault text fault ⊎ HasTreeFault text fault
-
--- a query with an item `sort`, which is not answered yet
-abbrev pub has_sort : QueryTree → Bool
-has_sort query = have_sort query.items

@@ -1,5 +1,5 @@
 -- What `run` promises: what it does for its words, what out and err have taken then, and when each answer comes.
-use Rattle.std.specs.Prelude.{◌≡◌, ◌⊎◌, ℕ, ◌+◌, ◌≤◌, ◌<◌, true, false, List, [], ◌∷◌, ◌++◌, length, take, Option, None, Some, codes}
+use Rattle.std.specs.Prelude.{◌≡◌, ◌⊎◌, ℕ, ◌+◌, ◌≤◌, ◌<◌, true, List, [], ◌∷◌, ◌++◌, length, take, Option, None, Some, codes}
 use Rattle.std.specs.Option.{option_map}
 use Rattle.std.specs.Io.KnownBytes.{Consumes, IsAtEnd}
 use Rattle.clap.specs.Takes.{takes}
@@ -16,7 +16,7 @@ use Rattle.cql_syntax.specs.declared.fault.QueryFault.{QueryFault}
 use Rattle.cq_report.specs.Queries.{query_line}
 use Rattle.cq_run.specs.declared.status.Status.{Status}
 use Rattle.cq_run.specs.declared.status.Status.TheVariants.{Done, DoneWithRefusals, QueryRefused, WordsRefused, OpenFault, ReadFault, WriteFault, NoMemory, NotYetRead}
-use Rattle.cq_run.specs.Queries.{IsQuery, IsQueryFault, has_sort}
+use Rattle.cq_run.specs.Queries.{IsQuery, IsQueryFault}
 use Rattle.cq_run.specs.Promise.{SourceView, DeskView, Sinks, Texts, Writes, WritesPrefix, IsUnwritten, NoWriteFailed, OneSinkFailed, SinkFailed, IsOneOf, AnswerPromise}
 
 -- what a call of `run` was lent, as it began and as it ended
@@ -121,15 +121,13 @@ AcceptsQuery _ sinks = ⊥
 
 -- ---- jobs
 
--- A query that is accepted is answered over the archive in a file, of which so many bytes are the limit. One with an item `sort` is
--- not answered yet, and no file is opened for it.
+-- A query that is accepted is answered over the archive in a file, of which so many bytes are the limit.
 pub data AnswersFile (archive : List ℕ) (limit : ℕ) (query : QueryTree) (status : Status) (call : Call) : Type 0 where
-  archive_answered : (file : SourceView) → has_sort query ≡ false → Opened archive call.desk call.desk_after file
+  archive_answered : (file : SourceView) → Opened archive call.desk call.desk_after file
       → AnswerPromise status (record { query = query; limit = limit; source = file; source_after = call.desk_after.file; sinks = call.sinks })
       → AnswersFile archive limit query status call
   archive_unopened : status ≡ OpenFault → FailsToOpen call.desk call.desk_after → IsUnwritten call.sinks → AnswersFile archive limit query status call
   archive_forgotten : status ≡ NoMemory → IsUnmoved call → AnswersFile archive limit query status call
-  archive_not_yet : status ≡ NotYetRead → has_sort query ≡ true → IsUnmoved call → AnswersFile archive limit query status call
 
 -- A query that a word is: it is refused for its fault, or accepted, and then this is done.
 pub data OverText (text : List ℕ) (Accepted : QueryTree → Status → Call → Type 0) (status : Status) (call : Call) : Type 0 where
@@ -239,4 +237,4 @@ pub record Promise (words : List (List ℕ)) (status : Status) (call : Call) : T
   pub query_always_refused : (job : Job) (text : List ℕ) (fault : QueryFault) → Asks words (Some job) → HasText call job text
       → IsQueryFault text fault → IsOneOf status (QueryRefused ∷ WriteFault ∷ NoMemory ∷ [])
   pub complete : (job : Job) (text : List ℕ) (query : QueryTree) → Asks words (Some job) → HasText call job text → IsQuery text query
-      → has_sort query ≡ false → IsWithin call job → NothingRose call → IsOneOf status (good_answers job)
+      → IsWithin call job → NothingRose call → IsOneOf status (good_answers job)

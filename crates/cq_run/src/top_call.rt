@@ -7,7 +7,7 @@ ghost use Rattle.cq_run.specs.Asked.{call_of};
 ghost use Rattle.cq_run.specs.Promise.{SinkView, desk_view, sink_view, sinks_of};
 ghost use Rattle.cq_run.specs.Run.{Promise, AnswersFile, OverText, OverFile, SaysAccepted, DoesJob, WritesUsage};
 
-use crate::answering::{answer, has_sort};
+use crate::answering::answer;
 use crate::asked::{accept, query_in_file, read_query, refuse, tell_why};
 use crate::status::Status;
 use cq_outside::{Desk, Gate, OpenFault, Refusal, Sink, write_all_of};
@@ -24,7 +24,7 @@ const USAGE: &[u8] =
 /// Answers the words of a command, those after the program's name.
 ///
 /// - `run QUERY [ARCHIVE]` answers the query in the file QUERY over the archive in the file ARCHIVE: `out` takes the exports of
-///   the games that match, in archive order, each as its game is answered, and `err` the report. Where the word is missing the
+///   the games that match, by the query's sort items and then in archive order, and `err` the report. Where the word is missing the
 ///   archive is standard input, the desk's file `-`.
 /// - `eval TEXT [ARCHIVE]` does the same of the query that the word TEXT is.
 /// - `check QUERY` writes `ok` to `out` where the query in the file QUERY is accepted.
@@ -40,8 +40,7 @@ const USAGE: &[u8] =
 /// - `WriteFault`: the count of one sink rose, and no other. Each sink has taken a prefix of its text.
 /// - `NoMemory`: no memory was found, and no count rose; each sink has taken a prefix of its text.
 /// - `ArchiveTooLong`: more bytes of the archive than the limit were taken; nothing is written.
-/// - `NotYetRead`: an item of the query of `run` or `eval` is a `sort`, or the words ask `explain` or `selfrun`; nothing is written,
-///   and no archive is opened.
+/// - `NotYetRead`: the words ask `explain` or `selfrun`; no file is opened, and nothing is written.
 ///
 /// In all the others no count rose. The clause `Promise` says each of these exactly, and when an answer always comes; the
 /// table of statuses in README says what the program's user sees of it.
@@ -197,9 +196,6 @@ fn answer_file<R: Threads + Sync, D: Desk, O: Sink, E: Sink, G: Gate + Sync>(
         (sinks_of (sink_view O.taken O.faults out.old) (sink_view O.taken O.faults out.new)
         (sink_view E.taken E.faults err.old) (sink_view E.taken E.faults err.new))) }
 {
-    if has_sort(&query.query.items) {
-        return Status::NotYetRead;
-    }
     match desk.open(alloc, archive) {
         Ok(()) => answer(rt, alloc, query, settings, desk, out, err, gate),
         Err(OpenFault::Failed) => Status::OpenFault,

@@ -41,19 +41,12 @@ one_more tree nodes fs i f inside at =
     ∙ ap values_in (keys_push tree nodes (take i fs) f)
     ∙ values_on (all_keys tree nodes (filter_trees (take i fs))) (item_keys tree nodes (filter_tree f))
 
-pub one_found : (tree : SearchedTree) (nodes : List ℕ) (fs : List Filter) (i : ℕ) (f : Filter) (found : Option ℤ) (key : ℤ) (before after : List ℤ) → i < length fs
-    → f ≡ get_or fs i f → option_to_list found ≡ values_in (item_keys tree nodes (filter_tree f)) → found ≡ Some key
-    → before ≡ values_in (all_keys tree nodes (filter_trees (take i fs))) → after ≡ before ++ key ∷ []
+pub key_found : (tree : SearchedTree) (nodes : List ℕ) (fs : List Filter) (i : ℕ) (f : Filter) (found : Option ℤ) (before after : List ℤ) → i < length fs
+    → f ≡ get_or fs i f → option_to_list found ≡ values_in (item_keys tree nodes (filter_tree f))
+    → before ≡ values_in (all_keys tree nodes (filter_trees (take i fs))) → after ≡ before ++ option_to_list found
     → after ≡ values_in (all_keys tree nodes (filter_trees (take (i + 1) fs)))
-one_found tree nodes fs i f found key before after inside at is some so_far grown =
-    grown ∙ ap₂ (λ xs ys. xs ++ ys) so_far (ap option_to_list (sym some) ∙ is) ∙ sym (one_more tree nodes fs i f inside at)
-
-pub none_found : (tree : SearchedTree) (nodes : List ℕ) (fs : List Filter) (i : ℕ) (f : Filter) (found : Option ℤ) (before after : List ℤ) → i < length fs
-    → f ≡ get_or fs i f → option_to_list found ≡ values_in (item_keys tree nodes (filter_tree f)) → found ≡ None
-    → before ≡ values_in (all_keys tree nodes (filter_trees (take i fs))) → after ≡ before
-    → after ≡ values_in (all_keys tree nodes (filter_trees (take (i + 1) fs)))
-none_found tree nodes fs i f found before after inside at is none so_far kept =
-    kept ∙ sym (append-nil before) ∙ ap₂ (λ xs ys. xs ++ ys) so_far (ap option_to_list (sym none) ∙ is) ∙ sym (one_more tree nodes fs i f inside at)
+key_found tree nodes fs i f found before after inside at is so_far grown =
+    grown ∙ ap₂ (λ xs ys. xs ++ ys) so_far is ∙ sym (one_more tree nodes fs i f inside at)
 
 -- ---- the loop over the nodes
 
@@ -75,18 +68,18 @@ first_of least v [] d some = absurd (omega (arith, some))
 first_of least v (n ∷ ns) d some = refl
 
 -- the value at one node more
-pub more_chosen : (least : Bool) (v : ℕ → Value) (ns : List ℕ) (i n : ℕ) (before after value : Option ℤ) (b : Bool) → i < length ns → n ≡ get_or ns i n → value ≡ amount (v n)
+pub more_chosen : (least : Bool) (v : ℕ → Value) (ns : List ℕ) (i d : ℕ) (before after value : Option ℤ) (b : Bool) → i < length ns → value ≡ amount (v (get_or ns i d))
     → before ≡ key_of least (map v (take i ns)) → (i == 0) ≡ b → after ≡ (if b then value else both_of least before value)
     → after ≡ key_of least (map v (take (i + 1) ns))
-more_chosen least v ns i n before after value true inside at is so_far first grown =
+more_chosen least v ns i d before after value true inside is so_far first grown =
     let zero : i ≡ 0 = eqb-true i 0 first in
-    grown ∙ is ∙ ap (λ m. amount (v m)) at ∙ ap (λ k. amount (v (get_or ns k n))) zero ∙ first_of least v ns n (omega (arith, inside))
+    grown ∙ is ∙ ap (λ k. amount (v (get_or ns k d))) zero ∙ first_of least v ns d (omega (arith, inside))
     ∙ ap (λ k. key_of least (map v (take (k + 1) ns))) (sym zero)
-more_chosen least v ns i n before after value false inside at is so_far first grown =
+more_chosen least v ns i d before after value false inside is so_far first grown =
     let some : 0 < i = omega (arith, eqb-false i 0 first) in
-    grown ∙ ap₂ (both_of least) so_far (is ∙ ap (λ m. amount (v m)) at)
-    ∙ sym (chosen_on least (map v (take i ns)) (v (get_or ns i n)) (subst (λ k. 0 < k) (sym (length-map (take i ns) v)) (taken_count ns i some inside)))
-    ∙ ap (key_of least) (sym (map-append v (take i ns) (get_or ns i n ∷ [])) ∙ ap (map v) (sym (take_more ns i n inside)))
+    grown ∙ ap₂ (both_of least) so_far is
+    ∙ sym (chosen_on least (map v (take i ns)) (v (get_or ns i d)) (subst (λ k. 0 < k) (sym (length-map (take i ns) v)) (taken_count ns i some inside)))
+    ∙ ap (key_of least) (sym (map-append v (take i ns) (get_or ns i d ∷ [])) ∙ ap (map v) (sym (take_more ns i d inside)))
 
 -- ---- each sort item has a value at each hit
 
@@ -136,8 +129,11 @@ items_kept : (tree : SearchedTree) (items : FilterTrees) (ns : List ℕ) → 0 <
 unfolding values
 items_kept tree no_filters ns some all = refl
 items_kept tree (more_filters (filter_at at f) fs) ns some all =
-    let here = form_kept tree at f ns some (All-to _ (λ n. holds (value tree [] [] (filter_at at f) n) ≡ true) ns (λ n e. (both_true _ _ e).0) all) in
-    let rest = items_kept tree fs ns some (All-to _ (λ n. is_hit tree fs n ≡ true) ns (λ n e. (both_true _ _ e).1) all) in
+    let hit_all : ℕ → Type 0 = λ n. is_hit tree (more_filters (filter_at at f) fs) n ≡ true in
+    let here = form_kept tree at f ns some (All-to hit_all (λ n. holds (value tree [] [] (filter_at at f) n) ≡ true) ns
+    (λ n e. (both_true (holds (value tree [] [] (filter_at at f) n)) (list_all holds (values tree [] [] fs n)) e).0) all) in
+    let rest = items_kept tree fs ns some (All-to hit_all (λ n. is_hit tree fs n ≡ true) ns
+    (λ n e. (both_true (holds (value tree [] [] (filter_at at f) n)) (list_all holds (values tree [] [] fs n)) e).1) all) in
     ap (map Some) (values_on (form_keys tree ns f) (all_keys tree ns fs)) ∙ map_on (values_in (form_keys tree ns f)) (values_in (all_keys tree ns fs))
     ∙ ap₂ (λ xs ys. xs ++ ys) here rest
 
