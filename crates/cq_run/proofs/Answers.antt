@@ -29,7 +29,7 @@ use Rattle.cq_run.specs.Outcomes.{Outcome, AreRead, HasGames}
 use Rattle.cql_syntax.specs.Hits.{marked, keys}
 use Rattle.cql_syntax.specs.Trees.{QueryTree}
 use Rattle.cq_run.specs.Answer.{has_match, tally_of, report_of, export_if, fault_if, fault_lines, is_match, is_refused, summary_of}
-use Rattle.cq_run.specs.Exports.{AreExports, exports_of, matches_from}
+use Rattle.cq_run.specs.Exports.{AreExports, exports_of, match_if, matches_from}
 use Rattle.cq_run.specs.Promise.{SinkView, Sinks, Writes, WritesPrefix, WritesWhole, WritesPart, TakesPart, IsUnwritten, NoWriteFailed, OneSinkFailed, sinks_of}
 use Rattle.cq_run.specs.Writing.{WritesText, WritesKept, InOrder, AnswersGame, AnswersArchive, WritesSummary, Stand, stand_of, onward, tallied, written, kept_if, texts_of_game}
 use Rattle.cq_run.proofs.Exports.{matches_more, written_none, first_none, only_values, unsorted_exports, sorted_exports, none_ordered}
@@ -184,9 +184,12 @@ unfolding matches_from
 kept_none true query n = refl
 kept_none false query n = refl
 
-kept_on : (sorted : Bool) (query : QueryTree) (n : ℕ) (rs : List Outcome) (r : Outcome) → kept_from sorted query n rs ++ kept_if sorted query (n + length rs) r ≡ kept_from sorted query n (rs ++ r ∷ [])
-kept_on false query n rs r = refl
-kept_on true query n rs r = matches_more query n rs r
+kept_on : (sorted : Bool) (query : QueryTree) (rs : List Outcome) (r : Outcome)
+    → kept_from sorted query 0 rs ++ kept_if sorted query (length rs) r ≡ kept_from sorted query 0 (rs ++ r ∷ [])
+kept_on false query rs r = refl
+kept_on true query rs r =
+    let e : length rs ≡ 0 + length rs = omega arith in
+    ap (λ k. matches_from query 0 rs ++ match_if query k r) e ∙ matches_more query 0 rs r
 
 -- the first games of an archive are answered: counted, and written
 pub record FoundSoFar (sorted : Bool) (query : QueryTree) (archive : List ℕ) (spans : List Span) (count : ℕ) (sinks : Sinks) (stand : Stand) : Type 0 where
@@ -245,7 +248,7 @@ found_more sorted query archive spans i s out out' out'' err err' err'' stand ne
       are_read = subst (λ ss. AreRead archive ss (rs ++ r ∷ [])) (ap (λ x. take i spans ++ x ∷ []) is ∙ sym (take_more spans i s inside))
           (are_read_on archive (take i spans) (s ∷ []) rs (r ∷ []) so_far.are_read (read, tt));
       counted = length-append rs (r ∷ []) ∙ ap (λ n. n + 1) so_far.counted;
-      is = counts ∙ ap (λ t. onward sorted query t r) so_far.is ∙ same_stand _ _ _ _ (sym (tallied_more query rs r)) (kept_on sorted query 0 rs r);
+      is = counts ∙ ap (λ t. onward sorted query t r) so_far.is ∙ same_stand _ _ _ _ (sym (tallied_more query rs r)) (kept_on sorted query rs r);
       out = subst (Grew out.taken out''.taken) (exports_more sorted query rs r) (grew_on out.taken out'.taken out''.taken _ _ so_far.out writes.out);
       err = subst (Grew err.taken err''.taken) (lines_more rs r stand.tally.games (sym games)) (grew_on err.taken err'.taken err''.taken _ _ so_far.err writes.err);
       unfailed = none_after out out' out'' err err' err'' so_far.unfailed unfailed;
@@ -374,7 +377,7 @@ exports_whole true query outcomes answers ordered sorts are order =
 exports_whole false query outcomes answers ordered sorts are order =
     let none : ordered ≡ [] = none_ordered query ordered (subst (λ ks. InOrder query ks ordered) are order) in
     subst (AreExports query outcomes)
-    (sym (append-nil (flat_map (export_if query) outcomes)) ∙ ap (λ as. flat_map (export_if query) outcomes ++ exports_of as) (sym none))
+    (sym (append-nil (flat_map (export_if query) outcomes)) ∙ ap (λ answers. flat_map (export_if query) outcomes ++ exports_of answers) (sym none))
     (unsorted_exports query outcomes sorts)
 
 -- no memory to put the games in order, or a write of them that failed

@@ -78,8 +78,8 @@ if_of_game query n (Err fault) = All-nil (IsOfGame query n)
 later_too : (query : QueryTree) (n : ℕ) (a : GameAnswer) → IsOfGame query (n + 1) a → IsOfGame query n a
 later_too query n a is = record { later = let l = is.later in omega (arith, l); found = is.found; keyed = is.keyed }
 
-all_later : (query : QueryTree) (n : ℕ) (as : List GameAnswer) → All (IsOfGame query (n + 1)) as → All (IsOfGame query n) as
-all_later query n as all = λ i d below. later_too query n _ (all i d below)
+all_later : (query : QueryTree) (n : ℕ) (xs : List GameAnswer) → All (IsOfGame query (n + 1)) xs → All (IsOfGame query n) xs
+all_later query n xs all = λ i d below. later_too query n (get_or xs i d) (all i d below)
 
 all_of_games : (query : QueryTree) (n : ℕ) (rs : List Outcome) → All (IsOfGame query n) (matches_from query n rs)
 unfolding matches_from
@@ -95,7 +95,8 @@ before_if : (query : QueryTree) (n : ℕ) (game : Game) (b : Bool) (more : List 
     → AllPairs IsEarlier (cond b ((record { index = n; what = Match (export_text (marked query game)) (values_in (keys query game)) }) ∷ []) [] ++ more)
 before_if query n game false more all pairs = pairs
 before_if query n game true more all pairs =
-    AllPairs-cons IsEarlier _ more (λ i d below. earlier_than query n _ _ refl (all i d below)) pairs
+    let here : GameAnswer = record { index = n; what = Match (export_text (marked query game)) (values_in (keys query game)) } in
+    AllPairs-cons IsEarlier here more (λ i d below. earlier_than query n here (get_or more i d) refl (all i d below)) pairs
 
 one_before : (query : QueryTree) (n : ℕ) (r : Outcome) (more : List GameAnswer) → All (IsOfGame query (n + 1)) more → AllPairs IsEarlier more → AllPairs IsEarlier (match_if query n r ++ more)
 one_before query n (Err fault) more all pairs = pairs
@@ -163,27 +164,27 @@ unsorted_exports query outcomes none = record {
 
 -- ---- with one
 
-all_matches : (query : QueryTree) (as : List GameAnswer) → All (IsOfGame query 0) as → filter is_match_kept as ≡ as
+all_matches : (query : QueryTree) (xs : List GameAnswer) → All (IsOfGame query 0) xs → filter is_match_kept xs ≡ xs
 all_matches query [] all = refl
-all_matches query (a ∷ as) all =
-    let is = All-head (IsOfGame query 0) a as all in
-    ap (λ b. cond b (a ∷ filter is_match_kept as) (filter is_match_kept as)) is.found ∙ ap (λ l. a ∷ l) (all_matches query as (All-tail (IsOfGame query 0) a as all))
+all_matches query (a ∷ xs) all =
+    let is = All-head (IsOfGame query 0) a xs all in
+    ap (λ b. cond b (a ∷ filter is_match_kept xs) (filter is_match_kept xs)) is.found ∙ ap (λ l. a ∷ l) (all_matches query xs (All-tail (IsOfGame query 0) a xs all))
 
-apart : (as : List GameAnswer) → AllPairs IsEarlier as → AreApart as
-apart as pairs = λ i j d before below same. let less = pairs i j d before below in omega (arith, less, same)
+apart : (xs : List GameAnswer) → AllPairs IsEarlier xs → AreApart xs
+apart xs pairs = λ i j d before below same. let less = pairs i j d before below in omega (arith, less, same)
 
 pub sorted_exports : (query : QueryTree) (outcomes : List Outcome) (ordered : List GameAnswer) → InOrder query (matches_from query 0 outcomes) ordered → AreExports query outcomes (exports_of ordered)
 sorted_exports query outcomes ordered order = record {
   sorted = ordered;
-  same = subst (λ as. IsPermutation as ordered) (all_matches query (matches_from query 0 outcomes) (all_of_games query 0 outcomes)) order.same;
+  same = subst (λ xs. IsPermutation xs ordered) (all_matches query (matches_from query 0 outcomes) (all_of_games query 0 outcomes)) order.same;
   order = order.order (apart (matches_from query 0 outcomes) (in_archive_order query 0 outcomes))
       (λ i d below found. (all_of_games query 0 outcomes i d below).keyed);
   is = refl;
 }
 
-none_long : (as : List GameAnswer) → length as ≡ 0 → as ≡ []
+none_long : (xs : List GameAnswer) → length xs ≡ 0 → xs ≡ []
 none_long [] e = refl
-none_long (a ∷ as) e = cc
+none_long (a ∷ xs) e = cc
 
 pub none_ordered : (query : QueryTree) (ordered : List GameAnswer) → InOrder query [] ordered → ordered ≡ []
 none_ordered query ordered order = none_long ordered (length_permutation [] ordered order.same)

@@ -6,12 +6,6 @@ use Rattle.cq_run.specs.Run.{no_memory_to_open, no_memory_to_read}
 use Rattle.cq_run.proofs.Doing.{opened_of, unopened_of, unmoved_of}
 use Rattle.cq_run.proofs.asked.query_in_file.Goals as goal
 
-pub returns-in-Err-Failed : goal.returns-in-Err-Failed
-returns-in-Err-Failed g c = ?
-
-pub returns-in-Err-NoMemory : goal.returns-in-Err-NoMemory
-returns-in-Err-NoMemory g c = ?
-
 pub returns-in-Err-Fault : goal.returns-in-Err-Fault
 returns-in-Err-Fault g c =
     let view = desk_view g.D.Desk.told g.D.Source.left g.D.Source.faults g.D.Desk.open_faults in

@@ -14,8 +14,3 @@ returns-in-Ok g c =
     (g.met.D.Desk.keeps_open_faults c.open.new.self c.answer.new.source c.answer.ensures.next))
     c.answer.ensures.answers
 
-pub returns-in-Err-Failed : goal.returns-in-Err-Failed
-returns-in-Err-Failed g c = ?
-
-pub returns : goal.returns
-returns g c = ?
