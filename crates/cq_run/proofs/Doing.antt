@@ -132,8 +132,7 @@ answer_faults name limit q file ReadFault call opened says = at_read call opened
 answer_faults name limit q file WriteFault call opened says = at_write call (opened_counts name call.desk call.desk_after file opened says.1)
 answer_faults name limit q file NoMemory call opened says = at_none NoMemory call (opened_counts name call.desk call.desk_after file opened says.1.source) says.1.sinks
 answer_faults name limit q file ArchiveTooLong call opened says = at_none ArchiveTooLong call (opened_counts name call.desk call.desk_after file opened says.2.source) says.2.sinks
-answer_faults name limit q file NotYetRead call opened says =
-    at_none NotYetRead call (opened_counts name call.desk call.desk_after file opened (ap (λ (s : SourceView). s.faults) says.1)) (wrote_none call.sinks says.2)
+answer_faults name limit q file NotYetRead call opened says = absurd says
 answer_faults name limit q file QueryRefused call opened says = absurd says
 answer_faults name limit q file WordsRefused call opened says = absurd says
 answer_faults name limit q file OpenFault call opened says = absurd says
@@ -381,18 +380,35 @@ acceptance_is_one NotYetRead call none does = absurd does
 
 job_complete : SpellOne → SpellNone → (job : Job) (text : List ℕ) (query : QueryTree) (status : Status) (call : Call) → HasText call job text → IsQuery text query
     → IsWithin call job → NothingRose call → DoesJob job status call → IsOneOf status (good_answers job)
-job_complete one no (Run name archive workers limit) text query status call has is short none does =
-    file_complete one no name text query (AnswersFile archive limit) (Done ∷ DoneWithRefusals ∷ NoMemory ∷ []) status call has is (inr (inr (inl refl)))
+job_complete one never (Run name archive workers limit) text query status call has is short none does =
+    file_complete one never name text query (AnswersFile archive limit) (Done ∷ DoneWithRefusals ∷ NoMemory ∷ []) status call has is (inr (inr (inl refl)))
     (λ mid found takes a. archive_complete archive limit query status (from_desk mid call) (short_later name archive limit mid found call takes short) (none_later name mid found call takes none) a)
     does
-job_complete one no (Eval word archive workers limit) text query status call has is short none does =
-    text_complete one no text query (AnswersFile archive limit) (Done ∷ DoneWithRefusals ∷ NoMemory ∷ []) status call is (inr (inr (inl refl)))
+job_complete one never (Eval word archive workers limit) text query status call has is short none does =
+    text_complete one never text query (AnswersFile archive limit) (Done ∷ DoneWithRefusals ∷ NoMemory ∷ []) status call is (inr (inr (inl refl)))
     (λ a. archive_complete archive limit query status call short none a) (subst (λ t. OverText t (AnswersFile archive limit) status call) has does)
-job_complete one no (Check name) text query status call has is short none does =
-    file_complete one no name text query SaysAccepted (Done ∷ NoMemory ∷ []) status call has is (inr (inl refl))
+job_complete one never (Check name) text query status call has is short none does =
+    file_complete one never name text query SaysAccepted (Done ∷ NoMemory ∷ []) status call has is (inr (inl refl))
     (λ mid found takes a. acceptance_is_one status call none a.0) does
-job_complete one no (Explain name) text query status call has is short none does = absurd has
-job_complete one no (SelfRun word seed games workers) text query status call has is short none does = absurd has
+job_complete one never (Explain name) text query status call has is short none does = absurd has
+job_complete one never (SelfRun word seed games workers) text query status call has is short none does = absurd has
+
+-- a job that was done
+
+pub run_done : (job : Job) (query archive name file : List ℕ) (workers limit : ℕ) (status : Status) (call : Call) → job ≡ Run query archive workers limit → name ≡ query → file ≡ archive
+    → OverFile name (AnswersFile file limit) status call → DoesJob job status call
+run_done job query archive name file workers limit status call is names files does =
+    subst (λ j. DoesJob j status call) (sym is) (subst (λ n. OverFile n (AnswersFile archive limit) status call) names
+    (subst (λ f. OverFile name (AnswersFile f limit) status call) files does))
+
+pub eval_done : (job : Job) (word archive text file : List ℕ) (workers limit : ℕ) (status : Status) (call : Call) → job ≡ Eval word archive workers limit → text ≡ word → file ≡ archive
+    → OverText text (AnswersFile file limit) status call → DoesJob job status call
+eval_done job word archive text file workers limit status call is texts files does =
+    subst (λ j. DoesJob j status call) (sym is) (subst (λ t. OverText t (AnswersFile archive limit) status call) texts
+    (subst (λ f. OverText text (AnswersFile f limit) status call) files does))
+
+pub check_done : (job : Job) (query name : List ℕ) (status : Status) (call : Call) → job ≡ Check query → name ≡ query → OverFile name SaysAccepted status call → DoesJob job status call
+check_done job query name status call is names does = subst (λ j. DoesJob j status call) (sym is) (subst (λ n. OverFile n SaysAccepted status call) names does)
 
 -- the words
 
@@ -406,17 +422,17 @@ same_job a b e = cc
 
 pub job_promised : SpellOne → SpellNone → (words : List (List ℕ)) (status : Status) (call : Call) (job : Job) → Answers (asked words) (Ok job)
     → (takes line words ≡ true → Answers (job_in (matches_of line words)) (Ok job)) → DoesJob job status call → Promise words status call
-job_promised one no words status call job value taken does = record {
+job_promised one never words status call job value taken does = record {
   does = job_done job value does;
   faults = job_faults job status call does;
   words_never_refused = λ other asks e. job_not_words job status call does e;
   words_always_refused = λ asks. absurd (let e = asks_answered words (Ok job) value taken None asks in cc);
   query_always_refused = λ other text fault asks has faulty.
       let same : job ≡ other = same_job other job (asks_answered words (Ok job) value taken (Some other) asks) in
-      job_refused_always one no other text fault status call has faulty (subst (λ j. DoesJob j status call) same does);
+      job_refused_always one never other text fault status call has faulty (subst (λ j. DoesJob j status call) same does);
   complete = λ other text query asks has is short none.
       let same : job ≡ other = same_job other job (asks_answered words (Ok job) value taken (Some other) asks) in
-      job_complete one no other text query status call has is short none (subst (λ j. DoesJob j status call) same does);
+      job_complete one never other text query status call has is short none (subst (λ j. DoesJob j status call) same does);
 }
 
 usage_is_one : (status : Status) (sinks : Sinks) → WritesUsage status sinks → IsOneOf status (WordsRefused ∷ WriteFault ∷ NoMemory ∷ [])

@@ -258,7 +258,8 @@ fn other_words_and_other_queries_are_turned_away(rt: HostRuntime) -> Result<(), 
     let alloc = rt.alloc();
     let none = b"".as_slice();
     for (mode, query, status, text) in [
-        ("eval", "cql() sort \"p\" power A", Status::NotYetRead, ""),
+        ("explain", "q.cql", Status::NotYetRead, ""),
+        ("selfrun", "cql() mate", Status::NotYetRead, ""),
         (
             "eval",
             "cql() echo",
@@ -282,20 +283,8 @@ fn other_words_and_other_queries_are_turned_away(rt: HostRuntime) -> Result<(), 
 fn a_query_is_answered_over_a_source(rt: HostRuntime) -> Result<(), Fail> {
     let alloc = rt.alloc();
     let text = written(alloc, ("", "*", "1. e4 {CQL} 1... e5 *"))?;
-    for (query, status, out_text, err_text) in [
-        (
-            "cql() Pe4 pe7",
-            Status::Done,
-            text.as_slice(),
-            "games 1 matched 1 refused 0\n",
-        ),
-        (
-            "cql() sort \"p\" power A",
-            Status::NotYetRead,
-            b"".as_slice(),
-            "",
-        ),
-    ] {
+    let report = "games 1 matched 1 refused 0\n";
+    for query in ["cql() Pe4 pe7", "cql() Pe4 pe7 sort \"p\" power A"] {
         let query = read_query(alloc, query.as_bytes())?;
         let mut source = SureSource::new(Bytes::from_slice(alloc, b"1. e4 e5 *")?);
         let mut out = SureSink::new(alloc, 4096)?;
@@ -313,9 +302,9 @@ fn a_query_is_answered_over_a_source(rt: HostRuntime) -> Result<(), Fail> {
             &mut err,
             &OpenGate,
         );
-        assert_eq!(rt; answered, status);
-        assert_eq!(rt; out.taken(), Some(out_text));
-        assert_eq!(rt; err.taken(), Some(err_text.as_bytes()));
+        assert_eq!(rt; answered, Status::Done);
+        assert_eq!(rt; out.taken(), Some(text.as_slice()));
+        assert_eq!(rt; err.taken(), Some(report.as_bytes()));
     }
     Ok(())
 }
@@ -386,6 +375,45 @@ fn a_query_file_is_answered_over_an_archive_file(rt: HostRuntime) -> Result<(), 
         assert_eq!(rt; answered, status);
         assert_eq!(rt; out.taken(), Some(out_text));
         assert_eq!(rt; err.taken(), Some(err_text.as_bytes()));
+    }
+    Ok(())
+}
+
+/// The place of one man, as a FEN, and three of them: a pawn, a rook and a pawn.
+const SORTED: [&str; 3] = [
+    "4k3/8/8/8/8/8/P7/4K3 w - - 0 1",
+    "4k3/8/8/8/8/8/8/R3K3 w - - 0 1",
+    "4k3/8/8/8/8/7P/8/4K3 w - - 0 1",
+];
+
+/// Queries with sort items, and the order of the three games.
+const ORDERS: [(&str, [usize; 3]); 4] = [
+    ("cql() sort \"p\" power A", [1, 0, 2]),
+    ("cql() sort min \"p\" power A", [0, 2, 1]),
+    ("cql() sort \"p\" power A sort \"h\" #Ph3", [1, 2, 0]),
+    (
+        "cql() sort \"a\" 1 sort min \"b\" power A sort \"c\" ply sort \"d\" #Ph3",
+        [2, 0, 1],
+    ),
+];
+
+#[test]
+fn games_come_by_the_sort_items(rt: HostRuntime) -> Result<(), Fail> {
+    let alloc = rt.alloc();
+    let mut archive = String::new(alloc);
+    for fen in SORTED {
+        archive.push_str("[FEN \"")?;
+        archive.push_str(fen)?;
+        archive.push_str("\"]\n*\n")?;
+    }
+    let report = "games 3 matched 3 refused 0\n";
+    for (query, order) in ORDERS {
+        let mut text = Bytes::new(alloc);
+        for game in order {
+            text.push_all(written(alloc, (SORTED[game], "*", "{CQL} *"))?.as_slice())?;
+        }
+        let want = (Status::Done, text.as_slice(), report);
+        expect(&rt, alloc, &["eval", query], ("-", archive.as_str()), want)?;
     }
     Ok(())
 }

@@ -170,11 +170,12 @@ fn answer_text<R: Threads + Sync, D: Desk, O: Sink, E: Sink, G: Gate + Sync>(
         (sinks_of (sink_view O.taken O.faults out.old) (sink_view O.taken O.faults out.new)
         (sink_view E.taken E.faults err.old) (sink_view E.taken E.faults err.new))) }
 {
-    match read_query(alloc, text) {
-        Ok(query) => answer_file(rt, alloc, &query, archive, settings, desk, out, err, gate),
-        Err(Refusal::Fault(fault)) => refuse(alloc, &fault, err),
-        Err(Refusal::NoMemory) => Status::NoMemory,
-    }
+    let query = match read_query(alloc, text) {
+        Ok(query) => query,
+        Err(Refusal::Fault(fault)) => return refuse(alloc, &fault, err),
+        Err(Refusal::NoMemory) => return Status::NoMemory,
+    };
+    answer_file(rt, alloc, &query, archive, settings, desk, out, err, gate)
 }
 
 /// Answers a query that is accepted over the archive in a file.

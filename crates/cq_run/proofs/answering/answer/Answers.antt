@@ -17,8 +17,8 @@ returns-in-Err-NoMemory-clause-answers g c =
     let taken = rw is at c.read_up_to.ensures.taken in
     unremembered (query_tree c.args.query.now.query) c.args.settings.limit _ _ _ taken cause (record { out = refl; err = refl })
 
-pub returns-then-len-gt-limit-clause-answers : goal.returns-then-len-gt-limit-clause-answers
-returns-then-len-gt-limit-clause-answers g c =
+pub returns-then-len-limit-clause-answers : goal.returns-then-len-limit-clause-answers
+returns-then-len-limit-clause-answers g c =
     let long : c.args.settings.limit < length c.in-Ok.archive = search rules in
     too_long (query_tree c.args.query.now.query) c.args.settings.limit _ _ _ c.in-Ok.archive c.in-Ok.ensures.bytes c.in-Ok.ensures.most long c.in-Ok.ensures.cause
     (record { out = refl; err = refl })

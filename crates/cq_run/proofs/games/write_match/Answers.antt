@@ -47,7 +47,7 @@ returns g c = λ err.
     let after : Tally = record { games = c.args.tally.now.games + 1; matched = c.args.tally.now.matched + 1; refused = c.args.tally.now.refused } in
     subst (λ b. AnswersGame b query (λ outcome. outcome ≡ Ok c.args.game) (stand_of c.args.tally.now c.args.kept.now.items) (stand_of after c.keep.new.kept.items)
     (sinks_of (out c.args.out.now) (out c.args.out.now) err err) (Ok tt)) (sym sorts)
-    (kept_back query c.args.game c.args.tally.now after c.args.kept.now.items c.keep.new.kept.items (out c.args.out.now) err c.in_ok-text.text c.as_slice.result.now (c.args.tally.now.games + 1 - 1)
+    (kept_back query c.args.game c.args.tally.now after c.args.kept.now.items c.keep.new.kept.items (out c.args.out.now) err c.in_ok-text.text c.as_slice-2.result.now (c.args.tally.now.games + 1 - 1)
     (ap (λ ns. not (length ns == 0)) (sym (c.as_slice-nodes.ensures.value ∙ c.in_ok-found.ensures.value)) ∙ ap not (sym c.is_empty.ensures ∙ c.if-is_empty.false)) refl
     (c.in_ok-text.ensures ∙ ap export_text (marked_by_hits query c.args.game c.as_slice-nodes.result.now (c.as_slice-nodes.ensures.value ∙ c.in_ok-found.ensures.value)))
-    (ap (map Some) c.as_slice.ensures.value ∙ c.in_ok-keys.ensures) (omega arith) c.in_ok-keep.ensures)
+    (ap (map Some) c.as_slice-2.ensures.value ∙ c.in_ok-keys.ensures) (omega arith) c.in_ok-keep.ensures)

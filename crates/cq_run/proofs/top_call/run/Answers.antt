@@ -3,9 +3,6 @@ use Rattle.cq_run.specs.Promise.{sink_view, desk_view}
 use Rattle.cq_run.proofs.Doing.{job_promised, refusal_promised, forgetting_promised}
 use Rattle.cq_run.proofs.top_call.run.Goals as goal
 
-pub do_job-requires : goal.do_job-requires
-do_job-requires g c = c.in-Ok.ensures.ranges
-
 pub returns-in-Ok : goal.returns-in-Ok
 returns-in-Ok g c =
     job_promised c.tokens_spell_at_most_one_query.ensures c.faulty_tokens_spell_no_query.ensures _ c.do_job.result _ c.in-Ok.job c.in-Ok.ensures.value c.in-Ok.ensures.taken c.do_job.ensures
@@ -18,5 +15,5 @@ returns-in-Err-Fault g c =
     refusal_promised _ c.refuse_words.result (desk_view g.D.Desk.told g.D.Source.left g.D.Source.faults g.D.Desk.open_faults c.args.desk.now) _ _ value taken
     (c.refuse_words.ensures (sink_view g.O.Sink.taken g.O.Sink.faults c.args.out.now))
 
-pub returns : goal.returns
-returns g c = forgetting_promised _ (desk_view g.D.Desk.told g.D.Source.left g.D.Source.faults g.D.Desk.open_faults c.args.desk.now) _ (record { out = refl; err = refl })
+pub returns-in-Err-NoMemory : goal.returns-in-Err-NoMemory
+returns-in-Err-NoMemory g c = forgetting_promised _ (desk_view g.D.Desk.told g.D.Source.left g.D.Source.faults g.D.Desk.open_faults c.args.desk.now) _ (record { out = refl; err = refl })
