@@ -6,9 +6,8 @@ use Rattle.cq_outside.specs.Flow.{TakesAtMost}
 use Rattle.cql_syntax.specs.Trees.{QueryTree}
 use Rattle.cq_run.specs.declared.status.Status.{Status}
 use Rattle.cq_run.specs.declared.status.Status.TheVariants.{Done, DoneWithRefusals, QueryRefused, WordsRefused, OpenFault, ReadFault, WriteFault, NoMemory, ArchiveTooLong, NotYetRead}
-use Rattle.cq_run.specs.Answer.{Answer, answer_of}
-use Rattle.cq_run.specs.Queries.{has_sort}
-use Rattle.cq_run.specs.Promise.{SourceView, Sinks, Answering, MayBe, archive_limit, TakesTooMuch, Overruns, Finds, TakesAll, SaysOfAnswer, AnswerPromise, WritesPrefix, IsUnwritten, SinkFailed, IsOneOf, texts_of_answer}
+use Rattle.cq_run.specs.Outcomes.{Outcome}
+use Rattle.cq_run.specs.Promise.{SourceView, Sinks, Answering, MayBe, TakesTooMuch, Overruns, Finds, TakesAll, SaysOfAnswer, AnswerPromise, WritesPart, IsUnwritten, SinkFailed, IsOneOf}
 use Rattle.cq_run.specs.Writing.{AnswersArchive}
 use Rattle.cq_run.proofs.Sinks.{wrote_none, some_failed}
 
@@ -25,8 +24,8 @@ same_count told few taken (Some rest) f g =
     omega (arith, length-append few rest, length-append taken rest)
 
 -- where at most the limit was taken, the source is not overrun
-pub not_overrun : (source after : SourceView) → TakesAtMost archive_limit source.left after.left → Overruns source after → ⊥
-not_overrun source after few much =
+pub not_overrun : (limit : ℕ) (source after : SourceView) → TakesAtMost limit source.left after.left → Overruns limit source after → ⊥
+not_overrun limit source after few much =
     let same = same_count much.told few.bytes much.too_much.bytes after.left (subst (λ l. Consumes l after.left few.bytes) much.tells few.takes)
     (subst (λ l. Consumes l after.left much.too_much.bytes) much.tells much.too_much.takes) in
     let a = few.few in
@@ -38,85 +37,62 @@ consumed_few : (told bytes : List ℕ) (after : Option (List ℕ)) → Consumes 
 consumed_few told bytes None takes = absurd takes
 consumed_few told bytes (Some rest) takes = let e : length told ≡ length (bytes ++ rest) = ap length takes in omega (arith, e, length-append bytes rest)
 
-not_too_long : (source after : SourceView) (told : List ℕ) → source.left ≡ Some told → length told ≤ archive_limit → TakesTooMuch source after → ⊥
-not_too_long source after told tells few much =
+not_too_long : (limit : ℕ) (source after : SourceView) (told : List ℕ) → source.left ≡ Some told → length told ≤ limit → TakesTooMuch limit source after → ⊥
+not_too_long limit source after told tells few much =
     let less = consumed_few told much.bytes after.left (subst (λ l. Consumes l after.left much.bytes) tells much.takes) in
     let long = much.long in
     omega (arith, less, few, long)
 
-sorts_not : (q : QueryTree) (status : Status) → has_sort q ≡ false → has_sort q ≡ true → status ≡ NotYetRead
-sorts_not q status is_none is_some = cc
+abbrev pub asked : QueryTree → ℕ → SourceView → SourceView → Sinks → Answering
+asked q limit source after sinks = record { query = q; limit = limit; source = source; source_after = after; sinks = sinks }
 
-abbrev pub asked : QueryTree → SourceView → SourceView → Sinks → Answering
-asked q source after sinks = record { query = q; source = source; source_after = after; sinks = sinks }
-
-nothing_taken : (left : Option (List ℕ)) → Consumes left left []
-nothing_taken None = tt
-nothing_taken (Some bytes) = refl
-
--- a query with an item `sort`
-pub sorted : (q : QueryTree) (source : SourceView) (sinks : Sinks) → has_sort q ≡ true → IsUnwritten sinks → AnswerPromise NotYetRead (asked q source source sinks)
-sorted q source sinks others same =
-    let few : TakesAtMost archive_limit source.left source.left = record { bytes = []; takes = nothing_taken source.left; few = omega arith } in
-    record {
-      says = (others, refl, same);
-      takes = record { bytes = []; takes = nothing_taken source.left; few = omega arith };
-      sort_always = λ _. refl;
-      too_long_always = λ much. absurd (not_overrun source source few much);
-      complete = λ all. absurd (let unsorted : has_sort q ≡ false = all.unsorted in cc);
-    }
-
-one_more_most : (left after : Option (List ℕ)) → TakesAtMost archive_limit left after → TakesAtMost (archive_limit + 1) left after
-one_more_most left after few = record { bytes = few.bytes; takes = few.takes; few = let a = few.few in omega (arith, a) }
+one_more_most : (limit : ℕ) (left after : Option (List ℕ)) → TakesAtMost limit left after → TakesAtMost (limit + 1) left after
+one_more_most limit left after few = record { bytes = few.bytes; takes = few.takes; few = let a = few.few in omega (arith, a) }
 
 -- a read that failed
-pub unread : (q : QueryTree) (source after : SourceView) (sinks : Sinks) → has_sort q ≡ false → TakesAtMost archive_limit source.left after.left → Rose source.faults after.faults
-    → IsUnwritten sinks → AnswerPromise ReadFault (asked q source after sinks)
-unread q source after sinks unsorted few rose same = record {
+pub unread : (q : QueryTree) (limit : ℕ) (source after : SourceView) (sinks : Sinks) → TakesAtMost limit source.left after.left → Rose source.faults after.faults
+    → IsUnwritten sinks → AnswerPromise ReadFault (asked q limit source after sinks)
+unread q limit source after sinks few rose same = record {
   says = (rose, same);
-  takes = one_more_most source.left after.left few;
-  sort_always = λ yes. sorts_not q ReadFault unsorted yes;
-  too_long_always = λ much. absurd (not_overrun source after few much);
+  takes = one_more_most limit source.left after.left few;
+  too_long_always = λ much. absurd (not_overrun limit source after few much);
   complete = λ all. absurd (all.no_read rose);
 }
 
 -- no memory to read
-pub unremembered : (q : QueryTree) (source after : SourceView) (sinks : Sinks) → has_sort q ≡ false → TakesAtMost (archive_limit + 1) source.left after.left → after.faults ≡ source.faults
-    → IsUnwritten sinks → AnswerPromise NoMemory (asked q source after sinks)
-unremembered q source after sinks unsorted few counts same = record {
+pub unremembered : (q : QueryTree) (limit : ℕ) (source after : SourceView) (sinks : Sinks) → TakesAtMost (limit + 1) source.left after.left → after.faults ≡ source.faults
+    → IsUnwritten sinks → AnswerPromise NoMemory (asked q limit source after sinks)
+unremembered q limit source after sinks few counts same = record {
   says = (inl same, record { source = counts; sinks = wrote_none sinks same });
   takes = few;
-  sort_always = λ yes. sorts_not q NoMemory unsorted yes;
   too_long_always = λ _. inr (inl refl);
   complete = λ _. inr (inr (inl refl));
 }
 
 -- more than the limit
-pub too_long : (q : QueryTree) (source after : SourceView) (sinks : Sinks) (bytes : List ℕ) → has_sort q ≡ false → Consumes source.left after.left bytes → length bytes ≤ archive_limit + 1
-    → archive_limit < length bytes → after.faults ≡ source.faults → IsUnwritten sinks → AnswerPromise ArchiveTooLong (asked q source after sinks)
-too_long q source after sinks bytes unsorted takes few long counts same =
-    let much : TakesTooMuch source after = record { bytes = bytes; takes = takes; long = long } in
+pub too_long : (q : QueryTree) (limit : ℕ) (source after : SourceView) (sinks : Sinks) (bytes : List ℕ) → Consumes source.left after.left bytes → length bytes ≤ limit + 1
+    → limit < length bytes → after.faults ≡ source.faults → IsUnwritten sinks → AnswerPromise ArchiveTooLong (asked q limit source after sinks)
+too_long q limit source after sinks bytes takes few long counts same =
+    let much : TakesTooMuch limit source after = record { bytes = bytes; takes = takes; long = long } in
     record {
       says = (much, same, record { source = counts; sinks = wrote_none sinks same });
       takes = record { bytes = bytes; takes = takes; few = few };
-      sort_always = λ yes. sorts_not q ArchiveTooLong unsorted yes;
-      too_long_always = λ _. inl refl;
-      complete = λ all. absurd (not_too_long source after all.archive all.tells all.within much);
+          too_long_always = λ _. inl refl;
+      complete = λ all. absurd (not_too_long limit source after all.archive all.tells all.within much);
     }
 
 -- the archive was read, and what was found in it is written as far as it could be
-pub record Answered (q : QueryTree) (source after : SourceView) (sinks : Sinks) (status : Status) : Type 0 where
+pub record Answered (q : QueryTree) (limit : ℕ) (source after : SourceView) (sinks : Sinks) (status : Status) : Type 0 where
   pub archive : List ℕ
-  pub unsorted : has_sort q ≡ false
   pub takes : Consumes source.left after.left archive
-  pub within : length archive ≤ archive_limit
+  pub within : length archive ≤ limit
   pub at_end : IsAtEnd after.left
   pub counts : after.faults ≡ source.faults
   pub answers : AnswersArchive q archive sinks status
 
-finds : (q : QueryTree) (source after : SourceView) (sinks : Sinks) (status : Status) (Takes : Answer → Type 0) → (answered : Answered q source after sinks status)
-    → Takes (answer_of q answered.answers.outcomes) → Finds (asked q source after sinks) Takes
-finds q source after sinks status Takes answered takes = record {
+finds : (q : QueryTree) (limit : ℕ) (source after : SourceView) (sinks : Sinks) (status : Status) (Takes : List Outcome → Type 0) → (answered : Answered q limit source after sinks status)
+    → Takes answered.answers.outcomes → Finds (asked q limit source after sinks) Takes
+finds q limit source after sinks status Takes answered takes = record {
   archive = answered.archive;
   outcomes = answered.answers.outcomes;
   reads = record { is = may_be source.left after.left answered.archive answered.takes answered.at_end; within = answered.within; at_end = answered.at_end };
@@ -124,51 +100,50 @@ finds q source after sinks status Takes answered takes = record {
   takes = takes;
 }
 
-says_answered : (status : Status) (q : QueryTree) (source after : SourceView) (sinks : Sinks) → Answered q source after sinks status → SaysOfAnswer status (asked q source after sinks)
-says_answered Done q source after sinks answered =
+says_answered : (status : Status) (q : QueryTree) (limit : ℕ) (source after : SourceView) (sinks : Sinks) → Answered q limit source after sinks status → SaysOfAnswer status (asked q limit source after sinks)
+says_answered Done q limit source after sinks answered =
     let writes = answered.answers.writes in (
-      finds q source after sinks Done (TakesAll (asked q source after sinks) (λ refused. refused ≡ 0)) answered (record { refused = writes.0; writes = writes.1 }),
+      finds q limit source after sinks Done (TakesAll (asked q limit source after sinks) (λ refused. refused ≡ 0)) answered (record { refused = writes.0; writes = writes.1 }),
       record { source = answered.counts; sinks = writes.2 },
     )
-says_answered DoneWithRefusals q source after sinks answered =
+says_answered DoneWithRefusals q limit source after sinks answered =
     let writes = answered.answers.writes in (
-      finds q source after sinks DoneWithRefusals (TakesAll (asked q source after sinks) (λ refused. 0 < refused)) answered (record { refused = writes.0; writes = writes.1 }),
+      finds q limit source after sinks DoneWithRefusals (TakesAll (asked q limit source after sinks) (λ refused. 0 < refused)) answered (record { refused = writes.0; writes = writes.1 }),
       record { source = answered.counts; sinks = writes.2 },
     )
-says_answered WriteFault q source after sinks answered =
+says_answered WriteFault q limit source after sinks answered =
     let writes = answered.answers.writes in
-    (writes.0, answered.counts, finds q source after sinks WriteFault (λ a. WritesPrefix sinks (texts_of_answer a)) answered writes.1)
-says_answered NoMemory q source after sinks answered =
+    (writes.0, answered.counts, finds q limit source after sinks WriteFault (λ outcomes. WritesPart q outcomes sinks) answered writes.1)
+says_answered NoMemory q limit source after sinks answered =
     let writes = answered.answers.writes in (
-      inr (finds q source after sinks NoMemory (λ a. WritesPrefix sinks (texts_of_answer a)) answered writes.0),
+      inr (finds q limit source after sinks NoMemory (λ outcomes. WritesPart q outcomes sinks) answered writes.0),
       record { source = answered.counts; sinks = writes.1 },
     )
-says_answered QueryRefused q source after sinks answered = absurd answered.answers.writes
-says_answered WordsRefused q source after sinks answered = absurd answered.answers.writes
-says_answered OpenFault q source after sinks answered = absurd answered.answers.writes
-says_answered ReadFault q source after sinks answered = absurd answered.answers.writes
-says_answered ArchiveTooLong q source after sinks answered = absurd answered.answers.writes
-says_answered NotYetRead q source after sinks answered = absurd answered.answers.writes
+says_answered QueryRefused q limit source after sinks answered = absurd answered.answers.writes
+says_answered WordsRefused q limit source after sinks answered = absurd answered.answers.writes
+says_answered OpenFault q limit source after sinks answered = absurd answered.answers.writes
+says_answered ReadFault q limit source after sinks answered = absurd answered.answers.writes
+says_answered ArchiveTooLong q limit source after sinks answered = absurd answered.answers.writes
+says_answered NotYetRead q limit source after sinks answered = absurd answered.answers.writes
 
 -- which answer it is, where no write failed
-answer_is_one : (status : Status) (q : QueryTree) (source after : SourceView) (sinks : Sinks) → Answered q source after sinks status → (SinkFailed sinks → ⊥)
+answer_is_one : (status : Status) (q : QueryTree) (limit : ℕ) (source after : SourceView) (sinks : Sinks) → Answered q limit source after sinks status → (SinkFailed sinks → ⊥)
     → IsOneOf status (Done ∷ DoneWithRefusals ∷ NoMemory ∷ [])
-answer_is_one Done q source after sinks answered none = inl refl
-answer_is_one DoneWithRefusals q source after sinks answered none = inr (inl refl)
-answer_is_one NoMemory q source after sinks answered none = inr (inr (inl refl))
-answer_is_one WriteFault q source after sinks answered none = absurd (none (some_failed sinks answered.answers.writes.0))
-answer_is_one QueryRefused q source after sinks answered none = absurd answered.answers.writes
-answer_is_one WordsRefused q source after sinks answered none = absurd answered.answers.writes
-answer_is_one OpenFault q source after sinks answered none = absurd answered.answers.writes
-answer_is_one ReadFault q source after sinks answered none = absurd answered.answers.writes
-answer_is_one ArchiveTooLong q source after sinks answered none = absurd answered.answers.writes
-answer_is_one NotYetRead q source after sinks answered none = absurd answered.answers.writes
+answer_is_one Done q limit source after sinks answered none = inl refl
+answer_is_one DoneWithRefusals q limit source after sinks answered none = inr (inl refl)
+answer_is_one NoMemory q limit source after sinks answered none = inr (inr (inl refl))
+answer_is_one WriteFault q limit source after sinks answered none = absurd (none (some_failed sinks answered.answers.writes.0))
+answer_is_one QueryRefused q limit source after sinks answered none = absurd answered.answers.writes
+answer_is_one WordsRefused q limit source after sinks answered none = absurd answered.answers.writes
+answer_is_one OpenFault q limit source after sinks answered none = absurd answered.answers.writes
+answer_is_one ReadFault q limit source after sinks answered none = absurd answered.answers.writes
+answer_is_one ArchiveTooLong q limit source after sinks answered none = absurd answered.answers.writes
+answer_is_one NotYetRead q limit source after sinks answered none = absurd answered.answers.writes
 
-pub answered_whole : (status : Status) (q : QueryTree) (source after : SourceView) (sinks : Sinks) → Answered q source after sinks status → AnswerPromise status (asked q source after sinks)
-answered_whole status q source after sinks answered = record {
-  says = says_answered status q source after sinks answered;
+pub answered_whole : (status : Status) (q : QueryTree) (limit : ℕ) (source after : SourceView) (sinks : Sinks) → Answered q limit source after sinks status → AnswerPromise status (asked q limit source after sinks)
+answered_whole status q limit source after sinks answered = record {
+  says = says_answered status q limit source after sinks answered;
   takes = record { bytes = answered.archive; takes = answered.takes; few = let w = answered.within in omega (arith, w) };
-  sort_always = λ yes. sorts_not q status answered.unsorted yes;
-  too_long_always = λ much. absurd (not_overrun source after (record { bytes = answered.archive; takes = answered.takes; few = answered.within }) much);
-  complete = λ all. answer_is_one status q source after sinks answered all.no_write;
+  too_long_always = λ much. absurd (not_overrun limit source after (record { bytes = answered.archive; takes = answered.takes; few = answered.within }) much);
+  complete = λ all. answer_is_one status q limit source after sinks answered all.no_write;
 }

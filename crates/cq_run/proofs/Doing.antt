@@ -8,21 +8,31 @@ use Rattle.std.specs.Io.KnownBytes.{Consumes, IsAtEnd}
 use Rattle.cq_outside.specs.Faults.{Rose}
 use Rattle.std.specs.Option.{option_map}
 use Rattle.cq_outside.specs.Told.{Told, Opens, bytes_of}
+use Rattle.cq_outside.specs.declared.faults.Refusal.{Refusal}
+use Rattle.cq_outside.specs.declared.faults.Refusal.TheVariants.{Fault, NoMemory as IsNoMemory}
+use Rattle.clap.specs.Takes.{takes}
+use Rattle.clap.specs.Simple.{matches_of}
+use Rattle.cq_words.specs.Jobs.{Answers, asked, job_in}
+use Rattle.cq_words.specs.Line.{line}
+use Rattle.cq_words.specs.declared.job.Job.{Job}
+use Rattle.cq_words.specs.declared.job.Job.TheVariants.{Run, Eval, Check, Explain, SelfRun}
+use Rattle.cq_words.specs.declared.job.WordsRefused.{WordsRefused as RefusedWords}
 use Rattle.cql_syntax.specs.Trees.{QueryTree}
 use Rattle.cql_syntax.specs.declared.fault.QueryFault.{QueryFault}
 use Rattle.cql_syntax.specs.declared.token.QueryToken.{QueryToken}
+use Rattle.cql_syntax.specs.declared.typed.TypedQuery.{TypedQuery}
 use Rattle.cql_lexer.specs.Tokens.{tokens_of}
 use Rattle.cql_parser.specs.Drafts.{Spells}
 use Rattle.cql_parser.specs.Faults.{IsFault}
+use Rattle.cq_run.specs.declared.asked.Unasked.{Unasked}
+use Rattle.cq_run.specs.declared.asked.Unasked.TheVariants.{Faulty, Unopened, Unread, Forgotten}
 use Rattle.cq_run.specs.declared.status.Status.{Status}
 use Rattle.cq_run.specs.declared.status.Status.TheVariants.{Done, DoneWithRefusals, QueryRefused, WordsRefused, OpenFault, ReadFault, WriteFault, NoMemory, ArchiveTooLong, NotYetRead}
-use Rattle.cq_run.specs.declared.words.Mode.{Mode}
-use Rattle.cq_run.specs.declared.words.Mode.TheVariants.{Eval, Check}
-use Rattle.cq_run.specs.Words.{Job, job_of}
-use Rattle.cq_run.specs.Queries.{IsQuery, IsQueryFault, has_sort}
-use Rattle.cq_run.specs.Promise.{SourceView, DeskView, Sinks, Call, SaysOfAnswer, NoInputFailed, with_open, Opened, FailsToOpen, IsUnmoved, RefusesWords, RefusesQuery, Evaluates, eval_refused, eval_not_yet, eval_unopened, eval_answered, eval_forgotten, TakesQuery, AcceptsQuery, ForgetsQuery, no_memory_to_open, no_memory_to_read, Checks, check_accepted, check_refused, check_unopened, check_unread, check_forgotten, Does, AnswersItsFault, AsksAll, AsksCheck, AsksSort, Promise, IsOneOf, IsUnwritten, NoWriteFailed, standard_input, query_limit}
-use Rattle.cq_run.specs.Asked.{AnswersInput, WritesUsage, call_of}
-use Rattle.cq_run.proofs.Sinks.{wrote_none}
+use Rattle.cq_run.specs.Queries.{IsQuery, IsQueryFault}
+use Rattle.cq_run.specs.Promise.{SourceView, DeskView, Sinks, SaysOfAnswer, IsOneOf, IsUnwritten, NoWriteFailed}
+use Rattle.cq_run.specs.Run.{Call, from_desk, IsUnmoved, NoInputFailed, with_open, Opened, FailsToOpen, query_limit, TakesQuery, FailsToRead, ForgetsQuery, no_memory_to_open, no_memory_to_read, WritesUsage, RefusesQuery, AcceptsQuery, AnswersFile, archive_answered, archive_unopened, archive_forgotten, OverText, text_accepted, text_refused, text_forgotten, OverFile, file_accepted, file_refused, file_unopened, file_unread, file_forgotten, SaysAccepted, DoesJob, Does, job_done, words_refused, words_forgotten, Asks, AnswersItsFault, IsInFile, HasText, NothingRose, IsShort, IsWithin, good_answers, Promise}
+use Rattle.cq_run.specs.Asked.{ReadsFile, TellsWhy, call_of}
+use Rattle.cq_run.proofs.Sinks.{wrote_none, some_failed}
 
 -- a text is one query at most, and has no fault then
 
@@ -114,61 +124,130 @@ acceptance_faults ReadFault call input does = absurd does
 acceptance_faults ArchiveTooLong call input does = absurd does
 acceptance_faults NotYetRead call input does = absurd does
 
-answer_faults : (q : QueryTree) (file : SourceView) (status : Status) (call : Call) → Opened standard_input call.desk call.desk_after file
-    → SaysOfAnswer status (record { query = q; source = file; source_after = call.desk_after.file; sinks = call.sinks }) → AnswersItsFault status call
-answer_faults q file Done call opened says = at_none Done call (opened_counts standard_input call.desk call.desk_after file opened says.1.source) says.1.sinks
-answer_faults q file DoneWithRefusals call opened says = at_none DoneWithRefusals call (opened_counts standard_input call.desk call.desk_after file opened says.1.source) says.1.sinks
-answer_faults q file ReadFault call opened says = at_read call opened.opens (wrote_none call.sinks says.1)
-answer_faults q file WriteFault call opened says = at_write call (opened_counts standard_input call.desk call.desk_after file opened says.1)
-answer_faults q file NoMemory call opened says = at_none NoMemory call (opened_counts standard_input call.desk call.desk_after file opened says.1.source) says.1.sinks
-answer_faults q file ArchiveTooLong call opened says = at_none ArchiveTooLong call (opened_counts standard_input call.desk call.desk_after file opened says.2.source) says.2.sinks
-answer_faults q file NotYetRead call opened says =
-    at_none NotYetRead call (opened_counts standard_input call.desk call.desk_after file opened (ap (λ (s : SourceView). s.faults) says.1)) (wrote_none call.sinks says.2)
-answer_faults q file QueryRefused call opened says = absurd says
-answer_faults q file WordsRefused call opened says = absurd says
-answer_faults q file OpenFault call opened says = absurd says
+answer_faults : (name : List ℕ) (limit : ℕ) (q : QueryTree) (file : SourceView) (status : Status) (call : Call) → Opened name call.desk call.desk_after file
+    → SaysOfAnswer status (record { query = q; limit = limit; source = file; source_after = call.desk_after.file; sinks = call.sinks }) → AnswersItsFault status call
+answer_faults name limit q file Done call opened says = at_none Done call (opened_counts name call.desk call.desk_after file opened says.1.source) says.1.sinks
+answer_faults name limit q file DoneWithRefusals call opened says = at_none DoneWithRefusals call (opened_counts name call.desk call.desk_after file opened says.1.source) says.1.sinks
+answer_faults name limit q file ReadFault call opened says = at_read call opened.opens (wrote_none call.sinks says.1)
+answer_faults name limit q file WriteFault call opened says = at_write call (opened_counts name call.desk call.desk_after file opened says.1)
+answer_faults name limit q file NoMemory call opened says = at_none NoMemory call (opened_counts name call.desk call.desk_after file opened says.1.source) says.1.sinks
+answer_faults name limit q file ArchiveTooLong call opened says = at_none ArchiveTooLong call (opened_counts name call.desk call.desk_after file opened says.2.source) says.2.sinks
+answer_faults name limit q file NotYetRead call opened says = absurd says
+answer_faults name limit q file QueryRefused call opened says = absurd says
+answer_faults name limit q file WordsRefused call opened says = absurd says
+answer_faults name limit q file OpenFault call opened says = absurd says
+
 
 unmoved_faults : (status : Status) (call : Call) → IsUnmoved call → AnswersItsFault status call
-unmoved_faults status call same =
-    at_none status call (record { opens = same.opens; reads = ap (λ (s : SourceView). s.faults) same.file }) (wrote_none call.sinks same.unwritten)
+unmoved_faults status call same = at_none status call (same_counts call.desk call.desk_after same.desk) (wrote_none call.sinks same.sinks)
 
-unopened_faults : (status : Status) (call : Call) → status ≡ OpenFault → FailsToOpen call → AnswersItsFault status call
-unopened_faults status call is fails =
-    subst (λ s. AnswersItsFault s call) (sym is) (at_open call (ap (λ (s : SourceView). s.faults) fails.file) (wrote_none call.sinks fails.unwritten))
+unopened_faults : (status : Status) (call : Call) → status ≡ OpenFault → FailsToOpen call.desk call.desk_after → IsUnwritten call.sinks → AnswersItsFault status call
+unopened_faults status call is fails same =
+    subst (λ s. AnswersItsFault s call) (sym is) (at_open call (ap (λ (s : SourceView). s.faults) fails.file) (wrote_none call.sinks same))
 
-evaluates_faults : (text : List ℕ) (status : Status) (call : Call) → Evaluates text status call → AnswersItsFault status call
-evaluates_faults text status call (eval_refused fault is does same) = refusal_faults fault status call (same_counts call.desk call.desk_after same) does
-evaluates_faults text status call (eval_not_yet query is other not_yet same none) = at_none status call (same_counts call.desk call.desk_after same) (wrote_none call.sinks none)
-evaluates_faults text status call (eval_unopened query is plain is_open fails) = unopened_faults status call is_open fails
-evaluates_faults text status call (eval_answered query is plain does) = answer_faults query does.archive status call does.opened does.answers.says
-evaluates_faults text status call (eval_forgotten is same) = unmoved_faults status call same
+archive_faults : (archive : List ℕ) (limit : ℕ) (q : QueryTree) (status : Status) (call : Call) → AnswersFile archive limit q status call → AnswersItsFault status call
+archive_faults archive limit q status call (archive_answered file opened answers) = answer_faults archive limit q file status call opened answers.says
+archive_faults archive limit q status call (archive_unopened is fails same) = unopened_faults status call is fails same
+archive_faults archive limit q status call (archive_forgotten is same) = unmoved_faults status call same
 
-forgets_faults : (name : List ℕ) (status : Status) (call : Call) → ForgetsQuery name call → AnswersItsFault status call
-forgets_faults name status call (no_memory_to_open same) = unmoved_faults status call same
-forgets_faults name status call (no_memory_to_read file opened few same none) =
-    at_none status call (opened_counts name call.desk call.desk_after file opened same) (wrote_none call.sinks none)
+-- counts that stood still up to a desk in between
+later_faults : (mid : DeskView) (status : Status) (call : Call) → NoInputFailed call.desk mid → AnswersItsFault status (from_desk mid call) → AnswersItsFault status call
+later_faults mid status call same faults =
+    let opens = same.opens in
+    let reads = same.reads in
+    record {
+      open_faults = λ more. faults.open_faults (omega (arith, opens, more));
+      read_faults = λ more. faults.read_faults (omega (arith, reads, more));
+      out_faults = faults.out_faults;
+      err_faults = faults.err_faults;
+    }
 
-checks_faults : (name : List ℕ) (status : Status) (call : Call) → Checks name status call → AnswersItsFault status call
-checks_faults name status call (check_accepted text query takes is does) =
-    acceptance_faults status call (opened_counts name call.desk call.desk_after takes.file takes.opened takes.faults) does
-checks_faults name status call (check_refused text fault takes is does) =
-    refusal_faults fault status call (opened_counts name call.desk call.desk_after takes.file takes.opened takes.faults) does
-checks_faults name status call (check_unopened is fails) = unopened_faults status call is fails
-checks_faults name status call (check_unread is fails) =
-    subst (λ s. AnswersItsFault s call) (sym is) (at_read call fails.opened.opens (wrote_none call.sinks fails.unwritten))
-checks_faults name status call (check_forgotten is forgets) = forgets_faults name status call forgets
+takes_counts : (name : List ℕ) (desk after : DeskView) (text : List ℕ) → TakesQuery name desk after text → NoInputFailed desk after
+takes_counts name desk after text takes = opened_counts name desk after takes.file takes.opened takes.faults
 
-words_faults : (status : Status) (call : Call) → RefusesWords status call → AnswersItsFault status call
-words_faults WordsRefused call does = at_none WordsRefused call does.1.input does.1.writes
-words_faults WriteFault call does = at_write call (same_counts call.desk call.desk_after does.2)
-words_faults Done call does = absurd does
-words_faults DoneWithRefusals call does = absurd does
-words_faults QueryRefused call does = absurd does
-words_faults OpenFault call does = absurd does
-words_faults ReadFault call does = absurd does
-words_faults NoMemory call does = absurd does
-words_faults ArchiveTooLong call does = absurd does
-words_faults NotYetRead call does = absurd does
+forgets_counts : (name : List ℕ) (desk after : DeskView) → ForgetsQuery name desk after → NoInputFailed desk after
+forgets_counts name desk after (no_memory_to_open same) = same_counts desk after same
+forgets_counts name desk after (no_memory_to_read file opened few same) = opened_counts name desk after file opened same
+
+text_faults : (text : List ℕ) (Accepted : QueryTree → Status → Call → Type 0) (status : Status) (call : Call)
+    → ((q : QueryTree) → Accepted q status call → AnswersItsFault status call) → OverText text Accepted status call → AnswersItsFault status call
+text_faults text Accepted status call accepted (text_accepted query is does) = accepted query does
+text_faults text Accepted status call accepted (text_refused fault is does same) = refusal_faults fault status call (same_counts call.desk call.desk_after same) does
+text_faults text Accepted status call accepted (text_forgotten is same) = unmoved_faults status call same
+
+file_faults : (name : List ℕ) (Accepted : QueryTree → Status → Call → Type 0) (status : Status) (call : Call)
+    → ((q : QueryTree) (mid : DeskView) → Accepted q status (from_desk mid call) → AnswersItsFault status (from_desk mid call))
+    → OverFile name Accepted status call → AnswersItsFault status call
+file_faults name Accepted status call accepted (file_accepted text query mid takes is does) =
+    later_faults mid status call (takes_counts name call.desk mid text takes) (accepted query mid does)
+file_faults name Accepted status call accepted (file_refused text fault takes is does) =
+    refusal_faults fault status call (takes_counts name call.desk call.desk_after text takes) does
+file_faults name Accepted status call accepted (file_unopened is fails same) = unopened_faults status call is fails same
+file_faults name Accepted status call accepted (file_unread is fails same) =
+    subst (λ s. AnswersItsFault s call) (sym is) (at_read call fails.opened.opens (wrote_none call.sinks same))
+file_faults name Accepted status call accepted (file_forgotten is forgets same) =
+    at_none status call (forgets_counts name call.desk call.desk_after forgets) (wrote_none call.sinks same)
+
+job_faults : (job : Job) (status : Status) (call : Call) → DoesJob job status call → AnswersItsFault status call
+job_faults (Run query archive workers limit) status call does =
+    file_faults query (AnswersFile archive limit) status call (λ q mid a. archive_faults archive limit q status (from_desk mid call) a) does
+job_faults (Eval text archive workers limit) status call does =
+    text_faults text (AnswersFile archive limit) status call (λ q a. archive_faults archive limit q status call a) does
+job_faults (Check query) status call does =
+    file_faults query SaysAccepted status call (λ q mid a. acceptance_faults status (from_desk mid call) (same_counts mid call.desk_after a.1) a.0) does
+job_faults (Explain query) status call does = unmoved_faults status call does.1
+job_faults (SelfRun text seed games workers) status call does = unmoved_faults status call does.1
+
+usage_faults : (status : Status) (call : Call) → call.desk_after ≡ call.desk → WritesUsage status call.sinks → AnswersItsFault status call
+usage_faults WordsRefused call same does = at_none WordsRefused call (same_counts call.desk call.desk_after same) does.1
+usage_faults WriteFault call same does = at_write call (same_counts call.desk call.desk_after same)
+usage_faults Done call same does = absurd does
+usage_faults DoneWithRefusals call same does = absurd does
+usage_faults QueryRefused call same does = absurd does
+usage_faults OpenFault call same does = absurd does
+usage_faults ReadFault call same does = absurd does
+usage_faults NoMemory call same does = absurd does
+usage_faults ArchiveTooLong call same does = absurd does
+usage_faults NotYetRead call same does = absurd does
+
+-- words that ask a job are not refused
+
+not_twice : (status s : Status) → status ≡ s → status ≡ WordsRefused → s ≡ WordsRefused
+not_twice status s is e = sym is ∙ e
+
+archive_not_words : (archive : List ℕ) (limit : ℕ) (q : QueryTree) (status : Status) (call : Call) → AnswersFile archive limit q status call → status ≡ WordsRefused → ⊥
+archive_not_words archive limit q status call (archive_answered file opened answers) e =
+    subst (λ s. SaysOfAnswer s (record { query = q; limit = limit; source = file; source_after = call.desk_after.file; sinks = call.sinks })) e answers.says
+archive_not_words archive limit q status call (archive_unopened is fails same) e = let f = not_twice status OpenFault is e in cc
+archive_not_words archive limit q status call (archive_forgotten is same) e = let f = not_twice status NoMemory is e in cc
+
+refusal_not_words : (fault : QueryFault) (status : Status) (sinks : Sinks) → RefusesQuery fault status sinks → status ≡ WordsRefused → ⊥
+refusal_not_words fault status sinks does e = subst (λ s. RefusesQuery fault s sinks) e does
+
+text_not_words : (text : List ℕ) (Accepted : QueryTree → Status → Call → Type 0) (status : Status) (call : Call)
+    → ((q : QueryTree) → Accepted q status call → status ≡ WordsRefused → ⊥) → OverText text Accepted status call → status ≡ WordsRefused → ⊥
+text_not_words text Accepted status call accepted (text_accepted query is does) e = accepted query does e
+text_not_words text Accepted status call accepted (text_refused fault is does same) e = refusal_not_words fault status call.sinks does e
+text_not_words text Accepted status call accepted (text_forgotten is same) e = let f = not_twice status NoMemory is e in cc
+
+file_not_words : (name : List ℕ) (Accepted : QueryTree → Status → Call → Type 0) (status : Status) (call : Call)
+    → ((q : QueryTree) (mid : DeskView) → Accepted q status (from_desk mid call) → status ≡ WordsRefused → ⊥)
+    → OverFile name Accepted status call → status ≡ WordsRefused → ⊥
+file_not_words name Accepted status call accepted (file_accepted text query mid takes is does) e = accepted query mid does e
+file_not_words name Accepted status call accepted (file_refused text fault takes is does) e = refusal_not_words fault status call.sinks does e
+file_not_words name Accepted status call accepted (file_unopened is fails same) e = let f = not_twice status OpenFault is e in cc
+file_not_words name Accepted status call accepted (file_unread is fails same) e = let f = not_twice status ReadFault is e in cc
+file_not_words name Accepted status call accepted (file_forgotten is forgets same) e = let f = not_twice status NoMemory is e in cc
+
+job_not_words : (job : Job) (status : Status) (call : Call) → DoesJob job status call → status ≡ WordsRefused → ⊥
+job_not_words (Run query archive workers limit) status call does e =
+    file_not_words query (AnswersFile archive limit) status call (λ q mid a f. archive_not_words archive limit q status (from_desk mid call) a f) does e
+job_not_words (Eval text archive workers limit) status call does e =
+    text_not_words text (AnswersFile archive limit) status call (λ q a f. archive_not_words archive limit q status call a f) does e
+job_not_words (Check query) status call does e =
+    file_not_words query SaysAccepted status call (λ q mid a f. subst (λ s. AcceptsQuery s call.sinks) f a.0) does e
+job_not_words (Explain query) status call does e = let f = not_twice status NotYetRead does.0 e in cc
+job_not_words (SelfRun text seed games workers) status call does e = let f = not_twice status NotYetRead does.0 e in cc
 
 -- a faulty query is refused
 refusal_is_one : (fault : QueryFault) (status : Status) (sinks : Sinks) → RefusesQuery fault status sinks → IsOneOf status (QueryRefused ∷ WriteFault ∷ NoMemory ∷ [])
@@ -182,42 +261,6 @@ refusal_is_one fault OpenFault sinks does = absurd does
 refusal_is_one fault ReadFault sinks does = absurd does
 refusal_is_one fault ArchiveTooLong sinks does = absurd does
 refusal_is_one fault NotYetRead sinks does = absurd does
-
-faulty_refused : SpellOne → SpellNone → (text : List ℕ) (fault : QueryFault) (status : Status) (call : Call) → IsQueryFault text fault → Evaluates text status call
-    → IsOneOf status (QueryRefused ∷ WriteFault ∷ NoMemory ∷ [])
-faulty_refused one none text fault status call faulty (eval_refused found is does same) = refusal_is_one found status call.sinks does
-faulty_refused one none text fault status call faulty (eval_not_yet query is other not_yet same unwritten) = absurd (no_fault one none text query fault is faulty)
-faulty_refused one none text fault status call faulty (eval_unopened query is plain is_open fails) = absurd (no_fault one none text query fault is faulty)
-faulty_refused one none text fault status call faulty (eval_answered query is plain does) = absurd (no_fault one none text query fault is faulty)
-faulty_refused one none text fault status call faulty (eval_forgotten is same) = inr (inr (inl is))
-
--- an accepted query is answered
-accepted_answered : SpellOne → SpellNone → (status : Status) (call : Call) → (words : List (List ℕ)) (asks : AsksAll words call) → Evaluates asks.text status call → IsOneOf status (Done ∷ DoneWithRefusals ∷ NoMemory ∷ [])
-accepted_answered one none status call words asks (eval_refused fault faulty does same) = absurd (no_fault one none asks.text asks.query fault asks.accepted faulty)
-accepted_answered one none status call words asks (eval_not_yet query is other not_yet same unwritten) =
-    absurd (let e : has_sort query ≡ false = ap has_sort (one_query one asks.text query asks.query is asks.accepted) ∙ asks.unsorted in cc)
-accepted_answered one none status call words asks (eval_unopened query is plain is_open fails) = absurd (asks.nothing_rose.opens fails.rose)
-accepted_answered one none status call words asks (eval_forgotten is same) = inr (inr (inl is))
-accepted_answered one none status call words asks (eval_answered query is plain does) =
-    let same : query ≡ asks.query = one_query one asks.text query asks.query is asks.accepted in
-    does.answers.complete (record {
-      archive = bytes_of asks.told.files standard_input;
-      tells = does.opened.bytes asks.told asks.tells;
-      within = asks.within;
-      unsorted = ap has_sort same ∙ asks.unsorted;
-      no_read = λ rose. asks.nothing_rose.reads (subst (λ n. Rose n call.desk_after.file.faults) does.opened.faults rose);
-      no_write = asks.nothing_rose.writes;
-    })
-
--- a query with an item `sort` is not answered yet
-sort_not_yet : SpellOne → SpellNone → (status : Status) (call : Call) → (words : List (List ℕ)) (asks : AsksSort words) → Evaluates asks.text status call → IsOneOf status (NotYetRead ∷ NoMemory ∷ [])
-sort_not_yet one none status call words asks (eval_refused fault faulty does same) = absurd (no_fault one none asks.text asks.query fault asks.accepted faulty)
-sort_not_yet one none status call words asks (eval_not_yet query is other not_yet same unwritten) = inl not_yet
-sort_not_yet one none status call words asks (eval_unopened query is plain is_open fails) =
-    absurd (let e : has_sort query ≡ true = ap has_sort (one_query one asks.text query asks.query is asks.accepted) ∙ asks.sorted in cc)
-sort_not_yet one none status call words asks (eval_answered query is plain does) =
-    absurd (let e : has_sort query ≡ true = ap has_sort (one_query one asks.text query asks.query is asks.accepted) ∙ asks.sorted in cc)
-sort_not_yet one none status call words asks (eval_forgotten is same) = inr (inl is)
 
 -- What is taken of a file: all of it, or one byte more than the limit.
 
@@ -235,97 +278,208 @@ taken_text limit file text None takes most whole = absurd takes
 taken_text limit file text (Some rest) takes most whole =
     sym (ap (take (limit + 1)) takes ∙ text_by_length limit text rest most whole (cases_lt limit (length text)))
 
-checked_text : (words : List (List ℕ)) (call : Call) (text found : List ℕ) → (asks : AsksCheck words call text) → TakesQuery asks.name call.desk call.desk_after found → found ≡ text
-checked_text words call text found asks takes =
-    taken_text query_limit (bytes_of asks.told.files asks.name) found call.desk_after.file.left
-    (subst (λ l. Consumes l call.desk_after.file.left found) (takes.opened.bytes asks.told asks.tells) takes.takes) takes.few takes.whole ∙ sym asks.taken
 
--- a query that was read from a file is accepted or refused
-faulty_checked : SpellOne → SpellNone → (words : List (List ℕ)) (status : Status) (call : Call) (text : List ℕ) (fault : QueryFault) → (asks : AsksCheck words call text)
-    → IsQueryFault text fault → Checks asks.name status call → IsOneOf status (QueryRefused ∷ WriteFault ∷ NoMemory ∷ [])
-faulty_checked one none words status call text fault asks faulty (check_accepted found query takes is does) =
-    absurd (no_fault one none text query fault (subst (λ t. IsQuery t query) (checked_text words call text found asks takes) is) faulty)
-faulty_checked one none words status call text fault asks faulty (check_refused found other takes is does) = refusal_is_one other status call.sinks does
-faulty_checked one none words status call text fault asks faulty (check_unopened is fails) = absurd (asks.opens fails.rose)
-faulty_checked one none words status call text fault asks faulty (check_unread is fails) =
+-- what is taken of a query's file, by what the desk tells
+read_text : (call : Call) (name text found : List ℕ) (mid : DeskView) → (asks : IsInFile call name text) → TakesQuery name call.desk mid found → found ≡ text
+read_text call name text found mid asks takes =
+    taken_text query_limit (bytes_of asks.told.files name) found mid.file.left
+    (subst (λ l. Consumes l mid.file.left found) (takes.opened.bytes asks.told asks.tells) takes.takes) takes.few takes.whole ∙ sym asks.taken
+
+text_refused_always : SpellOne → SpellNone → (text : List ℕ) (fault : QueryFault) (Accepted : QueryTree → Status → Call → Type 0) (status : Status) (call : Call)
+    → IsQueryFault text fault → OverText text Accepted status call → IsOneOf status (QueryRefused ∷ WriteFault ∷ NoMemory ∷ [])
+text_refused_always one none text fault Accepted status call faulty (text_accepted query is does) = absurd (no_fault one none text query fault is faulty)
+text_refused_always one none text fault Accepted status call faulty (text_refused found is does same) = refusal_is_one found status call.sinks does
+text_refused_always one none text fault Accepted status call faulty (text_forgotten is same) = inr (inr (inl is))
+
+file_refused_always : SpellOne → SpellNone → (name text : List ℕ) (fault : QueryFault) (Accepted : QueryTree → Status → Call → Type 0) (status : Status) (call : Call)
+    → (asks : IsInFile call name text) → IsQueryFault text fault → OverFile name Accepted status call → IsOneOf status (QueryRefused ∷ WriteFault ∷ NoMemory ∷ [])
+file_refused_always one none name text fault Accepted status call asks faulty (file_accepted found query mid takes is does) =
+    absurd (no_fault one none text query fault (subst (λ t. IsQuery t query) (read_text call name text found mid asks takes) is) faulty)
+file_refused_always one none name text fault Accepted status call asks faulty (file_refused found other takes is does) = refusal_is_one other status call.sinks does
+file_refused_always one none name text fault Accepted status call asks faulty (file_unopened is fails same) = absurd (asks.opens fails.rose)
+file_refused_always one none name text fault Accepted status call asks faulty (file_unread is fails same) =
     absurd (asks.reads (subst (λ n. Rose n call.desk_after.file.faults) fails.opened.faults fails.rose))
-faulty_checked one none words status call text fault asks faulty (check_forgotten is forgets) = inr (inr (inl is))
+file_refused_always one none name text fault Accepted status call asks faulty (file_forgotten is forgets same) = inr (inr (inl is))
 
-acceptance_is_one : (status : Status) (sinks : Sinks) → AcceptsQuery status sinks → IsOneOf status (Done ∷ WriteFault ∷ NoMemory ∷ [])
-acceptance_is_one Done sinks does = inl refl
-acceptance_is_one WriteFault sinks does = inr (inl refl)
-acceptance_is_one NoMemory sinks does = absurd does
-acceptance_is_one QueryRefused sinks does = absurd does
-acceptance_is_one DoneWithRefusals sinks does = absurd does
-acceptance_is_one WordsRefused sinks does = absurd does
-acceptance_is_one OpenFault sinks does = absurd does
-acceptance_is_one ReadFault sinks does = absurd does
-acceptance_is_one ArchiveTooLong sinks does = absurd does
-acceptance_is_one NotYetRead sinks does = absurd does
+job_refused_always : SpellOne → SpellNone → (job : Job) (text : List ℕ) (fault : QueryFault) (status : Status) (call : Call) → HasText call job text → IsQueryFault text fault
+    → DoesJob job status call → IsOneOf status (QueryRefused ∷ WriteFault ∷ NoMemory ∷ [])
+job_refused_always one none (Run query archive workers limit) text fault status call has faulty does =
+    file_refused_always one none query text fault (AnswersFile archive limit) status call has faulty does
+job_refused_always one none (Eval word archive workers limit) text fault status call has faulty does =
+    text_refused_always one none text fault (AnswersFile archive limit) status call faulty (subst (λ t. OverText t (AnswersFile archive limit) status call) has does)
+job_refused_always one none (Check query) text fault status call has faulty does = file_refused_always one none query text fault SaysAccepted status call has faulty does
+job_refused_always one none (Explain query) text fault status call has faulty does = absurd has
+job_refused_always one none (SelfRun word seed games workers) text fault status call has faulty does = absurd has
 
-accepted_checked : SpellOne → SpellNone → (words : List (List ℕ)) (status : Status) (call : Call) (text : List ℕ) (query : QueryTree) → (asks : AsksCheck words call text)
-    → IsQuery text query → Checks asks.name status call → IsOneOf status (Done ∷ WriteFault ∷ NoMemory ∷ [])
-accepted_checked one none words status call text query asks accepted (check_accepted found other takes is does) = acceptance_is_one status call.sinks does
-accepted_checked one none words status call text query asks accepted (check_refused found fault takes is does) =
-    absurd (no_fault one none text query fault accepted (subst (λ t. IsQueryFault t fault) (checked_text words call text found asks takes) is))
-accepted_checked one none words status call text query asks accepted (check_unopened is fails) = absurd (asks.opens fails.rose)
-accepted_checked one none words status call text query asks accepted (check_unread is fails) =
+-- an accepted query is answered
+
+archive_complete : (archive : List ℕ) (limit : ℕ) (q : QueryTree) (status : Status) (call : Call) → (short : IsShort call archive limit) → (none : NothingRose call)
+    → AnswersFile archive limit q status call → IsOneOf status (Done ∷ DoneWithRefusals ∷ NoMemory ∷ [])
+archive_complete archive limit q status call short none (archive_answered file opened answers) =
+    answers.complete (record {
+      archive = bytes_of short.told.files archive;
+      tells = opened.bytes short.told short.tells;
+      within = short.within;
+      no_read = λ rose. none.reads (subst (λ n. Rose n call.desk_after.file.faults) opened.faults rose);
+      no_write = none.writes;
+    })
+archive_complete archive limit q status call short none (archive_unopened is fails same) = absurd (none.opens fails.rose)
+archive_complete archive limit q status call short none (archive_forgotten is same) = inr (inr (inl is))
+
+text_complete : SpellOne → SpellNone → (text : List ℕ) (query : QueryTree) (Accepted : QueryTree → Status → Call → Type 0) (good : List Status) (status : Status) (call : Call)
+    → IsQuery text query → IsOneOf NoMemory good → (Accepted query status call → IsOneOf status good) → OverText text Accepted status call → IsOneOf status good
+text_complete one none text query Accepted good status call accepted memory answers (text_accepted q is does) =
+    answers (subst (λ q. Accepted q status call) (one_query one text q query is accepted) does)
+text_complete one none text query Accepted good status call accepted memory answers (text_refused fault faulty does same) = absurd (no_fault one none text query fault accepted faulty)
+text_complete one none text query Accepted good status call accepted memory answers (text_forgotten is same) = subst (λ s. IsOneOf s good) (sym is) memory
+
+file_complete : SpellOne → SpellNone → (name text : List ℕ) (query : QueryTree) (Accepted : QueryTree → Status → Call → Type 0) (good : List Status) (status : Status) (call : Call)
+    → (asks : IsInFile call name text) → IsQuery text query → IsOneOf NoMemory good
+    → ((mid : DeskView) (found : List ℕ) → TakesQuery name call.desk mid found → Accepted query status (from_desk mid call) → IsOneOf status good)
+    → OverFile name Accepted status call → IsOneOf status good
+file_complete one none name text query Accepted good status call asks accepted memory answers (file_accepted found q mid takes is does) =
+    let same = read_text call name text found mid asks takes in
+    answers mid found takes (subst (λ q. Accepted q status (from_desk mid call)) (one_query one text q query (subst (λ t. IsQuery t q) same is) accepted) does)
+file_complete one none name text query Accepted good status call asks accepted memory answers (file_refused found fault takes faulty does) =
+    absurd (no_fault one none text query fault accepted (subst (λ t. IsQueryFault t fault) (read_text call name text found call.desk_after asks takes) faulty))
+file_complete one none name text query Accepted good status call asks accepted memory answers (file_unopened is fails same) = absurd (asks.opens fails.rose)
+file_complete one none name text query Accepted good status call asks accepted memory answers (file_unread is fails same) =
     absurd (asks.reads (subst (λ n. Rose n call.desk_after.file.faults) fails.opened.faults fails.rose))
-accepted_checked one none words status call text query asks accepted (check_forgotten is forgets) = inr (inr (inl is))
+file_complete one none name text query Accepted good status call asks accepted memory answers (file_forgotten is forgets same) = subst (λ s. IsOneOf s good) (sym is) memory
 
--- the promise, for each job
-pub words_promised : (words : List (List ℕ)) (status : Status) (call : Call) → job_of words ≡ None → RefusesWords status call → Promise words status call
-words_promised words status call none does = record {
-  does = subst (λ job. Does job status call) (sym none) does;
-  faults = words_faults status call does;
-  sort_always = λ asks. absurd (let a = asks.job in cc);
-  refused_always = λ asks. absurd (let a = asks.job in cc);
-  check_refused_always = λ text fault asks faulty. absurd (let a = asks.job in cc);
-  check_accepted_always = λ text query asks accepted. absurd (let a = asks.job in cc);
-  complete = λ asks. absurd (let a = asks.job in cc);
+-- the same for the archive, from a desk in between on
+
+short_later : (name archive : List ℕ) (limit : ℕ) (mid : DeskView) (text : List ℕ) (call : Call) → TakesQuery name call.desk mid text → IsShort call archive limit
+    → IsShort (from_desk mid call) archive limit
+short_later name archive limit mid text call takes short = record {
+  told = with_open name short.told;
+  tells = takes.opened.told ∙ ap (option_map (with_open name)) short.tells;
+  within = short.within;
 }
 
-abbrev word_in : Option Job → List ℕ
-word_in None = []
-word_in (Some job) = job.word
+none_later : (name : List ℕ) (mid : DeskView) (text : List ℕ) (call : Call) → TakesQuery name call.desk mid text → NothingRose call → NothingRose (from_desk mid call)
+none_later name mid text call takes none =
+    let same = takes_counts name call.desk mid text takes in
+    record {
+      opens = λ rose. none.opens (subst (λ n. Rose n call.desk_after.open_faults) same.opens rose);
+      reads = λ rose. none.reads (subst (λ n. Rose n call.desk_after.file.faults) same.reads rose);
+      writes = none.writes;
+    }
 
-abbrev mode_in : Option Job → Mode
-mode_in None = Eval
-mode_in (Some job) = job.mode
+acceptance_is_one : (status : Status) (call : Call) → NothingRose call → AcceptsQuery status call.sinks → IsOneOf status (Done ∷ NoMemory ∷ [])
+acceptance_is_one Done call none does = inl refl
+acceptance_is_one WriteFault call none does = absurd (none.writes (some_failed call.sinks does.1))
+acceptance_is_one NoMemory call none does = absurd does
+acceptance_is_one QueryRefused call none does = absurd does
+acceptance_is_one DoneWithRefusals call none does = absurd does
+acceptance_is_one WordsRefused call none does = absurd does
+acceptance_is_one OpenFault call none does = absurd does
+acceptance_is_one ReadFault call none does = absurd does
+acceptance_is_one ArchiveTooLong call none does = absurd does
+acceptance_is_one NotYetRead call none does = absurd does
 
-same_text : (words : List (List ℕ)) (a b : List ℕ) → job_of words ≡ Some (record { mode = Eval; word = a }) → job_of words ≡ Some (record { mode = Eval; word = b }) → a ≡ b
-same_text words a b e f = ap word_in (sym e ∙ f)
+job_complete : SpellOne → SpellNone → (job : Job) (text : List ℕ) (query : QueryTree) (status : Status) (call : Call) → HasText call job text → IsQuery text query
+    → IsWithin call job → NothingRose call → DoesJob job status call → IsOneOf status (good_answers job)
+job_complete one never (Run name archive workers limit) text query status call has is short none does =
+    file_complete one never name text query (AnswersFile archive limit) (Done ∷ DoneWithRefusals ∷ NoMemory ∷ []) status call has is (inr (inr (inl refl)))
+    (λ mid found takes a. archive_complete archive limit query status (from_desk mid call) (short_later name archive limit mid found call takes short) (none_later name mid found call takes none) a)
+    does
+job_complete one never (Eval word archive workers limit) text query status call has is short none does =
+    text_complete one never text query (AnswersFile archive limit) (Done ∷ DoneWithRefusals ∷ NoMemory ∷ []) status call is (inr (inr (inl refl)))
+    (λ a. archive_complete archive limit query status call short none a) (subst (λ t. OverText t (AnswersFile archive limit) status call) has does)
+job_complete one never (Check name) text query status call has is short none does =
+    file_complete one never name text query SaysAccepted (Done ∷ NoMemory ∷ []) status call has is (inr (inl refl))
+    (λ mid found takes a. acceptance_is_one status call none a.0) does
+job_complete one never (Explain name) text query status call has is short none does = absurd has
+job_complete one never (SelfRun word seed games workers) text query status call has is short none does = absurd has
 
-one_mode : (words : List (List ℕ)) (a b : List ℕ) → job_of words ≡ Some (record { mode = Check; word = a }) → job_of words ≡ Some (record { mode = Eval; word = b }) → ⊥
-one_mode words a b e f = let m : Check ≡ Eval = ap mode_in (sym e ∙ f) in cc
+-- a job that was done
 
-pub eval_promised : SpellOne → SpellNone → (words : List (List ℕ)) (status : Status) (call : Call) (text : List ℕ) → job_of words ≡ Some (record { mode = Eval; word = text }) → Evaluates text status call → Promise words status call
-eval_promised one none words status call text job does = record {
-  does = subst (λ job. Does job status call) (sym job) does;
-  faults = evaluates_faults text status call does;
-  sort_always = λ asks. sort_not_yet one none status call words asks (subst (λ t. Evaluates t status call) (same_text words text asks.text job asks.job) does);
-  refused_always = λ asks. faulty_refused one none text asks.fault status call
-      (subst (λ t. IsQueryFault t asks.fault) (same_text words asks.text text asks.job job) asks.faulty) does;
-  check_refused_always = λ found fault asks faulty. absurd (one_mode words asks.name text asks.job job);
-  check_accepted_always = λ found query asks accepted. absurd (one_mode words asks.name text asks.job job);
-  complete = λ asks. accepted_answered one none status call words asks (subst (λ t. Evaluates t status call) (same_text words text asks.text job asks.job) does);
+pub run_done : (job : Job) (query archive name file : List ℕ) (workers limit : ℕ) (status : Status) (call : Call) → job ≡ Run query archive workers limit → name ≡ query → file ≡ archive
+    → OverFile name (AnswersFile file limit) status call → DoesJob job status call
+run_done job query archive name file workers limit status call is names files does =
+    subst (λ j. DoesJob j status call) (sym is) (subst (λ n. OverFile n (AnswersFile archive limit) status call) names
+    (subst (λ f. OverFile name (AnswersFile f limit) status call) files does))
+
+pub eval_done : (job : Job) (word archive text file : List ℕ) (workers limit : ℕ) (status : Status) (call : Call) → job ≡ Eval word archive workers limit → text ≡ word → file ≡ archive
+    → OverText text (AnswersFile file limit) status call → DoesJob job status call
+eval_done job word archive text file workers limit status call is texts files does =
+    subst (λ j. DoesJob j status call) (sym is) (subst (λ t. OverText t (AnswersFile archive limit) status call) texts
+    (subst (λ f. OverText text (AnswersFile f limit) status call) files does))
+
+pub check_done : (job : Job) (query name : List ℕ) (status : Status) (call : Call) → job ≡ Check query → name ≡ query → OverFile name SaysAccepted status call → DoesJob job status call
+check_done job query name status call is names does = subst (λ j. DoesJob j status call) (sym is) (subst (λ n. OverFile n SaysAccepted status call) names does)
+
+-- the words
+
+asks_answered : (words : List (List ℕ)) (result : Result Job (Refusal RefusedWords)) → Answers (asked words) result → (takes line words ≡ true → Answers (job_in (matches_of line words)) result)
+    → (job : Option Job) → Asks words job → Answers job result
+asks_answered words result value taken job (inl promised) = subst (λ j. Answers j result) promised.1 (taken promised.0)
+asks_answered words result value taken job (inr is) = subst (λ j. Answers j result) is value
+
+same_job : (a b : Job) → ◌≡◌ {A = Option Job} (Some a) (Some b) → b ≡ a
+same_job a b e = cc
+
+pub job_promised : SpellOne → SpellNone → (words : List (List ℕ)) (status : Status) (call : Call) (job : Job) → Answers (asked words) (Ok job)
+    → (takes line words ≡ true → Answers (job_in (matches_of line words)) (Ok job)) → DoesJob job status call → Promise words status call
+job_promised one never words status call job value taken does = record {
+  does = job_done job value does;
+  faults = job_faults job status call does;
+  words_never_refused = λ other asks e. job_not_words job status call does e;
+  words_always_refused = λ asks. absurd (let e = asks_answered words (Ok job) value taken None asks in cc);
+  query_always_refused = λ other text fault asks has faulty.
+      let same : job ≡ other = same_job other job (asks_answered words (Ok job) value taken (Some other) asks) in
+      job_refused_always one never other text fault status call has faulty (subst (λ j. DoesJob j status call) same does);
+  complete = λ other text query asks has is short none.
+      let same : job ≡ other = same_job other job (asks_answered words (Ok job) value taken (Some other) asks) in
+      job_complete one never other text query status call has is short none (subst (λ j. DoesJob j status call) same does);
 }
 
-same_name : (words : List (List ℕ)) (a b : List ℕ) → job_of words ≡ Some (record { mode = Check; word = a }) → job_of words ≡ Some (record { mode = Check; word = b }) → a ≡ b
-same_name words a b e f = ap word_in (sym e ∙ f)
+usage_is_one : (status : Status) (sinks : Sinks) → WritesUsage status sinks → IsOneOf status (WordsRefused ∷ WriteFault ∷ NoMemory ∷ [])
+usage_is_one WordsRefused sinks does = inl refl
+usage_is_one WriteFault sinks does = inr (inl refl)
+usage_is_one Done sinks does = absurd does
+usage_is_one DoneWithRefusals sinks does = absurd does
+usage_is_one QueryRefused sinks does = absurd does
+usage_is_one OpenFault sinks does = absurd does
+usage_is_one ReadFault sinks does = absurd does
+usage_is_one NoMemory sinks does = absurd does
+usage_is_one ArchiveTooLong sinks does = absurd does
+usage_is_one NotYetRead sinks does = absurd does
 
-pub check_promised : SpellOne → SpellNone → (words : List (List ℕ)) (status : Status) (call : Call) (name : List ℕ) → job_of words ≡ Some (record { mode = Check; word = name }) → Checks name status call → Promise words status call
-check_promised one none words status call name job does = record {
-  does = subst (λ job. Does job status call) (sym job) does;
-  faults = checks_faults name status call does;
-  sort_always = λ asks. absurd (one_mode words name asks.text job asks.job);
-  refused_always = λ asks. absurd (one_mode words name asks.text job asks.job);
-  check_refused_always = λ text fault asks faulty. faulty_checked one none words status call text fault asks faulty
-      (subst (λ n. Checks n status call) (same_name words name asks.name job asks.job) does);
-  check_accepted_always = λ text query asks accepted. accepted_checked one none words status call text query asks accepted
-      (subst (λ n. Checks n status call) (same_name words name asks.name job asks.job) does);
-  complete = λ asks. absurd (one_mode words name asks.text job asks.job);
+not_asked : (words : List (List ℕ)) (refused : RefusedWords) (job : Job) → Answers (asked words) (Err (Fault refused))
+    → (takes line words ≡ true → Answers (job_in (matches_of line words)) (Err (Fault refused))) → Asks words (Some job) → ⊥
+not_asked words refused job value taken asks = let e = asks_answered words (Err (Fault refused)) value taken (Some job) asks in cc
+
+pub refusal_promised : (words : List (List ℕ)) (status : Status) (desk : DeskView) (sinks : Sinks) (refused : RefusedWords) → Answers (asked words) (Err (Fault refused))
+    → (takes line words ≡ true → Answers (job_in (matches_of line words)) (Err (Fault refused))) → WritesUsage status sinks → Promise words status (call_of desk desk sinks)
+refusal_promised words status desk sinks refused value taken does = record {
+  does = words_refused value does refl;
+  faults = usage_faults status (call_of desk desk sinks) refl does;
+  words_never_refused = λ job asks e. not_asked words refused job value taken asks;
+  words_always_refused = λ asks. usage_is_one status sinks does;
+  query_always_refused = λ job text fault asks has faulty. absurd (not_asked words refused job value taken asks);
+  complete = λ job text query asks has is short none. absurd (not_asked words refused job value taken asks);
 }
+
+memory_is_good : (job : Job) → IsOneOf NoMemory (good_answers job)
+memory_is_good (Run query archive workers limit) = inr (inr (inl refl))
+memory_is_good (Eval text archive workers limit) = inr (inr (inl refl))
+memory_is_good (Check query) = inr (inl refl)
+memory_is_good (Explain query) = inr (inl refl)
+memory_is_good (SelfRun text seed games workers) = inr (inr (inl refl))
+
+pub forgetting_promised : (words : List (List ℕ)) (desk : DeskView) (sinks : Sinks) → IsUnwritten sinks → Promise words NoMemory (call_of desk desk sinks)
+forgetting_promised words desk sinks same =
+    let unmoved : IsUnmoved (call_of desk desk sinks) = record { desk = refl; sinks = same } in
+    record {
+      does = words_forgotten refl unmoved;
+      faults = unmoved_faults NoMemory (call_of desk desk sinks) unmoved;
+      words_never_refused = λ job asks e. cc;
+      words_always_refused = λ asks. inr (inr (inl refl));
+      query_always_refused = λ job text fault asks has faulty. inr (inr (inl refl));
+      complete = λ job text query asks has is short none. memory_is_good job;
+    }
 
 -- what opening a file did
 
@@ -348,33 +502,31 @@ opened_of name desk mid after opens reads counts told later = record {
   opens = later ∙ counts;
 }
 
+
 same_source : (l m : Option (List ℕ)) (f g : ℕ) → l ≡ m → f ≡ g → ◌≡◌ {A = SourceView} (record { left = l; faults = f }) (record { left = m; faults = g })
 same_source l m f g e h = cc
 
-pub unopened_of : (desk after : DeskView) (sinks : Sinks) → Rose desk.open_faults after.open_faults → after.told ≡ desk.told → after.file.left ≡ desk.file.left
-    → after.file.faults ≡ desk.file.faults → IsUnwritten sinks → FailsToOpen (call_of desk after sinks)
-unopened_of desk after sinks rose told left reads same =
-    record { rose = rose; told = told; file = same_source after.file.left desk.file.left after.file.faults desk.file.faults left reads; unwritten = same }
+pub unopened_of : (desk after : DeskView) → Rose desk.open_faults after.open_faults → after.told ≡ desk.told → after.file.left ≡ desk.file.left
+    → after.file.faults ≡ desk.file.faults → FailsToOpen desk after
+unopened_of desk after rose told left reads = record { rose = rose; told = told; file = same_source after.file.left desk.file.left after.file.faults desk.file.faults left reads }
 
-pub unmoved_of : (desk after : DeskView) (sinks : Sinks) → after.open_faults ≡ desk.open_faults → after.told ≡ desk.told → after.file.left ≡ desk.file.left
-    → after.file.faults ≡ desk.file.faults → IsUnwritten sinks → IsUnmoved (call_of desk after sinks)
-unmoved_of desk after sinks opens told left reads same =
-    record { told = told; file = same_source after.file.left desk.file.left after.file.faults desk.file.faults left reads; opens = opens; unwritten = same }
+same_desk : (t u : Option Told) (l m : Option (List ℕ)) (f g o p : ℕ) → t ≡ u → l ≡ m → f ≡ g → o ≡ p
+    → ◌≡◌ {A = DeskView} (record { told = t; file = record { left = l; faults = f }; open_faults = o }) (record { told = u; file = record { left = m; faults = g }; open_faults = p })
+same_desk t u l m f g o p e h i j = cc
 
-pub usage_refuses : (status : Status) (desk : DeskView) (sinks : Sinks) → WritesUsage status sinks → RefusesWords status (call_of desk desk sinks)
-usage_refuses WordsRefused desk sinks wrote = (wrote.0, record { input = record { opens = refl; reads = refl }; writes = wrote.1 }, refl)
-usage_refuses WriteFault desk sinks wrote = (wrote.0, wrote.1, refl)
-usage_refuses Done desk sinks wrote = absurd wrote
-usage_refuses DoneWithRefusals desk sinks wrote = absurd wrote
-usage_refuses QueryRefused desk sinks wrote = absurd wrote
-usage_refuses OpenFault desk sinks wrote = absurd wrote
-usage_refuses ReadFault desk sinks wrote = absurd wrote
-usage_refuses NoMemory desk sinks wrote = absurd wrote
-usage_refuses ArchiveTooLong desk sinks wrote = absurd wrote
-usage_refuses NotYetRead desk sinks wrote = absurd wrote
+pub unmoved_of : (desk after : DeskView) → after.open_faults ≡ desk.open_faults → after.told ≡ desk.told → after.file.left ≡ desk.file.left
+    → after.file.faults ≡ desk.file.faults → after ≡ desk
+unmoved_of desk after opens told left reads = same_desk after.told desk.told after.file.left desk.file.left after.file.faults desk.file.faults after.open_faults desk.open_faults told left reads opens
 
-pub input_answered : (text : List ℕ) (query : QueryTree) (status : Status) (call : Call) → IsQuery text query → has_sort query ≡ false → AnswersInput query status call
-    → Evaluates text status call
-input_answered text query status call is plain (inl does) = eval_answered query is plain does
-input_answered text query status call is plain (inr (inl fails)) = eval_unopened query is plain fails.0 fails.1
-input_answered text query status call is plain (inr (inr same)) = eval_forgotten same.0 same.1
+-- what was said of the query in a file
+pub told_why : (name : List ℕ) (Accepted : QueryTree → Status → Call → Type 0) (why : Unasked) (status : Status) (desk after : DeskView) (sinks : Sinks)
+    → ReadsFile name desk after (Err why) → TellsWhy why status sinks → OverFile name Accepted status (call_of desk after sinks)
+told_why name Accepted (Faulty fault) status desk after sinks reads tells = file_refused reads.0 fault reads.1 reads.2 tells
+told_why name Accepted Unopened status desk after sinks reads tells = file_unopened tells.0 reads tells.1
+told_why name Accepted Unread status desk after sinks reads tells = file_unread tells.0 reads tells.1
+told_why name Accepted Forgotten status desk after sinks reads tells = file_forgotten tells.0 reads tells.1
+
+pub file_answered : (name : List ℕ) (Accepted : QueryTree → Status → Call → Type 0) (query : QueryTree) (status : Status) (desk mid after : DeskView) (sinks : Sinks)
+    → ((text : List ℕ) × TakesQuery name desk mid text × IsQuery text query) → Accepted query status (call_of mid after sinks)
+    → OverFile name Accepted status (call_of desk after sinks)
+file_answered name Accepted query status desk mid after sinks (text, takes, is) does = file_accepted text query mid takes is does

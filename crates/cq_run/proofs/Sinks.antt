@@ -1,6 +1,5 @@
 -- What sinks have taken.
-use Rattle.std.proofs.Common.{◌≡◌, ℕ, inl, inr, List, [], ◌++◌, length, take, drop, append-nil, append_assoc, Option, Some, None, Ok, Err, refl, sym, ap, ◌∙◌, subst}
-use Rattle.std.specs.Prelude.{Result, OnOk}
+use Rattle.std.proofs.Common.{◌≡◌, ℕ, inl, inr, List, [], ◌++◌, length, take, drop, append-nil, append_assoc, Option, Some, None, refl, sym, ap, ◌∙◌, subst}
 use Rattle.std.proofs.Math.Seq.{take-append_seam}
 use Rattle.std.proofs.lemmas.List.{take-append-drop}
 use Rattle.cq_outside.specs.Faults.{Rose}
@@ -52,16 +51,8 @@ took_on a b c xs ys more f t = record {
 pub took_front : (a b : Option (List ℕ)) (xs more : List ℕ) → Grew a b xs → Took a b (xs ++ more)
 took_front a b xs more f = record { part = xs; rest = more; is = refl; grew = f }
 
-prefix_of : (a b : Option (List ℕ)) (text : List ℕ) → (t : Took a b text) → Grew a b (take (length t.part) text)
+pub prefix_of : (a b : Option (List ℕ)) (text : List ℕ) → (t : Took a b text) → Grew a b (take (length t.part) text)
 prefix_of a b text t = subst (λ l. Grew a b (take (length t.part) l)) (sym t.is) (grew_part a b t.part t.rest t.grew)
-
-pub writes_prefix : (sinks : Sinks) (texts : Texts) → Took sinks.out.taken sinks.out_after.taken texts.out → Took sinks.err.taken sinks.err_after.taken texts.err → WritesPrefix sinks texts
-writes_prefix sinks texts out err = record {
-  out_count = length out.part;
-  err_count = length err.part;
-  out = prefix_of sinks.out.taken sinks.out_after.taken texts.out out;
-  err = prefix_of sinks.err.taken sinks.err_after.taken texts.err err;
-}
 
 -- where no write had failed, the one that failed after that is the only one
 pub fails_after : (out mid_out new_out err mid_err new_err : SinkView) → NoWriteFailed (sinks_of out mid_out err mid_err) → OneSinkFailed (sinks_of mid_out new_out mid_err new_err)
@@ -76,13 +67,3 @@ none_after out mid_out new_out err mid_err new_err none later = record { out = l
 pub some_failed : (sinks : Sinks) → OneSinkFailed sinks → SinkFailed sinks
 some_failed sinks (inl (rose, same)) = inl rose
 some_failed sinks (inr (rose, same)) = inr rose
-
--- what holds of a success
-pub on_ok : {T E : Type 0} {A B : Type 0} (result : Result T E) → (A → B) → OnOk result A → OnOk result B
-on_ok (Ok x) f a = f a
-on_ok (Err e) f a = tt
-
--- a line to which two texts are added
-pub two_more : (line mid new a b c d : List ℕ) → mid ≡ line ++ (a ++ b) → new ≡ mid ++ (c ++ d) → new ≡ line ++ (((a ++ b) ++ c) ++ d)
-two_more line mid new a b c d e f =
-    f ∙ ap (λ l. l ++ (c ++ d)) e ∙ append_assoc line (a ++ b) (c ++ d) ∙ ap (λ l. line ++ l) (sym (append_assoc (a ++ b) c d))

@@ -1,39 +1,12 @@
 -- What a query finds in games, and how it is written.
-use Rattle.std.specs.Prelude.{ℕ, ◌+◌, Bool, true, false, not, ◌==◌, List, [], ◌∷◌, ◌++◌, length, codes, decimal, count_by, Ok, Err, if◌then◌else◌}
-use Rattle.std.specs.List.{flat_map}
+use Rattle.std.specs.Prelude.{ℕ, ◌+◌, Bool, true, false, not, ◌==◌, List, [], ◌∷◌, ◌++◌, length, count_by, Ok, Err, if◌then◌else◌}
 use Rattle.cq_position.specs.Games.{Game}
 use Rattle.pgn_export.specs.Export.{export_text}
-use Rattle.pgn_reader.specs.declared.fault.GameFault.{GameFault}
-use Rattle.pgn_reader.specs.declared.fault.Reason.{Reason}
-use Rattle.pgn_reader.specs.declared.fault.Reason.TheVariants.{BadByte, UnclosedComment, UnclosedString, BadTag, BadFen, NagRange, NotAMove, IllegalMove, AmbiguousMove, VariationWithoutMove, EmptyVariation, UnopenedVariation, UnclosedVariation, TooDeep, TooManyPositions, GameTooLong}
+use Rattle.cq_report.specs.Games.{fault_line, summary_line}
 use Rattle.cq_run.specs.declared.tally.Tally.{Tally}
 use Rattle.cql_syntax.specs.Hits.{hits, marked}
 use Rattle.cql_syntax.specs.Trees.{QueryTree}
 use Rattle.cq_run.specs.Outcomes.{Outcome}
-
--- the text of each reason
-abbrev pub reason_text : Reason → List ℕ
-reason_text BadByte = codes "bad byte"
-reason_text UnclosedComment = codes "unclosed comment"
-reason_text UnclosedString = codes "unclosed string"
-reason_text BadTag = codes "bad tag"
-reason_text BadFen = codes "bad FEN"
-reason_text NagRange = codes "NAG out of range"
-reason_text NotAMove = codes "not a move"
-reason_text IllegalMove = codes "illegal move"
-reason_text AmbiguousMove = codes "ambiguous move"
-reason_text VariationWithoutMove = codes "variation without move"
-reason_text EmptyVariation = codes "empty variation"
-reason_text UnopenedVariation = codes "unopened variation"
-reason_text UnclosedVariation = codes "unclosed variation"
-reason_text TooDeep = codes "too deep"
-reason_text TooManyPositions = codes "too many positions"
-reason_text GameTooLong = codes "game too long"
-
--- the line of a faulty game: its number, from 1, the byte of its fault, from 0, and the reason
-abbrev pub fault_line : ℕ → GameFault → List ℕ
-fault_line number fault =
-    codes "game " ++ decimal number ++ codes " byte " ++ decimal fault.byte ++ codes ": " ++ reason_text fault.reason ++ codes "\n"
 
 -- whether the query matches at some node
 abbrev pub has_match : QueryTree → Game → Bool
@@ -61,11 +34,9 @@ unfoldable pub fault_lines : ℕ → List Outcome → List ℕ
 fault_lines number [] = []
 fault_lines number (r ∷ rs) = fault_if number r ++ fault_lines (number + 1) rs
 
--- the last line of a report: how many games there are, match and are refused
-abbrev pub summary_line : Tally → List ℕ
-summary_line tally =
-    codes "games " ++ decimal tally.games ++ codes " matched " ++ decimal tally.matched
-    ++ codes " refused " ++ decimal tally.refused ++ codes "\n"
+-- the last line of a report
+abbrev pub summary_of : Tally → List ℕ
+summary_of tally = summary_line tally.games tally.matched tally.refused
 
 -- how many of some games there are, match and are refused
 abbrev pub tally_of : QueryTree → List Outcome → Tally
@@ -75,19 +46,6 @@ tally_of query outcomes = record {
   refused = count_by is_refused outcomes;
 }
 
--- What a query finds in games: the exports of those that match and the lines of the faulty ones, in their order, and their numbers.
-pub record Answer : Type 0 where
-  pub exports : List ℕ
-  pub faults : List ℕ
-  pub tally : Tally
-
-abbrev pub answer_of : QueryTree → List Outcome → Answer
-answer_of query outcomes = record {
-  exports = flat_map (export_if query) outcomes;
-  faults = fault_lines 1 outcomes;
-  tally = tally_of query outcomes;
-}
-
 -- the report: the lines of the faulty games, and then the counts
-abbrev pub report_of : Answer → List ℕ
-report_of answer = answer.faults ++ summary_line answer.tally
+abbrev pub report_of : QueryTree → List Outcome → List ℕ
+report_of query outcomes = fault_lines 1 outcomes ++ summary_of (tally_of query outcomes)

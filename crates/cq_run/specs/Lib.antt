@@ -1,8 +1,9 @@
 pub mod Status
-pub mod Words
 pub mod Queries
 pub mod Outcomes
 pub mod Answer
+pub mod Exports
 pub mod Promise
+pub mod Run
 pub mod Writing
 pub mod Asked

@@ -1,5 +1,6 @@
 -- What answering an archive, and each game of it, leaves, as the private functions give it.
-use Rattle.std.specs.Prelude.{◌≡◌, ℕ, ◌+◌, ◌<◌, List, take, Result, Ok, Err, if◌then◌else◌}
+use Rattle.std.specs.Prelude.{◌≡◌, ℕ, ◌+◌, ◌<◌, Bool, List, [], ◌++◌, take, filter, All, AllPairs, Result, Ok, Err, if◌then◌else◌}
+use Rattle.std.specs.List.Sorted.{IsPermutation}
 use Rattle.cq_outside.specs.Faults.{Rose}
 use Rattle.cq_outside.specs.Flow.{Grew}
 use Rattle.cq_outside.specs.declared.faults.Failed.{Failed}
@@ -9,9 +10,12 @@ use Rattle.cq_run.specs.declared.status.Status.{Status}
 use Rattle.cq_run.specs.declared.status.Status.TheVariants.{Done, DoneWithRefusals, WriteFault, NoMemory}
 use Rattle.cq_run.specs.declared.tally.Tally.{Tally}
 use Rattle.cql_syntax.specs.Trees.{QueryTree}
+use Rattle.cq_shards.specs.Order.{AreApart, ComesBefore, HasKeys, directions, is_match as is_match_kept}
+use Rattle.cq_shards.specs.declared.answers.GameAnswer.{GameAnswer}
 use Rattle.cq_run.specs.Outcomes.{Outcome, HasGames}
-use Rattle.cq_run.specs.Answer.{Answer, answer_of, export_if, fault_if, is_match, is_refused, summary_line}
-use Rattle.cq_run.specs.Promise.{SinkView, Sinks, Texts, Writes, WritesPrefix, IsUnwritten, OneSinkFailed, NoWriteFailed, texts_of_answer}
+use Rattle.cq_run.specs.Answer.{export_if, fault_if, is_match, is_refused, summary_of, tally_of}
+use Rattle.cq_run.specs.Exports.{exports_of, match_if}
+use Rattle.cq_run.specs.Promise.{SinkView, Sinks, Texts, Writes, WritesPrefix, WritesWhole, WritesPart, IsUnwritten, OneSinkFailed, NoWriteFailed}
 
 -- writing a text to a sink: all of it was taken, or its count rose and a prefix was
 abbrev pub WritesText : List ℕ → SinkView → SinkView → Result (Unit {0}) (Refusal Failed) → Type 0
@@ -23,11 +27,11 @@ WritesText text before after (Err IsNoMemory) = ⊥
 -- writing the last line of a report: the status tells whether a game is refused, or why not all of it is written
 abbrev pub WritesSummary : Tally → SinkView → SinkView → Status → Type 0
 WritesSummary tally before after Done =
-    (tally.refused ≡ 0) × Grew before.taken after.taken (summary_line tally) × (after.faults ≡ before.faults)
+    (tally.refused ≡ 0) × Grew before.taken after.taken (summary_of tally) × (after.faults ≡ before.faults)
 WritesSummary tally before after DoneWithRefusals =
-    (0 < tally.refused) × Grew before.taken after.taken (summary_line tally) × (after.faults ≡ before.faults)
+    (0 < tally.refused) × Grew before.taken after.taken (summary_of tally) × (after.faults ≡ before.faults)
 WritesSummary tally before after WriteFault =
-    ((count : ℕ) × Grew before.taken after.taken (take count (summary_line tally))) × Rose before.faults after.faults
+    ((count : ℕ) × Grew before.taken after.taken (take count (summary_of tally))) × Rose before.faults after.faults
 WritesSummary tally before after NoMemory = after ≡ before
 WritesSummary tally before after _ = ⊥
 
@@ -39,29 +43,65 @@ tallied query tally outcome = record {
   refused = tally.refused + (if is_refused outcome then 1 else 0);
 }
 
--- what is written of the game that follows so many
-abbrev pub texts_of_game : QueryTree → ℕ → Outcome → Texts
-texts_of_game query games outcome = record { out = export_if query outcome; err = fault_if (games + 1) outcome }
+-- What is written of a game as it is answered, and what is kept until the games can be put in order: with a sort item the games that
+-- match are kept, without one their exports are written.
+abbrev pub written : (sorted : Bool) → QueryTree → Outcome → List ℕ
+written sorted query outcome = if sorted then [] else export_if query outcome
 
--- one game is answered: it is counted and written, or a write fails, or out of memory nothing of it is written
-abbrev pub AnswersGame : QueryTree → (Outcome → Type 0) → Tally → Tally → Sinks → Result (Unit {0}) (Refusal Failed) → Type 0
-AnswersGame query Reads before after sinks (Ok _) =
-    (outcome : Outcome) × Reads outcome × (after ≡ tallied query before outcome)
-    × Writes sinks (texts_of_game query before.games outcome) × NoWriteFailed sinks
-AnswersGame query Reads before after sinks (Err (Fault _)) =
-    (outcome : Outcome) × Reads outcome × WritesPrefix sinks (texts_of_game query before.games outcome) × OneSinkFailed sinks
-AnswersGame query Reads before after sinks (Err IsNoMemory) = IsUnwritten sinks
+abbrev pub kept_if : (sorted : Bool) → QueryTree → ℕ → Outcome → List GameAnswer
+kept_if sorted query number outcome = if sorted then match_if query number outcome else []
+
+-- what is written of the game that follows so many
+abbrev pub texts_of_game : (sorted : Bool) → QueryTree → ℕ → Outcome → Texts
+texts_of_game sorted query games outcome = record { out = written sorted query outcome; err = fault_if (games + 1) outcome }
+
+-- how far games were answered: their numbers, and those that are kept
+pub record Stand : Type 0 where
+  pub tally : Tally
+  pub kept : List GameAnswer
+
+abbrev pub stand_of : Tally → List GameAnswer → Stand
+stand_of tally answers = record { tally = tally; kept = answers }
+
+-- one game more: it is counted, and kept where it is to be
+abbrev pub onward : (sorted : Bool) → QueryTree → Stand → Outcome → Stand
+onward sorted query stand outcome = record {
+  tally = tallied query stand.tally outcome;
+  kept = stand.kept ++ kept_if sorted query stand.tally.games outcome;
+}
+
+-- one game is answered: it is counted and written or kept, or a write fails, or out of memory nothing of it is written
+abbrev pub AnswersGame : (sorted : Bool) → QueryTree → (Outcome → Type 0) → Stand → Stand → Sinks → Result (Unit {0}) (Refusal Failed) → Type 0
+AnswersGame sorted query Reads before after sinks (Ok _) =
+    (outcome : Outcome) × Reads outcome × (after ≡ onward sorted query before outcome)
+    × Writes sinks (texts_of_game sorted query before.tally.games outcome) × NoWriteFailed sinks
+AnswersGame sorted query Reads before after sinks (Err (Fault _)) =
+    (outcome : Outcome) × Reads outcome × WritesPrefix sinks (texts_of_game sorted query before.tally.games outcome) × OneSinkFailed sinks
+AnswersGame sorted query Reads before after sinks (Err IsNoMemory) = IsUnwritten sinks
+
+-- the matches that were kept are written in the order of a query, as far as is taken
+pub record InOrder (query : QueryTree) (answers ordered : List GameAnswer) : Type 0 where
+  pub same : IsPermutation (filter is_match_kept answers) ordered
+  pub order : AreApart answers → All (HasKeys (directions query.items)) answers → AllPairs (ComesBefore (directions query.items)) ordered
+
+abbrev pub WritesKept : QueryTree → List GameAnswer → SinkView → SinkView → Result (Unit {0}) (Refusal Failed) → Type 0
+WritesKept query answers before after (Ok _) =
+    (ordered : List GameAnswer) × InOrder query answers ordered × Grew before.taken after.taken (exports_of ordered) × (after.faults ≡ before.faults)
+WritesKept query answers before after (Err (Fault _)) =
+    (ordered : List GameAnswer) × InOrder query answers ordered
+    × ((count : ℕ) × Grew before.taken after.taken (take count (exports_of ordered))) × Rose before.faults after.faults
+WritesKept query answers before after (Err IsNoMemory) = after ≡ before
 
 -- what each status says of the sinks
-abbrev pub WritesAnswer : Answer → Sinks → Status → Type 0
-WritesAnswer answer sinks Done = (answer.tally.refused ≡ 0) × Writes sinks (texts_of_answer answer) × NoWriteFailed sinks
-WritesAnswer answer sinks DoneWithRefusals = (0 < answer.tally.refused) × Writes sinks (texts_of_answer answer) × NoWriteFailed sinks
-WritesAnswer answer sinks WriteFault = OneSinkFailed sinks × WritesPrefix sinks (texts_of_answer answer)
-WritesAnswer answer sinks NoMemory = WritesPrefix sinks (texts_of_answer answer) × NoWriteFailed sinks
-WritesAnswer answer sinks _ = ⊥
+abbrev pub WritesAnswer : QueryTree → List Outcome → Sinks → Status → Type 0
+WritesAnswer query outcomes sinks Done = ((tally_of query outcomes).refused ≡ 0) × WritesWhole query outcomes sinks × NoWriteFailed sinks
+WritesAnswer query outcomes sinks DoneWithRefusals = (0 < (tally_of query outcomes).refused) × WritesWhole query outcomes sinks × NoWriteFailed sinks
+WritesAnswer query outcomes sinks WriteFault = OneSinkFailed sinks × WritesPart query outcomes sinks
+WritesAnswer query outcomes sinks NoMemory = WritesPart query outcomes sinks × NoWriteFailed sinks
+WritesAnswer query outcomes sinks _ = ⊥
 
 -- the games of an archive are read as these, and what the query finds in them is written
 pub record AnswersArchive (query : QueryTree) (archive : List ℕ) (sinks : Sinks) (status : Status) : Type 0 where
   pub outcomes : List Outcome
   pub holds : HasGames archive outcomes
-  pub writes : WritesAnswer (answer_of query outcomes) sinks status
+  pub writes : WritesAnswer query outcomes sinks status

@@ -1,19 +1,36 @@
 //! Reading a query, and saying what is wrong with one.
 ghost use Rattle.std.specs.Prelude.{◌≡◌};
-ghost use Rattle.cq_run.specs.Asked.{ReadsQuery};
-ghost use Rattle.cq_run.specs.Promise.{AcceptsQuery, RefusesQuery, SinkView, sink_view, sinks_of};
+ghost use Rattle.cq_run.specs.Asked.{ReadsQuery, ReadsFile, TellsWhy};
+ghost use Rattle.cq_run.specs.Promise.{SinkView, desk_view, sink_view, sinks_of};
+ghost use Rattle.cq_run.specs.Run.{AcceptsQuery, RefusesQuery};
 
-use crate::query_lines::query_line;
 use crate::status::Status;
-use cq_outside::{Refusal, Sink, write_all_of};
+use cq_outside::{Desk, OpenFault, Refusal, Sink, read_up_to, write_all_of};
+use cq_report::query_line;
 use cql_kinds::check;
 use cql_lexer::query_tokens;
 use cql_parser::{parse, spelled_queries_have_no_any, tokens_of_a_text_are_ended};
 use cql_syntax::{QueryFault, TypedQuery};
 use std::alloc::Global;
 
+/// The limit on a query, in bytes.
+const QUERY_LIMIT: usize = 65_536;
+
 /// The line that answers a query that is accepted.
 const ACCEPTED: &[u8] = b"ok\n";
+
+/// Why the query in a file is not answered.
+#[derive(Drop)]
+pub enum Unasked {
+    /// The query has a fault.
+    Faulty(QueryFault),
+    /// The file could not be opened.
+    Unopened,
+    /// The file could not be read.
+    Unread,
+    /// No memory was found.
+    Forgotten,
+}
 
 /// The query that a text is, or its fault.
 #[tactic(auto, using(crate::proofs::Texts::untokened, crate::proofs::Texts::unparsed))]
@@ -25,6 +42,45 @@ pub fn read_query(alloc: Global, text: &[u8]) -> Result<TypedQuery, Refusal<Quer
     let tokens = query_tokens(alloc, text)?;
     let query = parse(alloc, tokens.as_slice())?;
     check(&query)
+}
+
+/// The query in a file, of which at most 65,537 bytes are taken, or why there is none.
+pub fn query_in_file<D: Desk>(
+    alloc: Global,
+    name: &[u8],
+    desk: &mut D,
+) -> Result<TypedQuery, Unasked>
+    ensures { ReadsFile name.now (desk_view D.told D.left D.faults D.open_faults desk.old)
+        (desk_view D.told D.left D.faults D.open_faults desk.new) result }
+{
+    match desk.open(alloc, name) {
+        Ok(()) => {}
+        Err(OpenFault::Failed) => return Err(Unasked::Unopened),
+        Err(OpenFault::NoMemory) => return Err(Unasked::Forgotten),
+    }
+    let text = match read_up_to(desk, alloc, QUERY_LIMIT) {
+        Ok(text) => text,
+        Err(Refusal::Fault(_)) => return Err(Unasked::Unread),
+        Err(Refusal::NoMemory) => return Err(Unasked::Forgotten),
+    };
+    match read_query(alloc, text.as_slice()) {
+        Ok(query) => Ok(query),
+        Err(Refusal::Fault(fault)) => Err(Unasked::Faulty(fault)),
+        Err(Refusal::NoMemory) => Err(Unasked::Forgotten),
+    }
+}
+
+/// Says why the query in a file is not answered.
+pub fn tell_why<E: Sink>(alloc: Global, why: &Unasked, err: &mut E) -> Status
+    ensures { (out : SinkView) → TellsWhy why.now result
+        (sinks_of out out (sink_view E.taken E.faults err.old) (sink_view E.taken E.faults err.new)) }
+{
+    match why {
+        Unasked::Faulty(fault) => refuse(alloc, fault, err),
+        Unasked::Unopened => Status::OpenFault,
+        Unasked::Unread => Status::ReadFault,
+        Unasked::Forgotten => Status::NoMemory,
+    }
 }
 
 /// Writes the line of a query that is refused.

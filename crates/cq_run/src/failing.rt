@@ -224,8 +224,12 @@ fn a_query_without_a_file_is_not_opened(rt: HostRuntime) -> Result<(), Fail> {
     let mut desk = FileDesk::new(alloc, rt, b"".as_slice())?;
     let mut out = SureSink::new(alloc, 0)?;
     let mut err = SureSink::new(alloc, 0)?;
-    let words = ["check", "none.cql"];
-    let status = status_of(&rt, alloc, &words, &mut desk, &mut out, &mut err)?;
-    assert_eq!(rt; status, Status::OpenFault);
+    for words in [
+        ["check", "none.cql"].as_slice(),
+        ["run", "none.cql", "a.pgn"].as_slice(),
+    ] {
+        let status = status_of(&rt, alloc, words, &mut desk, &mut out, &mut err)?;
+        assert_eq!(rt; status, Status::OpenFault);
+    }
     Ok(())
 }

@@ -1,5 +1,6 @@
-//! Answering a query over an archive: each export and each line is written as its game is answered.
-ghost use Rattle.std.specs.Prelude.{◌≡◌, ◌+◌, ◌<◌, ◌≤◌, ◌^◌, Ok, Err, true, length, All, AllPairs, IfOk};
+//! Answering a query over an archive. The line of a faulty game is written as its game is answered, and so is an export where the
+//! query has no sort item; with one the games that match are kept, and written in order once all are answered.
+ghost use Rattle.std.specs.Prelude.{◌≡◌, ◌∷◌, [], ◌++◌, List, OnOk, ◌+◌, ◌<◌, ◌≤◌, ◌^◌, Bool, Ok, Err, length, All, AllPairs, IfOk};
 ghost use Rattle.cq_annotate.specs.Marking.{game_marked};
 ghost use Rattle.pgn_export.specs.Export.{export_text};
 ghost use Rattle.cql_syntax.specs.Hits.{marks};
@@ -9,16 +10,19 @@ ghost use Rattle.pgn_cut.specs.Spans.{EndsBy};
 ghost use Rattle.pgn_reader.specs.Verdict.{IsRead};
 ghost use Rattle.cql_syntax.specs.TreeOf.{query_tree};
 ghost use Rattle.cql_syntax.specs.Trees.{QueryTree};
-ghost use Rattle.cq_run.specs.Outcomes.{Outcome};
+ghost use Rattle.cq_shards.specs.declared.answers.Answer.TheVariants as answers;
+ghost use Rattle.cq_shards.specs.declared.answers.GameAnswer.{GameAnswer};
+ghost use Rattle.cq_run.specs.Exports as exports;
 ghost use Rattle.cq_run.specs.Promise.{SinkView, sink_view, sinks_of};
-ghost use Rattle.cq_run.specs.Writing.{AnswersArchive, AnswersGame, WritesSummary, WritesText};
+ghost use Rattle.cq_run.specs.Writing.{AnswersArchive, AnswersGame, stand_of, WritesKept, WritesSummary, WritesText};
 
-use crate::report::{fault_line, summary_line};
 use crate::status::Status;
 use crate::tally::Tally;
 use cq_annotate::mark;
-use cq_hits::hits;
+use cq_hits::{have_sort, hits, keys_over};
 use cq_outside::{Bytes, Failed, NoMemory, Refusal, Sink, write_all_of};
+use cq_report::{fault_line, summary_line};
+use cq_shards::{Answer, GameAnswer, Keys, by_keys};
 use cql_syntax::TypedQuery;
 use pgn_cut::{Span, cut_whole, games_end_once};
 use pgn_export::export;
@@ -26,8 +30,8 @@ use pgn_reader::{GameFault, games_have_outcomes, read_game};
 use pgn_tree::Game;
 use std::alloc::Global;
 
-/// Answers the query over an archive of at most 2^30 bytes: `out` takes the export of each game that matches, and `err` the
-/// line of each faulty game and, after the last game, the counts. A write that fails is the last one.
+/// Answers the query over an archive of fewer than 2^62 bytes: `out` takes the export of each game that matches, in the order of the
+/// query, and `err` the line of each faulty game and, after the last game, the counts. A write that fails is the last one.
 pub fn answer_archive<O: Sink, E: Sink>(
     alloc: Global,
     query: &TypedQuery,
@@ -35,7 +39,7 @@ pub fn answer_archive<O: Sink, E: Sink>(
     out: &mut O,
     err: &mut E,
 ) -> Status
-    requires size { length archive.now ≤ 2 ^ 30 }
+    requires size { length archive.now < 2 ^ 62 }
     ensures { AnswersArchive (query_tree query.now.query) archive.now
         (sinks_of (sink_view O.taken O.faults out.old) (sink_view O.taken O.faults out.new)
         (sink_view E.taken E.faults err.old) (sink_view E.taken E.faults err.new)) result }
@@ -45,26 +49,62 @@ pub fn answer_archive<O: Sink, E: Sink>(
     let Ok(games) = cut_whole(alloc, archive) else {
         return Status::NoMemory;
     };
+    let sorted = have_sort(&query.query.items);
     let mut tally = Tally {
         games: 0,
         matched: 0,
         refused: 0,
     };
+    let mut kept = Vec::new(alloc);
     for i in 0..games.len() {
-        match answer_game(alloc, query, archive, games[i], &mut tally, out, err) {
+        let game = games[i];
+        match answer_game(alloc, query, sorted, archive, game, &mut tally, &mut kept, out, err) {
             Ok(()) => {}
             Err(Refusal::Fault(_)) => return Status::WriteFault,
             Err(Refusal::NoMemory) => return Status::NoMemory,
         }
     }
-    write_summary(alloc, tally, err)
+    match write_kept(alloc, query, kept, out) {
+        Ok(()) => write_summary(alloc, tally, err),
+        Err(Refusal::Fault(_)) => Status::WriteFault,
+        Err(Refusal::NoMemory) => Status::NoMemory,
+    }
+}
+
+/// Writes the matches that were kept, in the order of the query.
+fn write_kept<O: Sink>(
+    alloc: Global,
+    query: &TypedQuery,
+    kept: Vec<GameAnswer>,
+    out: &mut O,
+) -> Result<(), Refusal<Failed>>
+    ensures { WritesKept (query_tree query.now.query) kept.items (sink_view O.taken O.faults out.old) (sink_view O.taken O.faults out.new) result }
+{
+    let ordered = by_keys(alloc, kept, &query.query)?;
+    for i in 0..ordered.len() {
+        match write_all_of(out, text_of(&ordered[i])) {
+            Ok(()) => {}
+            Err(failed) => return Err(Refusal::Fault(failed)),
+        }
+    }
+    Ok(())
+}
+
+/// The export of a match; nothing of another answer.
+fn text_of(answer: &GameAnswer) -> &[u8]
+    ensures { result.now ≡ exports.text_of answer.now.what }
+{
+    match &answer.what {
+        Answer::Match { text, .. } => text.as_slice(),
+        Answer::Refused(_) | Answer::Miss => &[],
+    }
 }
 
 /// Writes the last line of the report.
 fn write_summary<E: Sink>(alloc: Global, tally: Tally, err: &mut E) -> Status
     ensures { WritesSummary tally (sink_view E.taken E.faults err.old) (sink_view E.taken E.faults err.new) result }
 {
-    let Ok(line) = summary_line(alloc, tally) else {
+    let Ok(line) = summary_line(alloc, tally.games, tally.matched, tally.refused) else {
         return Status::NoMemory;
     };
     match write_all_of(err, line.as_slice()) {
@@ -78,41 +118,45 @@ fn write_summary<E: Sink>(alloc: Global, tally: Tally, err: &mut E) -> Status
 fn answer_game<O: Sink, E: Sink>(
     alloc: Global,
     query: &TypedQuery,
+    sorted: bool,
     archive: &[u8],
     game: Span,
     tally: &mut Tally,
+    kept: &mut Vec<GameAnswer>,
     out: &mut O,
     err: &mut E,
 ) -> Result<(), Refusal<Failed>>
     requires within { EndsBy (length archive.now) game }
-    requires size { length archive.now ≤ 2 ^ 30 }
+    requires size { length archive.now < 2 ^ 62 }
     requires one { IsGameIn archive.now game }
     requires games { tally.old.games < 2 ^ 63 }
     requires matched { tally.old.matched ≤ tally.old.games }
     requires refused { tally.old.refused ≤ tally.old.games }
-    ensures { AnswersGame (query_tree query.now.query) (IsRead game.start game.first (game_bytes archive.now game)) tally.old tally.new
+    ensures { AnswersGame sorted (query_tree query.now.query) (IsRead game.start game.first (game_bytes archive.now game)) (stand_of tally.old kept.old.items) (stand_of tally.new kept.new.items)
         (sinks_of (sink_view O.taken O.faults out.old) (sink_view O.taken O.faults out.new)
         (sink_view E.taken E.faults err.old) (sink_view E.taken E.faults err.new)) result }
 {
     let bytes = &archive[game.start as usize..game.end as usize];
     match read_game(alloc, bytes, game.start, game.first) {
-        Ok(game) => write_match(alloc, query, game, tally, out),
+        Ok(game) => write_match(alloc, query, sorted, game, tally, kept, out),
         Err(Refusal::Fault(fault)) => write_fault(alloc, fault, tally, err),
         Err(Refusal::NoMemory) => Err(Refusal::NoMemory),
     }
 }
 
-/// Writes the export of a game that was read, where it matches.
+/// Writes the export of a game that was read, where it matches, or keeps it.
 fn write_match<O: Sink>(
     alloc: Global,
     query: &TypedQuery,
+    sorted: bool,
     game: Game,
     tally: &mut Tally,
+    kept: &mut Vec<GameAnswer>,
     out: &mut O,
 ) -> Result<(), Refusal<Failed>>
     requires games { tally.old.games < 2 ^ 63 }
     requires matched { tally.old.matched ≤ tally.old.games }
-    ensures { (err : SinkView) → AnswersGame (query_tree query.now.query) (λ outcome. outcome ≡ Ok game) tally.old tally.new
+    ensures { (err : SinkView) → AnswersGame sorted (query_tree query.now.query) (λ outcome. outcome ≡ Ok game) (stand_of tally.old kept.old.items) (stand_of tally.new kept.new.items)
         (sinks_of (sink_view O.taken O.faults out.old) (sink_view O.taken O.faults out.new) err err) result }
 {
     tally.games += 1;
@@ -123,7 +167,12 @@ fn write_match<O: Sink>(
     }
     tally.matched += 1;
     let text = marked_text(alloc, query, &game, nodes)?;
-    write_to(out, text.as_slice())
+    if !sorted {
+        return write_to(out, text.as_slice());
+    }
+    let keys = keys_over(alloc, &query.query, &game, nodes)?;
+    keep(alloc, kept, tally.games - 1, text, keys.as_slice())?;
+    Ok(())
 }
 
 /// The export of a game that is marked at some of its nodes.
@@ -141,6 +190,24 @@ fn marked_text(
     export(alloc, &marked)
 }
 
+/// Keeps a game that matches.
+fn keep(
+    alloc: Global,
+    kept: &mut Vec<GameAnswer>,
+    index: u64,
+    text: Bytes,
+    keys: &[i64],
+) -> Result<(), NoMemory>
+    ensures { OnOk result (kept.new.items ≡ kept.old.items ++ (record { index = index; what = answers.Match text keys.now }) ∷ []) }
+{
+    let keys = Keys::of(alloc, keys)?;
+    kept.push(GameAnswer {
+        index,
+        what: Answer::Match { text, keys },
+    })?;
+    Ok(())
+}
+
 /// Writes the line of a game that is faulty.
 fn write_fault<E: Sink>(
     alloc: Global,
@@ -150,12 +217,12 @@ fn write_fault<E: Sink>(
 ) -> Result<(), Refusal<Failed>>
     requires games { tally.old.games < 2 ^ 63 }
     requires refused { tally.old.refused ≤ tally.old.games }
-    ensures { (query : QueryTree) (out : SinkView) → AnswersGame query (λ outcome. outcome ≡ Err fault) tally.old tally.new
+    ensures { (sorted : Bool) (query : QueryTree) (kept : List GameAnswer) (out : SinkView) → AnswersGame sorted query (λ outcome. outcome ≡ Err fault) (stand_of tally.old kept) (stand_of tally.new kept)
         (sinks_of out out (sink_view E.taken E.faults err.old) (sink_view E.taken E.faults err.new)) result }
 {
     tally.games += 1;
     tally.refused += 1;
-    let line = fault_line(alloc, tally.games, fault)?;
+    let line = fault_line(alloc, tally.games, &fault)?;
     write_to(err, line.as_slice())
 }
 

@@ -8,16 +8,13 @@ mod failing;
 mod games;
 #[cfg(test)]
 mod meaning_rows;
-mod query_lines;
 #[cfg(test)]
 mod query_rows;
-mod report;
 mod status;
 mod tally;
 #[cfg(test)]
 mod tests;
 mod top_call;
-mod words;
 
 pub use answering::answer;
 pub use status::Status;

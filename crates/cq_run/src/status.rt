@@ -21,9 +21,9 @@ pub enum Status {
     WriteFault,
     /// No memory was found.
     NoMemory,
-    /// The archive has more than 2^30 bytes.
+    /// The archive has more bytes than the limit.
     ArchiveTooLong,
-    /// The query has an item `sort`, which this version does not answer.
+    /// The query has an item `sort`, or the words ask `explain` or `selfrun`, which this version does not answer.
     NotYetRead,
 }
 

@@ -2,12 +2,14 @@
 use crate::asked::read_query;
 use crate::{Status, answer, run};
 use cq_outside::{Bytes, NoMemory, OpenGate, SureDesk, SureSink, SureSource};
+use cq_words::Settings;
 use std::alloc::Global;
 use std::process::Abort;
 use std::test::Fail;
 use std::thread::Threads;
 
-const USAGE: &str = "usage: cqlpgn MODE QUERY [ARCHIVE] [--workers N] [--seed S] [--games G]\n";
+const USAGE: &str =
+    "usage: cqlpgn MODE QUERY [ARCHIVE] [--workers N] [--seed S] [--games G] [--limit B]\n";
 
 /// A game as it is written: its FEN text or none, its result and its movetext.
 pub type Written<'a> = (&'a str, &'a str, &'a str);
@@ -256,7 +258,8 @@ fn other_words_and_other_queries_are_turned_away(rt: HostRuntime) -> Result<(), 
     let alloc = rt.alloc();
     let none = b"".as_slice();
     for (mode, query, status, text) in [
-        ("eval", "cql() sort \"p\" power A", Status::NotYetRead, ""),
+        ("explain", "q.cql", Status::NotYetRead, ""),
+        ("selfrun", "cql() mate", Status::NotYetRead, ""),
         (
             "eval",
             "cql() echo",
@@ -280,20 +283,8 @@ fn other_words_and_other_queries_are_turned_away(rt: HostRuntime) -> Result<(), 
 fn a_query_is_answered_over_a_source(rt: HostRuntime) -> Result<(), Fail> {
     let alloc = rt.alloc();
     let text = written(alloc, ("", "*", "1. e4 {CQL} 1... e5 *"))?;
-    for (query, status, out_text, err_text) in [
-        (
-            "cql() Pe4 pe7",
-            Status::Done,
-            text.as_slice(),
-            "games 1 matched 1 refused 0\n",
-        ),
-        (
-            "cql() sort \"p\" power A",
-            Status::NotYetRead,
-            b"".as_slice(),
-            "",
-        ),
-    ] {
+    let report = "games 1 matched 1 refused 0\n";
+    for query in ["cql() Pe4 pe7", "cql() Pe4 pe7 sort \"p\" power A"] {
         let query = read_query(alloc, query.as_bytes())?;
         let mut source = SureSource::new(Bytes::from_slice(alloc, b"1. e4 e5 *")?);
         let mut out = SureSink::new(alloc, 4096)?;
@@ -302,15 +293,127 @@ fn a_query_is_answered_over_a_source(rt: HostRuntime) -> Result<(), Fail> {
             &rt,
             alloc,
             &query,
-            1,
+            Settings {
+                workers: 1,
+                limit: 10,
+            },
             &mut source,
             &mut out,
             &mut err,
             &OpenGate,
         );
+        assert_eq!(rt; answered, Status::Done);
+        assert_eq!(rt; out.taken(), Some(text.as_slice()));
+        assert_eq!(rt; err.taken(), Some(report.as_bytes()));
+    }
+    Ok(())
+}
+
+/// Words that are refused.
+const REFUSED: [&[&str]; 14] = [
+    &[],
+    &["eval"],
+    &["eval", "cql() check", "--workers", "0"],
+    &["eval", "cql() check", "--workers", "65"],
+    &["eval", "cql() check", "--limit", "0"],
+    &["eval", "cql() check", "--limit", "1099511627777"],
+    &["eval", "cql() check", "--first"],
+    &["eval", "cql() check", "--seed", "1"],
+    &["--help"],
+    &["check", "q.cql", "-"],
+    &["explain", "q.cql", "--workers", "2"],
+    &["selfrun", "cql() mate", "--seed", "4294967296"],
+    &["selfrun", "cql() mate", "--games", "100001"],
+    &["selfrun", "cql() mate", "-"],
+];
+
+#[test]
+fn words_are_refused(rt: HostRuntime) -> Result<(), Fail> {
+    let alloc = rt.alloc();
+    for words in REFUSED {
+        let want = (Status::WordsRefused, b"".as_slice(), USAGE);
+        expect(&rt, alloc, words, ("-", "*"), want)?;
+    }
+    Ok(())
+}
+
+#[test]
+fn the_limit_is_the_one_that_is_set(rt: HostRuntime) -> Result<(), Fail> {
+    let alloc = rt.alloc();
+    let text = written(alloc, ("", "*", "{CQL} 1. e4 *"))?;
+    let report = "games 1 matched 1 refused 0\n";
+    let words = ["eval", "cql() initial", "--limit", "8"];
+    let want = (Status::Done, text.as_slice(), report);
+    expect(&rt, alloc, &words, ("-", "1. e4 *\n"), want)?;
+    let want = (Status::ArchiveTooLong, b"".as_slice(), "");
+    expect(&rt, alloc, &words, ("-", "1. e4 *\n\n"), want)
+}
+
+#[test]
+fn a_query_file_is_answered_over_an_archive_file(rt: HostRuntime) -> Result<(), Fail> {
+    let alloc = rt.alloc();
+    let text = written(alloc, ("", "*", "1. e4 e5 2. Nf3 {CQL} *"))?;
+    let report = "games 1 matched 1 refused 0\n";
+    let fault = "query byte 6: outside profile echo\n";
+    let none = b"".as_slice();
+    for (words, status, out_text, err_text) in [
+        (["run", "q.cql", "a.pgn"], Status::Done, text.as_slice(), report),
+        (["run", "echo.cql", "a.pgn"], Status::QueryRefused, none, fault),
+    ] {
+        let mut desk = SureDesk::new(alloc);
+        desk.add(b"q.cql", b"// A knight.\r\ncql() Nf3\r\n")?;
+        desk.add(b"echo.cql", b"cql() echo")?;
+        desk.add(b"a.pgn", b"1. e4 e5 2. Nf3 *\n")?;
+        let mut out = SureSink::new(alloc, 4096)?;
+        let mut err = SureSink::new(alloc, 4096)?;
+        let mut texts = Vec::new(alloc);
+        for word in words {
+            texts.push(String::from_str(alloc, word)?)?;
+        }
+        let words = texts.as_slice();
+        let answered = run(&rt, alloc, words, &mut desk, &mut out, &mut err, &OpenGate);
         assert_eq!(rt; answered, status);
         assert_eq!(rt; out.taken(), Some(out_text));
         assert_eq!(rt; err.taken(), Some(err_text.as_bytes()));
+    }
+    Ok(())
+}
+
+/// The place of one man, as a FEN, and three of them: a pawn, a rook and a pawn.
+const SORTED: [&str; 3] = [
+    "4k3/8/8/8/8/8/P7/4K3 w - - 0 1",
+    "4k3/8/8/8/8/8/8/R3K3 w - - 0 1",
+    "4k3/8/8/8/8/7P/8/4K3 w - - 0 1",
+];
+
+/// Queries with sort items, and the order of the three games.
+const ORDERS: [(&str, [usize; 3]); 4] = [
+    ("cql() sort \"p\" power A", [1, 0, 2]),
+    ("cql() sort min \"p\" power A", [0, 2, 1]),
+    ("cql() sort \"p\" power A sort \"h\" #Ph3", [1, 2, 0]),
+    (
+        "cql() sort \"a\" 1 sort min \"b\" power A sort \"c\" ply sort \"d\" #Ph3",
+        [2, 0, 1],
+    ),
+];
+
+#[test]
+fn games_come_by_the_sort_items(rt: HostRuntime) -> Result<(), Fail> {
+    let alloc = rt.alloc();
+    let mut archive = String::new(alloc);
+    for fen in SORTED {
+        archive.push_str("[FEN \"")?;
+        archive.push_str(fen)?;
+        archive.push_str("\"]\n*\n")?;
+    }
+    let report = "games 3 matched 3 refused 0\n";
+    for (query, order) in ORDERS {
+        let mut text = Bytes::new(alloc);
+        for game in order {
+            text.push_all(written(alloc, (SORTED[game], "*", "{CQL} *"))?.as_slice())?;
+        }
+        let want = (Status::Done, text.as_slice(), report);
+        expect(&rt, alloc, &["eval", query], ("-", archive.as_str()), want)?;
     }
     Ok(())
 }

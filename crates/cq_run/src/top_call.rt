@@ -1,44 +1,46 @@
 //! The top call.
-ghost use Rattle.std.specs.Prelude.{map};
+ghost use Rattle.std.specs.Prelude.{map, ◌≤◌, ◌^◌};
 ghost use Rattle.std.specs.String.{string_bytes};
+ghost use Rattle.cq_words.specs.Jobs.{IsInRange};
 ghost use Rattle.cql_syntax.specs.TreeOf.{query_tree};
-ghost use Rattle.cq_run.specs.Asked.{AnswersInput, WritesUsage, call_of};
-ghost use Rattle.cq_run.specs.Promise.{Promise, Evaluates, Checks, SinkView, desk_view, sink_view, sinks_of};
+ghost use Rattle.cq_run.specs.Asked.{call_of};
+ghost use Rattle.cq_run.specs.Promise.{SinkView, desk_view, sink_view, sinks_of};
+ghost use Rattle.cq_run.specs.Run.{Promise, AnswersFile, OverText, OverFile, SaysAccepted, DoesJob, WritesUsage};
 
-use crate::answering::{answer, has_sort};
-use crate::asked::{accept, read_query, refuse};
+use crate::answering::answer;
+use crate::asked::{accept, query_in_file, read_query, refuse, tell_why};
 use crate::status::Status;
-use crate::words::{Mode, USAGE, job_of};
-use cq_outside::{Desk, Gate, OpenFault, Refusal, Sink, read_up_to, write_all_of};
+use cq_outside::{Desk, Gate, OpenFault, Refusal, Sink, write_all_of};
+use cq_words::{Job, Settings, read_words};
 use cql_parser::{faulty_tokens_spell_no_query, tokens_spell_at_most_one_query};
 use cql_syntax::TypedQuery;
 use std::alloc::Global;
 use std::thread::Threads;
 
-/// The name of standard input, from which the archive is read.
-const STANDARD_INPUT: &[u8] = b"-";
-
-/// The limit on a query, in bytes.
-const QUERY_LIMIT: usize = 65_536;
-
-/// How many workers answer.
-const WORKERS: u32 = 4;
+/// The line that answers words that are refused.
+const USAGE: &[u8] =
+    b"usage: cqlpgn MODE QUERY [ARCHIVE] [--workers N] [--seed S] [--games G] [--limit B]\n";
 
 /// Answers the words of a command, those after the program's name.
 ///
-/// `eval TEXT` takes TEXT as the query and answers it over the archive on standard input, the desk's file `-`: `out` takes the
-/// exports of the games that match, in archive order, each as its game is answered, and `err` the report. `check QUERY` reads
-/// the query from the file QUERY, of which at most 65,537 bytes are taken, and writes `ok` to `out`. A query with a fault is
-/// refused by a line on `err`, `query byte B: REASON`, and other words by the usage line. `rt` and `gate` are not used yet.
+/// - `run QUERY [ARCHIVE]` answers the query in the file QUERY over the archive in the file ARCHIVE: `out` takes the exports of
+///   the games that match, by the query's sort items and then in archive order, and `err` the report. Where the word is missing the
+///   archive is standard input, the desk's file `-`.
+/// - `eval TEXT [ARCHIVE]` does the same of the query that the word TEXT is.
+/// - `check QUERY` writes `ok` to `out` where the query in the file QUERY is accepted.
+///
+/// `run` and `eval` take `--workers N`, from 1 to 64, which has no effect yet, and `--limit B`, from 1 to 2^40: more than so many
+/// bytes of an archive are refused. Of a query's file at most 65,537 bytes are taken. A query with a fault is refused by a line on
+/// `err`, `query byte B: REASON`, before the archive is opened, and other words by the usage line. `rt` and `gate` are not used yet.
 ///
 /// Answers:
 /// - `Done` or `DoneWithRefusals`: both sinks have taken all, and no game, or some, is faulty. `check` answers `Done`.
-/// - `QueryRefused` or `WordsRefused`: the query has a fault, or the words are others; the line is written.
+/// - `QueryRefused` or `WordsRefused`: the query has a fault, or the words are refused; the line is written.
 /// - `OpenFault` or `ReadFault`: that count of the desk rose, and no other; nothing is written.
 /// - `WriteFault`: the count of one sink rose, and no other. Each sink has taken a prefix of its text.
 /// - `NoMemory`: no memory was found, and no count rose; each sink has taken a prefix of its text.
-/// - `ArchiveTooLong`: more than 2^30 bytes of the archive were taken; nothing is written.
-/// - `NotYetRead`: an item of the query of `eval` is a `sort`; no file is opened and nothing is written.
+/// - `ArchiveTooLong`: more bytes of the archive than the limit were taken; nothing is written.
+/// - `NotYetRead`: the words ask `explain` or `selfrun`; no file is opened, and nothing is written.
 ///
 /// In all the others no count rose. The clause `Promise` says each of these exactly, and when an answer always comes; the
 /// table of statuses in README says what the program's user sees of it.
@@ -58,10 +60,10 @@ pub fn run<R: Threads + Sync, D: Desk, O: Sink, E: Sink, G: Gate + Sync>(
 {
     faulty_tokens_spell_no_query();
     tokens_spell_at_most_one_query();
-    match job_of(words) {
-        Some((Mode::Eval, text)) => evaluate(rt, alloc, text, desk, out, err, gate),
-        Some((Mode::Check, name)) => check_file(alloc, name, desk, out, err),
-        None => refuse_words(err),
+    match read_words(alloc, words) {
+        Ok(job) => do_job(rt, alloc, &job, desk, out, err, gate),
+        Err(Refusal::Fault(_)) => refuse_words(err),
+        Err(Refusal::NoMemory) => Status::NoMemory,
     }
 }
 
@@ -76,17 +78,94 @@ fn refuse_words<E: Sink>(err: &mut E) -> Status
     }
 }
 
-/// Answers the query that a text is over the archive on standard input.
-fn evaluate<R: Threads + Sync, D: Desk, O: Sink, E: Sink, G: Gate + Sync>(
+/// Does what the words ask.
+fn do_job<R: Threads + Sync, D: Desk, O: Sink, E: Sink, G: Gate + Sync>(
     rt: &R,
     alloc: Global,
-    text: &[u8],
+    job: &Job,
     desk: &mut D,
     out: &mut O,
     err: &mut E,
     gate: &G,
 ) -> Status
-    ensures { Evaluates text.now result (call_of
+    requires { IsInRange job.now }
+    ensures { DoesJob job.now result (call_of
+        (desk_view D.told D.left D.faults D.open_faults desk.old) (desk_view D.told D.left D.faults D.open_faults desk.new)
+        (sinks_of (sink_view O.taken O.faults out.old) (sink_view O.taken O.faults out.new)
+        (sink_view E.taken E.faults err.old) (sink_view E.taken E.faults err.new))) }
+{
+    match job {
+        Job::Run {
+            query,
+            archive,
+            workers,
+            limit,
+        } => {
+            let settings = Settings {
+                workers: *workers,
+                limit: *limit,
+            };
+            let (query, archive) = (query.as_slice(), archive.as_slice());
+            answer_query_file(rt, alloc, query, archive, settings, desk, out, err, gate)
+        }
+        Job::Eval {
+            text,
+            archive,
+            workers,
+            limit,
+        } => {
+            let settings = Settings {
+                workers: *workers,
+                limit: *limit,
+            };
+            let (text, archive) = (text.as_slice(), archive.as_slice());
+            answer_text(rt, alloc, text, archive, settings, desk, out, err, gate)
+        }
+        Job::Check { query } => check_file(alloc, query.as_slice(), desk, out, err),
+        Job::Explain { .. } | Job::SelfRun { .. } => Status::NotYetRead,
+    }
+}
+
+/// Answers the query in a file over the archive in another.
+fn answer_query_file<R: Threads + Sync, D: Desk, O: Sink, E: Sink, G: Gate + Sync>(
+    rt: &R,
+    alloc: Global,
+    name: &[u8],
+    archive: &[u8],
+    settings: Settings,
+    desk: &mut D,
+    out: &mut O,
+    err: &mut E,
+    gate: &G,
+) -> Status
+    requires workers { (1 ≤ settings.workers) × (settings.workers ≤ 64) }
+    requires limit { (1 ≤ settings.limit) × (settings.limit ≤ 2 ^ 40) }
+    ensures { OverFile name.now (AnswersFile archive.now settings.limit) result (call_of
+        (desk_view D.told D.left D.faults D.open_faults desk.old) (desk_view D.told D.left D.faults D.open_faults desk.new)
+        (sinks_of (sink_view O.taken O.faults out.old) (sink_view O.taken O.faults out.new)
+        (sink_view E.taken E.faults err.old) (sink_view E.taken E.faults err.new))) }
+{
+    match query_in_file(alloc, name, desk) {
+        Ok(query) => answer_file(rt, alloc, &query, archive, settings, desk, out, err, gate),
+        Err(why) => tell_why(alloc, &why, err),
+    }
+}
+
+/// Answers the query that a text is over the archive in a file.
+fn answer_text<R: Threads + Sync, D: Desk, O: Sink, E: Sink, G: Gate + Sync>(
+    rt: &R,
+    alloc: Global,
+    text: &[u8],
+    archive: &[u8],
+    settings: Settings,
+    desk: &mut D,
+    out: &mut O,
+    err: &mut E,
+    gate: &G,
+) -> Status
+    requires workers { (1 ≤ settings.workers) × (settings.workers ≤ 64) }
+    requires limit { (1 ≤ settings.limit) × (settings.limit ≤ 2 ^ 40) }
+    ensures { OverText text.now (AnswersFile archive.now settings.limit) result (call_of
         (desk_view D.told D.left D.faults D.open_faults desk.old) (desk_view D.told D.left D.faults D.open_faults desk.new)
         (sinks_of (sink_view O.taken O.faults out.old) (sink_view O.taken O.faults out.new)
         (sink_view E.taken E.faults err.old) (sink_view E.taken E.faults err.new))) }
@@ -96,29 +175,30 @@ fn evaluate<R: Threads + Sync, D: Desk, O: Sink, E: Sink, G: Gate + Sync>(
         Err(Refusal::Fault(fault)) => return refuse(alloc, &fault, err),
         Err(Refusal::NoMemory) => return Status::NoMemory,
     };
-    if has_sort(&query.query.items) {
-        return Status::NotYetRead;
-    }
-    answer_standard_input(rt, alloc, &query, desk, out, err, gate)
+    answer_file(rt, alloc, &query, archive, settings, desk, out, err, gate)
 }
 
-/// Answers a query over the archive on standard input.
-fn answer_standard_input<R: Threads + Sync, D: Desk, O: Sink, E: Sink, G: Gate + Sync>(
+/// Answers a query that is accepted over the archive in a file.
+fn answer_file<R: Threads + Sync, D: Desk, O: Sink, E: Sink, G: Gate + Sync>(
     rt: &R,
     alloc: Global,
     query: &TypedQuery,
+    archive: &[u8],
+    settings: Settings,
     desk: &mut D,
     out: &mut O,
     err: &mut E,
     gate: &G,
 ) -> Status
-    ensures { AnswersInput (query_tree query.now.query) result (call_of
+    requires workers { (1 ≤ settings.workers) × (settings.workers ≤ 64) }
+    requires limit { (1 ≤ settings.limit) × (settings.limit ≤ 2 ^ 40) }
+    ensures { AnswersFile archive.now settings.limit (query_tree query.now.query) result (call_of
         (desk_view D.told D.left D.faults D.open_faults desk.old) (desk_view D.told D.left D.faults D.open_faults desk.new)
         (sinks_of (sink_view O.taken O.faults out.old) (sink_view O.taken O.faults out.new)
         (sink_view E.taken E.faults err.old) (sink_view E.taken E.faults err.new))) }
 {
-    match desk.open(alloc, STANDARD_INPUT) {
-        Ok(()) => answer(rt, alloc, query, WORKERS, desk, out, err, gate),
+    match desk.open(alloc, archive) {
+        Ok(()) => answer(rt, alloc, query, settings, desk, out, err, gate),
         Err(OpenFault::Failed) => Status::OpenFault,
         Err(OpenFault::NoMemory) => Status::NoMemory,
     }
@@ -132,24 +212,13 @@ fn check_file<D: Desk, O: Sink, E: Sink>(
     out: &mut O,
     err: &mut E,
 ) -> Status
-    ensures { Checks name.now result (call_of
+    ensures { OverFile name.now SaysAccepted result (call_of
         (desk_view D.told D.left D.faults D.open_faults desk.old) (desk_view D.told D.left D.faults D.open_faults desk.new)
         (sinks_of (sink_view O.taken O.faults out.old) (sink_view O.taken O.faults out.new)
         (sink_view E.taken E.faults err.old) (sink_view E.taken E.faults err.new))) }
 {
-    match desk.open(alloc, name) {
-        Ok(()) => {}
-        Err(OpenFault::Failed) => return Status::OpenFault,
-        Err(OpenFault::NoMemory) => return Status::NoMemory,
-    }
-    let text = match read_up_to(desk, alloc, QUERY_LIMIT) {
-        Ok(text) => text,
-        Err(Refusal::Fault(_)) => return Status::ReadFault,
-        Err(Refusal::NoMemory) => return Status::NoMemory,
-    };
-    match read_query(alloc, text.as_slice()) {
+    match query_in_file(alloc, name, desk) {
         Ok(_) => accept(out),
-        Err(Refusal::Fault(fault)) => refuse(alloc, &fault, err),
-        Err(Refusal::NoMemory) => Status::NoMemory,
+        Err(why) => tell_why(alloc, &why, err),
     }
 }

@@ -1,42 +1,35 @@
 use Rattle.std.proofs.Common.{◌<◌, ◌≤◌, Err, length, sym, ap, ◌∙◌, refl, rules}
-use Rattle.std.proofs.lemmas.Bool.{not-false}
-use Rattle.cq_hits.specs.Sorts.{have_sort}
 use Rattle.cql_syntax.specs.TreeOf.{query_tree}
-use Rattle.cq_run.specs.Promise.{archive_limit}
-use Rattle.cq_run.proofs.Answered.{sorted, unread, unremembered, too_long, answered_whole}
+use Rattle.cq_run.proofs.Answered.{unread, unremembered, too_long, answered_whole}
 use Rattle.cq_run.proofs.answering.answer.Goals as goal
-
-pub returns-then-has_sort-clause-answers : goal.returns-then-has_sort-clause-answers
-returns-then-has_sort-clause-answers g c = sorted (query_tree c.args.query.now.query) _ _ (sym c.has_sort.ensures ∙ c.if-has_sort.true) (record { out = refl; err = refl })
 
 pub returns-in-Err-Fault-clause-answers : goal.returns-in-Err-Fault-clause-answers
 returns-in-Err-Fault-clause-answers g c =
     let is = c.in-Err-Fault.is ∙ ap Err c.in-Err-Fault.field-0-is in
     let cause = rw is at c.read_up_to.ensures.cause in
     let taken = rw is at c.read_up_to.ensures.taken in
-    unread (query_tree c.args.query.now.query) _ _ _ (sym c.has_sort.ensures ∙ c.if-has_sort.false) taken cause.1 (record { out = refl; err = refl })
+    unread (query_tree c.args.query.now.query) c.args.settings.limit _ _ _ taken cause.1 (record { out = refl; err = refl })
 
 pub returns-in-Err-NoMemory-clause-answers : goal.returns-in-Err-NoMemory-clause-answers
 returns-in-Err-NoMemory-clause-answers g c =
     let is = c.in-Err-NoMemory.is ∙ ap Err c.in-Err-NoMemory.field-0-is in
     let cause = rw is at c.read_up_to.ensures.cause in
     let taken = rw is at c.read_up_to.ensures.taken in
-    unremembered (query_tree c.args.query.now.query) _ _ _ (sym c.has_sort.ensures ∙ c.if-has_sort.false) taken cause (record { out = refl; err = refl })
+    unremembered (query_tree c.args.query.now.query) c.args.settings.limit _ _ _ taken cause (record { out = refl; err = refl })
 
-pub returns-then-len-gt-ARCHIVE_LIMIT-clause-answers : goal.returns-then-len-gt-ARCHIVE_LIMIT-clause-answers
-returns-then-len-gt-ARCHIVE_LIMIT-clause-answers g c =
-    let long : archive_limit < length c.in-Ok.archive = search rules in
-    too_long (query_tree c.args.query.now.query) _ _ _ c.in-Ok.archive (sym c.has_sort.ensures ∙ c.if-has_sort.false) c.in-Ok.ensures.bytes c.in-Ok.ensures.most long c.in-Ok.ensures.cause
+pub returns-then-len-limit-clause-answers : goal.returns-then-len-limit-clause-answers
+returns-then-len-limit-clause-answers g c =
+    let long : c.args.settings.limit < length c.in-Ok.archive = search rules in
+    too_long (query_tree c.args.query.now.query) c.args.settings.limit _ _ _ c.in-Ok.archive c.in-Ok.ensures.bytes c.in-Ok.ensures.most long c.in-Ok.ensures.cause
     (record { out = refl; err = refl })
 
 pub returns-clause-answers : goal.returns-clause-answers
 returns-clause-answers g c =
-    let within : length c.in-Ok.archive ≤ archive_limit = search rules in
+    let within : length c.in-Ok.archive ≤ c.args.settings.limit = search rules in
     let answers = rw c.as_slice.ensures at c.answer_archive.ensures in
-    answered_whole c.answer_archive.result (query_tree c.args.query.now.query) _ _ _
+    answered_whole c.answer_archive.result (query_tree c.args.query.now.query) c.args.settings.limit _ _ _
     (record {
       archive = c.in-Ok.archive;
-      unsorted = sym c.has_sort.ensures ∙ c.if-has_sort.false;
       takes = c.in-Ok.ensures.bytes;
       within = within;
       at_end = c.in-Ok.ensures.whole within;

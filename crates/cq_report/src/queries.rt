@@ -1,7 +1,7 @@
 //! The line of a query that is refused.
 ghost use Rattle.std.specs.Prelude.{◌≡◌, ◌++◌, IfOk, OnOk};
 ghost use Rattle.cql_syntax.specs.declared.fault.QueryReason.TheVariants as reasons;
-ghost use Rattle.cq_run.specs.Queries as lines;
+ghost use Rattle.cq_report.specs.Queries as lines;
 
 use cq_outside::{Bytes, NoMemory};
 use cql_syntax::{Kind, QueryFault, QueryReason};
@@ -20,7 +20,7 @@ pub fn query_line(alloc: Global, fault: &QueryFault) -> Result<Bytes, NoMemory>
     Ok(line)
 }
 
-/// Adds what is said of a query.
+// Adds what is said of a query.
 fn push_reason(line: &mut Bytes, reason: &QueryReason) -> Result<(), NoMemory>
     ensures { OnOk result (line.new ≡ line.old ++ lines.query_reason_text reason.now) }
 {
@@ -44,7 +44,7 @@ fn push_reason(line: &mut Bytes, reason: &QueryReason) -> Result<(), NoMemory>
     }
 }
 
-/// Adds a reason that names something.
+// Adds a reason that names something.
 fn push_name(line: &mut Bytes, reason: &[u8], name: &Bytes) -> Result<(), NoMemory>
     ensures { OnOk result (line.new ≡ line.old ++ (reason.now ++ name.now)) }
 {
@@ -52,7 +52,7 @@ fn push_name(line: &mut Bytes, reason: &[u8], name: &Bytes) -> Result<(), NoMemo
     line.push_all(name.as_slice())
 }
 
-/// Adds the reason of a filter of another kind than is wanted.
+// Adds the reason of a filter of another kind than is wanted.
 fn push_kinds(line: &mut Bytes, wanted: Kind, found: Kind) -> Result<(), NoMemory>
     ensures { OnOk result (line.new ≡ line.old ++ lines.query_reason_text (reasons.KindMismatch wanted found)) }
 {
@@ -60,7 +60,7 @@ fn push_kinds(line: &mut Bytes, wanted: Kind, found: Kind) -> Result<(), NoMemor
     push_kind(line, b", found ", found)
 }
 
-/// Adds a text and the name of a kind.
+// Adds a text and the name of a kind.
 fn push_kind(line: &mut Bytes, text: &[u8], kind: Kind) -> Result<(), NoMemory>
     ensures { OnOk result (line.new ≡ line.old ++ (text.now ++ lines.kind_text kind)) }
 {
@@ -68,7 +68,7 @@ fn push_kind(line: &mut Bytes, text: &[u8], kind: Kind) -> Result<(), NoMemory>
     line.push_all(kind_text(kind))
 }
 
-/// The name of a kind.
+// The name of a kind.
 fn kind_text(kind: Kind) -> &'static [u8]
     ensures { result.now ≡ lines.kind_text kind }
 {

@@ -1,7 +1,7 @@
 use Rattle.std.proofs.Common.{codes}
-use Rattle.cq_run.specs.Queries.{kind_text}
-use Rattle.cq_run.proofs.Sinks.{on_ok, two_more}
-use Rattle.cq_run.proofs.query_lines.push_kinds.Goals as goal
+use Rattle.cq_report.specs.Queries.{kind_text}
+use Rattle.cq_report.proofs.Lines.{on_ok, two_more}
+use Rattle.cq_report.proofs.queries.push_kinds.Goals as goal
 
 pub returns : goal.returns
 returns c =

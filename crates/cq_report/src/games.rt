@@ -1,15 +1,14 @@
-//! The lines of the report.
+//! The lines of a report over games.
 ghost use Rattle.std.specs.Prelude.{◌≡◌, IfOk};
-ghost use Rattle.cq_run.specs.Answer as lines;
+ghost use Rattle.cq_report.specs.Games as lines;
 
-use crate::tally::Tally;
 use cq_outside::{Bytes, NoMemory};
 use itoa::Buffer;
 use pgn_reader::{GameFault, Reason};
 use std::alloc::Global;
 
-/// What is said of a faulty game.
-pub fn reason_text(reason: Reason) -> &'static [u8]
+// What is said of a faulty game.
+fn reason_text(reason: Reason) -> &'static [u8]
     ensures { result.now ≡ lines.reason_text reason }
 {
     match reason {
@@ -32,13 +31,13 @@ pub fn reason_text(reason: Reason) -> &'static [u8]
     }
 }
 
-/// The line of a faulty game, whose number counts from 1.
-pub fn fault_line(alloc: Global, number: u64, fault: GameFault) -> Result<Bytes, NoMemory>
-    ensures { IfOk result (λ line. line ≡ lines.fault_line number fault) }
+/// The line of a faulty game: its number, from 1, the byte of its fault, from 0, and the reason.
+pub fn fault_line(alloc: Global, game: u64, fault: &GameFault) -> Result<Bytes, NoMemory>
+    ensures { IfOk result (λ line. line ≡ lines.fault_line game fault.now) }
 {
     let mut digits = Buffer::new();
     let mut line = Bytes::from_slice(alloc, b"game ")?;
-    line.push_all(digits.format(number).as_bytes())?;
+    line.push_all(digits.format(game).as_bytes())?;
     line.push_all(b" byte ")?;
     line.push_all(digits.format(fault.byte).as_bytes())?;
     line.push_all(b": ")?;
@@ -48,16 +47,21 @@ pub fn fault_line(alloc: Global, number: u64, fault: GameFault) -> Result<Bytes,
 }
 
 /// The last line of a report: how many games there are, match and are refused.
-pub fn summary_line(alloc: Global, tally: Tally) -> Result<Bytes, NoMemory>
-    ensures { IfOk result (λ line. line ≡ lines.summary_line tally) }
+pub fn summary_line(
+    alloc: Global,
+    games: u64,
+    matched: u64,
+    refused: u64,
+) -> Result<Bytes, NoMemory>
+    ensures { IfOk result (λ line. line ≡ lines.summary_line games matched refused) }
 {
     let mut digits = Buffer::new();
     let mut line = Bytes::from_slice(alloc, b"games ")?;
-    line.push_all(digits.format(tally.games).as_bytes())?;
+    line.push_all(digits.format(games).as_bytes())?;
     line.push_all(b" matched ")?;
-    line.push_all(digits.format(tally.matched).as_bytes())?;
+    line.push_all(digits.format(matched).as_bytes())?;
     line.push_all(b" refused ")?;
-    line.push_all(digits.format(tally.refused).as_bytes())?;
+    line.push_all(digits.format(refused).as_bytes())?;
     line.push_all(b"\n")?;
     Ok(line)
 }

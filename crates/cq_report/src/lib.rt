@@ -1,0 +1,10 @@
+//! The lines of reports: that of a faulty game, the counts after the last game, and the line of a query that is refused.
+#![tactic(auto)]
+
+mod games;
+mod queries;
+#[cfg(test)]
+mod tests;
+
+pub use games::{fault_line, summary_line};
+pub use queries::query_line;

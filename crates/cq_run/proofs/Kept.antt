@@ -1,0 +1,40 @@
+-- Writing the games that were kept.
+use Rattle.std.proofs.Common.{◌≡◌, ℕ, ◌+◌, ◌<◌, List, [], ◌∷◌, ◌++◌, length, take, drop, get_or, append-nil, Option, refl, ap, sym, ◌∙◌, subst}
+use Rattle.std.proofs.lemmas.Grind.{flat_map-append}
+use Rattle.std.proofs.lemmas.List.{take_more, drop_more, take-append-drop}
+use Rattle.cq_outside.specs.Flow.{Grew}
+use Rattle.cq_shards.specs.declared.answers.GameAnswer.{GameAnswer}
+use Rattle.cq_run.specs.Exports.{exports_of, text_of}
+use Rattle.cq_run.specs.Promise.{SinkView}
+use Rattle.cq_run.proofs.Sinks.{grew_on, Took, took_count, took_on, prefix_of}
+
+text_in : GameAnswer → List ℕ
+text_in a = text_of a.what
+
+exports_more : (xs : List GameAnswer) (i : ℕ) (a : GameAnswer) → i < length xs → a ≡ get_or xs i a → exports_of (take (i + 1) xs) ≡ exports_of (take i xs) ++ text_of a.what
+exports_more xs i a inside is =
+    ap exports_of (take_more xs i a inside) ∙ ap (λ x. exports_of (take i xs ++ x ∷ [])) (sym is)
+    ∙ flat_map-append (λ (x : GameAnswer). text_of x.what) (take i xs) (a ∷ []) ∙ ap (λ l. exports_of (take i xs) ++ l) (append-nil (text_of a.what))
+
+-- one export more
+pub more_written : (xs : List GameAnswer) (i : ℕ) (a : GameAnswer) (old now new : Option (List ℕ)) (text : List ℕ) → i < length xs → a ≡ get_or xs i a → text ≡ text_of a.what
+    → Grew old now (exports_of (take i xs)) → Grew now new text → Grew old new (exports_of (take (i + 1) xs))
+more_written xs i a old now new text inside is texts before grew =
+    subst (Grew old new) (ap (λ l. exports_of (take i xs) ++ l) texts ∙ sym (exports_more xs i a inside is)) (grew_on old now new (exports_of (take i xs)) text before grew)
+
+-- the rest from an export on
+rest_of : (xs : List GameAnswer) (i : ℕ) (a : GameAnswer) → i < length xs → a ≡ get_or xs i a
+    → exports_of (take i xs) ++ (text_of a.what ++ exports_of (drop (i + 1) xs)) ≡ exports_of xs
+rest_of xs i a inside is =
+    sym (flat_map-append (λ (x : GameAnswer). text_of x.what) (take i xs) (a ∷ drop (i + 1) xs))
+    ∙ ap (λ x. exports_of (take i xs ++ x ∷ drop (i + 1) xs)) is
+    ∙ ap (λ l. exports_of (take i xs ++ l)) (sym (drop_more xs i a inside)) ∙ ap exports_of (take-append-drop i xs)
+
+-- a part of an export
+pub part_written : (xs : List GameAnswer) (i : ℕ) (a : GameAnswer) (old now new : Option (List ℕ)) (text : List ℕ) (count : ℕ) → i < length xs → a ≡ get_or xs i a → text ≡ text_of a.what
+    → Grew old now (exports_of (take i xs)) → Grew now new (take count text) → (k : ℕ) × Grew old new (take k (exports_of xs))
+part_written xs i a old now new text count inside is texts before grew =
+    let part : Took now new (text_of a.what) = took_count now new (text_of a.what) count (subst (λ l. Grew now new (take count l)) texts grew) in
+    let took : Took old new (exports_of xs) =
+    subst (Took old new) (rest_of xs i a inside is) (took_on old now new (exports_of (take i xs)) (text_of a.what) (exports_of (drop (i + 1) xs)) before part) in
+    (length took.part, prefix_of old new (exports_of xs) took)

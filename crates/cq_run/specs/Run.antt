@@ -1,0 +1,240 @@
+-- What `run` promises: what it does for its words, what out and err have taken then, and when each answer comes.
+use Rattle.std.specs.Prelude.{◌≡◌, ◌⊎◌, ℕ, ◌+◌, ◌≤◌, ◌<◌, true, List, [], ◌∷◌, ◌++◌, length, take, Option, None, Some, codes}
+use Rattle.std.specs.Option.{option_map}
+use Rattle.std.specs.Io.KnownBytes.{Consumes, IsAtEnd}
+use Rattle.clap.specs.Takes.{takes}
+use Rattle.clap.specs.Simple.{matches_of}
+use Rattle.cq_outside.specs.Faults.{Rose}
+use Rattle.cq_outside.specs.Flow.{TakesAtMost}
+use Rattle.cq_outside.specs.Told.{Told, bytes_of}
+use Rattle.cq_words.specs.Jobs.{asked, job_in}
+use Rattle.cq_words.specs.Line.{line}
+use Rattle.cq_words.specs.declared.job.Job.{Job}
+use Rattle.cq_words.specs.declared.job.Job.TheVariants.{Run, Eval, Check, Explain, SelfRun}
+use Rattle.cql_syntax.specs.Trees.{QueryTree}
+use Rattle.cql_syntax.specs.declared.fault.QueryFault.{QueryFault}
+use Rattle.cq_report.specs.Queries.{query_line}
+use Rattle.cq_run.specs.declared.status.Status.{Status}
+use Rattle.cq_run.specs.declared.status.Status.TheVariants.{Done, DoneWithRefusals, QueryRefused, WordsRefused, OpenFault, ReadFault, WriteFault, NoMemory, NotYetRead}
+use Rattle.cq_run.specs.Queries.{IsQuery, IsQueryFault}
+use Rattle.cq_run.specs.Promise.{SourceView, DeskView, Sinks, Texts, Writes, WritesPrefix, IsUnwritten, NoWriteFailed, OneSinkFailed, SinkFailed, IsOneOf, AnswerPromise}
+
+-- what a call of `run` was lent, as it began and as it ended
+pub record Call : Type 0 where
+  pub desk : DeskView
+  pub desk_after : DeskView
+  pub sinks : Sinks
+
+-- the rest of a call, from a desk in between on
+abbrev pub from_desk : DeskView → Call → Call
+from_desk mid call = record { desk = mid; desk_after = call.desk_after; sinks = call.sinks }
+
+-- nothing changed
+pub record IsUnmoved (call : Call) : Type 0 where
+  pub desk : call.desk_after ≡ call.desk
+  pub sinks : IsUnwritten call.sinks
+
+-- ---- files
+
+-- no open and no read failed
+pub record NoInputFailed (desk after : DeskView) : Type 0 where
+  pub opens : after.open_faults ≡ desk.open_faults
+  pub reads : after.file.faults ≡ desk.file.faults
+
+-- a desk on which one more name was opened
+abbrev pub with_open : List ℕ → Told → Told
+with_open name told = record { files = told.files; opened = told.opened ++ name ∷ [] }
+
+-- As far as the desk tells, this name was opened, once, and no other was. The file that was opened, before it was read.
+pub record Opened (name : List ℕ) (desk after : DeskView) (file : SourceView) : Type 0 where
+  pub told : after.told ≡ option_map (with_open name) desk.told
+  pub bytes : (told : Told) → desk.told ≡ Some told → file.left ≡ Some (bytes_of told.files name)
+  pub faults : file.faults ≡ desk.file.faults
+  pub opens : after.open_faults ≡ desk.open_faults
+
+-- a file could not be opened: the count of failed opens rose, and nothing else changed
+pub record FailsToOpen (desk after : DeskView) : Type 0 where
+  pub rose : Rose desk.open_faults after.open_faults
+  pub told : after.told ≡ desk.told
+  pub file : after.file ≡ desk.file
+
+-- the limit on a query, in bytes
+abbrev pub query_limit : ℕ
+query_limit = 65536
+
+-- The file of a query was opened, and these bytes of it were taken: all, or one more than the limit.
+pub record TakesQuery (name : List ℕ) (desk after : DeskView) (text : List ℕ) : Type 0 where
+  pub file : SourceView
+  pub opened : Opened name desk after file
+  pub takes : Consumes file.left after.file.left text
+  pub few : length text ≤ query_limit + 1
+  pub whole : length text ≤ query_limit → IsAtEnd after.file.left
+  pub faults : after.file.faults ≡ file.faults
+
+-- the file of a query was opened, and could not be read: its count rose
+pub record FailsToRead (name : List ℕ) (desk after : DeskView) : Type 0 where
+  pub file : SourceView
+  pub opened : Opened name desk after file
+  pub few : TakesAtMost query_limit file.left after.file.left
+  pub rose : Rose file.faults after.file.faults
+
+-- no memory to open the file of a query, or to read it
+pub data ForgetsQuery (name : List ℕ) (desk after : DeskView) : Type 0 where
+  no_memory_to_open : after ≡ desk → ForgetsQuery name desk after
+  no_memory_to_read : (file : SourceView) → Opened name desk after file → TakesAtMost (query_limit + 1) file.left after.file.left
+      → after.file.faults ≡ file.faults → ForgetsQuery name desk after
+
+-- ---- lines
+
+-- one text is written to out or to err: all of it, or a prefix where the write failed
+abbrev pub text_for_err : List ℕ → Texts
+text_for_err text = record { out = []; err = text }
+
+abbrev pub text_for_out : List ℕ → Texts
+text_for_out text = record { out = text; err = [] }
+
+-- the line that answers words that are refused
+abbrev pub usage_line : List ℕ
+usage_line = codes "usage: cqlpgn MODE QUERY [ARCHIVE] [--workers N] [--seed S] [--games G] [--limit B]\n"
+
+-- words that are refused: the usage line is written
+abbrev pub WritesUsage : Status → Sinks → Type 0
+WritesUsage WordsRefused sinks = Writes sinks (text_for_err usage_line) × NoWriteFailed sinks
+WritesUsage WriteFault sinks = WritesPrefix sinks (text_for_err usage_line) × OneSinkFailed sinks
+WritesUsage _ sinks = ⊥
+
+-- a query with a fault: its line is written
+abbrev pub RefusesQuery : QueryFault → Status → Sinks → Type 0
+RefusesQuery fault QueryRefused sinks = Writes sinks (text_for_err (query_line fault)) × NoWriteFailed sinks
+RefusesQuery fault WriteFault sinks = WritesPrefix sinks (text_for_err (query_line fault)) × OneSinkFailed sinks
+RefusesQuery fault NoMemory sinks = IsUnwritten sinks
+RefusesQuery fault _ sinks = ⊥
+
+-- a query that is accepted: `ok` is written
+abbrev pub accepted_text : List ℕ
+accepted_text = codes "ok\n"
+
+abbrev pub AcceptsQuery : Status → Sinks → Type 0
+AcceptsQuery Done sinks = Writes sinks (text_for_out accepted_text) × NoWriteFailed sinks
+AcceptsQuery WriteFault sinks = WritesPrefix sinks (text_for_out accepted_text) × OneSinkFailed sinks
+AcceptsQuery _ sinks = ⊥
+
+-- ---- jobs
+
+-- A query that is accepted is answered over the archive in a file, of which so many bytes are the limit.
+pub data AnswersFile (archive : List ℕ) (limit : ℕ) (query : QueryTree) (status : Status) (call : Call) : Type 0 where
+  archive_answered : (file : SourceView) → Opened archive call.desk call.desk_after file
+      → AnswerPromise status (record { query = query; limit = limit; source = file; source_after = call.desk_after.file; sinks = call.sinks })
+      → AnswersFile archive limit query status call
+  archive_unopened : status ≡ OpenFault → FailsToOpen call.desk call.desk_after → IsUnwritten call.sinks → AnswersFile archive limit query status call
+  archive_forgotten : status ≡ NoMemory → IsUnmoved call → AnswersFile archive limit query status call
+
+-- A query that a word is: it is refused for its fault, or accepted, and then this is done.
+pub data OverText (text : List ℕ) (Accepted : QueryTree → Status → Call → Type 0) (status : Status) (call : Call) : Type 0 where
+  text_accepted : (query : QueryTree) → IsQuery text query → Accepted query status call → OverText text Accepted status call
+  text_refused : (fault : QueryFault) → IsQueryFault text fault → RefusesQuery fault status call.sinks → call.desk_after ≡ call.desk
+      → OverText text Accepted status call
+  text_forgotten : status ≡ NoMemory → IsUnmoved call → OverText text Accepted status call
+
+-- The same of a query in a file, which is opened and read first.
+pub data OverFile (name : List ℕ) (Accepted : QueryTree → Status → Call → Type 0) (status : Status) (call : Call) : Type 0 where
+  file_accepted : (text : List ℕ) (query : QueryTree) (mid : DeskView) → TakesQuery name call.desk mid text → IsQuery text query
+      → Accepted query status (from_desk mid call) → OverFile name Accepted status call
+  file_refused : (text : List ℕ) (fault : QueryFault) → TakesQuery name call.desk call.desk_after text → IsQueryFault text fault
+      → RefusesQuery fault status call.sinks → OverFile name Accepted status call
+  file_unopened : status ≡ OpenFault → FailsToOpen call.desk call.desk_after → IsUnwritten call.sinks → OverFile name Accepted status call
+  file_unread : status ≡ ReadFault → FailsToRead name call.desk call.desk_after → IsUnwritten call.sinks → OverFile name Accepted status call
+  file_forgotten : status ≡ NoMemory → ForgetsQuery name call.desk call.desk_after → IsUnwritten call.sinks → OverFile name Accepted status call
+
+-- an accepted query is said to be one, and no other file is opened
+abbrev pub SaysAccepted : QueryTree → Status → Call → Type 0
+SaysAccepted query status call = AcceptsQuery status call.sinks × (call.desk_after ≡ call.desk)
+
+-- nothing is done yet
+abbrev pub IsNotYet : Status → Call → Type 0
+IsNotYet status call = (status ≡ NotYetRead) × IsUnmoved call
+
+-- what is done for a job
+abbrev pub DoesJob : Job → Status → Call → Type 0
+DoesJob (Run query archive workers limit) = OverFile query (AnswersFile archive limit)
+DoesJob (Eval text archive workers limit) = OverText text (AnswersFile archive limit)
+DoesJob (Check query) = OverFile query SaysAccepted
+DoesJob (Explain query) = IsNotYet
+DoesJob (SelfRun text seed games workers) = IsNotYet
+
+-- What is done for words: the job that they ask, or they are refused, and no file is opened then.
+pub data Does (words : List (List ℕ)) (status : Status) (call : Call) : Type 0 where
+  job_done : (job : Job) → asked words ≡ Some job → DoesJob job status call → Does words status call
+  words_refused : asked words ≡ None → WritesUsage status call.sinks → call.desk_after ≡ call.desk → Does words status call
+  words_forgotten : status ≡ NoMemory → IsUnmoved call → Does words status call
+
+-- ---- when an answer always comes
+
+-- The words ask this job, or none: `clap` promises to take them, and their matches are those of the job or break a rule; or it
+-- promises to refuse them; or, of all other words, these are the matches that it gives.
+abbrev pub Asks : List (List ℕ) → Option Job → Type 0
+Asks words job = ((takes line words ≡ true) × (job_in (matches_of line words) ≡ job)) ⊎ (asked words ≡ job)
+
+-- a count that is greater than it was is answered by its own fault
+pub record AnswersItsFault (status : Status) (call : Call) : Type 0 where
+  pub open_faults : call.desk.open_faults < call.desk_after.open_faults → status ≡ OpenFault
+  pub read_faults : call.desk.file.faults < call.desk_after.file.faults → status ≡ ReadFault
+  pub out_faults : call.sinks.out.faults < call.sinks.out_after.faults → status ≡ WriteFault
+  pub err_faults : call.sinks.err.faults < call.sinks.err_after.faults → status ≡ WriteFault
+
+-- The desk tells its files, and this is taken of a query's file, which was opened and read without a fault: all of it, or one byte
+-- more than the limit.
+pub record IsInFile (call : Call) (name text : List ℕ) : Type 0 where
+  pub told : Told
+  pub tells : call.desk.told ≡ Some told
+  pub taken : text ≡ take (query_limit + 1) (bytes_of told.files name)
+  pub opens : Rose call.desk.open_faults call.desk_after.open_faults → ⊥
+  pub reads : Rose call.desk.file.faults call.desk_after.file.faults → ⊥
+
+-- the text of a job's query
+abbrev pub HasText : Call → Job → List ℕ → Type 0
+HasText call (Run query archive workers limit) text = IsInFile call query text
+HasText call (Eval word archive workers limit) text = word ≡ text
+HasText call (Check query) text = IsInFile call query text
+HasText call (Explain query) text = ⊥
+HasText call (SelfRun word seed games workers) text = ⊥
+
+-- no count rose
+pub record NothingRose (call : Call) : Type 0 where
+  pub opens : Rose call.desk.open_faults call.desk_after.open_faults → ⊥
+  pub reads : Rose call.desk.file.faults call.desk_after.file.faults → ⊥
+  pub writes : SinkFailed call.sinks → ⊥
+
+-- the desk tells its files, and this one is within the limit
+pub record IsShort (call : Call) (archive : List ℕ) (limit : ℕ) : Type 0 where
+  pub told : Told
+  pub tells : call.desk.told ≡ Some told
+  pub within : length (bytes_of told.files archive) ≤ limit
+
+-- the archive of a job, where it reads one, is within the limit
+abbrev pub IsWithin : Call → Job → Type 0
+IsWithin call (Run query archive workers limit) = IsShort call archive limit
+IsWithin call (Eval text archive workers limit) = IsShort call archive limit
+IsWithin call (Check query) = Unit {0}
+IsWithin call (Explain query) = Unit {0}
+IsWithin call (SelfRun text seed games workers) = Unit {0}
+
+-- the answers of a job whose query is accepted, where nothing fails
+abbrev pub good_answers : Job → List Status
+good_answers (Run query archive workers limit) = Done ∷ DoneWithRefusals ∷ NoMemory ∷ []
+good_answers (Eval text archive workers limit) = Done ∷ DoneWithRefusals ∷ NoMemory ∷ []
+good_answers (Check query) = Done ∷ NoMemory ∷ []
+good_answers (Explain query) = Done ∷ NoMemory ∷ []
+good_answers (SelfRun text seed games workers) = Done ∷ DoneWithRefusals ∷ NoMemory ∷ []
+
+-- What `run` promises of its status: what was done for the words, that a count that rose is answered by its own fault, and when an
+-- answer always or never comes.
+pub record Promise (words : List (List ℕ)) (status : Status) (call : Call) : Type 0 where
+  pub does : Does words status call
+  pub faults : AnswersItsFault status call
+  pub words_never_refused : (job : Job) → Asks words (Some job) → status ≡ WordsRefused → ⊥
+  pub words_always_refused : Asks words None → IsOneOf status (WordsRefused ∷ WriteFault ∷ NoMemory ∷ [])
+  pub query_always_refused : (job : Job) (text : List ℕ) (fault : QueryFault) → Asks words (Some job) → HasText call job text
+      → IsQueryFault text fault → IsOneOf status (QueryRefused ∷ WriteFault ∷ NoMemory ∷ [])
+  pub complete : (job : Job) (text : List ℕ) (query : QueryTree) → Asks words (Some job) → HasText call job text → IsQuery text query
+      → IsWithin call job → NothingRose call → IsOneOf status (good_answers job)
