@@ -23,7 +23,10 @@ fn lines_of_games_say_where_and_why(rt: HostRuntime) -> Result<(), Fail> {
         assert_eq!(rt; line.as_slice(), want.as_bytes());
     }
     let line = summary_line(alloc, 3, 2, 1)?;
-    assert_eq!(rt; line.as_slice(), b"games 3 matched 2 refused 1\n".as_slice());
+    assert_eq!(rt;
+        line.as_slice(),
+        b"games 3 matched 2 refused 1\n".as_slice()
+    );
     Ok(())
 }
 

@@ -77,7 +77,7 @@ too_long q limit source after sinks bytes takes few long counts same =
     record {
       says = (much, same, record { source = counts; sinks = wrote_none sinks same });
       takes = record { bytes = bytes; takes = takes; few = few };
-          too_long_always = λ _. inl refl;
+      too_long_always = λ _. inl refl;
       complete = λ all. absurd (not_too_long limit source after all.archive all.tells all.within much);
     }
 

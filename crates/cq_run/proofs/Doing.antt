@@ -137,7 +137,6 @@ answer_faults name limit q file QueryRefused call opened says = absurd says
 answer_faults name limit q file WordsRefused call opened says = absurd says
 answer_faults name limit q file OpenFault call opened says = absurd says
 
-
 unmoved_faults : (status : Status) (call : Call) → IsUnmoved call → AnswersItsFault status call
 unmoved_faults status call same = at_none status call (same_counts call.desk call.desk_after same.desk) (wrote_none call.sinks same.sinks)
 
@@ -277,7 +276,6 @@ taken_text : (limit : ℕ) (file text : List ℕ) (after : Option (List ℕ)) �
 taken_text limit file text None takes most whole = absurd takes
 taken_text limit file text (Some rest) takes most whole =
     sym (ap (take (limit + 1)) takes ∙ text_by_length limit text rest most whole (cases_lt limit (length text)))
-
 
 -- what is taken of a query's file, by what the desk tells
 read_text : (call : Call) (name text found : List ℕ) (mid : DeskView) → (asks : IsInFile call name text) → TakesQuery name call.desk mid found → found ≡ text
@@ -501,7 +499,6 @@ opened_of name desk mid after opens reads counts told later = record {
   faults = reads;
   opens = later ∙ counts;
 }
-
 
 same_source : (l m : Option (List ℕ)) (f g : ℕ) → l ≡ m → f ≡ g → ◌≡◌ {A = SourceView} (record { left = l; faults = f }) (record { left = m; faults = g })
 same_source l m f g e h = cc

@@ -58,7 +58,9 @@ pub fn answer_archive<O: Sink, E: Sink>(
     let mut kept = Vec::new(alloc);
     for i in 0..games.len() {
         let game = games[i];
-        match answer_game(alloc, query, sorted, archive, game, &mut tally, &mut kept, out, err) {
+        match answer_game(
+            alloc, query, sorted, archive, game, &mut tally, &mut kept, out, err,
+        ) {
             Ok(()) => {}
             Err(Refusal::Fault(_)) => return Status::WriteFault,
             Err(Refusal::NoMemory) => return Status::NoMemory,

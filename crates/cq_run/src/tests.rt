@@ -357,8 +357,18 @@ fn a_query_file_is_answered_over_an_archive_file(rt: HostRuntime) -> Result<(), 
     let fault = "query byte 6: outside profile echo\n";
     let none = b"".as_slice();
     for (words, status, out_text, err_text) in [
-        (["run", "q.cql", "a.pgn"], Status::Done, text.as_slice(), report),
-        (["run", "echo.cql", "a.pgn"], Status::QueryRefused, none, fault),
+        (
+            ["run", "q.cql", "a.pgn"],
+            Status::Done,
+            text.as_slice(),
+            report,
+        ),
+        (
+            ["run", "echo.cql", "a.pgn"],
+            Status::QueryRefused,
+            none,
+            fault,
+        ),
     ] {
         let mut desk = SureDesk::new(alloc);
         desk.add(b"q.cql", b"// A knight.\r\ncql() Nf3\r\n")?;

@@ -35,8 +35,7 @@ returns-in-Err-NoMemory-read_up_to g c =
 
 pub returns-in-Ok-read_query : goal.returns-in-Ok-read_query
 returns-in-Ok-read_query g c =
-    let view = desk_view g.D.Desk.told g.D.Source.left g.D.Source.faults g.D.Desk.open_faults in
-    (
+    let view = desk_view g.D.Desk.told g.D.Source.left g.D.Source.faults g.D.Desk.open_faults in (
       c.in-Ok-read_up_to.text,
       record {
         file = (view c.open.new.self).file;
@@ -55,8 +54,7 @@ pub returns-in-Err-Fault-read_query : goal.returns-in-Err-Fault-read_query
 returns-in-Err-Fault-read_query g c =
     let view = desk_view g.D.Desk.told g.D.Source.left g.D.Source.faults g.D.Desk.open_faults in
     let e = c.in-Err-Fault-read_query.is ∙ ap Err c.in-Err-Fault-read_query.field-0-is in
-    let faulty = rw e at c.read_query.ensures in
-    (
+    let faulty = rw e at c.read_query.ensures in (
       c.in-Ok-read_up_to.text,
       record {
         file = (view c.open.new.self).file;

@@ -13,8 +13,7 @@ loop-i-init g c = (unwritten (g.O.Sink.taken c.args.out.now), refl)
 pub loop-i-preserved : goal.loop-i-preserved
 loop-i-preserved g c =
     let taken = g.O.Sink.taken in
-    let inside : c.loop-i.i < length c.in_ok-ordered.ordered.items = search rules in
-    (
+    let inside : c.loop-i.i < length c.in_ok-ordered.ordered.items = search rules in (
       more_written c.in_ok-ordered.ordered.items c.loop-i.i c.index.result.now (taken c.args.out.now) (taken c.loop-i.out) (taken c.write_all_of.new.sink) c.text_of.result.now inside
           c.index.ensures c.text_of.ensures c.loop-i.invariant.0 c.in-Ok.ensures.ok,
       c.in-Ok.ensures.cause.same ∙ c.loop-i.invariant.1,
@@ -23,8 +22,7 @@ loop-i-preserved g c =
 pub returns-in-Err : goal.returns-in-Err
 returns-in-Err g c =
     let taken = g.O.Sink.taken in
-    let inside : c.loop-i.i < length c.in_ok-ordered.ordered.items = search rules in
-    (
+    let inside : c.loop-i.i < length c.in_ok-ordered.ordered.items = search rules in (
       c.in_ok-ordered.ordered.items,
       record { same = c.in_ok-ordered.ensures.same; order = c.in_ok-ordered.ensures.order },
       part_written c.in_ok-ordered.ordered.items c.loop-i.i c.index.result.now (taken c.args.out.now) (taken c.loop-i.out) (taken c.write_all_of.new.sink) c.text_of.result.now
@@ -34,8 +32,7 @@ returns-in-Err g c =
 
 pub returns : goal.returns
 returns g c =
-    let all : length c.in_ok-ordered.ordered.items ≤ c.loop-i.i = search rules in
-    (
+    let all : length c.in_ok-ordered.ordered.items ≤ c.loop-i.i = search rules in (
       c.in_ok-ordered.ordered.items,
       record { same = c.in_ok-ordered.ensures.same; order = c.in_ok-ordered.ensures.order },
       subst (λ xs. Grew (g.O.Sink.taken c.args.out.now) (g.O.Sink.taken c.loop-i.out) (exports_of xs)) (take_all c.loop-i.i c.in_ok-ordered.ordered.items all) c.loop-i.invariant.0,

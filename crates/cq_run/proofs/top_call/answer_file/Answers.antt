@@ -13,4 +13,3 @@ returns-in-Ok g c =
     (c.in-Ok.ensures.same (λ e. absurd cc)) (g.met.D.Desk.keeps_told c.open.new.self c.answer.new.source c.answer.ensures.next)
     (g.met.D.Desk.keeps_open_faults c.open.new.self c.answer.new.source c.answer.ensures.next))
     c.answer.ensures.answers
-
