@@ -25,7 +25,8 @@ pub(crate) fn keys(
 ) -> Result<Vec<i64>, NoMemory>
     requires inside { All (λ n. n < length game.now.nodes) nodes.now }
     requires hits { All (λ n. is_hit (searched_tree game.now variations) (filters_tree items.now) n ≡ true) nodes.now }
-    ensures keys { IfOk result (λ keys. nodes.now ≢ [] → map Some keys.items ≡ all_keys (searched_tree game.now variations) nodes.now (filters_tree items.now)) }
+    ensures keys { IfOk result (λ keys. nodes.now ≢ []
+        → map Some keys.items ≡ all_keys (searched_tree game.now variations) nodes.now (filters_tree items.now)) }
     ensures none { IfOk result (λ keys. nodes.now ≡ [] → keys.items ≡ []) }
 {
     let mut keys = Vec::new(alloc);
@@ -51,7 +52,8 @@ fn add_key(
     requires some { 0 < length nodes.now }
     requires inside { All (λ n. n < length game.now.nodes) nodes.now }
     requires holds { All (λ n. item_holds (searched_tree game.now variations) n item.now ≡ true) nodes.now }
-    ensures { OnOk result (map Some keys.new.items ≡ map Some keys.old.items ++ item_keys (searched_tree game.now variations) nodes.now (filter_tree item.now)) }
+    ensures { OnOk result (map Some keys.new.items
+        ≡ map Some keys.old.items ++ item_keys (searched_tree game.now variations) nodes.now (filter_tree item.now)) }
 {
     match &item.form {
         Form::Sort(least, _, number) => {
@@ -74,8 +76,10 @@ fn key_over(
 ) -> Result<i64, NoMemory>
     requires some { 0 < length nodes.now }
     requires inside { All (λ n. n < length game.now.nodes) nodes.now }
-    requires values { All (λ n. is_some (amount (value (searched_tree game.now variations) [] [] (filter_tree number.now) n)) ≡ true) nodes.now }
-    ensures { IfOk result (λ key. Some key ≡ key_of least (map (value (searched_tree game.now variations) [] [] (filter_tree number.now)) nodes.now)) }
+    requires values { All (λ n. is_some (amount (value (searched_tree game.now variations) [] [] (filter_tree number.now) n)) ≡ true)
+        nodes.now }
+    ensures { IfOk result (λ key. Some key
+        ≡ key_of least (map (value (searched_tree game.now variations) [] [] (filter_tree number.now)) nodes.now)) }
 {
     let mut key = value_at(alloc, number, variations, game, nodes[0])?;
     for k in 1..nodes.len() {

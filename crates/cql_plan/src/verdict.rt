@@ -46,9 +46,11 @@ pub(crate) fn find(
     ensures nodes { IfOk result (λ v. v.nodes.items ≡ hits_in (searched_tree game.now variations) (filters_tree items.now)) }
     ensures increasing { IfOk result (λ v. AllPairs (λ m n. m < n) v.nodes.items) }
     ensures inside { IfOk result (λ v. All (λ n. n < length game.now.nodes) v.nodes.items) }
-    ensures keys { IfOk result (λ v. v.nodes.items ≢ [] → map Some v.keys.items ≡ keys_in (searched_tree game.now variations) (filters_tree items.now)) }
+    ensures keys { IfOk result (λ v. v.nodes.items ≢ []
+        → map Some v.keys.items ≡ keys_in (searched_tree game.now variations) (filters_tree items.now)) }
     ensures no_keys { IfOk result (λ v. v.nodes.items ≡ [] → v.keys.items ≡ []) }
-    ensures turned_away { all_pass (searched_tree game.now variations) (filters_tree items.now) ≡ false → IfOk result (λ v. v.nodes.items ≡ []) }
+    ensures turned_away { all_pass (searched_tree game.now variations) (filters_tree items.now) ≡ false
+        → IfOk result (λ v. v.nodes.items ≡ []) }
 {
     if !all_needed(items, variations, game) {
         return Ok(Verdict {
