@@ -9,11 +9,7 @@ use cql_syntax::{Designator, Field, Of, Outcome, Plain, Unary, Way};
 use std::alloc::Global;
 
 /// A context with one more mapping inside.
-pub fn inside(
-    alloc: Global,
-    first: Mapping,
-    context: &[Mapping],
-) -> Result<Vec<Mapping>, NoMemory>
+pub fn inside(alloc: Global, first: Mapping, context: &[Mapping]) -> Result<Vec<Mapping>, NoMemory>
     ensures { IfOk result (λ g. g.items ≡ first ∷ context.now) }
 {
     let mut longer = Vec::new(alloc);

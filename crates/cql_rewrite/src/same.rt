@@ -10,7 +10,9 @@ use crate::leaves::{
     same_mark, same_of, same_outcome, same_pair, same_plain, same_unary, same_way,
 };
 use cq_outside::Bytes;
-use cql_syntax::{Body, Constituent, Constituents, Filter, Filters, Form, Line, Played, Term, Terms};
+use cql_syntax::{
+    Body, Constituent, Constituents, Filter, Filters, Form, Line, Played, Term, Terms,
+};
 
 /// Whether two filters are the same.
 #[cycle(same)]

@@ -137,11 +137,20 @@ fn forms_with_parts_have_their_texts(rt: HostRuntime) -> Result<(), Fail> {
         (Form::Chain(Chain::All, two(alloc)?), b"(all check 1)"),
         (Form::Sum(sum(alloc)?), b"(+ (- 1 2) 3)"),
         (
-            Form::Pair(Pair::AtMost, boxed(alloc, Form::Number(1))?, boxed(alloc, Form::Number(2))?),
+            Form::Pair(
+                Pair::AtMost,
+                boxed(alloc, Form::Number(1))?,
+                boxed(alloc, Form::Number(2))?,
+            ),
             b"(<= 1 2)",
         ),
         (
-            Form::Square(true, bytes(alloc)?, king(alloc)?, boxed(alloc, Form::Plain(Plain::Mate))?),
+            Form::Square(
+                true,
+                bytes(alloc)?,
+                king(alloc)?,
+                boxed(alloc, Form::Plain(Plain::Mate))?,
+            ),
             b"(square all x [K]:0000000000000001 mate)",
         ),
         (
@@ -199,7 +208,12 @@ fn lines_and_moves_have_their_texts(rt: HostRuntime) -> Result<(), Fail> {
 }
 
 /// A family of White's king on a1, written out.
-fn writes_out(rt: &impl Abort, alloc: Global, family: Family, wanted: &[u8]) -> Result<(), NoMemory> {
+fn writes_out(
+    rt: &impl Abort,
+    alloc: Global,
+    family: Family,
+    wanted: &[u8],
+) -> Result<(), NoMemory> {
     let family = filter(Form::Transform(family, king(alloc)?));
     let text = text_of(alloc, &flat(alloc, &family, &[])?)?;
     assert_eq!(rt; text.as_slice(), wanted);
@@ -237,6 +251,9 @@ fn equal_members_are_left_out_at_each_level(rt: HostRuntime) -> Result<(), Fail>
         nested = filter(Form::Transform(Family::Flip, Box::new(alloc, nested)?));
     }
     let text = text_of(alloc, &flat(alloc, &nested, &[])?)?;
-    assert_eq!(rt; text.as_slice(), b"(any (any (any (any (any check)))))".as_slice());
+    assert_eq!(rt;
+        text.as_slice(),
+        b"(any (any (any (any (any check)))))".as_slice()
+    );
     Ok(())
 }
