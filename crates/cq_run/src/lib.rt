@@ -4,6 +4,8 @@
 mod answering;
 mod asked;
 #[cfg(test)]
+mod cookbook;
+#[cfg(test)]
 mod failing;
 mod games;
 #[cfg(test)]
