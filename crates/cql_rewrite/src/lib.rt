@@ -9,8 +9,6 @@ pub mod flat;
 mod leaves;
 mod pieces;
 mod same;
-#[cfg(test)]
-mod tests;
 pub mod text;
 mod words;
 
