@@ -9,6 +9,7 @@ pub mod flat;
 mod leaves;
 mod pieces;
 mod same;
+mod sums;
 #[cfg(test)]
 mod tests;
 pub mod text;
