@@ -1,10 +1,13 @@
 -- A sum in one pass is pairs from the left.
-use Rattle.std.proofs.Common.{◌≡◌, ◌∙◌, ℕ, Bool, true, false, List, [], ◌∷◌, ◌++◌, Some, None, refl, sym, ap, append_assoc}
+use Rattle.std.proofs.Common.{◌≡◌, ◌∙◌, ℕ, Bool, true, false, List, [], ◌∷◌, ◌++◌, ◌+◌, ◌<◌, length, drop, get_or, Some, None, refl, sym, ap, append_assoc}
 use Rattle.std.specs.Prelude.{unwrap_or, codes}
 use Rattle.std.proofs.lemmas.List.{append-nil}
 use Rattle.cql_syntax.specs.Trees.{TermTrees, no_terms, more_terms}
+use Rattle.cql_syntax.specs.TreeOf.{term_trees}
+use Rattle.cql_syntax.specs.declared.tree.Term.{Term}
 use Rattle.cql_rewrite.specs.FlatText.{text, in_parens, sign_word, sum_after}
 use Rattle.cql_rewrite.specs.Sums.{opening, openings, term_text, sum_start, sum_rest}
+use Rattle.cql_rewrite.proofs.Rows.{at_place}
 
 two_parts : (before t : List ℕ) → (before ++ (32 ∷ (t ++ []))) ++ (41 ∷ []) ≡ before ++ term_text false t
 two_parts before t = append_assoc before (32 ∷ (t ++ [])) (41 ∷ []) ∙ ap (λ u. before ++ (32 ∷ (u ++ (41 ∷ [])))) (append-nil t)
@@ -34,3 +37,8 @@ sum_is (more_terms true f ts) =
     append_assoc (openings ts) (codes "(- 0") (term_text false (text f) ++ sum_rest false ts)
     ∙ sym (ap (λ x. unwrap_or x (in_parens (codes "+") [])) (after_is ts (in_parens (codes "-") (codes "0" ∷ text f ∷ [])))
         ∙ ap (λ p. openings ts ++ (p ++ sum_rest false ts)) (pair_is true (codes "0") (text f)))
+
+-- what opens one more pair, from the last term on
+pub opened : (xs : List Term) (k : ℕ) (x : Term) → k < length xs → x ≡ get_or xs k x
+    → openings (term_trees (drop k xs)) ≡ openings (term_trees (drop (k + 1) xs)) ++ opening x.minus
+opened xs k x low is = ap (λ l. openings (term_trees l)) (at_place xs k x low is)
