@@ -30,7 +30,7 @@ use Rattle.cq_run.specs.declared.status.Status.{Status}
 use Rattle.cq_run.specs.declared.status.Status.TheVariants.{Done, DoneWithRefusals, QueryRefused, WordsRefused, OpenFault, ReadFault, WriteFault, NoMemory, ArchiveTooLong, NotYetRead}
 use Rattle.cq_run.specs.Queries.{IsQuery, IsQueryFault}
 use Rattle.cq_run.specs.Promise.{SourceView, DeskView, Sinks, SaysOfAnswer, IsOneOf, IsUnwritten, NoWriteFailed}
-use Rattle.cq_run.specs.Run.{Call, from_desk, IsUnmoved, NoInputFailed, with_open, Opened, FailsToOpen, query_limit, TakesQuery, FailsToRead, ForgetsQuery, no_memory_to_open, no_memory_to_read, WritesUsage, RefusesQuery, AcceptsQuery, AnswersFile, archive_answered, archive_unopened, archive_forgotten, OverText, text_accepted, text_refused, text_forgotten, OverFile, file_accepted, file_refused, file_unopened, file_unread, file_forgotten, SaysAccepted, DoesJob, Does, job_done, words_refused, words_forgotten, Asks, AnswersItsFault, IsInFile, HasText, NothingRose, IsShort, IsWithin, good_answers, Promise}
+use Rattle.cq_run.specs.Run.{Call, from_desk, IsUnmoved, NoInputFailed, with_open, Opened, FailsToOpen, query_limit, TakesQuery, FailsToRead, ForgetsQuery, no_memory_to_open, no_memory_to_read, WritesUsage, RefusesQuery, AcceptsQuery, WritesFlat, AnswersFile, archive_answered, archive_unopened, archive_forgotten, OverText, text_accepted, text_refused, text_forgotten, OverFile, file_accepted, file_refused, file_unopened, file_unread, file_forgotten, SaysAccepted, Explains, DoesJob, Does, job_done, words_refused, words_forgotten, Asks, AnswersItsFault, IsInFile, HasText, NothingRose, IsShort, IsWithin, good_answers, Promise}
 use Rattle.cq_run.specs.Asked.{ReadsFile, TellsWhy, call_of}
 use Rattle.cq_run.proofs.Sinks.{wrote_none, some_failed}
 
@@ -124,6 +124,18 @@ acceptance_faults ReadFault call input does = absurd does
 acceptance_faults ArchiveTooLong call input does = absurd does
 acceptance_faults NotYetRead call input does = absurd does
 
+explanation_faults : (q : QueryTree) (status : Status) (call : Call) → NoInputFailed call.desk call.desk_after → WritesFlat q status call.sinks → AnswersItsFault status call
+explanation_faults q Done call input does = at_none Done call input does.1
+explanation_faults q WriteFault call input does = at_write call input
+explanation_faults q NoMemory call input does = at_none NoMemory call input (wrote_none call.sinks does)
+explanation_faults q QueryRefused call input does = absurd does
+explanation_faults q DoneWithRefusals call input does = absurd does
+explanation_faults q WordsRefused call input does = absurd does
+explanation_faults q OpenFault call input does = absurd does
+explanation_faults q ReadFault call input does = absurd does
+explanation_faults q ArchiveTooLong call input does = absurd does
+explanation_faults q NotYetRead call input does = absurd does
+
 answer_faults : (name : List ℕ) (limit : ℕ) (q : QueryTree) (file : SourceView) (status : Status) (call : Call) → Opened name call.desk call.desk_after file
     → SaysOfAnswer status (record { query = q; limit = limit; source = file; source_after = call.desk_after.file; sinks = call.sinks }) → AnswersItsFault status call
 answer_faults name limit q file Done call opened says = at_none Done call (opened_counts name call.desk call.desk_after file opened says.1.source) says.1.sinks
@@ -194,7 +206,8 @@ job_faults (Eval text archive workers limit) status call does =
     text_faults text (AnswersFile archive limit) status call (λ q a. archive_faults archive limit q status call a) does
 job_faults (Check query) status call does =
     file_faults query SaysAccepted status call (λ q mid a. acceptance_faults status (from_desk mid call) (same_counts mid call.desk_after a.1) a.0) does
-job_faults (Explain query) status call does = unmoved_faults status call does.1
+job_faults (Explain query) status call does =
+    file_faults query Explains status call (λ q mid a. explanation_faults q status (from_desk mid call) (same_counts mid call.desk_after a.1) a.0) does
 job_faults (SelfRun text seed games workers) status call does = unmoved_faults status call does.1
 
 usage_faults : (status : Status) (call : Call) → call.desk_after ≡ call.desk → WritesUsage status call.sinks → AnswersItsFault status call
@@ -245,7 +258,8 @@ job_not_words (Eval text archive workers limit) status call does e =
     text_not_words text (AnswersFile archive limit) status call (λ q a f. archive_not_words archive limit q status call a f) does e
 job_not_words (Check query) status call does e =
     file_not_words query SaysAccepted status call (λ q mid a f. subst (λ s. AcceptsQuery s call.sinks) f a.0) does e
-job_not_words (Explain query) status call does e = let f = not_twice status NotYetRead does.0 e in cc
+job_not_words (Explain query) status call does e =
+    file_not_words query Explains status call (λ q mid a f. subst (λ s. WritesFlat q s call.sinks) f a.0) does e
 job_not_words (SelfRun text seed games workers) status call does e = let f = not_twice status NotYetRead does.0 e in cc
 
 -- a faulty query is refused
@@ -306,7 +320,7 @@ job_refused_always one none (Run query archive workers limit) text fault status 
 job_refused_always one none (Eval word archive workers limit) text fault status call has faulty does =
     text_refused_always one none text fault (AnswersFile archive limit) status call faulty (subst (λ t. OverText t (AnswersFile archive limit) status call) has does)
 job_refused_always one none (Check query) text fault status call has faulty does = file_refused_always one none query text fault SaysAccepted status call has faulty does
-job_refused_always one none (Explain query) text fault status call has faulty does = absurd has
+job_refused_always one none (Explain query) text fault status call has faulty does = file_refused_always one none query text fault Explains status call has faulty does
 job_refused_always one none (SelfRun word seed games workers) text fault status call has faulty does = absurd has
 
 -- an accepted query is answered
@@ -376,6 +390,18 @@ acceptance_is_one ReadFault call none does = absurd does
 acceptance_is_one ArchiveTooLong call none does = absurd does
 acceptance_is_one NotYetRead call none does = absurd does
 
+explanation_is_one : (q : QueryTree) (status : Status) (call : Call) → NothingRose call → WritesFlat q status call.sinks → IsOneOf status (Done ∷ NoMemory ∷ [])
+explanation_is_one q Done call none does = inl refl
+explanation_is_one q WriteFault call none does = absurd (none.writes (some_failed call.sinks does.1))
+explanation_is_one q NoMemory call none does = inr (inl refl)
+explanation_is_one q QueryRefused call none does = absurd does
+explanation_is_one q DoneWithRefusals call none does = absurd does
+explanation_is_one q WordsRefused call none does = absurd does
+explanation_is_one q OpenFault call none does = absurd does
+explanation_is_one q ReadFault call none does = absurd does
+explanation_is_one q ArchiveTooLong call none does = absurd does
+explanation_is_one q NotYetRead call none does = absurd does
+
 job_complete : SpellOne → SpellNone → (job : Job) (text : List ℕ) (query : QueryTree) (status : Status) (call : Call) → HasText call job text → IsQuery text query
     → IsWithin call job → NothingRose call → DoesJob job status call → IsOneOf status (good_answers job)
 job_complete one never (Run name archive workers limit) text query status call has is short none does =
@@ -388,7 +414,9 @@ job_complete one never (Eval word archive workers limit) text query status call 
 job_complete one never (Check name) text query status call has is short none does =
     file_complete one never name text query SaysAccepted (Done ∷ NoMemory ∷ []) status call has is (inr (inl refl))
     (λ mid found takes a. acceptance_is_one status call none a.0) does
-job_complete one never (Explain name) text query status call has is short none does = absurd has
+job_complete one never (Explain name) text query status call has is short none does =
+    file_complete one never name text query Explains (Done ∷ NoMemory ∷ []) status call has is (inr (inl refl))
+    (λ mid found takes a. explanation_is_one query status call none a.0) does
 job_complete one never (SelfRun word seed games workers) text query status call has is short none does = absurd has
 
 -- a job that was done
@@ -407,6 +435,9 @@ eval_done job word archive text file workers limit status call is texts files do
 
 pub check_done : (job : Job) (query name : List ℕ) (status : Status) (call : Call) → job ≡ Check query → name ≡ query → OverFile name SaysAccepted status call → DoesJob job status call
 check_done job query name status call is names does = subst (λ j. DoesJob j status call) (sym is) (subst (λ n. OverFile n SaysAccepted status call) names does)
+
+pub explain_done : (job : Job) (query name : List ℕ) (status : Status) (call : Call) → job ≡ Explain query → name ≡ query → OverFile name Explains status call → DoesJob job status call
+explain_done job query name status call is names does = subst (λ j. DoesJob j status call) (sym is) (subst (λ n. OverFile n Explains status call) names does)
 
 -- the words
 

@@ -5,6 +5,7 @@ mod answering;
 mod asked;
 #[cfg(test)]
 mod cookbook;
+mod explaining;
 #[cfg(test)]
 mod failing;
 mod games;

@@ -258,7 +258,6 @@ fn other_words_and_other_queries_are_turned_away(rt: HostRuntime) -> Result<(), 
     let alloc = rt.alloc();
     let none = b"".as_slice();
     for (mode, query, status, text) in [
-        ("explain", "q.cql", Status::NotYetRead, ""),
         ("selfrun", "cql() mate", Status::NotYetRead, ""),
         (
             "eval",
@@ -275,6 +274,23 @@ fn other_words_and_other_queries_are_turned_away(rt: HostRuntime) -> Result<(), 
         let archive = "[FEN \"8/8/8/8/8/8/8/K1k5 w - - 0 1\"]\n*\n";
         let want = (Status::Done, none, missed);
         expect(&rt, alloc, &["eval", query], ("-", archive), want)?;
+    }
+    Ok(())
+}
+
+#[test]
+fn queries_are_explained(rt: HostRuntime) -> Result<(), Fail> {
+    let alloc = rt.alloc();
+    for (query, lines) in [
+        (
+            "cql() flipcolor Ka1",
+            "(union [K]:0000000000000001 [k]:0100000000000000)\n",
+        ),
+        ("cql() line 2 3 --> wtm", "(line 2 3 --> wtm)\n"),
+        ("cql() Ka1 mate", "[K]:0000000000000001\nmate\n"),
+    ] {
+        let want = (Status::Done, lines.as_bytes(), "");
+        expect(&rt, alloc, &["explain", "q.cql"], ("q.cql", query), want)?;
     }
     Ok(())
 }
