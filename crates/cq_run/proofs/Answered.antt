@@ -49,6 +49,11 @@ asked q limit source after sinks = record { query = q; limit = limit; source = s
 one_more_most : (limit : ℕ) (left after : Option (List ℕ)) → TakesAtMost limit left after → TakesAtMost (limit + 1) left after
 one_more_most limit left after few = record { bytes = few.bytes; takes = few.takes; few = let a = few.few in omega (arith, a) }
 
+-- nothing was taken
+pub none_taken : (limit : ℕ) (left : Option (List ℕ)) → TakesAtMost (limit + 1) left left
+none_taken limit None = record { bytes = []; takes = tt; few = omega arith }
+none_taken limit (Some bytes) = record { bytes = []; takes = refl; few = omega arith }
+
 -- a read that failed
 pub unread : (q : QueryTree) (limit : ℕ) (source after : SourceView) (sinks : Sinks) → TakesAtMost limit source.left after.left → Rose source.faults after.faults
     → IsUnwritten sinks → AnswerPromise ReadFault (asked q limit source after sinks)

@@ -1,5 +1,5 @@
 -- Answering game by game.
-use Rattle.std.proofs.Common.{◌≡◌, ℕ, ◌+◌, ℤ, Bool, true, false, List, [], ◌∷◌, ◌++◌, map, Some, length, length-append, take, drop, get_or, ◌<◌, ◌≤◌, inl, inr, arith, refl, ap, sym, ◌∙◌, append_assoc, append-nil, cond, subst, Ok, Err}
+use Rattle.std.proofs.Common.{◌≡◌, ℕ, ◌+◌, ℤ, Bool, true, false, List, [], ◌∷◌, ◌++◌, map, Some, length, length-append, take, drop, get_or, ◌<◌, ◌≤◌, ◌==◌, inl, inr, arith, refl, ap, sym, ◌∙◌, append_assoc, append-nil, cond, subst, Ok, Err}
 use Rattle.std.specs.Prelude.{count_by, Result, if◌then◌else◌}
 use Rattle.std.specs.List.{flat_map}
 use Rattle.std.proofs.lemmas.Grind.{flat_map-append}
@@ -17,8 +17,7 @@ use Rattle.pgn_cut.specs.Cut.{cut}
 use Rattle.pgn_cut.specs.Joined.{game_bytes}
 use Rattle.pgn_reader.specs.declared.fault.GameFault.{GameFault}
 use Rattle.pgn_reader.specs.Verdict.{IsRead}
-use Rattle.cq_hits.specs.Keys.{values_in}
-use Rattle.cq_hits.specs.Sorts.{have_sort}
+use Rattle.cq_run.specs.Sorts.{have_sort}
 use Rattle.cq_report.specs.Games.{fault_line}
 use Rattle.cq_shards.specs.declared.answers.Answer.TheVariants.{Match}
 use Rattle.cq_shards.specs.declared.answers.GameAnswer.{GameAnswer}
@@ -29,7 +28,7 @@ use Rattle.cq_run.specs.Outcomes.{Outcome, AreRead, HasGames}
 use Rattle.cql_syntax.specs.Hits.{marked, keys}
 use Rattle.cql_syntax.specs.Trees.{QueryTree}
 use Rattle.cq_run.specs.Answer.{has_match, tally_of, report_of, export_if, fault_if, fault_lines, is_match, is_refused, summary_of}
-use Rattle.cq_run.specs.Exports.{AreExports, exports_of, match_if, matches_from}
+use Rattle.cq_run.specs.Exports.{AreExports, exports_of, match_if, matches_from, values_in}
 use Rattle.cq_run.specs.Promise.{SinkView, Sinks, Writes, WritesPrefix, WritesWhole, WritesPart, TakesPart, IsUnwritten, NoWriteFailed, OneSinkFailed, sinks_of}
 use Rattle.cq_run.specs.Writing.{WritesText, WritesKept, InOrder, AnswersGame, AnswersArchive, WritesSummary, Stand, stand_of, onward, tallied, written, kept_if, texts_of_game}
 use Rattle.cq_run.proofs.Exports.{matches_more, written_none, first_none, only_values, unsorted_exports, sorted_exports, none_ordered}
@@ -85,6 +84,11 @@ all_kept query number game some = ap (λ b. cond b (match_of query number game �
 matched_tally : (query : QueryTree) (game : Game) (before : Tally) → has_match query game ≡ true
     → tally_with (before.games + 1) (before.matched + 1) before.refused ≡ tallied query before (Ok game)
 matched_tally query game before some = same_tally _ _ _ _ _ _ refl (ap (λ b. before.matched + cond b 1 0) (sym some)) (omega (arith))
+
+-- some nodes are not none
+pub some_in : (ns : List ℕ) → (length ns == 0) ≡ false → ns ≡ [] → ⊥
+some_in [] some none = cc
+some_in (n ∷ ns) some none = cc
 
 -- a game that does not match is counted, and nothing is written or kept
 pub unmatched : (sorted : Bool) (query : QueryTree) (game : Game) (before after : Tally) (ks : List GameAnswer) (out err : SinkView) → has_match query game ≡ false

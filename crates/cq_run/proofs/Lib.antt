@@ -1,6 +1,7 @@
 mod Sinks
 mod Texts
 mod Braces
+mod Keyed
 mod Exports
 mod Answers
 mod Kept

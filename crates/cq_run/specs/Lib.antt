@@ -2,6 +2,7 @@ pub mod Status
 pub mod Queries
 pub mod Outcomes
 pub mod Answer
+pub mod Sorts
 pub mod Exports
 pub mod Promise
 pub mod Run

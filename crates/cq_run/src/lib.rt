@@ -8,11 +8,13 @@ mod cookbook;
 mod explaining;
 #[cfg(test)]
 mod failing;
+mod finding;
 mod games;
 #[cfg(test)]
 mod meaning_rows;
 #[cfg(test)]
 mod query_rows;
+mod sorts;
 mod status;
 mod tally;
 #[cfg(test)]

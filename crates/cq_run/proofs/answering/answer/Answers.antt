@@ -1,7 +1,14 @@
 use Rattle.std.proofs.Common.{◌<◌, ◌≤◌, Err, length, sym, ap, ◌∙◌, refl, rules}
 use Rattle.cql_syntax.specs.TreeOf.{query_tree}
-use Rattle.cq_run.proofs.Answered.{unread, unremembered, too_long, answered_whole}
+use Rattle.cq_run.proofs.Answered.{unread, unremembered, none_taken, too_long, answered_whole}
 use Rattle.cq_run.proofs.answering.answer.Goals as goal
+
+pub returns-in_default-clause-answers : goal.returns-in_default-clause-answers
+returns-in_default-clause-answers g c =
+    unremembered (query_tree c.args.query.now.query) c.args.settings.limit _ _ _ (none_taken c.args.settings.limit (g.S.Source.left c.args.source.now)) refl (record { out = refl; err = refl })
+
+pub returns-in_default-clause-next : goal.returns-in_default-clause-next
+returns-in_default-clause-next g c = g.met.S.Source.follows_same c.args.source.now
 
 pub returns-in-Err-Fault-clause-answers : goal.returns-in-Err-Fault-clause-answers
 returns-in-Err-Fault-clause-answers g c =
@@ -34,5 +41,5 @@ returns-clause-answers g c =
       within = within;
       at_end = c.in-Ok.ensures.whole within;
       counts = c.in-Ok.ensures.cause;
-      answers = answers;
+      answers = subst (λ q. AnswersArchive q c.in-Ok-read_up_to.archive _ c.answer_archive.result) c.in-Ok.ensures answers;
     })

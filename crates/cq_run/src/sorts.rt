@@ -2,7 +2,7 @@
 ghost use Rattle.std.specs.Prelude.{◌≡◌};
 ghost use Rattle.std.specs.List.{list_any};
 ghost use Rattle.cql_syntax.specs.TreeOf.{filter_tree, filters_tree};
-ghost use Rattle.cq_hits.specs.Sorts.{is_sort, have_sort as some_sort};
+ghost use Rattle.cq_run.specs.Sorts.{is_sort, have_sort as some_sort};
 
 use cql_syntax::{Filter, Filters, Form};
 
