@@ -22,7 +22,7 @@ use Rattle.cq_report.specs.Games.{fault_line}
 use Rattle.cq_shards.specs.declared.answers.Answer.TheVariants.{Match}
 use Rattle.cq_shards.specs.declared.answers.GameAnswer.{GameAnswer}
 use Rattle.cq_run.specs.declared.status.Status.{Status}
-use Rattle.cq_run.specs.declared.status.Status.TheVariants.{Done, DoneWithRefusals, QueryRefused, WordsRefused, OpenFault, ReadFault, WriteFault, NoMemory, ArchiveTooLong, NotYetRead}
+use Rattle.cq_run.specs.declared.status.Status.TheVariants.{Done, DoneWithRefusals, QueryRefused, WordsRefused, OpenFault, ReadFault, WriteFault, NoMemory, ArchiveTooLong}
 use Rattle.cq_run.specs.declared.tally.Tally.{Tally}
 use Rattle.cq_run.specs.Outcomes.{Outcome, AreRead, HasGames}
 use Rattle.cql_syntax.specs.Hits.{marked, keys}
@@ -50,10 +50,10 @@ no_fault_lines : (n : ℕ) → fault_lines n [] ≡ []
 unfolding fault_lines
 no_fault_lines n = refl
 
-abbrev tally_with : ℕ → ℕ → ℕ → Tally
+abbrev pub tally_with : ℕ → ℕ → ℕ → Tally
 tally_with games matched refused = record { games = games; matched = matched; refused = refused }
 
-same_tally : (games games' matched matched' refused refused' : ℕ) → games ≡ games' → matched ≡ matched' → refused ≡ refused' → tally_with games matched refused ≡ tally_with games' matched' refused'
+pub same_tally : (games games' matched matched' refused refused' : ℕ) → games ≡ games' → matched ≡ matched' → refused ≡ refused' → tally_with games matched refused ≡ tally_with games' matched' refused'
 same_tally games games' matched matched' refused refused' g m r = cc
 
 -- the same texts and games kept, by cases on whether the query has a sort item
@@ -81,7 +81,7 @@ all_written query game some = ap (λ b. cond b (export_text (marked query game))
 all_kept : (query : QueryTree) (number : ℕ) (game : Game) → has_match query game ≡ true → kept_if true query number (Ok game) ≡ match_of query number game ∷ []
 all_kept query number game some = ap (λ b. cond b (match_of query number game ∷ []) []) some
 
-matched_tally : (query : QueryTree) (game : Game) (before : Tally) → has_match query game ≡ true
+pub matched_tally : (query : QueryTree) (game : Game) (before : Tally) → has_match query game ≡ true
     → tally_with (before.games + 1) (before.matched + 1) before.refused ≡ tallied query before (Ok game)
 matched_tally query game before some = same_tally _ _ _ _ _ _ refl (ap (λ b. before.matched + cond b 1 0) (sym some)) (omega (arith))
 
@@ -216,7 +216,7 @@ none_found sorted query archive spans out err = record {
   unfailed = record { out = refl; err = refl };
 }
 
-are_read_on : (archive : List ℕ) (ss ts : List Span) (rs qs : List Outcome) → AreRead archive ss rs → AreRead archive ts qs → AreRead archive (ss ++ ts) (rs ++ qs)
+pub are_read_on : (archive : List ℕ) (ss ts : List Span) (rs qs : List Outcome) → AreRead archive ss rs → AreRead archive ts qs → AreRead archive (ss ++ ts) (rs ++ qs)
 are_read_on archive [] ts [] qs before after = after
 are_read_on archive [] ts (r ∷ rs) qs before after = absurd before
 are_read_on archive (s ∷ ss) ts [] qs before after = absurd before
@@ -225,7 +225,7 @@ are_read_on archive (s ∷ ss) ts (r ∷ rs) qs before after = (before.0, are_re
 counted_more : (test : Outcome → Bool) (rs : List Outcome) (r : Outcome) → count_by test (rs ++ r ∷ []) ≡ count_by test rs + cond (test r) 1 0
 counted_more test rs r = fold-append (λ a x. a + cond (test x) 1 0) 0 rs (r ∷ [])
 
-tallied_more : (query : QueryTree) (rs : List Outcome) (r : Outcome) → tally_of query (rs ++ r ∷ []) ≡ tallied query (tally_of query rs) r
+pub tallied_more : (query : QueryTree) (rs : List Outcome) (r : Outcome) → tally_of query (rs ++ r ∷ []) ≡ tallied query (tally_of query rs) r
 tallied_more query rs r = same_tally _ _ _ _ _ _ (length-append rs (r ∷ [])) (counted_more (is_match query) rs r) (counted_more is_refused rs r)
 
 exports_more : (sorted : Bool) (query : QueryTree) (rs : List Outcome) (r : Outcome) → flat_map (written sorted query) rs ++ written sorted query r ≡ flat_map (written sorted query) (rs ++ r ∷ [])
@@ -511,4 +511,3 @@ ended WordsRefused query archive out out' err err' err'' tally found writes = ab
 ended OpenFault query archive out out' err err' err'' tally found writes = absurd writes
 ended ReadFault query archive out out' err err' err'' tally found writes = absurd writes
 ended ArchiveTooLong query archive out out' err err' err'' tally found writes = absurd writes
-ended NotYetRead query archive out out' err err' err'' tally found writes = absurd writes

@@ -130,7 +130,7 @@ text_same : (query : QueryTree) (n : ℕ) (r : Outcome) → exports_of (match_if
 text_same query n (Ok game) = game_same query n game (has_match query game)
 text_same query n (Err fault) = refl
 
-texts_same : (query : QueryTree) (n : ℕ) (rs : List Outcome) → exports_of (matches_from query n rs) ≡ flat_map (export_if query) rs
+pub texts_same : (query : QueryTree) (n : ℕ) (rs : List Outcome) → exports_of (matches_from query n rs) ≡ flat_map (export_if query) rs
 unfolding matches_from
 texts_same query n [] = refl
 texts_same query n (r ∷ rs) =

@@ -4,6 +4,7 @@ mod Braces
 mod Keyed
 mod Exports
 mod Answers
+mod Counting
 mod Kept
 mod Answered
 mod Doing

@@ -186,7 +186,7 @@ fn write_match<O: Sink>(
 }
 
 /// The export of a game that is marked at some of its nodes.
-fn marked_text(
+pub fn marked_text(
     alloc: Global,
     plan: &Plan,
     game: &Game,

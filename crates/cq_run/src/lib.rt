@@ -14,12 +14,14 @@ mod games;
 mod meaning_rows;
 #[cfg(test)]
 mod query_rows;
+mod selfrun;
 mod sorts;
 mod status;
 mod tally;
 #[cfg(test)]
 mod tests;
 mod top_call;
+mod totals;
 
 pub use answering::answer;
 pub use status::Status;

@@ -23,8 +23,6 @@ pub enum Status {
     NoMemory,
     /// The archive has more bytes than the limit.
     ArchiveTooLong,
-    /// The words ask `selfrun`, which this version does not answer.
-    NotYetRead,
 }
 
 impl Status {

@@ -258,7 +258,6 @@ fn other_words_and_other_queries_are_turned_away(rt: HostRuntime) -> Result<(), 
     let alloc = rt.alloc();
     let none = b"".as_slice();
     for (mode, query, status, text) in [
-        ("selfrun", "cql() mate", Status::NotYetRead, ""),
         (
             "eval",
             "cql() echo",
@@ -291,6 +290,38 @@ fn queries_are_explained(rt: HostRuntime) -> Result<(), Fail> {
     ] {
         let want = (Status::Done, lines.as_bytes(), "");
         expect(&rt, alloc, &["explain", "q.cql"], ("q.cql", query), want)?;
+    }
+    Ok(())
+}
+
+#[test]
+fn made_archives_are_answered(rt: HostRuntime) -> Result<(), Fail> {
+    let alloc = rt.alloc();
+    for (query, games, line) in [
+        (
+            "cql() mate",
+            "0",
+            "bytes 0 games 0 matched 0 refused 0 written 0\n",
+        ),
+        (
+            "cql() mate",
+            "5",
+            "bytes 1774 games 5 matched 0 refused 0 written 0\n",
+        ),
+        (
+            "cql() mate",
+            "5",
+            "bytes 1774 games 5 matched 0 refused 0 written 0\n",
+        ),
+        (
+            "cql() check",
+            "5",
+            "bytes 1774 games 5 matched 2 refused 0 written 684\n",
+        ),
+    ] {
+        let words = ["selfrun", query, "--games", games];
+        let want = (Status::Done, line.as_bytes(), "");
+        expect(&rt, alloc, &words, ("-", "*"), want)?;
     }
     Ok(())
 }

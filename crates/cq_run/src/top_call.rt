@@ -4,12 +4,13 @@ ghost use Rattle.std.specs.String.{string_bytes};
 ghost use Rattle.cq_words.specs.Jobs.{IsInRange};
 ghost use Rattle.cql_syntax.specs.TreeOf.{query_tree};
 ghost use Rattle.cq_run.specs.Asked.{call_of};
-ghost use Rattle.cq_run.specs.Promise.{SinkView, desk_view, sink_view, sinks_of};
-ghost use Rattle.cq_run.specs.Run.{Promise, AnswersFile, OverText, OverFile, SaysAccepted, Explains, DoesJob, WritesUsage};
+ghost use Rattle.cq_run.specs.Promise.{DeskView, SinkView, desk_view, sink_view, sinks_of};
+ghost use Rattle.cq_run.specs.Run.{Promise, AnswersFile, OverText, OverFile, SaysAccepted, Explains, RunsMade, DoesJob, WritesUsage};
 
 use crate::answering::answer;
 use crate::asked::{accept, query_in_file, read_query, refuse, tell_why};
 use crate::explaining::explain;
+use crate::selfrun::answer_made;
 use crate::status::Status;
 use cq_outside::{Desk, Gate, OpenFault, Refusal, Sink, write_all_of};
 use cq_words::{Job, Settings, read_words};
@@ -29,9 +30,12 @@ const USAGE: &[u8] =
 ///   archive is standard input, the desk's file `-`.
 /// - `eval TEXT [ARCHIVE]` does the same of the query that the word TEXT is.
 /// - `check QUERY` writes `ok` to `out` where the query in the file QUERY is accepted.
+/// - `selfrun TEXT` answers the query that the word TEXT is over an archive that is made, of `--games G` games, from 0 to 100,000, by
+///   `--seed S`, from 0 to 2^32 - 1: `out` takes one line, `bytes B games G matched M refused R written W`, where W is the length of the
+///   exports, and no file is opened.
 /// - `explain QUERY` writes its flat form to `out`, an item on each line, where the query in the file QUERY is accepted.
 ///
-/// `run` and `eval` take `--workers N`, from 1 to 64, which has no effect yet, and `--limit B`, from 1 to 2^40: more than so many
+/// `run`, `eval` and `selfrun` take `--workers N`, from 1 to 64, which has no effect yet, and `run` and `eval` `--limit B`, from 1 to 2^40: more than so many
 /// bytes of an archive are refused. Of a query's file at most 65,537 bytes are taken. A query with a fault is refused by a line on
 /// `err`, `query byte B: REASON`, before the archive is opened, and other words by the usage line. `rt` and `gate` are not used yet.
 ///
@@ -42,7 +46,6 @@ const USAGE: &[u8] =
 /// - `WriteFault`: the count of one sink rose, and no other. Each sink has taken a prefix of its text.
 /// - `NoMemory`: no memory was found, and no count rose; each sink has taken a prefix of its text.
 /// - `ArchiveTooLong`: more bytes of the archive than the limit were taken; nothing is written.
-/// - `NotYetRead`: the words ask `selfrun`; no file is opened, and nothing is written.
 ///
 /// In all the others no count rose. The clause `Promise` says each of these exactly, and when an answer always comes; the
 /// table of statuses in README says what the program's user sees of it.
@@ -125,7 +128,9 @@ fn do_job<R: Threads + Sync, D: Desk, O: Sink, E: Sink, G: Gate + Sync>(
         }
         Job::Check { query } => check_file(alloc, query.as_slice(), desk, out, err),
         Job::Explain { query } => explain_file(alloc, query.as_slice(), desk, out, err),
-        Job::SelfRun { .. } => Status::NotYetRead,
+        Job::SelfRun {
+            text, seed, games, ..
+        } => answer_text_over_made(alloc, text.as_slice(), *seed, *games, out, err),
     }
 }
 
@@ -243,4 +248,26 @@ fn explain_file<D: Desk, O: Sink, E: Sink>(
         Ok(query) => explain(alloc, &query, out),
         Err(why) => tell_why(alloc, &why, err),
     }
+}
+
+/// Answers the query that a text is over the archive of so many games that a seed gives.
+fn answer_text_over_made<O: Sink, E: Sink>(
+    alloc: Global,
+    text: &[u8],
+    seed: u32,
+    games: u32,
+    out: &mut O,
+    err: &mut E,
+) -> Status
+    requires { games ≤ 100000 }
+    ensures { (desk : DeskView) → OverText text.now (RunsMade seed games) result (call_of desk desk
+        (sinks_of (sink_view O.taken O.faults out.old) (sink_view O.taken O.faults out.new)
+        (sink_view E.taken E.faults err.old) (sink_view E.taken E.faults err.new))) }
+{
+    let query = match read_query(alloc, text) {
+        Ok(query) => query,
+        Err(Refusal::Fault(fault)) => return refuse(alloc, &fault, err),
+        Err(Refusal::NoMemory) => return Status::NoMemory,
+    };
+    answer_made(alloc, &query, seed, games, out)
 }
