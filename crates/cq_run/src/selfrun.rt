@@ -8,9 +8,12 @@ ghost use Rattle.pgn_cut.specs.Spans.{EndsBy};
 ghost use Rattle.pgn_reader.specs.Verdict.{IsRead};
 ghost use Rattle.pgn_reader.specs.declared.fault.GameFault.{GameFault};
 ghost use Rattle.cq_maker.specs.Made.{made};
-ghost use Rattle.cq_run.specs.Promise.{SinkView, sink_view, sinks_of};
+ghost use Rattle.cq_run.specs.Asked.{call_of};
+ghost use Rattle.cq_run.specs.Promise.{DeskView, SinkView, sink_view, sinks_of};
+ghost use Rattle.cq_run.specs.Run.{OverText, RunsMade};
 ghost use Rattle.cq_run.specs.SelfRun.{AreTotals, CountsGame, WritesMade, WritesTotals, counted};
 
+use crate::asked::{read_query, refuse};
 use crate::finding::find;
 use crate::games::marked_text;
 use crate::status::Status;
@@ -27,8 +30,30 @@ use pgn_reader::read_game;
 use pgn_tree::Game;
 use std::alloc::Global;
 
-/// Answers a query over the archive of so many games that a seed gives: `out` takes one line with the counts.
-pub fn answer_made<O: Sink>(
+/// Answers the query that a text is over the archive of so many games that a seed gives: `out` takes one line with the counts.
+pub fn answer_text_over_made<O: Sink, E: Sink>(
+    alloc: Global,
+    text: &[u8],
+    seed: u32,
+    games: u32,
+    out: &mut O,
+    err: &mut E,
+) -> Status
+    requires { games ≤ 100000 }
+    ensures { (desk : DeskView) → OverText text.now (RunsMade seed games) result (call_of desk desk
+        (sinks_of (sink_view O.taken O.faults out.old) (sink_view O.taken O.faults out.new)
+        (sink_view E.taken E.faults err.old) (sink_view E.taken E.faults err.new))) }
+{
+    let query = match read_query(alloc, text) {
+        Ok(query) => query,
+        Err(Refusal::Fault(fault)) => return refuse(alloc, &fault, err),
+        Err(Refusal::NoMemory) => return Status::NoMemory,
+    };
+    answer_made(alloc, &query, seed, games, out)
+}
+
+/// Answers a query that is accepted over the archive of so many games that a seed gives.
+fn answer_made<O: Sink>(
     alloc: Global,
     query: &TypedQuery,
     seed: u32,

@@ -4,13 +4,13 @@ ghost use Rattle.std.specs.String.{string_bytes};
 ghost use Rattle.cq_words.specs.Jobs.{IsInRange};
 ghost use Rattle.cql_syntax.specs.TreeOf.{query_tree};
 ghost use Rattle.cq_run.specs.Asked.{call_of};
-ghost use Rattle.cq_run.specs.Promise.{DeskView, SinkView, desk_view, sink_view, sinks_of};
-ghost use Rattle.cq_run.specs.Run.{Promise, AnswersFile, OverText, OverFile, SaysAccepted, Explains, RunsMade, DoesJob, WritesUsage};
+ghost use Rattle.cq_run.specs.Promise.{SinkView, desk_view, sink_view, sinks_of};
+ghost use Rattle.cq_run.specs.Run.{Promise, AnswersFile, OverText, OverFile, SaysAccepted, Explains, DoesJob, WritesUsage};
 
 use crate::answering::answer;
 use crate::asked::{accept, query_in_file, read_query, refuse, tell_why};
 use crate::explaining::explain;
-use crate::selfrun::answer_made;
+use crate::selfrun::answer_text_over_made;
 use crate::status::Status;
 use cq_outside::{Desk, Gate, OpenFault, Refusal, Sink, write_all_of};
 use cq_words::{Job, Settings, read_words};
@@ -248,26 +248,4 @@ fn explain_file<D: Desk, O: Sink, E: Sink>(
         Ok(query) => explain(alloc, &query, out),
         Err(why) => tell_why(alloc, &why, err),
     }
-}
-
-/// Answers the query that a text is over the archive of so many games that a seed gives.
-fn answer_text_over_made<O: Sink, E: Sink>(
-    alloc: Global,
-    text: &[u8],
-    seed: u32,
-    games: u32,
-    out: &mut O,
-    err: &mut E,
-) -> Status
-    requires { games ≤ 100000 }
-    ensures { (desk : DeskView) → OverText text.now (RunsMade seed games) result (call_of desk desk
-        (sinks_of (sink_view O.taken O.faults out.old) (sink_view O.taken O.faults out.new)
-        (sink_view E.taken E.faults err.old) (sink_view E.taken E.faults err.new))) }
-{
-    let query = match read_query(alloc, text) {
-        Ok(query) => query,
-        Err(Refusal::Fault(fault)) => return refuse(alloc, &fault, err),
-        Err(Refusal::NoMemory) => return Status::NoMemory,
-    };
-    answer_made(alloc, &query, seed, games, out)
 }

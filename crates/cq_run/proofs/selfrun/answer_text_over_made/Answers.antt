@@ -3,7 +3,7 @@ use Rattle.cql_syntax.specs.TreeOf.{query_tree}
 use Rattle.cql_syntax.specs.declared.fault.QueryFault.{QueryFault}
 use Rattle.cq_run.specs.Promise.{sink_view, sinks_of}
 use Rattle.cq_run.specs.Run.{RefusesQuery, text_accepted, text_refused, text_forgotten}
-use Rattle.cq_run.proofs.top_call.answer_text_over_made.Goals as goal
+use Rattle.cq_run.proofs.selfrun.answer_text_over_made.Goals as goal
 
 pub returns : goal.returns
 returns g c = λ desk. text_accepted (query_tree c.in-Ok.query.query) c.in-Ok.ensures (c.answer_made.ensures (sink_view g.E.Sink.taken g.E.Sink.faults c.args.err.now), refl)
