@@ -172,12 +172,12 @@ fn write_match<O: Sink>(
 {
     tally.games += 1;
     let found = find(alloc, plan, &game)?;
-    let nodes = found.nodes();
-    if nodes.is_empty() {
+    let hits = found.nodes();
+    if hits.is_empty() {
         return Ok(());
     }
     tally.matched += 1;
-    let text = marked_text(alloc, plan, &game, nodes)?;
+    let text = marked_text(alloc, plan, &game, hits)?;
     if !sorted {
         return write_to(out, text.as_slice());
     }

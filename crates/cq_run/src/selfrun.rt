@@ -1,12 +1,10 @@
 //! Answering a query over an archive that is made. The exports are not written, but their bytes are counted.
-ghost use Rattle.std.specs.Prelude.{◌≡◌, ◌+◌, ◌*◌, ◌<◌, ◌≤◌, ◌^◌, IfOk, Ok, Err, length};
+ghost use Rattle.std.specs.Prelude.{◌≡◌, ◌+◌, ◌*◌, ◌<◌, ◌≤◌, ◌^◌, IfOk, Ok, length};
 ghost use Rattle.cql_syntax.specs.TreeOf.{query_tree};
-ghost use Rattle.cql_syntax.specs.Trees.{QueryTree};
 ghost use Rattle.pgn_cut.specs.Joined.{game_bytes};
 ghost use Rattle.pgn_cut.specs.OneGame.{IsGameIn};
 ghost use Rattle.pgn_cut.specs.Spans.{EndsBy};
 ghost use Rattle.pgn_reader.specs.Verdict.{IsRead};
-ghost use Rattle.pgn_reader.specs.declared.fault.GameFault.{GameFault};
 ghost use Rattle.cq_maker.specs.Made.{made};
 ghost use Rattle.cq_run.specs.Asked.{call_of};
 ghost use Rattle.cq_run.specs.Promise.{DeskView, SinkView, sink_view, sinks_of};
@@ -131,25 +129,16 @@ fn count_game(
     let bytes = &archive[game.start as usize..game.end as usize];
     match read_game(alloc, bytes, game.start, game.first) {
         Ok(game) => count_match(alloc, plan, &game, before),
-        Err(Refusal::Fault(_)) => Ok(with_fault(before)),
+        Err(Refusal::Fault(_)) => Ok(Totals {
+            bytes: before.bytes,
+            tally: Tally {
+                games: before.tally.games + 1,
+                matched: before.tally.matched,
+                refused: before.tally.refused + 1,
+            },
+            written: before.written,
+        }),
         Err(Refusal::NoMemory) => Err(NoMemory),
-    }
-}
-
-/// The totals with one faulty game more.
-fn with_fault(before: Totals) -> Totals
-    requires games { before.tally.games < 2 ^ 63 }
-    requires refused { before.tally.refused ≤ before.tally.games }
-    ensures { (query : QueryTree) (fault : GameFault) → result ≡ counted query before (Err fault) }
-{
-    Totals {
-        bytes: before.bytes,
-        tally: Tally {
-            games: before.tally.games + 1,
-            matched: before.tally.matched,
-            refused: before.tally.refused + 1,
-        },
-        written: before.written,
     }
 }
 
@@ -167,10 +156,10 @@ fn count_match(
     ensures written { IfOk result (λ after. after.written ≤ 2 ^ 64 * after.tally.games) }
 {
     let found = find(alloc, plan, game)?;
-    let nodes = found.nodes();
+    let hits = found.nodes();
     let games = before.tally.games + 1;
     let refused = before.tally.refused;
-    if nodes.is_empty() {
+    if hits.is_empty() {
         return Ok(Totals {
             bytes: before.bytes,
             tally: Tally {
@@ -181,7 +170,7 @@ fn count_match(
             written: before.written,
         });
     }
-    let text = marked_text(alloc, plan, game, nodes)?;
+    let text = marked_text(alloc, plan, game, hits)?;
     Ok(Totals {
         bytes: before.bytes,
         tally: Tally {

@@ -2,7 +2,7 @@ use Rattle.std.proofs.Common.{Ok, Err, ap, ◌∙◌}
 use Rattle.cql_syntax.specs.TreeOf.{query_tree}
 use Rattle.pgn_cut.specs.Joined.{game_bytes}
 use Rattle.pgn_reader.specs.Verdict.{IsRead}
-use Rattle.cq_run.proofs.Counting.{read_counted}
+use Rattle.cq_run.proofs.Counting.{read_counted, faulty}
 use Rattle.cq_run.proofs.selfrun.count_game.Goals as goal
 
 pub returns-in-Ok-clause-counts : goal.returns-in-Ok-clause-counts
@@ -13,4 +13,4 @@ returns-in-Ok-clause-counts c =
 pub returns-in-Err-Fault-clause-counts : goal.returns-in-Err-Fault-clause-counts
 returns-in-Err-Fault-clause-counts c =
     let read = rw (c.in-Err-Fault.is ∙ ap Err c.in-Err-Fault.field-0-is) at c.read_game.ensures in
-    (Err _, read, c.with_fault.ensures (query_tree c.args.plan.now.query.query) _)
+    (Err _, read, faulty (query_tree c.args.plan.now.query.query) _ c.args.before)
