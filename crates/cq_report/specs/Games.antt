@@ -32,3 +32,9 @@ fault_line game fault =
 abbrev pub summary_line : (games matched refused : ℕ) → List ℕ
 summary_line games matched refused =
     codes "games " ++ decimal games ++ codes " matched " ++ decimal matched ++ codes " refused " ++ decimal refused ++ codes "\n"
+
+-- the line on a made archive that is answered: its bytes, how many games it has, match and are refused, and the bytes of the exports
+abbrev pub made_line : (bytes games matched refused written : ℕ) → List ℕ
+made_line bytes games matched refused written =
+    codes "bytes " ++ decimal bytes ++ codes " games " ++ decimal games ++ codes " matched " ++ decimal matched ++ codes " refused " ++ decimal refused
+    ++ codes " written " ++ decimal written ++ codes "\n"

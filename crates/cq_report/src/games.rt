@@ -65,3 +65,29 @@ pub fn summary_line(
     line.push_all(b"\n")?;
     Ok(line)
 }
+
+/// The line on a made archive that is answered: its bytes, how many games it has, match and are refused, and the bytes of the exports.
+pub fn made_line(
+    alloc: Global,
+    bytes: u64,
+    games: u64,
+    matched: u64,
+    refused: u64,
+    written: u128,
+) -> Result<Bytes, NoMemory>
+    ensures { IfOk result (λ line. line ≡ lines.made_line bytes games matched refused written) }
+{
+    let mut digits = Buffer::new();
+    let mut line = Bytes::from_slice(alloc, b"bytes ")?;
+    line.push_all(digits.format(bytes).as_bytes())?;
+    line.push_all(b" games ")?;
+    line.push_all(digits.format(games).as_bytes())?;
+    line.push_all(b" matched ")?;
+    line.push_all(digits.format(matched).as_bytes())?;
+    line.push_all(b" refused ")?;
+    line.push_all(digits.format(refused).as_bytes())?;
+    line.push_all(b" written ")?;
+    line.push_all(digits.format(written).as_bytes())?;
+    line.push_all(b"\n")?;
+    Ok(line)
+}

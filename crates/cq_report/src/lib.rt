@@ -1,4 +1,5 @@
-//! The lines of reports: that of a faulty game, the counts after the last game, and the line of a query that is refused.
+//! The lines of reports: that of a faulty game, the counts after the last game or on a made archive, and the line of a query that is
+//! refused.
 #![tactic(auto)]
 
 mod games;
@@ -6,5 +7,5 @@ mod queries;
 #[cfg(test)]
 mod tests;
 
-pub use games::{fault_line, summary_line};
+pub use games::{fault_line, made_line, summary_line};
 pub use queries::query_line;

@@ -1,5 +1,5 @@
 //! Lines of reports.
-use crate::{fault_line, query_line, summary_line};
+use crate::{fault_line, made_line, query_line, summary_line};
 use cq_outside::Bytes;
 use cql_syntax::{Kind, QueryFault, QueryReason};
 use pgn_reader::{GameFault, Reason};
@@ -26,6 +26,11 @@ fn lines_of_games_say_where_and_why(rt: HostRuntime) -> Result<(), Fail> {
     assert_eq!(rt;
         line.as_slice(),
         b"games 3 matched 2 refused 1\n".as_slice()
+    );
+    let line = made_line(alloc, 900, 3, 2, 1, 18_446_744_073_709_551_616)?;
+    assert_eq!(rt;
+        line.as_slice(),
+        b"bytes 900 games 3 matched 2 refused 1 written 18446744073709551616\n".as_slice()
     );
     Ok(())
 }

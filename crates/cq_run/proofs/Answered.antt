@@ -5,7 +5,7 @@ use Rattle.cq_outside.specs.Faults.{Rose}
 use Rattle.cq_outside.specs.Flow.{TakesAtMost}
 use Rattle.cql_syntax.specs.Trees.{QueryTree}
 use Rattle.cq_run.specs.declared.status.Status.{Status}
-use Rattle.cq_run.specs.declared.status.Status.TheVariants.{Done, DoneWithRefusals, QueryRefused, WordsRefused, OpenFault, ReadFault, WriteFault, NoMemory, ArchiveTooLong, NotYetRead}
+use Rattle.cq_run.specs.declared.status.Status.TheVariants.{Done, DoneWithRefusals, QueryRefused, WordsRefused, OpenFault, ReadFault, WriteFault, NoMemory, ArchiveTooLong}
 use Rattle.cq_run.specs.Outcomes.{Outcome}
 use Rattle.cq_run.specs.Promise.{SourceView, Sinks, Answering, MayBe, TakesTooMuch, Overruns, Finds, TakesAll, SaysOfAnswer, AnswerPromise, WritesPart, IsUnwritten, SinkFailed, IsOneOf}
 use Rattle.cq_run.specs.Writing.{AnswersArchive}
@@ -48,6 +48,11 @@ asked q limit source after sinks = record { query = q; limit = limit; source = s
 
 one_more_most : (limit : ℕ) (left after : Option (List ℕ)) → TakesAtMost limit left after → TakesAtMost (limit + 1) left after
 one_more_most limit left after few = record { bytes = few.bytes; takes = few.takes; few = let a = few.few in omega (arith, a) }
+
+-- nothing was taken
+pub none_taken : (limit : ℕ) (left : Option (List ℕ)) → TakesAtMost (limit + 1) left left
+none_taken limit None = record { bytes = []; takes = tt; few = omega arith }
+none_taken limit (Some bytes) = record { bytes = []; takes = refl; few = omega arith }
 
 -- a read that failed
 pub unread : (q : QueryTree) (limit : ℕ) (source after : SourceView) (sinks : Sinks) → TakesAtMost limit source.left after.left → Rose source.faults after.faults
@@ -124,7 +129,6 @@ says_answered WordsRefused q limit source after sinks answered = absurd answered
 says_answered OpenFault q limit source after sinks answered = absurd answered.answers.writes
 says_answered ReadFault q limit source after sinks answered = absurd answered.answers.writes
 says_answered ArchiveTooLong q limit source after sinks answered = absurd answered.answers.writes
-says_answered NotYetRead q limit source after sinks answered = absurd answered.answers.writes
 
 -- which answer it is, where no write failed
 answer_is_one : (status : Status) (q : QueryTree) (limit : ℕ) (source after : SourceView) (sinks : Sinks) → Answered q limit source after sinks status → (SinkFailed sinks → ⊥)
@@ -138,7 +142,6 @@ answer_is_one WordsRefused q limit source after sinks answered none = absurd ans
 answer_is_one OpenFault q limit source after sinks answered none = absurd answered.answers.writes
 answer_is_one ReadFault q limit source after sinks answered none = absurd answered.answers.writes
 answer_is_one ArchiveTooLong q limit source after sinks answered none = absurd answered.answers.writes
-answer_is_one NotYetRead q limit source after sinks answered none = absurd answered.answers.writes
 
 pub answered_whole : (status : Status) (q : QueryTree) (limit : ℕ) (source after : SourceView) (sinks : Sinks) → Answered q limit source after sinks status → AnswerPromise status (asked q limit source after sinks)
 answered_whole status q limit source after sinks answered = record {

@@ -1,5 +1,5 @@
 -- Answering game by game.
-use Rattle.std.proofs.Common.{◌≡◌, ℕ, ◌+◌, ℤ, Bool, true, false, List, [], ◌∷◌, ◌++◌, map, Some, length, length-append, take, drop, get_or, ◌<◌, ◌≤◌, inl, inr, arith, refl, ap, sym, ◌∙◌, append_assoc, append-nil, cond, subst, Ok, Err}
+use Rattle.std.proofs.Common.{◌≡◌, ℕ, ◌+◌, ℤ, Bool, true, false, List, [], ◌∷◌, ◌++◌, map, Some, length, length-append, take, drop, get_or, ◌<◌, ◌≤◌, ◌==◌, inl, inr, arith, refl, ap, sym, ◌∙◌, append_assoc, append-nil, cond, subst, Ok, Err}
 use Rattle.std.specs.Prelude.{count_by, Result, if◌then◌else◌}
 use Rattle.std.specs.List.{flat_map}
 use Rattle.std.proofs.lemmas.Grind.{flat_map-append}
@@ -17,19 +17,18 @@ use Rattle.pgn_cut.specs.Cut.{cut}
 use Rattle.pgn_cut.specs.Joined.{game_bytes}
 use Rattle.pgn_reader.specs.declared.fault.GameFault.{GameFault}
 use Rattle.pgn_reader.specs.Verdict.{IsRead}
-use Rattle.cq_hits.specs.Keys.{values_in}
-use Rattle.cq_hits.specs.Sorts.{have_sort}
+use Rattle.cq_run.specs.Sorts.{have_sort}
 use Rattle.cq_report.specs.Games.{fault_line}
 use Rattle.cq_shards.specs.declared.answers.Answer.TheVariants.{Match}
 use Rattle.cq_shards.specs.declared.answers.GameAnswer.{GameAnswer}
 use Rattle.cq_run.specs.declared.status.Status.{Status}
-use Rattle.cq_run.specs.declared.status.Status.TheVariants.{Done, DoneWithRefusals, QueryRefused, WordsRefused, OpenFault, ReadFault, WriteFault, NoMemory, ArchiveTooLong, NotYetRead}
+use Rattle.cq_run.specs.declared.status.Status.TheVariants.{Done, DoneWithRefusals, QueryRefused, WordsRefused, OpenFault, ReadFault, WriteFault, NoMemory, ArchiveTooLong}
 use Rattle.cq_run.specs.declared.tally.Tally.{Tally}
 use Rattle.cq_run.specs.Outcomes.{Outcome, AreRead, HasGames}
 use Rattle.cql_syntax.specs.Hits.{marked, keys}
 use Rattle.cql_syntax.specs.Trees.{QueryTree}
 use Rattle.cq_run.specs.Answer.{has_match, tally_of, report_of, export_if, fault_if, fault_lines, is_match, is_refused, summary_of}
-use Rattle.cq_run.specs.Exports.{AreExports, exports_of, match_if, matches_from}
+use Rattle.cq_run.specs.Exports.{AreExports, exports_of, match_if, matches_from, values_in}
 use Rattle.cq_run.specs.Promise.{SinkView, Sinks, Writes, WritesPrefix, WritesWhole, WritesPart, TakesPart, IsUnwritten, NoWriteFailed, OneSinkFailed, sinks_of}
 use Rattle.cq_run.specs.Writing.{WritesText, WritesKept, InOrder, AnswersGame, AnswersArchive, WritesSummary, Stand, stand_of, onward, tallied, written, kept_if, texts_of_game}
 use Rattle.cq_run.proofs.Exports.{matches_more, written_none, first_none, only_values, unsorted_exports, sorted_exports, none_ordered}
@@ -51,10 +50,10 @@ no_fault_lines : (n : ℕ) → fault_lines n [] ≡ []
 unfolding fault_lines
 no_fault_lines n = refl
 
-abbrev tally_with : ℕ → ℕ → ℕ → Tally
+abbrev pub tally_with : ℕ → ℕ → ℕ → Tally
 tally_with games matched refused = record { games = games; matched = matched; refused = refused }
 
-same_tally : (games games' matched matched' refused refused' : ℕ) → games ≡ games' → matched ≡ matched' → refused ≡ refused' → tally_with games matched refused ≡ tally_with games' matched' refused'
+pub same_tally : (games games' matched matched' refused refused' : ℕ) → games ≡ games' → matched ≡ matched' → refused ≡ refused' → tally_with games matched refused ≡ tally_with games' matched' refused'
 same_tally games games' matched matched' refused refused' g m r = cc
 
 -- the same texts and games kept, by cases on whether the query has a sort item
@@ -82,9 +81,14 @@ all_written query game some = ap (λ b. cond b (export_text (marked query game))
 all_kept : (query : QueryTree) (number : ℕ) (game : Game) → has_match query game ≡ true → kept_if true query number (Ok game) ≡ match_of query number game ∷ []
 all_kept query number game some = ap (λ b. cond b (match_of query number game ∷ []) []) some
 
-matched_tally : (query : QueryTree) (game : Game) (before : Tally) → has_match query game ≡ true
+pub matched_tally : (query : QueryTree) (game : Game) (before : Tally) → has_match query game ≡ true
     → tally_with (before.games + 1) (before.matched + 1) before.refused ≡ tallied query before (Ok game)
 matched_tally query game before some = same_tally _ _ _ _ _ _ refl (ap (λ b. before.matched + cond b 1 0) (sym some)) (omega (arith))
+
+-- some nodes are not none
+pub some_in : (ns : List ℕ) → (length ns == 0) ≡ false → ns ≡ [] → ⊥
+some_in [] some none = cc
+some_in (n ∷ ns) some none = cc
 
 -- a game that does not match is counted, and nothing is written or kept
 pub unmatched : (sorted : Bool) (query : QueryTree) (game : Game) (before after : Tally) (ks : List GameAnswer) (out err : SinkView) → has_match query game ≡ false
@@ -212,7 +216,7 @@ none_found sorted query archive spans out err = record {
   unfailed = record { out = refl; err = refl };
 }
 
-are_read_on : (archive : List ℕ) (ss ts : List Span) (rs qs : List Outcome) → AreRead archive ss rs → AreRead archive ts qs → AreRead archive (ss ++ ts) (rs ++ qs)
+pub are_read_on : (archive : List ℕ) (ss ts : List Span) (rs qs : List Outcome) → AreRead archive ss rs → AreRead archive ts qs → AreRead archive (ss ++ ts) (rs ++ qs)
 are_read_on archive [] ts [] qs before after = after
 are_read_on archive [] ts (r ∷ rs) qs before after = absurd before
 are_read_on archive (s ∷ ss) ts [] qs before after = absurd before
@@ -221,7 +225,7 @@ are_read_on archive (s ∷ ss) ts (r ∷ rs) qs before after = (before.0, are_re
 counted_more : (test : Outcome → Bool) (rs : List Outcome) (r : Outcome) → count_by test (rs ++ r ∷ []) ≡ count_by test rs + cond (test r) 1 0
 counted_more test rs r = fold-append (λ a x. a + cond (test x) 1 0) 0 rs (r ∷ [])
 
-tallied_more : (query : QueryTree) (rs : List Outcome) (r : Outcome) → tally_of query (rs ++ r ∷ []) ≡ tallied query (tally_of query rs) r
+pub tallied_more : (query : QueryTree) (rs : List Outcome) (r : Outcome) → tally_of query (rs ++ r ∷ []) ≡ tallied query (tally_of query rs) r
 tallied_more query rs r = same_tally _ _ _ _ _ _ (length-append rs (r ∷ [])) (counted_more (is_match query) rs r) (counted_more is_refused rs r)
 
 exports_more : (sorted : Bool) (query : QueryTree) (rs : List Outcome) (r : Outcome) → flat_map (written sorted query) rs ++ written sorted query r ≡ flat_map (written sorted query) (rs ++ r ∷ [])
@@ -507,4 +511,3 @@ ended WordsRefused query archive out out' err err' err'' tally found writes = ab
 ended OpenFault query archive out out' err err' err'' tally found writes = absurd writes
 ended ReadFault query archive out out' err err' err'' tally found writes = absurd writes
 ended ArchiveTooLong query archive out out' err err' err'' tally found writes = absurd writes
-ended NotYetRead query archive out out' err err' err'' tally found writes = absurd writes

@@ -11,6 +11,7 @@ use Rattle.cq_outside.specs.Told.{Told, Opens, bytes_of}
 use Rattle.cq_outside.specs.declared.faults.Refusal.{Refusal}
 use Rattle.cq_outside.specs.declared.faults.Refusal.TheVariants.{Fault, NoMemory as IsNoMemory}
 use Rattle.clap.specs.Takes.{takes}
+use Rattle.cq_maker.specs.Made.{made}
 use Rattle.clap.specs.Simple.{matches_of}
 use Rattle.cq_words.specs.Jobs.{Answers, asked, job_in}
 use Rattle.cq_words.specs.Line.{line}
@@ -27,10 +28,12 @@ use Rattle.cql_parser.specs.Faults.{IsFault}
 use Rattle.cq_run.specs.declared.asked.Unasked.{Unasked}
 use Rattle.cq_run.specs.declared.asked.Unasked.TheVariants.{Faulty, Unopened, Unread, Forgotten}
 use Rattle.cq_run.specs.declared.status.Status.{Status}
-use Rattle.cq_run.specs.declared.status.Status.TheVariants.{Done, DoneWithRefusals, QueryRefused, WordsRefused, OpenFault, ReadFault, WriteFault, NoMemory, ArchiveTooLong, NotYetRead}
+use Rattle.cq_run.specs.declared.status.Status.TheVariants.{Done, DoneWithRefusals, QueryRefused, WordsRefused, OpenFault, ReadFault, WriteFault, NoMemory, ArchiveTooLong}
 use Rattle.cq_run.specs.Queries.{IsQuery, IsQueryFault}
 use Rattle.cq_run.specs.Promise.{SourceView, DeskView, Sinks, SaysOfAnswer, IsOneOf, IsUnwritten, NoWriteFailed}
-use Rattle.cq_run.specs.Run.{Call, from_desk, IsUnmoved, NoInputFailed, with_open, Opened, FailsToOpen, query_limit, TakesQuery, FailsToRead, ForgetsQuery, no_memory_to_open, no_memory_to_read, WritesUsage, RefusesQuery, AcceptsQuery, AnswersFile, archive_answered, archive_unopened, archive_forgotten, OverText, text_accepted, text_refused, text_forgotten, OverFile, file_accepted, file_refused, file_unopened, file_unread, file_forgotten, SaysAccepted, DoesJob, Does, job_done, words_refused, words_forgotten, Asks, AnswersItsFault, IsInFile, HasText, NothingRose, IsShort, IsWithin, good_answers, Promise}
+use Rattle.cq_run.specs.Run.{Call, from_desk, IsUnmoved, NoInputFailed, with_open, Opened, FailsToOpen, query_limit, TakesQuery, FailsToRead, ForgetsQuery, no_memory_to_open, no_memory_to_read, WritesUsage, RefusesQuery, AcceptsQuery, WritesFlat, AnswersFile, archive_answered, archive_unopened, archive_forgotten, OverText, text_accepted, text_refused, text_forgotten, OverFile, file_accepted, file_refused, file_unopened, file_unread, file_forgotten, SaysAccepted, Explains, RunsMade, DoesJob, Does, job_done, words_refused, words_forgotten, Asks, AnswersItsFault, IsInFile, HasText, NothingRose, IsShort, IsWithin, good_answers, Promise}
+use Rattle.cq_run.specs.SelfRun.{WritesTotals, WritesMade, totals_written, made_forgotten}
+use Rattle.cq_run.specs.declared.totals.Totals.{Totals}
 use Rattle.cq_run.specs.Asked.{ReadsFile, TellsWhy, call_of}
 use Rattle.cq_run.proofs.Sinks.{wrote_none, some_failed}
 
@@ -110,7 +113,6 @@ refusal_faults fault WordsRefused call input does = absurd does
 refusal_faults fault OpenFault call input does = absurd does
 refusal_faults fault ReadFault call input does = absurd does
 refusal_faults fault ArchiveTooLong call input does = absurd does
-refusal_faults fault NotYetRead call input does = absurd does
 
 acceptance_faults : (status : Status) (call : Call) → NoInputFailed call.desk call.desk_after → AcceptsQuery status call.sinks → AnswersItsFault status call
 acceptance_faults Done call input does = at_none Done call input does.1
@@ -122,7 +124,33 @@ acceptance_faults WordsRefused call input does = absurd does
 acceptance_faults OpenFault call input does = absurd does
 acceptance_faults ReadFault call input does = absurd does
 acceptance_faults ArchiveTooLong call input does = absurd does
-acceptance_faults NotYetRead call input does = absurd does
+
+explanation_faults : (q : QueryTree) (status : Status) (call : Call) → NoInputFailed call.desk call.desk_after → WritesFlat q status call.sinks → AnswersItsFault status call
+explanation_faults q Done call input does = at_none Done call input does.1
+explanation_faults q WriteFault call input does = at_write call input
+explanation_faults q NoMemory call input does = at_none NoMemory call input (wrote_none call.sinks does)
+explanation_faults q QueryRefused call input does = absurd does
+explanation_faults q DoneWithRefusals call input does = absurd does
+explanation_faults q WordsRefused call input does = absurd does
+explanation_faults q OpenFault call input does = absurd does
+explanation_faults q ReadFault call input does = absurd does
+explanation_faults q ArchiveTooLong call input does = absurd does
+
+totals_faults : (totals : Totals) (status : Status) (call : Call) → NoInputFailed call.desk call.desk_after → WritesTotals totals status call.sinks → AnswersItsFault status call
+totals_faults totals Done call input does = at_none Done call input does.2
+totals_faults totals DoneWithRefusals call input does = at_none DoneWithRefusals call input does.2
+totals_faults totals WriteFault call input does = at_write call input
+totals_faults totals NoMemory call input does = at_none NoMemory call input (wrote_none call.sinks does)
+totals_faults totals QueryRefused call input does = absurd does
+totals_faults totals WordsRefused call input does = absurd does
+totals_faults totals OpenFault call input does = absurd does
+totals_faults totals ReadFault call input does = absurd does
+totals_faults totals ArchiveTooLong call input does = absurd does
+
+made_faults : (archive : List ℕ) (q : QueryTree) (status : Status) (call : Call) → NoInputFailed call.desk call.desk_after → WritesMade archive q status call.sinks
+    → AnswersItsFault status call
+made_faults archive q status call input (totals_written totals are does) = totals_faults totals status call input does
+made_faults archive q status call input (made_forgotten is same) = at_none status call input (wrote_none call.sinks same)
 
 answer_faults : (name : List ℕ) (limit : ℕ) (q : QueryTree) (file : SourceView) (status : Status) (call : Call) → Opened name call.desk call.desk_after file
     → SaysOfAnswer status (record { query = q; limit = limit; source = file; source_after = call.desk_after.file; sinks = call.sinks }) → AnswersItsFault status call
@@ -132,7 +160,6 @@ answer_faults name limit q file ReadFault call opened says = at_read call opened
 answer_faults name limit q file WriteFault call opened says = at_write call (opened_counts name call.desk call.desk_after file opened says.1)
 answer_faults name limit q file NoMemory call opened says = at_none NoMemory call (opened_counts name call.desk call.desk_after file opened says.1.source) says.1.sinks
 answer_faults name limit q file ArchiveTooLong call opened says = at_none ArchiveTooLong call (opened_counts name call.desk call.desk_after file opened says.2.source) says.2.sinks
-answer_faults name limit q file NotYetRead call opened says = absurd says
 answer_faults name limit q file QueryRefused call opened says = absurd says
 answer_faults name limit q file WordsRefused call opened says = absurd says
 answer_faults name limit q file OpenFault call opened says = absurd says
@@ -194,8 +221,10 @@ job_faults (Eval text archive workers limit) status call does =
     text_faults text (AnswersFile archive limit) status call (λ q a. archive_faults archive limit q status call a) does
 job_faults (Check query) status call does =
     file_faults query SaysAccepted status call (λ q mid a. acceptance_faults status (from_desk mid call) (same_counts mid call.desk_after a.1) a.0) does
-job_faults (Explain query) status call does = unmoved_faults status call does.1
-job_faults (SelfRun text seed games workers) status call does = unmoved_faults status call does.1
+job_faults (Explain query) status call does =
+    file_faults query Explains status call (λ q mid a. explanation_faults q status (from_desk mid call) (same_counts mid call.desk_after a.1) a.0) does
+job_faults (SelfRun text seed games workers) status call does =
+    text_faults text (RunsMade seed games) status call (λ q a. made_faults (made seed games) q status call (same_counts call.desk call.desk_after a.1) a.0) does
 
 usage_faults : (status : Status) (call : Call) → call.desk_after ≡ call.desk → WritesUsage status call.sinks → AnswersItsFault status call
 usage_faults WordsRefused call same does = at_none WordsRefused call (same_counts call.desk call.desk_after same) does.1
@@ -207,7 +236,6 @@ usage_faults OpenFault call same does = absurd does
 usage_faults ReadFault call same does = absurd does
 usage_faults NoMemory call same does = absurd does
 usage_faults ArchiveTooLong call same does = absurd does
-usage_faults NotYetRead call same does = absurd does
 
 -- words that ask a job are not refused
 
@@ -238,6 +266,10 @@ file_not_words name Accepted status call accepted (file_unopened is fails same) 
 file_not_words name Accepted status call accepted (file_unread is fails same) e = let f = not_twice status ReadFault is e in cc
 file_not_words name Accepted status call accepted (file_forgotten is forgets same) e = let f = not_twice status NoMemory is e in cc
 
+made_not_words : (archive : List ℕ) (q : QueryTree) (status : Status) (sinks : Sinks) → WritesMade archive q status sinks → status ≡ WordsRefused → ⊥
+made_not_words archive q status sinks (totals_written totals are does) e = subst (λ s. WritesTotals totals s sinks) e does
+made_not_words archive q status sinks (made_forgotten is same) e = let f = not_twice status NoMemory is e in cc
+
 job_not_words : (job : Job) (status : Status) (call : Call) → DoesJob job status call → status ≡ WordsRefused → ⊥
 job_not_words (Run query archive workers limit) status call does e =
     file_not_words query (AnswersFile archive limit) status call (λ q mid a f. archive_not_words archive limit q status (from_desk mid call) a f) does e
@@ -245,8 +277,10 @@ job_not_words (Eval text archive workers limit) status call does e =
     text_not_words text (AnswersFile archive limit) status call (λ q a f. archive_not_words archive limit q status call a f) does e
 job_not_words (Check query) status call does e =
     file_not_words query SaysAccepted status call (λ q mid a f. subst (λ s. AcceptsQuery s call.sinks) f a.0) does e
-job_not_words (Explain query) status call does e = let f = not_twice status NotYetRead does.0 e in cc
-job_not_words (SelfRun text seed games workers) status call does e = let f = not_twice status NotYetRead does.0 e in cc
+job_not_words (Explain query) status call does e =
+    file_not_words query Explains status call (λ q mid a f. subst (λ s. WritesFlat q s call.sinks) f a.0) does e
+job_not_words (SelfRun text seed games workers) status call does e =
+    text_not_words text (RunsMade seed games) status call (λ q a f. made_not_words (made seed games) q status call.sinks a.0 f) does e
 
 -- a faulty query is refused
 refusal_is_one : (fault : QueryFault) (status : Status) (sinks : Sinks) → RefusesQuery fault status sinks → IsOneOf status (QueryRefused ∷ WriteFault ∷ NoMemory ∷ [])
@@ -259,7 +293,6 @@ refusal_is_one fault WordsRefused sinks does = absurd does
 refusal_is_one fault OpenFault sinks does = absurd does
 refusal_is_one fault ReadFault sinks does = absurd does
 refusal_is_one fault ArchiveTooLong sinks does = absurd does
-refusal_is_one fault NotYetRead sinks does = absurd does
 
 -- What is taken of a file: all of it, or one byte more than the limit.
 
@@ -306,8 +339,9 @@ job_refused_always one none (Run query archive workers limit) text fault status 
 job_refused_always one none (Eval word archive workers limit) text fault status call has faulty does =
     text_refused_always one none text fault (AnswersFile archive limit) status call faulty (subst (λ t. OverText t (AnswersFile archive limit) status call) has does)
 job_refused_always one none (Check query) text fault status call has faulty does = file_refused_always one none query text fault SaysAccepted status call has faulty does
-job_refused_always one none (Explain query) text fault status call has faulty does = absurd has
-job_refused_always one none (SelfRun word seed games workers) text fault status call has faulty does = absurd has
+job_refused_always one none (Explain query) text fault status call has faulty does = file_refused_always one none query text fault Explains status call has faulty does
+job_refused_always one none (SelfRun word seed games workers) text fault status call has faulty does =
+    text_refused_always one none text fault (RunsMade seed games) status call faulty (subst (λ t. OverText t (RunsMade seed games) status call) has does)
 
 -- an accepted query is answered
 
@@ -374,7 +408,34 @@ acceptance_is_one WordsRefused call none does = absurd does
 acceptance_is_one OpenFault call none does = absurd does
 acceptance_is_one ReadFault call none does = absurd does
 acceptance_is_one ArchiveTooLong call none does = absurd does
-acceptance_is_one NotYetRead call none does = absurd does
+
+explanation_is_one : (q : QueryTree) (status : Status) (call : Call) → NothingRose call → WritesFlat q status call.sinks → IsOneOf status (Done ∷ NoMemory ∷ [])
+explanation_is_one q Done call none does = inl refl
+explanation_is_one q WriteFault call none does = absurd (none.writes (some_failed call.sinks does.1))
+explanation_is_one q NoMemory call none does = inr (inl refl)
+explanation_is_one q QueryRefused call none does = absurd does
+explanation_is_one q DoneWithRefusals call none does = absurd does
+explanation_is_one q WordsRefused call none does = absurd does
+explanation_is_one q OpenFault call none does = absurd does
+explanation_is_one q ReadFault call none does = absurd does
+explanation_is_one q ArchiveTooLong call none does = absurd does
+
+totals_is_one : (totals : Totals) (status : Status) (call : Call) → NothingRose call → WritesTotals totals status call.sinks
+    → IsOneOf status (Done ∷ DoneWithRefusals ∷ NoMemory ∷ [])
+totals_is_one totals Done call none does = inl refl
+totals_is_one totals DoneWithRefusals call none does = inr (inl refl)
+totals_is_one totals NoMemory call none does = inr (inr (inl refl))
+totals_is_one totals WriteFault call none does = absurd (none.writes (some_failed call.sinks does.1))
+totals_is_one totals QueryRefused call none does = absurd does
+totals_is_one totals WordsRefused call none does = absurd does
+totals_is_one totals OpenFault call none does = absurd does
+totals_is_one totals ReadFault call none does = absurd does
+totals_is_one totals ArchiveTooLong call none does = absurd does
+
+made_is_one : (archive : List ℕ) (q : QueryTree) (status : Status) (call : Call) → NothingRose call → WritesMade archive q status call.sinks
+    → IsOneOf status (Done ∷ DoneWithRefusals ∷ NoMemory ∷ [])
+made_is_one archive q status call none (totals_written totals are does) = totals_is_one totals status call none does
+made_is_one archive q status call none (made_forgotten is same) = inr (inr (inl is))
 
 job_complete : SpellOne → SpellNone → (job : Job) (text : List ℕ) (query : QueryTree) (status : Status) (call : Call) → HasText call job text → IsQuery text query
     → IsWithin call job → NothingRose call → DoesJob job status call → IsOneOf status (good_answers job)
@@ -388,8 +449,12 @@ job_complete one never (Eval word archive workers limit) text query status call 
 job_complete one never (Check name) text query status call has is short none does =
     file_complete one never name text query SaysAccepted (Done ∷ NoMemory ∷ []) status call has is (inr (inl refl))
     (λ mid found takes a. acceptance_is_one status call none a.0) does
-job_complete one never (Explain name) text query status call has is short none does = absurd has
-job_complete one never (SelfRun word seed games workers) text query status call has is short none does = absurd has
+job_complete one never (Explain name) text query status call has is short none does =
+    file_complete one never name text query Explains (Done ∷ NoMemory ∷ []) status call has is (inr (inl refl))
+    (λ mid found takes a. explanation_is_one query status call none a.0) does
+job_complete one never (SelfRun word seed games workers) text query status call has is short none does =
+    text_complete one never text query (RunsMade seed games) (Done ∷ DoneWithRefusals ∷ NoMemory ∷ []) status call is (inr (inr (inl refl)))
+    (λ a. made_is_one (made seed games) query status call none a.0) (subst (λ t. OverText t (RunsMade seed games) status call) has does)
 
 -- a job that was done
 
@@ -407,6 +472,14 @@ eval_done job word archive text file workers limit status call is texts files do
 
 pub check_done : (job : Job) (query name : List ℕ) (status : Status) (call : Call) → job ≡ Check query → name ≡ query → OverFile name SaysAccepted status call → DoesJob job status call
 check_done job query name status call is names does = subst (λ j. DoesJob j status call) (sym is) (subst (λ n. OverFile n SaysAccepted status call) names does)
+
+pub explain_done : (job : Job) (query name : List ℕ) (status : Status) (call : Call) → job ≡ Explain query → name ≡ query → OverFile name Explains status call → DoesJob job status call
+explain_done job query name status call is names does = subst (λ j. DoesJob j status call) (sym is) (subst (λ n. OverFile n Explains status call) names does)
+
+pub selfrun_done : (job : Job) (word text : List ℕ) (seed games workers : ℕ) (status : Status) (call : Call) → job ≡ SelfRun word seed games workers → text ≡ word
+    → OverText text (RunsMade seed games) status call → DoesJob job status call
+selfrun_done job word text seed games workers status call is texts does =
+    subst (λ j. DoesJob j status call) (sym is) (subst (λ t. OverText t (RunsMade seed games) status call) texts does)
 
 -- the words
 
@@ -443,7 +516,6 @@ usage_is_one OpenFault sinks does = absurd does
 usage_is_one ReadFault sinks does = absurd does
 usage_is_one NoMemory sinks does = absurd does
 usage_is_one ArchiveTooLong sinks does = absurd does
-usage_is_one NotYetRead sinks does = absurd does
 
 not_asked : (words : List (List ℕ)) (refused : RefusedWords) (job : Job) → Answers (asked words) (Err (Fault refused))
     → (takes line words ≡ true → Answers (job_in (matches_of line words)) (Err (Fault refused))) → Asks words (Some job) → ⊥

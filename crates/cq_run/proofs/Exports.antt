@@ -10,9 +10,8 @@ use Rattle.std.proofs.lemmas.List.Sorted.{IsPermutation-refl, length_permutation
 use Rattle.std.proofs.lemmas.List.Kept.{AllPairs-cons}
 use Rattle.pgn_export.specs.Export.{export_text}
 use Rattle.cq_position.specs.Games.{Game}
-use Rattle.cq_hits.specs.Keys.{values_in}
-use Rattle.cq_hits.specs.Sorts.{have_sort, is_sort, is_sort_form}
-use Rattle.cq_hits.proofs.Sorting.{all_kept}
+use Rattle.cq_run.specs.Sorts.{have_sort, is_sort, is_sort_form}
+use Rattle.cq_run.proofs.Keyed.{all_kept}
 use Rattle.cq_shards.proofs.Counts.{key_count}
 use Rattle.cq_shards.specs.Order.{AreApart, ComesBefore, HasKeys, IsEarlier, directions, form_directions, is_match as is_match_kept, keys_in}
 use Rattle.cq_shards.specs.declared.answers.Answer.TheVariants.{Match}
@@ -20,7 +19,7 @@ use Rattle.cq_shards.specs.declared.answers.GameAnswer.{GameAnswer}
 use Rattle.cql_syntax.specs.Hits.{marked, keys, hits}
 use Rattle.cql_syntax.specs.Trees.{FilterTree, filter_at, FormTree, sort, FilterTrees, no_filters, more_filters, QueryTree}
 use Rattle.cq_run.specs.Answer.{has_match, export_if}
-use Rattle.cq_run.specs.Exports.{AreExports, exports_of, match_if, matches_from, text_of}
+use Rattle.cq_run.specs.Exports.{AreExports, exports_of, match_if, matches_from, text_of, values_in}
 use Rattle.cq_run.specs.Outcomes.{Outcome}
 use Rattle.cq_run.specs.Writing.{InOrder, written}
 
@@ -131,7 +130,7 @@ text_same : (query : QueryTree) (n : ℕ) (r : Outcome) → exports_of (match_if
 text_same query n (Ok game) = game_same query n game (has_match query game)
 text_same query n (Err fault) = refl
 
-texts_same : (query : QueryTree) (n : ℕ) (rs : List Outcome) → exports_of (matches_from query n rs) ≡ flat_map (export_if query) rs
+pub texts_same : (query : QueryTree) (n : ℕ) (rs : List Outcome) → exports_of (matches_from query n rs) ≡ flat_map (export_if query) rs
 unfolding matches_from
 texts_same query n [] = refl
 texts_same query n (r ∷ rs) =

@@ -1,11 +1,16 @@
 -- Writing the games that were kept.
-use Rattle.std.proofs.Common.{◌≡◌, ℕ, ◌+◌, ◌<◌, List, [], ◌∷◌, ◌++◌, length, take, drop, get_or, append-nil, Option, refl, ap, sym, ◌∙◌, subst}
+use Rattle.std.proofs.Common.{◌≡◌, ℕ, ◌+◌, ◌<◌, List, [], ◌∷◌, ◌++◌, length, take, drop, get_or, filter, All, AllPairs, append-nil, Option, refl, ap, sym, ◌∙◌, subst}
+use Rattle.std.specs.List.Sorted.{IsPermutation}
 use Rattle.std.proofs.lemmas.Grind.{flat_map-append}
 use Rattle.std.proofs.lemmas.List.{take_more, drop_more, take-append-drop}
 use Rattle.cq_outside.specs.Flow.{Grew}
+use Rattle.cq_shards.specs.Order.{AreApart, ComesBefore, HasKeys, directions, is_match}
 use Rattle.cq_shards.specs.declared.answers.GameAnswer.{GameAnswer}
+use Rattle.cql_syntax.specs.TreeOf.{query_tree}
+use Rattle.cql_syntax.specs.declared.typed.TypedQuery.{TypedQuery}
 use Rattle.cq_run.specs.Exports.{exports_of, text_of}
 use Rattle.cq_run.specs.Promise.{SinkView}
+use Rattle.cq_run.specs.Writing.{InOrder}
 use Rattle.cq_run.proofs.Sinks.{grew_on, Took, took_count, took_on, prefix_of}
 
 text_in : GameAnswer → List ℕ
@@ -15,6 +20,12 @@ exports_more : (xs : List GameAnswer) (i : ℕ) (a : GameAnswer) → i < length 
 exports_more xs i a inside is =
     ap exports_of (take_more xs i a inside) ∙ ap (λ x. exports_of (take i xs ++ x ∷ [])) (sym is)
     ∙ flat_map-append (λ (x : GameAnswer). text_of x.what) (take i xs) (a ∷ []) ∙ ap (λ l. exports_of (take i xs) ++ l) (append-nil (text_of a.what))
+
+-- an order by the query that a plan gives is one by the plan's
+pub in_order : (answers ordered : List GameAnswer) (given held : TypedQuery) → given ≡ held → IsPermutation (filter is_match answers) ordered
+    → (AreApart answers → All (HasKeys (directions (query_tree given.query).items)) answers
+    → AllPairs (ComesBefore (directions (query_tree given.query).items)) ordered) → InOrder (query_tree held.query) answers ordered
+in_order answers ordered given held e same order = subst (λ (t : TypedQuery). InOrder (query_tree t.query) answers ordered) e (record { same = same; order = order })
 
 -- one export more
 pub more_written : (xs : List GameAnswer) (i : ℕ) (a : GameAnswer) (old now new : Option (List ℕ)) (text : List ℕ) → i < length xs → a ≡ get_or xs i a → text ≡ text_of a.what

@@ -1,8 +1,10 @@
 mod Sinks
 mod Texts
 mod Braces
+mod Keyed
 mod Exports
 mod Answers
+mod Counting
 mod Kept
 mod Answered
 mod Doing

@@ -2,8 +2,10 @@ pub mod Status
 pub mod Queries
 pub mod Outcomes
 pub mod Answer
+pub mod Sorts
 pub mod Exports
 pub mod Promise
-pub mod Run
 pub mod Writing
+pub mod SelfRun
+pub mod Run
 pub mod Asked

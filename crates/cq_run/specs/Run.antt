@@ -11,12 +11,16 @@ use Rattle.cq_words.specs.Jobs.{asked, job_in}
 use Rattle.cq_words.specs.Line.{line}
 use Rattle.cq_words.specs.declared.job.Job.{Job}
 use Rattle.cq_words.specs.declared.job.Job.TheVariants.{Run, Eval, Check, Explain, SelfRun}
+use Rattle.cq_maker.specs.Made.{made}
+use Rattle.cql_rewrite.specs.FlatText.{items_text}
+use Rattle.cql_syntax.specs.Flat.{flat_query}
 use Rattle.cql_syntax.specs.Trees.{QueryTree}
 use Rattle.cql_syntax.specs.declared.fault.QueryFault.{QueryFault}
 use Rattle.cq_report.specs.Queries.{query_line}
 use Rattle.cq_run.specs.declared.status.Status.{Status}
-use Rattle.cq_run.specs.declared.status.Status.TheVariants.{Done, DoneWithRefusals, QueryRefused, WordsRefused, OpenFault, ReadFault, WriteFault, NoMemory, NotYetRead}
+use Rattle.cq_run.specs.declared.status.Status.TheVariants.{Done, DoneWithRefusals, QueryRefused, WordsRefused, OpenFault, ReadFault, WriteFault, NoMemory}
 use Rattle.cq_run.specs.Queries.{IsQuery, IsQueryFault}
+use Rattle.cq_run.specs.SelfRun.{WritesMade}
 use Rattle.cq_run.specs.Promise.{SourceView, DeskView, Sinks, Texts, Writes, WritesPrefix, IsUnwritten, NoWriteFailed, OneSinkFailed, SinkFailed, IsOneOf, AnswerPromise}
 
 -- what a call of `run` was lent, as it began and as it ended
@@ -119,6 +123,16 @@ AcceptsQuery Done sinks = Writes sinks (text_for_out accepted_text) × NoWriteFa
 AcceptsQuery WriteFault sinks = WritesPrefix sinks (text_for_out accepted_text) × OneSinkFailed sinks
 AcceptsQuery _ sinks = ⊥
 
+-- a query that is explained: its flat items are written, each on its line
+unfoldable pub flat_lines : QueryTree → List ℕ
+flat_lines query = items_text (flat_query query).items ++ codes "\n"
+
+abbrev pub WritesFlat : QueryTree → Status → Sinks → Type 0
+WritesFlat query Done sinks = Writes sinks (text_for_out (flat_lines query)) × NoWriteFailed sinks
+WritesFlat query WriteFault sinks = WritesPrefix sinks (text_for_out (flat_lines query)) × OneSinkFailed sinks
+WritesFlat query NoMemory sinks = IsUnwritten sinks
+WritesFlat query _ sinks = ⊥
+
 -- ---- jobs
 
 -- A query that is accepted is answered over the archive in a file, of which so many bytes are the limit.
@@ -150,17 +164,21 @@ pub data OverFile (name : List ℕ) (Accepted : QueryTree → Status → Call �
 abbrev pub SaysAccepted : QueryTree → Status → Call → Type 0
 SaysAccepted query status call = AcceptsQuery status call.sinks × (call.desk_after ≡ call.desk)
 
--- nothing is done yet
-abbrev pub IsNotYet : Status → Call → Type 0
-IsNotYet status call = (status ≡ NotYetRead) × IsUnmoved call
+-- the flat form of an accepted query is written, and no other file is opened
+abbrev pub Explains : QueryTree → Status → Call → Type 0
+Explains query status call = WritesFlat query status call.sinks × (call.desk_after ≡ call.desk)
+
+-- an accepted query is answered over the archive that is made, and no file is opened
+abbrev pub RunsMade : ℕ → ℕ → QueryTree → Status → Call → Type 0
+RunsMade seed games query status call = WritesMade (made seed games) query status call.sinks × (call.desk_after ≡ call.desk)
 
 -- what is done for a job
 abbrev pub DoesJob : Job → Status → Call → Type 0
 DoesJob (Run query archive workers limit) = OverFile query (AnswersFile archive limit)
 DoesJob (Eval text archive workers limit) = OverText text (AnswersFile archive limit)
 DoesJob (Check query) = OverFile query SaysAccepted
-DoesJob (Explain query) = IsNotYet
-DoesJob (SelfRun text seed games workers) = IsNotYet
+DoesJob (Explain query) = OverFile query Explains
+DoesJob (SelfRun text seed games workers) = OverText text (RunsMade seed games)
 
 -- What is done for words: the job that they ask, or they are refused, and no file is opened then.
 pub data Does (words : List (List ℕ)) (status : Status) (call : Call) : Type 0 where
@@ -196,8 +214,8 @@ abbrev pub HasText : Call → Job → List ℕ → Type 0
 HasText call (Run query archive workers limit) text = IsInFile call query text
 HasText call (Eval word archive workers limit) text = word ≡ text
 HasText call (Check query) text = IsInFile call query text
-HasText call (Explain query) text = ⊥
-HasText call (SelfRun word seed games workers) text = ⊥
+HasText call (Explain query) text = IsInFile call query text
+HasText call (SelfRun word seed games workers) text = word ≡ text
 
 -- no count rose
 pub record NothingRose (call : Call) : Type 0 where

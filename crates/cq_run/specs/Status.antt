@@ -1,7 +1,7 @@
 -- The exit status of each way to end.
 use Rattle.std.specs.Prelude.{ℕ}
 use Rattle.cq_run.specs.declared.status.Status.{Status}
-use Rattle.cq_run.specs.declared.status.Status.TheVariants.{Done, DoneWithRefusals, QueryRefused, WordsRefused, OpenFault, ReadFault, WriteFault, NoMemory, ArchiveTooLong, NotYetRead}
+use Rattle.cq_run.specs.declared.status.Status.TheVariants.{Done, DoneWithRefusals, QueryRefused, WordsRefused, OpenFault, ReadFault, WriteFault, NoMemory, ArchiveTooLong}
 
 abbrev pub exit_code : Status → ℕ
 exit_code Done = 0
@@ -13,4 +13,3 @@ exit_code ReadFault = 5
 exit_code WriteFault = 6
 exit_code NoMemory = 7
 exit_code ArchiveTooLong = 8
-exit_code NotYetRead = 9

@@ -7,6 +7,7 @@ use crate::games::answer_archive;
 use crate::status::Status;
 use cq_outside::{Gate, Refusal, Sink, Source, read_up_to};
 use cq_words::Settings;
+use cql_plan::Plan;
 use cql_syntax::TypedQuery;
 use std::alloc::Global;
 use std::thread::Threads;
@@ -44,6 +45,9 @@ pub fn answer<R: Threads + Sync, S: Source, O: Sink, E: Sink, G: Gate + Sync>(
     }) }
     ensures next { S.follows source.old source.new }
 {
+    let Ok(plan) = Plan::make(alloc, query) else {
+        return Status::NoMemory;
+    };
     let limit = settings.limit as usize;
     let archive = match read_up_to(source, alloc, limit) {
         Ok(archive) => archive,
@@ -53,5 +57,5 @@ pub fn answer<R: Threads + Sync, S: Source, O: Sink, E: Sink, G: Gate + Sync>(
     if archive.len() > limit {
         return Status::ArchiveTooLong;
     }
-    answer_archive(alloc, query, archive.as_slice(), out, err)
+    answer_archive(alloc, &plan, archive.as_slice(), out, err)
 }

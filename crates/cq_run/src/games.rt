@@ -13,34 +13,36 @@ ghost use Rattle.cql_syntax.specs.Trees.{QueryTree};
 ghost use Rattle.cq_shards.specs.declared.answers.Answer.TheVariants as answers;
 ghost use Rattle.cq_shards.specs.declared.answers.GameAnswer.{GameAnswer};
 ghost use Rattle.cq_run.specs.Exports as exports;
+ghost use Rattle.cq_run.specs.Sorts.{have_sort as some_sort};
 ghost use Rattle.cq_run.specs.Promise.{SinkView, sink_view, sinks_of};
 ghost use Rattle.cq_run.specs.Writing.{AnswersArchive, AnswersGame, stand_of, WritesKept, WritesSummary, WritesText};
 
+use crate::finding::find;
+use crate::sorts::have_sort;
 use crate::status::Status;
 use crate::tally::Tally;
 use cq_annotate::mark;
-use cq_hits::{have_sort, hits, keys_over};
 use cq_outside::{Bytes, Failed, NoMemory, Refusal, Sink, write_all_of};
 use cq_report::{fault_line, summary_line};
 use cq_shards::{Answer, GameAnswer, Keys, by_keys};
-use cql_syntax::TypedQuery;
+use cql_plan::Plan;
 use pgn_cut::{Span, cut_whole, games_end_once};
 use pgn_export::export;
 use pgn_reader::{GameFault, games_have_outcomes, read_game};
 use pgn_tree::Game;
 use std::alloc::Global;
 
-/// Answers the query over an archive of fewer than 2^62 bytes: `out` takes the export of each game that matches, in the order of the
+/// Answers the query of a plan over an archive of fewer than 2^62 bytes: `out` takes the export of each game that matches, in the order of the
 /// query, and `err` the line of each faulty game and, after the last game, the counts. A write that fails is the last one.
 pub fn answer_archive<O: Sink, E: Sink>(
     alloc: Global,
-    query: &TypedQuery,
+    plan: &Plan,
     archive: &[u8],
     out: &mut O,
     err: &mut E,
 ) -> Status
     requires size { length archive.now < 2 ^ 62 }
-    ensures { AnswersArchive (query_tree query.now.query) archive.now
+    ensures { AnswersArchive (query_tree plan.now.query.query) archive.now
         (sinks_of (sink_view O.taken O.faults out.old) (sink_view O.taken O.faults out.new)
         (sink_view E.taken E.faults err.old) (sink_view E.taken E.faults err.new)) result }
 {
@@ -49,7 +51,7 @@ pub fn answer_archive<O: Sink, E: Sink>(
     let Ok(games) = cut_whole(alloc, archive) else {
         return Status::NoMemory;
     };
-    let sorted = have_sort(&query.query.items);
+    let sorted = is_sorted(plan);
     let mut tally = Tally {
         games: 0,
         matched: 0,
@@ -59,30 +61,37 @@ pub fn answer_archive<O: Sink, E: Sink>(
     for i in 0..games.len() {
         let game = games[i];
         match answer_game(
-            alloc, query, sorted, archive, game, &mut tally, &mut kept, out, err,
+            alloc, plan, sorted, archive, game, &mut tally, &mut kept, out, err,
         ) {
             Ok(()) => {}
             Err(Refusal::Fault(_)) => return Status::WriteFault,
             Err(Refusal::NoMemory) => return Status::NoMemory,
         }
     }
-    match write_kept(alloc, query, kept, out) {
+    match write_kept(alloc, plan, kept, out) {
         Ok(()) => write_summary(alloc, tally, err),
         Err(Refusal::Fault(_)) => Status::WriteFault,
         Err(Refusal::NoMemory) => Status::NoMemory,
     }
 }
 
+/// Whether the query of a plan has a sort item.
+fn is_sorted(plan: &Plan) -> bool
+    ensures { result ≡ some_sort (query_tree plan.now.query.query).items }
+{
+    have_sort(&plan.query().query.items)
+}
+
 /// Writes the matches that were kept, in the order of the query.
 fn write_kept<O: Sink>(
     alloc: Global,
-    query: &TypedQuery,
+    plan: &Plan,
     kept: Vec<GameAnswer>,
     out: &mut O,
 ) -> Result<(), Refusal<Failed>>
-    ensures { WritesKept (query_tree query.now.query) kept.items (sink_view O.taken O.faults out.old) (sink_view O.taken O.faults out.new) result }
+    ensures { WritesKept (query_tree plan.now.query.query) kept.items (sink_view O.taken O.faults out.old) (sink_view O.taken O.faults out.new) result }
 {
-    let ordered = by_keys(alloc, kept, &query.query)?;
+    let ordered = by_keys(alloc, kept, &plan.query().query)?;
     for i in 0..ordered.len() {
         match write_all_of(out, text_of(&ordered[i])) {
             Ok(()) => {}
@@ -119,7 +128,7 @@ fn write_summary<E: Sink>(alloc: Global, tally: Tally, err: &mut E) -> Status
 /// Answers one game of the archive. Memory is refused before anything of the game is written.
 fn answer_game<O: Sink, E: Sink>(
     alloc: Global,
-    query: &TypedQuery,
+    plan: &Plan,
     sorted: bool,
     archive: &[u8],
     game: Span,
@@ -134,13 +143,13 @@ fn answer_game<O: Sink, E: Sink>(
     requires games { tally.old.games < 2 ^ 63 }
     requires matched { tally.old.matched ≤ tally.old.games }
     requires refused { tally.old.refused ≤ tally.old.games }
-    ensures { AnswersGame sorted (query_tree query.now.query) (IsRead game.start game.first (game_bytes archive.now game)) (stand_of tally.old kept.old.items) (stand_of tally.new kept.new.items)
+    ensures { AnswersGame sorted (query_tree plan.now.query.query) (IsRead game.start game.first (game_bytes archive.now game)) (stand_of tally.old kept.old.items) (stand_of tally.new kept.new.items)
         (sinks_of (sink_view O.taken O.faults out.old) (sink_view O.taken O.faults out.new)
         (sink_view E.taken E.faults err.old) (sink_view E.taken E.faults err.new)) result }
 {
     let bytes = &archive[game.start as usize..game.end as usize];
     match read_game(alloc, bytes, game.start, game.first) {
-        Ok(game) => write_match(alloc, query, sorted, game, tally, kept, out),
+        Ok(game) => write_match(alloc, plan, sorted, game, tally, kept, out),
         Err(Refusal::Fault(fault)) => write_fault(alloc, fault, tally, err),
         Err(Refusal::NoMemory) => Err(Refusal::NoMemory),
     }
@@ -149,7 +158,7 @@ fn answer_game<O: Sink, E: Sink>(
 /// Writes the export of a game that was read, where it matches, or keeps it.
 fn write_match<O: Sink>(
     alloc: Global,
-    query: &TypedQuery,
+    plan: &Plan,
     sorted: bool,
     game: Game,
     tally: &mut Tally,
@@ -158,37 +167,36 @@ fn write_match<O: Sink>(
 ) -> Result<(), Refusal<Failed>>
     requires games { tally.old.games < 2 ^ 63 }
     requires matched { tally.old.matched ≤ tally.old.games }
-    ensures { (err : SinkView) → AnswersGame sorted (query_tree query.now.query) (λ outcome. outcome ≡ Ok game) (stand_of tally.old kept.old.items) (stand_of tally.new kept.new.items)
+    ensures { (err : SinkView) → AnswersGame sorted (query_tree plan.now.query.query) (λ outcome. outcome ≡ Ok game) (stand_of tally.old kept.old.items) (stand_of tally.new kept.new.items)
         (sinks_of (sink_view O.taken O.faults out.old) (sink_view O.taken O.faults out.new) err err) result }
 {
     tally.games += 1;
-    let found = hits(alloc, &query.query, &game)?;
-    let nodes = found.as_slice();
-    if nodes.is_empty() {
+    let found = find(alloc, plan, &game)?;
+    let hits = found.nodes();
+    if hits.is_empty() {
         return Ok(());
     }
     tally.matched += 1;
-    let text = marked_text(alloc, query, &game, nodes)?;
+    let text = marked_text(alloc, plan, &game, hits)?;
     if !sorted {
         return write_to(out, text.as_slice());
     }
-    let keys = keys_over(alloc, &query.query, &game, nodes)?;
-    keep(alloc, kept, tally.games - 1, text, keys.as_slice())?;
+    keep(alloc, kept, tally.games - 1, text, found.keys())?;
     Ok(())
 }
 
 /// The export of a game that is marked at some of its nodes.
-fn marked_text(
+pub fn marked_text(
     alloc: Global,
-    query: &TypedQuery,
+    plan: &Plan,
     game: &Game,
     nodes: &[u32],
 ) -> Result<Bytes, NoMemory>
     requires increasing { AllPairs (λ m n. m < n) nodes.now }
     requires inside { All (λ n. n < length game.now.nodes) nodes.now }
-    ensures { IfOk result (λ text. text ≡ export_text (game_marked (marks (query_tree query.now.query)) nodes.now game.now)) }
+    ensures { IfOk result (λ text. text ≡ export_text (game_marked (marks (query_tree plan.now.query.query)) nodes.now game.now)) }
 {
-    let marked = mark(alloc, game, nodes, &query.query)?;
+    let marked = mark(alloc, game, nodes, &plan.query().query)?;
     export(alloc, &marked)
 }
 

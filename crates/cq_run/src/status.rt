@@ -23,8 +23,6 @@ pub enum Status {
     NoMemory,
     /// The archive has more bytes than the limit.
     ArchiveTooLong,
-    /// The query has an item `sort`, or the words ask `explain` or `selfrun`, which this version does not answer.
-    NotYetRead,
 }
 
 impl Status {

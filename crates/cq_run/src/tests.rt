@@ -258,8 +258,6 @@ fn other_words_and_other_queries_are_turned_away(rt: HostRuntime) -> Result<(), 
     let alloc = rt.alloc();
     let none = b"".as_slice();
     for (mode, query, status, text) in [
-        ("explain", "q.cql", Status::NotYetRead, ""),
-        ("selfrun", "cql() mate", Status::NotYetRead, ""),
         (
             "eval",
             "cql() echo",
@@ -275,6 +273,55 @@ fn other_words_and_other_queries_are_turned_away(rt: HostRuntime) -> Result<(), 
         let archive = "[FEN \"8/8/8/8/8/8/8/K1k5 w - - 0 1\"]\n*\n";
         let want = (Status::Done, none, missed);
         expect(&rt, alloc, &["eval", query], ("-", archive), want)?;
+    }
+    Ok(())
+}
+
+#[test]
+fn queries_are_explained(rt: HostRuntime) -> Result<(), Fail> {
+    let alloc = rt.alloc();
+    for (query, lines) in [
+        (
+            "cql() flipcolor Ka1",
+            "(union [K]:0000000000000001 [k]:0100000000000000)\n",
+        ),
+        ("cql() line 2 3 --> wtm", "(line 2 3 --> wtm)\n"),
+        ("cql() Ka1 mate", "[K]:0000000000000001\nmate\n"),
+    ] {
+        let want = (Status::Done, lines.as_bytes(), "");
+        expect(&rt, alloc, &["explain", "q.cql"], ("q.cql", query), want)?;
+    }
+    Ok(())
+}
+
+#[test]
+fn made_archives_are_answered(rt: HostRuntime) -> Result<(), Fail> {
+    let alloc = rt.alloc();
+    for (query, games, line) in [
+        (
+            "cql() mate",
+            "0",
+            "bytes 0 games 0 matched 0 refused 0 written 0\n",
+        ),
+        (
+            "cql() mate",
+            "5",
+            "bytes 1774 games 5 matched 0 refused 0 written 0\n",
+        ),
+        (
+            "cql() mate",
+            "5",
+            "bytes 1774 games 5 matched 0 refused 0 written 0\n",
+        ),
+        (
+            "cql() check",
+            "5",
+            "bytes 1774 games 5 matched 2 refused 0 written 684\n",
+        ),
+    ] {
+        let words = ["selfrun", query, "--games", games];
+        let want = (Status::Done, line.as_bytes(), "");
+        expect(&rt, alloc, &words, ("-", "*"), want)?;
     }
     Ok(())
 }

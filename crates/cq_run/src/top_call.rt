@@ -5,10 +5,12 @@ ghost use Rattle.cq_words.specs.Jobs.{IsInRange};
 ghost use Rattle.cql_syntax.specs.TreeOf.{query_tree};
 ghost use Rattle.cq_run.specs.Asked.{call_of};
 ghost use Rattle.cq_run.specs.Promise.{SinkView, desk_view, sink_view, sinks_of};
-ghost use Rattle.cq_run.specs.Run.{Promise, AnswersFile, OverText, OverFile, SaysAccepted, DoesJob, WritesUsage};
+ghost use Rattle.cq_run.specs.Run.{Promise, AnswersFile, OverText, OverFile, SaysAccepted, Explains, DoesJob, WritesUsage};
 
 use crate::answering::answer;
 use crate::asked::{accept, query_in_file, read_query, refuse, tell_why};
+use crate::explaining::explain;
+use crate::selfrun::answer_text_over_made;
 use crate::status::Status;
 use cq_outside::{Desk, Gate, OpenFault, Refusal, Sink, write_all_of};
 use cq_words::{Job, Settings, read_words};
@@ -28,19 +30,22 @@ const USAGE: &[u8] =
 ///   archive is standard input, the desk's file `-`.
 /// - `eval TEXT [ARCHIVE]` does the same of the query that the word TEXT is.
 /// - `check QUERY` writes `ok` to `out` where the query in the file QUERY is accepted.
+/// - `selfrun TEXT` answers the query that the word TEXT is over an archive that is made, of `--games G` games, from 0 to 100,000, by
+///   `--seed S`, from 0 to 2^32 - 1: `out` takes one line, `bytes B games G matched M refused R written W`, where W is the length of the
+///   exports, and no file is opened.
+/// - `explain QUERY` writes its flat form to `out`, an item on each line, where the query in the file QUERY is accepted.
 ///
-/// `run` and `eval` take `--workers N`, from 1 to 64, which has no effect yet, and `--limit B`, from 1 to 2^40: more than so many
+/// `run`, `eval` and `selfrun` take `--workers N`, from 1 to 64, which has no effect yet, and `run` and `eval` `--limit B`, from 1 to 2^40: more than so many
 /// bytes of an archive are refused. Of a query's file at most 65,537 bytes are taken. A query with a fault is refused by a line on
 /// `err`, `query byte B: REASON`, before the archive is opened, and other words by the usage line. `rt` and `gate` are not used yet.
 ///
 /// Answers:
-/// - `Done` or `DoneWithRefusals`: both sinks have taken all, and no game, or some, is faulty. `check` answers `Done`.
+/// - `Done` or `DoneWithRefusals`: both sinks have taken all, and no game, or some, is faulty. `check` and `explain` answer `Done`.
 /// - `QueryRefused` or `WordsRefused`: the query has a fault, or the words are refused; the line is written.
 /// - `OpenFault` or `ReadFault`: that count of the desk rose, and no other; nothing is written.
 /// - `WriteFault`: the count of one sink rose, and no other. Each sink has taken a prefix of its text.
 /// - `NoMemory`: no memory was found, and no count rose; each sink has taken a prefix of its text.
 /// - `ArchiveTooLong`: more bytes of the archive than the limit were taken; nothing is written.
-/// - `NotYetRead`: the words ask `explain` or `selfrun`; no file is opened, and nothing is written.
 ///
 /// In all the others no count rose. The clause `Promise` says each of these exactly, and when an answer always comes; the
 /// table of statuses in README says what the program's user sees of it.
@@ -122,7 +127,10 @@ fn do_job<R: Threads + Sync, D: Desk, O: Sink, E: Sink, G: Gate + Sync>(
             answer_text(rt, alloc, text, archive, settings, desk, out, err, gate)
         }
         Job::Check { query } => check_file(alloc, query.as_slice(), desk, out, err),
-        Job::Explain { .. } | Job::SelfRun { .. } => Status::NotYetRead,
+        Job::Explain { query } => explain_file(alloc, query.as_slice(), desk, out, err),
+        Job::SelfRun {
+            text, seed, games, ..
+        } => answer_text_over_made(alloc, text.as_slice(), *seed, *games, out, err),
     }
 }
 
@@ -219,6 +227,25 @@ fn check_file<D: Desk, O: Sink, E: Sink>(
 {
     match query_in_file(alloc, name, desk) {
         Ok(_) => accept(out),
+        Err(why) => tell_why(alloc, &why, err),
+    }
+}
+
+/// Writes the flat form of the query in a file.
+fn explain_file<D: Desk, O: Sink, E: Sink>(
+    alloc: Global,
+    name: &[u8],
+    desk: &mut D,
+    out: &mut O,
+    err: &mut E,
+) -> Status
+    ensures { OverFile name.now Explains result (call_of
+        (desk_view D.told D.left D.faults D.open_faults desk.old) (desk_view D.told D.left D.faults D.open_faults desk.new)
+        (sinks_of (sink_view O.taken O.faults out.old) (sink_view O.taken O.faults out.new)
+        (sink_view E.taken E.faults err.old) (sink_view E.taken E.faults err.new))) }
+{
+    match query_in_file(alloc, name, desk) {
+        Ok(query) => explain(alloc, &query, out),
         Err(why) => tell_why(alloc, &why, err),
     }
 }

@@ -1,7 +1,15 @@
-use Rattle.std.proofs.Common.{◌<◌, ◌≤◌, Err, length, sym, ap, ◌∙◌, refl, rules}
+use Rattle.std.proofs.Common.{◌<◌, ◌≤◌, Err, length, sym, ap, ◌∙◌, refl, rules, subst}
 use Rattle.cql_syntax.specs.TreeOf.{query_tree}
-use Rattle.cq_run.proofs.Answered.{unread, unremembered, too_long, answered_whole}
+use Rattle.cq_run.specs.Writing.{AnswersArchive}
+use Rattle.cq_run.proofs.Answered.{unread, unremembered, none_taken, too_long, answered_whole}
 use Rattle.cq_run.proofs.answering.answer.Goals as goal
+
+pub returns-in_default-clause-answers : goal.returns-in_default-clause-answers
+returns-in_default-clause-answers g c =
+    unremembered (query_tree c.args.query.now.query) c.args.settings.limit _ _ _ (none_taken c.args.settings.limit (g.S.Source.left c.args.source.now)) refl (record { out = refl; err = refl })
+
+pub returns-in_default-clause-next : goal.returns-in_default-clause-next
+returns-in_default-clause-next g c = g.met.S.Source.follows_same c.args.source.now
 
 pub returns-in-Err-Fault-clause-answers : goal.returns-in-Err-Fault-clause-answers
 returns-in-Err-Fault-clause-answers g c =
@@ -19,20 +27,20 @@ returns-in-Err-NoMemory-clause-answers g c =
 
 pub returns-then-len-limit-clause-answers : goal.returns-then-len-limit-clause-answers
 returns-then-len-limit-clause-answers g c =
-    let long : c.args.settings.limit < length c.in-Ok.archive = search rules in
-    too_long (query_tree c.args.query.now.query) c.args.settings.limit _ _ _ c.in-Ok.archive c.in-Ok.ensures.bytes c.in-Ok.ensures.most long c.in-Ok.ensures.cause
+    let long : c.args.settings.limit < length c.in-Ok-read_up_to.archive = search rules in
+    too_long (query_tree c.args.query.now.query) c.args.settings.limit _ _ _ c.in-Ok-read_up_to.archive c.in-Ok-read_up_to.ensures.bytes c.in-Ok-read_up_to.ensures.most long c.in-Ok-read_up_to.ensures.cause
     (record { out = refl; err = refl })
 
 pub returns-clause-answers : goal.returns-clause-answers
 returns-clause-answers g c =
-    let within : length c.in-Ok.archive ≤ c.args.settings.limit = search rules in
+    let within : length c.in-Ok-read_up_to.archive ≤ c.args.settings.limit = search rules in
     let answers = rw c.as_slice.ensures at c.answer_archive.ensures in
     answered_whole c.answer_archive.result (query_tree c.args.query.now.query) c.args.settings.limit _ _ _
     (record {
-      archive = c.in-Ok.archive;
-      takes = c.in-Ok.ensures.bytes;
+      archive = c.in-Ok-read_up_to.archive;
+      takes = c.in-Ok-read_up_to.ensures.bytes;
       within = within;
-      at_end = c.in-Ok.ensures.whole within;
-      counts = c.in-Ok.ensures.cause;
-      answers = answers;
+      at_end = c.in-Ok-read_up_to.ensures.whole within;
+      counts = c.in-Ok-read_up_to.ensures.cause;
+      answers = subst (λ q. AnswersArchive q c.in-Ok-read_up_to.archive _ c.answer_archive.result) c.in-Ok.ensures answers;
     })

@@ -9,4 +9,4 @@ abbrev pub invariant-loop-i : goal.invariant-loop-i
 invariant-loop-i g l =
     let out = sink_view g.O.Sink.taken g.O.Sink.faults in
     let err = sink_view g.E.Sink.taken g.E.Sink.faults in
-    FoundSoFar l.sorted (query_tree l.fn.query.query) l.fn.archive l.games.items l.i (sinks_of (out l.fn.out) (out l.out) (err l.fn.err) (err l.err)) (stand_of l.tally l.kept.items)
+    FoundSoFar l.sorted (query_tree l.fn.plan.query.query) l.fn.archive l.games.items l.i (sinks_of (out l.fn.out) (out l.out) (err l.fn.err) (err l.err)) (stand_of l.tally l.kept.items)

@@ -3,7 +3,7 @@ use Rattle.std.proofs.lemmas.List.{take_all}
 use Rattle.cq_outside.specs.Faults.{Rose}
 use Rattle.cq_outside.specs.Flow.{Grew}
 use Rattle.cq_run.specs.Exports.{exports_of}
-use Rattle.cq_run.proofs.Kept.{more_written, part_written}
+use Rattle.cq_run.proofs.Kept.{in_order, more_written, part_written}
 use Rattle.cq_run.proofs.Sinks.{unwritten}
 use Rattle.cq_run.proofs.games.write_kept.Goals as goal
 
@@ -24,7 +24,7 @@ returns-in-Err g c =
     let taken = g.O.Sink.taken in
     let inside : c.loop-i.i < length c.in_ok-ordered.ordered.items = search rules in (
       c.in_ok-ordered.ordered.items,
-      record { same = c.in_ok-ordered.ensures.same; order = c.in_ok-ordered.ensures.order },
+      in_order c.args.kept.items c.in_ok-ordered.ordered.items c.query.result.now c.args.plan.now.query c.query.ensures c.in_ok-ordered.ensures.same c.in_ok-ordered.ensures.order,
       part_written c.in_ok-ordered.ordered.items c.loop-i.i c.index.result.now (taken c.args.out.now) (taken c.loop-i.out) (taken c.write_all_of.new.sink) c.text_of.result.now
           c.in-Err.ensures.err.0 inside c.index.ensures c.text_of.ensures c.loop-i.invariant.0 c.in-Err.ensures.err.1,
       subst (λ n. Rose n (g.O.Sink.faults c.write_all_of.new.sink)) c.loop-i.invariant.1 c.in-Err.ensures.cause.failed,
@@ -34,7 +34,7 @@ pub returns : goal.returns
 returns g c =
     let all : length c.in_ok-ordered.ordered.items ≤ c.loop-i.i = search rules in (
       c.in_ok-ordered.ordered.items,
-      record { same = c.in_ok-ordered.ensures.same; order = c.in_ok-ordered.ensures.order },
+      in_order c.args.kept.items c.in_ok-ordered.ordered.items c.query.result.now c.args.plan.now.query c.query.ensures c.in_ok-ordered.ensures.same c.in_ok-ordered.ensures.order,
       subst (λ xs. Grew (g.O.Sink.taken c.args.out.now) (g.O.Sink.taken c.loop-i.out) (exports_of xs)) (take_all c.loop-i.i c.in_ok-ordered.ordered.items all) c.loop-i.invariant.0,
       c.loop-i.invariant.1,
     )

@@ -1,0 +1,7 @@
+use Rattle.std.proofs.Common.{◌∙◌, sym, ap}
+use Rattle.cq_run.specs.Sorts.{have_sort}
+use Rattle.cq_run.proofs.Keyed.{sort_in}
+use Rattle.cq_run.proofs.sorts.have_sort.Goals as goal
+
+pub returns : goal.returns
+returns c = c.any_in.ensures ∙ sym (sort_in c.as_slice.result.now) ∙ ap have_sort c.as_slice.ensures.tree
