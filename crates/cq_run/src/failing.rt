@@ -226,10 +226,13 @@ fn a_query_without_a_file_is_not_opened(rt: HostRuntime) -> Result<(), Fail> {
     let mut err = SureSink::new(alloc, 0)?;
     for words in [
         ["check", "none.cql"].as_slice(),
+        ["explain", "none.cql"].as_slice(),
         ["run", "none.cql", "a.pgn"].as_slice(),
     ] {
         let status = status_of(&rt, alloc, words, &mut desk, &mut out, &mut err)?;
         assert_eq!(rt; status, Status::OpenFault);
+        assert_eq!(rt; out.taken(), Some(b"".as_slice()));
+        assert_eq!(rt; err.taken(), Some(b"".as_slice()));
     }
     Ok(())
 }

@@ -69,12 +69,7 @@ fn answer_made<O: Sink>(
 }
 
 /// What a query finds in the archive of so many games that a seed gives.
-fn made_totals(
-    alloc: Global,
-    query: &TypedQuery,
-    seed: u32,
-    games: u32,
-) -> Result<Totals, NoMemory>
+fn made_totals(alloc: Global, query: &TypedQuery, seed: u32, games: u32) -> Result<Totals, NoMemory>
     requires { games ≤ 100000 }
     ensures { IfOk result (AreTotals (query_tree query.now.query) (made seed games)) }
 {
@@ -143,12 +138,7 @@ fn count_game(
 }
 
 /// The totals with one game more that was read.
-fn count_match(
-    alloc: Global,
-    plan: &Plan,
-    game: &Game,
-    before: Totals,
-) -> Result<Totals, NoMemory>
+fn count_match(alloc: Global, plan: &Plan, game: &Game, before: Totals) -> Result<Totals, NoMemory>
     requires games { before.tally.games < 2 ^ 63 }
     requires matched { before.tally.matched ≤ before.tally.games }
     requires written { before.written ≤ 2 ^ 64 * before.tally.games }

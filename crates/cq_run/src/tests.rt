@@ -264,6 +264,18 @@ fn other_words_and_other_queries_are_turned_away(rt: HostRuntime) -> Result<(), 
             Status::QueryRefused,
             "query byte 6: outside profile echo\n",
         ),
+        (
+            "selfrun",
+            "cql() echo",
+            Status::QueryRefused,
+            "query byte 6: outside profile echo\n",
+        ),
+        (
+            "explain",
+            "-",
+            Status::QueryRefused,
+            "query byte 0: unexpected token\n",
+        ),
         ("play", "cql() Ka1", Status::WordsRefused, USAGE),
     ] {
         expect(&rt, alloc, &[mode, query], ("-", "*"), (status, none, text))?;
@@ -294,34 +306,57 @@ fn queries_are_explained(rt: HostRuntime) -> Result<(), Fail> {
     Ok(())
 }
 
+/// Words that ask for a made archive, and the line that is written.
+const MADE: [(&[&str], &str); 9] = [
+    (
+        &["selfrun", "cql() mate", "--games", "0"],
+        "bytes 0 games 0 matched 0 refused 0 written 0\n",
+    ),
+    (
+        &["selfrun", "cql() mate", "--games", "5", "--workers", "1"],
+        "bytes 1774 games 5 matched 0 refused 0 written 0\n",
+    ),
+    (
+        &["selfrun", "cql() mate", "--games", "5", "--workers", "64"],
+        "bytes 1774 games 5 matched 0 refused 0 written 0\n",
+    ),
+    (
+        &["selfrun", "cql() mate", "--games", "20"],
+        "bytes 7518 games 20 matched 0 refused 0 written 0\n",
+    ),
+    (
+        &["selfrun", "cql() mate", "--games", "20"],
+        "bytes 7518 games 20 matched 0 refused 0 written 0\n",
+    ),
+    (
+        &["selfrun", "cql() check sort \"p\" power A", "--games", "5"],
+        "bytes 1774 games 5 matched 2 refused 0 written 684\n",
+    ),
+    (
+        &["selfrun", "cql() check", "--games", "5", "--seed", "7"],
+        "bytes 2211 games 5 matched 3 refused 0 written 1352\n",
+    ),
+    (
+        &[
+            "selfrun",
+            "cql(variations) variation check",
+            "--games",
+            "20",
+        ],
+        "bytes 7518 games 20 matched 1 refused 0 written 314\n",
+    ),
+    (
+        &["selfrun", "cql() mate"],
+        "bytes 39477 games 100 matched 1 refused 0 written 545\n",
+    ),
+];
+
 #[test]
 fn made_archives_are_answered(rt: HostRuntime) -> Result<(), Fail> {
     let alloc = rt.alloc();
-    for (query, games, line) in [
-        (
-            "cql() mate",
-            "0",
-            "bytes 0 games 0 matched 0 refused 0 written 0\n",
-        ),
-        (
-            "cql() mate",
-            "5",
-            "bytes 1774 games 5 matched 0 refused 0 written 0\n",
-        ),
-        (
-            "cql() mate",
-            "5",
-            "bytes 1774 games 5 matched 0 refused 0 written 0\n",
-        ),
-        (
-            "cql() check",
-            "5",
-            "bytes 1774 games 5 matched 2 refused 0 written 684\n",
-        ),
-    ] {
-        let words = ["selfrun", query, "--games", games];
+    for (words, line) in MADE {
         let want = (Status::Done, line.as_bytes(), "");
-        expect(&rt, alloc, &words, ("-", "*"), want)?;
+        expect(&rt, alloc, words, ("-", "*"), want)?;
     }
     Ok(())
 }
@@ -357,7 +392,7 @@ fn a_query_is_answered_over_a_source(rt: HostRuntime) -> Result<(), Fail> {
 }
 
 /// Words that are refused.
-const REFUSED: [&[&str]; 14] = [
+const REFUSED: [&[&str]; 16] = [
     &[],
     &["eval"],
     &["eval", "cql() check", "--workers", "0"],
@@ -368,6 +403,8 @@ const REFUSED: [&[&str]; 14] = [
     &["eval", "cql() check", "--seed", "1"],
     &["--help"],
     &["check", "q.cql", "-"],
+    &["check", "q.cql", "r.cql"],
+    &["eval", "cql() mate", "cql() check", "-"],
     &["explain", "q.cql", "--workers", "2"],
     &["selfrun", "cql() mate", "--seed", "4294967296"],
     &["selfrun", "cql() mate", "--games", "100001"],
@@ -411,6 +448,12 @@ fn a_query_file_is_answered_over_an_archive_file(rt: HostRuntime) -> Result<(), 
             report,
         ),
         (
+            ["eval", "cql() Nf3", "a.pgn"],
+            Status::Done,
+            text.as_slice(),
+            report,
+        ),
+        (
             ["run", "echo.cql", "a.pgn"],
             Status::QueryRefused,
             none,
@@ -443,32 +486,60 @@ const SORTED: [&str; 3] = [
     "4k3/8/8/8/8/7P/8/4K3 w - - 0 1",
 ];
 
-/// Queries with sort items, and the order of the three games.
-const ORDERS: [(&str, [usize; 3]); 4] = [
-    ("cql() sort \"p\" power A", [1, 0, 2]),
-    ("cql() sort min \"p\" power A", [0, 2, 1]),
-    ("cql() sort \"p\" power A sort \"h\" #Ph3", [1, 2, 0]),
+/// Ten places of white men, of which some have as many of each man.
+const TEN: [&str; 10] = [
+    "4k3/8/8/8/8/8/8/Q3K3 b - - 0 1",
+    "4k3/8/8/8/8/8/8/RNB1K3 b - - 0 1",
+    "4k3/8/8/8/8/8/8/QNB1K3 b - - 0 1",
+    "4k3/8/8/8/8/8/8/4K3 b - - 0 1",
+    "4k3/8/8/8/8/8/8/QN2K3 b - - 0 1",
+    "4k3/8/8/8/8/8/8/RN2K3 b - - 0 1",
+    "4k3/8/8/8/8/8/8/1QNBK3 b - - 0 1",
+    "4k3/8/8/8/8/8/8/QRNNK3 b - - 0 1",
+    "4k3/8/8/8/8/8/8/1RNBK3 b - - 0 1",
+    "4k3/8/8/8/8/8/8/1Q2K3 b - - 0 1",
+];
+
+/// Queries with sort items, some places, and the order of these.
+const ORDERS: [(&str, &[&str], &[usize]); 5] = [
+    ("cql() sort \"p\" power A", &SORTED, &[1, 0, 2]),
+    ("cql() sort min \"p\" power A", &SORTED, &[0, 2, 1]),
+    (
+        "cql() sort \"p\" power A sort \"h\" #Ph3",
+        &SORTED,
+        &[1, 2, 0],
+    ),
     (
         "cql() sort \"a\" 1 sort min \"b\" power A sort \"c\" ply sort \"d\" #Ph3",
-        [2, 0, 1],
+        &SORTED,
+        &[2, 0, 1],
+    ),
+    (
+        "cql() sort \"q\" #Q sort min \"r\" #R sort \"n\" #N sort min \"b\" #B",
+        &TEN,
+        &[4, 2, 6, 0, 9, 7, 3, 5, 1, 8],
     ),
 ];
 
 #[test]
 fn games_come_by_the_sort_items(rt: HostRuntime) -> Result<(), Fail> {
     let alloc = rt.alloc();
-    let mut archive = String::new(alloc);
-    for fen in SORTED {
-        archive.push_str("[FEN \"")?;
-        archive.push_str(fen)?;
-        archive.push_str("\"]\n*\n")?;
-    }
-    let report = "games 3 matched 3 refused 0\n";
-    for (query, order) in ORDERS {
-        let mut text = Bytes::new(alloc);
-        for game in order {
-            text.push_all(written(alloc, (SORTED[game], "*", "{CQL} *"))?.as_slice())?;
+    for (query, fens, order) in ORDERS {
+        let mut archive = String::new(alloc);
+        for fen in fens {
+            archive.push_str("[FEN \"")?;
+            archive.push_str(fen)?;
+            archive.push_str("\"]\n*\n")?;
         }
+        let mut text = Bytes::new(alloc);
+        for k in order {
+            text.push_all(written(alloc, (fens[*k], "*", "{CQL} *"))?.as_slice())?;
+        }
+        let report = if fens.len() == 3 {
+            "games 3 matched 3 refused 0\n"
+        } else {
+            "games 10 matched 10 refused 0\n"
+        };
         let want = (Status::Done, text.as_slice(), report);
         expect(&rt, alloc, &["eval", query], ("-", archive.as_str()), want)?;
     }

@@ -129,7 +129,10 @@ fn do_job<R: Threads + Sync, D: Desk, O: Sink, E: Sink, G: Gate + Sync>(
         Job::Check { query } => check_file(alloc, query.as_slice(), desk, out, err),
         Job::Explain { query } => explain_file(alloc, query.as_slice(), desk, out, err),
         Job::SelfRun {
-            text, seed, games, ..
+            text,
+            seed,
+            games,
+            ..
         } => answer_text_over_made(alloc, text.as_slice(), *seed, *games, out, err),
     }
 }
