@@ -1,12 +1,11 @@
 #!/usr/bin/env python3
 """Random archives, queries and query texts: the built program is compared with the model.
 
-    python3 fuzz.py BINARY MODE SEED COUNT [STAGE]
+    python3 fuzz.py BINARY MODE SEED COUNT
 
-MODE is `archives` (random and mutated archives), `queries` (random queries over small games) or `texts` (mutated query
-texts and texts near the limits, by `check`). STAGE says which queries the program reads: `one man`, `designators`,
-`whole` (all but a sort at the top) or `sorts` (all). Differences land in the folder out/ beside this file. pypy3 is
-several times faster than python3 here."""
+MODE is `archives` (random and mutated archives), `queries` (random queries over small games), `explained` (the same queries by
+`explain`) or `texts` (mutated query texts and texts near the limits, by `check`). Differences land in the folder out/ beside this
+file. pypy3 is several times faster than python3 here."""
 
 
 import os
@@ -984,25 +983,28 @@ def random_man_query():
     return "cql() " + RANDOM.choice(common + [any_man])
 
 
-def random_case(mode, stage):
+def random_case(mode):
     """(query, archive)"""
     if mode == "archives":
         return random_man_query(), random_archive()
-    if mode == "queries":
+    if mode in ("queries", "explained"):
         archive = small_archive()
-        return designators() if stage == "designators" and chance(0.9) else good_query(archive), archive
+        return designators() if chance(0.05) else good_query(archive), archive
     k = RANDOM.random()
     text = mutate_query(random_query()) if k < 0.55 else deep_query() if k < 0.8 else typo_query()
     return mutate_query(text) if chance(0.1) else text, b""
 
 
-def answers(binary, mode, stage, text, archive, folder):
+def answers(binary, mode, text, archive, folder):
     """the model's answer and the program's"""
-    if mode == "texts":
+    if mode in ("texts", "explained"):
         with open(os.path.join(folder, "q.cql"), "wb") as f:
             f.write(text.encode())
+    if mode == "texts":
         return program.run_check(text.encode()), run(binary, ["check", "q.cql"], b"", folder)
-    return program.run_eval(text.encode(), archive, stage), run(binary, ["eval", text], archive, folder)
+    if mode == "explained":
+        return program.run_explain(text.encode()), run(binary, ["explain", "q.cql"], b"", folder)
+    return program.run_eval(text.encode(), archive), run(binary, ["eval", text], archive, folder)
 
 
 def store(path, text, archive, want, got):
@@ -1019,17 +1021,16 @@ def store(path, text, archive, want, got):
 
 def main():
     binary, mode, seed, count = os.path.abspath(sys.argv[1]), sys.argv[2], int(sys.argv[3]), int(sys.argv[4])
-    stage = sys.argv[5] if len(sys.argv) > 5 else "one man" if mode == "archives" else "whole"
     out = os.path.join(os.path.dirname(os.path.abspath(__file__)), "out")
     os.makedirs(out, exist_ok=True)
     statuses, differences = {}, 0
     with tempfile.TemporaryDirectory() as folder:
         for i in range(count):
             RANDOM.seed(seed * 1000003 + i)
-            text, archive = random_case(mode, stage)
+            text, archive = random_case(mode)
             if "\x00" in text:
                 continue
-            want, got = answers(binary, mode, stage, text, archive, folder)
+            want, got = answers(binary, mode, text, archive, folder)
             statuses[want[0]] = statuses.get(want[0], 0) + 1
             if got != want:
                 differences += 1

@@ -1,7 +1,7 @@
-"""The whole program as functions: `eval` of a query over an archive, and `check` of a query."""
+"""The whole program as functions: `eval` of a query over an archive, `check`, `explain` and `selfrun` of a query."""
 
-import re
-
+from explain import explain
+from maker import made
 from pgn import cut, export, read_game
 from query import QueryFault, fault_line, read_query
 from meaning import hits, keys
@@ -39,22 +39,15 @@ def answer(q, b):
     return (1 if refused else 0, b"".join(x[2] for x in outs), bytes(err))
 
 
-USAGE = b"usage: cqlpgn MODE QUERY [ARCHIVE] [--workers N] [--seed S] [--games G]\n"
-ONE_MAN = re.compile(rb"cql\(\) [KQRBNPkqrbnp][a-h][1-8]")
+USAGE = b"usage: cqlpgn MODE QUERY [ARCHIVE] [--workers N] [--seed S] [--games G] [--limit B]\n"
 
 
-def run_eval(text, b, stage="whole"):
-    """(status, out, err) of a program that reads the stage's queries; any other gives 9, not yet read"""
-    if stage == "one man" and not ONE_MAN.fullmatch(text):
-        return (9, b"", b"")
+def run_eval(text, b):
+    """(status, out, err)"""
     try:
         q = read_query(text)
     except QueryFault as f:
         return (2, b"", fault_line(f))
-    if stage == "designators" and any(f.form != "designator" for f in q["items"]):
-        return (9, b"", b"")
-    if stage != "sorts" and any(f.form == "sort" for f in q["items"]):
-        return (9, b"", b"")
     return answer(q, b)
 
 
@@ -64,3 +57,21 @@ def run_check(text):
     except QueryFault as f:
         return (2, b"", fault_line(f))
     return (0, b"ok\n", b"")
+
+
+def run_explain(text):
+    try:
+        q = read_query(text)
+    except QueryFault as f:
+        return (2, b"", fault_line(f))
+    return (0, explain(q), b"")
+
+
+def run_selfrun(text, seed=1, games=100):
+    try:
+        q = read_query(text)
+    except QueryFault as f:
+        return (2, b"", fault_line(f))
+    archive = made(seed, games)
+    status, out, err = answer(q, archive)
+    return (status, b"bytes %d %s written %d\n" % (len(archive), err.splitlines()[-1], len(out)), b"")

@@ -1,9 +1,9 @@
 #!/usr/bin/env python3
 """Worked examples with the answers a reader expects, checked on the model.
 
-    python3 worked.py [BINARY [STAGE]]
+    python3 worked.py [BINARY]
 
-With a binary each example is put through the program too and compared with the model; STAGE is as in fuzz.py.
+With a binary each example is put through the program too and compared with the model.
 """
 
 import os
@@ -22,7 +22,6 @@ MODEL, PROGRAM = "model", "program"
 counts = {MODEL: 0, PROGRAM: 0}
 differing = {MODEL: 0, PROGRAM: 0}
 binary = os.path.abspath(sys.argv[1]) if len(sys.argv) > 1 else None
-stage = sys.argv[2] if len(sys.argv) > 2 else "whole"
 
 
 def compare(side, name, got, want):
@@ -44,14 +43,14 @@ def through_program(name, words, data, want, folder=None):
 def example(name, text, archive, out, err=None, status=None):
     """what the query answers over the archive; err and status are compared where they are given"""
     text_bytes, archive_bytes = text.encode(), archive.encode()
-    got_status, got_out, got_err = program.run_eval(text_bytes, archive_bytes, "sorts")
+    got_status, got_out, got_err = program.run_eval(text_bytes, archive_bytes)
     equal(name + ": out", got_out.decode(), out)
     if err is not None:
         equal(name + ": err", got_err.decode(), err)
     if status is not None:
         equal(name + ": status", got_status, status)
     if binary and len(text) < 100000:
-        through_program(name, ["eval", text], archive_bytes, program.run_eval(text_bytes, archive_bytes, stage))
+        through_program(name, ["eval", text], archive_bytes, program.run_eval(text_bytes, archive_bytes))
 
 
 def refused(name, archive, line):
@@ -412,16 +411,20 @@ QUERY_FILES = [
     b'cql() player "\xff" A\x00',
     b'cql() "',
 ]
-if binary and stage != "one man":
+if binary:
     with tempfile.TemporaryDirectory() as folder:
         for number, text in enumerate(QUERY_FILES):
             with open(os.path.join(folder, "q.cql"), "wb") as f:
                 f.write(text)
             name = "query file %d" % number
             through_program(name, ["check", "q.cql"], b"", program.run_check(text), folder)
+            through_program(name + " explained", ["explain", "q.cql"], b"", program.run_explain(text), folder)
         through_program("a query file that is not there", ["check", "none.cql"], b"", (4, b"", b""), folder)
     for words in (["eval"], ["check"], [], ["foo", "cql() A"], ["eval", "cql() A", "x", "y"]):
         through_program("refused words", words, b"", (3, b"", program.USAGE))
+    for seed, games in ((1, 0), (1, 100), (7, 20)):
+        words = ["selfrun", "cql() check", "--seed", str(seed), "--games", str(games)]
+        through_program("made archive", words, b"", program.run_selfrun(b"cql() check", seed, games))
 # the queries that composers ask for, each of which finds the game of its name in examples/themes.pgn and no other
 THEMES = {
     "Smothered mate": "cql() flipcolor { mate N attacks k not (anydirection 1 k & ~a) }",
@@ -439,11 +442,11 @@ THEMES = {
 with open(os.path.join(os.path.dirname(os.path.abspath(__file__)), "..", "examples", "themes.pgn"), "rb") as f:
     archive = f.read()
 for name, text in THEMES.items():
-    answer = program.run_eval(text.encode(), archive, "sorts")
+    answer = program.run_eval(text.encode(), archive)
     found = [line[8:-2].decode() for line in answer[1].split(b"\n") if line.startswith(b'[Event "')]
     equal("theme: " + name, found, [name])
     if binary:
-        through_program("theme: " + name, ["eval", text], archive, program.run_eval(text.encode(), archive, stage))
+        through_program("theme: " + name, ["eval", text], archive, program.run_eval(text.encode(), archive))
 
 for side in (MODEL, PROGRAM):
     print(side, counts[side], "examples,", differing[side], "differ")

@@ -28,13 +28,16 @@ abbrev pub fault_line : ℕ → GameFault → List ℕ
 fault_line game fault =
     codes "game " ++ decimal game ++ codes " byte " ++ decimal fault.byte ++ codes ": " ++ reason_text fault.reason ++ codes "\n"
 
--- the last line of a report: how many games there are, match and are refused
-abbrev pub summary_line : (games matched refused : ℕ) → List ℕ
-summary_line games matched refused =
-    codes "games " ++ decimal games ++ codes " matched " ++ decimal matched ++ codes " refused " ++ decimal refused ++ codes "\n"
+-- how many games there are, match and are refused
+abbrev pub counts : (games matched refused : ℕ) → List ℕ
+counts games matched refused =
+    codes "games " ++ decimal games ++ codes " matched " ++ decimal matched ++ codes " refused " ++ decimal refused
 
--- the line on a made archive that is answered: its bytes, how many games it has, match and are refused, and the bytes of the exports
+-- the last line of a report
+abbrev pub summary_line : (games matched refused : ℕ) → List ℕ
+summary_line games matched refused = counts games matched refused ++ codes "\n"
+
+-- the line on a made archive that is answered: its bytes, what of its games, and the bytes of the exports
 abbrev pub made_line : (bytes games matched refused written : ℕ) → List ℕ
 made_line bytes games matched refused written =
-    codes "bytes " ++ decimal bytes ++ codes " games " ++ decimal games ++ codes " matched " ++ decimal matched ++ codes " refused " ++ decimal refused
-    ++ codes " written " ++ decimal written ++ codes "\n"
+    codes "bytes " ++ decimal bytes ++ codes " " ++ counts games matched refused ++ codes " written " ++ decimal written ++ codes "\n"

@@ -1,5 +1,5 @@
 //! The lines of a report over games.
-ghost use Rattle.std.specs.Prelude.{◌≡◌, IfOk};
+ghost use Rattle.std.specs.Prelude.{◌≡◌, ◌++◌, IfOk, OnOk};
 ghost use Rattle.cq_report.specs.Games as lines;
 
 use cq_outside::{Bytes, NoMemory};
@@ -55,13 +55,8 @@ pub fn summary_line(
 ) -> Result<Bytes, NoMemory>
     ensures { IfOk result (λ line. line ≡ lines.summary_line games matched refused) }
 {
-    let mut digits = Buffer::new();
-    let mut line = Bytes::from_slice(alloc, b"games ")?;
-    line.push_all(digits.format(games).as_bytes())?;
-    line.push_all(b" matched ")?;
-    line.push_all(digits.format(matched).as_bytes())?;
-    line.push_all(b" refused ")?;
-    line.push_all(digits.format(refused).as_bytes())?;
+    let mut line = Bytes::new(alloc);
+    push_counts(&mut line, games, matched, refused)?;
     line.push_all(b"\n")?;
     Ok(line)
 }
@@ -80,14 +75,23 @@ pub fn made_line(
     let mut digits = Buffer::new();
     let mut line = Bytes::from_slice(alloc, b"bytes ")?;
     line.push_all(digits.format(bytes).as_bytes())?;
-    line.push_all(b" games ")?;
-    line.push_all(digits.format(games).as_bytes())?;
-    line.push_all(b" matched ")?;
-    line.push_all(digits.format(matched).as_bytes())?;
-    line.push_all(b" refused ")?;
-    line.push_all(digits.format(refused).as_bytes())?;
+    line.push_all(b" ")?;
+    push_counts(&mut line, games, matched, refused)?;
     line.push_all(b" written ")?;
     line.push_all(digits.format(written).as_bytes())?;
     line.push_all(b"\n")?;
     Ok(line)
+}
+
+// Adds how many games there are, match and are refused.
+fn push_counts(line: &mut Bytes, games: u64, matched: u64, refused: u64) -> Result<(), NoMemory>
+    ensures { OnOk result (line.new ≡ line.old ++ lines.counts games matched refused) }
+{
+    let mut digits = Buffer::new();
+    line.push_all(b"games ")?;
+    line.push_all(digits.format(games).as_bytes())?;
+    line.push_all(b" matched ")?;
+    line.push_all(digits.format(matched).as_bytes())?;
+    line.push_all(b" refused ")?;
+    line.push_all(digits.format(refused).as_bytes())
 }

@@ -21,7 +21,8 @@ values_in (Some k ∷ ks) = k ∷ values_in ks
 -- a game that matches: its number from 0, its export with its marks, and its keys
 abbrev pub match_if : QueryTree → ℕ → Outcome → List GameAnswer
 match_if query number (Ok game) =
-    if has_match query game then record { index = number; what = Match (export_text (marked query game)) (values_in (keys query game)) } ∷ [] else []
+    if has_match query game
+    then record { index = number; what = Match (export_text (marked query game)) (values_in (keys query game)) } ∷ [] else []
 match_if query number (Err fault) = []
 
 -- the games that match, in archive order, the first of all games having this number

@@ -18,10 +18,12 @@ use Rattle.cql_syntax.specs.Trees.{QueryTree}
 use Rattle.cql_syntax.specs.declared.fault.QueryFault.{QueryFault}
 use Rattle.cq_report.specs.Queries.{query_line}
 use Rattle.cq_run.specs.declared.status.Status.{Status}
-use Rattle.cq_run.specs.declared.status.Status.TheVariants.{Done, DoneWithRefusals, QueryRefused, WordsRefused, OpenFault, ReadFault, WriteFault, NoMemory}
+use Rattle.cq_run.specs.declared.status.Status.TheVariants.{Done, DoneWithRefusals, QueryRefused, WordsRefused}
+use Rattle.cq_run.specs.declared.status.Status.TheVariants.{OpenFault, ReadFault, WriteFault, NoMemory}
 use Rattle.cq_run.specs.Queries.{IsQuery, IsQueryFault}
 use Rattle.cq_run.specs.SelfRun.{WritesMade}
-use Rattle.cq_run.specs.Promise.{SourceView, DeskView, Sinks, Texts, Writes, WritesPrefix, IsUnwritten, NoWriteFailed, OneSinkFailed, SinkFailed, IsOneOf, AnswerPromise}
+use Rattle.cq_run.specs.Promise.{SourceView, DeskView, Sinks, Texts, Writes, WritesPrefix, IsUnwritten, NoWriteFailed}
+use Rattle.cq_run.specs.Promise.{OneSinkFailed, SinkFailed, IsOneOf, AnswerPromise}
 
 -- what a call of `run` was lent, as it began and as it ended
 pub record Call : Type 0 where
@@ -140,7 +142,8 @@ pub data AnswersFile (archive : List ℕ) (limit : ℕ) (query : QueryTree) (sta
   archive_answered : (file : SourceView) → Opened archive call.desk call.desk_after file
       → AnswerPromise status (record { query = query; limit = limit; source = file; source_after = call.desk_after.file; sinks = call.sinks })
       → AnswersFile archive limit query status call
-  archive_unopened : status ≡ OpenFault → FailsToOpen call.desk call.desk_after → IsUnwritten call.sinks → AnswersFile archive limit query status call
+  archive_unopened : status ≡ OpenFault → FailsToOpen call.desk call.desk_after → IsUnwritten call.sinks
+      → AnswersFile archive limit query status call
   archive_forgotten : status ≡ NoMemory → IsUnmoved call → AnswersFile archive limit query status call
 
 -- A query that a word is: it is refused for its fault, or accepted, and then this is done.
@@ -156,9 +159,12 @@ pub data OverFile (name : List ℕ) (Accepted : QueryTree → Status → Call �
       → Accepted query status (from_desk mid call) → OverFile name Accepted status call
   file_refused : (text : List ℕ) (fault : QueryFault) → TakesQuery name call.desk call.desk_after text → IsQueryFault text fault
       → RefusesQuery fault status call.sinks → OverFile name Accepted status call
-  file_unopened : status ≡ OpenFault → FailsToOpen call.desk call.desk_after → IsUnwritten call.sinks → OverFile name Accepted status call
-  file_unread : status ≡ ReadFault → FailsToRead name call.desk call.desk_after → IsUnwritten call.sinks → OverFile name Accepted status call
-  file_forgotten : status ≡ NoMemory → ForgetsQuery name call.desk call.desk_after → IsUnwritten call.sinks → OverFile name Accepted status call
+  file_unopened : status ≡ OpenFault → FailsToOpen call.desk call.desk_after → IsUnwritten call.sinks
+      → OverFile name Accepted status call
+  file_unread : status ≡ ReadFault → FailsToRead name call.desk call.desk_after → IsUnwritten call.sinks
+      → OverFile name Accepted status call
+  file_forgotten : status ≡ NoMemory → ForgetsQuery name call.desk call.desk_after → IsUnwritten call.sinks
+      → OverFile name Accepted status call
 
 -- an accepted query is said to be one, and no other file is opened
 abbrev pub SaysAccepted : QueryTree → Status → Call → Type 0

@@ -39,7 +39,8 @@ WritesTotals totals _ sinks = ⊥
 
 -- what is written of a query over an archive that is made; out of memory nothing is
 pub data WritesMade (archive : List ℕ) (query : QueryTree) (status : Status) (sinks : Sinks) : Type 0 where
-  totals_written : (totals : Totals) → AreTotals query archive totals → WritesTotals totals status sinks → WritesMade archive query status sinks
+  totals_written : (totals : Totals) → AreTotals query archive totals → WritesTotals totals status sinks
+      → WritesMade archive query status sinks
   made_forgotten : status ≡ NoMemory → IsUnwritten sinks → WritesMade archive query status sinks
 
 -- one game more is counted

@@ -14,8 +14,8 @@ use std::thread::Threads;
 
 /// Answers a query over the archive that `source` has left, which is read to its end. `out` takes the export of each game
 /// that matches, with a comment at each position at which it does, by the query's sort items and then in archive order: without
-/// a sort item each as its game is answered, with one once all are answered. `err` takes the report. The settings are 1 to 64 workers, who have no effect yet, and a limit from 1 to 2^40 on the archive's bytes;
-/// `rt` and `gate` are not used yet.
+/// a sort item each as its game is answered, with one once all are answered. `err` takes the report. The settings are 1 to 64
+/// workers, who have no effect yet, and a limit from 1 to 2^40 on the archive's bytes; `rt` and `gate` are not used yet.
 ///
 /// Answers:
 /// - `Done` or `DoneWithRefusals`: the archive was read to its end, both sinks have taken all, and no game, or some, is faulty.

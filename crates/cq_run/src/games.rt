@@ -32,8 +32,8 @@ use pgn_reader::{GameFault, games_have_outcomes, read_game};
 use pgn_tree::Game;
 use std::alloc::Global;
 
-/// Answers the query of a plan over an archive of fewer than 2^62 bytes: `out` takes the export of each game that matches, in the order of the
-/// query, and `err` the line of each faulty game and, after the last game, the counts. A write that fails is the last one.
+/// Answers the query of a plan over an archive of fewer than 2^62 bytes: `out` takes the export of each game that matches, in the
+/// order of the query, and `err` the line of each faulty game and, after the last game, the counts. A write that fails is the last one.
 pub fn answer_archive<O: Sink, E: Sink>(
     alloc: Global,
     plan: &Plan,
@@ -89,7 +89,8 @@ fn write_kept<O: Sink>(
     kept: Vec<GameAnswer>,
     out: &mut O,
 ) -> Result<(), Refusal<Failed>>
-    ensures { WritesKept (query_tree plan.now.query.query) kept.items (sink_view O.taken O.faults out.old) (sink_view O.taken O.faults out.new) result }
+    ensures { WritesKept (query_tree plan.now.query.query) kept.items
+        (sink_view O.taken O.faults out.old) (sink_view O.taken O.faults out.new) result }
 {
     let ordered = by_keys(alloc, kept, &plan.query().query)?;
     for i in 0..ordered.len() {
@@ -143,7 +144,8 @@ fn answer_game<O: Sink, E: Sink>(
     requires games { tally.old.games < 2 ^ 63 }
     requires matched { tally.old.matched ≤ tally.old.games }
     requires refused { tally.old.refused ≤ tally.old.games }
-    ensures { AnswersGame sorted (query_tree plan.now.query.query) (IsRead game.start game.first (game_bytes archive.now game)) (stand_of tally.old kept.old.items) (stand_of tally.new kept.new.items)
+    ensures { AnswersGame sorted (query_tree plan.now.query.query) (IsRead game.start game.first (game_bytes archive.now game))
+        (stand_of tally.old kept.old.items) (stand_of tally.new kept.new.items)
         (sinks_of (sink_view O.taken O.faults out.old) (sink_view O.taken O.faults out.new)
         (sink_view E.taken E.faults err.old) (sink_view E.taken E.faults err.new)) result }
 {
@@ -167,7 +169,8 @@ fn write_match<O: Sink>(
 ) -> Result<(), Refusal<Failed>>
     requires games { tally.old.games < 2 ^ 63 }
     requires matched { tally.old.matched ≤ tally.old.games }
-    ensures { (err : SinkView) → AnswersGame sorted (query_tree plan.now.query.query) (λ outcome. outcome ≡ Ok game) (stand_of tally.old kept.old.items) (stand_of tally.new kept.new.items)
+    ensures { (err : SinkView) → AnswersGame sorted (query_tree plan.now.query.query) (λ outcome. outcome ≡ Ok game)
+        (stand_of tally.old kept.old.items) (stand_of tally.new kept.new.items)
         (sinks_of (sink_view O.taken O.faults out.old) (sink_view O.taken O.faults out.new) err err) result }
 {
     tally.games += 1;
@@ -227,7 +230,8 @@ fn write_fault<E: Sink>(
 ) -> Result<(), Refusal<Failed>>
     requires games { tally.old.games < 2 ^ 63 }
     requires refused { tally.old.refused ≤ tally.old.games }
-    ensures { (sorted : Bool) (query : QueryTree) (kept : List GameAnswer) (out : SinkView) → AnswersGame sorted query (λ outcome. outcome ≡ Err fault) (stand_of tally.old kept) (stand_of tally.new kept)
+    ensures { (sorted : Bool) (query : QueryTree) (kept : List GameAnswer) (out : SinkView)
+        → AnswersGame sorted query (λ outcome. outcome ≡ Err fault) (stand_of tally.old kept) (stand_of tally.new kept)
         (sinks_of out out (sink_view E.taken E.faults err.old) (sink_view E.taken E.faults err.new)) result }
 {
     tally.games += 1;

@@ -118,7 +118,8 @@ fn count_game(
     requires matched { before.tally.matched ≤ before.tally.games }
     requires refused { before.tally.refused ≤ before.tally.games }
     requires written { before.written ≤ 2 ^ 64 * before.tally.games }
-    ensures counts { IfOk result (CountsGame (query_tree plan.now.query.query) (IsRead game.start game.first (game_bytes archive.now game)) before) }
+    ensures counts { IfOk result (CountsGame (query_tree plan.now.query.query)
+        (IsRead game.start game.first (game_bytes archive.now game)) before) }
     ensures written { IfOk result (λ after. after.written ≤ 2 ^ 64 * after.tally.games) }
 {
     let bytes = &archive[game.start as usize..game.end as usize];

@@ -298,7 +298,10 @@ fn queries_are_explained(rt: HostRuntime) -> Result<(), Fail> {
             "(union [K]:0000000000000001 [k]:0100000000000000)\n",
         ),
         ("cql() line 2 3 --> wtm", "(line 2 3 --> wtm)\n"),
-        ("cql() Ka1 mate", "[K]:0000000000000001\nmate\n"),
+        (
+            "cql() flipcolor Ka1 check",
+            "(union [K]:0000000000000001 [k]:0100000000000000)\ncheck\n",
+        ),
     ] {
         let want = (Status::Done, lines.as_bytes(), "");
         expect(&rt, alloc, &["explain", "q.cql"], ("q.cql", query), want)?;

@@ -30,14 +30,15 @@ const USAGE: &[u8] =
 ///   archive is standard input, the desk's file `-`.
 /// - `eval TEXT [ARCHIVE]` does the same of the query that the word TEXT is.
 /// - `check QUERY` writes `ok` to `out` where the query in the file QUERY is accepted.
-/// - `selfrun TEXT` answers the query that the word TEXT is over an archive that is made, of `--games G` games, from 0 to 100,000, by
-///   `--seed S`, from 0 to 2^32 - 1: `out` takes one line, `bytes B games G matched M refused R written W`, where W is the length of the
-///   exports, and no file is opened.
 /// - `explain QUERY` writes its flat form to `out`, an item on each line, where the query in the file QUERY is accepted.
+/// - `selfrun TEXT` answers the query that the word TEXT is over an archive that is made, of `--games G` games, from 0 to 100,000 and
+///   by default 100, from `--seed S`, from 0 to 2^32 - 1 and by default 1: `out` takes one line, `bytes B games G matched M refused
+///   R written W`, where B is the length of the archive and W that of the exports, and no file is opened.
 ///
-/// `run`, `eval` and `selfrun` take `--workers N`, from 1 to 64, which has no effect yet, and `run` and `eval` `--limit B`, from 1 to 2^40: more than so many
-/// bytes of an archive are refused. Of a query's file at most 65,537 bytes are taken. A query with a fault is refused by a line on
-/// `err`, `query byte B: REASON`, before the archive is opened, and other words by the usage line. `rt` and `gate` are not used yet.
+/// `run`, `eval` and `selfrun` take `--workers N`, from 1 to 64, which has no effect yet, and `run` and `eval` `--limit B`, from
+/// 1 to 2^40: more than so many bytes of an archive are refused. Of a query's file at most 65,537 bytes are taken. A query with a
+/// fault is refused by a line on `err`, `query byte B: REASON`, before the archive is opened, and other words by the usage line.
+/// `rt` and `gate` are not used yet.
 ///
 /// Answers:
 /// - `Done` or `DoneWithRefusals`: both sinks have taken all, and no game, or some, is faulty. `check` and `explain` answer `Done`.
