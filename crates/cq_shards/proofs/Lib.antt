@@ -5,3 +5,4 @@ pub mod OrderRows
 pub mod Counts
 pub mod OnlyOrder
 pub mod OneWay
+pub mod Values

@@ -1,5 +1,5 @@
 -- The order in which answers come: by their games, and matches by the sort items of a query and then by their games.
-use Rattle.std.specs.Prelude.{◌≡◌, ◌≢◌, ◌⊎◌, ◌<◌, ◌<ℤ◌, ℕ, ℤ, pos, Bool, true, false, List, [], ◌∷◌, ◌++◌, length, take, slice_index_or, AllPairs}
+use Rattle.std.specs.Prelude.{◌≡◌, ◌≢◌, ◌⊎◌, ◌<◌, ◌<ℤ◌, ℕ, ℤ, pos, Bool, true, false, List, [], ◌∷◌, ◌++◌, length, take, slice_index_or, AllPairs, Option, None, Some}
 use Rattle.cql_syntax.specs.Trees.{FilterTree, filter_at, FormTree, sort, FilterTrees, no_filters, more_filters}
 use Rattle.cq_shards.specs.declared.answers.Answer.{Answer}
 use Rattle.cq_shards.specs.declared.answers.Answer.TheVariants.{Refused, Miss, Match}
@@ -37,6 +37,12 @@ filter_directions (filter_at at f) = form_directions f
 abbrev pub directions : FilterTrees → List Bool
 directions no_filters = []
 directions (more_filters f fs) = filter_directions f ++ directions fs
+
+-- the values among keys; at a game with a hit no key is without one (`games_have_a_key_for_each_sort_item`)
+abbrev pub values_in : List (Option ℤ) → List ℤ
+values_in [] = []
+values_in (None ∷ ks) = values_in ks
+values_in (Some k ∷ ks) = k ∷ values_in ks
 
 -- a match has one key for each sort item
 abbrev pub HasKeys : List Bool → GameAnswer → Type 0

@@ -1,11 +1,11 @@
 //! The order of answers at worked rows, and laws of it for proofs in other crates.
-ghost use Rattle.std.specs.Prelude.{◌≡◌, Bool, List, length, AllPairs};
+ghost use Rattle.std.specs.Prelude.{◌≡◌, ◌<◌, Bool, List, length, map, Some, AllPairs};
 ghost use Rattle.std.specs.List.Sorted.{IsPermutation};
 ghost use Rattle.cq_position.specs.Games.{Game};
-ghost use Rattle.cql_syntax.specs.Hits.{keys};
+ghost use Rattle.cql_syntax.specs.Hits.{hits, keys};
 ghost use Rattle.cql_syntax.specs.Trees.{QueryTree};
 ghost use Rattle.cq_shards.specs.declared.answers.GameAnswer.{GameAnswer};
-ghost use Rattle.cq_shards.specs.Order.{ComesBefore, IsEarlier, directions};
+ghost use Rattle.cq_shards.specs.Order.{ComesBefore, IsEarlier, directions, values_in};
 ghost use Rattle.cq_shards.specs.OrderRows.{OrderRows};
 
 /// Which of two answers comes first.
@@ -14,10 +14,11 @@ pub fn answers_are_ordered_as_worked()
     ensures { OrderRows }
 {}
 
-/// The meaning of a query gives a game one key for each sort item.
-#[tactic(auto, using(crate::proofs::Counts::key_count))]
+/// The meaning of a query gives a game one key for each sort item, and where the query matches none is without a value.
+#[tactic(auto, using(crate::proofs::Counts::key_count, crate::proofs::Values::all_kept))]
 pub fn games_have_a_key_for_each_sort_item()
-    ensures { (q : QueryTree) (game : Game) → length (keys q game) ≡ length (directions q.items) }
+    ensures count { (q : QueryTree) (game : Game) → length (keys q game) ≡ length (directions q.items) }
+    ensures values { (q : QueryTree) (game : Game) → 0 < length (hits q game) → map Some (values_in (keys q game)) ≡ keys q game }
 {}
 
 /// Answers stand in the order of their games in one way alone, and in that of their keys too.
