@@ -1,15 +1,17 @@
-use cql_syntax::{QueryFault, QueryReason, QueryToken, QueryTokenKind};
+use cq_shards::{Answer, GameAnswer, Keys};
+use cql_syntax::{FlatQuery, Query, QueryFault, QueryToken, TypedQuery};
 
-fn may_be_shared<T: Send + Sync>(_value: &T) {}
+/// Only types that threads may share, or hand over, are taken.
+fn may_be_shared<T: Send + Sync>() {}
 
 #[test]
-fn tokens_and_faults_may_be_shared() {
-    may_be_shared(&QueryToken {
-        at: 0,
-        kind: QueryTokenKind::End,
-    });
-    may_be_shared(&QueryFault {
-        byte: 0,
-        reason: QueryReason::BadByte,
-    });
+fn what_threads_hand_over_may_be_shared() {
+    may_be_shared::<QueryToken>();
+    may_be_shared::<QueryFault>();
+    may_be_shared::<Query>();
+    may_be_shared::<TypedQuery>();
+    may_be_shared::<FlatQuery>();
+    may_be_shared::<Keys>();
+    may_be_shared::<Answer>();
+    may_be_shared::<GameAnswer>();
 }
