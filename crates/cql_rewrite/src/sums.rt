@@ -23,7 +23,7 @@ pub(crate) fn sum_start(alloc: Global, terms: &[Term]) -> Result<Bytes, NoMemory
 }
 
 // What opens the pairs of terms, the last one's first.
-#[tactic(auto, using(crate::proofs::Sums::opened))]
+#[tactic(auto, using(crate::proofs::Pairs::opened))]
 fn openings(alloc: Global, terms: &[Term]) -> Result<Bytes, NoMemory>
     ensures { IfOk result (λ t. t ≡ spec.openings (term_trees terms.now)) }
 {

@@ -126,7 +126,7 @@ fn texts_of(alloc: Global, filters: &Filters) -> Result<Vec<Bytes>, NoMemory>
 
 // Pairs from the left, in one pass.
 #[cycle(text)]
-#[tactic(auto, unfolding(crate::specs::FlatText::text), using(crate::proofs::Sums::sum_is))]
+#[tactic(auto, unfolding(crate::specs::FlatText::text), using(crate::proofs::Pairs::sum_is))]
 fn sum_of(alloc: Global, terms: &Terms) -> Result<Bytes, NoMemory>
     ensures { IfOk result (λ t. t ≡ unwrap_or (spec.sum_after None (terms_tree terms.now)) (spec.in_parens (codes "+") [])) }
 {
