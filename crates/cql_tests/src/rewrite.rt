@@ -23,11 +23,14 @@ fn flat_text_of(alloc: Global, items: &[u8]) -> Result<Bytes, Refusal<QueryFault
 }
 
 /// What follows `cql() `, and the flat text.
-static LEAVES: [(&[u8], &[u8]); 9] = [
+static LEAVES: [(&[u8], &[u8]); 12] = [
     (b"[Kk_][a-b1,d1,f1,h1]", b"[Kk_]:00000000000000ab"),
-    (b"70", b"70"),
+    (b"Aa1-8", b"[KQRBNP]:0101010101010101"),
+    (b"070", b"70"),
     (b"hascomment", b"hascomment"),
+    (b"player \"x\"", b"(player \"x\")"),
     (b"player white \"x\"", b"(player white \"x\")"),
+    (b"event \"x\"", b"(event \"x\")"),
     (b"site \"x\"", b"(site \"x\")"),
     (b"result 1/2-1/2", b"(result 1/2-1/2)"),
     (b"elo", b"(elo)"),
@@ -35,29 +38,50 @@ static LEAVES: [(&[u8], &[u8]); 9] = [
     (b"move", b"(move)"),
 ];
 
-static FORMS: [(&[u8], &[u8]); 13] = [
+static FORMS: [(&[u8], &[u8]); 14] = [
     (b"find <-- Ka1", b"(find<-- [K]:0000000000000001)"),
+    (b"#~Ka1", b"(# (~ [K]:0000000000000001))"),
     (b"up Ka1", b"(up 1 7 [K]:0000000000000001)"),
+    (b"down 3 ka1", b"(down 3 3 [k]:0000000000000001)"),
     (b"{check 1}", b"(all check 1)"),
-    (b"1 - 2 + 3 - 4", b"(- (+ (- 1 2) 3) 4)"),
-    (b"1 - (2 + 3)", b"(- 1 (+ 2 3))"),
+    (b"wtm or check and mate", b"(or wtm (and check mate))"),
+    (b"max(1 2 * 3 * 4)", b"(max 1 (* 2 3 4))"),
+    (
+        b"Ka1 attacks ka2 & between(Qa1 qa1)",
+        b"(& (attacks [K]:0000000000000001 [k]:0000000000000100) (between [Q]:0000000000000001 [q]:0000000000000001))",
+    ),
     (b"1 <= 2", b"(<= 1 2)"),
     (b"if wtm then 1 else 2", b"(if wtm 1 2)"),
+    (b"square x in Ka1 x", b"(square x [K]:0000000000000001 x)"),
     (
         b"square all x in Ka1 x",
         b"(square all x [K]:0000000000000001 x)",
     ),
     (b"sort min \"x\" ply", b"(sort min \"x\" ply)"),
+    (b"wtm not check", b"wtm\n(not check)"),
+];
+
+static SUMS: [(&[u8], &[u8]); 3] = [
+    (b"1 + 2", b"(+ 1 2)"),
+    (b"1 - 2 + 3 - 4", b"(- (+ (- 1 2) 3) 4)"),
+    (b"1 - (2 + 3)", b"(- 1 (+ 2 3))"),
+];
+
+static LINES_AND_MOVES: [(&[u8], &[u8]); 5] = [
     (
         b"line primary <-- wtm <-- wtm* <-- (wtm+ <-- wtm?) <-- wtm{2,9}",
         b"(line primary <-- wtm (* wtm) (seq (+ wtm) (? wtm)) ({2,9} wtm))",
     ),
+    (b"line --> wtm{3}", b"(line --> ({3,3} wtm))"),
     (b"line 2 3 --> wtm", b"(line 2 3 --> wtm)"),
     (
         b"move from N to f3",
         b"(move from [N]:ffffffffffffffff to [KQRBNPkqrbnp_]:0000000000200000)",
     ),
-    (b"wtm not check", b"wtm\n(not check)"),
+    (
+        b"move capture qa1 promote Q",
+        b"(move capture [q]:0000000000000001 promote [Q]:ffffffffffffffff)",
+    ),
 ];
 
 static FAMILIES: [(&[u8], &[u8]); 8] = [
@@ -114,12 +138,24 @@ fn forms_have_their_texts(rt: HostRuntime) -> Result<(), Fail> {
 }
 
 #[test]
+fn sums_are_written_as_pairs_from_the_left(rt: HostRuntime) -> Result<(), Fail> {
+    are_written(&rt, rt.alloc(), SUMS.as_slice())?;
+    Ok(())
+}
+
+#[test]
+fn lines_and_moves_have_their_texts(rt: HostRuntime) -> Result<(), Fail> {
+    are_written(&rt, rt.alloc(), LINES_AND_MOVES.as_slice())?;
+    Ok(())
+}
+
+#[test]
 fn families_are_written_out(rt: HostRuntime) -> Result<(), Fail> {
     are_written(&rt, rt.alloc(), FAMILIES.as_slice())?;
     Ok(())
 }
 
-/// A query of about the greatest weight, whose families have equal members alone.
+/// A query of the greatest weight, whose families have equal members alone.
 #[test]
 fn equal_members_are_left_out_at_each_level(rt: HostRuntime) -> Result<(), Fail> {
     let alloc = rt.alloc();
