@@ -22,8 +22,8 @@ use Rattle.cq_run.specs.declared.totals.Totals.{Totals}
 use Rattle.cq_run.specs.Answer.{export_if, has_match, tally_of}
 use Rattle.cq_run.specs.Exports.{AreExports, matches_from, text_of}
 use Rattle.cq_run.specs.Outcomes.{Outcome, AreRead}
-use Rattle.cq_run.specs.SelfRun.{AreTotals, CountsGame, counted}
-use Rattle.cq_run.specs.Writing.{tallied}
+use Rattle.cq_run.specs.SelfRun.{AreTotals}
+use Rattle.cq_run.specs.Writing.{CountsGame, counted, tallied}
 use Rattle.cq_run.proofs.Answers.{are_read_on, tally_with, same_tally, matched_tally, tallied_more}
 use Rattle.cq_run.proofs.Exports.{texts_same}
 

@@ -31,11 +31,11 @@ use Rattle.cq_run.specs.declared.status.Status.{Status}
 use Rattle.cq_run.specs.declared.status.Status.TheVariants.{Done, DoneWithRefusals, QueryRefused, WordsRefused, OpenFault, ReadFault, WriteFault, NoMemory, ArchiveTooLong}
 use Rattle.cq_run.specs.Queries.{IsQuery, IsQueryFault}
 use Rattle.cq_run.specs.Promise.{SourceView, DeskView, Sinks, SaysOfAnswer, IsOneOf, IsUnwritten, NoWriteFailed}
-use Rattle.cq_run.specs.Run.{Call, from_desk, IsUnmoved, NoInputFailed, with_open, Opened, FailsToOpen, query_limit, TakesQuery, FailsToRead, ForgetsQuery, no_memory_to_open, no_memory_to_read, WritesUsage, RefusesQuery, AcceptsQuery, WritesFlat, AnswersFile, archive_answered, archive_unopened, archive_forgotten, OverText, text_accepted, text_refused, text_forgotten, OverFile, file_accepted, file_refused, file_unopened, file_unread, file_forgotten, SaysAccepted, Explains, RunsMade, DoesJob, Does, job_done, words_refused, words_forgotten, Asks, AnswersItsFault, IsInFile, HasText, NothingRose, IsShort, IsWithin, good_answers, Promise}
+use Rattle.cq_run.specs.Run.{Call, from_desk, IsUnmoved, with_open, Opened, FailsToOpen, query_limit, TakesQuery, FailsToRead, ForgetsQuery, no_memory_to_open, no_memory_to_read, WritesUsage, RefusesQuery, AcceptsQuery, WritesFlat, AnswersFile, archive_answered, archive_unopened, archive_forgotten, OverText, text_accepted, text_refused, text_forgotten, OverFile, file_accepted, file_refused, file_unopened, file_unread, file_forgotten, SaysAccepted, Explains, RunsMade, DoesJob, Does, job_done, words_refused, words_forgotten, Asks, AnswersItsFault, IsInFile, HasText, NothingRose, IsShort, IsWithin, good_answers, Promise}
 use Rattle.cq_run.specs.SelfRun.{WritesTotals, WritesMade, totals_written, made_forgotten}
 use Rattle.cq_run.specs.declared.totals.Totals.{Totals}
 use Rattle.cq_run.specs.Asked.{ReadsFile, TellsWhy, call_of}
-use Rattle.cq_run.proofs.Sinks.{wrote_none, some_failed}
+use Rattle.cq_run.proofs.Sinks.{wrote_none}
 
 -- a text is one query at most, and has no fault then
 
@@ -63,6 +63,11 @@ no_fault one none text q f is (inr (inr tree)) =
     cc
 
 -- counts that stand still, and the one that may rise
+
+-- no open and no read failed
+record NoInputFailed (desk after : DeskView) : Type 0 where
+  opens : after.open_faults ≡ desk.open_faults
+  reads : after.file.faults ≡ desk.file.faults
 
 at_none : (status : Status) (call : Call) → NoInputFailed call.desk call.desk_after → NoWriteFailed call.sinks → AnswersItsFault status call
 at_none status call input writes =
@@ -400,7 +405,7 @@ none_later name mid text call takes none =
 
 acceptance_is_one : (status : Status) (call : Call) → NothingRose call → AcceptsQuery status call.sinks → IsOneOf status (Done ∷ NoMemory ∷ [])
 acceptance_is_one Done call none does = inl refl
-acceptance_is_one WriteFault call none does = absurd (none.writes (some_failed call.sinks does.1))
+acceptance_is_one WriteFault call none does = absurd (none.writes (inl does.1.0))
 acceptance_is_one NoMemory call none does = absurd does
 acceptance_is_one QueryRefused call none does = absurd does
 acceptance_is_one DoneWithRefusals call none does = absurd does
@@ -411,7 +416,7 @@ acceptance_is_one ArchiveTooLong call none does = absurd does
 
 explanation_is_one : (q : QueryTree) (status : Status) (call : Call) → NothingRose call → WritesFlat q status call.sinks → IsOneOf status (Done ∷ NoMemory ∷ [])
 explanation_is_one q Done call none does = inl refl
-explanation_is_one q WriteFault call none does = absurd (none.writes (some_failed call.sinks does.1))
+explanation_is_one q WriteFault call none does = absurd (none.writes (inl does.1.0))
 explanation_is_one q NoMemory call none does = inr (inl refl)
 explanation_is_one q QueryRefused call none does = absurd does
 explanation_is_one q DoneWithRefusals call none does = absurd does
@@ -425,7 +430,7 @@ totals_is_one : (totals : Totals) (status : Status) (call : Call) → NothingRos
 totals_is_one totals Done call none does = inl refl
 totals_is_one totals DoneWithRefusals call none does = inr (inl refl)
 totals_is_one totals NoMemory call none does = inr (inr (inl refl))
-totals_is_one totals WriteFault call none does = absurd (none.writes (some_failed call.sinks does.1))
+totals_is_one totals WriteFault call none does = absurd (none.writes (inl does.1.0))
 totals_is_one totals QueryRefused call none does = absurd does
 totals_is_one totals WordsRefused call none does = absurd does
 totals_is_one totals OpenFault call none does = absurd does

@@ -67,6 +67,13 @@ OneSinkFailed sinks =
     (Rose sinks.out.faults sinks.out_after.faults × (sinks.err_after.faults ≡ sinks.err.faults))
     ⊎ (Rose sinks.err.faults sinks.err_after.faults × (sinks.out_after.faults ≡ sinks.out.faults))
 
+-- the count of this sink rose, and the other sink was not written to
+abbrev pub OutFailed : Sinks → Type 0
+OutFailed sinks = Rose sinks.out.faults sinks.out_after.faults × (sinks.err_after ≡ sinks.err)
+
+abbrev pub ErrFailed : Sinks → Type 0
+ErrFailed sinks = Rose sinks.err.faults sinks.err_after.faults × (sinks.out_after ≡ sinks.out)
+
 -- a count of a sink rose
 abbrev pub SinkFailed : Sinks → Type 0
 SinkFailed sinks = Rose sinks.out.faults sinks.out_after.faults ⊎ Rose sinks.err.faults sinks.err_after.faults
@@ -75,8 +82,6 @@ SinkFailed sinks = Rose sinks.out.faults sinks.out_after.faults ⊎ Rose sinks.e
 abbrev pub IsOneOf : Status → List Status → Type 0
 IsOneOf status [] = ⊥
 IsOneOf status (one ∷ more) = (status ≡ one) ⊎ IsOneOf status more
-
--- `answer`
 
 -- a call of `answer`: its query, the limit on the archive in bytes, and what it was lent, as the call began and as it ended
 pub record Answering : Type 0 where
@@ -120,7 +125,7 @@ pub record WritesWhole (query : QueryTree) (outcomes : List Outcome) (sinks : Si
   pub are : AreExports query outcomes exports
   pub writes : Writes sinks (record { out = exports; err = report_of query outcomes })
 
--- so much of the exports was taken: a prefix; or nothing, as long as they are not in order
+-- of the exports a prefix was taken; it is empty as long as they are not in order
 abbrev pub TakesPart : QueryTree → List Outcome → SinkView → SinkView → Type 0
 TakesPart query outcomes out out_after =
     Grew out.taken out_after.taken []

@@ -23,7 +23,7 @@ use Rattle.cq_run.specs.declared.status.Status.TheVariants.{OpenFault, ReadFault
 use Rattle.cq_run.specs.Queries.{IsQuery, IsQueryFault}
 use Rattle.cq_run.specs.SelfRun.{WritesMade}
 use Rattle.cq_run.specs.Promise.{SourceView, DeskView, Sinks, Texts, Writes, WritesPrefix, IsUnwritten, NoWriteFailed}
-use Rattle.cq_run.specs.Promise.{OneSinkFailed, SinkFailed, IsOneOf, AnswerPromise}
+use Rattle.cq_run.specs.Promise.{OutFailed, ErrFailed, SinkFailed, IsOneOf, AnswerPromise}
 
 -- what a call of `run` was lent, as it began and as it ended
 pub record Call : Type 0 where
@@ -41,11 +41,6 @@ pub record IsUnmoved (call : Call) : Type 0 where
   pub sinks : IsUnwritten call.sinks
 
 -- ---- files
-
--- no open and no read failed
-pub record NoInputFailed (desk after : DeskView) : Type 0 where
-  pub opens : after.open_faults ≡ desk.open_faults
-  pub reads : after.file.faults ≡ desk.file.faults
 
 -- a desk on which one more name was opened
 abbrev pub with_open : List ℕ → Told → Told
@@ -92,7 +87,7 @@ pub data ForgetsQuery (name : List ℕ) (desk after : DeskView) : Type 0 where
 
 -- ---- lines
 
--- one text is written to out or to err: all of it, or a prefix where the write failed
+-- the texts of a call that writes to one sink alone
 abbrev pub text_for_err : List ℕ → Texts
 text_for_err text = record { out = []; err = text }
 
@@ -106,13 +101,13 @@ usage_line = codes "usage: cqlpgn MODE QUERY [ARCHIVE] [--workers N] [--seed S] 
 -- words that are refused: the usage line is written
 abbrev pub WritesUsage : Status → Sinks → Type 0
 WritesUsage WordsRefused sinks = Writes sinks (text_for_err usage_line) × NoWriteFailed sinks
-WritesUsage WriteFault sinks = WritesPrefix sinks (text_for_err usage_line) × OneSinkFailed sinks
+WritesUsage WriteFault sinks = WritesPrefix sinks (text_for_err usage_line) × ErrFailed sinks
 WritesUsage _ sinks = ⊥
 
 -- a query with a fault: its line is written
 abbrev pub RefusesQuery : QueryFault → Status → Sinks → Type 0
 RefusesQuery fault QueryRefused sinks = Writes sinks (text_for_err (query_line fault)) × NoWriteFailed sinks
-RefusesQuery fault WriteFault sinks = WritesPrefix sinks (text_for_err (query_line fault)) × OneSinkFailed sinks
+RefusesQuery fault WriteFault sinks = WritesPrefix sinks (text_for_err (query_line fault)) × ErrFailed sinks
 RefusesQuery fault NoMemory sinks = IsUnwritten sinks
 RefusesQuery fault _ sinks = ⊥
 
@@ -122,7 +117,7 @@ accepted_text = codes "ok\n"
 
 abbrev pub AcceptsQuery : Status → Sinks → Type 0
 AcceptsQuery Done sinks = Writes sinks (text_for_out accepted_text) × NoWriteFailed sinks
-AcceptsQuery WriteFault sinks = WritesPrefix sinks (text_for_out accepted_text) × OneSinkFailed sinks
+AcceptsQuery WriteFault sinks = WritesPrefix sinks (text_for_out accepted_text) × OutFailed sinks
 AcceptsQuery _ sinks = ⊥
 
 -- a query that is explained: its flat items are written, each on its line
@@ -131,7 +126,7 @@ flat_lines query = items_text (flat_query query).items ++ codes "\n"
 
 abbrev pub WritesFlat : QueryTree → Status → Sinks → Type 0
 WritesFlat query Done sinks = Writes sinks (text_for_out (flat_lines query)) × NoWriteFailed sinks
-WritesFlat query WriteFault sinks = WritesPrefix sinks (text_for_out (flat_lines query)) × OneSinkFailed sinks
+WritesFlat query WriteFault sinks = WritesPrefix sinks (text_for_out (flat_lines query)) × OutFailed sinks
 WritesFlat query NoMemory sinks = IsUnwritten sinks
 WritesFlat query _ sinks = ⊥
 
@@ -194,8 +189,8 @@ pub data Does (words : List (List ℕ)) (status : Status) (call : Call) : Type 0
 
 -- ---- when an answer always comes
 
--- The words ask this job, or none: `clap` promises to take them, and their matches are those of the job or break a rule; or it
--- promises to refuse them; or, of all other words, these are the matches that it gives.
+-- The words ask for this job, or for none: by the matches that `clap` promises where it promises to take them, or by the faults that
+-- it finds in them.
 abbrev pub Asks : List (List ℕ) → Option Job → Type 0
 Asks words job = ((takes line words ≡ true) × (job_in (matches_of line words) ≡ job)) ⊎ (asked words ≡ job)
 

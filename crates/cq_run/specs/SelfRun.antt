@@ -1,5 +1,5 @@
 -- What is written of a query over an archive that is made: one line with the counts.
-use Rattle.std.specs.Prelude.{◌≡◌, ℕ, ◌+◌, ◌<◌, List, [], length}
+use Rattle.std.specs.Prelude.{◌≡◌, ℕ, ◌<◌, List, [], length}
 use Rattle.std.specs.List.{flat_map}
 use Rattle.cq_report.specs.Games.{made_line}
 use Rattle.cql_syntax.specs.Trees.{QueryTree}
@@ -9,11 +9,10 @@ use Rattle.cq_run.specs.declared.totals.Totals.{Totals}
 use Rattle.cq_run.specs.Answer.{export_if, tally_of}
 use Rattle.cq_run.specs.Exports.{AreExports}
 use Rattle.cq_run.specs.Outcomes.{Outcome, HasGames}
-use Rattle.cq_run.specs.Promise.{Sinks, Texts, Writes, WritesPrefix, IsUnwritten, NoWriteFailed, OneSinkFailed}
-use Rattle.cq_run.specs.Writing.{tallied}
+use Rattle.cq_run.specs.Promise.{Sinks, Texts, Writes, WritesPrefix, IsUnwritten, NoWriteFailed, OutFailed}
 
--- Of the games of an archive: how many there are, match and are refused, and how long their exports are together. They are as long in
--- any order, and so as those that `run` writes.
+-- Of the games of an archive: how many there are, match and are refused, and how long their exports are together. In any order they are
+-- as long, so this is the length of what `run` and `eval` write.
 pub record AreTotals (query : QueryTree) (archive : List ℕ) (totals : Totals) : Type 0 where
   pub outcomes : List Outcome
   pub holds : HasGames archive outcomes
@@ -33,7 +32,7 @@ texts_of_totals totals = record { out = line_of totals; err = [] }
 abbrev pub WritesTotals : Totals → Status → Sinks → Type 0
 WritesTotals totals Done sinks = (totals.tally.refused ≡ 0) × Writes sinks (texts_of_totals totals) × NoWriteFailed sinks
 WritesTotals totals DoneWithRefusals sinks = (0 < totals.tally.refused) × Writes sinks (texts_of_totals totals) × NoWriteFailed sinks
-WritesTotals totals WriteFault sinks = WritesPrefix sinks (texts_of_totals totals) × OneSinkFailed sinks
+WritesTotals totals WriteFault sinks = WritesPrefix sinks (texts_of_totals totals) × OutFailed sinks
 WritesTotals totals NoMemory sinks = IsUnwritten sinks
 WritesTotals totals _ sinks = ⊥
 
@@ -42,14 +41,3 @@ pub data WritesMade (archive : List ℕ) (query : QueryTree) (status : Status) (
   totals_written : (totals : Totals) → AreTotals query archive totals → WritesTotals totals status sinks
       → WritesMade archive query status sinks
   made_forgotten : status ≡ NoMemory → IsUnwritten sinks → WritesMade archive query status sinks
-
--- one game more is counted
-abbrev pub counted : QueryTree → Totals → Outcome → Totals
-counted query before outcome = record {
-  bytes = before.bytes;
-  tally = tallied query before.tally outcome;
-  written = before.written + length (export_if query outcome);
-}
-
-abbrev pub CountsGame : QueryTree → (Outcome → Type 0) → Totals → Totals → Type 0
-CountsGame query Reads before after = (outcome : Outcome) × Reads outcome × (after ≡ counted query before outcome)

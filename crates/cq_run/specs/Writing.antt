@@ -1,5 +1,5 @@
 -- What answering an archive, and each game of it, leaves, as the private functions give it.
-use Rattle.std.specs.Prelude.{◌≡◌, ℕ, ◌+◌, ◌<◌, Bool, List, [], ◌++◌, take, filter, All, AllPairs, Result, Ok, Err, if◌then◌else◌}
+use Rattle.std.specs.Prelude.{◌≡◌, ℕ, ◌+◌, ◌<◌, Bool, List, [], ◌++◌, length, take, filter, All, AllPairs, Result, Ok, Err, if◌then◌else◌}
 use Rattle.std.specs.List.Sorted.{IsPermutation}
 use Rattle.cq_outside.specs.Faults.{Rose}
 use Rattle.cq_outside.specs.Flow.{Grew}
@@ -9,13 +9,15 @@ use Rattle.cq_outside.specs.declared.faults.Refusal.TheVariants.{Fault, NoMemory
 use Rattle.cq_run.specs.declared.status.Status.{Status}
 use Rattle.cq_run.specs.declared.status.Status.TheVariants.{Done, DoneWithRefusals, WriteFault, NoMemory}
 use Rattle.cq_run.specs.declared.tally.Tally.{Tally}
+use Rattle.cq_run.specs.declared.totals.Totals.{Totals}
 use Rattle.cql_syntax.specs.Trees.{QueryTree}
 use Rattle.cq_shards.specs.Order.{AreApart, ComesBefore, HasKeys, directions, is_match as is_match_kept}
 use Rattle.cq_shards.specs.declared.answers.GameAnswer.{GameAnswer}
 use Rattle.cq_run.specs.Outcomes.{Outcome, HasGames}
 use Rattle.cq_run.specs.Answer.{export_if, fault_if, is_match, is_refused, summary_of, tally_of}
 use Rattle.cq_run.specs.Exports.{exports_of, match_if}
-use Rattle.cq_run.specs.Promise.{SinkView, Sinks, Texts, Writes, WritesPrefix, WritesWhole, WritesPart, IsUnwritten, OneSinkFailed, NoWriteFailed}
+use Rattle.cq_run.specs.Promise.{SinkView, Sinks, Texts, Writes, WritesPrefix, WritesWhole, WritesPart, IsUnwritten}
+use Rattle.cq_run.specs.Promise.{OneSinkFailed, NoWriteFailed}
 
 -- writing a text to a sink: all of it was taken, or its count rose and a prefix was
 abbrev pub WritesText : List ℕ → SinkView → SinkView → Result (Unit {0}) (Refusal Failed) → Type 0
@@ -71,7 +73,8 @@ onward sorted query stand outcome = record {
 }
 
 -- one game is answered: it is counted and written or kept, or a write fails, or out of memory nothing of it is written
-abbrev pub AnswersGame : (sorted : Bool) → QueryTree → (Outcome → Type 0) → Stand → Stand → Sinks → Result (Unit {0}) (Refusal Failed) → Type 0
+abbrev pub AnswersGame : (sorted : Bool) → QueryTree → (Outcome → Type 0) → Stand → Stand → Sinks
+    → Result (Unit {0}) (Refusal Failed) → Type 0
 AnswersGame sorted query Reads before after sinks (Ok _) =
     (outcome : Outcome) × Reads outcome × (after ≡ onward sorted query before outcome)
     × Writes sinks (texts_of_game sorted query before.tally.games outcome) × NoWriteFailed sinks
@@ -86,7 +89,8 @@ pub record InOrder (query : QueryTree) (answers ordered : List GameAnswer) : Typ
 
 abbrev pub WritesKept : QueryTree → List GameAnswer → SinkView → SinkView → Result (Unit {0}) (Refusal Failed) → Type 0
 WritesKept query answers before after (Ok _) =
-    (ordered : List GameAnswer) × InOrder query answers ordered × Grew before.taken after.taken (exports_of ordered) × (after.faults ≡ before.faults)
+    (ordered : List GameAnswer) × InOrder query answers ordered
+    × Grew before.taken after.taken (exports_of ordered) × (after.faults ≡ before.faults)
 WritesKept query answers before after (Err (Fault _)) =
     (ordered : List GameAnswer) × InOrder query answers ordered
     × ((count : ℕ) × Grew before.taken after.taken (take count (exports_of ordered))) × Rose before.faults after.faults
@@ -95,7 +99,8 @@ WritesKept query answers before after (Err IsNoMemory) = after ≡ before
 -- what each status says of the sinks
 abbrev pub WritesAnswer : QueryTree → List Outcome → Sinks → Status → Type 0
 WritesAnswer query outcomes sinks Done = ((tally_of query outcomes).refused ≡ 0) × WritesWhole query outcomes sinks × NoWriteFailed sinks
-WritesAnswer query outcomes sinks DoneWithRefusals = (0 < (tally_of query outcomes).refused) × WritesWhole query outcomes sinks × NoWriteFailed sinks
+WritesAnswer query outcomes sinks DoneWithRefusals =
+    (0 < (tally_of query outcomes).refused) × WritesWhole query outcomes sinks × NoWriteFailed sinks
 WritesAnswer query outcomes sinks WriteFault = OneSinkFailed sinks × WritesPart query outcomes sinks
 WritesAnswer query outcomes sinks NoMemory = WritesPart query outcomes sinks × NoWriteFailed sinks
 WritesAnswer query outcomes sinks _ = ⊥
@@ -105,3 +110,14 @@ pub record AnswersArchive (query : QueryTree) (archive : List ℕ) (sinks : Sink
   pub outcomes : List Outcome
   pub holds : HasGames archive outcomes
   pub writes : WritesAnswer query outcomes sinks status
+
+-- one game more of a made archive is counted
+abbrev pub counted : QueryTree → Totals → Outcome → Totals
+counted query before outcome = record {
+  bytes = before.bytes;
+  tally = tallied query before.tally outcome;
+  written = before.written + length (export_if query outcome);
+}
+
+abbrev pub CountsGame : QueryTree → (Outcome → Type 0) → Totals → Totals → Type 0
+CountsGame query Reads before after = (outcome : Outcome) × Reads outcome × (after ≡ counted query before outcome)

@@ -9,7 +9,8 @@ ghost use Rattle.cq_maker.specs.Made.{made};
 ghost use Rattle.cq_run.specs.Asked.{call_of};
 ghost use Rattle.cq_run.specs.Promise.{DeskView, SinkView, sink_view, sinks_of};
 ghost use Rattle.cq_run.specs.Run.{OverText, RunsMade};
-ghost use Rattle.cq_run.specs.SelfRun.{AreTotals, CountsGame, WritesMade, WritesTotals, counted};
+ghost use Rattle.cq_run.specs.SelfRun.{AreTotals, WritesMade, WritesTotals};
+ghost use Rattle.cq_run.specs.Writing.{CountsGame, counted};
 
 use crate::asked::{read_query, refuse};
 use crate::finding::find;

@@ -14,5 +14,4 @@ pub mod Ranges
 pub mod Reaching
 pub mod Reversed
 pub mod Tagged
-pub mod Turns
 pub mod Ways

@@ -16,10 +16,6 @@ mod lines;
 mod played;
 
 use crate::combine::{any_of, chain_of, if_of, pair_of, unary_here};
-use crate::contexts::{
-    field_image, inside, of_image, outcome_image, unary_image, way_image, word_image,
-};
-use crate::fits::fits;
 use crate::headers::{has_text, is_result, rating};
 use crate::names::Names;
 use crate::numbers::{counted, total};
@@ -30,6 +26,10 @@ use crate::words::{directions, standing, word_at};
 use cq_geometry::Square;
 use cq_outside::NoMemory;
 use cq_symmetry::{Family, Mapping, member, size as family_size};
+use cql_rewrite::contexts::{
+    field_image, inside, of_image, outcome_image, unary_image, way_image, word_image,
+};
+use cql_rewrite::fits::fits;
 use cql_syntax::{Filter, Filters, Form, Terms, Unary, kind_of};
 use lines::line_at;
 use pgn_tree::Game;

@@ -6,9 +6,7 @@
 
 pub mod at;
 mod combine;
-mod contexts;
 mod evaluate;
-mod fits;
 pub mod headers;
 mod led;
 pub mod names;

@@ -10,7 +10,6 @@ ghost use Rattle.cql_syntax.specs.Meaning as meaning;
 ghost use Rattle.cql_plain.specs.Shown.{meant};
 ghost use Rattle.cql_plain.specs.Trees.{searched_tree};
 
-use crate::contexts::designator_image;
 use crate::headers::year;
 use crate::numbers::counted;
 use crate::sets::{has_square, with_square};
@@ -21,6 +20,7 @@ use cq_moves::{is_mate, is_stalemate};
 use cq_outside::NoMemory;
 use cq_position::{Man, Position, Side, in_check};
 use cq_symmetry::Mapping;
+use cql_rewrite::contexts::designator_image;
 use cql_syntax::{Designator, Plain, Way};
 use pgn_tree::Game;
 use std::alloc::Global;

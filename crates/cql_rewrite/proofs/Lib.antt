@@ -2,4 +2,5 @@ pub mod Turns
 pub mod Rows
 pub mod Made
 pub mod Texts
+pub mod Pairs
 pub mod Meant

@@ -1,3 +1,4 @@
 pub mod FlatText
 pub mod Kept
 pub mod Meant
+pub mod Sums

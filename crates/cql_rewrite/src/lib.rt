@@ -9,8 +9,7 @@ pub mod flat;
 mod leaves;
 mod pieces;
 mod same;
-#[cfg(test)]
-mod tests;
+mod sums;
 pub mod text;
 mod words;
 

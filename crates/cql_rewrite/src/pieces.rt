@@ -29,8 +29,8 @@ pub(crate) fn push_each(text: &mut Bytes, byte: u8, more: &[Bytes]) -> Result<()
     Ok(())
 }
 
-// Adds a text after a byte.
-fn push_after(text: &mut Bytes, byte: u8, part: &Bytes) -> Result<(), NoMemory>
+/// Adds a text after a byte.
+pub(crate) fn push_after(text: &mut Bytes, byte: u8, part: &Bytes) -> Result<(), NoMemory>
     ensures { OnOk result (text.new ≡ text.old ++ (byte ∷ part.now)) }
 {
     text.push_all(&[byte])?;

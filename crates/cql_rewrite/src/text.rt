@@ -6,9 +6,10 @@ ghost use Rattle.cql_rewrite.specs.FlatText as spec;
 use crate::pieces::{
     designator, in_move, in_parens, line_start, marked, number, push_each, quoted,
 };
+use crate::sums::{push_term, sum_start};
 use crate::words::{
     any_word, chain_word, elo_word, family_word, field_word, outcome_word, pair_word, plain_word,
-    sign_word, sort_word, square_word, unary_word, way_word,
+    sort_word, square_word, unary_word, way_word,
 };
 use cq_outside::{Bytes, NoMemory};
 use cql_syntax::{Body, Constituents, Filter, Filters, FlatQuery, Form, Line, Played, Terms};
@@ -123,40 +124,20 @@ fn texts_of(alloc: Global, filters: &Filters) -> Result<Vec<Bytes>, NoMemory>
     Ok(texts)
 }
 
-// Pairs from the left.
+// Pairs from the left, in one pass.
 #[cycle(text)]
-#[tactic(auto, unfolding(crate::specs::FlatText::text))]
+#[tactic(auto, unfolding(crate::specs::FlatText::text), using(crate::proofs::Pairs::sum_is))]
 fn sum_of(alloc: Global, terms: &Terms) -> Result<Bytes, NoMemory>
     ensures { IfOk result (λ t. t ≡ unwrap_or (spec.sum_after None (terms_tree terms.now)) (spec.in_parens (codes "+") [])) }
 {
-    let mut before = None;
+    let mut text = sum_start(alloc, terms.as_slice())?;
+    let mut first = true;
     for term in terms.as_slice() {
-        let text = text_of(alloc, &term.filter)?;
-        before = Some(with_term(alloc, before, term.minus, text)?);
+        let part = text_of(alloc, &term.filter)?;
+        push_term(&mut text, first && !term.minus, &part)?;
+        first = false;
     }
-    match before {
-        Some(text) => Ok(text),
-        None => in_parens(alloc, b"+", &[]),
-    }
-}
-
-// A term after those before it.
-fn with_term(
-    alloc: Global,
-    before: Option<Bytes>,
-    minus: bool,
-    text: Bytes,
-) -> Result<Bytes, NoMemory>
-    ensures { IfOk result (λ t. t ≡ spec.with_term_text before minus text) }
-{
-    match before {
-        Some(before) => in_parens(alloc, sign_word(minus), &[before, text]),
-        None if minus => {
-            let zero = Bytes::from_slice(alloc, b"0")?;
-            in_parens(alloc, b"-", &[zero, text])
-        }
-        None => Ok(text),
-    }
+    Ok(text)
 }
 
 #[cycle(text)]

@@ -169,12 +169,6 @@ pub(crate) fn sort_word(least: bool) -> &'static [u8]
     if least { b"sort min" } else { b"sort" }
 }
 
-pub(crate) fn sign_word(minus: bool) -> &'static [u8]
-    ensures { result.now ≡ spec.sign_word minus }
-{
-    if minus { b"-" } else { b"+" }
-}
-
 pub(crate) fn line_word(primary: bool) -> &'static [u8]
     ensures { result.now ≡ spec.line_word primary }
 {

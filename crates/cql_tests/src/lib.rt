@@ -12,6 +12,8 @@ mod plain;
 #[cfg(test)]
 mod played;
 #[cfg(test)]
+mod rewrite;
+#[cfg(test)]
 mod shards;
 #[cfg(test)]
 mod shared;
