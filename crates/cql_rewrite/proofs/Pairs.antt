@@ -12,12 +12,14 @@ use Rattle.cql_rewrite.proofs.Rows.{at_place}
 two_parts : (before t : List ℕ) → (before ++ (32 ∷ (t ++ []))) ++ (41 ∷ []) ≡ before ++ term_text false t
 two_parts before t = append_assoc before (32 ∷ (t ++ [])) (41 ∷ []) ∙ ap (λ u. before ++ (32 ∷ (u ++ (41 ∷ [])))) (append-nil t)
 
-pair_is : (minus : Bool) (before t : List ℕ) → in_parens (sign_word minus) (before ∷ t ∷ []) ≡ opening minus ++ (before ++ term_text false t)
+pair_is : (minus : Bool) (before t : List ℕ)
+    → in_parens (sign_word minus) (before ∷ t ∷ []) ≡ opening minus ++ (before ++ term_text false t)
 pair_is true before t = ap (λ l. opening true ++ l) (two_parts before t)
 pair_is false before t = ap (λ l. opening false ++ l) (two_parts before t)
 
 regrouped : (o p b c r : List ℕ) → o ++ ((p ++ (b ++ c)) ++ r) ≡ (o ++ p) ++ (b ++ (c ++ r))
-regrouped o p b c r = ap (λ u. o ++ u) (append_assoc p (b ++ c) r ∙ ap (λ u. p ++ u) (append_assoc b c r)) ∙ sym (append_assoc o p (b ++ (c ++ r)))
+regrouped o p b c r =
+    ap (λ u. o ++ u) (append_assoc p (b ++ c) r ∙ ap (λ u. p ++ u) (append_assoc b c r)) ∙ sym (append_assoc o p (b ++ (c ++ r)))
 
 after_is : (ts : TermTrees) (before : List ℕ) → sum_after (Some before) ts ≡ Some (openings ts ++ (before ++ sum_rest false ts))
 unfolding text
@@ -36,7 +38,7 @@ sum_is (more_terms false f ts) =
 sum_is (more_terms true f ts) =
     append_assoc (openings ts) (codes "(- 0") (term_text false (text f) ++ sum_rest false ts)
     ∙ sym (ap (λ x. unwrap_or x (in_parens (codes "+") [])) (after_is ts (in_parens (codes "-") (codes "0" ∷ text f ∷ [])))
-        ∙ ap (λ p. openings ts ++ (p ++ sum_rest false ts)) (pair_is true (codes "0") (text f)))
+    ∙ ap (λ p. openings ts ++ (p ++ sum_rest false ts)) (pair_is true (codes "0") (text f)))
 
 -- what opens one more pair, from the last term on
 pub opened : (xs : List Term) (k : ℕ) (x : Term) → k < length xs → x ≡ get_or xs k x

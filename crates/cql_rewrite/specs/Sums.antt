@@ -1,4 +1,4 @@
--- The text of a sum in one pass: first the parentheses of its pairs, the last pair's first, and then the terms, each of which ends its pair.
+-- The text of a sum in one pass: first the parentheses of its pairs, the last pair's first, and then the terms, each at its pair's end.
 use Rattle.std.specs.Prelude.{ℕ, Bool, true, false, ◌&&◌, not, List, [], ◌++◌, codes}
 use Rattle.cql_syntax.specs.Trees.{TermTrees, no_terms, more_terms}
 use Rattle.cql_rewrite.specs.FlatText.{text}

@@ -12,4 +12,6 @@ abbrev pub invariant-part_texts-loop-part : goal.invariant-part_texts-loop-part
 invariant-part_texts-loop-part l = l.texts.items ≡ spec.part_texts (part_trees (take l.part-index l.part-items))
 
 abbrev pub invariant-sum_of-loop-term : goal.invariant-sum_of-loop-term
-invariant-sum_of-loop-term l = l.text ++ sum_rest l.first (term_trees (drop l.term-index l.term-items)) ≡ unwrap_or (spec.sum_after None (terms_tree l.terms)) (spec.in_parens (codes "+") [])
+invariant-sum_of-loop-term l =
+    l.text ++ sum_rest l.first (term_trees (drop l.term-index l.term-items))
+    ≡ unwrap_or (spec.sum_after None (terms_tree l.terms)) (spec.in_parens (codes "+") [])
