@@ -95,6 +95,10 @@ pub record Answered (q : QueryTree) (limit : ℕ) (source after : SourceView) (s
   pub counts : after.faults ≡ source.faults
   pub answers : AnswersArchive q archive sinks status
 
+-- what is answered of a query is answered of the same one
+pub same_query : (q r : QueryTree) (archive : List ℕ) (sinks : Sinks) (status : Status) → q ≡ r → AnswersArchive q archive sinks status → AnswersArchive r archive sinks status
+same_query q r archive sinks status e answers = subst (λ t. AnswersArchive t archive sinks status) e answers
+
 finds : (q : QueryTree) (limit : ℕ) (source after : SourceView) (sinks : Sinks) (status : Status) (Takes : List Outcome → Type 0) → (answered : Answered q limit source after sinks status)
     → Takes answered.answers.outcomes → Finds (asked q limit source after sinks) Takes
 finds q limit source after sinks status Takes answered takes = record {
