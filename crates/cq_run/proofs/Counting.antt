@@ -1,5 +1,5 @@
 -- Counting what a query finds, game by game.
-use Rattle.std.proofs.Common.{◌≡◌, ℕ, ◌+◌, ◌*◌, ◌^◌, Bool, true, false, List, [], ◌∷◌, ◌++◌, length, length-append, take, get_or, ◌<◌, ◌≤◌, arith, refl, ap, sym, ◌∙◌, append-nil, cond, subst, Ok, Err}
+use Rattle.std.proofs.Common.{◌≡◌, ℕ, ◌+◌, ◌*◌, ◌^◌, true, false, List, [], ◌∷◌, ◌++◌, length, length-append, take, get_or, ◌<◌, ◌≤◌, arith, refl, ap, sym, ◌∙◌, append-nil, cond, subst, Ok, Err}
 use Rattle.std.specs.Prelude.{Result, IfOk}
 use Rattle.std.specs.List.{flat_map}
 use Rattle.std.proofs.lemmas.Grind.{flat_map-append}

@@ -1,4 +1,4 @@
-use Rattle.std.proofs.Common.{◌<◌, ◌≤◌, Err, length, sym, ap, ◌∙◌, refl, rules}
+use Rattle.std.proofs.Common.{◌<◌, ◌≤◌, Err, length, ap, ◌∙◌, refl, rules}
 use Rattle.cql_syntax.specs.TreeOf.{query_tree}
 use Rattle.cq_run.proofs.Answered.{unread, unremembered, none_taken, too_long, same_query, answered_whole}
 use Rattle.cq_run.proofs.answering.answer.Goals as goal
