@@ -1,5 +1,5 @@
 -- The promise of `answer`, from what its parts answer.
-use Rattle.std.proofs.Common.{◌≡◌, ℕ, ◌+◌, ◌≤◌, ◌<◌, true, false, List, [], ◌∷◌, ◌++◌, length, length-append, append-nil, Option, Some, None, refl, ap, sym, ◌∙◌, arith, subst, inl, inr}
+use Rattle.std.proofs.Common.{◌≡◌, ℕ, ◌+◌, ◌≤◌, ◌<◌, List, [], ◌∷◌, ◌++◌, length, length-append, append-nil, Option, Some, None, refl, ap, sym, ◌∙◌, arith, subst, inl, inr}
 use Rattle.std.specs.Io.KnownBytes.{Consumes, IsAtEnd}
 use Rattle.cq_outside.specs.Faults.{Rose}
 use Rattle.cq_outside.specs.Flow.{TakesAtMost}
@@ -94,6 +94,10 @@ pub record Answered (q : QueryTree) (limit : ℕ) (source after : SourceView) (s
   pub at_end : IsAtEnd after.left
   pub counts : after.faults ≡ source.faults
   pub answers : AnswersArchive q archive sinks status
+
+-- what is answered of a query is answered of the same one
+pub same_query : (q r : QueryTree) (archive : List ℕ) (sinks : Sinks) (status : Status) → q ≡ r → AnswersArchive q archive sinks status → AnswersArchive r archive sinks status
+same_query q r archive sinks status e answers = subst (λ t. AnswersArchive t archive sinks status) e answers
 
 finds : (q : QueryTree) (limit : ℕ) (source after : SourceView) (sinks : Sinks) (status : Status) (Takes : List Outcome → Type 0) → (answered : Answered q limit source after sinks status)
     → Takes answered.answers.outcomes → Finds (asked q limit source after sinks) Takes

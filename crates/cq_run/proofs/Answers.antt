@@ -5,7 +5,6 @@ use Rattle.std.specs.List.{flat_map}
 use Rattle.std.proofs.lemmas.Grind.{flat_map-append}
 use Rattle.std.proofs.lemmas.List.Sums.{fold-append}
 use Rattle.std.proofs.lemmas.List.{take_more, take_all, drop_more, take-append-drop}
-use Rattle.cq_outside.specs.Faults.{Rose}
 use Rattle.cq_outside.specs.Flow.{Grew}
 use Rattle.cq_outside.specs.declared.faults.Failed.{Failed}
 use Rattle.cq_outside.specs.declared.faults.Refusal.{Refusal}
@@ -29,7 +28,7 @@ use Rattle.cql_syntax.specs.Hits.{marked, keys}
 use Rattle.cql_syntax.specs.Trees.{QueryTree}
 use Rattle.cq_run.specs.Answer.{has_match, tally_of, report_of, export_if, fault_if, fault_lines, is_match, is_refused, summary_of}
 use Rattle.cq_run.specs.Exports.{AreExports, exports_of, match_if, matches_from, values_in}
-use Rattle.cq_run.specs.Promise.{SinkView, Sinks, Writes, WritesPrefix, WritesWhole, WritesPart, TakesPart, IsUnwritten, NoWriteFailed, OneSinkFailed, sinks_of}
+use Rattle.cq_run.specs.Promise.{SinkView, Sinks, WritesPrefix, WritesWhole, WritesPart, TakesPart, IsUnwritten, NoWriteFailed, OneSinkFailed, sinks_of}
 use Rattle.cq_run.specs.Writing.{WritesText, WritesKept, InOrder, AnswersGame, AnswersArchive, WritesSummary, Stand, stand_of, onward, tallied, written, kept_if, texts_of_game}
 use Rattle.cq_run.proofs.Exports.{matches_more, written_none, first_none, only_values, unsorted_exports, sorted_exports, none_ordered}
 use Rattle.cq_run.proofs.Sinks.{unwritten, wrote_none, grew_on, Took, took_count, took_on, took_front, prefix_of, fails_after, none_after}

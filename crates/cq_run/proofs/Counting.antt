@@ -1,5 +1,5 @@
 -- Counting what a query finds, game by game.
-use Rattle.std.proofs.Common.{◌≡◌, ℕ, ◌+◌, ◌*◌, ◌^◌, Bool, true, false, List, [], ◌∷◌, ◌++◌, length, length-append, take, get_or, ◌<◌, ◌≤◌, arith, refl, ap, sym, ◌∙◌, append-nil, cond, subst, Ok, Err}
+use Rattle.std.proofs.Common.{◌≡◌, ℕ, ◌+◌, ◌*◌, ◌^◌, true, false, List, [], ◌∷◌, ◌++◌, length, length-append, take, get_or, ◌<◌, ◌≤◌, arith, refl, ap, sym, ◌∙◌, append-nil, cond, subst, Ok, Err}
 use Rattle.std.specs.Prelude.{Result, IfOk}
 use Rattle.std.specs.List.{flat_map}
 use Rattle.std.proofs.lemmas.Grind.{flat_map-append}
@@ -44,17 +44,17 @@ missed query game before none =
     (same_tally _ _ _ _ _ _ refl (matched ∙ ap (λ b. before.tally.matched + cond b 1 0) (sym none)) (omega arith))
     (written ∙ ap (λ b. before.written + length (cond b (export_text (marked query game)) [])) (sym none))
 
-pub found : (query : QueryTree) (game : Game) (before : Totals) (text : List ℕ) → has_match query game ≡ true → text ≡ export_text (marked query game)
-    → totals_with before.bytes (tally_with (before.tally.games + 1) (before.tally.matched + 1) before.tally.refused) (before.written + length text) ≡ counted query before (Ok game)
-found query game before text some is =
+pub found : (query : QueryTree) (game : Game) (before : Totals) (text : List ℕ) (n : ℕ) → has_match query game ≡ true → text ≡ export_text (marked query game)
+    → n ≡ length text → totals_with before.bytes (tally_with (before.tally.games + 1) (before.tally.matched + 1) before.tally.refused) (before.written + n) ≡ counted query before (Ok game)
+found query game before text n some is long =
     same_totals before.bytes _ _ _ _ (matched_tally query game before.tally some)
-    (ap (λ t. before.written + length t) is ∙ ap (λ b. before.written + length (cond b (export_text (marked query game)) [])) (sym some))
+    (ap (λ k. before.written + k) long ∙ ap (λ t. before.written + length t) is ∙ ap (λ b. before.written + length (cond b (export_text (marked query game)) [])) (sym some))
 
-pub faulty : (query : QueryTree) (fault : GameFault) (before : Totals)
-    → totals_with before.bytes (tally_with (before.tally.games + 1) before.tally.matched (before.tally.refused + 1)) before.written ≡ counted query before (Err fault)
-faulty query fault before =
+pub faulty : (query : QueryTree) (Reads : Outcome → Type 0) (fault : GameFault) (before : Totals) → Reads (Err fault)
+    → CountsGame query Reads before (totals_with before.bytes (tally_with (before.tally.games + 1) before.tally.matched (before.tally.refused + 1)) before.written)
+faulty query Reads fault before reads =
     let written : before.written ≡ before.written + 0 = omega arith in
-    same_totals before.bytes _ _ _ _ (same_tally _ _ _ _ _ _ refl (omega arith) refl) written
+    (Err fault, reads, same_totals before.bytes _ _ _ _ (same_tally _ _ _ _ _ _ refl (omega arith) refl) written)
 
 pub read_counted : (query : QueryTree) (Reads : Outcome → Type 0) (r : Outcome) (before : Totals) (result : Result Totals NoMemory) → Reads r
     → IfOk result (λ after. after ≡ counted query before r) → IfOk result (CountsGame query Reads before)

@@ -1,5 +1,5 @@
 -- What is done for words, and the promise of `run` from it.
-use Rattle.std.proofs.Common.{◌≡◌, ◌⊎◌, ℕ, ◌+◌, ◌≤◌, ◌<◌, true, false, List, [], ◌∷◌, ◌++◌, length, take, append-nil, Option, Some, None, Ok, Err, refl, ap, sym, ◌∙◌, arith, subst, inl, inr}
+use Rattle.std.proofs.Common.{◌≡◌, ◌⊎◌, ℕ, ◌+◌, ◌≤◌, ◌<◌, true, List, [], ◌∷◌, ◌++◌, length, take, append-nil, Option, Some, None, Ok, Err, refl, ap, sym, ◌∙◌, arith, subst, inl, inr}
 use Rattle.std.specs.Prelude.{Result}
 use Rattle.std.proofs.Math.Seq.{take-append_seam}
 use Rattle.std.proofs.lemmas.Bool.{cases_lt}
@@ -9,7 +9,7 @@ use Rattle.cq_outside.specs.Faults.{Rose}
 use Rattle.std.specs.Option.{option_map}
 use Rattle.cq_outside.specs.Told.{Told, Opens, bytes_of}
 use Rattle.cq_outside.specs.declared.faults.Refusal.{Refusal}
-use Rattle.cq_outside.specs.declared.faults.Refusal.TheVariants.{Fault, NoMemory as IsNoMemory}
+use Rattle.cq_outside.specs.declared.faults.Refusal.TheVariants.{Fault}
 use Rattle.clap.specs.Takes.{takes}
 use Rattle.cq_maker.specs.Made.{made}
 use Rattle.clap.specs.Simple.{matches_of}
@@ -21,7 +21,6 @@ use Rattle.cq_words.specs.declared.job.WordsRefused.{WordsRefused as RefusedWord
 use Rattle.cql_syntax.specs.Trees.{QueryTree}
 use Rattle.cql_syntax.specs.declared.fault.QueryFault.{QueryFault}
 use Rattle.cql_syntax.specs.declared.token.QueryToken.{QueryToken}
-use Rattle.cql_syntax.specs.declared.typed.TypedQuery.{TypedQuery}
 use Rattle.cql_lexer.specs.Tokens.{tokens_of}
 use Rattle.cql_parser.specs.Drafts.{Spells}
 use Rattle.cql_parser.specs.Faults.{IsFault}
@@ -31,7 +30,7 @@ use Rattle.cq_run.specs.declared.status.Status.{Status}
 use Rattle.cq_run.specs.declared.status.Status.TheVariants.{Done, DoneWithRefusals, QueryRefused, WordsRefused, OpenFault, ReadFault, WriteFault, NoMemory, ArchiveTooLong}
 use Rattle.cq_run.specs.Queries.{IsQuery, IsQueryFault}
 use Rattle.cq_run.specs.Promise.{SourceView, DeskView, Sinks, SaysOfAnswer, IsOneOf, IsUnwritten, NoWriteFailed}
-use Rattle.cq_run.specs.Run.{Call, from_desk, IsUnmoved, with_open, Opened, FailsToOpen, query_limit, TakesQuery, FailsToRead, ForgetsQuery, no_memory_to_open, no_memory_to_read, WritesUsage, RefusesQuery, AcceptsQuery, WritesFlat, AnswersFile, archive_answered, archive_unopened, archive_forgotten, OverText, text_accepted, text_refused, text_forgotten, OverFile, file_accepted, file_refused, file_unopened, file_unread, file_forgotten, SaysAccepted, Explains, RunsMade, DoesJob, Does, job_done, words_refused, words_forgotten, Asks, AnswersItsFault, IsInFile, HasText, NothingRose, IsShort, IsWithin, good_answers, Promise}
+use Rattle.cq_run.specs.Run.{Call, from_desk, IsUnmoved, with_open, Opened, FailsToOpen, query_limit, TakesQuery, ForgetsQuery, no_memory_to_open, no_memory_to_read, WritesUsage, RefusesQuery, AcceptsQuery, WritesFlat, AnswersFile, archive_answered, archive_unopened, archive_forgotten, OverText, text_accepted, text_refused, text_forgotten, OverFile, file_accepted, file_refused, file_unopened, file_unread, file_forgotten, SaysAccepted, Explains, RunsMade, DoesJob, job_done, words_refused, words_forgotten, Asks, AnswersItsFault, IsInFile, HasText, NothingRose, IsShort, IsWithin, good_answers, Promise}
 use Rattle.cq_run.specs.SelfRun.{WritesTotals, WritesMade, totals_written, made_forgotten}
 use Rattle.cq_run.specs.declared.totals.Totals.{Totals}
 use Rattle.cq_run.specs.Asked.{ReadsFile, TellsWhy, call_of}

@@ -1,6 +1,5 @@
 -- The exports of the games that match, and their order.
-use Rattle.std.proofs.Common.{◌≡◌, ℕ, ◌+◌, ◌<◌, ◌≤◌, ℤ, Bool, true, false, List, [], ◌∷◌, ◌++◌, map, Some, length, length-append, filter, All, AllPairs, inl, inr, arith, refl, ap, ap₂, not, ◌==◌, ◌||◌, get_or, sym, ◌∙◌, append_assoc, append-nil, cond, subst, Ok, Err}
-use Rattle.std.specs.Prelude.{if◌then◌else◌}
+use Rattle.std.proofs.Common.{◌≡◌, ℕ, ◌+◌, ◌<◌, ◌≤◌, ℤ, Bool, true, false, List, [], ◌∷◌, ◌++◌, map, Some, length, filter, All, AllPairs, inr, arith, refl, ap, ap₂, not, ◌==◌, ◌||◌, get_or, sym, ◌∙◌, append_assoc, append-nil, cond, subst, Ok, Err}
 use Rattle.std.specs.List.{flat_map}
 use Rattle.std.specs.List.Sorted.{IsPermutation}
 use Rattle.std.proofs.lemmas.Grind.{flat_map-append}
@@ -10,14 +9,14 @@ use Rattle.std.proofs.lemmas.List.Sorted.{IsPermutation-refl, length_permutation
 use Rattle.std.proofs.lemmas.List.Kept.{AllPairs-cons}
 use Rattle.pgn_export.specs.Export.{export_text}
 use Rattle.cq_position.specs.Games.{Game}
-use Rattle.cq_run.specs.Sorts.{have_sort, is_sort, is_sort_form}
+use Rattle.cq_run.specs.Sorts.{have_sort, is_sort_form}
 use Rattle.cq_run.proofs.Keyed.{all_kept}
 use Rattle.cq_shards.proofs.Counts.{key_count}
-use Rattle.cq_shards.specs.Order.{AreApart, ComesBefore, HasKeys, IsEarlier, directions, form_directions, is_match as is_match_kept, keys_in}
+use Rattle.cq_shards.specs.Order.{AreApart, ComesBefore, IsEarlier, directions, form_directions, is_match as is_match_kept, keys_in}
 use Rattle.cq_shards.specs.declared.answers.Answer.TheVariants.{Match}
 use Rattle.cq_shards.specs.declared.answers.GameAnswer.{GameAnswer}
 use Rattle.cql_syntax.specs.Hits.{marked, keys, hits}
-use Rattle.cql_syntax.specs.Trees.{FilterTree, filter_at, FormTree, sort, FilterTrees, no_filters, more_filters, QueryTree}
+use Rattle.cql_syntax.specs.Trees.{filter_at, FormTree, sort, FilterTrees, no_filters, more_filters, QueryTree}
 use Rattle.cq_run.specs.Answer.{has_match, export_if}
 use Rattle.cq_run.specs.Exports.{AreExports, exports_of, match_if, matches_from, text_of, values_in}
 use Rattle.cq_run.specs.Outcomes.{Outcome}

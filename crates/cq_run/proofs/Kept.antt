@@ -1,5 +1,5 @@
 -- Writing the games that were kept.
-use Rattle.std.proofs.Common.{◌≡◌, ℕ, ◌+◌, ◌<◌, List, [], ◌∷◌, ◌++◌, length, take, drop, get_or, filter, All, AllPairs, append-nil, Option, refl, ap, sym, ◌∙◌, subst}
+use Rattle.std.proofs.Common.{◌≡◌, ℕ, ◌+◌, ◌<◌, List, [], ◌∷◌, ◌++◌, length, take, drop, get_or, filter, All, AllPairs, append-nil, Option, ap, sym, ◌∙◌, subst}
 use Rattle.std.specs.List.Sorted.{IsPermutation}
 use Rattle.std.proofs.lemmas.Grind.{flat_map-append}
 use Rattle.std.proofs.lemmas.List.{take_more, drop_more, take-append-drop}
@@ -9,7 +9,6 @@ use Rattle.cq_shards.specs.declared.answers.GameAnswer.{GameAnswer}
 use Rattle.cql_syntax.specs.TreeOf.{query_tree}
 use Rattle.cql_syntax.specs.declared.typed.TypedQuery.{TypedQuery}
 use Rattle.cq_run.specs.Exports.{exports_of, text_of}
-use Rattle.cq_run.specs.Promise.{SinkView}
 use Rattle.cq_run.specs.Writing.{InOrder}
 use Rattle.cq_run.proofs.Sinks.{grew_on, Took, took_count, took_on, prefix_of}
 

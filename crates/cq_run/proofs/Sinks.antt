@@ -4,7 +4,7 @@ use Rattle.std.proofs.Math.Seq.{take-append_seam}
 use Rattle.std.proofs.lemmas.List.{take-append-drop}
 use Rattle.cq_outside.specs.Faults.{Rose}
 use Rattle.cq_outside.specs.Flow.{Grew}
-use Rattle.cq_run.specs.Promise.{SinkView, Sinks, Texts, WritesPrefix, IsUnwritten, NoWriteFailed, OneSinkFailed, SinkFailed, sinks_of}
+use Rattle.cq_run.specs.Promise.{SinkView, Sinks, IsUnwritten, NoWriteFailed, OneSinkFailed, SinkFailed, sinks_of}
 
 -- a sink that was not written to has taken nothing more
 pub unwritten : (taken : Option (List ℕ)) → Grew taken taken []

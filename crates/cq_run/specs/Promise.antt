@@ -1,5 +1,5 @@
 -- What `answer` promises: what it answers, what out and err have taken then, and when each answer comes.
-use Rattle.std.specs.Prelude.{◌≡◌, ◌⊎◌, ℕ, ◌+◌, ◌≤◌, ◌<◌, List, [], ◌∷◌, ◌++◌, length, take, Option, None, Some}
+use Rattle.std.specs.Prelude.{◌≡◌, ◌⊎◌, ℕ, ◌+◌, ◌≤◌, ◌<◌, List, [], ◌∷◌, length, take, Option, None, Some}
 use Rattle.std.specs.Io.KnownBytes.{Consumes, IsAtEnd}
 use Rattle.cq_outside.specs.Faults.{Rose}
 use Rattle.cq_outside.specs.Flow.{Grew, TakesAtMost}

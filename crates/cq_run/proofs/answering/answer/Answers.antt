@@ -1,7 +1,6 @@
-use Rattle.std.proofs.Common.{◌<◌, ◌≤◌, Err, length, sym, ap, ◌∙◌, refl, rules, subst}
+use Rattle.std.proofs.Common.{◌<◌, ◌≤◌, Err, length, ap, ◌∙◌, refl, rules}
 use Rattle.cql_syntax.specs.TreeOf.{query_tree}
-use Rattle.cq_run.specs.Writing.{AnswersArchive}
-use Rattle.cq_run.proofs.Answered.{unread, unremembered, none_taken, too_long, answered_whole}
+use Rattle.cq_run.proofs.Answered.{unread, unremembered, none_taken, too_long, same_query, answered_whole}
 use Rattle.cq_run.proofs.answering.answer.Goals as goal
 
 pub returns-in_default-clause-answers : goal.returns-in_default-clause-answers
@@ -42,5 +41,5 @@ returns-clause-answers g c =
       within = within;
       at_end = c.in-Ok-read_up_to.ensures.whole within;
       counts = c.in-Ok-read_up_to.ensures.cause;
-      answers = subst (λ q. AnswersArchive q c.in-Ok-read_up_to.archive _ c.answer_archive.result) c.in-Ok.ensures answers;
+      answers = same_query _ _ _ _ _ c.in-Ok.ensures answers;
     })

@@ -1,9 +1,9 @@
-use Rattle.std.proofs.Common.{Err, ap, ◌∙◌, refl, subst}
+use Rattle.std.proofs.Common.{Err, ap, ◌∙◌, subst}
 use Rattle.cql_syntax.specs.TreeOf.{query_tree}
 use Rattle.cq_run.specs.Promise.{desk_view}
 use Rattle.cq_run.specs.Queries.{IsQuery, IsQueryFault}
-use Rattle.cq_run.specs.Run.{no_memory_to_open, no_memory_to_read}
-use Rattle.cq_run.proofs.Doing.{opened_of, unopened_of, unmoved_of}
+use Rattle.cq_run.specs.Run.{no_memory_to_read}
+use Rattle.cq_run.proofs.Doing.{opened_of}
 use Rattle.cq_run.proofs.asked.query_in_file.Goals as goal
 
 pub returns-in-Err-Fault : goal.returns-in-Err-Fault

@@ -1,4 +1,4 @@
-use Rattle.std.proofs.Common.{◌<◌, ◌≤◌, ◌≡◌, length, Err, ap, sym, subst, ◌∙◌, rules}
+use Rattle.std.proofs.Common.{◌<◌, ◌≤◌, length, Err, ap, sym, subst, ◌∙◌, rules}
 use Rattle.cq_run.specs.Promise.{sink_view, sinks_of}
 use Rattle.cq_run.specs.Writing.{stand_of}
 use Rattle.cql_syntax.specs.TreeOf.{query_tree}

@@ -1,4 +1,4 @@
-use Rattle.std.proofs.Common.{◌+◌, ◌-◌, map, Some, ◌≡◌, true, false, Ok, ◌<◌, ◌==◌, not, length, All, AllPairs, ap, sym, ◌∙◌, refl, subst, arith}
+use Rattle.std.proofs.Common.{◌+◌, ◌-◌, map, Some, ◌≡◌, Ok, ◌<◌, ◌==◌, not, length, All, AllPairs, ap, sym, ◌∙◌, refl, subst, arith}
 use Rattle.pgn_export.specs.Export.{export_text}
 use Rattle.cql_syntax.specs.TreeOf.{query_tree}
 use Rattle.cq_run.specs.Promise.{sink_view, sinks_of}

@@ -1,4 +1,4 @@
-use Rattle.std.proofs.Common.{◌<◌, ◌≤◌, length, sym, rules}
+use Rattle.std.proofs.Common.{◌<◌, ◌≤◌, length, rules}
 use Rattle.cql_syntax.specs.TreeOf.{query_tree}
 use Rattle.cq_run.proofs.Counting.{none_counted, counted_more, all_counted}
 use Rattle.cq_run.proofs.selfrun.count_archive.Goals as goal

@@ -20,6 +20,6 @@ pub returns-clause-counts : goal.returns-clause-counts
 returns-clause-counts c =
     let query = query_tree c.args.plan.now.query.query in
     let are = c.nodes-hits.ensures ∙ c.in_ok-found.ensures.nodes in
-    found query c.args.game.now c.args.before c.in_ok-text.text
+    found query c.args.game.now c.args.before c.in_ok-text.text c.len.result
     (ap (λ ns. not (length ns == 0)) (sym are) ∙ ap not (sym c.is_empty.ensures ∙ c.if-is_empty.false))
-    (c.in_ok-text.ensures ∙ ap export_text (marked_by_hits query c.args.game.now c.nodes-hits.result.now are))
+    (c.in_ok-text.ensures ∙ ap export_text (marked_by_hits query c.args.game.now c.nodes-hits.result.now are)) c.len.ensures

@@ -1,8 +1,6 @@
-use Rattle.std.proofs.Common.{refl, sym, ◌∙◌}
-use Rattle.cql_syntax.specs.TreeOf.{query_tree}
 use Rattle.cq_run.specs.Promise.{desk_view}
-use Rattle.cq_run.specs.Run.{archive_answered, archive_unopened, archive_forgotten}
-use Rattle.cq_run.proofs.Doing.{opened_of, unopened_of, unmoved_of}
+use Rattle.cq_run.specs.Run.{archive_answered}
+use Rattle.cq_run.proofs.Doing.{opened_of}
 use Rattle.cq_run.proofs.top_call.answer_file.Goals as goal
 
 pub returns-in-Ok : goal.returns-in-Ok

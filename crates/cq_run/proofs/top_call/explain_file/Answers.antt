@@ -1,4 +1,4 @@
-use Rattle.std.proofs.Common.{Err, refl, sym, ap, ◌∙◌}
+use Rattle.std.proofs.Common.{refl}
 use Rattle.cql_syntax.specs.TreeOf.{query_tree}
 use Rattle.cq_run.specs.Promise.{desk_view, sink_view}
 use Rattle.cq_run.specs.Run.{Explains}
