@@ -27,7 +27,8 @@ use Rattle.cq_run.specs.Outcomes.{Outcome, AreRead, HasGames}
 use Rattle.cql_syntax.specs.Hits.{marked, keys}
 use Rattle.cql_syntax.specs.Trees.{QueryTree}
 use Rattle.cq_run.specs.Answer.{has_match, tally_of, report_of, export_if, fault_if, fault_lines, is_match, is_refused, summary_of}
-use Rattle.cq_run.specs.Exports.{AreExports, exports_of, match_if, matches_from, values_in}
+use Rattle.cq_run.specs.Exports.{AreExports, exports_of, match_if, matches_from}
+use Rattle.cq_shards.specs.Order.{values_in}
 use Rattle.cq_run.specs.Promise.{SinkView, Sinks, WritesPrefix, WritesWhole, WritesPart, TakesPart, IsUnwritten, NoWriteFailed, OneSinkFailed, sinks_of}
 use Rattle.cq_run.specs.Writing.{WritesText, WritesKept, InOrder, AnswersGame, AnswersArchive, WritesSummary, Stand, stand_of, onward, tallied, written, kept_if, texts_of_game}
 use Rattle.cq_run.proofs.Exports.{matches_more, written_none, first_none, only_values, unsorted_exports, sorted_exports, none_ordered}

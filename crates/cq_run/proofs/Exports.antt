@@ -10,15 +10,15 @@ use Rattle.std.proofs.lemmas.List.Kept.{AllPairs-cons}
 use Rattle.pgn_export.specs.Export.{export_text}
 use Rattle.cq_position.specs.Games.{Game}
 use Rattle.cq_run.specs.Sorts.{have_sort, is_sort_form}
-use Rattle.cq_run.proofs.Keyed.{all_kept}
 use Rattle.cq_shards.proofs.Counts.{key_count}
-use Rattle.cq_shards.specs.Order.{AreApart, ComesBefore, IsEarlier, directions, form_directions, is_match as is_match_kept, keys_in}
+use Rattle.cq_shards.proofs.Values.{all_kept}
+use Rattle.cq_shards.specs.Order.{AreApart, ComesBefore, IsEarlier, directions, form_directions, is_match as is_match_kept, keys_in, values_in}
 use Rattle.cq_shards.specs.declared.answers.Answer.TheVariants.{Match}
 use Rattle.cq_shards.specs.declared.answers.GameAnswer.{GameAnswer}
 use Rattle.cql_syntax.specs.Hits.{marked, keys, hits}
 use Rattle.cql_syntax.specs.Trees.{filter_at, FormTree, sort, FilterTrees, no_filters, more_filters, QueryTree}
 use Rattle.cq_run.specs.Answer.{has_match, export_if}
-use Rattle.cq_run.specs.Exports.{AreExports, exports_of, match_if, matches_from, text_of, values_in}
+use Rattle.cq_run.specs.Exports.{AreExports, exports_of, match_if, matches_from, text_of}
 use Rattle.cq_run.specs.Outcomes.{Outcome}
 use Rattle.cq_run.specs.Writing.{InOrder, written}
 

@@ -1,7 +1,7 @@
 mod Sinks
 mod Texts
 mod Braces
-mod Keyed
+mod SortItems
 mod Exports
 mod Answers
 mod Counting

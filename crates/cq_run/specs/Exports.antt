@@ -1,22 +1,16 @@
 -- The exports of the games that match, in the order that a query asks.
-use Rattle.std.specs.Prelude.{◌≡◌, ℕ, ◌+◌, ℤ, Option, None, Some, List, [], ◌∷◌, ◌++◌, Ok, Err, AllPairs, if◌then◌else◌}
+use Rattle.std.specs.Prelude.{◌≡◌, ℕ, ◌+◌, List, [], ◌∷◌, ◌++◌, Ok, Err, AllPairs, if◌then◌else◌}
 use Rattle.std.specs.List.{flat_map}
 use Rattle.std.specs.List.Sorted.{IsPermutation}
 use Rattle.pgn_export.specs.Export.{export_text}
 use Rattle.cql_syntax.specs.Hits.{marked, keys}
 use Rattle.cql_syntax.specs.Trees.{QueryTree}
-use Rattle.cq_shards.specs.Order.{ComesBefore, directions}
+use Rattle.cq_shards.specs.Order.{ComesBefore, directions, values_in}
 use Rattle.cq_shards.specs.declared.answers.Answer.{Answer}
 use Rattle.cq_shards.specs.declared.answers.Answer.TheVariants.{Refused, Miss, Match}
 use Rattle.cq_shards.specs.declared.answers.GameAnswer.{GameAnswer}
 use Rattle.cq_run.specs.Answer.{has_match}
 use Rattle.cq_run.specs.Outcomes.{Outcome}
-
--- the values among keys
-abbrev pub values_in : List (Option ℤ) → List ℤ
-values_in [] = []
-values_in (None ∷ ks) = values_in ks
-values_in (Some k ∷ ks) = k ∷ values_in ks
 
 -- a game that matches: its number from 0, its export with its marks, and its keys
 abbrev pub match_if : QueryTree → ℕ → Outcome → List GameAnswer

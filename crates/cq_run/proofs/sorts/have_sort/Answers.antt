@@ -1,6 +1,6 @@
 use Rattle.std.proofs.Common.{◌∙◌, sym, ap}
 use Rattle.cq_run.specs.Sorts.{have_sort}
-use Rattle.cq_run.proofs.Keyed.{sort_in}
+use Rattle.cq_run.proofs.SortItems.{sort_in}
 use Rattle.cq_run.proofs.sorts.have_sort.Goals as goal
 
 pub returns : goal.returns
