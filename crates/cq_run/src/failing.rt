@@ -218,21 +218,32 @@ fn a_real_file_of_several_pieces_is_read_to_its_end(rt: HostRuntime) -> Result<(
     Ok(())
 }
 
+/// Asks that a file of these words could not be opened, and that nothing was written.
+fn expect_unopened<R: Threads + Sync + Abort, D: Desk>(
+    rt: &R,
+    alloc: Global,
+    words: &[&str],
+    desk: &mut D,
+) -> Result<(), Fail> {
+    let mut out = SureSink::new(alloc, 0)?;
+    let mut err = SureSink::new(alloc, 0)?;
+    let status = status_of(rt, alloc, words, desk, &mut out, &mut err)?;
+    assert_eq!(rt; status, Status::OpenFault);
+    expect_unwritten(rt, &out);
+    expect_unwritten(rt, &err);
+    Ok(())
+}
+
+/// Asks that a sink has taken nothing.
+fn expect_unwritten<R: Abort>(rt: &R, sink: &SureSink) {
+    assert_eq!(rt; sink.taken(), Some(b"".as_slice()));
+}
+
 #[test]
 fn a_query_without_a_file_is_not_opened(rt: HostRuntime) -> Result<(), Fail> {
     let alloc = rt.alloc();
     let mut desk = FileDesk::new(alloc, rt, b"".as_slice())?;
-    let mut out = SureSink::new(alloc, 0)?;
-    let mut err = SureSink::new(alloc, 0)?;
-    for words in [
-        ["check", "none.cql"].as_slice(),
-        ["explain", "none.cql"].as_slice(),
-        ["run", "none.cql", "a.pgn"].as_slice(),
-    ] {
-        let status = status_of(&rt, alloc, words, &mut desk, &mut out, &mut err)?;
-        assert_eq!(rt; status, Status::OpenFault);
-        assert_eq!(rt; out.taken(), Some(b"".as_slice()));
-        assert_eq!(rt; err.taken(), Some(b"".as_slice()));
-    }
-    Ok(())
+    expect_unopened(&rt, alloc, &["check", "none.cql"], &mut desk)?;
+    expect_unopened(&rt, alloc, &["explain", "none.cql"], &mut desk)?;
+    expect_unopened(&rt, alloc, &["run", "none.cql", "a.pgn"], &mut desk)
 }
