@@ -1,6 +1,7 @@
 pub mod Bits
 pub mod BuildSteps
 pub mod BuildingLaw
+pub mod Counts
 pub mod DownLaw
 pub mod Lists
 pub mod Measures

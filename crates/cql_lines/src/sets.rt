@@ -1,7 +1,7 @@
 //! The sets of lengths, where the lengths that count are limited: bit k of a word is the length k, and no greater length than 127 counts.
 ghost use Rattle.std.specs.Prelude.{◌≡◌, ℕ, ◌+◌, ◌*◌, ◌<◌, ◌≤◌, get_or, length, if◌then◌else◌, bit_or, slice_get, Some, None, ◌-◌, false, IfOk, replicate, true};
 ghost use Rattle.cql_lines.specs.Down.{Passed, Stands, AnswerAt, Read, holds, IsLongest};
-ghost use Rattle.cql_lines.specs.Shapes.{Edge, is_searched, joined};
+ghost use Rattle.cql_lines.specs.Shapes.{Edge, is_searched, joined, searched_count};
 ghost use Rattle.cql_lines.specs.Up.{StandsUp, IsAbove};
 ghost use Rattle.cql_lines.specs.Lengths.{is_set, at};
 ghost use Rattle.cql_lines.specs.Places.{when, IsIn};
@@ -141,6 +141,7 @@ pub fn visit_down<L: Ledger>(
         (Between extent.least extent.most
         (Read (holds table.now.words.items) rules.now (Edge false shape.now.primary shape.now.spots.items) first node)) result }
     ensures cost { steps.new ≤ steps.old + table.now.atoms }
+    ensures unsearched { is_searched shape.now.spots.items node ≡ false → steps.new ≡ steps.old }
 {
     if !shape.searched(node) {
         return None;
@@ -186,7 +187,7 @@ pub fn within_down<L: Ledger>(
         (Between extent.least extent.most
         (Read (holds table.now.words.items) rules.now (Edge false shape.now.primary shape.now.spots.items) first n))
         (get_or values.items n None)) }
-    ensures cost { steps.new ≤ steps.old + table.now.atoms * length shape.now.spots.items }
+    ensures cost { steps.new ≤ steps.old + table.now.atoms * searched_count shape.now.spots.items }
 {
     let nodes = shape.len();
     let mut rows = blank_rows(alloc, nodes)?;
@@ -234,6 +235,7 @@ pub fn visit_up<L: Ledger>(
         (Between extent.least extent.most
         (Read (holds table.now.words.items) rules.now (Edge true shape.now.primary shape.now.spots.items) first node)) result }
     ensures cost { steps.new ≤ steps.old + table.now.atoms }
+    ensures unsearched { is_searched shape.now.spots.items node ≡ false → steps.new ≡ steps.old }
 {
     if !shape.searched(node) {
         return None;
@@ -270,7 +272,7 @@ pub fn within_up<L: Ledger>(
         (Between extent.least extent.most
         (Read (holds table.now.words.items) rules.now (Edge true shape.now.primary shape.now.spots.items) first n))
         (get_or values.items n None)) }
-    ensures cost { steps.new ≤ steps.old + table.now.atoms * length shape.now.spots.items }
+    ensures cost { steps.new ≤ steps.old + table.now.atoms * searched_count shape.now.spots.items }
 {
     let nodes = shape.len();
     let mut rows = blank_rows(alloc, nodes)?;
@@ -303,7 +305,7 @@ pub fn within<L: Ledger>(
         (Between extent.least extent.most
         (Read (holds table.now.words.items) rules.now (Edge shape.now.back shape.now.primary shape.now.spots.items) first n))
         (get_or values.items n None)) }
-    ensures cost { steps.new ≤ steps.old + table.now.atoms * length shape.now.spots.items }
+    ensures cost { steps.new ≤ steps.old + table.now.atoms * searched_count shape.now.spots.items }
 {
     if shape.back {
         return Ok(within_up(alloc, rules, first, extent, table, shape, steps)?);

@@ -3,6 +3,7 @@ ghost use Rattle.std.specs.Prelude.{◌≡◌, ℕ, ◌+◌, ◌*◌, ◌<◌, �
 ghost use Rattle.cql_lines.specs.Automata.{places};
 ghost use Rattle.cql_lines.specs.Building.{AtomsBelow};
 ghost use Rattle.cql_lines.specs.PatternTrees.{pattern_tree};
+ghost use Rattle.cql_lines.specs.Shapes.{searched_count};
 
 use crate::{AtomTable, Automaton, Pattern, Patterns, Shape, Steps, line_values};
 use cq_outside::NoMemory;
@@ -59,8 +60,8 @@ fn looked_up<L: Ledger>(
     requires parts { length parts.now ≤ 64 }
     requires atoms { table.now.atoms ≡ length parts.now }
     requires nodes { length table.now.words.items ≡ length shape.now.spots.items }
-    ensures three_by_four { length parts.now ≤ 3 → length shape.now.spots.items ≤ 4 → steps.new ≤ steps.old + 12 }
-    ensures all { steps.new ≤ steps.old + 64 * length shape.now.spots.items }
+    ensures three_by_four { length parts.now ≤ 3 → searched_count shape.now.spots.items ≤ 4 → steps.new ≤ steps.old + 12 }
+    ensures all { steps.new ≤ steps.old + 64 * searched_count shape.now.spots.items }
 {
     let automaton = Automaton::build(alloc, &line(alloc, parts)?)?;
     line_values(alloc, &automaton, table, shape, steps)

@@ -2,7 +2,7 @@
 ghost use Rattle.std.specs.Prelude.{◌≡◌, ℕ, ◌+◌, ◌*◌, ◌<◌, ◌≤◌, ◌||◌, get_or, length, List, max, if◌then◌else◌, slice_get, Some, None, Option, ◌-◌, false, IfOk, replicate, true};
 ghost use Rattle.cql_lines.specs.Down.{found, Passed, Stands, AnswerAt, Read, holds};
 ghost use Rattle.cql_lines.specs.Ways.{IsGreatest};
-ghost use Rattle.cql_lines.specs.Shapes.{Edge, is_searched, joined};
+ghost use Rattle.cql_lines.specs.Shapes.{Edge, is_searched, joined, searched_count};
 ghost use Rattle.cql_lines.specs.Up.{StandsUp, IsAbove};
 ghost use Rattle.cql_lines.specs.Lengths.{greatest_in, place_value, is_set, at};
 ghost use Rattle.cql_lines.specs.declared.automaton.Rule.{Rule as RuleValue};
@@ -127,6 +127,7 @@ pub fn visit_down<L: Ledger>(
     ensures value { AnswerAt (is_searched shape.now.spots.items node)
         (Read (holds table.now.words.items) rules.now (Edge false shape.now.primary shape.now.spots.items) first node) result }
     ensures cost { steps.new ≤ steps.old + table.now.atoms }
+    ensures unsearched { is_searched shape.now.spots.items node ≡ false → steps.new ≡ steps.old }
 {
     if !shape.searched(node) {
         return None;
@@ -148,7 +149,7 @@ fn blank_rows(alloc: Global, nodes: usize) -> Result<Vec<[u32; 64]>, AllocError>
 }
 
 pub fn blank_values(alloc: Global, nodes: usize) -> Result<Vec<Option<u32>>, AllocError>
-    ensures { IfOk result (λ values. length values.items ≡ nodes) }
+    ensures { IfOk result (λ values. values.items ≡ replicate nodes None) }
 {
     Ok(vec![in alloc; None; nodes]?)
 }
@@ -171,7 +172,7 @@ pub fn longest_down<L: Ledger>(
         AnswerAt (is_searched shape.now.spots.items n)
         (Read (holds table.now.words.items) rules.now (Edge false shape.now.primary shape.now.spots.items) first n)
         (get_or values.items n None)) }
-    ensures cost { steps.new ≤ steps.old + table.now.atoms * length shape.now.spots.items }
+    ensures cost { steps.new ≤ steps.old + table.now.atoms * searched_count shape.now.spots.items }
 {
     let nodes = shape.len();
     let mut rows = blank_rows(alloc, nodes)?;
@@ -216,6 +217,7 @@ pub fn visit_up<L: Ledger>(
     ensures value { AnswerAt (is_searched shape.now.spots.items node)
         (Read (holds table.now.words.items) rules.now (Edge true shape.now.primary shape.now.spots.items) first node) result }
     ensures cost { steps.new ≤ steps.old + table.now.atoms }
+    ensures unsearched { is_searched shape.now.spots.items node ≡ false → steps.new ≡ steps.old }
 {
     if !shape.searched(node) {
         return None;
@@ -245,7 +247,7 @@ pub fn longest_up<L: Ledger>(
         AnswerAt (is_searched shape.now.spots.items n)
         (Read (holds table.now.words.items) rules.now (Edge true shape.now.primary shape.now.spots.items) first n)
         (get_or values.items n None)) }
-    ensures cost { steps.new ≤ steps.old + table.now.atoms * length shape.now.spots.items }
+    ensures cost { steps.new ≤ steps.old + table.now.atoms * searched_count shape.now.spots.items }
 {
     let nodes = shape.len();
     let mut rows = blank_rows(alloc, nodes)?;
@@ -275,7 +277,7 @@ pub fn longest<L: Ledger>(
         AnswerAt (is_searched shape.now.spots.items n)
         (Read (holds table.now.words.items) rules.now (Edge shape.now.back shape.now.primary shape.now.spots.items) first n)
         (get_or values.items n None)) }
-    ensures cost { steps.new ≤ steps.old + table.now.atoms * length shape.now.spots.items }
+    ensures cost { steps.new ≤ steps.old + table.now.atoms * searched_count shape.now.spots.items }
 {
     if shape.back {
         return Ok(longest_up(alloc, rules, first, table, shape, steps)?);

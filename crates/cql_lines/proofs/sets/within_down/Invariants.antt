@@ -1,7 +1,7 @@
-use Rattle.std.proofs.Common.{◌≡◌, ℕ, ◌+◌, ◌*◌, ◌<◌, ◌≤◌, get_or, length, None, false}
+use Rattle.std.proofs.Common.{◌≡◌, ℕ, ◌+◌, ◌*◌, ◌<◌, ◌≤◌, get_or, length, None, false, take, ◌-◌}
 use Rattle.cql_lines.specs.Down.{Stands, AnswerAt, Read, holds}
 use Rattle.cql_lines.specs.Sets.{IsSet, Between}
-use Rattle.cql_lines.specs.Shapes.{Edge, is_searched}
+use Rattle.cql_lines.specs.Shapes.{Edge, is_searched, searched_count}
 use Rattle.cql_lines.proofs.sets.within_down.Given as goal
 
 abbrev pub invariant-loop-turn : goal.invariant-loop-turn
@@ -10,5 +10,5 @@ invariant-loop-turn g l = record {
   size : length l.values.items ≡ length l.shape.spots.items;
   done : (n : ℕ) → length l.shape.spots.items ≤ n + l.turn → n < length l.shape.spots.items →
       AnswerAt (is_searched l.shape.spots.items n) (Between l.extent.least l.extent.most (Read (holds l.table.words.items) l.rules (Edge false l.shape.primary l.shape.spots.items) l.first n)) (get_or l.values.items n None);
-  cost : l.steps ≤ l.fn.steps + l.table.atoms * l.turn;
+  cost : l.steps + l.table.atoms * searched_count (take (length l.shape.spots.items - l.turn) l.shape.spots.items) ≤ l.fn.steps + l.table.atoms * searched_count l.shape.spots.items;
 }

@@ -1,8 +1,8 @@
-use Rattle.std.proofs.Common.{◌≡◌, ℕ, ◌+◌, ◌*◌, ◌<◌, ◌≤◌, get_or, length, None, true}
+use Rattle.std.proofs.Common.{◌≡◌, ℕ, ◌+◌, ◌*◌, ◌<◌, ◌≤◌, get_or, length, None, true, drop}
 use Rattle.cql_lines.specs.Down.{AnswerAt, Read, holds}
 use Rattle.cql_lines.specs.Up.{StandsUp}
 use Rattle.cql_lines.specs.Sets.{IsSet, Between}
-use Rattle.cql_lines.specs.Shapes.{Edge, is_searched}
+use Rattle.cql_lines.specs.Shapes.{Edge, is_searched, searched_count}
 use Rattle.cql_lines.proofs.sets.within_up.Given as goal
 
 abbrev pub invariant-loop-node : goal.invariant-loop-node
@@ -11,5 +11,5 @@ invariant-loop-node g l = record {
   size : length l.values.items ≡ length l.shape.spots.items;
   done : (n : ℕ) → n < l.node →
       AnswerAt (is_searched l.shape.spots.items n) (Between l.extent.least l.extent.most (Read (holds l.table.words.items) l.rules (Edge true l.shape.primary l.shape.spots.items) l.first n)) (get_or l.values.items n None);
-  cost : l.steps ≤ l.fn.steps + l.table.atoms * l.node;
+  cost : l.steps + l.table.atoms * searched_count (drop l.node l.shape.spots.items) ≤ l.fn.steps + l.table.atoms * searched_count l.shape.spots.items;
 }

@@ -1,11 +1,12 @@
-use Rattle.std.proofs.Common.{◌≡◌, ℕ, ◌+◌, ◌*◌, ◌<◌, ◌≤◌, length, ◌-◌, false, ◌∙◌, sym, ap, subst, arith}
-use Rattle.std.proofs.lemmas.List.{length-set}
+use Rattle.std.proofs.Common.{◌≡◌, ℕ, ◌+◌, ◌*◌, ◌<◌, ◌≤◌, length, ◌-◌, false, ◌∙◌, sym, ap, subst, arith, None}
+use Rattle.std.proofs.lemmas.List.{length-set, length-replicate}
 use Rattle.std.specs.Prelude.{replicate}
 use Rattle.cql_lines.specs.Down.{Stands, Read, holds}
 use Rattle.cql_lines.specs.Shapes.{Edge, is_searched}
 use Rattle.cql_lines.specs.Ways.{IsGreatest}
 use Rattle.cql_lines.proofs.DownLaw.{none_greatest}
 use Rattle.cql_lines.proofs.VisitLaw.{stands_first, done_more}
+use Rattle.cql_lines.proofs.Counts.{cost_first, cost_down}
 use Rattle.cql_lines.proofs.values.longest_down.Goals as goal
 
 pub loop-turn-init : goal.loop-turn-init
@@ -15,9 +16,9 @@ loop-turn-init g c = record {
       c.as_mut_slice-grid.ensures.value ∙ c.in_ok-rows.ensures ∙ ap (λ n. replicate n (replicate 64 0)) c.len-nodes.ensures in
       subst (Stands IsGreatest c.args.table.now.words.items c.args.rules.now c.args.shape.now.primary c.args.shape.now.spots.items 0) (sym rows)
       (stands_first IsGreatest none_greatest c.args.table.now.words.items c.args.rules.now c.args.shape.now.primary c.args.shape.now.spots.items);
-  size = c.in_ok-values.ensures ∙ c.len-nodes.ensures;
+  size = ap length c.in_ok-values.ensures ∙ length-replicate c.len-nodes.result None ∙ c.len-nodes.ensures;
   done = λ n late low. absurd (omega arith);
-  cost = omega arith;
+  cost = cost_first c.args.shape.now.spots.items c.args.table.now.atoms _ _;
 }
 
 turn_of : (size nodes turn : ℕ) → nodes ≡ size → turn < nodes → size - (nodes - 1 - turn) - 1 ≡ turn
@@ -29,8 +30,14 @@ next_of size nodes turn e low = omega arith
 node_of : (size nodes turn : ℕ) → nodes ≡ size → turn < nodes → nodes - 1 - turn + turn + 1 ≡ size
 node_of size nodes turn e low = omega arith
 
-more_cost : (a b s atoms turn : ℕ) → b ≤ a + atoms → a ≤ s + atoms * turn → b ≤ s + atoms * (turn + 1)
-more_cost a b s atoms turn h k = grind arith
+first_of : (size nodes turn : ℕ) → nodes ≡ size → turn < nodes → size - turn ≡ nodes - 1 - turn + 1
+first_of size nodes turn e low = omega arith
+
+before_of : (size nodes turn : ℕ) → nodes ≡ size → turn < nodes → size - (turn + 1) ≡ nodes - 1 - turn
+before_of size nodes turn e low = omega arith
+
+within_spots : (size nodes turn : ℕ) → nodes ≡ size → turn < nodes → nodes - 1 - turn < size
+within_spots size nodes turn e low = omega arith
 
 pub visit_down-requires-clause-stands : goal.visit_down-requires-clause-stands
 visit_down-requires-clause-stands g c =
@@ -50,5 +57,8 @@ loop-turn-preserved g c = record {
       (is_searched c.args.shape.now.spots.items) (length c.args.shape.now.spots.items) c.loop-turn.values.items c.visit_down.result c.loop-turn.turn (c.len-nodes.result - 1 - c.loop-turn.turn)
       c.loop-turn.invariant.size (node_of (length c.args.shape.now.spots.items) c.len-nodes.result c.loop-turn.turn c.len-nodes.ensures c.loop-turn-test.true)
       c.visit_down.ensures.value c.loop-turn.invariant.done;
-  cost = more_cost _ _ _ c.args.table.now.atoms c.loop-turn.turn c.visit_down.ensures.cost c.loop-turn.invariant.cost;
+  cost = cost_down c.args.shape.now.spots.items c.args.table.now.atoms _ _ _ (c.len-nodes.result - 1 - c.loop-turn.turn) _ _
+      (within_spots _ _ _ c.len-nodes.ensures c.loop-turn-test.true) (first_of _ _ _ c.len-nodes.ensures c.loop-turn-test.true)
+      (before_of _ _ _ c.len-nodes.ensures c.loop-turn-test.true)
+      c.visit_down.ensures.unsearched c.visit_down.ensures.cost c.loop-turn.invariant.cost;
 }

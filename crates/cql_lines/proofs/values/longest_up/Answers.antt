@@ -1,11 +1,12 @@
-use Rattle.std.proofs.Common.{◌≡◌, ℕ, ◌+◌, ◌*◌, ◌<◌, ◌≤◌, length, true, ◌∙◌, sym, ap, subst, arith}
+use Rattle.std.proofs.Common.{◌≡◌, ℕ, ◌+◌, ◌*◌, ◌<◌, ◌≤◌, length, true, ◌∙◌, sym, ap, subst, arith, None}
 use Rattle.std.specs.Prelude.{replicate}
-use Rattle.std.proofs.lemmas.List.{length-set}
+use Rattle.std.proofs.lemmas.List.{length-set, length-replicate}
 use Rattle.cql_lines.specs.Down.{Read, holds}
 use Rattle.cql_lines.specs.Up.{StandsUp}
 use Rattle.cql_lines.specs.Shapes.{Edge, is_searched}
 use Rattle.cql_lines.specs.Ways.{IsGreatest}
 use Rattle.cql_lines.proofs.UpLaw.{stands_up_first, up_more}
+use Rattle.cql_lines.proofs.Counts.{cost_all, cost_up}
 use Rattle.cql_lines.proofs.values.longest_up.Goals as goal
 
 pub loop-node-init : goal.loop-node-init
@@ -15,13 +16,13 @@ loop-node-init g c = record {
       c.as_mut_slice-grid.ensures.value ∙ c.in_ok-rows.ensures ∙ ap (λ n. replicate n (replicate 64 0)) c.len-nodes.ensures in
       subst (StandsUp IsGreatest c.args.table.now.words.items c.args.rules.now c.args.shape.now.primary c.args.shape.now.spots.items 0) (sym rows)
       (stands_up_first IsGreatest c.args.table.now.words.items c.args.rules.now c.args.shape.now.primary c.args.shape.now.spots.items);
-  size = c.in_ok-values.ensures ∙ c.len-nodes.ensures;
+  size = ap length c.in_ok-values.ensures ∙ length-replicate c.len-nodes.result None ∙ c.len-nodes.ensures;
   done = λ n low. absurd (omega (arith, low));
-  cost = omega arith;
+  cost = cost_all _ _;
 }
 
-more_cost : (a b s atoms turn : ℕ) → b ≤ a + atoms → a ≤ s + atoms * turn → b ≤ s + atoms * (turn + 1)
-more_cost a b s atoms turn h k = grind arith
+within_spots : (size nodes node : ℕ) → nodes ≡ size → node < nodes → node < size
+within_spots size nodes node a b = omega arith
 
 within : (size nodes node len : ℕ) → nodes ≡ size → len ≡ size → node < nodes → node < len
 within size nodes node len a b c = omega arith
@@ -35,5 +36,6 @@ loop-node-preserved g c = record {
       (is_searched c.args.shape.now.spots.items) c.loop-node.values.items c.visit_up.result c.loop-node.node
       (within (length c.args.shape.now.spots.items) c.len-nodes.result c.loop-node.node (length c.loop-node.values.items) c.len-nodes.ensures c.loop-node.invariant.size c.loop-node-test.true)
       c.visit_up.ensures.value c.loop-node.invariant.done;
-  cost = more_cost _ _ _ c.args.table.now.atoms c.loop-node.node c.visit_up.ensures.cost c.loop-node.invariant.cost;
+  cost = cost_up c.args.shape.now.spots.items c.args.table.now.atoms _ _ _ c.loop-node.node (within_spots _ _ _ c.len-nodes.ensures c.loop-node-test.true)
+      c.visit_up.ensures.unsearched c.visit_up.ensures.cost c.loop-node.invariant.cost;
 }

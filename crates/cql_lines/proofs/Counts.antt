@@ -1,0 +1,68 @@
+-- How many of the first nodes, and of the last, are searched, and the looks at these.
+use Rattle.std.proofs.Common.{◌≡◌, ℕ, ◌+◌, ◌*◌, ◌<◌, ◌≤◌, Bool, true, false, List, None, length, take, drop, refl, sym, ap, ◌∙◌, subst, arith}
+use Rattle.std.specs.Prelude.{cond}
+use Rattle.std.proofs.lemmas.List.Sums.{sum_by_more, sum_by-take-drop, sum_by-take-le}
+use Rattle.std.proofs.lemmas.Option.{slice_get-get_or}
+use Rattle.cql_lines.specs.declared.table.Spot.{Spot}
+use Rattle.cql_lines.specs.Shapes.{is_searched, searched_by, searched_count}
+
+abbrev one : Spot → ℕ
+one s = cond s.searched 1 0
+
+-- stands for a node where there is none
+abbrev blank : Spot
+blank = record { parent = None; searched = false; first = false }
+
+first_more : (spots : List Spot) (n : ℕ) → n < length spots → searched_count (take (n + 1) spots) ≡ searched_count (take n spots) + cond (is_searched spots n) 1 0
+first_more spots n low = sum_by_more one spots n blank low ∙ ap (λ o. searched_count (take n spots) + cond (searched_by o) 1 0) (sym (slice_get-get_or spots n blank low))
+
+last_more : (spots : List Spot) (n : ℕ) → n < length spots → searched_count (drop n spots) ≡ searched_count (drop (n + 1) spots) + cond (is_searched spots n) 1 0
+last_more spots n low =
+    let all : searched_count (take n spots) + searched_count (drop n spots) ≡ searched_count spots = sum_by-take-drop one spots n in
+    let same : searched_count (take (n + 1) spots) + searched_count (drop (n + 1) spots) ≡ searched_count spots = sum_by-take-drop one spots (n + 1) in
+    let more = first_more spots n low in omega arith
+
+times_more : (a m : ℕ) → a * (m + 1) ≡ a * m + a
+times_more a m = grind arith
+
+times_same : (a m : ℕ) → a * (m + 0) ≡ a * m
+times_same a m = grind arith
+
+-- the looks that are left, of all those at searched nodes, after the looks at one more node
+one_more : (atoms a b s n m all : ℕ) (searched : Bool) → (searched ≡ false → b ≡ a) → b ≤ a + atoms → n ≡ m + cond searched 1 0
+    → a + atoms * n ≤ s + all → b + atoms * m ≤ s + all
+one_more atoms a b s n m all true same more e was =
+    let each : atoms * n ≡ atoms * m + atoms = ap (λ k. atoms * k) e ∙ times_more atoms m in omega arith
+one_more atoms a b s n m all false same more e was =
+    let is = same refl in
+    let each : atoms * n ≡ atoms * m = ap (λ k. atoms * k) e ∙ times_same atoms m in omega arith
+
+pub cost_all : (s n : ℕ) → s + n ≤ s + n
+cost_all s n = omega arith
+
+pub cost_up : (spots : List Spot) (atoms a b s n : ℕ) → n < length spots → (is_searched spots n ≡ false → b ≡ a) → b ≤ a + atoms
+    → a + atoms * searched_count (drop n spots) ≤ s + atoms * searched_count spots
+    → b + atoms * searched_count (drop (n + 1) spots) ≤ s + atoms * searched_count spots
+cost_up spots atoms a b s n low same more was =
+    one_more atoms a b s (searched_count (drop n spots)) (searched_count (drop (n + 1) spots)) (atoms * searched_count spots) (is_searched spots n)
+    same more (last_more spots n low) was
+
+times_least : (a m n : ℕ) → m ≤ n → a * m ≤ a * n
+times_least a m n few = grind arith
+
+-- of some nodes at most as many are searched as of all
+pub cost_first : (spots : List Spot) (atoms s k : ℕ) → s + atoms * searched_count (take k spots) ≤ s + atoms * searched_count spots
+cost_first spots atoms s k =
+    let few : searched_count (take k spots) ≤ searched_count spots = sum_by-take-le one spots k in
+    let each : atoms * searched_count (take k spots) ≤ atoms * searched_count spots = times_least atoms _ _ few in omega arith
+
+pub cost_down : (spots : List Spot) (atoms a b s n behind here : ℕ) → n < length spots → behind ≡ n + 1 → here ≡ n
+    → (is_searched spots n ≡ false → b ≡ a) → b ≤ a + atoms
+    → a + atoms * searched_count (take behind spots) ≤ s + atoms * searched_count spots
+    → b + atoms * searched_count (take here spots) ≤ s + atoms * searched_count spots
+cost_down spots atoms a b s n behind here low e f same more was =
+    let before : a + atoms * searched_count (take (n + 1) spots) ≤ s + atoms * searched_count spots =
+    subst (λ k. a + atoms * searched_count (take k spots) ≤ s + atoms * searched_count spots) e was in
+    subst (λ k. b + atoms * searched_count (take k spots) ≤ s + atoms * searched_count spots) (sym f)
+    (one_more atoms a b s (searched_count (take (n + 1) spots)) (searched_count (take n spots)) (atoms * searched_count spots) (is_searched spots n)
+    same more (first_more spots n low) before)
