@@ -135,7 +135,13 @@ WritesFlat query _ sinks = ⊥
 -- A query that is accepted is answered over the archive in a file, of which so many bytes are the limit.
 pub data AnswersFile (archive : List ℕ) (limit : ℕ) (query : QueryTree) (status : Status) (call : Call) : Type 0 where
   archive_answered : (file : SourceView) → Opened archive call.desk call.desk_after file
-      → AnswerPromise status (record { query = query; limit = limit; source = file; source_after = call.desk_after.file; sinks = call.sinks })
+      → AnswerPromise status (record {
+        query = query;
+        limit = limit;
+        source = file;
+        source_after = call.desk_after.file;
+        sinks = call.sinks;
+      })
       → AnswersFile archive limit query status call
   archive_unopened : status ≡ OpenFault → FailsToOpen call.desk call.desk_after → IsUnwritten call.sinks
       → AnswersFile archive limit query status call

@@ -14,7 +14,8 @@ use cq_outside::NoMemory;
 use std::alloc::{AllocError, Global};
 
 impl Automaton {
-    /// The automaton of a pattern of at most 64 places.
+    /// The automaton of a pattern of at most 64 places. A part without places may be repeated as often as a bound says, and each
+    /// turn takes time.
     #[tactic(auto, using(crate::proofs::LinesLaw::few_rules))]
     pub fn build(alloc: Global, pattern: &Pattern) -> Result<Automaton, NoMemory>
         requires places { places (pattern_tree pattern.now) ≤ 64 }

@@ -110,6 +110,15 @@ fn found(alloc: Global, plan: &Plan, game: &Game) -> Result<Verdict, NoMemory> {
     counted::<Brand>(alloc, plan, game, Blank::new(1))
 }
 
+/// Only types that threads may share, or hand over, are taken.
+fn may_be_shared<T: Send + Sync>() {}
+
+#[test]
+fn plans_and_verdicts_may_be_shared() {
+    may_be_shared::<Plan>();
+    may_be_shared::<Verdict>();
+}
+
 #[test]
 fn kings_alone_are_turned_away(rt: HostRuntime) -> Result<(), Fail> {
     let alloc = rt.alloc();
