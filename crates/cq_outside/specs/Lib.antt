@@ -1,6 +1,7 @@
 pub mod Edge
 pub mod Faults
 pub mod Flow
+pub mod Greatest
 pub mod Kept
 pub mod MemSource
 pub mod ReadLaws

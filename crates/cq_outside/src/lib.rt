@@ -1,6 +1,6 @@
 //! The outside of the program, as the rest of it sees it: sources, sinks, a desk of files and a gate,
-//! each by what its calls promise, with forms in memory and a thin edge over the real system; and white
-//! space and decimal digits, which are the same in PGN and in queries.
+//! each by what its calls promise, with forms in memory and a thin edge over the real system; white
+//! space and decimal digits, which are the same in PGN and in queries; and a counter of steps.
 #![tactic(auto)]
 
 pub mod bytes;
@@ -13,6 +13,7 @@ pub mod mem_source;
 pub mod pieces;
 pub mod sink;
 pub mod source;
+pub mod steps;
 pub mod sure_desk;
 pub mod sure_sink;
 pub mod sure_source;
@@ -27,6 +28,7 @@ pub use mem_source::MemSource;
 pub use pieces::{read_piece, read_up_to, write_all_of};
 pub use sink::Sink;
 pub use source::Source;
+pub use steps::Steps;
 pub use sure_desk::SureDesk;
 pub use sure_sink::SureSink;
 pub use sure_source::SureSource;

@@ -3,8 +3,7 @@ ghost use Rattle.std.specs.Prelude.{◌≡◌, ◌≢◌, ◌<◌, [], length, m
 ghost use Rattle.cql_syntax.specs.Hits.{hits, keys};
 ghost use Rattle.cql_syntax.specs.TreeOf.{query_tree};
 
-use cq_outside::NoMemory;
-use cql_lines::Steps;
+use cq_outside::{NoMemory, Steps};
 use cql_plan::{Plan, Verdict, match_game};
 use pgn_tree::Game;
 use std::alloc::Global;

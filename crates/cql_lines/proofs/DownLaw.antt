@@ -4,14 +4,14 @@ use Rattle.std.specs.Prelude.{◌⊎◌}
 use Rattle.std.proofs.lemmas.Bool.{cases_lt, cases_eq}
 use Rattle.cql_lines.specs.declared.automaton.Rule.{Rule}
 use Rattle.cql_lines.specs.declared.table.Spot.{Spot}
-use Rattle.cql_lines.specs.Ways.{FromPlace, Below, IsGreatest}
+use Rattle.cql_lines.specs.Ways.{FromPlace, Below, IsGreatestOrZero}
 use Rattle.cql_lines.specs.Lengths.{at}
 use Rattle.cql_lines.specs.Shapes.{joined, Edge}
 use Rattle.cql_lines.specs.Down.{holds, cell, Late, Stands, Passed}
 use Rattle.cql_lines.proofs.Measures.{Measure, Keeps, Joins}
 
 -- the greatest of the numbers of two kinds
-pub greatest_of_two : (P Q R : ℕ → Type 0) (a b : ℕ) → IsGreatest P a → IsGreatest Q b → ((k : ℕ) → R k → P k ⊎ Q k) → ((k : ℕ) → P k → R k) → ((k : ℕ) → Q k → R k) → IsGreatest R (max a b)
+pub greatest_of_two : (P Q R : ℕ → Type 0) (a b : ℕ) → IsGreatestOrZero P a → IsGreatestOrZero Q b → ((k : ℕ) → R k → P k ⊎ Q k) → ((k : ℕ) → P k → R k) → ((k : ℕ) → Q k → R k) → IsGreatestOrZero R (max a b)
 greatest_of_two P Q R a b p q split left right = record {
   bounds = λ k r. elim (split k r) [
     | inl x ↦ (let h = p.bounds k x in omega arith)
@@ -23,10 +23,10 @@ greatest_of_two P Q R a b p q split left right = record {
   ];
 }
 
-pub same_greatest : (P R : ℕ → Type 0) (a : ℕ) → IsGreatest P a → ((k : ℕ) → R k → P k) → ((k : ℕ) → P k → R k) → IsGreatest R a
+pub same_greatest : (P R : ℕ → Type 0) (a : ℕ) → IsGreatestOrZero P a → ((k : ℕ) → R k → P k) → ((k : ℕ) → P k → R k) → IsGreatestOrZero R a
 same_greatest P R a p back on = record { bounds = λ k r. p.bounds k (back k r); reached = λ some. on a (p.reached some) }
 
-pub none_greatest : (P : ℕ → Type 0) → ((k : ℕ) → P k → ⊥) → IsGreatest P 0
+pub none_greatest : (P : ℕ → Type 0) → ((k : ℕ) → P k → ⊥) → IsGreatestOrZero P 0
 none_greatest P never = record { bounds = λ k p. absurd (never k p); reached = λ some. absurd (omega (arith, some)) }
 
 module _ (Known : Measure) (join : ℕ → ℕ → ℕ) (same : Keeps Known) (two : Joins Known join) (words : List ℕ) (rules : List Rule) (primary : Bool) (spots : List Spot) (below : (n p : ℕ) → joined primary spots n ≡ Some p → p < n) where

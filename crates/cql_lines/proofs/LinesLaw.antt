@@ -8,7 +8,8 @@ use Rattle.cq_outside.specs.Spelling.{Pattern, one, nothing, joined, repeated}
 use Rattle.cql_lines.specs.Places.{begins, null_times, nullable, Built}
 use Rattle.cql_lines.specs.Building.{size, firsts_times, firsts, rows_times, rows, IsPlain, AtomsBelow}
 use Rattle.cql_lines.specs.Ways.{Line}
-use Rattle.cql_lines.specs.Down.{Read, IsLongest, AnswerAt, holds}
+use Rattle.cq_outside.specs.Greatest.{IsGreatest}
+use Rattle.cql_lines.specs.Down.{Read, AnswerAt, holds}
 use Rattle.cql_lines.specs.Shapes.{is_searched}
 use Rattle.cql_lines.specs.declared.table.Spot.{Spot}
 use Rattle.cql_lines.specs.TreeOf.{plain_tree}
@@ -56,7 +57,7 @@ rows_atoms (joined p q) atoms few next k i r e = elim (get_either (rows q next k
 rows_atoms (repeated least (Some n) p) atoms few next k i r e = times_atoms (rows p) (firsts p) (nullable p) (size p) atoms (rows_atoms p atoms few) least n next k i r e
 rows_atoms (repeated least None p) atoms few next k i r e = rows_atoms p atoms few (begins (firsts p k) true next) k i r e
 
-same_longest : (P Q : ℕ → Type 0) (o : Option ℕ) → ((k : ℕ) → P k → Q k) → ((k : ℕ) → Q k → P k) → IsLongest P o → IsLongest Q o
+same_longest : (P Q : ℕ → Type 0) (o : Option ℕ) → ((k : ℕ) → P k → Q k) → ((k : ℕ) → Q k → P k) → IsGreatest P o → IsGreatest Q o
 same_longest P Q None on back l = λ k q. l k (back k q)
 same_longest P Q (Some m) on back l = (on m l.0, λ k q. l.1 k (back k q))
 

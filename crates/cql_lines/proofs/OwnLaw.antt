@@ -3,13 +3,14 @@ use Rattle.std.proofs.Common.{◌≡◌, ℕ, zero, suc, ◌<◌, ◌≤◌, Lis
 use Rattle.std.proofs.lemmas.Bool.{cases_lt, cases_Bool}
 use Rattle.std.proofs.lemmas.Option.{slice_get_within}
 use Rattle.cql_lines.specs.declared.automaton.Rule.{Rule}
-use Rattle.cql_lines.specs.Ways.{FromPlace, Below, IsGreatest}
+use Rattle.cql_lines.specs.Ways.{FromPlace, Below, IsGreatestOrZero}
 use Rattle.cql_lines.specs.Lengths.{is_set, at, greatest_in, farther, place_value}
-use Rattle.cql_lines.specs.Down.{holds, Read, IsLongest, found}
+use Rattle.cq_outside.specs.Greatest.{IsGreatest}
+use Rattle.cql_lines.specs.Down.{holds, Read, found}
 use Rattle.cql_lines.proofs.WaysLaw.{place_here, place_off, read_here}
 use Rattle.cql_lines.proofs.Measures.{Measure, HasNone, Goes}
 
-pub longest_found : (P : ℕ → Type 0) (m : ℕ) → (P 0 → ⊥) → IsGreatest P m → IsLongest P (found m)
+pub longest_found : (P : ℕ → Type 0) (m : ℕ) → (P 0 → ⊥) → IsGreatestOrZero P m → IsGreatest P (found m)
 longest_found P zero none g = λ k p. none (subst P (let h = g.bounds k p in omega arith) p)
 longest_found P (suc m) none g = (g.reached (omega arith), g.bounds)
 
@@ -19,19 +20,19 @@ rule_at (r ∷ rules) zero low = (r, refl)
 rule_at (r ∷ rules) (suc i) low = rule_at rules i (omega arith)
 
 module _ (words : List ℕ) (rules : List Rule) (E : ℕ → ℕ → Type 0) where
-  pub place_greatest : (n i held : ℕ) (row : ℕ → ℕ) → ((j : ℕ) → IsGreatest (Below (holds words) rules E j n) (row j)) → (r : Rule) → slice_get rules i ≡ Some r
-      → is_set held r.atom ≡ holds words r.atom n → IsGreatest (FromPlace (holds words) rules E i n) (place_value r held row (length rules))
+  pub place_greatest : (n i held : ℕ) (row : ℕ → ℕ) → ((j : ℕ) → IsGreatestOrZero (Below (holds words) rules E j n) (row j)) → (r : Rule) → slice_get rules i ≡ Some r
+      → is_set held r.atom ≡ holds words r.atom n → IsGreatestOrZero (FromPlace (holds words) rules E i n) (place_value r held row (length rules))
   place_greatest n i held row known r rule table = elim (cases_Bool (is_set held r.atom)) [
     | inl set ↦
         let v : place_value r held row (length rules) ≡ farther r.after.ends (greatest_in r.after.places row (length rules)) = (rw set refl) in
-        subst (IsGreatest (FromPlace (holds words) rules E i n)) (sym v) (place_here (holds words) rules E n i row known r rule (sym table ∙ set))
+        subst (IsGreatestOrZero (FromPlace (holds words) rules E i n)) (sym v) (place_here (holds words) rules E n i row known r rule (sym table ∙ set))
     | inr unset ↦
         let v : place_value r held row (length rules) ≡ 0 = (rw unset refl) in
-        subst (IsGreatest (FromPlace (holds words) rules E i n)) (sym v) (place_off (holds words) rules E n i r rule (sym table ∙ unset))
+        subst (IsGreatestOrZero (FromPlace (holds words) rules E i n)) (sym v) (place_off (holds words) rules E n i r rule (sym table ∙ unset))
   ]
 
-  pub read_found : (f n : ℕ) (own : List ℕ) → ((i : ℕ) → IsGreatest (FromPlace (holds words) rules E i n) (at own i))
-      → IsLongest (Read (holds words) rules E f n) (found (greatest_in f (at own) (length rules)))
+  pub read_found : (f n : ℕ) (own : List ℕ) → ((i : ℕ) → IsGreatestOrZero (FromPlace (holds words) rules E i n) (at own i))
+      → IsGreatest (Read (holds words) rules E f n) (found (greatest_in f (at own) (length rules)))
   read_found f n own known =
       longest_found (Read (holds words) rules E f n) (greatest_in f (at own) (length rules))
       (λ r. (let e = r.2 in omega arith))

@@ -10,7 +10,8 @@ use Rattle.cql_lines.specs.Places.{IsIn, when}
 use Rattle.cql_lines.specs.Ways.{FromPlace, Below}
 use Rattle.cql_lines.specs.Lengths.{is_set}
 use Rattle.cql_lines.specs.Sets.{IsSet, shifted, union_in, place_set, Between}
-use Rattle.cql_lines.specs.Down.{holds, Read, IsLongest}
+use Rattle.cq_outside.specs.Greatest.{IsGreatest}
+use Rattle.cql_lines.specs.Down.{holds, Read}
 use Rattle.cql_lines.proofs.PlacesLaw.{in_left, in_right, in_either, in_none, in_when}
 use Rattle.cql_lines.proofs.WaysLaw.{set_is_in, in_is_set, alone, onward}
 
@@ -160,7 +161,7 @@ module _ (words : List ℕ) (rules : List Rule) (E : ℕ → ℕ → Type 0) whe
   }
 
 -- the greatest number of a set from one to another
-pub longest_between : (P : ℕ → Type 0) (set least most : ℕ) (o : Option ℕ) → most ≤ 127 → IsSet P set → IsLongest (Between least most (IsIn set)) o → IsLongest (Between least most P) o
+pub longest_between : (P : ℕ → Type 0) (set least most : ℕ) (o : Option ℕ) → most ≤ 127 → IsSet P set → IsGreatest (Between least most (IsIn set)) o → IsGreatest (Between least most P) o
 longest_between P set least most None few s l = λ k p. l k (s.off k (let h = p.2 in omega arith) p.0, p.1, p.2)
 longest_between P set least most (Some m) few s l =
     let b = l.0 in

@@ -4,7 +4,7 @@ use Rattle.std.proofs.lemmas.Bool.{cases_lt}
 use Rattle.std.proofs.lemmas.Option.{slice_get_past}
 use Rattle.cql_lines.specs.declared.automaton.Rule.{Rule}
 use Rattle.cql_lines.specs.declared.table.Spot.{Spot}
-use Rattle.cql_lines.specs.Ways.{Follow, Below, IsGreatest}
+use Rattle.cql_lines.specs.Ways.{Follow, Below, IsGreatestOrZero}
 use Rattle.cql_lines.specs.Shapes.{joined, joined_by, Edge}
 use Rattle.cql_lines.specs.Down.{holds}
 
@@ -23,7 +23,7 @@ module _ (primary : Bool) (spots : List Spot) (below : (n p : ℕ) → joined pr
   up_short n [] f = omega arith
   up_short n (c ∷ w) f = (let a = below n c f.0 in let h = up_short c w f.1 in omega arith)
 
-  pub below_short : (words : List ℕ) (rules : List Rule) (n j m : ℕ) → length spots ≤ 65536 → IsGreatest (Below (holds words) rules (Edge false primary spots) j n) m → m < 4294967295
+  pub below_short : (words : List ℕ) (rules : List Rule) (n j m : ℕ) → length spots ≤ 65536 → IsGreatestOrZero (Below (holds words) rules (Edge false primary spots) j n) m → m < 4294967295
   below_short words rules n j m few g = elim (cases_lt 0 m) [
     | inl some ↦
         let r = g.reached some in
@@ -33,7 +33,7 @@ module _ (primary : Bool) (spots : List Spot) (below : (n p : ℕ) → joined pr
     | inr none ↦ omega arith
   ]
 
-  pub above_short : (words : List ℕ) (rules : List Rule) (n j m : ℕ) → n < length spots → length spots ≤ 65536 → IsGreatest (Below (holds words) rules (Edge true primary spots) j n) m → m < 4294967295
+  pub above_short : (words : List ℕ) (rules : List Rule) (n j m : ℕ) → n < length spots → length spots ≤ 65536 → IsGreatestOrZero (Below (holds words) rules (Edge true primary spots) j n) m → m < 4294967295
   above_short words rules n j m low few g = elim (cases_lt 0 m) [
     | inl some ↦
         let r = g.reached some in

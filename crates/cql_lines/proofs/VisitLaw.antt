@@ -10,7 +10,8 @@ use Rattle.cql_lines.specs.declared.table.Spot.{Spot}
 use Rattle.cql_lines.specs.Ways.{FromPlace, Below}
 use Rattle.cql_lines.specs.Lengths.{is_set, at}
 use Rattle.cql_lines.specs.Shapes.{joined, joined_by, searched_by, is_searched, Edge}
-use Rattle.cql_lines.specs.Down.{holds, cell, Late, Stands, IsLongest, found, AnswerAt, Passed}
+use Rattle.cq_outside.specs.Greatest.{IsGreatest}
+use Rattle.cql_lines.specs.Down.{holds, cell, Late, Stands, found, AnswerAt, Passed}
 use Rattle.cql_lines.proofs.DownLaw.{whole_row, stands_more, stands_same}
 use Rattle.cql_lines.proofs.OwnLaw.{own_known}
 use Rattle.cql_lines.proofs.Measures.{Measure, Keeps, Joins, HasNone, Goes}
@@ -19,12 +20,12 @@ unsearched_by : (primary : Bool) (o : Option Spot) → searched_by o ≡ false �
 unsearched_by primary None e = refl
 unsearched_by primary (Some s) e = rw e refl
 
-pub answered_by : (s : Bool) (P : ℕ → Type 0) (o : Option ℕ) → s ≡ true → IsLongest P o → AnswerAt s P o
+pub answered_by : (s : Bool) (P : ℕ → Type 0) (o : Option ℕ) → s ≡ true → IsGreatest P o → AnswerAt s P o
 answered_by true P o e l = l
 answered_by false P o e l = absurd (cc)
 
-pub answered : (s : Bool) (P : ℕ → Type 0) (o : Option ℕ) (m : ℕ) → s ≡ true → IsLongest P (found m) → o ≡ found m → AnswerAt s P o
-answered true P o m e l is = subst (IsLongest P) (sym is) l
+pub answered : (s : Bool) (P : ℕ → Type 0) (o : Option ℕ) (m : ℕ) → s ≡ true → IsGreatest P (found m) → o ≡ found m → AnswerAt s P o
+answered true P o m e l is = subst (IsGreatest P) (sym is) l
 answered false P o m e l is = absurd (cc)
 
 module _ (Known : Measure) (join : ℕ → ℕ → ℕ) (same : Keeps Known) (two : Joins Known join) (words : List ℕ) (rules : List Rule) (primary : Bool) (spots : List Spot) (below : (n p : ℕ) → joined primary spots n ≡ Some p → p < n) where

@@ -7,7 +7,7 @@ use Rattle.cql_lines.specs.declared.automaton.Next.{Next}
 use Rattle.cql_lines.specs.declared.automaton.Rule.{Rule}
 use Rattle.cq_outside.specs.Spelling.{Pattern, Spells}
 use Rattle.cql_lines.specs.Places.{IsIn, from, Accepts, Built}
-use Rattle.cql_lines.specs.Ways.{FromPlace, Below, IsGreatest}
+use Rattle.cql_lines.specs.Ways.{FromPlace, Below, IsGreatestOrZero}
 use Rattle.cql_lines.specs.Down.{Read}
 use Rattle.cql_lines.specs.Lengths.{is_set, greatest_in, farther}
 use Rattle.cql_lines.proofs.PlacesLaw.{pattern_means, in_none}
@@ -73,7 +73,7 @@ one_at_least false (suc m) k e h = omega arith
 
 module _ (test : ℕ → ℕ → Bool) (rules : List Rule) (Edge : ℕ → ℕ → Type 0) where
   -- all lengths of a place are those of its rule
-  place_bounds : (n i : ℕ) (below : ℕ → ℕ) → ((j : ℕ) → IsGreatest (Below test rules Edge j n) (below j)) → (r : Rule) → slice_get rules i ≡ Some r
+  place_bounds : (n i : ℕ) (below : ℕ → ℕ) → ((j : ℕ) → IsGreatestOrZero (Below test rules Edge j n) (below j)) → (r : Rule) → slice_get rules i ≡ Some r
       → (k : ℕ) → FromPlace test rules Edge i n k → k ≤ farther r.after.ends (greatest_in r.after.places below (length rules))
   place_bounds n i below known r rule k ([], follow, e, s, is, holds, read) =
       let same : s ≡ r = (let both = sym is ∙ rule in cc) in
@@ -93,7 +93,7 @@ module _ (test : ℕ → ℕ → Bool) (rules : List Rule) (Edge : ℕ → ℕ �
   onward n i r rule holds j l inside (c, edge, (w, follow, e, s, is, held, read)) =
       (c ∷ w, (edge, follow), ap suc e, r, rule, holds, (j, s, inside, is, held, read))
 
-  place_reached : (n i : ℕ) (below : ℕ → ℕ) → ((j : ℕ) → IsGreatest (Below test rules Edge j n) (below j)) → (r : Rule) → slice_get rules i ≡ Some r → test r.atom n ≡ true
+  place_reached : (n i : ℕ) (below : ℕ → ℕ) → ((j : ℕ) → IsGreatestOrZero (Below test rules Edge j n) (below j)) → (r : Rule) → slice_get rules i ≡ Some r → test r.atom n ≡ true
       → (ends : Bool) (m : ℕ) → r.after.ends ≡ ends → greatest_in r.after.places below (length rules) ≡ m → 0 < farther ends m → FromPlace test rules Edge i n (farther ends m)
   place_reached n i below known r rule holds true zero e g some = alone n i r rule holds e
   place_reached n i below known r rule holds false zero e g some = absurd (omega arith)
@@ -105,21 +105,21 @@ module _ (test : ℕ → ℕ → Bool) (rules : List Rule) (Edge : ℕ → ℕ �
       onward n i r rule holds b.place (suc m) b.is_in (subst (Below test rules Edge b.place n) is ((known b.place).reached positive))
 
   -- one place at one node
-  pub place_here : (n i : ℕ) (below : ℕ → ℕ) → ((j : ℕ) → IsGreatest (Below test rules Edge j n) (below j)) → (r : Rule) → slice_get rules i ≡ Some r
-      → test r.atom n ≡ true → IsGreatest (FromPlace test rules Edge i n) (farther r.after.ends (greatest_in r.after.places below (length rules)))
+  pub place_here : (n i : ℕ) (below : ℕ → ℕ) → ((j : ℕ) → IsGreatestOrZero (Below test rules Edge j n) (below j)) → (r : Rule) → slice_get rules i ≡ Some r
+      → test r.atom n ≡ true → IsGreatestOrZero (FromPlace test rules Edge i n) (farther r.after.ends (greatest_in r.after.places below (length rules)))
   place_here n i below known r rule holds = record {
     bounds = λ k f. place_bounds n i below known r rule k f;
     reached = λ some. place_reached n i below known r rule holds r.after.ends (greatest_in r.after.places below (length rules)) refl refl some;
   }
 
-  pub place_off : (n i : ℕ) (r : Rule) → slice_get rules i ≡ Some r → test r.atom n ≡ false → IsGreatest (FromPlace test rules Edge i n) 0
+  pub place_off : (n i : ℕ) (r : Rule) → slice_get rules i ≡ Some r → test r.atom n ≡ false → IsGreatestOrZero (FromPlace test rules Edge i n) 0
   place_off n i r rule off = record {
     bounds = λ k f. absurd (let both = sym f.4 ∙ rule in let same : f.3 ≡ r = cc in let h = f.5 in let h' = ap (λ (t : Rule). test t.atom n) same in cc);
     reached = λ some. absurd (omega arith);
   }
 
   -- some of the places, at one node
-  pub read_here : (f n : ℕ) (values : ℕ → ℕ) → ((i : ℕ) → IsGreatest (FromPlace test rules Edge i n) (values i)) → IsGreatest (Read test rules Edge f n) (greatest_in f values (length rules))
+  pub read_here : (f n : ℕ) (values : ℕ → ℕ) → ((i : ℕ) → IsGreatestOrZero (FromPlace test rules Edge i n) (values i)) → IsGreatestOrZero (Read test rules Edge f n) (greatest_in f values (length rules))
   read_here f n values known = record {
     bounds = λ k line.
         let read = line.3 in

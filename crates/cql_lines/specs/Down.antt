@@ -1,5 +1,6 @@
 -- What the rows of lengths tell, as they are filled from the last node to the first.
 use Rattle.std.specs.Prelude.{◌≡◌, ℕ, zero, suc, ◌+◌, ◌≤◌, List, [], ◌∷◌, Bool, true, false, Option, Some, None, length, get_or}
+use Rattle.cq_outside.specs.Greatest.{IsGreatest}
 use Rattle.cql_lines.specs.declared.automaton.Rule.{Rule}
 use Rattle.cql_lines.specs.declared.table.Spot.{Spot}
 use Rattle.cql_lines.specs.Places.{from, Accepts}
@@ -30,18 +31,13 @@ pub record Stands (Known : (ℕ → Type 0) → ℕ → Type 0) (words : List �
 abbrev pub Read : (ℕ → ℕ → Bool) → List Rule → (ℕ → ℕ → Type 0) → ℕ → ℕ → ℕ → Type 0
 Read test rules Edge f n k = (w : List ℕ) × Follow Edge n w × (k ≡ suc (length w)) × Accepts test rules (from f) (n ∷ w)
 
--- the answer is the greatest number, or none where there is none
-abbrev pub IsLongest : (ℕ → Type 0) → Option ℕ → Type 0
-IsLongest P None = (k : ℕ) → P k → ⊥
-IsLongest P (Some m) = P m × ((k : ℕ) → P k → k ≤ m)
-
 abbrev pub found : ℕ → Option ℕ
 found zero = None
 found (suc m) = Some (suc m)
 
 -- what is answered at a node
 abbrev pub AnswerAt : Bool → (ℕ → Type 0) → Option ℕ → Type 0
-AnswerAt true P o = IsLongest P o
+AnswerAt true P o = IsGreatest P o
 AnswerAt false P o = o ≡ None
 
 -- what a node's row gives to the row of its parent

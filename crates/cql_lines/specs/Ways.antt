@@ -24,6 +24,6 @@ abbrev pub Below : (ℕ → ℕ → Bool) → List Rule → (ℕ → ℕ → Typ
 Below test rules Edge j n k = (c : ℕ) × Edge n c × FromPlace test rules Edge j c k
 
 -- m is the greatest of the numbers, all above 0, or 0 where there is none
-pub record IsGreatest (P : ℕ → Type 0) (m : ℕ) : Type 0 where
+pub record IsGreatestOrZero (P : ℕ → Type 0) (m : ℕ) : Type 0 where
   pub bounds : (k : ℕ) → P k → k ≤ m
   pub reached : 0 < m → P m

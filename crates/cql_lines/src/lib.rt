@@ -9,14 +9,12 @@ mod looks;
 pub mod pattern;
 mod plain;
 mod sets;
-pub mod steps;
 pub mod table;
 mod values;
 
 pub use automaton::Automaton;
 pub use lines::line_values;
 pub use pattern::{Pattern, Patterns};
-pub use steps::Steps;
 pub use table::{AtomTable, Shape};
 
 #[cfg(test)]

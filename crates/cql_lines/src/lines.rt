@@ -7,10 +7,9 @@ ghost use Rattle.cql_lines.specs.Values.{IsValueAt};
 
 use crate::automaton::Automaton;
 use crate::sets::within;
-use crate::steps::Steps;
 use crate::table::{AtomTable, Shape};
 use crate::values::longest;
-use cq_outside::NoMemory;
+use cq_outside::{NoMemory, Steps};
 use std::alloc::Global;
 use std::sync::ledger::Ledger;
 

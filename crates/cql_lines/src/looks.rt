@@ -4,9 +4,8 @@ ghost use Rattle.cql_lines.specs.Lengths.{is_set, at};
 ghost use Rattle.cql_lines.specs.Down.{holds};
 ghost use Rattle.cql_lines.specs.Shapes.{joined, is_searched};
 
-use crate::steps::Steps;
 use crate::table::{AtomTable, Extent, Shape, Spot};
-use cq_outside::NoMemory;
+use cq_outside::{NoMemory, Steps};
 use std::alloc::Global;
 use std::sync::ledger::Ledger;
 

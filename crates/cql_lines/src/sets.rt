@@ -1,6 +1,7 @@
 //! The sets of lengths, where the lengths that count are limited: bit k of a word is the length k, and no greater length than 127 counts.
 ghost use Rattle.std.specs.Prelude.{◌≡◌, ℕ, ◌+◌, ◌*◌, ◌<◌, ◌≤◌, get_or, length, if◌then◌else◌, bit_or, slice_get, Some, None, ◌-◌, false, IfOk, replicate, true};
-ghost use Rattle.cql_lines.specs.Down.{Passed, Stands, AnswerAt, Read, holds, IsLongest};
+ghost use Rattle.cq_outside.specs.Greatest.{IsGreatest};
+ghost use Rattle.cql_lines.specs.Down.{Passed, Stands, AnswerAt, Read, holds};
 ghost use Rattle.cql_lines.specs.Shapes.{Edge, is_searched, joined, searched_count};
 ghost use Rattle.cql_lines.specs.Up.{StandsUp, IsAbove};
 ghost use Rattle.cql_lines.specs.Lengths.{is_set, at};
@@ -9,9 +10,9 @@ ghost use Rattle.cql_lines.specs.Sets.{IsSet, Between, shifted, union_in, place_
 ghost use Rattle.cql_lines.specs.declared.automaton.Rule.{Rule as RuleValue};
 
 use crate::automaton::Rule;
-use crate::steps::Steps;
 use crate::table::{AtomTable, Extent, Shape};
 use crate::values::blank_values;
+use cq_outside::Steps;
 use std::alloc::{AllocError, Global};
 use std::sync::ledger::Ledger;
 
@@ -66,7 +67,7 @@ fn alone(ends: bool) -> u128
 /// The greatest length of the set from `least` to `most`.
 pub fn greatest_within(set: u128, least: u32, most: u32) -> Option<u32>
     requires { most < 128 }
-    ensures { IsLongest (Between least most (IsIn set)) result }
+    ensures { IsGreatest (Between least most (IsIn set)) result }
 {
     for back in 0..most + 1 {
         let k = most - back;

@@ -5,8 +5,8 @@ ghost use Rattle.cql_lines.specs.Building.{AtomsBelow};
 ghost use Rattle.cql_lines.specs.PatternTrees.{pattern_tree};
 ghost use Rattle.cql_lines.specs.Shapes.{searched_count};
 
-use crate::{AtomTable, Automaton, Pattern, Patterns, Shape, Steps, line_values};
-use cq_outside::NoMemory;
+use crate::{AtomTable, Automaton, Pattern, Patterns, Shape, line_values};
+use cq_outside::{NoMemory, Steps};
 use std::alloc::Global;
 use std::marker::Brand;
 use std::process::Abort;

@@ -1,15 +1,15 @@
 //! The greatest lengths.
 ghost use Rattle.std.specs.Prelude.{◌≡◌, ℕ, ◌+◌, ◌*◌, ◌<◌, ◌≤◌, ◌||◌, get_or, length, List, max, if◌then◌else◌, slice_get, Some, None, Option, ◌-◌, false, IfOk, replicate, true};
 ghost use Rattle.cql_lines.specs.Down.{found, Passed, Stands, AnswerAt, Read, holds};
-ghost use Rattle.cql_lines.specs.Ways.{IsGreatest};
+ghost use Rattle.cql_lines.specs.Ways.{IsGreatestOrZero};
 ghost use Rattle.cql_lines.specs.Shapes.{Edge, is_searched, joined, searched_count};
 ghost use Rattle.cql_lines.specs.Up.{StandsUp, IsAbove};
 ghost use Rattle.cql_lines.specs.Lengths.{greatest_in, place_value, is_set, at};
 ghost use Rattle.cql_lines.specs.declared.automaton.Rule.{Rule as RuleValue};
 
 use crate::automaton::Rule;
-use crate::steps::Steps;
 use crate::table::{AtomTable, Shape};
+use cq_outside::Steps;
 use std::alloc::{AllocError, Global};
 use std::sync::ledger::Ledger;
 
@@ -120,9 +120,9 @@ pub fn visit_down<L: Ledger>(
     requires words { length table.now.words.items ≡ length shape.now.spots.items }
     requires nodes { length shape.now.spots.items ≤ 65536 }
     requires node { node < length shape.now.spots.items }
-    requires stands { Stands IsGreatest table.now.words.items rules.now shape.now.primary shape.now.spots.items
+    requires stands { Stands IsGreatestOrZero table.now.words.items rules.now shape.now.primary shape.now.spots.items
         (length shape.now.spots.items - node - 1) rows.old }
-    ensures stands { Stands IsGreatest table.now.words.items rules.now shape.now.primary shape.now.spots.items
+    ensures stands { Stands IsGreatestOrZero table.now.words.items rules.now shape.now.primary shape.now.spots.items
         (length shape.now.spots.items - node) rows.new }
     ensures value { AnswerAt (is_searched shape.now.spots.items node)
         (Read (holds table.now.words.items) rules.now (Edge false shape.now.primary shape.now.spots.items) first node) result }
@@ -212,8 +212,8 @@ pub fn visit_up<L: Ledger>(
     requires words { length table.now.words.items ≡ length shape.now.spots.items }
     requires nodes { length shape.now.spots.items ≤ 65536 }
     requires node { node < length shape.now.spots.items }
-    requires stands { StandsUp IsGreatest table.now.words.items rules.now shape.now.primary shape.now.spots.items node rows.old }
-    ensures stands { StandsUp IsGreatest table.now.words.items rules.now shape.now.primary shape.now.spots.items (node + 1) rows.new }
+    requires stands { StandsUp IsGreatestOrZero table.now.words.items rules.now shape.now.primary shape.now.spots.items node rows.old }
+    ensures stands { StandsUp IsGreatestOrZero table.now.words.items rules.now shape.now.primary shape.now.spots.items (node + 1) rows.new }
     ensures value { AnswerAt (is_searched shape.now.spots.items node)
         (Read (holds table.now.words.items) rules.now (Edge true shape.now.primary shape.now.spots.items) first node) result }
     ensures cost { steps.new ≤ steps.old + table.now.atoms }

@@ -6,7 +6,8 @@ use Rattle.std.proofs.lemmas.List.{get_or_past}
 use Rattle.cql_syntax.specs.Meaning.{allows}
 use Rattle.cql_syntax.specs.declared.extents.Extent.{Extent}
 use Rattle.cql_plain.specs.Places.{IsIn}
-use Rattle.cql_plain.specs.Paths.{length_at, nodes_to, IsLength, IsGreatest, with_number}
+use Rattle.cq_outside.specs.Greatest.{IsGreatest}
+use Rattle.cql_plain.specs.Paths.{length_at, nodes_to, IsLength, with_number}
 use Rattle.cql_plain.specs.declared.paths.Reached.{Reached}
 
 pub greatest_with : (P Q : ℕ → Type 0) (best : Option ℕ) (counts : Bool) (n : ℕ) → ((m : ℕ) → P m → Q m) → (counts ≡ true → Q n)

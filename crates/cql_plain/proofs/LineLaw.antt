@@ -10,7 +10,8 @@ use Rattle.cql_syntax.specs.Meaning.{allows, longer, longest, line_of}
 use Rattle.cql_syntax.specs.Values.{Value, as_number, holds}
 use Rattle.cql_syntax.specs.declared.extents.Extent.{Extent}
 use Rattle.cql_plain.specs.Lines.{EndsOf}
-use Rattle.cql_plain.specs.Paths.{GoesTo, length_at, AreSteps, ArePaths, IsLength, IsGreatest, with_number}
+use Rattle.cq_outside.specs.Greatest.{IsGreatest}
+use Rattle.cql_plain.specs.Paths.{GoesTo, length_at, AreSteps, ArePaths, IsLength, with_number}
 use Rattle.cql_plain.specs.Places.{Slice, IsIn}
 use Rattle.cql_plain.specs.declared.paths.Reached.{Reached}
 use Rattle.cql_plain.proofs.Lengths.{greatest_with, left, right}

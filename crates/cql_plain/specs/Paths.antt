@@ -50,11 +50,6 @@ abbrev pub IsLength : List (Option Reached) → List Bool → Extent → ℕ →
 IsLength steps ends extent len =
     (k : ℕ) × IsIn ends (suc k) × (length_at steps (suc k) ≡ len) × (allows extent len ≡ true)
 
--- the greatest of some numbers, or none where there is none
-abbrev pub IsGreatest : (ℕ → Type 0) → Option ℕ → Type 0
-IsGreatest P None = (k : ℕ) → P k → ⊥
-IsGreatest P (Some m) = P m × ((k : ℕ) → P k → k ≤ m)
-
 -- one number more
 abbrev pub with_number : Option ℕ → Bool → ℕ → Option ℕ
 with_number best false n = best

@@ -4,7 +4,8 @@ ghost use Rattle.cq_position.specs.Games.{IsTree};
 ghost use Rattle.cql_syntax.specs.Meaning as meaning;
 ghost use Rattle.cql_syntax.specs.Values.{as_number};
 ghost use Rattle.cql_plain.specs.Paths as path;
-ghost use Rattle.cql_plain.specs.Paths.{ArePaths, IsGreatest, IsLength};
+ghost use Rattle.cq_outside.specs.Greatest.{IsGreatest};
+ghost use Rattle.cql_plain.specs.Paths.{ArePaths, IsLength};
 ghost use Rattle.cql_plain.specs.Shown.{meant};
 ghost use Rattle.cql_plain.specs.Trees.{searched_tree};
 

@@ -8,8 +8,7 @@ ghost use Rattle.cql_plan.specs.Needs.{query_passes};
 
 use crate::needs::all_needed;
 use crate::verdict::{Verdict, find};
-use cq_outside::NoMemory;
-use cql_lines::Steps;
+use cq_outside::{NoMemory, Steps};
 use cql_rewrite::expand;
 use cql_syntax::{FlatQuery, TypedQuery};
 use pgn_tree::Game;

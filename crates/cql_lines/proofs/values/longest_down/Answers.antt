@@ -3,7 +3,7 @@ use Rattle.std.proofs.lemmas.List.{length-set, length-replicate}
 use Rattle.std.specs.Prelude.{replicate}
 use Rattle.cql_lines.specs.Down.{Stands, Read, holds}
 use Rattle.cql_lines.specs.Shapes.{Edge, is_searched}
-use Rattle.cql_lines.specs.Ways.{IsGreatest}
+use Rattle.cql_lines.specs.Ways.{IsGreatestOrZero}
 use Rattle.cql_lines.proofs.DownLaw.{none_greatest}
 use Rattle.cql_lines.proofs.VisitLaw.{stands_first, done_more}
 use Rattle.cql_lines.proofs.Counts.{cost_first, cost_down}
@@ -14,8 +14,8 @@ loop-turn-init g c = record {
   stands =
       let rows : c.as_mut_slice-grid.result.now ≡ replicate (length c.args.shape.now.spots.items) (replicate 64 0) =
       c.as_mut_slice-grid.ensures.value ∙ c.in_ok-rows.ensures ∙ ap (λ n. replicate n (replicate 64 0)) c.len-nodes.ensures in
-      subst (Stands IsGreatest c.args.table.now.words.items c.args.rules.now c.args.shape.now.primary c.args.shape.now.spots.items 0) (sym rows)
-      (stands_first IsGreatest none_greatest c.args.table.now.words.items c.args.rules.now c.args.shape.now.primary c.args.shape.now.spots.items);
+      subst (Stands IsGreatestOrZero c.args.table.now.words.items c.args.rules.now c.args.shape.now.primary c.args.shape.now.spots.items 0) (sym rows)
+      (stands_first IsGreatestOrZero none_greatest c.args.table.now.words.items c.args.rules.now c.args.shape.now.primary c.args.shape.now.spots.items);
   size = ap length c.in_ok-values.ensures ∙ length-replicate c.len-nodes.result None ∙ c.len-nodes.ensures;
   done = λ n late low. absurd (omega arith);
   cost = cost_first c.args.shape.now.spots.items c.args.table.now.atoms _ _;
@@ -41,14 +41,14 @@ within_spots size nodes turn e low = omega arith
 
 pub visit_down-requires-clause-stands : goal.visit_down-requires-clause-stands
 visit_down-requires-clause-stands g c =
-    subst (λ t. Stands IsGreatest c.args.table.now.words.items c.args.rules.now c.args.shape.now.primary c.args.shape.now.spots.items t c.loop-turn.grid)
+    subst (λ t. Stands IsGreatestOrZero c.args.table.now.words.items c.args.rules.now c.args.shape.now.primary c.args.shape.now.spots.items t c.loop-turn.grid)
     (sym (turn_of (length c.args.shape.now.spots.items) c.len-nodes.result c.loop-turn.turn c.len-nodes.ensures c.loop-turn-test.true))
     c.loop-turn.invariant.stands
 
 pub loop-turn-preserved : goal.loop-turn-preserved
 loop-turn-preserved g c = record {
   stands =
-      subst (λ t. Stands IsGreatest c.args.table.now.words.items c.args.rules.now c.args.shape.now.primary c.args.shape.now.spots.items t c.visit_down.new.rows)
+      subst (λ t. Stands IsGreatestOrZero c.args.table.now.words.items c.args.rules.now c.args.shape.now.primary c.args.shape.now.spots.items t c.visit_down.new.rows)
       (next_of (length c.args.shape.now.spots.items) c.len-nodes.result c.loop-turn.turn c.len-nodes.ensures c.loop-turn-test.true)
       c.visit_down.ensures.stands;
   size = length-set c.loop-turn.values.items (c.len-nodes.result - 1 - c.loop-turn.turn) c.visit_down.result ∙ c.loop-turn.invariant.size;

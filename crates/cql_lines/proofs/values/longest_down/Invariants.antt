@@ -1,12 +1,12 @@
 use Rattle.std.proofs.Common.{◌≡◌, ℕ, ◌+◌, ◌*◌, ◌<◌, ◌≤◌, get_or, length, None, false, take, ◌-◌}
 use Rattle.cql_lines.specs.Down.{Stands, AnswerAt, Read, holds}
-use Rattle.cql_lines.specs.Ways.{IsGreatest}
+use Rattle.cql_lines.specs.Ways.{IsGreatestOrZero}
 use Rattle.cql_lines.specs.Shapes.{Edge, is_searched, searched_count}
 use Rattle.cql_lines.proofs.values.longest_down.Given as goal
 
 abbrev pub invariant-loop-turn : goal.invariant-loop-turn
 invariant-loop-turn g l = record {
-  stands : Stands IsGreatest l.table.words.items l.rules l.shape.primary l.shape.spots.items l.turn l.grid;
+  stands : Stands IsGreatestOrZero l.table.words.items l.rules l.shape.primary l.shape.spots.items l.turn l.grid;
   size : length l.values.items ≡ length l.shape.spots.items;
   done : (n : ℕ) → length l.shape.spots.items ≤ n + l.turn → n < length l.shape.spots.items →
       AnswerAt (is_searched l.shape.spots.items n) (Read (holds l.table.words.items) l.rules (Edge false l.shape.primary l.shape.spots.items) l.first n) (get_or l.values.items n None);

@@ -4,7 +4,7 @@ use Rattle.std.proofs.lemmas.List.{length-set, length-replicate}
 use Rattle.cql_lines.specs.Down.{Read, holds}
 use Rattle.cql_lines.specs.Up.{StandsUp}
 use Rattle.cql_lines.specs.Shapes.{Edge, is_searched}
-use Rattle.cql_lines.specs.Ways.{IsGreatest}
+use Rattle.cql_lines.specs.Ways.{IsGreatestOrZero}
 use Rattle.cql_lines.proofs.UpLaw.{stands_up_first, up_more}
 use Rattle.cql_lines.proofs.Counts.{cost_all, cost_up}
 use Rattle.cql_lines.proofs.values.longest_up.Goals as goal
@@ -14,8 +14,8 @@ loop-node-init g c = record {
   stands =
       let rows : c.as_mut_slice-grid.result.now ≡ replicate (length c.args.shape.now.spots.items) (replicate 64 0) =
       c.as_mut_slice-grid.ensures.value ∙ c.in_ok-rows.ensures ∙ ap (λ n. replicate n (replicate 64 0)) c.len-nodes.ensures in
-      subst (StandsUp IsGreatest c.args.table.now.words.items c.args.rules.now c.args.shape.now.primary c.args.shape.now.spots.items 0) (sym rows)
-      (stands_up_first IsGreatest c.args.table.now.words.items c.args.rules.now c.args.shape.now.primary c.args.shape.now.spots.items);
+      subst (StandsUp IsGreatestOrZero c.args.table.now.words.items c.args.rules.now c.args.shape.now.primary c.args.shape.now.spots.items 0) (sym rows)
+      (stands_up_first IsGreatestOrZero c.args.table.now.words.items c.args.rules.now c.args.shape.now.primary c.args.shape.now.spots.items);
   size = ap length c.in_ok-values.ensures ∙ length-replicate c.len-nodes.result None ∙ c.len-nodes.ensures;
   done = λ n low. absurd (omega (arith, low));
   cost = cost_all _ _;

@@ -1,13 +1,13 @@
 use Rattle.std.proofs.Common.{◌≡◌, ℕ, ◌+◌, ◌*◌, ◌<◌, ◌≤◌, get_or, length, None, true, drop}
 use Rattle.cql_lines.specs.Down.{AnswerAt, Read, holds}
 use Rattle.cql_lines.specs.Up.{StandsUp}
-use Rattle.cql_lines.specs.Ways.{IsGreatest}
+use Rattle.cql_lines.specs.Ways.{IsGreatestOrZero}
 use Rattle.cql_lines.specs.Shapes.{Edge, is_searched, searched_count}
 use Rattle.cql_lines.proofs.values.longest_up.Given as goal
 
 abbrev pub invariant-loop-node : goal.invariant-loop-node
 invariant-loop-node g l = record {
-  stands : StandsUp IsGreatest l.table.words.items l.rules l.shape.primary l.shape.spots.items l.node l.grid;
+  stands : StandsUp IsGreatestOrZero l.table.words.items l.rules l.shape.primary l.shape.spots.items l.node l.grid;
   size : length l.values.items ≡ length l.shape.spots.items;
   done : (n : ℕ) → n < l.node →
       AnswerAt (is_searched l.shape.spots.items n) (Read (holds l.table.words.items) l.rules (Edge true l.shape.primary l.shape.spots.items) l.first n) (get_or l.values.items n None);
