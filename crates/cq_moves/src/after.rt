@@ -7,7 +7,9 @@ use crate::castling::castling_crossed;
 use cq_geometry::{Square, file, files_apart, rank, square_at};
 use cq_position::home::rook_home;
 use cq_position::position::is_pawn;
-use cq_position::{Man, Move, Position, Promotion, Side, is_same, king_of, rook_of};
+use cq_position::{
+    Man, Move, Piece, Position, Promotion, Side, is_same, king_of, man_of, rook_of,
+};
 
 /// The men on the squares a1, b1, .. h8 after a move of the side to move.
 ///
@@ -43,16 +45,12 @@ fn men_moved(position: &Position, m: &Move) -> [Man; 64]
 fn promoted(side: Side, promotion: Promotion, man: Man) -> Man
     ensures { result ≡ legal.promoted side promotion man }
 {
-    match (side, promotion) {
-        (_, Promotion::None) => man,
-        (Side::White, Promotion::Q) => Man::Q,
-        (Side::White, Promotion::R) => Man::R,
-        (Side::White, Promotion::B) => Man::B,
-        (Side::White, Promotion::N) => Man::N,
-        (Side::Black, Promotion::Q) => Man::BlackQ,
-        (Side::Black, Promotion::R) => Man::BlackR,
-        (Side::Black, Promotion::B) => Man::BlackB,
-        (Side::Black, Promotion::N) => Man::BlackN,
+    match promotion {
+        Promotion::None => man,
+        Promotion::Q => man_of(side, Piece::Queen),
+        Promotion::R => man_of(side, Piece::Rook),
+        Promotion::B => man_of(side, Piece::Bishop),
+        Promotion::N => man_of(side, Piece::Knight),
     }
 }
 

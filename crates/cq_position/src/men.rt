@@ -28,6 +28,17 @@ pub enum Man {
     Empty,
 }
 
+/// What a man is, whatever its side (FIDE Laws of Chess, article 2.2).
+#[derive(Clone, Copy, Debug, PartialEq, Eq)]
+pub enum Piece {
+    King,
+    Queen,
+    Rook,
+    Bishop,
+    Knight,
+    Pawn,
+}
+
 /// What a pawn that reaches the last rank becomes: a queen, a rook, a bishop or a knight (FIDE Laws of Chess, article 3.7); `None` for
 /// every other move.
 #[derive(Clone, Copy, Debug, PartialEq, Eq)]
@@ -112,15 +123,37 @@ pub fn opponent(side: Side) -> Side
     }
 }
 
+/// The man of a side that is such a piece.
+#[inline]
+pub fn man_of(side: Side, piece: Piece) -> Man
+    ensures { result ≡ men_spec.man_of side piece }
+{
+    match side {
+        Side::White => match piece {
+            Piece::King => Man::K,
+            Piece::Queen => Man::Q,
+            Piece::Rook => Man::R,
+            Piece::Bishop => Man::B,
+            Piece::Knight => Man::N,
+            Piece::Pawn => Man::P,
+        },
+        Side::Black => match piece {
+            Piece::King => Man::BlackK,
+            Piece::Queen => Man::BlackQ,
+            Piece::Rook => Man::BlackR,
+            Piece::Bishop => Man::BlackB,
+            Piece::Knight => Man::BlackN,
+            Piece::Pawn => Man::BlackP,
+        },
+    }
+}
+
 /// The man that is the king of a side.
 #[inline]
 pub fn king_of(side: Side) -> Man
     ensures { result ≡ men_spec.king_of side }
 {
-    match side {
-        Side::White => Man::K,
-        Side::Black => Man::BlackK,
-    }
+    man_of(side, Piece::King)
 }
 
 /// The man that is a rook of a side.
@@ -128,8 +161,5 @@ pub fn king_of(side: Side) -> Man
 pub fn rook_of(side: Side) -> Man
     ensures { result ≡ men_spec.rook_of side }
 {
-    match side {
-        Side::White => Man::R,
-        Side::Black => Man::BlackR,
-    }
+    man_of(side, Piece::Rook)
 }

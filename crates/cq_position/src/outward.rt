@@ -11,7 +11,7 @@ ghost use Rattle.cq_position.specs.Outward as outward;
 ghost use Rattle.cq_position.specs.Outward.{first_is, pawn_origins};
 
 use crate::attacks::is_occupied;
-use crate::men::{Man, Side, is_same, king_of};
+use crate::men::{Man, Piece, Side, is_same, king_of, man_of};
 use cq_geometry::{Square, Step};
 
 /// Whether a man of a side attacks a square of this board, also where the man may not move (FIDE Laws of Chess, article 3.9.1).
@@ -153,8 +153,5 @@ fn holds(men: &[Man; 64], man: Man, goal: Option<Square>) -> bool
 fn knight_of(side: Side) -> Man
     ensures { result ≡ outward.knight_of side }
 {
-    match side {
-        Side::White => Man::N,
-        Side::Black => Man::BlackN,
-    }
+    man_of(side, Piece::Knight)
 }

@@ -13,7 +13,7 @@ use Rattle.cq_position.specs.declared.men.Promotion.TheVariants.{None as NoPromo
 use Rattle.cq_position.specs.declared.men.Side.{Side}
 use Rattle.cq_position.specs.declared.men.Side.TheVariants.{White, Black}
 use Rattle.cq_position.specs.declared.moves.Move.{Move}
-use Rattle.cq_position.specs.Men.{same_man, is_of_side, promotion_number, king_of, opponent}
+use Rattle.cq_position.specs.Men.{same_man, is_of_side, man_of, promotion_number, king_of, opponent}
 use Rattle.cq_position.specs.Board.{Board, man_at, stands, is_pawn, king_home, passant_stands}
 use Rattle.cq_position.specs.Attacks.{in_check}
 use Rattle.cq_position.specs.Legal.{goes_as, Legal, Leads, is_castling, castling_goal, is_none, promotion_is_right, pawn_promotion_is_right}
@@ -25,11 +25,11 @@ use Rattle.cq_moves.proofs.Law.{Moves, what_moves}
 use Rattle.cq_position.proofs.Legality.{legal_passes}
 use Rattle.cq_moves.proofs.Order.{legal_is_listed}
 use Rattle.cq_moves.proofs.Castled.{Castles, castles_when, castling_squares}
-use Rattle.cq_san.specs.declared.parts.Piece.{Piece}
+use Rattle.cq_position.specs.declared.men.Piece.{Piece}
 use Rattle.cq_san.specs.declared.parts.PieceMove.{PieceMove}
 use Rattle.cq_san.specs.declared.parts.Parts.{Parts}
 use Rattle.cq_san.specs.declared.parts.Parts.TheVariants.{Castling, Null, Moved}
-use Rattle.cq_san.specs.Fits.{man_of, agrees_where_given, is_same_promotion, goes_right, agrees_in_parts, agrees, Fits}
+use Rattle.cq_san.specs.Fits.{agrees_where_given, is_same_promotion, goes_right, agrees_in_parts, agrees, Fits}
 use Rattle.cq_san.specs.Reading.{IsMeant}
 use Rattle.cq_san.specs.Writing.{piece_of_man, is_capture, is_rival, rivals_of, tells, file_among, rank_among, given_file, given_rank, piece_parts, san_parts}
 use Rattle.cq_san.proofs.Meaning.{null_meant}

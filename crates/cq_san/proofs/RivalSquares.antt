@@ -16,7 +16,7 @@ use Rattle.cq_position.specs.declared.men.Promotion.TheVariants.{None as NoPromo
 use Rattle.cq_position.specs.declared.men.Side.{Side}
 use Rattle.cq_position.specs.declared.men.Side.TheVariants.{White, Black}
 use Rattle.cq_position.specs.declared.moves.Move.{Move}
-use Rattle.cq_position.specs.Men.{same_man, king_of}
+use Rattle.cq_position.specs.Men.{same_man, man_of, king_of}
 use Rattle.cq_position.specs.Board.{Board, man_at, stands, is_pawn, has_kings, count_of}
 use Rattle.cq_position.specs.Legal.{Legal, is_castling, is_none, pawn_promotion_is_right, after}
 use Rattle.cq_position.specs.Position.{IsPosition}
@@ -28,7 +28,7 @@ use Rattle.cq_position.proofs.Legality.{legal_passes, test_leads}
 use Rattle.cq_moves.proofs.Order.{listed_is_legal, legal_is_listed}
 use Rattle.cq_san.specs.declared.parts.PieceMove.{PieceMove}
 use Rattle.cq_san.specs.declared.parts.Parts.TheVariants.{Moved}
-use Rattle.cq_san.specs.Fits.{agrees_in_parts, is_same_promotion, man_of}
+use Rattle.cq_san.specs.Fits.{agrees_in_parts, is_same_promotion}
 use Rattle.cq_san.specs.Origins.{move_from, is_origin, origins}
 use Rattle.cq_san.specs.Rivals.{on_file, on_rank, unplaced, is_elsewhere, is_elsewhere_on_file, is_elsewhere_on_rank}
 use Rattle.cq_san.specs.Writing.{is_rival, piece_of_man}

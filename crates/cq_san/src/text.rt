@@ -17,12 +17,12 @@ ghost use Rattle.cq_san.specs.Reading.{IsMeant};
 
 use crate::fit::goes_right;
 use crate::origins::origins;
-use crate::parts::{Parts, Piece, PieceMove};
+use crate::parts::{Parts, PieceMove};
 use arrayvec::ArrayString;
 use cq_geometry::{Square, file, files_apart, rank};
 use cq_moves::{is_castling, is_mate, play};
 use cq_position::position::is_pawn;
-use cq_position::{Man, Move, Position, Promotion, in_check, is_same};
+use cq_position::{Man, Move, Piece, Position, Promotion, in_check, is_same};
 
 // The piece that a man is.
 fn piece_of_man(man: Man) -> Piece
