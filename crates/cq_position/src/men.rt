@@ -1,6 +1,6 @@
 //! The two sides, the men and their letters.
 ghost use Rattle.std.specs.Prelude.{◌≡◌};
-ghost use Rattle.cq_position.specs.Men.{man_with_letter, letter_of_man, same_man};
+ghost use Rattle.cq_position.specs.Men.{man_with_letter, letter_of_man};
 ghost use Rattle.cq_position.specs.Men as men_spec;
 
 /// One of the two players.
@@ -90,14 +90,6 @@ pub fn letter_of(man: Man) -> Option<u8>
         Man::BlackP => Some(b'p'),
         Man::Empty => None,
     }
-}
-
-/// Whether two squares hold the same: men of one kind and one side, or nothing.
-#[inline]
-pub fn is_same(man: Man, other: Man) -> bool
-    ensures { result ≡ same_man man other }
-{
-    man as u8 == other as u8
 }
 
 /// Whether a man is of a side; the empty square is of none.
