@@ -17,8 +17,8 @@ use Rattle.cq_position.specs.Continuations.{Played, none, played}
 use Rattle.cq_position.specs.Legal.{after, raised}
 use Rattle.cq_position.proofs.Nested.{continuations_back}
 use Rattle.cq_moves.specs.LegalMoves.{legal_list}
-use Rattle.cq_san.specs.declared.parts.Piece.{Piece}
-use Rattle.cq_san.specs.declared.parts.Piece.TheVariants.{King, Queen, Rook, Bishop, Knight, Pawn}
+use Rattle.cq_position.specs.declared.men.Piece.{Piece}
+use Rattle.cq_position.specs.declared.men.Piece.TheVariants.{King, Queen, Rook, Bishop, Knight, Pawn}
 use Rattle.cq_san.specs.declared.parts.Parts.{Parts}
 use Rattle.cq_san.specs.declared.parts.Parts.TheVariants.{Castling, Null, Moved}
 use Rattle.cq_san.specs.Writing.{letter, coordinate, promotion_text, capture_sign, parts_text, check_sign, sign_of, san_text, san_parts, is_capture}

@@ -1,9 +1,61 @@
-//! The squares of castling (FIDE Laws of Chess, article 3.8.2).
-ghost use Rattle.std.specs.Prelude.{◌≡◌};
+//! Castling (FIDE Laws of Chess, article 3.8.2).
+ghost use Rattle.std.specs.Prelude.{◌≡◌, not};
+ghost use Rattle.std.specs.List.{list_all};
+ghost use Rattle.cq_position.specs.Attacks as attack;
+ghost use Rattle.cq_position.specs.Bitboards.{IsBitboard};
 ghost use Rattle.cq_position.specs.Legal as legal;
+ghost use Rattle.cq_moves.specs.Candidates.{is_castling_goal};
 
-use cq_geometry::Square;
-use cq_position::Side;
+use cq_geometry::{Square, files_apart};
+use cq_position::attacks::{is_attacked, is_open, mark};
+use cq_position::home::{king_home, rook_home};
+use cq_position::{Man, Move, Position, Side, king_of, opponent, rook_of};
+
+/// Whether the move is castling: the move of the side's king by two files (FIDE Laws of Chess, article 3.8.2).
+#[inline]
+pub fn is_castling(position: &Position, m: &Move) -> bool
+    ensures { result ≡ legal.is_castling position.now m.now }
+{
+    position.at(m.from) == king_of(position.side()) && files_apart(m.from, m.to) == 2
+}
+
+/// Whether the king castles so.
+pub(crate) fn castles(position: &Position, from: Square, to: Square, kingside: bool) -> bool
+    ensures { result ≡ legal.castles position.now from to kingside }
+{
+    let side = position.side();
+    from == king_home(side)
+        && to == castling_goal(side, kingside)
+        && position.may_castle(side, kingside)
+        && is_open(position.men(), king_home(side), rook_home(side, kingside))
+        && are_free(
+            position.men(),
+            opponent(side),
+            [from, castling_crossed(side, kingside), to],
+        )
+}
+
+// Whether a side attacks none of the squares.
+fn are_free(men: &[Man; 64], by: Side, squares: [Square; 3]) -> bool
+    ensures { result ≡ list_all (λ square. not (attack.is_attacked men.now by square)) squares }
+{
+    squares.iter().all(|square| !is_attacked(men, by, *square))
+}
+
+/// Moves the rook over to the other side of the king.
+pub(crate) fn move_rook(men: &mut [Man; 64], side: Side, kingside: bool)
+    ensures { men.new ≡ legal.rook_moved men.old side kingside }
+{
+    men[usize::from(rook_home(side, kingside).number())] = Man::Empty;
+    men[usize::from(castling_crossed(side, kingside).number())] = rook_of(side);
+}
+
+/// The squares to which a king castles: bit k of the answer is square k.
+pub(crate) fn castling_goals(side: Side) -> u64
+    ensures { IsBitboard result (is_castling_goal side) }
+{
+    mark(Some(castling_goal(side, true))) | mark(Some(castling_goal(side, false)))
+}
 
 /// The square to which the king castles.
 #[inline]

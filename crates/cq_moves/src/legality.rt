@@ -1,5 +1,5 @@
 //! Whether a move is legal.
-ghost use Rattle.std.specs.Prelude.{◌≡◌, ◌↔◌, ◌==◌, IsTrue, true};
+ghost use Rattle.std.specs.Prelude.{◌≡◌, ◌↔◌, IsTrue, true};
 ghost use Rattle.cq_position.specs.Board.{Board};
 ghost use Rattle.cq_position.specs.Legal.{Legal};
 ghost use Rattle.cq_position.specs.King.{IsKingSquare};
@@ -53,17 +53,5 @@ pub(crate) fn is_safe(position: &Position, king: Square, m: &Move) -> bool
 fn king_after(king: Square, m: &Move) -> Square
     ensures { result ≡ mover.king_after king m.now }
 {
-    if is_same_square(m.from, king) {
-        m.to
-    } else {
-        king
-    }
-}
-
-/// Whether two squares are the same.
-#[inline]
-pub(crate) fn is_same_square(a: Square, b: Square) -> bool
-    ensures { result ≡ (a == b) }
-{
-    a.number() == b.number()
+    if m.from == king { m.to } else { king }
 }

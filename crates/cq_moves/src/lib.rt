@@ -11,7 +11,8 @@ mod outcome;
 mod passing;
 mod reach;
 
-pub use after::is_castling;
+pub use after::is_en_passant_capture;
+pub use castling::is_castling;
 pub use legality::is_legal;
 pub use list::legal_moves;
 pub use next_position::play;

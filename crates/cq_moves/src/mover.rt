@@ -11,7 +11,7 @@ ghost use Rattle.cq_position.specs.Men as men_spec;
 ghost use Rattle.cq_moves.specs.Mover.{IsMover, IsOrigin, IsUnexposed};
 
 use crate::after::is_en_passant_capture;
-use crate::legality::{is_safe, is_same_square};
+use crate::legality::is_safe;
 use crate::reach::promotion_is_right;
 use cq_geometry::Square;
 use cq_position::attacks::{is_attacked, queen_squares};
@@ -77,7 +77,7 @@ fn may_expose(position: &Position, mover: &Mover, from: Square) -> bool
     requires { IsMover position.now mover.now }
     ensures { result ≡ false → IsUnexposed position.now from }
 {
-    is_same_square(from, mover.king)
+    from == mover.king
         || mover.shields >> from.number() & 1 == 1
             && is_attacked_without(position, from, mover.king)
 }

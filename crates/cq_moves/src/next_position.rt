@@ -9,12 +9,12 @@ use crate::after::{men_after, middle};
 use cq_geometry::{Square, ranks_apart};
 use cq_position::home::rook_home;
 use cq_position::position::is_pawn;
-use cq_position::{Move, Position, Rights, Side, is_same, king_of, opponent};
+use cq_position::{Move, Position, Rights, Side, king_of, opponent};
 
 /// The position after a legal move.
 ///
 /// Castling, a capture on the en passant square and promotion are as `men_after` has them. A king's move ends both rights of its side,
-/// and a move from or to a rook's home square the right with that rook. A pawn's double step leaves the en passant square behind it,
+/// and a move from or to a rook's home square the right with that rook. A pawn's double step leaves the en passant square that it passed,
 /// any other move none. The number rises after Black's move, up to 4,294,967,295, where it stays.
 #[tactic(auto, using(crate::proofs::Kept::made_is_position, crate::proofs::Kept::made_is_legal))]
 pub fn play(position: &Position, m: Move) -> Position
@@ -56,11 +56,11 @@ fn rights_after(position: &Position, m: &Move) -> Rights
 fn keeps_right(position: &Position, m: &Move, side: Side, kingside: bool) -> bool
     ensures { result ≡ legal.keeps_right position.now m.now side kingside }
 {
-    let home = rook_home(side, kingside).number();
+    let home = rook_home(side, kingside);
     position.may_castle(side, kingside)
-        && !is_same(position.at(m.from), king_of(side))
-        && m.from.number() != home
-        && m.to.number() != home
+        && position.at(m.from) != king_of(side)
+        && m.from != home
+        && m.to != home
 }
 
 fn passant_after(position: &Position, m: &Move) -> Option<Square>

@@ -1,22 +1,20 @@
 //! Where the men of the side to move go (FIDE Laws of Chess, article 3).
-ghost use Rattle.std.specs.Prelude.{◌≡◌, ◌<◌, not};
-ghost use Rattle.std.specs.List.{list_all};
+ghost use Rattle.std.specs.Prelude.{◌≡◌, ◌<◌};
 ghost use Rattle.cq_position.specs.Attacks as attack;
 ghost use Rattle.cq_position.specs.Legal as legal;
 ghost use Rattle.cq_position.specs.Bitboards.{IsBitboard};
 ghost use Rattle.cq_position.specs.Board.{man_at};
-ghost use Rattle.cq_moves.specs.Candidates.{is_ahead, is_candidate, is_castling_goal};
+ghost use Rattle.cq_moves.specs.Candidates.{is_ahead, is_candidate};
 ghost use Rattle.cq_moves.specs.LegalMoves as list;
 ghost use Rattle.cq_moves.specs.Mover.{IsOrigin};
 
-use crate::after::{is_goal, middle};
-use crate::castling::{castling_crossed, castling_goal};
+use crate::after::middle;
+use crate::castling::{castles, castling_goals};
 use crate::mover::Origin;
 use cq_geometry::{Square, Step, rank};
-use cq_position::attacks::{is_attacked, is_occupied, is_open, is_pawn_attack, mark};
-use cq_position::home::{king_home, rook_home};
+use cq_position::attacks::{is_occupied, is_pawn_attack, mark};
 use cq_position::position::is_pawn;
-use cq_position::{Man, Move, Position, Promotion, Side, is_of_side, is_same, king_of, opponent};
+use cq_position::{Man, Move, Position, Promotion, Side, is_of_side, king_of, opponent};
 
 /// Whether a man of the side to move goes from one square to another, which holds none of its own men and no king. Bit k of `attacked` is
 /// set where the man attacks the square k.
@@ -31,7 +29,7 @@ pub(crate) fn reaches(position: &Position, attacked: u64, from: Square, to: Squa
     let other = position.at(to);
     is_of_side(man, position.side())
         && !is_of_side(other, position.side())
-        && !is_same(other, king_of(opponent(position.side())))
+        && other != king_of(opponent(position.side()))
         && goes(man, position, attacked, from, to)
 }
 
@@ -54,13 +52,6 @@ fn candidates_of(man: Man, position: &Position, origin: &Origin) -> u64
         Man::P | Man::BlackP => origin.attacked | squares_ahead(position.side(), origin.from),
         _ => origin.attacked,
     }
-}
-
-// The squares to which a king castles.
-fn castling_goals(side: Side) -> u64
-    ensures { IsBitboard result (is_castling_goal side) }
-{
-    mark(Some(castling_goal(side, true))) | mark(Some(castling_goal(side, false)))
 }
 
 // The squares one and two ranks forward.
@@ -112,7 +103,7 @@ fn pawn_moves(position: &Position, from: Square, to: Square) -> bool
             && !is_occupied(men, middle(from, to))
             && !is_occupied(men, to)
         || is_pawn_attack(side, from, to)
-            && (is_of_side(position.at(to), opponent(side)) || is_goal(position.passant(), to))
+            && (is_of_side(position.at(to), opponent(side)) || position.passant() == Some(to))
 }
 
 #[inline]
@@ -135,38 +126,15 @@ fn is_double_step(side: Side, from: Square, to: Square) -> bool
     }
 }
 
-// Whether the king castles so.
-fn castles(position: &Position, from: Square, to: Square, kingside: bool) -> bool
-    ensures { result ≡ legal.castles position.now from to kingside }
-{
-    let side = position.side();
-    from.number() == king_home(side).number()
-        && to.number() == castling_goal(side, kingside).number()
-        && position.may_castle(side, kingside)
-        && is_open(position.men(), king_home(side), rook_home(side, kingside))
-        && are_free(
-            position.men(),
-            opponent(side),
-            [from, castling_crossed(side, kingside), to],
-        )
-}
-
-// Whether a side attacks none of the squares.
-fn are_free(men: &[Man; 64], by: Side, squares: [Square; 3]) -> bool
-    ensures { result ≡ list_all (λ square. not (attack.is_attacked men.now by square)) squares }
-{
-    squares.iter().all(|square| !is_attacked(men, by, *square))
-}
-
 /// Whether the move promotes where a pawn reaches the last rank, and nowhere else (FIDE Laws of Chess, article 3.7).
 #[inline]
 pub(crate) fn promotion_is_right(position: &Position, m: &Move) -> bool
     ensures { result ≡ legal.promotion_is_right position.now m.now }
 {
     if promotes(position, m.from, m.to) {
-        !is_none(m.promotion)
+        m.promotion != Promotion::None
     } else {
-        is_none(m.promotion)
+        m.promotion == Promotion::None
     }
 }
 
@@ -185,15 +153,5 @@ fn last_rank(side: Side) -> u8
     match side {
         Side::White => 7,
         Side::Black => 0,
-    }
-}
-
-#[inline]
-fn is_none(promotion: Promotion) -> bool
-    ensures { result ≡ legal.is_none promotion }
-{
-    match promotion {
-        Promotion::None => true,
-        _ => false,
     }
 }

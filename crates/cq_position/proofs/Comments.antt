@@ -1,7 +1,7 @@
 -- The words of a comment are those of the text that it was made of.
 use Rattle.std.proofs.Common.{◌≡◌, ◌≢◌, ℕ, Bool, true, false, cond, List, [], ◌∷◌, ◌++◌, refl, sym, ap, ◌∙◌, subst, arith}
 use Rattle.std.specs.List.{All, AllByRecursion, slice_split, onto_first, filter, join_with_byte}
-use Rattle.std.proofs.lemmas.List.Elements.{All-from_recursion, All-head, All-tail, All-cons, All-nil, All-append, All-push}
+use Rattle.std.proofs.lemmas.List.Elements.{All-head, All-tail, All-cons, All-nil, All-append, All-push}
 use Rattle.std.proofs.lemmas.List.Splits.{slice_split-cons_yes, slice_split-cons_no}
 use Rattle.cq_outside.specs.Text.{is_white}
 use Rattle.cq_position.specs.Comments.{words, comment_of}
@@ -9,7 +9,7 @@ use Rattle.cq_position.specs.Fen.{is_not_empty}
 use Rattle.cq_position.specs.Games.{Node, bare_node, with_nag, with_comment, IsComment, HasNotes}
 use Rattle.cq_position.specs.declared.moves.Move.{Move}
 use Rattle.cq_position.specs.Board.{Board}
-use Rattle.std.specs.Prelude.{Option, None, ◌<◌}
+use Rattle.std.specs.Prelude.{Option, ◌<◌}
 
 abbrev IsDark : List ℕ → Type 0
 IsDark w = AllByRecursion (λ b. is_white b ≡ false) w

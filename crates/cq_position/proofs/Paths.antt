@@ -1,5 +1,5 @@
 -- The paths that are listed are exactly the paths of the relation.
-use Rattle.std.proofs.Common.{◌≡◌, ◌↔◌, ℕ, zero, suc, ◌+◌, ◌<◌, ◌≤◌, ◌⊎◌, ⊎_elim, Bool, true, false, not, ◌||◌, List, [], ◌∷◌, ◌++◌, map, length, Option, Some, None, refl, sym, ap, ◌∙◌, subst, arith, eqb-true}
+use Rattle.std.proofs.Common.{◌≡◌, ◌↔◌, ℕ, zero, suc, ◌+◌, ◌<◌, ◌≤◌, ◌⊎◌, ⊎_elim, Bool, true, false, not, ◌||◌, List, [], ◌∷◌, map, length, Option, Some, None, refl, sym, ap, ◌∙◌, subst, arith, eqb-true}
 use Rattle.std.specs.Prelude.{option_to_list}
 use Rattle.std.specs.List.{Contains, filter, flat_map, range_with_len}
 use Rattle.std.proofs.lemmas.Bool.{eq-eqb}
@@ -8,8 +8,7 @@ use Rattle.std.proofs.lemmas.List.FromFn.{get_or-range_with_len, length-range_wi
 use Rattle.std.proofs.lemmas.List.Elements.{All-filter, All-map, All-weaker, All-contains, All-contains_itself, filter_passes, Contains-append_left, Contains-append_right, Contains-append_cases, Contains-push_cases}
 use Rattle.cq_geometry.proofs.Board.{contains_filter}
 use Rattle.cq_position.specs.Games.{Node, no_node, node_at, is_number, is_child_of, children, is_first_child, is_searched, IsTree}
-use Rattle.cq_position.specs.Search.{SearchedTree, children_in, IsStepDown, IsStepUp, IsStep, Along, IsPath, next_in, paths_within, paths}
-use Rattle.cq_position.proofs.Ancestors.{AreParentsFirst}
+use Rattle.cq_position.specs.Search.{SearchedTree, children_in, IsStepDown, IsStepUp, Along, IsPath, next_in, paths_within, paths}
 use Rattle.cq_position.proofs.Trees.{tree_first}
 
 -- elements of lists that are made of others

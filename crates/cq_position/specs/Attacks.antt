@@ -5,10 +5,12 @@ use Rattle.cq_geometry.specs.Squares.{rank_of, squares}
 use Rattle.cq_geometry.specs.Steps.{files_apart, is_king_step, is_knight_step}
 use Rattle.cq_geometry.specs.Lines.{is_orthogonal, is_diagonal, is_open}
 use Rattle.cq_position.specs.declared.men.Man.{Man}
-use Rattle.cq_position.specs.declared.men.Man.TheVariants.{K, Q, R, B, N, P, BlackK, BlackQ, BlackR, BlackB, BlackN, BlackP, Empty}
+use Rattle.cq_position.specs.declared.men.Man.TheVariants.{Empty}
+use Rattle.cq_position.specs.declared.men.Piece.{Piece}
+use Rattle.cq_position.specs.declared.men.Piece.TheVariants.{King, Queen, Rook, Bishop, Knight, Pawn}
 use Rattle.cq_position.specs.declared.men.Side.{Side}
 use Rattle.cq_position.specs.declared.men.Side.TheVariants.{White, Black}
-use Rattle.cq_position.specs.Men.{is_of_side, opponent, king_of}
+use Rattle.cq_position.specs.Men.{is_of_side, side_and_piece, opponent, king_of}
 use Rattle.cq_position.specs.Board.{man_at, stands}
 
 -- whether a man stands on the square
@@ -25,22 +27,23 @@ abbrev pub is_pawn_attack : Side → ℕ → ℕ → Bool
 is_pawn_attack White a b = (rank_of b == rank_of a + 1) && (files_apart a b == 1)
 is_pawn_attack Black a b = (rank_of a == rank_of b + 1) && (files_apart a b == 1)
 
--- Whether a man on a attacks b: bishop, rook and queen (articles 3.2 to 3.4) along lines, up to and with the first square that is occupied
--- (3.5), and the knight (3.6), the pawn (3.7) and the king (3.8.1) to the squares of one step.
+-- Whether a piece of a side on a attacks b: bishop, rook and queen (articles 3.2 to 3.4) along lines, up to and with the first square that
+-- is occupied (3.5), and the knight (3.6), the pawn (3.7) and the king (3.8.1) to the squares of one step.
+abbrev pub piece_attacks : Side → Piece → (ℕ → Bool) → ℕ → ℕ → Bool
+piece_attacks side Bishop occupied a b = is_diagonal a b && is_open occupied a b
+piece_attacks side Rook occupied a b = is_orthogonal a b && is_open occupied a b
+piece_attacks side Queen occupied a b = (is_orthogonal a b || is_diagonal a b) && is_open occupied a b
+piece_attacks side Knight occupied a b = is_knight_step a b
+piece_attacks side Pawn occupied a b = is_pawn_attack side a b
+piece_attacks side King occupied a b = is_king_step a b
+
+abbrev pub attacks_if_any : Option (Side × Piece) → (ℕ → Bool) → ℕ → ℕ → Bool
+attacks_if_any None occupied a b = false
+attacks_if_any (Some (side, piece)) occupied a b = piece_attacks side piece occupied a b
+
+-- whether a man on a attacks b; an empty square attacks none
 abbrev pub attacks_as : Man → (ℕ → Bool) → ℕ → ℕ → Bool
-attacks_as K occupied a b = is_king_step a b
-attacks_as Q occupied a b = (is_orthogonal a b || is_diagonal a b) && is_open occupied a b
-attacks_as R occupied a b = is_orthogonal a b && is_open occupied a b
-attacks_as B occupied a b = is_diagonal a b && is_open occupied a b
-attacks_as N occupied a b = is_knight_step a b
-attacks_as P occupied a b = is_pawn_attack White a b
-attacks_as BlackK occupied a b = is_king_step a b
-attacks_as BlackQ occupied a b = (is_orthogonal a b || is_diagonal a b) && is_open occupied a b
-attacks_as BlackR occupied a b = is_orthogonal a b && is_open occupied a b
-attacks_as BlackB occupied a b = is_diagonal a b && is_open occupied a b
-attacks_as BlackN occupied a b = is_knight_step a b
-attacks_as BlackP occupied a b = is_pawn_attack Black a b
-attacks_as Empty occupied a b = false
+attacks_as man occupied a b = attacks_if_any (side_and_piece man) occupied a b
 
 -- whether the man on a attacks b
 unfoldable pub attacks : List Man → ℕ → ℕ → Bool

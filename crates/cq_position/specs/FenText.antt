@@ -67,4 +67,5 @@ passant_text (Some square) = (letter_a + file_of square) ∷ (digit_one + rank_o
 unfoldable pub fen_of : Board → List ℕ
 fen_of b =
     join_with_byte space
-    (placement_text b.men ∷ side_text b.side ∷ castling_text b.rights ∷ passant_text b.passant ∷ (digit_zero ∷ []) ∷ decimal b.number ∷ [])
+    (placement_text b.men ∷ side_text b.side ∷ castling_text b.rights
+    ∷ passant_text b.passant ∷ (digit_zero ∷ []) ∷ decimal b.number ∷ [])

@@ -5,14 +5,15 @@ use Rattle.cq_geometry.specs.Squares.{file_of, rank_of, square_of}
 use Rattle.cq_geometry.specs.Steps.{files_apart, ranks_apart}
 use Rattle.cq_geometry.specs.Lines.{is_open}
 use Rattle.cq_position.specs.declared.men.Man.{Man}
-use Rattle.cq_position.specs.declared.men.Man.TheVariants.{K, Q, R, B, N, P, BlackK, BlackQ, BlackR, BlackB, BlackN, BlackP, Empty}
+use Rattle.cq_position.specs.declared.men.Man.TheVariants.{K, P, BlackK, BlackP, Empty}
+use Rattle.cq_position.specs.declared.men.Piece.TheVariants.{Queen, Rook, Bishop, Knight}
 use Rattle.cq_position.specs.declared.men.Promotion.{Promotion}
 use Rattle.cq_position.specs.declared.men.Promotion.TheVariants.{None as NoPromotion, Q as ToQueen, R as ToRook, B as ToBishop, N as ToKnight}
 use Rattle.cq_position.specs.declared.men.Side.{Side}
 use Rattle.cq_position.specs.declared.men.Side.TheVariants.{White, Black}
 use Rattle.cq_position.specs.declared.moves.Move.{Move}
 use Rattle.cq_position.specs.declared.position.Rights.{Rights}
-use Rattle.cq_position.specs.Men.{is_of_side, opponent, king_of, rook_of}
+use Rattle.cq_position.specs.Men.{is_of_side, man_of, opponent, king_of, rook_of}
 use Rattle.cq_position.specs.Board.{Board, man_at, stands, castling_right, king_home, rook_home, is_pawn}
 use Rattle.cq_position.specs.Attacks.{is_goal, is_occupied, is_pawn_attack, attacks, is_attacked, in_check}
 use Rattle.cq_position.specs.Moves.{null_move}
@@ -101,14 +102,10 @@ is_pseudo_legal p m = not m.null && nat_lt m.to 64 && reaches p m.from m.to && p
 -- the man that stands on the goal after the move
 abbrev pub promoted : Side → Promotion → Man → Man
 promoted side NoPromotion man = man
-promoted White ToQueen man = Q
-promoted White ToRook man = R
-promoted White ToBishop man = B
-promoted White ToKnight man = N
-promoted Black ToQueen man = BlackQ
-promoted Black ToRook man = BlackR
-promoted Black ToBishop man = BlackB
-promoted Black ToKnight man = BlackN
+promoted side ToQueen man = man_of side Queen
+promoted side ToRook man = man_of side Rook
+promoted side ToBishop man = man_of side Bishop
+promoted side ToKnight man = man_of side Knight
 
 -- the man goes from its square to the goal
 abbrev pub men_moved : Board → Move → List Man

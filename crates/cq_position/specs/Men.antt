@@ -1,8 +1,10 @@
 -- The men of both sides, and the letters that stand for them.
-use Rattle.std.specs.Prelude.{ℕ, List, [], ◌∷◌, codes, Bool, ◌==◌, Option, find, option_map, nat_lt, nat_le, ◌&&◌}
+use Rattle.std.specs.Prelude.{ℕ, List, [], ◌∷◌, codes, Bool, ◌==◌, Option, Some, None, find, option_map, nat_lt, nat_le, ◌&&◌}
 use Rattle.std.specs.List.{zip}
 use Rattle.cq_position.specs.declared.men.Man.{Man}
 use Rattle.cq_position.specs.declared.men.Man.TheVariants.{K, Q, R, B, N, P, BlackK, BlackQ, BlackR, BlackB, BlackN, BlackP, Empty}
+use Rattle.cq_position.specs.declared.men.Piece.{Piece}
+use Rattle.cq_position.specs.declared.men.Piece.TheVariants.{King, Queen, Rook, Bishop, Knight, Pawn}
 use Rattle.cq_position.specs.declared.men.Promotion.{Promotion}
 use Rattle.cq_position.specs.declared.men.Promotion.TheVariants.{None as NoPromotion, Q as ToQueen, R as ToRook, B as ToBishop, N as ToKnight}
 use Rattle.cq_position.specs.declared.men.Side.{Side}
@@ -50,18 +52,46 @@ abbrev pub opponent : Side → Side
 opponent White = Black
 opponent Black = White
 
+-- the man of a side that is such a piece
+abbrev pub man_of : Side → Piece → Man
+man_of White King = K
+man_of White Queen = Q
+man_of White Rook = R
+man_of White Bishop = B
+man_of White Knight = N
+man_of White Pawn = P
+man_of Black King = BlackK
+man_of Black Queen = BlackQ
+man_of Black Rook = BlackR
+man_of Black Bishop = BlackB
+man_of Black Knight = BlackN
+man_of Black Pawn = BlackP
+
+-- the side of a man and the piece that it is; none for the empty square
+abbrev pub side_and_piece : Man → Option (Side × Piece)
+side_and_piece K = Some (White, King)
+side_and_piece Q = Some (White, Queen)
+side_and_piece R = Some (White, Rook)
+side_and_piece B = Some (White, Bishop)
+side_and_piece N = Some (White, Knight)
+side_and_piece P = Some (White, Pawn)
+side_and_piece BlackK = Some (Black, King)
+side_and_piece BlackQ = Some (Black, Queen)
+side_and_piece BlackR = Some (Black, Rook)
+side_and_piece BlackB = Some (Black, Bishop)
+side_and_piece BlackN = Some (Black, Knight)
+side_and_piece BlackP = Some (Black, Pawn)
+side_and_piece Empty = None
+
 -- the king, rook and pawn of a side
 abbrev pub king_of : Side → Man
-king_of White = K
-king_of Black = BlackK
+king_of side = man_of side King
 
 abbrev pub rook_of : Side → Man
-rook_of White = R
-rook_of Black = BlackR
+rook_of side = man_of side Rook
 
 abbrev pub pawn_of : Side → Man
-pawn_of White = P
-pawn_of Black = BlackP
+pawn_of side = man_of side Pawn
 
 -- the place of a promotion in the order of the type: no promotion, and those to a queen, a rook, a bishop and a knight
 abbrev pub promotion_number : Promotion → ℕ

@@ -5,9 +5,11 @@ use Rattle.cq_geometry.specs.declared.compass.Compass.{Compass}
 use Rattle.cq_geometry.specs.Steps.{stepped, ray_from}
 use Rattle.cq_geometry.specs.Directions.{files_of, ranks_of}
 use Rattle.cq_position.specs.declared.men.Man.{Man}
-use Rattle.cq_position.specs.declared.men.Man.TheVariants.{Q, R, B, N, BlackQ, BlackR, BlackB, BlackN, Empty}
+use Rattle.cq_position.specs.declared.men.Man.TheVariants.{Q, R, B, BlackQ, BlackR, BlackB, Empty}
+use Rattle.cq_position.specs.declared.men.Piece.TheVariants.{Knight}
 use Rattle.cq_position.specs.declared.men.Side.{Side}
 use Rattle.cq_position.specs.declared.men.Side.TheVariants.{White, Black}
+use Rattle.cq_position.specs.Men.{man_of}
 use Rattle.cq_position.specs.Board.{man_at, stands}
 use Rattle.cq_position.specs.Attacks.{is_occupied}
 use Rattle.std.specs.Prelude.{pos, negsuc}
@@ -35,8 +37,7 @@ is_slanted _ _ = false
 
 -- the knight of a side
 abbrev pub knight_of : Side → Man
-knight_of White = N
-knight_of Black = BlackN
+knight_of side = man_of side Knight
 
 -- along one of the directions the first man from a square is of a kind
 abbrev pub first_is : (Man → Bool) → List Man → List Compass → ℕ → Bool

@@ -1,5 +1,5 @@
 -- The tree of a game that a query searches, and the paths in it.
-use Rattle.std.specs.Prelude.{◌≡◌, ℕ, zero, suc, ◌+◌, ◌-◌, Bool, true, false, ◌&&◌, ◌||◌, not, ◌==◌, List, [], ◌∷◌, map, flat_map, filter, length, count_by, Option, Some, None, option_to_list}
+use Rattle.std.specs.Prelude.{◌≡◌, ℕ, zero, suc, ◌-◌, Bool, true, false, ◌&&◌, ◌||◌, not, ◌==◌, List, [], ◌∷◌, map, flat_map, filter, length, count_by, Some, None, option_to_list}
 use Rattle.std.specs.List.{last_or, list_any}
 use Rattle.cq_position.specs.Board.{Board}
 use Rattle.cq_position.specs.Men.{man_number}

@@ -19,7 +19,8 @@ pub use attacks::{attacks_from, in_check};
 pub use fen::{FenFault, fen_text, read_fen};
 pub use games::GameResult;
 pub use men::{
-    Man, Promotion, Side, is_of_side, is_same, king_of, letter_of, man_of_letter, opponent, rook_of,
+    Man, Piece, Promotion, Side, is_of_side, king_of, letter_of, man_of, man_of_letter, opponent,
+    rook_of,
 };
 pub use moves::Move;
 pub use position::{Position, Rights, material};

@@ -1,6 +1,6 @@
 //! The two sides, the men and their letters.
 ghost use Rattle.std.specs.Prelude.{◌≡◌};
-ghost use Rattle.cq_position.specs.Men.{man_with_letter, letter_of_man, same_man};
+ghost use Rattle.cq_position.specs.Men.{man_with_letter, letter_of_man};
 ghost use Rattle.cq_position.specs.Men as men_spec;
 
 /// One of the two players.
@@ -26,6 +26,17 @@ pub enum Man {
     BlackN,
     BlackP,
     Empty,
+}
+
+/// What a man is, whatever its side (FIDE Laws of Chess, article 2.2).
+#[derive(Clone, Copy, Debug, PartialEq, Eq)]
+pub enum Piece {
+    King,
+    Queen,
+    Rook,
+    Bishop,
+    Knight,
+    Pawn,
 }
 
 /// What a pawn that reaches the last rank becomes: a queen, a rook, a bishop or a knight (FIDE Laws of Chess, article 3.7); `None` for
@@ -81,14 +92,6 @@ pub fn letter_of(man: Man) -> Option<u8>
     }
 }
 
-/// Whether two squares hold the same: men of one kind and one side, or nothing.
-#[inline]
-pub fn is_same(man: Man, other: Man) -> bool
-    ensures { result ≡ same_man man other }
-{
-    man as u8 == other as u8
-}
-
 /// Whether a man is of a side; the empty square is of none.
 #[inline]
 pub fn is_of_side(man: Man, side: Side) -> bool
@@ -112,15 +115,37 @@ pub fn opponent(side: Side) -> Side
     }
 }
 
+/// The man of a side that is such a piece.
+#[inline]
+pub fn man_of(side: Side, piece: Piece) -> Man
+    ensures { result ≡ men_spec.man_of side piece }
+{
+    match side {
+        Side::White => match piece {
+            Piece::King => Man::K,
+            Piece::Queen => Man::Q,
+            Piece::Rook => Man::R,
+            Piece::Bishop => Man::B,
+            Piece::Knight => Man::N,
+            Piece::Pawn => Man::P,
+        },
+        Side::Black => match piece {
+            Piece::King => Man::BlackK,
+            Piece::Queen => Man::BlackQ,
+            Piece::Rook => Man::BlackR,
+            Piece::Bishop => Man::BlackB,
+            Piece::Knight => Man::BlackN,
+            Piece::Pawn => Man::BlackP,
+        },
+    }
+}
+
 /// The man that is the king of a side.
 #[inline]
 pub fn king_of(side: Side) -> Man
     ensures { result ≡ men_spec.king_of side }
 {
-    match side {
-        Side::White => Man::K,
-        Side::Black => Man::BlackK,
-    }
+    man_of(side, Piece::King)
 }
 
 /// The man that is a rook of a side.
@@ -128,8 +153,5 @@ pub fn king_of(side: Side) -> Man
 pub fn rook_of(side: Side) -> Man
     ensures { result ≡ men_spec.rook_of side }
 {
-    match side {
-        Side::White => Man::R,
-        Side::Black => Man::BlackR,
-    }
+    man_of(side, Piece::Rook)
 }

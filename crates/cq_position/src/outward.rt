@@ -11,7 +11,8 @@ ghost use Rattle.cq_position.specs.Outward as outward;
 ghost use Rattle.cq_position.specs.Outward.{first_is, pawn_origins};
 
 use crate::attacks::is_occupied;
-use crate::men::{Man, Side, is_same, king_of};
+use crate::men::{Man, Piece, Side, king_of, man_of};
+use crate::position::stands;
 use cq_geometry::{Square, Step};
 
 /// Whether a man of a side attacks a square of this board, also where the man may not move (FIDE Laws of Chess, article 3.9.1).
@@ -145,7 +146,7 @@ fn holds(men: &[Man; 64], man: Man, goal: Option<Square>) -> bool
     ensures { result ≡ outward.holds men.now man goal }
 {
     match goal {
-        Some(square) => is_same(men[usize::from(square.number())], man),
+        Some(square) => stands(men, square, man),
         None => false,
     }
 }
@@ -153,8 +154,5 @@ fn holds(men: &[Man; 64], man: Man, goal: Option<Square>) -> bool
 fn knight_of(side: Side) -> Man
     ensures { result ≡ outward.knight_of side }
 {
-    match side {
-        Side::White => Man::N,
-        Side::Black => Man::BlackN,
-    }
+    man_of(side, Piece::Knight)
 }

@@ -5,7 +5,7 @@ ghost use Rattle.cq_position.specs.Board.{man_at, castling_right, start_board, c
 ghost use Rattle.cq_position.specs.Board as board;
 ghost use Rattle.cq_position.specs.Position.{IsPosition};
 
-use crate::men::{Man, Side, is_of_side, is_same};
+use crate::men::{Man, Side, is_of_side};
 use cq_geometry::Square;
 use std::marker::Model;
 
@@ -173,7 +173,7 @@ impl Position {
 pub fn stands(men: &[Man; 64], square: Square, man: Man) -> bool
     ensures { result ≡ board.stands men.now square man }
 {
-    is_same(men[usize::from(square.number())], man)
+    men[usize::from(square.number())] == man
 }
 
 /// How many squares hold a man, or nothing where `Empty` is asked, from 0 to 64.
@@ -187,7 +187,7 @@ pub fn material(position: &Position, man: Man) -> u32
 fn count(men: &[Man; 64], man: Man) -> u32
     ensures { result ≡ count_of man men.now }
 {
-    men.iter().filter(|m| is_same(**m, man)).count() as u32
+    men.iter().filter(|m| **m == man).count() as u32
 }
 
 /// Whether there is exactly one king of each side.
@@ -215,7 +215,7 @@ fn has_pawn(squares: &[Man]) -> bool
 pub fn is_pawn(man: Man) -> bool
     ensures { result ≡ board.is_pawn man }
 {
-    is_same(man, Man::P) || is_same(man, Man::BlackP)
+    man == Man::P || man == Man::BlackP
 }
 
 /// Whether a side has more than sixteen men.

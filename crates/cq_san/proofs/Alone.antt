@@ -1,22 +1,20 @@
 -- The parts that are written for a move are fitted by this move alone.
-use Rattle.std.proofs.Common.{◌≡◌, ◌≢◌, ◌⊎◌, ℕ, ◌+◌, ◌*◌, ◌/◌, ◌%◌, ◌<◌, Bool, true, false, cond, not, ◌&&◌, ◌||◌, Option, Some, None, List, [], ◌∷◌, length, refl, sym, ap, ap₂, ◌∙◌, subst, inl, inr, arith, eqb-true}
+use Rattle.std.proofs.Common.{◌≡◌, ℕ, Bool, true, false, cond, not, ◌&&◌, Option, Some, None, List, [], ◌∷◌, refl, sym, ap, ap₂, ◌∙◌, subst, inl, inr, eqb-true}
 use Rattle.std.specs.Prelude.{◌==◌, nat_lt, if◌then◌else◌}
-use Rattle.std.specs.List.{Contains, All}
-use Rattle.std.proofs.lemmas.Bool.{eq-eqb, ne_eqb, cases_Bool, and_parts, and_from, not-true, not-false, not_from_false, false≢true}
+use Rattle.std.proofs.lemmas.Bool.{eq-eqb, ne_eqb, and_parts, and_from, not-true, not_from_false, false≢true}
 use Rattle.cq_geometry.proofs.Board.{contains_filter}
 use Rattle.cq_geometry.specs.Squares.{file_of, rank_of}
 use Rattle.cq_geometry.specs.Steps.{files_apart}
 use Rattle.cq_position.specs.declared.men.Man.{Man}
-use Rattle.cq_position.specs.declared.men.Man.TheVariants.{K, Q, R, B, N, P, BlackK, BlackQ, BlackR, BlackB, BlackN, BlackP, Empty}
+use Rattle.cq_position.specs.declared.men.Man.TheVariants.{K, Q, R, B, N, P, BlackK, BlackQ, BlackR, BlackB, BlackN, BlackP}
 use Rattle.cq_position.specs.declared.men.Promotion.{Promotion}
 use Rattle.cq_position.specs.declared.men.Promotion.TheVariants.{None as NoPromotion, Q as ToQueen, R as ToRook, B as ToBishop, N as ToKnight}
 use Rattle.cq_position.specs.declared.men.Side.{Side}
 use Rattle.cq_position.specs.declared.men.Side.TheVariants.{White, Black}
 use Rattle.cq_position.specs.declared.moves.Move.{Move}
-use Rattle.cq_position.specs.Men.{same_man, is_of_side, promotion_number, king_of, opponent}
-use Rattle.cq_position.specs.Board.{Board, man_at, stands, is_pawn, king_home, passant_stands}
-use Rattle.cq_position.specs.Attacks.{in_check}
-use Rattle.cq_position.specs.Legal.{goes_as, Legal, Leads, is_castling, castling_goal, is_none, promotion_is_right, pawn_promotion_is_right}
+use Rattle.cq_position.specs.Men.{same_man, is_of_side, man_of, promotion_number, king_of}
+use Rattle.cq_position.specs.Board.{Board, man_at, stands, is_pawn, king_home}
+use Rattle.cq_position.specs.Legal.{goes_as, Legal, Leads, is_castling, castling_goal, is_none, pawn_promotion_is_right}
 use Rattle.cq_position.specs.Moves.{null_move}
 use Rattle.cq_position.specs.Position.{IsPosition}
 use Rattle.cq_moves.specs.LegalMoves.{legal_list}
@@ -25,11 +23,10 @@ use Rattle.cq_moves.proofs.Law.{Moves, what_moves}
 use Rattle.cq_position.proofs.Legality.{legal_passes}
 use Rattle.cq_moves.proofs.Order.{legal_is_listed}
 use Rattle.cq_moves.proofs.Castled.{Castles, castles_when, castling_squares}
-use Rattle.cq_san.specs.declared.parts.Piece.{Piece}
 use Rattle.cq_san.specs.declared.parts.PieceMove.{PieceMove}
 use Rattle.cq_san.specs.declared.parts.Parts.{Parts}
 use Rattle.cq_san.specs.declared.parts.Parts.TheVariants.{Castling, Null, Moved}
-use Rattle.cq_san.specs.Fits.{man_of, agrees_where_given, is_same_promotion, goes_right, agrees_in_parts, agrees, Fits}
+use Rattle.cq_san.specs.Fits.{agrees_where_given, is_same_promotion, goes_right, agrees_in_parts, agrees}
 use Rattle.cq_san.specs.Reading.{IsMeant}
 use Rattle.cq_san.specs.Writing.{piece_of_man, is_capture, is_rival, rivals_of, tells, file_among, rank_among, given_file, given_rank, piece_parts, san_parts}
 use Rattle.cq_san.proofs.Meaning.{null_meant}

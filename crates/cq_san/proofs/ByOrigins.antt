@@ -1,6 +1,6 @@
 -- The answer to the parts of a text by the squares from which the move comes, and to castling.
-use Rattle.std.proofs.Common.{◌≡◌, ◌≢◌, ℕ, zero, ◌<◌, Bool, true, false, not, ◌&&◌, List, map, length, Ok, Err, refl, sym, ap, subst, ◌∙◌, inl, inr}
-use Rattle.std.specs.List.{All, AllPairs, Contains, filter}
+use Rattle.std.proofs.Common.{◌≡◌, ℕ, ◌<◌, Bool, true, false, not, ◌&&◌, map, length, refl, sym, ap, subst, ◌∙◌, inl, inr}
+use Rattle.std.specs.List.{AllPairs, Contains, filter}
 use Rattle.std.proofs.lemmas.Bool.{and_parts, and_from, not-true, not_from_false, false≢true}
 use Rattle.std.proofs.lemmas.List.Elements.{filter_passes, All-contains, All-map, All-weaker}
 use Rattle.std.proofs.lemmas.List.Kept.{AllPairs-from_increasing}
@@ -15,14 +15,14 @@ use Rattle.cq_position.specs.Legality.{legal_test}
 use Rattle.cq_moves.specs.LegalMoves.{Precedes}
 use Rattle.cq_moves.proofs.Lists.{Contains-map, AllPairs-map}
 use Rattle.cq_moves.proofs.Castled.{castling_squares}
-use Rattle.cq_moves.proofs.Law.{Moves, what_moves, legal_on_board}
+use Rattle.cq_moves.proofs.Law.{what_moves, legal_on_board}
 use Rattle.cq_position.proofs.Legality.{legal_passes, test_leads}
 use Rattle.cq_san.specs.declared.parts.PieceMove.{PieceMove}
 use Rattle.cq_san.specs.declared.parts.Parts.TheVariants.{Castling, Moved}
 use Rattle.cq_san.specs.Fits.{agrees, agrees_in_parts, goes_right, Fits}
 use Rattle.cq_san.specs.Origins.{move_from, is_origin, origins, castling_move}
 use Rattle.cq_san.specs.Reading.{IsAnswer, IsMeant, IsIllegal, only}
-use Rattle.cq_san.proofs.Alone.{AgreesSo, agrees_so, null_fails, same_move, both_none, castles_so, agrees_castling, castling_meant}
+use Rattle.cq_san.proofs.Alone.{agrees_so, null_fails, same_move, both_none, castles_so, agrees_castling, castling_meant}
 use Rattle.cq_san.proofs.Meaning.{answer_of}
 
 -- what agrees with the parts of a move is no null move and no castling, and agrees part by part

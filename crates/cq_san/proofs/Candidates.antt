@@ -1,26 +1,15 @@
 -- The squares from which a move comes, and the answer by them.
-use Rattle.std.proofs.Common.{◌≡◌, ◌≢◌, ℕ, zero, suc, ◌+◌, ◌-◌, ◌<◌, ◌≤◌, ◌↔◌, Bool, true, false, cond, not, ◌&&◌, List, [], ◌∷◌, ◌++◌, map, length, take, get_or, Ok, Err, refl, sym, ap, subst, ◌∙◌, inl, inr, arith, append-nil}
-use Rattle.std.specs.List.{All, AllPairs, Contains, filter}
-use Rattle.std.proofs.lemmas.Bool.{and_parts, and_from, cases_Bool, not-true, not_from_false, false≢true}
-use Rattle.std.proofs.lemmas.List.{take_all, take_more}
-use Rattle.std.proofs.lemmas.List.Elements.{filter_more, filter_passes, All-contains, All-map, All-weaker, All-contains_itself}
+use Rattle.std.proofs.Common.{◌≡◌, ℕ, zero, suc, ◌+◌, ◌<◌, ◌≤◌, ◌↔◌, Bool, true, false, cond, List, [], ◌∷◌, ◌++◌, length, take, get_or, refl, sym, ap, ◌∙◌, arith, append-nil}
+use Rattle.std.specs.List.{filter}
+use Rattle.std.proofs.lemmas.List.{take_all}
+use Rattle.std.proofs.lemmas.List.Elements.{filter_more}
 use Rattle.std.proofs.lemmas.List.FromFn.{get_or-range_with_len}
-use Rattle.std.proofs.lemmas.List.Kept.{AllPairs-filter, AllPairs-from_increasing}
 use Rattle.cq_geometry.specs.Squares.{squares}
-use Rattle.cq_geometry.proofs.Board.{in_squares, contains_filter, squares_rise}
 use Rattle.cq_position.specs.declared.moves.Move.{Move}
 use Rattle.cq_position.specs.Board.{Board}
-use Rattle.cq_position.specs.Legal.{Legal, after, is_castling}
-use Rattle.cq_position.specs.Position.{IsPosition}
+use Rattle.cq_position.specs.Legal.{Legal}
 use Rattle.cq_position.specs.Legality.{legal_test}
-use Rattle.cq_moves.specs.LegalMoves.{Precedes}
-use Rattle.cq_moves.proofs.Lists.{Contains-map, AllPairs-map}
-use Rattle.cq_moves.proofs.Law.{legal_on_board}
-use Rattle.cq_position.proofs.Legality.{legal_law, legal_passes, test_leads}
-use Rattle.cq_san.specs.declared.parts.PieceMove.{PieceMove}
-use Rattle.cq_san.specs.declared.parts.Parts.TheVariants.{Moved}
-use Rattle.cq_san.specs.Fits.{agrees, agrees_in_parts, Fits}
-use Rattle.cq_san.specs.Origins.{move_from, is_origin, origins}
+use Rattle.cq_position.proofs.Legality.{legal_law}
 
 -- tests that pass alike are the same
 pub same_test : (a b : Bool) → (a ≡ true → b ≡ true) → (b ≡ true → a ≡ true) → a ≡ b

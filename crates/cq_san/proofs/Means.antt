@@ -1,5 +1,5 @@
 -- What a text means, as a value, is the answer that the grammar and the legal moves give; and what is written is read.
-use Rattle.std.proofs.Common.{◌≡◌, ◌≢◌, ℕ, List, length, Bool, true, false, cond, Option, Some, None, Ok, Err, Result, refl, sym, ap, subst, ◌∙◌, inl, inr}
+use Rattle.std.proofs.Common.{◌≡◌, ◌≢◌, ℕ, List, length, Bool, true, false, cond, Some, Ok, Err, Result, refl, sym, ap, subst, ◌∙◌, inl, inr}
 use Rattle.cq_position.specs.declared.moves.Move.{Move}
 use Rattle.cq_position.specs.Board.{Board}
 use Rattle.cq_position.specs.Attacks.{in_check}
@@ -11,7 +11,7 @@ use Rattle.cq_moves.proofs.Order.{listed_is_legal, legal_is_listed, legal_in_ord
 use Rattle.cq_san.specs.declared.parts.Parts.{Parts}
 use Rattle.cq_san.specs.declared.parts.Parts.TheVariants.{Castling, Null, Moved}
 use Rattle.cq_san.specs.declared.fault.SanFault.{SanFault}
-use Rattle.cq_san.specs.declared.fault.SanFault.TheVariants.{NotAMove, IllegalMove}
+use Rattle.cq_san.specs.declared.fault.SanFault.TheVariants.{IllegalMove}
 use Rattle.cq_san.specs.FromEnd.{parts_from_end}
 use Rattle.cq_san.specs.Reading.{IsAnswer, IsReading}
 use Rattle.cq_san.specs.San.{parts_answer, answer_by, san, AnswersExactly}

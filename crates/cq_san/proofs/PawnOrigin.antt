@@ -1,7 +1,7 @@
 -- A pawn's goal, and its file where it captures, tell from where it comes.
-use Rattle.std.proofs.Common.{◌≡◌, ◌≢◌, ◌⊎◌, ℕ, ◌+◌, ◌-◌, ◌*◌, ◌/◌, ◌%◌, ◌<◌, Bool, true, false, cond, not, ◌&&◌, ◌||◌, Option, Some, None, List, refl, sym, ap, ◌∙◌, subst, inl, inr, arith, eqb-true}
-use Rattle.std.specs.Prelude.{◌==◌, if◌then◌else◌}
-use Rattle.std.proofs.lemmas.Bool.{eq-eqb, cases_Bool, and_parts, and_from, or_cases, or_left, or_right, not-true, not-false, not_from_false, false_from_ne_true, false≢true}
+use Rattle.std.proofs.Common.{◌≡◌, ℕ, ◌+◌, ◌-◌, Bool, true, false, not, ◌&&◌, ◌||◌, Option, Some, None, List, refl, sym, ap, ◌∙◌, subst, inl, inr, arith, eqb-true}
+use Rattle.std.specs.Prelude.{◌==◌}
+use Rattle.std.proofs.lemmas.Bool.{and_parts, and_from, or_cases, or_left, or_right, not-true, not-false, not_from_false, false_from_ne_true, false≢true}
 use Rattle.cq_geometry.specs.Squares.{file_of, rank_of}
 use Rattle.cq_geometry.specs.Steps.{files_apart}
 use Rattle.cq_position.specs.declared.men.Man.{Man}
@@ -13,7 +13,7 @@ use Rattle.cq_position.specs.Men.{same_man, is_of_side, opponent, pawn_of}
 use Rattle.cq_position.specs.Board.{Board, man_at, stands, is_pawn, was_passed, passant_stands}
 use Rattle.cq_position.specs.Attacks.{is_goal, is_occupied, is_pawn_attack}
 use Rattle.cq_position.specs.Legal.{goes_as, pawn_moves, is_single_step, is_double_step, middle, is_en_passant_capture}
-use Rattle.cq_moves.proofs.Boards.{stands-is, stands_there}
+use Rattle.cq_moves.proofs.Boards.{stands-is}
 use Rattle.cq_moves.proofs.Steps.{own_pawn}
 use Rattle.cq_san.specs.Writing.{is_capture}
 

@@ -1,38 +1,35 @@
 -- Rivals by the squares from which they come.
-use Rattle.std.proofs.Common.{◌≡◌, ◌≢◌, ◌⊎◌, ℕ, zero, suc, ◌+◌, ◌<◌, ◌≤◌, Bool, true, false, cond, not, ◌&&◌, List, [], ◌∷◌, length, get_or, None, refl, sym, ap, ap₂, subst, ◌∙◌, inl, inr, arith, eqb-true}
+use Rattle.std.proofs.Common.{◌≡◌, ◌≢◌, ℕ, zero, suc, ◌+◌, ◌<◌, ◌≤◌, Bool, true, false, cond, not, ◌&&◌, List, [], ◌∷◌, length, get_or, refl, sym, ap, subst, ◌∙◌, inl, inr, arith, eqb-true}
 use Rattle.std.specs.Prelude.{◌==◌, count_by}
-use Rattle.std.specs.List.{Contains, filter, list_any, Any}
-use Rattle.std.proofs.lemmas.Bool.{and_parts, and_from, cases_lt, cases_eq, eq-eqb, ne_eqb, cases_Bool, not-true, not_from_false, false≢true}
+use Rattle.std.specs.List.{Contains, filter, list_any}
+use Rattle.std.proofs.lemmas.Bool.{and_parts, and_from, cases_lt, eq-eqb, cases_Bool, not_from_false, false≢true}
 use Rattle.std.proofs.lemmas.List.Elements.{filter_passes, All-contains}
 use Rattle.std.proofs.lemmas.List.Sums.{sum_by-cons}
 use Rattle.std.proofs.lemmas.List.Folds.{Any-from_list_any, list_any-from_Any}
 use Rattle.cq_geometry.specs.Squares.{squares, file_of, rank_of}
 use Rattle.cq_geometry.specs.Steps.{files_apart}
-use Rattle.cq_geometry.proofs.Board.{in_kept_squares, contains_filter}
+use Rattle.cq_geometry.proofs.Board.{in_kept_squares}
 use Rattle.cq_position.specs.declared.men.Man.{Man}
 use Rattle.cq_position.specs.declared.men.Man.TheVariants.{K, BlackK, Empty}
 use Rattle.cq_position.specs.declared.men.Promotion.{Promotion}
-use Rattle.cq_position.specs.declared.men.Promotion.TheVariants.{None as NoPromotion}
 use Rattle.cq_position.specs.declared.men.Side.{Side}
 use Rattle.cq_position.specs.declared.men.Side.TheVariants.{White, Black}
 use Rattle.cq_position.specs.declared.moves.Move.{Move}
-use Rattle.cq_position.specs.Men.{same_man, king_of}
+use Rattle.cq_position.specs.Men.{same_man, man_of, king_of}
 use Rattle.cq_position.specs.Board.{Board, man_at, stands, is_pawn, has_kings, count_of}
 use Rattle.cq_position.specs.Legal.{Legal, is_castling, is_none, pawn_promotion_is_right, after}
 use Rattle.cq_position.specs.Position.{IsPosition}
 use Rattle.cq_position.specs.Legality.{legal_test}
 use Rattle.cq_moves.specs.LegalMoves.{legal_list}
-use Rattle.cq_moves.proofs.Boards.{same_man-is, same_man-itself, stands-is, stands_there}
+use Rattle.cq_moves.proofs.Boards.{same_man-is, same_man-itself, stands-is}
 use Rattle.cq_moves.proofs.Law.{Moves, what_moves, legal_on_board}
 use Rattle.cq_position.proofs.Legality.{legal_passes, test_leads}
 use Rattle.cq_moves.proofs.Order.{listed_is_legal, legal_is_listed}
-use Rattle.cq_san.specs.declared.parts.PieceMove.{PieceMove}
-use Rattle.cq_san.specs.declared.parts.Parts.TheVariants.{Moved}
-use Rattle.cq_san.specs.Fits.{agrees_in_parts, is_same_promotion, man_of}
+use Rattle.cq_san.specs.Fits.{agrees_in_parts, is_same_promotion}
 use Rattle.cq_san.specs.Origins.{move_from, is_origin, origins}
 use Rattle.cq_san.specs.Rivals.{on_file, on_rank, unplaced, is_elsewhere, is_elsewhere_on_file, is_elsewhere_on_rank}
 use Rattle.cq_san.specs.Writing.{is_rival, piece_of_man}
-use Rattle.cq_san.proofs.Alone.{man_back, same_move, both_none, five_from, five_parts, promotion_back}
+use Rattle.cq_san.proofs.Alone.{man_back, same_move, both_none, five_from, five_parts}
 use Rattle.cq_san.proofs.Candidates.{same_test}
 
 -- two places that pass a test are counted twice

@@ -14,8 +14,8 @@ use Rattle.cq_position.specs.Attacks.{in_check}
 use Rattle.cq_moves.specs.LegalMoves.{legal_list}
 use Rattle.cq_moves.proofs.Law.{Moves, what_moves, legal_on_board}
 use Rattle.cq_position.proofs.Legality.{legal_passes}
-use Rattle.cq_san.specs.declared.parts.Piece.{Piece}
-use Rattle.cq_san.specs.declared.parts.Piece.TheVariants.{King, Queen, Rook, Bishop, Knight, Pawn}
+use Rattle.cq_position.specs.declared.men.Piece.{Piece}
+use Rattle.cq_position.specs.declared.men.Piece.TheVariants.{King, Queen, Rook, Bishop, Knight, Pawn}
 use Rattle.cq_san.specs.Fits.{goes_right}
 use Rattle.cq_geometry.specs.Squares.{file_of, rank_of}
 use Rattle.cq_san.specs.declared.parts.PieceMove.{PieceMove}

@@ -19,7 +19,8 @@ move_from parts square = move_of square parts.goal parts.promotion
 -- such a move agrees with the parts, and is legal
 abbrev pub is_origin : Board → PieceMove → ℕ → Bool
 is_origin p parts square =
-    agrees_in_parts p parts (move_from parts square) && not (is_castling p (move_from parts square)) && legal_test p (move_from parts square)
+    agrees_in_parts p parts (move_from parts square) && not (is_castling p (move_from parts square))
+    && legal_test p (move_from parts square)
 
 unfoldable pub origins : Board → PieceMove → List ℕ
 origins p parts = filter (is_origin p parts) squares

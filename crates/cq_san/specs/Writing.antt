@@ -1,39 +1,26 @@
 -- How a move is written in Standard Algebraic Notation (PGN standard 8.2.3).
-use Rattle.std.specs.Prelude.{ℕ, ◌+◌, ◌<◌, IfSome, ◌==◌, Bool, true, false, ◌&&◌, ◌||◌, not, List, [], ◌∷◌, ◌++◌, codes, Option, Some, None, if◌then◌else◌}
+use Rattle.std.specs.Prelude.{ℕ, ◌+◌, ◌<◌, IfSome, ◌==◌, Bool, true, false, ◌&&◌, ◌||◌, not, List, [], ◌∷◌, ◌++◌, codes, Option, Some, None, option_map, unwrap_or, if◌then◌else◌}
 use Rattle.std.specs.List.{filter, list_all}
 use Rattle.cq_geometry.specs.Squares.{file_of, rank_of}
 use Rattle.cq_position.specs.declared.men.Man.{Man}
-use Rattle.cq_position.specs.declared.men.Man.TheVariants.{K, Q, R, B, N, P, BlackK, BlackQ, BlackR, BlackB, BlackN, BlackP, Empty}
 use Rattle.cq_position.specs.declared.men.Promotion.{Promotion}
 use Rattle.cq_position.specs.declared.men.Promotion.TheVariants.{None as NoPromotion, Q as ToQueen, R as ToRook, B as ToBishop, N as ToKnight}
 use Rattle.cq_position.specs.declared.moves.Move.{Move}
-use Rattle.cq_position.specs.Men.{same_man}
+use Rattle.cq_position.specs.Men.{same_man, side_and_piece}
 use Rattle.cq_position.specs.Board.{Board, man_at, is_pawn}
 use Rattle.cq_position.specs.Attacks.{in_check, is_occupied}
 use Rattle.cq_position.specs.Legal.{is_castling, is_en_passant_capture, after}
 use Rattle.cq_moves.specs.LegalMoves.{legal_list}
-use Rattle.cq_san.specs.declared.parts.Piece.{Piece}
-use Rattle.cq_san.specs.declared.parts.Piece.TheVariants.{King, Queen, Rook, Bishop, Knight, Pawn}
+use Rattle.cq_position.specs.declared.men.Piece.{Piece}
+use Rattle.cq_position.specs.declared.men.Piece.TheVariants.{King, Queen, Rook, Bishop, Knight, Pawn}
 use Rattle.cq_san.specs.declared.parts.PieceMove.{PieceMove}
 use Rattle.cq_san.specs.declared.parts.Parts.{Parts}
 use Rattle.cq_san.specs.declared.parts.Parts.TheVariants.{Castling, Null, Moved}
 use Rattle.cq_san.specs.Fits.{goes_right}
 
--- the piece that a man is
+-- the piece that a man is; the empty square, which no move leaves, counts as a pawn
 abbrev pub piece_of_man : Man → Piece
-piece_of_man K = King
-piece_of_man Q = Queen
-piece_of_man R = Rook
-piece_of_man B = Bishop
-piece_of_man N = Knight
-piece_of_man P = Pawn
-piece_of_man BlackK = King
-piece_of_man BlackQ = Queen
-piece_of_man BlackR = Rook
-piece_of_man BlackB = Bishop
-piece_of_man BlackN = Knight
-piece_of_man BlackP = Pawn
-piece_of_man Empty = Pawn
+piece_of_man man = unwrap_or (option_map (λ known. known.1) (side_and_piece man)) Pawn
 
 -- the move captures a man, also en passant
 abbrev pub is_capture : Board → Move → Bool

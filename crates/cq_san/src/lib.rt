@@ -14,6 +14,6 @@ mod text;
 
 pub use fault::SanFault;
 pub use laws::{san_means, signs_mean, written_is_read};
-pub use parts::{Parts, Piece, PieceMove, parts_of};
+pub use parts::{Parts, PieceMove, parts_of};
 pub use reading::read_san;
 pub use text::san_text;

@@ -5,7 +5,6 @@ ghost use Rattle.cq_position.specs.Board.{Board};
 ghost use Rattle.cq_position.specs.Position.{IsPosition};
 ghost use Rattle.cq_geometry.specs.Squares as squares;
 ghost use Rattle.cq_position.specs.Legal.{Leads, Legal, is_castling};
-ghost use Rattle.cq_position.specs.Legal as legal;
 ghost use Rattle.cq_position.specs.Board.{is_pawn, man_at};
 ghost use Rattle.cq_moves.specs.LegalMoves.{legal_list};
 ghost use Rattle.cq_position.specs.declared.moves.Move.{Move as MoveValue};
@@ -17,12 +16,12 @@ ghost use Rattle.cq_san.specs.Reading.{IsMeant};
 
 use crate::fit::goes_right;
 use crate::origins::origins;
-use crate::parts::{Parts, Piece, PieceMove};
+use crate::parts::{Parts, PieceMove};
 use arrayvec::ArrayString;
-use cq_geometry::{Square, file, files_apart, rank};
-use cq_moves::{is_castling, is_mate, play};
+use cq_geometry::{Square, file, rank};
+use cq_moves::{is_castling, is_en_passant_capture, is_mate, play};
 use cq_position::position::is_pawn;
-use cq_position::{Man, Move, Position, Promotion, in_check, is_same};
+use cq_position::{Man, Move, Piece, Position, Promotion, in_check};
 
 // The piece that a man is.
 fn piece_of_man(man: Man) -> Piece
@@ -42,15 +41,7 @@ fn piece_of_man(man: Man) -> Piece
 fn is_capture(position: &Position, m: &Move) -> bool
     ensures { result ≡ writing.is_capture position.now m.now }
 {
-    !is_same(position.at(m.to), Man::Empty) || is_en_passant_capture(position, m)
-}
-
-fn is_en_passant_capture(position: &Position, m: &Move) -> bool
-    ensures { result ≡ legal.is_en_passant_capture position.now m.now }
-{
-    is_pawn(position.at(m.from))
-        && files_apart(m.from, m.to) == 1
-        && position.passant() == Some(m.to)
+    position.at(m.to) != Man::Empty || is_en_passant_capture(position, m)
 }
 
 // What the legal moves of other men of the same kind to the same square have in common with a move.

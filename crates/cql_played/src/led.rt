@@ -1,8 +1,5 @@
 //! What a move led from and took.
-ghost use Rattle.std.specs.Prelude.{◌≡◌, ◌↔◌, ℕ, Some, not};
-ghost use Rattle.cq_position.specs.Legal.{is_none};
-ghost use Rattle.cq_position.specs.Men.{same_man};
-ghost use Rattle.cq_position.specs.declared.men.Man.TheVariants.{Empty};
+ghost use Rattle.std.specs.Prelude.{◌≡◌, ◌↔◌, ℕ, Some};
 ghost use Rattle.cq_position.specs.Led.{taken_square};
 ghost use Rattle.cq_position.specs.declared.moves.Move.{Move as MoveValue};
 ghost use Rattle.cq_position.specs.Board.{Board};
@@ -42,7 +39,7 @@ pub fn led_by(before: &Position, m: Move) -> Option<Led>
         origin: played.from,
         goal: played.to,
         taken: taken_by(before, played),
-        promoted: is_promotion(played.promotion),
+        promoted: played.promotion != Promotion::None,
     })
 }
 
@@ -50,26 +47,13 @@ pub fn led_by(before: &Position, m: Move) -> Option<Led>
 fn taken_by(before: &Position, m: &Move) -> Option<Square>
     ensures { result ≡ taken_square before.now m.now }
 {
-    if is_man(before.at(m.to)) {
+    if before.at(m.to) != Man::Empty {
         Some(m.to)
     } else if is_pawn(before.at(m.from)) && file(m.from) != file(m.to) {
         Some(square_at(file(m.to), rank(m.from)))
     } else {
         None
     }
-}
-
-// Whether a man stands there.
-fn is_man(man: Man) -> bool
-    ensures { result ≡ not (same_man man Empty) }
-{
-    !matches!(man, Man::Empty)
-}
-
-fn is_promotion(promotion: Promotion) -> bool
-    ensures { result ≡ not (is_none promotion) }
-{
-    !matches!(promotion, Promotion::None)
 }
 
 /// The square on which a legal move takes a man is exactly the one on which a man of the other side stood before it and none stands after

@@ -21,8 +21,8 @@ use Rattle.cq_position.specs.Board.{Board}
 use Rattle.cq_position.specs.Legal.{Leads, is_castling, after}
 use Rattle.cq_position.specs.Position.{IsPosition}
 use Rattle.cq_moves.specs.LegalMoves.{legal_list}
-use Rattle.cq_san.specs.declared.parts.Piece.{Piece}
-use Rattle.cq_san.specs.declared.parts.Piece.TheVariants.{King, Queen, Rook, Bishop, Knight, Pawn}
+use Rattle.cq_position.specs.declared.men.Piece.{Piece}
+use Rattle.cq_position.specs.declared.men.Piece.TheVariants.{King, Queen, Rook, Bishop, Knight, Pawn}
 use Rattle.cq_san.specs.declared.parts.PieceMove.{PieceMove}
 use Rattle.cq_san.specs.declared.parts.Parts.TheVariants.{Castling, Null, Moved}
 use Rattle.cq_san.specs.Fits.{goes_right}

@@ -9,7 +9,7 @@ ghost use Rattle.cq_position.specs.Reading.{SomeIfTrue};
 
 use crate::fen::bytes::{DASH, right_letter, side_letter};
 use crate::home::{king_home, rook_home};
-use crate::men::{Man, Side, is_same, king_of, rook_of};
+use crate::men::{Man, Side, king_of, rook_of};
 use crate::position::{Rights, stands};
 use cq_geometry::{Square, rank, square_at};
 
@@ -142,15 +142,15 @@ fn was_passed(men: &[Man; 64], side: Side, square: Square) -> bool
     match side {
         Side::White => {
             rank(square) == 5
-                && is_same(men[at], Man::Empty)
-                && is_same(men[at - 8], Man::BlackP)
-                && is_same(men[at + 8], Man::Empty)
+                && men[at] == Man::Empty
+                && men[at - 8] == Man::BlackP
+                && men[at + 8] == Man::Empty
         }
         Side::Black => {
             rank(square) == 2
-                && is_same(men[at], Man::Empty)
-                && is_same(men[at + 8], Man::P)
-                && is_same(men[at - 8], Man::Empty)
+                && men[at] == Man::Empty
+                && men[at + 8] == Man::P
+                && men[at - 8] == Man::Empty
         }
     }
 }

@@ -12,12 +12,12 @@ zero_or_one (suc (suc n)) h f = absurd (omega arith)
 
 pub returns-then-mover-number-eq1 : goal.returns-then-mover-number-eq1
 returns-then-mover-number-eq1 c e =
-    let other : c.args.from ≢ c.args.mover.now.king = eqb-false c.args.from c.args.mover.now.king (sym c.is_same_square.ensures ∙ c.if-is_same_square.false) in
+    let other : c.args.from ≢ c.args.mover.now.king = eqb-false c.args.from c.args.mover.now.king (sym c.eq.ensures ∙ c.if-eq.false) in
     unexposed c.args.position.now c.args.mover.now.king c.args.from c.requires.kept c.requires.king other (sym c.is_attacked_without.ensures ∙ e)
 
 pub returns-else-mover-number-eq1 : goal.returns-else-mover-number-eq1
 returns-else-mover-number-eq1 c e =
-    let other : c.args.from ≢ c.args.mover.now.king = eqb-false c.args.from c.args.mover.now.king (sym c.is_same_square.ensures ∙ c.if-is_same_square.false) in
+    let other : c.args.from ≢ c.args.mover.now.king = eqb-false c.args.from c.args.mover.now.king (sym c.eq.ensures ∙ c.if-eq.false) in
     let low = bit_at-lt c.args.mover.now.shields c.number.result in
     let read = shr_and_one c.args.mover.now.shields c.number.result in
     let clear : bit_at c.args.mover.now.shields c.number.result ≡ 0 = zero_or_one _ low (λ one. eqb-false _ 1 e (read ∙ one)) in

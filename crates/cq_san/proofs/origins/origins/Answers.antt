@@ -1,4 +1,4 @@
-use Rattle.std.proofs.Common.{◌≡◌, ℕ, List, [], ◌∷◌, ◌++◌, length, sym, ap, ◌∙◌, arith}
+use Rattle.std.proofs.Common.{ℕ, List, [], ◌∷◌, ◌++◌, length, sym, ap, ◌∙◌, arith}
 use Rattle.cq_san.specs.Origins.{is_origin, origins}
 use Rattle.cq_san.proofs.Candidates.{so_far, so_far-start, so_far-with, so_far-without, so_far-end, so_far-room}
 use Rattle.cq_san.proofs.origins.origins.Goals as goal

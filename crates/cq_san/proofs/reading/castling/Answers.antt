@@ -1,4 +1,4 @@
-use Rattle.std.proofs.Common.{false, true, sym, ◌∙◌}
+use Rattle.std.proofs.Common.{sym, ◌∙◌}
 use Rattle.std.proofs.lemmas.Bool.{false≢true}
 use Rattle.cq_san.proofs.ByOrigins.{castled, not_castled}
 use Rattle.cq_san.proofs.reading.castling.Goals as goal

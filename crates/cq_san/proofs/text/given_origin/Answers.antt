@@ -1,4 +1,4 @@
-use Rattle.std.proofs.Common.{false, sym, ap, ◌∙◌}
+use Rattle.std.proofs.Common.{sym, ap, ◌∙◌}
 use Rattle.cq_position.specs.Board.{is_pawn}
 use Rattle.cq_san.proofs.Others.{file_given, rank_given}
 use Rattle.cq_san.proofs.text.given_origin.Goals as goal

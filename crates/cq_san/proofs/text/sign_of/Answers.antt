@@ -1,4 +1,4 @@
-use Rattle.std.proofs.Common.{false, true, sym, ap, ◌∙◌}
+use Rattle.std.proofs.Common.{sym, ap, ◌∙◌}
 use Rattle.std.proofs.lemmas.Bool.{false≢true}
 use Rattle.cq_position.specs.Attacks.{in_check}
 use Rattle.cq_san.proofs.Signs.{signs_say}

@@ -1,4 +1,4 @@
-use Rattle.std.proofs.Common.{◌≡◌, ◌+◌, ◌≤◌, length, sym, ap, ◌∙◌, subst, arith, rules}
+use Rattle.std.proofs.Common.{◌≤◌, length, sym, ap, ◌∙◌, subst, arith, rules}
 use Rattle.cq_san.specs.Writing as writing
 use Rattle.cq_san.proofs.Room.{parts_room, parts_on_board, sign_one}
 use Rattle.cq_san.proofs.text.text_of.Goals as goal
