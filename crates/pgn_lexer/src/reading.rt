@@ -108,7 +108,7 @@ fn plain_len(bytes: &[u8]) -> usize
 
 /// Where a string goes on after its backslash at a place: after the byte that it takes with it, which is never LF.
 #[tactic(auto, using(crate::proofs::Bodies::escape_at_end, crate::proofs::Bodies::escape_of_line, crate::proofs::Bodies::escape_of_byte))]
-fn behind_backslash(rest: &[u8], at: usize) -> usize
+fn after_backslash(rest: &[u8], at: usize) -> usize
     requires { at < length rest.now }
     ensures within { (at < result) × (result ≤ length rest.now) }
     ensures goes_on { slice_index rest.now at ≡ 92 →
@@ -127,8 +127,8 @@ fn body_len(rest: &[u8]) -> usize
 {
     let mut at = plain_len(rest);
     while at < rest.len() && rest[at] == b'\\' {
-        let behind = behind_backslash(rest, at);
-        at = behind + plain_len(&rest[behind..]);
+        let after = after_backslash(rest, at);
+        at = after + plain_len(&rest[after..]);
     }
     at
 }
