@@ -154,7 +154,7 @@ impl State {
     {
         match self {
             State::InComment => b == b'}',
-            State::InText(backslash) => b == b'"' && !backslash,
+            State::InText(escaped) => b == b'"' && !escaped,
             State::InSuffix | State::InNull => true,
             _ => false,
         }
@@ -165,7 +165,7 @@ impl State {
         ensures { result ≡ after self len b }
     {
         match self {
-            State::InText(backslash) => State::InText(b == b'\\' && !backslash),
+            State::InText(escaped) => State::InText(b == b'\\' && !escaped),
             State::InSymbol(results) => State::InSymbol(results.after(len, b)),
             _ => self,
         }

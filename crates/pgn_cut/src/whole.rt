@@ -5,7 +5,7 @@ ghost use Rattle.pgn_cut.specs.OneGame.{IsGameIn};
 ghost use Rattle.pgn_cut.specs.Spans.{EndsBy, AreInOrder};
 ghost use Rattle.pgn_cut.specs.Cut.{text_start, cut};
 
-use crate::game::Game;
+use crate::game::OpenGame;
 use crate::laws::{games_end_once, games_have_their_tokens, games_stand_apart};
 use crate::span::Span;
 use cq_outside::NoMemory;
@@ -39,7 +39,7 @@ pub fn cut_whole(alloc: Global, archive: &[u8]) -> Result<Vec<Span>, NoMemory>
     let offset = text_start(archive);
     let text = &archive[offset..];
     let mut spans = Vec::new(alloc);
-    let mut game = Game::new();
+    let mut game = OpenGame::new();
     let mut at = 0;
     while let Some(lexeme) = next_lexeme(text, at, true) {
         let (open, closed) = game.meet_lexeme(lexeme, offset as u64);
