@@ -295,8 +295,8 @@ impl Cutter {
         Ok((cutter, 1))
     }
 
-    /// Takes the next bytes of the archive, and appends the games that they close. Where no memory is found, the call is
-    /// refused, and leaves the cutter and the spans as they are. All bytes together are fewer than 2^62.
+    /// Takes the next bytes of the archive, and appends the games that they close. Fails only when out of memory, and then
+    /// leaves the cutter and the spans as they are. All bytes together are fewer than 2^62.
     pub fn feed(&mut self, piece: &[u8], spans: &mut Vec<Span>) -> Result<(), NoMemory>
         requires { (fed : List ℕ) × Stands self.old fed × (length fed + length piece.now < 2 ^ 62) }
         ensures stands { OnOk result ((fed : List ℕ) → Stands self.old fed → Stands self.new (fed ++ piece.now)) }
@@ -324,7 +324,7 @@ impl Cutter {
     }
 
     /// Appends the last game, where there is one, at the archive's end. The cutter stays as it is, so a second call appends
-    /// that game again. Where no memory is found, the call is refused, and leaves the spans as they are too.
+    /// that game again. Fails only when out of memory, and then leaves the spans as they are too.
     pub fn finish(&mut self, spans: &mut Vec<Span>) -> Result<(), NoMemory>
         requires { (fed : List ℕ) × Stands self.old fed × (length fed < 2 ^ 62) }
         ensures games { OnOk result ((fed : List ℕ) → Stands self.old fed →

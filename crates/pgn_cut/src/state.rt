@@ -1,13 +1,10 @@
 //! What is open at a place of an archive that comes in pieces.
 ghost use Rattle.std.specs.Prelude.{◌≡◌, ◌≤◌, ◌&&◌, ◌==◌, ℕ, true, false, take, nat_lt, codes, slice_index, length};
-ghost use Rattle.std.specs.List.{AllByRecursion, position_or_len};
-ghost use Rattle.pgn_lexer.specs.Readings.{is_special};
-ghost use Rattle.pgn_lexer.specs.Bytes.{continues_symbol};
+ghost use Rattle.std.specs.List.{AllByRecursion};
 ghost use Rattle.pgn_cut.specs.States.{begins_further, results_from, results_after, are_spelled, takes, finishes, after, begun, is_in_mark, Stays, kind_at_end, kind_with_last, is_marker_at_end};
 ghost use Rattle.pgn_cut.specs.declared.state.State.TheVariants.{Between};
 
-use memchr::{memchr, memchr3};
-use pgn_lexer::{LexemeKind, TokenKind};
+use pgn_lexer::{LexemeKind, TokenKind, continues_symbol, place_of, plain_len};
 
 /// Which markers of a result begin with the bytes of a symbol.
 #[derive(Clone, Copy)]
@@ -71,29 +68,6 @@ impl Results {
     {
         ((self.white || self.black) && len == 3) || (self.draw && len == 7)
     }
-}
-
-/// Whether a symbol goes on with a byte.
-fn continues_symbol(b: u8) -> bool
-    ensures { result ≡ continues_symbol b }
-{
-    b.is_ascii_alphanumeric() || matches!(b, b'_' | b'+' | b'#' | b'=' | b':' | b'-' | b'/')
-}
-
-/// The place of the first such byte, or the length where there is none.
-fn place_of(byte: u8, bytes: &[u8]) -> usize
-    ensures value { result ≡ position_or_len (λ b. b == byte) bytes.now }
-    ensures within { result ≤ length bytes.now }
-{
-    memchr(byte, bytes).unwrap_or(bytes.len())
-}
-
-/// How many bytes at the start of a string stand for themselves: those before a quote, a backslash or LF.
-fn plain_len(bytes: &[u8]) -> usize
-    ensures value { result ≡ position_or_len is_special bytes.now }
-    ensures within { result ≤ length bytes.now }
-{
-    memchr3(b'"', b'\\', b'\n', bytes).unwrap_or(bytes.len())
 }
 
 impl State {

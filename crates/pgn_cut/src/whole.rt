@@ -27,7 +27,7 @@ fn text_start(archive: &[u8]) -> usize
     }
 }
 
-/// The games of an archive of fewer than 2^62 bytes, in order. Refused where no memory is found.
+/// The games of an archive of fewer than 2^62 bytes, in order. Fails only when out of memory.
 pub fn cut_whole(alloc: Global, archive: &[u8]) -> Result<Vec<Span>, NoMemory>
     requires { length archive.now < 2 ^ 62 }
     ensures games { IfOk result (λ v. v.items ≡ cut archive.now) }

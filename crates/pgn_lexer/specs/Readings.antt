@@ -29,8 +29,8 @@ line_comment rest = token LineComment (position_or_len ends_line rest + 1)
 unfoldable pub escape_line : List ℕ → Reading
 escape_line rest = record { kind = EscapeLine; len = position_or_len ends_line rest + 1 }
 
--- the bytes at which the search for a string's end stops, as the private functions give it: a quote and LF, which may end it, and a
--- backslash, which may take the next byte with it
+-- the bytes of a string that don't stand for themselves: a quote and LF, which may end it, and a backslash, which may take the next
+-- byte with it
 abbrev pub is_special : ℕ → Bool
 is_special b = b == quote || b == backslash || b == line_feed
 

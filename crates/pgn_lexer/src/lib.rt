@@ -19,5 +19,5 @@ pub use laws::{
     white_space_is_passed, whole_lexemes_stay,
 };
 pub use lexeme::{Lexeme, next_lexeme};
-pub use reading::longest_reading;
+pub use reading::{continues_symbol, longest_reading, place_of, plain_len};
 pub use token::{LexemeKind, Reading, Token, TokenKind};

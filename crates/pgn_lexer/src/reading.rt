@@ -34,7 +34,7 @@ const CONTINUES_SYMBOL: [bool; 256] = [
 /// Whether a symbol goes on with this byte.
 #[inline]
 #[tactic(auto, using(crate::proofs::Tables::symbol_table))]
-fn continues_symbol(b: u8) -> bool
+pub fn continues_symbol(b: u8) -> bool
     ensures { result ≡ continues_symbol b }
 {
     CONTINUES_SYMBOL[b as usize]
@@ -51,7 +51,7 @@ fn token(kind: TokenKind, len: usize) -> Reading
 }
 
 /// The place of the first such byte, or the length where there is none.
-fn place_of(byte: u8, bytes: &[u8]) -> usize
+pub fn place_of(byte: u8, bytes: &[u8]) -> usize
     ensures value { result ≡ position_or_len (λ b. b == byte) bytes.now }
     ensures within { result ≤ length bytes.now }
 {
@@ -99,7 +99,7 @@ fn escape_line(rest: &[u8]) -> Reading
 }
 
 /// How many bytes at the start of a string stand for themselves: those before a quote, a backslash or LF.
-fn plain_len(bytes: &[u8]) -> usize
+pub fn plain_len(bytes: &[u8]) -> usize
     ensures value { result ≡ position_or_len is_special bytes.now }
     ensures within { result ≤ length bytes.now }
 {
