@@ -2,7 +2,7 @@
 #![tactic(auto)]
 
 mod board;
-pub mod seat;
+mod seat;
 mod view;
 
 pub use seat::{Board, ClaimSeat};

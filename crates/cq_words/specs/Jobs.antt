@@ -13,7 +13,7 @@ use Rattle.cq_outside.specs.declared.faults.Refusal.TheVariants.{Fault, NoMemory
 use Rattle.cq_words.specs.declared.job.Job.{Job}
 use Rattle.cq_words.specs.declared.job.Job.TheVariants as job
 use Rattle.cq_words.specs.declared.job.Settings.{Settings}
-use Rattle.cq_words.specs.declared.job.Making.{Making}
+use Rattle.cq_words.specs.declared.job.SelfRunSettings.{SelfRunSettings}
 use Rattle.cq_words.specs.declared.job.WordsRefused.{WordsRefused}
 use Rattle.cq_words.specs.declared.mode.Mode.{Mode}
 use Rattle.cq_words.specs.declared.mode.Mode.TheVariants as mode
@@ -67,8 +67,8 @@ settings_in rows =
     else option_and_then (λ workers. option_map (λ limit. record { workers = workers; limit = limit }) (limit_in rows)) (workers_in rows)
 
 -- `selfrun` takes `--workers`, `--seed` and `--games`, and no archive
-abbrev pub making_in : List Row → Option Making
-making_in rows =
+abbrev pub self_run_settings_in : List Row → Option SelfRunSettings
+self_run_settings_in rows =
     if is_given rows (codes "archive") || is_given rows (codes "limit") then None
     else option_and_then (λ workers. option_and_then (λ seed.
     option_map (λ games. record { seed = seed; games = games; workers = workers }) (games_in rows)) (seed_in rows)) (workers_in rows)
@@ -83,7 +83,7 @@ job_by mode.Run query rows = option_map (λ s. job.Run query (archive_in rows) s
 job_by mode.Eval query rows = option_map (λ s. job.Eval query (archive_in rows) s.workers s.limit) (settings_in rows)
 job_by mode.Check query rows = if has_more rows then None else Some (job.Check query)
 job_by mode.Explain query rows = if has_more rows then None else Some (job.Explain query)
-job_by mode.SelfRun query rows = option_map (λ m. job.SelfRun query m.seed m.games m.workers) (making_in rows)
+job_by mode.SelfRun query rows = option_map (λ m. job.SelfRun query m.seed m.games m.workers) (self_run_settings_in rows)
 
 -- the job of matches that keep the rules; none of others
 abbrev pub job_in : List Row → Option Job

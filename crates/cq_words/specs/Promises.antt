@@ -15,7 +15,7 @@ use Rattle.cq_words.specs.Line.{line}
 abbrev pub HasMatches : List Text → ArgMatches → Type 0
 HasMatches words found = (fault_of line words ≡ []) × (rows_of (found_of found) ≡ matches_of line words)
 
--- where memory didn't run out, the words have a fault, and are none that only want of memory may refuse
+-- unless out of memory, the words have a fault, and are none that are refused only when out of memory
 abbrev pub IsRefused : List Text → Refusal WordsRefused → Type 0
 IsRefused words (Fault refused) = (fault_of line words ≡ [] → ⊥) × (takes line words ≡ true → ⊥)
 IsRefused words NoMemory = Unit {0}

@@ -2,16 +2,16 @@
 use cq_outside::Bytes;
 
 /// The most workers.
-pub const WORKERS_LIMIT: u64 = 64;
+pub(crate) const WORKERS_LIMIT: u64 = 64;
 
 /// The greatest seed.
-pub const SEED_LIMIT: u64 = 4_294_967_295;
+pub(crate) const SEED_LIMIT: u64 = 4_294_967_295;
 
 /// The most games that an archive is made of.
-pub const GAMES_LIMIT: u64 = 100_000;
+pub(crate) const GAMES_LIMIT: u64 = 100_000;
 
 /// The greatest limit of an archive's bytes, which stands where no limit is given.
-pub const BYTES_LIMIT: u64 = 1_099_511_627_776;
+pub(crate) const BYTES_LIMIT: u64 = 1_099_511_627_776;
 
 /// What the words ask.
 #[derive(Debug, PartialEq, Eq, Drop)]
@@ -56,9 +56,9 @@ pub struct Settings {
     pub limit: u64,
 }
 
-// How an archive is made, and answered by how many workers.
+// The settings of `selfrun`: how its archive is made, and by how many workers it is answered.
 #[derive(Clone, Copy)]
-pub(crate) struct Making {
+pub(crate) struct SelfRunSettings {
     pub(crate) seed: u32,
     pub(crate) games: u32,
     pub(crate) workers: u32,

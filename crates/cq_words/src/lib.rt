@@ -2,7 +2,7 @@
 //! the mode, the archive and the options that a mode allows stand here.
 #![tactic(auto)]
 
-pub mod job;
+mod job;
 mod line;
 mod mode;
 mod options;

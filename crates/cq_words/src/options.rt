@@ -1,9 +1,9 @@
 //! What the matches give of each argument.
 ghost use Rattle.std.specs.Prelude.{◌≡◌, ◌≤◌, IfSome, IfOk, option_map};
 ghost use Rattle.clap.specs.Words.{first_of, found_of, rows_of};
-ghost use Rattle.cq_words.specs.Jobs.{archive_in, has_more, is_given, making_in, number_of, number_or, settings_in, workers_in};
+ghost use Rattle.cq_words.specs.Jobs.{archive_in, has_more, is_given, number_of, number_or, self_run_settings_in, settings_in, workers_in};
 
-use crate::job::{BYTES_LIMIT, GAMES_LIMIT, Making, SEED_LIMIT, Settings, WORKERS_LIMIT};
+use crate::job::{BYTES_LIMIT, GAMES_LIMIT, SEED_LIMIT, SelfRunSettings, Settings, WORKERS_LIMIT};
 use clap::ArgMatches;
 use cq_outside::{Bytes, NoMemory};
 use std::alloc::Global;
@@ -66,9 +66,9 @@ pub(crate) fn settings_in(matches: &ArgMatches<'_>) -> Option<Settings>
     Some(Settings { workers, limit })
 }
 
-// What `selfrun` is to make; none where an archive is given, or an option that it doesn't take.
-pub(crate) fn making_in(matches: &ArgMatches<'_>) -> Option<Making>
-    ensures value { result ≡ making_in (rows_of (found_of matches.now)) }
+// The settings of `selfrun`; none where an archive is given, or an option that it doesn't take.
+pub(crate) fn self_run_settings_in(matches: &ArgMatches<'_>) -> Option<SelfRunSettings>
+    ensures value { result ≡ self_run_settings_in (rows_of (found_of matches.now)) }
     ensures bounds { IfSome result (λ m. (m.seed ≤ 4294967295) × (m.games ≤ 100000) × (1 ≤ m.workers) × (m.workers ≤ 64)) }
 {
     if is_given(matches, "archive") || is_given(matches, "limit") {
@@ -77,7 +77,7 @@ pub(crate) fn making_in(matches: &ArgMatches<'_>) -> Option<Making>
     let workers = workers_in(matches)?;
     let seed = number_in(matches, "seed", 0, SEED_LIMIT, 1)? as u32;
     let games = number_in(matches, "games", 0, GAMES_LIMIT, 100)? as u32;
-    Some(Making {
+    Some(SelfRunSettings {
         seed,
         games,
         workers,

@@ -10,7 +10,7 @@ ghost use Rattle.cq_words.specs.Promises.{HasMatches, IsRefused};
 use crate::job::{Job, WordsRefused};
 use crate::line;
 use crate::mode::{Mode, mode_of};
-use crate::options::{archive_in, has_more, making_in, settings_in, text_of};
+use crate::options::{archive_in, has_more, self_run_settings_in, settings_in, text_of};
 use clap::ArgMatches;
 use clap::error::ErrorKind;
 use cq_outside::{Bytes, Refusal};
@@ -108,14 +108,14 @@ fn self_run_job(
     ensures value { Answers (job_by modes.SelfRun query.now (rows_of (found_of matches.now))) result }
     ensures ranges { IfOk result IsInRange }
 {
-    let Some(making) = making_in(matches) else {
+    let Some(settings) = self_run_settings_in(matches) else {
         return Err(Refusal::Fault(WordsRefused));
     };
     Ok(Job::SelfRun {
         text: Bytes::from_slice(alloc, query.as_bytes())?,
-        seed: making.seed,
-        games: making.games,
-        workers: making.workers,
+        seed: settings.seed,
+        games: settings.games,
+        workers: settings.workers,
     })
 }
 

@@ -17,7 +17,7 @@ use Rattle.pgn_lexer.specs.Readings.{reading, symbol, single}
 use Rattle.pgn_lexer.specs.declared.token.LexemeKind.{LexemeKind}
 use Rattle.pgn_lexer.specs.declared.token.LexemeKind.TheVariants.{EscapeLine, Token}
 use Rattle.pgn_lexer.specs.declared.token.TokenKind.TheVariants.{Open, Close, Text, Symbol, Period, Star, LeftParen, RightParen, Nag, Null, Comment, LineComment, BadByte, UnclosedComment, UnclosedText}
-use Rattle.pgn_cut.specs.Cut.{is_result, marks, is_marker, depth, opens, has_movetext, is_passed_over, ends_before, ends_behind, span_to, cut_from, cut, same_span, closed, text_start}
+use Rattle.pgn_cut.specs.Cut.{is_result, marks, is_marker, depth, opens, has_movetext, is_passed_over, ends_before, ends_after, span_to, cut_from, cut, same_span, closed, text_start}
 use Rattle.pgn_cut.specs.Spans.{FinishesAt}
 use Rattle.pgn_cut.specs.declared.span.Span.{Span}
 
@@ -26,14 +26,14 @@ closed_by : (game ls : List Lexeme) → List Span
 closed_by game [] = []
 closed_by game (l ∷ ls) =
     if ends_before game l then span_to l.at game ++ closed_by (l ∷ []) ls
-    else (if ends_behind game l then span_to (end l) (game ++ l ∷ []) ++ closed_by [] ls
+    else (if ends_after game l then span_to (end l) (game ++ l ∷ []) ++ closed_by [] ls
     else closed_by (game ++ l ∷ []) ls)
 
 open_by : (game ls : List Lexeme) → List Lexeme
 open_by game [] = game
 open_by game (l ∷ ls) =
     if ends_before game l then open_by (l ∷ []) ls
-    else (if ends_behind game l then open_by [] ls
+    else (if ends_after game l then open_by [] ls
     else open_by (game ++ l ∷ []) ls)
 
 -- a choice of three in each of the parts
@@ -49,7 +49,7 @@ cut_splits : (place : ℕ) (game ls rest : List Lexeme) → cut_from place game 
 unfolding cut_from closed_by open_by
 cut_splits place game [] rest = refl
 cut_splits place game (l ∷ ls) rest =
-    choice_splits place rest (ends_before game l) (ends_behind game l) _ _ _
+    choice_splits place rest (ends_before game l) (ends_after game l) _ _ _
     (span_to l.at game ++ closed_by (l ∷ []) ls) (span_to (end l) (game ++ l ∷ []) ++ closed_by [] ls) (closed_by (game ++ l ∷ []) ls)
     (open_by (l ∷ []) ls) (open_by [] ls) (open_by (game ++ l ∷ []) ls)
     (ap (λ s. span_to l.at game ++ s) (cut_splits place (l ∷ []) ls rest) ∙ sym (append_assoc (span_to l.at game) (closed_by (l ∷ []) ls) _))
@@ -107,23 +107,23 @@ pub goes_in : (place : ℕ) (game : List Lexeme) (l : Lexeme) (ls : List Lexeme)
 unfolding cut_from
 goes_in place game l ls no_open no_marker =
     let before : ends_before game l ≡ false = ap (λ t. t && l.first && has_movetext game) no_open in
-    let behind : ends_behind game l ≡ false = ap (λ t. t && depth game == 0) no_marker in
-    ap (λ t. cond t (span_to l.at game ++ cut_from place (l ∷ []) ls) (cond (ends_behind game l) (span_to (end l) (game ++ l ∷ []) ++ cut_from place [] ls) (cut_from place (game ++ l ∷ []) ls))) before
-    ∙ ap (λ t. cond t (span_to (end l) (game ++ l ∷ []) ++ cut_from place [] ls) (cut_from place (game ++ l ∷ []) ls)) behind
+    let no_end : ends_after game l ≡ false = ap (λ t. t && depth game == 0) no_marker in
+    ap (λ t. cond t (span_to l.at game ++ cut_from place (l ∷ []) ls) (cond (ends_after game l) (span_to (end l) (game ++ l ∷ []) ++ cut_from place [] ls) (cut_from place (game ++ l ∷ []) ls))) before
+    ∙ ap (λ t. cond t (span_to (end l) (game ++ l ∷ []) ++ cut_from place [] ls) (cut_from place (game ++ l ∷ []) ls)) no_end
 
 -- the letter x after all as a lexeme
-x_behind : ℕ → Bool → Lexeme
-x_behind at first = record { at = at; first = first; text = 120 ∷ []; kind = Token Symbol }
+x_after : ℕ → Bool → Lexeme
+x_after at first = record { at = at; first = first; text = 120 ∷ []; kind = Token Symbol }
 
-x_alone : (at : ℕ) (first : Bool) → lexemes at first (120 ∷ []) ≡ x_behind at first ∷ []
-unfolding lexemes_from reading symbol x_behind
+x_alone : (at : ℕ) (first : Bool) → lexemes at first (120 ∷ []) ≡ x_after at first ∷ []
+unfolding lexemes_from reading symbol x_after
 x_alone at first = refl
 
 -- a game after which x stands ends one byte later
 x_ends : (place at : ℕ) (first : Bool) (game : List Lexeme) → FinishesAt place (cut_from place game (lexemes at first (120 ∷ [])))
-unfolding x_behind
+unfolding x_after
 x_ends place at first game =
-    subst (FinishesAt place) (sym (ap (cut_from place game) (x_alone at first) ∙ goes_in place game (x_behind at first) [] refl refl)) (last_ends place (game ++ x_behind at first ∷ []))
+    subst (FinishesAt place) (sym (ap (cut_from place game) (x_alone at first) ∙ goes_in place game (x_after at first) [] refl refl)) (last_ends place (game ++ x_after at first ∷ []))
 
 -- a text that ends with x is no result
 ends_with_x : (xs ys : List ℕ) (n : ℕ) → length ys ≡ n + 1 → xs ++ 120 ∷ [] ≡ ys → get_or ys n 0 ≡ 120
@@ -264,9 +264,9 @@ module _ (follow : LexemesFollow) (grow : ReadingsGrow) (longest : AreLongest) w
       let ends : end l ≡ place = omega arith in
       let before : ends_before game l ≡ false = ap (λ t. t && first && has_movetext game) (grows_no_open (reading first b bs).kind grows) in
       subst (FinishesAt place) (sym (ap (cut_from place game) (one_lexeme at first b bs dark whole)
-      ∙ ap (λ t. cond t (span_to at game ++ cut_from place (l ∷ []) []) (cond (ends_behind game l) (span_to (end l) (game ++ l ∷ []) ++ cut_from place [] []) (cut_from place (game ++ l ∷ []) []))) before
-      ∙ ap (λ e. cond (ends_behind game l) (span_to e (game ++ l ∷ []) ++ cut_from place [] []) (cut_from place (game ++ l ∷ []) [])) ends))
-      (of_both (FinishesAt place) (ends_behind game l) (span_to place (game ++ l ∷ []) ++ []) (cut_from place (game ++ l ∷ []) []) (first_of_span place (game ++ l ∷ [])) (last_ends place (game ++ l ∷ [])))
+      ∙ ap (λ t. cond t (span_to at game ++ cut_from place (l ∷ []) []) (cond (ends_after game l) (span_to (end l) (game ++ l ∷ []) ++ cut_from place [] []) (cut_from place (game ++ l ∷ []) []))) before
+      ∙ ap (λ e. cond (ends_after game l) (span_to e (game ++ l ∷ []) ++ cut_from place [] []) (cut_from place (game ++ l ∷ []) [])) ends))
+      (of_both (FinishesAt place) (ends_after game l) (span_to place (game ++ l ∷ []) ++ []) (cut_from place (game ++ l ∷ []) []) (first_of_span place (game ++ l ∷ [])) (last_ends place (game ++ l ∷ [])))
 
   -- the reading of such a text with x after it either takes the x or stays
   x_taken : (at : ℕ) (first : Bool) (game : List Lexeme) (b : ℕ) (bs : List ℕ) → is_white b ≡ false → length (b ∷ bs) < (reading first b (bs ++ 120 ∷ [])).len
@@ -308,12 +308,12 @@ module _ (follow : LexemesFollow) (grow : ReadingsGrow) (longest : AreLongest) w
       let same : reading first b (bs ++ 120 ∷ []) ≡ r = (grow first b bs (120 ∷ [])).same stays in
       let no_open : opens l.kind ≡ false = ap (λ q. opens q.kind) same ∙ grows_no_open r.kind grows in
       let no_marker : is_marker l ≡ false = ap (λ q. marks q.kind (take q.len (b ∷ bs ++ 120 ∷ []))) same ∙ kept_no_marker r.kind _ grows (no_symbol first b bs whole stays) in
-      let behind : drop (reading first b (bs ++ 120 ∷ [])).len (b ∷ bs ++ 120 ∷ []) ≡ 120 ∷ [] =
+      let x_rest : drop (reading first b (bs ++ 120 ∷ [])).len (b ∷ bs ++ 120 ∷ []) ≡ 120 ∷ [] =
       ap (λ q. drop q.len (b ∷ bs ++ 120 ∷ [])) same ∙ drop-append-le r.len (b ∷ bs) (120 ∷ []) (omega arith) ∙ ap (λ t. t ++ 120 ∷ []) (drop_all r.len (b ∷ bs) (omega arith)) in
       let n = (reading first b (bs ++ 120 ∷ [])).len in
       subst (FinishesAt place) (sym (ap (cut_from place game) (follow at first b (bs ++ 120 ∷ []) dark)
       ∙ goes_in place game l (lexemes (at + n) (first_at first (b ∷ bs ++ 120 ∷ []) n) (drop n (b ∷ bs ++ 120 ∷ []))) no_open no_marker
-      ∙ ap (λ t. cut_from place (game ++ l ∷ []) (lexemes (at + n) (first_at first (b ∷ bs ++ 120 ∷ []) n) t)) behind))
+      ∙ ap (λ t. cut_from place (game ++ l ∷ []) (lexemes (at + n) (first_at first (b ∷ bs ++ 120 ∷ []) n) t)) x_rest))
       (x_ends place (at + n) (first_at first (b ∷ bs ++ 120 ∷ []) n) (game ++ l ∷ []))
 
   -- the games of what a front leaves open have nothing in common with those that are there once x follows
@@ -348,8 +348,8 @@ module _ (follow : LexemesFollow) (grow : ReadingsGrow) (longest : AreLongest) w
 
   -- the closed games of a front, where what follows doesn't change the byte order mark
   module _ (settle : FrontsSettle) where
-    closes_behind_mark : (front : List ℕ) → ((more : List ℕ) → text_start (front ++ more) ≡ text_start front) → Closes front
-    closes_behind_mark front same =
+    closes_after_mark : (front : List ℕ) → ((more : List ℕ) → text_start (front ++ more) ≡ text_start front) → Closes front
+    closes_after_mark front same =
         let start = text_start front in
         let inside = text_within front in
         let text = drop start front in
@@ -424,7 +424,7 @@ module _ (follow : LexemesFollow) (grow : ReadingsGrow) (longest : AreLongest) (
   closes [] = closes_nothing [] nothing_closes nothing_finishes
   closes (x ∷ []) =
       ⊎_elim (λ mark. subst (λ b. Closes (b ∷ [])) (eqb-true 239 x mark) (closes_nothing (239 ∷ []) one_closes_nothing one_finishes))
-      (λ other. closes_behind_mark follow grow longest settle (x ∷ [])
+      (λ other. closes_after_mark follow grow longest settle (x ∷ [])
       (λ m. ap (λ t. cond (t && starts_with nat_eq m (187 ∷ 191 ∷ [])) 3 0) other ∙ sym (ap (λ t. cond t 3 0) (both_false (239 == x)))))
       (cases_Bool (239 == x))
   closes (x ∷ y ∷ []) =
@@ -432,11 +432,11 @@ module _ (follow : LexemesFollow) (grow : ReadingsGrow) (longest : AreLongest) (
       let parts = and_parts (239 == x) (187 == y) mark in
       subst (λ b. Closes (b ∷ y ∷ [])) (eqb-true 239 x parts.0)
       (subst (λ b. Closes (239 ∷ b ∷ [])) (eqb-true 187 y parts.1) (closes_nothing (239 ∷ 187 ∷ []) two_close_nothing two_finish)))
-      (λ other. closes_behind_mark follow grow longest settle (x ∷ y ∷ [])
+      (λ other. closes_after_mark follow grow longest settle (x ∷ y ∷ [])
       (λ m. ap (λ t. cond t 3 0) (and_assoc_false (239 == x) (187 == y) (starts_with nat_eq m (191 ∷ [])) other)
       ∙ sym (ap (λ t. cond t 3 0) (and_assoc_false (239 == x) (187 == y) false other))))
       (cases_Bool ((239 == x) && (187 == y)))
-  closes (x ∷ y ∷ z ∷ zs) = closes_behind_mark follow grow longest settle (x ∷ y ∷ z ∷ zs) (λ m. refl)
+  closes (x ∷ y ∷ z ∷ zs) = closes_after_mark follow grow longest settle (x ∷ y ∷ z ∷ zs) (λ m. refl)
 
   pub closed_stay : (front more : List ℕ) → (rest : List Span) × (cut (front ++ more) ≡ closed front ++ rest)
   closed_stay front = (closes front).stay

@@ -6,7 +6,7 @@ use Rattle.std.proofs.lemmas.List.{drop-drop}
 use Rattle.std.proofs.lemmas.List.Elements.{All-from_recursion}
 use Rattle.pgn_lexer.specs.Lexemes.{Lexeme, end, lexemes, tokens_among, first_at}
 use Rattle.pgn_lexer.specs.Local.{IsUncrossed, within, StandsIn}
-use Rattle.pgn_cut.specs.Cut.{is_passed_over, ends_before, ends_behind, span_to, cut_from, cut, byte_order_mark, text_start, archive_lexemes}
+use Rattle.pgn_cut.specs.Cut.{is_passed_over, ends_before, ends_after, span_to, cut_from, cut, byte_order_mark, text_start, archive_lexemes}
 use Rattle.pgn_cut.specs.Joined.{HasItsTokens, game_bytes}
 use Rattle.pgn_cut.specs.declared.span.Span.{Span}
 
@@ -60,9 +60,9 @@ module _ (start : ℕ) (text : List ℕ) where
       of_both (AllByRecursion (CleanSpan start text)) (list_all (λ l. is_passed_over l.kind) game) [] (span_to place game) tt (span_clean place game clean before)
   cut_clean place game (l ∷ ls) clean before after =
       let more = all_append (StandsIn start true text) game (l ∷ []) before (after.0, tt) in
-      of_both (AllByRecursion (CleanSpan start text)) (ends_before game l) (span_to l.at game ++ cut_from place (l ∷ []) ls) (if ends_behind game l then span_to (end l) (game ++ l ∷ []) ++ cut_from place [] ls else cut_from place (game ++ l ∷ []) ls)
+      of_both (AllByRecursion (CleanSpan start text)) (ends_before game l) (span_to l.at game ++ cut_from place (l ∷ []) ls) (if ends_after game l then span_to (end l) (game ++ l ∷ []) ++ cut_from place [] ls else cut_from place (game ++ l ∷ []) ls)
       (all_append (CleanSpan start text) (span_to l.at game) (cut_from place (l ∷ []) ls) (span_clean l.at game (begin_clean l after.0) before) (cut_clean place (l ∷ []) ls clean (after.0, tt) after.1))
-      (of_both (AllByRecursion (CleanSpan start text)) (ends_behind game l) (span_to (end l) (game ++ l ∷ []) ++ cut_from place [] ls) (cut_from place (game ++ l ∷ []) ls)
+      (of_both (AllByRecursion (CleanSpan start text)) (ends_after game l) (span_to (end l) (game ++ l ∷ []) ++ cut_from place [] ls) (cut_from place (game ++ l ∷ []) ls)
       (all_append (CleanSpan start text) (span_to (end l) (game ++ l ∷ [])) (cut_from place [] ls) (span_clean (end l) (game ++ l ∷ []) (end_clean l after.0) more) (cut_clean place [] ls clean tt after.1))
       (cut_clean place (game ++ l ∷ []) ls clean more after.1))
 

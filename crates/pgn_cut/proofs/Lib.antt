@@ -8,7 +8,6 @@ pub mod OneGame
 pub mod OpenLexemes
 pub mod Order
 pub mod Pieces
-pub mod Places
 pub mod Pushes
 mod Rows
 pub mod Runs

@@ -12,7 +12,7 @@ use Rattle.pgn_cut.specs.Cut.{cut_from, cut, closed, text_start}
 use Rattle.pgn_cut.specs.Progress.{progress_of, Shows}
 use Rattle.pgn_cut.specs.States.{IsOpen, begun, is_in_mark, EndsBefore, IsOneLexeme}
 use Rattle.pgn_cut.specs.Streams.{IsInMark, IsInText, IsEnded, StandsWith}
-use Rattle.pgn_cut.specs.declared.game.Game.{Game}
+use Rattle.pgn_cut.specs.declared.game.OpenGame.{OpenGame}
 use Rattle.pgn_cut.specs.declared.game.Look.{Look}
 use Rattle.pgn_cut.specs.declared.cutter.Cutter.{Cutter}
 use Rattle.pgn_cut.specs.declared.state.State.{State}
@@ -84,7 +84,7 @@ cut_is : (archive : List ℕ) → text_start archive ≡ 0 → cut archive ≡ c
 cut_is archive none = ap (λ k. cut_from (length archive) [] (lexemes k true (drop k archive))) none
 
 -- nothing was fed
-pub start_ends : (game : Game) → game ≡ progress_of [] → game.depth ≡ 0 → IsEnded (record { state = Between; game = game; at = 0; first = true; place = 0; column = true }) None AtStart []
+pub start_ends : (game : OpenGame) → game ≡ progress_of [] → game.depth ≡ 0 → IsEnded (record { state = Between; game = game; at = 0; first = true; place = 0; column = true }) None AtStart []
 start_ends game is flat = record {
   kept = [];
   game = is;
@@ -124,11 +124,11 @@ unfolding bad bad_lexeme
 bad_next at first b one rest line = one.next at rest tt ∙ ap (λ f. (record { at = at; first = first; text = b ∷ []; kind = one.read }) ∷ lexemes (at + 1) f rest) line
 
 -- what `with` says of a game
-abbrev pub Gains : Game → Look → Game → Type 0
+abbrev pub Gains : OpenGame → Look → OpenGame → Type 0
 Gains was look now = (game : List Lexeme) (l : Lexeme) → Shows look l → was ≡ progress_of game → now ≡ progress_of (game ++ l ∷ [])
 
 -- one byte of a mark was fed
-pub one_ends : StandAlone → (was game : Game) → was ≡ progress_of [] → game.depth ≤ 2 → Gains was (record { at = 0; end = 1; first = true; kind = Token BadByte; marker = false }) game
+pub one_ends : StandAlone → (was game : OpenGame) → was ≡ progress_of [] → game.depth ≤ 2 → Gains was (record { at = 0; end = 1; first = true; kind = Token BadByte; marker = false }) game
     → IsEnded (record { state = Between; game = game; at = 1; first = false; place = 1; column = false }) None OneOfMark (239 ∷ [])
 one_ends alone was game is low gains =
     let one = bad_one alone in
@@ -147,7 +147,7 @@ one_ends alone was game is low gains =
     }
 
 -- two bytes of a mark were fed
-pub two_end : StandAlone → (was then game : Game) → was ≡ progress_of [] → game.depth ≤ 2 → Gains was (record { at = 0; end = 1; first = true; kind = Token BadByte; marker = false }) then
+pub two_end : StandAlone → (was then game : OpenGame) → was ≡ progress_of [] → game.depth ≤ 2 → Gains was (record { at = 0; end = 1; first = true; kind = Token BadByte; marker = false }) then
     → Gains then (record { at = 1; end = 2; first = false; kind = Token BadByte; marker = false }) game
     → IsEnded (record { state = Between; game = game; at = 2; first = false; place = 2; column = false }) None TwoOfMark (239 ∷ 187 ∷ [])
 two_end alone was then game is low gains more =
@@ -176,7 +176,7 @@ mark_grows now fed more none still part game flat place at =
     (inl (record { part = inr part; game = game; place = place; sound = (omega arith, omega arith) }), still ∙ sym none)
 
 -- the whole mark
-pub mark_ends : Closes → (game : Game) → game ≡ progress_of [] → game.depth ≡ 0
+pub mark_ends : Closes → (game : OpenGame) → game ≡ progress_of [] → game.depth ≡ 0
     → StandsWith (record { state = Between; game = game; at = 3; first = true; place = 3; column = true }) (239 ∷ 187 ∷ 191 ∷ []) []
 mark_ends closes game is flat =
     let text = text_is closes (record { state = Between; game = game; at = 3; first = true; place = 3; column = true }) (239 ∷ 187 ∷ 191 ∷ []) [] [] [] is refl refl refl refl (omega arith, omega arith)

@@ -12,7 +12,7 @@ use Rattle.pgn_lexer.specs.declared.token.LexemeKind.{LexemeKind}
 use Rattle.pgn_lexer.specs.declared.token.LexemeKind.TheVariants.{EscapeLine, Token}
 use Rattle.pgn_lexer.specs.declared.token.TokenKind.TheVariants.{Open, Close, Text, Symbol, Period, Star, LeftParen, RightParen, Nag, Null, Comment, LineComment, BadByte, UnclosedComment, UnclosedText}
 use Rattle.pgn_lexer.specs.declared.token.Token.{Token as GameToken}
-use Rattle.pgn_cut.specs.Cut.{marks, nest, depth, opens, is_passed_over, ends_before, ends_behind, span_to, cut_from, cut, text_start, archive_lexemes}
+use Rattle.pgn_cut.specs.Cut.{marks, nest, depth, opens, is_passed_over, ends_before, ends_after, span_to, cut_from, cut, text_start, archive_lexemes}
 use Rattle.pgn_cut.specs.Joined.{game_bytes}
 use Rattle.pgn_cut.specs.OneGame.{IsGameOfCut, IsUncut, token_depth, IsEndedByMarker}
 use Rattle.pgn_cut.specs.declared.span.Span.{Span}
@@ -58,15 +58,15 @@ no_split (b ∷ bs) y after e = cc
 
 -- lexemes of a game that nothing has ended yet
 record IsOpen (game : List Lexeme) : Type 0 where
-  each : (before : List Lexeme) (l : Lexeme) (after : List Lexeme) → game ≡ before ++ l ∷ after → (ends_before before l ≡ false) × (ends_behind before l ≡ false)
+  each : (before : List Lexeme) (l : Lexeme) (after : List Lexeme) → game ≡ before ++ l ∷ after → (ends_before before l ≡ false) × (ends_after before l ≡ false)
 
 none_open : IsOpen []
 none_open = record { each = λ before l after e. absurd (no_split before l after e) }
 
-more_open : (game : List Lexeme) (l : Lexeme) → IsOpen game → ends_before game l ≡ false → ends_behind game l ≡ false → IsOpen (game ++ l ∷ [])
-more_open game l open_ no_before no_behind = record {
+more_open : (game : List Lexeme) (l : Lexeme) → IsOpen game → ends_before game l ≡ false → ends_after game l ≡ false → IsOpen (game ++ l ∷ [])
+more_open game l open_ no_before no_after = record {
   each = λ before m after e. ⊎_elim
-      (λ last. (ap₂ ends_before last.1 last.2 ∙ no_before, ap₂ ends_behind last.1 last.2 ∙ no_behind))
+      (λ last. (ap₂ ends_before last.1 last.2 ∙ no_before, ap₂ ends_after last.1 last.2 ∙ no_after))
       (λ more. open_.each before m more.0 more.1)
       (split_push game l before m after e);
 }
@@ -120,7 +120,7 @@ order_before q [] l ls order = tt
 order_before q (x ∷ xs) l ls order =
     let some = order.1 in
     let after = all_rest (λ m. end x ≤ m.at) xs (l ∷ ls) (order_from (end x) (xs ++ l ∷ ls) order.2) in
-    let behind = after.0 in
+    let first_after = after.0 in
     (omega arith, order_before (end x) xs l ls order.2)
 
 order_rest : (q : ℕ) (xs : List Lexeme) (l : Lexeme) (ls : List Lexeme) → InOrder q (xs ++ l ∷ ls) → InOrder l.at (l ∷ ls)
@@ -156,7 +156,7 @@ span_whole all done [] rest q to is before order last after uncut = tt
 span_whole all done (g ∷ gs) rest q to is before order last after uncut =
     let from = order.0 in
     let done_before = map_all (λ l. l.at < q) (λ l. l.at < g.at) (λ l less. omega arith) done before in
-    let others = map_all (λ l. end g ≤ l.at) (λ l. g.at ≤ l.at) (λ l behind. omega arith) gs (all_front (λ l. end g ≤ l.at) gs rest (order_from (end g) (gs ++ rest) order.2)) in
+    let others = map_all (λ l. end g ≤ l.at) (λ l. g.at ≤ l.at) (λ l past. omega arith) gs (all_front (λ l. end g ≤ l.at) gs rest (order_from (end g) (gs ++ rest) order.2)) in
     let same = ap (within g.at to) is ∙ within_is g.at to done (g ∷ gs) rest done_before (omega arith, others) last after in
     (subst IsUncut (sym same) uncut, tt)
 
@@ -176,20 +176,20 @@ each_whole all done game (l ∷ ls) q place is before order last open_ =
     let game_before = order_before q game l ls order in
     let from = (all_rest (λ m. q ≤ m.at) game (l ∷ ls) (order_from q (game ++ l ∷ ls) order)).0 in
     let some = begun.1 in
-    let behind = order_from (end l) ls begun.2 in
+    let rest_after = order_from (end l) ls begun.2 in
     let later = all_rest (λ m. m.at < place) game (l ∷ ls) last in
     let pushed : game ++ l ∷ ls ≡ (game ++ l ∷ []) ++ ls = sym (append_assoc game (l ∷ []) ls) in
     let is_pushed : all ≡ done ++ ((game ++ l ∷ []) ++ ls) = is ∙ ap (λ x. done ++ x) pushed in
     let done_before = map_all (λ m. m.at < q) (λ m. m.at < l.at) (λ m less. omega arith) done before in
     let by_end = map_all (λ m. m.at < l.at) (λ m. m.at < end l) (λ m less. omega arith) game game_before in
     let game_by_end = all_both (λ m. m.at < end l) game (l ∷ []) by_end (omega arith, tt) in
-    by_test (AllByRecursion (IsWhole all)) (ends_before game l) (span_to l.at game ++ cut_from place (l ∷ []) ls) (if ends_behind game l then span_to (end l) (game ++ l ∷ []) ++ cut_from place [] ls else cut_from place (game ++ l ∷ []) ls)
+    by_test (AllByRecursion (IsWhole all)) (ends_before game l) (span_to l.at game ++ cut_from place (l ∷ []) ls) (if ends_after game l then span_to (end l) (game ++ l ∷ []) ++ cut_from place [] ls else cut_from place (game ++ l ∷ []) ls)
     (λ ends. all_both (IsWhole all) (span_to l.at game) (cut_from place (l ∷ []) ls)
     (span_whole all done game (l ∷ ls) q l.at is before order game_before (order_from l.at (l ∷ ls) begun) (open_uncut game open_))
     (each_whole all (done ++ game) (l ∷ []) ls l.at place (is ∙ sym (append_assoc done game (l ∷ ls))) (all_both (λ m. m.at < l.at) done game done_before game_before) begun later (first_open game l ends)))
-    (λ goes. by_test (AllByRecursion (IsWhole all)) (ends_behind game l) (span_to (end l) (game ++ l ∷ []) ++ cut_from place [] ls) (cut_from place (game ++ l ∷ []) ls)
+    (λ goes. by_test (AllByRecursion (IsWhole all)) (ends_after game l) (span_to (end l) (game ++ l ∷ []) ++ cut_from place [] ls) (cut_from place (game ++ l ∷ []) ls)
     (λ ends. all_both (IsWhole all) (span_to (end l) (game ++ l ∷ [])) (cut_from place [] ls)
-    (span_whole all done (game ++ l ∷ []) ls q (end l) is_pushed before (subst (InOrder q) pushed order) game_by_end behind (closed_uncut game l open_ goes))
+    (span_whole all done (game ++ l ∷ []) ls q (end l) is_pushed before (subst (InOrder q) pushed order) game_by_end rest_after (closed_uncut game l open_ goes))
     (each_whole all (done ++ (game ++ l ∷ [])) [] ls (end l) place (is_pushed ∙ sym (append_assoc done (game ++ l ∷ []) ls))
     (all_both (λ m. m.at < end l) done (game ++ l ∷ []) (map_all (λ m. m.at < l.at) (λ m. m.at < end l) (λ m less. omega arith) done done_before) game_by_end) begun.2 later.1 none_open))
     (λ goes_on. each_whole all done (game ++ l ∷ []) ls q place is_pushed before (subst (InOrder q) pushed order) (subst (AllByRecursion (λ m. m.at < place)) pushed last) (more_open game l open_ goes goes_on)))
@@ -287,6 +287,6 @@ tokens_ended spelled start first bytes uncut = λ before t after e ends.
     let known = (all_rest (IsSpelled start bytes) s.xs (s.l ∷ s.ys) (subst (AllByRecursion (IsSpelled start bytes)) s.is (spelled start first bytes))).0 in
     let text : s.l.text ≡ token_text start bytes t = known.slice ∙ ap₂ (λ a n. token_text start bytes (record { at = a; len = n; kind = t.kind })) token.1 token.2 in
     let depth_is : token_depth before ≡ depth s.xs = ap token_depth (sym s.earlier) ∙ depth_from 0 s.xs in
-    let behind : ends_behind s.xs s.l ≡ true = ap₂ (λ k x. marks k x && depth s.xs == 0) token.0 text ∙ ap (λ d. marks (Token t.kind) (token_text start bytes t) && d == 0) (sym depth_is) ∙ ends in
-    let none : s.ys ≡ [] = (uncut s.xs s.l s.ys s.is).1 behind in
+    let closing : ends_after s.xs s.l ≡ true = ap₂ (λ k x. marks k x && depth s.xs == 0) token.0 text ∙ ap (λ d. marks (Token t.kind) (token_text start bytes t) && d == 0) (sym depth_is) ∙ ends in
+    let none : s.ys ≡ [] = (uncut s.xs s.l s.ys s.is).1 closing in
     sym s.later ∙ ap tokens_among none

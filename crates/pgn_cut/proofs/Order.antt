@@ -5,7 +5,7 @@ use Rattle.std.specs.List.{AllByRecursion, list_all}
 use Rattle.std.proofs.lemmas.List.Elements.{All-from_recursion}
 use Rattle.pgn_lexer.specs.Lexemes.{Lexeme, end, lexemes}
 use Rattle.pgn_lexer.specs.Local.{AreInOrder as InOrder, StandsIn}
-use Rattle.pgn_cut.specs.Cut.{is_passed_over, ends_before, ends_behind, span_to, cut_from, cut, text_start, archive_lexemes}
+use Rattle.pgn_cut.specs.Cut.{is_passed_over, ends_before, ends_after, span_to, cut_from, cut, text_start, archive_lexemes}
 use Rattle.pgn_cut.specs.Spans.{EndsBy, AreInOrder}
 use Rattle.pgn_cut.specs.declared.span.Span.{Span}
 use Rattle.pgn_cut.proofs.Joins.{StandApart, map_all, of_both, text_within}
@@ -21,8 +21,8 @@ Begins from before (l ∷ ls) = (from ≤ l.at) × (l.at < before)
 
 begins_more : (from before : ℕ) (game : List Lexeme) (l : Lexeme) → Begins from before game → before ≤ l.at → 0 < length l.text → Begins from (end l) (game ++ l ∷ [])
 unfolding Begins
-begins_more from before [] l begins behind some = (omega arith, omega arith)
-begins_more from before (g ∷ gs) l begins behind some = let lt = begins.1 in (begins.0, omega arith)
+begins_more from before [] l begins past some = (omega arith, omega arith)
+begins_more from before (g ∷ gs) l begins past some = let lt = begins.1 in (begins.0, omega arith)
 
 -- the span of such a game stands before what follows it
 span_first : (from before place to : ℕ) (game : List Lexeme) (rest : List Span) → Begins from before game → before ≤ place → place ≤ to
@@ -37,8 +37,8 @@ lower from less to (s ∷ ss) le order = let begins = order.0 in (omega arith, o
 
 begins_by : (from before : ℕ) (game : List Lexeme) (l : Lexeme) → Begins from before game → before ≤ l.at → from ≤ l.at
 unfolding Begins
-begins_by from before [] l begins behind = omega arith
-begins_by from before (g ∷ gs) l begins behind = let a = begins.0 in let b = begins.1 in omega arith
+begins_by from before [] l begins past = omega arith
+begins_by from before (g ∷ gs) l begins past = let a = begins.0 in let b = begins.1 in omega arith
 
 last_span : (place from before : ℕ) (game : List Lexeme) → Begins from before game → before ≤ place → AreInOrder from place (span_to place game)
 unfolding Begins
@@ -51,17 +51,17 @@ unfolding cut_from Begins
 cut_in_order place from before game [] begins most order ends =
     of_both (AreInOrder from place) (list_all (λ l. is_passed_over l.kind) game) [] (span_to place game) tt (last_span place from before game begins most)
 cut_in_order place from before game (l ∷ ls) begins most order ends =
-    let behind = order.0 in
+    let past = order.0 in
     let some = order.1 in
     let last = ends.0 in
-    of_both (AreInOrder from place) (ends_before game l) (span_to l.at game ++ cut_from place (l ∷ []) ls) (if ends_behind game l then span_to (end l) (game ++ l ∷ []) ++ cut_from place [] ls else cut_from place (game ++ l ∷ []) ls)
+    of_both (AreInOrder from place) (ends_before game l) (span_to l.at game ++ cut_from place (l ∷ []) ls) (if ends_after game l then span_to (end l) (game ++ l ∷ []) ++ cut_from place [] ls else cut_from place (game ++ l ∷ []) ls)
     (let after = cut_in_order place l.at (end l) (l ∷ []) ls (omega arith, omega arith) last order.2 ends.1 in
-    span_first from before l.at place game (cut_from place (l ∷ []) ls) begins behind (omega arith) after (λ _. lower l.at from place (cut_from place (l ∷ []) ls) (begins_by from before game l begins behind) after))
-    (of_both (AreInOrder from place) (ends_behind game l) (span_to (end l) (game ++ l ∷ []) ++ cut_from place [] ls) (cut_from place (game ++ l ∷ []) ls)
+    span_first from before l.at place game (cut_from place (l ∷ []) ls) begins past (omega arith) after (λ _. lower l.at from place (cut_from place (l ∷ []) ls) (begins_by from before game l begins past) after))
+    (of_both (AreInOrder from place) (ends_after game l) (span_to (end l) (game ++ l ∷ []) ++ cut_from place [] ls) (cut_from place (game ++ l ∷ []) ls)
     (let after = cut_in_order place (end l) (end l) [] ls (omega arith) last order.2 ends.1 in
-    span_first from (end l) (end l) place (game ++ l ∷ []) (cut_from place [] ls) (begins_more from before game l begins behind some) (omega arith) last after
-    (λ _. lower (end l) from place (cut_from place [] ls) (let by = begins_by from before game l begins behind in omega arith) after))
-    (cut_in_order place from (end l) (game ++ l ∷ []) ls (begins_more from before game l begins behind some) last order.2 ends.1))
+    span_first from (end l) (end l) place (game ++ l ∷ []) (cut_from place [] ls) (begins_more from before game l begins past some) (omega arith) last after
+    (λ _. lower (end l) from place (cut_from place [] ls) (let by = begins_by from before game l begins past in omega arith) after))
+    (cut_in_order place from (end l) (game ++ l ∷ []) ls (begins_more from before game l begins past some) last order.2 ends.1))
 
 -- the games of an archive
 pub games_in_order : StandInOrder → StandApart → (archive : List ℕ) → AreInOrder 0 (length archive) (cut archive)

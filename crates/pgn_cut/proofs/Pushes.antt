@@ -8,7 +8,7 @@ use Rattle.std.proofs.lemmas.List.Recursion.{and_push}
 use Rattle.pgn_lexer.specs.Lexemes.{Lexeme}
 use Rattle.pgn_cut.specs.Cut.{depth, nest, opens_pair, is_movetext, movetext_in, has_movetext, is_passed_over, span_to, cut_from}
 use Rattle.pgn_cut.specs.Progress.{start_of, span_from, in_pair, has_more, progress_of, Shows}
-use Rattle.pgn_cut.specs.declared.game.Game.{Game}
+use Rattle.pgn_cut.specs.declared.game.OpenGame.{OpenGame}
 use Rattle.pgn_cut.specs.declared.game.Look.{Look}
 
 or_assoc : (a b c : Bool) → (a || (b || c)) ≡ (a || b || c)
@@ -43,7 +43,7 @@ not_cond true x = refl
 not_cond false x = refl
 
 -- one more lexeme, by the parts of what was kept
-pub progress_push : (game : List Lexeme) (l : Lexeme) (was : Game) → was ≡ progress_of game → (now : Game)
+pub progress_push : (game : List Lexeme) (l : Lexeme) (was : OpenGame) → was ≡ progress_of game → (now : OpenGame)
     → now.start ≡ Some (unwrap_or was.start (record { at = l.at; first = l.first })) → now.depth ≡ nest was.depth l.kind → now.in_pair ≡ opens_pair was.in_pair l.kind
     → now.has_movetext ≡ (was.has_movetext || (is_movetext l.kind && not was.in_pair)) → now.has_more ≡ (was.has_more || not (is_passed_over l.kind))
     → now ≡ progress_of (game ++ l ∷ [])
@@ -57,7 +57,7 @@ progress_push game l was was_is now start_is depth_is pair_is movetext_is more_i
     λ i. record { start = start i; depth = nests i; in_pair = pairs i; has_movetext = movetext i; has_more = more i }
 
 -- the same by what a look shows of the lexeme
-pub shown_push : (game : List Lexeme) (l : Lexeme) (look : Look) → Shows look l → (was : Game) → was ≡ progress_of game → (now : Game)
+pub shown_push : (game : List Lexeme) (l : Lexeme) (look : Look) → Shows look l → (was : OpenGame) → was ≡ progress_of game → (now : OpenGame)
     → now.start ≡ Some (unwrap_or was.start (record { at = look.at; first = look.first })) → now.depth ≡ nest was.depth look.kind → now.in_pair ≡ opens_pair was.in_pair look.kind
     → now.has_movetext ≡ (was.has_movetext || (is_movetext look.kind && not was.in_pair)) → now.has_more ≡ (was.has_more || not (is_passed_over look.kind))
     → now ≡ progress_of (game ++ l ∷ [])
@@ -70,12 +70,12 @@ shown_push game l look shows was was_is now start_is depth_is pair_is movetext_i
     (more_is ∙ ap (λ p. was.has_more || not p) shows.alike.passed_over)
 
 -- the span of a game, by where it begins
-pub span_is : (place : ℕ) (game : List Lexeme) (was : Game) → was ≡ progress_of game → option_to_list (span_from place was.start) ≡ span_to place game
+pub span_is : (place : ℕ) (game : List Lexeme) (was : OpenGame) → was ≡ progress_of game → option_to_list (span_from place was.start) ≡ span_to place game
 unfolding progress_of
 span_is place [] was is = ap (λ w. option_to_list (span_from place w.start)) is
 span_is place (l ∷ ls) was is = ap (λ w. option_to_list (span_from place w.start)) is
 
 -- the last game of an archive
-pub last_is : (place : ℕ) (game : List Lexeme) (was : Game) → was ≡ progress_of game → (if was.has_more then span_to place game else []) ≡ cut_from place game []
+pub last_is : (place : ℕ) (game : List Lexeme) (was : OpenGame) → was ≡ progress_of game → (if was.has_more then span_to place game else []) ≡ cut_from place game []
 unfolding progress_of cut_from
 last_is place game was is = ap (λ w. if w.has_more then span_to place game else []) is ∙ not_cond (list_all (λ l. is_passed_over l.kind) game) (span_to place game)

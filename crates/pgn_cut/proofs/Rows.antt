@@ -59,13 +59,13 @@ unfolding lexemes_from cut_from reading single symbol
 longer_symbol = refl
 
 -- comments after the last marker are no game, but one that is never closed is
-pub comment_behind : cut (codes "* {a} ;b") ≡ span 0 1 true ∷ []
+pub comment_after : cut (codes "* {a} ;b") ≡ span 0 1 true ∷ []
 unfolding lexemes_from cut_from reading single comment line_comment
-comment_behind = refl
+comment_after = refl
 
-pub unclosed_behind : cut (codes "* {a") ≡ span 0 1 true ∷ span 2 4 false ∷ []
+pub unclosed_after : cut (codes "* {a") ≡ span 0 1 true ∷ span 2 4 false ∷ []
 unfolding lexemes_from cut_from reading single comment
-unclosed_behind = refl
+unclosed_after = refl
 
 -- a ) too many doesn't count, and a ( keeps a game open to the archive's end, white space included
 pub parentheses : cut (codes ")* (e4 * ") ≡ span 0 2 true ∷ span 3 9 false ∷ []

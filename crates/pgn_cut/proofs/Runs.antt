@@ -102,8 +102,8 @@ gains_on a b c xs ys p q r one two = record {
 }
 
 -- the games that are new
-pub new_games : (was now : Cutter) (bytes fed : List ℕ) (before behind : List Span) → HasGained was now bytes before behind → Stands was fed → behind ≡ before ++ drop (length (closed fed)) (closed (fed ++ bytes))
-new_games was now bytes fed before behind g stands =
+pub new_games : (was now : Cutter) (bytes fed : List ℕ) (before after : List Span) → HasGained was now bytes before after → Stands was fed → after ≡ before ++ drop (length (closed fed)) (closed (fed ++ bytes))
+new_games was now bytes fed before after g stands =
     g.spans ∙ ap (λ l. before ++ l) (sym (drop-append_seam (closed fed) g.gained)) ∙ ap (λ l. before ++ drop (length (closed fed)) l) (sym (g.stands fed stands).1)
 
 -- what a cutter counts
@@ -125,9 +125,9 @@ take_one [] some = absurd (omega (arith, some))
 take_one (b ∷ []) some = refl
 take_one (b ∷ c ∷ bs) some = refl
 
-pub gains_one : (was now : Cutter) (rest : List ℕ) → 0 < length rest → (before behind gained : List Span) → behind ≡ before ++ gained
-    → ((fed : List ℕ) → Stands was fed → StandsWith now (fed ++ get_or rest 0 0 ∷ []) (closed fed ++ gained)) → HasGained was now (take 1 rest) before behind
-gains_one was now rest some before behind gained spans stands = record {
+pub gains_one : (was now : Cutter) (rest : List ℕ) → 0 < length rest → (before after gained : List Span) → after ≡ before ++ gained
+    → ((fed : List ℕ) → Stands was fed → StandsWith now (fed ++ get_or rest 0 0 ∷ []) (closed fed ++ gained)) → HasGained was now (take 1 rest) before after
+gains_one was now rest some before after gained spans stands = record {
   gained = gained;
   spans = spans;
   stands = λ fed is. subst (λ l. StandsWith now (fed ++ l) (closed fed ++ gained)) (take_one rest some) (stands fed is);
@@ -135,9 +135,9 @@ gains_one was now rest some before behind gained spans stands = record {
 
 -- the games at the archive's end
 pub last_games : (now : Cutter) (closed_ last : Option Span) (s : State) (fed : List ℕ) → IsEnded now closed_ s fed → ((at : ℕ) (first : Bool) → lexemes at first [] ≡ [])
-    → ((game : List Lexeme) → now.game ≡ progress_of game → option_to_list last ≡ cut_from now.place game []) → (before behind : List Span)
-    → behind ≡ before ++ (option_to_list closed_ ++ option_to_list last) → behind ≡ before ++ drop (length (closed fed)) (cut fed)
-last_games now closed_ last s fed e none last_is before behind is =
+    → ((game : List Lexeme) → now.game ≡ progress_of game → option_to_list last ≡ cut_from now.place game []) → (before after : List Span)
+    → after ≡ before ++ (option_to_list closed_ ++ option_to_list last) → after ≡ before ++ drop (length (closed fed)) (cut fed)
+last_games now closed_ last s fed e none last_is before after is =
     let place : length fed + 0 ≡ now.place = let p = e.between.place_ in omega arith in
     let whole : cut fed ≡ closed fed ++ (option_to_list closed_ ++ option_to_list last) =
     ap cut (sym (append-nil fed)) ∙ e.cuts [] tt

@@ -71,8 +71,8 @@ abbrev pub ends_before : List Lexeme → Lexeme → Bool
 ends_before game l = opens l.kind && l.first && has_movetext game
 
 -- A game of these lexemes ends after the next one: a marker outside variations.
-abbrev pub ends_behind : List Lexeme → Lexeme → Bool
-ends_behind game l = is_marker l && depth game == 0
+abbrev pub ends_after : List Lexeme → Lexeme → Bool
+ends_after game l = is_marker l && depth game == 0
 
 -- the span of a game from its first lexeme to a place
 abbrev pub span_to : ℕ → List Lexeme → List Span
@@ -85,7 +85,7 @@ unfoldable pub cut_from : (place : ℕ) → (game rest : List Lexeme) → List S
 cut_from place game [] = if list_all (λ l. is_passed_over l.kind) game then [] else span_to place game
 cut_from place game (l ∷ ls) =
     if ends_before game l then span_to l.at game ++ cut_from place (l ∷ []) ls
-    else (if ends_behind game l then span_to (end l) (game ++ l ∷ []) ++ cut_from place [] ls
+    else (if ends_after game l then span_to (end l) (game ++ l ∷ []) ++ cut_from place [] ls
     else cut_from place (game ++ l ∷ []) ls)
 
 -- a byte order mark of UTF-8 at the archive's start is passed over
@@ -107,6 +107,6 @@ abbrev pub same_span : Span → Span → Bool
 same_span a b = a.start == b.start && a.end == b.end && (if a.first then b.first else not b.first)
 
 -- The games that are closed in every archive that begins so: those that stay when the letter x follows. A game that is
--- still open then reaches one byte further.
+-- still open reaches one byte further with it, and so is none of them.
 abbrev pub closed : List ℕ → List Span
-closed front = take (common_prefix_len same_span (cut front) (cut (front ++ 120 ∷ []))) (cut front)
+closed front = take (common_prefix_len same_span (cut front) (cut (front ++ codes "x"))) (cut front)

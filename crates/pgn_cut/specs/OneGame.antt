@@ -5,7 +5,7 @@ use Rattle.pgn_lexer.specs.Lexemes.{Lexeme}
 use Rattle.pgn_lexer.specs.Texts.{token_text}
 use Rattle.pgn_lexer.specs.declared.token.LexemeKind.TheVariants.{Token}
 use Rattle.pgn_lexer.specs.declared.token.Token.{Token as GameToken}
-use Rattle.pgn_cut.specs.Cut.{marks, nest, ends_before, ends_behind, cut}
+use Rattle.pgn_cut.specs.Cut.{marks, nest, ends_before, ends_after, cut}
 use Rattle.pgn_cut.specs.Joined.{game_bytes}
 use Rattle.pgn_cut.specs.declared.span.Span.{Span}
 
@@ -26,7 +26,7 @@ IsGameIn archive game = IsGameOfCut game.start game.first (game_bytes archive ga
 -- no game ends within some lexemes: none before any of them, and none after one that others follow
 abbrev pub IsUncut : List Lexeme → Type 0
 IsUncut game = (before : List Lexeme) (l : Lexeme) (after : List Lexeme) → game ≡ before ++ l ∷ after
-    → (ends_before before l ≡ false) × (ends_behind before l ≡ true → after ≡ [])
+    → (ends_before before l ≡ false) × (ends_after before l ≡ true → after ≡ [])
 
 -- the depth of variations after some tokens
 abbrev pub token_depth : List GameToken → ℕ

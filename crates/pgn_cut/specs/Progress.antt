@@ -1,4 +1,4 @@
--- What the code keeps of a game that is being cut.
+-- What is kept of a game that is being cut, as the private functions give it.
 use Rattle.std.specs.Prelude.{ℕ, Bool, false, not, List, [], ◌∷◌, ◌++◌, ◌≡◌, Option, None, Some, fold}
 use Rattle.std.specs.List.{list_all}
 use Rattle.std.specs.Option.{option_to_list}
@@ -7,7 +7,7 @@ use Rattle.pgn_cut.specs.Cut.{is_marker, depth, opens_pair, has_movetext, is_pas
 use Rattle.pgn_cut.specs.declared.span.Span.{Span}
 use Rattle.pgn_cut.specs.declared.game.Start.{Start}
 use Rattle.pgn_cut.specs.States.{AreAlike}
-use Rattle.pgn_cut.specs.declared.game.Game.{Game}
+use Rattle.pgn_cut.specs.declared.game.OpenGame.{OpenGame}
 use Rattle.pgn_cut.specs.declared.game.Look.{Look}
 
 -- where a game begins
@@ -29,7 +29,7 @@ abbrev pub has_more : List Lexeme → Bool
 has_more game = not (list_all (λ l. is_passed_over l.kind) game)
 
 -- what is kept of a game with these lexemes
-unfoldable pub progress_of : List Lexeme → Game
+unfoldable pub progress_of : List Lexeme → OpenGame
 progress_of game =
     record { start = start_of game; depth = depth game; in_pair = in_pair game; has_movetext = has_movetext game; has_more = has_more game }
 
@@ -43,7 +43,7 @@ pub record Shows (look : Look) (l : Lexeme) : Type 0 where
 
 -- A step over a lexeme is a step of the cut: whatever lexemes stand for the state before, some stand for the one now,
 -- and the games of what follows are the same but for the one that was closed.
-pub record IsStepOfCut (now : Game) (closed : Option Span) (l : Lexeme) (game : List Lexeme) : Type 0 where
+pub record IsStepOfCut (now : OpenGame) (closed : Option Span) (l : Lexeme) (game : List Lexeme) : Type 0 where
   pub kept : List Lexeme
   pub stands : now ≡ progress_of kept
   pub cuts : (place : ℕ) (rest : List Lexeme) → cut_from place game (l ∷ rest) ≡ option_to_list closed ++ cut_from place kept rest

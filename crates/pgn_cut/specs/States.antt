@@ -1,9 +1,9 @@
--- The state of a lexeme that is open at a place, because its end is still to come: which bytes it has, which bytes go on
--- with it, and what it is where none does.
+-- The state of a lexeme that is open at a place, because its end is still to come, as the private functions give it: which
+-- bytes it has, which bytes go on with it, and what it is where none does.
 use Rattle.std.specs.Prelude.{◌≡◌, ℕ, ◌+◌, Bool, true, false, not, ◌==◌, ◌||◌, ◌&&◌, ◌⊎◌, nat_eq, nat_lt, List, [], ◌∷◌, ◌++◌, length, slice_index, codes, Option, None, Some, if◌then◌else◌}
 use Rattle.std.specs.List.{AllByRecursion, starts_with}
 use Rattle.std.specs.Char.{is_ascii_digit, is_ascii_alphanumeric}
-use Rattle.pgn_lexer.specs.Bytes.{ends_line, continues_symbol}
+use Rattle.pgn_lexer.specs.Bytes.{left_brace, right_brace, semicolon, percent_sign, quote, backslash, dollar_sign, exclamation_mark, question_mark, hyphen, ends_line, continues_symbol}
 use Rattle.pgn_lexer.specs.Grammar.{IsBody, IsLexeme}
 use Rattle.pgn_lexer.specs.Lexemes.{lexemes, first_at}
 use Rattle.pgn_lexer.specs.Local.{IsUnsettled}
@@ -15,10 +15,10 @@ use Rattle.pgn_cut.specs.declared.state.Results.{Results}
 use Rattle.pgn_cut.specs.declared.state.State.{State}
 use Rattle.pgn_cut.specs.declared.state.State.TheVariants.{AtStart, OneOfMark, TwoOfMark, Between, InComment, InLine, InText, InSymbol, InNumber, InSuffix, InNull}
 
--- the front of what stands between the quotes of a string; `backslash` says that its last byte takes the next one with it
-abbrev pub IsPartOfText : (backslash : Bool) → List ℕ → Type 0
+-- the front of what stands between the quotes of a string; `escaped` says that a backslash at its end takes the next byte with it
+abbrev pub IsPartOfText : (escaped : Bool) → List ℕ → Type 0
 IsPartOfText false body = IsBody body
-IsPartOfText true body = (before : List ℕ) × (body ≡ before ++ 92 ∷ []) × IsBody before
+IsPartOfText true body = (before : List ℕ) × (body ≡ before ++ backslash ∷ []) × IsBody before
 
 -- which results a symbol begins
 abbrev pub BeginResults : Results → List ℕ → Type 0
@@ -34,9 +34,9 @@ IsOpen first TwoOfMark bytes = ⊥
 IsOpen first Between bytes = bytes ≡ []
 IsOpen first InComment bytes = IsLexeme first (Token UnclosedComment) bytes
 IsOpen first InLine bytes = IsLexeme first (Token LineComment) bytes ⊎ IsLexeme first EscapeLine bytes
-IsOpen first (InText backslash) bytes = (body : List ℕ) × (bytes ≡ 34 ∷ body) × IsPartOfText backslash body
+IsOpen first (InText escaped) bytes = (body : List ℕ) × (bytes ≡ quote ∷ body) × IsPartOfText escaped body
 IsOpen first (InSymbol r) bytes = IsLexeme first (Token Symbol) bytes × BeginResults r bytes
-IsOpen first InNumber bytes = (digits : List ℕ) × (bytes ≡ 36 ∷ digits) × AllByRecursion (λ d. is_ascii_digit d ≡ true) digits
+IsOpen first InNumber bytes = (digits : List ℕ) × (bytes ≡ dollar_sign ∷ digits) × AllByRecursion (λ d. is_ascii_digit d ≡ true) digits
 IsOpen first InSuffix bytes = (bytes ≡ codes "!") ⊎ (bytes ≡ codes "?")
 IsOpen first InNull bytes = bytes ≡ codes "-"
 
@@ -44,9 +44,11 @@ IsOpen first InNull bytes = bytes ≡ codes "-"
 abbrev pub begins_further : List ℕ → ℕ → ℕ → Bool
 begins_further marker len b = nat_lt len (length marker) && b == slice_index marker len
 
+-- the markers that begin with a byte: 1, which is 49, or 0, which is 48
 abbrev pub results_from : ℕ → Results
 results_from b = record { white = b == 49; black = b == 48; draw = b == 49 }
 
+-- those of them that go on with a byte after `len` bytes
 abbrev pub results_after : Results → ℕ → ℕ → Results
 results_after r len b = record {
   white = r.white && begins_further (codes "1-0") len b;
@@ -54,6 +56,7 @@ results_after r len b = record {
   draw = r.draw && begins_further (codes "1/2-1/2") len b;
 }
 
+-- whether one of them has `len` bytes
 abbrev pub are_spelled : Results → ℕ → Bool
 are_spelled r len = ((r.white || r.black) && len == 3) || (r.draw && len == 7)
 
@@ -61,17 +64,17 @@ are_spelled r len = ((r.white || r.black) && len == 3) || (r.draw && len == 7)
 abbrev pub begun : (first : Bool) → ℕ → Option State
 begun first b =
     if is_ascii_alphanumeric b then Some (InSymbol (results_from b))
-    else (if b == 123 then Some InComment
-    else (if b == 59 then Some InLine
-    else (if b == 37 && first then Some InLine
-    else (if b == 34 then Some (InText false)
-    else (if b == 36 then Some InNumber
-    else (if b == 33 then Some InSuffix
-    else (if b == 63 then Some InSuffix
-    else (if b == 45 then Some InNull
+    else (if b == left_brace then Some InComment
+    else (if b == semicolon then Some InLine
+    else (if b == percent_sign && first then Some InLine
+    else (if b == quote then Some (InText false)
+    else (if b == dollar_sign then Some InNumber
+    else (if b == exclamation_mark then Some InSuffix
+    else (if b == question_mark then Some InSuffix
+    else (if b == hyphen then Some InNull
     else None))))))))
 
--- whether a byte belongs to what is open
+-- whether a byte belongs to what is open; the bytes of a byte order mark are 239, 187 and 191
 abbrev pub takes : State → ℕ → Bool
 takes AtStart b = b == 239
 takes OneOfMark b = b == 187
@@ -79,23 +82,23 @@ takes TwoOfMark b = b == 191
 takes Between b = true
 takes InComment b = true
 takes InLine b = not (ends_line b)
-takes (InText backslash) b = not (ends_line b)
+takes (InText escaped) b = not (ends_line b)
 takes (InSymbol r) b = continues_symbol b
 takes InNumber b = is_ascii_digit b
-takes InSuffix b = b == 33 || b == 63
-takes InNull b = b == 45
+takes InSuffix b = b == exclamation_mark || b == question_mark
+takes InNull b = b == hyphen
 
--- whether it is the last byte of the open lexeme
+-- whether a byte that belongs to the open lexeme is its last
 abbrev pub finishes : State → ℕ → Bool
-finishes InComment b = b == 125
-finishes (InText backslash) b = b == 34 && not backslash
+finishes InComment b = b == right_brace
+finishes (InText escaped) b = b == quote && not escaped
 finishes InSuffix b = true
 finishes InNull b = true
 finishes _ b = false
 
 -- the open lexeme, of `len` bytes, after one more
 abbrev pub after : State → (len : ℕ) → ℕ → State
-after (InText backslash) len b = InText (b == 92 && not backslash)
+after (InText escaped) len b = InText (b == backslash && not escaped)
 after (InSymbol r) len b = InSymbol (results_after r len b)
 after s len b = s
 
@@ -103,13 +106,13 @@ after s len b = s
 abbrev pub kind_at_end : State → LexemeKind
 kind_at_end InComment = Token UnclosedComment
 kind_at_end InLine = Token LineComment
-kind_at_end (InText backslash) = Token UnclosedText
+kind_at_end (InText escaped) = Token UnclosedText
 kind_at_end (InSymbol r) = Token Symbol
 kind_at_end _ = Token BadByte
 
 abbrev pub kind_with_last : State → LexemeKind
 kind_with_last InComment = Token Comment
-kind_with_last (InText backslash) = Token Text
+kind_with_last (InText escaped) = Token Text
 kind_with_last _ = Token Null
 
 -- whether the open lexeme is a marker where it has so many bytes and no more belong to it

@@ -14,14 +14,6 @@ use Rattle.pgn_cut.specs.declared.state.State.TheVariants.{AtStart, OneOfMark, T
 abbrev pub IsSound : Cutter → Type 0
 IsSound c = (c.game.depth ≤ 2 * c.place) × (c.at ≤ c.place)
 
--- nothing is open at a place
-pub record IsBetween (c : Cutter) (place : ℕ) (column : Bool) : Type 0 where
-  pub state : c.state ≡ Between
-  pub at : c.at ≡ place
-  pub first : c.first ≡ column
-  pub place_ : c.place ≡ place
-  pub column_ : c.column ≡ column
-
 -- These bytes are a part of a byte order mark, of which another archive may have the rest.
 pub record IsInMark (c : Cutter) (fed : List ℕ) : Type 0 where
   pub part : ((c.state ≡ AtStart) × (fed ≡ []))
@@ -47,6 +39,16 @@ pub record IsInText (c : Cutter) (fed : List ℕ) : Type 0 where
 -- a cutter stands for the bytes that it was fed
 abbrev pub Stands : Cutter → List ℕ → Type 0
 Stands c fed = IsInMark c fed ⊎ IsInText c fed
+
+-- What follows says what a step of a cutter does, as the private functions give it.
+
+-- nothing is open at a place
+pub record IsBetween (c : Cutter) (place : ℕ) (column : Bool) : Type 0 where
+  pub state : c.state ≡ Between
+  pub at : c.at ≡ place
+  pub first : c.first ≡ column
+  pub place_ : c.place ≡ place
+  pub column_ : c.column ≡ column
 
 -- What is open ends here: a game may be closed, and the cut goes on with what follows, if that is no part of what was open.
 pub record IsEnded (c : Cutter) (games : Option Span) (was : State) (fed : List ℕ) : Type 0 where
@@ -79,7 +81,7 @@ abbrev pub StandsWith : Cutter → List ℕ → List Span → Type 0
 StandsWith c fed games = Stands c fed × (closed fed ≡ games)
 
 -- A cutter was fed these bytes and appended the games that they close, whatever it was fed before.
-pub record HasGained (was now : Cutter) (bytes : List ℕ) (before behind : List Span) : Type 0 where
+pub record HasGained (was now : Cutter) (bytes : List ℕ) (before after : List Span) : Type 0 where
   pub gained : List Span
-  pub spans : behind ≡ before ++ gained
+  pub spans : after ≡ before ++ gained
   pub stands : (fed : List ℕ) → Stands was fed → StandsWith now (fed ++ bytes) (closed fed ++ gained)

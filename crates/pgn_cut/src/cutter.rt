@@ -13,7 +13,7 @@ ghost use Rattle.pgn_cut.specs.declared.span.Span.{Span as ASpan};
 ghost use Rattle.pgn_cut.specs.declared.game.Look.{Look as ALook};
 ghost use Rattle.pgn_cut.specs.declared.state.State.TheVariants.{Between};
 
-use crate::game::{Game, Look};
+use crate::game::{Look, OpenGame};
 use crate::laws::open_lexemes_settle;
 use crate::span::Span;
 use crate::state::State;
@@ -25,7 +25,7 @@ use pgn_lexer::{LexemeKind, TokenKind, longest_reading, white_space_is_passed};
 #[derive(Clone, Copy)]
 pub struct Cutter {
     state: State,
-    game: Game,
+    game: OpenGame,
     at: u64,
     first: bool,
     place: u64,
@@ -80,7 +80,7 @@ impl Cutter {
     {
         Cutter {
             state,
-            game: Game::new(),
+            game: OpenGame::new(),
             at: 0,
             first: true,
             place,
@@ -89,7 +89,7 @@ impl Cutter {
     }
 
     /// The cutter between lexemes at a place.
-    fn between(game: Game, place: u64, column: bool) -> Cutter
+    fn between(game: OpenGame, place: u64, column: bool) -> Cutter
         ensures { result ≡ record { state = Between; game = game; at = place; first = column; place = place; column = column } }
     {
         Cutter {
@@ -130,9 +130,13 @@ impl Cutter {
     {
         open_lexemes_settle();
         match self.state {
-            State::AtStart => Cutter::between(Game::new(), 0, true),
-            State::OneOfMark => Cutter::between(Game::new().with(bad_byte(0)), 1, false),
-            _ => Cutter::between(Game::new().with(bad_byte(0)).with(bad_byte(1)), 2, false),
+            State::AtStart => Cutter::between(OpenGame::new(), 0, true),
+            State::OneOfMark => Cutter::between(OpenGame::new().with(bad_byte(0)), 1, false),
+            _ => Cutter::between(
+                OpenGame::new().with(bad_byte(0)).with(bad_byte(1)),
+                2,
+                false,
+            ),
         }
     }
 
@@ -165,7 +169,7 @@ impl Cutter {
         match self.state {
             State::AtStart => Cutter::in_mark(State::OneOfMark, 1),
             State::OneOfMark => Cutter::in_mark(State::TwoOfMark, 2),
-            _ => Cutter::between(Game::new(), 3, true),
+            _ => Cutter::between(OpenGame::new(), 3, true),
         }
     }
 
@@ -291,8 +295,8 @@ impl Cutter {
         Ok((cutter, 1))
     }
 
-    /// Takes the next bytes of the archive, and appends the games that they close. Where no memory is found, the call is
-    /// refused, and leaves the cutter and the spans as they are. All bytes together are fewer than 2^62.
+    /// Takes the next bytes of the archive, and appends the games that they close. Fails only when out of memory, and then
+    /// leaves the cutter and the spans as they are. All bytes together are fewer than 2^62.
     pub fn feed(&mut self, piece: &[u8], spans: &mut Vec<Span>) -> Result<(), NoMemory>
         requires { (fed : List ℕ) × Stands self.old fed × (length fed + length piece.now < 2 ^ 62) }
         ensures stands { OnOk result ((fed : List ℕ) → Stands self.old fed → Stands self.new (fed ++ piece.now)) }
@@ -319,8 +323,8 @@ impl Cutter {
         Ok(())
     }
 
-    /// Appends the last game, where there is one, at the archive's end. Where no memory is found, the call is refused, and
-    /// leaves the cutter and the spans as they are.
+    /// Appends the last game, where there is one, at the archive's end. The cutter stays as it is, so a second call appends
+    /// that game again. Fails only when out of memory, and then leaves the spans as they are too.
     pub fn finish(&mut self, spans: &mut Vec<Span>) -> Result<(), NoMemory>
         requires { (fed : List ℕ) × Stands self.old fed × (length fed < 2 ^ 62) }
         ensures games { OnOk result ((fed : List ℕ) → Stands self.old fed →

@@ -18,7 +18,7 @@ pub(crate) struct Start {
 
 /// What the lexemes of a game show so far.
 #[derive(Clone, Copy)]
-pub(crate) struct Game {
+pub(crate) struct OpenGame {
     start: Option<Start>,
     depth: usize,
     in_pair: bool,
@@ -132,14 +132,14 @@ fn opens(kind: LexemeKind) -> bool
     matches!(kind, LexemeKind::Token(TokenKind::Open))
 }
 
-impl Game {
+impl OpenGame {
     /// A game without lexemes.
     #[tactic(auto, unfolding(crate::specs::Progress::progress_of))]
-    pub(crate) fn new() -> Game
+    pub(crate) fn new() -> OpenGame
         ensures value { result ≡ progress_of [] }
         ensures flat { result.depth ≡ 0 }
     {
-        Game {
+        OpenGame {
             start: None,
             depth: 0,
             in_pair: false,
@@ -163,7 +163,7 @@ impl Game {
     }
 
     /// The game with one more lexeme.
-    pub(crate) fn with(self, look: Look) -> Game
+    pub(crate) fn with(self, look: Look) -> OpenGame
         requires depth { self.depth < 2 ^ 63 }
         ensures value { (game : List ALexeme) (l : ALexeme) → Shows look l → self ≡ progress_of game →
             result ≡ progress_of (game ++ l ∷ []) }
@@ -173,7 +173,7 @@ impl Game {
             at: look.at,
             first: look.first,
         };
-        Game {
+        OpenGame {
             start: Some(self.start.unwrap_or(start)),
             depth: nest(self.depth, look.kind),
             in_pair: opens_pair(self.in_pair, look.kind),
@@ -212,14 +212,14 @@ impl Game {
     }
 
     /// Whether the game ends after a lexeme: a marker outside variations.
-    fn ends_behind(self, look: Look) -> bool
+    fn ends_after(self, look: Look) -> bool
         ensures { result ≡ (look.marker && self.depth == 0) }
     {
         self.depth == 0 && look.marker
     }
 
     /// Meets the next lexeme of the archive, whose place counts from `offset`.
-    pub(crate) fn meet_lexeme(self, lexeme: Lexeme<'_>, offset: u64) -> (Game, Option<Span>)
+    pub(crate) fn meet_lexeme(self, lexeme: Lexeme<'_>, offset: u64) -> (OpenGame, Option<Span>)
         requires depth { self.depth < 2 ^ 62 }
         requires place { offset + lexeme.at + length lexeme.text.now < 2 ^ 63 }
         ensures deeper { result.0.depth ≤ self.depth + 1 }
@@ -230,18 +230,18 @@ impl Game {
     }
 
     /// Meets a lexeme: the game that is open after it, and the one that it closes, where it closes one.
-    pub(crate) fn meet(self, look: Look) -> (Game, Option<Span>)
+    pub(crate) fn meet(self, look: Look) -> (OpenGame, Option<Span>)
         requires depth { self.depth < 2 ^ 63 }
         ensures deeper { result.0.depth ≤ self.depth + 1 }
         ensures cuts { (game : List ALexeme) (l : ALexeme) → Shows look l → self ≡ progress_of game →
             IsStepOfCut result.0 result.1 l game }
     {
         if self.ends_before(look) {
-            return (Game::new().with(look), self.span_to(look.at));
+            return (OpenGame::new().with(look), self.span_to(look.at));
         }
         let game = self.with(look);
-        if self.ends_behind(look) {
-            return (Game::new(), game.span_to(look.end));
+        if self.ends_after(look) {
+            return (OpenGame::new(), game.span_to(look.end));
         }
         (game, None)
     }

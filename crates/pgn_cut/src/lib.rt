@@ -6,14 +6,14 @@
 //! games of an archive that comes in pieces.
 #![tactic(auto)]
 
-pub mod cutter;
+mod cutter;
 mod game;
-pub mod laws;
-pub mod span;
+mod laws;
+mod span;
 mod state;
 #[cfg(test)]
 mod tests;
-pub mod whole;
+mod whole;
 
 pub use cutter::Cutter;
 pub use laws::{

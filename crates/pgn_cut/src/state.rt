@@ -1,13 +1,10 @@
 //! What is open at a place of an archive that comes in pieces.
 ghost use Rattle.std.specs.Prelude.{◌≡◌, ◌≤◌, ◌&&◌, ◌==◌, ℕ, true, false, take, nat_lt, codes, slice_index, length};
-ghost use Rattle.std.specs.List.{AllByRecursion, position_or_len};
-ghost use Rattle.pgn_lexer.specs.Readings.{is_special};
-ghost use Rattle.pgn_lexer.specs.Bytes.{continues_symbol};
+ghost use Rattle.std.specs.List.{AllByRecursion};
 ghost use Rattle.pgn_cut.specs.States.{begins_further, results_from, results_after, are_spelled, takes, finishes, after, begun, is_in_mark, Stays, kind_at_end, kind_with_last, is_marker_at_end};
 ghost use Rattle.pgn_cut.specs.declared.state.State.TheVariants.{Between};
 
-use memchr::{memchr, memchr3};
-use pgn_lexer::{LexemeKind, TokenKind};
+use pgn_lexer::{LexemeKind, TokenKind, continues_symbol, place_of, plain_len};
 
 /// Which markers of a result begin with the bytes of a symbol.
 #[derive(Clone, Copy)]
@@ -73,29 +70,6 @@ impl Results {
     }
 }
 
-/// Whether a symbol goes on with a byte.
-fn continues_symbol(b: u8) -> bool
-    ensures { result ≡ continues_symbol b }
-{
-    b.is_ascii_alphanumeric() || matches!(b, b'_' | b'+' | b'#' | b'=' | b':' | b'-' | b'/')
-}
-
-/// The place of the first such byte, or the length where there is none.
-fn place_of(byte: u8, bytes: &[u8]) -> usize
-    ensures value { result ≡ position_or_len (λ b. b == byte) bytes.now }
-    ensures within { result ≤ length bytes.now }
-{
-    memchr(byte, bytes).unwrap_or(bytes.len())
-}
-
-/// How many bytes at the start of a string stand for themselves: those before a quote, a backslash or LF.
-fn plain_len(bytes: &[u8]) -> usize
-    ensures value { result ≡ position_or_len is_special bytes.now }
-    ensures within { result ≤ length bytes.now }
-{
-    memchr3(b'"', b'\\', b'\n', bytes).unwrap_or(bytes.len())
-}
-
 impl State {
     /// What a byte opens that is not white space; `first` says whether it stands in the first column. None where it is a
     /// lexeme by itself.
@@ -154,7 +128,7 @@ impl State {
     {
         match self {
             State::InComment => b == b'}',
-            State::InText(backslash) => b == b'"' && !backslash,
+            State::InText(escaped) => b == b'"' && !escaped,
             State::InSuffix | State::InNull => true,
             _ => false,
         }
@@ -165,7 +139,7 @@ impl State {
         ensures { result ≡ after self len b }
     {
         match self {
-            State::InText(backslash) => State::InText(b == b'\\' && !backslash),
+            State::InText(escaped) => State::InText(b == b'\\' && !escaped),
             State::InSymbol(results) => State::InSymbol(results.after(len, b)),
             _ => self,
         }

@@ -5,7 +5,7 @@ ghost use Rattle.pgn_cut.specs.OneGame.{IsGameIn};
 ghost use Rattle.pgn_cut.specs.Spans.{EndsBy, AreInOrder};
 ghost use Rattle.pgn_cut.specs.Cut.{text_start, cut};
 
-use crate::game::Game;
+use crate::game::OpenGame;
 use crate::laws::{games_end_once, games_have_their_tokens, games_stand_apart};
 use crate::span::Span;
 use cq_outside::NoMemory;
@@ -27,7 +27,7 @@ fn text_start(archive: &[u8]) -> usize
     }
 }
 
-/// The games of an archive of fewer than 2^62 bytes, in order. Refused where no memory is found.
+/// The games of an archive of fewer than 2^62 bytes, in order. Fails only when out of memory.
 pub fn cut_whole(alloc: Global, archive: &[u8]) -> Result<Vec<Span>, NoMemory>
     requires { length archive.now < 2 ^ 62 }
     ensures games { IfOk result (λ v. v.items ≡ cut archive.now) }
@@ -39,7 +39,7 @@ pub fn cut_whole(alloc: Global, archive: &[u8]) -> Result<Vec<Span>, NoMemory>
     let offset = text_start(archive);
     let text = &archive[offset..];
     let mut spans = Vec::new(alloc);
-    let mut game = Game::new();
+    let mut game = OpenGame::new();
     let mut at = 0;
     while let Some(lexeme) = next_lexeme(text, at, true) {
         let (open, closed) = game.meet_lexeme(lexeme, offset as u64);

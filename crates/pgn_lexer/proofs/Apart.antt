@@ -26,24 +26,24 @@ in_order (b ∷ bs) zero at first q less =
     (omega arith, omega arith, in_order bs (r.len - 1) (at + 1) (ends_line b) (end (lexeme at first b bs)) (omega arith)))
 
 -- lexemes in order begin after what they begin after, and so cross nothing before
-all_behind : (q p : ℕ) (ls : List Lexeme) → AreInOrder q ls → p ≤ q → AllByRecursion (λ l. p ≤ l.at) ls
-all_behind q p [] order less = tt
-all_behind q p (l ∷ ls) order less =
+all_after : (q p : ℕ) (ls : List Lexeme) → AreInOrder q ls → p ≤ q → AllByRecursion (λ l. p ≤ l.at) ls
+all_after q p [] order less = tt
+all_after q p (l ∷ ls) order less =
     let here = order.0 in
-    (omega arith, all_behind (end l) p ls order.2 (omega arith))
+    (omega arith, all_after (end l) p ls order.2 (omega arith))
 
 none_crosses : (p : ℕ) (ls : List Lexeme) → AllByRecursion (λ l. p ≤ l.at) ls → IsUncrossed p ls
-none_crosses p ls behind = map_all (λ l. p ≤ l.at) (λ l. (end l ≤ p) ⊎ (p ≤ l.at)) (λ l after. inr after) ls behind
+none_crosses p ls begin_after = map_all (λ l. p ≤ l.at) (λ l. (end l ≤ p) ⊎ (p ≤ l.at)) (λ l after. inr after) ls begin_after
 
 -- so none crosses an end of another
 ends_uncrossed : (q : ℕ) (ls : List Lexeme) → AreInOrder q ls → AllByRecursion (λ l. IsUncrossed l.at ls × IsUncrossed (end l) ls) ls
 ends_uncrossed q [] order = tt
 ends_uncrossed q (l ∷ ls) order =
-    let behind = all_behind (end l) (end l) ls order.2 (omega arith) in (
-      ((inr (omega arith), none_crosses l.at ls (all_behind (end l) l.at ls order.2 (omega arith))), (inl (omega arith), none_crosses (end l) ls behind)),
+    let begin_after = all_after (end l) (end l) ls order.2 (omega arith) in (
+      ((inr (omega arith), none_crosses l.at ls (all_after (end l) l.at ls order.2 (omega arith))), (inl (omega arith), none_crosses (end l) ls begin_after)),
       map_all (λ m. (IsUncrossed m.at ls × IsUncrossed (end m) ls) × (end l ≤ m.at)) (λ m. IsUncrossed m.at (l ∷ ls) × IsUncrossed (end m) (l ∷ ls))
           (λ m known. ((inl known.1, known.0.0), (inl (let after = known.1 in omega arith), known.0.1))) ls
-          (both_all (λ m. IsUncrossed m.at ls × IsUncrossed (end m) ls) (λ m. end l ≤ m.at) ls (ends_uncrossed (end l) ls order.2) behind),
+          (both_all (λ m. IsUncrossed m.at ls × IsUncrossed (end m) ls) (λ m. end l ≤ m.at) ls (ends_uncrossed (end l) ls order.2) begin_after),
     )
 
 -- where a lexeme of a text stands, counted from its first byte

@@ -130,17 +130,17 @@ module _ (first : Bool) (rest : List ℕ) where
       of_both Is (b == 42) _ _ (λ is. ap (λ c. c ∷ []) (eqb-true b 42 is)) (λ _. refl))))))
 
 -- the front of a string's body, after a backslash or not
-behind : Bool → List ℕ → List ℕ
-behind true l = 92 ∷ l
-behind false l = l
+with_backslash : Bool → List ℕ → List ℕ
+with_backslash true l = 92 ∷ l
+with_backslash false l = l
 
 -- what is read of a string's body is one, and a quote after it ends it whole
 record BodyRead (backslash : Bool) (bytes : List ℕ) (n : ℕ) : Type 0 where
-  unfinished : IsUnfinished (behind backslash (take n bytes))
-  whole : get_or bytes n 0 ≡ 34 → IsBody (behind backslash (take n bytes))
+  unfinished : IsUnfinished (with_backslash backslash (take n bytes))
+  whole : get_or bytes n 0 ≡ 34 → IsBody (with_backslash backslash (take n bytes))
 
 body_read : (backslash : Bool) (bytes : List ℕ) → BodyRead backslash bytes (body_len backslash bytes)
-unfolding body_len behind
+unfolding body_len with_backslash
 body_read false [] = record { unfinished = inl tt; whole = λ _. tt }
 body_read true [] = record { unfinished = inr ([], refl, tt); whole = λ is. absurd (omega arith) }
 body_read false (b ∷ bs) =
@@ -183,7 +183,7 @@ body_read true (b ∷ bs) =
     }))
 
 text_read : (first : Bool) (rest : List ℕ) → IsLexeme first (text rest).kind (take (text rest).len (34 ∷ rest))
-unfolding text behind
+unfolding text with_backslash
 text_read first rest =
     let body = body_len false rest in
     let read = body_read false rest in

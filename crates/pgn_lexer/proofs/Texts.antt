@@ -22,40 +22,40 @@ use Rattle.pgn_lexer.proofs.Spelled.{reading_reads}
 use Rattle.pgn_lexer.proofs.Within.{of_both}
 
 -- a lexeme after a place, and its bytes
-record IsBehind (at : ℕ) (bs : List ℕ) (l : Lexeme) : Type 0 where
+record IsAfter (at : ℕ) (bs : List ℕ) (l : Lexeme) : Type 0 where
   after : at ≤ l.at
   spelled : IsSpelled at bs l
 
-one_on : (at b : ℕ) (bs : List ℕ) (l : Lexeme) → IsBehind (at + 1) bs l → IsBehind at (b ∷ bs) l
-one_on at b bs l behind =
-    let after = behind.after in
+one_on : (at b : ℕ) (bs : List ℕ) (l : Lexeme) → IsAfter (at + 1) bs l → IsAfter at (b ∷ bs) l
+one_on at b bs l stands =
+    let after = stands.after in
     let from : suc (l.at - (at + 1)) ≡ l.at - at = omega arith in
     let size : (end l - (at + 1)) - (l.at - (at + 1)) ≡ (end l - at) - (l.at - at) = omega arith in
     record {
       after = omega arith;
-      spelled = record { slice = behind.spelled.slice ∙ ap₂ (λ i n. take n (drop i (b ∷ bs))) from size; kind = behind.spelled.kind };
+      spelled = record { slice = stands.spelled.slice ∙ ap₂ (λ i n. take n (drop i (b ∷ bs))) from size; kind = stands.spelled.kind };
     }
 
-all_behind : (bs : List ℕ) (inside at : ℕ) (first : Bool) → AllByRecursion (IsBehind at bs) (lexemes_from bs inside at first)
+all_after : (bs : List ℕ) (inside at : ℕ) (first : Bool) → AllByRecursion (IsAfter at bs) (lexemes_from bs inside at first)
 unfolding lexemes_from
-all_behind [] inside at first = tt
-all_behind (b ∷ bs) (suc inside) at first = map_all (IsBehind (at + 1) bs) (IsBehind at (b ∷ bs)) (one_on at b bs) (lexemes_from bs inside (at + 1) (ends_line b)) (all_behind bs inside (at + 1) (ends_line b))
-all_behind (b ∷ bs) zero at first =
+all_after [] inside at first = tt
+all_after (b ∷ bs) (suc inside) at first = map_all (IsAfter (at + 1) bs) (IsAfter at (b ∷ bs)) (one_on at b bs) (lexemes_from bs inside (at + 1) (ends_line b)) (all_after bs inside (at + 1) (ends_line b))
+all_after (b ∷ bs) zero at first =
     let r = reading first b bs in
     let l = lexeme at first b bs in
-    of_both (AllByRecursion (IsBehind at (b ∷ bs))) (is_white b) (lexemes_from bs 0 (at + 1) (ends_line b)) (l ∷ lexemes_from bs (r.len - 1) (at + 1) (ends_line b))
-    (λ _. map_all (IsBehind (at + 1) bs) (IsBehind at (b ∷ bs)) (one_on at b bs) (lexemes_from bs 0 (at + 1) (ends_line b)) (all_behind bs 0 (at + 1) (ends_line b)))
+    of_both (AllByRecursion (IsAfter at (b ∷ bs))) (is_white b) (lexemes_from bs 0 (at + 1) (ends_line b)) (l ∷ lexemes_from bs (r.len - 1) (at + 1) (ends_line b))
+    (λ _. map_all (IsAfter (at + 1) bs) (IsAfter at (b ∷ bs)) (one_on at b bs) (lexemes_from bs 0 (at + 1) (ends_line b)) (all_after bs 0 (at + 1) (ends_line b)))
     (λ _.
     let len = text_len at first b bs in
     let from : 0 ≡ l.at - at = omega arith in
     let size : r.len ≡ (end l - at) - (l.at - at) = omega arith in (
       record { after = omega arith; spelled = record { slice = ap₂ (λ i n. take n (drop i (b ∷ bs))) from size; kind = reading_reads first b bs } },
-      map_all (IsBehind (at + 1) bs) (IsBehind at (b ∷ bs)) (one_on at b bs) (lexemes_from bs (r.len - 1) (at + 1) (ends_line b)) (all_behind bs (r.len - 1) (at + 1) (ends_line b)),
+      map_all (IsAfter (at + 1) bs) (IsAfter at (b ∷ bs)) (one_on at b bs) (lexemes_from bs (r.len - 1) (at + 1) (ends_line b)) (all_after bs (r.len - 1) (at + 1) (ends_line b)),
     ))
 
 -- each lexeme of a text is spelled in it
 pub all_spelled : (start : ℕ) (first : Bool) (bytes : List ℕ) → AllByRecursion (IsSpelled start bytes) (lexemes start first bytes)
-all_spelled start first bytes = map_all (IsBehind start bytes) (IsSpelled start bytes) (λ l behind. behind.spelled) (lexemes start first bytes) (all_behind bytes 0 start first)
+all_spelled start first bytes = map_all (IsAfter start bytes) (IsSpelled start bytes) (λ l stands. stands.spelled) (lexemes start first bytes) (all_after bytes 0 start first)
 
 -- the column counts for escape lines alone
 any_column : (first : Bool) (kind : TokenKind) (text : List ℕ) → IsLexeme first (Token kind) text → IsLexeme false (Token kind) text

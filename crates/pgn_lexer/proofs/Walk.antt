@@ -152,9 +152,9 @@ module _ (start : ℕ) (first : Bool) (bytes rest : List ℕ) (at white : ℕ) w
       let within : p < length bytes = omega arith in
       let dark : is_white (get_or bytes p 0) ≡ false = subst (λ n. is_white (get_or bytes (at + n) 0) ≡ false) (sym here) (dark_after_white bytes at (omega arith)) in
       let byte : get_or rest 0 0 ≡ get_or bytes p 0 = ap (λ l. get_or l 0 0) rest_is ∙ get_or-drop p bytes 0 0 ∙ ap (λ n. get_or bytes n 0) (add-zero p) in
-      let behind : take (length rest - 1) (drop 1 rest) ≡ drop (p + 1) bytes = take_rest rest 1 ∙ ap (drop 1) rest_is ∙ drop-drop 1 p bytes in
-      let reads : r ≡ reading (first_at first bytes p) (get_or bytes p 0) (drop (p + 1) bytes) = r_is ∙ ap₂ (λ b l. reading col b l) byte behind ∙ ap (λ c. reading c (get_or bytes p 0) (drop (p + 1) bytes)) col_is in
-      let behind_len : length (take (length rest - 1) (drop 1 rest)) ≡ length bytes - (p + 1) = ap length behind ∙ length-drop (p + 1) bytes in
+      let others : take (length rest - 1) (drop 1 rest) ≡ drop (p + 1) bytes = take_rest rest 1 ∙ ap (drop 1) rest_is ∙ drop-drop 1 p bytes in
+      let reads : r ≡ reading (first_at first bytes p) (get_or bytes p 0) (drop (p + 1) bytes) = r_is ∙ ap₂ (λ b l. reading col b l) byte others ∙ ap (λ c. reading c (get_or bytes p 0) (drop (p + 1) bytes)) col_is in
+      let others_len : length (take (length rest - 1) (drop 1 rest)) ≡ length bytes - (p + 1) = ap length others ∙ length-drop (p + 1) bytes in
       let text_len : length (take r.len rest) ≡ r.len = length-take-le r.len rest (omega arith) in
       let skips : lexemes_at start first bytes at ≡ lexemes_at start first bytes p = at_white start first bytes at ∙ ap (λ n. lexemes_at start first bytes (at + n)) (sym here) in
       skips ∙ here_next p within dark col col_is r reads rest_is text_len

@@ -6,6 +6,55 @@ use Rattle.std.specs.Char.{is_ascii_alphanumeric}
 abbrev pub line_feed : ℕ
 line_feed = 10
 
+-- the bytes that tokens and escape lines begin with, and those that end comments and strings
+abbrev pub left_brace : ℕ
+left_brace = 123
+
+abbrev pub right_brace : ℕ
+right_brace = 125
+
+abbrev pub semicolon : ℕ
+semicolon = 59
+
+abbrev pub percent_sign : ℕ
+percent_sign = 37
+
+abbrev pub quote : ℕ
+quote = 34
+
+abbrev pub backslash : ℕ
+backslash = 92
+
+abbrev pub dollar_sign : ℕ
+dollar_sign = 36
+
+abbrev pub exclamation_mark : ℕ
+exclamation_mark = 33
+
+abbrev pub question_mark : ℕ
+question_mark = 63
+
+abbrev pub hyphen : ℕ
+hyphen = 45
+
+abbrev pub left_bracket : ℕ
+left_bracket = 91
+
+abbrev pub right_bracket : ℕ
+right_bracket = 93
+
+abbrev pub left_paren : ℕ
+left_paren = 40
+
+abbrev pub right_paren : ℕ
+right_paren = 41
+
+abbrev pub period : ℕ
+period = 46
+
+abbrev pub star : ℕ
+star = 42
+
 -- a line ends with LF
 abbrev pub ends_line : ℕ → Bool
 ends_line b = b == line_feed

@@ -10,7 +10,7 @@ use Rattle.std.specs.Prelude.{ℕ, ◌<◌, ◌≤◌, ◌≡◌, ◌≢◌, ◌
 use Rattle.std.specs.List.{AllByRecursion}
 use Rattle.std.specs.Char.{is_ascii_digit, is_ascii_alphanumeric}
 use Rattle.std.specs.Str.Parse.{digits_value}
-use Rattle.pgn_lexer.specs.Bytes.{continues_symbol}
+use Rattle.pgn_lexer.specs.Bytes.{line_feed, left_brace, right_brace, semicolon, percent_sign, quote, backslash, dollar_sign, continues_symbol}
 use Rattle.pgn_lexer.specs.declared.token.Reading.{Reading}
 use Rattle.pgn_lexer.specs.declared.token.TokenKind.TheVariants.{Open, Close, Text, Symbol, Period, Star, LeftParen, RightParen, Nag, Null, Comment, LineComment, BadByte, UnclosedComment, UnclosedText}
 use Rattle.pgn_lexer.specs.declared.token.LexemeKind.{LexemeKind}
@@ -22,13 +22,13 @@ Lacks c bytes = AllByRecursion (λ b. b ≢ c) bytes
 
 -- a byte of a string that stands for itself: no quote, no backslash and no LF
 abbrev pub IsPlain : ℕ → Type 0
-IsPlain b = (b ≢ 34) × (b ≢ 92) × (b ≢ 10)
+IsPlain b = (b ≢ quote) × (b ≢ backslash) × (b ≢ line_feed)
 
 -- what stands between the quotes of a string: plain bytes, and backslashes with a byte each that isn't LF
 abbrev pub IsBody : List ℕ → Type 0
 IsBody [] = Unit {0}
 IsBody (b ∷ []) = IsPlain b
-IsBody (b ∷ c ∷ bs) = (IsPlain b × IsBody (c ∷ bs)) ⊎ ((b ≡ 92) × (c ≢ 10) × IsBody bs)
+IsBody (b ∷ c ∷ bs) = (IsPlain b × IsBody (c ∷ bs)) ⊎ ((b ≡ backslash) × (c ≢ line_feed) × IsBody bs)
 
 -- the glyphs 1 to 6 as suffixes: section 8.2.3.8 of the PGN standard
 abbrev pub IsSuffix : ℕ → List ℕ → Type 0
@@ -39,16 +39,16 @@ IsSuffix n text =
 -- a glyph by its number, every one above 255 as 256
 abbrev pub IsNumbered : ℕ → List ℕ → Type 0
 IsNumbered n text =
-    (digits : List ℕ) × (text ≡ 36 ∷ digits) × (0 < length digits)
+    (digits : List ℕ) × (text ≡ dollar_sign ∷ digits) × (0 < length digits)
     × AllByRecursion (λ d. is_ascii_digit d ≡ true) digits × (n ≡ min 256 (digits_value 10 digits))
 
 -- A text is a lexeme of a kind; `first` says whether it begins in the first column. Any one byte may be a bad one, and
 -- is read so only where nothing else is.
 abbrev pub IsLexeme : (first : Bool) → LexemeKind → List ℕ → Type 0
-IsLexeme first EscapeLine text = (line : List ℕ) × (text ≡ 37 ∷ line) × (first ≡ true) × Lacks 10 line
+IsLexeme first EscapeLine text = (line : List ℕ) × (text ≡ percent_sign ∷ line) × (first ≡ true) × Lacks line_feed line
 IsLexeme first (Token Open) text = text ≡ codes "["
 IsLexeme first (Token Close) text = text ≡ codes "]"
-IsLexeme first (Token Text) text = (body : List ℕ) × (text ≡ 34 ∷ body ++ 34 ∷ []) × IsBody body
+IsLexeme first (Token Text) text = (body : List ℕ) × (text ≡ quote ∷ body ++ quote ∷ []) × IsBody body
 IsLexeme first (Token Symbol) text =
     (b : ℕ) × (more : List ℕ) × (text ≡ b ∷ more) × (is_ascii_alphanumeric b ≡ true)
     × AllByRecursion (λ c. continues_symbol c ≡ true) more
@@ -58,12 +58,12 @@ IsLexeme first (Token LeftParen) text = text ≡ codes "("
 IsLexeme first (Token RightParen) text = text ≡ codes ")"
 IsLexeme first (Token (Nag n)) text = IsNumbered n text ⊎ IsSuffix n text
 IsLexeme first (Token Null) text = text ≡ codes "--"
-IsLexeme first (Token Comment) text = (body : List ℕ) × (text ≡ 123 ∷ body ++ 125 ∷ []) × Lacks 125 body
-IsLexeme first (Token LineComment) text = (line : List ℕ) × (text ≡ 59 ∷ line) × Lacks 10 line
+IsLexeme first (Token Comment) text = (body : List ℕ) × (text ≡ left_brace ∷ body ++ right_brace ∷ []) × Lacks right_brace body
+IsLexeme first (Token LineComment) text = (line : List ℕ) × (text ≡ semicolon ∷ line) × Lacks line_feed line
 IsLexeme first (Token BadByte) text = length text ≡ 1
-IsLexeme first (Token UnclosedComment) text = (body : List ℕ) × (text ≡ 123 ∷ body) × Lacks 125 body
+IsLexeme first (Token UnclosedComment) text = (body : List ℕ) × (text ≡ left_brace ∷ body) × Lacks right_brace body
 IsLexeme first (Token UnclosedText) text =
-    (body : List ℕ) × (text ≡ 34 ∷ body) × (IsBody body ⊎ ((before : List ℕ) × (body ≡ before ++ 92 ∷ []) × IsBody before))
+    (body : List ℕ) × (text ≡ quote ∷ body) × (IsBody body ⊎ ((before : List ℕ) × (body ≡ before ++ backslash ∷ []) × IsBody before))
 
 -- A reading is the longest: it is a lexeme of its kind within the bytes, no lexeme at that place has more bytes, and of as many bytes
 -- there is no other, but that any byte may be a bad one.

@@ -3,7 +3,7 @@ use Rattle.std.specs.Prelude.{ℕ, ◌+◌, Bool, false, not, ◌==◌, ◌||◌
 use Rattle.std.specs.List.{prefix_len, position_or_len}
 use Rattle.std.specs.Char.{is_ascii_digit, is_ascii_alphanumeric}
 use Rattle.std.specs.Str.Parse.{digits_value}
-use Rattle.pgn_lexer.specs.Bytes.{ends_line, continues_symbol}
+use Rattle.pgn_lexer.specs.Bytes.{line_feed, left_brace, right_brace, semicolon, percent_sign, quote, backslash, dollar_sign, exclamation_mark, question_mark, hyphen, left_bracket, right_bracket, left_paren, right_paren, period, star, ends_line, continues_symbol}
 use Rattle.pgn_lexer.specs.declared.token.TokenKind.{TokenKind}
 use Rattle.pgn_lexer.specs.declared.token.TokenKind.TheVariants.{Open, Close, Text, Symbol, Period, Star, LeftParen, RightParen, Nag, Null, Comment, LineComment, BadByte, UnclosedComment, UnclosedText}
 use Rattle.pgn_lexer.specs.declared.token.LexemeKind.TheVariants.{EscapeLine, Token}
@@ -18,7 +18,7 @@ token kind len = record { kind = Token kind; len = len }
 -- section 5: a comment goes from { to the next }, and doesn't nest; without } it takes all the rest
 unfoldable pub comment : List ℕ → Reading
 comment rest =
-    let body = position_or_len (λ b. b == 125) rest in
+    let body = position_or_len (λ b. b == right_brace) rest in
     if nat_lt body (length rest) then token Comment (body + 2) else token UnclosedComment (body + 1)
 
 -- section 5: a comment goes from ; to the line's end
@@ -29,29 +29,31 @@ line_comment rest = token LineComment (position_or_len ends_line rest + 1)
 unfoldable pub escape_line : List ℕ → Reading
 escape_line rest = record { kind = EscapeLine; len = position_or_len ends_line rest + 1 }
 
--- the bytes at which the search for a string's end stops, as the private functions give it: a quote and LF, which may end it, and a
--- backslash, which may take the next byte with it
+-- the bytes of a string that don't stand for themselves: a quote and LF, which may end it, and a backslash, which may take the next
+-- byte with it
 abbrev pub is_special : ℕ → Bool
-is_special b = b == 34 || b == 92 || b == 10
+is_special b = b == quote || b == backslash || b == line_feed
 
--- a string ends before a line's end always, and before a quote unless a backslash takes that with it
-abbrev pub ends_body : (backslash : Bool) → ℕ → Bool
-ends_body backslash b = ends_line b || (b == 34 && not backslash)
+-- `escaped` below says that the byte before is a backslash that takes this byte with it
 
--- a backslash takes the next byte with it unless another takes it
-abbrev pub takes_next : (backslash : Bool) → ℕ → Bool
-takes_next backslash b = b == 92 && not backslash
+-- a string ends before a line's end always, and before a quote that is not escaped
+abbrev pub ends_body : (escaped : Bool) → ℕ → Bool
+ends_body escaped b = ends_line b || (b == quote && not escaped)
 
--- how many bytes of a string stand before its end; `backslash` says that one takes the first of them with it
-unfoldable pub body_len : (backslash : Bool) → List ℕ → ℕ
-body_len backslash [] = 0
-body_len backslash (b ∷ bs) = if ends_body backslash b then 0 else 1 + body_len (takes_next backslash b) bs
+-- a backslash takes the next byte with it unless it is escaped itself
+abbrev pub takes_next : (escaped : Bool) → ℕ → Bool
+takes_next escaped b = b == backslash && not escaped
+
+-- how many bytes of a string stand before its end
+unfoldable pub body_len : (escaped : Bool) → List ℕ → ℕ
+body_len escaped [] = 0
+body_len escaped (b ∷ bs) = if ends_body escaped b then 0 else 1 + body_len (takes_next escaped b) bs
 
 -- section 7: a string goes from quote to quote, on one line
 unfoldable pub text : List ℕ → Reading
 text rest =
     let body = body_len false rest in
-    if slice_index rest body == 34 then token Text (body + 2) else token UnclosedText (body + 1)
+    if slice_index rest body == quote then token Text (body + 2) else token UnclosedText (body + 1)
 
 -- section 7: a symbol begins with a letter or digit
 unfoldable pub symbol : List ℕ → Reading
@@ -66,29 +68,29 @@ nag rest =
 -- section 8.2.3.8: the suffixes stand for the glyphs 1 to 6
 unfoldable pub good_suffix : List ℕ → Reading
 good_suffix rest =
-    if slice_index rest 0 == 33 then token (Nag 3) 2
-    else (if slice_index rest 0 == 63 then token (Nag 5) 2
+    if slice_index rest 0 == exclamation_mark then token (Nag 3) 2
+    else (if slice_index rest 0 == question_mark then token (Nag 5) 2
     else token (Nag 1) 1)
 
 unfoldable pub poor_suffix : List ℕ → Reading
 poor_suffix rest =
-    if slice_index rest 0 == 63 then token (Nag 4) 2
-    else (if slice_index rest 0 == 33 then token (Nag 6) 2
+    if slice_index rest 0 == question_mark then token (Nag 4) 2
+    else (if slice_index rest 0 == exclamation_mark then token (Nag 6) 2
     else token (Nag 2) 1)
 
 -- the null move --, which is no part of the standard
 unfoldable pub null_move : List ℕ → Reading
-null_move rest = if slice_index rest 0 == 45 then token Null 2 else token BadByte 1
+null_move rest = if slice_index rest 0 == hyphen then token Null 2 else token BadByte 1
 
 -- section 7: the tokens of one byte; any other byte is a bad one
 unfoldable pub single : ℕ → Reading
 single b =
-    if b == 91 then token Open 1
-    else (if b == 93 then token Close 1
-    else (if b == 40 then token LeftParen 1
-    else (if b == 41 then token RightParen 1
-    else (if b == 46 then token Period 1
-    else (if b == 42 then token Star 1
+    if b == left_bracket then token Open 1
+    else (if b == right_bracket then token Close 1
+    else (if b == left_paren then token LeftParen 1
+    else (if b == right_paren then token RightParen 1
+    else (if b == period then token Period 1
+    else (if b == star then token Star 1
     else token BadByte 1)))))
 
 -- the longest reading of a byte, which isn't white space, with what stands after it;
@@ -96,12 +98,12 @@ single b =
 unfoldable pub reading : (first : Bool) → ℕ → List ℕ → Reading
 reading first b rest =
     if is_ascii_alphanumeric b then symbol rest
-    else (if b == 123 then comment rest
-    else (if b == 59 then line_comment rest
-    else (if b == 37 && first then escape_line rest
-    else (if b == 34 then text rest
-    else (if b == 36 then nag rest
-    else (if b == 33 then good_suffix rest
-    else (if b == 63 then poor_suffix rest
-    else (if b == 45 then null_move rest
+    else (if b == left_brace then comment rest
+    else (if b == semicolon then line_comment rest
+    else (if b == percent_sign && first then escape_line rest
+    else (if b == quote then text rest
+    else (if b == dollar_sign then nag rest
+    else (if b == exclamation_mark then good_suffix rest
+    else (if b == question_mark then poor_suffix rest
+    else (if b == hyphen then null_move rest
     else single b))))))))

@@ -6,11 +6,11 @@
 //! order, that those of a part of a text are the text's within it, and which of a text's lexemes stay whatever follows it.
 #![tactic(auto)]
 
-pub mod game;
-pub mod laws;
-pub mod lexeme;
-pub mod reading;
-pub mod token;
+mod game;
+mod laws;
+mod lexeme;
+mod reading;
+mod token;
 
 pub use game::tokens;
 pub use laws::{
@@ -19,5 +19,5 @@ pub use laws::{
     white_space_is_passed, whole_lexemes_stay,
 };
 pub use lexeme::{Lexeme, next_lexeme};
-pub use reading::longest_reading;
+pub use reading::{continues_symbol, longest_reading, place_of, plain_len};
 pub use token::{LexemeKind, Reading, Token, TokenKind};

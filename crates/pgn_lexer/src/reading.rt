@@ -34,7 +34,7 @@ const CONTINUES_SYMBOL: [bool; 256] = [
 /// Whether a symbol goes on with this byte.
 #[inline]
 #[tactic(auto, using(crate::proofs::Tables::symbol_table))]
-fn continues_symbol(b: u8) -> bool
+pub fn continues_symbol(b: u8) -> bool
     ensures { result ≡ continues_symbol b }
 {
     CONTINUES_SYMBOL[b as usize]
@@ -51,7 +51,7 @@ fn token(kind: TokenKind, len: usize) -> Reading
 }
 
 /// The place of the first such byte, or the length where there is none.
-fn place_of(byte: u8, bytes: &[u8]) -> usize
+pub fn place_of(byte: u8, bytes: &[u8]) -> usize
     ensures value { result ≡ position_or_len (λ b. b == byte) bytes.now }
     ensures within { result ≤ length bytes.now }
 {
@@ -99,7 +99,7 @@ fn escape_line(rest: &[u8]) -> Reading
 }
 
 /// How many bytes at the start of a string stand for themselves: those before a quote, a backslash or LF.
-fn plain_len(bytes: &[u8]) -> usize
+pub fn plain_len(bytes: &[u8]) -> usize
     ensures value { result ≡ position_or_len is_special bytes.now }
     ensures within { result ≤ length bytes.now }
 {
@@ -108,7 +108,7 @@ fn plain_len(bytes: &[u8]) -> usize
 
 /// Where a string goes on after its backslash at a place: after the byte that it takes with it, which is never LF.
 #[tactic(auto, using(crate::proofs::Bodies::escape_at_end, crate::proofs::Bodies::escape_of_line, crate::proofs::Bodies::escape_of_byte))]
-fn behind_backslash(rest: &[u8], at: usize) -> usize
+fn after_backslash(rest: &[u8], at: usize) -> usize
     requires { at < length rest.now }
     ensures within { (at < result) × (result ≤ length rest.now) }
     ensures goes_on { slice_index rest.now at ≡ 92 →
@@ -127,8 +127,8 @@ fn body_len(rest: &[u8]) -> usize
 {
     let mut at = plain_len(rest);
     while at < rest.len() && rest[at] == b'\\' {
-        let behind = behind_backslash(rest, at);
-        at = behind + plain_len(&rest[behind..]);
+        let after = after_backslash(rest, at);
+        at = after + plain_len(&rest[after..]);
     }
     at
 }

@@ -10,9 +10,21 @@ use Rattle.cq_position.specs.Continuations.{none}
 use Rattle.pgn_reader.specs.Words.{Word, Sense, plays, annotates, remarks, ends, opens, closes, means_nothing, out_of_place, sense, is_move, is_move_sense}
 use Rattle.cq_position.specs.Comments.{words, comment_of}
 use Rattle.pgn_reader.specs.Line.{Line, nothing, word, variation, text, Place, beginning, led_to, Told, nothing_told, glyph_told, remark_told, move_told, variation_told, beside, noted, TellsWord, Tells}
-use Rattle.pgn_reader.specs.Frame.{Row, rows, Frame, place, last_row_by, whole, begin, carried, advance, annotated, remarked, with_variation, wholly, wholly_by}
+use Rattle.pgn_reader.specs.Frame.{Row, rows, Frame, place, last_row_by, whole, begin, carried, advance, annotated, remarked, with_variation}
 use Rattle.pgn_reader.specs.Machine.{Head, State, at, in_body, one_more, on_move, on_marker, on_opening, on_end, on_sense, feed, run}
 use Rattle.pgn_reader.proofs.Rows.{rows_beside}
+
+-- the nodes of a line, the rest of which tells so much
+abbrev pub wholly_by : Option Move → Frame → Told → List Row
+wholly_by None f t = rows f.next (noted (f.nags ++ t.nags) (f.comments ++ t.comments) t.rest)
+wholly_by (Some m) f t =
+    record {
+      level = f.level;
+      move = record { move = m; position = f.reached; nags = f.nags ++ t.nags; comments = f.comments ++ t.comments };
+    } ∷ rows f.next t.rest
+
+abbrev pub wholly : Frame → Told → List Row
+wholly f t = f.moves ++ (wholly_by f.last f t ++ (f.here ++ (rows f.level t.variations ++ f.earlier)))
 
 pub run_append : (s : State) (a b : List Word) → run s (a ++ b) ≡ run (run s a) b
 run_append s [] b = refl

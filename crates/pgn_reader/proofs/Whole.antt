@@ -11,10 +11,10 @@ use Rattle.pgn_reader.specs.Line.{Line, text, beginning, Told, Tells}
 use Rattle.pgn_reader.specs.Games.{heading_text, MarksEnd, root, nodes_told, game_told, SpellsAny}
 use Rattle.pgn_reader.specs.Standing.{Begun, outermost, within, begun_text}
 use Rattle.pgn_reader.specs.Faults.{Begins}
-use Rattle.pgn_reader.specs.Frame.{rows, Frame, whole, begin_game, wholly}
+use Rattle.pgn_reader.specs.Frame.{rows, Frame, whole, begin_game}
 use Rattle.pgn_reader.specs.Machine.{Head, State, opened, named, valued, at, ended, stuck, after_pairs, feed, run, first}
 use Rattle.pgn_reader.specs.Arranged.{nodes_of_rows, game_shown}
-use Rattle.pgn_reader.proofs.Read.{run_append, feed_is, Reads, told_is_read, alone}
+use Rattle.pgn_reader.proofs.Read.{wholly, run_append, feed_is, Reads, told_is_read, alone}
 use Rattle.pgn_reader.proofs.Heading.{pairs_read}
 use Rattle.pgn_reader.proofs.Told.{Stack, Shown}
 use Rattle.pgn_reader.proofs.Stands.{Marked, Stands, all_stands}

@@ -1,11 +1,11 @@
--- A line that is being read, and its nodes in preorder, each with its level in the tree.
+-- A line that is being read, and its nodes in preorder, each with its level in the tree, as the private functions give them.
 use Rattle.std.specs.Prelude.{ℕ, ◌+◌, List, [], ◌∷◌, ◌++◌, Option, Some, None}
 use Rattle.cq_position.specs.declared.moves.Move.{Move}
 use Rattle.cq_position.specs.Board.{Board}
 use Rattle.cq_position.specs.Moves.{null_move}
 use Rattle.cq_position.specs.Continuations.{Played, Continuations, none, played}
 use Rattle.cq_position.specs.Comments.{words, comment_of}
-use Rattle.pgn_reader.specs.Line.{Place, Told, noted}
+use Rattle.pgn_reader.specs.Line.{Place}
 
 -- a node and the level of its parent; the root's children have the level 0
 pub record Row : Type 0 where
@@ -56,6 +56,7 @@ last_row f = last_row_by f.last f
 abbrev pub whole : Frame → List Row
 whole f = f.moves ++ (last_row f ++ (f.here ++ f.earlier))
 
+-- a variation before its first move, and a game before its first
 abbrev pub begin : ℕ → Board → Frame
 begin level p = record {
   before = None;
@@ -89,6 +90,7 @@ abbrev pub carried : {A : Type 0} → Option Move → List A → List A
 carried None xs = xs
 carried (Some m) xs = []
 
+-- the line after a move to a position
 abbrev pub advance : Frame → Move → Board → Frame
 advance f m q = record {
   before = Some f.reached;
@@ -103,31 +105,20 @@ advance f m q = record {
   earlier = f.here ++ f.earlier;
 }
 
--- the two steps of it that the code takes first
+-- the first two steps of that
 abbrev pub with_last_kept : Frame → Frame
 with_last_kept f = record f { nags = carried f.last f.nags; comments = carried f.last f.comments; moves = f.moves ++ last_row f }
 
 abbrev pub with_variations_kept : Frame → Frame
 with_variations_kept f = record f { here = []; earlier = f.here ++ f.earlier }
 
+-- the line after a glyph, and after a comment
 abbrev pub annotated : Frame → ℕ → Frame
 annotated f n = record f { nags = f.nags ++ n ∷ [] }
 
 abbrev pub remarked : Frame → List ℕ → Frame
 remarked f text = record f { comments = f.comments ++ comment_of (words text) }
 
--- a variation after the last move
+-- the line with a variation after its last move
 abbrev pub with_variation : Frame → Frame → Frame
 with_variation f variation = record f { here = f.here ++ whole variation }
-
--- the nodes of a line, the rest of which tells so much
-abbrev pub wholly_by : Option Move → Frame → Told → List Row
-wholly_by None f t = rows f.next (noted (f.nags ++ t.nags) (f.comments ++ t.comments) t.rest)
-wholly_by (Some m) f t =
-    record {
-      level = f.level;
-      move = record { move = m; position = f.reached; nags = f.nags ++ t.nags; comments = f.comments ++ t.comments };
-    } ∷ rows f.next t.rest
-
-abbrev pub wholly : Frame → Told → List Row
-wholly f t = f.moves ++ (wholly_by f.last f t ++ (f.here ++ (rows f.level t.variations ++ f.earlier)))

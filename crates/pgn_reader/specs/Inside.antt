@@ -2,12 +2,13 @@
 use Rattle.std.specs.Prelude.{ℕ, ◌≢◌, List, flat_map}
 use Rattle.std.specs.List.{All}
 use Rattle.cq_position.specs.Comments.{words, comment_of}
+use Rattle.pgn_lexer.specs.Bytes.{right_brace}
 use Rattle.pgn_reader.specs.declared.notes.Notes.TheInside.{Inside as NotesInside}
 use Rattle.pgn_reader.specs.Frame.{Noted}
 
 -- a text has no closing brace
 abbrev pub HasNoBrace : List ℕ → Type 0
-HasNoBrace text = All (λ b. b ≢ 125) text
+HasNoBrace text = All (λ b. b ≢ right_brace) text
 
 -- the comments that texts give
 abbrev pub comments_of : {A : Type 0} → (A → List ℕ) → List A → List (List ℕ)

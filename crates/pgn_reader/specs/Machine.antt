@@ -1,4 +1,4 @@
--- Reading token by token.
+-- Reading token by token, as the private functions give it.
 use Rattle.std.specs.Prelude.{ℕ, ◌+◌, List, [], ◌∷◌, length, Option, Some, None, Result, Ok, Err, Bool, true, false, nat_lt, fold}
 use Rattle.cq_position.specs.declared.moves.Move.{Move}
 use Rattle.cq_position.specs.declared.fen.FenFault.{FenFault}
@@ -35,12 +35,15 @@ pub data State : Type 0 where
 abbrev pub in_body : Head → Head
 in_body h = record h { heading = false }
 
+-- one more move was read
 abbrev pub one_more : Head → Head
 one_more h = record h { heading = false; moves = h.moves + 1 }
 
+-- at the beginning of the movetext, or of the next tag pair
 abbrev pub after_pairs : Tags → Board → State
 after_pairs tags start = at (record { tags = tags; start = start; heading = true; moves = 0 }) (begin_game start) []
 
+-- what the next token leads to where it is to be a tag's name, its value, or the `]` after that
 abbrev pub on_name : Tags → TokenKind → List ℕ → State
 on_name tags Symbol text = named tags text
 on_name tags _ text = stuck
@@ -57,6 +60,8 @@ abbrev pub on_closing : Tags → Board → TokenKind → State
 on_closing tags start Close = after_pairs tags start
 on_closing tags start _ = stuck
 
+-- what a token of the movetext leads to: a move, a marker, the beginning or the end of a variation, which may be at most the hundredth
+-- level, a `[`, and any other token
 abbrev pub on_move : Head → Frame → List Frame → Result Move SanFault → State
 on_move h f k (Err fault) = stuck
 on_move h f k (Ok m) = at (one_more h) (advance f m (led_to f.reached m)) k
@@ -66,7 +71,7 @@ on_marker h f [] result = ended h f result
 on_marker h f (g ∷ k) result = at (in_body h) f (g ∷ k)
 
 abbrev pub on_opening : Head → Frame → List Frame → Bool → Option Board → State
-on_opening h f k deep None = stuck
+on_opening h f k fits None = stuck
 on_opening h f k false (Some p) = stuck
 on_opening h f k true (Some p) = at (in_body h) (begin f.level p) (f ∷ k)
 
@@ -92,6 +97,7 @@ on_sense h f k kind closes = on_end h f k f.before
 on_sense h f k kind means_nothing = at (in_body h) f k
 on_sense h f k kind (out_of_place reason) = on_misplaced h kind
 
+-- the state after one more token
 unfoldable pub feed : State → Word → State
 feed (opened tags) w = on_name tags w.kind w.text
 feed (named tags name) w = on_value (with_tag tags name (value_of w.text)) w.kind
@@ -100,8 +106,10 @@ feed (at h f k) w = on_sense h f k w.kind (sense w)
 feed (ended h f result) w = stuck
 feed stuck w = stuck
 
+-- the state after more tokens
 abbrev pub run : State → List Word → State
 run s ts = fold feed s ts
 
+-- the state before the first token
 abbrev pub first : State
 first = after_pairs [] start_board

@@ -1,4 +1,4 @@
--- What reading the tokens of a game answers.
+-- What reading the tokens of a game answers, as the private functions give it.
 use Rattle.std.specs.Prelude.{◌≡◌, ◌≤◌, List, None, Result, Ok, Err}
 use Rattle.cq_position.specs.declared.games.GameResult.{GameResult}
 use Rattle.cq_position.specs.Games.{Game}

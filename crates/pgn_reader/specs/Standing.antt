@@ -24,6 +24,7 @@ pub data Begun : Type 0 where
   outermost : Line → Begun
   within : Begun → (opening : Word) → Line → Begun
 
+-- its tokens
 abbrev pub begun_text : Begun → List Word
 begun_text (outermost line) = text line
 begun_text (within around opening line) = begun_text around ++ opening ∷ text line
@@ -83,6 +84,7 @@ pub record AfterMarker (ts : List Word) : Type 0 where
   pub spells : Spells ts game
   pub marked : (before : List Word) × (marker : Word) × (result : GameResult) × (ts ≡ before ++ marker ∷ []) × (sense marker ≡ ends result)
 
+-- some tokens stand so
 abbrev pub StandsAt : List Word → Standing → Type 0
 StandsAt ts (after_opening tags) = (opening : Word) × (opening.kind ≡ Open) × InPair ts tags (opening ∷ [])
 StandsAt ts (after_name tags text) =

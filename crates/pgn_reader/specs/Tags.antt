@@ -6,6 +6,7 @@ use Rattle.cq_position.specs.declared.fen.FenFault.{FenFault}
 use Rattle.cq_position.specs.declared.games.GameResult.{GameResult}
 use Rattle.cq_position.specs.declared.games.GameResult.TheVariants.{Open as Undecided}
 use Rattle.cq_position.specs.Fen.{fen_meaning}
+use Rattle.pgn_lexer.specs.Bytes.{quote, backslash}
 use Rattle.pgn_lexer.specs.declared.token.TokenKind.TheVariants.{Open, Close, Text, Symbol}
 use Rattle.cq_position.specs.Games.{tag_value, with_tag}
 use Rattle.pgn_reader.specs.Words.{Word, is_comment, result_of_text}
@@ -33,7 +34,8 @@ unfoldable pub unescaped : List ℕ → List ℕ
 unescaped [] = []
 unescaped (b ∷ []) = b ∷ []
 unescaped (b ∷ c ∷ bs) =
-    if b == 92 then (if (c == 34) || (c == 92) then c ∷ unescaped bs else b ∷ unescaped (c ∷ bs)) else b ∷ unescaped (c ∷ bs)
+    if b == backslash then (if (c == quote) || (c == backslash) then c ∷ unescaped bs else b ∷ unescaped (c ∷ bs))
+    else b ∷ unescaped (c ∷ bs)
 
 -- the value of a string: what stands between its quotes
 unfoldable pub value_of : List ℕ → List ℕ

@@ -5,6 +5,7 @@ use Rattle.std.specs.Str.{bytes_eq}
 use Rattle.std.specs.Char.{is_ascii_digit}
 use Rattle.cq_position.specs.declared.games.GameResult.{GameResult}
 use Rattle.cq_position.specs.declared.games.GameResult.TheVariants.{White, Black, Draw, Open as Undecided}
+use Rattle.pgn_lexer.specs.Bytes.{right_brace, right_paren}
 use Rattle.pgn_lexer.specs.declared.token.Token.{Token}
 use Rattle.pgn_lexer.specs.declared.token.TokenKind.{TokenKind}
 use Rattle.pgn_lexer.specs.declared.token.TokenKind.TheVariants.{Open, Close, Text, Symbol, Period, Star, LeftParen, RightParen, Nag, Null, Comment, LineComment, BadByte, UnclosedComment, UnclosedText}
@@ -59,7 +60,7 @@ sense_of_glyph n = if nat_lt n 256 then annotates n else out_of_place NagRange
 
 -- A comment is kept between braces, so that a closing brace in it becomes a closing parenthesis. Only a line comment can hold one.
 abbrev pub without_braces : List ℕ → List ℕ
-without_braces text = map (λ b. if b == 125 then 41 else b) text
+without_braces text = map (λ b. if b == right_brace then right_paren else b) text
 
 -- what stands between the braces of a comment
 unfoldable pub body_of : List ℕ → List ℕ

@@ -2,9 +2,9 @@
 #![tactic(auto)]
 
 mod build;
-pub mod fault;
+mod fault;
 mod game;
-pub mod laws;
+mod laws;
 mod line;
 mod notes;
 mod reader;

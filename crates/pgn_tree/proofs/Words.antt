@@ -11,7 +11,7 @@ use Rattle.cq_position.proofs.Splitting.{kept_parts, cuts_alone, first_of_kept}
 use Rattle.std.specs.Prelude.{slice_set}
 use Rattle.cq_position.specs.Games.{Node, no_node, node_at, with_node, with_comment}
 use Rattle.pgn_tree.proofs.Linking.{set_same}
-use Rattle.pgn_tree.specs.Words.{with_word, with_words}
+use Rattle.pgn_tree.specs.Words.{with_word}
 
 pub white_alone : (t : List ℕ) → None ≡ position (λ b. not (is_white b)) t → words t ≡ []
 unfolding words kept_parts
@@ -49,6 +49,15 @@ shorter_after t i e =
     let three = length-append (take i t) (drop i t) in
     let four = ap length (take-append-drop i t) in
     omega (arith, some_, one, two, three, four)
+
+-- a word and what comes after it stand in the text one after the other
+pub cut_here : (t : List ℕ) (i n : ℕ) → (k : ℕ) × (drop k t ≡ take n (drop i t) ++ drop n (drop i t))
+cut_here t i n = (i, sym (take-append-drop n (drop i t)))
+
+-- a text and more words
+unfoldable pub with_words : List ℕ → List (List ℕ) → List ℕ
+with_words text [] = text
+with_words text (word ∷ more) = with_words (with_word text word) more
 
 -- joined one after another, they are joined by spaces
 pub with_first : (text word : List ℕ) → length text ≡ 0 → with_word text word ≡ word

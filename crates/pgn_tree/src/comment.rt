@@ -1,5 +1,5 @@
 //! The words of a comment.
-ghost use Rattle.std.specs.Prelude.{◌≡◌, ◌<◌, [], ◌∷◌, length, IfOk, OnOk, IfSome, MatchOption, not, position};
+ghost use Rattle.std.specs.Prelude.{◌≡◌, ◌<◌, ℕ, [], ◌∷◌, ◌++◌, drop, length, IfOk, OnOk, IfSome, MatchOption, not, position};
 ghost use Rattle.cq_outside.specs.Text.{is_white};
 ghost use Rattle.std.specs.List.{join_with_byte};
 ghost use Rattle.cq_position.specs.Comments.{words};
@@ -21,10 +21,11 @@ pub fn single_spaced(alloc: Global, text: &[u8]) -> Result<Bytes, NoMemory>
     Ok(comment)
 }
 
-/// The first word of a text, which white space ends, and what comes after it; None where the text has no word.
-#[tactic(auto, using(crate::proofs::Words::white_alone, crate::proofs::Words::first_of_words, crate::proofs::Words::shorter_after, std::proofs::lemmas::List::take_rest))]
+/// The first word of a text, which white space ends, and what comes after it in the text; None where the text has no word.
+#[tactic(auto, using(crate::proofs::Words::white_alone, crate::proofs::Words::first_of_words, crate::proofs::Words::shorter_after, crate::proofs::Words::cut_here, std::proofs::lemmas::List::take_rest))]
 pub fn first_word(text: &[u8]) -> Option<(&[u8], &[u8])>
     ensures words { MatchOption result (words text.now ≡ []) (λ cut. words text.now ≡ cut.0.now ∷ words cut.1.now) }
+    ensures cut { IfSome result (λ cut. (k : ℕ) × (drop k text.now ≡ cut.0.now ++ cut.1.now)) }
     ensures shorter { IfSome result (λ cut. length cut.1.now < length text.now) }
 {
     let start = place_of_dark(text)?;

@@ -222,7 +222,8 @@ impl Game {
         Ok(line)
     }
 
-    /// The path down from a node to another, both included, over all nodes; None exactly where `to` is neither `from` nor a descendant of it.
+    /// The path down from a node to another, both included, over all nodes; None exactly where `to` is neither `from` nor a
+    /// descendant of it.
     pub fn down_path(&self, from: u32, to: u32) -> Result<Option<Vec<u32>>, NoMemory>
         requires from { from < length self.now.nodes }
         requires to { to < length self.now.nodes }
@@ -261,7 +262,8 @@ impl Game {
     // The men, and those of a node where it is searched.
     fn with_men_at(&self, men: u16, variations: bool, k: u32) -> u16
         requires { k < length self.now.nodes }
-        ensures { (b : ℕ) → (bit_at result b == 1) ≡ ((bit_at men b == 1) || (is_searched variations self.now.nodes k && has_man (node_at self.now.nodes k).position b)) }
+        ensures { (b : ℕ) → (bit_at result b == 1)
+            ≡ ((bit_at men b == 1) || (is_searched variations self.now.nodes k && has_man (node_at self.now.nodes k).position b)) }
     {
         if variations || self.is_main(k) {
             return with_men_of(men, self.position(k));

@@ -10,12 +10,12 @@ loop-at-init c = reaches_first c.args.rest.now c.plain_len-at.result c.plain_len
 
 pub loop-at-preserved : goal.loop-at-preserved
 loop-at-preserved c =
-    let behind = c.behind_backslash-behind.ensures in
-    let within = behind.within in
+    let after = c.after_backslash-after.ensures in
+    let within = after.within in
     let reached = c.loop-at.invariant.body in
-    let goes = behind.goes_on c.if-rest-at-eq92.true in
-    reaches_next c.args.rest.now c.behind_backslash-behind.result c.plain_len.result within.1
-    (c.plain_len.ensures.value ∙ ap (position_or_len is_special) (take_rest c.args.rest.now c.behind_backslash-behind.result)) (omega arith)
+    let goes = after.goes_on c.if-rest-at-eq92.true in
+    reaches_next c.args.rest.now c.after_backslash-after.result c.plain_len.result within.1
+    (c.plain_len.ensures.value ∙ ap (position_or_len is_special) (take_rest c.args.rest.now c.after_backslash-after.result)) (omega arith)
 
 pub returns-else-rest-at-eq92-clause-value : goal.returns-else-rest-at-eq92-clause-value
 returns-else-rest-at-eq92-clause-value c = reached_special c.args.rest.now c.loop-at.at c.loop-at.invariant c.loop-at-test.true c.if-rest-at-eq92.false

@@ -1,7 +1,6 @@
 use Rattle.std.proofs.Common.{ap, sym, ◌∙◌}
 use Rattle.cq_position.specs.Comments.{words}
-use Rattle.pgn_tree.specs.Words.{with_words}
-use Rattle.pgn_tree.proofs.Words.{words_joined, word_added, none_added}
+use Rattle.pgn_tree.proofs.Words.{with_words, words_joined, word_added, none_added}
 use Rattle.pgn_tree.proofs.comment.single_spaced.Goals as goal
 
 pub loop-word-init : goal.loop-word-init

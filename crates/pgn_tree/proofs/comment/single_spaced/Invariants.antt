@@ -1,7 +1,7 @@
 use Rattle.std.proofs.Common.{◌≡◌, length}
 use Rattle.std.specs.List.{join_with_byte}
 use Rattle.cq_position.specs.Comments.{words}
-use Rattle.pgn_tree.specs.Words.{with_words}
+use Rattle.pgn_tree.proofs.Words.{with_words}
 use Rattle.pgn_tree.proofs.comment.single_spaced.Given as goal
 
 abbrev pub invariant-loop-word : goal.invariant-loop-word

@@ -1,6 +1,6 @@
 use Rattle.std.proofs.Common.{ap, Some}
 use Rattle.pgn_cut.proofs.Pushes.{shown_push}
-use Rattle.pgn_cut.proofs.game.Game.with.Goals as goal
+use Rattle.pgn_cut.proofs.game.OpenGame.with.Goals as goal
 
 pub returns-clause-value : goal.returns-clause-value
 returns-clause-value c = λ game l shows is.

@@ -3,7 +3,7 @@ use Rattle.std.specs.Prelude.{if◌then◌else◌}
 use Rattle.std.specs.Option.{option_to_list}
 use Rattle.pgn_cut.specs.Cut.{span_to}
 use Rattle.pgn_cut.proofs.Pushes.{span_is, last_is}
-use Rattle.pgn_cut.proofs.game.Game.last.Goals as goal
+use Rattle.pgn_cut.proofs.game.OpenGame.last.Goals as goal
 
 pub returns-then-self : goal.returns-then-self
 returns-then-self c = λ game is.
