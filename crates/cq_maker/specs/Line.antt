@@ -20,14 +20,15 @@ move_drawn p x = slice_index_or (legal_list p) (drawn x (length (legal_list p)))
 unfoldable pub ply_drawn : Board → ℕ → Played
 ply_drawn p x = record { move = move_drawn p x; position = after p (move_drawn p x); nags = []; comments = [] }
 
--- After the move that is played a number below 16 is drawn. Where it is 0, a variation of one move is drawn from the same legal moves, which
--- may be the move that is played.
+-- whether the move that is played gets a variation: where a number that is drawn below 16 is 0
 unfoldable pub varies : ℕ → Bool
 varies x = drawn x 16 == 0
 
+-- that variation: one move, drawn from the same legal moves, which may be the move that is played
 unfoldable pub variation_drawn : Board → ℕ → Continuations
 variation_drawn p x = if varies x then played (ply_drawn p (next x)) none none else none
 
+-- the state of the draws after that
 unfoldable pub after_variation : ℕ → ℕ
 after_variation x = if varies x then next (next x) else next x
 
@@ -37,11 +38,11 @@ pub record Line : Type 0 where
   pub last : Board
   pub state : ℕ
 
--- a line with a move and its variation before it
+-- a line that begins with a move and its variation
 abbrev pub extended : Played → Continuations → Line → Line
 extended m variation l = record l { moves = played m l.moves variation }
 
--- at most so many moves are played from a position
+-- What is drawn from a position on: at most so many moves, and none after mate or stalemate.
 unfoldable pub line : ℕ → Board → ℕ → Line
 line zero p x = record { moves = none; last = p; state = x }
 line (suc most) p x =

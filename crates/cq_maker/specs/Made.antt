@@ -15,6 +15,7 @@ use Rattle.pgn_export.specs.TagLines.{written_tags}
 use Rattle.cq_maker.specs.Draws.{next, drawn}
 use Rattle.cq_maker.specs.Line.{Line, line, is_over}
 
+-- the result of a game that a side wins
 abbrev pub won_by : Side → GameResult
 won_by White = WhiteWon
 won_by Black = BlackWon

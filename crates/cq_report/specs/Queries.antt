@@ -6,6 +6,7 @@ use Rattle.cql_syntax.specs.declared.fault.QueryReason.TheVariants.{BadByte, Unc
 use Rattle.cql_syntax.specs.declared.leaves.Kind.{Kind}
 use Rattle.cql_syntax.specs.declared.leaves.Kind.TheVariants.{Position, Set, Number}
 
+-- the name of a kind
 abbrev pub kind_text : Kind → List ℕ
 kind_text Position = codes "position"
 kind_text Set = codes "set"

@@ -9,9 +9,11 @@ use Rattle.cq_shards.specs.declared.answers.GameAnswer.{GameAnswer}
 abbrev pub AreApart : List GameAnswer → Type 0
 AreApart answers = AllPairs (λ a b. a.index ≢ b.index) answers
 
+-- one answer is of an earlier game than the other
 abbrev pub IsEarlier : GameAnswer → GameAnswer → Type 0
 IsEarlier a b = a.index < b.index
 
+-- an answer is a match
 abbrev pub is_found : Answer → Bool
 is_found (Refused fault) = false
 is_found Miss = false

@@ -14,7 +14,8 @@ abbrev found : ℕ → List ℤ → GameAnswer
 found index keys = record { index = index; what = Match [] keys }
 
 pub record OrderRows : Type 0 where
-  pub directions_of_the_sort_items : directions (filters (at (plain Wtm) ∷ by_ply true ∷ at (comment (codes "c")) ∷ by_ply false ∷ [])) ≡ true ∷ false ∷ []
+  pub directions_of_the_sort_items :
+      directions (filters (at (plain Wtm) ∷ by_ply true ∷ at (comment (codes "c")) ∷ by_ply false ∷ [])) ≡ true ∷ false ∷ []
   pub greater_key : Precede (false ∷ []) (pos 5 ∷ []) (pos 1 ∷ [])
   pub lesser_key_with_min : Precede (true ∷ []) (pos 1 ∷ []) (pos 5 ∷ [])
   pub first_item : Precede (false ∷ true ∷ []) (pos 2 ∷ pos 9 ∷ []) (negsuc 3 ∷ pos 0 ∷ [])

@@ -1,10 +1,10 @@
 //! Symmetries of the board, shifts and the exchange of colours, and the families that a query names them by.
 #![tactic(auto)]
 
-pub mod families;
-pub mod images;
-pub mod mappings;
-pub mod parts;
+mod families;
+mod images;
+mod mappings;
+mod parts;
 
 pub use families::{Family, member, size};
 pub use images::{changes_light, image, image_compass};

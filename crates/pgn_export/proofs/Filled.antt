@@ -2,8 +2,13 @@
 use Rattle.std.proofs.Common.{◌≡◌, ℕ, ◌+◌, ◌-◌, ◌<◌, ◌≤◌, take, drop, get_or, Bool, true, false, cond, List, [], ◌∷◌, ◌++◌, length, refl, sym, ap, ap₂, ◌∙◌, arith, append_assoc, length-append}
 use Rattle.std.specs.Prelude.{nat_le}
 use Rattle.std.proofs.lemmas.List.{take_rest, drop_more, drop_all}
-use Rattle.pgn_export.specs.Column.{following, gap, next_column}
+use Rattle.pgn_export.specs.Column.{gap, next_column}
 use Rattle.pgn_export.specs.Lines.{lines, filled}
+
+-- what follows a line of so many bytes
+unfoldable pub following : ℕ → List (List ℕ) → List ℕ
+following column [] = 10 ∷ []
+following column (w ∷ ws) = gap column w ∷ (w ++ following (next_column column w) ws)
 
 by_gap : (t : Bool) (line w : List ℕ) (ws : List (List ℕ)) (long short : List ℕ) (n k : ℕ) → long ≡ line ++ (32 ∷ (w ++ following n ws)) → short ≡ line ++ (10 ∷ (w ++ following k ws))
     → cond t long short ≡ line ++ (cond t 32 10 ∷ (w ++ following (cond t n k) ws))

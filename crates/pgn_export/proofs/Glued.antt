@@ -9,11 +9,11 @@ use Rattle.pgn_lexer.specs.declared.token.LexemeKind.TheVariants.{Token}
 use Rattle.pgn_lexer.specs.declared.token.TokenKind.{TokenKind}
 use Rattle.pgn_lexer.specs.declared.token.TokenKind.TheVariants.{LeftParen, RightParen}
 use Rattle.pgn_reader.specs.Words.{Word}
-use Rattle.pgn_export.specs.Column.{following, gap, next_column}
+use Rattle.pgn_export.specs.Column.{gap, next_column}
 use Rattle.pgn_export.specs.Lines.{lines}
 use Rattle.pgn_export.specs.Words.{closed}
 use Rattle.pgn_export.proofs.Alike.{AreAlike, alike_same, alike_append}
-use Rattle.pgn_export.proofs.Filled.{filled_following}
+use Rattle.pgn_export.proofs.Filled.{following, filled_following}
 use Rattle.pgn_export.proofs.Told.{told, told_white, told_one, IsOne, IsApart, apart_white, apart_mark}
 use Rattle.pgn_export.proofs.Tokens.{one_left, one_right}
 

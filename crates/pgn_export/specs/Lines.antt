@@ -1,11 +1,12 @@
 -- Words in lines (PGN standard, section 4.3): at most 79 bytes a line.
 use Rattle.std.specs.Prelude.{ℕ, ◌+◌, nat_le, List, [], ◌∷◌, ◌++◌, length, if◌then◌else◌}
+use Rattle.pgn_lexer.specs.Bytes.{line_feed}
 
 -- a line takes the next word after a space where it then has at most 79 bytes; else it ends, and the word begins the next line
 unfoldable pub filled : List ℕ → List (List ℕ) → List ℕ
-filled line [] = line ++ 10 ∷ []
+filled line [] = line ++ line_feed ∷ []
 filled line (w ∷ ws) =
-    if nat_le (length line + 1 + length w) 79 then filled (line ++ (32 ∷ w)) ws else line ++ (10 ∷ filled w ws)
+    if nat_le (length line + 1 + length w) 79 then filled (line ++ (32 ∷ w)) ws else line ++ (line_feed ∷ filled w ws)
 
 -- the lines of some words; a word of more than 79 bytes stands alone
 abbrev pub lines : List (List ℕ) → List ℕ

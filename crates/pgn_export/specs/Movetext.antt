@@ -27,10 +27,12 @@ abbrev pub move_words : Board → (due : Bool) → Played → List (List ℕ)
 move_words p due m =
     number_words p.side due p.number ++ ((san_text p m.move ∷ []) ++ (map nag_word m.nags ++ flat_map comment_words m.comments))
 
+-- whether there is anything in a list
 abbrev pub is_any : {A : Type 0} → List A → Bool
 is_any [] = false
 is_any (x ∷ xs) = true
 
+-- whether anything is played
 abbrev pub is_played : Continuations → Bool
 is_played none = false
 is_played (played m next others) = true

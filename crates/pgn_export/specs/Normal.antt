@@ -8,6 +8,7 @@ use Rattle.cq_outside.specs.declared.faults.Refusal.{Refusal}
 use Rattle.cq_outside.specs.declared.faults.Refusal.TheVariants.{Fault, NoMemory}
 use Rattle.cq_position.specs.Continuations.{Continuations, none, played}
 use Rattle.cq_position.specs.Games.{Game, node_at, tag_value}
+use Rattle.pgn_lexer.specs.Bytes.{line_feed}
 use Rattle.pgn_lexer.specs.Grammar.{Lacks, IsLexeme}
 use Rattle.pgn_lexer.specs.declared.token.LexemeKind.TheVariants.{Token}
 use Rattle.pgn_lexer.specs.declared.token.TokenKind.TheVariants.{Symbol}
@@ -33,7 +34,7 @@ unfoldable mutual
 pub record IsWritable (t : List ℕ × List ℕ) : Type 0 where
   pub name : IsLexeme true (Token Symbol) t.0
   pub no_marker : result_of_text t.0 ≡ None
-  pub value : Lacks 10 t.1
+  pub value : Lacks line_feed t.1
 
 -- the names of the seven tag roster, in its order (section 8.1.1)
 abbrev pub roster_names : List (List ℕ)
@@ -59,7 +60,7 @@ pub record IsNormal (g : Game) : Type 0 where
   pub no_glyph : (node_at g.nodes 0).nags ≡ []
   pub short : length (export_text g) ≤ 2 ^ 24
 
--- what was read is this game, where memory was found
+-- what was read is this game, unless it is refused as out of memory
 abbrev pub IsThisGame : Game → Result Game (Refusal GameFault) → Type 0
 IsThisGame g (Ok read) = read ≡ g
 IsThisGame g (Err (Fault fault)) = ⊥

@@ -7,6 +7,7 @@ use Rattle.std.specs.Option.{unwrap_or, is_some}
 use Rattle.std.specs.Ordering.{nat_cmp}
 use Rattle.std.specs.Str.{bytes_eq}
 use Rattle.cq_position.specs.Games.{Game, tag_value}
+use Rattle.pgn_lexer.specs.Bytes.{quote, backslash}
 use Rattle.pgn_export.specs.Movetext.{result_text}
 
 -- the tags that every game has, but for the result (section 8.1.1), with the value of one that is missing
@@ -46,7 +47,7 @@ written_tags g = map (roster_tag g.tags) roster ++ ((codes "Result", result_text
 
 -- a quote and a backslash stand after a backslash (section 7)
 abbrev pub escaped_byte : ℕ → List ℕ
-escaped_byte b = if b == 34 || b == 92 then 92 ∷ b ∷ [] else b ∷ []
+escaped_byte b = if b == quote || b == backslash then backslash ∷ b ∷ [] else b ∷ []
 
 abbrev pub escaped : List ℕ → List ℕ
 escaped text = flat_map escaped_byte text

@@ -1,11 +1,13 @@
--- Words, and what stands directly before the first of them and directly after the last.
+-- Words, and marks directly before the first of them and directly after the last.
 use Rattle.std.specs.Prelude.{ℕ, List, [], ◌∷◌, ◌++◌, codes}
 use Rattle.cq_position.specs.Comments.{words}
 
+-- the words with a mark before the first
 abbrev pub opened : List ℕ → List (List ℕ) → List (List ℕ)
 opened mark [] = []
 opened mark (w ∷ ws) = (mark ++ w) ∷ ws
 
+-- the words with a mark after the last
 abbrev pub closed : List ℕ → List (List ℕ) → List (List ℕ)
 closed mark [] = []
 closed mark (w ∷ []) = (w ++ mark) ∷ []

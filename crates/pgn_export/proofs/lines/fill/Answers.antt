@@ -1,6 +1,5 @@
 use Rattle.std.proofs.Common.{◌++◌, ◌∙◌, ap, length, take, drop, ◌-◌, rules}
-use Rattle.pgn_export.specs.Column.{following}
-use Rattle.pgn_export.proofs.Filled.{first_word, next_word, no_word}
+use Rattle.pgn_export.proofs.Filled.{following, first_word, next_word, no_word}
 use Rattle.pgn_export.proofs.lines.fill.Goals as goal
 
 pub loop-word-init : goal.loop-word-init

@@ -1,6 +1,6 @@
 use Rattle.std.proofs.Common.{◌≡◌, ◌++◌, drop}
-use Rattle.pgn_export.specs.Column.{following}
 use Rattle.pgn_export.specs.Lines.{lines}
+use Rattle.pgn_export.proofs.Filled.{following}
 use Rattle.pgn_export.proofs.lines.fill.Given as goal
 
 -- what is written, and what follows it, is all
