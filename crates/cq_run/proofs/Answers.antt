@@ -307,10 +307,10 @@ writes_part sorted query outcomes sinks is out err = record {
 }
 
 -- no memory for a game: what was written before stays
-pub forgotten : HaveOutcomes → (sorted : Bool) (query : QueryTree) (archive : List ℕ) (spans : List Span) (i : ℕ) (out out' out'' err err' err'' : SinkView) (stand : Stand)
+pub out_of_memory : HaveOutcomes → (sorted : Bool) (query : QueryTree) (archive : List ℕ) (spans : List Span) (i : ℕ) (out out' out'' err err' err'' : SinkView) (stand : Stand)
     → have_sort query.items ≡ sorted → spans ≡ cut archive → FoundSoFar sorted query archive spans i (sinks_of out out' err err') stand → IsUnwritten (sinks_of out' out'' err' err'')
     → AnswersArchive query archive (sinks_of out out'' err err'') NoMemory
-forgotten have sorted query archive spans i out out' out'' err err' err'' stand sorts e so_far same =
+out_of_memory have sorted query archive spans i out out' out'' err err' err'' stand sorts e so_far same =
     let rest : Rest archive (drop i spans) = rest_of have archive (drop i spans) in
     let before = so_far.outcomes in
     let all = before ++ rest.outcomes in
@@ -389,7 +389,7 @@ pub unordered : HaveOutcomes → (sorted : Bool) (query : QueryTree) (archive : 
     → have_sort query.items ≡ sorted → length spans ≤ i → spans ≡ cut archive → FoundSoFar sorted query archive spans i (sinks_of out out' err err') stand → out'' ≡ out'
     → AnswersArchive query archive (sinks_of out out'' err err') NoMemory
 unordered have sorted query archive spans i out out' out'' err err' stand sorts all e found same =
-    forgotten have sorted query archive spans i out out' out'' err err' err' stand sorts e found (record { out = same; err = refl })
+    out_of_memory have sorted query archive spans i out out' out'' err err' err' stand sorts e found (record { out = same; err = refl })
 
 pub unkept : (sorted : Bool) (query : QueryTree) (archive : List ℕ) (spans : List Span) (i : ℕ) (out out' out'' err err' : SinkView) (stand : Stand) (failed : Failed)
     → have_sort query.items ≡ sorted → length spans ≤ i → spans ≡ cut archive → FoundSoFar sorted query archive spans i (sinks_of out out' err err') stand

@@ -24,14 +24,14 @@ use Rattle.cql_syntax.specs.declared.token.QueryToken.{QueryToken}
 use Rattle.cql_lexer.specs.Tokens.{tokens_of}
 use Rattle.cql_parser.specs.Drafts.{Spells}
 use Rattle.cql_parser.specs.Faults.{IsFault}
-use Rattle.cq_run.specs.declared.asked.Unasked.{Unasked}
-use Rattle.cq_run.specs.declared.asked.Unasked.TheVariants.{Faulty, Unopened, Unread, Forgotten}
+use Rattle.cq_run.specs.declared.asked.QueryRefusal.{QueryRefusal}
+use Rattle.cq_run.specs.declared.asked.QueryRefusal.TheVariants.{Faulty, Unopened, Unread, OutOfMemory}
 use Rattle.cq_run.specs.declared.status.Status.{Status}
 use Rattle.cq_run.specs.declared.status.Status.TheVariants.{Done, DoneWithRefusals, QueryRefused, WordsRefused, OpenFault, ReadFault, WriteFault, NoMemory, ArchiveTooLong}
 use Rattle.cq_run.specs.Queries.{IsQuery, IsQueryFault}
 use Rattle.cq_run.specs.Promise.{SourceView, DeskView, Sinks, SaysOfAnswer, IsOneOf, IsUnwritten, NoWriteFailed}
-use Rattle.cq_run.specs.Run.{Call, from_desk, IsUnmoved, with_open, Opened, FailsToOpen, query_limit, TakesQuery, ForgetsQuery, no_memory_to_open, no_memory_to_read, WritesUsage, RefusesQuery, AcceptsQuery, WritesFlat, AnswersFile, archive_answered, archive_unopened, archive_forgotten, OverText, text_accepted, text_refused, text_forgotten, OverFile, file_accepted, file_refused, file_unopened, file_unread, file_forgotten, SaysAccepted, Explains, RunsMade, DoesJob, job_done, words_refused, words_forgotten, Asks, AnswersItsFault, IsInFile, HasText, NothingRose, IsShort, IsWithin, good_answers, Promise}
-use Rattle.cq_run.specs.SelfRun.{WritesTotals, WritesMade, totals_written, made_forgotten}
+use Rattle.cq_run.specs.Run.{Call, from_desk, IsUnmoved, with_open, Opened, FailsToOpen, query_limit, TakesQuery, LacksMemory, no_memory_to_open, no_memory_to_read, WritesUsage, RefusesQuery, AcceptsQuery, WritesFlat, AnswersFile, archive_answered, archive_unopened, archive_out_of_memory, OverText, text_accepted, text_refused, text_out_of_memory, OverFile, file_accepted, file_refused, file_unopened, file_unread, file_out_of_memory, SaysAccepted, Explains, RunsMade, DoesJob, job_done, words_refused, words_out_of_memory, Asks, AnswersItsFault, IsInFile, HasText, NothingRose, IsShort, IsWithin, good_answers, Promise}
+use Rattle.cq_run.specs.SelfRun.{WritesTotals, WritesMade, totals_written, made_out_of_memory}
 use Rattle.cq_run.specs.declared.totals.Totals.{Totals}
 use Rattle.cq_run.specs.Asked.{ReadsFile, TellsWhy, call_of}
 use Rattle.cq_run.proofs.Sinks.{wrote_none}
@@ -154,7 +154,7 @@ totals_faults totals ArchiveTooLong call input does = absurd does
 made_faults : (archive : List ℕ) (q : QueryTree) (status : Status) (call : Call) → NoInputFailed call.desk call.desk_after → WritesMade archive q status call.sinks
     → AnswersItsFault status call
 made_faults archive q status call input (totals_written totals are does) = totals_faults totals status call input does
-made_faults archive q status call input (made_forgotten is same) = at_none status call input (wrote_none call.sinks same)
+made_faults archive q status call input (made_out_of_memory is same) = at_none status call input (wrote_none call.sinks same)
 
 answer_faults : (name : List ℕ) (limit : ℕ) (q : QueryTree) (file : SourceView) (status : Status) (call : Call) → Opened name call.desk call.desk_after file
     → SaysOfAnswer status (record { query = q; limit = limit; source = file; source_after = call.desk_after.file; sinks = call.sinks }) → AnswersItsFault status call
@@ -178,7 +178,7 @@ unopened_faults status call is fails same =
 archive_faults : (archive : List ℕ) (limit : ℕ) (q : QueryTree) (status : Status) (call : Call) → AnswersFile archive limit q status call → AnswersItsFault status call
 archive_faults archive limit q status call (archive_answered file opened answers) = answer_faults archive limit q file status call opened answers.says
 archive_faults archive limit q status call (archive_unopened is fails same) = unopened_faults status call is fails same
-archive_faults archive limit q status call (archive_forgotten is same) = unmoved_faults status call same
+archive_faults archive limit q status call (archive_out_of_memory is same) = unmoved_faults status call same
 
 -- counts that stood still up to a desk in between
 later_faults : (mid : DeskView) (status : Status) (call : Call) → NoInputFailed call.desk mid → AnswersItsFault status (from_desk mid call) → AnswersItsFault status call
@@ -195,15 +195,15 @@ later_faults mid status call same faults =
 takes_counts : (name : List ℕ) (desk after : DeskView) (text : List ℕ) → TakesQuery name desk after text → NoInputFailed desk after
 takes_counts name desk after text takes = opened_counts name desk after takes.file takes.opened takes.faults
 
-forgets_counts : (name : List ℕ) (desk after : DeskView) → ForgetsQuery name desk after → NoInputFailed desk after
-forgets_counts name desk after (no_memory_to_open same) = same_counts desk after same
-forgets_counts name desk after (no_memory_to_read file opened few same) = opened_counts name desk after file opened same
+lacking_counts : (name : List ℕ) (desk after : DeskView) → LacksMemory name desk after → NoInputFailed desk after
+lacking_counts name desk after (no_memory_to_open same) = same_counts desk after same
+lacking_counts name desk after (no_memory_to_read file opened few same) = opened_counts name desk after file opened same
 
 text_faults : (text : List ℕ) (Accepted : QueryTree → Status → Call → Type 0) (status : Status) (call : Call)
     → ((q : QueryTree) → Accepted q status call → AnswersItsFault status call) → OverText text Accepted status call → AnswersItsFault status call
 text_faults text Accepted status call accepted (text_accepted query is does) = accepted query does
 text_faults text Accepted status call accepted (text_refused fault is does same) = refusal_faults fault status call (same_counts call.desk call.desk_after same) does
-text_faults text Accepted status call accepted (text_forgotten is same) = unmoved_faults status call same
+text_faults text Accepted status call accepted (text_out_of_memory is same) = unmoved_faults status call same
 
 file_faults : (name : List ℕ) (Accepted : QueryTree → Status → Call → Type 0) (status : Status) (call : Call)
     → ((q : QueryTree) (mid : DeskView) → Accepted q status (from_desk mid call) → AnswersItsFault status (from_desk mid call))
@@ -215,8 +215,8 @@ file_faults name Accepted status call accepted (file_refused text fault takes is
 file_faults name Accepted status call accepted (file_unopened is fails same) = unopened_faults status call is fails same
 file_faults name Accepted status call accepted (file_unread is fails same) =
     subst (λ s. AnswersItsFault s call) (sym is) (at_read call fails.opened.opens (wrote_none call.sinks same))
-file_faults name Accepted status call accepted (file_forgotten is forgets same) =
-    at_none status call (forgets_counts name call.desk call.desk_after forgets) (wrote_none call.sinks same)
+file_faults name Accepted status call accepted (file_out_of_memory is lacks same) =
+    at_none status call (lacking_counts name call.desk call.desk_after lacks) (wrote_none call.sinks same)
 
 job_faults : (job : Job) (status : Status) (call : Call) → DoesJob job status call → AnswersItsFault status call
 job_faults (Run query archive workers limit) status call does =
@@ -250,7 +250,7 @@ archive_not_words : (archive : List ℕ) (limit : ℕ) (q : QueryTree) (status :
 archive_not_words archive limit q status call (archive_answered file opened answers) e =
     subst (λ s. SaysOfAnswer s (record { query = q; limit = limit; source = file; source_after = call.desk_after.file; sinks = call.sinks })) e answers.says
 archive_not_words archive limit q status call (archive_unopened is fails same) e = let f = not_twice status OpenFault is e in cc
-archive_not_words archive limit q status call (archive_forgotten is same) e = let f = not_twice status NoMemory is e in cc
+archive_not_words archive limit q status call (archive_out_of_memory is same) e = let f = not_twice status NoMemory is e in cc
 
 refusal_not_words : (fault : QueryFault) (status : Status) (sinks : Sinks) → RefusesQuery fault status sinks → status ≡ WordsRefused → ⊥
 refusal_not_words fault status sinks does e = subst (λ s. RefusesQuery fault s sinks) e does
@@ -259,7 +259,7 @@ text_not_words : (text : List ℕ) (Accepted : QueryTree → Status → Call →
     → ((q : QueryTree) → Accepted q status call → status ≡ WordsRefused → ⊥) → OverText text Accepted status call → status ≡ WordsRefused → ⊥
 text_not_words text Accepted status call accepted (text_accepted query is does) e = accepted query does e
 text_not_words text Accepted status call accepted (text_refused fault is does same) e = refusal_not_words fault status call.sinks does e
-text_not_words text Accepted status call accepted (text_forgotten is same) e = let f = not_twice status NoMemory is e in cc
+text_not_words text Accepted status call accepted (text_out_of_memory is same) e = let f = not_twice status NoMemory is e in cc
 
 file_not_words : (name : List ℕ) (Accepted : QueryTree → Status → Call → Type 0) (status : Status) (call : Call)
     → ((q : QueryTree) (mid : DeskView) → Accepted q status (from_desk mid call) → status ≡ WordsRefused → ⊥)
@@ -268,11 +268,11 @@ file_not_words name Accepted status call accepted (file_accepted text query mid 
 file_not_words name Accepted status call accepted (file_refused text fault takes is does) e = refusal_not_words fault status call.sinks does e
 file_not_words name Accepted status call accepted (file_unopened is fails same) e = let f = not_twice status OpenFault is e in cc
 file_not_words name Accepted status call accepted (file_unread is fails same) e = let f = not_twice status ReadFault is e in cc
-file_not_words name Accepted status call accepted (file_forgotten is forgets same) e = let f = not_twice status NoMemory is e in cc
+file_not_words name Accepted status call accepted (file_out_of_memory is lacks same) e = let f = not_twice status NoMemory is e in cc
 
 made_not_words : (archive : List ℕ) (q : QueryTree) (status : Status) (sinks : Sinks) → WritesMade archive q status sinks → status ≡ WordsRefused → ⊥
 made_not_words archive q status sinks (totals_written totals are does) e = subst (λ s. WritesTotals totals s sinks) e does
-made_not_words archive q status sinks (made_forgotten is same) e = let f = not_twice status NoMemory is e in cc
+made_not_words archive q status sinks (made_out_of_memory is same) e = let f = not_twice status NoMemory is e in cc
 
 job_not_words : (job : Job) (status : Status) (call : Call) → DoesJob job status call → status ≡ WordsRefused → ⊥
 job_not_words (Run query archive workers limit) status call does e =
@@ -324,7 +324,7 @@ text_refused_always : SpellOne → SpellNone → (text : List ℕ) (fault : Quer
     → IsQueryFault text fault → OverText text Accepted status call → IsOneOf status (QueryRefused ∷ WriteFault ∷ NoMemory ∷ [])
 text_refused_always one none text fault Accepted status call faulty (text_accepted query is does) = absurd (no_fault one none text query fault is faulty)
 text_refused_always one none text fault Accepted status call faulty (text_refused found is does same) = refusal_is_one found status call.sinks does
-text_refused_always one none text fault Accepted status call faulty (text_forgotten is same) = inr (inr (inl is))
+text_refused_always one none text fault Accepted status call faulty (text_out_of_memory is same) = inr (inr (inl is))
 
 file_refused_always : SpellOne → SpellNone → (name text : List ℕ) (fault : QueryFault) (Accepted : QueryTree → Status → Call → Type 0) (status : Status) (call : Call)
     → (asks : IsInFile call name text) → IsQueryFault text fault → OverFile name Accepted status call → IsOneOf status (QueryRefused ∷ WriteFault ∷ NoMemory ∷ [])
@@ -334,7 +334,7 @@ file_refused_always one none name text fault Accepted status call asks faulty (f
 file_refused_always one none name text fault Accepted status call asks faulty (file_unopened is fails same) = absurd (asks.opens fails.rose)
 file_refused_always one none name text fault Accepted status call asks faulty (file_unread is fails same) =
     absurd (asks.reads (subst (λ n. Rose n call.desk_after.file.faults) fails.opened.faults fails.rose))
-file_refused_always one none name text fault Accepted status call asks faulty (file_forgotten is forgets same) = inr (inr (inl is))
+file_refused_always one none name text fault Accepted status call asks faulty (file_out_of_memory is lacks same) = inr (inr (inl is))
 
 job_refused_always : SpellOne → SpellNone → (job : Job) (text : List ℕ) (fault : QueryFault) (status : Status) (call : Call) → HasText call job text → IsQueryFault text fault
     → DoesJob job status call → IsOneOf status (QueryRefused ∷ WriteFault ∷ NoMemory ∷ [])
@@ -360,14 +360,14 @@ archive_complete archive limit q status call short none (archive_answered file o
       no_write = none.writes;
     })
 archive_complete archive limit q status call short none (archive_unopened is fails same) = absurd (none.opens fails.rose)
-archive_complete archive limit q status call short none (archive_forgotten is same) = inr (inr (inl is))
+archive_complete archive limit q status call short none (archive_out_of_memory is same) = inr (inr (inl is))
 
 text_complete : SpellOne → SpellNone → (text : List ℕ) (query : QueryTree) (Accepted : QueryTree → Status → Call → Type 0) (good : List Status) (status : Status) (call : Call)
     → IsQuery text query → IsOneOf NoMemory good → (Accepted query status call → IsOneOf status good) → OverText text Accepted status call → IsOneOf status good
 text_complete one none text query Accepted good status call accepted memory answers (text_accepted q is does) =
     answers (subst (λ q. Accepted q status call) (one_query one text q query is accepted) does)
 text_complete one none text query Accepted good status call accepted memory answers (text_refused fault faulty does same) = absurd (no_fault one none text query fault accepted faulty)
-text_complete one none text query Accepted good status call accepted memory answers (text_forgotten is same) = subst (λ s. IsOneOf s good) (sym is) memory
+text_complete one none text query Accepted good status call accepted memory answers (text_out_of_memory is same) = subst (λ s. IsOneOf s good) (sym is) memory
 
 file_complete : SpellOne → SpellNone → (name text : List ℕ) (query : QueryTree) (Accepted : QueryTree → Status → Call → Type 0) (good : List Status) (status : Status) (call : Call)
     → (asks : IsInFile call name text) → IsQuery text query → IsOneOf NoMemory good
@@ -381,7 +381,7 @@ file_complete one none name text query Accepted good status call asks accepted m
 file_complete one none name text query Accepted good status call asks accepted memory answers (file_unopened is fails same) = absurd (asks.opens fails.rose)
 file_complete one none name text query Accepted good status call asks accepted memory answers (file_unread is fails same) =
     absurd (asks.reads (subst (λ n. Rose n call.desk_after.file.faults) fails.opened.faults fails.rose))
-file_complete one none name text query Accepted good status call asks accepted memory answers (file_forgotten is forgets same) = subst (λ s. IsOneOf s good) (sym is) memory
+file_complete one none name text query Accepted good status call asks accepted memory answers (file_out_of_memory is lacks same) = subst (λ s. IsOneOf s good) (sym is) memory
 
 -- the same for the archive, from a desk in between on
 
@@ -439,7 +439,7 @@ totals_is_one totals ArchiveTooLong call none does = absurd does
 made_is_one : (archive : List ℕ) (q : QueryTree) (status : Status) (call : Call) → NothingRose call → WritesMade archive q status call.sinks
     → IsOneOf status (Done ∷ DoneWithRefusals ∷ NoMemory ∷ [])
 made_is_one archive q status call none (totals_written totals are does) = totals_is_one totals status call none does
-made_is_one archive q status call none (made_forgotten is same) = inr (inr (inl is))
+made_is_one archive q status call none (made_out_of_memory is same) = inr (inr (inl is))
 
 job_complete : SpellOne → SpellNone → (job : Job) (text : List ℕ) (query : QueryTree) (status : Status) (call : Call) → HasText call job text → IsQuery text query
     → IsWithin call job → NothingRose call → DoesJob job status call → IsOneOf status (good_answers job)
@@ -543,11 +543,11 @@ memory_is_good (Check query) = inr (inl refl)
 memory_is_good (Explain query) = inr (inl refl)
 memory_is_good (SelfRun text seed games workers) = inr (inr (inl refl))
 
-pub forgetting_promised : (words : List (List ℕ)) (desk : DeskView) (sinks : Sinks) → IsUnwritten sinks → Promise words NoMemory (call_of desk desk sinks)
-forgetting_promised words desk sinks same =
+pub memory_refusal_promised : (words : List (List ℕ)) (desk : DeskView) (sinks : Sinks) → IsUnwritten sinks → Promise words NoMemory (call_of desk desk sinks)
+memory_refusal_promised words desk sinks same =
     let unmoved : IsUnmoved (call_of desk desk sinks) = record { desk = refl; sinks = same } in
     record {
-      does = words_forgotten refl unmoved;
+      does = words_out_of_memory refl unmoved;
       faults = unmoved_faults NoMemory (call_of desk desk sinks) unmoved;
       words_never_refused = λ job asks e. cc;
       words_always_refused = λ asks. inr (inr (inl refl));
@@ -592,12 +592,12 @@ pub unmoved_of : (desk after : DeskView) → after.open_faults ≡ desk.open_fau
 unmoved_of desk after opens told left reads = same_desk after.told desk.told after.file.left desk.file.left after.file.faults desk.file.faults after.open_faults desk.open_faults told left reads opens
 
 -- what was said of the query in a file
-pub told_why : (name : List ℕ) (Accepted : QueryTree → Status → Call → Type 0) (why : Unasked) (status : Status) (desk after : DeskView) (sinks : Sinks)
+pub told_why : (name : List ℕ) (Accepted : QueryTree → Status → Call → Type 0) (why : QueryRefusal) (status : Status) (desk after : DeskView) (sinks : Sinks)
     → ReadsFile name desk after (Err why) → TellsWhy why status sinks → OverFile name Accepted status (call_of desk after sinks)
 told_why name Accepted (Faulty fault) status desk after sinks reads tells = file_refused reads.0 fault reads.1 reads.2 tells
 told_why name Accepted Unopened status desk after sinks reads tells = file_unopened tells.0 reads tells.1
 told_why name Accepted Unread status desk after sinks reads tells = file_unread tells.0 reads tells.1
-told_why name Accepted Forgotten status desk after sinks reads tells = file_forgotten tells.0 reads tells.1
+told_why name Accepted OutOfMemory status desk after sinks reads tells = file_out_of_memory tells.0 reads tells.1
 
 pub file_answered : (name : List ℕ) (Accepted : QueryTree → Status → Call → Type 0) (query : QueryTree) (status : Status) (desk mid after : DeskView) (sinks : Sinks)
     → ((text : List ℕ) × TakesQuery name desk mid text × IsQuery text query) → Accepted query status (call_of mid after sinks)

@@ -1,5 +1,5 @@
 -- The exports of the games that match, and their order.
-use Rattle.std.proofs.Common.{◌≡◌, ℕ, ◌+◌, ◌<◌, ◌≤◌, ℤ, Bool, true, false, List, [], ◌∷◌, ◌++◌, map, Some, length, filter, All, AllPairs, inr, arith, refl, ap, ap₂, not, ◌==◌, ◌||◌, get_or, sym, ◌∙◌, append_assoc, append-nil, cond, subst, Ok, Err}
+use Rattle.std.proofs.Common.{◌≡◌, ℕ, ◌+◌, ◌<◌, ◌≤◌, ℤ, Bool, true, false, List, [], ◌∷◌, ◌++◌, map, Some, length, filter, All, AllPairs, inr, arith, refl, ap, ap₂, not, ◌==◌, get_or, sym, ◌∙◌, append_assoc, append-nil, cond, subst, Ok, Err}
 use Rattle.std.specs.List.{flat_map}
 use Rattle.std.specs.List.Sorted.{IsPermutation}
 use Rattle.std.proofs.lemmas.Grind.{flat_map-append}
@@ -9,14 +9,14 @@ use Rattle.std.proofs.lemmas.List.Sorted.{IsPermutation-refl, length_permutation
 use Rattle.std.proofs.lemmas.List.Kept.{AllPairs-cons}
 use Rattle.pgn_export.specs.Export.{export_text}
 use Rattle.cq_position.specs.Games.{Game}
-use Rattle.cq_run.specs.Sorts.{have_sort, is_sort_form}
+use Rattle.cq_run.specs.Sorts.{is_some, have_sort}
 use Rattle.cq_shards.proofs.Counts.{key_count}
 use Rattle.cq_shards.proofs.Values.{all_kept}
-use Rattle.cq_shards.specs.Order.{AreApart, ComesBefore, IsEarlier, directions, form_directions, is_match as is_match_kept, keys_in, values_in}
+use Rattle.cq_shards.specs.Order.{AreApart, ComesBefore, IsEarlier, directions, is_match as is_match_kept, keys_in, values_in}
 use Rattle.cq_shards.specs.declared.answers.Answer.TheVariants.{Match}
 use Rattle.cq_shards.specs.declared.answers.GameAnswer.{GameAnswer}
 use Rattle.cql_syntax.specs.Hits.{marked, keys, hits}
-use Rattle.cql_syntax.specs.Trees.{filter_at, FormTree, sort, FilterTrees, no_filters, more_filters, QueryTree}
+use Rattle.cql_syntax.specs.Trees.{FilterTrees, QueryTree}
 use Rattle.cq_run.specs.Answer.{has_match, export_if}
 use Rattle.cq_run.specs.Exports.{AreExports, exports_of, match_if, matches_from, text_of}
 use Rattle.cq_run.specs.Outcomes.{Outcome}
@@ -107,18 +107,12 @@ in_archive_order query n (r ∷ rs) = one_before query n r (matches_from query (
 
 -- ---- without a sort item
 
-either_false : (a b : Bool) → (a || b) ≡ false → (a ≡ false) × (b ≡ false)
-either_false true b e = absurd cc
-either_false false b e = (refl, e)
-
-no_direction : (f : FormTree) → is_sort_form f ≡ false → form_directions f ≡ []
-no_direction (sort least text f) e = cc
-no_direction _ e = refl
+none_where_not_some : (ds : List Bool) → is_some ds ≡ false → ds ≡ []
+none_where_not_some [] e = refl
+none_where_not_some (d ∷ ds) e = absurd cc
 
 no_directions : (fs : FilterTrees) → have_sort fs ≡ false → directions fs ≡ []
-no_directions no_filters e = refl
-no_directions (more_filters (filter_at at f) fs) e =
-    ap₂ (λ xs ys. xs ++ ys) (no_direction f (either_false (is_sort_form f) (have_sort fs) e).0) (no_directions fs (either_false (is_sort_form f) (have_sort fs) e).1)
+no_directions fs = none_where_not_some (directions fs)
 
 game_same : (query : QueryTree) (n : ℕ) (game : Game) (b : Bool)
     → exports_of (cond b ((record { index = n; what = Match (export_text (marked query game)) (values_in (keys query game)) }) ∷ []) []) ≡ cond b (export_text (marked query game)) []

@@ -129,7 +129,8 @@ pub record WritesWhole (query : QueryTree) (outcomes : List Outcome) (sinks : Si
 abbrev pub TakesPart : QueryTree → List Outcome → SinkView → SinkView → Type 0
 TakesPart query outcomes out out_after =
     Grew out.taken out_after.taken []
-    ⊎ ((exports : List ℕ) × AreExports query outcomes exports × ((count : ℕ) × Grew out.taken out_after.taken (take count exports)))
+    ⊎ ((exports : List ℕ) × AreExports query outcomes exports
+    × ((count : ℕ) × Grew out.taken out_after.taken (take count exports)))
 
 -- out has taken a prefix of the exports, and err a prefix of the report
 pub record WritesPart (query : QueryTree) (outcomes : List Outcome) (sinks : Sinks) : Type 0 where

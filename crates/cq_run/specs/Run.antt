@@ -80,10 +80,10 @@ pub record FailsToRead (name : List ℕ) (desk after : DeskView) : Type 0 where
   pub rose : Rose file.faults after.file.faults
 
 -- no memory to open the file of a query, or to read it
-pub data ForgetsQuery (name : List ℕ) (desk after : DeskView) : Type 0 where
-  no_memory_to_open : after ≡ desk → ForgetsQuery name desk after
+pub data LacksMemory (name : List ℕ) (desk after : DeskView) : Type 0 where
+  no_memory_to_open : after ≡ desk → LacksMemory name desk after
   no_memory_to_read : (file : SourceView) → Opened name desk after file → TakesAtMost (query_limit + 1) file.left after.file.left
-      → after.file.faults ≡ file.faults → ForgetsQuery name desk after
+      → after.file.faults ≡ file.faults → LacksMemory name desk after
 
 -- ---- lines
 
@@ -145,14 +145,14 @@ pub data AnswersFile (archive : List ℕ) (limit : ℕ) (query : QueryTree) (sta
       → AnswersFile archive limit query status call
   archive_unopened : status ≡ OpenFault → FailsToOpen call.desk call.desk_after → IsUnwritten call.sinks
       → AnswersFile archive limit query status call
-  archive_forgotten : status ≡ NoMemory → IsUnmoved call → AnswersFile archive limit query status call
+  archive_out_of_memory : status ≡ NoMemory → IsUnmoved call → AnswersFile archive limit query status call
 
 -- A query that a word is: it is refused for its fault, or accepted, and then this is done.
 pub data OverText (text : List ℕ) (Accepted : QueryTree → Status → Call → Type 0) (status : Status) (call : Call) : Type 0 where
   text_accepted : (query : QueryTree) → IsQuery text query → Accepted query status call → OverText text Accepted status call
   text_refused : (fault : QueryFault) → IsQueryFault text fault → RefusesQuery fault status call.sinks → call.desk_after ≡ call.desk
       → OverText text Accepted status call
-  text_forgotten : status ≡ NoMemory → IsUnmoved call → OverText text Accepted status call
+  text_out_of_memory : status ≡ NoMemory → IsUnmoved call → OverText text Accepted status call
 
 -- The same of a query in a file, which is opened and read first.
 pub data OverFile (name : List ℕ) (Accepted : QueryTree → Status → Call → Type 0) (status : Status) (call : Call) : Type 0 where
@@ -164,7 +164,7 @@ pub data OverFile (name : List ℕ) (Accepted : QueryTree → Status → Call �
       → OverFile name Accepted status call
   file_unread : status ≡ ReadFault → FailsToRead name call.desk call.desk_after → IsUnwritten call.sinks
       → OverFile name Accepted status call
-  file_forgotten : status ≡ NoMemory → ForgetsQuery name call.desk call.desk_after → IsUnwritten call.sinks
+  file_out_of_memory : status ≡ NoMemory → LacksMemory name call.desk call.desk_after → IsUnwritten call.sinks
       → OverFile name Accepted status call
 
 -- an accepted query is said to be one, and no other file is opened
@@ -191,7 +191,7 @@ DoesJob (SelfRun text seed games workers) = OverText text (RunsMade seed games)
 pub data Does (words : List (List ℕ)) (status : Status) (call : Call) : Type 0 where
   job_done : (job : Job) → asked words ≡ Some job → DoesJob job status call → Does words status call
   words_refused : asked words ≡ None → WritesUsage status call.sinks → call.desk_after ≡ call.desk → Does words status call
-  words_forgotten : status ≡ NoMemory → IsUnmoved call → Does words status call
+  words_out_of_memory : status ≡ NoMemory → IsUnmoved call → Does words status call
 
 -- ---- when an answer always comes
 
@@ -261,5 +261,5 @@ pub record Promise (words : List (List ℕ)) (status : Status) (call : Call) : T
   pub words_always_refused : Asks words None → IsOneOf status (WordsRefused ∷ WriteFault ∷ NoMemory ∷ [])
   pub query_always_refused : (job : Job) (text : List ℕ) (fault : QueryFault) → Asks words (Some job) → HasText call job text
       → IsQueryFault text fault → IsOneOf status (QueryRefused ∷ WriteFault ∷ NoMemory ∷ [])
-  pub complete : (job : Job) (text : List ℕ) (query : QueryTree) → Asks words (Some job) → HasText call job text → IsQuery text query
-      → IsWithin call job → NothingRose call → IsOneOf status (good_answers job)
+  pub complete : (job : Job) (text : List ℕ) (query : QueryTree) → Asks words (Some job) → HasText call job text
+      → IsQuery text query → IsWithin call job → NothingRose call → IsOneOf status (good_answers job)

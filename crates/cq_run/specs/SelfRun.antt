@@ -40,4 +40,4 @@ WritesTotals totals _ sinks = ⊥
 pub data WritesMade (archive : List ℕ) (query : QueryTree) (status : Status) (sinks : Sinks) : Type 0 where
   totals_written : (totals : Totals) → AreTotals query archive totals → WritesTotals totals status sinks
       → WritesMade archive query status sinks
-  made_forgotten : status ≡ NoMemory → IsUnwritten sinks → WritesMade archive query status sinks
+  made_out_of_memory : status ≡ NoMemory → IsUnwritten sinks → WritesMade archive query status sinks

@@ -79,13 +79,15 @@ AnswersGame sorted query Reads before after sinks (Ok _) =
     (outcome : Outcome) × Reads outcome × (after ≡ onward sorted query before outcome)
     × Writes sinks (texts_of_game sorted query before.tally.games outcome) × NoWriteFailed sinks
 AnswersGame sorted query Reads before after sinks (Err (Fault _)) =
-    (outcome : Outcome) × Reads outcome × WritesPrefix sinks (texts_of_game sorted query before.tally.games outcome) × OneSinkFailed sinks
+    (outcome : Outcome) × Reads outcome
+    × WritesPrefix sinks (texts_of_game sorted query before.tally.games outcome) × OneSinkFailed sinks
 AnswersGame sorted query Reads before after sinks (Err IsNoMemory) = IsUnwritten sinks
 
 -- the matches that were kept are written in the order of a query, as far as is taken
 pub record InOrder (query : QueryTree) (answers ordered : List GameAnswer) : Type 0 where
   pub same : IsPermutation (filter is_match_kept answers) ordered
-  pub order : AreApart answers → All (HasKeys (directions query.items)) answers → AllPairs (ComesBefore (directions query.items)) ordered
+  pub order : AreApart answers → All (HasKeys (directions query.items)) answers
+      → AllPairs (ComesBefore (directions query.items)) ordered
 
 abbrev pub WritesKept : QueryTree → List GameAnswer → SinkView → SinkView → Result (Unit {0}) (Refusal Failed) → Type 0
 WritesKept query answers before after (Ok _) =
@@ -98,7 +100,8 @@ WritesKept query answers before after (Err IsNoMemory) = after ≡ before
 
 -- what each status says of the sinks
 abbrev pub WritesAnswer : QueryTree → List Outcome → Sinks → Status → Type 0
-WritesAnswer query outcomes sinks Done = ((tally_of query outcomes).refused ≡ 0) × WritesWhole query outcomes sinks × NoWriteFailed sinks
+WritesAnswer query outcomes sinks Done =
+    ((tally_of query outcomes).refused ≡ 0) × WritesWhole query outcomes sinks × NoWriteFailed sinks
 WritesAnswer query outcomes sinks DoneWithRefusals =
     (0 < (tally_of query outcomes).refused) × WritesWhole query outcomes sinks × NoWriteFailed sinks
 WritesAnswer query outcomes sinks WriteFault = OneSinkFailed sinks × WritesPart query outcomes sinks

@@ -21,7 +21,7 @@ const ACCEPTED: &[u8] = b"ok\n";
 
 /// Why the query in a file is not answered.
 #[derive(Drop)]
-pub enum Unasked {
+pub enum QueryRefusal {
     /// The query has a fault.
     Faulty(QueryFault),
     /// The file could not be opened.
@@ -29,7 +29,7 @@ pub enum Unasked {
     /// The file could not be read.
     Unread,
     /// No memory was found.
-    Forgotten,
+    OutOfMemory,
 }
 
 /// The query that a text is, or its fault.
@@ -49,37 +49,37 @@ pub fn query_in_file<D: Desk>(
     alloc: Global,
     name: &[u8],
     desk: &mut D,
-) -> Result<TypedQuery, Unasked>
+) -> Result<TypedQuery, QueryRefusal>
     ensures { ReadsFile name.now (desk_view D.told D.left D.faults D.open_faults desk.old)
         (desk_view D.told D.left D.faults D.open_faults desk.new) result }
 {
     match desk.open(alloc, name) {
         Ok(()) => {}
-        Err(OpenFault::Failed) => return Err(Unasked::Unopened),
-        Err(OpenFault::NoMemory) => return Err(Unasked::Forgotten),
+        Err(OpenFault::Failed) => return Err(QueryRefusal::Unopened),
+        Err(OpenFault::NoMemory) => return Err(QueryRefusal::OutOfMemory),
     }
     let text = match read_up_to(desk, alloc, QUERY_LIMIT) {
         Ok(text) => text,
-        Err(Refusal::Fault(_)) => return Err(Unasked::Unread),
-        Err(Refusal::NoMemory) => return Err(Unasked::Forgotten),
+        Err(Refusal::Fault(_)) => return Err(QueryRefusal::Unread),
+        Err(Refusal::NoMemory) => return Err(QueryRefusal::OutOfMemory),
     };
     match read_query(alloc, text.as_slice()) {
         Ok(query) => Ok(query),
-        Err(Refusal::Fault(fault)) => Err(Unasked::Faulty(fault)),
-        Err(Refusal::NoMemory) => Err(Unasked::Forgotten),
+        Err(Refusal::Fault(fault)) => Err(QueryRefusal::Faulty(fault)),
+        Err(Refusal::NoMemory) => Err(QueryRefusal::OutOfMemory),
     }
 }
 
 /// Says why the query in a file is not answered.
-pub fn tell_why<E: Sink>(alloc: Global, why: &Unasked, err: &mut E) -> Status
+pub fn tell_why<E: Sink>(alloc: Global, why: &QueryRefusal, err: &mut E) -> Status
     ensures { (out : SinkView) → TellsWhy why.now result
         (sinks_of out out (sink_view E.taken E.faults err.old) (sink_view E.taken E.faults err.new)) }
 {
     match why {
-        Unasked::Faulty(fault) => refuse(alloc, fault, err),
-        Unasked::Unopened => Status::OpenFault,
-        Unasked::Unread => Status::ReadFault,
-        Unasked::Forgotten => Status::NoMemory,
+        QueryRefusal::Faulty(fault) => refuse(alloc, fault, err),
+        QueryRefusal::Unopened => Status::OpenFault,
+        QueryRefusal::Unread => Status::ReadFault,
+        QueryRefusal::OutOfMemory => Status::NoMemory,
     }
 }
 

@@ -2,7 +2,7 @@ use Rattle.std.proofs.Common.{◌<◌, ◌≤◌, length, Err, ap, sym, subst, �
 use Rattle.cq_run.specs.Promise.{sink_view, sinks_of}
 use Rattle.cq_run.specs.Writing.{stand_of}
 use Rattle.cql_syntax.specs.TreeOf.{query_tree}
-use Rattle.cq_run.proofs.Answers.{FoundSoFar, none_found, none_answered, found_more, stopped, forgotten, unordered, unkept, ordered_all, ended}
+use Rattle.cq_run.proofs.Answers.{FoundSoFar, none_found, none_answered, found_more, stopped, out_of_memory, unordered, unkept, ordered_all, ended}
 use Rattle.cq_run.proofs.games.answer_archive.Goals as goal
 
 pub returns-in_default : goal.returns-in_default
@@ -43,7 +43,7 @@ returns-in-Err-NoMemory g c =
     let out = sink_view g.O.Sink.taken g.O.Sink.faults in
     let err = sink_view g.E.Sink.taken g.E.Sink.faults in
     let same = rw (c.in-Err-NoMemory.is ∙ ap Err c.in-Err-NoMemory.field-0-is) at c.answer_game.ensures in
-    forgotten c.games_have_outcomes.ensures c.is_sorted-sorted.result (query_tree c.args.plan.now.query.query) c.args.archive.now c.in-Ok.games.items c.loop-i.i (out c.args.out.now)
+    out_of_memory c.games_have_outcomes.ensures c.is_sorted-sorted.result (query_tree c.args.plan.now.query.query) c.args.archive.now c.in-Ok.games.items c.loop-i.i (out c.args.out.now)
     (out c.loop-i.out) (out c.answer_game.new.out) (err c.args.err.now) (err c.loop-i.err) (err c.answer_game.new.err) (stand_of c.loop-i.tally c.loop-i.kept.items)
     (sym c.is_sorted-sorted.ensures) c.in-Ok.ensures.games c.loop-i.invariant same
 

@@ -2,7 +2,7 @@ use Rattle.std.proofs.Common.{Err, ap, ◌∙◌, refl, subst}
 use Rattle.cql_syntax.specs.TreeOf.{query_tree}
 use Rattle.cql_syntax.specs.declared.fault.QueryFault.{QueryFault}
 use Rattle.cq_run.specs.Promise.{sink_view, sinks_of}
-use Rattle.cq_run.specs.Run.{RefusesQuery, text_accepted, text_refused, text_forgotten}
+use Rattle.cq_run.specs.Run.{RefusesQuery, text_accepted, text_refused, text_out_of_memory}
 use Rattle.cq_run.proofs.selfrun.answer_text_over_made.Goals as goal
 
 pub returns : goal.returns
@@ -18,4 +18,4 @@ returns-in-Err-Fault g c = λ desk.
     (subst (λ (f : QueryFault). RefusesQuery f c.refuse.result (sinks_of out out (err c.args.err.now) (err c.refuse.new.err))) c.in-Err-Fault.fault-is (c.refuse.ensures out)) refl
 
 pub returns-in-Err-NoMemory : goal.returns-in-Err-NoMemory
-returns-in-Err-NoMemory g c = λ desk. text_forgotten refl (record { desk = refl; sinks = record { out = refl; err = refl } })
+returns-in-Err-NoMemory g c = λ desk. text_out_of_memory refl (record { desk = refl; sinks = record { out = refl; err = refl } })

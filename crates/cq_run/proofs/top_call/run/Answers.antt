@@ -1,6 +1,6 @@
 use Rattle.std.proofs.Common.{Err, ap, ◌∙◌, refl}
 use Rattle.cq_run.specs.Promise.{sink_view, desk_view}
-use Rattle.cq_run.proofs.Doing.{job_promised, refusal_promised, forgetting_promised}
+use Rattle.cq_run.proofs.Doing.{job_promised, refusal_promised, memory_refusal_promised}
 use Rattle.cq_run.proofs.top_call.run.Goals as goal
 
 pub returns-in-Ok : goal.returns-in-Ok
@@ -16,4 +16,4 @@ returns-in-Err-Fault g c =
     (c.refuse_words.ensures (sink_view g.O.Sink.taken g.O.Sink.faults c.args.out.now))
 
 pub returns-in-Err-NoMemory : goal.returns-in-Err-NoMemory
-returns-in-Err-NoMemory g c = forgetting_promised _ (desk_view g.D.Desk.told g.D.Source.left g.D.Source.faults g.D.Desk.open_faults c.args.desk.now) _ (record { out = refl; err = refl })
+returns-in-Err-NoMemory g c = memory_refusal_promised _ (desk_view g.D.Desk.told g.D.Source.left g.D.Source.faults g.D.Desk.open_faults c.args.desk.now) _ (record { out = refl; err = refl })
