@@ -12,7 +12,8 @@ use Rattle.std.proofs.lemmas.Nat.{le_or_l, le_or_r, or_lt}
 use Rattle.std.proofs.lemmas.Option.{cond_some, none-some, option_and_then_some, same_Some}
 use Rattle.cql_syntax.specs.declared.leaves.Designator.{Designator}
 use Rattle.cql_lexer.specs.Characters.{is_comma}
-use Rattle.cql_lexer.specs.Designators.{united, in_brackets, man_letters, men_of_letter, men_of_letters, men_of, squares_within, rectangle, specification, specifications, squares_of, men_on, any_men, all_squares, men_then_squares, designator}
+use Rattle.cql_syntax.specs.Words.{man_letters}
+use Rattle.cql_lexer.specs.Designators.{united, in_brackets, men_of_letter, men_of_letters, men_of, squares_within, rectangle, specification, specifications, squares_of, men_on, any_men, all_squares, men_then_squares, designator}
 use Rattle.cql_lexer.specs.Longest.{longest}
 use Rattle.cql_lexer.specs.Tokens.{IsProperDesignator}
 use Rattle.cql_lexer.proofs.Longest.{longest_parts}

@@ -1,10 +1,11 @@
 -- Designators: men, squares, or men on squares, as `R`, `a1`, `[KQ]a-h2` and `.[a1,b2-3]`.
-use Rattle.std.specs.Prelude.{ℕ, zero, suc, ◌+◌, ◌-◌, ◌^◌, min, max, Bool, ◌&&◌, not, ◌==◌, List, [], ◌∷◌, length, take, drop, Option, None, Some, if◌then◌else◌, codes, bit_or, option_and_then}
+use Rattle.std.specs.Prelude.{ℕ, zero, suc, ◌+◌, ◌-◌, ◌^◌, min, max, Bool, ◌&&◌, not, ◌==◌, List, [], ◌∷◌, length, take, drop, Option, None, Some, if◌then◌else◌, bit_or, option_and_then}
 use Rattle.std.specs.List.{position, slice_split}
 use Rattle.std.specs.Option.{option_map, option_or}
 use Rattle.cq_geometry.specs.Squares.{file_of, rank_of}
 use Rattle.cq_symmetry.specs.Images.{is_in}
 use Rattle.cq_symmetry.specs.Parts.{are_whole_ranks, are_whole_files}
+use Rattle.cql_syntax.specs.Words.{man_letters}
 use Rattle.cql_syntax.specs.declared.leaves.Designator.{Designator}
 use Rattle.std.specs.Int.{is_in_range}
 use Rattle.cql_lexer.specs.Characters.{is_comma, is_closing_bracket}
@@ -23,10 +24,6 @@ group (b ∷ text) = if b == 91 then option_map (λ end. take end text) (positio
 -- what stands between the brackets of a text that is `[`, other bytes, and the first `]` as its last byte
 abbrev pub in_brackets : List ℕ → Option (List ℕ)
 in_brackets text = option_and_then (λ inside. if length inside + 2 == length text then Some inside else None) (group text)
-
--- the men in order: bit k of a set of men is the man of letter k, `_` is the empty square
-abbrev pub man_letters : List ℕ
-man_letters = codes "KQRBNPkqrbnp_"
 
 -- the men of a letter: `A` is any white man, `a` any black man, and `.` any man or none
 abbrev pub men_of_letter : ℕ → Option ℕ

@@ -2,7 +2,8 @@
 ghost use Rattle.std.specs.Prelude.{◌≡◌, ◌==◌, ◌<◌, ◌≤◌, ◌+◌, length, IfSome};
 ghost use Rattle.std.specs.Option.{option_map};
 ghost use Rattle.std.specs.List.{position};
-ghost use Rattle.cql_lexer.specs.Designators.{group, men_of_letter, men_of_letters, men_of, rectangle, squares_within, specification, specifications, squares_of, are_alike, men_on, designator, man_letters};
+ghost use Rattle.cql_lexer.specs.Designators.{group, men_of_letter, men_of_letters, men_of, rectangle, squares_within, specification, specifications, squares_of, are_alike, men_on, designator};
+ghost use Rattle.cql_syntax.specs.Words.{man_letters};
 ghost use Rattle.cq_symmetry.specs.Images.{is_in};
 ghost use Rattle.cq_symmetry.specs.Parts.{are_whole_ranks, are_whole_files};
 ghost use Rattle.cql_lexer.specs.Longest.{front, longest};

@@ -4,8 +4,8 @@ use Rattle.std.specs.Prelude.{bit_or}
 use Rattle.std.specs.Int.Bits.{or_zero_r}
 use Rattle.cql_lines.specs.declared.automaton.Rule.{Rule}
 use Rattle.cql_lines.specs.declared.automaton.Next.{Next}
-use Rattle.cql_lines.specs.Building.{firsts_times, rows_times}
-use Rattle.cql_lines.specs.Places.{when, begins, null_times}
+use Rattle.cql_lines.specs.Building.{firsts_times, rows_times, begins, null_times}
+use Rattle.cql_lines.specs.Places.{when}
 
 pub or_nothing : (a more : ℕ) (b : Bool) → b ≡ false → a ≡ bit_or a (when b more)
 or_nothing a more b e = rw e (sym (or_zero_r a))

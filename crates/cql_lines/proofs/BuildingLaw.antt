@@ -3,8 +3,8 @@ use Rattle.std.proofs.Common.{◌≡◌, ℕ, zero, suc, ◌+◌, ◌-◌, ◌*�
 use Rattle.cql_lines.specs.declared.automaton.Next.{Next}
 use Rattle.cql_lines.specs.declared.automaton.Rule.{Rule}
 use Rattle.cq_outside.specs.Spelling.{Pattern, one, nothing, joined, repeated}
-use Rattle.cql_lines.specs.Places.{begins, null_times, nullable, Built, BuiltTimes}
-use Rattle.cql_lines.specs.Building.{size, firsts_times, firsts, rows_times, rows, IsPlain}
+use Rattle.cql_lines.specs.Building.{begins, null_times, nullable, size, firsts_times, firsts, rows_times, rows, IsPlain}
+use Rattle.cql_lines.proofs.Built.{Built, BuiltTimes}
 
 get_left : (xs ys : List Rule) (i : ℕ) (r : Rule) → slice_get xs i ≡ Some r → slice_get (xs ++ ys) i ≡ Some r
 get_left [] ys i r e = absurd (cc)

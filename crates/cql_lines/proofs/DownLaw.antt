@@ -4,10 +4,12 @@ use Rattle.std.specs.Prelude.{◌⊎◌}
 use Rattle.std.proofs.lemmas.Bool.{cases_lt, cases_eq}
 use Rattle.cql_lines.specs.declared.automaton.Rule.{Rule}
 use Rattle.cql_lines.specs.declared.table.Spot.{Spot}
-use Rattle.cql_lines.specs.Ways.{FromPlace, Below, IsGreatestOrZero}
-use Rattle.cql_lines.specs.Lengths.{at}
+use Rattle.cql_lines.specs.Reads.{FromPlace}
+use Rattle.cql_lines.proofs.Below.{Below}
+use Rattle.cql_lines.specs.Lengths.{IsGreatestOrZero, at}
 use Rattle.cql_lines.specs.Shapes.{joined, Edge}
-use Rattle.cql_lines.specs.Down.{holds, cell, Late, Stands, Passed}
+use Rattle.cql_lines.specs.Values.{holds}
+use Rattle.cql_lines.specs.Down.{cell, Late, Stands, Passed}
 use Rattle.cql_lines.proofs.Measures.{Measure, Keeps, Joins}
 
 -- the greatest of the numbers of two kinds

@@ -1,6 +1,8 @@
+pub mod Below
 pub mod Bits
 pub mod BuildSteps
 pub mod BuildingLaw
+pub mod Built
 pub mod Counts
 pub mod DownLaw
 pub mod Lists

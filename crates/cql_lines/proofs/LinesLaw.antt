@@ -5,11 +5,12 @@ use Rattle.cql_lines.specs.declared.automaton.Next.{Next}
 use Rattle.cql_lines.specs.declared.automaton.Rule.{Rule}
 use Rattle.cql_lines.specs.declared.plain.Plain.{Plain as Given, Atom, Empty, Both', Star', Plus', Times'}
 use Rattle.cq_outside.specs.Spelling.{Pattern, one, nothing, joined, repeated}
-use Rattle.cql_lines.specs.Places.{begins, null_times, nullable, Built}
-use Rattle.cql_lines.specs.Building.{size, firsts_times, firsts, rows_times, rows, IsPlain, AtomsBelow}
+use Rattle.cql_lines.specs.Building.{begins, null_times, nullable, size, firsts_times, firsts, rows_times, rows, IsPlain, AtomsBelow}
+use Rattle.cql_lines.proofs.Built.{Built}
 use Rattle.cql_lines.specs.Ways.{Line}
 use Rattle.cq_outside.specs.Greatest.{IsGreatest}
-use Rattle.cql_lines.specs.Down.{Read, AnswerAt, holds}
+use Rattle.cql_lines.specs.Reads.{Read}
+use Rattle.cql_lines.specs.Values.{AnswerAt, holds, Allows}
 use Rattle.cql_lines.specs.Shapes.{is_searched}
 use Rattle.cql_lines.specs.declared.table.Spot.{Spot}
 use Rattle.cql_lines.specs.TreeOf.{plain_tree}
@@ -17,7 +18,6 @@ use Rattle.cql_lines.specs.declared.automaton.Automaton.{Automaton}
 use Rattle.cql_lines.specs.declared.table.Extent.{Extent}
 use Rattle.cql_lines.specs.Automata.{places, IsAutomatonOf}
 use Rattle.cql_lines.specs.Sets.{Between}
-use Rattle.cql_lines.specs.Values.{Allows}
 use Rattle.cql_lines.proofs.BuildingLaw.{Sit, rows_built}
 use Rattle.cql_lines.proofs.WaysLaw.{end, read_spelled, spelled_read}
 

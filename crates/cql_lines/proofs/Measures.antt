@@ -2,9 +2,10 @@
 use Rattle.std.proofs.Common.{◌≡◌, ℕ, List, length, Some, slice_get}
 use Rattle.std.specs.Prelude.{◌⊎◌}
 use Rattle.cql_lines.specs.declared.automaton.Rule.{Rule}
-use Rattle.cql_lines.specs.Ways.{FromPlace, Below}
+use Rattle.cql_lines.specs.Reads.{FromPlace}
+use Rattle.cql_lines.proofs.Below.{Below}
 use Rattle.cql_lines.specs.Lengths.{is_set}
-use Rattle.cql_lines.specs.Down.{holds}
+use Rattle.cql_lines.specs.Values.{holds}
 
 abbrev pub Measure : Type 1
 Measure = (ℕ → Type 0) → ℕ → Type 0

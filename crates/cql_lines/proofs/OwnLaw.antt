@@ -3,10 +3,12 @@ use Rattle.std.proofs.Common.{◌≡◌, ℕ, zero, suc, ◌<◌, ◌≤◌, Lis
 use Rattle.std.proofs.lemmas.Bool.{cases_lt, cases_Bool}
 use Rattle.std.proofs.lemmas.Option.{slice_get_within}
 use Rattle.cql_lines.specs.declared.automaton.Rule.{Rule}
-use Rattle.cql_lines.specs.Ways.{FromPlace, Below, IsGreatestOrZero}
-use Rattle.cql_lines.specs.Lengths.{is_set, at, greatest_in, farther, place_value}
+use Rattle.cql_lines.specs.Reads.{FromPlace, Read}
+use Rattle.cql_lines.proofs.Below.{Below}
+use Rattle.cql_lines.specs.Lengths.{IsGreatestOrZero, is_set, at, greatest_in, farther, place_value}
 use Rattle.cq_outside.specs.Greatest.{IsGreatest}
-use Rattle.cql_lines.specs.Down.{holds, Read, found}
+use Rattle.cql_lines.specs.Values.{holds}
+use Rattle.cql_lines.specs.Down.{found}
 use Rattle.cql_lines.proofs.WaysLaw.{place_here, place_off, read_here}
 use Rattle.cql_lines.proofs.Measures.{Measure, HasNone, Goes}
 

@@ -7,7 +7,9 @@ use Rattle.std.proofs.lemmas.Bool.{cases_eq}
 use Rattle.cql_lines.specs.declared.automaton.Next.{Next}
 use Rattle.cql_lines.specs.declared.automaton.Rule.{Rule}
 use Rattle.cq_outside.specs.Spelling.{Pattern, one, nothing, joined, repeated, Times, Spells}
-use Rattle.cql_lines.specs.Places.{IsIn, from, when, begins, Accepts, null_times, null_repeated, nullable, BuiltTimes, BuiltRepeated, Built}
+use Rattle.cql_lines.specs.Places.{IsIn, from, Accepts, when}
+use Rattle.cql_lines.specs.Building.{begins, null_times, null_repeated, nullable}
+use Rattle.cql_lines.proofs.Built.{BuiltTimes, BuiltRepeated, Built}
 
 -- a split into a permitted number of parts
 abbrev Repeats : (List ℕ → Type 0) → ℕ → Option ℕ → List ℕ → Type 0

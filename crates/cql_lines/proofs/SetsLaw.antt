@@ -7,11 +7,12 @@ use Rattle.std.proofs.lemmas.Bool.{cases_lt, cases_Bool}
 use Rattle.std.proofs.lemmas.Option.{slice_get_within}
 use Rattle.cql_lines.specs.declared.automaton.Rule.{Rule}
 use Rattle.cql_lines.specs.Places.{IsIn, when}
-use Rattle.cql_lines.specs.Ways.{FromPlace, Below}
+use Rattle.cql_lines.specs.Reads.{FromPlace, Read}
+use Rattle.cql_lines.proofs.Below.{Below}
 use Rattle.cql_lines.specs.Lengths.{is_set}
 use Rattle.cql_lines.specs.Sets.{IsSet, shifted, union_in, place_set, Between}
 use Rattle.cq_outside.specs.Greatest.{IsGreatest}
-use Rattle.cql_lines.specs.Down.{holds, Read}
+use Rattle.cql_lines.specs.Values.{holds}
 use Rattle.cql_lines.proofs.PlacesLaw.{in_left, in_right, in_either, in_none, in_when}
 use Rattle.cql_lines.proofs.WaysLaw.{set_is_in, in_is_set, alone, onward}
 

@@ -5,10 +5,12 @@ use Rattle.std.proofs.lemmas.Bool.{cases_eq}
 use Rattle.std.proofs.lemmas.List.{get_or-set_same, get_or-set_other, length-set, length-replicate}
 use Rattle.cql_lines.specs.declared.automaton.Rule.{Rule}
 use Rattle.cql_lines.specs.declared.table.Spot.{Spot}
-use Rattle.cql_lines.specs.Ways.{FromPlace, Below}
+use Rattle.cql_lines.specs.Reads.{FromPlace}
+use Rattle.cql_lines.proofs.Below.{Below}
 use Rattle.cql_lines.specs.Lengths.{is_set, at}
 use Rattle.cql_lines.specs.Shapes.{joined, is_searched, Edge}
-use Rattle.cql_lines.specs.Down.{holds, cell, AnswerAt}
+use Rattle.cql_lines.specs.Values.{holds, AnswerAt}
+use Rattle.cql_lines.specs.Down.{cell}
 use Rattle.cql_lines.specs.Up.{StandsUp, IsAbove}
 use Rattle.cql_lines.proofs.Measures.{Measure, Keeps, HasNone, Goes}
 use Rattle.cql_lines.proofs.OwnLaw.{own_known}

@@ -6,10 +6,11 @@ use Rattle.std.proofs.lemmas.List.{append-nil}
 use Rattle.cql_lines.specs.declared.automaton.Next.{Next}
 use Rattle.cql_lines.specs.declared.automaton.Rule.{Rule}
 use Rattle.cq_outside.specs.Spelling.{Pattern, Spells}
-use Rattle.cql_lines.specs.Places.{IsIn, from, Accepts, Built}
-use Rattle.cql_lines.specs.Ways.{FromPlace, Below, IsGreatestOrZero}
-use Rattle.cql_lines.specs.Down.{Read}
-use Rattle.cql_lines.specs.Lengths.{is_set, greatest_in, farther}
+use Rattle.cql_lines.specs.Places.{IsIn, from, Accepts}
+use Rattle.cql_lines.proofs.Built.{Built}
+use Rattle.cql_lines.specs.Reads.{FromPlace, Read}
+use Rattle.cql_lines.proofs.Below.{Below}
+use Rattle.cql_lines.specs.Lengths.{IsGreatestOrZero, is_set, greatest_in, farther}
 use Rattle.cql_lines.proofs.PlacesLaw.{pattern_means, in_none}
 
 pub set_is_in : (mask i : ℕ) → is_set mask i ≡ true → IsIn mask i

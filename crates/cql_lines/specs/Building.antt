@@ -1,9 +1,31 @@
--- The rules of a pattern, numbered from a place on: those of what comes after a part stand before its own.
-use Rattle.std.specs.Prelude.{ℕ, zero, suc, ◌+◌, ◌-◌, ◌*◌, ◌^◌, ◌<◌, List, [], ◌∷◌, ◌++◌, Bool, true, Some, None, bit_or}
+-- The rules of a pattern, as the private functions give them, numbered from a place on: those of what comes after a part stand before
+-- its own.
+use Rattle.std.specs.Prelude.{ℕ, zero, suc, ◌+◌, ◌-◌, ◌*◌, ◌^◌, ◌<◌, List, [], ◌∷◌, ◌++◌, Bool, true, false, ◌&&◌, Option, Some, None, bit_or}
 use Rattle.cql_lines.specs.declared.automaton.Next.{Next}
 use Rattle.cql_lines.specs.declared.automaton.Rule.{Rule}
 use Rattle.cq_outside.specs.Spelling.{Pattern, one, nothing, joined, repeated}
-use Rattle.cql_lines.specs.Places.{when, begins, null_times, nullable}
+use Rattle.cql_lines.specs.Places.{when}
+
+-- these places, and where the part may be empty also what comes after it
+abbrev pub begins : ℕ → Bool → Next → Next
+begins mask b next = record { places = bit_or mask (when b next.places); ends = b && next.ends }
+
+-- whether the empty list is spelled
+abbrev pub null_times : Bool → ℕ → ℕ → Bool
+null_times b zero n = true
+null_times b (suc m) zero = false
+null_times b (suc m) (suc n) = b && null_times b m n
+
+abbrev pub null_repeated : Bool → ℕ → Option ℕ → Bool
+null_repeated b m (Some n) = null_times b m n
+null_repeated b zero None = true
+null_repeated b (suc m) None = b
+
+abbrev pub nullable : Pattern ℕ → Bool
+nullable (one a) = false
+nullable nothing = true
+nullable (joined p q) = nullable p && nullable q
+nullable (repeated least most p) = null_repeated (nullable p) least most
 
 -- how many rules a pattern has
 abbrev pub size : Pattern ℕ → ℕ

@@ -1,16 +1,11 @@
--- What the rows of lengths tell, as they are filled from the last node to the first.
-use Rattle.std.specs.Prelude.{◌≡◌, ℕ, zero, suc, ◌+◌, ◌≤◌, List, [], ◌∷◌, Bool, true, false, Option, Some, None, length, get_or}
-use Rattle.cq_outside.specs.Greatest.{IsGreatest}
+-- What the rows of lengths tell, as the private functions fill them from the last node to the first.
+use Rattle.std.specs.Prelude.{◌≡◌, ℕ, zero, suc, ◌+◌, ◌≤◌, List, [], Bool, false, Option, Some, None, length, get_or}
 use Rattle.cql_lines.specs.declared.automaton.Rule.{Rule}
 use Rattle.cql_lines.specs.declared.table.Spot.{Spot}
-use Rattle.cql_lines.specs.Places.{from, Accepts}
-use Rattle.cql_lines.specs.Ways.{Follow, FromPlace}
-use Rattle.cql_lines.specs.Lengths.{is_set, at}
+use Rattle.cql_lines.specs.Reads.{FromPlace}
+use Rattle.cql_lines.specs.Lengths.{at}
+use Rattle.cql_lines.specs.Values.{holds}
 use Rattle.cql_lines.specs.Shapes.{joined, Edge}
-
--- a table's word for a node has a bit for each atom
-abbrev pub holds : List ℕ → ℕ → ℕ → Bool
-holds words a n = is_set (at words n) a
 
 abbrev pub cell : List (List ℕ) → ℕ → ℕ → ℕ
 cell rows n j = at (get_or rows n []) j
@@ -27,18 +22,10 @@ pub record Stands (Known : (ℕ → Type 0) → ℕ → Type 0) (words : List �
   pub count : length rows ≡ length spots
   pub known : (n j : ℕ) → Known (Late words rules primary spots t n j) (cell rows n j)
 
--- some way of k nodes from n is read, its first node by one of the places f
-abbrev pub Read : (ℕ → ℕ → Bool) → List Rule → (ℕ → ℕ → Type 0) → ℕ → ℕ → ℕ → Type 0
-Read test rules Edge f n k = (w : List ℕ) × Follow Edge n w × (k ≡ suc (length w)) × Accepts test rules (from f) (n ∷ w)
-
+-- a length above 0, or none for 0
 abbrev pub found : ℕ → Option ℕ
 found zero = None
 found (suc m) = Some (suc m)
-
--- what is answered at a node
-abbrev pub AnswerAt : Bool → (ℕ → Type 0) → Option ℕ → Type 0
-AnswerAt true P o = IsGreatest P o
-AnswerAt false P o = o ≡ None
 
 -- what a node's row gives to the row of its parent
 pub record Passed (join : ℕ → ℕ → ℕ) (primary : Bool) (spots : List Spot) (n : ℕ) (rows new : List (List ℕ))

@@ -2,6 +2,7 @@ pub mod Building
 pub mod Down
 pub mod Lengths
 pub mod Places
+pub mod Reads
 pub mod Sets
 pub mod Shapes
 pub mod TreeOf

@@ -1,4 +1,4 @@
--- Sets of lengths below 128, as bits.
+-- Sets of lengths below 128, as the private functions give them by bits.
 use Rattle.std.specs.Prelude.{ℕ, zero, suc, ◌*◌, ◌%◌, ◌<◌, ◌≤◌, if◌then◌else◌, bit_or}
 use Rattle.cql_lines.specs.declared.automaton.Rule.{Rule}
 use Rattle.cql_lines.specs.Places.{IsIn, when}

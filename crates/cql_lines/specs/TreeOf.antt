@@ -1,4 +1,4 @@
--- The tree of a pattern.
+-- The tree of a pattern without lists, as the private functions make it.
 use Rattle.std.specs.Prelude.{ℕ, Some, None}
 use Rattle.cq_outside.specs.Spelling.{Pattern, one, nothing, joined, repeated}
 use Rattle.cql_lines.specs.declared.plain.Plain.{Plain as Given, Atom, Empty, Both', Star', Plus', Times'}

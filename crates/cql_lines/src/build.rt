@@ -1,8 +1,8 @@
 //! How the automaton of a pattern is built.
 
 ghost use Rattle.std.specs.Prelude.{◌≡◌, ℕ, ◌+◌, ◌-◌, ◌*◌, ◌<◌, ◌≤◌, ◌&&◌, ◌||◌, ◌++◌, length, IfOk, OnOk, true, false, bit_or};
-ghost use Rattle.cql_lines.specs.Building.{AtomsBelow, size, firsts, firsts_times, rows, rows_times};
-ghost use Rattle.cql_lines.specs.Places.{begins, when, nullable, null_times};
+ghost use Rattle.cql_lines.specs.Building.{AtomsBelow, size, firsts, firsts_times, rows, rows_times, begins, nullable, null_times};
+ghost use Rattle.cql_lines.specs.Places.{when};
 ghost use Rattle.cql_lines.specs.TreeOf.{plain_tree};
 ghost use Rattle.cql_lines.specs.PatternTrees.{pattern_tree};
 ghost use Rattle.cql_lines.specs.Automata.{places, IsAutomatonOf, UsesBelow};

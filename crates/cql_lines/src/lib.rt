@@ -4,7 +4,7 @@
 
 pub mod automaton;
 mod build;
-pub mod lines;
+mod lines;
 mod looks;
 pub mod pattern;
 mod plain;

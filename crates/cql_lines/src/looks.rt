@@ -1,7 +1,7 @@
 //! Tables and trees, filled and read.
 ghost use Rattle.std.specs.Prelude.{◌≡◌, ℕ, ◌+◌, ◌<◌, ◌≤◌, ◌||◌, ◌++◌, ◌∷◌, [], length, true, false, Some, None, IfOk, IfSome, OnOk, OnErr, replicate};
 ghost use Rattle.cql_lines.specs.Lengths.{is_set, at};
-ghost use Rattle.cql_lines.specs.Down.{holds};
+ghost use Rattle.cql_lines.specs.Values.{holds};
 ghost use Rattle.cql_lines.specs.Shapes.{joined, is_searched};
 
 use crate::table::{AtomTable, Extent, Shape, Spot};

@@ -1,7 +1,9 @@
 //! The sets of lengths, where the lengths that count are limited: bit k of a word is the length k, and no greater length than 127 counts.
 ghost use Rattle.std.specs.Prelude.{◌≡◌, ℕ, ◌+◌, ◌*◌, ◌<◌, ◌≤◌, get_or, length, if◌then◌else◌, bit_or, slice_get, Some, None, ◌-◌, false, IfOk, replicate, true};
 ghost use Rattle.cq_outside.specs.Greatest.{IsGreatest};
-ghost use Rattle.cql_lines.specs.Down.{Passed, Stands, AnswerAt, Read, holds};
+ghost use Rattle.cql_lines.specs.Down.{Passed, Stands};
+ghost use Rattle.cql_lines.specs.Values.{AnswerAt, holds};
+ghost use Rattle.cql_lines.specs.Reads.{Read};
 ghost use Rattle.cql_lines.specs.Shapes.{Edge, is_searched, joined, searched_count};
 ghost use Rattle.cql_lines.specs.Up.{StandsUp, IsAbove};
 ghost use Rattle.cql_lines.specs.Lengths.{is_set, at};

@@ -1,10 +1,11 @@
 //! The greatest lengths.
 ghost use Rattle.std.specs.Prelude.{◌≡◌, ℕ, ◌+◌, ◌*◌, ◌<◌, ◌≤◌, ◌||◌, get_or, length, List, max, if◌then◌else◌, slice_get, Some, None, Option, ◌-◌, false, IfOk, replicate, true};
-ghost use Rattle.cql_lines.specs.Down.{found, Passed, Stands, AnswerAt, Read, holds};
-ghost use Rattle.cql_lines.specs.Ways.{IsGreatestOrZero};
+ghost use Rattle.cql_lines.specs.Down.{found, Passed, Stands};
+ghost use Rattle.cql_lines.specs.Values.{AnswerAt, holds};
+ghost use Rattle.cql_lines.specs.Reads.{Read};
+ghost use Rattle.cql_lines.specs.Lengths.{IsGreatestOrZero, greatest_in, place_value, is_set, at};
 ghost use Rattle.cql_lines.specs.Shapes.{Edge, is_searched, joined, searched_count};
 ghost use Rattle.cql_lines.specs.Up.{StandsUp, IsAbove};
-ghost use Rattle.cql_lines.specs.Lengths.{greatest_in, place_value, is_set, at};
 ghost use Rattle.cql_lines.specs.declared.automaton.Rule.{Rule as RuleValue};
 
 use crate::automaton::Rule;

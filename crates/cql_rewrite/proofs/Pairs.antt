@@ -1,16 +1,22 @@
 -- A sum in one pass is pairs from the left.
 use Rattle.std.proofs.Common.{◌≡◌, ◌∙◌, ℕ, Bool, true, false, List, [], ◌∷◌, ◌++◌, ◌+◌, ◌<◌, length, drop, get_or, Some, None, refl, sym, ap, append_assoc}
-use Rattle.std.specs.Prelude.{unwrap_or, codes}
+use Rattle.std.specs.Prelude.{unwrap_or, codes, ◌&&◌, not}
 use Rattle.std.proofs.lemmas.List.{append-nil}
 use Rattle.cql_syntax.specs.Trees.{TermTrees, no_terms, more_terms}
 use Rattle.cql_syntax.specs.TreeOf.{term_trees}
 use Rattle.cql_syntax.specs.declared.tree.Term.{Term}
 use Rattle.cql_rewrite.specs.FlatText.{text, in_parens, sign_word, sum_after}
-use Rattle.cql_rewrite.specs.Sums.{opening, openings, term_text, sum_start, sum_rest}
+use Rattle.cql_rewrite.specs.Sums.{opening, openings, term_text, sum_start}
 use Rattle.cql_rewrite.proofs.Rows.{at_place}
 
-two_parts : (before t : List ℕ) → (before ++ (32 ∷ (t ++ []))) ++ (41 ∷ []) ≡ before ++ term_text false t
-two_parts before t = append_assoc before (32 ∷ (t ++ [])) (41 ∷ []) ∙ ap (λ u. before ++ (32 ∷ (u ++ (41 ∷ [])))) (append-nil t)
+-- the terms, the first of which may be the sum's first
+abbrev pub sum_rest : Bool → TermTrees → List ℕ
+sum_rest first no_terms = []
+sum_rest first (more_terms minus f ts) = term_text (first && not minus) (text f) ++ sum_rest false ts
+
+two_parts : (before t : List ℕ) → (before ++ (codes " " ++ (t ++ []))) ++ codes ")" ≡ before ++ term_text false t
+two_parts before t =
+    append_assoc before (codes " " ++ (t ++ [])) (codes ")") ∙ ap (λ u. before ++ (codes " " ++ (u ++ codes ")"))) (append-nil t)
 
 pair_is : (minus : Bool) (before t : List ℕ)
     → in_parens (sign_word minus) (before ∷ t ∷ []) ≡ opening minus ++ (before ++ term_text false t)

@@ -1,9 +1,11 @@
 -- The text of a filter: names and numbers as they are written, and every other form in parentheses, after its word.
-use Rattle.std.specs.Prelude.{ℕ, zero, suc, ◌/◌, ◌%◌, ◌+◌, ◌==◌, nat_lt, Bool, true, false, List, [], ◌∷◌, ◌++◌, Option, None, Some, unwrap_or, codes, if◌then◌else◌}
+use Rattle.std.specs.Prelude.{ℕ, zero, suc, ◌/◌, ◌%◌, ◌==◌, Bool, true, false, List, [], ◌∷◌, ◌++◌, get_or, Option, None, Some, unwrap_or, codes, if◌then◌else◌}
 use Rattle.std.specs.Fmt.{decimal}
+use Rattle.std.specs.List.{concat}
 use Rattle.cq_symmetry.specs.declared.families.Family.{Family}
 use Rattle.cq_symmetry.specs.declared.families.Family.TheVariants.{Flip, Rotate90, FlipVertical, FlipHorizontal, FlipColor, Shift, ShiftHorizontal, ShiftVertical}
 use Rattle.cql_syntax.specs.Trees.{FilterTree, filter_at, FormTree, designator, number, name, plain, tagged, outcome, elo, unary, direction, chain, sum_of, pair, if_, square, line, played, transform, sort, comment, any, FilterTrees, no_filters, more_filters, TermTrees, no_terms, more_terms, LineTree, path, PlayedTree, move_of, WrittenTree, left_out, written, PartTrees, no_parts, more_parts, BodyTree, atom, group}
+use Rattle.cql_syntax.specs.Words.{man_letters}
 use Rattle.cql_syntax.specs.declared.extents.Extent.{Extent}
 use Rattle.cql_syntax.specs.declared.extents.Extent.TheVariants.{Any as AnyLength, Within}
 use Rattle.cql_syntax.specs.declared.leaves.Chain.{Chain}
@@ -28,18 +30,18 @@ use Rattle.cql_syntax.specs.declared.leaves.Unary.TheVariants.{Not, Complement, 
 use Rattle.cql_syntax.specs.declared.leaves.Way.{Way}
 use Rattle.cql_syntax.specs.declared.leaves.Way.TheVariants.{Up, Down, Left, Right, Northeast, Northwest, Southeast, Southwest, Diagonal, Orthogonal, AnyDirection}
 
--- texts, each after a byte
-abbrev pub each_after : ℕ → List (List ℕ) → List ℕ
-each_after byte [] = []
-each_after byte (t ∷ ts) = (byte ∷ t) ++ each_after byte ts
+-- texts, each after a mark
+abbrev pub each_after : List ℕ → List (List ℕ) → List ℕ
+each_after mark [] = []
+each_after mark (t ∷ ts) = mark ++ (t ++ each_after mark ts)
 
 -- `(word part part)`
 abbrev pub in_parens : List ℕ → List (List ℕ) → List ℕ
-in_parens word parts = ((codes "(" ++ word) ++ each_after 32 parts) ++ codes ")"
+in_parens word parts = concat (codes "(" ∷ word ∷ each_after (codes " ") parts ∷ codes ")" ∷ [])
 
 -- between quotes
 abbrev pub quoted : List ℕ → List ℕ
-quoted text = (codes "\"" ++ text) ++ codes "\""
+quoted text = concat (codes "\"" ∷ text ∷ codes "\"" ∷ [])
 
 -- words and marks
 
@@ -164,16 +166,12 @@ arrow_word false = codes "-->"
 
 -- a digit from 0 to f
 abbrev pub hexadecimal_digit : ℕ → ℕ
-hexadecimal_digit n = if nat_lt n 10 then 48 + n else 87 + n
+hexadecimal_digit n = get_or (codes "0123456789abcdef") n 0
 
 -- the last digits of a number, so many of them
 abbrev pub hexadecimal : ℕ → ℕ → List ℕ
 hexadecimal zero n = []
 hexadecimal (suc count) n = hexadecimal count (n / 16) ++ hexadecimal_digit (n % 16) ∷ []
-
--- the letters of the men, and the empty square's, in the order of their bits
-abbrev pub men_letters : List ℕ
-men_letters = codes "KQRBNPkqrbnp_"
 
 abbrev pub letter_if : Bool → ℕ → List ℕ
 letter_if there letter = if there then letter ∷ [] else []
@@ -184,11 +182,11 @@ letters_of bits [] = []
 letters_of bits (l ∷ ls) = letter_if (bits % 2 == 1) l ++ letters_of (bits / 2) ls
 
 abbrev pub designator_text : Designator → List ℕ
-designator_text d = ((codes "[" ++ letters_of d.men men_letters) ++ codes "]:") ++ hexadecimal 16 d.part.squares
+designator_text d = concat (codes "[" ∷ letters_of d.men man_letters ∷ codes "]:" ∷ hexadecimal 16 d.part.squares ∷ [])
 
 -- `{m,n}`
 abbrev pub times_word : ℕ → ℕ → List ℕ
-times_word least most = (((codes "{" ++ decimal least) ++ codes ",") ++ decimal most) ++ codes "}"
+times_word least most = concat (codes "{" ∷ decimal least ∷ codes "," ∷ decimal most ∷ codes "}" ∷ [])
 
 -- a part of a line with its mark
 abbrev pub marked_text : Mark → List ℕ → List ℕ
@@ -200,11 +198,11 @@ marked_text (Times least most) text = in_parens (times_word least most) (text �
 
 -- the word of a line, its lengths where they are written, and its arrow
 abbrev pub line_start : Bool → Extent → Bool → List ℕ
-line_start primary AnyLength back = (line_word primary ++ codes " ") ++ arrow_word back
+line_start primary AnyLength back = concat (line_word primary ∷ codes " " ∷ arrow_word back ∷ [])
 line_start primary (Within least most) back =
-    (((((line_word primary ++ codes " ") ++ decimal least) ++ codes " ") ++ decimal most) ++ codes " ") ++ arrow_word back
+    concat (line_word primary ∷ codes " " ∷ decimal least ∷ codes " " ∷ decimal most ∷ codes " " ∷ arrow_word back ∷ [])
 
--- a term after those before it; a first one that is taken away is taken from 0
+-- a term after those before it; a first one that is subtracted is subtracted from 0
 abbrev pub with_term_text : Option (List ℕ) → Bool → List ℕ → List ℕ
 with_term_text None false text = text
 with_term_text None true text = in_parens (codes "-") (codes "0" ∷ text ∷ [])
@@ -218,8 +216,8 @@ after_word word (Some part) = word ++ part
 -- the filter of the move, given its parts
 abbrev pub in_move : (origin goal taken promoted : Option (List ℕ)) → List ℕ
 in_move origin goal taken promoted =
-    ((((codes "(move" ++ after_word (codes " from ") origin) ++ after_word (codes " to ") goal) ++ after_word (codes " capture ") taken)
-    ++ after_word (codes " promote ") promoted) ++ codes ")"
+    concat (codes "(move" ∷ after_word (codes " from ") origin ∷ after_word (codes " to ") goal
+    ∷ after_word (codes " capture ") taken ∷ after_word (codes " promote ") promoted ∷ codes ")" ∷ [])
 
 -- The text of each form. A sum is pairs from the left: `a - b + c` is `(+ (- a b) c)`.
 unfoldable mutual
@@ -269,7 +267,8 @@ unfoldable mutual
   body_text (group cs) = in_parens (codes "seq") (part_texts cs)
 
   pub played_text : PlayedTree → List ℕ
-  played_text (move_of origin goal taken promoted) = in_move (written_text origin) (written_text goal) (written_text taken) (written_text promoted)
+  played_text (move_of origin goal taken promoted) =
+      in_move (written_text origin) (written_text goal) (written_text taken) (written_text promoted)
 
   pub written_text : WrittenTree → Option (List ℕ)
   written_text left_out = None
@@ -278,7 +277,7 @@ unfoldable mutual
 -- texts with one LF between two of them
 abbrev pub on_lines : List (List ℕ) → List ℕ
 on_lines [] = []
-on_lines (t ∷ ts) = t ++ each_after 10 ts
+on_lines (t ∷ ts) = t ++ each_after (codes "\n") ts
 
 -- the text of the items of a query
 abbrev pub items_text : FilterTrees → List ℕ

@@ -1,4 +1,4 @@
--- What is kept of a family's members, one after the other.
+-- What is kept of a family's members, one after the other, as the private functions give it.
 use Rattle.std.specs.Prelude.{Bool, false, ◌||◌, ◌∷◌, Option, Some, None, if◌then◌else◌}
 use Rattle.cq_symmetry.specs.Mappings.{PlainMapping}
 use Rattle.cql_syntax.specs.Contexts.{Context}

@@ -5,12 +5,12 @@
 
 pub mod contexts;
 pub mod fits;
-pub mod flat;
+mod flat;
 mod leaves;
 mod pieces;
 mod same;
 mod sums;
-pub mod text;
+mod text;
 mod words;
 
 pub use flat::expand;

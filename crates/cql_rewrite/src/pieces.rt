@@ -14,27 +14,27 @@ pub(crate) fn in_parens(alloc: Global, word: &[u8], parts: &[Bytes]) -> Result<B
 {
     let mut text = Bytes::from_slice(alloc, b"(")?;
     text.push_all(word)?;
-    push_each(&mut text, b' ', parts)?;
+    push_each(&mut text, b" ", parts)?;
     text.push_all(b")")?;
     Ok(text)
 }
 
-/// Adds texts, each after a byte.
-pub(crate) fn push_each(text: &mut Bytes, byte: u8, more: &[Bytes]) -> Result<(), NoMemory>
-    ensures { OnOk result (text.new ≡ text.old ++ spec.each_after byte more.now) }
+/// Adds texts, each after a mark.
+pub(crate) fn push_each(text: &mut Bytes, mark: &[u8], more: &[Bytes]) -> Result<(), NoMemory>
+    ensures { OnOk result (text.new ≡ text.old ++ spec.each_after mark.now more.now) }
 {
     for part in more {
-        push_after(text, byte, part)?;
+        push_both(text, mark, part.as_slice())?;
     }
     Ok(())
 }
 
-/// Adds a text after a byte.
-pub(crate) fn push_after(text: &mut Bytes, byte: u8, part: &Bytes) -> Result<(), NoMemory>
-    ensures { OnOk result (text.new ≡ text.old ++ (byte ∷ part.now)) }
+/// Adds two texts.
+pub(crate) fn push_both(text: &mut Bytes, first: &[u8], second: &[u8]) -> Result<(), NoMemory>
+    ensures { OnOk result (text.new ≡ text.old ++ (first.now ++ second.now)) }
 {
-    text.push_all(&[byte])?;
-    text.push_all(part.as_slice())
+    text.push_all(first)?;
+    text.push_all(second)
 }
 
 /// A text between quotes.
@@ -112,7 +112,7 @@ fn hexadecimal_digit(n: u8) -> u8
     requires { n < 16 }
     ensures { result ≡ spec.hexadecimal_digit n }
 {
-    if n < 10 { b'0' + n } else { b'a' - 10 + n }
+    b"0123456789abcdef"[usize::from(n)]
 }
 
 /// A part of a line with its mark.
@@ -197,11 +197,4 @@ fn push_written(text: &mut Bytes, word: &[u8], part: Option<Bytes>) -> Result<()
         Some(part) => push_both(text, word, part.as_slice()),
         None => Ok(()),
     }
-}
-
-fn push_both(text: &mut Bytes, first: &[u8], second: &[u8]) -> Result<(), NoMemory>
-    ensures { OnOk result (text.new ≡ text.old ++ (first.now ++ second.now)) }
-{
-    text.push_all(first)?;
-    text.push_all(second)
 }

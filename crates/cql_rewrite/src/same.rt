@@ -85,7 +85,8 @@ fn same_filters(a: &Filters, b: &Filters) -> bool
 
 #[cycle(same)]
 fn same_term(a: &Term, b: &Term) -> bool
-    ensures { result ≡ (leaves.same_flag a.now.minus b.now.minus && spec.same_filter (filter_tree a.now.filter) (filter_tree b.now.filter)) }
+    ensures { result ≡ (leaves.same_flag a.now.minus b.now.minus
+        && spec.same_filter (filter_tree a.now.filter) (filter_tree b.now.filter)) }
 {
     same_flag(a.minus, b.minus) && same(&a.filter, &b.filter)
 }

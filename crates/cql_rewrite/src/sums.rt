@@ -3,7 +3,7 @@ ghost use Rattle.std.specs.Prelude.{◌≡◌, ◌++◌, IfOk, OnOk};
 ghost use Rattle.cql_syntax.specs.TreeOf.{term_trees};
 ghost use Rattle.cql_rewrite.specs.Sums as spec;
 
-use crate::pieces::push_after;
+use crate::pieces::push_both;
 use cq_outside::{Bytes, NoMemory};
 use cql_syntax::Term;
 use std::alloc::Global;
@@ -53,6 +53,6 @@ pub(crate) fn push_term(text: &mut Bytes, lone: bool, term: &Bytes) -> Result<()
     if lone {
         return text.push_all(term.as_slice());
     }
-    push_after(text, b' ', term)?;
+    push_both(text, b" ", term.as_slice())?;
     text.push_all(b")")
 }

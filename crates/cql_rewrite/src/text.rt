@@ -31,7 +31,7 @@ fn on_lines(alloc: Global, texts: &[Bytes]) -> Result<Bytes, NoMemory>
         [] => Ok(Bytes::new(alloc)),
         [first, rest @ ..] => {
             let mut text = Bytes::from_slice(alloc, first.as_slice())?;
-            push_each(&mut text, b'\n', rest)?;
+            push_each(&mut text, b"\n", rest)?;
             Ok(text)
         }
     }

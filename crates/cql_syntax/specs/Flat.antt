@@ -8,17 +8,17 @@ use Rattle.cql_syntax.specs.Same.{same_filter}
 use Rattle.cql_syntax.specs.Trees.{FilterTree, filter_at, FormTree, designator, number, name, plain, tagged, outcome, elo, unary, direction, chain, sum_of, pair, if_, square, line, played, transform, sort, comment, any, FilterTrees, no_filters, more_filters, TermTrees, no_terms, more_terms, LineTree, path, PlayedTree, move_of, WrittenTree, left_out, written, PartTrees, no_parts, more_parts, BodyTree, atom, group, QueryTree}
 use Rattle.cql_syntax.specs.declared.leaves.Designator.{Designator}
 
--- the filters but those that are the same as one
+-- the filters without those that are the same as a given one
 abbrev pub without : FilterTree → FilterTrees → FilterTrees
 without f no_filters = no_filters
 without f (more_filters g gs) = if same_filter f g then without f gs else more_filters g (without f gs)
 
--- filters in order, each that is the same as an earlier one left out
+-- filters in order, without those that are the same as an earlier one
 abbrev pub distinct : List FilterTree → FilterTrees
 distinct [] = no_filters
 distinct (f ∷ fs) = more_filters f (without f (distinct fs))
 
--- the image of a designator; where it has none, as in no filter that fits, no men on no squares
+-- the image of a designator; where it has none, which no filter that fits has, no men on no squares
 abbrev pub image_or_nothing : Option Designator → Designator
 image_or_nothing None = record { men = 0; part = record { squares = 0; whole_ranks = false; whole_files = false } }
 image_or_nothing (Some d) = d

@@ -16,9 +16,13 @@ tree_of q game = record { game = game; variations = q.variations }
 abbrev pub is_hit : SearchedTree → FilterTrees → ℕ → Bool
 is_hit tree items n = list_all holds (values tree [] [] items n)
 
--- the nodes of the searched tree at which all items hold, by number; a game matches where it has one
+-- the nodes of a searched tree at which all items hold, by number
+abbrev pub hits_in : SearchedTree → FilterTrees → List ℕ
+hits_in tree items = filter (is_hit tree items) (nodes_in tree)
+
+-- the hits of a query in a game, which matches where it has one
 unfoldable pub hits : QueryTree → Game → List ℕ
-hits q game = filter (is_hit (tree_of q game) q.items) (nodes_in (tree_of q game))
+hits q game = hits_in (tree_of q game) q.items
 
 -- the texts of the top comments, in the order of the items
 abbrev pub form_texts : FormTree → List (List ℕ)
@@ -47,9 +51,13 @@ marked_node q game n =
 unfoldable pub marked : QueryTree → Game → Game
 marked q game = record game { nodes = map (marked_node q game) (numbers game.nodes) }
 
--- by a sort item games are sorted with the greatest value over the hits, with `min` with the least
+-- of two numbers the lesser, or else the greater
+abbrev pub chosen : Bool → ℤ → ℤ → ℤ
+chosen least = if least then int_min else int_max
+
+-- By a sort item games are sorted by its greatest value over the hits; by one with `min`, by its least.
 abbrev pub key_of : Bool → List Value → Option ℤ
-key_of least vs = chosen_from (if least then int_min else int_max) vs
+key_of least vs = chosen_from (chosen least) vs
 
 abbrev pub form_keys : SearchedTree → List ℕ → FormTree → List (Option ℤ)
 form_keys tree found (sort least text f) = key_of least (map (value tree [] [] f) found) ∷ []

@@ -26,11 +26,13 @@ abbrev pub where_it : {X : Type 0} → Bool → X → List X
 where_it true x = x ∷ []
 where_it false x = []
 
--- the closing brace
+-- whether a text has a closing brace, byte 125
 abbrev pub holds_brace : List ℕ → Bool
 holds_brace text = list_any (nat_eq 125) text
 
--- The rules that a form breaks where it stands.
+-- the rules that a form breaks where it stands
+
+-- another kind is wanted of it than it has
 abbrev pub wrong_kind : Kind → Kind → List QueryReason
 wrong_kind wanted found = where_it (not (accepts wanted found)) (KindMismatch wanted found)
 
@@ -45,10 +47,12 @@ abbrev pub past_four_sorts : Option ℕ → FormTree → List QueryReason
 past_four_sorts (Some sorts) (sort least text f) = where_it (nat_le 4 sorts) TooManySorts
 past_four_sorts item f = []
 
+-- a name that no `square` around it binds
 abbrev pub unbound_name : List (List ℕ) → FormTree → List QueryReason
 unbound_name names (name text) = where_it (not (list_any (λ bound. bytes_eq bound text) names)) (UnknownName text)
 unbound_name names f = []
 
+-- a comment with a closing brace, which would end it in the exported game
 abbrev pub brace_in_comment : FormTree → List QueryReason
 brace_in_comment (comment text) = where_it (holds_brace text) TextHoldsBrace
 brace_in_comment f = []

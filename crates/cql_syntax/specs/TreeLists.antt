@@ -15,7 +15,7 @@ abbrev pub filters_from : List FilterTree → FilterTrees
 filters_from [] = no_filters
 filters_from (f ∷ fs) = more_filters f (filters_from fs)
 
--- each term with whether it is taken away
+-- each term with whether it is subtracted
 abbrev pub terms_of : TermTrees → List (Bool × FilterTree)
 terms_of no_terms = []
 terms_of (more_terms minus f ts) = (minus, f) ∷ terms_of ts

@@ -46,7 +46,7 @@ mutual
     no_filters : FilterTrees
     more_filters : FilterTree → FilterTrees → FilterTrees
 
-  -- each with whether it is taken away
+  -- each with whether it is subtracted
   pub data TermTrees : Type 0 where
     no_terms : TermTrees
     more_terms : Bool → FilterTree → TermTrees → TermTrees

@@ -198,3 +198,7 @@ reserved_names = codes "echo" ∷ codes "loop" ∷ codes "while" ∷ codes "func
 -- the place of a text in a table, none where it does not stand there
 abbrev pub place_of : List ℕ → List (List ℕ) → Option ℕ
 place_of text table = position (λ entry. bytes_eq entry text) table
+
+-- the letters of men in order: bit k of a set of men is the man of letter k, `_` is the empty square
+abbrev pub man_letters : List ℕ
+man_letters = codes "KQRBNPkqrbnp_"

@@ -1,19 +1,19 @@
 //! The tree of a query: its types, the kind of a filter and the weight of a query; its tokens, words and faults.
 #![tactic(auto)]
 
-pub mod copies;
+mod copies;
 pub mod extents;
 pub mod fault;
 pub mod fault_laws;
 pub mod flat;
 pub mod flat_laws;
-pub mod kinds;
+mod kinds;
 pub mod laws;
 pub mod leaves;
 pub mod token;
 pub mod tree;
 pub mod typed;
-pub mod weights;
+mod weights;
 pub mod words;
 
 pub use extents::{Extent, PathLength};

@@ -1,5 +1,7 @@
 //! The tree of a query.
 ghost use Rattle.std.specs.Prelude.{◌≡◌, ◌↔◌, ◌++◌, ◌∷◌, [], length, IsTrue, OnOk, OnErr};
+ghost use Rattle.std.specs.Vec.{vec_allocator};
+ghost use Rattle.cql_syntax.specs.declared.tree.Filters.{out-Filters};
 ghost use Rattle.cql_syntax.specs.Trees.{no_filters, no_terms, no_parts, with_filter, with_term, with_part};
 ghost use Rattle.cql_syntax.specs.TreeOf.{filter_tree, body_tree, filters_in, terms_in, parts_in, filters_tree, terms_tree, parts_tree, filter_trees, term_trees, part_trees};
 
@@ -34,7 +36,7 @@ pub enum Form {
     /// The squares reached in a direction by `k` steps, for some `k` from the first number to the second.
     Steps(Way, u32, u32, Box<Filter>),
     Chain(Chain, Filters),
-    /// Parts that are added, or taken away, from left to right.
+    /// Parts that are added or subtracted, from left to right.
     Sum(Terms),
     Pair(Pair, Box<Filter>, Box<Filter>),
     /// The condition, what is asked where it holds, and what is asked where it doesn't.
@@ -56,7 +58,7 @@ pub enum Form {
 #[cycle(filter)]
 #[derive(Drop, Debug, PartialEq)]
 pub struct Term {
-    /// The part is taken away.
+    /// The part is subtracted.
     pub minus: bool,
     pub filter: Filter,
 }
@@ -185,7 +187,9 @@ impl Filters {
     }
 
     /// What it takes memory from.
-    pub fn allocator(&self) -> Global {
+    pub fn allocator(&self) -> Global
+        ensures { result ≡ vec_allocator (out-Filters self.now).items }
+    {
         *self.items.allocator()
     }
 }

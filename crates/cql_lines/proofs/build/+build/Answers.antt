@@ -1,6 +1,5 @@
 use Rattle.std.proofs.Common.{◌≡◌, ◌∙◌, ℕ, ◌+◌, ◌-◌, ◌*◌, ◌++◌, length, arith, ap}
-use Rattle.cql_lines.specs.Building.{size, firsts, rows, rows_times}
-use Rattle.cql_lines.specs.Places.{nullable, null_times}
+use Rattle.cql_lines.specs.Building.{size, firsts, rows, rows_times, nullable, null_times}
 use Rattle.cql_lines.specs.TreeOf.{plain_tree}
 use Rattle.cql_lines.proofs.BuildSteps.{times_rows, times_first, due_next, left_due, left_next}
 use Rattle.cql_lines.proofs.build.+build.Goals as goal

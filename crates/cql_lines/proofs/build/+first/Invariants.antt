@@ -1,6 +1,5 @@
 use Rattle.std.proofs.Common.{◌≡◌}
-use Rattle.cql_lines.specs.Building.{size, firsts, firsts_times}
-use Rattle.cql_lines.specs.Places.{nullable}
+use Rattle.cql_lines.specs.Building.{size, firsts, firsts_times, nullable}
 use Rattle.cql_lines.specs.TreeOf.{plain_tree}
 use Rattle.cql_lines.proofs.build.+first.Given as goal
 

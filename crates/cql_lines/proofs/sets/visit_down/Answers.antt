@@ -1,12 +1,12 @@
 use Rattle.std.proofs.Common.{◌∙◌, false, sym, subst}
 use Rattle.std.specs.Prelude.{bit_or}
-use Rattle.cql_lines.specs.Down.{Read, holds}
+use Rattle.cql_lines.specs.Reads.{Read}
+use Rattle.cql_lines.specs.Values.{holds}
 use Rattle.cql_lines.specs.Sets.{IsSet, Between, place_set}
 use Rattle.cql_lines.specs.Shapes.{Edge, is_searched}
 use Rattle.cql_lines.specs.Lengths.{at}
-use Rattle.cql_lines.proofs.SetsLaw.{same_set, set_of_two, none_set}
+use Rattle.cql_lines.proofs.SetsLaw.{same_set, set_of_two, none_set, place_set_known, read_set, longest_between}
 use Rattle.cql_lines.proofs.VisitLaw.{unvisited, known_at, visited, answered_by}
-use Rattle.cql_lines.proofs.SetsLaw.{place_set_known, read_set, longest_between}
 use Rattle.cql_lines.proofs.sets.visit_down.Goals as goal
 
 pub returns-then-not-searched-clause-stands : goal.returns-then-not-searched-clause-stands

@@ -1,11 +1,11 @@
 use Rattle.std.proofs.Common.{◌∙◌, true, sym, subst}
-use Rattle.cql_lines.specs.Down.{Read, holds}
+use Rattle.cql_lines.specs.Reads.{Read}
+use Rattle.cql_lines.specs.Values.{holds}
 use Rattle.cql_lines.specs.Sets.{IsSet, Between, place_set}
 use Rattle.cql_lines.specs.Shapes.{Edge, is_searched}
 use Rattle.cql_lines.specs.Lengths.{at}
-use Rattle.cql_lines.proofs.SetsLaw.{same_set, none_set}
+use Rattle.cql_lines.proofs.SetsLaw.{same_set, none_set, place_set_known, read_set, longest_between}
 use Rattle.cql_lines.proofs.VisitLaw.{answered_by}
-use Rattle.cql_lines.proofs.SetsLaw.{place_set_known, read_set, longest_between}
 use Rattle.cql_lines.proofs.UpLaw.{above_known, stands_up, stands_up_same}
 use Rattle.cql_lines.proofs.sets.visit_up.Goals as goal
 

@@ -1,10 +1,11 @@
 use Rattle.std.proofs.Common.{◌≡◌, ℕ, ◌+◌, ◌*◌, ◌<◌, ◌≤◌, length, true, ◌∙◌, sym, ap, subst, arith, None}
 use Rattle.std.specs.Prelude.{replicate}
 use Rattle.std.proofs.lemmas.List.{length-set, length-replicate}
-use Rattle.cql_lines.specs.Down.{Read, holds}
+use Rattle.cql_lines.specs.Reads.{Read}
+use Rattle.cql_lines.specs.Values.{holds}
 use Rattle.cql_lines.specs.Up.{StandsUp}
 use Rattle.cql_lines.specs.Shapes.{Edge, is_searched}
-use Rattle.cql_lines.specs.Ways.{IsGreatestOrZero}
+use Rattle.cql_lines.specs.Lengths.{IsGreatestOrZero}
 use Rattle.cql_lines.proofs.UpLaw.{stands_up_first, up_more}
 use Rattle.cql_lines.proofs.Counts.{cost_all, cost_up}
 use Rattle.cql_lines.proofs.values.longest_up.Goals as goal

@@ -1,7 +1,8 @@
 use Rattle.std.proofs.Common.{◌≡◌, ℕ, ◌+◌, ◌*◌, ◌<◌, ◌≤◌, get_or, length, None, true, drop}
-use Rattle.cql_lines.specs.Down.{AnswerAt, Read, holds}
+use Rattle.cql_lines.specs.Values.{AnswerAt, holds}
+use Rattle.cql_lines.specs.Reads.{Read}
 use Rattle.cql_lines.specs.Up.{StandsUp}
-use Rattle.cql_lines.specs.Ways.{IsGreatestOrZero}
+use Rattle.cql_lines.specs.Lengths.{IsGreatestOrZero}
 use Rattle.cql_lines.specs.Shapes.{Edge, is_searched, searched_count}
 use Rattle.cql_lines.proofs.values.longest_up.Given as goal
 

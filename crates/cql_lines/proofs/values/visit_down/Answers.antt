@@ -1,8 +1,9 @@
 use Rattle.std.proofs.Common.{◌∙◌, length, false, sym, ap, max}
-use Rattle.cql_lines.specs.Down.{found, Read, holds}
-use Rattle.cql_lines.specs.Ways.{IsGreatestOrZero}
+use Rattle.cql_lines.specs.Down.{found}
+use Rattle.cql_lines.specs.Reads.{Read}
+use Rattle.cql_lines.specs.Values.{holds}
+use Rattle.cql_lines.specs.Lengths.{IsGreatestOrZero, greatest_in, at, place_value}
 use Rattle.cql_lines.specs.Shapes.{Edge, is_searched}
-use Rattle.cql_lines.specs.Lengths.{greatest_in, at, place_value}
 use Rattle.cql_lines.proofs.DownLaw.{same_greatest, greatest_of_two, none_greatest}
 use Rattle.cql_lines.proofs.VisitLaw.{unvisited, whole_at, known_at, visited, answered}
 use Rattle.cql_lines.proofs.OwnLaw.{read_found, place_greatest}

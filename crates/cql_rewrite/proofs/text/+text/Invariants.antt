@@ -2,7 +2,7 @@ use Rattle.std.proofs.Common.{◌≡◌, ◌++◌, [], take, drop, None}
 use Rattle.std.specs.Prelude.{unwrap_or, codes}
 use Rattle.cql_syntax.specs.TreeOf.{terms_tree, filter_trees, term_trees, part_trees}
 use Rattle.cql_rewrite.specs.FlatText as spec
-use Rattle.cql_rewrite.specs.Sums.{sum_rest}
+use Rattle.cql_rewrite.proofs.Pairs.{sum_rest}
 use Rattle.cql_rewrite.proofs.text.+text.Given as goal
 
 abbrev pub invariant-texts_of-loop-filter : goal.invariant-texts_of-loop-filter

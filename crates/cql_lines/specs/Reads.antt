@@ -1,0 +1,15 @@
+-- What places read on the ways from a node, as the private functions give it.
+use Rattle.std.specs.Prelude.{◌≡◌, ℕ, suc, List, ◌∷◌, Bool, true, Some, length, slice_get}
+use Rattle.cql_lines.specs.declared.automaton.Rule.{Rule}
+use Rattle.cql_lines.specs.Places.{from, Accepts}
+use Rattle.cql_lines.specs.Ways.{Follow}
+
+-- some way of k nodes from n is read, its first node by the place i
+abbrev pub FromPlace : (ℕ → ℕ → Bool) → List Rule → (ℕ → ℕ → Type 0) → ℕ → ℕ → ℕ → Type 0
+FromPlace test rules Edge i n k =
+    (w : List ℕ) × Follow Edge n w × (k ≡ suc (length w)) × (r : Rule) × (slice_get rules i ≡ Some r)
+    × (test r.atom n ≡ true) × Accepts test rules r.after w
+
+-- some way of k nodes from n is read, its first node by one of the places f
+abbrev pub Read : (ℕ → ℕ → Bool) → List Rule → (ℕ → ℕ → Type 0) → ℕ → ℕ → ℕ → Type 0
+Read test rules Edge f n k = (w : List ℕ) × Follow Edge n w × (k ≡ suc (length w)) × Accepts test rules (from f) (n ∷ w)
