@@ -1,4 +1,4 @@
--- Notes that are added to a node.
+-- Notes that are added to a node, as the private functions give it.
 use Rattle.std.specs.Prelude.{ℕ, List, ◌++◌}
 use Rattle.cq_position.specs.Games.{Node}
 

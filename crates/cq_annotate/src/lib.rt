@@ -3,6 +3,6 @@
 
 mod copying;
 pub mod laws;
-pub mod marking;
+mod marking;
 
 pub use marking::mark;

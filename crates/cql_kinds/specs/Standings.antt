@@ -1,4 +1,4 @@
--- What the code's values stand for.
+-- What the code's values stand for, as the private functions give it.
 use Rattle.std.specs.Prelude.{ℕ, List, [], ◌∷◌}
 use Rattle.cql_syntax.specs.Occurrences.{Standing, Occurrence}
 use Rattle.cql_syntax.specs.TreeOf.{form_tree}

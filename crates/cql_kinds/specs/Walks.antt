@@ -1,4 +1,4 @@
--- What is found in filters in a row.
+-- What is found in filters in a row, as the private functions give it.
 use Rattle.std.specs.Prelude.{ℕ, Bool, List, Option, None, Some, unwrap_or, Result}
 use Rattle.std.specs.List.{flat_map}
 use Rattle.std.specs.Option.{option_or}

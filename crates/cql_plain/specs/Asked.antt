@@ -1,4 +1,4 @@
--- What is asked of one square, and what a word makes of one value.
+-- What is asked of one square, and what a word makes of one value, as the private functions give it.
 use Rattle.std.specs.Prelude.{ℕ, Bool, ◌&&◌, not, List, if◌then◌else◌}
 use Rattle.cq_position.specs.declared.men.Man.{Man}
 use Rattle.cql_syntax.specs.Values.{Value, as_truth, holds, complement_of, size_of, power_of, light_of, dark_of}

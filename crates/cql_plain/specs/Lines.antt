@@ -1,4 +1,4 @@
--- What a line asks of places, and of how often a part stands.
+-- What a line asks of places, and how often a part stands, as the private functions give it.
 use Rattle.std.specs.Prelude.{ℕ, ◌+◌, Bool, List, Option}
 use Rattle.cq_outside.specs.Spelling.{Pattern}
 use Rattle.cql_syntax.specs.Values.{Value, holds}

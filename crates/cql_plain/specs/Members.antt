@@ -1,4 +1,4 @@
--- What the members of a family give.
+-- What the members of a family give, as the private functions give it.
 use Rattle.std.specs.Prelude.{ℕ, List, ◌∷◌, map, Option, Some, None, if◌then◌else◌}
 use Rattle.cq_position.specs.Search.{SearchedTree}
 use Rattle.cq_symmetry.specs.Mappings.{PlainMapping}

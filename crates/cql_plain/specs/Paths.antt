@@ -1,4 +1,4 @@
--- The nodes that the paths from a node reach, and how.
+-- The nodes that the paths from a node reach, and how, as the private functions give it.
 use Rattle.std.specs.Prelude.{◌≡◌, ◌≤◌, ℕ, zero, suc, ◌+◌, max, Bool, true, false, ◌||◌, ◌==◌, not, List, length, get_or, Option, Some, None, option_map, if◌then◌else◌}
 use Rattle.cq_position.specs.Games.{node_at, is_first_child, is_searched}
 use Rattle.cq_position.specs.Search.{SearchedTree, IsStep}

@@ -1,4 +1,4 @@
--- Where a pattern ends that begins at some of the places along paths.
+-- Where a pattern ends that begins at some of the places along paths, as the private functions give it.
 use Rattle.std.specs.Prelude.{◌≡◌, ◌↔◌, ℕ, suc, List, [], ◌∷◌, Bool, true, false, length, get_or}
 use Rattle.cq_outside.specs.Spelling.{Pattern, Spells}
 

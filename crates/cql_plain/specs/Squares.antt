@@ -1,4 +1,4 @@
--- What is asked of one square.
+-- What is asked of one square of a set, as the private functions give it.
 use Rattle.std.specs.Prelude.{ℕ, Bool, ◌&&◌, nat_le, List, if◌then◌else◌}
 use Rattle.std.specs.List.{list_any}
 use Rattle.cq_geometry.specs.Directions.{files_of, ranks_of}

@@ -49,7 +49,8 @@ pub fn set_at(
     names: &Names,
 ) -> Result<u64, NoMemory>
     requires { node < length game.now.nodes }
-    ensures { IfOk result (λ set. set ≡ mask_of (has (value (searched_tree game.now variations) context.now names.now (filter_tree f.now) node))) }
+    ensures { IfOk result (λ set. set
+        ≡ mask_of (has (value (searched_tree game.now variations) context.now names.now (filter_tree f.now) node))) }
 {
     // A game's nodes are a tree.
     let _len = game.len();

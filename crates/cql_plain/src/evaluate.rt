@@ -50,7 +50,8 @@ pub(crate) fn evaluate(
 ) -> Result<Value, NoMemory>
     requires tree { IsTree game.now.nodes }
     requires node { node < length game.now.nodes }
-    ensures { IfOk result (λ v. meant v ≡ meaning.value (searched_tree game.now variations) context.now names.now (filter_tree f.now) node) }
+    ensures { IfOk result (λ v. meant v
+        ≡ meaning.value (searched_tree game.now variations) context.now names.now (filter_tree f.now) node) }
 {
     match &f.form {
         Form::Squares(d) => Ok(standing(game.position(node), context, d)),
@@ -211,7 +212,8 @@ fn some_node(
 ) -> Result<Value, NoMemory>
     requires tree { IsTree game.now.nodes }
     requires nodes { All (λ n. n < length game.now.nodes) nodes.now }
-    ensures { IfOk result (λ v. meant v ≡ meaning.some_node (meaning.value (searched_tree game.now variations) context.now names.now (filter_tree part.now)) nodes.now) }
+    ensures { IfOk result (λ v. meant v
+        ≡ meaning.some_node (meaning.value (searched_tree game.now variations) context.now names.now (filter_tree part.now)) nodes.now) }
 {
     for k in 0..nodes.len() {
         let value = evaluate(alloc, part, game, variations, nodes[k], context, names)?;
@@ -236,7 +238,8 @@ fn values_at(
 ) -> Result<Vec<Value>, NoMemory>
     requires tree { IsTree game.now.nodes }
     requires node { node < length game.now.nodes }
-    ensures { IfOk result (λ vs. map meant vs.items ≡ meaning.values (searched_tree game.now variations) context.now names.now (filters_tree filters.now) node) }
+    ensures { IfOk result (λ vs. map meant vs.items
+        ≡ meaning.values (searched_tree game.now variations) context.now names.now (filters_tree filters.now) node) }
 {
     let mut values = Vec::new(alloc);
     for filter in filters.as_slice() {
@@ -260,7 +263,8 @@ fn terms_at(
 ) -> Result<Vec<(bool, Value)>, NoMemory>
     requires tree { IsTree game.now.nodes }
     requires node { node < length game.now.nodes }
-    ensures { IfOk result (λ ts. terms_meant ts.items ≡ meaning.term_values (searched_tree game.now variations) context.now names.now (terms_tree terms.now) node) }
+    ensures { IfOk result (λ ts. terms_meant ts.items
+        ≡ meaning.term_values (searched_tree game.now variations) context.now names.now (terms_tree terms.now) node) }
 {
     let mut values = Vec::new(alloc);
     for term in terms.as_slice() {
@@ -287,7 +291,8 @@ fn square_at(
     requires tree { IsTree game.now.nodes }
     requires node { node < length game.now.nodes }
     ensures { IfOk result (λ v. meant v ≡ spec.square_of every (meant squares)
-        (λ s. spec.holds (meaning.value (searched_tree game.now variations) context.now ((name.now, s) ∷ names.now) (filter_tree asked.now) node))) }
+        (λ s. spec.holds (meaning.value (searched_tree game.now variations) context.now
+        ((name.now, s) ∷ names.now) (filter_tree asked.now) node))) }
 {
     let set = squares.squares();
     for number in 0..64 {
@@ -318,7 +323,8 @@ fn decides(
 ) -> Result<bool, NoMemory>
     requires tree { IsTree game.now.nodes }
     requires node { node < length game.now.nodes }
-    ensures { IfOk result (λ b. b ≡ settles every (is_in set) (λ s. spec.holds (meaning.value (searched_tree game.now variations) context.now
+    ensures { IfOk result (λ b. b ≡ settles every (is_in set)
+        (λ s. spec.holds (meaning.value (searched_tree game.now variations) context.now
         ((name.now, s) ∷ names.now) (filter_tree asked.now) node)) square) }
 {
     if !has_square(set, square) {
@@ -343,7 +349,8 @@ fn member_value(
 ) -> Result<Option<Value>, NoMemory>
     requires tree { IsTree game.now.nodes }
     requires node { node < length game.now.nodes }
-    ensures { IfOk result (λ v. option_map meant v ≡ value_in_member (searched_tree game.now variations) context.now names.now first (filter_tree part.now) node) }
+    ensures { IfOk result (λ v. option_map meant v
+        ≡ value_in_member (searched_tree game.now variations) context.now names.now first (filter_tree part.now) node) }
 {
     let longer = inside(alloc, first, context)?;
     if !fits(alloc, part, longer.as_slice())? {
@@ -375,7 +382,8 @@ fn member_values(
 ) -> Result<Vec<Value>, NoMemory>
     requires tree { IsTree game.now.nodes }
     requires node { node < length game.now.nodes }
-    ensures { IfOk result (λ vs. map meant vs.items ≡ values_in_members (searched_tree game.now variations) context.now names.now (members family) (filter_tree part.now) node) }
+    ensures { IfOk result (λ vs. map meant vs.items
+        ≡ values_in_members (searched_tree game.now variations) context.now names.now (members family) (filter_tree part.now) node) }
 {
     let mut values = Vec::new(alloc);
     for k in 0..family_size(family) {

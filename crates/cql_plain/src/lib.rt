@@ -4,10 +4,10 @@
 //! `cql_syntax/specs/Meaning` has the meaning, `specs/Shown` how values are kept.
 #![tactic(auto)]
 
-pub mod at;
+mod at;
 mod combine;
 mod evaluate;
-pub mod headers;
+mod headers;
 mod led;
 pub mod names;
 mod numbers;

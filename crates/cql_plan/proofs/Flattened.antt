@@ -3,13 +3,12 @@ use Rattle.std.proofs.Common.{◌≡◌, Bool, true, [], sym, ap, ap₂, ◌∙�
 use Rattle.cq_position.specs.Games.{Game}
 use Rattle.cql_plain.specs.Trees.{searched_tree}
 use Rattle.cql_syntax.specs.Flat.{flat_query}
-use Rattle.cql_syntax.specs.Hits.{hits, keys, tree_of}
+use Rattle.cql_syntax.specs.Hits.{hits, hits_in, keys, all_keys, tree_of}
 use Rattle.cql_syntax.specs.Same.{same_filter, same_filters}
 use Rattle.cql_syntax.specs.Trees.{FilterTree, filter_at, chain, FilterTrees, no_filters, QueryTree}
 use Rattle.cql_syntax.specs.declared.leaves.Chain.TheVariants.{And}
 use Rattle.cql_syntax.proofs.FlatHits.{hits_same, keys_same}
 use Rattle.cql_syntax.proofs.SameSound.{same_law}
-use Rattle.cql_plan.specs.Found.{hits_in, keys_in}
 use Rattle.cql_plan.specs.Needs.{all_pass}
 use Rattle.cql_plan.proofs.Needed.{hits_pass}
 
@@ -38,9 +37,12 @@ module _ (q : QueryTree) (game : Game) (variations : Bool) (items : FilterTrees)
   unfolding hits
   hits_are same searched = ap₂ (λ v fs. hits_in (searched_tree game v) fs) searched (filters_are items (flat_query q).items same) ∙ hits_same q game
 
-  pub keys_are : same_filters items (flat_query q).items ≡ true → variations ≡ q.variations → keys_in (searched_tree game variations) items ≡ keys q game
+  pub keys_are : same_filters items (flat_query q).items ≡ true → variations ≡ q.variations
+      → all_keys (searched_tree game variations) (hits_in (searched_tree game variations) items) items ≡ keys q game
   unfolding hits keys
-  keys_are same searched = ap₂ (λ v fs. keys_in (searched_tree game v) fs) searched (filters_are items (flat_query q).items same) ∙ keys_same q game
+  keys_are same searched =
+      ap₂ (λ v fs. all_keys (searched_tree game v) (hits_in (searched_tree game v) fs) fs) searched (filters_are items (flat_query q).items same)
+      ∙ keys_same q game
 
 -- where the query has a hit, its flat items pass
 pub flat_passes : (q : QueryTree) (game : Game) → (hits q game ≡ [] → ⊥) → all_pass (tree_of q game) (flat_query q).items ≡ true

@@ -9,13 +9,12 @@ use Rattle.std.proofs.lemmas.List.Elements.{All-filter}
 use Rattle.std.proofs.lemmas.List.FromFn.{length-range_with_len, get_or-range_with_len, filter_of_map_range_with_len_more}
 use Rattle.cq_position.specs.Games.{is_searched, searched}
 use Rattle.cq_position.specs.Search.{SearchedTree}
-use Rattle.cql_syntax.specs.Hits.{is_hit}
+use Rattle.cql_syntax.specs.Hits.{is_hit, hits_in}
 use Rattle.cql_syntax.specs.Meaning.{value, values}
 use Rattle.cql_syntax.specs.TreeOf.{filter_tree, filter_trees}
 use Rattle.cql_syntax.specs.Trees.{FilterTrees}
 use Rattle.cql_syntax.specs.Values.{holds}
 use Rattle.cql_syntax.specs.declared.tree.Filter.{Filter}
-use Rattle.cql_plan.specs.Found.{hits_in}
 use Rattle.cql_plan.specs.Items.{item_holds}
 
 values_each : (tree : SearchedTree) (n : ℕ) (fs : List Filter) → values tree [] [] (filter_trees fs) n ≡ map (λ f. value tree [] [] (filter_tree f) n) fs

@@ -15,14 +15,13 @@ use Rattle.cq_position.specs.declared.men.Man.TheVariants.{K, Q, R, B, N, P, Bla
 use Rattle.cq_symmetry.specs.Images.{is_in}
 use Rattle.cql_plain.proofs.Ranges.{left, right, both, in_range, some_square, square_found}
 use Rattle.cql_syntax.specs.Contexts.{designator_image}
-use Rattle.cql_syntax.specs.Hits.{hits, is_hit, tree_of}
+use Rattle.cql_syntax.specs.Hits.{hits, hits_in, is_hit, tree_of}
 use Rattle.cql_syntax.specs.Meaning.{Names, value, form_value, values, position_at, stands_on}
 use Rattle.cql_syntax.specs.Trees.{FilterTree, filter_at, FormTree, designator, number, name, plain, tagged, outcome, elo, unary, direction, chain, sum_of, pair, if_, square, line, played, transform, sort, comment, any, FilterTrees, no_filters, more_filters, QueryTree}
 use Rattle.cql_syntax.specs.Values.{Value, as_truth, as_squares, as_number, holds, has}
 use Rattle.cql_syntax.specs.declared.leaves.Chain.TheVariants.{Or, And, All as Braces, Union, Intersect, Product, Max, Min}
 use Rattle.cql_syntax.specs.declared.leaves.Designator.{Designator}
 use Rattle.cql_syntax.specs.declared.leaves.Kind.TheVariants.{Position, Set, Number}
-use Rattle.cql_plan.specs.Found.{hits_in}
 use Rattle.cql_plan.proofs.Items.{hits_are_inside}
 use Rattle.cql_plan.specs.Needs.{passes, form_passes, all_pass, some_passes, one_stands}
 

@@ -1,4 +1,4 @@
--- Small queries, of which plans are made.
+-- Small queries, of which the tests make plans.
 use Rattle.std.specs.Prelude.{◌≡◌, ◌^◌, Bool, false, None, codes}
 use Rattle.cql_syntax.specs.TreeFaults.{tree_fault, has_any}
 use Rattle.cql_syntax.specs.Trees.{FilterTree, filter_at, designator, plain, unary, sort, FilterTrees, QueryTree}

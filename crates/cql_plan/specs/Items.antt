@@ -1,4 +1,4 @@
--- Whether an item of a query holds.
+-- Whether an item of a query holds, as the private functions give it.
 use Rattle.std.specs.Prelude.{ℕ, Bool, []}
 use Rattle.cq_position.specs.Search.{SearchedTree}
 use Rattle.cql_syntax.specs.Meaning.{value}

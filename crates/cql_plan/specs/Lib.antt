@@ -1,5 +1,4 @@
 pub mod Asked
-pub mod Found
 pub mod Items
 pub mod Needs
 pub mod NeedsRows

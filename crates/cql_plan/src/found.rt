@@ -1,10 +1,9 @@
 //! The hits of the items of a query.
 ghost use Rattle.std.specs.Prelude.{◌≡◌, ◌<◌, ◌&&◌, length, All, AllPairs, IfOk};
 ghost use Rattle.cq_position.specs.Games.{is_searched};
-ghost use Rattle.cql_syntax.specs.Hits.{is_hit as is_hit_of};
+ghost use Rattle.cql_syntax.specs.Hits.{is_hit as is_hit_of, hits_in};
 ghost use Rattle.cql_syntax.specs.TreeOf.{filters_tree};
 ghost use Rattle.cql_plain.specs.Trees.{searched_tree};
-ghost use Rattle.cql_plan.specs.Found.{hits_in};
 
 use cq_outside::NoMemory;
 use cql_plain::{Names, holds_at};

@@ -1,11 +1,10 @@
 //! The keys of the sort items of a query.
 ghost use Rattle.std.specs.Prelude.{◌≡◌, ◌≢◌, ◌<◌, ◌++◌, [], length, map, All, true, Some, is_some, IfOk, OnOk};
-ghost use Rattle.cql_syntax.specs.Hits.{is_hit, all_keys, item_keys, key_of};
+ghost use Rattle.cql_syntax.specs.Hits.{is_hit, all_keys, item_keys, key_of, chosen as chosen_of};
 ghost use Rattle.cql_syntax.specs.Meaning.{value};
 ghost use Rattle.cql_syntax.specs.TreeOf.{filter_tree, filters_tree};
 ghost use Rattle.cql_syntax.specs.Values.{amount};
 ghost use Rattle.cql_plain.specs.Trees.{searched_tree};
-ghost use Rattle.cql_plan.specs.Found as spec;
 ghost use Rattle.cql_plan.specs.Items.{item_holds};
 
 use cq_outside::NoMemory;
@@ -90,7 +89,7 @@ fn key_over(
 }
 
 fn chosen(least: bool, a: i64, b: i64) -> i64
-    ensures { result ≡ spec.chosen least a b }
+    ensures { result ≡ chosen_of least a b }
 {
     if least { a.min(b) } else { a.max(b) }
 }

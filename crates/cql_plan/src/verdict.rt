@@ -1,8 +1,8 @@
 //! What a query finds in a game.
 ghost use Rattle.std.specs.Prelude.{◌≡◌, ◌≢◌, ◌<◌, [], false, length, map, Some, All, AllPairs, IfOk};
+ghost use Rattle.cql_syntax.specs.Hits.{hits_in, all_keys};
 ghost use Rattle.cql_syntax.specs.TreeOf.{filters_tree};
 ghost use Rattle.cql_plain.specs.Trees.{searched_tree};
-ghost use Rattle.cql_plan.specs.Found.{hits_in, keys_in};
 ghost use Rattle.cql_plan.specs.Needs.{all_pass};
 
 use crate::found::hits;
@@ -47,7 +47,8 @@ pub(crate) fn find(
     ensures increasing { IfOk result (λ v. AllPairs (λ m n. m < n) v.nodes.items) }
     ensures inside { IfOk result (λ v. All (λ n. n < length game.now.nodes) v.nodes.items) }
     ensures keys { IfOk result (λ v. v.nodes.items ≢ []
-        → map Some v.keys.items ≡ keys_in (searched_tree game.now variations) (filters_tree items.now)) }
+        → map Some v.keys.items ≡ all_keys (searched_tree game.now variations)
+        (hits_in (searched_tree game.now variations) (filters_tree items.now)) (filters_tree items.now)) }
     ensures no_keys { IfOk result (λ v. v.nodes.items ≡ [] → v.keys.items ≡ []) }
     ensures turned_away { all_pass (searched_tree game.now variations) (filters_tree items.now) ≡ false
         → IfOk result (λ v. v.nodes.items ≡ []) }
