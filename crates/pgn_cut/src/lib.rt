@@ -11,8 +11,6 @@ mod game;
 pub mod laws;
 pub mod span;
 mod state;
-#[cfg(test)]
-mod tests;
 pub mod whole;
 
 pub use cutter::Cutter;
