@@ -1,4 +1,3 @@
-pub mod Asked
 pub mod Found
 pub mod Items
 pub mod Needs
