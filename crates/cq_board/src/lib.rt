@@ -6,6 +6,3 @@ mod seat;
 mod view;
 
 pub use seat::{Board, ClaimSeat};
-
-#[cfg(test)]
-mod tests;

@@ -4,8 +4,6 @@
 
 mod games;
 mod queries;
-#[cfg(test)]
-mod tests;
 
 pub use games::{fault_line, made_line, summary_line};
 pub use queries::query_line;

@@ -5,6 +5,7 @@ use cq_geometry::{
     Compass, Square, Step, between, file, is_light, king_steps, knight_steps, rank, ray, square_at,
     toward,
 };
+use std::process::Abort;
 
 /// The square of a name as `e4`.
 fn at(name: &[u8; 2]) -> Square
@@ -40,59 +41,72 @@ fn squares_are_numbered_from_a1_to_h8(rt: HostRuntime) {
     }
 }
 
+/// The name of a square.
+fn name_of(square: Square) -> [u8; 2] {
+    [b'a' + file(square), b'1' + rank(square)]
+}
+
+/// Asks that squares have these names.
+fn are_named<R: Abort>(rt: &R, squares: &[Square], names: &[&[u8; 2]]) {
+    assert_eq!(rt; squares.len(), names.len(), "of {names:?}");
+    for (square, name) in squares.iter().zip(names) {
+        assert_eq!(rt; name_of(*square), **name, "of {names:?}");
+    }
+}
+
 #[test]
 fn a_knight_and_a_king_at_home(rt: HostRuntime) {
-    assert_eq!(rt;
-        knight_steps(at(b"b1")).as_slice(),
-        [at(b"d2"), at(b"a3"), at(b"c3")].as_slice()
-    );
-    assert_eq!(rt;
-        king_steps(at(b"e1")).as_slice(),
-        [at(b"d1"), at(b"f1"), at(b"d2"), at(b"e2"), at(b"f2")].as_slice()
-    );
-    assert_eq!(rt; knight_steps(at(b"e4")).len(), 8);
-    assert_eq!(rt; king_steps(at(b"e4")).len(), 8);
+    let knight = knight_steps(at(b"b1"));
+    are_named(&rt, knight.as_slice(), &[b"d2", b"a3", b"c3"]);
+    let king = king_steps(at(b"e1"));
+    are_named(&rt, king.as_slice(), &[b"d1", b"f1", b"d2", b"e2", b"f2"]);
+    let center = (knight_steps(at(b"e4")).len(), king_steps(at(b"e4")).len());
+    assert_eq!(rt; center, (8, 8));
 }
 
 #[test]
 fn a_bishop_sees_to_the_edge(rt: HostRuntime) {
-    assert_eq!(rt;
-        ray::<1, 1>(at(b"c1")).as_slice(),
-        [at(b"d2"), at(b"e3"), at(b"f4"), at(b"g5"), at(b"h6")].as_slice()
-    );
-    assert_eq!(rt;
-        ray::<{ -1 }, 0>(at(b"c4")).as_slice(),
-        [at(b"b4"), at(b"a4")].as_slice()
-    );
+    let bishop = ray::<1, 1>(at(b"c1"));
+    are_named(&rt, bishop.as_slice(), &[b"d2", b"e3", b"f4", b"g5", b"h6"]);
+    let rook = ray::<{ -1 }, 0>(at(b"c4"));
+    are_named(&rt, rook.as_slice(), &[b"b4", b"a4"]);
     assert!(rt; ray::<0, 1>(at(b"c8")).is_empty());
 }
 
+/// A square, a direction, the steps, and the goal.
+static STEPS: [(&[u8; 2], Compass, u32, Option<[u8; 2]>); 6] = [
+    (b"e4", Compass::Up, 4, Some(*b"e8")),
+    (b"e4", Compass::Up, 5, None),
+    (b"a1", Compass::Northeast, 7, Some(*b"h8")),
+    (b"h8", Compass::Left, 7, Some(*b"a8")),
+    (b"e4", Compass::Southwest, u32::MAX, None),
+    (b"e4", Compass::Down, 0, Some(*b"e4")),
+];
+
 #[test]
 fn a_step_off_the_board_is_none(rt: HostRuntime) {
-    for (from, direction, steps, goal) in [
-        (at(b"e4"), Compass::Up, 4, Some(at(b"e8"))),
-        (at(b"e4"), Compass::Up, 5, None),
-        (at(b"a1"), Compass::Northeast, 7, Some(at(b"h8"))),
-        (at(b"h8"), Compass::Left, 7, Some(at(b"a8"))),
-        (at(b"e4"), Compass::Southwest, u32::MAX, None),
-        (at(b"e4"), Compass::Down, 0, Some(at(b"e4"))),
-    ] {
-        assert_eq!(rt; toward(from, direction, steps), goal);
+    for (from, direction, steps, goal) in STEPS.iter() {
+        assert!(rt; b'a' <= from[0] && from[0] <= b'h' && b'1' <= from[1] && from[1] <= b'8');
+        let found = toward(at(from), *direction, *steps).map(name_of);
+        assert_eq!(rt; found, *goal, "{steps} steps {direction:?} from {from:?}");
     }
-    assert_eq!(rt; Step::<1, 2>::step(at(b"g1")), Some(at(b"h3")));
-    assert_eq!(rt; Step::<2, 1>::step(at(b"g1")), None);
+}
+
+#[test]
+fn a_leap_off_the_board_is_none(rt: HostRuntime) {
+    let leaps = (
+        Step::<1, 2>::step(at(b"g1")).map(name_of),
+        Step::<2, 1>::step(at(b"g1")),
+    );
+    assert_eq!(rt; leaps, (Some(*b"h3"), None));
 }
 
 #[test]
 fn squares_between_stand_from_the_first_to_the_second(rt: HostRuntime) {
-    assert_eq!(rt;
-        between(at(b"e1"), at(b"a1")).as_slice(),
-        [at(b"d1"), at(b"c1"), at(b"b1")].as_slice()
-    );
-    assert_eq!(rt;
-        between(at(b"h8"), at(b"e5")).as_slice(),
-        [at(b"g7"), at(b"f6")].as_slice()
-    );
+    let row = between(at(b"e1"), at(b"a1"));
+    are_named(&rt, row.as_slice(), &[b"d1", b"c1", b"b1"]);
+    let diagonal = between(at(b"h8"), at(b"e5"));
+    are_named(&rt, diagonal.as_slice(), &[b"g7", b"f6"]);
     assert!(rt; between(at(b"g1"), at(b"f3")).is_empty());
 }
 

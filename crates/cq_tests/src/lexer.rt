@@ -10,6 +10,8 @@ use pgn_lexer::{
     readings_are_longest, readings_grow, tokens, tokens_stand_apart, white_space_is_passed,
     whole_lexemes_stay,
 };
+use std::alloc::Global;
+use std::process::Abort;
 use std::test::Fail;
 
 /// A row of the table: a text, and the place, the length and the kind of each of its tokens.
@@ -116,45 +118,54 @@ static ROWS: [Row<'static>; 25] = [
     ),
 ];
 
+/// Asks that a text, which stands at byte 1000, has these tokens.
+fn has_tokens<R: Abort>(
+    rt: &R,
+    alloc: Global,
+    text: &[u8],
+    want: &[(u64, u32, TokenKind)],
+) -> Result<(), Fail> {
+    assert!(rt; text.len() <= 64);
+    let mut found = Vec::new(alloc);
+    for token in tokens(alloc, text, 1000, true)?.iter() {
+        found.push((token.at.wrapping_sub(1000), token.len, token.kind))?;
+    }
+    assert_eq!(rt; found.as_slice(), want, "in {text:?}");
+    Ok(())
+}
+
 #[test]
 fn texts_have_their_tokens(rt: HostRuntime) -> Result<(), Fail> {
     for (text, want) in ROWS.iter() {
-        assert!(rt; text.len() <= 64);
-        let found = tokens(rt.alloc(), text, 1000, true)?;
-        assert_eq!(rt; found.len(), want.len(), "in {text:?}");
-        for (token, (at, len, kind)) in found.iter().zip(want.iter()) {
-            assert_eq!(rt; token.at, at.wrapping_add(1000), "in {text:?}");
-            assert_eq!(rt; token.len, *len, "in {text:?}");
-            assert_eq!(rt; token.kind, *kind, "in {text:?}");
-        }
+        has_tokens(&rt, rt.alloc(), text, want)?;
     }
     Ok(())
+}
+
+/// What a byte alone is: how many tokens, and whether it begins a symbol or no token.
+fn alone(alloc: Global, b: u8) -> Result<(usize, bool, bool), Fail> {
+    let found = tokens(alloc, &[b], 0, false)?;
+    let token = found.first().filter(|token| token.len == 1);
+    let kind = token.map(|token| token.kind);
+    Ok((found.len(), kind == Some(Symbol), kind == Some(BadByte)))
 }
 
 #[test]
 fn each_byte_alone_is_one_token_or_white_space(rt: HostRuntime) -> Result<(), Fail> {
     let known = b"[]().*\"{;!?";
     for b in 0..=255u8 {
-        let found = tokens(rt.alloc(), &[b], 0, false)?;
         let white = matches!(b, 9 | 10 | 11 | 12 | 13 | 32);
         assert_eq!(rt; is_white(b), white, "at {b}");
-        assert_eq!(rt; found.len(), if white { 0 } else { 1 }, "at {b}");
-        for token in found.iter() {
-            let begins_symbol = matches!(b, b'0'..=b'9' | b'A'..=b'Z' | b'a'..=b'z');
-            assert_eq!(rt; token.kind == Symbol, begins_symbol, "at {b}");
-            assert_eq!(rt;
-                token.kind == BadByte,
-                !begins_symbol && !known.contains(&b),
-                "at {b}"
-            );
-            assert_eq!(rt; token.len, 1, "at {b}");
-        }
+        let symbol = matches!(b, b'0'..=b'9' | b'A'..=b'Z' | b'a'..=b'z');
+        let bad = !white && !symbol && !known.contains(&b);
+        let count = if white { 0 } else { 1 };
+        assert_eq!(rt; alone(rt.alloc(), b)?, (count, symbol, bad), "at {b}");
     }
     Ok(())
 }
 
 #[test]
-fn readings_and_lexemes_are_found(rt: HostRuntime) {
+fn laws_of_lexemes_are_called() {
     lexemes_stand_apart();
     lexemes_are_local();
     readings_are_longest();
@@ -166,20 +177,26 @@ fn readings_and_lexemes_are_found(rt: HostRuntime) {
     white_space_is_passed();
     lexemes_move();
     whole_lexemes_stay();
+}
+
+/// A place, and the place, the kind and the text of the first lexeme from there on in `  %a\n%b c`.
+static LEXEMES: [(usize, (usize, LexemeKind, &[u8])); 2] = [
+    (0, (2, LexemeKind::Token(BadByte), b"%")),
+    (4, (5, LexemeKind::EscapeLine, b"%b c")),
+];
+
+#[test]
+fn readings_and_lexemes_are_found(rt: HostRuntime) {
     let escape = Reading {
         kind: LexemeKind::EscapeLine,
         len: 3,
     };
     assert_eq!(rt; longest_reading(b'%', b"ab\nc", true), escape);
     assert_eq!(rt; longest_reading(b'%', b"ab\nc", false).len, 1);
-    let text = b"  %a\n%b c";
-    let lexeme = next_lexeme(text, 0, true).expect(&rt, "a lexeme");
-    assert_eq!(rt; lexeme.at, 2);
-    assert_eq!(rt; lexeme.kind, LexemeKind::Token(BadByte));
-    let lexeme = next_lexeme(text, 4, true).expect(&rt, "a lexeme");
-    assert_eq!(rt; lexeme.at, 5);
-    assert_eq!(rt; lexeme.kind, LexemeKind::EscapeLine);
-    assert_eq!(rt; lexeme.text, b"%b c".as_slice());
+    for (start, want) in LEXEMES.iter() {
+        let lexeme = next_lexeme(b"  %a\n%b c", *start, true).expect(&rt, "a lexeme");
+        assert_eq!(rt; (lexeme.at, lexeme.kind, lexeme.text), *want);
+    }
     assert!(rt; next_lexeme(b"e4  ", 2, true).is_none());
 }
 

@@ -6,6 +6,10 @@ mod attacks;
 #[cfg(test)]
 mod bits;
 #[cfg(test)]
+mod cuts;
+#[cfg(test)]
+mod draws;
+#[cfg(test)]
 mod export;
 #[cfg(test)]
 mod fen;

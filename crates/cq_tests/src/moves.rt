@@ -88,8 +88,8 @@ fn mate_and_stalemate(rt: HostRuntime) -> Result<(), Fail> {
         (b"kb5R/8/1K6/8/8/8/8/8 b - - 0 1".as_slice(), false, true),
     ] {
         let position = read_fen(fen)?;
-        assert_eq!(rt; is_mate(&position), mate);
-        assert_eq!(rt; is_stalemate(&position), stalemate);
+        let ends = (is_mate(&position), is_stalemate(&position));
+        assert_eq!(rt; ends, (mate, stalemate), "in {fen:?}");
     }
     Ok(())
 }

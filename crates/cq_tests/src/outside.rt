@@ -3,7 +3,9 @@ use cq_outside::{
     Source, StdSink, SureDesk, SureSink, SureSource, decimal_up_to, digits_len, is_white,
     read_piece, read_up_to, white_len, write_all_of,
 };
+use std::alloc::Global;
 use std::fs;
+use std::io::Write;
 use std::test::Fail;
 
 fn is_shared<T: Send + Sync>() {}
@@ -132,19 +134,22 @@ fn a_sink_in_memory_tells_what_fits_its_room(rt: HostRuntime) -> Result<(), Fail
     Ok(())
 }
 
+/// What a desk has in a file, up to 100 bytes.
+fn opened<D: Desk>(alloc: Global, desk: &mut D, name: &[u8]) -> Result<Bytes, Fail> {
+    desk.open(alloc, name)?;
+    Ok(read_up_to(desk, alloc, 100)?)
+}
+
 #[test]
 fn a_desk_in_memory_opens_the_files_that_were_added(rt: HostRuntime) -> Result<(), Fail> {
-    let mut desk = SureDesk::new(rt.alloc());
+    let alloc = rt.alloc();
+    let mut desk = SureDesk::new(alloc);
     desk.add(b"a.pgn", b"first")?;
     desk.add(b"a.pgn", b"second")?;
-    let rows = [
-        (b"a.pgn".as_slice(), b"second".as_slice()),
-        (b"none.pgn".as_slice(), b"".as_slice()),
-    ];
-    for (name, bytes) in rows {
-        desk.open(rt.alloc(), name)?;
-        assert_eq!(rt; read_up_to(&mut desk, rt.alloc(), 100)?.as_slice(), bytes);
-    }
+    let added = opened(alloc, &mut desk, b"a.pgn")?;
+    let other = opened(alloc, &mut desk, b"none.pgn")?;
+    let texts = (added.as_slice(), other.as_slice());
+    assert_eq!(rt; texts, (b"second".as_slice(), b"".as_slice()));
     Ok(())
 }
 
@@ -155,27 +160,42 @@ fn the_open_gate_does_nothing() {
 }
 
 #[test]
-fn a_desk_reads_real_files_and_standard_input(rt: HostRuntime) -> Result<(), Fail> {
+fn a_desk_reads_a_real_file_and_standard_input(rt: HostRuntime) -> Result<(), Fail> {
+    let alloc = rt.alloc();
     let name = "cq_outside_desk_test.pgn";
     fs::write(&rt, name, "in a file")?;
-    let mut desk = FileDesk::new(rt.alloc(), rt, b"in a pipe".as_slice())?;
-    assert_eq!(rt; read_piece(&mut desk, &mut [0; 4])?, 0);
-    let rows = [
-        (name.as_bytes(), b"in a file".as_slice()),
-        (b"-".as_slice(), b"in a pipe".as_slice()),
-    ];
-    for (name, bytes) in rows {
-        desk.open(rt.alloc(), name)?;
-        assert_eq!(rt; read_up_to(&mut desk, rt.alloc(), 100)?.as_slice(), bytes);
-    }
+    let mut desk = FileDesk::new(alloc, rt, b"in a pipe".as_slice())?;
+    let unopened = read_piece(&mut desk, &mut [0; 4])?;
+    let file = opened(alloc, &mut desk, name.as_bytes())?;
+    let pipe = opened(alloc, &mut desk, b"-")?;
     fs::remove_file(&rt, name)?;
-    for no_file in [name.as_bytes(), b"\xff".as_slice(), b"".as_slice()] {
-        assert_eq!(rt; desk.open(rt.alloc(), no_file), Err(OpenFault::Failed));
+    let read = (unopened, file.as_slice(), pipe.as_slice());
+    let want = (0, b"in a file".as_slice(), b"in a pipe".as_slice());
+    assert_eq!(rt; read, want);
+    Ok(())
+}
+
+#[test]
+fn a_desk_fails_at_no_file_and_at_a_folder(rt: HostRuntime) -> Result<(), Fail> {
+    let alloc = rt.alloc();
+    let mut desk = FileDesk::new(alloc, rt, b"".as_slice())?;
+    for no_file in [b"cq_outside_no_file.pgn".as_slice(), b"\xff", b""] {
+        assert_eq!(rt; desk.open(alloc, no_file), Err(OpenFault::Failed));
     }
     // A folder is opened, and can't be read.
-    desk.open(rt.alloc(), b".")?;
+    desk.open(alloc, b".")?;
     assert_eq!(rt; desk.read(&mut [0; 4]), Err(Failed));
     Ok(())
+}
+
+/// What a write of some bytes answers.
+fn written_to<W: Write + Drop>(
+    alloc: Global,
+    to: W,
+    bytes: &[u8],
+) -> Result<Result<usize, Failed>, Fail> {
+    let mut sink = StdSink::new(alloc, to)?;
+    Ok(sink.write(bytes))
 }
 
 #[test]
@@ -183,14 +203,26 @@ fn a_sink_writes_to_a_real_file(rt: HostRuntime) -> Result<(), Fail> {
     let name = "cq_outside_sink_test.txt";
     let mut sink = StdSink::new(rt.alloc(), fs::create(&rt, name)?)?;
     write_all_of(&mut sink, b"games 0\n")?;
-    assert_eq!(rt; fs::read_to_string(&rt, name)?.as_str(), "games 0\n");
-    // A file that was opened for reading takes no byte.
-    let mut refusing = StdSink::new(rt.alloc(), fs::open(&rt, name)?)?;
-    assert_eq!(rt; refusing.write(b"games 1\n"), Err(Failed));
+    let text = fs::read_to_string(&rt, name)?;
     fs::remove_file(&rt, name)?;
-    // Nor does a buffer that is full.
-    let mut full = StdSink::new(rt.alloc(), &mut [0u8; 0][..])?;
-    assert_eq!(rt; full.write(b"games 2\n"), Err(Failed));
-    assert_eq!(rt; full.write(b""), Ok(0));
+    assert_eq!(rt; text.as_str(), "games 0\n");
+    Ok(())
+}
+
+#[test]
+fn a_file_that_was_opened_for_reading_takes_no_byte(rt: HostRuntime) -> Result<(), Fail> {
+    let name = "cq_outside_read_only_test.txt";
+    fs::write(&rt, name, "games 0\n")?;
+    let answer = written_to(rt.alloc(), fs::open(&rt, name)?, b"games 1\n")?;
+    fs::remove_file(&rt, name)?;
+    assert_eq!(rt; answer, Err(Failed));
+    Ok(())
+}
+
+#[test]
+fn a_full_buffer_takes_no_byte(rt: HostRuntime) -> Result<(), Fail> {
+    let full = written_to(rt.alloc(), &mut [0u8; 0][..], b"games 2\n")?;
+    let nothing = written_to(rt.alloc(), &mut [0u8; 0][..], b"")?;
+    assert_eq!(rt; (full, nothing), (Err(Failed), Ok(0)));
     Ok(())
 }

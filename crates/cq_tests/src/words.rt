@@ -27,7 +27,7 @@ fn expect<R: Abort>(
 }
 
 /// Words of `run`, and the archive, the workers and the limit that they ask.
-const RUNS: [(&str, &str, u32, u64); 5] = [
+static RUNS: [(&str, &str, u32, u64); 5] = [
     ("run q", "-", 4, MOST),
     ("run q a.pgn", "a.pgn", 4, MOST),
     ("run q --workers 64 a.pgn --limit 1", "a.pgn", 64, 1),
@@ -38,12 +38,12 @@ const RUNS: [(&str, &str, u32, u64); 5] = [
 #[test]
 fn runs(rt: HostRuntime) -> Result<(), Fail> {
     let alloc = rt.alloc();
-    for (line, archive, workers, limit) in RUNS {
+    for (line, archive, workers, limit) in RUNS.iter() {
         let job = Job::Run {
             query: bytes(alloc, "q")?,
             archive: bytes(alloc, archive)?,
-            workers,
-            limit,
+            workers: *workers,
+            limit: *limit,
         };
         expect(&rt, alloc, line, Ok(job))?;
     }
@@ -51,7 +51,7 @@ fn runs(rt: HostRuntime) -> Result<(), Fail> {
 }
 
 /// Words of `selfrun`, and the seed, the games and the workers that they ask.
-const SELF_RUNS: [(&str, u32, u32, u32); 3] = [
+static SELF_RUNS: [(&str, u32, u32, u32); 3] = [
     ("selfrun mate", 1, 100, 4),
     ("selfrun mate --games 0 --seed 0", 0, 0, 4),
     (
@@ -65,12 +65,12 @@ const SELF_RUNS: [(&str, u32, u32, u32); 3] = [
 #[test]
 fn self_runs(rt: HostRuntime) -> Result<(), Fail> {
     let alloc = rt.alloc();
-    for (line, seed, games, workers) in SELF_RUNS {
+    for (line, seed, games, workers) in SELF_RUNS.iter() {
         let job = Job::SelfRun {
             text: bytes(alloc, "mate")?,
-            seed,
-            games,
-            workers,
+            seed: *seed,
+            games: *games,
+            workers: *workers,
         };
         expect(&rt, alloc, line, Ok(job))?;
     }
@@ -94,7 +94,7 @@ fn other_modes(rt: HostRuntime) -> Result<(), Fail> {
 }
 
 /// Words that are refused.
-const REFUSED: [&str; 22] = [
+static REFUSED: [&str; 22] = [
     "eval",
     "--help",
     "-h",
@@ -122,7 +122,7 @@ const REFUSED: [&str; 22] = [
 #[test]
 fn refused(rt: HostRuntime) -> Result<(), Fail> {
     let alloc = rt.alloc();
-    for line in REFUSED {
+    for line in REFUSED.iter() {
         expect(&rt, alloc, line, Err(Refusal::Fault(WordsRefused)))?;
     }
     Ok(())

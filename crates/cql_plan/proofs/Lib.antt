@@ -1,4 +1,3 @@
-pub mod Accepted
 pub mod Flattened
 pub mod Items
 pub mod NeedsRows

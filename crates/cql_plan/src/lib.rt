@@ -8,8 +8,6 @@ mod keys;
 pub mod laws;
 mod needs;
 mod plan;
-#[cfg(test)]
-mod tests;
 mod verdict;
 
 pub use plan::{Plan, match_game, may_hold};

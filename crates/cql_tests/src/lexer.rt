@@ -45,190 +45,167 @@ fn borrowed(kind: &QueryTokenKind) -> Seen<'_> {
     }
 }
 
-fn gives(
-    rt: &impl Abort,
-    alloc: Global,
-    query: &[u8],
-    wanted: &[(u32, Seen)],
-) -> Result<(), Refusal<QueryFault>> {
+/// Asks that a query has these tokens.
+fn gives(rt: &impl Abort, alloc: Global, query: &[u8], wanted: &[(u32, Seen)]) -> Result<(), Fail> {
     let tokens = query_tokens(alloc, query)?;
-    assert_eq!(rt; tokens.len(), wanted.len(), "in {query:?}");
-    for (token, (at, kind)) in tokens.iter().zip(wanted) {
-        assert_eq!(rt; token.at, *at, "in {query:?}");
-        assert_eq!(rt; borrowed(&token.kind), *kind, "in {query:?}");
+    let mut found = Vec::new(alloc);
+    for token in tokens.iter() {
+        found.push((token.at, borrowed(&token.kind)))?;
+    }
+    assert_eq!(rt; found.as_slice(), wanted, "in {query:?}");
+    Ok(())
+}
+
+/// A query, and the place and the kind of each of its tokens.
+type Row<'a> = (&'a [u8], &'a [(u32, Seen<'a>)]);
+
+/// Each designator is the longest of its form.
+static DESIGNATORS: [Row<'static>; 7] = [
+    (
+        b"cql() Ka1",
+        &[
+            (0, Seen::Word(0)),
+            (3, Seen::Mark(15)),
+            (4, Seen::Mark(16)),
+            (6, Seen::Squares(1, 1, false, false)),
+            (9, Seen::End),
+        ],
+    ),
+    (
+        b"c3-6 a-h2 aa1",
+        &[
+            (0, Seen::Squares(ANY, 0x0000_0404_0404_0000, false, false)),
+            (5, Seen::Squares(ANY, 0xff00, true, false)),
+            (10, Seen::Squares(0x0fc0, 1, false, false)),
+            (13, Seen::End),
+        ],
+    ),
+    (
+        b"[KQ]a1 [a1,b2-3] K[a1,h8]",
+        &[
+            (0, Seen::Squares(3, 1, false, false)),
+            (7, Seen::Squares(ANY, 0x02_0201, false, false)),
+            (17, Seen::Squares(1, 0x8000_0000_0000_0001, false, false)),
+            (25, Seen::End),
+        ],
+    ),
+    (
+        b"b bishop a1b2 _a2 .",
+        &[
+            (0, Seen::Squares(0x0200, ALL, true, true)),
+            (2, Seen::Name(b"bishop")),
+            (9, Seen::Name(b"a1b2")),
+            (14, Seen::Squares(0x1000, 0x0100, false, false)),
+            (18, Seen::Squares(ANY, ALL, true, true)),
+            (19, Seen::End),
+        ],
+    ),
+    (
+        b"Ra Kab1 ab1",
+        &[
+            (0, Seen::Name(b"Ra")),
+            (3, Seen::Name(b"Kab1")),
+            (8, Seen::Squares(0x0fc0, 2, false, false)),
+            (11, Seen::End),
+        ],
+    ),
+    (
+        b"c3-6-7",
+        &[
+            (0, Seen::Squares(ANY, 0x0000_0404_0404_0000, false, false)),
+            (4, Seen::Mark(8)),
+            (5, Seen::Number(7)),
+            (6, Seen::End),
+        ],
+    ),
+    (
+        b"h-a8-1",
+        &[(0, Seen::Squares(ANY, ALL, true, true)), (6, Seen::End)],
+    ),
+];
+
+/// Each token is by the first rule that gives one.
+static RULES: [Row<'static>; 9] = [
+    (
+        b"#a-b5 Pe4* Pe4+",
+        &[
+            (0, Seen::Mark(11)),
+            (1, Seen::Squares(ANY, 0x0003_0000_0000, false, false)),
+            (6, Seen::Squares(32, 0x1000_0000, false, false)),
+            (9, Seen::Mark(9)),
+            (11, Seen::Squares(32, 0x1000_0000, false, false)),
+            (14, Seen::Mark(7)),
+            (15, Seen::End),
+        ],
+    ),
+    (
+        b"result 1-00",
+        &[
+            (0, Seen::Word(19)),
+            (7, Seen::Result(Outcome::White)),
+            (10, Seen::Number(0)),
+            (11, Seen::End),
+        ],
+    ),
+    (
+        b"result // c\n *",
+        &[
+            (0, Seen::Word(19)),
+            (13, Seen::Result(Outcome::Unfinished)),
+            (14, Seen::End),
+        ],
+    ),
+    (
+        b"input a//b.pgn cql",
+        &[
+            (0, Seen::Word(1)),
+            (6, Seen::FileName(b"a//b.pgn")),
+            (15, Seen::Word(0)),
+            (18, Seen::End),
+        ],
+    ),
+    (
+        b"output \"x y\"",
+        &[(0, Seen::Word(2)), (7, Seen::Text(b"x y")), (12, Seen::End)],
+    ),
+    (
+        b"<-- <= < -->",
+        &[
+            (0, Seen::Mark(1)),
+            (4, Seen::Mark(2)),
+            (7, Seen::Mark(5)),
+            (9, Seen::Mark(0)),
+            (12, Seen::End),
+        ],
+    ),
+    (
+        b"echo moves comment",
+        &[
+            (0, Seen::Reserved(b"echo")),
+            (5, Seen::Name(b"moves")),
+            (11, Seen::Word(68)),
+            (18, Seen::End),
+        ],
+    ),
+    (b"//", &[(2, Seen::End)]),
+    (b"// a\r b", &[(7, Seen::End)]),
+];
+
+#[test]
+fn designators_are_the_longest_of_their_form(rt: HostRuntime) -> Result<(), Fail> {
+    for (query, wanted) in DESIGNATORS.iter() {
+        gives(&rt, rt.alloc(), query, wanted)?;
     }
     Ok(())
 }
 
 #[test]
-fn designators_are_the_longest_of_their_form(rt: HostRuntime) -> Result<(), Fail> {
-    use Seen::{
-        End, FileName, Mark, Name, Number, Reserved, Result as Outcomes, Squares, Text, Word,
-    };
-    let alloc = rt.alloc();
-    gives(
-        &rt,
-        alloc,
-        b"cql() Ka1",
-        &[
-            (0, Word(0)),
-            (3, Mark(15)),
-            (4, Mark(16)),
-            (6, Squares(1, 1, false, false)),
-            (9, End),
-        ],
-    )?;
-    gives(
-        &rt,
-        alloc,
-        b"c3-6 a-h2 aa1",
-        &[
-            (0, Squares(ANY, 0x0000_0404_0404_0000, false, false)),
-            (5, Squares(ANY, 0xff00, true, false)),
-            (10, Squares(0x0fc0, 1, false, false)),
-            (13, End),
-        ],
-    )?;
-    gives(
-        &rt,
-        alloc,
-        b"[KQ]a1 [a1,b2-3] K[a1,h8]",
-        &[
-            (0, Squares(3, 1, false, false)),
-            (7, Squares(ANY, 0x02_0201, false, false)),
-            (17, Squares(1, 0x8000_0000_0000_0001, false, false)),
-            (25, End),
-        ],
-    )?;
-    gives(
-        &rt,
-        alloc,
-        b"b bishop a1b2 _a2 .",
-        &[
-            (0, Squares(0x0200, ALL, true, true)),
-            (2, Name(b"bishop")),
-            (9, Name(b"a1b2")),
-            (14, Squares(0x1000, 0x0100, false, false)),
-            (18, Squares(ANY, ALL, true, true)),
-            (19, End),
-        ],
-    )?;
-    gives(
-        &rt,
-        alloc,
-        b"Ra Kab1 ab1",
-        &[
-            (0, Name(b"Ra")),
-            (3, Name(b"Kab1")),
-            (8, Squares(0x0fc0, 2, false, false)),
-            (11, End),
-        ],
-    )?;
-    gives(
-        &rt,
-        alloc,
-        b"c3-6-7",
-        &[
-            (0, Squares(ANY, 0x0000_0404_0404_0000, false, false)),
-            (4, Mark(8)),
-            (5, Number(7)),
-            (6, End),
-        ],
-    )?;
-    gives(
-        &rt,
-        alloc,
-        b"h-a8-1",
-        &[(0, Squares(ANY, ALL, true, true)), (6, End)],
-    )?;
-    Ok(())
-}
-
-#[test]
 fn tokens_are_by_the_first_rule(rt: HostRuntime) -> Result<(), Fail> {
-    use Seen::{
-        End, FileName, Mark, Name, Number, Reserved, Result as Outcomes, Squares, Text, Word,
-    };
-    let alloc = rt.alloc();
-    gives(
-        &rt,
-        alloc,
-        b"#a-b5 Pe4* Pe4+",
-        &[
-            (0, Mark(11)),
-            (1, Squares(ANY, 0x0003_0000_0000, false, false)),
-            (6, Squares(32, 0x1000_0000, false, false)),
-            (9, Mark(9)),
-            (11, Squares(32, 0x1000_0000, false, false)),
-            (14, Mark(7)),
-            (15, End),
-        ],
-    )?;
-    gives(
-        &rt,
-        alloc,
-        b"result 1-00",
-        &[
-            (0, Word(19)),
-            (7, Outcomes(Outcome::White)),
-            (10, Number(0)),
-            (11, End),
-        ],
-    )?;
-    gives(
-        &rt,
-        alloc,
-        b"result // c\n *",
-        &[
-            (0, Word(19)),
-            (13, Outcomes(Outcome::Unfinished)),
-            (14, End),
-        ],
-    )?;
-    gives(
-        &rt,
-        alloc,
-        b"input a//b.pgn cql",
-        &[
-            (0, Word(1)),
-            (6, FileName(b"a//b.pgn")),
-            (15, Word(0)),
-            (18, End),
-        ],
-    )?;
-    gives(
-        &rt,
-        alloc,
-        b"output \"x y\"",
-        &[(0, Word(2)), (7, Text(b"x y")), (12, End)],
-    )?;
-    gives(
-        &rt,
-        alloc,
-        b"<-- <= < -->",
-        &[
-            (0, Mark(1)),
-            (4, Mark(2)),
-            (7, Mark(5)),
-            (9, Mark(0)),
-            (12, End),
-        ],
-    )?;
-    gives(
-        &rt,
-        alloc,
-        b"echo moves comment",
-        &[
-            (0, Reserved(b"echo")),
-            (5, Name(b"moves")),
-            (11, Word(68)),
-            (18, End),
-        ],
-    )?;
-    gives(&rt, alloc, b"//", &[(2, End)])?;
-    gives(&rt, alloc, b"// a\r b", &[(7, End)])?;
     tokens_end_once();
     tokens_are_read();
+    for (query, wanted) in RULES.iter() {
+        gives(&rt, rt.alloc(), query, wanted)?;
+    }
     Ok(())
 }
 

@@ -10,7 +10,11 @@ mod parser;
 #[cfg(test)]
 mod plain;
 #[cfg(test)]
+mod plans;
+#[cfg(test)]
 mod played;
+#[cfg(test)]
+mod reports;
 #[cfg(test)]
 mod rewrite;
 #[cfg(test)]

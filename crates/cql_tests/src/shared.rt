@@ -1,4 +1,5 @@
 use cq_shards::{Answer, GameAnswer, Keys};
+use cql_plan::{Plan, Verdict};
 use cql_syntax::{FlatQuery, Query, QueryFault, QueryToken, TypedQuery};
 
 /// Only types that threads may share, or hand over, are taken.
@@ -14,4 +15,6 @@ fn what_threads_hand_over_may_be_shared() {
     may_be_shared::<Keys>();
     may_be_shared::<Answer>();
     may_be_shared::<GameAnswer>();
+    may_be_shared::<Plan>();
+    may_be_shared::<Verdict>();
 }

@@ -11,8 +11,6 @@ mod game;
 mod laws;
 mod span;
 mod state;
-#[cfg(test)]
-mod tests;
 mod whole;
 
 pub use cutter::Cutter;

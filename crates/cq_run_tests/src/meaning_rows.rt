@@ -1,6 +1,6 @@
 //! Queries with the words of the language, through `eval`: the game that each finds, as it is written, and games that it doesn't find.
-use crate::Status;
-use crate::tests::{Written, expect, written};
+use crate::rows::{Written, expect, written};
+use cq_run::Status;
 use std::alloc::Global;
 use std::process::Abort;
 use std::test::Fail;
@@ -14,7 +14,7 @@ const ITALIAN: &str = "1. e4 e5 2. Bc4 Nc6 3. Qh5 Nf6 4. Qxf7 1-0";
 const OPENED: &str = "1. e4 e5 2. Nf3 *";
 
 /// A query, an archive of one game, which it finds, and how this is written.
-const FOUND: [Row<'_>; 23] = [
+static FOUND: [Row<'static>; 23] = [
     (
         "cql() mate",
         ITALIAN,
@@ -145,7 +145,7 @@ const FOUND: [Row<'_>; 23] = [
 ];
 
 /// The same with an archive of two games, of which it finds one.
-const FOUND_OF_TWO: [Row<'_>; 2] = [
+static FOUND_OF_TWO: [Row<'static>; 2] = [
     (
         "cql() shift { Pa2 not Pb3 }",
         "[FEN \"4k3/8/8/8/7P/8/8/4K3 w - - 0 1\"]\n*\n[FEN \"4k3/8/8/8/2P5/8/8/4K3 w - - 0 1\"]\n*\n",
@@ -159,7 +159,7 @@ const FOUND_OF_TWO: [Row<'_>; 2] = [
 ];
 
 /// A query and an archive of one game that it doesn't find.
-const MISSED: [(&str, &str); 8] = [
+static MISSED: [(&str, &str); 8] = [
     ("cql() Pd4", "1. e4 (1. d4) e5 *"),
     ("cql() 999999999 * 999999999 * 999999999", "*"),
     ("cql() line --> check{0}", OPENED),
@@ -177,22 +177,22 @@ const MISSED: [(&str, &str); 8] = [
 fn expect_found<R: Threads + Sync + Abort>(
     rt: &R,
     alloc: Global,
-    row: Row<'_>,
+    row: &Row<'_>,
     report: &str,
 ) -> Result<(), Fail> {
     let (query, archive, game) = row;
-    let text = written(alloc, game)?;
+    let text = written(alloc, *game)?;
     let want = (Status::Done, text.as_slice(), report);
-    expect(rt, alloc, &["eval", query], ("-", archive), want)
+    expect(rt, alloc, &["eval", query], &[("-", archive)], want)
 }
 
 #[test]
 fn games_are_found_by_the_meaning_of_words(rt: HostRuntime) -> Result<(), Fail> {
     let alloc = rt.alloc();
-    for row in FOUND {
+    for row in FOUND.iter() {
         expect_found(&rt, alloc, row, "games 1 matched 1 refused 0\n")?;
     }
-    for row in FOUND_OF_TWO {
+    for row in FOUND_OF_TWO.iter() {
         expect_found(&rt, alloc, row, "games 2 matched 1 refused 0\n")?;
     }
     Ok(())
@@ -201,13 +201,13 @@ fn games_are_found_by_the_meaning_of_words(rt: HostRuntime) -> Result<(), Fail> 
 #[test]
 fn games_are_missed_by_the_meaning_of_words(rt: HostRuntime) -> Result<(), Fail> {
     let alloc = rt.alloc();
-    for (query, archive) in MISSED {
+    for (query, archive) in MISSED.iter() {
         let want = (
             Status::Done,
             b"".as_slice(),
             "games 1 matched 0 refused 0\n",
         );
-        expect(&rt, alloc, &["eval", query], ("-", archive), want)?;
+        expect(&rt, alloc, &["eval", query], &[("-", archive)], want)?;
     }
     Ok(())
 }

@@ -1,13 +1,14 @@
 //! The cookbook of README: each query finds its games of the sample archive, in the order named, and no others.
-use crate::{Status, run};
-use cq_outside::{Bytes, NoMemory, OpenGate, SureDesk, SureSink};
+use crate::rows::{desk_of, texts_of};
+use cq_outside::{Bytes, NoMemory, OpenGate, SureSink};
+use cq_run::{Status, run};
 use std::alloc::Global;
 use std::process::Abort;
 use std::test::Fail;
 use std::thread::Threads;
 
 /// The sample archive, examples/games.pgn.
-const GAMES: &str = "\
+static GAMES: &str = "\
     [Event \"Two moves\"]\n\
     [White \"Hasty\"]\n\
     [Black \"Patient\"]\n\
@@ -144,7 +145,7 @@ const GAMES: &str = "\
     ";
 
 /// A query, and the lines of the events of the games that it finds.
-const RECIPES: [(&str, &str); 20] = [
+static RECIPES: [(&str, &str); 20] = [
     // every mate
     (
         "cql() mate",
@@ -260,26 +261,23 @@ fn expect_events<R: Threads + Sync + Abort>(
     query: &str,
     events: &str,
 ) -> Result<(), Fail> {
-    let mut desk = SureDesk::new(alloc);
-    desk.add(b"games.pgn", GAMES.as_bytes())?;
+    let mut desk = desk_of(alloc, &[("games.pgn", GAMES)])?;
     let mut out = SureSink::new(alloc, 16_384)?;
     let mut err = SureSink::new(alloc, 4096)?;
-    let mut words = Vec::new(alloc);
-    for word in ["eval", query, "games.pgn"] {
-        words.push(String::from_str(alloc, word)?)?;
-    }
+    let words = texts_of(alloc, &["eval", query, "games.pgn"])?;
     let words = words.as_slice();
     let status = run(rt, alloc, words, &mut desk, &mut out, &mut err, &OpenGate);
-    assert_eq!(rt; status, Status::DoneWithRefusals, "of {query:?}");
     let found = events_in(alloc, out.taken().unwrap_or(&[]))?;
-    assert_eq!(rt; found.as_slice(), events.as_bytes(), "of {query:?}");
+    let answered = (status, found.as_slice());
+    let wanted = (Status::DoneWithRefusals, events.as_bytes());
+    assert_eq!(rt; answered, wanted, "of {query:?}");
     Ok(())
 }
 
 #[test]
 fn the_cookbook_finds_its_games(rt: HostRuntime) -> Result<(), Fail> {
     let alloc = rt.alloc();
-    for (query, events) in RECIPES {
+    for (query, events) in RECIPES.iter() {
         expect_events(&rt, alloc, query, events)?;
     }
     Ok(())

@@ -1,7 +1,7 @@
 use Rattle.std.proofs.Common.{◌≡◌, ◌-◌, ◌≤◌, length, take}
 use Rattle.pgn_cut.specs.Cut.{closed}
 use Rattle.pgn_cut.specs.Streams.{Stands}
-use Rattle.pgn_cut.proofs.tests.cut_in_pieces.Given as goal
+use Rattle.cq_tests.proofs.cuts.cut_in_pieces.Given as goal
 
 abbrev pub invariant-loop-at : goal.invariant-loop-at
 invariant-loop-at l = record {

@@ -4,7 +4,7 @@ use Rattle.pgn_cut.specs.Cut.{cut, closed}
 use Rattle.pgn_cut.specs.Streams.{Stands}
 use Rattle.pgn_cut.proofs.Closed.{nothing_closes}
 use Rattle.pgn_cut.proofs.Pieces.{grown, part}
-use Rattle.pgn_cut.proofs.tests.cut_in_pieces.Goals as goal
+use Rattle.cq_tests.proofs.cuts.cut_in_pieces.Goals as goal
 
 pub loop-at-init : goal.loop-at-init
 loop-at-init c = record { within = omega arith; stands = c.new-cutter.ensures; games = c.new-spans.ensures.items ∙ sym nothing_closes }

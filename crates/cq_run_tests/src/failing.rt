@@ -1,8 +1,9 @@
 //! The top call over a desk and sinks that fail, and over a real file.
 ghost use Rattle.std.specs.Prelude.{◌≡◌, ◌≤◌, None};
 
-use crate::{Status, run};
-use cq_outside::{Desk, Failed, FileDesk, OpenFault, OpenGate, Sink, Source, SureDesk, SureSink};
+use crate::rows::{desk_of, texts_of};
+use cq_outside::{Desk, Failed, FileDesk, OpenFault, OpenGate, Sink, Source, SureSink};
+use cq_run::{Status, run};
 use std::alloc::Global;
 use std::fs;
 use std::process::Abort;
@@ -112,17 +113,32 @@ fn status_of<R: Threads + Sync + Abort, D: Desk, O: Sink, E: Sink>(
     out: &mut O,
     err: &mut E,
 ) -> Result<Status, Fail> {
-    let mut texts = Vec::new(alloc);
-    for word in words {
-        texts.push(String::from_str(alloc, word)?)?;
-    }
+    let texts = texts_of(alloc, words)?;
     Ok(run(rt, alloc, texts.as_slice(), desk, out, err, &OpenGate))
 }
 
+/// The words of the rows, over standard input.
+static WORDS: [&str; 2] = ["eval", "cql() Ka1"];
+
+/// Asks that a desk that answers so has this status, and that nothing is written.
+fn expect_from_desk<R: Threads + Sync + Abort>(
+    rt: &R,
+    alloc: Global,
+    open: Result<(), OpenFault>,
+    read: Result<(), Failed>,
+    want: Status,
+) -> Result<(), Fail> {
+    let mut desk = FailingDesk::new(open, read);
+    let mut out = SureSink::new(alloc, 64)?;
+    let mut err = SureSink::new(alloc, 64)?;
+    let status = status_of(rt, alloc, &WORDS, &mut desk, &mut out, &mut err)?;
+    let none = b"".as_slice();
+    assert_eq!(rt; (status, out.taken()), (want, Some(none)));
+    Ok(())
+}
+
 #[test]
-fn each_failure_has_its_status(rt: HostRuntime) -> Result<(), Fail> {
-    let alloc = rt.alloc();
-    let words = ["eval", "cql() Ka1"];
+fn each_failure_of_a_desk_has_its_status(rt: HostRuntime) -> Result<(), Fail> {
     let rows = [
         (Err(OpenFault::Failed), Ok(()), Status::OpenFault),
         (Err(OpenFault::NoMemory), Ok(()), Status::NoMemory),
@@ -130,49 +146,46 @@ fn each_failure_has_its_status(rt: HostRuntime) -> Result<(), Fail> {
         (Ok(()), Ok(()), Status::Done),
     ];
     for (open, read, want) in rows {
-        let mut desk = FailingDesk::new(open, read);
-        let mut out = SureSink::new(alloc, 64)?;
-        let mut err = SureSink::new(alloc, 64)?;
-        let status = status_of(&rt, alloc, &words, &mut desk, &mut out, &mut err)?;
-        assert_eq!(rt; status, want);
-        assert_eq!(rt; out.taken(), Some(b"".as_slice()));
+        expect_from_desk(&rt, rt.alloc(), open, read, want)?;
     }
-    // The export has more than 100 bytes, and the report 28.
-    for (out_room, err_room, want) in [
-        (0, 1_000, Status::WriteFault),
-        (100, 1_000, Status::WriteFault),
-        (1_000, 0, Status::WriteFault),
-        (1_000, 27, Status::WriteFault),
-        (1_000, 1_000, Status::Done),
-    ] {
-        let mut desk = SureDesk::new(alloc);
-        desk.add(b"-", ARCHIVE.as_bytes())?;
-        let mut out = FailingSink {
-            room: out_room,
-            faults: 0,
-        };
-        let mut err = FailingSink {
-            room: err_room,
-            faults: 0,
-        };
-        let status = status_of(&rt, alloc, &words, &mut desk, &mut out, &mut err)?;
-        assert_eq!(rt;
-            status,
-            want,
-            "with room for {out_room} and {err_room} bytes"
-        );
-    }
-    let mut err = FailingSink { room: 7, faults: 0 };
-    let status = status_of(
-        &rt,
-        alloc,
-        &["eval"],
-        &mut SureDesk::new(alloc),
-        &mut SureSink::new(alloc, 0)?,
-        &mut err,
-    )?;
-    assert_eq!(rt; status, Status::WriteFault);
     Ok(())
+}
+
+/// The rooms of the two sinks, and the status. The export has more than 100 bytes, and the report 28.
+static ROOMS: [(u64, u64, Status); 5] = [
+    (0, 1_000, Status::WriteFault),
+    (100, 1_000, Status::WriteFault),
+    (1_000, 0, Status::WriteFault),
+    (1_000, 27, Status::WriteFault),
+    (1_000, 1_000, Status::Done),
+];
+
+/// Asks that words over the archive have this status, where the sinks have so much room.
+fn expect_with_room<R: Threads + Sync + Abort>(
+    rt: &R,
+    alloc: Global,
+    words: &[&str],
+    rooms: (u64, u64),
+    want: Status,
+) -> Result<(), Fail> {
+    let (room, err_room) = rooms;
+    let mut desk = desk_of(alloc, &[("-", ARCHIVE)])?;
+    let mut out = FailingSink { room, faults: 0 };
+    let mut err = FailingSink {
+        room: err_room,
+        faults: 0,
+    };
+    let status = status_of(rt, alloc, words, &mut desk, &mut out, &mut err)?;
+    assert_eq!(rt; status, want, "with room for {rooms:?} bytes");
+    Ok(())
+}
+
+#[test]
+fn each_failure_of_a_sink_has_its_status(rt: HostRuntime) -> Result<(), Fail> {
+    for (room, err_room, want) in ROOMS.iter() {
+        expect_with_room(&rt, rt.alloc(), &WORDS, (*room, *err_room), *want)?;
+    }
+    expect_with_room(&rt, rt.alloc(), &["eval"], (1_000, 7), Status::WriteFault)
 }
 
 #[test]
@@ -181,17 +194,12 @@ fn a_failed_write_is_the_last(rt: HostRuntime) -> Result<(), Fail> {
     let mut archive = String::from_str(alloc, "1. e5 *\n")?;
     archive.push_str(ARCHIVE)?;
     archive.push_str("1. e6 *\n")?;
-    let mut desk = SureDesk::new(alloc);
-    desk.add(b"-", archive.as_bytes())?;
+    let mut desk = desk_of(alloc, &[("-", archive.as_str())])?;
     let mut out = FailingSink { room: 9, faults: 0 };
     let mut err = SureSink::new(alloc, 128)?;
-    let words = ["eval", "cql() Ka1"];
-    let status = status_of(&rt, alloc, &words, &mut desk, &mut out, &mut err)?;
-    assert_eq!(rt; status, Status::WriteFault);
-    assert_eq!(rt;
-        err.taken(),
-        Some(b"game 1 byte 3: illegal move\n".as_slice())
-    );
+    let status = status_of(&rt, alloc, &WORDS, &mut desk, &mut out, &mut err)?;
+    let line = b"game 1 byte 3: illegal move\n".as_slice();
+    assert_eq!(rt; (status, err.taken()), (Status::WriteFault, Some(line)));
     Ok(())
 }
 
@@ -209,11 +217,8 @@ fn a_real_file_of_several_pieces_is_read_to_its_end(rt: HostRuntime) -> Result<(
     let mut err = SureSink::new(alloc, 64)?;
     let words = ["eval", "cql() Qa1"];
     let status = status_of(&rt, alloc, &words, &mut desk, &mut out, &mut err)?;
-    assert_eq!(rt; status, Status::Done);
-    assert_eq!(rt;
-        err.taken(),
-        Some(b"games 5000 matched 0 refused 0\n".as_slice())
-    );
+    let line = b"games 5000 matched 0 refused 0\n".as_slice();
+    assert_eq!(rt; (status, err.taken()), (Status::Done, Some(line)));
     fs::remove_file(&rt, name)?;
     Ok(())
 }
@@ -228,15 +233,10 @@ fn expect_unopened<R: Threads + Sync + Abort, D: Desk>(
     let mut out = SureSink::new(alloc, 0)?;
     let mut err = SureSink::new(alloc, 0)?;
     let status = status_of(rt, alloc, words, desk, &mut out, &mut err)?;
-    assert_eq!(rt; status, Status::OpenFault);
-    expect_unwritten(rt, &out);
-    expect_unwritten(rt, &err);
+    let answered = (status, out.taken(), err.taken());
+    let none = Some(b"".as_slice());
+    assert_eq!(rt; answered, (Status::OpenFault, none, none));
     Ok(())
-}
-
-/// Asks that a sink has taken nothing.
-fn expect_unwritten<R: Abort>(rt: &R, sink: &SureSink) {
-    assert_eq!(rt; sink.taken(), Some(b"".as_slice()));
 }
 
 #[test]

@@ -2,7 +2,7 @@
 ghost use Rattle.std.specs.Prelude.{◌≡◌, All, length};
 ghost use Rattle.cq_board.specs.Seats.{IsSeatOf, HasEnded};
 
-use super::*;
+use cq_board::{Board, ClaimSeat};
 use cq_outside::NoMemory;
 use std::sync::atomic::{AtomicU32, Ordering};
 use std::thread;

@@ -1,5 +1,5 @@
 use Rattle.cq_board.specs.Seats.{IsSeatOf, HasEnded}
-use Rattle.cq_board.proofs.tests.draw_all.Given as goal
+use Rattle.cq_tests.proofs.draws.draw_all.Given as goal
 
 abbrev pub invariant-loop-turn : goal.invariant-loop-turn
 invariant-loop-turn l = record {

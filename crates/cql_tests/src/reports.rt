@@ -1,6 +1,6 @@
 //! Lines of reports.
-use crate::{fault_line, made_line, query_line, summary_line};
 use cq_outside::Bytes;
+use cq_report::{fault_line, made_line, query_line, summary_line};
 use cql_syntax::{Kind, QueryFault, QueryReason};
 use pgn_reader::{GameFault, Reason};
 use std::process::Abort;

@@ -1,4 +1,4 @@
-use Rattle.cql_plan.proofs.tests.found.Given as goal
+use Rattle.cql_tests.proofs.plans.found.Given as goal
 
 abbrev pub ghosts-counted : goal.ghosts-counted
 ghosts-counted a = record { name = a.blank.name; parts = a.blank.parts }

@@ -2,13 +2,14 @@
 ghost use Rattle.std.specs.Prelude.{◌≡◌, ◌<◌, ◌^◌, length, IfOk};
 ghost use Rattle.pgn_cut.specs.Cut.{cut};
 
-use crate::{
+use cq_outside::NoMemory;
+use pgn_cut::{
     Cutter, Span, closed_games_stay, cut_whole, games_end_once, games_have_their_tokens,
     games_stand_apart, open_lexemes_settle,
 };
-use cq_outside::NoMemory;
 use pgn_lexer::tokens;
 use std::alloc::Global;
+use std::process::Abort;
 use std::test::Fail;
 
 /// A row of the table: an archive, and the start, the end and the column of each of its games.
@@ -62,6 +63,22 @@ static ROWS: [Row<'static>; 36] = [
     (b"\"\\\"*\" $1!?--*", &[(0, 13, true)]),
 ];
 
+/// Asks that an archive has these games.
+fn has_games<R: Abort>(
+    rt: &R,
+    alloc: Global,
+    archive: &[u8],
+    want: &[(u64, u64, bool)],
+) -> Result<(), NoMemory> {
+    assert!(rt; archive.len() <= 64);
+    let mut found = Vec::new(alloc);
+    for game in cut_whole(alloc, archive)?.iter() {
+        found.push((game.start, game.end, game.first))?;
+    }
+    assert_eq!(rt; found.as_slice(), want, "in {archive:?}");
+    Ok(())
+}
+
 #[test]
 fn archives_have_their_games(rt: HostRuntime) -> Result<(), Fail> {
     games_have_their_tokens();
@@ -69,14 +86,7 @@ fn archives_have_their_games(rt: HostRuntime) -> Result<(), Fail> {
     games_stand_apart();
     closed_games_stay();
     for (archive, want) in ROWS.iter() {
-        assert!(rt; archive.len() <= 64);
-        let found = cut_whole(rt.alloc(), archive)?;
-        assert_eq!(rt; found.len(), want.len(), "in {archive:?}");
-        for (game, (start, end, first)) in found.iter().zip(want.iter()) {
-            assert_eq!(rt; game.start, *start, "in {archive:?}");
-            assert_eq!(rt; game.end, *end, "in {archive:?}");
-            assert_eq!(rt; game.first, *first, "in {archive:?}");
-        }
+        has_games(&rt, rt.alloc(), archive, want)?;
     }
     Ok(())
 }
@@ -101,26 +111,27 @@ fn cut_in_pieces(alloc: Global, archive: &[u8], size: usize) -> Result<Vec<Span>
     Ok(spans)
 }
 
-/// Whether an archive has the same games whole and in pieces of so many bytes.
-fn pieces_agree(alloc: Global, archive: &[u8], size: usize) -> Result<bool, NoMemory>
-    requires some { 0 < size }
-    requires size { size < 2 ^ 32 }
-    requires few { length archive.now < 2 ^ 62 }
-{
+/// Asks that an archive has the same games whole and in pieces of so many bytes.
+fn pieces_agree<R: Abort>(
+    rt: &R,
+    alloc: Global,
+    archive: &[u8],
+    size: usize,
+) -> Result<(), NoMemory> {
+    assert!(rt; archive.len() <= 64 && 0 < size && size < 8);
     let pieces = cut_in_pieces(alloc, archive, size)?;
     let whole = cut_whole(alloc, archive)?;
-    Ok(pieces.as_slice() == whole.as_slice())
+    assert!(rt; pieces.as_slice() == whole.as_slice(), "in {archive:?}");
+    Ok(())
 }
 
 #[test]
 fn pieces_of_any_size_have_the_same_games(rt: HostRuntime) -> Result<(), Fail> {
     open_lexemes_settle();
     for (archive, _games) in ROWS.iter() {
-        assert!(rt; archive.len() <= 64);
-        assert!(rt; pieces_agree(rt.alloc(), archive, 1)?, "in {archive:?}");
-        assert!(rt; pieces_agree(rt.alloc(), archive, 2)?, "in {archive:?}");
-        assert!(rt; pieces_agree(rt.alloc(), archive, 3)?, "in {archive:?}");
-        assert!(rt; pieces_agree(rt.alloc(), archive, 7)?, "in {archive:?}");
+        for size in [1, 2, 3, 7] {
+            pieces_agree(&rt, rt.alloc(), archive, size)?;
+        }
     }
     Ok(())
 }
@@ -133,9 +144,8 @@ fn a_marker_closes_a_game_once_it_is_whole(rt: HostRuntime) -> Result<(), Fail> 
     assert_eq!(rt; spans.len(), 0);
     cutter.feed(b"x *", &mut spans)?;
     assert_eq!(rt; spans.len(), 1);
-    let game = spans.first().expect(&rt, "a game");
-    assert_eq!(rt; game.start, 0);
-    assert_eq!(rt; game.end, 12);
+    let game = spans.first().map(|game| (game.start, game.end));
+    assert_eq!(rt; game, Some((0, 12)));
     cutter.finish(&mut spans)?;
     assert_eq!(rt; spans.len(), 1);
     Ok(())

@@ -1,11 +1,13 @@
 //! Queries, through `check`: those that are accepted, and the line of each fault.
-use crate::Status;
-use crate::tests::expect;
+use crate::rows::expect;
+use cq_run::Status;
 use std::alloc::Global;
+use std::process::Abort;
 use std::test::Fail;
+use std::thread::Threads;
 
 /// A query, and what is said of its fault; nothing where it is accepted.
-const QUERIES: [(&str, &str); 60] = [
+static QUERIES: [(&str, &str); 60] = [
     ("cql() flipcolor Ka1", ""),
     ("cql() line --> check{64}", ""),
     ("cql() line 3 2 --> wtm", ""),
@@ -137,22 +139,32 @@ const QUERIES: [(&str, &str); 60] = [
     ),
 ];
 
+/// Asks that a query is accepted, or refused by this line.
+fn expect_said<R: Threads + Sync + Abort>(
+    rt: &R,
+    alloc: Global,
+    query: &str,
+    line: &str,
+) -> Result<(), Fail> {
+    let want = if line.is_empty() {
+        (Status::Done, b"ok\n".as_slice(), "")
+    } else {
+        (Status::QueryRefused, b"".as_slice(), line)
+    };
+    expect(rt, alloc, &["check", "q.cql"], &[("q.cql", query)], want)
+}
+
 #[test]
 fn queries_are_accepted_or_refused_at_their_byte(rt: HostRuntime) -> Result<(), Fail> {
     let alloc = rt.alloc();
-    for (query, fault) in QUERIES {
+    for (query, fault) in QUERIES.iter() {
         let mut line = String::new(alloc);
         if !fault.is_empty() {
             line.push_str("query byte ")?;
             line.push_str(fault)?;
             line.push_str("\n")?;
         }
-        let want = if fault.is_empty() {
-            (Status::Done, b"ok\n".as_slice(), "")
-        } else {
-            (Status::QueryRefused, b"".as_slice(), line.as_str())
-        };
-        expect(&rt, alloc, &["check", "q.cql"], ("q.cql", query), want)?;
+        expect_said(&rt, alloc, query, line.as_str())?;
     }
     Ok(())
 }
@@ -167,35 +179,28 @@ fn repeated(alloc: Global, start: &str, text: &str, times: u32, end: &str) -> Re
     Ok(query)
 }
 
+const HEAVY: &str = " flip flip flip flip flip check";
+
+/// How a query begins, what it repeats and how often, how it ends, and the line of its fault.
+static LIMITS: [(&str, &str, u32, &str, &str); 4] = [
+    ("", " ", 65_537, "", "query byte 65536: query too long\n"),
+    ("cql() ", "(", 65, "", "query byte 70: too deep\n"),
+    ("cql()", HEAVY, 7, " check", ""),
+    (
+        "cql()",
+        HEAVY,
+        7,
+        " check check",
+        "query byte 6: too many members\n",
+    ),
+];
+
 #[test]
 fn the_limits_of_queries_are_met_and_passed(rt: HostRuntime) -> Result<(), Fail> {
     let alloc = rt.alloc();
-    let heavy = " flip flip flip flip flip check";
-    for (start, text, times, end, line) in [
-        ("", " ", 65_537, "", "query byte 65536: query too long\n"),
-        ("cql() ", "(", 65, "", "query byte 70: too deep\n"),
-        ("cql()", heavy, 7, " check", ""),
-        (
-            "cql()",
-            heavy,
-            7,
-            " check check",
-            "query byte 6: too many members\n",
-        ),
-    ] {
-        let query = repeated(alloc, start, text, times, end)?;
-        let want = if line.is_empty() {
-            (Status::Done, b"ok\n".as_slice(), "")
-        } else {
-            (Status::QueryRefused, b"".as_slice(), line)
-        };
-        expect(
-            &rt,
-            alloc,
-            &["check", "q.cql"],
-            ("q.cql", query.as_str()),
-            want,
-        )?;
+    for (start, text, times, end, line) in LIMITS.iter() {
+        let query = repeated(alloc, start, text, *times, end)?;
+        expect_said(&rt, alloc, query.as_str(), line)?;
     }
     Ok(())
 }

@@ -1,9 +1,12 @@
 //! Worked rows through the top call, over the forms in memory.
-use crate::asked::read_query;
-use crate::{Status, answer, run};
-use cq_outside::{Bytes, NoMemory, OpenGate, SureDesk, SureSink, SureSource};
+use cq_outside::{Bytes, NoMemory, OpenGate, Refusal, SureDesk, SureSink, SureSource};
+use cq_run::{Status, answer, run};
 use cq_words::Settings;
-use std::alloc::Global;
+use cql_kinds::check;
+use cql_lexer::query_tokens;
+use cql_parser::{parse, spelled_queries_have_no_any, tokens_of_a_text_are_ended};
+use cql_syntax::{QueryFault, TypedQuery};
+use std::alloc::{AllocError, Global};
 use std::process::Abort;
 use std::test::Fail;
 use std::thread::Threads;
@@ -33,40 +36,46 @@ pub fn written(alloc: Global, game: Written<'_>) -> Result<Bytes, NoMemory> {
     Ok(text)
 }
 
-/// Asks that words over a file are answered so, and that the sinks have taken these texts. The name `-` is standard input.
-pub fn expect<R: Threads + Sync + Abort>(
-    rt: &R,
-    alloc: Global,
-    words: &[&str],
-    file: (&str, &str),
-    want: (Status, &[u8], &str),
-) -> Result<(), Fail> {
-    let (name, archive) = file;
-    let mut desk = SureDesk::new(alloc);
-    desk.add(name.as_bytes(), archive.as_bytes())?;
-    let mut out = SureSink::new(alloc, 4096)?;
-    let mut err = SureSink::new(alloc, 4096)?;
+/// The words as a command has them.
+pub fn texts_of(alloc: Global, words: &[&str]) -> Result<Vec<String>, AllocError> {
     let mut texts = Vec::new(alloc);
     for word in words {
         texts.push(String::from_str(alloc, word)?)?;
     }
-    let status = run(
-        rt,
-        alloc,
-        texts.as_slice(),
-        &mut desk,
-        &mut out,
-        &mut err,
-        &OpenGate,
-    );
-    assert_eq!(rt; status, want.0, "of {archive:?}");
-    assert_eq!(rt; out.taken(), Some(want.1), "out of {archive:?}");
-    assert_eq!(rt; err.taken(), Some(want.2.as_bytes()), "err of {archive:?}");
+    Ok(texts)
+}
+
+/// A desk with these files, each a name and what it holds. The name `-` is standard input.
+pub fn desk_of(alloc: Global, files: &[(&str, &str)]) -> Result<SureDesk, NoMemory> {
+    let mut desk = SureDesk::new(alloc);
+    for (name, bytes) in files {
+        desk.add(name.as_bytes(), bytes.as_bytes())?;
+    }
+    Ok(desk)
+}
+
+/// Asks that words over some files are answered so, and that the sinks have taken these texts.
+pub fn expect<R: Threads + Sync + Abort>(
+    rt: &R,
+    alloc: Global,
+    words: &[&str],
+    files: &[(&str, &str)],
+    want: (Status, &[u8], &str),
+) -> Result<(), Fail> {
+    let mut desk = desk_of(alloc, files)?;
+    let mut out = SureSink::new(alloc, 4096)?;
+    let mut err = SureSink::new(alloc, 4096)?;
+    let texts = texts_of(alloc, words)?;
+    let texts = texts.as_slice();
+    let status = run(rt, alloc, texts, &mut desk, &mut out, &mut err, &OpenGate);
+    let answered = (status, out.taken(), err.taken());
+    let wanted = (want.0, Some(want.1), Some(want.2.as_bytes()));
+    assert_eq!(rt; answered, wanted, "{words:?} over {files:?}");
     Ok(())
 }
 
 /// A query and an archive of one game that it finds, and how this is written.
-const FOUND: [(&str, &str, Written<'_>); 7] = [
+static FOUND: [(&str, &str, Written<'static>); 7] = [
     (
         "cql() Ka1",
         "[FEN \"8/8/8/8/8/8/8/K1k5 w - - 0 1\"]\n*\n",
@@ -117,7 +126,7 @@ const FOUND: [(&str, &str, Written<'_>); 7] = [
 ];
 
 /// An archive, and the report of `cql() Kb4` over it, which it doesn't find.
-const REPORTS: [(&str, Status, &str); 24] = [
+static REPORTS: [(&str, Status, &str); 24] = [
     ("", Status::Done, "games 0 matched 0 refused 0\n"),
     (
         "1. e4 (1. d4) e5 *",
@@ -231,14 +240,14 @@ const REPORTS: [(&str, Status, &str); 24] = [
 #[test]
 fn games_that_match_are_written(rt: HostRuntime) -> Result<(), Fail> {
     let alloc = rt.alloc();
-    for (query, archive, game) in FOUND {
-        let text = written(alloc, game)?;
+    for (query, archive, game) in FOUND.iter() {
+        let text = written(alloc, *game)?;
         let want = (
             Status::Done,
             text.as_slice(),
             "games 1 matched 1 refused 0\n",
         );
-        expect(&rt, alloc, &["eval", query], ("-", archive), want)?;
+        expect(&rt, alloc, &["eval", query], &[("-", archive)], want)?;
     }
     Ok(())
 }
@@ -246,71 +255,86 @@ fn games_that_match_are_written(rt: HostRuntime) -> Result<(), Fail> {
 #[test]
 fn faults_are_reported(rt: HostRuntime) -> Result<(), Fail> {
     let alloc = rt.alloc();
-    for (archive, status, report) in REPORTS {
-        let want = (status, b"".as_slice(), report);
-        expect(&rt, alloc, &["eval", "cql() Kb4"], ("-", archive), want)?;
+    for (archive, status, report) in REPORTS.iter() {
+        let want = (*status, b"".as_slice(), *report);
+        expect(&rt, alloc, &["eval", "cql() Kb4"], &[("-", archive)], want)?;
     }
     Ok(())
 }
 
+/// A mode and a query over the archive `*`, and the line that turns them away.
+static TURNED_AWAY: [(&str, &str, Status, &str); 4] = [
+    (
+        "eval",
+        "cql() echo",
+        Status::QueryRefused,
+        "query byte 6: outside profile echo\n",
+    ),
+    (
+        "selfrun",
+        "cql() echo",
+        Status::QueryRefused,
+        "query byte 6: outside profile echo\n",
+    ),
+    (
+        "explain",
+        "-",
+        Status::QueryRefused,
+        "query byte 0: unexpected token\n",
+    ),
+    ("play", "cql() Ka1", Status::WordsRefused, USAGE),
+];
+
 #[test]
-fn other_words_and_other_queries_are_turned_away(rt: HostRuntime) -> Result<(), Fail> {
+fn other_words_are_turned_away(rt: HostRuntime) -> Result<(), Fail> {
     let alloc = rt.alloc();
-    let none = b"".as_slice();
-    for (mode, query, status, text) in [
-        (
-            "eval",
-            "cql() echo",
-            Status::QueryRefused,
-            "query byte 6: outside profile echo\n",
-        ),
-        (
-            "selfrun",
-            "cql() echo",
-            Status::QueryRefused,
-            "query byte 6: outside profile echo\n",
-        ),
-        (
-            "explain",
-            "-",
-            Status::QueryRefused,
-            "query byte 0: unexpected token\n",
-        ),
-        ("play", "cql() Ka1", Status::WordsRefused, USAGE),
-    ] {
-        expect(&rt, alloc, &[mode, query], ("-", "*"), (status, none, text))?;
-    }
-    let missed = "games 1 matched 0 refused 0\n";
-    for query in ["cql() Ka1 Kb1", "cql() Pd4"] {
-        let archive = "[FEN \"8/8/8/8/8/8/8/K1k5 w - - 0 1\"]\n*\n";
-        let want = (Status::Done, none, missed);
-        expect(&rt, alloc, &["eval", query], ("-", archive), want)?;
+    for (mode, query, status, line) in TURNED_AWAY.iter() {
+        let want = (*status, b"".as_slice(), *line);
+        expect(&rt, alloc, &[mode, query], &[("-", "*")], want)?;
     }
     Ok(())
 }
+
+/// Queries that do not find the game of the two kings.
+static OTHERS: [&str; 2] = ["cql() Ka1 Kb1", "cql() Pd4"];
+
+#[test]
+fn other_queries_find_nothing(rt: HostRuntime) -> Result<(), Fail> {
+    let alloc = rt.alloc();
+    let archive = "[FEN \"8/8/8/8/8/8/8/K1k5 w - - 0 1\"]\n*\n";
+    let missed = "games 1 matched 0 refused 0\n";
+    for query in OTHERS.iter() {
+        let want = (Status::Done, b"".as_slice(), missed);
+        expect(&rt, alloc, &["eval", query], &[("-", archive)], want)?;
+    }
+    Ok(())
+}
+
+/// A query and its flat form, a line an item.
+static EXPLAINED: [(&str, &str); 3] = [
+    (
+        "cql() flipcolor Ka1",
+        "(union [K]:0000000000000001 [k]:0100000000000000)\n",
+    ),
+    ("cql() line 2 3 --> wtm", "(line 2 3 --> wtm)\n"),
+    (
+        "cql() flipcolor Ka1 check",
+        "(union [K]:0000000000000001 [k]:0100000000000000)\ncheck\n",
+    ),
+];
 
 #[test]
 fn queries_are_explained(rt: HostRuntime) -> Result<(), Fail> {
     let alloc = rt.alloc();
-    for (query, lines) in [
-        (
-            "cql() flipcolor Ka1",
-            "(union [K]:0000000000000001 [k]:0100000000000000)\n",
-        ),
-        ("cql() line 2 3 --> wtm", "(line 2 3 --> wtm)\n"),
-        (
-            "cql() flipcolor Ka1 check",
-            "(union [K]:0000000000000001 [k]:0100000000000000)\ncheck\n",
-        ),
-    ] {
+    for (query, lines) in EXPLAINED.iter() {
         let want = (Status::Done, lines.as_bytes(), "");
-        expect(&rt, alloc, &["explain", "q.cql"], ("q.cql", query), want)?;
+        expect(&rt, alloc, &["explain", "q.cql"], &[("q.cql", query)], want)?;
     }
     Ok(())
 }
 
 /// Words that ask for a made archive, and the line that is written.
-const MADE: [(&[&str], &str); 9] = [
+static MADE: [(&[&str], &str); 9] = [
     (
         &["selfrun", "cql() mate", "--games", "0"],
         "bytes 0 games 0 matched 0 refused 0 written 0\n",
@@ -357,45 +381,61 @@ const MADE: [(&[&str], &str); 9] = [
 #[test]
 fn made_archives_are_answered(rt: HostRuntime) -> Result<(), Fail> {
     let alloc = rt.alloc();
-    for (words, line) in MADE {
+    for (words, line) in MADE.iter() {
         let want = (Status::Done, line.as_bytes(), "");
-        expect(&rt, alloc, words, ("-", "*"), want)?;
+        expect(&rt, alloc, words, &[("-", "*")], want)?;
     }
+    Ok(())
+}
+
+fn read_query(alloc: Global, text: &[u8]) -> Result<TypedQuery, Refusal<QueryFault>> {
+    tokens_of_a_text_are_ended();
+    spelled_queries_have_no_any();
+    let tokens = query_tokens(alloc, text)?;
+    let query = parse(alloc, tokens.as_slice())?;
+    check(&query)
+}
+
+/// Asks that a query marks the position after `1. e4`.
+fn expect_marked_after_e4<R: Threads + Sync + Abort>(
+    rt: &R,
+    alloc: Global,
+    query: &[u8],
+) -> Result<(), Fail> {
+    let query = read_query(alloc, query)?;
+    let mut source = SureSource::new(Bytes::from_slice(alloc, b"1. e4 e5 *")?);
+    let mut out = SureSink::new(alloc, 4096)?;
+    let mut err = SureSink::new(alloc, 4096)?;
+    let settings = Settings {
+        workers: 1,
+        limit: 10,
+    };
+    let status = answer(
+        rt,
+        alloc,
+        &query,
+        settings,
+        &mut source,
+        &mut out,
+        &mut err,
+        &OpenGate,
+    );
+    let text = written(alloc, ("", "*", "1. e4 {CQL} 1... e5 *"))?;
+    let report = b"games 1 matched 1 refused 0\n".as_slice();
+    let answered = (status, out.taken(), err.taken());
+    let wanted = (Status::Done, Some(text.as_slice()), Some(report));
+    assert_eq!(rt; answered, wanted);
     Ok(())
 }
 
 #[test]
 fn a_query_is_answered_over_a_source(rt: HostRuntime) -> Result<(), Fail> {
-    let alloc = rt.alloc();
-    let text = written(alloc, ("", "*", "1. e4 {CQL} 1... e5 *"))?;
-    let report = "games 1 matched 1 refused 0\n";
-    for query in ["cql() Pe4 pe7", "cql() Pe4 pe7 sort \"p\" power A"] {
-        let query = read_query(alloc, query.as_bytes())?;
-        let mut source = SureSource::new(Bytes::from_slice(alloc, b"1. e4 e5 *")?);
-        let mut out = SureSink::new(alloc, 4096)?;
-        let mut err = SureSink::new(alloc, 4096)?;
-        let answered = answer(
-            &rt,
-            alloc,
-            &query,
-            Settings {
-                workers: 1,
-                limit: 10,
-            },
-            &mut source,
-            &mut out,
-            &mut err,
-            &OpenGate,
-        );
-        assert_eq!(rt; answered, Status::Done);
-        assert_eq!(rt; out.taken(), Some(text.as_slice()));
-        assert_eq!(rt; err.taken(), Some(report.as_bytes()));
-    }
-    Ok(())
+    expect_marked_after_e4(&rt, rt.alloc(), b"cql() Pe4 pe7")?;
+    expect_marked_after_e4(&rt, rt.alloc(), b"cql() Pe4 pe7 sort \"p\" power A")
 }
 
 /// Words that are refused.
-const REFUSED: [&[&str]; 16] = [
+static REFUSED: [&[&str]; 16] = [
     &[],
     &["eval"],
     &["eval", "cql() check", "--workers", "0"],
@@ -417,9 +457,9 @@ const REFUSED: [&[&str]; 16] = [
 #[test]
 fn words_are_refused(rt: HostRuntime) -> Result<(), Fail> {
     let alloc = rt.alloc();
-    for words in REFUSED {
+    for words in REFUSED.iter() {
         let want = (Status::WordsRefused, b"".as_slice(), USAGE);
-        expect(&rt, alloc, words, ("-", "*"), want)?;
+        expect(&rt, alloc, words, &[("-", "*")], want)?;
     }
     Ok(())
 }
@@ -431,55 +471,29 @@ fn the_limit_is_the_one_that_is_set(rt: HostRuntime) -> Result<(), Fail> {
     let report = "games 1 matched 1 refused 0\n";
     let words = ["eval", "cql() initial", "--limit", "8"];
     let want = (Status::Done, text.as_slice(), report);
-    expect(&rt, alloc, &words, ("-", "1. e4 *\n"), want)?;
+    expect(&rt, alloc, &words, &[("-", "1. e4 *\n")], want)?;
     let want = (Status::ArchiveTooLong, b"".as_slice(), "");
-    expect(&rt, alloc, &words, ("-", "1. e4 *\n\n"), want)
+    expect(&rt, alloc, &words, &[("-", "1. e4 *\n\n")], want)
 }
+
+/// Two queries and an archive.
+static FILES: [(&str, &str); 3] = [
+    ("q.cql", "// A knight.\r\ncql() Nf3\r\n"),
+    ("echo.cql", "cql() echo"),
+    ("a.pgn", "1. e4 e5 2. Nf3 *\n"),
+];
 
 #[test]
 fn a_query_file_is_answered_over_an_archive_file(rt: HostRuntime) -> Result<(), Fail> {
     let alloc = rt.alloc();
     let text = written(alloc, ("", "*", "1. e4 e5 2. Nf3 {CQL} *"))?;
     let report = "games 1 matched 1 refused 0\n";
+    let want = (Status::Done, text.as_slice(), report);
+    expect(&rt, alloc, &["run", "q.cql", "a.pgn"], &FILES, want)?;
+    expect(&rt, alloc, &["eval", "cql() Nf3", "a.pgn"], &FILES, want)?;
     let fault = "query byte 6: outside profile echo\n";
-    let none = b"".as_slice();
-    for (words, status, out_text, err_text) in [
-        (
-            ["run", "q.cql", "a.pgn"],
-            Status::Done,
-            text.as_slice(),
-            report,
-        ),
-        (
-            ["eval", "cql() Nf3", "a.pgn"],
-            Status::Done,
-            text.as_slice(),
-            report,
-        ),
-        (
-            ["run", "echo.cql", "a.pgn"],
-            Status::QueryRefused,
-            none,
-            fault,
-        ),
-    ] {
-        let mut desk = SureDesk::new(alloc);
-        desk.add(b"q.cql", b"// A knight.\r\ncql() Nf3\r\n")?;
-        desk.add(b"echo.cql", b"cql() echo")?;
-        desk.add(b"a.pgn", b"1. e4 e5 2. Nf3 *\n")?;
-        let mut out = SureSink::new(alloc, 4096)?;
-        let mut err = SureSink::new(alloc, 4096)?;
-        let mut texts = Vec::new(alloc);
-        for word in words {
-            texts.push(String::from_str(alloc, word)?)?;
-        }
-        let words = texts.as_slice();
-        let answered = run(&rt, alloc, words, &mut desk, &mut out, &mut err, &OpenGate);
-        assert_eq!(rt; answered, status);
-        assert_eq!(rt; out.taken(), Some(out_text));
-        assert_eq!(rt; err.taken(), Some(err_text.as_bytes()));
-    }
-    Ok(())
+    let want = (Status::QueryRefused, b"".as_slice(), fault);
+    expect(&rt, alloc, &["run", "echo.cql", "a.pgn"], &FILES, want)
 }
 
 /// The place of one man, as a FEN, and three of them: a pawn, a rook and a pawn.
@@ -504,7 +518,7 @@ const TEN: [&str; 10] = [
 ];
 
 /// Queries with sort items, some places, and the order of these.
-const ORDERS: [(&str, &[&str], &[usize]); 5] = [
+static ORDERS: [(&str, &[&str], &[usize]); 5] = [
     ("cql() sort \"p\" power A", &SORTED, &[1, 0, 2]),
     ("cql() sort min \"p\" power A", &SORTED, &[0, 2, 1]),
     (
@@ -524,27 +538,41 @@ const ORDERS: [(&str, &[&str], &[usize]); 5] = [
     ),
 ];
 
+/// Asks that the games of some places, all of which match, are written in this order.
+fn expect_order<R: Threads + Sync + Abort>(
+    rt: &R,
+    alloc: Global,
+    query: &str,
+    fens: &[&str],
+    order: &[usize],
+) -> Result<(), Fail> {
+    let mut archive = String::new(alloc);
+    for fen in fens {
+        archive.push_str("[FEN \"")?;
+        archive.push_str(fen)?;
+        archive.push_str("\"]\n*\n")?;
+    }
+    let mut text = Bytes::new(alloc);
+    for k in order {
+        assert!(rt; *k < fens.len());
+        text.push_all(written(alloc, (fens[*k], "*", "{CQL} *"))?.as_slice())?;
+    }
+    let count = fens.len();
+    let report = format!(in alloc; "games {count} matched {count} refused 0\n")?;
+    let want = (Status::Done, text.as_slice(), report.as_str());
+    expect(
+        rt,
+        alloc,
+        &["eval", query],
+        &[("-", archive.as_str())],
+        want,
+    )
+}
+
 #[test]
 fn games_come_by_the_sort_items(rt: HostRuntime) -> Result<(), Fail> {
-    let alloc = rt.alloc();
-    for (query, fens, order) in ORDERS {
-        let mut archive = String::new(alloc);
-        for fen in fens {
-            archive.push_str("[FEN \"")?;
-            archive.push_str(fen)?;
-            archive.push_str("\"]\n*\n")?;
-        }
-        let mut text = Bytes::new(alloc);
-        for k in order {
-            text.push_all(written(alloc, (fens[*k], "*", "{CQL} *"))?.as_slice())?;
-        }
-        let report = if fens.len() == 3 {
-            "games 3 matched 3 refused 0\n"
-        } else {
-            "games 10 matched 10 refused 0\n"
-        };
-        let want = (Status::Done, text.as_slice(), report);
-        expect(&rt, alloc, &["eval", query], ("-", archive.as_str()), want)?;
+    for (query, fens, order) in ORDERS.iter() {
+        expect_order(&rt, rt.alloc(), query, fens, order)?;
     }
     Ok(())
 }
