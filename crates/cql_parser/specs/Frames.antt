@@ -1,4 +1,4 @@
--- What contracts see of what is open.
+-- What the contracts of the private functions see of what is open.
 use Rattle.std.specs.Prelude.{◌≡◌, ℕ, List, [], ◌∷◌, Option, Some, None, reverse, map}
 use Rattle.cql_parser.specs.declared.stack.Frame.{Frame as CodeFrame}
 use Rattle.cql_parser.specs.declared.stack.Frame.TheVariants.{Making as CodeMaking, Joining as CodeJoining}

@@ -1,4 +1,4 @@
--- Reading token by token.
+-- Reading token by token, as the private functions give it.
 use Rattle.std.specs.Prelude.{ℕ, ◌+◌, Bool, true, false, List, [], ◌∷◌, ◌++◌, Option, Some, None, nat_le, fold}
 use Rattle.cql_syntax.specs.declared.token.QueryToken.{QueryToken}
 use Rattle.cql_parser.specs.declared.place.Context.{Context}

@@ -1,4 +1,4 @@
--- The trees of what is read.
+-- The trees of what is read, as the private functions give them.
 use Rattle.cql_syntax.specs.Trees.{FilterTrees, no_filters, with_filter}
 use Rattle.cql_syntax.specs.declared.token.QueryToken.{QueryToken}
 use Rattle.cql_syntax.specs.declared.token.QueryTokenKind.TheVariants as tokens

@@ -1,4 +1,4 @@
--- What contracts see of reading.
+-- What the contracts of the private functions see of reading.
 use Rattle.std.specs.Prelude.{◌≡◌, Bool, true, false, List}
 use Rattle.cql_syntax.specs.Trees.{FilterTrees, QueryTree}
 use Rattle.cql_syntax.specs.TreeOf.{filters_tree}

@@ -40,7 +40,7 @@ fn new_row(alloc: Global, first: Filter, joint: Joint, second: Filter) -> Result
     }
 }
 
-// Whether the filter after the token is taken away.
+// Whether the filter after the token is subtracted.
 fn subtracts(joint: Joint) -> bool
     ensures { result ≡ subtracts joint }
 {
