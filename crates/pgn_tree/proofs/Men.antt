@@ -4,11 +4,12 @@ use Rattle.std.specs.Prelude.{◌||◌, ◌&&◌, ◌==◌, ◌^◌, max}
 use Rattle.std.specs.Int.{bit_at}
 use Rattle.std.specs.Int.Bits.{bit_or}
 use Rattle.std.specs.List.{list_any, filter, range_with_len}
-use Rattle.std.proofs.lemmas.Bool.{false_from_ne_true, eq-eqb}
-use Rattle.std.proofs.lemmas.Nat.Bits.{bit_at_or, bit_at-lt, bit_at-pow_same, bit_at-pow_other, bit_at-zero}
+use Rattle.std.proofs.lemmas.Bool.{cases_lt, false_from_ne_true, eq-eqb}
+use Rattle.std.proofs.lemmas.Nat.Bits.{bit_at_or, bit_at_ones, bit_at-lt, bit_at-pow_same, bit_at-pow_other, bit_at-zero}
 use Rattle.std.proofs.lemmas.List.{take_all}
 use Rattle.std.proofs.lemmas.List.Folds.{list_any-append, list_any_more}
 use Rattle.cq_position.specs.declared.men.Man.{Man}
+use Rattle.cq_position.specs.declared.men.Man.TheVariants.{K, Q, R, B, N, P, BlackK, BlackQ, BlackR, BlackB, BlackN, BlackP, Empty}
 use Rattle.cq_position.specs.Board.{Board}
 use Rattle.cq_position.specs.Men.{man_number}
 use Rattle.cq_position.specs.Games.{Game, Node, node_at, is_searched, searched}
@@ -88,3 +89,39 @@ pub all_nodes : (g : Game) (variations : Bool) (set k : ℕ) → k ≡ length g.
     → (b : ℕ) → has_bit set b ≡ has_man_in (record { game = g; variations = variations }) b
 unfolding has_man_in searched
 all_nodes g variations set k all so b = so b ∙ ap (λ n. men_in variations g.nodes n b) all
+
+-- ---- all men
+
+number_below : (m : Man) → man_number m < 13
+number_below K = omega (arith)
+number_below Q = omega (arith)
+number_below R = omega (arith)
+number_below B = omega (arith)
+number_below N = omega (arith)
+number_below P = omega (arith)
+number_below BlackK = omega (arith)
+number_below BlackQ = omega (arith)
+number_below BlackR = omega (arith)
+number_below BlackB = omega (arith)
+number_below BlackN = omega (arith)
+number_below BlackP = omega (arith)
+number_below Empty = omega (arith)
+
+none_above : (men : List Man) (b : ℕ) → 13 ≤ b → list_any (λ m. man_number m == b) men ≡ false
+none_above [] b above = refl
+none_above (m ∷ men) b above =
+    ap₂ (λ s t. s || t) (false_from_ne_true (man_number m == b) (λ e. omega (arith, number_below m, eqb-true (man_number m) b e, above)))
+    (none_above men b above)
+
+and_false : (t : Bool) → (t && false) ≡ false
+and_false true = refl
+and_false false = refl
+
+-- a position adds nothing to the set of all men
+pub nothing_new : (set b : ℕ) (t : Bool) (p : Board) → set ≡ 8191 → has_bit set b ≡ (has_bit set b || (t && has_man p b))
+unfolding has_man
+nothing_new set b t p is = ⊎_elim
+    (λ below. let one : has_bit set b ≡ true = ap (λ n. n == 1) (ap (λ n. bit_at n b) is ∙ bit_at_ones 13 b below) in
+    one ∙ sym (ap (λ s. s || (t && list_any (λ m. man_number m == b) p.men)) one))
+    (λ above. sym (ap (λ s. has_bit set b || (t && s)) (none_above p.men b above) ∙ ap (λ s. has_bit set b || s) (and_false t) ∙ or_false (has_bit set b)))
+    (cases_lt b 13)

@@ -16,6 +16,9 @@ use cq_position::{GameResult, Man, Move, Position};
 use std::alloc::Global;
 use std::marker::Model;
 
+/// The set of all men, the empty square included.
+const ALL_MEN: u16 = (1 << 13) - 1;
+
 /// A game: its tags, its result, and the tree of its positions, which contracts see as a list of nodes.
 ///
 /// Nodes are numbered from 0 in preorder. Node 0 is the root; it has the starting position. Each other node has the position to which a
@@ -259,13 +262,14 @@ impl Game {
         men
     }
 
-    // The men, and those of a node where it is searched.
+    // The men, and those of a node where it is searched. To all of them no position adds one.
+    #[tactic(auto, using(crate::proofs::Men::nothing_new))]
     fn with_men_at(&self, men: u16, variations: bool, k: u32) -> u16
         requires { k < length self.now.nodes }
         ensures { (b : ℕ) → (bit_at result b == 1)
             ≡ ((bit_at men b == 1) || (is_searched variations self.now.nodes k && has_man (node_at self.now.nodes k).position b)) }
     {
-        if variations || self.is_main(k) {
+        if men != ALL_MEN && (variations || self.is_main(k)) {
             return with_men_of(men, self.position(k));
         }
         men
