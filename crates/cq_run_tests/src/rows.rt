@@ -15,10 +15,10 @@ const USAGE: &str =
     "usage: cqlpgn MODE QUERY [ARCHIVE] [--workers N] [--seed S] [--games G] [--limit B]\n";
 
 /// A game as it is written: its FEN text or none, its result and its movetext.
-pub type Written<'a> = (&'a str, &'a str, &'a str);
+pub(crate) type Written<'a> = (&'a str, &'a str, &'a str);
 
 /// The text of a game in export format, whose tags have their defaults.
-pub fn written(alloc: Global, game: Written<'_>) -> Result<Bytes, NoMemory> {
+pub(crate) fn written(alloc: Global, game: Written<'_>) -> Result<Bytes, NoMemory> {
     let (fen, result, movetext) = game;
     let mut text = Bytes::new(alloc);
     text.push_all(b"[Event \"?\"]\n[Site \"?\"]\n[Date \"????.??.??\"]\n[Round \"?\"]\n")?;
@@ -37,7 +37,7 @@ pub fn written(alloc: Global, game: Written<'_>) -> Result<Bytes, NoMemory> {
 }
 
 /// The words as a command has them.
-pub fn texts_of(alloc: Global, words: &[&str]) -> Result<Vec<String>, AllocError> {
+pub(crate) fn texts_of(alloc: Global, words: &[&str]) -> Result<Vec<String>, AllocError> {
     let mut texts = Vec::new(alloc);
     for word in words {
         texts.push(String::from_str(alloc, word)?)?;
@@ -46,7 +46,7 @@ pub fn texts_of(alloc: Global, words: &[&str]) -> Result<Vec<String>, AllocError
 }
 
 /// A desk with these files, each a name and what it holds. The name `-` is standard input.
-pub fn desk_of(alloc: Global, files: &[(&str, &str)]) -> Result<SureDesk, NoMemory> {
+pub(crate) fn desk_of(alloc: Global, files: &[(&str, &str)]) -> Result<SureDesk, NoMemory> {
     let mut desk = SureDesk::new(alloc);
     for (name, bytes) in files {
         desk.add(name.as_bytes(), bytes.as_bytes())?;
@@ -55,7 +55,7 @@ pub fn desk_of(alloc: Global, files: &[(&str, &str)]) -> Result<SureDesk, NoMemo
 }
 
 /// Asks that words over some files are answered so, and that the sinks have taken these texts.
-pub fn expect<R: Threads + Sync + Abort>(
+pub(crate) fn expect<R: Threads + Sync + Abort>(
     rt: &R,
     alloc: Global,
     words: &[&str],
