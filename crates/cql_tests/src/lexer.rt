@@ -48,11 +48,11 @@ fn borrowed(kind: &QueryTokenKind) -> Seen<'_> {
 /// Asks that a query has these tokens.
 fn gives(rt: &impl Abort, alloc: Global, query: &[u8], wanted: &[(u32, Seen)]) -> Result<(), Fail> {
     let tokens = query_tokens(alloc, query)?;
-    let mut found = Vec::new(alloc);
-    for token in tokens.iter() {
-        found.push((token.at, borrowed(&token.kind)))?;
+    assert_eq!(rt; tokens.len(), wanted.len(), "in {query:?}");
+    for (token, (at, kind)) in tokens.iter().zip(wanted) {
+        assert_eq!(rt; token.at, *at, "in {query:?}");
+        assert_eq!(rt; borrowed(&token.kind), *kind, "in {query:?}");
     }
-    assert_eq!(rt; found.as_slice(), wanted, "in {query:?}");
     Ok(())
 }
 
