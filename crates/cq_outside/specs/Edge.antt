@@ -1,5 +1,7 @@
 -- What contracts see of the real edge: a desk over the real files, and a sink over a real stream.
-use Rattle.std.specs.Prelude.{◌≡◌, ℕ, List, [], codes, Option, Some}
+use Rattle.std.specs.Prelude.{◌≡◌, ℕ, ◌<◌, ◌⊎◌, List, [], length, codes, Option, Some, Result, Ok, Err, OnOk, OnErr, IsUtf8}
+use Rattle.cq_outside.specs.declared.faults.Failed.{Failed}
+use Rattle.cq_outside.specs.declared.faults.OpenFault.{OpenFault}
 use Rattle.cq_outside.specs.declared.edge.Current.{Current}
 use Rattle.cq_outside.specs.declared.edge.Current.TheVariants.{Nothing, Input, File}
 
@@ -29,7 +31,36 @@ IsOpened name Nothing = ⊥
 IsOpened name Input = name ≡ codes "-"
 IsOpened name (File _) = name ≡ codes "-" → ⊥
 
+-- what reads of a stream give, by the bytes left of it; what writes give, by the bytes that it holds and those that are written
+abbrev pub Reads : Type 1
+Reads = Option (List ℕ) → Result ℕ Failed → Type 0
+
+abbrev pub Writes : Type 1
+Writes = Option (List ℕ) → List ℕ → Result ℕ Failed → Type 0
+
+-- A read of the desk answers what the one read gave of what is open; where nothing is open there is nothing to read.
+abbrev pub IsReadOf : Reads → Reads → RealDesk → Result ℕ Failed → Type 0
+IsReadOf of_input of_file desk result =
+    elim desk.current [ Nothing ↦ result ≡ Ok 0 | Input ↦ of_input desk.input result | File left ↦ of_file left result ]
+
+-- what is open is standard input, or the file that was opened by this name
+abbrev pub IsFileOf : (List ℕ → Option (List ℕ) → Type 0) → List ℕ → Current (Option (List ℕ)) → Type 0
+IsFileOf opened name Nothing = ⊥
+IsFileOf opened name Input = name ≡ codes "-"
+IsFileOf opened name (File left) = opened name left
+
+-- A name could be opened, or the system refused the file of this name; a name that is no text names no file.
+abbrev pub IsOpenedBy : (List ℕ → Option (List ℕ) → Type 0) → (List ℕ → Type 0) → List ℕ → RealDesk → Result (Unit {0}) OpenFault → Type 0
+IsOpenedBy opened refused name desk (Ok _) = IsFileOf opened name desk.current
+IsOpenedBy opened refused name desk (Err _) = IsUtf8 name → refused name
+
 -- a sink over a real stream: how many writes have failed, and the bytes that the stream holds, where it tells them
 pub record RealSink : Type 0 where
   pub faults : ℕ
   pub contents : Option (List ℕ)
+
+-- A write to the sink answers what the one write gave; one that took none of the bytes that there are has failed.
+abbrev pub IsWriteOf : Writes → RealSink → List ℕ → Result ℕ Failed → Type 0
+IsWriteOf of_writer sink bytes (Ok n) = of_writer sink.contents bytes (Ok n)
+IsWriteOf of_writer sink bytes (Err e) =
+    of_writer sink.contents bytes (Err e) ⊎ ((0 < length bytes) × of_writer sink.contents bytes (Ok 0))

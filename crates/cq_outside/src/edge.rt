@@ -1,8 +1,8 @@
 //! The trusted edge: a desk over the real files, and a sink over a real stream. They tell their bytes as far as the
-//! readers and the writer that they stand on tell theirs. An interrupted call counts as failed, as any other error does.
-ghost use Rattle.std.specs.Prelude.{◌≡◌, ◌≤◌, ◌<◌, None, length, codes, IfOk, IsOk, OnOk, OnErr, IsSome, IsUtf8};
+//! readers and the writer that they stand on tell theirs. Each call answers what one call of the system gave.
+ghost use Rattle.std.specs.Prelude.{◌≡◌, ◌≤◌, ◌<◌, None, length, codes, IfOk, IfSome, IsOk, IsNone, OnOk, OnErr, IsUtf8};
 ghost use Rattle.std.specs.Io.KnownBytes.{ReadConsumes, WriteAppends};
-ghost use Rattle.cq_outside.specs.Edge.{left_of, with_left, IsOpened};
+ghost use Rattle.cq_outside.specs.Edge.{left_of, with_left, IsOpened, IsReadOf, IsOpenedBy, IsWriteOf};
 ghost use Rattle.cq_outside.specs.Faults.{HasCause, counted};
 ghost use Rattle.cq_outside.specs.declared.edge.Current.TheVariants.{Nothing};
 
@@ -10,11 +10,10 @@ use crate::desk::Desk;
 use crate::faults::{Failed, NoMemory, OpenFault};
 use crate::sink::Sink;
 use crate::source::Source;
+use crate::system::{Folder, Reader, Writer};
 use std::alloc::Global;
-use std::io::{Read, Write};
 use std::marker::Model;
-use std::rt::Files;
-use std::{fs, str};
+use std::str;
 
 /// The name that stands for standard input.
 const STANDARD_INPUT: &[u8] = b"-";
@@ -31,7 +30,7 @@ enum Current<F> {
 /// file. Contracts see its counts of faults, each of which stops at the last value of a `u64`, what is open, and the
 /// bytes left of it and of standard input, where their readers tell them.
 #[derive(Drop)]
-pub struct FileDesk<R: Files + Drop, I: Read + Drop> {
+pub struct FileDesk<R: Folder, I: Reader> {
     files: R,
     input: I,
     current: Current<R::File>,
@@ -39,7 +38,7 @@ pub struct FileDesk<R: Files + Drop, I: Read + Drop> {
     open_faults: u64,
 }
 
-impl<R: Files + Drop, I: Read + Drop> Model for FileDesk<R, I> {
+impl<R: Folder, I: Reader> Model for FileDesk<R, I> {
     ghost use Rattle.cq_outside.specs.Edge.{RealDesk};
     ghost use Rattle.cq_outside.specs.declared.edge.Current.TheVariants.{Nothing, Input, File};
 
@@ -48,16 +47,16 @@ impl<R: Files + Drop, I: Read + Drop> Model for FileDesk<R, I> {
     ghost view = { λ d. record {
       read_faults = d.read_faults;
       open_faults = d.open_faults;
-      input = I.remaining d.input;
-      current = elim d.current [ Nothing ↦ Nothing | Input ↦ Input | File file ↦ File (R.File.remaining file) ];
+      input = I.left d.input;
+      current = elim d.current [ Nothing ↦ Nothing | Input ↦ Input | File file ↦ File (R.File.left file) ];
     } };
 }
 
-impl<R: Files + Drop, I: Read + Drop> FileDesk<R, I> {
+impl<R: Folder, I: Reader> FileDesk<R, I> {
     /// A desk on which nothing is open, over the runtime's files and its standard input. It takes no memory, and so
     /// is never refused.
     pub fn new(_alloc: Global, files: R, input: I) -> Result<FileDesk<R, I>, NoMemory>
-        ensures { result ≡ Ok (record { read_faults = 0; open_faults = 0; input = I.remaining input; current = Nothing }) }
+        ensures { result ≡ Ok (record { read_faults = 0; open_faults = 0; input = I.left input; current = Nothing }) }
     {
         Ok(FileDesk {
             files,
@@ -69,7 +68,7 @@ impl<R: Files + Drop, I: Read + Drop> FileDesk<R, I> {
     }
 }
 
-impl<R: Files + Drop, I: Read + Drop> Source for FileDesk<R, I> {
+impl<R: Folder, I: Reader> Source for FileDesk<R, I> {
     ghost left = { left_of };
 
     ghost faults = { λ d. d.read_faults };
@@ -81,11 +80,12 @@ impl<R: Files + Drop, I: Read + Drop> Source for FileDesk<R, I> {
         ensures bytes { ReadConsumes (left_of self.old) (left_of self.new) result buf.new }
         ensures cause { HasCause self.old.read_faults self.new.read_faults result }
         ensures same { self.new ≡ with_left (record self.old { read_faults = counted self.old.read_faults result }) (left_of self.new) }
+        ensures gave { IsReadOf I.gave R.File.gave self.old result }
     {
         let moved = match &mut self.current {
             Current::Nothing => Ok(0),
-            Current::Input => self.input.read(buf),
-            Current::File(file) => file.read(buf),
+            Current::Input => self.input.read_once(buf),
+            Current::File(file) => file.read_once(buf),
         };
         if let Ok(n) = moved {
             return Ok(n);
@@ -103,7 +103,7 @@ impl<R: Files + Drop, I: Read + Drop> Source for FileDesk<R, I> {
     ghost never_falls = { λ s t f. f.0 };
 }
 
-impl<R: Files + Drop, I: Read + Drop> Desk for FileDesk<R, I> {
+impl<R: Folder, I: Reader> Desk for FileDesk<R, I> {
     ghost told = { λ _. None };
 
     ghost open_faults = { λ d. d.open_faults };
@@ -116,6 +116,7 @@ impl<R: Files + Drop, I: Read + Drop> Desk for FileDesk<R, I> {
         ensures opened { OnOk result (IsOpened name.now self.new.current) }
         ensures same { self.new ≡ record self.old { open_faults = counted self.old.open_faults result; current = self.new.current } }
         ensures kept { OnErr result (self.new.current ≡ self.old.current) }
+        ensures gave { IsOpenedBy R.opened R.refused name.now self.new result }
     {
         if name == STANDARD_INPUT {
             self.current = Current::Input;
@@ -136,40 +137,41 @@ impl<R: Files + Drop, I: Read + Drop> Desk for FileDesk<R, I> {
     ghost keeps_open_faults = { λ s t f. f.1 };
 }
 
-/// The file of this name, opened for reading. A name that is not UTF-8 has none.
-fn file_named<R: Files>(files: &R, name: &[u8]) -> Option<R::File>
-    ensures { IsSome result → IsUtf8 name.now }
+// The file of this name, opened for reading. A name that is not UTF-8 has none.
+fn file_named<R: Folder>(files: &R, name: &[u8]) -> Option<R::File>
+    ensures opened { IfSome result (λ file. IsUtf8 name.now × R.opened name.now (R.File.left file)) }
+    ensures refused { IsNone result → IsUtf8 name.now → R.refused name.now }
 {
     let path = str::from_utf8(name).ok()?;
-    fs::open(files, path).ok()
+    files.open_file(path).ok()
 }
 
 /// A sink over a real stream. Contracts see its count of faults, which stops at the last value of a `u64`, and the
 /// bytes that the stream holds, where it tells them.
 #[derive(Drop)]
-pub struct StdSink<W: Write + Drop> {
+pub struct StdSink<W: Writer> {
     stream: W,
     faults: u64,
 }
 
-impl<W: Write + Drop> Model for StdSink<W> {
+impl<W: Writer> Model for StdSink<W> {
     ghost use Rattle.cq_outside.specs.Edge.{RealSink};
 
     ghost Value = { RealSink };
 
-    ghost view = { λ s. record { faults = s.faults; contents = W.contents s.stream } };
+    ghost view = { λ s. record { faults = s.faults; contents = W.holds s.stream } };
 }
 
-impl<W: Write + Drop> StdSink<W> {
+impl<W: Writer> StdSink<W> {
     /// A sink over this stream. It takes no memory, and so is never refused.
     pub fn new(_alloc: Global, stream: W) -> Result<StdSink<W>, NoMemory>
-        ensures { result ≡ Ok (record { faults = 0; contents = W.contents stream }) }
+        ensures { result ≡ Ok (record { faults = 0; contents = W.holds stream }) }
     {
         Ok(StdSink { stream, faults: 0 })
     }
 }
 
-impl<W: Write + Drop> Sink for StdSink<W> {
+impl<W: Writer> Sink for StdSink<W> {
     ghost taken = { λ _. None };
 
     ghost faults = { λ s. s.faults };
@@ -181,8 +183,9 @@ impl<W: Write + Drop> Sink for StdSink<W> {
         ensures bytes { WriteAppends self.old.contents self.new.contents result bytes.now }
         ensures cause { HasCause self.old.faults self.new.faults result }
         ensures counts { self.new.faults ≡ counted self.old.faults result }
+        ensures gave { IsWriteOf W.gave self.old bytes.now result }
     {
-        match self.stream.write(bytes) {
+        match self.stream.write_once(bytes) {
             Ok(n) if n > 0 || bytes.is_empty() => Ok(n),
             _ => {
                 self.faults = self.faults.saturating_add(1);

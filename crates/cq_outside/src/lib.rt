@@ -17,6 +17,7 @@ pub mod steps;
 pub mod sure_desk;
 pub mod sure_sink;
 pub mod sure_source;
+pub mod system;
 pub mod text;
 
 pub use bytes::Bytes;

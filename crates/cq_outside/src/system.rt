@@ -1,0 +1,89 @@
+//! What the real edge asks of the system: one read, one write, one opening of a file. What such a call gave is a relation of
+//! which only the call itself tells, so whoever is generic over these traits can't pretend that the system failed, or
+//! that it opened a file of another name.
+ghost use Rattle.std.specs.Prelude.{◌≤◌, List, ℕ, Option, Result, length, IfOk, OnErr};
+ghost use Rattle.std.specs.Io.KnownBytes.{ReadConsumes, WriteAppends};
+ghost use Rattle.cq_outside.specs.declared.faults.Failed.{Failed as Failure};
+
+use crate::faults::Failed;
+use std::fs;
+use std::io::{Read, Write};
+use std::rt::Files;
+
+/// A stream of the system that is read.
+pub trait Reader: Drop {
+    /// The bytes that are left, where the reader tells them.
+    ghost left: { Self → Option (List ℕ) };
+
+    /// What one read gave of a reader with these bytes left.
+    ghost gave: { Option (List ℕ) → Result ℕ Failure → Type 0 };
+
+    /// Reads once, some bytes to the start of `buf`. An interrupted read has failed, as any other error does.
+    fn read_once(&mut self, buf: &mut [u8]) -> Result<usize, Failed>
+        ensures bound { IfOk result (λ n. n ≤ length buf.old) }
+        ensures bytes { ReadConsumes (left self.old) (left self.new) result buf.new }
+        ensures gave { gave (left self.old) result };
+}
+
+impl<I: Read + Drop> Reader for I {
+    ghost left = { I.remaining };
+
+    ghost gave = { λ _ _. Unit {0} };
+
+    fn read_once(&mut self, buf: &mut [u8]) -> Result<usize, Failed> {
+        self.read(buf).map_err(|_| Failed)
+    }
+}
+
+/// A stream of the system that is written to.
+pub trait Writer: Drop {
+    /// The bytes that the stream holds, where the writer tells them.
+    ghost holds: { Self → Option (List ℕ) };
+
+    /// What one write of some bytes gave of a writer that held these.
+    ghost gave: { Option (List ℕ) → List ℕ → Result ℕ Failure → Type 0 };
+
+    /// Writes once, some bytes from the start of `bytes`. An interrupted write has failed, as any other error does.
+    fn write_once(&mut self, bytes: &[u8]) -> Result<usize, Failed>
+        ensures bound { IfOk result (λ n. n ≤ length bytes.now) }
+        ensures bytes { WriteAppends (holds self.old) (holds self.new) result bytes.now }
+        ensures gave { gave (holds self.old) bytes.now result };
+}
+
+impl<W: Write + Drop> Writer for W {
+    ghost holds = { W.contents };
+
+    ghost gave = { λ _ _ _. Unit {0} };
+
+    fn write_once(&mut self, bytes: &[u8]) -> Result<usize, Failed> {
+        self.write(bytes).map_err(|_| Failed)
+    }
+}
+
+/// The files of the system by name.
+pub trait Folder: Drop {
+    type File: Reader;
+
+    /// A file of this name was opened, and these bytes are left of it where its reader tells them.
+    ghost opened: { List ℕ → Option (List ℕ) → Type 0 };
+
+    /// No file of this name could be opened.
+    ghost refused: { List ℕ → Type 0 };
+
+    /// Opens the file of this name for reading.
+    fn open_file(&self, name: &str) -> Result<Self::File, Failed>
+        ensures opened { IfOk result (λ file. opened name.now (Self.File.left file)) }
+        ensures refused { OnErr result (refused name.now) };
+}
+
+impl<R: Files + Drop> Folder for R {
+    type File = R::File;
+
+    ghost opened = { λ _ _. Unit {0} };
+
+    ghost refused = { λ _. Unit {0} };
+
+    fn open_file(&self, name: &str) -> Result<R::File, Failed> {
+        fs::open(self, name).map_err(|_| Failed)
+    }
+}
