@@ -1,8 +1,11 @@
+pub mod Calls
 pub mod Edge
 pub mod Faults
 pub mod Flow
 pub mod Greatest
 pub mod Kept
+pub mod MemDesk
+pub mod MemSink
 pub mod MemSource
 pub mod ReadLaws
 pub mod Refusals

@@ -1,6 +1,6 @@
 -- A source in memory that gives its bytes in pieces, and some of whose reads fail.
-use Rattle.std.specs.Prelude.{◌≡◌, ℕ, ◌+◌, ◌-◌, ◌^◌, ◌==◌, nat_lt, min, Bool, if◌then◌else◌, List, [], ◌∷◌, drop, length, Result, Ok, Err}
-use Rattle.std.specs.List.{list_any}
+use Rattle.std.specs.Prelude.{◌≡◌, ℕ, min, Bool, if◌then◌else◌, List, [], ◌∷◌, drop, length, Result, Ok, Err}
+use Rattle.cq_outside.specs.Calls.{one_more, is_listed}
 use Rattle.cq_outside.specs.declared.faults.Failed.{Failed}
 
 -- the bytes that are left, how many of them a read gives at most, the numbers of the reads that fail, and how many reads
@@ -12,13 +12,9 @@ pub record FailingSource : Type 0 where
   pub reads : ℕ
   pub faults : ℕ
 
--- a count after one more, which stops at the last value of a u64
-abbrev pub one_more : ℕ → ℕ
-one_more count = if nat_lt count (2 ^ 64 - 1) then count + 1 else count
-
 -- whether the next read fails: its number is one of those that are given, where the first read has the number 1
 abbrev pub fails_next : FailingSource → Bool
-fails_next source = list_any (λ number. number == one_more source.reads) source.fails
+fails_next source = is_listed source.fails (one_more source.reads)
 
 -- how many bytes a read that doesn't fail moves to a buffer of this length
 abbrev pub moved_to : FailingSource → ℕ → ℕ

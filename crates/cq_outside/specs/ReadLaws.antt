@@ -2,7 +2,8 @@
 use Rattle.std.specs.Prelude.{◌≡◌, ℕ, ◌≤◌, ◌-◌, ◌^◌, List, [], ◌∷◌, ◌++◌, Bool, true, false, nat_lt, if◌then◌else◌}
 use Rattle.std.proofs.Common.{refl, sym, ap, ◌∙◌, subst, le_refl, le_trans}
 use Rattle.std.proofs.Math.Nat.{le-add_right}
-use Rattle.cq_outside.specs.MemSource.{FailingSource, one_more, fails_next, after_read, after_reads, Follows}
+use Rattle.cq_outside.specs.Calls.{one_more}
+use Rattle.cq_outside.specs.MemSource.{FailingSource, fails_next, after_read, after_reads, Follows}
 
 -- every source follows itself
 pub follows_itself : (s : FailingSource) → Follows s s

@@ -3,12 +3,16 @@
 //! space and decimal digits, which are the same in PGN and in queries; and a counter of steps.
 #![tactic(auto)]
 
+mod by_name;
 pub mod bytes;
+pub mod calls;
 pub mod desk;
 pub mod edge;
 pub mod faults;
 pub mod gate;
 pub mod laws;
+pub mod mem_desk;
+pub mod mem_sink;
 pub mod mem_source;
 pub mod pieces;
 pub mod sink;
@@ -21,10 +25,13 @@ pub mod system;
 pub mod text;
 
 pub use bytes::Bytes;
+pub use calls::Calls;
 pub use desk::Desk;
 pub use edge::{FileDesk, StdSink};
 pub use faults::{Failed, NoMemory, OpenFault, Refusal};
 pub use gate::{Gate, OpenGate};
+pub use mem_desk::MemDesk;
+pub use mem_sink::MemSink;
 pub use mem_source::MemSource;
 pub use pieces::{read_piece, read_up_to, write_all_of};
 pub use sink::Sink;

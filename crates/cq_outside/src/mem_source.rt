@@ -1,10 +1,12 @@
 //! A source in memory that gives its bytes in pieces, and fails where it is told to.
-ghost use Rattle.std.specs.Prelude.{◌≡◌, ◌≤◌, ◌↔◌, Some, length, Contains, IfOk, IsErr};
+ghost use Rattle.std.specs.Prelude.{◌≡◌, ◌≤◌, ◌↔◌, [], Some, length, Contains, IfOk, IsErr};
 ghost use Rattle.std.specs.Io.KnownBytes.{ReadConsumes};
 ghost use Rattle.cq_outside.specs.Faults.{HasCause};
-ghost use Rattle.cq_outside.specs.MemSource.{Follows, after_read, answer_of, one_more};
+ghost use Rattle.cq_outside.specs.Calls.{one_more};
+ghost use Rattle.cq_outside.specs.MemSource.{Follows, after_read, answer_of};
 
 use crate::bytes::Bytes;
+use crate::calls::Calls;
 use crate::faults::{Failed, NoMemory};
 use crate::source::Source;
 use crate::sure_source::SureSource;
@@ -17,7 +19,7 @@ use std::marker::Model;
 pub struct MemSource {
     rest: SureSource,
     piece: usize,
-    fails: Vec<u64>,
+    fails: Calls,
     reads: u64,
     faults: u64,
 }
@@ -28,7 +30,7 @@ impl Model for MemSource {
 
     ghost Value = { FailingSource };
 
-    ghost view = { λ s. record { left = s.rest; piece = s.piece; fails = s.fails.items; reads = s.reads; faults = s.faults } };
+    ghost view = { λ s. record { left = s.rest; piece = s.piece; fails = s.fails; reads = s.reads; faults = s.faults } };
 
     ghost invariant = { λ s. 1 ≤ s.piece };
 }
@@ -48,10 +50,43 @@ impl MemSource {
         Ok(MemSource {
             rest: SureSource::new(Bytes::from_slice(alloc, bytes)?),
             piece,
-            fails: Vec::from_slice(alloc, fails)?,
+            fails: Calls::of(alloc, fails)?,
             reads: 0,
             faults: 0,
         })
+    }
+
+    // A source with no bytes. Takes no memory.
+    pub(crate) fn empty(alloc: Global) -> MemSource
+        ensures { result ≡ record { left = []; piece = 1; fails = []; reads = 0; faults = 0 } }
+    {
+        MemSource {
+            rest: SureSource::new(Bytes::new(alloc)),
+            piece: 1,
+            fails: Calls::none(alloc),
+            reads: 0,
+            faults: 0,
+        }
+    }
+
+    // The same source, so many of whose reads have failed.
+    pub(crate) fn with_faults(self, faults: u64) -> MemSource
+        ensures { result ≡ record self { faults = faults } }
+    {
+        MemSource {
+            rest: self.rest,
+            piece: self.piece,
+            fails: self.fails,
+            reads: self.reads,
+            faults,
+        }
+    }
+
+    // How many reads have failed.
+    pub(crate) fn faults(&self) -> u64
+        ensures { result ≡ self.now.faults }
+    {
+        self.faults
     }
 }
 
@@ -74,7 +109,7 @@ impl Source for MemSource {
         ensures next { Follows self.old self.new }
     {
         self.reads = self.reads.saturating_add(1);
-        if self.fails.contains(&self.reads) {
+        if self.fails.has(self.reads) {
             self.faults = self.faults.saturating_add(1);
             return Err(Failed);
         }

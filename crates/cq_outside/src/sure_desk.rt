@@ -1,10 +1,11 @@
 //! A desk of files in memory that never fails.
-ghost use Rattle.std.specs.Prelude.{◌≡◌, ◌≢◌, ◌<◌, ◌≤◌, ◌++◌, List, [], ℕ, Some, length, min, take, slice_index_or, All, IfNone, IfSome, IfOk, OnOk, OnErr};
+ghost use Rattle.std.specs.Prelude.{◌≡◌, ◌≤◌, ◌++◌, List, [], ℕ, Some, length, min, IfOk, OnOk, OnErr};
 ghost use Rattle.std.specs.Io.KnownBytes.{ReadConsumes};
 ghost use Rattle.std.specs.FinMap as map;
 ghost use Rattle.cq_outside.specs.Faults.{HasCause};
 ghost use Rattle.cq_outside.specs.Told.{KnownDesk, told_of, bytes_of};
 
+use crate::by_name::{place_of, put};
 use crate::bytes::Bytes;
 use crate::desk::Desk;
 use crate::faults::{Failed, NoMemory, OpenFault};
@@ -51,34 +52,12 @@ impl SureDesk {
         ensures ok { OnOk result (self.new ≡ record self.old { files = map.insert self.old.files name.now bytes.now }) }
         ensures err { OnErr result (self.new ≡ self.old) }
     {
-        let file = (
-            Bytes::from_slice(self.alloc, name)?,
-            Bytes::from_slice(self.alloc, bytes)?,
-        );
-        match place_of(self.files.as_slice(), name) {
-            Some(place) => self.files[place] = file,
-            None => self.files.push(file)?,
-        }
-        Ok(())
+        let bytes = Bytes::from_slice(self.alloc, bytes)?;
+        put(self.alloc, &mut self.files, name, bytes)
     }
 }
 
-/// The place of the first file with this name.
-fn place_of(files: &[(Bytes, Bytes)], name: &[u8]) -> Option<usize>
-    ensures none { IfNone result (All (λ f. f.0 ≢ name.now) files.now) }
-    ensures bound { IfSome result (λ place. place < length files.now) }
-    ensures named { IfSome result (λ place. (d : List ℕ × List ℕ) → (slice_index_or files.now place d).0 ≡ name.now) }
-    ensures first { IfSome result (λ place. All (λ f. f.0 ≢ name.now) (take place files.now)) }
-{
-    for (place, file) in files.iter().enumerate() {
-        if file.0.as_slice() == name {
-            return Some(place);
-        }
-    }
-    None
-}
-
-/// A copy of the bytes of a name, of which there are none where there is no such file.
+// A copy of the bytes of a name, of which there are none where there is no such file.
 fn copy_of(alloc: Global, files: &[(Bytes, Bytes)], name: &[u8]) -> Result<Bytes, NoMemory>
     ensures { IfOk result (λ bytes. bytes ≡ bytes_of (map.from_entries files.now) name.now) }
 {

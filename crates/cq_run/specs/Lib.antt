@@ -9,3 +9,4 @@ pub mod Writing
 pub mod SelfRun
 pub mod Run
 pub mod Asked
+pub mod Command

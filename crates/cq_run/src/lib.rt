@@ -3,6 +3,7 @@
 
 mod answering;
 mod asked;
+mod command;
 mod explaining;
 mod finding;
 mod games;
@@ -14,5 +15,6 @@ mod top_call;
 mod totals;
 
 pub use answering::answer;
+pub use command::answer_command;
 pub use status::Status;
 pub use top_call::run;

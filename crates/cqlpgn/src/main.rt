@@ -1,32 +1,21 @@
 //! `cqlpgn`: the games of an archive with a position at which a query matches.
 #![tactic(auto)]
 
-use cq_outside::{FileDesk, NoMemory, OpenGate, StdSink};
-use cq_run::{Status, run};
+use cq_outside::{FileDesk, NoMemory, StdSink};
+use cq_run::answer_command;
 use std::env;
 use std::io::ErrorKind;
 use std::process::ExitCode;
 use std::rt::Env;
 
+// The real things are made here and handed over; what is done with them is the contract of `answer_command`.
 fn main(rt: HostRuntime) -> ExitCode {
     let alloc = rt.alloc();
+    let mut desk = FileDesk::new(alloc, rt, rt.stdin()).unwrap();
+    let mut out = StdSink::new(alloc, rt.stdout()).unwrap();
+    let mut err = StdSink::new(alloc, rt.stderr()).unwrap();
     let words = command_words(&rt);
-    let desk = FileDesk::new(alloc, rt, rt.stdin());
-    let out = StdSink::new(alloc, rt.stdout());
-    let err = StdSink::new(alloc, rt.stderr());
-    let status = match (words, desk, out, err) {
-        (Ok(words), Ok(mut desk), Ok(mut out), Ok(mut err)) => run(
-            &rt,
-            alloc,
-            words.as_slice(),
-            &mut desk,
-            &mut out,
-            &mut err,
-            &OpenGate,
-        ),
-        _ => Status::NoMemory,
-    };
-    ExitCode::from(status.exit_code())
+    ExitCode::from(answer_command(&rt, alloc, words, &mut desk, &mut out, &mut err))
 }
 
 // The words after the program's name. Words that are no text are none that the program takes, as no words are.

@@ -1,0 +1,54 @@
+//! Numbers of calls, by which a form in memory is told which of them fail.
+ghost use Rattle.std.specs.Prelude.{◌≡◌, ◌↔◌, List, [], ℕ, Contains, IfOk, IsTrue};
+ghost use Rattle.cq_outside.specs.Calls.{is_listed};
+
+use crate::faults::NoMemory;
+use std::alloc::Global;
+use std::marker::Model;
+
+/// Numbers of calls, where the first call has the number 1. Contracts see them as a list.
+#[derive(Drop, Debug)]
+pub struct Calls {
+    numbers: Vec<u64>,
+}
+
+impl Model for Calls {
+    ghost Value = { List ℕ };
+
+    ghost view = { λ c. c.numbers.items };
+}
+
+impl Calls {
+    /// The calls with these numbers.
+    pub fn of(alloc: Global, numbers: &[u64]) -> Result<Calls, NoMemory>
+        ensures { IfOk result (λ calls. calls ≡ numbers.now) }
+    {
+        Ok(Calls {
+            numbers: Vec::from_slice(alloc, numbers)?,
+        })
+    }
+
+    /// No calls. Takes no memory.
+    pub fn none(alloc: Global) -> Calls
+        ensures { result ≡ [] }
+    {
+        Calls {
+            numbers: Vec::new(alloc),
+        }
+    }
+
+    /// All the numbers.
+    pub fn as_slice(&self) -> &[u64]
+        ensures { result.now ≡ self.now }
+    {
+        self.numbers.as_slice()
+    }
+
+    /// Whether the call with this number is among them.
+    pub fn has(&self, number: u64) -> bool
+        ensures value { result ≡ is_listed self.now number }
+        ensures found { IsTrue result ↔ Contains self.now number }
+    {
+        self.numbers.contains(&number)
+    }
+}

@@ -1,0 +1,220 @@
+//! A desk of files in memory that gives its bytes in pieces, and fails where it is told to.
+ghost use Rattle.std.specs.Prelude.{◌≡◌, ◌≤◌, ◌↔◌, ◌||◌, [], Some, Err, true, false, is_none, length, Contains, IfOk, IfSome, IfNone, OnOk, OnErr, IsErr, IsErrOf};
+ghost use Rattle.std.specs.Io.KnownBytes.{ReadConsumes};
+ghost use Rattle.std.specs.FinMap as map;
+ghost use Rattle.cq_outside.specs.Calls.{one_more, is_listed};
+ghost use Rattle.cq_outside.specs.Faults.{HasCause, Rose};
+ghost use Rattle.cq_outside.specs.Told.{Opens};
+ghost use Rattle.cq_outside.specs.MemSource.{after_read, answer_of};
+ghost use Rattle.cq_outside.specs.MemDesk.{FailingDesk, ReadsOn, files_of, told_of, fails_next, just_opened, after_open};
+ghost use Rattle.cq_outside.specs.declared.faults.OpenFault.TheVariants.{Failed as failed, NoMemory as no_memory};
+
+use crate::by_name::{place_of, put};
+use crate::bytes::Bytes;
+use crate::calls::Calls;
+use crate::desk::Desk;
+use crate::faults::{Failed, NoMemory, OpenFault};
+use crate::mem_source::MemSource;
+use crate::source::Source;
+use std::alloc::Global;
+use std::marker::Model;
+
+/// A file of the desk.
+#[derive(Drop, Debug)]
+struct StoredFile {
+    bytes: Bytes,
+    piece: usize,
+    fails: Calls,
+}
+
+impl Model for StoredFile {
+    ghost use Rattle.std.specs.Prelude.{◌≤◌};
+    ghost use Rattle.cq_outside.specs.MemDesk.{FailingFile, file_code};
+
+    ghost Value = { FailingFile };
+
+    ghost coded = { file_code };
+
+    ghost view = { λ f. record { bytes = f.bytes; piece = f.piece; fails = f.fails } };
+
+    ghost invariant = { λ f. 1 ≤ f.piece };
+}
+
+impl StoredFile {
+    // The file once it was opened, at a desk so many of whose reads have failed.
+    fn opened(&self, alloc: Global, faults: u64) -> Result<MemSource, NoMemory>
+        ensures { IfOk result (λ source. source ≡ just_opened faults self.now) }
+    {
+        let source = MemSource::new(
+            alloc,
+            self.bytes.as_slice(),
+            self.piece,
+            self.fails.as_slice(),
+        )?;
+        Ok(source.with_faults(faults))
+    }
+}
+
+/// A desk of given files, which has none under other names. Each file gives at most so many bytes in one read, and the
+/// reads whose numbers are given with it fail, counted from its opening; the openings whose numbers the desk is given
+/// fail. The first call has the number 1. Its counts stop at the last value of a `u64`.
+#[derive(Drop, Debug)]
+pub struct MemDesk {
+    alloc: Global,
+    files: Vec<(Bytes, StoredFile)>,
+    opened: Vec<Bytes>,
+    current: MemSource,
+    fails: Calls,
+    opens: u64,
+    open_faults: u64,
+}
+
+impl Model for MemDesk {
+    ghost use Rattle.std.specs.FinMap as map;
+    ghost use Rattle.cq_outside.specs.MemDesk.{FailingDesk, desk_code};
+
+    ghost Value = { FailingDesk };
+
+    ghost coded = { desk_code };
+
+    ghost view = { λ d. record {
+      files = map.from_entries d.files.items;
+      opened = d.opened.items;
+      current = d.current;
+      fails = d.fails;
+      opens = d.opens;
+      open_faults = d.open_faults;
+    } };
+}
+
+impl MemDesk {
+    /// A desk without files, on which no file is open and no bytes are left, and whose openings with the numbers in
+    /// `fails` fail. Takes no memory.
+    pub fn new(alloc: Global, fails: Calls) -> MemDesk
+        ensures { result ≡ record {
+          files = map.empty;
+          opened = [];
+          current = record { left = []; piece = 1; fails = []; reads = 0; faults = 0 };
+          fails = fails;
+          opens = 0;
+          open_faults = 0;
+        } }
+    {
+        MemDesk {
+            alloc,
+            files: Vec::new(alloc),
+            opened: Vec::new(alloc),
+            current: MemSource::empty(alloc),
+            fails,
+            opens: 0,
+            open_faults: 0,
+        }
+    }
+
+    /// Gives a name these bytes, of which a read gives at most `piece`, and whose reads with the numbers in `fails` fail, in
+    /// place of the file that the name had. The file that is open stays as it is.
+    pub fn add(
+        &mut self,
+        name: &[u8],
+        bytes: &[u8],
+        piece: usize,
+        fails: &[u64],
+    ) -> Result<(), NoMemory>
+        requires { 1 ≤ piece }
+        ensures ok { OnOk result (self.new ≡ record self.old { files =
+            map.insert self.old.files name.now (record { bytes = bytes.now; piece = piece; fails = fails.now }) }) }
+        ensures err { OnErr result (self.new ≡ self.old) }
+    {
+        let file = StoredFile {
+            bytes: Bytes::from_slice(self.alloc, bytes)?,
+            piece,
+            fails: Calls::of(self.alloc, fails)?,
+        };
+        put(self.alloc, &mut self.files, name, file)
+    }
+}
+
+// The file of this name, where there is one and the opening with this number does not fail.
+#[tactic(auto, using(crate::proofs::Entries::entry_at, crate::proofs::Entries::no_entry))]
+fn file_to_open<'a>(
+    files: &'a [(Bytes, StoredFile)],
+    fails: &Calls,
+    number: u64,
+    name: &[u8],
+) -> Option<&'a StoredFile>
+    ensures none { IfNone result ((is_listed fails.now number || is_none (map.get (files_of files.now) name.now)) ≡ true) }
+    ensures some { IfSome result (λ file. (is_listed fails.now number ≡ false) × (map.get (files_of files.now) name.now ≡ Some file.now)) }
+{
+    if fails.has(number) {
+        return None;
+    }
+    let place = place_of(files, name)?;
+    Some(&files[place].1)
+}
+
+impl Source for MemDesk {
+    ghost left = { λ d. Some d.current.left };
+
+    ghost faults = { λ d. d.current.faults };
+
+    ghost follows = { ReadsOn };
+
+    /// Fails where the number of this read since the file was opened is one of those given with it, and else moves as
+    /// many bytes as are left, fit `buf` and make up a piece at most.
+    fn read(&mut self, buf: &mut [u8]) -> Result<usize, Failed>
+        ensures answer { result ≡ answer_of self.old.current (length buf.old) }
+        ensures listed { IsErr result ↔ Contains self.old.current.fails (one_more self.old.current.reads) }
+        ensures state { self.new ≡ record self.old { current = after_read self.old.current (length buf.old) } }
+        ensures bound { IfOk result (λ n. n ≤ length buf.old) }
+        ensures bytes { ReadConsumes (Some self.old.current.left) (Some self.new.current.left) result buf.new }
+        ensures cause { HasCause self.old.current.faults self.new.current.faults result }
+        ensures next { ReadsOn self.old self.new }
+    {
+        self.current.read(buf)
+    }
+
+    ghost use Rattle.std.proofs.Common.{refl, ap, ◌∙◌};
+    ghost use Rattle.cq_outside.specs.ReadLaws.{follows_itself, follows_on, faults_never_fall};
+
+    ghost follows_same = { λ s. (refl, follows_itself s.current) };
+
+    ghost follows_on = { λ s t u f g. (g.0 ∙ ap (λ (d : FailingDesk). record d { current = u.current }) f.0, follows_on s.current t.current u.current f.1 g.1) };
+
+    ghost never_falls = { λ s t f. faults_never_fall s.current t.current f.1 };
+}
+
+impl Desk for MemDesk {
+    ghost told = { λ d. Some (told_of d) };
+
+    ghost open_faults = { λ d. d.open_faults };
+
+    /// Fails where the number of this opening is one of those given, or there is no file of this name.
+    fn open(&mut self, alloc: Global, name: &[u8]) -> Result<(), OpenFault>
+        ensures fails { (result ≡ Err failed) ↔ (fails_next self.old name.now ≡ true) }
+        ensures state { (result ≡ Err no_memory → ⊥) → self.new ≡ after_open self.old name.now }
+        ensures refused { result ≡ Err no_memory → self.new ≡ record self.old { opens = one_more self.old.opens } }
+        ensures opened { OnOk result (Opens (Some (told_of self.old)) (Some (told_of self.new)) name.now (Some self.new.current.left)) }
+        ensures told { OnErr result (told_of self.new ≡ told_of self.old) }
+        ensures current { OnErr result (self.new.current ≡ self.old.current) }
+        ensures reads { self.new.current.faults ≡ self.old.current.faults }
+        ensures later { self.old.open_faults ≤ self.new.open_faults }
+        ensures rose { IsErrOf result failed → Rose self.old.open_faults self.new.open_faults }
+        ensures same { (IsErrOf result failed → ⊥) → self.new.open_faults ≡ self.old.open_faults }
+    {
+        self.opens = self.opens.saturating_add(1);
+        let Some(file) = file_to_open(self.files.as_slice(), &self.fails, self.opens, name) else {
+            self.open_faults = self.open_faults.saturating_add(1);
+            return Err(OpenFault::Failed);
+        };
+        let source = file.opened(alloc, self.current.faults())?;
+        self.opened.push(Bytes::from_slice(alloc, name)?)?;
+        self.current = source;
+        Ok(())
+    }
+
+    ghost use Rattle.std.proofs.Common.{refl, ap};
+
+    ghost keeps_told = { λ s t f. ap (λ (d : FailingDesk). Some (told_of d)) f.0 };
+
+    ghost keeps_open_faults = { λ s t f. ap (λ (d : FailingDesk). d.open_faults) f.0 };
+}

@@ -1,0 +1,98 @@
+//! A sink in memory that takes pieces of what is written, and fails where it is told to.
+ghost use Rattle.std.specs.Prelude.{◌≡◌, ◌≤◌, ◌<◌, ◌↔◌, Some, length, Contains, IfOk, IsErr, []};
+ghost use Rattle.std.specs.Option.{option_copied};
+ghost use Rattle.cq_outside.specs.Faults.{HasCause};
+ghost use Rattle.cq_outside.specs.Flow.{WriteTakes};
+ghost use Rattle.cq_outside.specs.Calls.{one_more};
+ghost use Rattle.cq_outside.specs.MemSink.{after_write, answer_of};
+
+use crate::calls::Calls;
+use crate::faults::{Failed, NoMemory};
+use crate::sink::Sink;
+use crate::sure_sink::SureSink;
+use std::alloc::Global;
+use std::marker::Model;
+
+/// A sink that takes at most so many bytes of one write, and keeps them as long as they fit its room. The writes whose
+/// numbers are given fail, where the first write has the number 1. The counts of its writes and of its faults stop at the
+/// last value of a `u64`.
+#[derive(Drop, Debug)]
+pub struct MemSink {
+    kept: SureSink,
+    piece: usize,
+    fails: Calls,
+    writes: u64,
+    faults: u64,
+}
+
+impl Model for MemSink {
+    ghost use Rattle.std.specs.Prelude.{◌≤◌};
+    ghost use Rattle.cq_outside.specs.MemSink.{FailingSink};
+
+    ghost Value = { FailingSink };
+
+    ghost view = { λ s. record {
+      room = s.kept.room;
+      taken = s.kept.taken;
+      piece = s.piece;
+      fails = s.fails;
+      writes = s.writes;
+      faults = s.faults;
+    } };
+
+    ghost invariant = { λ s. 1 ≤ s.piece };
+}
+
+impl MemSink {
+    /// A sink that has taken nothing, with room for `room` bytes, that takes at most `piece` bytes of one write, and
+    /// fails at the writes whose numbers are in `fails`. It takes all its memory here.
+    pub fn new(
+        alloc: Global,
+        room: usize,
+        piece: usize,
+        fails: Calls,
+    ) -> Result<MemSink, NoMemory>
+        requires { 1 ≤ piece }
+        ensures { IfOk result (λ sink. sink ≡ record { room = room; taken = Some []; piece = piece; fails = fails; writes = 0; faults = 0 }) }
+    {
+        Ok(MemSink {
+            kept: SureSink::new(alloc, room)?,
+            piece,
+            fails,
+            writes: 0,
+            faults: 0,
+        })
+    }
+
+    /// The bytes taken, where they fit the room.
+    pub fn taken(&self) -> Option<&[u8]>
+        ensures { option_copied result ≡ self.now.taken }
+    {
+        self.kept.taken()
+    }
+}
+
+impl Sink for MemSink {
+    ghost taken = { λ s. s.taken };
+
+    ghost faults = { λ s. s.faults };
+
+    /// Fails where the number of this write is one of those given, and else takes as many bytes as make up a piece at most.
+    fn write(&mut self, bytes: &[u8]) -> Result<usize, Failed>
+        ensures answer { result ≡ answer_of self.old bytes.now }
+        ensures listed { IsErr result ↔ Contains self.old.fails (one_more self.old.writes) }
+        ensures state { self.new ≡ after_write self.old bytes.now }
+        ensures bound { IfOk result (λ n. n ≤ length bytes.now) }
+        ensures moves { IfOk result (λ n. 0 < length bytes.now → 0 < n) }
+        ensures bytes { WriteTakes self.old.taken self.new.taken result bytes.now }
+        ensures cause { HasCause self.old.faults self.new.faults result }
+    {
+        self.writes = self.writes.saturating_add(1);
+        if self.fails.has(self.writes) {
+            self.faults = self.faults.saturating_add(1);
+            return Err(Failed);
+        }
+        let most = self.piece.min(bytes.len());
+        self.kept.write(&bytes[..most])
+    }
+}
