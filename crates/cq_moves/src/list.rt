@@ -140,7 +140,7 @@ fn add_move(
 
 /// The lowest square of a set that is not empty.
 #[inline]
-pub(crate) fn lowest_square(set: u64) -> Square
+pub fn lowest_square(set: u64) -> Square
     requires { 0 < set }
     ensures value { result ≡ trailing_zeros w64 set }
     ensures board { result < 64 }

@@ -154,19 +154,19 @@ all_reversed p (x ∷ xs) =
       | false ↦ and_false (list_all p xs)
     ]
 
-open_both_ways : (occupied : ℕ → Bool) (a b : ℕ) → b < 64 → is_open occupied a b ≡ is_open occupied b a
+pub open_both_ways : (occupied : ℕ → Bool) (a b : ℕ) → b < 64 → is_open occupied a b ≡ is_open occupied b a
 open_both_ways occupied a b h =
     ap (list_all (λ q. not (occupied q))) (between_reversed b a h) ∙ all_reversed (λ q. not (occupied q)) (between_squares b a)
 
 eqb_back : (m n : ℕ) → (m == n) ≡ (n == m)
 eqb_back m n = grind (arith, nat_tests)
 
-orthogonal_both_ways : (a b : ℕ) → is_orthogonal a b ≡ is_orthogonal b a
+pub orthogonal_both_ways : (a b : ℕ) → is_orthogonal a b ≡ is_orthogonal b a
 orthogonal_both_ways a b =
     ap₂ (λ x y. not x && y) (eqb_back a b)
     (ap₂ (λ x y. x || y) (eqb_back (file_of a) (file_of b)) (eqb_back (rank_of a) (rank_of b)))
 
-diagonal_both_ways : (a b : ℕ) → is_diagonal a b ≡ is_diagonal b a
+pub diagonal_both_ways : (a b : ℕ) → is_diagonal a b ≡ is_diagonal b a
 diagonal_both_ways a b =
     ap₂ (λ x y. not x && y) (eqb_back a b)
     (ap₂ (λ x y. x || y) (eqb_back (rising_of a) (rising_of b)) (eqb_back (falling_of a) (falling_of b)))

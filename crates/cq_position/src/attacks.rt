@@ -77,9 +77,9 @@ pub fn is_occupied(men: &[Man; 64], square: Square) -> bool
     !stands(men, square, Man::Empty)
 }
 
-// The squares that the man attacks from a square.
+/// The squares that a man attacks from a square of this board: bit k of the answer is square k.
 #[tactic(auto, using(crate::proofs::Marked::marks_none))]
-fn squares_attacked(man: Man, men: &[Man; 64], from: Square) -> u64
+pub fn squares_attacked(man: Man, men: &[Man; 64], from: Square) -> u64
     requires { from < 64 }
     ensures { IsBitboard result (attack.attacks_as man (attack.is_occupied men.now) from) }
 {

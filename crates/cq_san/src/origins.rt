@@ -8,7 +8,7 @@ use crate::fit::agrees_in_parts;
 use crate::parts::PieceMove;
 use arrayvec::ArrayVec;
 use cq_geometry::Square;
-use cq_moves::{is_castling, is_legal};
+use cq_moves::{is_castling, is_legal, lowest_square, origins_to};
 use cq_position::home::king_home;
 use cq_position::{Move, Position, Promotion, Side};
 
@@ -17,8 +17,10 @@ pub(crate) fn origins(position: &Position, parts: &PieceMove) -> ArrayVec<Square
     ensures { result.items ≡ origin.origins position.now parts.now }
 {
     let mut found = ArrayVec::new();
-    for number in 0..64 {
-        let from = Square::new(number);
+    let mut left = origins_to(position, parts.piece, parts.goal);
+    while left != 0 {
+        let from = lowest_square(left);
+        left &= !(1 << from.number());
         if is_origin(position, parts, from) {
             found.push(from);
         }
