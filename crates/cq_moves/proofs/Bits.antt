@@ -10,7 +10,7 @@ use Rattle.std.proofs.lemmas.Nat.Bits.{bit_at-trailing_zeros, bit_at_clear_same,
 use Rattle.cq_geometry.specs.Squares.{squares}
 use Rattle.cq_position.specs.declared.moves.Move.{Move}
 
-abbrev has_bit : ℕ → ℕ → Bool
+abbrev pub has_bit : ℕ → ℕ → Bool
 has_bit mask square = bit_at mask square == 1
 
 -- the squares of a set
@@ -123,7 +123,7 @@ room_for_next part whole found mask square now e r room =
     )
 
 -- ---- a walk by the lowest square
-first_square : (mask square bit : ℕ) → 0 < mask → mask < 2 ^ 64 → square ≡ trailing_zeros w64 mask → bit ≡ square
+pub first_square : (mask square bit : ℕ) → 0 < mask → mask < 2 ^ 64 → square ≡ trailing_zeros w64 mask → bit ≡ square
     → set_squares mask ≡ square ∷ set_squares (cleared mask bit)
 first_square mask square bit some fits e f =
     (next_square mask some fits).1 ∙ ap₂ (λ s b. s ∷ set_squares (cleared mask b)) (sym e) (sym (f ∙ e))

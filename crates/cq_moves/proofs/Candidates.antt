@@ -34,12 +34,12 @@ steps_ahead : (side : Side) (a b : ℕ) → a < 64 → b < 64 → (is_single_ste
 steps_ahead side a b h k e =
     implied (is_single_step side a b || is_double_step side a b) (is_ahead side a b) (at_squares (steps side) always (steps_table side) a b h k) e
 
-first_of : (x y : Bool) → (x && y) ≡ true → x ≡ true
+pub first_of : (x y : Bool) → (x && y) ≡ true → x ≡ true
 first_of true y h = refl
 first_of false y h = h
 
 -- a pawn steps ahead, or captures what it attacks
-pawn_goes : (p : Board) (a b : ℕ) → a < 64 → b < 64 → pawn_moves p a b ≡ true → (is_pawn_attack p.side a b || is_ahead p.side a b) ≡ true
+pub pawn_goes : (p : Board) (a b : ℕ) → a < 64 → b < 64 → pawn_moves p a b ≡ true → (is_pawn_attack p.side a b || is_ahead p.side a b) ≡ true
 pawn_goes p a b h k e =
     let single = is_single_step p.side a b in
     let double = is_double_step p.side a b in
@@ -105,7 +105,7 @@ goes_to BlackB p a b h k attack own e = e
 goes_to BlackN p a b h k attack own e = e
 goes_to Empty p a b h k attack own e = absurd (cc)
 
-four_parts : (a b c d : Bool) → (a && b && c && d) ≡ true → (a ≡ true) × (d ≡ true)
+pub four_parts : (a b c d : Bool) → (a && b && c && d) ≡ true → (a ≡ true) × (d ≡ true)
 four_parts a b c d h =
     let last = and_parts (a && b && c) d h in
     (first_of a b (first_of (a && b) c last.0), last.1)

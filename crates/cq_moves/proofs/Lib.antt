@@ -14,3 +14,4 @@ pub mod Bits
 pub mod Candidates
 pub mod Safety
 pub mod Walk
+pub mod Origins

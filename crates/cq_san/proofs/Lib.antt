@@ -18,3 +18,4 @@ pub mod Signs
 pub mod Candidates
 pub mod ByOrigins
 pub mod RivalSquares
+pub mod Leftover

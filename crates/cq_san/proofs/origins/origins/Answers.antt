@@ -1,33 +1,55 @@
-use Rattle.std.proofs.Common.{ℕ, List, [], ◌∷◌, ◌++◌, length, sym, ap, ◌∙◌, arith}
+use Rattle.std.proofs.Common.{◌≡◌, ◌<◌, ◌^◌, ◌++◌, ℕ, List, [], ◌∷◌, sym, ap, ◌∙◌, arith, rules, subst}
+use Rattle.std.specs.Prelude.{bit_and}
+use Rattle.cq_moves.proofs.Bits.{walk_shorter}
 use Rattle.cq_san.specs.Origins.{is_origin, origins}
-use Rattle.cq_san.proofs.Candidates.{so_far, so_far-start, so_far-with, so_far-without, so_far-end, so_far-room}
+use Rattle.cq_san.proofs.Leftover.{IsFound, found-start, found-with, found-without, found-end, found-room, origin_comes}
 use Rattle.cq_san.proofs.origins.origins.Goals as goal
-use Rattle.cq_san.proofs.origins.origins.Goals.{then-is_origin, else-is_origin}
 
-pub loop-number-init : goal.loop-number-init
-loop-number-init c = c.new-found.ensures ∙ sym (so_far-start (is_origin c.args.position.now c.args.parts.now))
+pub loop-left-init : goal.loop-left-init
+loop-left-init c =
+    let test = is_origin c.args.position.now c.args.parts.now in
+    let there = rw (c.men.ensures.men, c.man_of.ensures, c.side.ensures.side) at c.squares_of-there.ensures in
+    subst (λ (xs : List ℕ). IsFound test xs (bit_and c.origins_to.result c.squares_of-there.result)) (sym c.new-found.ensures)
+    (found-start test (bit_and c.origins_to.result c.squares_of-there.result)
+    (origin_comes c.args.position.now c.args.parts.now c.origins_to.result c.squares_of-there.result c.origins_to.ensures.goal c.origins_to.ensures.mask there))
 
 pub push-requires : goal.push-requires
 push-requires c =
-    let room = so_far-room (is_origin c.args.position.now c.args.parts.now) c.loop-number.number in
-    (omega arith, omega (arith, room, ap length c.loop-number.invariant))
-
-pub loop-number-preserved : goal.loop-number-preserved
-loop-number-preserved c =
     let test = is_origin c.args.position.now c.args.parts.now in
-    elim c.if-is_origin.branch [
-      | then-is_origin w ↦
-          ap (λ v. v.items) w.found-is ∙ w.push.ensures.items
-          ∙ ap (λ (xs : List ℕ). xs ++ c.new-from.result ∷ []) c.loop-number.invariant
-          ∙ ap (λ (s : ℕ). so_far test c.loop-number.number ++ s ∷ []) c.new-from.ensures
-          ∙ sym (so_far-with test c.loop-number.number (omega arith)
-          (ap test (sym c.new-from.ensures) ∙ sym c.is_origin.ensures ∙ w.if-is_origin.true))
-      | else-is_origin w ↦
-          ap (λ v. v.items) w.found-is ∙ c.loop-number.invariant
-          ∙ sym (so_far-without test c.loop-number.number (omega arith)
-          (ap test (sym c.new-from.ensures) ∙ sym c.is_origin.ensures ∙ w.if-is_origin.false))
-    ]
+    let some : 0 < c.loop-left.left = omega arith in
+    let fits : c.loop-left.left < 2 ^ 64 = search rules in
+    let passes = sym c.is_origin.ensures ∙ c.if-is_origin.true in
+    let room = found-room test c.loop-left.found.items c.loop-left.left c.lowest_square-from.result some fits c.lowest_square-from.ensures.value passes c.loop-left.invariant in
+    (omega arith, omega (arith, room))
+
+pub loop-left-smaller-then-is_origin : goal.loop-left-smaller-then-is_origin
+loop-left-smaller-then-is_origin c =
+    let some : 0 < c.loop-left.left = omega arith in
+    let fits : c.loop-left.left < 2 ^ 64 = search rules in
+    walk_shorter c.loop-left.left c.lowest_square-from.result c.number.result some fits c.lowest_square-from.ensures.value c.number.ensures.value
+
+pub loop-left-preserved-then-is_origin : goal.loop-left-preserved-then-is_origin
+loop-left-preserved-then-is_origin c =
+    let test = is_origin c.args.position.now c.args.parts.now in
+    let some : 0 < c.loop-left.left = omega arith in
+    let fits : c.loop-left.left < 2 ^ 64 = search rules in
+    let passes = sym c.is_origin.ensures ∙ c.if-is_origin.true in
+    rw c.push.ensures.items (found-with test c.loop-left.found.items c.loop-left.left c.lowest_square-from.result c.number.result some fits c.lowest_square-from.ensures.value c.number.ensures.value passes c.loop-left.invariant)
+
+pub loop-left-smaller : goal.loop-left-smaller
+loop-left-smaller c =
+    let some : 0 < c.loop-left.left = omega arith in
+    let fits : c.loop-left.left < 2 ^ 64 = search rules in
+    walk_shorter c.loop-left.left c.lowest_square-from.result c.number.result some fits c.lowest_square-from.ensures.value c.number.ensures.value
+
+pub loop-left-preserved : goal.loop-left-preserved
+loop-left-preserved c =
+    let test = is_origin c.args.position.now c.args.parts.now in
+    let some : 0 < c.loop-left.left = omega arith in
+    let fits : c.loop-left.left < 2 ^ 64 = search rules in
+    let fails = sym c.is_origin.ensures ∙ c.if-is_origin.false in
+    found-without test c.loop-left.found.items c.loop-left.left c.lowest_square-from.result c.number.result some fits c.lowest_square-from.ensures.value c.number.ensures.value fails c.loop-left.invariant
 
 pub returns : goal.returns
 unfolding origins
-returns c = c.loop-number.invariant ∙ so_far-end (is_origin c.args.position.now c.args.parts.now) c.loop-number.number (omega arith)
+returns c = found-end (is_origin c.args.position.now c.args.parts.now) c.loop-left.found.items c.loop-left.left (omega arith) c.loop-left.invariant

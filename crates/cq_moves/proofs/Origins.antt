@@ -1,0 +1,135 @@
+-- From where a man goes to a square, seen from there.
+use Rattle.std.proofs.Common.{◌≡◌, ℕ, ◌<◌, Bool, true, false, not, ◌&&◌, ◌||◌, ◌==◌, map, refl, inl, inr, sym, ap, ap₂, ◌∙◌, Some}
+use Rattle.std.proofs.lemmas.Bool.{and_parts, or_cases, or_left, or_right, eqb-true, eq-eqb, false_from_ne_true}
+use Rattle.std.specs.Int.{bit_at}
+use Rattle.cq_geometry.specs.Squares.{squares}
+use Rattle.cq_geometry.specs.Steps.{is_king_step, is_knight_step}
+use Rattle.cq_geometry.specs.Lines.{is_orthogonal, is_diagonal, is_open}
+use Rattle.cq_geometry.proofs.Tables.{at_squares}
+use Rattle.cq_position.specs.declared.men.Man.{Man}
+use Rattle.cq_position.specs.declared.men.Piece.{Piece}
+use Rattle.cq_position.specs.declared.men.Piece.TheVariants.{King, Queen, Rook, Bishop, Knight, Pawn}
+use Rattle.cq_position.specs.declared.men.Side.{Side}
+use Rattle.cq_position.specs.declared.men.Side.TheVariants.{White, Black}
+use Rattle.cq_position.specs.Men.{is_of_side, man_of, opponent}
+use Rattle.cq_position.specs.Board.{Board, man_at, stands, king_home}
+use Rattle.cq_position.specs.Bitboards.{IsBitboard, bit_of}
+use Rattle.cq_position.specs.Attacks.{attacks, attacks_as, is_occupied, is_pawn_attack, is_goal, piece_attacks}
+use Rattle.cq_position.specs.Legal.{goes_as, reaches, castles, castling_goal, pawn_moves}
+use Rattle.cq_position.proofs.Attackers.{open_both_ways, orthogonal_both_ways, diagonal_both_ways}
+use Rattle.cq_moves.specs.Candidates.{is_ahead, may_come}
+use Rattle.cq_moves.proofs.Boards.{same_man-is}
+use Rattle.cq_moves.proofs.Candidates.{pawn_goes, four_parts, first_of}
+
+-- steps lead back
+king_back : map (λ a. map (is_king_step a) squares) squares ≡ map (λ a. map (λ b. is_king_step b a) squares) squares
+unfolding squares
+king_back = refl
+
+knight_back : map (λ a. map (is_knight_step a) squares) squares ≡ map (λ a. map (λ b. is_knight_step b a) squares) squares
+unfolding squares
+knight_back = refl
+
+pawn_back : (side : Side) → map (λ a. map (is_pawn_attack side a) squares) squares ≡ map (λ a. map (λ b. is_pawn_attack (opponent side) b a) squares) squares
+unfolding squares
+pawn_back White = refl
+pawn_back Black = refl
+
+ahead_back : (side : Side) → map (λ a. map (is_ahead side a) squares) squares ≡ map (λ a. map (λ b. is_ahead (opponent side) b a) squares) squares
+unfolding squares
+ahead_back White = refl
+ahead_back Black = refl
+
+abbrev back : ℕ → (ℕ → ℕ → Bool) → ℕ → Bool
+back a f b = f b a
+
+-- all pieces but pawns attack both ways
+both_ways : (side : Side) (piece : Piece) (occupied : ℕ → Bool) (a b : ℕ) → a < 64 → b < 64 → (piece ≡ Pawn → ⊥)
+    → piece_attacks side piece occupied a b ≡ piece_attacks side piece occupied b a
+both_ways side King occupied a b h k other = at_squares is_king_step (λ x y. is_king_step y x) king_back a b h k
+both_ways side Knight occupied a b h k other = at_squares is_knight_step (λ x y. is_knight_step y x) knight_back a b h k
+both_ways side Bishop occupied a b h k other = ap₂ (λ x y. x && y) (diagonal_both_ways a b) (open_both_ways occupied a b k)
+both_ways side Rook occupied a b h k other = ap₂ (λ x y. x && y) (orthogonal_both_ways a b) (open_both_ways occupied a b k)
+both_ways side Queen occupied a b h k other =
+    ap₂ (λ x y. x && y) (ap₂ (λ x y. x || y) (orthogonal_both_ways a b) (diagonal_both_ways a b)) (open_both_ways occupied a b k)
+both_ways side Pawn occupied a b h k other = absurd (other refl)
+
+-- where a king goes, from what it attacks or from its home
+king_comes : (p : Board) (a b : ℕ) → (attacks p.men a b || castles p a b true || castles p a b false) ≡ true
+    → (attacks p.men a b || is_goal (Some (king_home p.side)) a) ≡ true
+king_comes p a b h =
+    let from_home = λ (kingside : Bool) (e : castles p a b kingside ≡ true).
+        or_right (attacks p.men a b) (is_goal (Some (king_home p.side)) a) (home kingside e) in
+    elim (or_cases (attacks p.men a b || castles p a b true) (castles p a b false) h) [
+      | inl most ↦ elim (or_cases (attacks p.men a b) (castles p a b true) most) [
+        | inl e ↦ or_left (attacks p.men a b) (is_goal (Some (king_home p.side)) a) e
+        | inr e ↦ from_home true e
+      ]
+      | inr e ↦ from_home false e
+    ]
+  where
+    home : (kingside : Bool) → castles p a b kingside ≡ true → is_goal (Some (king_home p.side)) a ≡ true
+    home kingside e =
+        let two = first_of ((a == king_home p.side) && (b == castling_goal p.side kingside)) _ (first_of _ _ (first_of _ _ e)) in
+        eq-eqb (king_home p.side) a (sym (eqb-true a (king_home p.side) (first_of (a == king_home p.side) _ two)))
+
+module _ (p : Board) (a b : ℕ) (h : a < 64) (k : b < 64) where
+  -- the man that stands there is known
+  known : (side : Side) (piece : Piece) (other : piece ≡ Pawn → ⊥) → man_at p.men a ≡ man_of side piece → attacks p.men a b ≡ true
+      → attacks_as (man_of side piece) (is_occupied p.men) b a ≡ true
+  unfolding attacks
+  known White King other e f = sym (both_ways White King (is_occupied p.men) a b h k other) ∙ (ap (λ m. attacks_as m (is_occupied p.men) a b) (sym e) ∙ f)
+  known White Queen other e f = sym (both_ways White Queen (is_occupied p.men) a b h k other) ∙ (ap (λ m. attacks_as m (is_occupied p.men) a b) (sym e) ∙ f)
+  known White Rook other e f = sym (both_ways White Rook (is_occupied p.men) a b h k other) ∙ (ap (λ m. attacks_as m (is_occupied p.men) a b) (sym e) ∙ f)
+  known White Bishop other e f = sym (both_ways White Bishop (is_occupied p.men) a b h k other) ∙ (ap (λ m. attacks_as m (is_occupied p.men) a b) (sym e) ∙ f)
+  known White Knight other e f = sym (both_ways White Knight (is_occupied p.men) a b h k other) ∙ (ap (λ m. attacks_as m (is_occupied p.men) a b) (sym e) ∙ f)
+  known White Pawn other e f = absurd (other refl)
+  known Black King other e f = sym (both_ways Black King (is_occupied p.men) a b h k other) ∙ (ap (λ m. attacks_as m (is_occupied p.men) a b) (sym e) ∙ f)
+  known Black Queen other e f = sym (both_ways Black Queen (is_occupied p.men) a b h k other) ∙ (ap (λ m. attacks_as m (is_occupied p.men) a b) (sym e) ∙ f)
+  known Black Rook other e f = sym (both_ways Black Rook (is_occupied p.men) a b h k other) ∙ (ap (λ m. attacks_as m (is_occupied p.men) a b) (sym e) ∙ f)
+  known Black Bishop other e f = sym (both_ways Black Bishop (is_occupied p.men) a b h k other) ∙ (ap (λ m. attacks_as m (is_occupied p.men) a b) (sym e) ∙ f)
+  known Black Knight other e f = sym (both_ways Black Knight (is_occupied p.men) a b h k other) ∙ (ap (λ m. attacks_as m (is_occupied p.men) a b) (sym e) ∙ f)
+  known Black Pawn other e f = absurd (other refl)
+
+  king_seen : (side : Side) → side ≡ p.side → man_at p.men a ≡ man_of side King → goes_as (man_of side King) p a b ≡ true
+      → (attacks_as (man_of side King) (is_occupied p.men) b a || is_goal (Some (king_home side)) a) ≡ true
+  king_seen side s e g =
+      let all : (attacks p.men a b || castles p a b true || castles p a b false) ≡ true = king_goal side g in
+      elim (or_cases (attacks p.men a b) (is_goal (Some (king_home p.side)) a) (king_comes p a b all)) [
+        | inl f ↦ or_left (attacks_as (man_of side King) (is_occupied p.men) b a) (is_goal (Some (king_home side)) a) (known side King (λ x. absurd (cc)) e f)
+        | inr f ↦ or_right (attacks_as (man_of side King) (is_occupied p.men) b a) (is_goal (Some (king_home side)) a) (ap (λ t. is_goal (Some (king_home t)) a) s ∙ f)
+      ]
+    where
+      king_goal : (t : Side) → goes_as (man_of t King) p a b ≡ true → (attacks p.men a b || castles p a b true || castles p a b false) ≡ true
+      king_goal White h = h
+      king_goal Black h = h
+
+  pawn_seen : (side : Side) → side ≡ p.side → pawn_moves p a b ≡ true
+      → (attacks_as (man_of (opponent side) Pawn) (is_occupied p.men) b a || is_ahead (opponent side) b a) ≡ true
+  pawn_seen White s g =
+      ap₂ (λ x y. x || y) (sym (at_squares (is_pawn_attack White) (λ x y. is_pawn_attack Black y x) (pawn_back White) a b h k)) (sym (at_squares (is_ahead White) (λ x y. is_ahead Black y x) (ahead_back White) a b h k))
+      ∙ ap (λ t. is_pawn_attack t a b || is_ahead t a b) s ∙ pawn_goes p a b h k g
+  pawn_seen Black s g =
+      ap₂ (λ x y. x || y) (sym (at_squares (is_pawn_attack Black) (λ x y. is_pawn_attack White y x) (pawn_back Black) a b h k)) (sym (at_squares (is_ahead Black) (λ x y. is_ahead White y x) (ahead_back Black) a b h k))
+      ∙ ap (λ t. is_pawn_attack t a b || is_ahead t a b) s ∙ pawn_goes p a b h k g
+
+  comes : (side : Side) (piece : Piece) → side ≡ p.side → man_at p.men a ≡ man_of side piece → goes_as (man_of side piece) p a b ≡ true
+      → may_come side piece (is_occupied p.men) b a ≡ true
+  comes side King s e g = king_seen side s e g
+  comes White Pawn s e g = pawn_seen White s g
+  comes Black Pawn s e g = pawn_seen Black s g
+  comes White Queen s e g = known White Queen (λ x. absurd (cc)) e g
+  comes White Rook s e g = known White Rook (λ x. absurd (cc)) e g
+  comes White Bishop s e g = known White Bishop (λ x. absurd (cc)) e g
+  comes White Knight s e g = known White Knight (λ x. absurd (cc)) e g
+  comes Black Queen s e g = known Black Queen (λ x. absurd (cc)) e g
+  comes Black Rook s e g = known Black Rook (λ x. absurd (cc)) e g
+  comes Black Bishop s e g = known Black Bishop (λ x. absurd (cc)) e g
+  comes Black Knight s e g = known Black Knight (λ x. absurd (cc)) e g
+
+  pub reached_comes : (piece : Piece) → stands p.men a (man_of p.side piece) ≡ true → reaches p a b ≡ true → may_come p.side piece (is_occupied p.men) b a ≡ true
+  unfolding reaches
+  reached_comes piece st r =
+      let e = same_man-is (man_at p.men a) (man_of p.side piece) st in
+      let parts = four_parts (is_of_side p.side (man_at p.men a)) _ _ (goes_as (man_at p.men a) p a b) r in
+      comes p.side piece refl e (ap (λ m. goes_as m p a b) (sym e) ∙ parts.1)
