@@ -1,5 +1,5 @@
 -- What a filter gives does not depend on its places.
-use Rattle.std.proofs.Common.{◌≡◌, ℕ, Bool, true, false, ◌&&◌, List, [], ◌∷◌, map, Some, None, refl, sym, ap, ap₂, ◌∙◌}
+use Rattle.std.proofs.Common.{◌≡◌, ℕ, Bool, true, false, ◌&&◌, List, ◌∷◌, map, Some, refl, sym, ap, ap₂, ◌∙◌}
 use Rattle.std.specs.Prelude.{is_some}
 use Rattle.std.specs.List.{list_any, filter}
 use Rattle.std.proofs.Math.Path.{fun_ext}
@@ -10,10 +10,9 @@ use Rattle.cq_symmetry.specs.Families.{members}
 use Rattle.cq_symmetry.specs.Mappings.{PlainMapping}
 use Rattle.cql_syntax.specs.Contexts.{Context, unary_image, way_image}
 use Rattle.cql_syntax.specs.Kinds.{filter_kind, form_kind}
-use Rattle.cql_syntax.specs.Meaning.{Names, position_at, directions_of, unary_of, marked, line_of, meets_all, before, fits, form_fits, all_fit, terms_fit, line_fits, played_fits, written_fits, parts_fit, body_fits, fitting, value, form_value, values, term_values, pattern, body_pattern, played_value, written_value}
-use Rattle.cql_syntax.specs.Same.{same_filter}
-use Rattle.cql_syntax.specs.Trees.{FilterTree, filter_at, FormTree, designator, number, name, plain, tagged, outcome, elo, unary, direction, chain, sum_of, pair, if_, square, line, played, transform, sort, comment, any, FilterTrees, no_filters, more_filters, TermTrees, no_terms, more_terms, LineTree, path, PlayedTree, move_of, WrittenTree, left_out, written, PartTrees, no_parts, more_parts, BodyTree, atom, group}
-use Rattle.cql_syntax.specs.Unplaced.{with_places, form_with, all_with, terms_with, line_with, played_with, written_with, parts_with, body_with, unplaced, same_unplaced}
+use Rattle.cql_syntax.specs.Meaning.{Names, position_at, directions_of, unary_of, marked, line_of, meets_all, before, fits, form_fits, all_fit, terms_fit, written_fits, parts_fit, body_fits, fitting, value, form_value, values, term_values, pattern, body_pattern, played_value, written_value}
+use Rattle.cql_syntax.specs.Trees.{FilterTree, filter_at, FormTree, designator, number, name, plain, tagged, outcome, elo, unary, direction, chain, sum_of, pair, if_, square, line, played, transform, sort, comment, any, FilterTrees, no_filters, more_filters, TermTrees, no_terms, more_terms, path, PlayedTree, move_of, WrittenTree, left_out, written, PartTrees, no_parts, more_parts, BodyTree, atom, group}
+use Rattle.cql_syntax.specs.Unplaced.{with_places, form_with, all_with, terms_with, played_with, written_with, parts_with, body_with, unplaced, same_unplaced}
 use Rattle.cql_syntax.specs.Values.{Value, as_truth, holds, amount, reached_of, total_of, if_of, square_of, chain_of, pair_of, any_of}
 use Rattle.cql_syntax.proofs.SameSound.{filter_is}
 

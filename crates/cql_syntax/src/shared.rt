@@ -10,7 +10,11 @@ use crate::typed::TypedQuery;
 pub trait Shared: Send + Sync {}
 
 impl Shared for QueryToken {}
+
 impl Shared for QueryFault {}
+
 impl Shared for Query {}
+
 impl Shared for TypedQuery {}
+
 impl Shared for FlatQuery {}
