@@ -21,15 +21,15 @@ is_faulty one none text f fault = inr ((f, fault), λ q is. no_fault one none te
 
 spelled : SpellOne → SpellNone → (text : List ℕ) (q : QueryTree) (fault : Option QueryFault) → tree_fault q ≡ fault → TextSpells text q → IsOneOfBoth text
 spelled one none text q None is spells =
-    is_query one none text q (record { tokens = spells.0; are_tokens = spells.1.0; spells = spells.1.1; unbroken = is })
+    is_query one none text q (record { tokens = spells.0; are_tokens = spells.1; spells = spells.2; unbroken = is })
 spelled one none text q (Some f) is spells =
     is_faulty one none text f
-    (inr (inr (record { tokens = spells.0; are_tokens = spells.1.0; query = q; spells = spells.1.1; broken = is })))
+    (inr (inr (record { tokens = spells.0; are_tokens = spells.1; query = q; spells = spells.2; broken = is })))
 
 faulty : SpellOne → SpellNone → (text : List ℕ) (f : QueryFault) → IsTextFault text f → IsOneOfBoth text
 faulty one none text f (inl lexical) = is_faulty one none text f (inl lexical)
 faulty one none text f (inr parse) =
-    is_faulty one none text f (inr (inl (record { tokens = parse.0; are_tokens = parse.1.0; is_fault = parse.1.1 })))
+    is_faulty one none text f (inr (inl (record { tokens = parse.0; are_tokens = parse.1; is_fault = parse.2 })))
 
 pub one_of_both : SpellOne → SpellNone → (text : List ℕ) → ((q : QueryTree) × TextSpells text q) ⊎ ((f : QueryFault) × IsTextFault text f)
     → IsOneOfBoth text

@@ -1,5 +1,5 @@
 //! The places of a line.
-ghost use Rattle.std.specs.Prelude.{◌≡◌, ◌*◌, min};
+ghost use Rattle.std.specs.Prelude.{◌≡◌, ◌*◌, ◌+◌, min};
 ghost use Rattle.cql_syntax.specs.Limits.{most_places};
 ghost use Rattle.cql_syntax.specs.Places.{places, parts_places, body_places, copies};
 ghost use Rattle.cql_syntax.specs.TreeOf.{line_tree, parts_tree, body_tree};

@@ -243,26 +243,32 @@ outcome_on : (ts rest : List QueryToken) (x : QueryToken) (s : St) → read (ts 
 outcome_on ts rest x (Opening h place) is lives on = on tt
 outcome_on ts rest x (Reading h b k) is lives on = on tt
 outcome_on ts rest x (Done h b) is lives on = on tt
-outcome_on ts rest x Deep is lives on = inr (record { byte = x.at; reason = reason_of x.kind reached.Deep }, record {
-  before = ts;
-  token = x;
-  rest = rest;
-  spelled = refl;
-  begins = living_begins most_open ts lives;
-  dead = deep_is_dead most_open (ts ++ (x ∷ [])) is;
-  byte = refl;
-  reason = too_deep (ts ++ (x ∷ [])) x.kind (deep_begins most_open ts x lives (sym (feeds ts x) ∙ is));
-})
-outcome_on ts rest x Stuck is lives on = inr (record { byte = x.at; reason = reason_of x.kind reached.Stuck }, record {
-  before = ts;
-  token = x;
-  rest = rest;
-  spelled = refl;
-  begins = living_begins most_open ts lives;
-  dead = stuck_is_dead most_open (ts ++ (x ∷ [])) is;
-  byte = refl;
-  reason = unexpected (ts ++ (x ∷ [])) x.kind (stuck_never_begins most_open ts x lives (sym (feeds ts x) ∙ is));
-})
+outcome_on ts rest x Deep is lives on = inr (
+  record { byte = x.at; reason = reason_of x.kind reached.Deep },
+  record {
+    before = ts;
+    token = x;
+    rest = rest;
+    spelled = refl;
+    begins = living_begins most_open ts lives;
+    dead = deep_is_dead most_open (ts ++ (x ∷ [])) is;
+    byte = refl;
+    reason = too_deep (ts ++ (x ∷ [])) x.kind (deep_begins most_open ts x lives (sym (feeds ts x) ∙ is));
+  },
+)
+outcome_on ts rest x Stuck is lives on = inr (
+  record { byte = x.at; reason = reason_of x.kind reached.Stuck },
+  record {
+    before = ts;
+    token = x;
+    rest = rest;
+    spelled = refl;
+    begins = living_begins most_open ts lives;
+    dead = stuck_is_dead most_open (ts ++ (x ∷ [])) is;
+    byte = refl;
+    reason = unexpected (ts ++ (x ∷ [])) x.kind (stuck_never_begins most_open ts x lives (sym (feeds ts x) ∙ is));
+  },
+)
 
 pub outcome_from : (ts rest : List QueryToken) → Lives (read ts) → IsEnded (ts ++ rest) → HasOutcome (ts ++ rest)
 outcome_from ts [] lives ended =

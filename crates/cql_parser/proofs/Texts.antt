@@ -14,8 +14,8 @@ abbrev pub TextHasOutcome : List ℕ → Type 0
 TextHasOutcome text = ((q : QueryTree) × TextSpells text q) ⊎ ((f : QueryFault) × IsTextFault text f)
 
 of_tokens : (text : List ℕ) (tokens : List QueryToken) → tokens_of text ≡ Ok tokens → HasOutcome tokens → TextHasOutcome text
-of_tokens text tokens is (inl spelled) = inl (spelled.0, (tokens, (is, spelled.1)))
-of_tokens text tokens is (inr faulty) = inr (faulty.0, inr (tokens, (is, faulty.1)))
+of_tokens text tokens is (inl spelled) = inl (spelled.0, (tokens, is, spelled.1))
+of_tokens text tokens is (inr faulty) = inr (faulty.0, inr (tokens, is, faulty.1))
 
 of_text : (text : List ℕ) (tokens : Result (List QueryToken) QueryFault)
     → ((ts : List QueryToken) → tokens_of text ≡ Ok ts → IsEnded ts) → tokens_of text ≡ tokens → TextHasOutcome text

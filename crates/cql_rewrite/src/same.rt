@@ -71,13 +71,16 @@ fn same_form(placed: bool, f: &Form, g: &Form) -> bool
         (Form::Pair(c, a, b), Form::Pair(d, x, y)) => {
             same_pair(*c, *d) && same_as(placed, a, x) && same_as(placed, b, y)
         }
-        (Form::If(a, b, c), Form::If(x, y, z)) => same_as(placed, a, x) && same_as(placed, b, y) && same_as(placed, c, z),
+        (Form::If(a, b, c), Form::If(x, y, z)) => same_as(placed, a, x)
+            && same_as(placed, b, y)
+            && same_as(placed, c, z),
         (Form::Square(c, s, a, b), Form::Square(d, t, x, y)) => {
             same_flag(*c, *d) && same_text(s, t) && same_as(placed, a, x) && same_as(placed, b, y)
         }
         (Form::Line(a), Form::Line(b)) => same_line(placed, a, b),
         (Form::Played(a), Form::Played(b)) => same_played(placed, a, b),
-        (Form::Transform(c, a), Form::Transform(d, b)) => same_family(*c, *d) && same_as(placed, a, b),
+        (Form::Transform(c, a), Form::Transform(d, b)) => same_family(*c, *d)
+            && same_as(placed, a, b),
         (Form::Sort(c, s, a), Form::Sort(d, t, b)) => {
             same_flag(*c, *d) && same_text(s, t) && same_as(placed, a, b)
         }
