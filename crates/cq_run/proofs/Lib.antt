@@ -8,3 +8,4 @@ mod Counting
 mod Kept
 mod Answered
 mod Doing
+pub mod EveryText

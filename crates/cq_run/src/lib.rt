@@ -7,6 +7,7 @@ mod command;
 mod explaining;
 mod finding;
 mod games;
+mod laws;
 mod selfrun;
 mod sorts;
 mod status;
@@ -16,5 +17,6 @@ mod totals;
 
 pub use answering::answer;
 pub use command::answer_command;
+pub use laws::every_text_is_a_query_or_has_a_fault;
 pub use status::Status;
 pub use top_call::run;

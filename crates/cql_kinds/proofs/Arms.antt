@@ -9,7 +9,9 @@ use Rattle.cql_syntax.specs.declared.leaves.Pair.{Pair}
 use Rattle.cql_syntax.specs.declared.tree.Filter.{Filter}
 use Rattle.cql_syntax.specs.declared.tree.Played.{Played, Played', out-Played, outs-Played', Held-Played-origin, view-Played-origin, None', Some'}
 use Rattle.cql_kinds.specs.declared.firsts.Firsts.{Firsts}
+use Rattle.cql_kinds.specs.Standings.{counted}
 use Rattle.cql_kinds.specs.Walks.{walked}
+use Rattle.cql_kinds.proofs.Counted.{both_counted}
 
 -- the same filter that stands alike
 pub same_place : {s t : Standing} {f g : Filter} → s ≡ t → f ≡ g → occurrences s (filter_tree f) ≡ occurrences t (filter_tree g)
@@ -26,9 +28,9 @@ unfolding inner
 if_at firsts s f g h = refl
 
 pub square_at : (firsts : Firsts) (s : Standing) (every : Bool) (text : List ℕ) (f g : FilterTree) → walked firsts (inner s (square every text f g))
-    ≡ walked firsts (occurrences (part_of_square s Set) f ++ occurrences (asked_of_each s text) g)
+    ≡ walked firsts (occurrences (counted (part_of_square s Set)) f ++ occurrences (counted (asked_of_each s text)) g)
 unfolding inner
-square_at firsts s every text f g = refl
+square_at firsts s every text f g = both_counted firsts (part_of_square s Set) (asked_of_each s text) f g
 
 -- the parts of a move filter
 abbrev pub origin_of : Played → WrittenTree

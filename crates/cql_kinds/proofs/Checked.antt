@@ -1,10 +1,11 @@
 -- The fault of a query from what is found in its filters.
-use Rattle.std.proofs.Common.{◌≡◌, ℕ, ◌^◌, Bool, true, false, List, [], ◌∷◌, ◌++◌, map, nat_lt, unwrap_or, Option, Some, None, Ok, Err, refl, ◌∙◌, ap, ap₂}
+use Rattle.std.proofs.Common.{◌≡◌, ℕ, Bool, true, false, List, [], ◌∷◌, ◌++◌, map, nat_lt, unwrap_or, Option, Some, None, Ok, Err, refl, ◌∙◌, ap, ap₂}
 use Rattle.std.specs.List.{flat_map}
 use Rattle.std.specs.Option.{option_or}
 use Rattle.cq_outside.specs.Refusals.{Refuses}
 use Rattle.cq_outside.specs.declared.faults.Refusal.{Refusal}
 use Rattle.cq_outside.specs.declared.faults.Refusal.TheVariants.{Fault, NoMemory}
+use Rattle.cql_syntax.specs.Limits.{most_weight}
 use Rattle.cql_syntax.specs.Occurrences.{Occurrence, all_occurrences}
 use Rattle.cql_syntax.specs.TreeFaults.{first, where_it, ok_unless, holds_brace, rule_faults, is_long_line, is_fifth_square, is_family, bytes_where, tree_faults, tree_fault, checked}
 use Rattle.cql_syntax.specs.Trees.{QueryTree}
@@ -22,7 +23,7 @@ text_fault q is =
     let rest : List QueryFault = flat_map rule_faults (all_occurrences q)
     ++ (map (λ byte. record { byte = byte; reason = LineTooLong }) (bytes_where (λ o. is_long_line o.form) (all_occurrences q))
     ++ (map (λ byte. record { byte = byte; reason = TooManySquares }) (bytes_where (λ o. is_fifth_square o.standing.squares o.form) (all_occurrences q))
-    ++ where_it (nat_lt (2 ^ 18) (query_weight q))
+    ++ where_it (nat_lt most_weight (query_weight q))
     (record { byte = unwrap_or (first (bytes_where (λ o. is_family o.form) (all_occurrences q))) 0; reason = TooManyMembers }))) in
     ap (λ braced. ok_unless q (first (where_it braced (record { byte = q.match_at; reason = TextHoldsBrace }) ++ rest))) is
 
@@ -46,29 +47,29 @@ first_limit all heavy =
 
 -- a match string without a closing brace
 after_text : (q : QueryTree) → holds_brace q.match_text ≡ false →
-    tree_fault q ≡ option_or (first (flat_map rule_faults (all_occurrences q))) (first (limits (all_occurrences q) (nat_lt (2 ^ 18) (query_weight q))))
+    tree_fault q ≡ option_or (first (flat_map rule_faults (all_occurrences q))) (first (limits (all_occurrences q) (nat_lt most_weight (query_weight q))))
 unfolding tree_fault tree_faults
 after_text q is =
     ap (λ braced. first (where_it braced (record { byte = q.match_at; reason = TextHoldsBrace })
-    ++ (flat_map rule_faults (all_occurrences q) ++ limits (all_occurrences q) (nat_lt (2 ^ 18) (query_weight q))))) is
-    ∙ first_append (flat_map rule_faults (all_occurrences q)) (limits (all_occurrences q) (nat_lt (2 ^ 18) (query_weight q)))
+    ++ (flat_map rule_faults (all_occurrences q) ++ limits (all_occurrences q) (nat_lt most_weight (query_weight q))))) is
+    ∙ first_append (flat_map rule_faults (all_occurrences q)) (limits (all_occurrences q) (nat_lt most_weight (query_weight q)))
 
 pub rule_fault : (q : QueryTree) (refusal : Refusal QueryFault) → holds_brace q.match_text ≡ false →
     Refuses {Y = Firsts} refusal (walked no_firsts (all_occurrences q)) → Refuses {Y = QueryTree} refusal (checked q)
 unfolding walked
 rule_fault q (Fault fault) is found =
-    ap (ok_unless q) (after_text q is ∙ ap (λ o. option_or o (first (limits (all_occurrences q) (nat_lt (2 ^ 18) (query_weight q)))))
+    ap (ok_unless q) (after_text q is ∙ ap (λ o. option_or o (first (limits (all_occurrences q) (nat_lt most_weight (query_weight q)))))
     (a_fault (with_firsts no_firsts (all_occurrences q)) fault (first (flat_map rule_faults (all_occurrences q))) found))
 rule_fault q NoMemory is found = tt
 
 pub limit_is : (q : QueryTree) (firsts : Firsts) → holds_brace q.match_text ≡ false →
-    walked no_firsts (all_occurrences q) ≡ Ok firsts → tree_fault q ≡ limit_fault firsts (nat_lt (2 ^ 18) (query_weight q))
+    walked no_firsts (all_occurrences q) ≡ Ok firsts → tree_fault q ≡ limit_fault firsts (nat_lt most_weight (query_weight q))
 unfolding walked
 limit_is q firsts is found =
     let none = no_fault (with_firsts no_firsts (all_occurrences q)) firsts (first (flat_map rule_faults (all_occurrences q))) found in
-    after_text q is ∙ ap (λ o. option_or o (first (limits (all_occurrences q) (nat_lt (2 ^ 18) (query_weight q))))) none.0
-    ∙ first_limit (all_occurrences q) (nat_lt (2 ^ 18) (query_weight q))
-    ∙ ap (λ f. limit_fault f (nat_lt (2 ^ 18) (query_weight q))) none.1
+    after_text q is ∙ ap (λ o. option_or o (first (limits (all_occurrences q) (nat_lt most_weight (query_weight q))))) none.0
+    ∙ first_limit (all_occurrences q) (nat_lt most_weight (query_weight q))
+    ∙ ap (λ f. limit_fault f (nat_lt most_weight (query_weight q))) none.1
 
 pub none_from : {X : Type 0} (o : Option X) → ((x : X) → o ≡ Some x → ⊥) → o ≡ None
 none_from None h = refl

@@ -1,6 +1,7 @@
 //! The fault of a query's tree.
 ghost use Rattle.std.specs.Prelude.{◌≡◌, ◌<◌, ◌≤◌, ◌+◌, ◌^◌, nat_lt, false, None};
 ghost use Rattle.cq_outside.specs.Refusals.{Gives};
+ghost use Rattle.cql_syntax.specs.Limits.{most_weight};
 ghost use Rattle.cql_syntax.specs.Occurrences.{of_items, sorts_with};
 ghost use Rattle.cql_syntax.specs.TreeFaults.{checked, has_any};
 ghost use Rattle.cql_syntax.specs.TreeOf.{query_tree, filters_tree, filter_tree};
@@ -67,9 +68,9 @@ fn limit_fault(firsts: Firsts, heavy: bool) -> Option<QueryFault>
     Some(QueryFault { byte, reason })
 }
 
-// Whether the weight of a query is above 2^18.
+// Whether the weight of a query is above the greatest.
 fn is_too_heavy(query: &Query) -> bool
-    ensures { result ≡ nat_lt (2 ^ 18) (query_weight (query_tree query.now)) }
+    ensures { result ≡ nat_lt most_weight (query_weight (query_tree query.now)) }
 {
     weight(query) > WEIGHT_LIMIT
 }

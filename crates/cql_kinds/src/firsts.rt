@@ -2,11 +2,8 @@
 ghost use Rattle.std.specs.Prelude.{◌≡◌, ◌∷◌, []};
 
 use crate::places::{PLACES_LIMIT, places_of};
-use crate::standing::Standing;
+use crate::standing::{SQUARES_LIMIT, Standing};
 use cql_syntax::{Filter, Form};
-
-/// How many `square` may stand around each other.
-const SQUARES_LIMIT: u8 = 4;
 
 /// The bytes of the first filters of some kinds.
 #[derive(Clone, Copy)]

@@ -1,5 +1,6 @@
 //! The places of a line.
-ghost use Rattle.std.specs.Prelude.{◌≡◌, ◌*◌, min};
+ghost use Rattle.std.specs.Prelude.{◌≡◌, ◌*◌, ◌+◌, min};
+ghost use Rattle.cql_syntax.specs.Limits.{most_places};
 ghost use Rattle.cql_syntax.specs.Places.{places, parts_places, body_places, copies};
 ghost use Rattle.cql_syntax.specs.TreeOf.{line_tree, parts_tree, body_tree};
 
@@ -8,16 +9,16 @@ use cql_syntax::{Body, Constituents, Line, Mark};
 /// The greatest number of places that a line may have.
 pub const PLACES_LIMIT: u64 = 64;
 
-/// The places of a line, or 65 where it has more.
+/// The places of a line, or one more than the greatest number where it has more.
 pub fn places_of(line: &Line) -> u64
-    ensures { result ≡ min (places (line_tree line.now)) 65 }
+    ensures { result ≡ min (places (line_tree line.now)) (most_places + 1) }
 {
     places_of_parts(&line.parts)
 }
 
 // The places of a part with its mark.
 fn places_marked(mark: Mark, places: u64) -> u64
-    ensures { result ≡ min (copies mark * places) 65 }
+    ensures { result ≡ min (copies mark * places) (most_places + 1) }
 {
     let copies = match mark {
         Mark::Times(_, most) => most.max(1),
@@ -30,7 +31,7 @@ fn places_marked(mark: Mark, places: u64) -> u64
 
 #[cycle(places)]
 fn places_of_parts(parts: &Constituents) -> u64
-    ensures { result ≡ min (parts_places (parts_tree parts.now)) 65 }
+    ensures { result ≡ min (parts_places (parts_tree parts.now)) (most_places + 1) }
 {
     let mut total = 0u64;
     for part in parts.as_slice() {
@@ -42,7 +43,7 @@ fn places_of_parts(parts: &Constituents) -> u64
 
 #[cycle(places)]
 fn places_of_body(body: &Body) -> u64
-    ensures { result ≡ min (body_places (body_tree body.now)) 65 }
+    ensures { result ≡ min (body_places (body_tree body.now)) (most_places + 1) }
 {
     match body {
         Body::Atom(_) => 1,

@@ -12,7 +12,7 @@ use cq_outside::{Bytes, NoMemory};
 use cql_syntax::{Filter, Form, Kind, QueryReason, kind_of};
 use std::alloc::Global;
 
-/// The greatest number of sort items.
+// The greatest number of sort items.
 const SORTS_LIMIT: usize = 4;
 
 /// Whether a text holds a closing brace, which would end the comment that it is written in.

@@ -2,10 +2,13 @@
 ghost use Rattle.std.specs.Prelude.{◌≡◌};
 ghost use Rattle.cql_syntax.specs.Occurrences.{part_of, part_of_square};
 ghost use Rattle.cql_syntax.specs.declared.leaves.Kind.TheVariants.{Position};
-ghost use Rattle.cql_kinds.specs.Standings.{standing_in, names_in, with_names};
+ghost use Rattle.cql_kinds.specs.Standings.{standing_in, names_in, with_names, counted};
 
 use crate::names::Names;
 use cql_syntax::Kind;
+
+/// How many `square` may be nested.
+pub const SQUARES_LIMIT: u8 = 4;
 
 /// How a filter stands in its query.
 #[derive(Clone, Copy)]
@@ -14,7 +17,7 @@ pub struct Standing<'a> {
     pub wanted: Kind,
     /// The names that are bound there.
     pub names: &'a Names<'a>,
-    /// How many `square` are around it, counted to five.
+    /// How many `square` are around it, counted to one more than may be nested.
     pub squares: u8,
     /// Where it is a top item, how many sort items stand before it.
     pub item: Option<usize>,
@@ -34,17 +37,17 @@ impl<'a> Standing<'a> {
 
     /// A part of a `square`, of which a kind is wanted.
     pub fn part_of_square(self, wanted: Kind) -> Standing<'a>
-        ensures { standing_in result ≡ part_of_square (standing_in self.entry) wanted }
+        ensures { standing_in result ≡ counted (part_of_square (standing_in self.entry) wanted) }
     {
         Standing {
-            squares: self.squares.saturating_add(1).min(5),
+            squares: self.squares.saturating_add(1).min(SQUARES_LIMIT + 1),
             ..self.part(wanted)
         }
     }
 
     /// What a `square` asks of each square, where these names are bound.
     pub fn asked_of_each<'b>(self, names: &'b Names<'b>) -> Standing<'b>
-        ensures { standing_in result ≡ with_names (part_of_square (standing_in self.entry) Position) (names_in names.now) }
+        ensures { standing_in result ≡ counted (with_names (part_of_square (standing_in self.entry) Position) (names_in names.now)) }
     {
         let part = self.part_of_square(Kind::Position);
         Standing {

@@ -5,7 +5,7 @@ use Rattle.std.specs.Int.{is_in_range}
 use Rattle.std.specs.List.{position, slice_split}
 use Rattle.std.specs.Option.{option_map, option_or}
 use Rattle.std.proofs.Math.Pow.{pow_mono, pow-lt, ones_lt}
-use Rattle.std.proofs.lemmas.Bool.{le-leb, leb-true, ltb-true}
+use Rattle.std.proofs.lemmas.Bool.{and_parts, le-leb, leb-true, ltb-true}
 use Rattle.std.proofs.lemmas.List.Quantifiers.{position-Some}
 use Rattle.std.proofs.lemmas.List.Splits.{length-slice_split}
 use Rattle.std.proofs.lemmas.Nat.{le_or_l, le_or_r, or_lt}
@@ -17,7 +17,7 @@ use Rattle.cql_lexer.specs.Designators.{united, in_brackets, men_of_letter, men_
 use Rattle.cql_lexer.specs.Longest.{longest}
 use Rattle.cql_lexer.specs.Tokens.{IsProperDesignator}
 use Rattle.cql_lexer.proofs.Longest.{longest_parts}
-use Rattle.cql_lexer.proofs.Rectangles.{all_on, and_parts, at_one}
+use Rattle.cql_lexer.proofs.Rectangles.{all_on, at_one}
 
 -- some of k men or squares
 abbrev AreSome : ℕ → ℕ → Type 0

@@ -7,6 +7,7 @@ use Rattle.std.specs.Char.{is_ascii_digit}
 use Rattle.std.specs.Str.Parse.{digits_value}
 use Rattle.std.proofs.lemmas.Bool.{leb-true}
 use Rattle.std.proofs.lemmas.List.Quantifiers.{position-Some}
+use Rattle.cql_syntax.specs.Limits.{most_bytes, greatest_number}
 use Rattle.cql_syntax.specs.Words.{words, marks, reserved_names, place_of}
 use Rattle.cql_syntax.specs.declared.leaves.Designator.{Designator}
 use Rattle.cql_syntax.specs.declared.leaves.Outcome.TheVariants as outcomes
@@ -79,7 +80,7 @@ quoted_proper : (text : List ℕ) → Reads (quoted text)
 unfolding quoted
 quoted_proper text = quoted_by (position is_quote (drop 1 text)) text
 
-number_by : (b : Bool) (len value : ℕ) → (b ≡ true → value ≤ 999999999) → Reads (cond b (Ok (of_len len (Number value))) (Err NumberTooLarge))
+number_by : (b : Bool) (len value : ℕ) → (b ≡ true → value ≤ greatest_number) → Reads (cond b (Ok (of_len len (Number value))) (Err NumberTooLarge))
 number_by true len value h = h refl
 number_by false len value h = tt
 
@@ -87,9 +88,9 @@ number_proper : (text : List ℕ) → Reads (number text)
 unfolding number
 number_proper text =
     let value = digits_value 10 (take (prefix_len is_ascii_digit text) text) in
-    number_by (leb value 999999999) (prefix_len is_ascii_digit text) value (leb-true value 999999999)
+    number_by (leb value greatest_number) (prefix_len is_ascii_digit text) value (leb-true value greatest_number)
 
-named_by : (o : Option ℕ) (b : Bool) (name : List ℕ) → ((k : ℕ) → o ≡ Some k → k < 74) → IsProper (elim o [ Some word ↦ Word word | None ↦ cond b (Reserved name) (Name name) ])
+named_by : (o : Option ℕ) (b : Bool) (name : List ℕ) → ((k : ℕ) → o ≡ Some k → k < length words) → IsProper (elim o [ Some word ↦ Word word | None ↦ cond b (Reserved name) (Name name) ])
 named_by None true name h = tt
 named_by None false name h = tt
 named_by (Some k) b name h = h k refl
@@ -117,11 +118,11 @@ named_or_squares_proper text =
     finds_if (begins begins_name_or_squares text) _ None (squares_by (longest designator text) run (cond (ltb 0 run) (Some (of_len run kind)) None)
     (λ d len e. designator_proper (take len text) d (longest_parts designator text d len e).reads) (name_by (ltb 0 run) run kind (named_proper (take run text)))) tt
 
-mark_by : (o : Option (ℕ × ℕ)) → ((k len : ℕ) → o ≡ Some (k, len) → k < 20) → Finds (option_map (λ found. of_len found.1 (Mark found.0)) o)
+mark_by : (o : Option (ℕ × ℕ)) → ((k len : ℕ) → o ≡ Some (k, len) → k < length marks) → Finds (option_map (λ found. of_len found.1 (Mark found.0)) o)
 mark_by None h = tt
 mark_by (Some x) h = h x.0 x.1 refl
 
-mark_below : (text : List ℕ) (k : ℕ) → mark_number text ≡ Some k → k < 20
+mark_below : (text : List ℕ) (k : ℕ) → mark_number text ≡ Some k → k < length marks
 unfolding mark_number
 mark_below text k e = place_below text marks k e
 
@@ -197,7 +198,7 @@ ends zero at expected (b ∷ text) =
 
 whole : (query : List ℕ) → Ends (length query) (tokens_of query)
 unfolding tokens_of
-whole query = ends_if (length query) (ltb 65536 (length query)) _ (tokens_from 0 0 expectations.Token query) tt (ends_at (0 + length query) (length query) _ (omega arith) (ends 0 0 expectations.Token query))
+whole query = ends_if (length query) (ltb most_bytes (length query)) _ (tokens_from 0 0 expectations.Token query) tt (ends_at (0 + length query) (length query) _ (omega arith) (ends 0 0 expectations.Token query))
 
 pub tokens_end : (query : List ℕ) (tokens : List QueryToken) → tokens_of query ≡ Ok tokens → EndOnce (length query) tokens
 tokens_end query tokens e = subst (Ends (length query)) e (whole query)

@@ -5,9 +5,10 @@ use Rattle.std.specs.Char.{is_ascii_digit}
 use Rattle.std.specs.List.{position, prefix_len, starts_with}
 use Rattle.std.specs.Option.{option_map}
 use Rattle.std.specs.Str.Parse.{digits_value}
-use Rattle.std.proofs.lemmas.Bool.{cond-false, le-ltb, ltb-true}
+use Rattle.std.proofs.lemmas.Bool.{and_parts, cond-false, le-ltb, ltb-true}
 use Rattle.std.proofs.lemmas.List.Quantifiers.{position-Some}
 use Rattle.std.proofs.lemmas.List.Sums.{prefix_len-le-length}
+use Rattle.cql_syntax.specs.Limits.{most_bytes, greatest_number}
 use Rattle.cq_outside.specs.Text.{is_white}
 use Rattle.cql_syntax.specs.declared.fault.QueryFault.{QueryFault}
 use Rattle.cql_syntax.specs.declared.fault.QueryReason.{QueryReason}
@@ -61,14 +62,10 @@ file_name_front expectations.Token text = tt
 file_name_front expectations.FileName text = run_front text is_file_byte (FileName (take (prefix_len is_file_byte text) text))
 file_name_front expectations.Outcome text = tt
 
-and_right : (a b : Bool) → (a && b) ≡ true → b ≡ true
-and_right true b e = e
-and_right false b e = absurd (cc)
-
 has_front : (needle text : List ℕ) → starts_with nat_eq text needle ≡ true → length needle ≤ length text
 has_front [] text e = omega arith
 has_front (x ∷ needle) [] e = absurd (cc)
-has_front (x ∷ needle) (b ∷ text) e = let more = has_front needle text (and_right (nat_eq x b) _ e) in omega (arith, more)
+has_front (x ∷ needle) (b ∷ text) e = let more = has_front needle text (and_parts (nat_eq x b) _ e).1 in omega (arith, more)
 
 word_front : (text needle : List ℕ) (kind : QueryTokenKind) → 0 < length needle → starts_with nat_eq text needle ≡ true → IsFront (of_len (length needle) kind) text
 word_front text needle kind some e = (some, has_front needle text e)
@@ -104,7 +101,7 @@ unfolding number
 number_front text e =
     let len = prefix_len is_ascii_digit text in
     let value = digits_value 10 (take len text) in
-    reads_if text (leb value 999999999) (Ok (of_len len (Number value))) (Err NumberTooLarge) (λ _. (first_of_run is_ascii_digit text e, prefix_len-le-length is_ascii_digit text)) tt
+    reads_if text (leb value greatest_number) (Ok (of_len len (Number value))) (Err NumberTooLarge) (λ _. (first_of_run is_ascii_digit text e, prefix_len-le-length is_ascii_digit text)) tt
 
 squares_front : (text : List ℕ) (o : Option (Designator × ℕ)) (run : ℕ) (name : Option Lexeme) → ((d : Designator) (len : ℕ) → o ≡ Some (d, len) → (0 < len) × (len ≤ length text)) → Finds text name → Finds text (elim o [ Some found ↦ cond (leb run found.1) (Some (of_len found.1 (Squares found.0))) name | None ↦ name ])
 squares_front text None run name h p = p
@@ -214,11 +211,11 @@ are_tokens _ _ _ _ (lexed at expected text token len read some none is rest) =
     pass_token at expected text token len some none is front.0 front.1 ∙ ap (with_front (token ∷ [])) (are_tokens (at + len) (expected_after token.kind) (drop len text) read rest)
 are_tokens _ _ _ _ (faulty at expected text fault some none is) = stop at expected text fault some none is
 
-short_enough : (query : List ℕ) → length query ≤ 65536 → tokens_of query ≡ tokens_from 0 0 expectations.Token query
+short_enough : (query : List ℕ) → length query ≤ most_bytes → tokens_of query ≡ tokens_from 0 0 expectations.Token query
 unfolding tokens_of
-short_enough query h = cond-false (ltb 65536 (length query)) _ _ (le-ltb _ _ h)
+short_enough query h = cond-false (ltb most_bytes (length query)) _ _ (le-ltb _ _ h)
 
-pub reads_tokens : (query : List ℕ) (read : Result (List QueryToken) QueryFault) → length query ≤ 65536 → IsRead 0 expectations.Token query read ↔ (tokens_of query ≡ read)
+pub reads_tokens : (query : List ℕ) (read : Result (List QueryToken) QueryFault) → length query ≤ most_bytes → IsRead 0 expectations.Token query read ↔ (tokens_of query ≡ read)
 reads_tokens query read h = (
   (λ is. short_enough query h ∙ are_tokens 0 expectations.Token query read is),
   (λ e. subst (IsRead 0 expectations.Token query) (sym (short_enough query h) ∙ e) (read_within (length query) 0 expectations.Token query (omega arith))),

@@ -3,17 +3,13 @@ use Rattle.std.proofs.Common.{◌≡◌, ℕ, zero, suc, ◌+◌, ◌-◌, ◌*�
 use Rattle.std.specs.Prelude.{◌&&◌, ◌||◌, not, nat_le, nat_eq}
 use Rattle.std.proofs.str.Laws.{order}
 use Rattle.std.specs.Prelude.{◌⊎◌}
-use Rattle.std.proofs.lemmas.Bool.{le-leb, leb-true, eqb-true}
+use Rattle.std.proofs.lemmas.Bool.{and_parts, le-leb, leb-true, eqb-true}
 use Rattle.cql_lexer.specs.Designators.{squares_within}
 
 -- the test passes at the numbers from the first on, so many
 abbrev pub all_on : (ℕ → Bool) → ℕ → ℕ → Bool
 all_on test first zero = true
 all_on test first (suc len) = test first && all_on test (first + 1) len
-
-pub and_parts : (a b : Bool) → (a && b) ≡ true → (a ≡ true) × (b ≡ true)
-and_parts true b h = (refl, h)
-and_parts false b h = (h, absurd (cc))
 
 pub first_or_above : (first k : ℕ) → first ≤ k → (k ≡ first) ⊎ (first + 1 ≤ k)
 first_or_above first k low = ⊎_elim (λ above. inr (omega arith)) (λ same. inl (omega arith)) (order first k)

@@ -2,6 +2,7 @@
 use Rattle.std.proofs.Common.{◌≡◌, ℕ, zero, suc, ◌+◌, ◌-◌, ◌<◌, ◌≤◌, ltb, List, [], ◌∷◌, ◌++◌, length, take, drop, Result, Ok, Err, refl, sym, ap, ◌∙◌, arith, append_assoc, length-drop}
 use Rattle.std.proofs.lemmas.Bool.{cond-true, cond-false, lt-ltb, le-ltb}
 use Rattle.std.proofs.lemmas.List.{drop-drop, drop_all, take_rest}
+use Rattle.cql_syntax.specs.Limits.{most_bytes}
 use Rattle.cq_outside.specs.declared.faults.Refusal.{Refusal}
 use Rattle.cq_outside.specs.declared.faults.Refusal.TheVariants.{Fault, NoMemory}
 use Rattle.cq_outside.specs.Refusals.{Refuses}
@@ -66,20 +67,20 @@ with_no_front (Err fault) = refl
 -- these tokens stand before byte `at`, and what is left gives the others
 pub record TokensLeft (query : List ℕ) (tokens : List QueryToken) (expected : Expected) (at : ℕ) : Type 0 where
   pub within : at ≤ length query
-  pub limit : length query ≤ 65536
+  pub limit : length query ≤ most_bytes
   pub rest : with_front tokens (tokens_from 0 at expected (drop at query)) ≡ tokens_of query
 
-pub at_start : (query : List ℕ) → length query ≤ 65536 → TokensLeft query [] Token 0
+pub at_start : (query : List ℕ) → length query ≤ most_bytes → TokensLeft query [] Token 0
 unfolding tokens_of
 at_start query h = record {
   within = omega arith;
   limit = h;
-  rest = with_no_front _ ∙ sym (cond-false (ltb 65536 (length query)) _ _ (le-ltb _ _ h));
+  rest = with_no_front _ ∙ sym (cond-false (ltb most_bytes (length query)) _ _ (le-ltb _ _ h));
 }
 
-pub too_long : (query : List ℕ) → 65536 < length query → tokens_of query ≡ Err (record { byte = 65536; reason = QueryTooLong })
+pub too_long : (query : List ℕ) → most_bytes < length query → tokens_of query ≡ Err (record { byte = most_bytes; reason = QueryTooLong })
 unfolding tokens_of
-too_long query h = cond-true (ltb 65536 (length query)) _ _ (lt-ltb _ _ h)
+too_long query h = cond-true (ltb most_bytes (length query)) _ _ (lt-ltb _ _ h)
 
 -- what is left of the query, as the code has it
 left : (query : List ℕ) (at s : ℕ) → s ≡ separator_len (take (length query - at) (drop at query)) → separator_len (drop at query) ≡ s

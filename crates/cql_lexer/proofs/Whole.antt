@@ -2,7 +2,7 @@
 use Rattle.std.proofs.Common.{◌≡◌, ℕ, zero, suc, ◌+◌, ◌*◌, ◌<◌, ◌≤◌, Bool, true, false, cond, drop, inl, inr, refl, sym, ap, subst, ◌∙◌, arith}
 use Rattle.std.specs.Prelude.{◌&&◌, ◌==◌, not}
 use Rattle.std.specs.List.{list_all, range_with_len}
-use Rattle.std.proofs.lemmas.Bool.{eqb-true, eq-eqb}
+use Rattle.std.proofs.lemmas.Bool.{and_parts, eqb-true, eq-eqb}
 use Rattle.std.proofs.lemmas.List.{at_drop_more, drop_all}
 use Rattle.std.proofs.lemmas.List.FromFn.{get_or-range_with_len}
 use Rattle.cq_geometry.specs.Squares.{file_of, rank_of, squares}
@@ -35,14 +35,6 @@ alike_by true b f g = f refl
 alike_by false true f g = g refl
 alike_by false false f g = refl
 
-left : (a b : Bool) → (a && b) ≡ true → a ≡ true
-left true b e = refl
-left false b e = e
-
-right : (a b : Bool) → (a && b) ≡ true → b ≡ true
-right true b e = e
-right false b e = absurd (cc)
-
 both : (a b : Bool) → a ≡ true → b ≡ true → (a && b) ≡ true
 both true b e f = f
 both false b e f = e
@@ -57,8 +49,8 @@ same false false f g = refl
 at_each : (p : ℕ → Bool) (a n : ℕ) → list_all p (range_with_len a n) ≡ true → (s : ℕ) → a ≤ s → s < a + n → p s ≡ true
 at_each p a zero e s low high = absurd (omega arith)
 at_each p a (suc n) e s low high = elim (first_or_above a s low) [
-  | inl is ↦ ap p is ∙ left _ _ e
-  | inr above ↦ at_each p (a + 1) n (right _ _ e) s above (omega arith)
+  | inl is ↦ ap p is ∙ (and_parts _ _ e).0
+  | inr above ↦ at_each p (a + 1) n (and_parts _ _ e).1 s above (omega arith)
 ]
 
 from_each : (p : ℕ → Bool) (a n : ℕ) → ((s : ℕ) → a ≤ s → s < a + n → p s ≡ true) → list_all p (range_with_len a n) ≡ true
@@ -108,7 +100,7 @@ module _ (line first : ℕ → ℕ) (set : ℕ) (inside : (s : ℕ) → s < 64 �
   unfolding is_whole
   whole_by h =
       board_by (λ a. list_all (gives a) squares) (λ s low. board_by (gives s) (λ t high. if_by _ _ (λ e.
-      h s t low high (eqb-true (line s) (line t) (left _ _ e)) (right (line s == line t) _ e))))
+      h s t low high (eqb-true (line s) (line t) (and_parts _ _ e).0) (and_parts (line s == line t) _ e).1)))
 
   to_first : list_all alike squares ≡ true → (s : ℕ) → s < 64 → is_in set s ≡ true → is_in set (first (line s)) ≡ true
   to_first e s h has = alike_on _ _ (on_board alike e s h) has

@@ -4,6 +4,7 @@ use Rattle.std.specs.Option.{option_map}
 use Rattle.std.specs.List.{position, prefix_len, starts_with}
 use Rattle.std.specs.Char.{is_ascii_digit}
 use Rattle.std.specs.Str.Parse.{digits_value}
+use Rattle.cql_syntax.specs.Limits.{greatest_number}
 use Rattle.cql_syntax.specs.Words.{words, marks, reserved_names, place_of}
 use Rattle.cql_syntax.specs.declared.leaves.Outcome.TheVariants as outcomes
 use Rattle.cql_syntax.specs.declared.token.QueryTokenKind.{QueryTokenKind}
@@ -54,7 +55,7 @@ unfoldable pub number : List ℕ → Result Lexeme QueryReason
 number text =
     let len = prefix_len is_ascii_digit text in
     let value = digits_value 10 (take len text) in
-    if nat_le value 999999999 then Ok (of_len len (Number value)) else Err NumberTooLarge
+    if nat_le value greatest_number then Ok (of_len len (Number value)) else Err NumberTooLarge
 
 -- a word, a reserved name or another name
 unfoldable pub named : List ℕ → QueryTokenKind

@@ -2,7 +2,8 @@
 use Rattle.std.specs.Prelude.{◌≡◌, ◌<◌, ◌≤◌, ℕ, zero, suc, ◌+◌, ◌-◌, ◌^◌, nat_lt, List, [], ◌∷◌, ◌++◌, length, drop, Option, Some, Result, Ok, Err, if◌then◌else◌, codes, nat_eq, unwrap_or}
 use Rattle.std.specs.List.{prefix_len, position, starts_with}
 use Rattle.cq_symmetry.specs.Parts.{are_whole_ranks, are_whole_files}
-use Rattle.cql_syntax.specs.Words.{word_of}
+use Rattle.cql_syntax.specs.Limits.{most_bytes, greatest_number}
+use Rattle.cql_syntax.specs.Words.{words, marks, word_of}
 use Rattle.cql_syntax.specs.declared.leaves.Designator.{Designator}
 use Rattle.cql_syntax.specs.declared.token.QueryToken.{QueryToken}
 use Rattle.cql_syntax.specs.declared.token.QueryTokenKind.{QueryTokenKind}
@@ -67,7 +68,7 @@ tokens_from zero at expected (b ∷ text) =
 -- the tokens of a query, or its first lexical fault
 unfoldable pub tokens_of : List ℕ → Result (List QueryToken) QueryFault
 tokens_of query =
-    if nat_lt 65536 (length query) then Err (record { byte = 65536; reason = QueryTooLong })
+    if nat_lt most_bytes (length query) then Err (record { byte = most_bytes; reason = QueryTooLong })
     else tokens_from 0 0 Token query
 
 -- What a text reads as that begins at byte `at` of the query: separators are passed, else the first lexeme is a token, and what
@@ -92,12 +93,12 @@ pub record IsProperDesignator (designator : Designator) : Type 0 where
   pub whole_ranks : designator.part.whole_ranks ≡ are_whole_ranks designator.part.squares
   pub whole_files : designator.part.whole_files ≡ are_whole_files designator.part.squares
 
--- a token other than the end, with its number in range, and of men on squares: there are 74 words and 20 marks
+-- a token other than the end, with its number in range, and of men on squares
 abbrev pub IsProper : QueryTokenKind → Type 0
-IsProper (Word word) = word < 74
+IsProper (Word word) = word < length words
 IsProper (Squares designator) = IsProperDesignator designator
-IsProper (Number number) = number ≤ 999999999
-IsProper (Mark mark) = mark < 20
+IsProper (Number number) = number ≤ greatest_number
+IsProper (Mark mark) = mark < length marks
 IsProper End = ⊥
 IsProper kind = Unit {0}
 

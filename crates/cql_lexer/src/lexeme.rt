@@ -2,6 +2,7 @@
 ghost use Rattle.std.specs.Prelude.{◌≡◌, ◌<◌, ◌≤◌, length, IfOk, IfSome, IsTrue, Some};
 ghost use Rattle.cq_outside.specs.Refusals.{Gives};
 ghost use Rattle.std.specs.Char.{is_ascii_digit};
+ghost use Rattle.cql_syntax.specs.Words.{marks};
 ghost use Rattle.cql_lexer.specs.Characters.{begins, begins_name_or_squares};
 ghost use Rattle.cql_lexer.specs.Lexemes.{IsFront, file_name, outcome, quoted, number, named, named_or_squares, mark_number, mark, first_lexeme};
 ghost use Rattle.cql_lexer.specs.Longest.{front, longest};
@@ -13,7 +14,7 @@ use cq_outside::{Bytes, NoMemory, Refusal, decimal_up_to, digits_len};
 use cql_syntax::{Outcome, QueryReason, QueryTokenKind, is_reserved, mark_number, word_number};
 use std::alloc::Global;
 
-/// The greatest number.
+// The greatest number.
 const NUMBER_LIMIT: u32 = 999_999_999;
 
 /// A token, and the number of its bytes.
@@ -121,7 +122,7 @@ fn named(alloc: Global, name: &[u8]) -> Result<QueryTokenKind, NoMemory>
 #[tactic(auto, unfolding(crate::specs::Lexemes::mark_number))]
 fn mark_of(text: &[u8]) -> Option<u8>
     ensures value { result ≡ mark_number text.now }
-    ensures bound { IfSome result (λ mark. mark < 20) }
+    ensures bound { IfSome result (λ mark. mark < length marks) }
 {
     mark_number(text)
 }
@@ -129,7 +130,7 @@ fn mark_of(text: &[u8]) -> Option<u8>
 // The mark of the first so many bytes, where these are one.
 fn mark_front(len: usize, text: &[u8]) -> Option<(u8, usize)>
     ensures value { result ≡ front mark_number len text.now }
-    ensures bound { IfSome result (λ found. found.0 < 20) }
+    ensures bound { IfSome result (λ found. found.0 < length marks) }
 {
     Some((mark_of(text.get(..len)?)?, len))
 }
@@ -138,7 +139,7 @@ fn mark_front(len: usize, text: &[u8]) -> Option<(u8, usize)>
 #[tactic(auto, using(crate::proofs::Marks::mark_longest, crate::proofs::Marks::mark_fits))]
 fn mark_at(text: &[u8]) -> Option<(u8, usize)>
     ensures value { result ≡ longest mark_number text.now }
-    ensures bound { IfSome result (λ found. found.0 < 20) }
+    ensures bound { IfSome result (λ found. found.0 < length marks) }
     ensures front { IfSome result (λ found. (0 < found.1) × (found.1 ≤ length text.now)) }
 {
     mark_front(3, text)

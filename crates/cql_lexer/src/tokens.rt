@@ -1,6 +1,7 @@
 //! The tokens of a query text.
 ghost use Rattle.std.specs.Prelude.{◌≡◌, ◌<◌, ◌≤◌, ◌+◌, length, drop, IfOk, OnOk};
 ghost use Rattle.std.specs.Prelude.{◌++◌, ◌∷◌, ◌↔◌, [], ℕ, List, Result};
+ghost use Rattle.cql_syntax.specs.Limits.{most_bytes};
 ghost use Rattle.cql_syntax.specs.declared.fault.QueryFault.{QueryFault};
 ghost use Rattle.cql_syntax.specs.declared.token.QueryToken.{QueryToken};
 ghost use Rattle.cq_outside.specs.Refusals.{Gives};
@@ -36,7 +37,7 @@ fn token_at(
     at: usize,
 ) -> Result<(QueryToken, usize), Refusal<QueryFault>>
     requires within { at < length query.now }
-    requires limit { length query.now ≤ 65536 }
+    requires limit { length query.now ≤ most_bytes }
     ensures value { Gives (λ found. found) result (token_at expected at (drop at query.now)) }
     ensures front { IfOk result (λ found. (0 < found.1) × (at + found.1 ≤ length query.now)) }
 {
@@ -102,6 +103,6 @@ pub fn tokens_end_once()
 /// what follows it is read after it.
 #[tactic(auto, using(crate::proofs::ReadOnce::reads_tokens))]
 pub fn tokens_are_read()
-    ensures { (query : List ℕ) (read : Result (List QueryToken) QueryFault) → length query ≤ 65536 →
+    ensures { (query : List ℕ) (read : Result (List QueryToken) QueryFault) → length query ≤ most_bytes →
         IsRead 0 Expected.Token query read ↔ (tokens_of query ≡ read) }
 {}

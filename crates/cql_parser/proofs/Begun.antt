@@ -18,7 +18,7 @@ use Rattle.cql_syntax.specs.declared.leaves.Pair.TheVariants as pairs
 use Rattle.cql_parser.specs.declared.role.Role.TheVariants.{End}
 use Rattle.cql_parser.specs.Places.{role, heads, opens, goes, context, least, next, whole, level_of, depth_of, joint_level, takes}
 use Rattle.cql_parser.specs.Grammar.{Phrase, made, joined, Parts, first, add, put, root, end, Items, none, more, text, texts, items_text, head_of, level, IsOver, AreOver, Fits, Goes, AllFit, head_step, heading, Written, Begins}
-use Rattle.cql_parser.specs.Machine.{Making, Joining, Opening, Reading, Done, Deep, Stuck, depth, due, around, written}
+use Rattle.cql_parser.specs.Machine.{InRule, Joining, Opening, Reading, Done, Deep, Stuck, depth, due, around, written}
 use Rattle.cql_parser.proofs.Exits.{Exit, ended, by_token, by_check, exit, rank, check, IsExit, is_exit, Quiet, q_check, q_end, quiet_role, quiet_joins, quiet_goes, IsQuiet, quiet_exit}
 use Rattle.cql_parser.proofs.Read.{Frames, St}
 use Rattle.cql_parser.proofs.Told.{Stands, Good, Has, Under, stack_text, one_more, two_more, regroup, joined_text, end_text}
@@ -184,7 +184,7 @@ finish l h b v p (Joining e f y j ∷ k) ts has =
       under = g.under;
       spelled = joined_text h (items_text b) (stack_text k) (text f) (text p) ts y has.spelled;
     })
-finish l h b v p (Making d ∷ k) ts has =
+finish l h b v p (InRule d ∷ k) ts has =
     let g = has.good.0 in
     let goes_ : Goes l (depth written k) (around written k) (put d p (next (end d))) =
     (refl, has.under.0, has.under.1, has.under.2, has.low, g.goes_, has.fits) in
@@ -251,7 +251,7 @@ joint_few (Paired pairs.Greater) = omega arith
 
 few_open : (l : ℕ) (b : Items) (k : Frames) → Good l b k → depth written k ≤ l
 few_open l b [] good = omega arith
-few_open l b (Making d ∷ k) good = few l (depth written k) (around written k) d good.0.goes_
+few_open l b (InRule d ∷ k) good = few l (depth written k) (around written k) d good.0.goes_
 few_open l b (Joining v p x j ∷ k) good = few_open l b k good.1
 
 -- `check` where a filter is due
@@ -284,7 +284,7 @@ alive l ts (Reading h b (Joining v p x j ∷ k)) good live =
     begins_less l ts (check_token ∷ [])
     (finish l h b (level check_phrase) check_phrase (Joining v p x j ∷ k) (ts ++ (check_token ∷ []))
     (check_has l h b (Joining v p x j ∷ k) ts good.heads_ good.fits good.good refl (joint_few j) tt good.spelled))
-alive l ts (Reading h b (Making d ∷ k)) good live =
+alive l ts (Reading h b (InRule d ∷ k)) good live =
     let g = good.good.0 in
     let e = end_parts l (depth written k) (around written k) d g.goes_ in
     begins_less l ts e.rest

@@ -12,7 +12,7 @@ use Rattle.cql_parser.specs.declared.role.Role.TheVariants.{End}
 use Rattle.cql_parser.specs.Places.{role, heads, opens, goes, least, next, whole, level_of, joint, joint_level, joins}
 use Rattle.cql_parser.specs.Grammar.{Phrase, made, joined, Parts, put, root, end, Items, more}
 use Rattle.cql_parser.specs.Faults.{IsEnded}
-use Rattle.cql_parser.specs.Machine.{Making, Joining, Opening, Reading, Done, Deep, Stuck, around, choose, begin_at, start, join, after_item, onward_by, onward, after, head_to, feed, begun, written}
+use Rattle.cql_parser.specs.Machine.{InRule, Joining, Opening, Reading, Done, Deep, Stuck, around, choose, begin_at, start, join, after_item, onward_by, onward, after, head_to, feed, begun, written}
 use Rattle.cql_parser.proofs.Begun.{Lives}
 use Rattle.cql_parser.proofs.Exits.{q_end, quiet_joins}
 use Rattle.cql_parser.proofs.Read.{Frames, St, go}
@@ -110,7 +110,7 @@ passes n s u halts = subst (λ t. Halts (choose t s u)) (sym (quiet_joins n q_en
 ends : (l : ℕ) (h : List QueryToken) (b : Items) (d : Parts) (k : Frames) (x : QueryToken) (w : Bool) (s : St) → Halts s
     → Halts (onward_by written l h b d k x End None w s)
 ends l h b d k x true s halts = halts
-ends l h b d k x false s halts = start_halts l h b (Making d ∷ k) x
+ends l h b d k x false s halts = start_halts l h b (InRule d ∷ k) x
 
 onward_halts : (l : ℕ) (h : List QueryToken) (b : Items) (d : Parts) (k : Frames) (x : QueryToken) (s : St) → Halts s
     → Halts (onward written l h b d k x End s)
@@ -126,9 +126,9 @@ after_halts l h b v p (Joining e f y j ∷ k) x =
     passes (joint_level j + 1) (join written h b v p (Joining e f y j ∷ k) x (joint End))
     (after written l h b (joint_level j) (joined f y j p) k x End)
     (after_halts l h b (joint_level j) (joined f y j p) k x)
-after_halts l h b v p (Making d ∷ k) x =
+after_halts l h b v p (InRule d ∷ k) x =
     let d' = put d p (next (end d)) in
-    passes (least (end d)) (join written h b v p (Making d ∷ k) x (joint End))
+    passes (least (end d)) (join written h b v p (InRule d ∷ k) x (joint End))
     (onward written l h b d' k x End (after written l h b (level_of (root d)) (made d') k x End))
     (onward_halts l h b d' k x (after written l h b (level_of (root d)) (made d') k x End)
     (after_halts l h b (level_of (root d)) (made d') k x))
@@ -141,7 +141,7 @@ end_halts l (Opening h place) x is =
 end_halts l (Reading h b []) x is = subst (λ r. Halts (start written l h b [] x r)) (sym is) (start_halts l h b [] x)
 end_halts l (Reading h b (Joining v p y j ∷ k)) x is =
     subst (λ r. Halts (start written l h b (Joining v p y j ∷ k) x r)) (sym is) (start_halts l h b (Joining v p y j ∷ k) x)
-end_halts l (Reading h b (Making d ∷ k)) x is =
+end_halts l (Reading h b (InRule d ∷ k)) x is =
     subst (λ r. Halts (onward written l h b d k x r (after written l h b (level_of (root d)) (made d) k x r))) (sym is)
     (onward_halts l h b d k x (after written l h b (level_of (root d)) (made d) k x End)
     (after_halts l h b (level_of (root d)) (made d) k x))

@@ -5,7 +5,7 @@ use Rattle.std.proofs.lemmas.List.{take_all, take_more, reverse-append}
 use Rattle.std.proofs.lemmas.Option.{slice_get_within, get_or_from_slice_get, slice_get-get_or}
 use Rattle.cql_parser.specs.declared.place.Context.TheVariants.{Within}
 use Rattle.cql_parser.specs.declared.stack.Frame.{Frame as CodeFrame}
-use Rattle.cql_parser.specs.declared.stack.Frame.TheVariants.{Making as CodeMaking, Joining as CodeJoining}
+use Rattle.cql_parser.specs.declared.stack.Frame.TheVariants.{InRule as CodeInRule, Joining as CodeJoining}
 use Rattle.cql_parser.specs.Drafts.{Node}
 use Rattle.cql_parser.specs.Frames.{frame_shown, stack_shown, opened}
 use Rattle.cql_parser.specs.Machine.{Frame, depth, due, around}
@@ -20,7 +20,7 @@ unfolding stack_shown
 shown_none = refl
 
 pub depth_more : (f : CodeFrame) (k : List (Frame Rule Node)) → depth planted (frame_shown f ∷ k) ≡ depth planted k + opened f
-depth_more (CodeMaking rule) k = refl
+depth_more (CodeInRule rule) k = refl
 depth_more (CodeJoining level node joint) k = omega arith
 
 -- the innermost comes last
@@ -39,11 +39,11 @@ no_last (f ∷ fs) h = let some : slice_get (f ∷ fs) (length (f ∷ fs) - 1) �
     slice_get-get_or (f ∷ fs) (length (f ∷ fs) - 1) f (omega arith) in absurd cc
 
 due_top : (f : CodeFrame) (k : List (Frame Rule Node)) → due planted (frame_shown f ∷ k) ≡ due planted (frame_shown f ∷ [])
-due_top (CodeMaking rule) k = refl
+due_top (CodeInRule rule) k = refl
 due_top (CodeJoining level node joint) k = refl
 
 around_top : (f : CodeFrame) (k : List (Frame Rule Node)) → around planted (frame_shown f ∷ k) ≡ around planted (frame_shown f ∷ [])
-around_top (CodeMaking rule) k = refl
+around_top (CodeInRule rule) k = refl
 around_top (CodeJoining level node joint) k = refl
 
 pub due_last : (fs : List CodeFrame) (f : CodeFrame) → slice_get fs (length fs - 1) ≡ Some f

@@ -11,3 +11,4 @@ mod Read
 mod Reading
 mod Rows
 mod Told
+pub mod Texts

@@ -11,7 +11,7 @@ use Rattle.cql_parser.specs.declared.role.Role.{Role}
 use Rattle.cql_parser.specs.declared.role.Role.TheVariants.{Word, Sign, Number, Name, Text, FileName, Outcome, Designator, End, Other}
 use Rattle.cql_parser.specs.Places.{role, heads, opens, goes, context, least, next, whole, level_of, depth_of, joint, joint_level, takes, joins}
 use Rattle.cql_parser.specs.Grammar.{Phrase, made, joined, Parts, first, add, put, root, end, Items, none, more, Fits, Goes, AllFit, Begins}
-use Rattle.cql_parser.specs.Machine.{Making, Joining, Opening, Reading, Done, Deep, Stuck, depth, due, around, choose, open_if, begin_at, start, join, after_item, onward_by, onward, after, head_to, feed, begun, written}
+use Rattle.cql_parser.specs.Machine.{InRule, Joining, Opening, Reading, Done, Deep, Stuck, depth, due, around, choose, open_if, begin_at, start, join, after_item, onward_by, onward, after, head_to, feed, begun, written}
 use Rattle.cql_parser.proofs.Begun.{Lives}
 use Rattle.cql_parser.proofs.Answer.{stuck_is_dead, living_begins}
 use Rattle.cql_parser.proofs.Read.{Frames, St, go, go_append, le_true}
@@ -84,7 +84,7 @@ begin_raise : (h : List QueryToken) (b : Items) (k : Frames) (x : QueryToken) (o
     → Raises (λ limit. begin_at written limit h b k x o) l
 begin_raise h b k x None l = raises_same (λ limit. Stuck) l (λ m. refl) (λ e. cc)
 begin_raise h b k x (Some s) l =
-    opens_raise h b (Making (first x s) ∷ k) (depth written k + depth_of s) (nat_le (due written k) (level_of s)) l
+    opens_raise h b (InRule (first x s) ∷ k) (depth written k + depth_of s) (nat_le (due written k) (level_of s)) l
 
 start_raise : (h : List QueryToken) (b : Items) (k : Frames) (x : QueryToken) (r : Role) (l : ℕ)
     → Raises (λ limit. start written limit h b k x r) l
@@ -122,9 +122,9 @@ item_raise h b x Other l = start_raise h b [] x Other l
 
 onward_raise : (h : List QueryToken) (b : Items) (d : Parts) (k : Frames) (x : QueryToken) (r : Role) (o : Option Place) (w : Bool) (f : ℕ
     → St) (l : ℕ) → Raises f l → Raises (λ limit. onward_by written limit h b d k x r o w (f limit)) l
-onward_raise h b d k x r (Some s) w f l then_ = raises_same (λ limit. Reading h b (Making (add d x s) ∷ k)) l (λ m. refl) (λ e. cc)
+onward_raise h b d k x r (Some s) w f l then_ = raises_same (λ limit. Reading h b (InRule (add d x s) ∷ k)) l (λ m. refl) (λ e. cc)
 onward_raise h b d k x r None true f l then_ = then_
-onward_raise h b d k x r None false f l then_ = start_raise h b (Making d ∷ k) x r l
+onward_raise h b d k x r None false f l then_ = start_raise h b (InRule d ∷ k) x r l
 
 after_raise : (h : List QueryToken) (b : Items) (v : ℕ) (p : Phrase) (k : Frames) (x : QueryToken) (r : Role) (l : ℕ)
     → Raises (λ limit. after written limit h b v p k x r) l
@@ -136,11 +136,11 @@ after_raise h b v p (Joining e f y j ∷ k) x r l =
     choose_raise (joins (joint_level j + 1) r) (λ limit. join written h b v p (Joining e f y j ∷ k) x (joint r))
     (λ limit. after written limit h b (joint_level j) (joined f y j p) k x r) l
     (join_raise h b v p (Joining e f y j ∷ k) x (joint r) l) (after_raise h b (joint_level j) (joined f y j p) k x r l)
-after_raise h b v p (Making d ∷ k) x r l =
-    choose_raise (joins (least (end d)) r) (λ limit. join written h b v p (Making d ∷ k) x (joint r))
+after_raise h b v p (InRule d ∷ k) x r l =
+    choose_raise (joins (least (end d)) r) (λ limit. join written h b v p (InRule d ∷ k) x (joint r))
     (λ limit. onward written limit h b (put d p (next (end d))) k x r
     (after written limit h b (level_of (root d)) (made (put d p (next (end d)))) k x r)) l
-    (join_raise h b v p (Making d ∷ k) x (joint r) l)
+    (join_raise h b v p (InRule d ∷ k) x (joint r) l)
     (onward_raise h b (put d p (next (end d))) k x r (goes (next (end d)) r) (whole (next (end d)))
     (λ limit. after written limit h b (level_of (root d)) (made (put d p (next (end d)))) k x r) l
     (after_raise h b (level_of (root d)) (made (put d p (next (end d)))) k x r l))
@@ -159,7 +159,7 @@ unfolding feed
 feed_raise (Opening h place) x l live = head_raise (h ++ (x ∷ [])) (heads place (role x.kind)) l
 feed_raise (Reading h b []) x l live = start_raise h b [] x (role x.kind) l
 feed_raise (Reading h b (Joining v p y j ∷ k)) x l live = start_raise h b (Joining v p y j ∷ k) x (role x.kind) l
-feed_raise (Reading h b (Making d ∷ k)) x l live =
+feed_raise (Reading h b (InRule d ∷ k)) x l live =
     onward_raise h b d k x (role x.kind) (goes (end d) (role x.kind)) (whole (end d))
     (λ limit. after written limit h b (level_of (root d)) (made d) k x (role x.kind)) l
     (after_raise h b (level_of (root d)) (made d) k x (role x.kind) l)

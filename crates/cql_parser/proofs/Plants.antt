@@ -12,7 +12,7 @@ use Rattle.cql_parser.specs.declared.role.Role.TheVariants.{Word, Sign, Number, 
 use Rattle.cql_parser.specs.Places.{role, heads, opens, goes, least, next, whole, level_of, depth_of, joint, joint_level, takes, joins}
 use Rattle.cql_parser.specs.Grammar.{Phrase, made, joined, Parts, first, put, root, end, Items, more, level}
 use Rattle.cql_parser.specs.Drafts.{Node, node, draft, trees, joined_node, node_of, opening, no_opening, hear, Opening as Head}
-use Rattle.cql_parser.specs.Machine.{Frame, Making, Joining, State, Opening, Reading, Done, Deep, Stuck, depth, due, around, choose, open_if, begin_at, start, join, after_item, onward_by, onward, after, head_to, feed, written}
+use Rattle.cql_parser.specs.Machine.{Frame, InRule, Joining, State, Opening, Reading, Done, Deep, Stuck, depth, due, around, choose, open_if, begin_at, start, join, after_item, onward_by, onward, after, head_to, feed, written}
 use Rattle.cql_parser.specs.Planted.{Rule, blank, planted}
 use Rattle.cql_parser.proofs.Read.{Frames, St}
 
@@ -24,7 +24,7 @@ rule ps = record { root = root ps; end = end ps; draft = draft ps }
 
 abbrev pub plants : Frames → List (Frame Rule Node)
 plants [] = []
-plants (Making ps ∷ k) = Making (rule ps) ∷ plants k
+plants (InRule ps ∷ k) = InRule (rule ps) ∷ plants k
 plants (Joining v p x j ∷ k) = Joining v (node p) blank j ∷ plants k
 
 abbrev pub plant : St → Grown
@@ -37,7 +37,7 @@ plant Stuck = Stuck
 -- what is open is joined by filters of their level
 abbrev pub Leveled : Frames → Type 0
 Leveled [] = Unit {0}
-Leveled (Making ps ∷ k) = Leveled k
+Leveled (InRule ps ∷ k) = Leveled k
 Leveled (Joining v p x j ∷ k) = (v ≡ level p) × Leveled k
 
 plant_choose : (t : Bool) (s u : St) → choose t (plant s) (plant u) ≡ plant (choose t s u)
@@ -46,17 +46,17 @@ plant_choose false s u = refl
 
 depth_same : (k : Frames) → depth planted (plants k) ≡ depth written k
 depth_same [] = refl
-depth_same (Making ps ∷ k) = ap (λ n. n + depth_of (root ps)) (depth_same k)
+depth_same (InRule ps ∷ k) = ap (λ n. n + depth_of (root ps)) (depth_same k)
 depth_same (Joining v p x j ∷ k) = depth_same k
 
 due_same : (k : Frames) → due planted (plants k) ≡ due written k
 due_same [] = refl
-due_same (Making ps ∷ k) = refl
+due_same (InRule ps ∷ k) = refl
 due_same (Joining v p x j ∷ k) = refl
 
 around_same : (k : Frames) → around planted (plants k) ≡ around written k
 around_same [] = refl
-around_same (Making ps ∷ k) = refl
+around_same (InRule ps ∷ k) = refl
 around_same (Joining v p x j ∷ k) = refl
 
 plant_open : (t w : Bool) (s : St) → open_if t w (plant s) ≡ plant (open_if t w s)
@@ -68,9 +68,9 @@ plant_begin : (l : ℕ) (h : List QueryToken) (b : Items) (k : Frames) (x : Quer
     → begin_at planted l (opening h) (trees b) (plants k) x o ≡ plant (begin_at written l h b k x o)
 plant_begin l h b k x None = refl
 plant_begin l h b k x (Some s) =
-    ap₂ (λ d n. open_if (nat_le d (level_of s)) (nat_le (n + depth_of s) l) (plant (Reading h b (Making (first x s) ∷ k))))
+    ap₂ (λ d n. open_if (nat_le d (level_of s)) (nat_le (n + depth_of s) l) (plant (Reading h b (InRule (first x s) ∷ k))))
     (due_same k) (depth_same k)
-    ∙ plant_open (nat_le (due written k) (level_of s)) (nat_le (depth written k + depth_of s) l) (Reading h b (Making (first x s) ∷ k))
+    ∙ plant_open (nat_le (due written k) (level_of s)) (nat_le (depth written k + depth_of s) l) (Reading h b (InRule (first x s) ∷ k))
 
 plant_start : (l : ℕ) (h : List QueryToken) (b : Items) (k : Frames) (x : QueryToken) (r : Role)
     → start planted l (opening h) (trees b) (plants k) x r ≡ plant (start written l h b k x r)
@@ -101,7 +101,7 @@ plant_onward : (l : ℕ) (h : List QueryToken) (b : Items) (ps : Parts) (k : Fra
     → onward_by planted l (opening h) (trees b) (rule ps) (plants k) x r o w s ≡ plant (onward_by written l h b ps k x r o w u)
 plant_onward l h b ps k x r (Some s) w e u is = refl
 plant_onward l h b ps k x r None true e u is = is
-plant_onward l h b ps k x r None false e u is = plant_start l h b (Making ps ∷ k) x r
+plant_onward l h b ps k x r None false e u is = plant_start l h b (InRule ps ∷ k) x r
 
 plant_after : (l : ℕ) (h : List QueryToken) (b : Items) (v : ℕ) (p : Phrase) (k : Frames) (x : QueryToken) (r : Role) → Leveled k
     → after planted l (opening h) (trees b) v (node p) (plants k) x r ≡ plant (after written l h b v p k x r)
@@ -115,13 +115,13 @@ plant_after l h b v p (Joining e f y j ∷ k) x r leveled =
     ∙ plant_after l h b (joint_level j) (joined f y j p) k x r leveled.1)
     ∙ plant_choose (joins (joint_level j + 1) r) (join written h b v p (Joining e f y j ∷ k) x (joint r))
     (after written l h b (joint_level j) (joined f y j p) k x r)
-plant_after l h b v p (Making d ∷ k) x r leveled =
-    ap₂ (choose (joins (least (end d)) r)) (plant_join h b v p (Making d ∷ k) x (joint r))
+plant_after l h b v p (InRule d ∷ k) x r leveled =
+    ap₂ (choose (joins (least (end d)) r)) (plant_join h b v p (InRule d ∷ k) x (joint r))
     (plant_onward l h b (put d p (next (end d))) k x r (goes (next (end d)) r) (whole (next (end d)))
     (after planted l (opening h) (trees b) (level_of (root d)) (node_of (draft (put d p (next (end d))))) (plants k) x r)
     (after written l h b (level_of (root d)) (made (put d p (next (end d)))) k x r)
     (plant_after l h b (level_of (root d)) (made (put d p (next (end d)))) k x r leveled))
-    ∙ plant_choose (joins (least (end d)) r) (join written h b v p (Making d ∷ k) x (joint r))
+    ∙ plant_choose (joins (least (end d)) r) (join written h b v p (InRule d ∷ k) x (joint r))
     (onward written l h b (put d p (next (end d))) k x r (after written l h b (level_of (root d)) (made (put d p (next (end d)))) k x r))
 
 open_snoc : (ts : List QueryToken) (x : QueryToken) (o : Head)
@@ -152,7 +152,7 @@ plant_feed l (Opening h place) x leveled =
     ∙ plant_head (h ++ (x ∷ [])) (heads place (role x.kind))
 plant_feed l (Reading h b []) x leveled = plant_start l h b [] x (role x.kind)
 plant_feed l (Reading h b (Joining v p y j ∷ k)) x leveled = plant_start l h b (Joining v p y j ∷ k) x (role x.kind)
-plant_feed l (Reading h b (Making d ∷ k)) x leveled =
+plant_feed l (Reading h b (InRule d ∷ k)) x leveled =
     plant_onward l h b d k x (role x.kind) (goes (end d) (role x.kind)) (whole (end d))
     (after planted l (opening h) (trees b) (level_of (root d)) (node_of (draft d)) (plants k) x (role x.kind))
     (after written l h b (level_of (root d)) (made d) k x (role x.kind))

@@ -13,7 +13,7 @@ use Rattle.cql_parser.specs.declared.role.Role.{Role}
 use Rattle.cql_parser.specs.declared.role.Role.TheVariants.{Word, Sign, Number, Name, Text, FileName, Outcome, Designator, End, Other}
 use Rattle.cql_parser.specs.Places.{role, heads, opens, context, least, next, whole, level_of, depth_of, joint, joint_level, takes, joins}
 use Rattle.cql_parser.specs.Grammar.{Phrase, made, joined, Parts, first, add, put, root, end, Items, none, more, text, texts, items_text, head, head_of, level, IsOver, AreOver, Fits, Goes, AllOver, AllFit, head_step, heading, IsSome, Written}
-use Rattle.cql_parser.specs.Machine.{Frame, Making, Joining, State, Reading, Done, Stuck, depth, due, around, choose, open_if, begin_at, start, join, after_item, onward_by, onward, after, head_to, feed, run, begun, written}
+use Rattle.cql_parser.specs.Machine.{Frame, InRule, Joining, State, Reading, Done, Stuck, depth, due, around, choose, open_if, begin_at, start, join, after_item, onward_by, onward, after, head_to, feed, run, begun, written}
 
 abbrev pub Frames : Type 0
 Frames = List (Frame Parts Phrase)
@@ -41,9 +41,9 @@ abbrev mutual
   spine (joined p x j q) k = spine q (Joining (level p) p x j ∷ k)
 
   pub spine_of : Parts → Frames → Frames
-  spine_of (first x s) k = Making (first x s) ∷ k
-  spine_of (add ps x s) k = Making (add ps x s) ∷ k
-  spine_of (put ps p s) k = spine p (Making ps ∷ k)
+  spine_of (first x s) k = InRule (first x s) ∷ k
+  spine_of (add ps x s) k = InRule (add ps x s) ∷ k
+  spine_of (put ps p s) k = spine p (InRule ps ∷ k)
 
 -- a token after a filter that it doesn't belong to
 mutual
@@ -67,8 +67,8 @@ mutual
   feed_spine_of l n c h b (first y s) k x goes_ over = refl
   feed_spine_of l n c h b (add ps y s) k x goes_ over = refl
   feed_spine_of l n c h b (put ps p s) k x goes_ over =
-      feed_spine l (n + depth_of (root ps)) (context (end ps)) h b p (Making ps ∷ k) x goes_.6 over.0
-      ∙ ap (λ t. choose t (join written h b (level p) p (Making ps ∷ k) x (joint (role x.kind)))
+      feed_spine l (n + depth_of (root ps)) (context (end ps)) h b p (InRule ps ∷ k) x goes_.6 over.0
+      ∙ ap (λ t. choose t (join written h b (level p) p (InRule ps ∷ k) x (joint (role x.kind)))
       (onward written l h b (put ps p (next (end ps))) k x (role x.kind)
       (after written l h b (level_of (root ps)) (made (put ps p (next (end ps)))) k x (role x.kind)))) over.1
       ∙ ap (λ s. onward written l h b (put ps p s) k x (role x.kind)
@@ -90,12 +90,12 @@ join_read l h b v p (Joining e f y i ∷ k) x j is takes_ low =
     ap₂ (λ t o. choose t (join written h b v p (Joining e f y i ∷ k) x o)
     (after written l h b (joint_level i) (joined f y i p) k x (role x.kind))) (joins_true (joint_level i + 1) (role x.kind) j is low) is
     ∙ ap (λ t. choose t (Reading h b (Joining v p x j ∷ Joining e f y i ∷ k)) Stuck) takes_
-join_read l h b v p (Making d ∷ k) x j is takes_ low =
-    ap₂ (λ t o. choose t (join written h b v p (Making d ∷ k) x o)
+join_read l h b v p (InRule d ∷ k) x j is takes_ low =
+    ap₂ (λ t o. choose t (join written h b v p (InRule d ∷ k) x o)
     (onward written l h b (put d p (next (end d))) k x (role x.kind)
     (after written l h b (level_of (root d)) (made (put d p (next (end d)))) k x (role x.kind))))
     (joins_true (least (end d)) (role x.kind) j is low) is
-    ∙ ap (λ t. choose t (Reading h b (Joining v p x j ∷ Making d ∷ k)) Stuck) takes_
+    ∙ ap (λ t. choose t (Reading h b (Joining v p x j ∷ InRule d ∷ k)) Stuck) takes_
 
 pub takes_low : (j : Joint) (c : ℕ) → takes j c ≡ true → joint_level j ≤ c
 unfolding takes joint_level
@@ -128,7 +128,7 @@ mutual
       → go l u (texts ps) ≡ Reading h b (spine_of ps k)
   read_parts l h b (first x s) k u goes_ low starts =
       starts ∙ ap (begin_at written l h b k x) goes_.0
-      ∙ ap₂ (λ t w. open_if t w (Reading h b (Making (first x s) ∷ k))) (le_true (due written k) (level_of s) low)
+      ∙ ap₂ (λ t w. open_if t w (Reading h b (InRule (first x s) ∷ k))) (le_true (due written k) (level_of s) low)
       (le_true (depth written k + depth_of s) l goes_.1)
   read_parts l h b (add ps x s) k u goes_ low starts =
       go_append l u (texts ps) (x ∷ [])
@@ -138,13 +138,13 @@ mutual
       (after written l h b (level_of (root ps)) (made ps) k x (role x.kind))) goes_.0
   read_parts l h b (put ps p s) k u goes_ low starts =
       let again : feed written l (Reading h b (spine_of ps k)) (head p)
-      ≡ start written l h b (Making ps ∷ k) (head p) (role (head p).kind) =
+      ≡ start written l h b (InRule ps ∷ k) (head p) (role (head p).kind) =
       feed_spine_of l (depth written k) (around written k) h b ps k (head p) goes_.5 goes_.3
       ∙ ap₂ (λ o w. onward_by written l h b ps k (head p) (role (head p).kind) o w
       (after written l h b (level_of (root ps)) (made ps) k (head p) (role (head p).kind))) goes_.2 goes_.1 in
       go_append l u (texts ps) (text p)
       ∙ ap (λ s. go l s (text p)) (read_parts l h b ps k u goes_.5 low starts)
-      ∙ read_phrase l h b p (Making ps ∷ k) (Reading h b (spine_of ps k)) goes_.6 goes_.4 again
+      ∙ read_phrase l h b p (InRule ps ∷ k) (Reading h b (spine_of ps k)) goes_.6 goes_.4 again
 
 -- what is open after items, and the items before
 abbrev pub read_items : List QueryToken → Items → St

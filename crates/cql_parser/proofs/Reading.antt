@@ -1,6 +1,7 @@
 -- What the code reads is what the grammar reads.
-use Rattle.std.proofs.Common.{◌≡◌, inl, inr, ℕ, ◌+◌, ◌<◌, ◌≤◌, List, [], ◌∷◌, ◌++◌, Bool, true, false, refl, sym, ap, ap₂, ◌∙◌, subst, take, drop, length, get_or, append_assoc, Result, Ok, Err, IfOk}
+use Rattle.std.proofs.Common.{◌≡◌, inl, inr, ℕ, ◌+◌, ◌<◌, ◌≤◌, List, [], ◌∷◌, ◌++◌, Bool, true, false, refl, sym, ap, ap₂, ◌∙◌, subst, take, drop, length, get_or, append_assoc, append-nil, ◌⊎◌, Result, Ok, Err, IfOk}
 use Rattle.std.proofs.lemmas.List.{take_all, take_more, take-append-drop}
+use Rattle.cql_syntax.specs.Limits.{most_open}
 use Rattle.cq_outside.specs.declared.faults.NoMemory.{NoMemory}
 use Rattle.cql_syntax.specs.Trees.{FilterTrees, QueryTree}
 use Rattle.cql_syntax.specs.declared.fault.QueryFault.{QueryFault}
@@ -13,9 +14,9 @@ use Rattle.cql_parser.specs.declared.reader.Reader.{Reader}
 use Rattle.cql_parser.specs.declared.role.Role.{Role}
 use Rattle.cql_parser.specs.Places.{least, joint, joint_level, joins}
 use Rattle.cql_parser.specs.Grammar.{Begins, Items}
-use Rattle.cql_parser.specs.Drafts.{Node, opening, trees, Spells, Opening as Head}
+use Rattle.cql_parser.specs.Drafts.{Node, opening, trees, query_of, Spells, Opening as Head}
 use Rattle.cql_parser.specs.Faults.{IsEnded, IsReason, IsFault}
-use Rattle.cql_parser.specs.Machine.{Frame, Making, Joining, Opening, Reading, Done, Deep, Stuck, due, choose, join, after, feed, begun, written}
+use Rattle.cql_parser.specs.Machine.{Frame, InRule, Joining, Opening, Reading, Done, Deep, Stuck, due, choose, join, after, feed, begun, written}
 use Rattle.cql_parser.specs.Planted.{Rule, planted}
 use Rattle.cql_parser.specs.Readers.{Grown, head_in, items_in, frames_in, state_shown, at_start, is_fault, reason_of, query_in}
 use Rattle.cql_parser.proofs.Answer.{stuck_is_dead, deep_is_dead, living_begins, done_spells}
@@ -28,7 +29,7 @@ use Rattle.cql_parser.proofs.Told.{Good, Stands, told}
 
 -- what is read of tokens, by the grammar
 abbrev pub read : List QueryToken → St
-read ts = go 64 (begun written) ts
+read ts = go most_open (begun written) ts
 
 -- the code reads what the grammar reads
 pub record Keeps (ts : List QueryToken) (state : Reached) (reader : Reader) : Type 0 where
@@ -37,7 +38,7 @@ pub record Keeps (ts : List QueryToken) (state : Reached) (reader : Reader) : Ty
 
 leveled : (l : ℕ) (b : Items) (k : Frames) → Good l b k → Leveled k
 leveled l b [] good = tt
-leveled l b (Making ps ∷ k) good = leveled l b k good.1
+leveled l b (InRule ps ∷ k) good = leveled l b k good.1
 leveled l b (Joining v p x j ∷ k) good = (good.0.leveled, leveled l b k good.1)
 
 state_leveled : (l : ℕ) (ts : List QueryToken) (s : St) → Stands l ts s → StateLeveled s
@@ -47,15 +48,15 @@ state_leveled l ts (Done h b) good = tt
 state_leveled l ts Deep good = tt
 state_leveled l ts Stuck good = tt
 
-feeds : (ts : List QueryToken) (x : QueryToken) → read (ts ++ (x ∷ [])) ≡ feed written 64 (read ts) x
-feeds ts x = go_append 64 (begun written) ts (x ∷ [])
+feeds : (ts : List QueryToken) (x : QueryToken) → read (ts ++ (x ∷ [])) ≡ feed written most_open (read ts) x
+feeds ts x = go_append most_open (begun written) ts (x ∷ [])
 
 -- one token more
 pub same_on : (ts : List QueryToken) (x : QueryToken) (s u : Reached) (old new : Reader) → plant (read ts) ≡ state_shown s old
-    → state_shown u new ≡ feed planted 64 (state_shown s old) x → plant (read (ts ++ (x ∷ []))) ≡ state_shown u new
+    → state_shown u new ≡ feed planted most_open (state_shown s old) x → plant (read (ts ++ (x ∷ []))) ≡ state_shown u new
 same_on ts x s u old new same fed =
-    ap plant (feeds ts x) ∙ sym (plant_feed 64 (read ts) x (state_leveled 64 ts (read ts) (told 64 ts)))
-    ∙ ap (λ v. feed planted 64 v x) same ∙ sym fed
+    ap plant (feeds ts x) ∙ sym (plant_feed most_open (read ts) x (state_leveled most_open ts (read ts) (told most_open ts)))
+    ∙ ap (λ v. feed planted most_open v x) same ∙ sym fed
 
 -- what the code has says whether reading goes on
 abbrev Living : Grown → Type 0
@@ -80,7 +81,7 @@ living_lives Deep live = live
 living_lives Stuck live = live
 
 pub kept_on : (ts : List QueryToken) (x : QueryToken) (s u : Reached) (old new : Reader) → Keeps ts s old
-    → state_shown u new ≡ feed planted 64 (state_shown s old) x → is_fault u ≡ false → Keeps (ts ++ (x ∷ [])) u new
+    → state_shown u new ≡ feed planted most_open (state_shown s old) x → is_fault u ≡ false → Keeps (ts ++ (x ∷ [])) u new
 kept_on ts x s u old new keeps fed fine =
     let same : plant (read (ts ++ (x ∷ []))) ≡ state_shown u new = same_on ts x s u old new keeps.same fed in
     record { same = same; lives = living_lives (read (ts ++ (x ∷ []))) (subst Living (sym same) (living_shown u new fine)) }
@@ -130,7 +131,7 @@ unexpected ts (Outcome o) never = inr (refl, never)
 unexpected ts (Mark m) never = inr (refl, never)
 
 pub fault_at : (ts rest : List QueryToken) (x : QueryToken) (s u : Reached) (old new : Reader) (f : QueryFault) → Keeps ts s old
-    → state_shown u new ≡ feed planted 64 (state_shown s old) x → is_fault u ≡ true → f.byte ≡ x.at
+    → state_shown u new ≡ feed planted most_open (state_shown s old) x → is_fault u ≡ true → f.byte ≡ x.at
     → f.reason ≡ reason_of x.kind u → IsFault (ts ++ (x ∷ rest)) f
 fault_at ts rest x s (reached.Opening place) old new f keeps fed fails byte_is reason_is = absurd cc
 fault_at ts rest x s reached.Reading old new f keeps fed fails byte_is reason_is = absurd cc
@@ -142,11 +143,11 @@ fault_at ts rest x s reached.Deep old new f keeps fed fails byte_is reason_is =
       token = x;
       rest = rest;
       spelled = refl;
-      begins = living_begins 64 ts keeps.lives;
-      dead = deep_is_dead 64 (ts ++ (x ∷ [])) is;
+      begins = living_begins most_open ts keeps.lives;
+      dead = deep_is_dead most_open (ts ++ (x ∷ [])) is;
       byte = byte_is;
       reason = subst (IsReason (ts ++ (x ∷ [])) x.kind) (sym reason_is)
-          (too_deep (ts ++ (x ∷ [])) x.kind (deep_begins 64 ts x keeps.lives (sym (feeds ts x) ∙ is)));
+          (too_deep (ts ++ (x ∷ [])) x.kind (deep_begins most_open ts x keeps.lives (sym (feeds ts x) ∙ is)));
     }
 fault_at ts rest x s reached.Stuck old new f keeps fed fails byte_is reason_is =
     let is : read (ts ++ (x ∷ [])) ≡ Stuck =
@@ -156,11 +157,11 @@ fault_at ts rest x s reached.Stuck old new f keeps fed fails byte_is reason_is =
       token = x;
       rest = rest;
       spelled = refl;
-      begins = living_begins 64 ts keeps.lives;
-      dead = stuck_is_dead 64 (ts ++ (x ∷ [])) is;
+      begins = living_begins most_open ts keeps.lives;
+      dead = stuck_is_dead most_open (ts ++ (x ∷ [])) is;
       byte = byte_is;
       reason = subst (IsReason (ts ++ (x ∷ [])) x.kind) (sym reason_is)
-          (unexpected (ts ++ (x ∷ [])) x.kind (stuck_never_begins 64 ts x keeps.lives (sym (feeds ts x) ∙ is)));
+          (unexpected (ts ++ (x ∷ [])) x.kind (stuck_never_begins most_open ts x keeps.lives (sym (feeds ts x) ∙ is)));
     }
 
 -- a list from a place on
@@ -179,38 +180,38 @@ query_is reached.Done r h b is = (cc, cc)
 query_is reached.Deep r h b is = absurd cc
 query_is reached.Stuck r h b is = absurd cc
 
-pub all_read : (ts : List QueryToken) (s : Reached) (r : Reader) → IsEnded ts → Keeps ts s r → Spells 64 ts (query_in r)
+pub all_read : (ts : List QueryToken) (s : Reached) (r : Reader) → IsEnded ts → Keeps ts s r → Spells most_open ts (query_in r)
 all_read ts s r ended keeps =
-    let done = end_is_done 64 ts ended keeps.lives in
+    let done = end_is_done most_open ts ended keeps.lives in
     let found = query_is s r (opening done.0) (trees done.1) (sym (ap plant done.2) ∙ keeps.same) in
-    subst (Spells 64 ts) (ap₂ (λ (o : Head) (fs : FilterTrees). record {
+    subst (Spells most_open ts) (ap₂ (λ (o : Head) (fs : FilterTrees). record {
       variations = o.variations;
       match_at = o.match_at;
       match_text =
           o.match_text;
       items = fs;
     }) found.0 found.1)
-    (done_spells 64 ts done.0 done.1 done.2)
+    (done_spells most_open ts done.0 done.1 done.2)
 
 -- along the list of tokens
 pub kept_more : (ts : List QueryToken) (i : ℕ) (x : QueryToken) (s u : Reached) (old new : Reader) → i < length ts
-    → x ≡ get_or ts i x → Keeps (take i ts) s old → state_shown u new ≡ feed planted 64 (state_shown s old) x
+    → x ≡ get_or ts i x → Keeps (take i ts) s old → state_shown u new ≡ feed planted most_open (state_shown s old) x
     → is_fault u ≡ false → Keeps (take (i + 1) ts) u new
 kept_more ts i x s u old new low is keeps fed fine =
     subst (λ t. Keeps t u new) (ap (λ y. take i ts ++ (y ∷ [])) is
     ∙ sym (take_more ts i x low)) (kept_on (take i ts) x s u old new keeps fed fine)
 
 pub fault_here : (ts : List QueryToken) (i : ℕ) (x : QueryToken) (s u : Reached) (old new : Reader) (f : QueryFault) → i < length ts
-    → x ≡ get_or ts i x → Keeps (take i ts) s old → state_shown u new ≡ feed planted 64 (state_shown s old) x
+    → x ≡ get_or ts i x → Keeps (take i ts) s old → state_shown u new ≡ feed planted most_open (state_shown s old) x
     → is_fault u ≡ true → f.byte ≡ x.at → f.reason ≡ reason_of x.kind u → IsFault ts f
 fault_here ts i x s u old new f low is keeps fed fails byte_is reason_is =
     subst (λ t. IsFault t f) (ap (λ y. take i ts ++ (y ∷ drop (i + 1) ts)) is
     ∙ split_at ts i x low) (fault_at (take i ts) (drop (i + 1) ts) x s u old new f keeps fed fails byte_is reason_is)
 
 pub query_here : (ts : List QueryToken) (i : ℕ) (s : Reached) (r : Reader) (q : QueryTree) → length ts ≤ i → IsEnded ts
-    → Keeps (take i ts) s r → q ≡ query_in r → Spells 64 ts q
+    → Keeps (take i ts) s r → q ≡ query_in r → Spells most_open ts q
 query_here ts i s r q all ended keeps is =
-    subst (Spells 64 ts) (sym is) (all_read ts s r ended (subst (λ t. Keeps t s r) (take_all i ts all) keeps))
+    subst (Spells most_open ts) (sym is) (all_read ts s r ended (subst (λ t. Keeps t s r) (take_all i ts all) keeps))
 
 -- a token that joins a filter to the next one
 choose_true : {S : Type 0} (t : Bool) (s u : S) → t ≡ true → choose t s u ≡ s
@@ -218,17 +219,65 @@ choose_true true s u is = refl
 choose_true false s u is = absurd cc
 
 pub after_joins : (h : Head) (b : FilterTrees) (v : ℕ) (a : Node) (k : List (Frame Rule Node)) (x : QueryToken) (r : Role)
-    → joins (due planted k) r ≡ true → after planted 64 h b v a k x r ≡ join planted h b v a k x (joint r)
+    → joins (due planted k) r ≡ true → after planted most_open h b v a k x r ≡ join planted h b v a k x (joint r)
 unfolding after
 after_joins h b v a [] x r is = choose_true (joins 0 r) _ _ is
 after_joins h b v a (Joining e f y j ∷ k) x r is = choose_true (joins (joint_level j + 1) r) _ _ is
-after_joins h b v a (Making d ∷ k) x r is = choose_true (joins (least d.end) r) _ _ is
+after_joins h b v a (InRule d ∷ k) x r is = choose_true (joins (least d.end) r) _ _ is
 
 pub joined_after : (result : Result Reached NoMemory) (new old : Reader) (v : ℕ) (a : Node) (x : QueryToken) (r : Role) (u : Grown)
-    → joins (due planted (frames_in old)) r ≡ true → after planted 64 (head_in old) (items_in old) v a (frames_in old) x r ≡ u
+    → joins (due planted (frames_in old)) r ≡ true → after planted most_open (head_in old) (items_in old) v a (frames_in old) x r ≡ u
     → IfOk result (λ s. (y : QueryToken)
     → state_shown s new ≡ join planted (head_in old) (items_in old) v a (frames_in old) y (joint r))
     → IfOk result (λ s. state_shown s new ≡ u)
 joined_after (Ok s) new old v a x r u yes_ is ok = ok x ∙ sym (after_joins (head_in old) (items_in old) v a (frames_in old) x r yes_)
     ∙ is
 joined_after (Err e) new old v a x r u yes_ is ok = tt
+
+-- tokens that are ended spell a query or have a fault
+abbrev pub HasOutcome : List QueryToken → Type 0
+HasOutcome ts = ((q : QueryTree) × Spells most_open ts q) ⊎ ((f : QueryFault) × IsFault ts f)
+
+outcome_on : (ts rest : List QueryToken) (x : QueryToken) (s : St) → read (ts ++ (x ∷ [])) ≡ s → Lives (read ts)
+    → (Lives s → HasOutcome (ts ++ (x ∷ rest))) → HasOutcome (ts ++ (x ∷ rest))
+outcome_on ts rest x (Opening h place) is lives on = on tt
+outcome_on ts rest x (Reading h b k) is lives on = on tt
+outcome_on ts rest x (Done h b) is lives on = on tt
+outcome_on ts rest x Deep is lives on = inr (
+  record { byte = x.at; reason = reason_of x.kind reached.Deep },
+  record {
+    before = ts;
+    token = x;
+    rest = rest;
+    spelled = refl;
+    begins = living_begins most_open ts lives;
+    dead = deep_is_dead most_open (ts ++ (x ∷ [])) is;
+    byte = refl;
+    reason = too_deep (ts ++ (x ∷ [])) x.kind (deep_begins most_open ts x lives (sym (feeds ts x) ∙ is));
+  },
+)
+outcome_on ts rest x Stuck is lives on = inr (
+  record { byte = x.at; reason = reason_of x.kind reached.Stuck },
+  record {
+    before = ts;
+    token = x;
+    rest = rest;
+    spelled = refl;
+    begins = living_begins most_open ts lives;
+    dead = stuck_is_dead most_open (ts ++ (x ∷ [])) is;
+    byte = refl;
+    reason = unexpected (ts ++ (x ∷ [])) x.kind (stuck_never_begins most_open ts x lives (sym (feeds ts x) ∙ is));
+  },
+)
+
+pub outcome_from : (ts rest : List QueryToken) → Lives (read ts) → IsEnded (ts ++ rest) → HasOutcome (ts ++ rest)
+outcome_from ts [] lives ended =
+    let done = end_is_done most_open ts (subst IsEnded (append-nil ts) ended) lives in
+    subst HasOutcome (sym (append-nil ts)) (inl (query_of (opening done.0) done.1, done_spells most_open ts done.0 done.1 done.2))
+outcome_from ts (x ∷ rest) lives ended =
+    outcome_on ts rest x (read (ts ++ (x ∷ []))) refl lives
+    (λ live. subst HasOutcome (append_assoc ts (x ∷ []) rest)
+    (outcome_from (ts ++ (x ∷ [])) rest live (subst IsEnded (sym (append_assoc ts (x ∷ []) rest)) ended)))
+
+pub has_outcome : (ts : List QueryToken) → IsEnded ts → HasOutcome ts
+has_outcome ts ended = outcome_from [] ts tt ended

@@ -10,23 +10,23 @@ use Rattle.cql_parser.specs.declared.role.Role.{Role}
 use Rattle.cql_parser.specs.declared.role.Role.TheVariants.{Word, Sign, Number, Name, Text, FileName, Outcome, Designator, End, Other}
 use Rattle.cql_parser.specs.Places.{role, heads, opens, goes, least, next, whole, level_of, depth_of, joint, joint_level, takes, joins}
 use Rattle.cql_parser.specs.Grammar.{Phrase, made, joined, Parts, first, put, root, end, Items, more, text, texts, items_text, head, head_of, level, IsOver, AreOver, Fits, Goes, AllOver, AllFit, head_step, heading, Written}
-use Rattle.cql_parser.specs.Machine.{Making, Joining, Opening, Reading, Done, Deep, Stuck, depth, due, around, choose, open_if, begin_at, start, join, after_item, onward_by, onward, after, head_to, feed, begun, written}
+use Rattle.cql_parser.specs.Machine.{InRule, Joining, Opening, Reading, Done, Deep, Stuck, depth, due, around, choose, open_if, begin_at, start, join, after_item, onward_by, onward, after, head_to, feed, begun, written}
 use Rattle.cql_parser.proofs.Read.{Frames, St, go, true_le}
 
 -- the tokens that what is open has read
 abbrev pub stack_text : Frames → List QueryToken
 stack_text [] = []
-stack_text (Making ps ∷ k) = stack_text k ++ texts ps
+stack_text (InRule ps ∷ k) = stack_text k ++ texts ps
 stack_text (Joining v p x j ∷ k) = stack_text k ++ (text p ++ (x ∷ []))
 
 -- a token after what is open begins a part of it
 abbrev pub Under : Items → Frames → Role → Type 0
 Under b [] r = AllOver b r
-Under b (Making ps ∷ k) r = (whole (end ps) ≡ false) × (goes (end ps) r ≡ None) × AreOver ps r
+Under b (InRule ps ∷ k) r = (whole (end ps) ≡ false) × (goes (end ps) r ≡ None) × AreOver ps r
 Under b (Joining v p x j ∷ k) r = Unit {0}
 
 -- what is open is written by the grammar
-pub record GoodMaking (l : ℕ) (b : Items) (k : Frames) (ps : Parts) : Type 0 where
+pub record GoodInRule (l : ℕ) (b : Items) (k : Frames) (ps : Parts) : Type 0 where
   pub goes_ : Goes l (depth written k) (around written k) ps
   pub low : due written k ≤ level_of (root ps)
   pub under : Under b k (role (head_of ps).kind)
@@ -42,13 +42,13 @@ pub record GoodJoining (l : ℕ) (b : Items) (k : Frames) (v : ℕ) (p : Phrase)
 
 abbrev pub Good : ℕ → Items → Frames → Type 0
 Good l b [] = Unit {0}
-Good l b (Making ps ∷ k) = GoodMaking l b k ps × Good l b k
+Good l b (InRule ps ∷ k) = GoodInRule l b k ps × Good l b k
 Good l b (Joining v p x j ∷ k) = GoodJoining l b k v p x j × Good l b k
 
 -- no token that follows belongs to a part that was read before
 abbrev pub Fresh : Items → Frames → Role → Type 0
 Fresh b [] r = AllOver b r
-Fresh b (Making ps ∷ k) r = AreOver ps r
+Fresh b (InRule ps ∷ k) r = AreOver ps r
 Fresh b (Joining v p x j ∷ k) r = Unit {0}
 
 pub record GoodReading (l : ℕ) (h : List QueryToken) (b : Items) (k : Frames) (ts : List QueryToken) : Type 0 where
@@ -110,7 +110,7 @@ pub record Waits (l : ℕ) (h : List QueryToken) (b : Items) (k : Frames) (ts : 
 opened : (l : ℕ) (h : Tokens) (b : Items) (k : Frames) (ts : Tokens) (x : QueryToken) (r : Role) (s : Place) (t w : Bool)
     → role x.kind ≡ r → Waits l h b k ts → Under b k r → opens (around written k) r ≡ Some s
     → nat_le (due written k) (level_of s) ≡ t → nat_le (depth written k + depth_of s) l ≡ w
-    → Stands l (ts ++ (x ∷ [])) (open_if t w (Reading h b (Making (first x s) ∷ k)))
+    → Stands l (ts ++ (x ∷ [])) (open_if t w (Reading h b (InRule (first x s) ∷ k)))
 opened l h b k ts x r s true true is waits under opens_ low few =
     record {
       heads_ = waits.heads_;
@@ -208,7 +208,7 @@ items_end l h b p ts x Designator is waits over spelled = starts l h (more b p) 
 items_end l h b p ts x Other is waits over spelled = starts l h (more b p) [] ts x Other is waits over
 
 goes_on : (l : ℕ) (h : Tokens) (b : Items) (ps : Parts) (k : Frames) (ts : Tokens) (x : QueryToken) (e : St) (o : Option Place) (w : Bool)
-    → Waits l h b (Making ps ∷ k) ts → AreOver ps (role x.kind) → goes (end ps) (role x.kind) ≡ o → whole (end ps) ≡ w
+    → Waits l h b (InRule ps ∷ k) ts → AreOver ps (role x.kind) → goes (end ps) (role x.kind) ≡ o → whole (end ps) ≡ w
     → (whole (end ps) ≡ true → goes (end ps) (role x.kind) ≡ None → Stands l (ts ++ (x ∷ [])) e)
     → Stands l (ts ++ (x ∷ [])) (onward_by written l h b ps k x (role x.kind) o w e)
 goes_on l h b ps k ts x e (Some s) w waits over goes_ is ended = record {
@@ -220,7 +220,7 @@ goes_on l h b ps k ts x e (Some s) w waits over goes_ is ended = record {
 }
 goes_on l h b ps k ts x e None true waits over goes_ is ended = ended is goes_
 goes_on l h b ps k ts x e None false waits over goes_ is ended =
-    starts l h b (Making ps ∷ k) ts x (role x.kind) refl waits (is, goes_, over)
+    starts l h b (InRule ps ∷ k) ts x (role x.kind) refl waits (is, goes_, over)
 
 pub after_stands : (l : ℕ) (h : Tokens) (b : Items) (v : ℕ) (p : Phrase) (k : Frames) (ts : Tokens) (x : QueryToken)
     → Has l h b v p k ts → IsOver p (role x.kind) → Stands l (ts ++ (x ∷ [])) (after written l h b v p k x (role x.kind))
@@ -255,11 +255,11 @@ after_stands l h b v p (Joining e f y j ∷ k) ts x has over =
       under = g.under;
       spelled = joined_text h (items_text b) (stack_text k) (text f) (text p) ts y has.spelled;
     }) (over, high))
-after_stands l h b v p (Making d ∷ k) ts x has over =
-    split l (ts ++ (x ∷ [])) (joins (least (end d)) (role x.kind)) (join written h b v p (Making d ∷ k) x (joint (role x.kind)))
+after_stands l h b v p (InRule d ∷ k) ts x has over =
+    split l (ts ++ (x ∷ [])) (joins (least (end d)) (role x.kind)) (join written h b v p (InRule d ∷ k) x (joint (role x.kind)))
     (onward written l h b (put d p (next (end d))) k x (role x.kind)
     (after written l h b (level_of (root d)) (made (put d p (next (end d)))) k x (role x.kind)))
-    (λ low. joins_to l h b v p (Making d ∷ k) ts x (joint (role x.kind)) has over refl low)
+    (λ low. joins_to l h b v p (InRule d ∷ k) ts x (joint (role x.kind)) has over refl low)
     (λ high.
     let g = has.good.0 in
     let goes_ : Goes l (depth written k) (around written k) (put d p (next (end d))) =
@@ -318,7 +318,7 @@ stands l ts (Reading h b []) x good =
 stands l ts (Reading h b (Joining v p y j ∷ k)) x good =
     starts l h b (Joining v p y j ∷ k) ts x (role x.kind) refl
     (record { heads_ = good.heads_; fits = good.fits; good = good.good; spelled = good.spelled }) tt
-stands l ts (Reading h b (Making d ∷ k)) x good =
+stands l ts (Reading h b (InRule d ∷ k)) x good =
     goes_on l h b d k ts x (after written l h b (level_of (root d)) (made d) k x (role x.kind)) (goes (end d) (role x.kind)) (whole (end d))
     (record { heads_ = good.heads_; fits = good.fits; good = good.good; spelled = good.spelled })
     (good.fresh (role x.kind)) refl refl

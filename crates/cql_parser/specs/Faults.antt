@@ -1,5 +1,6 @@
 -- What is wrong with tokens that spell no query.
 use Rattle.std.specs.Prelude.{◌≡◌, ◌⊎◌, ℕ, List, [], ◌∷◌, ◌++◌, Result, Ok, Err}
+use Rattle.cql_syntax.specs.Limits.{most_open}
 use Rattle.cq_outside.specs.declared.faults.Refusal.{Refusal}
 use Rattle.cq_outside.specs.declared.faults.Refusal.TheVariants.{Fault, NoMemory}
 use Rattle.cql_syntax.specs.TreeOf.{query_tree}
@@ -34,13 +35,13 @@ pub record IsFault (ts : List QueryToken) (fault : QueryFault) : Type 0 where
   pub token : QueryToken
   pub rest : List QueryToken
   pub spelled : before ++ (token ∷ rest) ≡ ts
-  pub begins : Begins 64 before
-  pub dead : Begins 64 (before ++ (token ∷ [])) → ⊥
+  pub begins : Begins most_open before
+  pub dead : Begins most_open (before ++ (token ∷ [])) → ⊥
   pub byte : fault.byte ≡ token.at
   pub reason : IsReason (before ++ (token ∷ [])) token.kind fault.reason
 
 -- the query that the tokens spell, or their fault, unless it is refused as out of memory
 abbrev pub Parses : List QueryToken → Result Query (Refusal QueryFault) → Type 0
-Parses ts (Ok query) = Spells 64 ts (query_tree query)
+Parses ts (Ok query) = Spells most_open ts (query_tree query)
 Parses ts (Err (Fault fault)) = IsFault ts fault
 Parses ts (Err NoMemory) = Unit {0}

@@ -8,3 +8,4 @@ pub mod Places
 pub mod Planted
 pub mod Readers
 pub mod Shown
+pub mod Texts

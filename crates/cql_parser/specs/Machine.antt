@@ -30,7 +30,7 @@ pub record Builder (H D A B : Type 0) : Type 0 where
 
 -- what is open: the parts of a rule, or a filter of a level and the token after it
 pub data Frame (D A : Type 0) : Type 0 where
-  Making : D → Frame D A
+  InRule : D → Frame D A
   Joining : ℕ → A → QueryToken → Joint → Frame D A
 
 -- the innermost frame first; where no query goes on: for the depth alone, or by the grammar
@@ -44,18 +44,18 @@ pub data State (H D A B : Type 0) : Type 0 where
 -- how many rules that count are open
 abbrev pub depth : {H D A B : Type 0} → Builder H D A B → List (Frame D A) → ℕ
 depth m [] = 0
-depth m (Making d ∷ k) = depth m k + depth_of (m.root_of d)
+depth m (InRule d ∷ k) = depth m k + depth_of (m.root_of d)
 depth m (Joining l a x j ∷ k) = depth m k
 
 -- the least level of the filter that is due, and what is around it
 abbrev pub due : {H D A B : Type 0} → Builder H D A B → List (Frame D A) → ℕ
 due m [] = 0
-due m (Making d ∷ k) = least (m.end_of d)
+due m (InRule d ∷ k) = least (m.end_of d)
 due m (Joining l a x j ∷ k) = joint_level j + 1
 
 abbrev pub around : {H D A B : Type 0} → Builder H D A B → List (Frame D A) → Context
 around m [] = Within
-around m (Making d ∷ k) = context (m.end_of d)
+around m (InRule d ∷ k) = context (m.end_of d)
 around m (Joining l a x j ∷ k) = Within
 
 abbrev pub choose : {S : Type 0} → Bool → S → S → S
@@ -71,7 +71,7 @@ abbrev pub begin_at : {H D A B : Type 0} → Builder H D A B → ℕ → H → B
     → State H D A B
 begin_at m limit h b k x None = Stuck
 begin_at m limit h b k x (Some s) =
-    open_if (nat_le (due m k) (level_of s)) (nat_le (depth m k + depth_of s) limit) (Reading h b (Making (m.first_of x s) ∷ k))
+    open_if (nat_le (due m k) (level_of s)) (nat_le (depth m k + depth_of s) limit) (Reading h b (InRule (m.first_of x s) ∷ k))
 
 -- a token where a filter is due
 abbrev pub start : {H D A B : Type 0} → Builder H D A B → ℕ → H → B → List (Frame D A) → QueryToken → Role → State H D A B
@@ -89,9 +89,9 @@ after_item m limit h b x r = start m limit h b [] x r
 
 abbrev pub onward_by : {H D A B : Type 0} → Builder H D A B → ℕ → H → B → D → List (Frame D A) → QueryToken → Role
     → Option Place → Bool → State H D A B → State H D A B
-onward_by m limit h b d k x r (Some s) is_whole ended = Reading h b (Making (m.add_of d x s) ∷ k)
+onward_by m limit h b d k x r (Some s) is_whole ended = Reading h b (InRule (m.add_of d x s) ∷ k)
 onward_by m limit h b d k x r None true ended = ended
-onward_by m limit h b d k x r None false ended = start m limit h b (Making d ∷ k) x r
+onward_by m limit h b d k x r None false ended = start m limit h b (InRule d ∷ k) x r
 
 -- a token after the parts of a rule; where the rule is at its end, what comes of the token is given
 abbrev pub onward : {H D A B : Type 0} → Builder H D A B → ℕ → H → B → D → List (Frame D A) → QueryToken → Role
@@ -105,8 +105,8 @@ after m limit h b l a [] x r = choose (joins 0 r) (join m h b l a [] x (joint r)
 after m limit h b l a (Joining e f y j ∷ k) x r =
     choose (joins (joint_level j + 1) r) (join m h b l a (Joining e f y j ∷ k) x (joint r))
     (after m limit h b (joint_level j) (m.joined_of e f y j a) k x r)
-after m limit h b l a (Making d ∷ k) x r =
-    choose (joins (least (m.end_of d)) r) (join m h b l a (Making d ∷ k) x (joint r))
+after m limit h b l a (InRule d ∷ k) x r =
+    choose (joins (least (m.end_of d)) r) (join m h b l a (InRule d ∷ k) x (joint r))
     (onward m limit h b (m.put_of d a (next (m.end_of d))) k x r
     (after m limit h b (level_of (m.root_of d)) (m.made_of (m.put_of d a (next (m.end_of d)))) k x r))
 
@@ -123,7 +123,7 @@ unfoldable pub feed : {H D A B : Type 0} → Builder H D A B → ℕ → State H
 feed m limit (Opening h place) x = head_to m (m.heard h x) (heads place (role x.kind))
 feed m limit (Reading h b []) x = start m limit h b [] x (role x.kind)
 feed m limit (Reading h b (Joining l a y j ∷ k)) x = start m limit h b (Joining l a y j ∷ k) x (role x.kind)
-feed m limit (Reading h b (Making d ∷ k)) x =
+feed m limit (Reading h b (InRule d ∷ k)) x =
     onward m limit h b d k x (role x.kind) (after m limit h b (level_of (m.root_of d)) (m.made_of d) k x (role x.kind))
 feed m limit (Done h b) x = Stuck
 feed m limit Deep x = Deep

@@ -1,5 +1,6 @@
 -- What the contracts of the private functions see of reading.
 use Rattle.std.specs.Prelude.{◌≡◌, Bool, true, false, List}
+use Rattle.cql_syntax.specs.Limits.{most_open}
 use Rattle.cql_syntax.specs.Trees.{FilterTrees, QueryTree}
 use Rattle.cql_syntax.specs.TreeOf.{filters_tree}
 use Rattle.cql_syntax.specs.declared.fault.QueryReason.{QueryReason}
@@ -58,7 +59,7 @@ reason_of kind state = UnexpectedToken
 
 -- what comes of a token after a rule, where at the rule's end it follows what the rule made
 abbrev pub passed_shown : Passed → Reader → QueryToken → Role → Grown
-passed_shown (Ended level node) r x role = after planted 64 (head_in r) (items_in r) level (node_shown node) (frames_in r) x role
+passed_shown (Ended level node) r x role = after planted most_open (head_in r) (items_in r) level (node_shown node) (frames_in r) x role
 passed_shown (Came state) r x role = state_shown state r
 
 -- what is around a rule at its end is all that is open

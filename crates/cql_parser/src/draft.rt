@@ -290,7 +290,7 @@ impl Draft {
 }
 
 impl Parts {
-    /// All parts.
+    // All parts.
     fn whole(self) -> Result<Constituents, NoMemory>
         ensures { IfOk result (λ cs.
             parts_tree cs ≡ with_body (parts_tree self.parts) (option_map body_tree self.body) self.mark) }

@@ -1,10 +1,11 @@
 //! Reading a query token by token.
 ghost use Rattle.std.specs.Prelude.{◌≡◌, ◌≤◌, [], ◌∷◌, false, IfOk, OnOk};
+ghost use Rattle.cql_syntax.specs.Limits.{most_open};
 ghost use Rattle.cql_syntax.specs.TreeOf.{filters_tree, query_tree};
 ghost use Rattle.cql_syntax.specs.declared.token.QueryToken.{QueryToken};
 ghost use Rattle.cql_parser.specs.Drafts.{node_of};
 ghost use Rattle.cql_parser.specs.Places.{role as role_by, joint, joins, level_of};
-ghost use Rattle.cql_parser.specs.Machine.{Making as making, Reading as reading, depth as open_in, due as due_in, start, join, after_item, onward, after, head_to, feed, begun};
+ghost use Rattle.cql_parser.specs.Machine.{InRule as in_rule, Reading as reading, depth as open_in, due as due_in, start, join, after_item, onward, after, head_to, feed, begun};
 ghost use Rattle.cql_parser.specs.Planted.{planted};
 ghost use Rattle.cql_parser.specs.Shown.{node_shown, draft_shown, rule_shown};
 ghost use Rattle.cql_parser.specs.Frames.{frame_shown};
@@ -76,7 +77,7 @@ impl Reader {
     // A token where a filter is due.
     fn start(&mut self, alloc: Global, token: &QueryToken, role: Role) -> Result<Reached, NoMemory>
         ensures { IfOk result (λ r. state_shown r self.new ≡
-            start planted 64 (head_in self.old) (items_in self.old) (frames_in self.old) token.now role) }
+            start planted most_open (head_in self.old) (items_in self.old) (frames_in self.old) token.now role) }
     {
         let Some(place) = opens(self.stack.around(), role) else {
             return Ok(Reached::Stuck);
@@ -86,7 +87,7 @@ impl Reader {
         match (binds, fits) {
             (true, true) => {
                 self.stack
-                    .push(Frame::Making(Rule::new(alloc, token, place)?))?;
+                    .push(Frame::InRule(Rule::new(alloc, token, place)?))?;
                 Ok(Reached::Reading)
             }
             (true, false) => Ok(Reached::Deep),
@@ -96,7 +97,7 @@ impl Reader {
 
     // A token between a filter of a level and the next one.
     fn join(&mut self, level: u8, node: Node, role: Role) -> Result<Reached, NoMemory>
-        requires { open_in planted (frames_in self.old) ≤ 64 }
+        requires { open_in planted (frames_in self.old) ≤ most_open }
         ensures { IfOk result (λ r. (x : QueryToken) → state_shown r self.new ≡
             join planted (head_in self.old) (items_in self.old) level (node_shown node) (frames_in self.old) x (joint role)) }
     {
@@ -118,7 +119,7 @@ impl Reader {
     ) -> Result<Reached, NoMemory>
         requires { frames_in self.old ≡ [] }
         ensures { IfOk result (λ r. state_shown r self.new ≡
-            after_item planted 64 (head_in self.old) (items_in self.old) token.now role) }
+            after_item planted most_open (head_in self.old) (items_in self.old) token.now role) }
     {
         match role {
             Role::End => Ok(Reached::Done),
@@ -134,24 +135,24 @@ impl Reader {
         token: &QueryToken,
         role: Role,
     ) -> Result<Passed, NoMemory>
-        requires { open_in planted (making (rule_shown rule) ∷ frames_in self.old) ≤ 64 }
+        requires { open_in planted (in_rule (rule_shown rule) ∷ frames_in self.old) ≤ most_open }
         ensures same { IfOk result (λ p. passed_shown p self.new token.now role ≡
-            onward planted 64 (head_in self.old) (items_in self.old) (rule_shown rule) (frames_in self.old) token.now role
-            (after planted 64 (head_in self.old) (items_in self.old) (level_of rule.root) (node_of (draft_shown rule.draft))
+            onward planted most_open (head_in self.old) (items_in self.old) (rule_shown rule) (frames_in self.old) token.now role
+            (after planted most_open (head_in self.old) (items_in self.old) (level_of rule.root) (node_of (draft_shown rule.draft))
             (frames_in self.old) token.now role)) }
         ensures short { IfOk result (λ p. HasEnded p self.old self.new) }
     {
         let mut rule = rule;
         if let Some(place) = goes(rule.end, role) {
             rule.add(alloc, token, place)?;
-            self.stack.push(Frame::Making(rule))?;
+            self.stack.push(Frame::InRule(rule))?;
             return Ok(Passed::Reached(Reached::Reading));
         }
         if rule.end.is_whole() {
             let level = rule.root.level();
             return Ok(Passed::Ended(level, rule.build(alloc)?));
         }
-        self.stack.push(Frame::Making(rule))?;
+        self.stack.push(Frame::InRule(rule))?;
         Ok(Passed::Reached(self.start(alloc, token, role)?))
     }
 
@@ -167,9 +168,9 @@ impl Reader {
         role: Role,
     ) -> Result<Passed, NoMemory>
         requires over { joins (due_in planted (frame_shown frame ∷ frames_in self.old)) role ≡ false }
-        requires few { open_in planted (frame_shown frame ∷ frames_in self.old) ≤ 64 }
+        requires few { open_in planted (frame_shown frame ∷ frames_in self.old) ≤ most_open }
         ensures same { IfOk result (λ p. passed_shown p self.new token.now role ≡
-            after planted 64 (head_in self.old) (items_in self.old) level (node_shown node)
+            after planted most_open (head_in self.old) (items_in self.old) level (node_shown node)
             (frame_shown frame ∷ frames_in self.old) token.now role) }
         ensures short { IfOk result (λ p. HasEnded p self.old self.new) }
     {
@@ -178,7 +179,7 @@ impl Reader {
                 let row = joined(alloc, first_level, first, joint, node)?;
                 Ok(Passed::Ended(joint_level(joint), row))
             }
-            Frame::Making(rule) => {
+            Frame::InRule(rule) => {
                 let mut rule = rule;
                 rule.put(alloc, node)?;
                 self.onward(alloc, rule, token, role)
@@ -199,7 +200,7 @@ impl Reader {
         requires all { frames_in self.old ≡ [] }
         requires over { joins 0 role ≡ false }
         ensures { IfOk result (λ r. state_shown r self.new ≡
-            after planted 64 (head_in self.old) (items_in self.old) level (node_shown node) [] token.now role) }
+            after planted most_open (head_in self.old) (items_in self.old) level (node_shown node) [] token.now role) }
     {
         self.items.push(filter_in(node))?;
         self.after_item(alloc, token, role)
@@ -215,7 +216,7 @@ impl Reader {
         role: Role,
     ) -> Result<Reached, NoMemory>
         ensures { IfOk result (λ r. state_shown r self.new ≡
-            after planted 64 (head_in self.old) (items_in self.old) level (node_shown node) (frames_in self.old) token.now role) }
+            after planted most_open (head_in self.old) (items_in self.old) level (node_shown node) (frames_in self.old) token.now role) }
     {
         let mut level = level;
         let mut node = node;
@@ -239,10 +240,10 @@ impl Reader {
     fn read(&mut self, alloc: Global, token: &QueryToken, role: Role) -> Result<Reached, NoMemory>
         requires { role ≡ role_by token.now.kind }
         ensures { IfOk result (λ r. state_shown r self.new ≡
-            feed planted 64 (reading (head_in self.old) (items_in self.old) (frames_in self.old)) token.now) }
+            feed planted most_open (reading (head_in self.old) (items_in self.old) (frames_in self.old)) token.now) }
     {
         match self.stack.pop() {
-            Some(Frame::Making(rule)) => match self.onward(alloc, rule, token, role)? {
+            Some(Frame::InRule(rule)) => match self.onward(alloc, rule, token, role)? {
                 Passed::Ended(level, node) => self.after(alloc, level, node, token, role),
                 Passed::Reached(reached) => Ok(reached),
             },
@@ -277,7 +278,7 @@ impl Reader {
         reached: Reached,
         token: &QueryToken,
     ) -> Result<Reached, NoMemory>
-        ensures { IfOk result (λ r. state_shown r self.new ≡ feed planted 64 (state_shown reached self.old) token.now) }
+        ensures { IfOk result (λ r. state_shown r self.new ≡ feed planted most_open (state_shown reached self.old) token.now) }
     {
         let role = role_of(&token.kind);
         match reached {

@@ -1,5 +1,6 @@
 //! What is open while a query is read.
 ghost use Rattle.std.specs.Prelude.{◌≡◌, ◌≤◌, [], ◌∷◌, OnOk};
+ghost use Rattle.cql_syntax.specs.Limits.{most_open};
 ghost use Rattle.cql_parser.specs.Machine.{depth as open_in, due as due_in, around as around_in};
 ghost use Rattle.cql_parser.specs.Planted.{planted};
 ghost use Rattle.cql_parser.specs.Frames.{frame_shown, stack_shown, opened, Popped};
@@ -19,7 +20,7 @@ pub const DEPTH_LIMIT: u32 = 64;
 #[derive(Drop)]
 pub enum Frame {
     /// The parts of a rule.
-    Making(Rule),
+    InRule(Rule),
     /// A filter of a level, and what the token after it makes.
     Joining(u8, Node, Joint),
 }
@@ -30,7 +31,7 @@ pub struct Stack {
     frames: Vec<Frame>,
     depth: u32,
     ghost counted: { depth ≡ open_in planted (stack_shown frames.items) },
-    ghost few: { depth ≤ 64 },
+    ghost few: { depth ≤ most_open },
 }
 
 impl Frame {
@@ -40,7 +41,7 @@ impl Frame {
         ensures few { result ≤ 1 }
     {
         match self {
-            Frame::Making(rule) => rule.root.depth(),
+            Frame::InRule(rule) => rule.root.depth(),
             Frame::Joining(..) => 0,
         }
     }
@@ -50,7 +51,7 @@ impl Frame {
         ensures { result ≡ due_in planted (frame_shown self.now ∷ []) }
     {
         match self {
-            Frame::Making(rule) => rule.end.least(),
+            Frame::InRule(rule) => rule.end.least(),
             Frame::Joining(_, _, joint) => joint_level(*joint) + 1,
         }
     }
@@ -60,7 +61,7 @@ impl Frame {
         ensures { result ≡ around_in planted (frame_shown self.now ∷ []) }
     {
         match self {
-            Frame::Making(rule) => rule.end.context(),
+            Frame::InRule(rule) => rule.end.context(),
             Frame::Joining(..) => Context::Within,
         }
     }
@@ -81,7 +82,7 @@ impl Stack {
     /// How many rules that count are open.
     pub fn depth(&self) -> u32
         ensures value { result ≡ open_in planted (stack_shown self.now.frames.items) }
-        ensures few { result ≤ 64 }
+        ensures few { result ≤ most_open }
     {
         self.depth
     }
@@ -111,7 +112,7 @@ impl Stack {
     /// One more.
     #[tactic(auto, using(crate::proofs::Frames::shown_more, crate::proofs::Frames::depth_more))]
     pub fn push(&mut self, frame: Frame) -> Result<(), NoMemory>
-        requires { open_in planted (frame_shown frame ∷ stack_shown self.old.frames.items) ≤ 64 }
+        requires { open_in planted (frame_shown frame ∷ stack_shown self.old.frames.items) ≤ most_open }
         ensures { OnOk result (stack_shown self.new.frames.items ≡ frame_shown frame ∷ stack_shown self.old.frames.items) }
     {
         let more = frame.depth();

@@ -3,4 +3,5 @@ pub mod Rows
 pub mod Made
 pub mod Texts
 pub mod Pairs
+pub mod Placed
 pub mod Meant

@@ -35,15 +35,15 @@ after_is (more_terms minus f ts) before =
     ∙ ap (λ p. Some (openings ts ++ (p ++ sum_rest false ts))) (pair_is minus before (text f))
     ∙ ap Some (regrouped (openings ts) (opening minus) before (term_text false (text f)) (sum_rest false ts))
 
-pub sum_is : (ts : TermTrees) → sum_start ts ++ sum_rest true ts ≡ unwrap_or (sum_after None ts) (in_parens (codes "+") [])
+pub sum_is : (ts : TermTrees) → sum_start ts ++ sum_rest true ts ≡ unwrap_or (sum_after None ts) (in_parens (sign_word false) [])
 unfolding text
 sum_is no_terms = refl
 sum_is (more_terms false f ts) =
     ap (λ o. o ++ (text f ++ sum_rest false ts)) (append-nil (openings ts))
-    ∙ sym (ap (λ x. unwrap_or x (in_parens (codes "+") [])) (after_is ts (text f)))
+    ∙ sym (ap (λ x. unwrap_or x (in_parens (sign_word false) [])) (after_is ts (text f)))
 sum_is (more_terms true f ts) =
     append_assoc (openings ts) (codes "(- 0") (term_text false (text f) ++ sum_rest false ts)
-    ∙ sym (ap (λ x. unwrap_or x (in_parens (codes "+") [])) (after_is ts (in_parens (codes "-") (codes "0" ∷ text f ∷ [])))
+    ∙ sym (ap (λ x. unwrap_or x (in_parens (sign_word false) [])) (after_is ts (in_parens (sign_word true) (codes "0" ∷ text f ∷ [])))
     ∙ ap (λ p. openings ts ++ (p ++ sum_rest false ts)) (pair_is true (codes "0") (text f)))
 
 -- what opens one more pair, from the last term on

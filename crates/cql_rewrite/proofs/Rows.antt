@@ -3,6 +3,7 @@ use Rattle.std.proofs.Common.{◌≡◌, ℕ, ◌+◌, ◌<◌, ◌≤◌, Bool,
 use Rattle.std.proofs.lemmas.List.{drop_all}
 use Rattle.cql_syntax.specs.Leaves.{same_flag, same_mark}
 use Rattle.cql_syntax.specs.Same.{same_filter, same_filters, same_terms, same_parts, same_body}
+use Rattle.cql_syntax.specs.Unplaced.{with_places, all_with, terms_with, parts_with, body_with}
 use Rattle.cql_syntax.specs.TreeOf.{filter_tree, body_tree, filter_trees, term_trees, part_trees}
 use Rattle.cql_syntax.specs.declared.tree.Constituent.{Constituent}
 use Rattle.cql_syntax.specs.declared.tree.Filter.{Filter}
@@ -15,17 +16,22 @@ pub record AreRows {A : Type 0} (one : A → A → Bool) (all : List A → List 
   pub shorter : (y : A) (ys : List A) → all [] (y ∷ ys) ≡ false
   pub longer : (x : A) (xs : List A) → all (x ∷ xs) [] ≡ false
 
-pub filter_rows : AreRows (λ (f g : Filter). same_filter (filter_tree f) (filter_tree g)) (λ xs ys. same_filters (filter_trees xs) (filter_trees ys))
-unfolding same_filter
-filter_rows = record { none = refl; more = λ x y xs ys. refl; shorter = λ y ys. refl; longer = λ x xs. refl }
+pub filter_rows : (placed : Bool) → AreRows (λ (f g : Filter). same_filter (with_places placed (filter_tree f)) (with_places placed (filter_tree g)))
+    (λ xs ys. same_filters (all_with placed (filter_trees xs)) (all_with placed (filter_trees ys)))
+unfolding same_filter with_places
+filter_rows placed = record { none = refl; more = λ x y xs ys. refl; shorter = λ y ys. refl; longer = λ x xs. refl }
 
-pub term_rows : AreRows (λ (a b : Term). same_flag a.minus b.minus && same_filter (filter_tree a.filter) (filter_tree b.filter)) (λ xs ys. same_terms (term_trees xs) (term_trees ys))
-unfolding same_filter
-term_rows = record { none = refl; more = λ x y xs ys. refl; shorter = λ y ys. refl; longer = λ x xs. refl }
+pub term_rows : (placed : Bool) → AreRows (λ (a b : Term). same_flag a.minus b.minus
+    && same_filter (with_places placed (filter_tree a.filter)) (with_places placed (filter_tree b.filter)))
+    (λ xs ys. same_terms (terms_with placed (term_trees xs)) (terms_with placed (term_trees ys)))
+unfolding same_filter with_places
+term_rows placed = record { none = refl; more = λ x y xs ys. refl; shorter = λ y ys. refl; longer = λ x xs. refl }
 
-pub part_rows : AreRows (λ (a b : Constituent). same_body (body_tree a.body) (body_tree b.body) && same_mark a.mark b.mark) (λ xs ys. same_parts (part_trees xs) (part_trees ys))
-unfolding same_filter
-part_rows = record { none = refl; more = λ x y xs ys. refl; shorter = λ y ys. refl; longer = λ x xs. refl }
+pub part_rows : (placed : Bool) → AreRows (λ (a b : Constituent). same_body (body_with placed (body_tree a.body)) (body_with placed (body_tree b.body))
+    && same_mark a.mark b.mark)
+    (λ xs ys. same_parts (parts_with placed (part_trees xs)) (parts_with placed (part_trees ys)))
+unfolding same_filter with_places
+part_rows placed = record { none = refl; more = λ x y xs ys. refl; shorter = λ y ys. refl; longer = λ x xs. refl }
 
 not_second : (a b : Bool) → b ≡ false → (a && b) ≡ false
 not_second true b e = e

@@ -2,10 +2,8 @@
 use Rattle.std.specs.Prelude.{ℕ, zero, suc, ◌/◌, ◌%◌, ◌==◌, Bool, true, false, List, [], ◌∷◌, ◌++◌, get_or, Option, None, Some, unwrap_or, codes, if◌then◌else◌}
 use Rattle.std.specs.Fmt.{decimal}
 use Rattle.std.specs.List.{concat}
-use Rattle.cq_symmetry.specs.declared.families.Family.{Family}
-use Rattle.cq_symmetry.specs.declared.families.Family.TheVariants.{Flip, Rotate90, FlipVertical, FlipHorizontal, FlipColor, Shift, ShiftHorizontal, ShiftVertical}
 use Rattle.cql_syntax.specs.Trees.{FilterTree, filter_at, FormTree, designator, number, name, plain, tagged, outcome, elo, unary, direction, chain, sum_of, pair, if_, square, line, played, transform, sort, comment, any, FilterTrees, no_filters, more_filters, TermTrees, no_terms, more_terms, LineTree, path, PlayedTree, move_of, WrittenTree, left_out, written, PartTrees, no_parts, more_parts, BodyTree, atom, group}
-use Rattle.cql_syntax.specs.Words.{man_letters}
+use Rattle.cql_syntax.specs.Words.{word_text, plain_text, unary_text, way_text, family_text, sign_text, man_letters}
 use Rattle.cql_syntax.specs.declared.extents.Extent.{Extent}
 use Rattle.cql_syntax.specs.declared.extents.Extent.TheVariants.{Any as AnyLength, Within}
 use Rattle.cql_syntax.specs.declared.leaves.Chain.{Chain}
@@ -23,12 +21,9 @@ use Rattle.cql_syntax.specs.declared.leaves.Outcome.{Outcome}
 use Rattle.cql_syntax.specs.declared.leaves.Outcome.TheVariants.{White as WhiteWins, Black as BlackWins, Draw, Unfinished}
 use Rattle.cql_syntax.specs.declared.leaves.Pair.{Pair}
 use Rattle.cql_syntax.specs.declared.leaves.Pair.TheVariants.{Attacks, AttackedBy, Between, Less, AtMost, Equal, AtLeast, Greater}
-use Rattle.cql_syntax.specs.declared.leaves.Plain.{Plain}
-use Rattle.cql_syntax.specs.declared.leaves.Plain.TheVariants.{Check, Mate, Stalemate, Wtm, Btm, Initial, Terminal, Mainline, Variation, HasComment, Ply, MoveNumber, Depth, Year}
-use Rattle.cql_syntax.specs.declared.leaves.Unary.{Unary}
-use Rattle.cql_syntax.specs.declared.leaves.Unary.TheVariants.{Not, Complement, Count, Power, Light, Dark, Find, FindUp, Child, Parent}
-use Rattle.cql_syntax.specs.declared.leaves.Way.{Way}
-use Rattle.cql_syntax.specs.declared.leaves.Way.TheVariants.{Up, Down, Left, Right, Northeast, Northwest, Southeast, Southwest, Diagonal, Orthogonal, AnyDirection}
+use Rattle.cql_syntax.specs.declared.words.Sign.TheVariants as signs
+use Rattle.cql_syntax.specs.declared.words.Word.{Word}
+use Rattle.cql_syntax.specs.declared.words.Word.TheVariants as meanings
 
 -- texts, each after a mark
 abbrev pub each_after : List ℕ → List (List ℕ) → List ℕ
@@ -45,21 +40,9 @@ quoted text = concat (codes "\"" ∷ text ∷ codes "\"" ∷ [])
 
 -- words and marks
 
-abbrev pub plain_word : Plain → List ℕ
-plain_word Check = codes "check"
-plain_word Mate = codes "mate"
-plain_word Stalemate = codes "stalemate"
-plain_word Wtm = codes "wtm"
-plain_word Btm = codes "btm"
-plain_word Initial = codes "initial"
-plain_word Terminal = codes "terminal"
-plain_word Mainline = codes "mainline"
-plain_word Variation = codes "variation"
-plain_word HasComment = codes "hascomment"
-plain_word Ply = codes "ply"
-plain_word MoveNumber = codes "movenumber"
-plain_word Depth = codes "depth"
-plain_word Year = codes "year"
+-- two words of the language
+abbrev pub two_words : Word → Word → List ℕ
+two_words first second = concat (word_text first ∷ codes " " ∷ word_text second ∷ [])
 
 abbrev pub outcome_word : Outcome → List ℕ
 outcome_word WhiteWins = codes "1-0"
@@ -68,99 +51,65 @@ outcome_word Draw = codes "1/2-1/2"
 outcome_word Unfinished = codes "*"
 
 abbrev pub player_word : Of → List ℕ
-player_word Either = codes "player"
-player_word White = codes "player white"
-player_word Black = codes "player black"
+player_word Either = word_text meanings.Player
+player_word White = two_words meanings.Player meanings.White
+player_word Black = two_words meanings.Player meanings.Black
 
 abbrev pub field_word : Field → List ℕ
 field_word (Player whose) = player_word whose
-field_word Event = codes "event"
-field_word Site = codes "site"
+field_word Event = word_text meanings.Event
+field_word Site = word_text meanings.Site
 
 abbrev pub elo_word : Of → List ℕ
-elo_word Either = codes "elo"
-elo_word White = codes "elo white"
-elo_word Black = codes "elo black"
-
-abbrev pub unary_word : Unary → List ℕ
-unary_word Not = codes "not"
-unary_word Complement = codes "~"
-unary_word Count = codes "#"
-unary_word Power = codes "power"
-unary_word Light = codes "light"
-unary_word Dark = codes "dark"
-unary_word Find = codes "find"
-unary_word FindUp = codes "find<--"
-unary_word Child = codes "child"
-unary_word Parent = codes "parent"
-
-abbrev pub way_word : Way → List ℕ
-way_word Up = codes "up"
-way_word Down = codes "down"
-way_word Left = codes "left"
-way_word Right = codes "right"
-way_word Northeast = codes "northeast"
-way_word Northwest = codes "northwest"
-way_word Southeast = codes "southeast"
-way_word Southwest = codes "southwest"
-way_word Diagonal = codes "diagonal"
-way_word Orthogonal = codes "orthogonal"
-way_word AnyDirection = codes "anydirection"
+elo_word Either = word_text meanings.Elo
+elo_word White = two_words meanings.Elo meanings.White
+elo_word Black = two_words meanings.Elo meanings.Black
 
 abbrev pub chain_word : Chain → List ℕ
-chain_word Or = codes "or"
-chain_word And = codes "and"
-chain_word All = codes "all"
-chain_word Union = codes "|"
-chain_word Intersect = codes "&"
-chain_word Product = codes "*"
-chain_word Max = codes "max"
-chain_word Min = codes "min"
+chain_word Or = word_text meanings.Or
+chain_word And = word_text meanings.And
+chain_word All = word_text meanings.All
+chain_word Union = sign_text signs.Bar
+chain_word Intersect = sign_text signs.Ampersand
+chain_word Product = sign_text signs.Star
+chain_word Max = word_text meanings.Max
+chain_word Min = word_text meanings.Min
 
 abbrev pub pair_word : Pair → List ℕ
-pair_word Attacks = codes "attacks"
-pair_word AttackedBy = codes "attackedby"
-pair_word Between = codes "between"
-pair_word Less = codes "<"
-pair_word AtMost = codes "<="
-pair_word Equal = codes "=="
-pair_word AtLeast = codes ">="
-pair_word Greater = codes ">"
+pair_word Attacks = word_text meanings.Attacks
+pair_word AttackedBy = word_text meanings.AttackedBy
+pair_word Between = word_text meanings.Between
+pair_word Less = sign_text signs.Less
+pair_word AtMost = sign_text signs.AtMost
+pair_word Equal = sign_text signs.Equal
+pair_word AtLeast = sign_text signs.AtLeast
+pair_word Greater = sign_text signs.Greater
 
-abbrev pub family_word : Family → List ℕ
-family_word Flip = codes "flip"
-family_word Rotate90 = codes "rotate90"
-family_word FlipVertical = codes "flipvertical"
-family_word FlipHorizontal = codes "fliphorizontal"
-family_word FlipColor = codes "flipcolor"
-family_word Shift = codes "shift"
-family_word ShiftHorizontal = codes "shifthorizontal"
-family_word ShiftVertical = codes "shiftvertical"
-
+-- no words of the language
 abbrev pub any_word : Kind → List ℕ
 any_word Position = codes "any"
 any_word Set = codes "union"
 any_word Number = codes "greatest"
 
 abbrev pub square_word : Bool → List ℕ
-square_word true = codes "square all"
-square_word false = codes "square"
+square_word true = two_words meanings.Square meanings.All
+square_word false = word_text meanings.Square
 
 abbrev pub sort_word : Bool → List ℕ
-sort_word true = codes "sort min"
-sort_word false = codes "sort"
+sort_word true = two_words meanings.Sort meanings.Min
+sort_word false = word_text meanings.Sort
 
 abbrev pub sign_word : Bool → List ℕ
-sign_word true = codes "-"
-sign_word false = codes "+"
+sign_word true = sign_text signs.Minus
+sign_word false = sign_text signs.Plus
 
 abbrev pub line_word : Bool → List ℕ
-line_word true = codes "line primary"
-line_word false = codes "line"
+line_word true = two_words meanings.Line meanings.Primary
+line_word false = word_text meanings.Line
 
 abbrev pub arrow_word : Bool → List ℕ
-arrow_word true = codes "<--"
-arrow_word false = codes "-->"
+arrow_word true = sign_text signs.BackArrow
+arrow_word false = sign_text signs.Arrow
 
 -- designators: `[KQ]:` and then the squares
 
@@ -191,9 +140,9 @@ times_word least most = concat (codes "{" ∷ decimal least ∷ codes "," ∷ de
 -- a part of a line with its mark
 abbrev pub marked_text : Mark → List ℕ → List ℕ
 marked_text Once text = text
-marked_text Star text = in_parens (codes "*") (text ∷ [])
-marked_text Plus text = in_parens (codes "+") (text ∷ [])
-marked_text Maybe text = in_parens (codes "?") (text ∷ [])
+marked_text Star text = in_parens (sign_text signs.Star) (text ∷ [])
+marked_text Plus text = in_parens (sign_text signs.Plus) (text ∷ [])
+marked_text Maybe text = in_parens (sign_text signs.Question) (text ∷ [])
 marked_text (Times least most) text = in_parens (times_word least most) (text ∷ [])
 
 -- the word of a line, its lengths where they are written, and its arrow
@@ -205,19 +154,19 @@ line_start primary (Within least most) back =
 -- a term after those before it; a first one that is subtracted is subtracted from 0
 abbrev pub with_term_text : Option (List ℕ) → Bool → List ℕ → List ℕ
 with_term_text None false text = text
-with_term_text None true text = in_parens (codes "-") (codes "0" ∷ text ∷ [])
+with_term_text None true text = in_parens (sign_word true) (codes "0" ∷ text ∷ [])
 with_term_text (Some before) minus text = in_parens (sign_word minus) (before ∷ text ∷ [])
 
 -- a part after its word, where it is written
-abbrev pub after_word : List ℕ → Option (List ℕ) → List ℕ
+abbrev pub after_word : Word → Option (List ℕ) → List ℕ
 after_word word None = []
-after_word word (Some part) = word ++ part
+after_word word (Some part) = concat (codes " " ∷ word_text word ∷ codes " " ∷ part ∷ [])
 
 -- the filter of the move, given its parts
 abbrev pub in_move : (origin goal taken promoted : Option (List ℕ)) → List ℕ
 in_move origin goal taken promoted =
-    concat (codes "(move" ∷ after_word (codes " from ") origin ∷ after_word (codes " to ") goal
-    ∷ after_word (codes " capture ") taken ∷ after_word (codes " promote ") promoted ∷ codes ")" ∷ [])
+    concat (codes "(" ∷ word_text meanings.Move ∷ after_word meanings.From origin ∷ after_word meanings.To goal
+    ∷ after_word meanings.Capture taken ∷ after_word meanings.Promote promoted ∷ codes ")" ∷ [])
 
 -- The text of each form. A sum is pairs from the left: `a - b + c` is `(+ (- a b) c)`.
 unfoldable mutual
@@ -228,22 +177,22 @@ unfoldable mutual
   form_text (designator d) = designator_text d
   form_text (number n) = decimal n
   form_text (name bound) = bound
-  form_text (plain word) = plain_word word
+  form_text (plain word) = plain_text word
   form_text (tagged field value) = in_parens (field_word field) (quoted value ∷ [])
-  form_text (outcome o) = in_parens (codes "result") (outcome_word o ∷ [])
+  form_text (outcome o) = in_parens (word_text meanings.Result) (outcome_word o ∷ [])
   form_text (elo whose) = in_parens (elo_word whose) []
-  form_text (unary u f) = in_parens (unary_word u) (text f ∷ [])
-  form_text (direction way m n f) = in_parens (way_word way) (decimal m ∷ decimal n ∷ text f ∷ [])
+  form_text (unary u f) = in_parens (unary_text u) (text f ∷ [])
+  form_text (direction way m n f) = in_parens (way_text way) (decimal m ∷ decimal n ∷ text f ∷ [])
   form_text (chain c fs) = in_parens (chain_word c) (texts fs)
-  form_text (sum_of ts) = unwrap_or (sum_after None ts) (in_parens (codes "+") [])
+  form_text (sum_of ts) = unwrap_or (sum_after None ts) (in_parens (sign_word false) [])
   form_text (pair c f g) = in_parens (pair_word c) (text f ∷ text g ∷ [])
-  form_text (if_ f g h) = in_parens (codes "if") (text f ∷ text g ∷ text h ∷ [])
+  form_text (if_ f g h) = in_parens (word_text meanings.If) (text f ∷ text g ∷ text h ∷ [])
   form_text (square every bound f g) = in_parens (square_word every) (bound ∷ text f ∷ text g ∷ [])
   form_text (line l) = line_text l
   form_text (played p) = played_text p
-  form_text (transform t f) = in_parens (family_word t) (text f ∷ [])
+  form_text (transform t f) = in_parens (family_text t) (text f ∷ [])
   form_text (sort least title f) = in_parens (sort_word least) (quoted title ∷ text f ∷ [])
-  form_text (comment note) = in_parens (codes "comment") (quoted note ∷ [])
+  form_text (comment note) = in_parens (word_text meanings.Comment) (quoted note ∷ [])
   form_text (any kind fs) = in_parens (any_word kind) (texts fs)
 
   pub texts : FilterTrees → List (List ℕ)

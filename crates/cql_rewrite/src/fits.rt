@@ -41,7 +41,7 @@ pub fn fits(alloc: Global, f: &Filter, context: &[Mapping]) -> Result<bool, NoMe
     }
 }
 
-/// Whether a filter fits with some member of a family inside of the context.
+// Whether a filter fits with some member of a family inside of the context.
 #[cycle(fit)]
 fn member_fits(
     alloc: Global,

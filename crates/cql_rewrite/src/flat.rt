@@ -12,7 +12,7 @@ use crate::contexts::{
     word_image,
 };
 use crate::fits::fits;
-use crate::same::same;
+use crate::same::same_filter;
 use cq_outside::{Bytes, NoMemory};
 use cq_symmetry::{Family, Mapping, SquarePart, member, size};
 use cql_syntax::{
@@ -133,7 +133,7 @@ fn image_or_nothing(image: Option<Designator>) -> Designator
     }
 }
 
-/// The flat forms of a family's part inside of the members with which it fits, each once.
+// The flat forms of a family's part inside of the members with which it fits, each once.
 #[cycle(flat)]
 fn flat_members(
     alloc: Global,
@@ -152,7 +152,7 @@ fn flat_members(
     Ok(kept)
 }
 
-/// The flat form of a filter inside of one more mapping, where it fits.
+// The flat form of a filter inside of one more mapping, where it fits.
 #[cycle(flat)]
 fn flat_member(
     alloc: Global,
@@ -187,7 +187,7 @@ fn is_known(kept: &Filters, filter: &Filter) -> bool
     ensures { result ≡ some_same (filters_tree kept.now) (filter_tree filter.now) }
 {
     for other in kept.as_slice() {
-        if same(other, filter) {
+        if same_filter(other, filter) {
             return true;
         }
     }

@@ -14,4 +14,5 @@ mod text;
 mod words;
 
 pub use flat::expand;
+pub use same::{same_filter, same_unplaced};
 pub use text::flat_text;

@@ -5,7 +5,7 @@ ghost use Rattle.cql_rewrite.specs.FlatText as spec;
 
 use crate::words::{arrow_word, line_word};
 use cq_outside::{Bytes, NoMemory};
-use cql_syntax::{Designator, Extent, Mark};
+use cql_syntax::{Designator, Extent, Mark, Sign, Word};
 use std::alloc::Global;
 
 /// A word and its parts in parentheses.
@@ -121,9 +121,9 @@ pub(crate) fn marked(alloc: Global, mark: Mark, text: Bytes) -> Result<Bytes, No
 {
     match mark {
         Mark::Once => Ok(text),
-        Mark::Star => in_parens(alloc, b"*", &[text]),
-        Mark::Plus => in_parens(alloc, b"+", &[text]),
-        Mark::Maybe => in_parens(alloc, b"?", &[text]),
+        Mark::Star => in_parens(alloc, Sign::Star.text(), &[text]),
+        Mark::Plus => in_parens(alloc, Sign::Plus.text(), &[text]),
+        Mark::Maybe => in_parens(alloc, Sign::Question.text(), &[text]),
         Mark::Times(least, most) => {
             let word = times_word(alloc, least, most)?;
             in_parens(alloc, word.as_slice(), &[text])
@@ -152,7 +152,7 @@ pub(crate) fn line_start(
 ) -> Result<Bytes, NoMemory>
     ensures { IfOk result (λ t. t ≡ spec.line_start primary extent.now back) }
 {
-    let mut text = Bytes::from_slice(alloc, line_word(primary))?;
+    let mut text = line_word(alloc, primary)?;
     text.push_all(b" ")?;
     match extent {
         Extent::Any => {
@@ -180,21 +180,25 @@ pub(crate) fn in_move(
 ) -> Result<Bytes, NoMemory>
     ensures { IfOk result (λ t. t ≡ spec.in_move origin goal taken promoted) }
 {
-    let mut text = Bytes::from_slice(alloc, b"(move")?;
-    push_written(&mut text, b" from ", origin)?;
-    push_written(&mut text, b" to ", goal)?;
-    push_written(&mut text, b" capture ", taken)?;
-    push_written(&mut text, b" promote ", promoted)?;
+    let mut text = Bytes::from_slice(alloc, b"(")?;
+    text.push_all(Word::Move.text())?;
+    push_written(&mut text, Word::From, origin)?;
+    push_written(&mut text, Word::To, goal)?;
+    push_written(&mut text, Word::Capture, taken)?;
+    push_written(&mut text, Word::Promote, promoted)?;
     text.push_all(b")")?;
     Ok(text)
 }
 
 // Adds a part after its word, where it is written.
-fn push_written(text: &mut Bytes, word: &[u8], part: Option<Bytes>) -> Result<(), NoMemory>
-    ensures { OnOk result (text.new ≡ text.old ++ spec.after_word word.now part) }
+fn push_written(text: &mut Bytes, word: Word, part: Option<Bytes>) -> Result<(), NoMemory>
+    ensures { OnOk result (text.new ≡ text.old ++ spec.after_word word part) }
 {
     match part {
-        Some(part) => push_both(text, word, part.as_slice()),
+        Some(part) => {
+            push_both(text, b" ", word.text())?;
+            push_both(text, b" ", part.as_slice())
+        }
         None => Ok(()),
     }
 }

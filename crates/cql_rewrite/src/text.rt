@@ -8,11 +8,10 @@ use crate::pieces::{
 };
 use crate::sums::{push_term, sum_start};
 use crate::words::{
-    any_word, chain_word, elo_word, family_word, field_word, outcome_word, pair_word, plain_word,
-    sort_word, square_word, unary_word, way_word,
+    any_word, chain_word, elo_word, field_word, outcome_word, pair_word, sort_word, square_word,
 };
 use cq_outside::{Bytes, NoMemory};
-use cql_syntax::{Body, Constituents, Filter, Filters, FlatQuery, Form, Line, Played, Terms};
+use cql_syntax::{Body, Constituents, Filter, Filters, FlatQuery, Form, Line, Played, Terms, Word};
 use std::alloc::Global;
 
 /// The text of a flat query: the texts of its items, with one LF between two of them and none at the end.
@@ -47,25 +46,29 @@ pub(crate) fn text_of(alloc: Global, f: &Filter) -> Result<Bytes, NoMemory>
         Form::Squares(d) => designator(alloc, d),
         Form::Number(n) => number(alloc, *n),
         Form::Name(name) => Bytes::from_slice(alloc, name.as_slice()),
-        Form::Plain(word) => Bytes::from_slice(alloc, plain_word(*word)),
+        Form::Plain(word) => Bytes::from_slice(alloc, Word::Plain(*word).text()),
         Form::Tagged(field, value) => {
+            let word = field_word(alloc, *field)?;
             let value = quoted(alloc, value)?;
-            in_parens(alloc, field_word(*field), &[value])
+            in_parens(alloc, word.as_slice(), &[value])
         }
         Form::Outcome(outcome) => {
             let outcome = Bytes::from_slice(alloc, outcome_word(*outcome))?;
-            in_parens(alloc, b"result", &[outcome])
+            in_parens(alloc, Word::Result.text(), &[outcome])
         }
-        Form::Elo(of) => in_parens(alloc, elo_word(*of), &[]),
+        Form::Elo(of) => {
+            let word = elo_word(alloc, *of)?;
+            in_parens(alloc, word.as_slice(), &[])
+        }
         Form::Unary(word, a) => {
             let part = text_of(alloc, a)?;
-            in_parens(alloc, unary_word(*word), &[part])
+            in_parens(alloc, Word::Unary(*word).text(), &[part])
         }
         Form::Steps(way, m, n, a) => {
             let least = number(alloc, *m)?;
             let most = number(alloc, *n)?;
             let part = text_of(alloc, a)?;
-            in_parens(alloc, way_word(*way), &[least, most, part])
+            in_parens(alloc, Word::Way(*way).text(), &[least, most, part])
         }
         Form::Chain(chain, parts) => {
             let texts = texts_of(alloc, parts)?;
@@ -81,28 +84,30 @@ pub(crate) fn text_of(alloc: Global, f: &Filter) -> Result<Bytes, NoMemory>
             let condition = text_of(alloc, a)?;
             let then = text_of(alloc, b)?;
             let otherwise = text_of(alloc, c)?;
-            in_parens(alloc, b"if", &[condition, then, otherwise])
+            in_parens(alloc, Word::If.text(), &[condition, then, otherwise])
         }
         Form::Square(every, name, a, b) => {
+            let word = square_word(alloc, *every)?;
             let bound = Bytes::from_slice(alloc, name.as_slice())?;
             let squares = text_of(alloc, a)?;
             let asked = text_of(alloc, b)?;
-            in_parens(alloc, square_word(*every), &[bound, squares, asked])
+            in_parens(alloc, word.as_slice(), &[bound, squares, asked])
         }
         Form::Line(line) => line_of(alloc, line),
         Form::Played(played) => played_of(alloc, played),
         Form::Transform(family, a) => {
             let part = text_of(alloc, a)?;
-            in_parens(alloc, family_word(*family), &[part])
+            in_parens(alloc, Word::Family(*family).text(), &[part])
         }
         Form::Sort(least, name, a) => {
+            let word = sort_word(alloc, *least)?;
             let title = quoted(alloc, name)?;
             let part = text_of(alloc, a)?;
-            in_parens(alloc, sort_word(*least), &[title, part])
+            in_parens(alloc, word.as_slice(), &[title, part])
         }
         Form::Comment(note) => {
             let note = quoted(alloc, note)?;
-            in_parens(alloc, b"comment", &[note])
+            in_parens(alloc, Word::Comment.text(), &[note])
         }
         Form::Any(kind, parts) => {
             let texts = texts_of(alloc, parts)?;
@@ -128,7 +133,7 @@ fn texts_of(alloc: Global, filters: &Filters) -> Result<Vec<Bytes>, NoMemory>
 #[cycle(text)]
 #[tactic(auto, unfolding(crate::specs::FlatText::text), using(crate::proofs::Pairs::sum_is))]
 fn sum_of(alloc: Global, terms: &Terms) -> Result<Bytes, NoMemory>
-    ensures { IfOk result (λ t. t ≡ unwrap_or (spec.sum_after None (terms_tree terms.now)) (spec.in_parens (codes "+") [])) }
+    ensures { IfOk result (λ t. t ≡ unwrap_or (spec.sum_after None (terms_tree terms.now)) (spec.in_parens (spec.sign_word false) [])) }
 {
     let mut text = sum_start(alloc, terms.as_slice())?;
     let mut first = true;

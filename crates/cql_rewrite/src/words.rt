@@ -1,29 +1,19 @@
 //! The words of forms in the flat text.
-ghost use Rattle.std.specs.Prelude.{◌≡◌};
+ghost use Rattle.std.specs.Prelude.{◌≡◌, IfOk};
 ghost use Rattle.cql_rewrite.specs.FlatText as spec;
 
-use cq_symmetry::Family;
-use cql_syntax::{Chain, Field, Kind, Of, Outcome, Pair, Plain, Unary, Way};
+use cq_outside::{Bytes, NoMemory};
+use cql_syntax::{Chain, Field, Kind, Of, Outcome, Pair, Sign, Word};
+use std::alloc::Global;
 
-pub(crate) fn plain_word(plain: Plain) -> &'static [u8]
-    ensures { result.now ≡ spec.plain_word plain }
+// Two words of the language.
+fn two_words(alloc: Global, first: Word, second: Word) -> Result<Bytes, NoMemory>
+    ensures { IfOk result (λ t. t ≡ spec.two_words first second) }
 {
-    match plain {
-        Plain::Check => b"check",
-        Plain::Mate => b"mate",
-        Plain::Stalemate => b"stalemate",
-        Plain::Wtm => b"wtm",
-        Plain::Btm => b"btm",
-        Plain::Initial => b"initial",
-        Plain::Terminal => b"terminal",
-        Plain::Mainline => b"mainline",
-        Plain::Variation => b"variation",
-        Plain::HasComment => b"hascomment",
-        Plain::Ply => b"ply",
-        Plain::MoveNumber => b"movenumber",
-        Plain::Depth => b"depth",
-        Plain::Year => b"year",
-    }
+    let mut text = Bytes::from_slice(alloc, first.text())?;
+    text.push_all(b" ")?;
+    text.push_all(second.text())?;
+    Ok(text)
 }
 
 pub(crate) fn outcome_word(outcome: Outcome) -> &'static [u8]
@@ -37,68 +27,33 @@ pub(crate) fn outcome_word(outcome: Outcome) -> &'static [u8]
     }
 }
 
-pub(crate) fn player_word(of: Of) -> &'static [u8]
-    ensures { result.now ≡ spec.player_word of }
+fn player_word(alloc: Global, of: Of) -> Result<Bytes, NoMemory>
+    ensures { IfOk result (λ t. t ≡ spec.player_word of) }
 {
     match of {
-        Of::Either => b"player",
-        Of::White => b"player white",
-        Of::Black => b"player black",
+        Of::Either => Bytes::from_slice(alloc, Word::Player.text()),
+        Of::White => two_words(alloc, Word::Player, Word::White),
+        Of::Black => two_words(alloc, Word::Player, Word::Black),
     }
 }
 
-pub(crate) fn field_word(field: Field) -> &'static [u8]
-    ensures { result.now ≡ spec.field_word field }
+pub(crate) fn field_word(alloc: Global, field: Field) -> Result<Bytes, NoMemory>
+    ensures { IfOk result (λ t. t ≡ spec.field_word field) }
 {
     match field {
-        Field::Player(of) => player_word(of),
-        Field::Event => b"event",
-        Field::Site => b"site",
+        Field::Player(of) => player_word(alloc, of),
+        Field::Event => Bytes::from_slice(alloc, Word::Event.text()),
+        Field::Site => Bytes::from_slice(alloc, Word::Site.text()),
     }
 }
 
-pub(crate) fn elo_word(of: Of) -> &'static [u8]
-    ensures { result.now ≡ spec.elo_word of }
+pub(crate) fn elo_word(alloc: Global, of: Of) -> Result<Bytes, NoMemory>
+    ensures { IfOk result (λ t. t ≡ spec.elo_word of) }
 {
     match of {
-        Of::Either => b"elo",
-        Of::White => b"elo white",
-        Of::Black => b"elo black",
-    }
-}
-
-pub(crate) fn unary_word(unary: Unary) -> &'static [u8]
-    ensures { result.now ≡ spec.unary_word unary }
-{
-    match unary {
-        Unary::Not => b"not",
-        Unary::Complement => b"~",
-        Unary::Count => b"#",
-        Unary::Power => b"power",
-        Unary::Light => b"light",
-        Unary::Dark => b"dark",
-        Unary::Find => b"find",
-        Unary::FindUp => b"find<--",
-        Unary::Child => b"child",
-        Unary::Parent => b"parent",
-    }
-}
-
-pub(crate) fn way_word(way: Way) -> &'static [u8]
-    ensures { result.now ≡ spec.way_word way }
-{
-    match way {
-        Way::Up => b"up",
-        Way::Down => b"down",
-        Way::Left => b"left",
-        Way::Right => b"right",
-        Way::Northeast => b"northeast",
-        Way::Northwest => b"northwest",
-        Way::Southeast => b"southeast",
-        Way::Southwest => b"southwest",
-        Way::Diagonal => b"diagonal",
-        Way::Orthogonal => b"orthogonal",
-        Way::AnyDirection => b"anydirection",
+        Of::Either => Bytes::from_slice(alloc, Word::Elo.text()),
+        Of::White => two_words(alloc, Word::Elo, Word::White),
+        Of::Black => two_words(alloc, Word::Elo, Word::Black),
     }
 }
 
@@ -106,14 +61,14 @@ pub(crate) fn chain_word(chain: Chain) -> &'static [u8]
     ensures { result.now ≡ spec.chain_word chain }
 {
     match chain {
-        Chain::Or => b"or",
-        Chain::And => b"and",
-        Chain::All => b"all",
-        Chain::Union => b"|",
-        Chain::Intersect => b"&",
-        Chain::Product => b"*",
-        Chain::Max => b"max",
-        Chain::Min => b"min",
+        Chain::Or => Word::Or.text(),
+        Chain::And => Word::And.text(),
+        Chain::All => Word::All.text(),
+        Chain::Union => Sign::Bar.text(),
+        Chain::Intersect => Sign::Ampersand.text(),
+        Chain::Product => Sign::Star.text(),
+        Chain::Max => Word::Max.text(),
+        Chain::Min => Word::Min.text(),
     }
 }
 
@@ -121,29 +76,14 @@ pub(crate) fn pair_word(pair: Pair) -> &'static [u8]
     ensures { result.now ≡ spec.pair_word pair }
 {
     match pair {
-        Pair::Attacks => b"attacks",
-        Pair::AttackedBy => b"attackedby",
-        Pair::Between => b"between",
-        Pair::Less => b"<",
-        Pair::AtMost => b"<=",
-        Pair::Equal => b"==",
-        Pair::AtLeast => b">=",
-        Pair::Greater => b">",
-    }
-}
-
-pub(crate) fn family_word(family: Family) -> &'static [u8]
-    ensures { result.now ≡ spec.family_word family }
-{
-    match family {
-        Family::Flip => b"flip",
-        Family::Rotate90 => b"rotate90",
-        Family::FlipVertical => b"flipvertical",
-        Family::FlipHorizontal => b"fliphorizontal",
-        Family::FlipColor => b"flipcolor",
-        Family::Shift => b"shift",
-        Family::ShiftHorizontal => b"shifthorizontal",
-        Family::ShiftVertical => b"shiftvertical",
+        Pair::Attacks => Word::Attacks.text(),
+        Pair::AttackedBy => Word::AttackedBy.text(),
+        Pair::Between => Word::Between.text(),
+        Pair::Less => Sign::Less.text(),
+        Pair::AtMost => Sign::AtMost.text(),
+        Pair::Equal => Sign::Equal.text(),
+        Pair::AtLeast => Sign::AtLeast.text(),
+        Pair::Greater => Sign::Greater.text(),
     }
 }
 
@@ -157,26 +97,38 @@ pub(crate) fn any_word(kind: Kind) -> &'static [u8]
     }
 }
 
-pub(crate) fn square_word(every: bool) -> &'static [u8]
-    ensures { result.now ≡ spec.square_word every }
+pub(crate) fn square_word(alloc: Global, every: bool) -> Result<Bytes, NoMemory>
+    ensures { IfOk result (λ t. t ≡ spec.square_word every) }
 {
-    if every { b"square all" } else { b"square" }
+    if every {
+        return two_words(alloc, Word::Square, Word::All);
+    }
+    Bytes::from_slice(alloc, Word::Square.text())
 }
 
-pub(crate) fn sort_word(least: bool) -> &'static [u8]
-    ensures { result.now ≡ spec.sort_word least }
+pub(crate) fn sort_word(alloc: Global, least: bool) -> Result<Bytes, NoMemory>
+    ensures { IfOk result (λ t. t ≡ spec.sort_word least) }
 {
-    if least { b"sort min" } else { b"sort" }
+    if least {
+        return two_words(alloc, Word::Sort, Word::Min);
+    }
+    Bytes::from_slice(alloc, Word::Sort.text())
 }
 
-pub(crate) fn line_word(primary: bool) -> &'static [u8]
-    ensures { result.now ≡ spec.line_word primary }
+pub(crate) fn line_word(alloc: Global, primary: bool) -> Result<Bytes, NoMemory>
+    ensures { IfOk result (λ t. t ≡ spec.line_word primary) }
 {
-    if primary { b"line primary" } else { b"line" }
+    if primary {
+        return two_words(alloc, Word::Line, Word::Primary);
+    }
+    Bytes::from_slice(alloc, Word::Line.text())
 }
 
 pub(crate) fn arrow_word(back: bool) -> &'static [u8]
     ensures { result.now ≡ spec.arrow_word back }
 {
-    if back { b"<--" } else { b"-->" }
+    if back {
+        return Sign::BackArrow.text();
+    }
+    Sign::Arrow.text()
 }

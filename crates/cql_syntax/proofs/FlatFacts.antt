@@ -1,5 +1,5 @@
 -- What the type of flat queries keeps is so of the flat items of a query without a fault.
-use Rattle.std.proofs.Common.{◌≡◌, ℕ, Bool, true, false, ◌&&◌, ◌||◌, List, [], ◌∷◌, ◌++◌, None, refl, sym, ap, ◌∙◌, map}
+use Rattle.std.proofs.Common.{◌≡◌, ℕ, Bool, true, false, ◌&&◌, ◌||◌, List, [], ◌∷◌, ◌++◌, None, refl, sym, ◌∙◌, map}
 use Rattle.std.specs.Prelude.{not, nat_lt, ◌^◌, unwrap_or, if◌then◌else◌}
 use Rattle.std.specs.List.{list_all, list_any, flat_map, filter}
 use Rattle.std.proofs.lemmas.List.Concat.{flat_map-cons}
@@ -10,7 +10,6 @@ use Rattle.cql_syntax.specs.TreeFaults.{first, where_it, holds_brace, broken_rul
 use Rattle.cql_syntax.specs.Trees.{QueryTree}
 use Rattle.cql_syntax.specs.Weights.{query_weight}
 use Rattle.cql_syntax.specs.declared.fault.QueryFault.{QueryFault}
-use Rattle.cql_syntax.specs.declared.fault.QueryReason.{QueryReason}
 use Rattle.cql_syntax.specs.declared.fault.QueryReason.TheVariants.{TextHoldsBrace, LineTooLong, TooManySquares, TooManyMembers}
 use Rattle.cql_syntax.proofs.FlatKept.{sound, good, items_good}
 use Rattle.cql_syntax.proofs.SameLeaves.{left, right, both}

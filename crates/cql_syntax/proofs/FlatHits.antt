@@ -5,8 +5,7 @@ use Rattle.std.proofs.Math.Path.{fun_ext}
 use Rattle.cq_position.specs.Games.{Game}
 use Rattle.cq_position.specs.Search.{SearchedTree, nodes_in}
 use Rattle.cql_syntax.specs.Flat.{flat, flat_form, flat_all, flat_query}
-use Rattle.cql_syntax.specs.Hits.{tree_of, is_hit, hits, form_texts, item_texts, comment_texts, marks, key_of, form_keys, item_keys, all_keys, keys}
-use Rattle.cql_syntax.specs.Meaning.{value}
+use Rattle.cql_syntax.specs.Hits.{tree_of, hits, form_texts, item_texts, comment_texts, marks, key_of, form_keys, item_keys, all_keys, keys}
 use Rattle.cql_syntax.specs.Trees.{FilterTree, filter_at, FormTree, designator, number, name, plain, tagged, outcome, elo, unary, direction, chain, sum_of, pair, if_, square, line, played, transform, sort, comment, any, FilterTrees, no_filters, more_filters, QueryTree}
 use Rattle.cql_syntax.specs.Values.{holds}
 use Rattle.cql_syntax.proofs.FlatSame.{flat_is_same, all_is_same}

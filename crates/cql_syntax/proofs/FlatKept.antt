@@ -5,7 +5,7 @@ use Rattle.std.specs.List.{list_all}
 use Rattle.std.proofs.lemmas.List.Folds.{list_all-append}
 use Rattle.cq_symmetry.specs.Families.{members}
 use Rattle.cq_symmetry.specs.Images.{changes_light}
-use Rattle.cql_syntax.specs.Contexts.{Context, exchanged_word, exchanged_light, word_image, unary_image}
+use Rattle.cql_syntax.specs.Contexts.{Context, exchanged_word, exchanged_light, unary_image}
 use Rattle.cql_syntax.specs.Flat.{without, distinct, flat, flat_form, flat_all, flat_terms, flat_line, flat_played, flat_written, flat_parts, flat_body}
 use Rattle.cql_syntax.specs.FlatItems.{has_its_kind, breaks_none, is_empty}
 use Rattle.cql_syntax.specs.Kinds.{plain_kind, unary_kind, chain_kind, filter_kind, form_kind}

@@ -1,5 +1,5 @@
 -- The flat form has the same meaning.
-use Rattle.std.proofs.Common.{◌≡◌, ℕ, List, [], ◌∷◌, Bool, true, false, Option, Some, None, refl, sym, ap, ap₂, ◌∙◌, map, cond, arith}
+use Rattle.std.proofs.Common.{◌≡◌, ℕ, List, [], ◌∷◌, Bool, true, false, Option, Some, None, refl, sym, ap, ap₂, ◌∙◌, map, arith}
 use Rattle.std.specs.Prelude.{◌||◌, ◌&&◌, ℤ, if◌then◌else◌, is_some}
 use Rattle.std.specs.List.{list_any}
 use Rattle.std.specs.Int.{int_max}
@@ -7,23 +7,20 @@ use Rattle.std.proofs.Math.Path.{fun_ext}
 use Rattle.std.proofs.lemmas.Int.{ints, int_max_is}
 use Rattle.std.proofs.lemmas.Nat.Bits.{bit_at-zero}
 use Rattle.cq_position.specs.declared.men.Man.{Man}
-use Rattle.cq_position.specs.Games.{node_at}
 use Rattle.cq_position.specs.Led.{led_to}
 use Rattle.cq_position.specs.Search.{SearchedTree}
 use Rattle.cq_symmetry.specs.Families.{members}
 use Rattle.cq_symmetry.specs.Images.{is_in}
-use Rattle.cql_syntax.specs.Contexts.{Context, designator_image, unary_image, way_image, field_image, word_image}
-use Rattle.cql_syntax.specs.Flat.{without, distinct, image_or_nothing, flat, flat_form, flat_all, flat_terms, flat_line, flat_played, flat_written, flat_parts, flat_body}
+use Rattle.cql_syntax.specs.Contexts.{Context, designator_image, unary_image, way_image, field_image}
+use Rattle.cql_syntax.specs.Flat.{without, distinct, image_or_nothing, flat, flat_form, flat_all, flat_terms, flat_played, flat_written, flat_parts, flat_body}
 use Rattle.cql_syntax.specs.Kinds.{filter_kind}
-use Rattle.cql_syntax.specs.Meaning.{Names, value, form_value, values, term_values, line_value, pattern, body_pattern, played_value, written_value, position_at, before, stands_on, directions_of, unary_of, marked, line_of, meets_all, fitting}
-use Rattle.cql_syntax.specs.Headers.{has_text}
+use Rattle.cql_syntax.specs.Meaning.{Names, value, form_value, values, term_values, pattern, body_pattern, played_value, written_value, position_at, before, stands_on, directions_of, unary_of, marked, line_of, meets_all, fitting}
 use Rattle.cql_syntax.specs.Same.{same_filter}
-use Rattle.cq_outside.specs.Spelling.{Pattern, one, nothing, joined}
-use Rattle.cql_syntax.specs.Trees.{FilterTree, filter_at, FormTree, designator, number, name, plain, tagged, outcome, elo, unary, direction, chain, sum_of, pair, if_, square, line, played, transform, sort, comment, any, FilterTrees, no_filters, more_filters, TermTrees, no_terms, more_terms, LineTree, path, PlayedTree, move_of, WrittenTree, left_out, written, PartTrees, no_parts, more_parts, BodyTree, atom, group}
+use Rattle.cq_outside.specs.Spelling.{one, joined}
+use Rattle.cql_syntax.specs.Trees.{FilterTree, filter_at, FormTree, designator, number, name, plain, tagged, outcome, elo, unary, direction, chain, sum_of, pair, if_, square, line, played, transform, sort, comment, any, FilterTrees, no_filters, more_filters, TermTrees, no_terms, more_terms, path, PlayedTree, move_of, WrittenTree, left_out, written, PartTrees, no_parts, more_parts, BodyTree, atom, group}
 use Rattle.cql_syntax.specs.Values.{Value, as_truth, as_number, squares_where, holds, has, amount, any_of, chain_of, pair_of, greatest, greater, if_of, square_of, total_of, reached_of}
 use Rattle.cql_syntax.specs.declared.leaves.Designator.{Designator}
 use Rattle.cql_syntax.specs.declared.leaves.Field.{Field}
-use Rattle.cql_syntax.specs.declared.leaves.Field.TheVariants.{Player, Event, Site}
 use Rattle.cql_syntax.specs.declared.leaves.Kind.{Kind}
 use Rattle.cql_syntax.specs.declared.leaves.Kind.TheVariants.{Position, Set, Number}
 use Rattle.cql_syntax.proofs.SameSound.{filter_is}

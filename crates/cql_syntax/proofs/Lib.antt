@@ -1,7 +1,6 @@
 mod SetRows
 pub mod Lists
 pub mod Rows
-pub mod Tables
 pub mod Weighing
 mod NumberRows
 mod PositionRows
@@ -19,3 +18,4 @@ pub mod FlatHits
 mod FlatRows
 pub mod FlatKept
 pub mod FlatFacts
+pub mod UnplacedSame

@@ -1,5 +1,5 @@
 -- The flat form of a filter in a context: each leaf is its image, and each family is written out.
-use Rattle.std.specs.Prelude.{ℕ, List, [], ◌∷◌, map, Option, Some, None, false, if◌then◌else◌}
+use Rattle.std.specs.Prelude.{List, [], ◌∷◌, map, Option, Some, None, false, if◌then◌else◌}
 use Rattle.cq_symmetry.specs.Families.{members}
 use Rattle.cql_syntax.specs.Contexts.{Context, designator_image, word_image, of_image, field_image, outcome_image, unary_image, way_image}
 use Rattle.cql_syntax.specs.Kinds.{filter_kind}

@@ -1,10 +1,10 @@
 -- The flat forms of small filters.
-use Rattle.std.specs.Prelude.{◌≡◌, ℕ, false, List, [], ◌∷◌, pos}
+use Rattle.std.specs.Prelude.{◌≡◌, ℕ, false, [], ◌∷◌, pos}
 use Rattle.cq_symmetry.specs.Families.{turned, shifted}
-use Rattle.cq_symmetry.specs.declared.families.Family.TheVariants.{Flip, Rotate90, FlipVertical, FlipHorizontal, FlipColor, Shift, ShiftHorizontal}
+use Rattle.cq_symmetry.specs.declared.families.Family.TheVariants.{Flip, Rotate90, FlipVertical, FlipHorizontal, FlipColor, ShiftHorizontal}
 use Rattle.cql_syntax.specs.Flat.{flat}
 use Rattle.cql_syntax.specs.Samples.{at, on, anywhere, filters, parts}
-use Rattle.cql_syntax.specs.Trees.{FilterTree, FormTree, plain, tagged, unary, direction, transform, any, line, path, played, move_of, left_out, written, FilterTrees}
+use Rattle.cql_syntax.specs.Trees.{FilterTree, FormTree, plain, tagged, unary, direction, transform, any, line, path, played, move_of, left_out, written}
 use Rattle.cql_syntax.specs.declared.extents.Extent.TheVariants.{Within}
 use Rattle.cql_syntax.specs.declared.leaves.Field.TheVariants.{Player}
 use Rattle.cql_syntax.specs.declared.leaves.Kind.TheVariants.{Position, Set, Number}

@@ -11,6 +11,7 @@ pub mod HitRows
 pub mod Hits
 pub mod Kinds
 pub mod Leaves
+pub mod Limits
 pub mod LineRows
 pub mod Meaning
 pub mod NumberRows
@@ -24,6 +25,7 @@ pub mod TreeFaults
 pub mod TreeLists
 pub mod TreeOf
 pub mod Trees
+pub mod Unplaced
 pub mod Values
 pub mod Wants
 pub mod Weights

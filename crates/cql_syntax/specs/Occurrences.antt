@@ -1,5 +1,5 @@
 -- The filters of a query, each where it stands: outer before inner, and left before right.
-use Rattle.std.specs.Prelude.{ℕ, ◌+◌, min, List, [], ◌∷◌, ◌++◌, Option, None, Some}
+use Rattle.std.specs.Prelude.{ℕ, ◌+◌, List, [], ◌∷◌, ◌++◌, Option, None, Some}
 use Rattle.cql_syntax.specs.Kinds.{chain_kind}
 use Rattle.cql_syntax.specs.Trees.{FilterTree, filter_at, FormTree, designator, number, name, plain, tagged, outcome, elo, unary, direction, chain, sum_of, pair, if_, square, line, played, transform, sort, comment, any, FilterTrees, no_filters, more_filters, TermTrees, no_terms, more_terms, LineTree, path, PartTrees, no_parts, more_parts, BodyTree, atom, group, PlayedTree, move_of, WrittenTree, left_out, written, QueryTree}
 use Rattle.cql_syntax.specs.Wants.{unary_wants, pair_wants}
@@ -12,7 +12,7 @@ pub record Standing : Type 0 where
   pub wanted : Kind
   -- the names that are bound there, the innermost first
   pub names : List (List ℕ)
-  -- how many `square` are around it, counted to five
+  -- how many `square` are around it
   pub squares : ℕ
   -- where it is a top item, how many sort items stand before it
   pub item : Option ℕ
@@ -32,11 +32,11 @@ part_of s wanted = record { wanted = wanted; names = s.names; squares = s.square
 
 -- a part of a `square`, of which a kind is wanted
 abbrev pub part_of_square : Standing → Kind → Standing
-part_of_square s wanted = record { wanted = wanted; names = s.names; squares = min (s.squares + 1) 5; item = None }
+part_of_square s wanted = record { wanted = wanted; names = s.names; squares = s.squares + 1; item = None }
 
 -- what a `square` asks of each square that it binds to a name
 abbrev pub asked_of_each : Standing → List ℕ → Standing
-asked_of_each s bound = record { wanted = Position; names = bound ∷ s.names; squares = min (s.squares + 1) 5; item = None }
+asked_of_each s bound = record { wanted = Position; names = bound ∷ s.names; squares = s.squares + 1; item = None }
 
 -- A filter and all in it. A family takes a part of each kind. The name that a `square` binds is bound in what it asks
 -- of each square alone.

@@ -1,8 +1,9 @@
 -- The faults of a query's tree: those that are looked for once its tokens are parsed.
-use Rattle.std.specs.Prelude.{ℕ, ◌^◌, Bool, true, false, not, nat_eq, nat_lt, nat_le, unwrap_or, map, filter, List, [], ◌∷◌, ◌++◌, Option, None, Some, Result, Ok, Err, is_none}
+use Rattle.std.specs.Prelude.{ℕ, Bool, true, false, not, nat_eq, nat_lt, nat_le, unwrap_or, map, filter, List, [], ◌∷◌, ◌++◌, Option, None, Some, Result, Ok, Err, is_none}
 use Rattle.std.specs.List.{flat_map, list_any}
 use Rattle.std.specs.Str.{bytes_eq}
 use Rattle.cql_syntax.specs.Kinds.{form_kind}
+use Rattle.cql_syntax.specs.Limits.{most_places, most_sorts, most_squares, most_weight}
 use Rattle.cql_syntax.specs.Occurrences.{Occurrence, all_occurrences}
 use Rattle.cql_syntax.specs.Places.{places}
 use Rattle.cql_syntax.specs.Trees.{FormTree, name, square, line, transform, sort, comment, any, QueryTree}
@@ -26,9 +27,13 @@ abbrev pub where_it : {X : Type 0} → Bool → X → List X
 where_it true x = x ∷ []
 where_it false x = []
 
--- whether a text has a closing brace, byte 125
+-- `}`
+abbrev pub closing_brace : ℕ
+closing_brace = 125
+
+-- whether a text has a closing brace
 abbrev pub holds_brace : List ℕ → Bool
-holds_brace text = list_any (nat_eq 125) text
+holds_brace text = list_any (nat_eq closing_brace) text
 
 -- the rules that a form breaks where it stands
 
@@ -42,9 +47,9 @@ below_top item (sort least text f) = where_it (is_none item) NotAtTop
 below_top item (comment text) = where_it (is_none item) NotAtTop
 below_top item f = []
 
--- a sort item that four or more stand before
+-- a sort item that as many as there may be stand before
 abbrev pub past_four_sorts : Option ℕ → FormTree → List QueryReason
-past_four_sorts (Some sorts) (sort least text f) = where_it (nat_le 4 sorts) TooManySorts
+past_four_sorts (Some sorts) (sort least text f) = where_it (nat_le most_sorts sorts) TooManySorts
 past_four_sorts item f = []
 
 -- a name that no `square` around it binds
@@ -69,14 +74,14 @@ broken_rules o =
 abbrev pub rule_faults : Occurrence → List QueryFault
 rule_faults o = map (λ reason. record { byte = o.at; reason = reason }) (broken_rules o)
 
--- a line of more than 64 places
+-- a line of more places than there may be
 abbrev pub is_long_line : FormTree → Bool
-is_long_line (line l) = nat_lt 64 (places l)
+is_long_line (line l) = nat_lt most_places (places l)
 is_long_line f = false
 
--- a `square` with exactly four around it
+-- a `square` with exactly as many around it as may be nested
 abbrev pub is_fifth_square : ℕ → FormTree → Bool
-is_fifth_square squares (square every text f g) = nat_eq squares 4
+is_fifth_square squares (square every text f g) = nat_eq squares most_squares
 is_fifth_square squares f = false
 
 abbrev pub is_family : FormTree → Bool
@@ -100,7 +105,7 @@ tree_faults q =
     ++ (flat_map rule_faults all
     ++ (map (λ byte. record { byte = byte; reason = LineTooLong }) (bytes_where (λ o. is_long_line o.form) all)
     ++ (map (λ byte. record { byte = byte; reason = TooManySquares }) (bytes_where (λ o. is_fifth_square o.standing.squares o.form) all)
-    ++ where_it (nat_lt (2 ^ 18) (query_weight q))
+    ++ where_it (nat_lt most_weight (query_weight q))
     (record { byte = unwrap_or (first (bytes_where (λ o. is_family o.form) all)) 0; reason = TooManyMembers }))))
 
 -- the fault of a query

@@ -8,6 +8,7 @@ ghost use Rattle.cql_syntax.specs.FlatRows.{FlatRows};
 ghost use Rattle.cql_syntax.specs.Hits.{hits, keys, marks};
 ghost use Rattle.cql_syntax.specs.Meaning.{Names, value, values};
 ghost use Rattle.cql_syntax.specs.Same.{same_filter};
+ghost use Rattle.cql_syntax.specs.Unplaced.{unplaced, same_unplaced};
 ghost use Rattle.cql_syntax.specs.TreeFaults.{tree_fault, has_any};
 ghost use Rattle.cql_syntax.specs.Trees.{FilterTree, FilterTrees, QueryTree};
 ghost use Rattle.std.specs.Prelude.{◌≡◌, ◌↔◌, ℕ, [], None, true, false};
@@ -22,6 +23,15 @@ pub fn flat_forms_are_as_worked()
 #[tactic(auto, using(crate::proofs::SameSound::same_law))]
 pub fn same_filters_are_equal()
     ensures { (f g : FilterTree) → (same_filter f g ≡ true) ↔ (f ≡ g) }
+{}
+
+/// Filters are the same but for their places exactly where they are equal without these, and then they give the same in every context:
+/// at every node of every searched tree, whatever names are bound.
+#[tactic(auto, using(crate::proofs::SameSound::same_law, crate::proofs::UnplacedSame::same_value))]
+pub fn places_do_not_count()
+    ensures equal { (f g : FilterTree) → (same_unplaced f g ≡ true) ↔ (unplaced f ≡ unplaced g) }
+    ensures value { (f g : FilterTree) → same_unplaced f g ≡ true → (tree : SearchedTree) (c : Context) (e : Names) (n : ℕ) →
+        value tree c e f n ≡ value tree c e g n }
 {}
 
 /// The flat form of a filter gives in the empty context what the filter gives in its own: at every node of every searched tree, whatever

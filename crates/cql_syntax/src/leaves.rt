@@ -41,8 +41,10 @@ impl Plain {
         ensures { result ≡ plain_kind self }
     {
         match self {
+            Plain::Check | Plain::Mate | Plain::Stalemate => Kind::Position,
+            Plain::Wtm | Plain::Btm | Plain::Initial | Plain::Terminal => Kind::Position,
+            Plain::Mainline | Plain::Variation | Plain::HasComment => Kind::Position,
             Plain::Ply | Plain::MoveNumber | Plain::Depth | Plain::Year => Kind::Number,
-            _ => Kind::Position,
         }
     }
 }

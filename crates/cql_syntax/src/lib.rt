@@ -10,6 +10,7 @@ pub mod flat_laws;
 mod kinds;
 pub mod laws;
 pub mod leaves;
+pub mod shared;
 pub mod token;
 pub mod tree;
 pub mod typed;

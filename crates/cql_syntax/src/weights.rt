@@ -17,14 +17,14 @@ pub fn weight(q: &Query) -> u64
     weight_of_filters(&q.items)
 }
 
-/// The sum of two weights.
+// The sum of two weights.
 fn weight_of_both(first: u64, second: u64) -> u64
     ensures { result ≡ capped (first + second) }
 {
     first.saturating_add(second).min(WEIGHT_LIMIT + 1)
 }
 
-/// The weight of a family whose part has the weight given.
+// The weight of a family whose part has the weight given.
 fn weight_of_family(family: Family, part: u64) -> u64
     ensures { result ≡ capped (1 + length (members family) * part) }
 {

@@ -1,8 +1,8 @@
-//! The words and marks of the query language by number, and the names that are reserved.
-ghost use Rattle.std.specs.Prelude.{◌≡◌, is_some, map};
+//! The words and marks of the query language with their texts and numbers, and the names that are reserved.
+ghost use Rattle.std.specs.Prelude.{◌≡◌, is_some};
 ghost use Rattle.std.specs.List.{position, slice_get};
 ghost use Rattle.std.specs.Str.{bytes_eq};
-ghost use Rattle.cql_syntax.specs.Words.{words, reserved_names, place_of, word_of, marks, sign_of};
+ghost use Rattle.cql_syntax.specs.Words.{word_text, plain_text, unary_text, way_text, family_text, sign_text, words, reserved_names, place_of, word_of, marks, sign_of};
 
 use crate::leaves::{Plain, Unary, Way};
 use cq_symmetry::Family;
@@ -79,109 +79,268 @@ pub enum Sign {
     Comma,
 }
 
-/// The words, with what they stand for; a word's number is its place here.
-const WORDS: [(&str, Word); 74] = [
-    ("cql", Word::Cql),
-    ("input", Word::Input),
-    ("output", Word::Output),
-    ("matchstring", Word::MatchString),
-    ("variations", Word::Variations),
-    ("check", Word::Plain(Plain::Check)),
-    ("mate", Word::Plain(Plain::Mate)),
-    ("stalemate", Word::Plain(Plain::Stalemate)),
-    ("wtm", Word::Plain(Plain::Wtm)),
-    ("btm", Word::Plain(Plain::Btm)),
-    ("initial", Word::Plain(Plain::Initial)),
-    ("terminal", Word::Plain(Plain::Terminal)),
-    ("mainline", Word::Plain(Plain::Mainline)),
-    ("variation", Word::Plain(Plain::Variation)),
-    ("hascomment", Word::Plain(Plain::HasComment)),
-    ("ply", Word::Plain(Plain::Ply)),
-    ("movenumber", Word::Plain(Plain::MoveNumber)),
-    ("depth", Word::Plain(Plain::Depth)),
-    ("year", Word::Plain(Plain::Year)),
-    ("result", Word::Result),
-    ("player", Word::Player),
-    ("event", Word::Event),
-    ("site", Word::Site),
-    ("elo", Word::Elo),
-    ("white", Word::White),
-    ("black", Word::Black),
-    ("not", Word::Unary(Unary::Not)),
-    ("and", Word::And),
-    ("or", Word::Or),
-    ("if", Word::If),
-    ("then", Word::Then),
-    ("else", Word::Else),
-    ("square", Word::Square),
-    ("all", Word::All),
-    ("in", Word::In),
-    ("find", Word::Unary(Unary::Find)),
-    ("child", Word::Unary(Unary::Child)),
-    ("parent", Word::Unary(Unary::Parent)),
-    ("line", Word::Line),
-    ("primary", Word::Primary),
-    ("attacks", Word::Attacks),
-    ("attackedby", Word::AttackedBy),
-    ("between", Word::Between),
-    ("light", Word::Unary(Unary::Light)),
-    ("dark", Word::Unary(Unary::Dark)),
-    ("up", Word::Way(Way::Up)),
-    ("down", Word::Way(Way::Down)),
-    ("left", Word::Way(Way::Left)),
-    ("right", Word::Way(Way::Right)),
-    ("northeast", Word::Way(Way::Northeast)),
-    ("northwest", Word::Way(Way::Northwest)),
-    ("southeast", Word::Way(Way::Southeast)),
-    ("southwest", Word::Way(Way::Southwest)),
-    ("diagonal", Word::Way(Way::Diagonal)),
-    ("orthogonal", Word::Way(Way::Orthogonal)),
-    ("anydirection", Word::Way(Way::AnyDirection)),
-    ("power", Word::Unary(Unary::Power)),
-    ("max", Word::Max),
-    ("min", Word::Min),
-    ("flip", Word::Family(Family::Flip)),
-    ("rotate90", Word::Family(Family::Rotate90)),
-    ("flipvertical", Word::Family(Family::FlipVertical)),
-    ("fliphorizontal", Word::Family(Family::FlipHorizontal)),
-    ("flipcolor", Word::Family(Family::FlipColor)),
-    ("shift", Word::Family(Family::Shift)),
-    ("shifthorizontal", Word::Family(Family::ShiftHorizontal)),
-    ("shiftvertical", Word::Family(Family::ShiftVertical)),
-    ("sort", Word::Sort),
-    ("comment", Word::Comment),
-    ("move", Word::Move),
-    ("from", Word::From),
-    ("to", Word::To),
-    ("capture", Word::Capture),
-    ("promote", Word::Promote),
+impl Word {
+    /// How it is written.
+    pub fn text(self) -> &'static [u8]
+        ensures { result.now ≡ word_text self }
+    {
+        match self {
+            Word::Cql => b"cql",
+            Word::Input => b"input",
+            Word::Output => b"output",
+            Word::MatchString => b"matchstring",
+            Word::Variations => b"variations",
+            Word::Plain(plain) => plain.text(),
+            Word::Result => b"result",
+            Word::Player => b"player",
+            Word::Event => b"event",
+            Word::Site => b"site",
+            Word::Elo => b"elo",
+            Word::White => b"white",
+            Word::Black => b"black",
+            Word::Unary(unary) => unary.text(),
+            Word::And => b"and",
+            Word::Or => b"or",
+            Word::If => b"if",
+            Word::Then => b"then",
+            Word::Else => b"else",
+            Word::Square => b"square",
+            Word::All => b"all",
+            Word::In => b"in",
+            Word::Line => b"line",
+            Word::Primary => b"primary",
+            Word::Attacks => b"attacks",
+            Word::AttackedBy => b"attackedby",
+            Word::Between => b"between",
+            Word::Way(way) => way.text(),
+            Word::Max => b"max",
+            Word::Min => b"min",
+            Word::Family(family) => family_text(family),
+            Word::Sort => b"sort",
+            Word::Comment => b"comment",
+            Word::Move => b"move",
+            Word::From => b"from",
+            Word::To => b"to",
+            Word::Capture => b"capture",
+            Word::Promote => b"promote",
+        }
+    }
+}
+
+impl Plain {
+    // How it is written.
+    fn text(self) -> &'static [u8]
+        ensures { result.now ≡ plain_text self }
+    {
+        match self {
+            Plain::Check => b"check",
+            Plain::Mate => b"mate",
+            Plain::Stalemate => b"stalemate",
+            Plain::Wtm => b"wtm",
+            Plain::Btm => b"btm",
+            Plain::Initial => b"initial",
+            Plain::Terminal => b"terminal",
+            Plain::Mainline => b"mainline",
+            Plain::Variation => b"variation",
+            Plain::HasComment => b"hascomment",
+            Plain::Ply => b"ply",
+            Plain::MoveNumber => b"movenumber",
+            Plain::Depth => b"depth",
+            Plain::Year => b"year",
+        }
+    }
+}
+
+impl Unary {
+    // How it is written.
+    fn text(self) -> &'static [u8]
+        ensures { result.now ≡ unary_text self }
+    {
+        match self {
+            Unary::Not => b"not",
+            Unary::Complement => Sign::Tilde.text(),
+            Unary::Count => Sign::Hash.text(),
+            Unary::Power => b"power",
+            Unary::Light => b"light",
+            Unary::Dark => b"dark",
+            Unary::Find => b"find",
+            Unary::FindUp => b"find<--",
+            Unary::Child => b"child",
+            Unary::Parent => b"parent",
+        }
+    }
+}
+
+impl Way {
+    // How it is written.
+    fn text(self) -> &'static [u8]
+        ensures { result.now ≡ way_text self }
+    {
+        match self {
+            Way::Up => b"up",
+            Way::Down => b"down",
+            Way::Left => b"left",
+            Way::Right => b"right",
+            Way::Northeast => b"northeast",
+            Way::Northwest => b"northwest",
+            Way::Southeast => b"southeast",
+            Way::Southwest => b"southwest",
+            Way::Diagonal => b"diagonal",
+            Way::Orthogonal => b"orthogonal",
+            Way::AnyDirection => b"anydirection",
+        }
+    }
+}
+
+// How a family of mappings is written.
+fn family_text(family: Family) -> &'static [u8]
+    ensures { result.now ≡ family_text family }
+{
+    match family {
+        Family::Flip => b"flip",
+        Family::Rotate90 => b"rotate90",
+        Family::FlipVertical => b"flipvertical",
+        Family::FlipHorizontal => b"fliphorizontal",
+        Family::FlipColor => b"flipcolor",
+        Family::Shift => b"shift",
+        Family::ShiftHorizontal => b"shifthorizontal",
+        Family::ShiftVertical => b"shiftvertical",
+    }
+}
+
+impl Sign {
+    /// How it is written.
+    pub fn text(self) -> &'static [u8]
+        ensures { result.now ≡ sign_text self }
+    {
+        match self {
+            Sign::Arrow => b"-->",
+            Sign::BackArrow => b"<--",
+            Sign::AtMost => b"<=",
+            Sign::AtLeast => b">=",
+            Sign::Equal => b"==",
+            Sign::Less => b"<",
+            Sign::Greater => b">",
+            Sign::Plus => b"+",
+            Sign::Minus => b"-",
+            Sign::Star => b"*",
+            Sign::Question => b"?",
+            Sign::Hash => b"#",
+            Sign::Bar => b"|",
+            Sign::Ampersand => b"&",
+            Sign::Tilde => b"~",
+            Sign::Open => b"(",
+            Sign::Close => b")",
+            Sign::OpenBrace => b"{",
+            Sign::CloseBrace => b"}",
+            Sign::Comma => b",",
+        }
+    }
+}
+
+// The words in order; a word's number is its place here.
+const WORDS: [Word; 74] = [
+    Word::Cql,
+    Word::Input,
+    Word::Output,
+    Word::MatchString,
+    Word::Variations,
+    Word::Plain(Plain::Check),
+    Word::Plain(Plain::Mate),
+    Word::Plain(Plain::Stalemate),
+    Word::Plain(Plain::Wtm),
+    Word::Plain(Plain::Btm),
+    Word::Plain(Plain::Initial),
+    Word::Plain(Plain::Terminal),
+    Word::Plain(Plain::Mainline),
+    Word::Plain(Plain::Variation),
+    Word::Plain(Plain::HasComment),
+    Word::Plain(Plain::Ply),
+    Word::Plain(Plain::MoveNumber),
+    Word::Plain(Plain::Depth),
+    Word::Plain(Plain::Year),
+    Word::Result,
+    Word::Player,
+    Word::Event,
+    Word::Site,
+    Word::Elo,
+    Word::White,
+    Word::Black,
+    Word::Unary(Unary::Not),
+    Word::And,
+    Word::Or,
+    Word::If,
+    Word::Then,
+    Word::Else,
+    Word::Square,
+    Word::All,
+    Word::In,
+    Word::Unary(Unary::Find),
+    Word::Unary(Unary::Child),
+    Word::Unary(Unary::Parent),
+    Word::Line,
+    Word::Primary,
+    Word::Attacks,
+    Word::AttackedBy,
+    Word::Between,
+    Word::Unary(Unary::Light),
+    Word::Unary(Unary::Dark),
+    Word::Way(Way::Up),
+    Word::Way(Way::Down),
+    Word::Way(Way::Left),
+    Word::Way(Way::Right),
+    Word::Way(Way::Northeast),
+    Word::Way(Way::Northwest),
+    Word::Way(Way::Southeast),
+    Word::Way(Way::Southwest),
+    Word::Way(Way::Diagonal),
+    Word::Way(Way::Orthogonal),
+    Word::Way(Way::AnyDirection),
+    Word::Unary(Unary::Power),
+    Word::Max,
+    Word::Min,
+    Word::Family(Family::Flip),
+    Word::Family(Family::Rotate90),
+    Word::Family(Family::FlipVertical),
+    Word::Family(Family::FlipHorizontal),
+    Word::Family(Family::FlipColor),
+    Word::Family(Family::Shift),
+    Word::Family(Family::ShiftHorizontal),
+    Word::Family(Family::ShiftVertical),
+    Word::Sort,
+    Word::Comment,
+    Word::Move,
+    Word::From,
+    Word::To,
+    Word::Capture,
+    Word::Promote,
 ];
 
-/// The marks, with what they stand for; a mark's number is its place here.
-const MARKS: [(&str, Sign); 20] = [
-    ("-->", Sign::Arrow),
-    ("<--", Sign::BackArrow),
-    ("<=", Sign::AtMost),
-    (">=", Sign::AtLeast),
-    ("==", Sign::Equal),
-    ("<", Sign::Less),
-    (">", Sign::Greater),
-    ("+", Sign::Plus),
-    ("-", Sign::Minus),
-    ("*", Sign::Star),
-    ("?", Sign::Question),
-    ("#", Sign::Hash),
-    ("|", Sign::Bar),
-    ("&", Sign::Ampersand),
-    ("~", Sign::Tilde),
-    ("(", Sign::Open),
-    (")", Sign::Close),
-    ("{", Sign::OpenBrace),
-    ("}", Sign::CloseBrace),
-    (",", Sign::Comma),
+// The marks in order; a mark's number is its place here.
+const MARKS: [Sign; 20] = [
+    Sign::Arrow,
+    Sign::BackArrow,
+    Sign::AtMost,
+    Sign::AtLeast,
+    Sign::Equal,
+    Sign::Less,
+    Sign::Greater,
+    Sign::Plus,
+    Sign::Minus,
+    Sign::Star,
+    Sign::Question,
+    Sign::Hash,
+    Sign::Bar,
+    Sign::Ampersand,
+    Sign::Tilde,
+    Sign::Open,
+    Sign::Close,
+    Sign::OpenBrace,
+    Sign::CloseBrace,
+    Sign::Comma,
 ];
 
-/// Names that a query may not use.
+// Names that a query may not use.
 const RESERVED: [&str; 29] = [
     "echo",
     "loop",
@@ -214,30 +373,36 @@ const RESERVED: [&str; 29] = [
     "firstmatch",
 ];
 
-// The place of a text in a table.
-fn place_in<T>(table: &[(&str, T)], text: &[u8]) -> Option<usize>
-    ensures { result ≡ position (λ row. bytes_eq row.0.now text.now) table.now }
+// The value at a place of a table.
+fn entry_at<T: Copy>(table: &[T], place: usize) -> Option<T>
+    ensures { result ≡ slice_get table.now place }
 {
-    table.iter().position(|row| row.0.as_bytes() == text)
+    let entry = table.get(place)?;
+    Some(*entry)
 }
 
-// What stands beside the text at a place of a table.
-#[tactic(auto, using(crate::proofs::Tables::column_get))]
-fn entry_at<T: Copy>(table: &[(&str, T)], place: usize) -> Option<T>
-    ensures { result ≡ slice_get (map (λ row. row.1) table.now) place }
+// The place of the word that a text is.
+fn word_place(table: &[Word], text: &[u8]) -> Option<usize>
+    ensures { result ≡ position (λ word. bytes_eq (word_text word) text.now) table.now }
 {
-    let (_, entry) = table.get(place)?;
-    Some(*entry)
+    table.iter().position(|word| word.text() == text)
+}
+
+// The place of the mark that a text is.
+fn sign_place(table: &[Sign], text: &[u8]) -> Option<usize>
+    ensures { result ≡ position (λ sign. bytes_eq (sign_text sign) text.now) table.now }
+{
+    table.iter().position(|sign| sign.text() == text)
 }
 
 /// The number of the word that a text is.
 pub fn word_number(text: &[u8]) -> Option<u16>
     ensures { result ≡ place_of text.now words }
 {
-    Some(place_in(WORDS.as_slice(), text)? as u16)
+    Some(word_place(WORDS.as_slice(), text)? as u16)
 }
 
-/// What the word of a number stands for.
+/// The word of a number.
 #[tactic(auto, unfolding(crate::specs::Words::word_of))]
 pub fn word_of(number: u16) -> Option<Word>
     ensures { result ≡ word_of number }
@@ -249,10 +414,10 @@ pub fn word_of(number: u16) -> Option<Word>
 pub fn mark_number(text: &[u8]) -> Option<u8>
     ensures { result ≡ place_of text.now marks }
 {
-    Some(place_in(MARKS.as_slice(), text)? as u8)
+    Some(sign_place(MARKS.as_slice(), text)? as u8)
 }
 
-/// What the mark of a number stands for.
+/// The mark of a number.
 #[tactic(auto, unfolding(crate::specs::Words::sign_of))]
 pub fn sign_of(number: u8) -> Option<Sign>
     ensures { result ≡ sign_of number }

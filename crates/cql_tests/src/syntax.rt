@@ -1,5 +1,6 @@
 use cq_outside::{Bytes, NoMemory};
 use cq_symmetry::{Family, SquarePart};
+use cql_rewrite::{same_filter, same_unplaced};
 use cql_syntax::{
     Body, Chain, Constituent, Constituents, Designator, Extent, Field, Filter, Filters, Form, Kind,
     Line, Mark, Of, Outcome, Pair, Plain, Query, Term, Terms, Unary, WEIGHT_LIMIT, Way, kind_of,
@@ -115,7 +116,7 @@ fn agrees(
 ) -> Result<(), NoMemory> {
     let original = filter(form);
     let copied = original.copy(alloc)?;
-    assert_eq!(rt; copied, original);
+    assert!(rt; same_filter(&copied, &original));
     assert_eq!(rt; kind_of(&copied), kind);
     let mut items = Filters::new(alloc);
     items.push(copied)?;
@@ -232,16 +233,34 @@ fn forms_of_several_parts_have_their_kinds(rt: HostRuntime) -> Result<(), Fail> 
     Ok(())
 }
 
+/// All of so many checks.
+fn all_of_checks(alloc: Global, count: usize) -> Result<Filter, NoMemory> {
+    Ok(filter(Form::Chain(Chain::All, checks(alloc, count)?)))
+}
+
 #[test]
-fn trees_that_differ_are_not_equal(rt: HostRuntime) -> Result<(), Fail> {
+fn trees_that_differ_are_not_the_same(rt: HostRuntime) -> Result<(), Fail> {
     let alloc = rt.alloc();
-    let two = checks(alloc, 2)?;
-    assert_ne!(rt; two, checks(alloc, 3)?);
+    let two = all_of_checks(alloc, 2)?;
+    assert!(rt; !same_filter(&two, &all_of_checks(alloc, 3)?));
+    assert!(rt; same_filter(&two, &all_of_checks(alloc, 2)?));
     let flipped = in_families(alloc, Family::Flip, 2)?;
-    assert_ne!(rt; flipped, in_families(alloc, Family::Flip, 1)?);
-    assert_ne!(rt; flipped, in_families(alloc, Family::Shift, 2)?);
-    assert_ne!(rt; repeated(alloc, 2, 2)?, repeated(alloc, 3, 2)?);
-    assert_eq!(rt; query(alloc, two)?, query(alloc, checks(alloc, 2)?)?);
+    assert!(rt; !same_filter(&flipped, &in_families(alloc, Family::Flip, 1)?));
+    assert!(rt; !same_filter(&flipped, &in_families(alloc, Family::Shift, 2)?));
+    let twice = repeated(alloc, 2, 2)?;
+    assert!(rt; !same_filter(&twice, &repeated(alloc, 3, 2)?));
+    Ok(())
+}
+
+#[test]
+fn filters_at_other_places_are_the_same_but_for_these(rt: HostRuntime) -> Result<(), Fail> {
+    let alloc = rt.alloc();
+    let first = all_of_checks(alloc, 2)?;
+    let mut other = all_of_checks(alloc, 2)?;
+    other.at = 40;
+    assert!(rt; !same_filter(&first, &other));
+    assert!(rt; same_unplaced(&first, &other));
+    assert!(rt; !same_unplaced(&first, &all_of_checks(alloc, 3)?));
     Ok(())
 }
 

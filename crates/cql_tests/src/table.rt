@@ -24,4 +24,6 @@ fn words_have_the_numbers_of_their_places(rt: HostRuntime) {
     assert_eq!(rt; word_of(74), None);
     assert_eq!(rt; mark_number(b"<--"), Some(1));
     assert_eq!(rt; sign_of(1), Some(Sign::BackArrow));
+    assert_eq!(rt; Word::Plain(Plain::Check).text(), b"check".as_slice());
+    assert_eq!(rt; Sign::BackArrow.text(), b"<--".as_slice());
 }

@@ -2,7 +2,7 @@ use Rattle.std.proofs.Common.{refl, sym, ◌∙◌, ap}
 use Rattle.std.proofs.lemmas.Result.{err_from_is_err_and}
 use Rattle.cql_syntax.specs.Occurrences.{part_of, asked_of_each, inner, of_written}
 use Rattle.cql_syntax.specs.TreeOf.{filter_tree, form_tree}
-use Rattle.cql_kinds.specs.Standings.{standing_in}
+use Rattle.cql_kinds.specs.Standings.{standing_in, counted}
 use Rattle.cql_kinds.specs.Walks.{walked}
 use Rattle.cql_kinds.proofs.Arms.{same_place, pair_at, if_at, square_at, played_at, origin_is, goal_is, taken_is, promoted_is}
 use Rattle.cql_kinds.proofs.Loops.{filters_at, filters_end, terms_at, terms_end, parts_at, parts_end}
@@ -152,7 +152,7 @@ walk_inner-returns-in_ok-after_squares-in-Square t c =
     found_after c.args.firsts c.in_ok-after_squares-in-Square.after_squares _ _ _ _ arm
     c.in_ok-after_squares-in-Square.ensures (same_place c.part_of_square-among.ensures c.deref-in-Square.ensures) in
     given_last c.walk-in-Square-2.result c.in_ok-after_squares-in-Square.after_squares _ _ _ rest c.walk-in-Square-2.ensures
-    (same_place (c.asked_of_each.ensures ∙ ap (asked_of_each (standing_in c.args.standing)) c.as_slice.ensures) c.deref-in-Square-2.ensures)
+    (same_place (c.asked_of_each.ensures ∙ ap (λ bound. counted (asked_of_each (standing_in c.args.standing) bound)) c.as_slice.ensures) c.deref-in-Square-2.ensures)
 
 pub walk_played-returns-in_err-after_origin : goal.walk_played-returns-in_err-after_origin
 walk_played-returns-in_err-after_origin t c =

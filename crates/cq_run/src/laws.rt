@@ -1,0 +1,20 @@
+//! A law of the queries that texts are.
+ghost use Rattle.std.specs.Prelude.{◌⊎◌, ℕ, List};
+ghost use Rattle.cql_syntax.specs.Trees.{QueryTree};
+ghost use Rattle.cql_syntax.specs.declared.fault.QueryFault.{QueryFault};
+ghost use Rattle.cq_run.specs.Queries.{IsQuery, IsQueryFault};
+
+use cql_parser::{
+    faulty_tokens_spell_no_query, texts_spell_a_query_or_have_a_fault,
+    tokens_spell_at_most_one_query,
+};
+
+/// A law: every text is a query or has a fault, and not both.
+pub fn every_text_is_a_query_or_has_a_fault()
+    ensures { (text : List ℕ) → (((q : QueryTree) × IsQuery text q) × ((f : QueryFault) → IsQueryFault text f → ⊥))
+        ⊎ (((f : QueryFault) × IsQueryFault text f) × ((q : QueryTree) → IsQuery text q → ⊥)) }
+{
+    texts_spell_a_query_or_have_a_fault();
+    tokens_spell_at_most_one_query();
+    faulty_tokens_spell_no_query();
+}

@@ -1,0 +1,20 @@
+//! What threads share, or hand over.
+
+use crate::fault::QueryFault;
+use crate::flat::FlatQuery;
+use crate::token::QueryToken;
+use crate::tree::Query;
+use crate::typed::TypedQuery;
+
+/// A type of which threads may share values, or hand them over.
+pub trait Shared: Send + Sync {}
+
+impl Shared for QueryToken {}
+
+impl Shared for QueryFault {}
+
+impl Shared for Query {}
+
+impl Shared for TypedQuery {}
+
+impl Shared for FlatQuery {}
