@@ -9,3 +9,4 @@ pub mod Refusals
 pub mod Spelling
 pub mod Text
 pub mod Told
+pub mod Within

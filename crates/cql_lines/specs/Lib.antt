@@ -11,3 +11,5 @@ pub mod Ways
 pub mod PatternTrees
 pub mod Automata
 pub mod Values
+pub mod Tables
+pub mod Trees

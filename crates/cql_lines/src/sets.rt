@@ -2,7 +2,8 @@
 ghost use Rattle.std.specs.Prelude.{◌≡◌, ℕ, ◌+◌, ◌*◌, ◌<◌, ◌≤◌, get_or, length, if◌then◌else◌, bit_or, slice_get, Some, None, ◌-◌, false, IfOk, replicate, true};
 ghost use Rattle.cq_outside.specs.Greatest.{IsGreatest};
 ghost use Rattle.cql_lines.specs.Down.{Passed, Stands};
-ghost use Rattle.cql_lines.specs.Values.{AnswerAt, holds};
+ghost use Rattle.cql_lines.specs.Tables.{holds};
+ghost use Rattle.cql_lines.specs.Values.{AnswerAt};
 ghost use Rattle.cql_lines.specs.Reads.{Read};
 ghost use Rattle.cql_lines.specs.Shapes.{Edge, is_searched, joined, searched_count};
 ghost use Rattle.cql_lines.specs.Up.{StandsUp, IsAbove};
@@ -12,7 +13,8 @@ ghost use Rattle.cql_lines.specs.Sets.{IsSet, Between, shifted, union_in, place_
 ghost use Rattle.cql_lines.specs.declared.automaton.Rule.{Rule as RuleValue};
 
 use crate::automaton::Rule;
-use crate::table::{AtomTable, Extent, Shape};
+use crate::shape::{Limits, Shape};
+use crate::table::AtomTable;
 use crate::values::blank_values;
 use cq_outside::Steps;
 use std::alloc::{AllocError, Global};
@@ -123,7 +125,7 @@ pub fn pass_up(shape: &Shape, node: usize, rows: &mut [[u128; 64]], own: &[u128;
 pub fn visit_down<L: Ledger>(
     rules: &[Rule],
     first: u64,
-    extent: Extent,
+    extent: Limits,
     table: &AtomTable,
     shape: &Shape,
     node: usize,
@@ -174,7 +176,7 @@ pub fn within_down<L: Ledger>(
     alloc: Global,
     rules: &[Rule],
     first: u64,
-    extent: Extent,
+    extent: Limits,
     table: &AtomTable,
     shape: &Shape,
     steps: &mut Steps<L>,
@@ -219,7 +221,7 @@ fn row_above(shape: &Shape, node: usize, rows: &[[u128; 64]]) -> [u128; 64]
 pub fn visit_up<L: Ledger>(
     rules: &[Rule],
     first: u64,
-    extent: Extent,
+    extent: Limits,
     table: &AtomTable,
     shape: &Shape,
     node: usize,
@@ -259,7 +261,7 @@ pub fn within_up<L: Ledger>(
     alloc: Global,
     rules: &[Rule],
     first: u64,
-    extent: Extent,
+    extent: Limits,
     table: &AtomTable,
     shape: &Shape,
     steps: &mut Steps<L>,
@@ -292,7 +294,7 @@ pub fn within<L: Ledger>(
     alloc: Global,
     rules: &[Rule],
     first: u64,
-    extent: Extent,
+    extent: Limits,
     table: &AtomTable,
     shape: &Shape,
     steps: &mut Steps<L>,

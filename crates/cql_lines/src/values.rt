@@ -1,7 +1,8 @@
 //! The greatest lengths.
 ghost use Rattle.std.specs.Prelude.{◌≡◌, ℕ, ◌+◌, ◌*◌, ◌<◌, ◌≤◌, ◌||◌, get_or, length, List, max, if◌then◌else◌, slice_get, Some, None, Option, ◌-◌, false, IfOk, replicate, true};
 ghost use Rattle.cql_lines.specs.Down.{found, Passed, Stands};
-ghost use Rattle.cql_lines.specs.Values.{AnswerAt, holds};
+ghost use Rattle.cql_lines.specs.Tables.{holds};
+ghost use Rattle.cql_lines.specs.Values.{AnswerAt};
 ghost use Rattle.cql_lines.specs.Reads.{Read};
 ghost use Rattle.cql_lines.specs.Lengths.{IsGreatestOrZero, greatest_in, place_value, is_set, at};
 ghost use Rattle.cql_lines.specs.Shapes.{Edge, is_searched, joined, searched_count};
@@ -9,7 +10,8 @@ ghost use Rattle.cql_lines.specs.Up.{StandsUp, IsAbove};
 ghost use Rattle.cql_lines.specs.declared.automaton.Rule.{Rule as RuleValue};
 
 use crate::automaton::Rule;
-use crate::table::{AtomTable, Shape};
+use crate::shape::Shape;
+use crate::table::AtomTable;
 use cq_outside::Steps;
 use std::alloc::{AllocError, Global};
 use std::sync::ledger::Ledger;

@@ -1,6 +1,6 @@
 use Rattle.std.proofs.Common.{◌∙◌, true, sym, subst}
 use Rattle.cql_lines.specs.Reads.{Read}
-use Rattle.cql_lines.specs.Values.{holds}
+use Rattle.cql_lines.specs.Tables.{holds}
 use Rattle.cql_lines.specs.Sets.{IsSet, Between, place_set}
 use Rattle.cql_lines.specs.Shapes.{Edge, is_searched}
 use Rattle.cql_lines.specs.Lengths.{at}

@@ -1,7 +1,7 @@
 use Rattle.std.proofs.Common.{◌∙◌, length, false, sym, ap, max}
 use Rattle.cql_lines.specs.Down.{found}
 use Rattle.cql_lines.specs.Reads.{Read}
-use Rattle.cql_lines.specs.Values.{holds}
+use Rattle.cql_lines.specs.Tables.{holds}
 use Rattle.cql_lines.specs.Lengths.{IsGreatestOrZero, greatest_in, at, place_value}
 use Rattle.cql_lines.specs.Shapes.{Edge, is_searched}
 use Rattle.cql_lines.proofs.DownLaw.{same_greatest, greatest_of_two, none_greatest}
