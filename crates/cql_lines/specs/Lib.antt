@@ -13,3 +13,4 @@ pub mod Automata
 pub mod Values
 pub mod Tables
 pub mod Trees
+pub mod Fits

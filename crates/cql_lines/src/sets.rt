@@ -7,6 +7,7 @@ ghost use Rattle.cql_lines.specs.Values.{AnswerAt};
 ghost use Rattle.cql_lines.specs.Reads.{Read};
 ghost use Rattle.cql_lines.specs.Shapes.{Edge, is_searched, joined, searched_count};
 ghost use Rattle.cql_lines.specs.Up.{StandsUp, IsAbove};
+ghost use Rattle.cql_lines.specs.Fits.{Fit};
 ghost use Rattle.cql_lines.specs.Lengths.{is_set, at};
 ghost use Rattle.cql_lines.specs.Places.{when, IsIn};
 ghost use Rattle.cql_lines.specs.Sets.{IsSet, Between, shifted, union_in, place_set};
@@ -43,7 +44,7 @@ pub fn union_of(mask: u64, row: &[u128; 64], count: usize) -> u128
     all
 }
 
-/// Each length one more.
+// Each length one more.
 fn longer(set: u128) -> u128
     ensures { result ≡ shifted set }
 {
@@ -133,10 +134,7 @@ pub fn visit_down<L: Ledger>(
     steps: &mut Steps<L>,
 ) -> Option<u32>
     requires most { extent.most ≤ 127 }
-    requires count { length rules.now ≤ 64 }
-    requires atoms { (i : ℕ) (r : RuleValue) → slice_get rules.now i ≡ Some r → r.atom < table.now.atoms }
-    requires words { length table.now.words.items ≡ length shape.now.spots.items }
-    requires nodes { length shape.now.spots.items ≤ 65536 }
+    requires fit { Fit rules.now table.now shape.now }
     requires node { node < length shape.now.spots.items }
     requires stands { Stands IsSet table.now.words.items rules.now shape.now.primary shape.now.spots.items
         (length shape.now.spots.items - node - 1) rows.old }
@@ -182,10 +180,7 @@ pub fn within_down<L: Ledger>(
     steps: &mut Steps<L>,
 ) -> Result<Vec<Option<u32>>, AllocError>
     requires most { extent.most ≤ 127 }
-    requires count { length rules.now ≤ 64 }
-    requires atoms { (i : ℕ) (r : RuleValue) → slice_get rules.now i ≡ Some r → r.atom < table.now.atoms }
-    requires words { length table.now.words.items ≡ length shape.now.spots.items }
-    requires nodes { length shape.now.spots.items ≤ 65536 }
+    requires fit { Fit rules.now table.now shape.now }
     ensures count { IfOk result (λ values. length values.items ≡ length shape.now.spots.items) }
     ensures values { IfOk result (λ values. (n : ℕ) → n < length shape.now.spots.items →
         AnswerAt (is_searched shape.now.spots.items n)
@@ -205,7 +200,7 @@ pub fn within_down<L: Ledger>(
     Ok(values)
 }
 
-/// The lengths of the node above, or zeros where there is none.
+// The lengths of the node above, or zeros where there is none.
 fn row_above(shape: &Shape, node: usize, rows: &[[u128; 64]]) -> [u128; 64]
     requires node { node < length shape.now.spots.items }
     requires rows { length rows.now ≡ length shape.now.spots.items }
@@ -229,10 +224,7 @@ pub fn visit_up<L: Ledger>(
     steps: &mut Steps<L>,
 ) -> Option<u32>
     requires most { extent.most ≤ 127 }
-    requires count { length rules.now ≤ 64 }
-    requires atoms { (i : ℕ) (r : RuleValue) → slice_get rules.now i ≡ Some r → r.atom < table.now.atoms }
-    requires words { length table.now.words.items ≡ length shape.now.spots.items }
-    requires nodes { length shape.now.spots.items ≤ 65536 }
+    requires fit { Fit rules.now table.now shape.now }
     requires node { node < length shape.now.spots.items }
     requires stands { StandsUp IsSet table.now.words.items rules.now shape.now.primary shape.now.spots.items node rows.old }
     ensures stands { StandsUp IsSet table.now.words.items rules.now shape.now.primary shape.now.spots.items (node + 1) rows.new }
@@ -267,10 +259,7 @@ pub fn within_up<L: Ledger>(
     steps: &mut Steps<L>,
 ) -> Result<Vec<Option<u32>>, AllocError>
     requires most { extent.most ≤ 127 }
-    requires count { length rules.now ≤ 64 }
-    requires atoms { (i : ℕ) (r : RuleValue) → slice_get rules.now i ≡ Some r → r.atom < table.now.atoms }
-    requires words { length table.now.words.items ≡ length shape.now.spots.items }
-    requires nodes { length shape.now.spots.items ≤ 65536 }
+    requires fit { Fit rules.now table.now shape.now }
     ensures count { IfOk result (λ values. length values.items ≡ length shape.now.spots.items) }
     ensures values { IfOk result (λ values. (n : ℕ) → n < length shape.now.spots.items →
         AnswerAt (is_searched shape.now.spots.items n)
@@ -300,10 +289,7 @@ pub fn within<L: Ledger>(
     steps: &mut Steps<L>,
 ) -> Result<Vec<Option<u32>>, AllocError>
     requires most { extent.most ≤ 127 }
-    requires count { length rules.now ≤ 64 }
-    requires atoms { (i : ℕ) (r : RuleValue) → slice_get rules.now i ≡ Some r → r.atom < table.now.atoms }
-    requires words { length table.now.words.items ≡ length shape.now.spots.items }
-    requires nodes { length shape.now.spots.items ≤ 65536 }
+    requires fit { Fit rules.now table.now shape.now }
     ensures count { IfOk result (λ values. length values.items ≡ length shape.now.spots.items) }
     ensures values { IfOk result (λ values. (n : ℕ) → n < length shape.now.spots.items →
         AnswerAt (is_searched shape.now.spots.items n)

@@ -37,7 +37,7 @@ fn part(alloc: Global, atom: u32, often: Often) -> Result<Pattern, NoMemory>
     }
 }
 
-/// The line of these parts, the k-th of which has the atom k.
+// The line of these parts, the k-th of which has the atom k.
 #[tactic(auto, using(crate::proofs::Lists::sequence_tree, crate::proofs::Parts::places_more, crate::proofs::Parts::atoms_more))]
 fn line(alloc: Global, parts: &[Often]) -> Result<Pattern, NoMemory>
     requires { length parts.now ≤ 64 }
@@ -51,7 +51,7 @@ fn line(alloc: Global, parts: &[Often]) -> Result<Pattern, NoMemory>
     Ok(Pattern::Sequence(row))
 }
 
-/// The values of the line of these parts, for which each atom is looked at once a node at the most.
+// The values of the line of these parts, for which each atom is looked at once a node at the most.
 fn looked_up<L: Ledger>(
     alloc: Global,
     parts: &[Often],
@@ -98,7 +98,7 @@ fn values(
     looked_up_from::<Brand>(alloc, parts, table, shape, Blank::new(1))
 }
 
-/// A searched node more, after its parent.
+// A searched node more, after its parent.
 fn grow<R: Abort>(rt: &R, shape: &mut Shape, parent: u32, first: bool) -> Result<(), NoMemory> {
     assert!(rt; (parent as usize) < shape.len());
     assert!(rt; shape.searched(parent as usize));
@@ -206,7 +206,7 @@ fn lines_have_their_greatest_lengths(rt: HostRuntime) -> Result<(), Fail> {
     Ok(())
 }
 
-/// A table of 64 atoms and 65,536 nodes: at each node those atoms hold that leave the same remainder by 8.
+// A table of 64 atoms and 65,536 nodes: at each node those atoms hold that leave the same remainder by 8.
 fn every_eighth<R: Abort>(rt: &R, alloc: Global) -> Result<AtomTable, NoMemory> {
     let mut table = AtomTable::new(alloc, 64, 65_536)?;
     for node in 0..65_536 {

@@ -50,7 +50,7 @@ impl Shape {
         Ok(())
     }
 
-    // The node above that a node is joined to.
+    /// The node above that a node is joined to.
     pub(crate) fn joined_to(&self, node: usize) -> Option<u32>
         requires { node < length self.now.spots.items }
         ensures { result ≡ joined self.now.primary self.now.spots.items node }
@@ -62,7 +62,7 @@ impl Shape {
         None
     }
 
-    // Whether a node is searched.
+    /// Whether a node is searched.
     pub(crate) fn searched(&self, node: usize) -> bool
         requires { node < length self.now.spots.items }
         ensures { result ≡ is_searched self.now.spots.items node }
@@ -70,7 +70,7 @@ impl Shape {
         self.spots[node].searched
     }
 
-    // How many nodes there are.
+    /// How many nodes there are.
     pub(crate) fn len(&self) -> usize
         ensures { result ≡ length self.now.spots.items }
     {

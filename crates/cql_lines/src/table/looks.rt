@@ -45,7 +45,7 @@ impl AtomTable {
         (self.words[node as usize] >> atom) & 1 == 1
     }
 
-    // All atoms that hold at a node.
+    /// All atoms that hold at a node.
     pub(crate) fn held<L: Ledger>(&self, node: usize, steps: &mut Steps<L>) -> u64
         requires node { node < nodes_of self.now }
         ensures held { (a : ℕ) → a < atoms_of self.now → is_set result a ≡ holds_in self.now a node }
