@@ -6,7 +6,8 @@ ghost use Rattle.pgn_lexer.specs.Lexemes.{Lexeme as ALexeme};
 ghost use Rattle.pgn_lexer.specs.declared.token.LexemeKind.TheVariants.{Token};
 ghost use Rattle.pgn_lexer.specs.declared.token.TokenKind.TheVariants.{BadByte};
 ghost use Rattle.pgn_cut.specs.Cut.{cut, closed};
-ghost use Rattle.pgn_cut.specs.Progress.{progress_of, IsStepOfCut, Shows};
+ghost use Rattle.pgn_cut.specs.OpenGames.{IsOpenAt, open_place};
+ghost use Rattle.pgn_cut.specs.Progress.{begins_at, progress_of, IsStepOfCut, Shows};
 ghost use Rattle.pgn_cut.specs.States.{takes, is_in_mark, Stays};
 ghost use Rattle.pgn_cut.specs.Streams.{IsBetween, IsSound, IsInMark, IsInText, Stands, IsEnded, IsReady, HasTaken, StandsWith, HasGained};
 ghost use Rattle.pgn_cut.specs.declared.span.Span.{Span as ASpan};
@@ -18,7 +19,10 @@ use crate::laws::open_lexemes_settle;
 use crate::span::Span;
 use crate::state::State;
 use cq_outside::{NoMemory, is_white};
-use pgn_lexer::{LexemeKind, TokenKind, longest_reading, white_space_is_passed};
+use pgn_lexer::{
+    LexemeKind, TokenKind, lexemes_follow, lexemes_stand_apart, longest_reading,
+    readings_are_longest, readings_grow, white_space_is_passed,
+};
 
 /// Cuts an archive that comes in pieces. It keeps none of its bytes: what is open at its place, where that begins, and
 /// what the open game shows so far.
@@ -321,6 +325,34 @@ impl Cutter {
         }
         *self = cutter;
         Ok(())
+    }
+
+    // The place by what is kept: the open game's first lexeme, or else the open lexeme.
+    fn open_place(&self) -> Option<u64>
+        ensures { result ≡ open_place (begins_at self.now.game.start) self.now.state self.now.at }
+    {
+        let begun = self.game.begins_at();
+        if begun.is_some() {
+            return begun;
+        }
+        match self.state {
+            State::AtStart | State::Between => None,
+            State::OneOfMark | State::TwoOfMark => Some(0),
+            _ => Some(self.at),
+        }
+    }
+
+    /// Where the open game begins, so that the bytes before it need not be kept; None where none is open. The games after it begin
+    /// where the bytes that were fed end, or later.
+    pub fn open_at(&self) -> Option<u64>
+        ensures { (fed : List ℕ) → Stands self.now fed → IsOpenAt result fed }
+    {
+        open_lexemes_settle();
+        lexemes_stand_apart();
+        lexemes_follow();
+        readings_grow();
+        readings_are_longest();
+        self.open_place()
     }
 
     /// Appends the last game, where there is one, at the archive's end. The cutter stays as it is, so a second call appends

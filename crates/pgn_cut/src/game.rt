@@ -4,7 +4,7 @@ ghost use Rattle.std.specs.Option.{option_to_list};
 ghost use Rattle.pgn_lexer.specs.Lexemes.{Lexeme as ALexeme};
 ghost use Rattle.pgn_lexer.specs.Shown.{shown};
 ghost use Rattle.pgn_cut.specs.Cut.{is_result, marks, nest, opens_pair, is_movetext, is_passed_over, opens, cut_from};
-ghost use Rattle.pgn_cut.specs.Progress.{progress_of, span_from, IsStepOfCut, Shows};
+ghost use Rattle.pgn_cut.specs.Progress.{begins_at, progress_of, span_from, IsStepOfCut, Shows};
 
 use crate::span::Span;
 use pgn_lexer::{Lexeme, LexemeKind, TokenKind};
@@ -180,6 +180,13 @@ impl OpenGame {
             has_movetext: self.sees_movetext(look.kind),
             has_more: self.sees_more(look.kind),
         }
+    }
+
+    /// Where it begins, once it has a lexeme.
+    pub(crate) fn begins_at(self) -> Option<u64>
+        ensures { result ≡ begins_at self.start }
+    {
+        self.start.map(|start| start.at)
     }
 
     // The span of the game up to a place.
