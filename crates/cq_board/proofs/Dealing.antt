@@ -1,17 +1,18 @@
 -- Seats that were handed out so far, and seats that were joined so far.
-use Rattle.std.proofs.Common.{Some, length-append, ◌-◌, ◌==◌, ◌≡◌, ℕ, ◌+◌, ◌<◌, List, [], ◌∷◌, ◌++◌, length, sym, ap, ◌∙◌, subst, arith, All}
-use Rattle.std.specs.Prelude.{sum_by}
+use Rattle.std.proofs.Common.{lt-ltb, leb-true, Bool, true, false, zero, suc, ◌≤◌, get_or, refl, Some, length-append, ◌-◌, ◌==◌, ◌≡◌, ℕ, ◌+◌, ◌<◌, List, [], ◌∷◌, ◌++◌, length, sym, ap, ◌∙◌, subst, arith, All}
+use Rattle.std.specs.Prelude.{sum_by, nat_le, Contains}
 use Rattle.std.proofs.lemmas.List.{map-append}
 use Rattle.std.proofs.lemmas.List.Elements.{All-pop, All-push}
-use Rattle.std.proofs.lemmas.List.Sums.{sum_by_push}
+use Rattle.std.proofs.lemmas.List.Sums.{sum_by_push, sum_by-cons}
 use Rattle.atomic_table.specs.declared.shared.Seat.{Seat}
 use Rattle.atomic_table.specs.Seated.{TableId}
 use Rattle.cq_board.specs.declared.view.View.{View}
 use Rattle.cq_board.specs.declared.seat.Board.{Board}
 use Rattle.cq_board.specs.declared.seat.ClaimSeat.{ClaimSeat}
-use Rattle.cq_board.specs.Draws.{times, times_in, once_below}
-use Rattle.cq_board.specs.Views.{share, joined, IsKept, one_pass_less, one_pass}
-use Rattle.cq_board.proofs.Increasing.{count_merged}
+use Rattle.cq_board.specs.Draws.{times, times_in, once_below, IsDrawnOnce}
+use Rattle.cq_board.specs.Views.{late, share, joined, IsKept, one_pass_less, one_pass}
+use Rattle.cq_board.proofs.Increasing.{count_merged, one_if, times_first, times_more}
+use Rattle.cq_board.proofs.Drawing.{below_next}
 use Rattle.cq_board.proofs.Steps.{joined_share, has_all_numbers}
 use mathlib.Core.Option.{some, some-injective, some-ne-none}
 use lib.ListN.{get_elem?}
@@ -122,3 +123,32 @@ dealt_more id n seats me next turn claims more s before so_far table view own_ta
       nothing = ap (λ m. m.0.drawn) own_view;
       may_draw = λ ended. let p : s.seat.me.0.passes ≡ 1 = ap (λ m. m.0.passes) own_view in absurd (omega arith);
     }
+
+-- a list with a number not below n
+late_there : (n : ℕ) (xs : List ℕ) → 0 < late n xs → (x : ℕ) × (n ≤ x) × (0 < times x xs)
+late_there n [] more = absurd (omega arith)
+late_there n (y ∷ ys) more = by_order (nat_le n y) refl (late_there n ys)
+  where
+    by_order : (b : Bool) → nat_le n y ≡ b → (0 < late n ys → (x : ℕ) × (n ≤ x) × (0 < times x ys)) → (x : ℕ) × (n ≤ x) × (0 < times x (y ∷ ys))
+    by_order true e later = (y, leb-true n y e, times_first y ys)
+    by_order false e later =
+        let c = sum_by-cons (λ x. one_if (nat_le n x)) y ys in let f : one_if (nat_le n y) ≡ 0 = ap one_if e in
+        let r = later (omega arith) in let m = times_more r.0 y ys in (r.0, r.1, omega (arith, r.2))
+
+-- a seat that has ended drew a number not below the board's
+pub word_past : (b : Board) (seats : List ClaimSeat) (next : ℕ) → All (IsSeatOf b) seats → IsDrawnOnce next (all_drawn seats) → (s : ClaimSeat) → Contains seats s → HasEnded s
+    → b.table.shared.key.numbers ≤ next
+word_past b seats next all once s is_in ended =
+    let of : IsSeatOf b s = subst (IsSeatOf b) is_in.2 (all is_in.0 s is_in.1) in
+    let one : share b.table.shared.key.numbers s.seat.me.0 ≡ 1 = subst (λ (n : ℕ). share n s.seat.me.0 ≡ 1) of.numbers s.one_share in
+    let r = late_there b.table.shared.key.numbers (drawn s) (omega arith) in
+    let t = one_stands r.0 seats is_in.0 is_in.1 is_in.2 in
+    let low = below_next next (all_drawn seats) r.0 once (omega (arith, t, r.2)) in omega (arith, low, r.1)
+  where
+    one_stands : (x : ℕ) (ss : List ClaimSeat) (k : ℕ) → k < length ss → get_or ss k s ≡ s → times x (drawn s) ≤ times_in x (all_drawn ss)
+    one_stands x [] k low e = absurd (omega arith)
+    one_stands x (u ∷ ss) zero low e = let c = sum_by-cons (times x) (drawn u) (all_drawn ss) in let h : times x (drawn u) ≡ times x (drawn s) = ap (λ v. times x (drawn v)) e in omega arith
+    one_stands x (u ∷ ss) (suc k) low e = let c = sum_by-cons (times x) (drawn u) (all_drawn ss) in let r = one_stands x ss k (omega arith) e in omega arith
+
+pub all_once : (n next : ℕ) (lists : List (List ℕ)) → n ≤ next → IsDrawnOnce next lists → (x : ℕ) → x < n → times_in x lists ≡ 1
+all_once n next lists most once x low = once x ∙ ap one_if (lt-ltb x next (omega arith))

@@ -1,3 +1,4 @@
+pub mod Drawing
 pub mod Increasing
 mod Totals
 pub mod Steps

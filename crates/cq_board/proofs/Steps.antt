@@ -14,24 +14,13 @@ use Rattle.cq_board.specs.declared.view.View.{View}
 use Rattle.cq_board.specs.declared.view.Terms.{Terms}
 use Rattle.cq_board.specs.Draws.{times, times_in, once_below, IsDrawnOnce}
 use Rattle.cq_board.specs.Views.{spent, first_view, late, share, drawn_by, IsInPlay, IsKept, drawing, one_pass_less, one_pass, merged, joined}
+use Rattle.std.proofs.lemmas.List.{map-set}
+use Rattle.cq_board.proofs.Drawing.{pushed_increases, draw_stays_sound, first_is_sound}
 use Rattle.cq_board.proofs.Increasing.{rising, increasing, one_if, rising_push, count_merged, rising_merged}
 use Rattle.cq_board.proofs.Totals.{sum_set, one_of_sum, two_of_sum, sum_map, sum_rises, at_mapped, has_all}
 
--- x is below the number after n where it is below n or n itself
-once_next : (n x : ℕ) → once_below (n + 1) x ≡ once_below n x + one_if (n == x)
-once_next n x = by_order (nat_lt x n) (n == x) refl (eqb_tells n x) refl
-  where
-    by_order : (below here : Bool) → nat_lt x n ≡ below → (((n == x) ≡ true) × (n ≡ x)) ⊎ (((n == x) ≡ false) × (n ≢ x)) → (n == x) ≡ here → once_below (n + 1) x ≡ one_if below + one_if here
-    by_order true here b (inl e) h = let l = ltb-true x n b in let s = e.1 in absurd (omega arith)
-    by_order true here b (inr e) h = let l = ltb-true x n b in let a = ap one_if (lt-ltb x (n + 1) (omega arith)) in let c = ap one_if (sym h ∙ e.0) in omega arith
-    by_order false here b (inl e) h = let s = e.1 in let a = ap one_if (lt-ltb x (n + 1) (omega arith)) in let c = ap one_if (sym h ∙ e.0) in omega arith
-    by_order false here b (inr e) h = let l = ltb-false x n b in let s = e.1 in let a = ap one_if (le-ltb x (n + 1) (omega (arith, s))) in let c = ap one_if (sym h ∙ e.0) in omega arith
-
 late_push : (n : ℕ) (xs : List ℕ) (x : ℕ) → late n (xs ++ x ∷ []) ≡ late n xs + late n (x ∷ [])
 late_push n xs x = sum_by-append (λ y. one_if (nat_le n y)) xs (x ∷ [])
-
-times_push : (y : ℕ) (xs : List ℕ) (x : ℕ) → times y (xs ++ x ∷ []) ≡ times y xs + one_if (x == y)
-times_push y xs x = sum_by_push (λ z. one_if (z == y)) xs x
 
 late_one : (n x : ℕ) → ((n ≤ x) × (late n (x ∷ []) ≡ 1)) ⊎ ((x < n) × (late n (x ∷ []) ≡ 0))
 late_one n x = by_order (nat_le n x) refl
@@ -44,17 +33,6 @@ set_word : (words : List ℕ) (n : ℕ) → length words ≡ 1 → set words 0 n
 set_word [] n one = absurd (omega arith)
 set_word (w ∷ []) n one = refl
 set_word (w ∷ v ∷ words) n one = absurd (omega arith)
-
--- what a seat drew is below the word
-below_word : (next : ℕ) (views : List View) (id : ℕ) (v : View) → IsDrawnOnce next (drawn_by views) → get_elem? views id ≡ some v → (x : ℕ) → 0 < times x v.drawn → x < next
-below_word next views id v once at x stands = by_order (nat_lt x next) refl
-  where
-    some_there : 0 < times_in x (drawn_by views)
-    some_there = let e = sum_map (times x) (λ (u : View). u.drawn) views in let o = one_of_sum (λ (u : View). times x u.drawn) views id v at in omega arith
-
-    by_order : (b : Bool) → nat_lt x next ≡ b → x < next
-    by_order true e = ltb-true x next e
-    by_order false e = let f : once_below next x ≡ 0 = ap one_if e in let o = once x in let t = some_there in absurd (omega arith)
 
 -- the lists of a changed list of views increase, where each view's does
 lists_increase : (views : List View) → ((id : ℕ) (v : View) → get_elem? views id ≡ some v → IsStrictlyIncreasing v.drawn) → (id : ℕ) (list : List ℕ) → get_elem? (drawn_by views) id ≡ some list → IsStrictlyIncreasing list
@@ -80,8 +58,7 @@ drawing_share n v x same pass =
 
 draw_increases : (terms : Terms) (words : List ℕ) (views : List View) (id : ℕ) (v : View) → IsKept terms words views → get_elem? views id ≡ some v
     → IsStrictlyIncreasing (v.drawn ++ get_or words 0 0 ∷ [])
-draw_increases terms words views id v kept at =
-    increasing _ (rising_push v.drawn (get_or words 0 0) (below_word (get_or words 0 0) views id v kept.sound.once at) (rising _ (view_increases terms words views kept id v at)))
+draw_increases terms words views id v kept at = pushed_increases (get_or words 0 0) (drawn_by views) id v.drawn kept.sound (at_map (λ (u : View). u.drawn) views id v at)
 
 draw_keeps : (terms : Terms) (words : List ℕ) (views : List View) (id : ℕ) (v : View) → v.numbers ≡ terms.numbers → 0 < v.passes → IsKept terms words views
     → get_elem? views id ≡ some v → IsKept terms ((get_or words 0 0 + 1) ∷ []) (set views id (drawing v (get_or words 0 0)))
@@ -89,13 +66,11 @@ draw_keeps terms words views id v same pass kept at = record {
   limits = kept.limits;
   word = refl;
   alike = each_set (IsSpentOrInPlay terms) views id (drawing v next) kept.alike (inr in_play);
-  sound = record {
-    increasing = lists_increase (set views id (drawing v next)) (each_set (λ (u : View). IsStrictlyIncreasing u.drawn) views id (drawing v next) (view_increases terms words views kept) (draw_increases terms words views id v kept at));
-    once = λ x.
-        let a = sum_map (times x) (λ (u : View). u.drawn) views in
-        let b = sum_map (times x) (λ (u : View). u.drawn) (set views id (drawing v next)) in
-        let c = sum_set (λ (u : View). times x u.drawn) views id v (drawing v next) at in
-        let d = times_push x v.drawn next in let e = once_next next x in let f = kept.sound.once x in omega arith;
+  sound = draw_stays_sound id next (drawn_by views) (next + 1) (drawn_by (set views id (drawing v next))) kept.sound record {
+    list = v.drawn;
+    has = at_map (λ (u : View). u.drawn) views id v at;
+    drawn = map-set (λ (u : View). u.drawn) views id (drawing v next);
+    one_more = refl;
   };
   shares = let s = sum_set (share terms.numbers) views id v (drawing v next) at in let d = drawing_share terms.numbers v next same pass in let k = kept.shares in omega arith;
   room =
@@ -229,7 +204,7 @@ opens terms few some_seats not_many = record {
   limits = (few, not_many);
   word = refl;
   alike = one;
-  sound = record { increasing = one_list; once = λ x. ap one_if (sym (le-ltb x 0 (omega arith))) };
+  sound = first_is_sound 0 ([] ∷ []) record { zero_next = refl; empty = one_list };
   shares = omega arith;
   room = omega arith;
 }
@@ -238,8 +213,8 @@ opens terms few some_seats not_many = record {
     one zero v at = subst (IsSpentOrInPlay terms) (some-injective _ _ at) (inr record { numbers = refl; seats = refl; part = omega arith })
     one (suc id) v at = absurd (some-ne-none v (sym at))
 
-    one_list : (id : ℕ) (list : List ℕ) → get_elem? ([] ∷ []) id ≡ some list → IsStrictlyIncreasing list
-    one_list zero list at = subst IsStrictlyIncreasing (some-injective _ _ at) (λ k within. absurd (omega arith))
+    one_list : (id : ℕ) (list : List ℕ) → get_elem? ([] ∷ []) id ≡ some list → list ≡ []
+    one_list zero list at = sym (some-injective _ _ at)
     one_list (suc id) list at = absurd (some-ne-none list (sym at))
 
 -- a view with the share of all seats has all numbers

@@ -1,7 +1,7 @@
 -- Workers that draw the numbers from 0 on.
 -- A state is the number that is drawn next and, for each worker, the list of the numbers that it drew. In
 -- the one event, a worker draws: the next number goes to the end of its list, and one more is next.
-use Rattle.std.specs.Prelude.{◌≡◌, ℕ, List, ◌==◌, if◌then◌else◌, nat_lt, sum_by, count_by}
+use Rattle.std.specs.Prelude.{◌≡◌, ℕ, ◌+◌, List, [], ◌∷◌, ◌++◌, ◌==◌, if◌then◌else◌, nat_lt, slice_set, sum_by, count_by}
 use Rattle.std.specs.List.Sorted.{IsStrictlyIncreasing}
 use mathlib.Core.Option.{some}
 use lib.ListN.{get_elem?}
@@ -26,3 +26,15 @@ IsDrawnOnce next lists = (x : ℕ) → times_in x lists ≡ once_below next x
 pub record IsSound (next : ℕ) (lists : List (List ℕ)) : Type 0 where
   pub increasing : (worker : ℕ) (list : List ℕ) → get_elem? lists worker ≡ some list → IsStrictlyIncreasing list
   pub once : IsDrawnOnce next lists
+
+-- the first state: no worker drew anything
+pub record IsFirst (next : ℕ) (lists : List (List ℕ)) : Type 0 where
+  pub zero_next : next ≡ 0
+  pub empty : (worker : ℕ) (list : List ℕ) → get_elem? lists worker ≡ some list → list ≡ []
+
+-- the event: a worker draws
+pub record IsDraw (worker next : ℕ) (lists : List (List ℕ)) (next_after : ℕ) (lists_after : List (List ℕ)) : Type 0 where
+  pub list : List ℕ
+  pub has : get_elem? lists worker ≡ some list
+  pub drawn : lists_after ≡ slice_set lists worker (list ++ next ∷ [])
+  pub one_more : next_after ≡ next + 1

@@ -1,7 +1,8 @@
 //! How a board is made, drawn from and closed.
-ghost use Rattle.std.specs.Prelude.{◌≡◌, ℕ, ◌+◌, ◌^◌, ◌<◌, ◌≤◌, ◌++◌, ◌∷◌, [], All, length, IfOk, IfSome, IsOk, None};
-ghost use Rattle.cq_board.specs.Draws.{IsDrawnOnce};
+ghost use Rattle.std.specs.Prelude.{◌≡◌, ℕ, ◌+◌, ◌^◌, ◌<◌, ◌≤◌, ◌++◌, ◌∷◌, [], All, Contains, length, IfOk, IfSome, IsOk, None};
+ghost use Rattle.cq_board.specs.Draws.{IsDrawnOnce, times_in};
 ghost use Rattle.std.specs.List.Sorted.{IsStrictlyIncreasing};
+ghost use Rattle.cq_board.specs.declared.seat.ClaimSeat.{ClaimSeat as ASeat};
 ghost use Rattle.cq_board.specs.Seats.{numbers_of, seats_of, IsSeatOf, drawn, all_drawn, HasEnded};
 
 use crate::seat::{Board, ClaimSeat};
@@ -57,11 +58,15 @@ impl Board {
     }
 
     /// Ends the draws, and answers the number that would be drawn next: each number below it was drawn once, by one of the seats.
+    /// Where one of them was answered None, all of the board's numbers were drawn.
     pub fn close(self, seats: Vec<ClaimSeat>) -> Result<u64, NoMemory>
         requires seats { All (IsSeatOf self) seats.items }
         requires all { length seats.items ≡ seats_of self }
         ensures answer { IsOk result }
         ensures once { IfOk result (λ next. IsDrawnOnce next (all_drawn seats.items)) }
+        ensures ended { IfOk result (λ next. (s : ASeat) → Contains seats.items s → HasEnded s → numbers_of self ≤ next) }
+        ensures whole { IfOk result (λ next. (s : ASeat) → Contains seats.items s → HasEnded s
+            → (x : ℕ) → x < numbers_of self → times_in x (all_drawn seats.items) ≡ 1) }
     {
         let mut seats = seats;
         let Some(ClaimSeat { seat: mut whole }) = seats.pop() else {

@@ -2,7 +2,9 @@
 #![tactic(auto)]
 
 mod board;
+mod laws;
 mod seat;
 mod view;
 
+pub use laws::draws_stay_sound;
 pub use seat::{Board, ClaimSeat};

@@ -1,5 +1,7 @@
 pub mod Digits
 pub mod Entries
+pub mod GreatestLaw
 pub mod Growth
 pub mod Moves
 pub mod SpellingLaw
+pub mod WithinLaw

@@ -12,3 +12,4 @@ pub mod Refusals
 pub mod Spelling
 pub mod Text
 pub mod Told
+pub mod Within

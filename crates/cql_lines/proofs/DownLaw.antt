@@ -3,12 +3,12 @@ use Rattle.std.proofs.Common.{◌≡◌, ℕ, ◌+◌, ◌<◌, max, Bool, false
 use Rattle.std.specs.Prelude.{◌⊎◌}
 use Rattle.std.proofs.lemmas.Bool.{cases_lt, cases_eq}
 use Rattle.cql_lines.specs.declared.automaton.Rule.{Rule}
-use Rattle.cql_lines.specs.declared.table.Spot.{Spot}
+use Rattle.cql_lines.specs.declared.shape.Spot.{Spot}
 use Rattle.cql_lines.specs.Reads.{FromPlace}
 use Rattle.cql_lines.proofs.Below.{Below}
 use Rattle.cql_lines.specs.Lengths.{IsGreatestOrZero, at}
 use Rattle.cql_lines.specs.Shapes.{joined, Edge}
-use Rattle.cql_lines.specs.Values.{holds}
+use Rattle.cql_lines.specs.Tables.{holds}
 use Rattle.cql_lines.specs.Down.{cell, Late, Stands, Passed}
 use Rattle.cql_lines.proofs.Measures.{Measure, Keeps, Joins}
 

@@ -1,5 +1,5 @@
 -- From what the places read to what the pattern spells.
-use Rattle.std.proofs.Common.{◌≡◌, ℕ, zero, suc, ◌+◌, ◌-◌, ◌*◌, ◌<◌, ◌≤◌, List, [], ◌∷◌, ◌++◌, length, sym, ap, ◌∙◌, subst, Bool, true, false, Option, Some, None, inl, inr, arith, slice_get}
+use Rattle.std.proofs.Common.{◌≡◌, ℕ, zero, suc, ◌+◌, ◌-◌, ◌*◌, ◌<◌, ◌≤◌, List, [], ◌∷◌, ◌++◌, length, refl, sym, ap, ◌∙◌, subst, Bool, true, false, Option, Some, None, inl, inr, arith, slice_get}
 use Rattle.std.specs.Prelude.{◌⊎◌}
 use Rattle.cql_lines.specs.declared.automaton.Next.{Next}
 use Rattle.cql_lines.specs.declared.automaton.Rule.{Rule}
@@ -9,13 +9,15 @@ use Rattle.cql_lines.specs.Building.{begins, null_times, nullable, size, firsts_
 use Rattle.cql_lines.proofs.Built.{Built}
 use Rattle.cql_lines.specs.Ways.{Line}
 use Rattle.cq_outside.specs.Greatest.{IsGreatest}
+use Rattle.cq_outside.proofs.WithinLaw.{is_from_to, from_to_is}
 use Rattle.cql_lines.specs.Reads.{Read}
-use Rattle.cql_lines.specs.Values.{AnswerAt, holds, Allows}
+use Rattle.cql_lines.specs.Tables.{holds}
+use Rattle.cql_lines.specs.Values.{AnswerAt, allows}
 use Rattle.cql_lines.specs.Shapes.{is_searched}
-use Rattle.cql_lines.specs.declared.table.Spot.{Spot}
+use Rattle.cql_lines.specs.declared.shape.Spot.{Spot}
 use Rattle.cql_lines.specs.TreeOf.{plain_tree}
 use Rattle.cql_lines.specs.declared.automaton.Automaton.{Automaton}
-use Rattle.cql_lines.specs.declared.table.Extent.{Extent}
+use Rattle.cql_lines.specs.declared.shape.Limits.{Limits}
 use Rattle.cql_lines.specs.Automata.{places, IsAutomatonOf}
 use Rattle.cql_lines.specs.Sets.{Between}
 use Rattle.cql_lines.proofs.BuildingLaw.{Sit, rows_built}
@@ -124,19 +126,19 @@ module _ (words : List ℕ) (a : Automaton) (p : Pattern ℕ) (of : IsAutomatonO
   read_of : (n k : ℕ) → Line (holds words) E p n k → Read (holds words) a.rules.items E a.first n k
   read_of n k l = (l.0, l.1, l.2, (of.reads (holds words) n l.0).1 l.3)
 
-  pub value_of_all : (rules : List Rule) (extent : Option Extent) → rules ≡ a.rules.items → extent ≡ None → (n : ℕ) (o : Option ℕ) → AnswerAt (is_searched spots n) (Read (holds words) rules E a.first n) o
-      → AnswerAt (is_searched spots n) (λ k. Line (holds words) E p n k × Allows extent k) o
+  pub value_of_all : (rules : List Rule) (extent : Option Limits) → rules ≡ a.rules.items → extent ≡ None → (n : ℕ) (o : Option ℕ) → AnswerAt (is_searched spots n) (Read (holds words) rules E a.first n) o
+      → AnswerAt (is_searched spots n) (λ k. Line (holds words) E p n k × (allows extent k ≡ true)) o
   value_of_all rules extent is all n o answer =
-      subst (λ e. AnswerAt (is_searched spots n) (λ k. Line (holds words) E p n k × Allows e k) o) (sym all)
-      (same_answer (is_searched spots n) (Read (holds words) a.rules.items E a.first n) (λ k. Line (holds words) E p n k × Allows None k) o
-      (λ k r. (line_of n k r, tt)) (λ k l. read_of n k l.0)
+      subst (λ e. AnswerAt (is_searched spots n) (λ k. Line (holds words) E p n k × (allows e k ≡ true)) o) (sym all)
+      (same_answer (is_searched spots n) (Read (holds words) a.rules.items E a.first n) (λ k. Line (holds words) E p n k × (allows None k ≡ true)) o
+      (λ k r. (line_of n k r, refl)) (λ k l. read_of n k l.0)
       (subst (λ rs. AnswerAt (is_searched spots n) (Read (holds words) rs E a.first n) o) is answer))
 
-  pub value_of_some : (rules : List Rule) (extent : Option Extent) (x : Extent) → rules ≡ a.rules.items → extent ≡ Some x → (n : ℕ) (o : Option ℕ)
+  pub value_of_some : (rules : List Rule) (extent : Option Limits) (x : Limits) → rules ≡ a.rules.items → extent ≡ Some x → (n : ℕ) (o : Option ℕ)
       → AnswerAt (is_searched spots n) (Between x.least x.most (Read (holds words) rules E a.first n)) o
-      → AnswerAt (is_searched spots n) (λ k. Line (holds words) E p n k × Allows extent k) o
+      → AnswerAt (is_searched spots n) (λ k. Line (holds words) E p n k × (allows extent k ≡ true)) o
   value_of_some rules extent x is some n o answer =
-      subst (λ e. AnswerAt (is_searched spots n) (λ k. Line (holds words) E p n k × Allows e k) o) (sym some)
-      (same_answer (is_searched spots n) (Between x.least x.most (Read (holds words) a.rules.items E a.first n)) (λ k. Line (holds words) E p n k × Allows (Some x) k) o
-      (λ k r. (line_of n k r.0, (r.1, r.2))) (λ k l. (let h = l.1 in (read_of n k l.0, h.0, h.1)))
+      subst (λ e. AnswerAt (is_searched spots n) (λ k. Line (holds words) E p n k × (allows e k ≡ true)) o) (sym some)
+      (same_answer (is_searched spots n) (Between x.least x.most (Read (holds words) a.rules.items E a.first n)) (λ k. Line (holds words) E p n k × (allows (Some x) k ≡ true)) o
+      (λ k r. (line_of n k r.0, from_to_is x.least x.most k r.1 r.2)) (λ k l. (let h = is_from_to x.least x.most k l.1 in (read_of n k l.0, h.0, h.1)))
       (subst (λ rs. AnswerAt (is_searched spots n) (Between x.least x.most (Read (holds words) rs E a.first n)) o) is answer))

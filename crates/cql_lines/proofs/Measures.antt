@@ -5,7 +5,7 @@ use Rattle.cql_lines.specs.declared.automaton.Rule.{Rule}
 use Rattle.cql_lines.specs.Reads.{FromPlace}
 use Rattle.cql_lines.proofs.Below.{Below}
 use Rattle.cql_lines.specs.Lengths.{is_set}
-use Rattle.cql_lines.specs.Values.{holds}
+use Rattle.cql_lines.specs.Tables.{holds}
 
 abbrev pub Measure : Type 1
 Measure = (ℕ → Type 0) → ℕ → Type 0

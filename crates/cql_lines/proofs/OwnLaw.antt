@@ -7,7 +7,7 @@ use Rattle.cql_lines.specs.Reads.{FromPlace, Read}
 use Rattle.cql_lines.proofs.Below.{Below}
 use Rattle.cql_lines.specs.Lengths.{IsGreatestOrZero, is_set, at, greatest_in, farther, place_value}
 use Rattle.cq_outside.specs.Greatest.{IsGreatest}
-use Rattle.cql_lines.specs.Values.{holds}
+use Rattle.cql_lines.specs.Tables.{holds}
 use Rattle.cql_lines.specs.Down.{found}
 use Rattle.cql_lines.proofs.WaysLaw.{place_here, place_off, read_here}
 use Rattle.cql_lines.proofs.Measures.{Measure, HasNone, Goes}

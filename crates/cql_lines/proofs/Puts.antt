@@ -3,9 +3,9 @@ use Rattle.std.proofs.Common.{◌≡◌, ◌≢◌, ℕ, zero, suc, ◌<◌, ◌
 use Rattle.std.specs.Prelude.{if◌then◌else◌, IfSome}
 use Rattle.std.proofs.lemmas.Bool.{cases_eq}
 use Rattle.std.proofs.lemmas.List.{get_or-set_same, get_or-set_other}
-use Rattle.cql_lines.specs.declared.table.Spot.{Spot}
+use Rattle.cql_lines.specs.declared.shape.Spot.{Spot}
 use Rattle.cql_lines.specs.Lengths.{is_set, at}
-use Rattle.cql_lines.specs.Values.{holds}
+use Rattle.cql_lines.specs.Tables.{holds}
 use Rattle.cql_lines.specs.Shapes.{joined, joined_by, is_searched}
 
 pub put_here : (words : List ℕ) (node word atom : ℕ) → node < length words → is_set word atom ≡ true → holds (slice_set words node word) atom node ≡ true

@@ -4,12 +4,13 @@ use Rattle.std.specs.Prelude.{replicate}
 use Rattle.std.proofs.lemmas.Bool.{cases_eq}
 use Rattle.std.proofs.lemmas.List.{get_or-set_same, get_or-set_other, length-set, length-replicate}
 use Rattle.cql_lines.specs.declared.automaton.Rule.{Rule}
-use Rattle.cql_lines.specs.declared.table.Spot.{Spot}
+use Rattle.cql_lines.specs.declared.shape.Spot.{Spot}
 use Rattle.cql_lines.specs.Reads.{FromPlace}
 use Rattle.cql_lines.proofs.Below.{Below}
 use Rattle.cql_lines.specs.Lengths.{is_set, at}
 use Rattle.cql_lines.specs.Shapes.{joined, is_searched, Edge}
-use Rattle.cql_lines.specs.Values.{holds, AnswerAt}
+use Rattle.cql_lines.specs.Tables.{holds}
+use Rattle.cql_lines.specs.Values.{AnswerAt}
 use Rattle.cql_lines.specs.Down.{cell}
 use Rattle.cql_lines.specs.Up.{StandsUp, IsAbove}
 use Rattle.cql_lines.proofs.Measures.{Measure, Keeps, HasNone, Goes}

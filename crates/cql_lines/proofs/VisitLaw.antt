@@ -6,13 +6,14 @@ use Rattle.std.proofs.lemmas.Bool.{cases_eq}
 use Rattle.std.proofs.lemmas.Option.{slice_get_past}
 use Rattle.std.proofs.lemmas.List.{get_or-set_same, get_or-set_other, length-replicate}
 use Rattle.cql_lines.specs.declared.automaton.Rule.{Rule}
-use Rattle.cql_lines.specs.declared.table.Spot.{Spot}
+use Rattle.cql_lines.specs.declared.shape.Spot.{Spot}
 use Rattle.cql_lines.specs.Reads.{FromPlace}
 use Rattle.cql_lines.proofs.Below.{Below}
 use Rattle.cql_lines.specs.Lengths.{is_set, at}
 use Rattle.cql_lines.specs.Shapes.{joined, joined_by, searched_by, is_searched, Edge}
 use Rattle.cq_outside.specs.Greatest.{IsGreatest}
-use Rattle.cql_lines.specs.Values.{holds, AnswerAt}
+use Rattle.cql_lines.specs.Tables.{holds}
+use Rattle.cql_lines.specs.Values.{AnswerAt}
 use Rattle.cql_lines.specs.Down.{cell, Late, Stands, found, Passed}
 use Rattle.cql_lines.proofs.DownLaw.{whole_row, stands_more, stands_same}
 use Rattle.cql_lines.proofs.OwnLaw.{own_known}

@@ -1,10 +1,10 @@
 -- What the rows of lengths tell, as the private functions fill them from the last node to the first.
 use Rattle.std.specs.Prelude.{◌≡◌, ℕ, zero, suc, ◌+◌, ◌≤◌, List, [], Bool, false, Option, Some, None, length, get_or}
 use Rattle.cql_lines.specs.declared.automaton.Rule.{Rule}
-use Rattle.cql_lines.specs.declared.table.Spot.{Spot}
+use Rattle.cql_lines.specs.declared.shape.Spot.{Spot}
 use Rattle.cql_lines.specs.Reads.{FromPlace}
 use Rattle.cql_lines.specs.Lengths.{at}
-use Rattle.cql_lines.specs.Values.{holds}
+use Rattle.cql_lines.specs.Tables.{holds}
 use Rattle.cql_lines.specs.Shapes.{joined, Edge}
 
 abbrev pub cell : List (List ℕ) → ℕ → ℕ → ℕ

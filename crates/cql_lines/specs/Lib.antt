@@ -11,3 +11,6 @@ pub mod Ways
 pub mod PatternTrees
 pub mod Automata
 pub mod Values
+pub mod Tables
+pub mod Trees
+pub mod Fits

@@ -1,11 +1,11 @@
 -- What the rows of lengths tell, as the private functions fill them from the first node to the last.
 use Rattle.std.specs.Prelude.{◌≡◌, ℕ, ◌<◌, List, Bool, true, Option, Some, None, length}
 use Rattle.cql_lines.specs.declared.automaton.Rule.{Rule}
-use Rattle.cql_lines.specs.declared.table.Spot.{Spot}
+use Rattle.cql_lines.specs.declared.shape.Spot.{Spot}
 use Rattle.cql_lines.specs.Reads.{FromPlace}
 use Rattle.cql_lines.specs.Lengths.{at}
 use Rattle.cql_lines.specs.Shapes.{is_searched, Edge}
-use Rattle.cql_lines.specs.Values.{holds}
+use Rattle.cql_lines.specs.Tables.{holds}
 use Rattle.cql_lines.specs.Down.{cell}
 
 pub record StandsUp (Known : (ℕ → Type 0) → ℕ → Type 0) (words : List ℕ) (rules : List Rule) (primary : Bool)

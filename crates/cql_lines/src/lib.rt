@@ -5,17 +5,19 @@
 pub mod automaton;
 mod build;
 mod lines;
-mod looks;
 pub mod pattern;
 mod plain;
 mod sets;
+pub mod shape;
 pub mod table;
+mod tree;
 mod values;
 
 pub use automaton::Automaton;
 pub use lines::line_values;
 pub use pattern::{Pattern, Patterns};
-pub use table::{AtomTable, Shape};
+pub use shape::Shape;
+pub use table::AtomTable;
 
 #[cfg(test)]
 mod tests;

@@ -3,17 +3,20 @@ ghost use Rattle.std.specs.Prelude.{◌≡◌, ℕ, ◌+◌, ◌*◌, ◌<◌, �
 ghost use Rattle.cq_outside.specs.Spelling.{Pattern as SpelledPattern};
 ghost use Rattle.cql_lines.specs.Automata.{IsAutomatonOf, UsesBelow};
 ghost use Rattle.cql_lines.specs.Shapes.{searched_count};
+ghost use Rattle.cql_lines.specs.Tables.{atoms_of, nodes_of};
+ghost use Rattle.cql_lines.specs.Trees.{spots_of};
 ghost use Rattle.cql_lines.specs.Values.{IsValueAt};
 
 use crate::automaton::Automaton;
 use crate::sets::within;
-use crate::table::{AtomTable, Shape};
+use crate::shape::Shape;
+use crate::table::AtomTable;
 use crate::values::longest;
 use cq_outside::{NoMemory, Steps};
 use std::alloc::Global;
 use std::sync::ledger::Ledger;
 
-/// For each node the greatest length of a path from it that the pattern spells and whose length the extent allows, or None where there is
+/// For each node the greatest length of a path from it that the pattern spells and whose length the limits allow, or None where there is
 /// none or the node is not searched.
 /// A look at the table is a step: there is at most one for each atom and searched node.
 pub fn line_values<L: Ledger>(
@@ -23,12 +26,12 @@ pub fn line_values<L: Ledger>(
     shape: &Shape,
     steps: &mut Steps<L>,
 ) -> Result<Vec<Option<u32>>, NoMemory>
-    requires atoms { UsesBelow automaton.now table.now.atoms }
-    requires nodes { length table.now.words.items ≡ length shape.now.spots.items }
-    ensures count { IfOk result (λ values. length values.items ≡ length shape.now.spots.items) }
+    requires atoms { UsesBelow automaton.now (atoms_of table.now) }
+    requires nodes { nodes_of table.now ≡ length (spots_of shape.now) }
+    ensures count { IfOk result (λ values. length values.items ≡ length (spots_of shape.now)) }
     ensures values { IfOk result (λ values. (p : SpelledPattern ℕ) → IsAutomatonOf automaton.now p
-        → (n : ℕ) → n < length shape.now.spots.items → IsValueAt table.now shape.now p n (get_or values.items n None)) }
-    ensures cost { steps.new ≤ steps.old + table.now.atoms * searched_count shape.now.spots.items }
+        → (n : ℕ) → n < length (spots_of shape.now) → IsValueAt table.now shape.now p n (get_or values.items n None)) }
+    ensures cost { steps.new ≤ steps.old + atoms_of table.now * searched_count (spots_of shape.now) }
 {
     let rules = automaton.rules.as_slice();
     let first = automaton.first;

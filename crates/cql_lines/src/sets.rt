@@ -2,17 +2,20 @@
 ghost use Rattle.std.specs.Prelude.{◌≡◌, ℕ, ◌+◌, ◌*◌, ◌<◌, ◌≤◌, get_or, length, if◌then◌else◌, bit_or, slice_get, Some, None, ◌-◌, false, IfOk, replicate, true};
 ghost use Rattle.cq_outside.specs.Greatest.{IsGreatest};
 ghost use Rattle.cql_lines.specs.Down.{Passed, Stands};
-ghost use Rattle.cql_lines.specs.Values.{AnswerAt, holds};
+ghost use Rattle.cql_lines.specs.Tables.{holds};
+ghost use Rattle.cql_lines.specs.Values.{AnswerAt};
 ghost use Rattle.cql_lines.specs.Reads.{Read};
 ghost use Rattle.cql_lines.specs.Shapes.{Edge, is_searched, joined, searched_count};
 ghost use Rattle.cql_lines.specs.Up.{StandsUp, IsAbove};
+ghost use Rattle.cql_lines.specs.Fits.{Fit};
 ghost use Rattle.cql_lines.specs.Lengths.{is_set, at};
 ghost use Rattle.cql_lines.specs.Places.{when, IsIn};
 ghost use Rattle.cql_lines.specs.Sets.{IsSet, Between, shifted, union_in, place_set};
 ghost use Rattle.cql_lines.specs.declared.automaton.Rule.{Rule as RuleValue};
 
 use crate::automaton::Rule;
-use crate::table::{AtomTable, Extent, Shape};
+use crate::shape::{Limits, Shape};
+use crate::table::AtomTable;
 use crate::values::blank_values;
 use cq_outside::Steps;
 use std::alloc::{AllocError, Global};
@@ -41,7 +44,7 @@ pub fn union_of(mask: u64, row: &[u128; 64], count: usize) -> u128
     all
 }
 
-/// Each length one more.
+// Each length one more.
 fn longer(set: u128) -> u128
     ensures { result ≡ shifted set }
 {
@@ -123,7 +126,7 @@ pub fn pass_up(shape: &Shape, node: usize, rows: &mut [[u128; 64]], own: &[u128;
 pub fn visit_down<L: Ledger>(
     rules: &[Rule],
     first: u64,
-    extent: Extent,
+    extent: Limits,
     table: &AtomTable,
     shape: &Shape,
     node: usize,
@@ -131,10 +134,7 @@ pub fn visit_down<L: Ledger>(
     steps: &mut Steps<L>,
 ) -> Option<u32>
     requires most { extent.most ≤ 127 }
-    requires count { length rules.now ≤ 64 }
-    requires atoms { (i : ℕ) (r : RuleValue) → slice_get rules.now i ≡ Some r → r.atom < table.now.atoms }
-    requires words { length table.now.words.items ≡ length shape.now.spots.items }
-    requires nodes { length shape.now.spots.items ≤ 65536 }
+    requires fit { Fit rules.now table.now shape.now }
     requires node { node < length shape.now.spots.items }
     requires stands { Stands IsSet table.now.words.items rules.now shape.now.primary shape.now.spots.items
         (length shape.now.spots.items - node - 1) rows.old }
@@ -174,16 +174,13 @@ pub fn within_down<L: Ledger>(
     alloc: Global,
     rules: &[Rule],
     first: u64,
-    extent: Extent,
+    extent: Limits,
     table: &AtomTable,
     shape: &Shape,
     steps: &mut Steps<L>,
 ) -> Result<Vec<Option<u32>>, AllocError>
     requires most { extent.most ≤ 127 }
-    requires count { length rules.now ≤ 64 }
-    requires atoms { (i : ℕ) (r : RuleValue) → slice_get rules.now i ≡ Some r → r.atom < table.now.atoms }
-    requires words { length table.now.words.items ≡ length shape.now.spots.items }
-    requires nodes { length shape.now.spots.items ≤ 65536 }
+    requires fit { Fit rules.now table.now shape.now }
     ensures count { IfOk result (λ values. length values.items ≡ length shape.now.spots.items) }
     ensures values { IfOk result (λ values. (n : ℕ) → n < length shape.now.spots.items →
         AnswerAt (is_searched shape.now.spots.items n)
@@ -203,7 +200,7 @@ pub fn within_down<L: Ledger>(
     Ok(values)
 }
 
-/// The lengths of the node above, or zeros where there is none.
+// The lengths of the node above, or zeros where there is none.
 fn row_above(shape: &Shape, node: usize, rows: &[[u128; 64]]) -> [u128; 64]
     requires node { node < length shape.now.spots.items }
     requires rows { length rows.now ≡ length shape.now.spots.items }
@@ -219,7 +216,7 @@ fn row_above(shape: &Shape, node: usize, rows: &[[u128; 64]]) -> [u128; 64]
 pub fn visit_up<L: Ledger>(
     rules: &[Rule],
     first: u64,
-    extent: Extent,
+    extent: Limits,
     table: &AtomTable,
     shape: &Shape,
     node: usize,
@@ -227,10 +224,7 @@ pub fn visit_up<L: Ledger>(
     steps: &mut Steps<L>,
 ) -> Option<u32>
     requires most { extent.most ≤ 127 }
-    requires count { length rules.now ≤ 64 }
-    requires atoms { (i : ℕ) (r : RuleValue) → slice_get rules.now i ≡ Some r → r.atom < table.now.atoms }
-    requires words { length table.now.words.items ≡ length shape.now.spots.items }
-    requires nodes { length shape.now.spots.items ≤ 65536 }
+    requires fit { Fit rules.now table.now shape.now }
     requires node { node < length shape.now.spots.items }
     requires stands { StandsUp IsSet table.now.words.items rules.now shape.now.primary shape.now.spots.items node rows.old }
     ensures stands { StandsUp IsSet table.now.words.items rules.now shape.now.primary shape.now.spots.items (node + 1) rows.new }
@@ -259,16 +253,13 @@ pub fn within_up<L: Ledger>(
     alloc: Global,
     rules: &[Rule],
     first: u64,
-    extent: Extent,
+    extent: Limits,
     table: &AtomTable,
     shape: &Shape,
     steps: &mut Steps<L>,
 ) -> Result<Vec<Option<u32>>, AllocError>
     requires most { extent.most ≤ 127 }
-    requires count { length rules.now ≤ 64 }
-    requires atoms { (i : ℕ) (r : RuleValue) → slice_get rules.now i ≡ Some r → r.atom < table.now.atoms }
-    requires words { length table.now.words.items ≡ length shape.now.spots.items }
-    requires nodes { length shape.now.spots.items ≤ 65536 }
+    requires fit { Fit rules.now table.now shape.now }
     ensures count { IfOk result (λ values. length values.items ≡ length shape.now.spots.items) }
     ensures values { IfOk result (λ values. (n : ℕ) → n < length shape.now.spots.items →
         AnswerAt (is_searched shape.now.spots.items n)
@@ -292,16 +283,13 @@ pub fn within<L: Ledger>(
     alloc: Global,
     rules: &[Rule],
     first: u64,
-    extent: Extent,
+    extent: Limits,
     table: &AtomTable,
     shape: &Shape,
     steps: &mut Steps<L>,
 ) -> Result<Vec<Option<u32>>, AllocError>
     requires most { extent.most ≤ 127 }
-    requires count { length rules.now ≤ 64 }
-    requires atoms { (i : ℕ) (r : RuleValue) → slice_get rules.now i ≡ Some r → r.atom < table.now.atoms }
-    requires words { length table.now.words.items ≡ length shape.now.spots.items }
-    requires nodes { length shape.now.spots.items ≤ 65536 }
+    requires fit { Fit rules.now table.now shape.now }
     ensures count { IfOk result (λ values. length values.items ≡ length shape.now.spots.items) }
     ensures values { IfOk result (λ values. (n : ℕ) → n < length shape.now.spots.items →
         AnswerAt (is_searched shape.now.spots.items n)

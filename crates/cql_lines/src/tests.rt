@@ -4,6 +4,8 @@ ghost use Rattle.cql_lines.specs.Automata.{places};
 ghost use Rattle.cql_lines.specs.Building.{AtomsBelow};
 ghost use Rattle.cql_lines.specs.PatternTrees.{pattern_tree};
 ghost use Rattle.cql_lines.specs.Shapes.{searched_count};
+ghost use Rattle.cql_lines.specs.Tables.{atoms_of, nodes_of};
+ghost use Rattle.cql_lines.specs.Trees.{spots_of};
 
 use crate::{AtomTable, Automaton, Pattern, Patterns, Shape, line_values};
 use cq_outside::{NoMemory, Steps};
@@ -35,7 +37,7 @@ fn part(alloc: Global, atom: u32, often: Often) -> Result<Pattern, NoMemory>
     }
 }
 
-/// The line of these parts, the k-th of which has the atom k.
+// The line of these parts, the k-th of which has the atom k.
 #[tactic(auto, using(crate::proofs::Lists::sequence_tree, crate::proofs::Parts::places_more, crate::proofs::Parts::atoms_more))]
 fn line(alloc: Global, parts: &[Often]) -> Result<Pattern, NoMemory>
     requires { length parts.now ≤ 64 }
@@ -49,7 +51,7 @@ fn line(alloc: Global, parts: &[Often]) -> Result<Pattern, NoMemory>
     Ok(Pattern::Sequence(row))
 }
 
-/// The values of the line of these parts, for which each atom is looked at once a node at the most.
+// The values of the line of these parts, for which each atom is looked at once a node at the most.
 fn looked_up<L: Ledger>(
     alloc: Global,
     parts: &[Often],
@@ -58,10 +60,10 @@ fn looked_up<L: Ledger>(
     steps: &mut Steps<L>,
 ) -> Result<Vec<Option<u32>>, NoMemory>
     requires parts { length parts.now ≤ 64 }
-    requires atoms { table.now.atoms ≡ length parts.now }
-    requires nodes { length table.now.words.items ≡ length shape.now.spots.items }
-    ensures three_by_four { length parts.now ≤ 3 → searched_count shape.now.spots.items ≤ 4 → steps.new ≤ steps.old + 12 }
-    ensures all { steps.new ≤ steps.old + 64 * searched_count shape.now.spots.items }
+    requires atoms { atoms_of table.now ≡ length parts.now }
+    requires nodes { nodes_of table.now ≡ length (spots_of shape.now) }
+    ensures three_by_four { length parts.now ≤ 3 → searched_count (spots_of shape.now) ≤ 4 → steps.new ≤ steps.old + 12 }
+    ensures all { steps.new ≤ steps.old + 64 * searched_count (spots_of shape.now) }
 {
     let automaton = Automaton::build(alloc, &line(alloc, parts)?)?;
     line_values(alloc, &automaton, table, shape, steps)
@@ -75,8 +77,8 @@ fn looked_up_from<L: Ledger>(
     blank: Blank,
 ) -> Result<Vec<Option<u32>>, NoMemory>
     requires parts { length parts.now ≤ 64 }
-    requires atoms { table.now.atoms ≡ length parts.now }
-    requires nodes { length table.now.words.items ≡ length shape.now.spots.items }
+    requires atoms { atoms_of table.now ≡ length parts.now }
+    requires nodes { nodes_of table.now ≡ length (spots_of shape.now) }
     requires blank { (blank.name ≡ L.name) × (blank.parts ≡ L.parts) × (0 < blank.parts) }
 {
     let mut steps = Steps::<L>::new(blank);
@@ -90,13 +92,13 @@ fn values(
     shape: &Shape,
 ) -> Result<Vec<Option<u32>>, NoMemory>
     requires parts { length parts.now ≤ 64 }
-    requires atoms { table.now.atoms ≡ length parts.now }
-    requires nodes { length table.now.words.items ≡ length shape.now.spots.items }
+    requires atoms { atoms_of table.now ≡ length parts.now }
+    requires nodes { nodes_of table.now ≡ length (spots_of shape.now) }
 {
     looked_up_from::<Brand>(alloc, parts, table, shape, Blank::new(1))
 }
 
-/// A searched node more, after its parent.
+// A searched node more, after its parent.
 fn grow<R: Abort>(rt: &R, shape: &mut Shape, parent: u32, first: bool) -> Result<(), NoMemory> {
     assert!(rt; (parent as usize) < shape.len());
     assert!(rt; shape.searched(parent as usize));
@@ -173,8 +175,8 @@ fn path_of_four<R: Abort>(
 
 fn put_all<R: Abort>(rt: &R, table: &mut AtomTable, atom: u32, nodes: &[u32]) {
     for node in nodes {
-        assert!(rt; atom < table.atoms);
-        assert!(rt; *node < table.words.len() as u32);
+        assert!(rt; atom < table.atoms());
+        assert!(rt; *node < table.nodes() as u32);
         table.put(atom, *node);
     }
 }
@@ -193,8 +195,8 @@ fn lines_have_their_greatest_lengths(rt: HostRuntime) -> Result<(), Fail> {
     for (parts, held, back, extent, want) in ROWS.iter() {
         let shape = path_of_four(&rt, rt.alloc(), *back, *extent)?;
         let table = table_of(&rt, rt.alloc(), held)?;
-        assert!(rt; parts.len() <= 64 && table.atoms as usize == parts.len());
-        assert!(rt; table.words.len() == shape.len());
+        assert!(rt; parts.len() <= 64 && table.atoms() as usize == parts.len());
+        assert!(rt; table.nodes() == shape.len());
         let found = values(rt.alloc(), parts, &table, &shape)?;
         for (value, length) in found.iter().zip(want.iter()) {
             assert_eq!(rt; value.unwrap_or(0), *length);
@@ -204,14 +206,14 @@ fn lines_have_their_greatest_lengths(rt: HostRuntime) -> Result<(), Fail> {
     Ok(())
 }
 
-/// A table of 64 atoms and 65,536 nodes: at each node those atoms hold that leave the same remainder by 8.
+// A table of 64 atoms and 65,536 nodes: at each node those atoms hold that leave the same remainder by 8.
 fn every_eighth<R: Abort>(rt: &R, alloc: Global) -> Result<AtomTable, NoMemory> {
     let mut table = AtomTable::new(alloc, 64, 65_536)?;
     for node in 0..65_536 {
         for k in 0..8 {
             let atom = 8 * k + node % 8;
-            assert!(rt; atom < table.atoms);
-            assert!(rt; node < table.words.len() as u32);
+            assert!(rt; atom < table.atoms());
+            assert!(rt; node < table.nodes() as u32);
             table.put(atom, node);
         }
     }
@@ -230,7 +232,7 @@ fn large_trees_have_their_lines(rt: HostRuntime) -> Result<(), Fail> {
         for node in 0..65_535 {
             grow(&rt, &mut shape, node / children, node % children == 0)?;
         }
-        assert!(rt; table.atoms == 64 && table.words.len() == shape.len());
+        assert!(rt; table.atoms() == 64 && table.nodes() == shape.len());
         let found = values(rt.alloc(), &parts, &table, &shape)?;
         assert_eq!(rt; found.first().copied(), Some(Some(longest)));
         assert_eq!(rt; found.last().copied(), Some(Some(1)));

@@ -1,15 +1,18 @@
 //! The greatest lengths.
 ghost use Rattle.std.specs.Prelude.{◌≡◌, ℕ, ◌+◌, ◌*◌, ◌<◌, ◌≤◌, ◌||◌, get_or, length, List, max, if◌then◌else◌, slice_get, Some, None, Option, ◌-◌, false, IfOk, replicate, true};
 ghost use Rattle.cql_lines.specs.Down.{found, Passed, Stands};
-ghost use Rattle.cql_lines.specs.Values.{AnswerAt, holds};
+ghost use Rattle.cql_lines.specs.Tables.{holds};
+ghost use Rattle.cql_lines.specs.Values.{AnswerAt};
 ghost use Rattle.cql_lines.specs.Reads.{Read};
+ghost use Rattle.cql_lines.specs.Fits.{Fit};
 ghost use Rattle.cql_lines.specs.Lengths.{IsGreatestOrZero, greatest_in, place_value, is_set, at};
 ghost use Rattle.cql_lines.specs.Shapes.{Edge, is_searched, joined, searched_count};
 ghost use Rattle.cql_lines.specs.Up.{StandsUp, IsAbove};
 ghost use Rattle.cql_lines.specs.declared.automaton.Rule.{Rule as RuleValue};
 
 use crate::automaton::Rule;
-use crate::table::{AtomTable, Shape};
+use crate::shape::Shape;
+use crate::table::AtomTable;
 use cq_outside::Steps;
 use std::alloc::{AllocError, Global};
 use std::sync::ledger::Ledger;
@@ -116,10 +119,7 @@ pub fn visit_down<L: Ledger>(
     rows: &mut [[u32; 64]],
     steps: &mut Steps<L>,
 ) -> Option<u32>
-    requires count { length rules.now ≤ 64 }
-    requires atoms { (i : ℕ) (r : RuleValue) → slice_get rules.now i ≡ Some r → r.atom < table.now.atoms }
-    requires words { length table.now.words.items ≡ length shape.now.spots.items }
-    requires nodes { length shape.now.spots.items ≤ 65536 }
+    requires fit { Fit rules.now table.now shape.now }
     requires node { node < length shape.now.spots.items }
     requires stands { Stands IsGreatestOrZero table.now.words.items rules.now shape.now.primary shape.now.spots.items
         (length shape.now.spots.items - node - 1) rows.old }
@@ -164,10 +164,7 @@ pub fn longest_down<L: Ledger>(
     shape: &Shape,
     steps: &mut Steps<L>,
 ) -> Result<Vec<Option<u32>>, AllocError>
-    requires count { length rules.now ≤ 64 }
-    requires atoms { (i : ℕ) (r : RuleValue) → slice_get rules.now i ≡ Some r → r.atom < table.now.atoms }
-    requires words { length table.now.words.items ≡ length shape.now.spots.items }
-    requires nodes { length shape.now.spots.items ≤ 65536 }
+    requires fit { Fit rules.now table.now shape.now }
     ensures count { IfOk result (λ values. length values.items ≡ length shape.now.spots.items) }
     ensures values { IfOk result (λ values. (n : ℕ) → n < length shape.now.spots.items →
         AnswerAt (is_searched shape.now.spots.items n)
@@ -186,7 +183,7 @@ pub fn longest_down<L: Ledger>(
     Ok(values)
 }
 
-/// The lengths of the node above, or zeros where there is none.
+// The lengths of the node above, or zeros where there is none.
 fn row_above(shape: &Shape, node: usize, rows: &[[u32; 64]]) -> [u32; 64]
     requires node { node < length shape.now.spots.items }
     requires rows { length rows.now ≡ length shape.now.spots.items }
@@ -208,10 +205,7 @@ pub fn visit_up<L: Ledger>(
     rows: &mut [[u32; 64]],
     steps: &mut Steps<L>,
 ) -> Option<u32>
-    requires count { length rules.now ≤ 64 }
-    requires atoms { (i : ℕ) (r : RuleValue) → slice_get rules.now i ≡ Some r → r.atom < table.now.atoms }
-    requires words { length table.now.words.items ≡ length shape.now.spots.items }
-    requires nodes { length shape.now.spots.items ≤ 65536 }
+    requires fit { Fit rules.now table.now shape.now }
     requires node { node < length shape.now.spots.items }
     requires stands { StandsUp IsGreatestOrZero table.now.words.items rules.now shape.now.primary shape.now.spots.items node rows.old }
     ensures stands { StandsUp IsGreatestOrZero table.now.words.items rules.now shape.now.primary shape.now.spots.items (node + 1) rows.new }
@@ -239,10 +233,7 @@ pub fn longest_up<L: Ledger>(
     shape: &Shape,
     steps: &mut Steps<L>,
 ) -> Result<Vec<Option<u32>>, AllocError>
-    requires count { length rules.now ≤ 64 }
-    requires atoms { (i : ℕ) (r : RuleValue) → slice_get rules.now i ≡ Some r → r.atom < table.now.atoms }
-    requires words { length table.now.words.items ≡ length shape.now.spots.items }
-    requires nodes { length shape.now.spots.items ≤ 65536 }
+    requires fit { Fit rules.now table.now shape.now }
     ensures count { IfOk result (λ values. length values.items ≡ length shape.now.spots.items) }
     ensures values { IfOk result (λ values. (n : ℕ) → n < length shape.now.spots.items →
         AnswerAt (is_searched shape.now.spots.items n)
@@ -269,10 +260,7 @@ pub fn longest<L: Ledger>(
     shape: &Shape,
     steps: &mut Steps<L>,
 ) -> Result<Vec<Option<u32>>, AllocError>
-    requires count { length rules.now ≤ 64 }
-    requires atoms { (i : ℕ) (r : RuleValue) → slice_get rules.now i ≡ Some r → r.atom < table.now.atoms }
-    requires words { length table.now.words.items ≡ length shape.now.spots.items }
-    requires nodes { length shape.now.spots.items ≤ 65536 }
+    requires fit { Fit rules.now table.now shape.now }
     ensures count { IfOk result (λ values. length values.items ≡ length shape.now.spots.items) }
     ensures values { IfOk result (λ values. (n : ℕ) → n < length shape.now.spots.items →
         AnswerAt (is_searched shape.now.spots.items n)

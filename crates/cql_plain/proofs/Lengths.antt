@@ -1,4 +1,4 @@
--- The greatest of some numbers, and of the lengths of paths that end at places of a set.
+-- The greatest of the lengths of paths that end at places of a set.
 use Rattle.std.proofs.Common.{◌≡◌, ℕ, suc, ◌+◌, ◌<◌, max, Bool, true, false, ◌&&◌, List, length, get_or, Option, Some, None, refl, sym, ap, ap₂, ◌∙◌, subst, arith, inl, inr}
 use Rattle.std.specs.Prelude.{◌⊎◌}
 use Rattle.std.proofs.lemmas.Bool.{cases_lt}
@@ -6,35 +6,16 @@ use Rattle.std.proofs.lemmas.List.{get_or_past}
 use Rattle.cql_syntax.specs.Meaning.{allows}
 use Rattle.cql_syntax.specs.declared.extents.Extent.{Extent}
 use Rattle.cql_plain.specs.Places.{IsIn}
-use Rattle.cq_outside.specs.Greatest.{IsGreatest}
-use Rattle.cql_plain.specs.Paths.{length_at, nodes_to, IsLength, with_number}
+use Rattle.cq_outside.specs.Greatest.{IsGreatest, with_number}
+use Rattle.cq_outside.proofs.GreatestLaw.{greatest_with}
+use Rattle.cq_outside.proofs.WithinLaw.{left, right}
+use Rattle.cql_plain.specs.Paths.{length_at, nodes_to, IsLength}
 use Rattle.cql_plain.specs.declared.paths.Reached.{Reached}
-
-pub greatest_with : (P Q : ℕ → Type 0) (best : Option ℕ) (counts : Bool) (n : ℕ) → ((m : ℕ) → P m → Q m) → (counts ≡ true → Q n)
-    → ((m : ℕ) → Q m → P m ⊎ ((counts ≡ true) × (m ≡ n))) → IsGreatest P best → IsGreatest Q (with_number best counts n)
-greatest_with P Q None false n kept added from g = λ k q. elim (from k q) [ inl p ↦ g k p | inr new ↦ absurd (let e = new.0 in cc) ]
-greatest_with P Q (Some m) false n kept added from g = (kept m g.0, λ k q. elim (from k q) [ inl p ↦ g.1 k p | inr new ↦ absurd (let e = new.0 in cc) ])
-greatest_with P Q None true n kept added from g = (added refl, λ k q. elim (from k q) [ inl p ↦ absurd (g k p) | inr new ↦ omega (arith, new.1) ])
-greatest_with P Q (Some m) true n kept added from g = (
-  elim (cases_lt m n) [
-    | inl less ↦ subst Q (let e : n ≡ max m n = omega arith in e) (added refl)
-    | inr more ↦ subst Q (let e : m ≡ max m n = omega arith in e) (kept m g.0)
-  ],
-  λ k q. elim (from k q) [ inl p ↦ omega (arith, g.1 k p) | inr new ↦ omega (arith, new.1) ],
-)
 
 -- among the first b nodes
 abbrev pub IsLengthBelow : ℕ → List (Option Reached) → List Bool → Extent → ℕ → Type 0
 IsLengthBelow b steps ends extent len =
     (k : ℕ) × (k < b) × IsIn ends (suc k) × (length_at steps (suc k) ≡ len) × (allows extent len ≡ true)
-
-pub left : (a b : Bool) → (a && b) ≡ true → a ≡ true
-left true b e = refl
-left false b e = e
-
-pub right : (a b : Bool) → (a && b) ≡ true → b ≡ true
-right true b e = e
-right false b e = cc
 
 pub longest_more : (b : ℕ) (steps : List (Option Reached)) (ends : List Bool) (extent : Extent) (best new : Option ℕ) (nodes : ℕ) (counts : Bool)
     → new ≡ with_number best counts nodes → nodes ≡ nodes_to (get_or steps b None) → counts ≡ (get_or ends (b + 1) false && allows extent nodes)

@@ -6,48 +6,16 @@ use Rattle.cq_outside.proofs.SpellingLaw.{spelling_law}
 use Rattle.cq_position.specs.Games.{IsTree}
 use Rattle.cq_position.specs.Search.{SearchedTree, IsStep, Along, IsPath, paths}
 use Rattle.cq_position.proofs.Paths.{paths_law}
-use Rattle.cql_syntax.specs.Meaning.{allows, longer, longest, line_of}
+use Rattle.cql_syntax.specs.Meaning.{allows, line_of}
 use Rattle.cql_syntax.specs.Values.{Value, as_number, holds}
 use Rattle.cql_syntax.specs.declared.extents.Extent.{Extent}
 use Rattle.cql_plain.specs.Lines.{EndsOf}
-use Rattle.cq_outside.specs.Greatest.{IsGreatest}
-use Rattle.cql_plain.specs.Paths.{GoesTo, length_at, AreSteps, ArePaths, IsLength, with_number}
+use Rattle.cq_outside.specs.Greatest.{IsGreatest, longest}
+use Rattle.cq_outside.proofs.GreatestLaw.{IsListed, greatest_listed, one_greatest}
+use Rattle.cql_plain.specs.Paths.{GoesTo, length_at, AreSteps, ArePaths, IsLength}
 use Rattle.cql_plain.specs.Places.{Slice, IsIn}
 use Rattle.cql_plain.specs.declared.paths.Reached.{Reached}
-use Rattle.cql_plain.proofs.Lengths.{greatest_with, left, right}
-
--- the longest of a list is the greatest of its lengths
-abbrev IsListed : (List ℕ → Bool) → List (List ℕ) → ℕ → Type 0
-IsListed test ws len = (w : List ℕ) × Contains ws w × (length w ≡ len) × (test w ≡ true)
-
-with_longer : (o : Option ℕ) (b : Bool) (n : ℕ) → (if b then Some (longer n o) else o) ≡ with_number o b n
-with_longer None true n = refl
-with_longer (Some m) true n = let e : max n m ≡ max m n = omega arith in ap Some e
-with_longer None false n = refl
-with_longer (Some m) false n = refl
-
-first_or : (w : List ℕ) (ws : List (List ℕ)) (v : List ℕ) (k : ℕ) → k < suc (length ws) → get_or (w ∷ ws) k v ≡ v → (w ≡ v) ⊎ Contains ws v
-first_or w ws v zero h e = inl e
-first_or w ws v (suc k) h e = inr (k, omega arith, e)
-
-greatest_listed : (test : List ℕ → Bool) (ws : List (List ℕ)) → IsGreatest (IsListed test ws) (longest test ws)
-greatest_listed test [] = λ k l. absurd (omega (arith, l.1.1))
-greatest_listed test (w ∷ ws) = subst (IsGreatest (IsListed test (w ∷ ws))) (sym (with_longer (longest test ws) (test w) (length w)))
-    (greatest_with (IsListed test ws) (IsListed test (w ∷ ws)) (longest test ws) (test w) (length w)
-    (λ m l. (l.0, (suc l.1.0, omega (arith, l.1.1), l.1.2), l.2, l.3))
-    (λ t. (w, (0, omega arith, refl), refl, t))
-    (λ m l. elim (first_or w ws l.0 l.1.0 l.1.1 l.1.2) [
-      | inl same ↦ inr (ap test same ∙ l.3, sym l.2 ∙ ap length (sym same))
-      | inr later ↦ inl (l.0, later, l.2, l.3)
-    ])
-    (greatest_listed test ws))
-
--- there is one greatest number at most
-one_greatest : (P Q : ℕ → Type 0) (a b : Option ℕ) → ((k : ℕ) → P k → Q k) → ((k : ℕ) → Q k → P k) → IsGreatest P a → IsGreatest Q b → a ≡ b
-one_greatest P Q None None to from g h = refl
-one_greatest P Q None (Some m) to from g h = absurd (g m (from m h.0))
-one_greatest P Q (Some m) None to from g h = absurd (h m (to m g.0))
-one_greatest P Q (Some m) (Some k) to from g h = let e : m ≡ k = omega (arith, h.1 m (to m g.0), g.1 k (from k h.0)) in ap Some e
+use Rattle.cq_outside.proofs.WithinLaw.{left, right}
 
 pub first_only : (m j : ℕ) → get_or (replicate m false) j false ≡ false
 first_only zero j = refl

@@ -20,7 +20,7 @@ use Rattle.cql_plain.specs.Paths.{place_before, GoesTo, AreSteps, comes_from}
 use Rattle.cql_plain.specs.Places.{IsEnd, IsIn}
 use Rattle.cql_plain.specs.declared.paths.Reached.{Reached}
 use Rattle.cql_plain.proofs.LineLaw.{short}
-use Rattle.cql_plain.proofs.Lengths.{left, right}
+use Rattle.cq_outside.proofs.WithinLaw.{left, right}
 use Rattle.cql_plain.proofs.PatternEnds.{Turns, begun, turned, stopped, repeated_law, once_law, any_most, star_few, plus_few, joined_law, nothing_law, one_law, IsNext, more_ends}
 
 -- sets made of others

@@ -50,12 +50,6 @@ abbrev pub IsLength : List (Option Reached) → List Bool → Extent → ℕ →
 IsLength steps ends extent len =
     (k : ℕ) × IsIn ends (suc k) × (length_at steps (suc k) ≡ len) × (allows extent len ≡ true)
 
--- one number more
-abbrev pub with_number : Option ℕ → Bool → ℕ → Option ℕ
-with_number best false n = best
-with_number None true n = Some n
-with_number (Some m) true n = Some (max m n)
-
 -- the node before another on the paths up, and on the paths down, from the one to the other
 abbrev pub above : SearchedTree → (primary : Bool) → ℕ → Option ℕ
 above tree primary k = if not primary || is_first_child tree.game.nodes k then (node_at tree.game.nodes k).parent else None

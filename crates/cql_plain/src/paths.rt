@@ -4,7 +4,7 @@ ghost use Rattle.cq_position.specs.Games.{IsTree};
 ghost use Rattle.cql_syntax.specs.Meaning as meaning;
 ghost use Rattle.cql_syntax.specs.Values.{as_number};
 ghost use Rattle.cql_plain.specs.Paths as path;
-ghost use Rattle.cq_outside.specs.Greatest.{IsGreatest};
+ghost use Rattle.cq_outside.specs.Greatest.{IsGreatest, with_number};
 ghost use Rattle.cql_plain.specs.Paths.{ArePaths, IsLength};
 ghost use Rattle.cql_plain.specs.Shown.{meant};
 ghost use Rattle.cql_plain.specs.Trees.{searched_tree};
@@ -193,7 +193,7 @@ fn allows(extent: &Extent, nodes: u32) -> bool
 
 // The greatest of some numbers and, where it counts, one more.
 fn with_number(best: Option<u32>, counts: bool, number: u32) -> Option<u32>
-    ensures { result ≡ path.with_number best counts number }
+    ensures { result ≡ with_number best counts number }
 {
     match best {
         Some(other) if counts => Some(other.max(number)),

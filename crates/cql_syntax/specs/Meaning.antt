@@ -5,7 +5,9 @@ use Rattle.std.specs.Str.{bytes_eq}
 use Rattle.cq_geometry.specs.Lines.{orthogonals, diagonals}
 use Rattle.cq_geometry.specs.declared.compass.Compass.{Compass}
 use Rattle.cq_geometry.specs.declared.compass.Compass.TheVariants.{Up as ToUp, Down as ToDown, Left as ToLeft, Right as ToRight, Northeast as ToNortheast, Northwest as ToNorthwest, Southeast as ToSoutheast, Southwest as ToSouthwest}
+use Rattle.cq_outside.specs.Greatest.{longest}
 use Rattle.cq_outside.specs.Spelling.{Pattern, one, nothing, joined, repeated, spells}
+use Rattle.cq_outside.specs.Within.{is_within}
 use Rattle.cq_position.specs.Attacks.{in_check}
 use Rattle.cq_position.specs.Board.{Board, man_at}
 use Rattle.cq_position.specs.Games.{node_at, is_main, way_up}
@@ -122,17 +124,9 @@ marked (Times least most) p = repeated least (Some most) p
 -- the lengths that an extent allows
 abbrev pub allows : Extent → ℕ → Bool
 allows AnyLength len = true
-allows (Within least most) len = nat_le least len && nat_le len most
+allows (Within least most) len = is_within least most len
 
 -- the greatest length of those paths that the pattern spells and whose length the extent allows
-abbrev pub longer : ℕ → Option ℕ → ℕ
-longer n None = n
-longer n (Some m) = max n m
-
-abbrev pub longest : (List ℕ → Bool) → List (List ℕ) → Option ℕ
-longest test [] = None
-longest test (w ∷ ws) = if test w then Some (longer (length w) (longest test ws)) else longest test ws
-
 abbrev pub line_of : SearchedTree → (back primary : Bool) → Extent → Pattern (ℕ → Value) → ℕ → Value
 line_of tree back primary extent p n =
     as_number (option_map pos (longest (λ w. allows extent (length w) && spells (λ v m. holds (v m)) p w) (paths tree back primary n)))

@@ -144,7 +144,7 @@ no_result xs =
     (no_text xs (codes "1/2-1/2") (λ same. let e = ends_with_x xs (codes "1/2-1/2") 6 refl same in absurd (omega arith)))
 
 -- a lexeme that may grow opens no tag pair
-grows_no_open : (kind : LexemeKind) → is_left_open kind ≡ true → opens kind ≡ false
+pub grows_no_open : (kind : LexemeKind) → is_left_open kind ≡ true → opens kind ≡ false
 grows_no_open (Token Open) grows = absurd (true≢false (sym grows))
 grows_no_open (Token Close) grows = refl
 grows_no_open (Token Text) grows = refl
@@ -163,7 +163,7 @@ grows_no_open (Token UnclosedText) grows = refl
 grows_no_open EscapeLine grows = refl
 
 -- the same of a lexeme of two bytes or more
-long_no_open : (first : Bool) (kind : LexemeKind) (text : List ℕ) → IsLexeme first kind text → 1 < length text → opens kind ≡ false
+pub long_no_open : (first : Bool) (kind : LexemeKind) (text : List ℕ) → IsLexeme first kind text → 1 < length text → opens kind ≡ false
 long_no_open first (Token Open) text is long = let e = ap length is in absurd (omega arith)
 long_no_open first (Token Close) text is long = refl
 long_no_open first (Token Text) text is long = refl

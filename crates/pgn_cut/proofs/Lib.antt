@@ -5,6 +5,7 @@ pub mod Loops
 pub mod Marks
 pub mod Meets
 pub mod OneGame
+pub mod OpenGames
 pub mod OpenLexemes
 pub mod Order
 pub mod Pieces

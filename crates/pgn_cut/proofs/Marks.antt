@@ -80,7 +80,7 @@ two_is : (rest : List ℕ) → EndsBefore TwoOfMark rest → text_start (239 ∷
 two_is [] ends = refl
 two_is (b ∷ bs) ends = ap (λ t. cond (t && true) 3 0) (turned b 191 ends)
 
-cut_is : (archive : List ℕ) → text_start archive ≡ 0 → cut archive ≡ cut_from (length archive) [] (lexemes 0 true archive)
+pub cut_is : (archive : List ℕ) → text_start archive ≡ 0 → cut archive ≡ cut_from (length archive) [] (lexemes 0 true archive)
 cut_is archive none = ap (λ k. cut_from (length archive) [] (lexemes k true (drop k archive))) none
 
 -- nothing was fed
@@ -95,18 +95,18 @@ start_ends game is flat = record {
 }
 
 -- a byte of a mark that is none
-bad : (first : Bool) → ℕ → Type 0
+unfoldable pub bad : (first : Bool) → ℕ → Type 0
 bad first b = IsOneLexeme first (b ∷ []) (Token BadByte) false Whenever
 
-bad_one : StandAlone → bad true 239
+pub bad_one : StandAlone → bad true 239
 unfolding bad reading single
 bad_one alone = alone true 239 refl refl
 
-bad_two : StandAlone → bad false 187
+pub bad_two : StandAlone → bad false 187
 unfolding bad reading single
 bad_two alone = alone false 187 refl refl
 
-bad_lexeme : (at : ℕ) (first : Bool) (b : ℕ) → bad first b → Lexeme
+unfoldable pub bad_lexeme : (at : ℕ) (first : Bool) (b : ℕ) → bad first b → Lexeme
 unfolding bad
 bad_lexeme at first b one = record { at = at; first = first; text = b ∷ []; kind = one.read }
 
@@ -114,12 +114,12 @@ bad_shows : (at : ℕ) (first : Bool) (b : ℕ) (one : bad first b) → Shows (r
 unfolding bad bad_lexeme
 bad_shows at first b one = record { at = refl; ends = refl; first = refl; alike = one.alike; marker = one.marked }
 
-bad_goes_in : (place : ℕ) (game : List Lexeme) (at : ℕ) (first : Bool) (b : ℕ) (one : bad first b) (ls : List Lexeme)
+pub bad_goes_in : (place : ℕ) (game : List Lexeme) (at : ℕ) (first : Bool) (b : ℕ) (one : bad first b) (ls : List Lexeme)
     → cut_from place game (bad_lexeme at first b one ∷ ls) ≡ cut_from place (game ++ bad_lexeme at first b one ∷ []) ls
 unfolding bad bad_lexeme
 bad_goes_in place game at first b one ls = goes_in place game (record { at = at; first = first; text = b ∷ []; kind = one.read }) ls (sym one.alike.opens_) (sym one.marked)
 
-bad_next : (at : ℕ) (first : Bool) (b : ℕ) (one : bad first b) (rest : List ℕ) → (b == 10) ≡ false → lexemes at first (b ∷ rest) ≡ bad_lexeme at first b one ∷ lexemes (at + 1) false rest
+pub bad_next : (at : ℕ) (first : Bool) (b : ℕ) (one : bad first b) (rest : List ℕ) → (b == 10) ≡ false → lexemes at first (b ∷ rest) ≡ bad_lexeme at first b one ∷ lexemes (at + 1) false rest
 unfolding bad bad_lexeme
 bad_next at first b one rest line = one.next at rest tt ∙ ap (λ f. (record { at = at; first = first; text = b ∷ []; kind = one.read }) ∷ lexemes (at + 1) f rest) line
 

@@ -15,7 +15,7 @@ abbrev pub StandInOrder : Type 0
 StandInOrder = (start : ℕ) (first : Bool) (bytes : List ℕ) → InOrder start (lexemes start first bytes)
 
 -- a game begins from one place on and before another; one without lexemes has its place between them
-Begins : ℕ → ℕ → List Lexeme → Type 0
+unfoldable pub Begins : ℕ → ℕ → List Lexeme → Type 0
 Begins from before [] = from ≤ before
 Begins from before (l ∷ ls) = (from ≤ l.at) × (l.at < before)
 
@@ -45,7 +45,7 @@ unfolding Begins
 last_span place from before [] begins most = tt
 last_span place from before (g ∷ gs) begins most = let lt = begins.1 in (begins.0, (omega arith, omega arith), tt)
 
-cut_in_order : (place from before : ℕ) (game rest : List Lexeme) → Begins from before game → before ≤ place → InOrder before rest → AllByRecursion (λ l. end l ≤ place) rest
+pub cut_in_order : (place from before : ℕ) (game rest : List Lexeme) → Begins from before game → before ≤ place → InOrder before rest → AllByRecursion (λ l. end l ≤ place) rest
     → AreInOrder from place (cut_from place game rest)
 unfolding cut_from Begins
 cut_in_order place from before game [] begins most order ends =

@@ -15,6 +15,10 @@ abbrev pub start_of : List Lexeme → Option Start
 start_of [] = None
 start_of (l ∷ ls) = Some (record { at = l.at; first = l.first })
 
+abbrev pub begins_at : Option Start → Option ℕ
+begins_at None = None
+begins_at (Some start) = Some start.at
+
 -- the span from there to a place
 abbrev pub span_from : ℕ → Option Start → Option Span
 span_from place None = None

@@ -6,7 +6,8 @@ ghost use Rattle.pgn_lexer.specs.Lexemes.{Lexeme as ALexeme};
 ghost use Rattle.pgn_lexer.specs.declared.token.LexemeKind.TheVariants.{Token};
 ghost use Rattle.pgn_lexer.specs.declared.token.TokenKind.TheVariants.{BadByte};
 ghost use Rattle.pgn_cut.specs.Cut.{cut, closed};
-ghost use Rattle.pgn_cut.specs.Progress.{progress_of, IsStepOfCut, Shows};
+ghost use Rattle.pgn_cut.specs.OpenGames.{IsOpenAt, open_place};
+ghost use Rattle.pgn_cut.specs.Progress.{begins_at, progress_of, IsStepOfCut, Shows};
 ghost use Rattle.pgn_cut.specs.States.{takes, is_in_mark, Stays};
 ghost use Rattle.pgn_cut.specs.Streams.{IsBetween, IsSound, IsInMark, IsInText, Stands, IsEnded, IsReady, HasTaken, StandsWith, HasGained};
 ghost use Rattle.pgn_cut.specs.declared.span.Span.{Span as ASpan};
@@ -18,7 +19,10 @@ use crate::laws::open_lexemes_settle;
 use crate::span::Span;
 use crate::state::State;
 use cq_outside::{NoMemory, is_white};
-use pgn_lexer::{LexemeKind, TokenKind, longest_reading, white_space_is_passed};
+use pgn_lexer::{
+    LexemeKind, TokenKind, lexemes_follow, lexemes_stand_apart, longest_reading,
+    readings_are_longest, readings_grow, white_space_is_passed,
+};
 
 /// Cuts an archive that comes in pieces. It keeps none of its bytes: what is open at its place, where that begins, and
 /// what the open game shows so far.
@@ -32,7 +36,7 @@ pub struct Cutter {
     column: bool,
 }
 
-/// A byte of a mark that turned out to be none.
+// A byte of a mark that turned out to be none.
 fn bad_byte(at: u64) -> Look
     requires { at < 2 ^ 62 }
     ensures { result ≡ record { at = at; end = at + 1; first = at == 0; kind = Token BadByte; marker = false } }
@@ -46,7 +50,7 @@ fn bad_byte(at: u64) -> Look
     }
 }
 
-/// Appends up to two spans, or leaves them as they are.
+// Appends up to two spans, or leaves them as they are.
 fn append(spans: &mut Vec<Span>, first: Option<Span>, second: Option<Span>) -> Result<(), NoMemory>
     ensures ok { OnOk result (spans.new.items ≡ spans.old.items ++ (option_to_list first ++ option_to_list second)) }
     ensures err { OnErr result (spans.new.items ≡ spans.old.items) }
@@ -72,7 +76,7 @@ impl Cutter {
         Cutter::in_mark(State::AtStart, 0)
     }
 
-    /// The cutter in a byte order mark, of which so many bytes are read.
+    // The cutter in a byte order mark, of which so many bytes are read.
     fn in_mark(state: State, place: u64) -> Cutter
         ensures place { (result.state ≡ state) × (result.at ≡ 0) × (result.place ≡ place) }
         ensures game { result.game ≡ progress_of [] }
@@ -88,7 +92,7 @@ impl Cutter {
         }
     }
 
-    /// The cutter between lexemes at a place.
+    // The cutter between lexemes at a place.
     fn between(game: OpenGame, place: u64, column: bool) -> Cutter
         ensures { result ≡ record { state = Between; game = game; at = place; first = column; place = place; column = column } }
     {
@@ -102,7 +106,7 @@ impl Cutter {
         }
     }
 
-    /// The cutter after a lexeme from its place to another, and the game that it closes, where it closes one.
+    // The cutter after a lexeme from its place to another, and the game that it closes, where it closes one.
     fn met(self, end: u64, column: bool, kind: LexemeKind, marker: bool) -> (Cutter, Option<Span>)
         requires depth { self.game.depth < 2 ^ 63 }
         ensures deeper { result.0.game.depth ≤ self.game.depth + 1 }
@@ -122,7 +126,7 @@ impl Cutter {
         (Cutter::between(game, end, column), closed)
     }
 
-    /// The cutter after a part of a byte order mark whose rest doesn't come, so that its bytes are lexemes.
+    // The cutter after a part of a byte order mark whose rest doesn't come, so that its bytes are lexemes.
     fn unmarked(self) -> Cutter
         requires { is_in_mark self.state ≡ true }
         ensures counts { (result.game.depth ≤ 2) × (result.at ≤ 2) × (result.place ≡ result.at) }
@@ -140,7 +144,7 @@ impl Cutter {
         }
     }
 
-    /// The cutter where what is open ends at its place, and the game that is closed by that, where one is.
+    // The cutter where what is open ends at its place, and the game that is closed by that, where one is.
     fn ended(self) -> (Cutter, Option<Span>)
         requires depth { self.game.depth + 1 < 2 ^ 63 }
         requires place { self.place < 2 ^ 62 }
@@ -160,7 +164,7 @@ impl Cutter {
         }
     }
 
-    /// The cutter after one more byte of a byte order mark.
+    // The cutter after one more byte of a byte order mark.
     fn marked(self, b: u8) -> Cutter
         requires { is_in_mark self.state ≡ true }
         ensures { (fed : List ℕ) → IsInMark self fed → takes self.state b ≡ true → StandsWith result (fed ++ b ∷ []) (closed fed) }
@@ -173,7 +177,7 @@ impl Cutter {
         }
     }
 
-    /// The cutter after a byte that leaves a lexeme open.
+    // The cutter after a byte that leaves a lexeme open.
     fn with_open(self, state: State, column: bool) -> Cutter
         requires { self.place < 2 ^ 62 }
         ensures { result ≡ record {
@@ -195,7 +199,7 @@ impl Cutter {
         }
     }
 
-    /// The cutter after a byte where nothing was open, and the game that the byte closes, where it closes one.
+    // The cutter after a byte where nothing was open, and the game that the byte closes, where it closes one.
     fn begun(self, b: u8) -> (Cutter, Option<Span>)
         requires state { self.state ≡ Between }
         requires depth { self.game.depth < 2 ^ 63 }
@@ -217,7 +221,7 @@ impl Cutter {
         }
     }
 
-    /// The cutter after a byte that belongs to what is open, and the game that the byte closes, where it closes one.
+    // The cutter after a byte that belongs to what is open, and the game that the byte closes, where it closes one.
     fn taken(self, b: u8) -> (Cutter, Option<Span>)
         requires depth { self.game.depth < 2 ^ 63 }
         requires place { self.place < 2 ^ 62 }
@@ -238,7 +242,7 @@ impl Cutter {
         (self.with_open(state, column), None)
     }
 
-    /// The cutter after one more byte, and the games that are closed before that and by that, where they are.
+    // The cutter after one more byte, and the games that are closed before that and by that, where they are.
     fn step(self, b: u8) -> (Cutter, Option<Span>, Option<Span>)
         requires depth { self.game.depth + 1 < 2 ^ 63 }
         requires place { self.place < 2 ^ 62 }
@@ -258,7 +262,7 @@ impl Cutter {
         (cutter, None, closed)
     }
 
-    /// The cutter after bytes that leave the open lexeme as it is.
+    // The cutter after bytes that leave the open lexeme as it is.
     fn passed(self, run: &[u8]) -> Cutter
         requires some { 0 < length run.now }
         requires place { self.place + length run.now < 2 ^ 63 }
@@ -276,7 +280,7 @@ impl Cutter {
         }
     }
 
-    /// The cutter after some of the bytes that are left, and how many. The games that they close are appended.
+    // The cutter after some of the bytes that are left, and how many. The games that they close are appended.
     fn turn(self, rest: &[u8], spans: &mut Vec<Span>) -> Result<(Cutter, usize), NoMemory>
         requires some { 0 < length rest.now }
         requires depth { self.game.depth + 1 < 2 ^ 63 }
@@ -321,6 +325,34 @@ impl Cutter {
         }
         *self = cutter;
         Ok(())
+    }
+
+    // The place by what is kept: the open game's first lexeme, or else the open lexeme.
+    fn open_place(&self) -> Option<u64>
+        ensures { result ≡ open_place (begins_at self.now.game.start) self.now.state self.now.at }
+    {
+        let begun = self.game.begins_at();
+        if begun.is_some() {
+            return begun;
+        }
+        match self.state {
+            State::AtStart | State::Between => None,
+            State::OneOfMark | State::TwoOfMark => Some(0),
+            _ => Some(self.at),
+        }
+    }
+
+    /// Where the open game begins, so that the bytes before it need not be kept; None where none is open. The games after it begin
+    /// where the bytes that were fed end, or later.
+    pub fn open_at(&self) -> Option<u64>
+        ensures { (fed : List ℕ) → Stands self.now fed → IsOpenAt result fed }
+    {
+        open_lexemes_settle();
+        lexemes_stand_apart();
+        lexemes_follow();
+        readings_grow();
+        readings_are_longest();
+        self.open_place()
     }
 
     /// Appends the last game, where there is one, at the archive's end. The cutter stays as it is, so a second call appends

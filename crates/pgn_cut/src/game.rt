@@ -4,7 +4,7 @@ ghost use Rattle.std.specs.Option.{option_to_list};
 ghost use Rattle.pgn_lexer.specs.Lexemes.{Lexeme as ALexeme};
 ghost use Rattle.pgn_lexer.specs.Shown.{shown};
 ghost use Rattle.pgn_cut.specs.Cut.{is_result, marks, nest, opens_pair, is_movetext, is_passed_over, opens, cut_from};
-ghost use Rattle.pgn_cut.specs.Progress.{progress_of, span_from, IsStepOfCut, Shows};
+ghost use Rattle.pgn_cut.specs.Progress.{begins_at, progress_of, span_from, IsStepOfCut, Shows};
 
 use crate::span::Span;
 use pgn_lexer::{Lexeme, LexemeKind, TokenKind};
@@ -26,14 +26,14 @@ pub(crate) struct OpenGame {
     has_more: bool,
 }
 
-/// Whether a symbol is the marker of a result.
+// Whether a symbol is the marker of a result.
 fn is_result(text: &[u8]) -> bool
     ensures { result ≡ is_result text.now }
 {
     text == b"1-0".as_slice() || text == b"0-1".as_slice() || text == b"1/2-1/2".as_slice()
 }
 
-/// Whether a lexeme marks the end of a game.
+// Whether a lexeme marks the end of a game.
 fn is_marker(lexeme: Lexeme<'_>) -> bool
     ensures { result ≡ marks lexeme.entry.kind lexeme.entry.text.now }
 {
@@ -71,7 +71,7 @@ impl Look {
     }
 }
 
-/// The depth of variations after a lexeme.
+// The depth of variations after a lexeme.
 fn nest(depth: usize, kind: LexemeKind) -> usize
     requires { depth < 2 ^ 63 }
     ensures value { result ≡ nest depth kind }
@@ -84,7 +84,7 @@ fn nest(depth: usize, kind: LexemeKind) -> usize
     }
 }
 
-/// Whether a tag pair is open after a lexeme.
+// Whether a tag pair is open after a lexeme.
 fn opens_pair(in_pair: bool, kind: LexemeKind) -> bool
     ensures { result ≡ opens_pair in_pair kind }
 {
@@ -95,7 +95,7 @@ fn opens_pair(in_pair: bool, kind: LexemeKind) -> bool
     }
 }
 
-/// Whether a lexeme is movetext where it stands outside a tag pair.
+// Whether a lexeme is movetext where it stands outside a tag pair.
 fn is_movetext(kind: LexemeKind) -> bool
     ensures { result ≡ is_movetext kind }
 {
@@ -115,7 +115,7 @@ fn is_movetext(kind: LexemeKind) -> bool
     }
 }
 
-/// Whether a lexeme alone makes no game.
+// Whether a lexeme alone makes no game.
 fn is_passed_over(kind: LexemeKind) -> bool
     ensures { result ≡ is_passed_over kind }
 {
@@ -125,7 +125,7 @@ fn is_passed_over(kind: LexemeKind) -> bool
     )
 }
 
-/// Whether a lexeme opens a tag pair.
+// Whether a lexeme opens a tag pair.
 fn opens(kind: LexemeKind) -> bool
     ensures { result ≡ opens kind }
 {
@@ -148,14 +148,14 @@ impl OpenGame {
         }
     }
 
-    /// Whether the game has movetext, a further lexeme included.
+    // Whether the game has movetext, a further lexeme included.
     fn sees_movetext(self, kind: LexemeKind) -> bool
         ensures { result ≡ (self.has_movetext || (is_movetext kind && not self.in_pair)) }
     {
         self.has_movetext || (is_movetext(kind) && !self.in_pair)
     }
 
-    /// Whether the game has more than closed comments and escape lines, a further lexeme included.
+    // Whether the game has more than closed comments and escape lines, a further lexeme included.
     fn sees_more(self, kind: LexemeKind) -> bool
         ensures { result ≡ (self.has_more || not (is_passed_over kind)) }
     {
@@ -182,7 +182,14 @@ impl OpenGame {
         }
     }
 
-    /// The span of the game up to a place.
+    /// Where it begins, once it has a lexeme.
+    pub(crate) fn begins_at(self) -> Option<u64>
+        ensures { result ≡ begins_at self.start }
+    {
+        self.start.map(|start| start.at)
+    }
+
+    // The span of the game up to a place.
     fn span_to(self, place: u64) -> Option<Span>
         ensures { result ≡ span_from place self.start }
     {
@@ -204,14 +211,14 @@ impl OpenGame {
         }
     }
 
-    /// Whether the game ends before a lexeme: a `[` in the first column, where it has movetext.
+    // Whether the game ends before a lexeme: a `[` in the first column, where it has movetext.
     fn ends_before(self, look: Look) -> bool
         ensures { result ≡ (opens look.kind && look.first && self.has_movetext) }
     {
         opens(look.kind) && look.first && self.has_movetext
     }
 
-    /// Whether the game ends after a lexeme: a marker outside variations.
+    // Whether the game ends after a lexeme: a marker outside variations.
     fn ends_after(self, look: Look) -> bool
         ensures { result ≡ (look.marker && self.depth == 0) }
     {

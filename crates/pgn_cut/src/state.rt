@@ -32,7 +32,7 @@ pub(crate) enum State {
     InNull,
 }
 
-/// Whether a marker, of which so many bytes are read, goes on with a byte.
+// Whether a marker, of which so many bytes are read, goes on with a byte.
 fn begins_further(marker: &[u8], len: u64, b: u8) -> bool
     ensures { result ≡ begins_further marker.now len b }
 {
@@ -40,7 +40,7 @@ fn begins_further(marker: &[u8], len: u64, b: u8) -> bool
 }
 
 impl Results {
-    /// Those that begin with a byte.
+    // Those that begin with a byte.
     fn from(b: u8) -> Results
         ensures { result ≡ results_from b }
     {
@@ -51,7 +51,7 @@ impl Results {
         }
     }
 
-    /// Those that go on with a byte after so many bytes.
+    // Those that go on with a byte after so many bytes.
     fn after(self, len: u64, b: u8) -> Results
         ensures { result ≡ results_after self len b }
     {
@@ -62,7 +62,7 @@ impl Results {
         }
     }
 
-    /// Whether one of them has so many bytes.
+    // Whether one of them has so many bytes.
     fn are_spelled(self, len: u64) -> bool
         ensures { result ≡ are_spelled self len }
     {

@@ -15,7 +15,7 @@ use std::alloc::Global;
 /// The bytes of a byte order mark in UTF-8.
 const BYTE_ORDER_MARK: [u8; 3] = [0xef, 0xbb, 0xbf];
 
-/// How many bytes of an archive stand before its text: those of a byte order mark, or none.
+// How many bytes of an archive stand before its text: those of a byte order mark, or none.
 fn text_start(archive: &[u8]) -> usize
     ensures value { result ≡ text_start archive.now }
     ensures within { result ≤ length archive.now }

@@ -16,7 +16,7 @@ pub struct Lexeme<'a> {
     pub kind: LexemeKind,
 }
 
-/// Whether the byte at a place stands in the first column; `first` says so of the first byte.
+// Whether the byte at a place stands in the first column; `first` says so of the first byte.
 #[inline]
 fn in_first_column(bytes: &[u8], at: usize, first: bool) -> bool
     requires { at ≤ length bytes.now }

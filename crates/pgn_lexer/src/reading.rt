@@ -40,7 +40,7 @@ pub fn continues_symbol(b: u8) -> bool
     CONTINUES_SYMBOL[b as usize]
 }
 
-/// A token of so many bytes.
+// A token of so many bytes.
 fn token(kind: TokenKind, len: usize) -> Reading
     ensures { result ≡ token kind len }
 {
@@ -58,7 +58,7 @@ pub fn place_of(byte: u8, bytes: &[u8]) -> usize
     memchr(byte, bytes).unwrap_or(bytes.len())
 }
 
-/// How many bytes at the start continue a symbol.
+// How many bytes at the start continue a symbol.
 fn symbol_len(bytes: &[u8]) -> usize
     ensures value { result ≡ prefix_len continues_symbol bytes.now }
     ensures within { result ≤ length bytes.now }
@@ -66,7 +66,7 @@ fn symbol_len(bytes: &[u8]) -> usize
     bytes.iter().take_while(|b| continues_symbol(**b)).count()
 }
 
-/// A comment from its brace; `rest` is what stands after that.
+// A comment from its brace; `rest` is what stands after that.
 #[tactic(auto, unfolding(crate::specs::Readings::comment))]
 fn comment(rest: &[u8]) -> Reading
     ensures { result ≡ comment rest.now }
@@ -79,7 +79,7 @@ fn comment(rest: &[u8]) -> Reading
     }
 }
 
-/// A comment from its semicolon.
+// A comment from its semicolon.
 #[tactic(auto, unfolding(crate::specs::Readings::line_comment))]
 fn line_comment(rest: &[u8]) -> Reading
     ensures { result ≡ line_comment rest.now }
@@ -87,7 +87,7 @@ fn line_comment(rest: &[u8]) -> Reading
     token(TokenKind::LineComment, place_of(b'\n', rest) + 1)
 }
 
-/// An escape line from its percent sign.
+// An escape line from its percent sign.
 #[tactic(auto, unfolding(crate::specs::Readings::escape_line))]
 fn escape_line(rest: &[u8]) -> Reading
     ensures { result ≡ escape_line rest.now }
@@ -106,7 +106,7 @@ pub fn plain_len(bytes: &[u8]) -> usize
     memchr3(b'"', b'\\', b'\n', bytes).unwrap_or(bytes.len())
 }
 
-/// Where a string goes on after its backslash at a place: after the byte that it takes with it, which is never LF.
+// Where a string goes on after its backslash at a place: after the byte that it takes with it, which is never LF.
 #[tactic(auto, using(crate::proofs::Bodies::escape_at_end, crate::proofs::Bodies::escape_of_line, crate::proofs::Bodies::escape_of_byte))]
 fn after_backslash(rest: &[u8], at: usize) -> usize
     requires { at < length rest.now }
@@ -120,7 +120,7 @@ fn after_backslash(rest: &[u8], at: usize) -> usize
     }
 }
 
-/// How many bytes of a string stand before its closing quote or its line's end.
+// How many bytes of a string stand before its closing quote or its line's end.
 fn body_len(rest: &[u8]) -> usize
     ensures value { result ≡ body_len false rest.now }
     ensures within { result ≤ length rest.now }
@@ -133,7 +133,7 @@ fn body_len(rest: &[u8]) -> usize
     at
 }
 
-/// A string from its quote.
+// A string from its quote.
 #[tactic(auto, unfolding(crate::specs::Readings::text))]
 fn text(rest: &[u8]) -> Reading
     ensures { result ≡ text rest.now }
@@ -146,7 +146,7 @@ fn text(rest: &[u8]) -> Reading
     }
 }
 
-/// A symbol from its first letter or digit.
+// A symbol from its first letter or digit.
 #[tactic(auto, unfolding(crate::specs::Readings::symbol))]
 fn symbol(rest: &[u8]) -> Reading
     ensures { result ≡ symbol rest.now }
@@ -157,7 +157,7 @@ fn symbol(rest: &[u8]) -> Reading
 /// What every glyph's number above the standard's range is read as.
 const BEYOND_GLYPHS: u32 = 256;
 
-/// A glyph from its dollar sign.
+// A glyph from its dollar sign.
 #[tactic(auto, unfolding(crate::specs::Readings::nag))]
 fn nag(rest: &[u8]) -> Reading
     ensures { result ≡ nag rest.now }
@@ -171,7 +171,7 @@ fn nag(rest: &[u8]) -> Reading
     }
 }
 
-/// The glyph of a suffix that begins with an exclamation mark.
+// The glyph of a suffix that begins with an exclamation mark.
 #[tactic(auto, unfolding(crate::specs::Readings::good_suffix))]
 fn good_suffix(rest: &[u8]) -> Reading
     ensures { result ≡ good_suffix rest.now }
@@ -183,7 +183,7 @@ fn good_suffix(rest: &[u8]) -> Reading
     }
 }
 
-/// The glyph of a suffix that begins with a question mark.
+// The glyph of a suffix that begins with a question mark.
 #[tactic(auto, unfolding(crate::specs::Readings::poor_suffix))]
 fn poor_suffix(rest: &[u8]) -> Reading
     ensures { result ≡ poor_suffix rest.now }
@@ -195,7 +195,7 @@ fn poor_suffix(rest: &[u8]) -> Reading
     }
 }
 
-/// A null move from its first hyphen.
+// A null move from its first hyphen.
 #[tactic(auto, unfolding(crate::specs::Readings::null_move))]
 fn null_move(rest: &[u8]) -> Reading
     ensures { result ≡ null_move rest.now }
@@ -206,7 +206,7 @@ fn null_move(rest: &[u8]) -> Reading
     }
 }
 
-/// A token of one byte.
+// A token of one byte.
 #[tactic(auto, unfolding(crate::specs::Readings::single))]
 fn single(b: u8) -> Reading
     ensures { result ≡ single b }
@@ -223,7 +223,7 @@ fn single(b: u8) -> Reading
     token(kind, 1)
 }
 
-/// The reading of a byte, which is not white space, by its kind.
+// The reading of a byte, which is not white space, by its kind.
 #[tactic(auto, unfolding(crate::specs::Readings::reading))]
 #[inline]
 fn read(b: u8, rest: &[u8], first: bool) -> Reading

@@ -1,7 +1,7 @@
 use Rattle.std.proofs.Common.{◌∙◌, false, sym, subst}
 use Rattle.std.specs.Prelude.{bit_or}
 use Rattle.cql_lines.specs.Reads.{Read}
-use Rattle.cql_lines.specs.Values.{holds}
+use Rattle.cql_lines.specs.Tables.{holds}
 use Rattle.cql_lines.specs.Sets.{IsSet, Between, place_set}
 use Rattle.cql_lines.specs.Shapes.{Edge, is_searched}
 use Rattle.cql_lines.specs.Lengths.{at}
@@ -21,7 +21,7 @@ returns-clause-stands g c =
     visited IsSet bit_or same_set set_of_two c.args.table.now.words.items c.args.rules.now s.primary s.spots.items s.below c.args.node c.args.rows.now c.pass_up.new.rows
     c.own_sets-own.result c.requires.node c.requires.stands
     (known_at IsSet bit_or same_set set_of_two c.args.table.now.words.items c.args.rules.now s.primary s.spots.items s.below none_set place_set place_set_known c.args.node c.args.rows.now
-    c.own_sets-own.result c.held-held.result c.args.table.now.atoms c.requires.node c.requires.stands c.held-held.ensures.held c.requires.atoms c.own_sets-own.ensures.here c.own_sets-own.ensures.past)
+    c.own_sets-own.result c.held-held.result c.args.table.now.atoms c.requires.node c.requires.stands c.held-held.ensures.held c.requires.fit.atoms c.own_sets-own.ensures.here c.own_sets-own.ensures.past)
     c.pass_up.ensures
 
 pub returns-clause-value : goal.returns-clause-value
@@ -35,5 +35,5 @@ returns-clause-value g c =
     (subst (IsSet (Read (holds c.args.table.now.words.items) c.args.rules.now (Edge false s.primary s.spots.items) c.args.first c.args.node)) (sym c.union_of.ensures)
     (read_set c.args.table.now.words.items c.args.rules.now (Edge false s.primary s.spots.items) c.args.first c.args.node (at c.own_sets-own.result)
     (known_at IsSet bit_or same_set set_of_two c.args.table.now.words.items c.args.rules.now s.primary s.spots.items s.below none_set place_set place_set_known c.args.node c.args.rows.now
-    c.own_sets-own.result c.held-held.result c.args.table.now.atoms c.requires.node c.requires.stands c.held-held.ensures.held c.requires.atoms c.own_sets-own.ensures.here c.own_sets-own.ensures.past)))
+    c.own_sets-own.result c.held-held.result c.args.table.now.atoms c.requires.node c.requires.stands c.held-held.ensures.held c.requires.fit.atoms c.own_sets-own.ensures.here c.own_sets-own.ensures.past)))
     c.greatest_within.ensures)

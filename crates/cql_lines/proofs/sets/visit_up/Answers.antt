@@ -1,6 +1,6 @@
 use Rattle.std.proofs.Common.{◌∙◌, true, sym, subst}
 use Rattle.cql_lines.specs.Reads.{Read}
-use Rattle.cql_lines.specs.Values.{holds}
+use Rattle.cql_lines.specs.Tables.{holds}
 use Rattle.cql_lines.specs.Sets.{IsSet, Between, place_set}
 use Rattle.cql_lines.specs.Shapes.{Edge, is_searched}
 use Rattle.cql_lines.specs.Lengths.{at}
@@ -20,7 +20,7 @@ returns-clause-stands g c =
     stands_up IsSet same_set none_set c.args.table.now.words.items c.args.rules.now s.primary s.spots.items (λ n p e. (s.below n p e, s.whole n p e)) c.args.node c.args.rows.now c.own_sets-own.result
     c.requires.node c.requires.stands
     (above_known IsSet same_set none_set c.args.table.now.words.items c.args.rules.now s.primary s.spots.items (λ n p e. (s.below n p e, s.whole n p e)) place_set place_set_known c.args.node c.args.rows.now c.row_above-above.result c.own_sets-own.result c.held-held.result c.args.table.now.atoms
-    c.requires.stands c.row_above-above.ensures c.held-held.ensures.held c.requires.atoms c.own_sets-own.ensures.here c.own_sets-own.ensures.past)
+    c.requires.stands c.row_above-above.ensures c.held-held.ensures.held c.requires.fit.atoms c.own_sets-own.ensures.here c.own_sets-own.ensures.past)
 
 pub returns-clause-value : goal.returns-clause-value
 returns-clause-value g c =
@@ -33,5 +33,5 @@ returns-clause-value g c =
     (subst (IsSet (Read (holds c.args.table.now.words.items) c.args.rules.now (Edge true s.primary s.spots.items) c.args.first c.args.node)) (sym c.union_of.ensures)
     (read_set c.args.table.now.words.items c.args.rules.now (Edge true s.primary s.spots.items) c.args.first c.args.node (at c.own_sets-own.result)
     (above_known IsSet same_set none_set c.args.table.now.words.items c.args.rules.now s.primary s.spots.items (λ n p e. (s.below n p e, s.whole n p e)) place_set place_set_known c.args.node c.args.rows.now c.row_above-above.result c.own_sets-own.result c.held-held.result c.args.table.now.atoms
-    c.requires.stands c.row_above-above.ensures c.held-held.ensures.held c.requires.atoms c.own_sets-own.ensures.here c.own_sets-own.ensures.past)))
+    c.requires.stands c.row_above-above.ensures c.held-held.ensures.held c.requires.fit.atoms c.own_sets-own.ensures.here c.own_sets-own.ensures.past)))
     c.greatest_within.ensures)

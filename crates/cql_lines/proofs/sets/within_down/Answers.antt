@@ -1,9 +1,9 @@
-use Rattle.std.proofs.Common.{◌≡◌, ℕ, ◌+◌, ◌*◌, ◌<◌, ◌≤◌, length, ◌-◌, false, ◌∙◌, sym, ap, subst, arith, None}
+use Rattle.std.proofs.Common.{◌≡◌, ℕ, ◌+◌, ◌<◌, length, ◌-◌, false, ◌∙◌, sym, ap, subst, arith, None}
 use Rattle.std.proofs.lemmas.List.{length-set, length-replicate}
 use Rattle.std.specs.Prelude.{replicate}
 use Rattle.cql_lines.specs.Down.{Stands}
 use Rattle.cql_lines.specs.Reads.{Read}
-use Rattle.cql_lines.specs.Values.{holds}
+use Rattle.cql_lines.specs.Tables.{holds}
 use Rattle.cql_lines.specs.Shapes.{Edge, is_searched}
 use Rattle.cql_lines.specs.Sets.{IsSet, Between}
 use Rattle.cql_lines.proofs.SetsLaw.{none_set}

@@ -1,6 +1,7 @@
 use Rattle.std.proofs.Common.{◌≡◌, ℕ, ◌+◌, ◌*◌, ◌<◌, ◌≤◌, get_or, length, None, false, take, ◌-◌}
 use Rattle.cql_lines.specs.Down.{Stands}
-use Rattle.cql_lines.specs.Values.{AnswerAt, holds}
+use Rattle.cql_lines.specs.Tables.{holds}
+use Rattle.cql_lines.specs.Values.{AnswerAt}
 use Rattle.cql_lines.specs.Reads.{Read}
 use Rattle.cql_lines.specs.Sets.{IsSet, Between}
 use Rattle.cql_lines.specs.Shapes.{Edge, is_searched, searched_count}

@@ -1,5 +1,6 @@
 use Rattle.std.proofs.Common.{◌≡◌, ℕ, ◌+◌, ◌*◌, ◌<◌, ◌≤◌, get_or, length, None, true, drop}
-use Rattle.cql_lines.specs.Values.{AnswerAt, holds}
+use Rattle.cql_lines.specs.Tables.{holds}
+use Rattle.cql_lines.specs.Values.{AnswerAt}
 use Rattle.cql_lines.specs.Reads.{Read}
 use Rattle.cql_lines.specs.Up.{StandsUp}
 use Rattle.cql_lines.specs.Lengths.{IsGreatestOrZero}

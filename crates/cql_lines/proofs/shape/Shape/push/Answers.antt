@@ -1,5 +1,5 @@
 use Rattle.cql_lines.proofs.Puts.{push_keeps}
-use Rattle.cql_lines.proofs.table.Shape.push.Goals as goal
+use Rattle.cql_lines.proofs.shape.Shape.push.Goals as goal
 
 pub invariant_of-self : goal.invariant_of-self
 invariant_of-self c =

@@ -1,6 +1,6 @@
 use Rattle.std.proofs.Common.{◌∙◌, arith}
 use Rattle.cql_lines.proofs.Bits.{one_bit, or_bit_set, or_bit_other}
-use Rattle.cql_lines.proofs.looks.with_bit.Goals as goal
+use Rattle.cql_lines.proofs.table.looks.with_bit.Goals as goal
 
 pub returns-then-holds-clause-set : goal.returns-then-holds-clause-set
 returns-then-holds-clause-set c = rw c.if-holds.true (or_bit_set c.args.mask _ c.args.atom (one_bit c.args.atom c.requires))

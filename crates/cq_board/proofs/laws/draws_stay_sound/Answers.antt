@@ -1,0 +1,5 @@
+use Rattle.cq_board.proofs.Drawing.{first_is_sound, draw_stays_sound as stays_sound}
+use Rattle.cq_board.proofs.laws.draws_stay_sound.Goals as goal
+
+pub returns : goal.returns
+returns c = record { first = first_is_sound; draw = stays_sound }

@@ -1,0 +1,23 @@
+-- Tables of atoms as their callers see them.
+use Rattle.std.specs.Prelude.{◌==◌, ℕ, List, Bool, length, get_or}
+use Rattle.std.specs.Int.{bit_at}
+use Rattle.cql_lines.specs.declared.table.AtomTable.{AtomTable}
+
+-- how many atoms it has
+abbrev pub atoms_of : AtomTable → ℕ
+atoms_of table = table.atoms
+
+-- for each node a word with a bit for each atom
+abbrev pub words_of : AtomTable → List ℕ
+words_of table = table.words.items
+
+-- a word has a bit for each atom
+abbrev pub holds : List ℕ → ℕ → ℕ → Bool
+holds words a n = bit_at (get_or words n 0) a == 1
+
+abbrev pub nodes_of : AtomTable → ℕ
+nodes_of table = length (words_of table)
+
+-- whether an atom holds at a node
+abbrev pub holds_in : AtomTable → ℕ → ℕ → Bool
+holds_in table a n = holds (words_of table) a n

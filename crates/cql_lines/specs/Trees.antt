@@ -1,0 +1,21 @@
+-- Trees as their callers see them.
+use Rattle.std.specs.Prelude.{List, Bool, Option}
+use Rattle.cql_lines.specs.declared.shape.Limits.{Limits}
+use Rattle.cql_lines.specs.declared.shape.Shape.{Shape}
+use Rattle.cql_lines.specs.declared.shape.Spot.{Spot}
+
+-- its nodes in order
+abbrev pub spots_of : Shape → List Spot
+spots_of shape = shape.spots.items
+
+-- paths go up, and not down
+abbrev pub goes_back : Shape → Bool
+goes_back shape = shape.back
+
+-- each step joins a node and its first child
+abbrev pub is_primary : Shape → Bool
+is_primary shape = shape.primary
+
+-- the lengths that count, none where all do
+abbrev pub limits_of : Shape → Option Limits
+limits_of shape = shape.extent

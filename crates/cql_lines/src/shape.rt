@@ -1,0 +1,32 @@
+//! The tree, and which paths through it count.
+ghost use Rattle.std.specs.Prelude.{◌≡◌, ℕ, ◌<◌, ◌≤◌, true, Some};
+ghost use Rattle.cql_lines.specs.declared.shape.Limits.{Limits as SomeLimits};
+ghost use Rattle.cql_lines.specs.Shapes.{joined, is_searched};
+
+/// A node of the tree.
+#[derive(Clone, Copy, Debug)]
+pub struct Spot {
+    pub parent: Option<u32>,
+    pub searched: bool,
+    pub first: bool,
+}
+
+/// The lengths that count, from the least to the most.
+#[derive(Clone, Copy, Debug)]
+pub struct Limits {
+    pub least: u32,
+    pub most: u32,
+}
+
+/// The tree, and which paths through it count.
+#[derive(Drop)]
+pub struct Shape {
+    pub(crate) spots: Vec<Spot>,
+    pub(crate) back: bool,
+    pub(crate) primary: bool,
+    /// Where it is missing, every length counts.
+    pub(crate) extent: Option<Limits>,
+    ghost below: { (n p : ℕ) → joined primary spots.items n ≡ Some p → p < n },
+    ghost whole: { (n p : ℕ) → joined primary spots.items n ≡ Some p → is_searched spots.items p ≡ true },
+    ghost short: { (e : SomeLimits) → extent ≡ Some e → e.most ≤ 127 },
+}

@@ -1,0 +1,86 @@
+//! Atoms put into a table and looked at. Nothing else reads its bits, and each look counts a step.
+ghost use Rattle.std.specs.Prelude.{◌≡◌, ℕ, ◌+◌, ◌<◌, ◌≤◌, ◌||◌, true, false, IfOk, replicate};
+ghost use Rattle.cql_lines.specs.Lengths.{is_set, at};
+ghost use Rattle.cql_lines.specs.Tables.{atoms_of, nodes_of, words_of, holds_in};
+
+use crate::table::AtomTable;
+use cq_outside::{NoMemory, Steps};
+use std::alloc::Global;
+use std::sync::ledger::Ledger;
+
+impl AtomTable {
+    /// A table of at most 64 atoms and 65,536 nodes, in which no atom holds anywhere.
+    pub fn new(alloc: Global, atoms: u32, nodes: u32) -> Result<AtomTable, NoMemory>
+        requires atoms { atoms ≤ 64 }
+        requires nodes { nodes ≤ 65536 }
+        ensures atoms { IfOk result (λ table. atoms_of table ≡ atoms) }
+        ensures bits { IfOk result (λ table. words_of table ≡ replicate nodes 0) }
+    {
+        let words = vec![in alloc; 0; nodes as usize]?;
+        Ok(AtomTable { atoms, words })
+    }
+
+    /// From now on the atom holds at the node.
+    #[tactic(auto, using(crate::proofs::Puts::put_here, crate::proofs::Puts::put_there))]
+    pub fn put(&mut self, atom: u32, node: u32)
+        requires atom { atom < atoms_of self.old }
+        requires node { node < nodes_of self.old }
+        ensures here { holds_in self.new atom node ≡ true }
+        ensures others { (a n : ℕ) → ((a ≡ atom) × (n ≡ node) → ⊥)
+            → holds_in self.new a n ≡ holds_in self.old a n }
+        ensures size { (atoms_of self.new ≡ atoms_of self.old) × (nodes_of self.new ≡ nodes_of self.old) }
+    {
+        let word = with_bit(self.words[node as usize], atom, true);
+        self.words[node as usize] = word;
+    }
+
+    /// Whether an atom holds at a node: one step.
+    pub fn look<L: Ledger>(&self, atom: u32, node: u32, steps: &mut Steps<L>) -> bool
+        requires atom { atom < atoms_of self.now }
+        requires node { node < nodes_of self.now }
+        ensures held { result ≡ holds_in self.now atom node }
+        ensures step { steps.new ≡ steps.old + 1 }
+    {
+        steps.tick();
+        (self.words[node as usize] >> atom) & 1 == 1
+    }
+
+    /// All atoms that hold at a node.
+    pub(crate) fn held<L: Ledger>(&self, node: usize, steps: &mut Steps<L>) -> u64
+        requires node { node < nodes_of self.now }
+        ensures held { (a : ℕ) → a < atoms_of self.now → is_set result a ≡ holds_in self.now a node }
+        ensures cost { steps.new ≡ steps.old + atoms_of self.now }
+    {
+        let mut mask = 0;
+        for atom in 0..self.atoms {
+            let holds = self.look(atom, node as u32, steps);
+            mask = with_bit(mask, atom, holds);
+        }
+        mask
+    }
+
+    /// How many atoms it has.
+    pub fn atoms(&self) -> u32
+        ensures { result ≡ atoms_of self.now }
+    {
+        self.atoms
+    }
+
+    /// How many nodes it has.
+    pub fn nodes(&self) -> usize
+        ensures { result ≡ nodes_of self.now }
+    {
+        self.words.len()
+    }
+}
+
+// The mask, and in it the atom too where it holds.
+fn with_bit(mask: u64, atom: u32, holds: bool) -> u64
+    requires { atom < 64 }
+    ensures set { is_set result atom ≡ (holds || is_set mask atom) }
+    ensures beside { (a : ℕ) → (a ≡ atom → ⊥) → is_set result a ≡ is_set mask a }
+    ensures others { (a : ℕ) → a < atom → is_set result a ≡ is_set mask a }
+    ensures above { (a : ℕ) → atom < a → is_set mask a ≡ false → is_set result a ≡ false }
+{
+    if holds { mask | (1 << atom) } else { mask }
+}
