@@ -1,6 +1,5 @@
 -- Every text is a query or has a fault, and not both.
 use Rattle.std.proofs.Common.{◌≡◌, ◌⊎◌, inl, inr, ℕ, List, Option, None, Some, refl}
-use Rattle.cql_syntax.specs.Limits.{most_open}
 use Rattle.cql_syntax.specs.TreeFaults.{tree_fault}
 use Rattle.cql_syntax.specs.Trees.{QueryTree}
 use Rattle.cql_syntax.specs.declared.fault.QueryFault.{QueryFault}

@@ -1,5 +1,5 @@
 -- A walk finds the same where `square` are counted to one more than may be nested.
-use Rattle.std.proofs.Common.{◌≡◌, ℕ, zero, suc, ◌+◌, Bool, true, false, cond, List, [], ◌∷◌, ◌++◌, map, filter, Option, None, Some, refl, sym, ◌∙◌, ap, ap₂, arith}
+use Rattle.std.proofs.Common.{◌≡◌, ℕ, ◌+◌, Bool, true, false, cond, List, [], ◌∷◌, ◌++◌, map, filter, None, refl, sym, ◌∙◌, ap, ap₂, arith}
 use Rattle.std.proofs.lemmas.List.{map-append}
 use Rattle.std.specs.Prelude.{min, nat_eq}
 use Rattle.std.specs.List.{flat_map}
@@ -12,7 +12,7 @@ use Rattle.cql_syntax.specs.declared.leaves.Kind.{Kind}
 use Rattle.cql_syntax.specs.declared.leaves.Kind.TheVariants.{Position, Set, Number}
 use Rattle.cql_kinds.specs.declared.firsts.Firsts.{Firsts}
 use Rattle.cql_kinds.specs.Standings.{counted}
-use Rattle.cql_kinds.specs.Walks.{or_first, with_firsts, walked}
+use Rattle.cql_kinds.specs.Walks.{with_firsts, walked}
 
 abbrev seen : Occurrence → Occurrence
 seen o = record { standing = counted o.standing; at = o.at; form = o.form }

@@ -1,6 +1,6 @@
 -- A query is read in one way, as its tokens.
 use Rattle.std.proofs.Common.{◌≡◌, ℕ, zero, suc, ◌+◌, ◌-◌, ◌<◌, ◌≤◌, Bool, true, false, cond, leb, ltb, List, [], ◌∷◌, length, take, drop, Option, None, Some, Result, Ok, Err, inl, inr, refl, sym, ap, subst, ◌∙◌, arith, length-drop}
-use Rattle.std.specs.Prelude.{◌↔◌, ◌&&◌, nat_eq, codes, unwrap_or}
+use Rattle.std.specs.Prelude.{◌↔◌, nat_eq, codes, unwrap_or}
 use Rattle.std.specs.Char.{is_ascii_digit}
 use Rattle.std.specs.List.{position, prefix_len, starts_with}
 use Rattle.std.specs.Option.{option_map}

@@ -1,5 +1,5 @@
 -- The squares of ranges of files and ranks, computed, for each pair of ranges.
-use Rattle.std.proofs.Common.{◌≡◌, ℕ, zero, suc, ◌+◌, ◌-◌, ◌*◌, ◌/◌, ◌%◌, ◌^◌, ◌<◌, ◌≤◌, Bool, true, false, inl, inr, ⊎_elim, refl, ap, ◌∙◌, arith, bit_and}
+use Rattle.std.proofs.Common.{◌≡◌, ℕ, zero, suc, ◌+◌, ◌-◌, ◌*◌, ◌/◌, ◌%◌, ◌^◌, ◌<◌, ◌≤◌, Bool, true, inl, inr, ⊎_elim, refl, ap, ◌∙◌, arith, bit_and}
 use Rattle.std.specs.Prelude.{◌&&◌, ◌||◌, not, nat_le, nat_eq}
 use Rattle.std.proofs.str.Laws.{order}
 use Rattle.std.specs.Prelude.{◌⊎◌}

@@ -1,12 +1,10 @@
 -- Every text spells a query or has a fault, where the tokens of a text do.
 use Rattle.std.proofs.Common.{◌≡◌, ◌⊎◌, inl, inr, ℕ, List, Result, Ok, Err, refl}
-use Rattle.cql_syntax.specs.Limits.{most_open}
 use Rattle.cql_syntax.specs.Trees.{QueryTree}
 use Rattle.cql_syntax.specs.declared.fault.QueryFault.{QueryFault}
 use Rattle.cql_syntax.specs.declared.token.QueryToken.{QueryToken}
 use Rattle.cql_lexer.specs.Tokens.{tokens_of}
-use Rattle.cql_parser.specs.Drafts.{Spells}
-use Rattle.cql_parser.specs.Faults.{IsEnded, IsFault}
+use Rattle.cql_parser.specs.Faults.{IsEnded}
 use Rattle.cql_parser.specs.Texts.{TextSpells, IsTextFault}
 use Rattle.cql_parser.proofs.Reading.{HasOutcome, has_outcome}
 
