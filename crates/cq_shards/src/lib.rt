@@ -4,6 +4,7 @@
 mod answers;
 pub mod laws;
 mod order;
+mod shared;
 
 pub use answers::{Answer, GameAnswer, Keys};
 pub use order::{by_keys, in_order};

@@ -182,16 +182,3 @@ fn long_archives_are_cut_and_read_once(rt: HostRuntime) -> Result<(), Fail> {
     }
     Ok(())
 }
-
-/// What workers share may be sent to them and read by them.
-fn may_be_shared<T: Send + Sync + Drop>(_value: T) {}
-
-#[test]
-fn spans_may_be_shared() {
-    may_be_shared(Cutter::new());
-    may_be_shared(Span {
-        start: 0,
-        end: 1,
-        first: true,
-    });
-}

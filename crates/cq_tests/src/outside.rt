@@ -1,5 +1,5 @@
 use cq_outside::{
-    Bytes, Desk, Failed, FileDesk, Gate, MemSource, NoMemory, OpenFault, OpenGate, Refusal, Sink,
+    Bytes, Desk, Failed, FileDesk, Gate, MemSource, OpenFault, OpenGate, Sink,
     Source, StdSink, SureDesk, SureSink, SureSource, decimal_up_to, digits_len, is_white,
     read_piece, read_up_to, white_len, write_all_of,
 };
@@ -7,18 +7,6 @@ use std::alloc::Global;
 use std::fs;
 use std::io::Write;
 use std::test::Fail;
-
-fn is_shared<T: Send + Sync>() {}
-
-#[test]
-fn threads_may_share_what_they_are_given() {
-    is_shared::<Bytes>();
-    is_shared::<NoMemory>();
-    is_shared::<Failed>();
-    is_shared::<Refusal<Failed>>();
-    is_shared::<OpenFault>();
-    is_shared::<OpenGate>();
-}
 
 #[test]
 fn numbers_are_written_in_decimal(rt: HostRuntime) -> Result<(), Fail> {

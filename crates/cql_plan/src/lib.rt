@@ -8,6 +8,7 @@ mod keys;
 pub mod laws;
 mod needs;
 mod plan;
+mod shared;
 mod verdict;
 
 pub use plan::{Plan, match_game, may_hold};

@@ -10,7 +10,7 @@ pub mod flat_laws;
 mod kinds;
 pub mod laws;
 pub mod leaves;
-pub mod shared;
+mod shared;
 pub mod token;
 pub mod tree;
 pub mod typed;

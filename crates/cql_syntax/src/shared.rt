@@ -5,9 +5,7 @@ use crate::flat::FlatQuery;
 use crate::token::QueryToken;
 use crate::tree::Query;
 use crate::typed::TypedQuery;
-
-/// A type of which threads may share values, or hand them over.
-pub trait Shared: Send + Sync {}
+use cq_outside::Shared;
 
 impl Shared for QueryToken {}
 

@@ -20,7 +20,6 @@ mod rewrite;
 #[cfg(test)]
 mod shards;
 #[cfg(test)]
-mod shared;
 #[cfg(test)]
 mod symmetry;
 #[cfg(test)]

@@ -9,6 +9,7 @@
 mod cutter;
 mod game;
 mod laws;
+mod shared;
 mod span;
 mod state;
 mod whole;

@@ -10,6 +10,7 @@ mod notes;
 mod reader;
 mod reading;
 mod row;
+mod shared;
 mod text;
 
 pub use fault::{GameFault, Reason};

@@ -7,6 +7,7 @@ mod comment;
 mod game;
 pub mod laws;
 mod node;
+mod shared;
 mod tags;
 
 pub use comment::first_word;

@@ -1,0 +1,8 @@
+//! What threads share, or hand over.
+
+use crate::seat::{Board, ClaimSeat};
+use cq_outside::Shared;
+
+impl Shared for Board {}
+
+impl Shared for ClaimSeat {}

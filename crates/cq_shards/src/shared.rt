@@ -1,0 +1,10 @@
+//! What threads share, or hand over.
+
+use crate::answers::{Answer, GameAnswer, Keys};
+use cq_outside::Shared;
+
+impl Shared for Keys {}
+
+impl Shared for Answer {}
+
+impl Shared for GameAnswer {}

@@ -1,0 +1,9 @@
+//! What threads share, or hand over.
+
+use crate::cutter::Cutter;
+use crate::span::Span;
+use cq_outside::Shared;
+
+impl Shared for Cutter {}
+
+impl Shared for Span {}

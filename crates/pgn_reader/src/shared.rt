@@ -1,0 +1,6 @@
+//! What threads share, or hand over.
+
+use crate::fault::GameFault;
+use cq_outside::Shared;
+
+impl Shared for GameFault {}

@@ -1,0 +1,9 @@
+//! What threads share, or hand over.
+
+use crate::game::Game;
+use crate::tags::Tags;
+use cq_outside::Shared;
+
+impl Shared for Game {}
+
+impl Shared for Tags {}
