@@ -1,6 +1,6 @@
 use cq_outside::{
-    Bytes, Desk, Failed, FileDesk, Gate, MemSource, OpenFault, OpenGate, Sink,
-    Source, StdSink, SureDesk, SureSink, SureSource, decimal_up_to, digits_len, is_white,
+    Bytes, Calls, Desk, Failed, FileDesk, Gate, MemDesk, MemSink, MemSource, OpenFault, OpenGate,
+    Sink, Source, StdSink, SureDesk, SureSink, SureSource, decimal_up_to, digits_len, is_white,
     read_piece, read_up_to, white_len, write_all_of,
 };
 use std::alloc::Global;
@@ -106,6 +106,53 @@ fn a_source_in_memory_gives_pieces_and_fails_at_given_reads(rt: HostRuntime) -> 
 }
 
 #[test]
+fn a_sink_in_memory_takes_pieces_and_fails_at_given_writes(rt: HostRuntime) -> Result<(), Fail> {
+    let alloc = rt.alloc();
+    // None is a write that fails.
+    let rows = [
+        ([].as_slice(), [Some(3), Some(3), Some(1), Some(0)]),
+        (&[2, 9], [Some(3), None, Some(3), Some(1)]),
+        (&[1, 1, 3], [None, Some(3), None, Some(3)]),
+    ];
+    for (fails, answers) in rows {
+        let mut sink = MemSink::new(alloc, 7, 3, Calls::of(alloc, fails)?)?;
+        let mut taken = 0;
+        for answer in answers {
+            let moved = sink.write(&b"games 0"[taken..]).ok();
+            assert_eq!(rt; moved, answer, "at {fails:?}");
+            taken += moved.unwrap_or(0);
+        }
+        assert!(rt; sink.taken() == Some(&b"games 0"[..taken]));
+    }
+    Ok(())
+}
+
+#[test]
+fn a_desk_in_memory_fails_at_given_openings_and_reads(rt: HostRuntime) -> Result<(), Fail> {
+    let alloc = rt.alloc();
+    let mut desk = MemDesk::new(alloc, Calls::of(alloc, &[2])?);
+    desk.add(b"a.pgn", b"none", 1, &[])?;
+    desk.add(b"a.pgn", b"abc", 2, &[2])?;
+    let opened = [
+        desk.open(alloc, b"a.pgn"),
+        desk.open(alloc, b"a.pgn"),
+        desk.open(alloc, b"b.pgn"),
+        desk.open(alloc, b"a.pgn"),
+    ];
+    let failed = Err(OpenFault::Failed);
+    assert_eq!(rt; opened, [Ok(()), failed, failed, Ok(())]);
+    let mut buffer = [0; 4];
+    let read = [
+        desk.read(&mut buffer),
+        desk.read(&mut buffer),
+        desk.read(&mut buffer),
+        desk.read(&mut buffer),
+    ];
+    assert_eq!(rt; read, [Ok(2), Err(Failed), Ok(1), Ok(0)]);
+    Ok(())
+}
+
+#[test]
 fn a_sink_in_memory_tells_what_fits_its_room(rt: HostRuntime) -> Result<(), Fail> {
     let mut sink = SureSink::new(rt.alloc(), 4)?;
     let rows = [
@@ -160,6 +207,27 @@ fn a_desk_reads_a_real_file_and_standard_input(rt: HostRuntime) -> Result<(), Fa
     let read = (unopened, file.as_slice(), pipe.as_slice());
     let want = (0, b"in a file".as_slice(), b"in a pipe".as_slice());
     assert_eq!(rt; read, want);
+    Ok(())
+}
+
+#[test]
+fn a_desk_opens_the_real_file_of_the_name_given(rt: HostRuntime) -> Result<(), Fail> {
+    let alloc = rt.alloc();
+    let (first, second) = ("cq_outside_first_test.pgn", "cq_outside_second_test.pgn");
+    fs::write(&rt, first, "in the first")?;
+    fs::write(&rt, second, "in the second")?;
+    let mut desk = FileDesk::new(alloc, rt, b"".as_slice())?;
+    let read = (
+        opened(alloc, &mut desk, second.as_bytes())?,
+        opened(alloc, &mut desk, first.as_bytes())?,
+    );
+    fs::remove_file(&rt, first)?;
+    fs::remove_file(&rt, second)?;
+    let texts = (read.0.as_slice(), read.1.as_slice());
+    assert_eq!(rt;
+        texts,
+        (b"in the second".as_slice(), b"in the first".as_slice())
+    );
     Ok(())
 }
 
