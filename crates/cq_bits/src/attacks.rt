@@ -4,9 +4,9 @@ ghost use Rattle.cq_bits.specs.Sets.{Has, has, IsSetOf, IsAttacked, IsChosen, Is
 ghost use Rattle.cq_position.specs.Board.{man_at};
 ghost use Rattle.cq_bits.specs.Kinds.{is_of_kind};
 
-use crate::slides::{BitSet64, slide};
 use cq_geometry::Square;
 use cq_position::{Man, Position, attacks_from};
+use cq_sets::{BitSet64, slide};
 
 /// Expands to the union of the slides that are listed, each from its set in its direction.
 macro_rules! slides {
@@ -40,7 +40,7 @@ pub fn attacked(position: &Position, from: BitSet64) -> BitSet64
     slides | leaps(position, from)
 }
 
-/// The squares of `among` on which this stands.
+// The squares of `among` on which this stands.
 fn chosen(position: &Position, kind: Kind, among: BitSet64) -> BitSet64
     ensures { IsSetOf result (IsChosen (is_of_kind kind) position.now.men among) }
 {
@@ -52,7 +52,7 @@ fn chosen(position: &Position, kind: Kind, among: BitSet64) -> BitSet64
     set
 }
 
-/// Whether the square is one of `among` and this stands there.
+// Whether the square is one of `among` and this stands there.
 fn is_chosen(position: &Position, kind: Kind, among: BitSet64, number: u8) -> bool
     requires { number < 64 }
     ensures { result ≡ (has among number && is_of_kind kind (man_at position.now.men number)) }
@@ -60,7 +60,7 @@ fn is_chosen(position: &Position, kind: Kind, among: BitSet64, number: u8) -> bo
     has_square(among, number) && is_kind(position.at(Square::new(number)), kind)
 }
 
-/// The squares that kings, knights and pawns attack from the squares of `from`.
+// The squares that kings, knights and pawns attack from the squares of `from`.
 fn leaps(position: &Position, from: BitSet64) -> BitSet64
     ensures { IsSetOf result (λ to. (square : ℕ) × (square < 64) × IsLeap position.now.men from square to) }
 {
@@ -71,7 +71,7 @@ fn leaps(position: &Position, from: BitSet64) -> BitSet64
     reached
 }
 
-/// What a king, a knight or a pawn attacks from this square, if it is one of `from`.
+// What a king, a knight or a pawn attacks from this square, if it is one of `from`.
 fn leaps_from(position: &Position, from: BitSet64, number: u8) -> BitSet64
     requires { number < 64 }
     ensures { IsSetOf result (IsLeap position.now.men from number) }
@@ -83,7 +83,7 @@ fn leaps_from(position: &Position, from: BitSet64, number: u8) -> BitSet64
     }
 }
 
-/// Whether the square is one of `from` and neither a rook, a bishop nor a queen stands there.
+// Whether the square is one of `from` and neither a rook, a bishop nor a queen stands there.
 fn is_leaper(position: &Position, from: BitSet64, number: u8) -> bool
     requires { number < 64 }
     ensures { result ≡ (has from number && not (slides (man_at position.now.men number))) }

@@ -4,8 +4,8 @@ ghost use Rattle.cq_position.specs.Bitboards.{contains};
 ghost use Rattle.cq_bits.specs.Sets.{IsSetOf, IsBetween, IsBetweenOne, IsBetweenTwo};
 
 use crate::attacks::{has_square, with_square};
-use crate::slides::BitSet64;
 use cq_geometry::{Square, between};
+use cq_sets::BitSet64;
 
 /// The squares strictly between a square of `a` and a square of `b` that are on one file, rank or diagonal.
 pub fn between_all(a: BitSet64, b: BitSet64) -> BitSet64
@@ -18,7 +18,7 @@ pub fn between_all(a: BitSet64, b: BitSet64) -> BitSet64
     found
 }
 
-/// The squares between this square, if it is one of `a`, and a square of `b`.
+// The squares between this square, if it is one of `a`, and a square of `b`.
 fn between_one(a: BitSet64, b: BitSet64, from: u8) -> BitSet64
     requires { from < 64 }
     ensures { IsSetOf result (IsBetweenOne a b from) }
@@ -30,7 +30,7 @@ fn between_one(a: BitSet64, b: BitSet64, from: u8) -> BitSet64
     found
 }
 
-/// The squares between two squares, if the first is one of `a` and the second one of `b`.
+// The squares between two squares, if the first is one of `a` and the second one of `b`.
 fn between_two(a: BitSet64, b: BitSet64, from: u8, to: u8) -> BitSet64
     requires from { from < 64 }
     requires to { to < 64 }
@@ -43,7 +43,7 @@ fn between_two(a: BitSet64, b: BitSet64, from: u8, to: u8) -> BitSet64
     }
 }
 
-/// The set of the squares of a list.
+// The set of the squares of a list.
 fn set_of(squares: &[Square]) -> BitSet64
     requires { All (λ square. square < 64) squares.now }
     ensures { IsSetOf result (λ square. contains squares.now square ≡ true) }

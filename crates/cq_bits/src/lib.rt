@@ -3,8 +3,7 @@
 
 pub mod attacks;
 pub mod between;
-pub mod slides;
 
 pub use attacks::attacked;
 pub use between::between_all;
-pub use slides::{BitSet64, slide};
+pub use cq_sets::{BitSet64, slide};

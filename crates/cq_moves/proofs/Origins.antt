@@ -59,7 +59,7 @@ king_comes : (p : Board) (a b : ℕ) → (attacks p.men a b || castles p a b tru
     → (attacks p.men a b || is_goal (Some (king_home p.side)) a) ≡ true
 king_comes p a b h =
     let from_home = λ (kingside : Bool) (e : castles p a b kingside ≡ true).
-    or_right (attacks p.men a b) (is_goal (Some (king_home p.side)) a) (home kingside e) in
+        or_right (attacks p.men a b) (is_goal (Some (king_home p.side)) a) (home kingside e) in
     elim (or_cases (attacks p.men a b || castles p a b true) (castles p a b false) h) [
       | inl most ↦ elim (or_cases (attacks p.men a b) (castles p a b true) most) [
         | inl e ↦ or_left (attacks p.men a b) (is_goal (Some (king_home p.side)) a) e

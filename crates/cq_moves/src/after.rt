@@ -5,34 +5,34 @@ ghost use Rattle.cq_position.specs.Legal as legal;
 use crate::castling::{is_castling, move_rook};
 use cq_geometry::{Square, file, files_apart, rank, square_at};
 use cq_position::position::is_pawn;
-use cq_position::{Man, Move, Piece, Position, Promotion, Side, man_of};
+use cq_position::{Man, Men, Move, Piece, Position, Promotion, Side, man_of};
 
 /// The men on the squares a1, b1, .. h8 after a move of the side to move.
 ///
 /// Castling takes the rook along, a capture on the en passant square removes the pawn that has passed it, and a promotion puts the
 /// new man on the goal. The move is not judged: the mover's king may be left in check.
 #[inline]
-pub fn men_after(position: &Position, m: &Move) -> [Man; 64]
+pub fn men_after(position: &Position, m: &Move) -> Men
     ensures { result ≡ legal.men_after position.now m.now }
 {
     let mut men = men_moved(position, m);
     if is_castling(position, m) {
         move_rook(&mut men, position.side(), m.from.number() < m.to.number());
     } else if is_en_passant_capture(position, m) {
-        men[usize::from(square_at(file(m.to), rank(m.from)).number())] = Man::Empty;
+        men.set(square_at(file(m.to), rank(m.from)), Man::Empty);
     }
     men
 }
 
 // The man goes to its goal.
 #[inline]
-fn men_moved(position: &Position, m: &Move) -> [Man; 64]
+fn men_moved(position: &Position, m: &Move) -> Men
     ensures { result ≡ legal.men_moved position.now m.now }
 {
     let man = promoted(position.side(), m.promotion, position.at(m.from));
     let mut men = *position.men();
-    men[usize::from(m.from.number())] = Man::Empty;
-    men[usize::from(m.to.number())] = man;
+    men.set(m.from, Man::Empty);
+    men.set(m.to, man);
     men
 }
 

@@ -7,9 +7,10 @@ ghost use Rattle.cq_position.specs.Legal as legal;
 ghost use Rattle.cq_moves.specs.Candidates.{is_castling_goal};
 
 use cq_geometry::{Square, files_apart};
-use cq_position::attacks::{is_attacked, is_open, mark};
+use cq_position::attacks::{is_attacked, is_open};
 use cq_position::home::{king_home, rook_home};
-use cq_position::{Man, Move, Position, Side, king_of, opponent, rook_of};
+use cq_position::{Man, Men, Move, Position, Side, king_of, opponent, rook_of};
+use cq_sets::mark;
 
 /// Whether the move is castling: the move of the side's king by two files (FIDE Laws of Chess, article 3.8.2).
 #[inline]
@@ -36,18 +37,18 @@ pub(crate) fn castles(position: &Position, from: Square, to: Square, kingside: b
 }
 
 // Whether a side attacks none of the squares.
-fn are_free(men: &[Man; 64], by: Side, squares: [Square; 3]) -> bool
+fn are_free(men: &Men, by: Side, squares: [Square; 3]) -> bool
     ensures { result ≡ list_all (λ square. not (attack.is_attacked men.now by square)) squares }
 {
     squares.iter().all(|square| !is_attacked(men, by, *square))
 }
 
 /// Moves the rook over to the other side of the king.
-pub(crate) fn move_rook(men: &mut [Man; 64], side: Side, kingside: bool)
+pub(crate) fn move_rook(men: &mut Men, side: Side, kingside: bool)
     ensures { men.new ≡ legal.rook_moved men.old side kingside }
 {
-    men[usize::from(rook_home(side, kingside).number())] = Man::Empty;
-    men[usize::from(castling_crossed(side, kingside).number())] = rook_of(side);
+    men.set(rook_home(side, kingside), Man::Empty);
+    men.set(castling_crossed(side, kingside), rook_of(side));
 }
 
 /// The squares to which a king castles: bit k of the answer is square k.

@@ -1,6 +1,5 @@
 //! The legal moves of a position.
 ghost use Rattle.std.specs.Prelude.{◌≡◌, ◌+◌, ◌≤◌, ◌<◌, ◌↔◌, ◌++◌, true, false, length};
-ghost use Rattle.std.specs.Int.{trailing_zeros, w64};
 ghost use Rattle.std.specs.List.{All, AllPairs, Contains, flat_map};
 ghost use Rattle.cq_position.specs.declared.moves.Move.{Move as MoveValue};
 ghost use Rattle.cq_position.specs.Board.{Board};
@@ -13,7 +12,8 @@ use crate::mover::{Mover, Origin, is_legal_there, mover_of, origin_of};
 use crate::reach::{candidates, promotes, reaches};
 use arrayvec::ArrayVec;
 use cq_geometry::Square;
-use cq_position::{Move, Position, Promotion, is_of_side};
+use cq_position::{Move, Position, Promotion};
+use cq_sets::lowest_square;
 
 /// The legal moves of a position, each once, in the order of the squares from which they go, then of their goals, then of the promotions
 /// to a queen, a rook, a bishop and a knight. The null move is none of them.
@@ -23,14 +23,13 @@ pub fn legal_moves(position: &Position) -> ArrayVec<Move, 512>
     ensures order { AllPairs Precedes result.items }
     ensures members { (m : MoveValue) → Contains result.items m ↔ ((q : Board) × Legal position.now m q) }
 {
-    let side = position.side();
     let mover = mover_of(position);
     let mut moves = ArrayVec::new();
-    for number in 0..64 {
-        let from = Square::new(number);
-        if is_of_side(position.at(from), side) {
-            add_moves_from(position, &mover, from, &mut moves);
-        }
+    let mut left = position.men().squares_of_side(position.side());
+    while left != 0 {
+        let from = lowest_square(left);
+        left &= !(1 << from.number());
+        add_moves_from(position, &mover, from, &mut moves);
     }
     moves
 }
@@ -136,14 +135,4 @@ fn add_move(
     if is_legal_there(position, mover, origin, &m) {
         moves.push(m);
     }
-}
-
-/// The lowest square of a set that is not empty.
-#[inline]
-pub fn lowest_square(set: u64) -> Square
-    requires { 0 < set }
-    ensures value { result ≡ trailing_zeros w64 set }
-    ensures board { result < 64 }
-{
-    Square::new(set.trailing_zeros() as u8)
 }

@@ -87,7 +87,7 @@ fn is_attacked_without(position: &Position, from: Square, king: Square) -> bool
     ensures { result ≡ attack.is_attacked (slice_set position.now.men from Empty) (men_spec.opponent position.now.side) king }
 {
     let mut men = *position.men();
-    men[usize::from(from.number())] = Man::Empty;
+    men.set(from, Man::Empty);
     is_attacked(&men, opponent(position.side()), king)
 }
 

@@ -7,11 +7,11 @@ ghost use Rattle.cq_moves.specs.LegalMoves.{all_moves, moves_from, moves_between
 ghost use Rattle.cq_moves.specs.Mover.{IsMover, IsOrigin};
 ghost use Rattle.cq_moves.specs.Outcome.{IsMate, IsStalemate};
 
-use crate::list::lowest_square;
 use crate::mover::{Mover, Origin, is_legal_there, mover_of, origin_of};
 use crate::reach::{candidates, reaches};
 use cq_geometry::Square;
-use cq_position::{Move, Position, Promotion, in_check, is_of_side};
+use cq_position::{Move, Position, Promotion, in_check};
+use cq_sets::lowest_square;
 
 /// Whether the side to move is mated: it is in check and has no legal move.
 pub fn is_mate(position: &Position) -> bool
@@ -32,8 +32,11 @@ fn has_legal_move(position: &Position) -> bool
     ensures { result ≡ list_any (legal_test position.now) all_moves }
 {
     let mover = mover_of(position);
-    for number in 0..64 {
-        if has_legal_move_from(position, &mover, Square::new(number)) {
+    let mut left = position.men().squares_of_side(position.side());
+    while left != 0 {
+        let from = lowest_square(left);
+        left &= !(1 << from.number());
+        if has_legal_move_from(position, &mover, from) {
             return true;
         }
     }
@@ -44,9 +47,6 @@ fn has_legal_move_from(position: &Position, mover: &Mover, from: Square) -> bool
     requires { IsMover position.now mover.now }
     ensures { result ≡ list_any (legal_test position.now) (moves_from from) }
 {
-    if !is_of_side(position.at(from), position.side()) {
-        return false;
-    }
     let origin = origin_of(position, mover, from);
     let mut left = candidates(position, &origin);
     while left != 0 {

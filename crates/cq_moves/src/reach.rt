@@ -13,12 +13,13 @@ use crate::after::middle;
 use crate::castling::{castles, castling_goals};
 use crate::mover::Origin;
 use cq_geometry::{Square, Step, rank};
-use cq_position::attacks::{is_occupied, is_pawn_attack, mark, squares_attacked};
+use cq_position::attacks::{is_occupied, is_pawn_attack, squares_attacked};
 use cq_position::home::king_home;
 use cq_position::position::is_pawn;
 use cq_position::{
     Man, Move, Piece, Position, Promotion, Side, is_of_side, king_of, man_of, opponent,
 };
+use cq_sets::mark;
 
 /// Whether a man of the side to move goes from one square to another, which holds none of its own men and no king. Bit k of `attacked` is
 /// set where the man attacks the square k.
@@ -59,7 +60,7 @@ fn candidates_of(man: Man, position: &Position, origin: &Origin) -> u64
 }
 
 /// A set that has each square from which a man of the side to move, being such a piece, goes to the goal. Bit k of the answer is square k.
-#[tactic(auto, using(cq_position::proofs::Marked::marks_or))]
+#[tactic(auto, using(cq_sets::proofs::Marked::marks_or))]
 pub fn origins_to(position: &Position, piece: Piece, goal: Square) -> u64
     ensures mask { IsBitboard result (may_come position.now.side piece (attack.is_occupied position.now.men) goal) }
     ensures kept { IsPosition position.now }
@@ -68,8 +69,7 @@ pub fn origins_to(position: &Position, piece: Piece, goal: Square) -> u64
     let _there = position.at(goal);
     let side = position.side();
     match piece {
-        Piece::King => squares_attacked(king_of(side), position.men(), goal)
-            | mark(Some(king_home(side))),
+        Piece::King => squares_attacked(king_of(side), position.men(), goal) | mark(Some(king_home(side))),
         Piece::Pawn => {
             squares_attacked(man_of(opponent(side), Piece::Pawn), position.men(), goal)
                 | squares_ahead(opponent(side), goal)

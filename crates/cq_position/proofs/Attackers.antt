@@ -1,7 +1,8 @@
 -- An attacked square is one that an attacker is found from, outward along its lines and by its steps.
 use Rattle.std.proofs.Common.{◌≡◌, ℕ, ◌<◌, Bool, true, false, cond, not, ◌&&◌, ◌||◌, ◌==◌, List, [], ◌∷◌, reverse, map, Option, Some, None, refl, inl, inr, sym, ap, ap₂, ◌∙◌, arith}
+use Rattle.std.specs.Prelude.{bit_or}
 use Rattle.std.specs.List.{All, list_all, list_any, filter}
-use Rattle.std.proofs.lemmas.Bool.{cases_Bool, eqb-true}
+use Rattle.std.proofs.lemmas.Bool.{cases_Bool, eqb-true, or_parts}
 use Rattle.std.proofs.Math.Bool.{or-false}
 use Rattle.std.proofs.lemmas.Bool.Decides.{nat_tests}
 use Rattle.std.proofs.lemmas.List.{reverse-append}
@@ -18,16 +19,18 @@ use Rattle.cq_geometry.proofs.Inside.{between_reversed}
 use Rattle.cq_geometry.proofs.Neighbors.{king_goals_kept, knight_goals_kept, king_steps_back, knight_steps_back}
 use Rattle.cq_geometry.proofs.Rays.{ray_board}
 use Rattle.cq_geometry.proofs.Seen.{sees_orthogonals, sees_diagonals}
-use Rattle.cq_geometry.proofs.Tables.{at_square}
+use Rattle.cq_geometry.proofs.Tables.{at_square, at_squares}
 use Rattle.cq_position.specs.declared.men.Man.{Man}
 use Rattle.cq_position.specs.declared.men.Man.TheVariants.{K, Q, R, B, N, P, BlackK, BlackQ, BlackR, BlackB, BlackN, BlackP, Empty}
 use Rattle.cq_position.specs.declared.men.Side.{Side}
 use Rattle.cq_position.specs.declared.men.Side.TheVariants.{White, Black}
-use Rattle.cq_position.specs.Men.{same_man, is_of_side, king_of, pawn_of}
+use Rattle.cq_position.specs.declared.men.Piece.TheVariants.{Queen, Rook, Bishop}
+use Rattle.cq_position.specs.Men.{same_man, is_of_side, king_of, pawn_of, man_of, opponent}
 use Rattle.cq_position.specs.Board.{man_at, stands}
 use Rattle.cq_position.specs.Attacks.{is_occupied, is_pawn_attack, attacks_as, attacks, attacker, is_attacked}
-use Rattle.cq_position.specs.Bitboards.{contains}
-use Rattle.cq_position.specs.Outward.{first_man, is_straight, is_slanted, knight_of, first_is, holds, pawn_origins}
+use Rattle.cq_sets.specs.Bitboards.{IsBitboard, contains}
+use Rattle.cq_sets.proofs.Marked.{marks_same, marks_or}
+use Rattle.cq_position.specs.Outward.{first_man, is_straight, is_slanted, knight_of, first_is, holds, pawn_origins, some_man}
 
 -- ---- tests of some element
 pub any_same : {X : Type 0} (p q : X → Bool) → ((x : X) → p x ≡ q x) → (xs : List X) → list_any p xs ≡ list_any q xs
@@ -312,3 +315,122 @@ attacked_outward men by s h =
     ∙ ap₂ (λ x y. x || y) (slanted_attacks men by s h) (any_or knight (λ a. pawn a || king a) squares
     ∙ ap₂ (λ x y. x || y) (knight_attacks men (knight_of by) s h) (any_or pawn king squares
     ∙ ap₂ (λ x y. x || y) (pawn_attacks men by (pawn_of by) s h) (king_attacks men (king_of by) s h))))
+
+-- ---- the ways as sets that meet, seen from the attacked square
+pawn_back : (side : Side) → map (λ a. map (is_pawn_attack side a) squares) squares ≡ map (λ a. map (λ b. is_pawn_attack (opponent side) b a) squares) squares
+unfolding squares
+pawn_back White = refl
+pawn_back Black = refl
+
+pub attacked_in_ways : (men : List Man) (by : Side) (s : ℕ) → s < 64 → is_attacked men by s ≡
+    (some_man (λ a. is_straight by (man_at men a)) (λ a. is_orthogonal s a && is_open (is_occupied men) s a)
+    || (some_man (λ a. is_slanted by (man_at men a)) (λ a. is_diagonal s a && is_open (is_occupied men) s a)
+    || (some_man (λ a. stands men a (knight_of by)) (is_knight_step s)
+    || (some_man (λ a. stands men a (pawn_of by)) (is_pawn_attack (opponent by) s)
+    || some_man (λ a. stands men a (king_of by)) (is_king_step s)))))
+unfolding is_attacked attacks
+attacked_in_ways men by s h =
+    let occupied = is_occupied men in
+    let straight = λ (a : ℕ). is_straight by (man_at men a) && (is_orthogonal a s && is_open occupied a s) in
+    let slanted = λ (a : ℕ). is_slanted by (man_at men a) && (is_diagonal a s && is_open occupied a s) in
+    let knight = λ (a : ℕ). stands men a (knight_of by) && is_knight_step a s in
+    let pawn = λ (a : ℕ). stands men a (pawn_of by) && is_pawn_attack by a s in
+    let king = λ (a : ℕ). stands men a (king_of by) && is_king_step a s in
+    any_same (attacker men by s) (λ a. straight a || (slanted a || (knight a || (pawn a || king a)))) (λ a. by_kind by (man_at men a) occupied a s) squares
+    ∙ any_or straight (λ a. slanted a || (knight a || (pawn a || king a))) squares
+    ∙ ap₂ (λ x y. x || y) (any_same straight _ (λ a. ap (λ t. is_straight by (man_at men a) && t) (ap₂ (λ x y. x && y) (orthogonal_both_ways a s) (open_both_ways occupied a s h))) squares)
+    (any_or slanted (λ a. knight a || (pawn a || king a)) squares
+    ∙ ap₂ (λ x y. x || y) (any_same slanted _ (λ a. ap (λ t. is_slanted by (man_at men a) && t) (ap₂ (λ x y. x && y) (diagonal_both_ways a s) (open_both_ways occupied a s h))) squares)
+    (any_or knight (λ a. pawn a || king a) squares
+    ∙ ap₂ (λ x y. x || y) (any_same knight _ (λ a. ap (λ t. stands men a (knight_of by) && t) (knight_steps_back a s)) squares)
+    (any_or pawn king squares
+    ∙ ap₂ (λ x y. x || y)
+    (any_same_on pawn _ squares (All-weaker (λ a. a < 64) _ (λ a low. ap (λ t. stands men a (pawn_of by) && t) (at_squares (is_pawn_attack by) (λ x y. is_pawn_attack (opponent by) y x) (pawn_back by) a s low h)) squares squares_board))
+    (any_same king _ (λ a. ap (λ t. stands men a (king_of by) && t) (king_steps_back a s)) squares))))
+
+-- where no man is on the lines, none attacks along them
+less : (a b c : Bool) → (a && b) ≡ false → (a && (b && c)) ≡ false
+less true true c e = absurd (cc)
+less true false c e = refl
+less false b c e = refl
+
+any_less : (t u v : ℕ → Bool) (xs : List ℕ) → list_any (λ a. t a && u a) xs ≡ false → list_any (λ a. t a && (u a && v a)) xs ≡ false
+any_less t u v [] e = refl
+any_less t u v (x ∷ xs) e =
+    let parts = or_parts (t x && u x) (list_any (λ a. t a && u a) xs) e in
+    rw (less (t x) (u x) (v x) parts.0) (any_less t u v xs parts.1)
+
+pub none_on_lines : (t u v : ℕ → Bool) → some_man t u ≡ false → some_man t (λ a. u a && v a) ≡ false
+none_on_lines t u v e = any_less t u v squares e
+
+-- the kinds of men that attack along lines
+straight_kinds : (by : Side) (m : Man) → (same_man m (man_of by Queen) || same_man m (man_of by Rook)) ≡ is_straight by m
+straight_kinds White K = refl
+straight_kinds White Q = refl
+straight_kinds White R = refl
+straight_kinds White B = refl
+straight_kinds White N = refl
+straight_kinds White P = refl
+straight_kinds White BlackK = refl
+straight_kinds White BlackQ = refl
+straight_kinds White BlackR = refl
+straight_kinds White BlackB = refl
+straight_kinds White BlackN = refl
+straight_kinds White BlackP = refl
+straight_kinds White Empty = refl
+straight_kinds Black K = refl
+straight_kinds Black Q = refl
+straight_kinds Black R = refl
+straight_kinds Black B = refl
+straight_kinds Black N = refl
+straight_kinds Black P = refl
+straight_kinds Black BlackK = refl
+straight_kinds Black BlackQ = refl
+straight_kinds Black BlackR = refl
+straight_kinds Black BlackB = refl
+straight_kinds Black BlackN = refl
+straight_kinds Black BlackP = refl
+straight_kinds Black Empty = refl
+
+slanted_kinds : (by : Side) (m : Man) → (same_man m (man_of by Queen) || same_man m (man_of by Bishop)) ≡ is_slanted by m
+slanted_kinds White K = refl
+slanted_kinds White Q = refl
+slanted_kinds White R = refl
+slanted_kinds White B = refl
+slanted_kinds White N = refl
+slanted_kinds White P = refl
+slanted_kinds White BlackK = refl
+slanted_kinds White BlackQ = refl
+slanted_kinds White BlackR = refl
+slanted_kinds White BlackB = refl
+slanted_kinds White BlackN = refl
+slanted_kinds White BlackP = refl
+slanted_kinds White Empty = refl
+slanted_kinds Black K = refl
+slanted_kinds Black Q = refl
+slanted_kinds Black R = refl
+slanted_kinds Black B = refl
+slanted_kinds Black N = refl
+slanted_kinds Black P = refl
+slanted_kinds Black BlackK = refl
+slanted_kinds Black BlackQ = refl
+slanted_kinds Black BlackR = refl
+slanted_kinds Black BlackB = refl
+slanted_kinds Black BlackN = refl
+slanted_kinds Black BlackP = refl
+slanted_kinds Black Empty = refl
+
+pub straight_found : (men : List Man) (by : Side) (a b : ℕ) → IsBitboard a (λ k. stands men k (man_of by Queen)) → IsBitboard b (λ k. stands men k (man_of by Rook))
+    → IsBitboard (bit_or a b) (λ k. is_straight by (man_at men k))
+straight_found men by a b m n = marks_same _ _ _ (λ k h. straight_kinds by (man_at men k)) (marks_or a b _ _ m n)
+
+pub slanted_found : (men : List Man) (by : Side) (a b : ℕ) → IsBitboard a (λ k. stands men k (man_of by Queen)) → IsBitboard b (λ k. stands men k (man_of by Bishop))
+    → IsBitboard (bit_or a b) (λ k. is_slanted by (man_at men k))
+slanted_found men by a b m n = marks_same _ _ _ (λ k h. slanted_kinds by (man_at men k)) (marks_or a b _ _ m n)
+
+twice_not : (b : Bool) → not (not b) ≡ b
+twice_not true = refl
+twice_not false = refl
+
+pub empty_seen : (men : List Man) (empty : ℕ) → IsBitboard empty (λ k. stands men k Empty) → IsBitboard empty (λ k. not (is_occupied men k))
+empty_seen men empty m = marks_same _ _ _ (λ k h. sym (twice_not (stands men k Empty))) m

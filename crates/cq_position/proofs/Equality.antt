@@ -3,17 +3,16 @@ use Rattle.std.proofs.Common.{◌≡◌, ℕ, Bool, true, false, ◌&&◌, ◌==
 use Rattle.std.proofs.Math.Bool.{beq}
 use Rattle.std.specs.Bool.{Decides}
 use Rattle.std.specs.Option.{option_eq}
-use Rattle.std.specs.Cmp.Lexicographic.{pointwise}
 use Rattle.std.proofs.lemmas.Bool.{and_parts, and_from}
 use Rattle.std.proofs.lemmas.Bool.Decides.{Decides-eqb}
-use Rattle.std.proofs.lemmas.Slice.Eq.{slice_eq-Decides}
 use denote.Enum.Bare.{sameb, same_true, true_same}
 use Rattle.cq_position.specs.declared.men.Man.{Man}
 use Rattle.cq_position.specs.declared.men.Side.{Side}
 use Rattle.cq_position.specs.declared.position.Rights.{Rights}
-use Rattle.cq_position.specs.contracts.men.Man.{the_type as man_type}
 use Rattle.cq_position.specs.contracts.men.Side.{the_type as side_type}
+use Rattle.cq_position.specs.Men.{same_men}
 use Rattle.cq_position.specs.Board.{Board}
+use Rattle.cq_position.proofs.Listed.{Decides-men}
 
 Decides-both : {P Q : Type 0} (a b : Bool) → Decides a P → Decides b Q → Decides (a && b) (P × Q)
 Decides-both a b f g = (
@@ -26,9 +25,6 @@ Decides-beq true true = (λ h. refl, λ h. refl)
 Decides-beq true false = (λ h. sym h, λ h. sym h)
 Decides-beq false true = (λ h. h, λ h. h)
 Decides-beq false false = (λ h. refl, λ h. refl)
-
-Decides-man : (a b : Man) → Decides (sameb man_type a b) (a ≡ b)
-Decides-man a b = (same_true man_type (search rules) a b, true_same man_type a b)
 
 Decides-side : (a b : Side) → Decides (sameb side_type a b) (a ≡ b)
 Decides-side a b = (same_true side_type (search rules) a b, true_same side_type a b)
@@ -63,12 +59,12 @@ board_of men side rights passant number =
 
 abbrev pub same_parts : Board → Board → Bool
 same_parts p q =
-    p.number == q.number && (pointwise (sameb man_type) p.men q.men
+    p.number == q.number && (same_men p.men q.men
     && (sameb side_type p.side q.side && (same_rights p.rights q.rights && option_eq (λ x y. x == y) p.passant q.passant)))
 
 pub equal_by_parts : (p q : Board) (r : Bool) → r ≡ same_parts p q → Decides r (p ≡ q)
 equal_by_parts p q r e =
-    let men = slice_eq-Decides Decides-man p.men q.men (pointwise (sameb man_type) p.men q.men) refl in
+    let men = Decides-men p.men q.men in
     let five = Decides-both _ _ (Decides-eqb p.number q.number) (Decides-both _ _ men (Decides-both _ _ (Decides-side p.side q.side) (Decides-both _ _ (Decides-rights p.rights q.rights) (Decides-square p.passant q.passant)))) in (
       λ h.
           let parts = five.0 (sym e ∙ h) in

@@ -1,10 +1,12 @@
 -- A side is in check where the square of its king is attacked.
-use Rattle.std.proofs.Common.{◌≡◌, ℕ, ◌+◌, ◌<◌, Bool, true, false, cond, ◌&&◌, ◌||◌, ◌==◌, List, [], ◌∷◌, length, map, refl, inl, inr, sym, ap, ◌∙◌, arith}
+use Rattle.std.proofs.Common.{◌≡◌, ℕ, ◌+◌, ◌^◌, ◌<◌, Bool, true, false, cond, ◌&&◌, ◌||◌, ◌==◌, List, [], ◌∷◌, length, map, refl, inl, inr, sym, ap, ◌∙◌, arith}
 use Rattle.std.specs.Prelude.{slice_set, count_by}
 use Rattle.std.specs.List.{list_any}
+use Rattle.std.specs.Int.{trailing_zeros, w64}
 use Rattle.std.proofs.lemmas.Bool.{cases_Bool, cases_eq, and_parts, eqb-true, eq-eqb, false_from_ne_true, cases_lt, or_parts}
 use Rattle.std.proofs.lemmas.List.{get_or_past, get_or-set_other, length-set}
 use Rattle.std.proofs.lemmas.List.FromFn.{fill_by_all}
+use Rattle.std.proofs.lemmas.Nat.Bits.{bit_at-trailing_zeros}
 use Rattle.std.proofs.lemmas.List.Sums.{sum_by-set, sum_by-cons}
 use Rattle.cq_geometry.specs.Squares.{squares}
 use Rattle.cq_position.specs.declared.men.Man.{Man}
@@ -16,6 +18,8 @@ use Rattle.cq_position.specs.Board.{man_at, stands, count_of, has_kings}
 use Rattle.cq_position.specs.Attacks.{attacked_king, is_attacked, in_check}
 use Rattle.cq_position.specs.King.{IsKingSquare}
 use Rattle.cq_position.proofs.Attackers.{any_same, any_pick}
+use Rattle.cq_sets.specs.Bitboards.{IsBitboard, bit_of}
+use Rattle.cq_sets.proofs.Shared.{some_set}
 
 abbrev counted : Bool → ℕ
 counted b = cond b 1 0
@@ -118,3 +122,20 @@ check_is_at_king men side k h =
     any_same (attacked_king men side) (λ a. is_attacked men (opponent side) a && k == a)
     (λ a. ap (λ t. t && is_attacked men (opponent side) a) (king_only men side k a h) ∙ swap_and (k == a) (is_attacked men (opponent side) a)) squares
     ∙ any_pick (is_attacked men (opponent side)) k h.board
+
+-- the lowest square of a king's set
+pub some_king : (men : List Man) (side : Side) (mask : ℕ) → length men ≡ 64 → has_kings men ≡ true → IsBitboard mask (λ s. stands men s (king_of side)) → 0 < mask
+some_king men side mask long kings m =
+    let none = some_set mask (λ s. stands men s (king_of side)) m (king_somewhere men side long (one_of_each men side kings)) in
+    omega (arith, none)
+
+bit_true : (b : Bool) → bit_of b ≡ 1 → b ≡ true
+bit_true true e = refl
+bit_true false e = absurd (omega arith)
+
+pub lowest_king : (men : List Man) (side : Side) (mask square : ℕ) → length men ≡ 64 → has_kings men ≡ true → mask < 2 ^ 64 → IsBitboard mask (λ s. stands men s (king_of side))
+    → square ≡ trailing_zeros w64 mask → IsKingSquare men side square
+lowest_king men side mask square long kings fits m e =
+    let found = bit_at-trailing_zeros w64 mask (some_king men side mask long kings m) fits in
+    king_there men side square long (one_of_each men side kings)
+    (rw e (bit_true (stands men (trailing_zeros w64 mask) (king_of side)) (sym (m.bit (trailing_zeros w64 mask) found.0) ∙ found.1)))

@@ -22,3 +22,6 @@ pub mod RoundTrip
 pub mod Splitting
 pub mod Shields
 pub mod Whole
+pub mod Digits
+pub mod Counts
+pub mod Listed

@@ -4,6 +4,7 @@ use Rattle.std.specs.List.{list_any}
 use Rattle.cq_geometry.specs.Squares.{rank_of, squares}
 use Rattle.cq_geometry.specs.Steps.{files_apart, is_king_step, is_knight_step}
 use Rattle.cq_geometry.specs.Lines.{is_orthogonal, is_diagonal, is_open}
+pub use Rattle.cq_sets.specs.Bitboards.{is_goal}
 use Rattle.cq_position.specs.declared.men.Man.{Man}
 use Rattle.cq_position.specs.declared.men.Man.TheVariants.{Empty}
 use Rattle.cq_position.specs.declared.men.Piece.{Piece}
@@ -16,11 +17,6 @@ use Rattle.cq_position.specs.Board.{man_at, stands}
 -- whether a man stands on the square
 abbrev pub is_occupied : List Man → ℕ → Bool
 is_occupied men square = not (stands men square Empty)
-
--- whether there is such a square, and it is this one
-abbrev pub is_goal : Option ℕ → ℕ → Bool
-is_goal None square = false
-is_goal (Some goal) square = goal == square
 
 -- a pawn attacks the two squares diagonally in front of it (article 3.7.3)
 abbrev pub is_pawn_attack : Side → ℕ → ℕ → Bool

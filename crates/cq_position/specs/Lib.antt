@@ -18,3 +18,5 @@ pub mod Outward
 pub mod Position
 pub mod Reading
 pub mod Search
+pub mod Planes
+pub mod Inside

@@ -1,6 +1,9 @@
 -- The men of both sides, and the letters that stand for them.
 use Rattle.std.specs.Prelude.{ℕ, List, [], ◌∷◌, codes, Bool, ◌==◌, Option, Some, None, find, option_map, nat_lt, nat_le, ◌&&◌}
 use Rattle.std.specs.List.{zip}
+use Rattle.std.specs.Cmp.{IsEquivalence}
+use Rattle.std.specs.Cmp.Lexicographic.{pointwise}
+use Rattle.std.proofs.lemmas.Cmp.{nat_eq_equiv, lists_equiv, on_equiv}
 use Rattle.cq_position.specs.declared.men.Man.{Man}
 use Rattle.cq_position.specs.declared.men.Man.TheVariants.{K, Q, R, B, N, P, BlackK, BlackQ, BlackR, BlackB, BlackN, BlackP, Empty}
 use Rattle.cq_position.specs.declared.men.Piece.{Piece}
@@ -29,6 +32,13 @@ man_number Empty = 12
 -- whether two squares hold the same
 abbrev pub same_man : Man → Man → Bool
 same_man m n = man_number m == man_number n
+
+-- whether two lists have the same men, place by place
+abbrev pub same_men : List Man → List Man → Bool
+same_men = pointwise same_man
+
+pub same_men_equiv : IsEquivalence same_men
+same_men_equiv = lists_equiv (on_equiv man_number nat_eq_equiv)
 
 -- the men with their letters, upper case for White (PGN standard 16.1.3.1)
 abbrev pub letters : List (ℕ × Man)

@@ -1,7 +1,8 @@
 -- Attackers of a square, looked for outward from it, as the private functions give them.
-use Rattle.std.specs.Prelude.{ℕ, List, [], ◌∷◌, Bool, true, false, if◌then◌else◌, Option, Some, None}
+use Rattle.std.specs.Prelude.{◌&&◌, ℕ, List, [], ◌∷◌, Bool, true, false, if◌then◌else◌, Option, Some, None}
 use Rattle.std.specs.List.{list_any}
 use Rattle.cq_geometry.specs.declared.compass.Compass.{Compass}
+use Rattle.cq_geometry.specs.Squares.{squares}
 use Rattle.cq_geometry.specs.Steps.{stepped, ray_from}
 use Rattle.cq_geometry.specs.Directions.{files_of, ranks_of}
 use Rattle.cq_position.specs.declared.men.Man.{Man}
@@ -48,6 +49,10 @@ first_is kind men directions square =
 abbrev pub holds : List Man → Man → Option ℕ → Bool
 holds men man None = false
 holds men man (Some square) = stands men square man
+
+-- some square passes both tests
+abbrev pub some_man : (ℕ → Bool) → (ℕ → Bool) → Bool
+some_man t u = list_any (λ a. t a && u a) squares
 
 -- the squares from which a pawn of the side attacks the square: diagonally, one rank behind it
 abbrev pub pawn_origins : Side → ℕ → List (Option ℕ)

@@ -4,6 +4,7 @@ ghost use Rattle.cq_position.specs.Fen.{fen_meaning};
 
 use crate::attacks::is_king_attacked;
 use crate::men::opponent;
+use crate::planes::Men;
 use crate::position::{Position, has_kings, has_pawn_on_edge, has_too_many_men};
 use thiserror::Error;
 
@@ -56,7 +57,7 @@ pub fn read_fen(text: &[u8]) -> Result<Position, FenFault>
     ensures { result ≡ fen_meaning text.now }
 {
     let fields = split_fields(text).ok_or(FenFault::Fields)?;
-    let men = read_placement(fields.placement).ok_or(FenFault::Placement)?;
+    let listed = read_placement(fields.placement).ok_or(FenFault::Placement)?;
     let side = read_side(fields.side).ok_or(FenFault::Side)?;
     if !is_castling_field(fields.castling) {
         return Err(FenFault::Castling);
@@ -66,19 +67,20 @@ pub fn read_fen(text: &[u8]) -> Result<Position, FenFault>
     }
     let _clock = read_number(fields.clock).ok_or(FenFault::Number)?;
     let number = read_number(fields.number).ok_or(FenFault::Number)?;
-    if !has_kings(&men) {
+    if !has_kings(&listed) {
         return Err(FenFault::Kings);
     }
-    if has_pawn_on_edge(&men) {
+    if has_pawn_on_edge(&listed) {
         return Err(FenFault::PawnOnEdge);
     }
-    if has_too_many_men(&men) {
+    if has_too_many_men(&listed) {
         return Err(FenFault::TooManyMen);
     }
+    let men = Men::of(&listed);
     if is_king_attacked(&men, opponent(side)) {
         return Err(FenFault::OpponentInCheck);
     }
-    let rights = rights_kept(&men, fields.castling);
-    let passant = passant_kept(&men, side, fields.passant);
+    let rights = rights_kept(&listed, fields.castling);
+    let passant = passant_kept(&listed, side, fields.passant);
     Ok(Position::from_parts(number.max(1), men, side, rights, passant))
 }

@@ -2,19 +2,13 @@
 ghost use Rattle.cq_position.specs.King.{IsKingSquare};
 
 use crate::men::{Side, king_of};
-use crate::position::{Position, stands};
+use crate::position::Position;
 use cq_geometry::Square;
+use cq_sets::lowest_square;
 
 /// The square on which the king of a side stands.
 pub fn king_square(position: &Position, side: Side) -> Square
     ensures { IsKingSquare position.now.men side result }
 {
-    let men = position.men();
-    for number in 0..64 {
-        let square = Square::new(number);
-        if stands(men, square, king_of(side)) {
-            return square;
-        }
-    }
-    Square::default()
+    lowest_square(position.men().squares_of(king_of(side)))
 }

@@ -13,6 +13,7 @@ pub mod laws;
 pub mod men;
 pub mod moves;
 mod outward;
+pub mod planes;
 pub mod position;
 
 pub use attacks::{attacks_from, in_check};
@@ -23,4 +24,5 @@ pub use men::{
     rook_of,
 };
 pub use moves::Move;
+pub use planes::Men;
 pub use position::{Position, Rights, material};

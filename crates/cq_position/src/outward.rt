@@ -1,25 +1,29 @@
-//! Whether a square is attacked, looked for outward from it.
-ghost use Rattle.std.specs.Prelude.{◌≡◌};
-ghost use Rattle.std.specs.List.{list_any};
-ghost use Rattle.cq_geometry.specs.Expansions.{king_goals, knight_goals};
-ghost use Rattle.cq_geometry.specs.Lines.{orthogonals, diagonals};
-ghost use Rattle.cq_geometry.specs.Steps.{IsDirection, ray_from};
+//! Whether a square is attacked, by the sets of men that attack it as seen from the square.
+ghost use Rattle.std.specs.Prelude.{◌≡◌, ◌&&◌, ◌<◌};
+ghost use Rattle.cq_geometry.specs.Lines as lines;
+ghost use Rattle.cq_geometry.specs.Steps as steps;
+ghost use Rattle.cq_sets.specs.Bitboards.{IsBitboard};
 ghost use Rattle.cq_position.specs.Attacks as attack;
+ghost use Rattle.cq_position.specs.Board.{man_at};
 ghost use Rattle.cq_position.specs.Board as board;
 ghost use Rattle.cq_position.specs.Men as men_spec;
-ghost use Rattle.cq_position.specs.Outward as outward;
-ghost use Rattle.cq_position.specs.Outward.{first_is, pawn_origins};
+ghost use Rattle.cq_position.specs.Outward.{is_straight, is_slanted, knight_of, some_man};
 
-use crate::attacks::is_occupied;
-use crate::men::{Man, Piece, Side, king_of, man_of};
-use crate::position::stands;
-use cq_geometry::{Square, Step};
+use crate::attacks::pawn_squares;
+use crate::men::{Man, Piece, Side, king_of, man_of, opponent};
+use crate::planes::Men;
+use cq_geometry::Square;
+use cq_sets::{
+    king_steps, knight_steps, meets, slanted_lines, slanted_squares, straight_lines,
+    straight_squares,
+};
 
 /// Whether a man of a side attacks a square of this board, also where the man may not move (FIDE Laws of Chess, article 3.9.1).
-#[tactic(auto, using(crate::proofs::Attackers::attacked_outward))]
-pub fn is_attacked(men: &[Man; 64], by: Side, square: Square) -> bool
+#[tactic(auto, using(crate::proofs::Attackers::attacked_in_ways))]
+pub fn is_attacked(men: &Men, by: Side, square: Square) -> bool
     ensures { result ≡ attack.is_attacked men.now by square }
 {
+    let _board = square.number();
     is_attacked_straight(men, by, square)
         || is_attacked_aslant(men, by, square)
         || is_attacked_by_knight(men, by, square)
@@ -27,132 +31,70 @@ pub fn is_attacked(men: &[Man; 64], by: Side, square: Square) -> bool
         || is_attacked_by_king(men, by, square)
 }
 
-// Whether a rook or queen of the side attacks the square along its file or its rank.
-fn is_attacked_straight(men: &[Man; 64], by: Side, square: Square) -> bool
-    ensures { result ≡ first_is (outward.is_straight by) men.now orthogonals square }
-{
-    is_straight(by, first_man::<0, 1>(men, square))
-        || is_straight(by, first_man::<0, -1>(men, square))
-        || is_straight(by, first_man::<-1, 0>(men, square))
-        || is_straight(by, first_man::<1, 0>(men, square))
-}
-
-// Whether a bishop or queen of the side attacks the square along a diagonal.
-fn is_attacked_aslant(men: &[Man; 64], by: Side, square: Square) -> bool
-    ensures { result ≡ first_is (outward.is_slanted by) men.now diagonals square }
-{
-    is_slanted(by, first_man::<1, 1>(men, square))
-        || is_slanted(by, first_man::<-1, 1>(men, square))
-        || is_slanted(by, first_man::<1, -1>(men, square))
-        || is_slanted(by, first_man::<-1, -1>(men, square))
-}
-
-// The first man from a square in a direction; the empty square where there is none.
+// Whether a rook or queen of the side attacks the square. Most squares have none on their lines, so these are asked first.
 #[inline]
-fn first_man<const DF: i8, const DR: i8>(men: &[Man; 64], square: Square) -> Man
-    requires { IsDirection DF DR }
-    ensures { result ≡ outward.first_man men.now (ray_from DF DR square) }
+fn is_attacked_straight(men: &Men, by: Side, square: Square) -> bool
+    requires { square < 64 }
+    ensures { result ≡ some_man (λ a. is_straight by (man_at men.now a))
+        (λ a. lines.is_orthogonal square a && lines.is_open (attack.is_occupied men.now) square a) }
 {
-    let mut at = square;
-    while let Some(next) = Step::<DF, DR>::step(at) {
-        if is_occupied(men, next) {
-            return man_at(men, next);
-        }
-        at = next;
-    }
-    Man::Empty
+    let attackers = straight_men(men, by);
+    meets(attackers, straight_lines(square))
+        && meets(attackers, straight_squares(square, men.squares_of(Man::Empty)))
 }
 
+// Whether a bishop or queen of the side attacks the square, where one stands on its diagonals.
 #[inline]
-fn man_at(men: &[Man; 64], square: Square) -> Man
-    ensures { result ≡ board.man_at men.now square }
+fn is_attacked_aslant(men: &Men, by: Side, square: Square) -> bool
+    requires { square < 64 }
+    ensures { result ≡ some_man (λ a. is_slanted by (man_at men.now a))
+        (λ a. lines.is_diagonal square a && lines.is_open (attack.is_occupied men.now) square a) }
 {
-    men[usize::from(square.number())]
-}
-
-// Whether a man is a rook or queen of the side.
-#[inline]
-fn is_straight(by: Side, man: Man) -> bool
-    ensures { result ≡ outward.is_straight by man }
-{
-    match (by, man) {
-        (Side::White, Man::Q | Man::R) => true,
-        (Side::Black, Man::BlackQ | Man::BlackR) => true,
-        _ => false,
-    }
-}
-
-// Whether a man is a bishop or queen of the side.
-#[inline]
-fn is_slanted(by: Side, man: Man) -> bool
-    ensures { result ≡ outward.is_slanted by man }
-{
-    match (by, man) {
-        (Side::White, Man::Q | Man::B) => true,
-        (Side::Black, Man::BlackQ | Man::BlackB) => true,
-        _ => false,
-    }
+    let attackers = slanted_men(men, by);
+    meets(attackers, slanted_lines(square))
+        && meets(attackers, slanted_squares(square, men.squares_of(Man::Empty)))
 }
 
 // Whether a knight of the side attacks the square.
-fn is_attacked_by_knight(men: &[Man; 64], by: Side, square: Square) -> bool
-    ensures { result ≡ list_any (outward.holds men.now (outward.knight_of by)) (knight_goals square) }
+#[inline]
+fn is_attacked_by_knight(men: &Men, by: Side, square: Square) -> bool
+    requires { square < 64 }
+    ensures { result ≡ some_man (λ a. board.stands men.now a (knight_of by)) (steps.is_knight_step square) }
 {
-    let knight = knight_of(by);
-    holds(men, knight, Step::<-1, -2>::step(square))
-        || holds(men, knight, Step::<1, -2>::step(square))
-        || holds(men, knight, Step::<-2, -1>::step(square))
-        || holds(men, knight, Step::<2, -1>::step(square))
-        || holds(men, knight, Step::<-2, 1>::step(square))
-        || holds(men, knight, Step::<2, 1>::step(square))
-        || holds(men, knight, Step::<-1, 2>::step(square))
-        || holds(men, knight, Step::<1, 2>::step(square))
+    meets(men.squares_of(man_of(by, Piece::Knight)), knight_steps(square))
+}
+
+// Whether a pawn of the side attacks the square: a pawn of the other side would attack it from there.
+#[inline]
+fn is_attacked_by_pawn(men: &Men, by: Side, square: Square) -> bool
+    requires { square < 64 }
+    ensures { result ≡ some_man (λ a. board.stands men.now a (men_spec.pawn_of by))
+        (attack.is_pawn_attack (men_spec.opponent by) square) }
+{
+    meets(men.squares_of(man_of(by, Piece::Pawn)), pawn_squares(opponent(by), square))
 }
 
 // Whether the king of the side attacks the square.
-fn is_attacked_by_king(men: &[Man; 64], by: Side, square: Square) -> bool
-    ensures { result ≡ list_any (outward.holds men.now (men_spec.king_of by)) (king_goals square) }
-{
-    let king = king_of(by);
-    holds(men, king, Step::<-1, -1>::step(square))
-        || holds(men, king, Step::<0, -1>::step(square))
-        || holds(men, king, Step::<1, -1>::step(square))
-        || holds(men, king, Step::<-1, 0>::step(square))
-        || holds(men, king, Step::<1, 0>::step(square))
-        || holds(men, king, Step::<-1, 1>::step(square))
-        || holds(men, king, Step::<0, 1>::step(square))
-        || holds(men, king, Step::<1, 1>::step(square))
-}
-
-// Whether a pawn of the side attacks the square.
-fn is_attacked_by_pawn(men: &[Man; 64], by: Side, square: Square) -> bool
-    ensures { result ≡ list_any (outward.holds men.now (men_spec.pawn_of by)) (pawn_origins by square) }
-{
-    match by {
-        Side::White => {
-            holds(men, Man::P, Step::<-1, -1>::step(square))
-                || holds(men, Man::P, Step::<1, -1>::step(square))
-        }
-        Side::Black => {
-            holds(men, Man::BlackP, Step::<-1, 1>::step(square))
-                || holds(men, Man::BlackP, Step::<1, 1>::step(square))
-        }
-    }
-}
-
-// Whether a goal that is on the board holds the man.
 #[inline]
-fn holds(men: &[Man; 64], man: Man, goal: Option<Square>) -> bool
-    ensures { result ≡ outward.holds men.now man goal }
+fn is_attacked_by_king(men: &Men, by: Side, square: Square) -> bool
+    requires { square < 64 }
+    ensures { result ≡ some_man (λ a. board.stands men.now a (men_spec.king_of by)) (steps.is_king_step square) }
 {
-    match goal {
-        Some(square) => stands(men, square, man),
-        None => false,
-    }
+    meets(men.squares_of(king_of(by)), king_steps(square))
 }
 
-fn knight_of(side: Side) -> Man
-    ensures { result ≡ outward.knight_of side }
+// The rooks and queens of a side.
+#[inline]
+fn straight_men(men: &Men, by: Side) -> u64
+    ensures { IsBitboard result (λ a. is_straight by (man_at men.now a)) }
 {
-    man_of(side, Piece::Knight)
+    men.squares_of(man_of(by, Piece::Queen)) | men.squares_of(man_of(by, Piece::Rook))
+}
+
+// The bishops and queens of a side.
+#[inline]
+fn slanted_men(men: &Men, by: Side) -> u64
+    ensures { IsBitboard result (λ a. is_slanted by (man_at men.now a)) }
+{
+    men.squares_of(man_of(by, Piece::Queen)) | men.squares_of(man_of(by, Piece::Bishop))
 }

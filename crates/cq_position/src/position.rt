@@ -6,6 +6,7 @@ ghost use Rattle.cq_position.specs.Board as board;
 ghost use Rattle.cq_position.specs.Position.{IsPosition};
 
 use crate::men::{Man, Side, is_of_side};
+use crate::planes::Men;
 use cq_geometry::Square;
 use std::marker::Model;
 
@@ -30,7 +31,7 @@ pub struct Rights {
 #[derive(Clone, Copy, Debug, PartialEq, Eq)]
 pub struct Position {
     number: u32,
-    men: [Man; 64],
+    men: Men,
     side: Side,
     rights: Rights,
     passant: Option<Square>,
@@ -59,7 +60,7 @@ impl Position {
         use Man::{B, BlackB, BlackK, BlackN, BlackP, BlackQ, BlackR, Empty, K, N, P, Q, R};
         Position {
             number: 1,
-            men: [
+            men: Men::of(&[
                 R, N, B, Q, K, B, N, R, //
                 P, P, P, P, P, P, P, P, //
                 Empty, Empty, Empty, Empty, Empty, Empty, Empty, Empty, //
@@ -68,7 +69,7 @@ impl Position {
                 Empty, Empty, Empty, Empty, Empty, Empty, Empty, Empty, //
                 BlackP, BlackP, BlackP, BlackP, BlackP, BlackP, BlackP, BlackP, //
                 BlackR, BlackN, BlackB, BlackQ, BlackK, BlackB, BlackN, BlackR,
-            ],
+            ]),
             side: Side::White,
             rights: Rights {
                 white_kingside: true,
@@ -80,10 +81,10 @@ impl Position {
         }
     }
 
-    /// The position of these parts, which meet the conditions of a position. `men` has the men of the squares a1, b1, .. h8.
+    /// The position of these parts, which meet the conditions of a position.
     pub fn from_parts(
         number: u32,
-        men: [Man; 64],
+        men: Men,
         side: Side,
         rights: Rights,
         passant: Option<Square>,
@@ -107,12 +108,13 @@ impl Position {
         ensures board { square < 64 }
         ensures kept { IsPosition self.now }
     {
-        self.men[usize::from(square.number())]
+        let _board = square.number();
+        self.men.at(square)
     }
 
     /// What stands on the squares a1, b1, .. h8.
     #[inline]
-    pub fn men(&self) -> &[Man; 64]
+    pub fn men(&self) -> &Men
         ensures men { result.now ≡ self.now.men }
         ensures kept { IsPosition self.now }
     {
@@ -168,19 +170,21 @@ impl Position {
     }
 }
 
-/// Whether a square of the board holds a man, or nothing where `Empty` is asked. `men` has the men of the squares a1, b1, .. h8.
+/// Whether a square of the board holds a man, or nothing where `Empty` is asked.
 #[inline]
-pub fn stands(men: &[Man; 64], square: Square, man: Man) -> bool
+pub fn stands(men: &Men, square: Square, man: Man) -> bool
     ensures { result ≡ board.stands men.now square man }
 {
-    men[usize::from(square.number())] == man
+    men.at(square) == man
 }
 
 /// How many squares hold a man, or nothing where `Empty` is asked, from 0 to 64.
+#[tactic(auto, using(crate::proofs::Counts::counted))]
 pub fn material(position: &Position, man: Man) -> u32
     ensures { result ≡ count_of man position.now.men }
 {
-    count(&position.men, man)
+    let _kept = position.side();
+    position.men().squares_of(man).count_ones()
 }
 
 // How many squares hold a man.

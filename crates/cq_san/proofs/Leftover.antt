@@ -2,16 +2,17 @@
 use Rattle.std.proofs.Common.{◌≡◌, ℕ, zero, suc, ◌+◌, ◌*◌, ◌^◌, ◌%◌, ◌<◌, ◌≤◌, Bool, true, false, not, ◌&&◌, ◌==◌, cond, List, [], ◌∷◌, ◌++◌, length, refl, sym, ap, ◌∙◌, arith, inl, inr}
 use Rattle.std.specs.List.{All, filter}
 use Rattle.std.specs.Int.{bit_at, trailing_zeros, w64}
-use Rattle.std.proofs.lemmas.Bool.{cases_Bool, and_parts, false_from_ne_true, eq-eqb}
+use Rattle.std.proofs.lemmas.Bool.{cases_Bool, and_parts, and_from, false_from_ne_true, eq-eqb}
 use Rattle.std.proofs.lemmas.List.{append_assoc, append-nil, length-append}
 use Rattle.std.proofs.lemmas.List.Elements.{All-head, All-tail, All-weaker}
 use Rattle.cq_geometry.specs.Squares.{squares}
 use Rattle.cq_geometry.proofs.Board.{squares_board}
 use Rattle.cq_position.specs.Board.{Board, stands}
-use Rattle.cq_position.specs.Bitboards.{IsBitboard, bit_of}
+use Rattle.cq_sets.specs.Bitboards.{IsBitboard, bit_of}
+use Rattle.cq_sets.proofs.Marked.{marks_and}
 use Rattle.cq_position.specs.Attacks.{is_occupied}
 use Rattle.cq_position.specs.Men.{man_of}
-use Rattle.std.specs.Prelude.{nat_lt}
+use Rattle.std.specs.Prelude.{bit_and, nat_lt}
 use Rattle.cq_position.specs.Legal.{reaches, is_castling, is_pseudo_legal, promotion_is_right}
 use Rattle.cq_position.specs.Legality.{legal_test, is_safe}
 use Rattle.cq_moves.specs.Candidates.{may_come}
@@ -80,15 +81,16 @@ legal_reaches p parts s e =
 first_of_five : (a b c d e : Bool) → (a && b && c && d && e) ≡ true → a ≡ true
 first_of_five a b c d e h = (and_parts a b (and_parts (a && b) c (and_parts (a && b && c) d (and_parts (a && b && c && d) e h).0).0).0).0
 
--- an origin is among the squares from which the piece may come
-pub origin_comes : (p : Board) (parts : PieceMove) (mask : ℕ) → parts.goal < 64
-    → IsBitboard mask (may_come p.side parts.piece (is_occupied p.men) parts.goal) → (s : ℕ) → s < 64 → has_bit mask s ≡ false → is_origin p parts s ≡ false
-origin_comes p parts mask low m s h clear =
+-- an origin is among the squares from which the piece may come, and such a piece stands there
+pub origin_comes : (p : Board) (parts : PieceMove) (mask there : ℕ) → parts.goal < 64
+    → IsBitboard mask (may_come p.side parts.piece (is_occupied p.men) parts.goal) → IsBitboard there (λ s. stands p.men s (man_of p.side parts.piece))
+    → (s : ℕ) → s < 64 → has_bit (bit_and mask there) s ≡ false → is_origin p parts s ≡ false
+origin_comes p parts mask there low m n s h clear =
     false_from_ne_true (is_origin p parts s) (λ e.
     let both = and_parts (agrees_in_parts p parts (move_from parts s) && not (is_castling p (move_from parts s))) (legal_test p (move_from parts s)) e in
     let agrees = (and_parts (agrees_in_parts p parts (move_from parts s)) (not (is_castling p (move_from parts s))) both.0).0 in
-    let there = first_of_five _ _ _ _ _ agrees in
-    let comes = reached_comes p s parts.goal h low parts.piece there (legal_reaches p parts s both.1) in
-    let set : bit_at mask s ≡ 1 = m.bit s h ∙ ap bit_of comes in
-    let bad : false ≡ true = sym clear ∙ eq-eqb (bit_at mask s) 1 set in
+    let stood = first_of_five _ _ _ _ _ agrees in
+    let comes = reached_comes p s parts.goal h low parts.piece stood (legal_reaches p parts s both.1) in
+    let set : bit_at (bit_and mask there) s ≡ 1 = (marks_and mask there _ _ m n).bit s h ∙ ap bit_of (and_from _ _ comes stood) in
+    let bad : false ≡ true = sym clear ∙ eq-eqb (bit_at (bit_and mask there) s) 1 set in
     cc)

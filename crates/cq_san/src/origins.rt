@@ -8,16 +8,18 @@ use crate::fit::agrees_in_parts;
 use crate::parts::PieceMove;
 use arrayvec::ArrayVec;
 use cq_geometry::Square;
-use cq_moves::{is_castling, is_legal, lowest_square, origins_to};
+use cq_moves::{is_castling, is_legal, origins_to};
 use cq_position::home::king_home;
-use cq_position::{Move, Position, Promotion, Side};
+use cq_position::{Move, Position, Promotion, Side, man_of};
+use cq_sets::lowest_square;
 
 /// The squares from which a legal move comes, other than castling, that agrees with the parts.
 pub(crate) fn origins(position: &Position, parts: &PieceMove) -> ArrayVec<Square, 64>
     ensures { result.items ≡ origin.origins position.now parts.now }
 {
     let mut found = ArrayVec::new();
-    let mut left = origins_to(position, parts.piece, parts.goal);
+    let there = position.men().squares_of(man_of(position.side(), parts.piece));
+    let mut left = origins_to(position, parts.piece, parts.goal) & there;
     while left != 0 {
         let from = lowest_square(left);
         left &= !(1 << from.number());

@@ -280,7 +280,7 @@ impl Game {
 fn with_men_of(men: u16, position: &Position) -> u16
     ensures { (b : ℕ) → (bit_at result b == 1) ≡ ((bit_at men b == 1) || has_man position.now b) }
 {
-    let on_board = position.men();
+    let on_board = position.men().listed();
     let mut men = men;
     for square in 0..64 {
         men |= bit_of(on_board[square]);

@@ -10,7 +10,7 @@ ghost use Rattle.cq_position.specs.Reading.{SomeIfTrue};
 use crate::fen::bytes::{DASH, right_letter, side_letter};
 use crate::home::{king_home, rook_home};
 use crate::men::{Man, Side, king_of, rook_of};
-use crate::position::{Rights, stands};
+use crate::position::Rights;
 use cq_geometry::{Square, rank, square_at};
 
 /// The side to move, which `w` or `b` names (PGN standard, section 16.1.3.2); None for any other text.
@@ -88,8 +88,15 @@ fn has_letter(text: &[u8], letter: u8) -> bool
 fn are_home(men: &[Man; 64], side: Side, kingside: bool) -> bool
     ensures { result ≡ board.are_home men.now side kingside }
 {
-    stands(men, king_home(side), king_of(side))
-        && stands(men, rook_home(side, kingside), rook_of(side))
+    holds(men, king_home(side), king_of(side))
+        && holds(men, rook_home(side, kingside), rook_of(side))
+}
+
+// Whether a square holds the man.
+fn holds(men: &[Man; 64], square: Square, man: Man) -> bool
+    ensures { result ≡ board.stands men.now square man }
+{
+    men[usize::from(square.number())] == man
 }
 
 fn is_byte_alone(text: &[u8], byte: u8) -> bool

@@ -29,7 +29,7 @@ fn written(alloc: Global, position: &Position) -> Result<Bytes, NoMemory>
     ensures kept { OnOk result (IsPosition position.now) }
 {
     let mut text = Bytes::new(alloc);
-    push_placement(&mut text, position.men())?;
+    push_placement(&mut text, &position.men().listed())?;
     text.push_all(&[SPACE, side_letter(position.side()), SPACE])?;
     push_rights(&mut text, position.rights())?;
     push_byte(&mut text, SPACE)?;

@@ -1,4 +1,4 @@
-use Rattle.cq_position.proofs.Marked.{marks_or}
+use Rattle.cq_sets.proofs.Marked.{marks_or}
 use Rattle.cq_moves.proofs.castling.castling_goals.Goals as goal
 
 pub returns : goal.returns

@@ -1,17 +1,10 @@
 use Rattle.std.proofs.Common.{◌<◌, ◌^◌, ℕ, sym, ap, ap₂, ◌∙◌, arith, rules}
 use Rattle.std.specs.List.{list_any}
-use Rattle.cq_position.specs.Men.{is_of_side}
 use Rattle.cq_position.specs.Legality.{legal_test}
 use Rattle.cq_moves.specs.LegalMoves.{moves_from, moves_between}
 use Rattle.cq_moves.proofs.Bits.{walk_shorter, any_here, any_later, any_nowhere}
-use Rattle.cq_moves.proofs.Room.{other_has_none}
 use Rattle.cq_moves.proofs.Walk.{any_begins}
 use Rattle.cq_moves.proofs.outcome.has_legal_move_from.Goals as goal
-
-pub returns-then-not-is_of_side : goal.returns-then-not-is_of_side
-returns-then-not-is_of_side c =
-    sym (other_has_none c.args.position.now c.args.from
-    (ap₂ is_of_side (sym c.side.ensures.side) (sym c.at.ensures.man) ∙ sym c.is_of_side.ensures ∙ c.if-not-is_of_side.true))
 
 pub loop-left-init : goal.loop-left-init
 loop-left-init c =

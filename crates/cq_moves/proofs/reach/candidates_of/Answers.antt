@@ -1,5 +1,5 @@
 use Rattle.std.proofs.Common.{inl, inr}
-use Rattle.cq_position.proofs.Marked.{marks_or}
+use Rattle.cq_sets.proofs.Marked.{marks_or}
 use Rattle.cq_moves.proofs.reach.candidates_of.Goals as goal
 
 pub returns-in-K : goal.returns-in-K

@@ -1,30 +1,16 @@
-use Rattle.std.proofs.Common.{◌∙◌, sym, arith}
-use Rattle.cq_position.specs.Men.{king_of}
-use Rattle.cq_position.specs.Board.{stands}
-use Rattle.cq_position.proofs.Kings.{king_somewhere, king_there, one_of_each}
-use Rattle.cq_position.proofs.Whole.{any_from-start, any_from-next, any_from-end}
+use Rattle.std.proofs.Common.{◌^◌, ◌<◌, rules}
+use Rattle.cq_position.proofs.Kings.{some_king, lowest_king}
 use Rattle.cq_position.proofs.king.king_square.Goals as goal
 
-pub loop-number-init : goal.loop-number-init
-loop-number-init c =
-    let men = c.args.position.now.men in
-    let kept = c.men-men.ensures.kept in
-    rw c.men-men.ensures.men
-    (any_from-start (λ a. stands men a (king_of c.args.side)) ∙ king_somewhere men c.args.side kept.whole (one_of_each men c.args.side kept.kings))
-
-pub returns-then-stands : goal.returns-then-stands
-returns-then-stands c =
-    let men = c.args.position.now.men in
-    let kept = c.men-men.ensures.kept in
-    king_there men c.args.side c.new-square.result kept.whole (one_of_each men c.args.side kept.kings)
-    (sym (rw (c.men-men.ensures.men, c.king_of.ensures) at c.if-stands.ensures))
-
-pub loop-number-preserved : goal.loop-number-preserved
-loop-number-preserved c =
-    sym (any_from-next (λ a. stands c.men-men.result.now a (king_of c.args.side)) c.loop-number.number (omega arith)
-    (sym (rw (c.new-square.ensures, c.king_of.ensures) at c.if-stands.ensures))) ∙ c.loop-number.invariant
+pub lowest_square-requires : goal.lowest_square-requires
+lowest_square-requires c =
+    let kept = c.men.ensures.kept in
+    some_king c.args.position.now.men c.args.side c.squares_of.result kept.whole kept.kings
+    (rw (c.men.ensures.men, c.king_of.ensures) at c.squares_of.ensures)
 
 pub returns : goal.returns
 returns c =
-    let bad = sym (any_from-end (λ a. stands c.men-men.result.now a (king_of c.args.side)) c.loop-number.number (omega arith)) ∙ c.loop-number.invariant in
-    absurd (cc)
+    let kept = c.men.ensures.kept in
+    let fits : c.squares_of.result < 2 ^ 64 = search rules in
+    lowest_king c.args.position.now.men c.args.side c.squares_of.result c.lowest_square.result kept.whole kept.kings fits
+    (rw (c.men.ensures.men, c.king_of.ensures) at c.squares_of.ensures) c.lowest_square.ensures.value

@@ -1,4 +1,5 @@
 use Rattle.std.proofs.Common.{◌≡◌, ◌<◌, ◌^◌, ◌++◌, ℕ, List, [], ◌∷◌, sym, ap, ◌∙◌, arith, rules, subst}
+use Rattle.std.specs.Prelude.{bit_and}
 use Rattle.cq_moves.proofs.Bits.{walk_shorter}
 use Rattle.cq_san.specs.Origins.{is_origin, origins}
 use Rattle.cq_san.proofs.Leftover.{IsFound, found-start, found-with, found-without, found-end, found-room, origin_comes}
@@ -7,9 +8,10 @@ use Rattle.cq_san.proofs.origins.origins.Goals as goal
 pub loop-left-init : goal.loop-left-init
 loop-left-init c =
     let test = is_origin c.args.position.now c.args.parts.now in
-    subst (λ (xs : List ℕ). IsFound test xs c.origins_to-left.result) (sym c.new-found.ensures)
-    (found-start test c.origins_to-left.result
-    (origin_comes c.args.position.now c.args.parts.now c.origins_to-left.result c.origins_to-left.ensures.goal c.origins_to-left.ensures.mask))
+    let there = rw (c.men.ensures.men, c.man_of.ensures, c.side.ensures.side) at c.squares_of-there.ensures in
+    subst (λ (xs : List ℕ). IsFound test xs (bit_and c.origins_to.result c.squares_of-there.result)) (sym c.new-found.ensures)
+    (found-start test (bit_and c.origins_to.result c.squares_of-there.result)
+    (origin_comes c.args.position.now c.args.parts.now c.origins_to.result c.squares_of-there.result c.origins_to.ensures.goal c.origins_to.ensures.mask there))
 
 pub push-requires : goal.push-requires
 push-requires c =

@@ -1,0 +1,5 @@
+use Rattle.cq_sets.proofs.Steps.{kings_marked}
+use Rattle.cq_sets.proofs.leaps.king_steps.Goals as goal
+
+pub returns : goal.returns
+returns c = rw c.number.ensures.value (kings_marked c.args.from c.requires)

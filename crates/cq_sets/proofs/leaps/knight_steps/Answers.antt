@@ -1,0 +1,5 @@
+use Rattle.cq_sets.proofs.Steps.{knights_marked}
+use Rattle.cq_sets.proofs.leaps.knight_steps.Goals as goal
+
+pub returns : goal.returns
+returns c = rw c.number.ensures.value (knights_marked c.args.from c.requires)

@@ -1,0 +1,3 @@
+pub mod Bitboards
+pub mod Sets
+pub mod Planes

@@ -1,0 +1,15 @@
+//! Sets of squares as words of 64 bits: bit k is the square k.
+//!
+//! `specs/Bitboards` says of which squares a word is the set, `specs/Sets` what a set reaches as it slides, and `specs/Planes` which list
+//! of 64 four words keep together.
+#![tactic(auto)]
+
+pub mod leaps;
+pub mod lines;
+pub mod sets;
+pub mod slides;
+
+pub use leaps::{king_steps, knight_steps};
+pub use lines::{slanted_lines, slanted_squares, straight_lines, straight_squares};
+pub use sets::{lowest_square, mark, meets};
+pub use slides::{BitSet64, slide};
