@@ -18,7 +18,9 @@ pub(crate) fn origins(position: &Position, parts: &PieceMove) -> ArrayVec<Square
     ensures { result.items ≡ origin.origins position.now parts.now }
 {
     let mut found = ArrayVec::new();
-    let there = position.men().squares_of(man_of(position.side(), parts.piece));
+    let there = position
+        .men()
+        .squares_of(man_of(position.side(), parts.piece));
     let mut left = origins_to(position, parts.piece, parts.goal) & there;
     while left != 0 {
         let from = lowest_square(left);
