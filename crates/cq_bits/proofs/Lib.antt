@@ -1,3 +1,4 @@
 pub mod Members
 pub mod Union
 pub mod Betweens
+pub mod OnSquares

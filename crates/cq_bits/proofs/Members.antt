@@ -1,6 +1,6 @@
--- Sets that grow square by square.
+-- The squares of a set, and what stands on them.
 use Rattle.std.proofs.Common.{true≢false, eqb-true, eq-eqb, not, ◌&&◌, List, ◌≡◌, ℕ, ◌+◌, ◌*◌, ◌%◌, ◌^◌, ◌<◌, ◌≤◌, ◌⊎◌, inl, inr, ⊎_elim, ◌↔◌, Bool, true, false, refl, sym, ◌∙◌, subst, arith}
-use Rattle.std.specs.Prelude.{bit_or}
+use Rattle.std.specs.Prelude.{bit_or, bit_and}
 use Rattle.std.specs.Int.{bit_at, w64}
 use Rattle.std.proofs.lemmas.Bool.{cases_eq}
 use Rattle.std.proofs.lemmas.Nat.Bits.{bit_at_set_same, bit_at_set_other}
@@ -8,7 +8,7 @@ use Rattle.cq_position.specs.Board.{man_at}
 use Rattle.cq_position.specs.Bitboards.{IsBitboard, bit_of}
 use Rattle.cq_position.specs.declared.men.Man.{Man}
 use Rattle.cq_bits.specs.Sets.{Has, has, IsSetOf, IsChosen, slides}
-use Rattle.cq_sets.proofs.Bits.{nothing_there, in_either, from_first, from_second}
+use Rattle.cq_sets.proofs.Bits.{nothing_there, in_either, in_both, both_have, from_first, from_second}
 
 pub one_more : (set number : ℕ) → number < 64 → (square : ℕ) → square < 64
     → Has (bit_or set (1 * 2 ^ number % 18446744073709551616)) square ↔ (Has set square ⊎ ((square ≡ number) × (true ≡ true)))
@@ -20,25 +20,6 @@ one_more set number low square below = (there, back)
     back : Has set square ⊎ ((square ≡ number) × (true ≡ true)) → Has (bit_or set (1 * 2 ^ number % 18446744073709551616)) square
     back (inl old) = from_first set _ square old
     back (inr new) = subst (λ k. Has (bit_or set (1 * 2 ^ number % 18446744073709551616)) k) (sym new.0) (bit_at_set_same w64 set number low)
-
--- the members of a set up to the next square
-pub grown : (P : ℕ → Type 0) (set next number : ℕ) (there : Bool) → number < 64 → ((there ≡ true) ↔ P number)
-    → ((square : ℕ) → square < 64 → Has next square ↔ (Has set square ⊎ ((square ≡ number) × (there ≡ true))))
-    → IsSetOf set (λ s. (s < number) × P s) → IsSetOf next (λ s. (s < number + 1) × P s)
-grown P set next number there low test step so_far s below = (to, from)
-  where
-    to : Has next s → (s < number + 1) × P s
-    to h = ⊎_elim (λ old. let p = (so_far s below).0 old in let l = p.0 in (omega arith, p.1))
-        (λ new. let e = new.0 in (omega arith, subst P (sym new.0) (test.0 new.1))) ((step s below).0 h)
-
-    from : (s < number + 1) × P s → Has next s
-    from p = ⊎_elim (λ same. (step s below).1 (inr (same, test.1 (subst P same p.1)))) (λ other. let l = p.0 in (step s below).1 (inl ((so_far s below).1 (omega (arith, other), p.1)))) (cases_eq s number)
-
-pub none_yet : (P : ℕ → Type 0) → IsSetOf 0 (λ s. (s < 0) × P s)
-none_yet P s below = ((λ h. absurd (nothing_there s h)), (λ p. let l = p.0 in absurd (omega arith)))
-
-pub all_grown : (P : ℕ → Type 0) (set number : ℕ) → 64 ≤ number → IsSetOf set (λ s. (s < number) × P s) → IsSetOf set P
-all_grown P set number all so_far s below = ((λ h. ((so_far s below).0 h).1), (λ p. (so_far s below).1 (omega arith, p)))
 
 has_true : (set k : ℕ) → has set k ≡ true → Has set k
 has_true set k e = eqb-true (bit_at set k) 1 e
@@ -61,10 +42,10 @@ bit_is false = ((λ e. absurd (omega arith)), (λ e. absurd (true≢false (sym e
 pub bitboard_has : (mask : ℕ) (test : ℕ → Bool) → IsBitboard mask test → (k : ℕ) → k < 64 → Has mask k ↔ (test k ≡ true)
 bitboard_has mask test board k low = ((λ h. (bit_is (test k)).0 (sym (board.bit k low) ∙ h)), (λ e. board.bit k low ∙ (bit_is (test k)).1 e))
 
-pub chosen_exactly : (kind : Man → Bool) (men : List Man) (set k : ℕ) (there : Bool) → there ≡ (has set k && kind (man_at men k)) → (there ≡ true) ↔ IsChosen kind men set k
-chosen_exactly kind men set k there e =
-    let b = both_true (has set k) (kind (man_at men k)) in
-    ((λ t. let p = b.0 (sym e ∙ t) in (has_true set k p.0, p.1)), (λ p. e ∙ b.1 ((has_exactly set k).1 p.0, p.1)))
+pub chosen_exactly : (kind : Man → Bool) (men : List Man) (set there : ℕ) → IsBitboard there (λ k. kind (man_at men k)) → IsSetOf (bit_and set there) (IsChosen kind men set)
+chosen_exactly kind men set there m k low =
+    let b = bitboard_has there (λ s. kind (man_at men s)) m k low in
+    ((λ h. let p = in_both set there k h in (p.0, b.0 p.1)), (λ p. both_have set there k p.0 (b.1 p.1)))
 
 pub leaps_exactly : (men : List Man) (set k : ℕ) (there : Bool) → there ≡ (has set k && not (slides (man_at men k))) → (there ≡ true) ↔ (Has set k × (slides (man_at men k) ≡ false))
 leaps_exactly men set k there e =

@@ -1,11 +1,12 @@
 //! What the men of a set attack.
-ghost use Rattle.std.specs.Prelude.{◌≡◌, ℕ, ◌<◌, ◌≤◌, ◌↔◌, ◌⊎◌, ◌&&◌, not, true};
+ghost use Rattle.std.specs.Prelude.{◌≡◌, ℕ, ◌<◌, ◌≤◌, ◌↔◌, ◌⊎◌, ◌&&◌, ◌||◌, not, true};
 ghost use Rattle.cq_bits.specs.Sets.{Has, has, IsSetOf, IsAttacked, IsChosen, IsLeap, slides};
-ghost use Rattle.cq_position.specs.Board.{man_at};
+ghost use Rattle.cq_sets.specs.Bitboards.{IsBitboard};
+ghost use Rattle.cq_position.specs.Board.{man_at, stands};
 ghost use Rattle.cq_bits.specs.Kinds.{is_of_kind};
 
 use cq_geometry::Square;
-use cq_position::{Man, Position, attacks_from};
+use cq_position::{Man, Men, Position, attacks_from};
 use cq_sets::{BitSet64, slide};
 
 /// Expands to the union of the slides that are listed, each from its set in its direction.
@@ -44,20 +45,27 @@ pub fn attacked(position: &Position, from: BitSet64) -> BitSet64
 fn chosen(position: &Position, kind: Kind, among: BitSet64) -> BitSet64
     ensures { IsSetOf result (IsChosen (is_of_kind kind) position.now.men among) }
 {
-    let mut set = 0;
-    for number in 0..64 {
-        let there = is_chosen(position, kind, among, number);
-        set = with_square(set, number, there);
-    }
-    set
+    among & standing(position.men(), kind)
 }
 
-// Whether the square is one of `among` and this stands there.
-fn is_chosen(position: &Position, kind: Kind, among: BitSet64, number: u8) -> bool
-    requires { number < 64 }
-    ensures { result ≡ (has among number && is_of_kind kind (man_at position.now.men number)) }
+// The squares on which this stands.
+fn standing(men: &Men, kind: Kind) -> BitSet64
+    ensures { IsBitboard result (λ square. is_of_kind kind (man_at men.now square)) }
 {
-    has_square(among, number) && is_kind(position.at(Square::new(number)), kind)
+    match kind {
+        Kind::Nothing => men.squares_of(Man::Empty),
+        Kind::Straight => either_side(men, Man::Q, Man::BlackQ)
+            | either_side(men, Man::R, Man::BlackR),
+        Kind::Diagonal => either_side(men, Man::Q, Man::BlackQ)
+            | either_side(men, Man::B, Man::BlackB),
+    }
+}
+
+// The squares of either man.
+fn either_side(men: &Men, white: Man, black: Man) -> BitSet64
+    ensures { IsBitboard result (λ square. stands men.now square white || stands men.now square black) }
+{
+    men.squares_of(white) | men.squares_of(black)
 }
 
 // The squares that kings, knights and pawns attack from the squares of `from`.

@@ -1,19 +1,15 @@
 -- From where a man goes to a square, seen from there.
-use Rattle.std.proofs.Common.{◌≡◌, ℕ, ◌<◌, Bool, true, false, not, ◌&&◌, ◌||◌, ◌==◌, map, refl, inl, inr, sym, ap, ap₂, ◌∙◌, Some}
-use Rattle.std.proofs.lemmas.Bool.{and_parts, or_cases, or_left, or_right, eqb-true, eq-eqb, false_from_ne_true}
-use Rattle.std.specs.Int.{bit_at}
+use Rattle.std.proofs.Common.{◌≡◌, ℕ, ◌<◌, Bool, true, false, ◌&&◌, ◌||◌, ◌==◌, map, refl, inl, inr, sym, ap, ap₂, ◌∙◌, Some}
+use Rattle.std.proofs.lemmas.Bool.{or_cases, or_left, or_right, eqb-true, eq-eqb}
 use Rattle.cq_geometry.specs.Squares.{squares}
 use Rattle.cq_geometry.specs.Steps.{is_king_step, is_knight_step}
-use Rattle.cq_geometry.specs.Lines.{is_orthogonal, is_diagonal, is_open}
 use Rattle.cq_geometry.proofs.Tables.{at_squares}
-use Rattle.cq_position.specs.declared.men.Man.{Man}
 use Rattle.cq_position.specs.declared.men.Piece.{Piece}
 use Rattle.cq_position.specs.declared.men.Piece.TheVariants.{King, Queen, Rook, Bishop, Knight, Pawn}
 use Rattle.cq_position.specs.declared.men.Side.{Side}
 use Rattle.cq_position.specs.declared.men.Side.TheVariants.{White, Black}
 use Rattle.cq_position.specs.Men.{is_of_side, man_of, opponent}
 use Rattle.cq_position.specs.Board.{Board, man_at, stands, king_home}
-use Rattle.cq_position.specs.Bitboards.{IsBitboard, bit_of}
 use Rattle.cq_position.specs.Attacks.{attacks, attacks_as, is_occupied, is_pawn_attack, is_goal, piece_attacks}
 use Rattle.cq_position.specs.Legal.{goes_as, reaches, castles, castling_goal, pawn_moves}
 use Rattle.cq_position.proofs.Attackers.{open_both_ways, orthogonal_both_ways, diagonal_both_ways}
@@ -59,7 +55,7 @@ king_comes : (p : Board) (a b : ℕ) → (attacks p.men a b || castles p a b tru
     → (attacks p.men a b || is_goal (Some (king_home p.side)) a) ≡ true
 king_comes p a b h =
     let from_home = λ (kingside : Bool) (e : castles p a b kingside ≡ true).
-        or_right (attacks p.men a b) (is_goal (Some (king_home p.side)) a) (home kingside e) in
+    or_right (attacks p.men a b) (is_goal (Some (king_home p.side)) a) (home kingside e) in
     elim (or_cases (attacks p.men a b || castles p a b true) (castles p a b false) h) [
       | inl most ↦ elim (or_cases (attacks p.men a b) (castles p a b true) most) [
         | inl e ↦ or_left (attacks p.men a b) (is_goal (Some (king_home p.side)) a) e

@@ -4,7 +4,6 @@ use Rattle.std.specs.List.{All, flat_map, list_any}
 use Rattle.std.proofs.lemmas.List.{take_all, append_assoc, append-nil, length-append}
 use Rattle.std.proofs.lemmas.List.Elements.{All-map}
 use Rattle.std.proofs.lemmas.List.Folds.{length-flat_map-take, list_any_none}
-use Rattle.std.proofs.lemmas.List.FromFn.{get_or-range_with_len}
 use Rattle.cq_geometry.specs.Squares.{squares, rank_of}
 use Rattle.cq_position.specs.declared.men.Promotion.{Promotion}
 use Rattle.cq_position.specs.declared.men.Promotion.TheVariants.{None as NoPromotion, Q as ToQueen, R as ToRook, B as ToBishop, N as ToKnight}
@@ -27,34 +26,6 @@ legal_from_parts p a = filter-flat_map (legal_test p) (moves_between a) squares
 pub legal_between_parts : (p : Board) (a b : ℕ) → legal_between p a b ≡ flat_map (if_legal p a b) promotions
 unfolding legal_between
 legal_between_parts p a b = filter-map (legal_test p) (move_of a b) promotions
-
--- a list of parts so far, one for each square
-abbrev pub so_far : (ℕ → List Move) → ℕ → List Move
-so_far part n = flat_map part (take n squares)
-
-square_at : (n d : ℕ) → n < 64 → get_or squares n d ≡ n
-unfolding squares
-square_at n d h = omega (arith, get_or-range_with_len 0 64 n d h)
-
-board_length : length squares ≡ 64
-unfolding squares
-board_length = refl
-
-pub one_square_more : (part : ℕ → List Move) (n : ℕ) → n < 64 → so_far part (n + 1) ≡ so_far part n ++ part n
-one_square_more part n h =
-    let within : n < length squares = omega (arith, board_length) in
-    flat_map-take_more part squares n 0 within ∙ ap (λ s. so_far part n ++ part s) (square_at n 0 h)
-
-pub all_squares : (part : ℕ → List Move) (n : ℕ) → 64 ≤ n → so_far part n ≡ flat_map part squares
-all_squares part n h =
-    let whole : length squares ≤ n = omega (arith, board_length) in
-    ap (flat_map part) (take_all n squares whole)
-
-pub room_for_square : (part : ℕ → List Move) (n : ℕ) → n < 64
-    → length (so_far part n) + length (part n) ≤ length (flat_map part squares)
-room_for_square part n h =
-    let within : n < length squares = omega (arith, board_length) in
-    omega (arith, length-flat_map-take part squares n 0 within, ap (λ s. length (part s)) (square_at n 0 h))
 
 fails_if_unreached : (p : Board) (m : Move) → m.null ≡ false → m.to < 64 → reaches p m.from m.to ≡ false → legal_test p m ≡ false
 fails_if_unreached p m null below shut =
@@ -87,26 +58,6 @@ pub reached_move : (p : Board) (m : Move) → m.null ≡ false → m.to < 64 →
     → legal_test p m ≡ (promotion_is_right p m && is_safe p m)
 reached_move p m null below open_ =
     passes_in_parts p m null below ∙ ap (λ t. t && promotion_is_right p m && is_safe p m) open_
-
--- the part of one more square is added, or is empty
-pub add_part : (part : ℕ → List Move) (n : ℕ) (old before after : List Move) → n < 64
-    → before ≡ old ++ so_far part n → after ≡ before ++ part n → after ≡ old ++ so_far part (n + 1)
-add_part part n old before after h e f =
-    f
-    ∙ ap (λ xs. xs ++ part n) e
-    ∙ append_assoc old (so_far part n) (part n)
-    ∙ ap (λ xs. old ++ xs) (sym (one_square_more part n h))
-
-pub add_nothing : (part : ℕ → List Move) (n : ℕ) (old before : List Move) → n < 64
-    → before ≡ old ++ so_far part n → part n ≡ [] → before ≡ old ++ so_far part (n + 1)
-add_nothing part n old before h e f =
-    add_part part n old before before h e (sym (append-nil before) ∙ ap (λ xs. before ++ xs) (sym f))
-
--- where the whole has room, the next part has
-pub room_for_part : (part : ℕ → List Move) (n : ℕ) (old before : List Move) → n < 64 → before ≡ old ++ so_far part n
-    → length old + length (flat_map part squares) ≤ 512 → length before + length (part n) ≤ 512
-room_for_part part n old before h e room =
-    omega (arith, room_for_square part n h, ap length e, length-append old (so_far part n), room)
 
 -- where the choices have room, the next one has
 pub room_for_choice : (part : Promotion → List Move) (choices : List Promotion) (n : ℕ) (d : Promotion) (old before : List Move) → n < length choices

@@ -1,5 +1,5 @@
 -- There are at most 512 legal moves: at most 32 from each square with a man of the side to move.
-use Rattle.std.proofs.Common.{◌≡◌, ℕ, ◌+◌, ◌*◌, ◌<◌, ◌≤◌, Bool, true, false, cond, ◌&&◌, ◌||◌, ◌==◌, leb, ltb, List, [], ◌∷◌, map, length, refl, inl, inr, sym, ap, ◌∙◌, subst, arith}
+use Rattle.std.proofs.Common.{◌≡◌, ℕ, ◌+◌, ◌*◌, ◌<◌, ◌≤◌, Bool, true, false, cond, ◌&&◌, ◌||◌, ◌==◌, leb, ltb, List, [], ◌∷◌, map, length, refl, inl, inr, sym, ap, ◌∙◌, arith}
 use Rattle.std.specs.List.{All, filter, sum_by, count_by, list_any}
 use Rattle.std.proofs.lemmas.Bool.{and_from, or_left, or_right, or_parts, leb-true, ltb-false, cases_Bool, false≢true, false_from_ne_true}
 use Rattle.std.proofs.lemmas.List.Concat.{length-flat_map}
@@ -26,7 +26,7 @@ use Rattle.cq_moves.specs.LegalMoves.{moves_from, legal_from, legal_list}
 use Rattle.cq_moves.proofs.Lists.{filter-none, length-filter-within}
 use Rattle.cq_moves.proofs.Law.{what_moves, owned_on_board}
 use Rattle.cq_moves.proofs.Order.{from_goes}
-use Rattle.cq_moves.proofs.Parts.{so_far, legal_list_parts, room_for_part}
+use Rattle.cq_moves.proofs.Parts.{legal_list_parts}
 
 -- where each man can go on some board
 abbrev castles_to : Side → Bool → ℕ → ℕ → Bool
@@ -248,9 +248,3 @@ legal_fits p h =
     squares (few_from p h.whole) in
     let whole = sum_by_square (λ m. cond (owns p m) 32 0) p.men h.whole ∙ sum_of_rooms (owns p) p.men in
     omega (arith, parts, each, whole, at_most_sixteen p.side p.men h.few_enough)
-
-pub room_for_origin : (p : Board) (n : ℕ) (before : List Move) → IsPosition p → n < 64 → before ≡ so_far (legal_from p) n
-    → length before + length (legal_from p n) ≤ 512
-room_for_origin p n before h below e =
-    let fits = subst (λ (xs : List Move). length xs ≤ 512) (legal_list_parts p) (legal_fits p h) in
-    room_for_part (legal_from p) n [] before below e (omega (arith, fits))

@@ -12,6 +12,22 @@ use cq_position::home::{king_home, rook_home};
 use cq_position::{Man, Men, Move, Position, Side, king_of, opponent, rook_of};
 use cq_sets::mark;
 
+const C1: u8 = 2;
+
+const D1: u8 = 3;
+
+const F1: u8 = 5;
+
+const G1: u8 = 6;
+
+const C8: u8 = 58;
+
+const D8: u8 = 59;
+
+const F8: u8 = 61;
+
+const G8: u8 = 62;
+
 /// Whether the move is castling: the move of the side's king by two files (FIDE Laws of Chess, article 3.8.2).
 #[inline]
 pub fn is_castling(position: &Position, m: &Move) -> bool
@@ -64,10 +80,10 @@ pub fn castling_goal(side: Side, kingside: bool) -> Square
     ensures { result ≡ legal.castling_goal side kingside }
 {
     match (side, kingside) {
-        (Side::White, true) => Square::new(6),
-        (Side::White, false) => Square::new(2),
-        (Side::Black, true) => Square::new(62),
-        (Side::Black, false) => Square::new(58),
+        (Side::White, true) => Square::new(G1),
+        (Side::White, false) => Square::new(C1),
+        (Side::Black, true) => Square::new(G8),
+        (Side::Black, false) => Square::new(C8),
     }
 }
 
@@ -77,9 +93,9 @@ pub fn castling_crossed(side: Side, kingside: bool) -> Square
     ensures { result ≡ legal.castling_crossed side kingside }
 {
     match (side, kingside) {
-        (Side::White, true) => Square::new(5),
-        (Side::White, false) => Square::new(3),
-        (Side::Black, true) => Square::new(61),
-        (Side::Black, false) => Square::new(59),
+        (Side::White, true) => Square::new(F1),
+        (Side::White, false) => Square::new(D1),
+        (Side::Black, true) => Square::new(F8),
+        (Side::Black, false) => Square::new(D8),
     }
 }

@@ -12,9 +12,9 @@ mod passing;
 mod reach;
 
 pub use after::is_en_passant_capture;
-pub use castling::is_castling;
-pub use legality::is_legal;
+pub use castling::{castling_goal, is_castling};
 pub use cq_sets::lowest_square;
+pub use legality::is_legal;
 pub use list::legal_moves;
 pub use next_position::play;
 pub use outcome::{is_mate, is_stalemate};

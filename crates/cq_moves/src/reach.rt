@@ -69,7 +69,8 @@ pub fn origins_to(position: &Position, piece: Piece, goal: Square) -> u64
     let _there = position.at(goal);
     let side = position.side();
     match piece {
-        Piece::King => squares_attacked(king_of(side), position.men(), goal) | mark(Some(king_home(side))),
+        Piece::King => squares_attacked(king_of(side), position.men(), goal)
+            | mark(Some(king_home(side))),
         Piece::Pawn => {
             squares_attacked(man_of(opponent(side), Piece::Pawn), position.men(), goal)
                 | squares_ahead(opponent(side), goal)

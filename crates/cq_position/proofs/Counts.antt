@@ -1,6 +1,5 @@
 -- How many squares a set has.
-use Rattle.std.proofs.Common.{◌≡◌, ℕ, ◌<◌, ◌^◌, ◌%◌, ◌/◌, Bool, true, false, cond, List, length, get_or, map, count_by, refl, sym, ap, ◌∙◌, arith}
-use Rattle.std.specs.Int.{bit_at}
+use Rattle.std.proofs.Common.{◌≡◌, ℕ, ◌<◌, ◌^◌, Bool, true, false, cond, List, length, map, refl, sym, ap, ◌∙◌, arith}
 use Rattle.std.specs.Int.RustNames.{count_ones}
 use Rattle.std.proofs.lemmas.Nat.Bits.{same_from_bits_below}
 use Rattle.std.proofs.lemmas.List.{get_or-map, length-map}
@@ -24,8 +23,8 @@ as_mask mask men man whole fits is =
     let below : mask_l (map p men) < 2 ^ 64 = rw len at (mask_l-lt (map p men)) in
     same_from_bits_below 64 mask (mask_l (map p men)) fits below
     (λ k low. is.bit k low ∙ of_bit (stands men k man)
-        ∙ ap (λ b. cond b 1 0) (sym (get_or-map p men k Empty false (omega (arith, whole, low))))
-        ∙ sym (bit_mask_l (map p men) k))
+    ∙ ap (λ b. cond b 1 0) (sym (get_or-map p men k Empty false (omega (arith, whole, low))))
+    ∙ sym (bit_mask_l (map p men) k))
 
 pub counted : (mask : ℕ) (men : List Man) (man : Man) → length men ≡ 64 → mask < 2 ^ 64 → IsBitboard mask (λ k. stands men k man) → count_ones mask ≡ count_of man men
 counted mask men man whole fits is = ap count_ones (as_mask mask men man whole fits is) ∙ ones-mask_l (λ m. same_man m man) men

@@ -1,5 +1,5 @@
 -- Words with one bit changed.
-use Rattle.std.proofs.Common.{◌≡◌, ◌≢◌, ℕ, zero, suc, ◌+◌, ◌-◌, ◌*◌, ◌/◌, ◌%◌, ◌^◌, ◌<◌, ◌≤◌, Bool, true, false, not, ◌==◌, ◌&&◌, ◌||◌, refl, sym, ap, ◌∙◌, arith}
+use Rattle.std.proofs.Common.{◌≡◌, ◌≢◌, ℕ, zero, suc, ◌+◌, ◌-◌, ◌*◌, ◌%◌, ◌^◌, ◌<◌, not, ◌==◌, ◌&&◌, ◌||◌, refl, sym, ap, ◌∙◌, arith}
 use Rattle.std.specs.Prelude.{bit_or, bit_and, nat_lt, nat_le}
 use Rattle.std.specs.Int.{bit_at, bit_not, w64}
 use Rattle.std.proofs.lemmas.Nat.Bits.{bit_at-lt, bit_at_not, bit_at_set_same, bit_at_set_other, bit_at_clear_same, bit_at_clear_other}
@@ -86,7 +86,7 @@ tests_join a b c d e f g h i j k l m n o p = grind (arith, nat_tests)
 
 number_split : (a b c d s number : ℕ) → number < 13
     → ((((bit_at a s == bit_at number 0) && (bit_at b s == bit_at number 1)) && (bit_at c s == bit_at number 2)) && (bit_at d s == bit_at number 3))
-        ≡ (number_at a b c d s == number)
+    ≡ (number_at a b c d s == number)
 number_split a b c d s number low =
     tests_join (bit_at a s) (bit_at b s) (bit_at c s) (bit_at d s) (bit_at number 0) (bit_at number 1) (bit_at number 2) (bit_at number 3)
     (bit_at-lt a s) (bit_at-lt b s) (bit_at-lt c s) (bit_at-lt d s) (bit_at-lt number 0) (bit_at-lt number 1) (bit_at-lt number 2) (bit_at-lt number 3)
@@ -136,7 +136,7 @@ white_found a b c d words =
     let fits : bit_or d (bit_and c b) < 2 ^ 64 = or_lt 64 d (bit_and c b) words.eights (let l = and_le_l c b in let f = words.fours in omega arith) in
     marks_same _ _ _
     (λ k low. white_digits (bit_at a k) (bit_at b k) (bit_at c k) (bit_at d k) (bit_at-lt a k) (bit_at-lt b k) (bit_at-lt c k) (bit_at-lt d k)
-        ∙ ap (λ n. nat_lt n 6) (of_man a b c d k words low))
+    ∙ ap (λ n. nat_lt n 6) (of_man a b c d k words low))
     (marks_not _ _ fits (marks_or _ _ _ _ (like_one d 1 refl) (marks_and _ _ _ _ (like_one c 1 refl) (like_one b 1 refl))))
 
 pub black_found : (a b c d : ℕ) → AreWords 13 a b c d
@@ -144,5 +144,5 @@ pub black_found : (a b c d : ℕ) → AreWords 13 a b c d
 black_found a b c d words =
     marks_same _ _ _
     (λ k low. black_digits (bit_at a k) (bit_at b k) (bit_at c k) (bit_at d k) (bit_at-lt a k) (bit_at-lt b k) (bit_at-lt c k) (bit_at-lt d k) (words.numbers k low)
-        ∙ ap (λ n. nat_le 6 n && nat_lt n 12) (of_man a b c d k words low))
+    ∙ ap (λ n. nat_le 6 n && nat_lt n 12) (of_man a b c d k words low))
     (marks_or _ _ _ _ (marks_and _ _ _ _ (like_one c 1 refl) (like_one b 1 refl)) (marks_and _ _ _ _ (like_one d 1 refl) (marks_not _ _ words.fours (like_one c 1 refl))))

@@ -2,7 +2,6 @@
 use Rattle.std.specs.Prelude.{◌≡◌, ℕ, zero, suc, ◌<◌, List, refl}
 use Rattle.std.proofs.Common.{ap₂, ◌∙◌}
 use Rattle.cq_position.specs.declared.men.Man.{Man}
-use Rattle.cq_position.specs.declared.men.Man.TheVariants.{K, Q, R, B, N, P, BlackK, BlackQ, BlackR, BlackB, BlackN, BlackP, Empty}
 use Rattle.cq_position.specs.Men.{man_number}
 use Rattle.cq_position.specs.declared.planes.Men.TheInside.{Inside}
 use Rattle.cq_position.specs.Planes.{man_numbered}

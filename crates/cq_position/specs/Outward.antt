@@ -1,4 +1,4 @@
--- Attackers of a square, looked for outward from it, as the private functions give them.
+-- Attackers of a square, looked for outward from it.
 use Rattle.std.specs.Prelude.{◌&&◌, ℕ, List, [], ◌∷◌, Bool, true, false, if◌then◌else◌, Option, Some, None}
 use Rattle.std.specs.List.{list_any}
 use Rattle.cq_geometry.specs.declared.compass.Compass.{Compass}

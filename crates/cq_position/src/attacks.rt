@@ -9,8 +9,8 @@ use crate::men::{Man, Side, king_of, opponent};
 pub use crate::outward::is_attacked;
 use crate::planes::Men;
 use crate::position::{Position, stands};
-use cq_geometry::{Square, Step, between, files_apart, rank};
-use cq_sets::{king_steps, knight_steps, mark, slanted_squares, straight_squares};
+use cq_geometry::{Square, between, files_apart, rank};
+use cq_sets::{king_steps, knight_steps, slanted_squares, steps_down, steps_up, straight_squares};
 
 /// The squares that the man on a square attacks, whatever stands there (FIDE Laws of Chess, articles 3.2 to 3.8): bit k of the
 /// answer is square k. An empty square attacks none.
@@ -131,7 +131,7 @@ pub(crate) fn pawn_squares(side: Side, from: Square) -> u64
     ensures { IsBitboard result (attack.is_pawn_attack side from) }
 {
     match side {
-        Side::White => mark(Step::<-1, 1>::step(from)) | mark(Step::<1, 1>::step(from)),
-        Side::Black => mark(Step::<-1, -1>::step(from)) | mark(Step::<1, -1>::step(from)),
+        Side::White => steps_up(from),
+        Side::Black => steps_down(from),
     }
 }

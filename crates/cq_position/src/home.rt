@@ -5,14 +5,26 @@ ghost use Rattle.cq_position.specs.Board as board;
 use crate::men::Side;
 use cq_geometry::Square;
 
+const A1: u8 = 0;
+
+const E1: u8 = 4;
+
+const H1: u8 = 7;
+
+const A8: u8 = 56;
+
+const E8: u8 = 60;
+
+const H8: u8 = 63;
+
 /// The square on which a side's king stands at home.
 #[inline]
 pub fn king_home(side: Side) -> Square
     ensures { result ≡ board.king_home side }
 {
     match side {
-        Side::White => Square::new(4),
-        Side::Black => Square::new(60),
+        Side::White => Square::new(E1),
+        Side::Black => Square::new(E8),
     }
 }
 
@@ -22,9 +34,9 @@ pub fn rook_home(side: Side, kingside: bool) -> Square
     ensures { result ≡ board.rook_home side kingside }
 {
     match (side, kingside) {
-        (Side::White, true) => Square::new(7),
-        (Side::White, false) => Square::new(0),
-        (Side::Black, true) => Square::new(63),
-        (Side::Black, false) => Square::new(56),
+        (Side::White, true) => Square::new(H1),
+        (Side::White, false) => Square::new(A1),
+        (Side::Black, true) => Square::new(H8),
+        (Side::Black, false) => Square::new(A8),
     }
 }

@@ -40,7 +40,10 @@ fn is_attacked_straight(men: &Men, by: Side, square: Square) -> bool
 {
     let attackers = straight_men(men, by);
     meets(attackers, straight_lines(square))
-        && meets(attackers, straight_squares(square, men.squares_of(Man::Empty)))
+        && meets(
+            attackers,
+            straight_squares(square, men.squares_of(Man::Empty)),
+        )
 }
 
 // Whether a bishop or queen of the side attacks the square, where one stands on its diagonals.
@@ -52,7 +55,10 @@ fn is_attacked_aslant(men: &Men, by: Side, square: Square) -> bool
 {
     let attackers = slanted_men(men, by);
     meets(attackers, slanted_lines(square))
-        && meets(attackers, slanted_squares(square, men.squares_of(Man::Empty)))
+        && meets(
+            attackers,
+            slanted_squares(square, men.squares_of(Man::Empty)),
+        )
 }
 
 // Whether a knight of the side attacks the square.
@@ -61,7 +67,10 @@ fn is_attacked_by_knight(men: &Men, by: Side, square: Square) -> bool
     requires { square < 64 }
     ensures { result ≡ some_man (λ a. board.stands men.now a (knight_of by)) (steps.is_knight_step square) }
 {
-    meets(men.squares_of(man_of(by, Piece::Knight)), knight_steps(square))
+    meets(
+        men.squares_of(man_of(by, Piece::Knight)),
+        knight_steps(square),
+    )
 }
 
 // Whether a pawn of the side attacks the square: a pawn of the other side would attack it from there.
@@ -71,7 +80,10 @@ fn is_attacked_by_pawn(men: &Men, by: Side, square: Square) -> bool
     ensures { result ≡ some_man (λ a. board.stands men.now a (men_spec.pawn_of by))
         (attack.is_pawn_attack (men_spec.opponent by) square) }
 {
-    meets(men.squares_of(man_of(by, Piece::Pawn)), pawn_squares(opponent(by), square))
+    meets(
+        men.squares_of(man_of(by, Piece::Pawn)),
+        pawn_squares(opponent(by), square),
+    )
 }
 
 // Whether the king of the side attacks the square.

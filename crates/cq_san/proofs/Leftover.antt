@@ -1,5 +1,5 @@
 -- The origins among the squares of a set that are still to be looked at.
-use Rattle.std.proofs.Common.{◌≡◌, ℕ, zero, suc, ◌+◌, ◌*◌, ◌^◌, ◌%◌, ◌<◌, ◌≤◌, Bool, true, false, not, ◌&&◌, ◌==◌, cond, List, [], ◌∷◌, ◌++◌, length, refl, sym, ap, ◌∙◌, arith, inl, inr}
+use Rattle.std.proofs.Common.{◌≡◌, ℕ, ◌^◌, ◌<◌, Bool, true, false, not, ◌&&◌, cond, List, [], ◌∷◌, ◌++◌, length, refl, sym, ap, ◌∙◌, arith, inl, inr}
 use Rattle.std.specs.List.{All, filter}
 use Rattle.std.specs.Int.{bit_at, trailing_zeros, w64}
 use Rattle.std.proofs.lemmas.Bool.{cases_Bool, and_parts, and_from, false_from_ne_true, eq-eqb}
@@ -19,8 +19,8 @@ use Rattle.cq_moves.specs.Candidates.{may_come}
 use Rattle.cq_moves.proofs.Bits.{set_squares, has_bit, cleared, first_square, no_squares}
 use Rattle.cq_moves.proofs.Origins.{reached_comes}
 use Rattle.cq_san.specs.declared.parts.PieceMove.{PieceMove}
-use Rattle.cq_san.specs.Fits.{agrees_in_parts, agrees_where_given}
-use Rattle.cq_san.specs.Origins.{move_from, is_origin, origins}
+use Rattle.cq_san.specs.Fits.{agrees_in_parts}
+use Rattle.cq_san.specs.Origins.{move_from, is_origin}
 use Rattle.cq_san.proofs.Candidates.{so_far-room, so_far-end}
 
 kept_of_rest : (test : ℕ → Bool) (mask : ℕ) (xs : List ℕ) → All (λ s. has_bit mask s ≡ false → test s ≡ false) xs

@@ -1,6 +1,5 @@
 //! The squares from which a move comes that agrees with the parts of a text.
 ghost use Rattle.std.specs.Prelude.{◌≡◌};
-ghost use Rattle.cq_position.specs.Legal as legal;
 ghost use Rattle.cq_position.specs.Legality.{legal_test};
 ghost use Rattle.cq_san.specs.Origins as origin;
 
@@ -8,7 +7,7 @@ use crate::fit::agrees_in_parts;
 use crate::parts::PieceMove;
 use arrayvec::ArrayVec;
 use cq_geometry::Square;
-use cq_moves::{is_castling, is_legal, origins_to};
+use cq_moves::{castling_goal, is_castling, is_legal, origins_to};
 use cq_position::home::king_home;
 use cq_position::{Move, Position, Promotion, Side, man_of};
 use cq_sets::lowest_square;
@@ -18,7 +17,9 @@ pub(crate) fn origins(position: &Position, parts: &PieceMove) -> ArrayVec<Square
     ensures { result.items ≡ origin.origins position.now parts.now }
 {
     let mut found = ArrayVec::new();
-    let there = position.men().squares_of(man_of(position.side(), parts.piece));
+    let there = position
+        .men()
+        .squares_of(man_of(position.side(), parts.piece));
     let mut left = origins_to(position, parts.piece, parts.goal) & there;
     while left != 0 {
         let from = lowest_square(left);
@@ -66,16 +67,5 @@ pub(crate) fn castling_move(side: Side, kingside: bool) -> Move
         to: castling_goal(side, kingside),
         promotion: Promotion::None,
         null: false,
-    }
-}
-
-fn castling_goal(side: Side, kingside: bool) -> Square
-    ensures { result ≡ legal.castling_goal side kingside }
-{
-    match (side, kingside) {
-        (Side::White, true) => Square::new(6),
-        (Side::White, false) => Square::new(2),
-        (Side::Black, true) => Square::new(62),
-        (Side::Black, false) => Square::new(58),
     }
 }

@@ -1,9 +1,9 @@
 -- The words of a list, bit by bit, and the list of words, square by square.
-use Rattle.std.proofs.Common.{◌≡◌, ◌≢◌, ℕ, zero, suc, ◌+◌, ◌*◌, ◌/◌, ◌%◌, ◌^◌, ◌<◌, ◌≤◌, ◌⊎◌, inl, inr, List, [], ◌∷◌, length, get_or, map, refl, sym, ap, ◌∙◌, arith}
+use Rattle.std.proofs.Common.{◌≡◌, ◌≢◌, ℕ, zero, suc, ◌+◌, ◌*◌, ◌/◌, ◌%◌, ◌^◌, ◌<◌, inl, inr, List, [], ◌∷◌, length, get_or, refl, sym, ap, ◌∙◌, arith}
 use Rattle.std.specs.Prelude.{slice_set}
 use Rattle.std.specs.Int.{bit_at}
 use Rattle.std.proofs.lemmas.Bool.{cases_eq}
-use Rattle.std.proofs.lemmas.Nat.Bits.{bit_at-lt, bit_at-suc, bit_at-zero, bit_at_lowest, same_from_bits_below}
+use Rattle.std.proofs.lemmas.Nat.Bits.{bit_at-lt, bit_at-suc, bit_at_lowest, same_from_bits_below}
 use Rattle.std.proofs.lemmas.Nat.{pow-add}
 use Rattle.std.proofs.lemmas.List.{ext_get_or, get_or-set_same, get_or-set_other, length-set}
 use Rattle.std.proofs.lemmas.List.FromFn.{get_or-map-range_with_len, length-map-range_with_len}
@@ -66,9 +66,9 @@ word_back number named limit back place a b c d word fits numbers same =
     let low : word_of number place (list_of named a b c d) < 2 ^ 64 = rw len at below in
     same_from_bits_below 64 (word_of number place (list_of named a b c d)) word low fits
     (λ k lt. word_bit number place (list_of named a b c d) (named 0) k (rw len lt)
-        ∙ ap (λ m. bit_at (number m) place) (list_at named (named 0) a b c d k lt)
-        ∙ ap (λ n. bit_at n place) (back (number_at a b c d k) (numbers k lt))
-        ∙ same k)
+    ∙ ap (λ m. bit_at (number m) place) (list_at named (named 0) a b c d k lt)
+    ∙ ap (λ n. bit_at n place) (back (number_at a b c d k) (numbers k lt))
+    ∙ same k)
 
 -- the words come back from the list
 pub record AreBack {X : Type 0} (number : X → ℕ) (named : ℕ → X) (a b c d : ℕ) : Type 0 where

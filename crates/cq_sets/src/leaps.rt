@@ -1,6 +1,7 @@
-//! The steps of kings and knights.
-ghost use Rattle.std.specs.Prelude.{◌<◌};
-ghost use Rattle.cq_geometry.specs.Steps.{is_king_step, is_knight_step};
+//! The steps of kings and knights, and those aslant of pawns.
+ghost use Rattle.std.specs.Prelude.{◌<◌, ◌+◌, ◌&&◌, ◌==◌};
+ghost use Rattle.cq_geometry.specs.Squares.{rank_of};
+ghost use Rattle.cq_geometry.specs.Steps.{files_apart, is_king_step, is_knight_step};
 ghost use Rattle.cq_sets.specs.Bitboards.{IsBitboard};
 
 use crate::slides::{NOT_A_FILE, NOT_H_FILE};
@@ -30,4 +31,24 @@ pub fn knight_steps(from: Square) -> u64
     let near = (knight & NOT_H_FILE) << 1 | (knight & NOT_A_FILE) >> 1;
     let far = (knight & NOT_G_OR_H_FILE) << 2 | (knight & NOT_A_OR_B_FILE) >> 2;
     near << 16 | near >> 16 | far << 8 | far >> 8
+}
+
+/// The squares one rank up on the files beside a square's.
+#[inline]
+pub fn steps_up(from: Square) -> u64
+    requires { from < 64 }
+    ensures { IsBitboard result (λ to. (rank_of to == rank_of from + 1) && (files_apart from to == 1)) }
+{
+    let square = 1 << from.number();
+    (square & NOT_H_FILE) << 9 | (square & NOT_A_FILE) << 7
+}
+
+/// The squares one rank down on the files beside a square's.
+#[inline]
+pub fn steps_down(from: Square) -> u64
+    requires { from < 64 }
+    ensures { IsBitboard result (λ to. (rank_of from == rank_of to + 1) && (files_apart from to == 1)) }
+{
+    let square = 1 << from.number();
+    (square & NOT_H_FILE) >> 7 | (square & NOT_A_FILE) >> 9
 }

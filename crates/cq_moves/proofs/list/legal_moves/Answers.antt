@@ -1,4 +1,4 @@
-use Rattle.std.proofs.Common.{◌≡◌, ◌<◌, ◌^◌, false, List, sym, ◌∙◌, arith, rules, subst}
+use Rattle.std.proofs.Common.{◌≡◌, ◌<◌, ◌^◌, false, List, sym, arith, rules, subst}
 use Rattle.std.specs.List.{All, AllPairs, Contains}
 use Rattle.cq_position.specs.declared.moves.Move.{Move}
 use Rattle.cq_moves.specs.LegalMoves.{legal_from, legal_list, Precedes}

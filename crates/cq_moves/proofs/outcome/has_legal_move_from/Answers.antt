@@ -1,4 +1,4 @@
-use Rattle.std.proofs.Common.{◌<◌, ◌^◌, ℕ, sym, ap, ap₂, ◌∙◌, arith, rules}
+use Rattle.std.proofs.Common.{◌<◌, ◌^◌, ℕ, sym, ap, ◌∙◌, arith, rules}
 use Rattle.std.specs.List.{list_any}
 use Rattle.cq_position.specs.Legality.{legal_test}
 use Rattle.cq_moves.specs.LegalMoves.{moves_from, moves_between}

@@ -1,7 +1,3 @@
-use Rattle.std.proofs.Common.{◌≡◌, ◌*◌, ◌^◌, ◌%◌, ◌<◌, arith}
-use Rattle.std.specs.Int.{bit_not, w64}
-use Rattle.std.proofs.lemmas.Nat.{or_lt, and_le_l}
-use Rattle.std.proofs.Math.Nat.{mod-lt}
 use Rattle.cq_position.proofs.Digits.{set_is, clear_is, set_fits, clear_fits}
 use Rattle.cq_position.proofs.planes.with_bit.Goals as goal
 

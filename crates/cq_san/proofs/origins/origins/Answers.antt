@@ -1,4 +1,4 @@
-use Rattle.std.proofs.Common.{◌≡◌, ◌<◌, ◌^◌, ◌++◌, ℕ, List, [], ◌∷◌, sym, ap, ◌∙◌, arith, rules, subst}
+use Rattle.std.proofs.Common.{◌<◌, ◌^◌, ℕ, List, sym, ◌∙◌, arith, rules, subst}
 use Rattle.std.specs.Prelude.{bit_and}
 use Rattle.cq_moves.proofs.Bits.{walk_shorter}
 use Rattle.cq_san.specs.Origins.{is_origin, origins}

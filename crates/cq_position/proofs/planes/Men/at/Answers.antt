@@ -1,4 +1,4 @@
-use Rattle.std.proofs.Common.{◌≡◌, ℕ, refl, sym, ap, ◌∙◌}
+use Rattle.std.proofs.Common.{sym}
 use Rattle.cq_position.specs.declared.men.Man.TheVariants.{Empty}
 use Rattle.cq_sets.proofs.Words.{list_at}
 use Rattle.cq_position.specs.Planes.{man_numbered}

@@ -1,4 +1,3 @@
-use Rattle.std.proofs.Common.{◌≡◌, ◌∙◌, ap, ◌<◌}
 use Rattle.cq_sets.proofs.Words.{with_one, with_one_below}
 use Rattle.cq_position.specs.Planes.{man_numbered}
 use Rattle.cq_position.proofs.Digits.{digits_of, digits_below}

@@ -1,4 +1,3 @@
-use Rattle.std.proofs.Common.{◌≡◌}
 use Rattle.cq_position.proofs.Digits.{squares_found}
 use Rattle.cq_position.proofs.planes.Men.squares_of.Goals as goal
 

@@ -1,0 +1,5 @@
+use Rattle.cq_sets.proofs.Steps.{down_marked}
+use Rattle.cq_sets.proofs.leaps.steps_down.Goals as goal
+
+pub returns : goal.returns
+returns c = rw c.number.ensures.value (down_marked c.args.from c.requires)

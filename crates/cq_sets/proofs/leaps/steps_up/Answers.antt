@@ -1,0 +1,5 @@
+use Rattle.cq_sets.proofs.Steps.{up_marked}
+use Rattle.cq_sets.proofs.leaps.steps_up.Goals as goal
+
+pub returns : goal.returns
+returns c = rw c.number.ensures.value (up_marked c.args.from c.requires)
