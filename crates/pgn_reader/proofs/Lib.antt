@@ -21,3 +21,8 @@ pub mod Tokens
 pub mod Follows
 pub mod Building
 pub mod Verdicts
+pub mod Limit
+pub mod Located
+pub mod OneOutcome
+pub mod Elsewhere
+pub mod Marker

@@ -14,3 +14,5 @@ pub mod Arranged
 pub mod Shown
 pub mod Reading
 pub mod Building
+pub mod Elsewhere
+pub mod Marker

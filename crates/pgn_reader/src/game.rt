@@ -1,9 +1,11 @@
 //! Reading a game.
-ghost use Rattle.std.specs.Prelude.{◌≡◌, ◌<◌, ◌^◌, List, slice_get, IfOk};
+ghost use Rattle.std.specs.Prelude.{◌≡◌, ◌<◌, ◌+◌, ◌^◌, List, length, slice_get, Err, IfOk};
 ghost use Rattle.pgn_reader.specs.Words.{Word};
 ghost use Rattle.pgn_reader.specs.Tags.{result_of_tags};
 ghost use Rattle.pgn_reader.specs.Reading.{IsWhole, ending_by, game_of};
-ghost use Rattle.pgn_reader.specs.Verdict.{place_or, IsVerdict};
+ghost use Rattle.cq_outside.specs.declared.faults.Refusal.TheVariants.{Fault as IsFault};
+ghost use Rattle.pgn_reader.specs.declared.fault.Reason.TheVariants.{GameTooLong as IsTooLong};
+ghost use Rattle.pgn_reader.specs.Verdict.{place_or, longest, IsVerdict};
 
 use crate::build::game_of_rows;
 use crate::fault::{GameFault, Reason};
@@ -69,7 +71,8 @@ fn into_game(alloc: Global, reader: Reader) -> Result<Game, NoMemory>
 /// the variations that replace it.
 ///
 /// A fault stands at the first token such that no game begins with the tokens up to it, at the move that makes one position too many,
-/// or at the game's end where the tokens only begin one. A game of more than 2^24 bytes is refused before all other faults.
+/// or at the game's end where the tokens only begin one. A game of more than 2^24 bytes is refused before all other faults, by that
+/// fault alone, as this takes no memory.
 pub fn read_game(
     alloc: Global,
     bytes: &[u8],
@@ -77,7 +80,8 @@ pub fn read_game(
     first: bool,
 ) -> Result<Game, Refusal<GameFault>>
     requires { start < 2 ^ 62 }
-    ensures { IsVerdict start first bytes.now result }
+    ensures verdict { IsVerdict start first bytes.now result }
+    ensures long { longest < length bytes.now → result ≡ Err (IsFault (record { byte = start + longest; reason = IsTooLong })) }
 {
     if bytes.len() > LONGEST {
         return Err(Refusal::Fault(GameFault {
