@@ -11,7 +11,8 @@ use Rattle.pgn_reader.specs.declared.fault.GameFault.{GameFault}
 use Rattle.pgn_reader.specs.declared.fault.Reason.TheVariants.{GameTooLong}
 use Rattle.pgn_reader.specs.Elsewhere.{moved, AreSameTokens}
 use Rattle.pgn_reader.specs.Faults.{IsFault}
-use Rattle.pgn_reader.specs.Verdict.{IsOnlyGame, IsTooLong, HasTokenFault, IsGameFault, IsRead, place_or, longest}
+use Rattle.pgn_reader.specs.Verdict.{IsOnlyGame, IsTooLong, HasTokenFault, IsGameFault, IsRead, place_or}
+use Rattle.pgn_reader.specs.Limits.{longest}
 use Rattle.pgn_reader.specs.Words.{Word, words_of}
 use Rattle.pgn_reader.proofs.OneOutcome.{one_outcome}
 use Rattle.pgn_reader.proofs.Verdicts.{verdict, long_or_short}

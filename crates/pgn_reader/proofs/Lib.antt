@@ -26,3 +26,4 @@ pub mod Located
 pub mod OneOutcome
 pub mod Elsewhere
 pub mod Marker
+pub mod FirstFen

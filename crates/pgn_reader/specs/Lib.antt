@@ -1,3 +1,4 @@
+pub mod Limits
 pub mod Words
 pub mod Tags
 pub mod Line
@@ -16,3 +17,5 @@ pub mod Reading
 pub mod Building
 pub mod Elsewhere
 pub mod Marker
+pub mod Preface
+pub mod PrefaceInside

@@ -1,5 +1,5 @@
 -- What the bytes of a game spell, and their fault.
-use Rattle.std.specs.Prelude.{◌≡◌, ℕ, ◌+◌, ◌^◌, ◌<◌, ◌≤◌, ◌⊎◌, Bool, List, length, slice_get, Option, Some, None, Result, Ok, Err}
+use Rattle.std.specs.Prelude.{◌≡◌, ℕ, ◌+◌, ◌<◌, ◌≤◌, ◌⊎◌, Bool, List, length, slice_get, Option, Some, None, Result, Ok, Err}
 use Rattle.cq_outside.specs.declared.faults.Refusal.{Refusal}
 use Rattle.cq_outside.specs.declared.faults.Refusal.TheVariants.{Fault, NoMemory}
 use Rattle.cq_position.specs.Games.{Game}
@@ -8,6 +8,7 @@ use Rattle.pgn_lexer.specs.Lexemes.{tokens_of}
 use Rattle.pgn_reader.specs.declared.fault.GameFault.{GameFault}
 use Rattle.pgn_reader.specs.declared.fault.Reason.TheVariants.{GameTooLong}
 use Rattle.pgn_reader.specs.Words.{Word, words_of}
+use Rattle.pgn_reader.specs.Limits.{longest}
 use Rattle.pgn_reader.specs.Games.{Spells}
 use Rattle.pgn_reader.specs.Faults.{IsFault}
 
@@ -20,10 +21,6 @@ pub record IsOnlyGame (ts : List Word) (game : Game) : Type 0 where
 abbrev pub place_or : ℕ → Option Token → ℕ
 place_or end None = end
 place_or end (Some token) = token.at
-
--- how many bytes a game may have
-abbrev pub longest : ℕ
-longest = 2 ^ 24
 
 -- the bytes of a game whose first has the place `start` are too long
 pub record IsTooLong (start : ℕ) (bytes : List ℕ) (f : GameFault) : Type 0 where

@@ -5,7 +5,8 @@ ghost use Rattle.pgn_reader.specs.Tags.{result_of_tags};
 ghost use Rattle.pgn_reader.specs.Reading.{IsWhole, ending_by, game_of};
 ghost use Rattle.cq_outside.specs.declared.faults.Refusal.TheVariants.{Fault as IsFault};
 ghost use Rattle.pgn_reader.specs.declared.fault.Reason.TheVariants.{GameTooLong as IsTooLong};
-ghost use Rattle.pgn_reader.specs.Verdict.{place_or, longest, IsVerdict};
+ghost use Rattle.pgn_reader.specs.Limits.{longest};
+ghost use Rattle.pgn_reader.specs.Verdict.{place_or, IsVerdict};
 
 use crate::build::game_of_rows;
 use crate::fault::{GameFault, Reason};
@@ -21,7 +22,7 @@ use std::alloc::Global;
 /// How many bytes a game may have.
 const LONGEST: usize = 1 << 24;
 
-/// The place of a token, or of the first byte after the game.
+// The place of a token, or of the first byte after the game.
 fn place_or(end: u64, tokens: &[Token], index: usize) -> u64
     ensures { result ≡ place_or end (slice_get tokens.now index) }
 {
@@ -31,17 +32,17 @@ fn place_or(end: u64, tokens: &[Token], index: usize) -> u64
     }
 }
 
-/// The result of the marker, or without one that of the tags.
+// The result of the marker, or without one that of the tags.
 fn ending_of(reader: &Reader) -> GameResult
-    ensures { result ≡ ending_by reader.now.phase reader.now.tags }
+    ensures { result ≡ ending_by reader.now.phase reader.now.preface.tags }
 {
     match reader.phase {
         Phase::Ended(ending) => ending,
-        _ => result_of_tags(&reader.tags),
+        _ => result_of_tags(reader.preface.tags()),
     }
 }
 
-/// The result that the tag Result tells, where it is the text of one.
+// The result that the tag Result tells, where it is the text of one.
 #[tactic(auto, unfolding(crate::specs::Tags::result_of_tags))]
 fn result_of_tags(tags: &Tags) -> GameResult
     ensures { result ≡ result_of_tags tags.now }
@@ -52,16 +53,16 @@ fn result_of_tags(tags: &Tags) -> GameResult
     }
 }
 
-/// The game of which all tokens were read.
+// The game of which all tokens were read.
 fn into_game(alloc: Global, reader: Reader) -> Result<Game, NoMemory>
     requires { (ts : List Word) × IsWhole ts reader }
     ensures { IfOk result (λ g. g ≡ game_of reader) }
 {
     let ending = ending_of(&reader);
     // Read for what every position meets: the moves of the game lead from it.
-    let _side = reader.start.side();
+    let _side = reader.preface.start().side();
     let rows = reader.line.into_rows()?;
-    game_of_rows(alloc, reader.tags, ending, &rows)
+    game_of_rows(alloc, reader.preface.into_tags(), ending, &rows)
 }
 
 /// The game that its bytes spell (PGN standard, sections 8.1 and 8.2), or their first fault.

@@ -5,7 +5,8 @@ ghost use Rattle.pgn_cut.specs.OneGame.{IsGameOfCut};
 ghost use Rattle.pgn_reader.specs.declared.fault.GameFault.{GameFault};
 ghost use Rattle.pgn_reader.specs.Elsewhere.{moved, AreSameTokens};
 ghost use Rattle.pgn_reader.specs.Marker.{EndsWithItsMarker};
-ghost use Rattle.pgn_reader.specs.Verdict.{IsRead, longest};
+ghost use Rattle.pgn_reader.specs.Limits.{longest};
+ghost use Rattle.pgn_reader.specs.Verdict.{IsRead};
 ghost use Rattle.pgn_reader.specs.Words.{words_of};
 
 use pgn_cut::games_end_once;

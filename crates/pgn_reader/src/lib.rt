@@ -7,6 +7,7 @@ mod game;
 mod laws;
 mod line;
 mod notes;
+mod preface;
 mod reader;
 mod reading;
 mod row;
