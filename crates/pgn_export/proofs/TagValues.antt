@@ -2,7 +2,7 @@
 use Rattle.std.proofs.Common.{◌≡◌, ◌≢◌, ℕ, suc, ◌<◌, Bool, true, false, cond, List, [], ◌∷◌, ◌++◌, length, take, drop, Option, Some, None, refl, sym, ap, ap₂, ◌∙◌, subst, arith, true≢false}
 use Rattle.std.specs.Prelude.{◌&&◌, ◌||◌, not, codes, map, if◌then◌else◌}
 use Rattle.std.specs.BTreeMap.{insert_entry}
-use Rattle.std.specs.Cmp.{is_eq}
+use Rattle.std.specs.Ordering.{is_eq}
 use Rattle.std.specs.Cmp.Lexicographic.{nat_list_cmp_total}
 use Rattle.std.specs.List.{AllByRecursion, filter, find, fold, list_all, list_any}
 use Rattle.std.specs.List.Sorted.{IsStrictlySortedBy}
@@ -140,7 +140,7 @@ kept_by false false p q t ts kept name is same e rest = rest
 kept_value : (p : List ℕ → Bool) (name : List ℕ) (ts : List Tag) → tag_value name (filter (λ t. p t.0) ts) ≡ cond (p name) (tag_value name ts) None
 kept_value p name [] = nothing (p name)
   where
-    nothing : (b : Bool) → None {A = List ℕ} ≡ cond b None None
+    nothing : (b : Bool) → ◌≡◌ {A = Option (List ℕ)} None (cond b None None)
     nothing true = refl
     nothing false = refl
 kept_value p name (t ∷ ts) =

@@ -2,10 +2,7 @@
 use Rattle.std.specs.Prelude.{◌≡◌, ℕ, ◌≤◌, ◌⊎◌, List, [], ◌∷◌, ◌++◌, length}
 use Rattle.std.specs.List.{AllByRecursion, flat_map, join_with_byte}
 use Rattle.pgn_lexer.specs.Bytes.{line_feed}
-
--- how many bytes a line may have (PGN standard, section 4.3)
-abbrev pub widest : ℕ
-widest = 79
+use Rattle.pgn_export.specs.Lines.{widest}
 
 -- a row of words: single spaces between them, and LF
 abbrev pub row_of_words : List (List ℕ) → List ℕ

@@ -12,7 +12,6 @@ pub fn lines_are_short()
 {}
 
 /// The tags of an export are the game's tags, with what the roster has for a missing one and SetUp with FEN, in export order.
-#[tactic(auto, using(crate::proofs::TagValues::export_tags))]
 pub fn tags_are_the_games()
     ensures { (game : AGame) → HaveDistinctNames game.tags → AreExportTags game }
 {}
