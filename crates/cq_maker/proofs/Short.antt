@@ -1,7 +1,7 @@
 -- How many bytes a made archive has at most.
 use Rattle.std.proofs.Common.{◌≡◌, ℕ, zero, suc, ◌+◌, ◌*◌, ◌<◌, ◌≤◌, Bool, true, false, List, [], ◌∷◌, ◌++◌, length, Option, Some, None, refl, sym, ap, subst, arith, add-one}
 use Rattle.std.specs.Prelude.{◌==◌, ◌||◌, nat_le, if◌then◌else◌, codes, decimal}
-use Rattle.std.specs.List.{flat_map}
+use Rattle.std.specs.List.{AllByRecursion, flat_map}
 use Rattle.std.proofs.lemmas.Fmt.{length-decimal-le}
 use Rattle.std.proofs.lemmas.List.{length-append}
 use Rattle.std.proofs.lemmas.List.Concat.{flat_map-cons}
@@ -300,6 +300,15 @@ games_short number (suc games) x few =
     let c = length-append (export_text g) (flat_map export_text more) in
     let d : length (flat_map export_text (g ∷ more)) ≡ length (export_text g ++ flat_map export_text more) = ap length (flat_map-cons export_text g more) in
     omega (arith, a, b, c, d)
+
+each_from : (number games x : ℕ) → number + games ≤ 100001 → AllByRecursion (λ g. length (export_text g) ≤ 4096) (games_made number games x)
+unfolding games_made
+each_from number zero x few = tt
+each_from number (suc games) x few = (game_short number x (omega (arith, few)), each_from (number + 1) games (line_made x).state (omega (arith, few)))
+
+-- each game of a made archive has at most 4,096 bytes
+pub each_short : (seed games : ℕ) → games ≤ 100000 → AllByRecursion (λ g. length (export_text g) ≤ 4096) (games_made 1 games seed)
+each_short seed games few = each_from 1 games seed (omega (arith, few))
 
 -- a made archive has at most 4,096 bytes a game
 pub made_short : (seed games : ℕ) → games ≤ 100000 → length (made seed games) ≤ 4096 * games

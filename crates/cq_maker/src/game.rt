@@ -74,7 +74,7 @@ fn add_rows(game: &mut Game, rows: &[Row]) -> Result<(), NoMemory>
     requires { IsTree (game.old.nodes ++ nodes_of_rows rows.now) }
     ensures { OnOk result (game.new ≡ record game.old { nodes = game.old.nodes ++ nodes_of_rows rows.now }) }
 {
-    let _len = game.len();
+    prove!(game.is_tree());
     for row in rows {
         game.add_node(row.parent, row.led_by, row.position)?;
     }

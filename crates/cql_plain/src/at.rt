@@ -32,8 +32,7 @@ pub fn holds_at(
     requires { node < length game.now.nodes }
     ensures { IfOk result (λ b. b ≡ holds (value (searched_tree game.now variations) context.now names.now (filter_tree f.now) node)) }
 {
-    // A game's nodes are a tree.
-    let _len = game.len();
+    prove!(game.is_tree());
     let value = evaluate(alloc, f, game, variations, node, context, names)?;
     Ok(value.holds())
 }
@@ -52,8 +51,7 @@ pub fn set_at(
     ensures { IfOk result (λ set. set
         ≡ mask_of (has (value (searched_tree game.now variations) context.now names.now (filter_tree f.now) node))) }
 {
-    // A game's nodes are a tree.
-    let _len = game.len();
+    prove!(game.is_tree());
     let value = evaluate(alloc, f, game, variations, node, context, names)?;
     Ok(value.squares())
 }
@@ -71,8 +69,7 @@ pub fn number_at(
     requires { node < length game.now.nodes }
     ensures { IfOk result (λ n. n ≡ amount (value (searched_tree game.now variations) context.now names.now (filter_tree f.now) node)) }
 {
-    // A game's nodes are a tree.
-    let _len = game.len();
+    prove!(game.is_tree());
     let value = evaluate(alloc, f, game, variations, node, context, names)?;
     Ok(value.number())
 }

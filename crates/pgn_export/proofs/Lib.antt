@@ -13,6 +13,7 @@ pub mod Written
 pub mod Pairs
 pub mod Said
 pub mod Ordered
-pub mod Faultless
 pub mod ReadBack
 mod Rows
+pub mod InRows
+pub mod TagValues

@@ -23,17 +23,17 @@ use Rattle.pgn_export.specs.TagLines.{roster, is_in_roster, roster_tag, put, sor
 use Rattle.pgn_export.proofs.Pairs.{pair_of, value_back}
 use Rattle.pgn_export.proofs.Remarks.{all_each}
 
-abbrev Tag : Type 0
+abbrev pub Tag : Type 0
 Tag = List ℕ × List ℕ
 
-abbrev before : List ℕ → List ℕ → Ordering
+abbrev pub before : List ℕ → List ℕ → Ordering
 before = slice_cmp nat_cmp
 
-abbrev AreSorted : List Tag → Type 0
+abbrev pub AreSorted : List Tag → Type 0
 AreSorted tags = IsStrictlySortedBy before (map (λ t. t.0) tags)
 
 -- a name after another
-turned : (a b : List ℕ) → before a b ≡ Less → before b a ≡ Greater
+pub turned : (a b : List ℕ) → before a b ≡ Less → before b a ≡ Greater
 turned a b less = nat_list_cmp_total.antisymm b a ∙ ap ordering_reverse less
 
 self_by : (o : Ordering) → o ≡ ordering_reverse o → o ≡ Equal
@@ -41,7 +41,7 @@ self_by Less e = absurd cc
 self_by Equal e = refl
 self_by Greater e = absurd cc
 
-same_name : (a : List ℕ) → before a a ≡ Equal
+pub same_name : (a : List ℕ) → before a a ≡ Equal
 same_name a = self_by (before a a) (nat_list_cmp_total.antisymm a a)
 
 -- a tag whose name comes after all others is put last
@@ -170,7 +170,7 @@ others_by tags rest (Some value) is kept all set_up =
     ∙ ap (λ l. put l (codes "SetUp", codes "1")) (ap sorted kept ∙ sorted_same rest all)
     ∙ put_same rest (codes "SetUp") (codes "1") all (set_up value refl)
 
-and_parts_of : (s t : Bool) → (s && t) ≡ true → (s ≡ true) × (t ≡ true)
+pub and_parts_of : (s t : Bool) → (s && t) ≡ true → (s ≡ true) × (t ≡ true)
 and_parts_of true t e = (refl, e)
 and_parts_of false t e = absurd (true≢false (sym e))
 
@@ -202,7 +202,7 @@ written_as_they_are g normal =
     (subst (λ tags. (value : List ℕ) → tag_value (codes "FEN") tags ≡ Some value → tag_value (codes "SetUp") tags ≡ Some (codes "1")) s.is normal.set_up))
 
 -- and pairs with distinct names are the tags that they tell
-absent : (name : List ℕ) (tags : List Tag) → ((i : ℕ) → i < length tags → (tag_at tags i).0 ≢ name) → is_some (tag_value name tags) ≡ false
+pub absent : (name : List ℕ) (tags : List Tag) → ((i : ℕ) → i < length tags → (tag_at tags i).0 ≢ name) → is_some (tag_value name tags) ≡ false
 absent name [] differ = refl
 absent name (t ∷ ts) differ = by_name (bytes_eq name t.0) refl (absent name ts (λ i h. differ (suc i) (omega (arith, h))))
   where

@@ -24,7 +24,7 @@ use Rattle.pgn_export.specs.Normal.{levels, IsNormal, IsThisGame, IsReadAs}
 use Rattle.pgn_export.specs.TagLines.{tag_line, written_tags}
 use Rattle.pgn_export.specs.Words.{comment_words}
 use Rattle.pgn_export.proofs.Alike.{AreAlike, parts_of, alike_other, like_line}
-use Rattle.pgn_export.proofs.Faultless.{no_fault}
+use Rattle.pgn_reader.proofs.OneOutcome.{no_fault}
 use Rattle.pgn_export.proofs.Glued.{Said, said_more}
 use Rattle.pgn_export.proofs.Ordered.{written_as_they_are, tags_back}
 use Rattle.pgn_export.proofs.Pairs.{pair_of, are_heading, tags_told}

@@ -1,10 +1,11 @@
 -- Where a word stands in the lines, as the private functions give it.
 use Rattle.std.specs.Prelude.{ℕ, ◌+◌, nat_le, List, length, if◌then◌else◌}
 use Rattle.pgn_lexer.specs.Bytes.{line_feed}
+use Rattle.pgn_export.specs.Lines.{widest}
 
 -- the byte before a word that follows a line of so many bytes, a space or LF, and how many bytes the line has then
 abbrev pub gap : ℕ → List ℕ → ℕ
-gap column w = if nat_le (column + 1 + length w) 79 then 32 else line_feed
+gap column w = if nat_le (column + 1 + length w) widest then 32 else line_feed
 
 abbrev pub next_column : ℕ → List ℕ → ℕ
-next_column column w = if nat_le (column + 1 + length w) 79 then column + 1 + length w else length w
+next_column column w = if nat_le (column + 1 + length w) widest then column + 1 + length w else length w

@@ -7,3 +7,5 @@ pub mod Places
 pub mod Plain
 pub mod Export
 pub mod Normal
+pub mod Rows
+pub mod TagValues

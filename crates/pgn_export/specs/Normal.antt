@@ -1,5 +1,5 @@
 -- Which games are normal: those that are written as they are, so that they are read back from what is written.
-use Rattle.std.specs.Prelude.{◌≡◌, ℕ, ◌+◌, ◌≤◌, ◌^◌, true, not, List, [], ◌++◌, ◌∷◌, length, take, drop, map, max, codes, Bool, Some, None, Result, Ok, Err}
+use Rattle.std.specs.Prelude.{◌≡◌, ℕ, ◌+◌, ◌≤◌, true, not, List, [], ◌++◌, ◌∷◌, length, take, drop, map, max, codes, Bool, Some, None, Result, Ok, Err}
 use Rattle.std.specs.Cmp.Lexicographic.{slice_cmp}
 use Rattle.std.specs.List.{AllByRecursion, list_all}
 use Rattle.std.specs.List.Sorted.{IsStrictlySortedBy}
@@ -13,6 +13,7 @@ use Rattle.pgn_lexer.specs.Grammar.{Lacks, IsLexeme}
 use Rattle.pgn_lexer.specs.declared.token.LexemeKind.TheVariants.{Token}
 use Rattle.pgn_lexer.specs.declared.token.TokenKind.TheVariants.{Symbol}
 use Rattle.pgn_reader.specs.declared.fault.GameFault.{GameFault}
+use Rattle.pgn_reader.specs.Limits.{longest, most_levels}
 use Rattle.pgn_reader.specs.Tags.{start_of}
 use Rattle.pgn_reader.specs.Verdict.{IsVerdict}
 use Rattle.pgn_reader.specs.Words.{result_of_text}
@@ -56,9 +57,9 @@ pub record IsNormal (g : Game) : Type 0 where
   pub result : tag_value (codes "Result") g.tags ≡ Some (result_text g.result)
   pub set_up : (fen : List ℕ) → tag_value (codes "FEN") g.tags ≡ Some fen → tag_value (codes "SetUp") g.tags ≡ Some (codes "1")
   pub start : start_of g.tags ≡ Ok (node_at g.nodes 0).position
-  pub few_levels : levels (played_in g) ≤ 100
+  pub few_levels : levels (played_in g) ≤ most_levels
   pub no_glyph : (node_at g.nodes 0).nags ≡ []
-  pub short : length (export_text g) ≤ 2 ^ 24
+  pub short : length (export_text g) ≤ longest
 
 -- what was read is this game, unless it is refused as out of memory
 abbrev pub IsThisGame : Game → Result Game (Refusal GameFault) → Type 0

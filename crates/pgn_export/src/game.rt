@@ -28,9 +28,8 @@ pub fn export(alloc: Global, game: &Game) -> Result<Bytes, NoMemory>
         (start : ℕ) (first : Bool) → Spells (words_of start first text) game.now) }
     ensures back { IfOk result (λ text. IsNormal game.now → IsReadAs text game.now) }
 {
-    // Read for what every game keeps.
-    let _nodes = game.len();
-    let _tags = game.tags().len();
+    prove!(game.is_tree());
+    // Read for what every position keeps.
     let _side = game.position(0).side();
     written(alloc, game)
 }

@@ -5,9 +5,11 @@
 #![tactic(auto)]
 
 mod game;
+mod laws;
 mod lines;
 mod movetext;
 mod tag_lines;
 mod words;
 
 pub use game::export;
+pub use laws::{lines_are_short, tags_are_the_games};

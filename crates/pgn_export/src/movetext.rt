@@ -35,7 +35,7 @@ pub(crate) fn result_text(ending: GameResult) -> &'static [u8]
 pub(crate) fn write_movetext(words: &mut Words, game: &Game) -> Result<(), NoMemory>
     ensures { OnOk result (words.new ≡ words.old ++ movetext.movetext game.now) }
 {
-    let _len = game.len();
+    prove!(game.is_tree());
     write_comments(words, game, 0)?;
     write_line(words, game, 0, true)?;
     words.push(result_text(game.result()))?;
@@ -48,7 +48,7 @@ fn write_line(words: &mut Words, game: &Game, of: u32, due: bool) -> Result<(), 
     requires { of < length game.now.nodes }
     ensures { OnOk result (words.new ≡ words.old ++ words_after game.now.nodes due of) }
 {
-    let _len = game.len();
+    prove!(game.is_tree());
     let mut at = of;
     let mut due = due;
     while let Some(child) = child_of(game, at) {
@@ -72,7 +72,7 @@ fn write_variations(
     requires parent { (node_at game.now.nodes beside).parent ≡ Some parent }
     ensures { OnOk result (words.new ≡ words.old ++ words_instead_of game.now.nodes parent beside) }
 {
-    let _len = game.len();
+    prove!(game.is_tree());
     let mut at = beside;
     while let Some(sibling) = sibling_of(game, parent, at) {
         write_move(words, game, b"(", parent, sibling, true)?;
@@ -89,7 +89,7 @@ fn child_of(game: &Game, k: u32) -> Option<u32>
     ensures value { result ≡ first_child game.now.nodes k }
     ensures place { IfSome result (λ c. (k < c) × (c < length game.now.nodes) × ((node_at game.now.nodes c).parent ≡ Some k)) }
 {
-    let _len = game.len();
+    prove!(game.is_tree());
     game.first_child(k)
 }
 
@@ -100,7 +100,7 @@ fn sibling_of(game: &Game, parent: u32, k: u32) -> Option<u32>
     ensures value { result ≡ next_sibling game.now.nodes k }
     ensures place { IfSome result (λ c. (k < c) × (c < length game.now.nodes) × ((node_at game.now.nodes c).parent ≡ Some parent)) }
 {
-    let _len = game.len();
+    prove!(game.is_tree());
     game.next_sibling(k)
 }
 
@@ -134,7 +134,7 @@ fn write_move(
     ensures { OnOk result ((m : MoveValue) → (node_at game.now.nodes k).led_by ≡ Some m →
         words.new ≡ words.old ++ opened mark.now (words_to game.now.nodes due parent k m)) }
 {
-    let _len = game.len();
+    prove!(game.is_tree());
     let Some(m) = game.move_to(k) else {
         return Ok(());
     };

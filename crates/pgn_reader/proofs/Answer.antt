@@ -146,7 +146,7 @@ fault_here ts i w s reason is live low more why dead few = record {
   );
 }
 
-no_end_fault : (s : State) (h : Head) (f : Frame) (result : GameResult) (reason : Reason) → IsEnd s h f result → fault_at_end (standing_of s) ≡ Some reason → ⊥
+pub no_end_fault : (s : State) (h : Head) (f : Frame) (result : GameResult) (reason : Reason) → IsEnd s h f result → fault_at_end (standing_of s) ≡ Some reason → ⊥
 no_end_fault s h f result reason (inl there) why = let e : None ≡ Some reason = ap (λ x. fault_at_end (standing_of x)) (sym there.0) ∙ why in cc
 no_end_fault s h f result reason (inr there) why = let e : None ≡ Some reason = ap (λ x. fault_at_end (standing_of x)) (sym there) ∙ why in cc
 

@@ -89,11 +89,11 @@ unfolding sense
 opening_is w is = ap (λ x. sense_of x w.text) is
 
 -- the tokens of a pair
-name_fed : (ts : Tags) (w : Word) → w.kind ≡ Symbol → feed (opened ts) w ≡ named ts w.text
+pub name_fed : (ts : Tags) (w : Word) → w.kind ≡ Symbol → feed (opened ts) w ≡ named ts w.text
 unfolding feed
 name_fed ts w is = ap (λ x. on_name ts x w.text) is
 
-value_fed : (ts : Tags) (name : List ℕ) (w : Word) (start : Board) → w.kind ≡ Text → start_of (with_tag ts name (value_of w.text)) ≡ Ok start
+pub value_fed : (ts : Tags) (name : List ℕ) (w : Word) (start : Board) → w.kind ≡ Text → start_of (with_tag ts name (value_of w.text)) ≡ Ok start
     → feed (named ts name) w ≡ valued (with_tag ts name (value_of w.text)) start
 unfolding feed
 value_fed ts name w start is starts = ap (on_value (with_tag ts name (value_of w.text))) is ∙ ap (on_start (with_tag ts name (value_of w.text))) starts

@@ -21,3 +21,9 @@ pub mod Tokens
 pub mod Follows
 pub mod Building
 pub mod Verdicts
+pub mod Limit
+pub mod Located
+pub mod OneOutcome
+pub mod Elsewhere
+pub mod Marker
+pub mod FirstFen

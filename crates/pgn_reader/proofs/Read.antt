@@ -1,13 +1,15 @@
 -- What a line tells is what is read of its tokens.
-use Rattle.std.proofs.Common.{◌≡◌, ℕ, ◌+◌, ◌<◌, List, [], ◌∷◌, ◌++◌, length, Option, Some, None, true, refl, sym, ap, ap₂, ◌∙◌, subst, arith, append_assoc, append-nil}
+use Rattle.std.proofs.Common.{◌≡◌, ℕ, ◌+◌, ◌<◌, List, [], ◌∷◌, ◌++◌, length, Option, Some, None, Bool, true, false, refl, sym, ap, ap₂, ◌∙◌, subst, arith, append_assoc, append-nil}
 use Rattle.std.proofs.Common.{cond}
 use Rattle.std.proofs.lemmas.List.Sums.{sum_by-append}
-use Rattle.std.specs.Prelude.{nat_lt, count_by}
+use Rattle.std.specs.Prelude.{nat_lt, count_by, ◌&&◌}
+use Rattle.std.specs.List.{list_all}
+use Rattle.std.proofs.Math.Bool.{and_assoc, and-true, and-false}
 use Rattle.cq_position.specs.declared.moves.Move.{Move}
 use Rattle.cq_position.specs.declared.games.GameResult.{GameResult}
 use Rattle.cq_position.specs.Board.{Board}
 use Rattle.cq_position.specs.Continuations.{none}
-use Rattle.pgn_reader.specs.Words.{Word, Sense, plays, annotates, remarks, ends, opens, closes, means_nothing, out_of_place, sense, is_move, is_move_sense}
+use Rattle.pgn_reader.specs.Words.{Word, Sense, plays, annotates, remarks, ends, opens, closes, means_nothing, out_of_place, sense, is_comment, is_remark, is_move, is_move_sense}
 use Rattle.cq_position.specs.Comments.{words, comment_of}
 use Rattle.pgn_reader.specs.Line.{Line, nothing, word, variation, text, Place, beginning, led_to, Told, nothing_told, glyph_told, remark_told, move_told, variation_told, beside, noted, TellsWord, Tells}
 use Rattle.pgn_reader.specs.Frame.{Row, rows, Frame, place, last_row_by, whole, begin, carried, advance, annotated, remarked, with_variation}
@@ -35,18 +37,19 @@ pub feed_is : (h : Head) (f : Frame) (k : List Frame) (w : Word) (s : Sense) →
 unfolding feed
 feed_is h f k w s is = ap (on_sense h f k w.kind) is
 
--- heads that differ in the number of moves, by so many, and in whether tag pairs may come
-pub record Grown (h : Head) (n : ℕ) (j : Head) : Type 0 where
+-- heads before and after so many moves; after comments alone tag pairs may come as before, and else no more
+pub record Grown (h : Head) (n : ℕ) (comments : Bool) (j : Head) : Type 0 where
   pub tags : j.tags ≡ h.tags
   pub start : j.start ≡ h.start
   pub moves : j.moves ≡ h.moves + n
+  pub heading : j.heading ≡ (h.heading && comments)
 
 -- a frame after the rest of its line, which tells so much
 pub record Reads (h : Head) (f : Frame) (k : List Frame) (ts : List Word) (t : Told) : Type 0 where
   pub head : Head
   pub frame : Frame
   pub is_run : run (at h f k) ts ≡ at head frame k
-  pub grown : Grown h (count_by is_move ts) head
+  pub grown : Grown h (count_by is_move ts) (list_all is_comment ts) head
   pub place : place frame ≡ t.end
   pub whole : whole frame ≡ wholly f t
 
@@ -150,19 +153,38 @@ pub record WordReads (h : Head) (f : Frame) (k : List Frame) (w : Word) (s : Sen
   pub head : Head
   pub frame : Frame
   pub is_fed : feed (at h f k) w ≡ at head frame k
-  pub grown : Grown h (cond (is_move_sense s) 1 0) head
+  pub grown : Grown h (cond (is_move_sense s) 1 0) (is_remark s) head
   pub place : place frame ≡ b
   pub whole : wholly frame u ≡ wholly f t
   pub end : u.end ≡ t.end
 
-grown_body : (h : Head) → Grown h 0 (in_body h)
-grown_body h = record { tags = refl; start = refl; moves = let e : h.moves ≡ h.moves + 0 = omega arith in e }
+grown_body : (h : Head) → Grown h 0 false (in_body h)
+grown_body h = record {
+  tags = refl;
+  start = refl;
+  moves = let e : h.moves ≡ h.moves + 0 = omega arith in e;
+  heading = sym (and-false h.heading);
+}
 
-grown_same : (h : Head) → Grown h 0 h
-grown_same h = record { tags = refl; start = refl; moves = let e : h.moves ≡ h.moves + 0 = omega arith in e }
+grown_same : (h : Head) → Grown h 0 true h
+grown_same h = record {
+  tags = refl;
+  start = refl;
+  moves = let e : h.moves ≡ h.moves + 0 = omega arith in e;
+  heading = sym (and-true h.heading);
+}
 
-grown_twice : (h i j : Head) (m n : ℕ) → Grown h m i → Grown i n j → Grown h (m + n) j
-grown_twice h i j m n a b = record { tags = b.tags ∙ a.tags; start = b.start ∙ a.start; moves = let e : j.moves ≡ h.moves + (m + n) = omega (arith, a.moves, b.moves) in e }
+grown_twice : (h i j : Head) (m n : ℕ) (s t : Bool) → Grown h m s i → Grown i n t j → Grown h (m + n) (s && t) j
+grown_twice h i j m n s t a b = record {
+  tags = b.tags ∙ a.tags;
+  start = b.start ∙ a.start;
+  moves = let e : j.moves ≡ h.moves + (m + n) = omega (arith, a.moves, b.moves) in e;
+  heading = b.heading ∙ ap (λ x. x && t) a.heading ∙ and_assoc h.heading s t;
+}
+
+-- so many moves, counted otherwise
+grown_by : (h j : Head) (m n : ℕ) (s : Bool) → Grown h m s j → n ≡ m → Grown h n s j
+grown_by h j m n s g is = record { tags = g.tags; start = g.start; moves = g.moves ∙ ap (λ x. h.moves + x) (sym is); heading = g.heading }
 
 marker_skipped : (h : Head) (f : Frame) (k : List Frame) (r : GameResult) → 0 < length k → on_marker h f k r ≡ at (in_body h) f k
 marker_skipped h f [] r deep = absurd (let e : 0 < 0 = deep in omega (arith, e))
@@ -173,7 +195,7 @@ word_reads h f k w b u t (plays m) is (move, means, to, told) = record {
   head = one_more h;
   frame = advance f move (led_to f.reached move);
   is_fed = feed_is h f k w (plays m) is ∙ ap (on_move h f k) means;
-  grown = record { tags = refl; start = refl; moves = refl };
+  grown = record { tags = refl; start = refl; moves = refl; heading = sym (and-false h.heading) };
   place = sym to;
   whole = move_told_is f move (led_to f.reached move) u ∙ ap (λ x. wholly f (move_told move x.reached u)) (sym to) ∙ ap (wholly f) (sym told);
   end = ap (λ x. x.end) (sym told);
@@ -248,6 +270,22 @@ counted o c inner rest opening closing =
     let g = counted_word c rest in
     omega (arith, a, b, d, e, g)
 
+-- a variation and the rest of its line
+variation_grown : (h i j : Head) (o c : Word) (inner rest : List Word) → sense o ≡ opens → sense c ≡ closes
+    → Grown (in_body h) (count_by is_move inner) (list_all is_comment inner) i → Grown (in_body i) (count_by is_move rest) (list_all is_comment rest) j
+    → Grown h (count_by is_move (o ∷ (inner ++ c ∷ rest))) (list_all is_comment (o ∷ (inner ++ c ∷ rest))) j
+variation_grown h i j o c inner rest opening closing a b = record {
+  tags = b.tags ∙ a.tags;
+  start = b.start ∙ a.start;
+  moves =
+      let all = counted o c inner rest opening closing in
+      let one : i.moves ≡ h.moves + count_by is_move inner = a.moves in
+      let two : j.moves ≡ i.moves + count_by is_move rest = b.moves in
+      let e : j.moves ≡ h.moves + count_by is_move (o ∷ (inner ++ c ∷ rest)) = omega (arith, all, one, two) in
+      e;
+  heading = b.heading ∙ sym (and-false h.heading) ∙ ap (λ s. h.heading && (is_remark s && list_all is_comment (inner ++ c ∷ rest))) (sym opening);
+}
+
 -- what a line tells is what is read of its tokens, whatever lines are open around it
 pub told_is_read : (l : Line) (h : Head) (f : Frame) (k : List Frame) (d : ℕ) (t : Told) → d ≡ length k → Tells d (place f) l t → Reads h f k (text l) t
 told_is_read nothing h f k d t deep told = record {
@@ -265,7 +303,9 @@ told_is_read (word w rest) h f k d t deep (b, u, now, later) =
       head = more.head;
       frame = more.frame;
       is_run = ap (λ x. run x (text rest)) one.is_fed ∙ more.is_run;
-      grown = subst (λ n. Grown h n more.head) (sym (counted_word w (text rest))) (grown_twice h one.head more.head (cond (is_move w) 1 0) (count_by is_move (text rest)) one.grown more.grown);
+      grown = grown_by h more.head (cond (is_move w) 1 0 + count_by is_move (text rest)) (count_by is_move (w ∷ text rest)) (list_all is_comment (w ∷ text rest))
+          (grown_twice h one.head more.head (cond (is_move w) 1 0) (count_by is_move (text rest)) (is_comment w) (list_all is_comment (text rest)) one.grown more.grown)
+          (counted_word w (text rest));
       place = more.place ∙ one.end;
       whole = more.whole ∙ one.whole;
     }
@@ -283,9 +323,7 @@ told_is_read (variation o inner c rest) h f k d t deep (p, before, shallow, open
           ∙ ap (λ x. run x (c ∷ text rest)) within.is_run
           ∙ ap (λ x. run x (text rest)) close_
           ∙ more.is_run;
-      grown = subst (λ n. Grown h n more.head) (sym (counted o c (text inner) (text rest) opening closing))
-          (grown_twice h (in_body within.head) more.head (0 + count_by is_move (text inner) + 0) (count_by is_move (text rest))
-          (grown_twice h within.head (in_body within.head) (0 + count_by is_move (text inner)) 0 (grown_twice h (in_body h) within.head 0 (count_by is_move (text inner)) (grown_body h) within.grown) (grown_body within.head)) more.grown);
+      grown = variation_grown h within.head more.head o c (text inner) (text rest) opening closing within.grown more.grown;
       place = more.place ∙ ap (λ x. x.end) (sym told);
       whole = more.whole ∙ variation_told_is f within.frame p v u within.whole (alone inner (d + 1) (beginning p) v inside refl) ∙ ap (wholly f) (sym told);
     }

@@ -86,7 +86,7 @@ fault_step word tokens i d w r after x reason same low is few found steps =
 
 -- the end of all tokens
 pub record IsEndOf (ts : List Word) (r : Reader) : Type 0 where
-  pub is_end : IsEnd (run first ts) (head_of r) r.line (ending_by r.phase r.tags)
+  pub is_end : IsEnd (run first ts) (head_of r) r.line (ending_by r.phase r.preface.tags)
   pub few : r.moves ≤ 65535
 
 none_open : (k : List Frame) → variations_fault (length k) ≡ None → k ≡ []
@@ -95,13 +95,13 @@ none_open (f ∷ k) is = absurd cc
 
 end_by_phase : (ts : List Word) (r : Reader) (p : Phase) → r.phase ≡ p → run first ts ≡ shown_by p r → moves_in (shown_by p r) ≤ 65535 → fault_at_end (standing_of (shown_by p r)) ≡ None → IsEndOf ts r
 end_by_phase ts r Movetext phase is few ends = record {
-  is_end = inl (is ∙ ap (at (head_of r) r.line) (none_open (reverse r.around.items) ends), ap (λ p. ending_by p r.tags) phase);
+  is_end = inl (is ∙ ap (at (head_of r) r.line) (none_open (reverse r.around.items) ends), ap (λ p. ending_by p r.preface.tags) phase);
   few = few;
 }
 end_by_phase ts r Opened phase is few ends = absurd (cc)
 end_by_phase ts r Named phase is few ends = absurd (cc)
 end_by_phase ts r Valued phase is few ends = absurd (cc)
-end_by_phase ts r (Ended result) phase is few ends = record { is_end = inr (is ∙ ap (ended (head_of r) r.line) (ap (λ p. ending_by p r.tags) (sym phase))); few = few }
+end_by_phase ts r (Ended result) phase is few ends = record { is_end = inr (is ∙ ap (ended (head_of r) r.line) (ap (λ p. ending_by p r.preface.tags) (sym phase))); few = few }
 
 pub end_of : (ts : List Word) (r : Reader) → IsWhole ts r → IsEndOf ts r
 end_of ts r whole = end_by_phase ts r r.phase refl whole.is_run whole.few whole.ends
@@ -110,14 +110,14 @@ end_of ts r whole = end_by_phase ts r r.phase refl whole.is_run whole.few whole.
 pub only_game : (ts : List Word) (r : Reader) → IsWhole ts r → IsOnlyGame ts (game_of r)
 only_game ts r whole =
     let e : IsEndOf ts r = end_of ts r whole in
-    let iff : (g : Game) → Spells ts g ↔ (g ≡ game_of r) = read_iff ts (head_of r) r.line (ending_by r.phase r.tags) e.is_end e.few in
+    let iff : (g : Game) → Spells ts g ↔ (g ≡ game_of r) = read_iff ts (head_of r) r.line (ending_by r.phase r.preface.tags) e.is_end e.few in
     record { spells = (iff (game_of r)).1 refl; alone = λ g spells. (iff g).0 spells }
 
 -- its nodes are a tree
-pub tree_of_rows : (ts : List Word) (r : Reader) (rows : List Row) → IsWhole ts r → IsPosition r.start → rows ≡ whole r.line → IsTree (nodes_of_rows rows)
+pub tree_of_rows : (ts : List Word) (r : Reader) (rows : List Row) → IsWhole ts r → IsPosition r.preface.start → rows ≡ whole r.line → IsTree (nodes_of_rows rows)
 tree_of_rows ts r rows whole_ is all =
     let e : IsEndOf ts r = end_of ts r whole_ in
-    subst (λ rs. IsTree (nodes_of_rows rs)) (sym all) (tree_shown ts (head_of r) r.line (ending_by r.phase r.tags) e.is_end e.few is)
+    subst (λ rs. IsTree (nodes_of_rows rs)) (sym all) (tree_shown ts (head_of r) r.line (ending_by r.phase r.preface.tags) e.is_end e.few is)
 
 pub some_rows : (rows : List Row) → IsTree (nodes_of_rows rows) → 0 < length rows
 some_rows [] tree = tree.rooted

@@ -30,7 +30,7 @@ use Rattle.pgn_reader.proofs.Whole.{IsEnd}
 use Rattle.pgn_reader.proofs.Answer.{fault_here, fault_of_end, read_iff}
 
 -- a step goes on within the limit of positions, or has a reason and is stuck, but where the limit is passed
-abbrev Passes : State → Option Reason → Type 0
+abbrev pub Passes : State → Option Reason → Type 0
 Passes next None = (next ≡ stuck → ⊥) × (moves_in next ≤ 65535)
 Passes next (Some reason) = reason ≢ TooManyPositions → next ≡ stuck
 
@@ -98,7 +98,7 @@ marker_passes : (kind : TokenKind) → Passes stuck (marker_fault kind)
 marker_passes (Nag n) = λ _. refl
 marker_passes _ = λ _. refl
 
-step_passes : (s : State) (w : Word) → (s ≡ stuck → ⊥) → moves_in s ≤ 65535 → Passes (feed s w) (fault_at (standing_of s) w)
+pub step_passes : (s : State) (w : Word) → (s ≡ stuck → ⊥) → moves_in s ≤ 65535 → Passes (feed s w) (fault_at (standing_of s) w)
 unfolding feed
 step_passes (opened tags) w live few = name_passes tags w.kind w.text
 step_passes (named tags name) w live few = value_passes (with_tag tags name (value_of w.text)) w.kind
@@ -162,7 +162,7 @@ verdict_after (w ∷ after) before s is live few =
 verdict_of : (ts : List Word) → HasVerdict ts
 verdict_of ts = verdict_after ts [] first refl (λ e. cc) (omega arith)
 
-long_or_short : (limit n : ℕ) → (limit < n) ⊎ (n ≤ limit)
+pub long_or_short : (limit n : ℕ) → (limit < n) ⊎ (n ≤ limit)
 long_or_short limit n = grind arith
 
 by_length : (start : ℕ) (first : Bool) (bytes : List ℕ) → (2 ^ 24 < length bytes) ⊎ (length bytes ≤ 2 ^ 24) → HasVerdict (words_of start first bytes)

@@ -42,7 +42,7 @@ nodes_shown start t f is alone =
     ∙ ap (λ x. record { level = 0; move = record { move = null_move; position = start; nags = t.nags; comments = t.comments } } ∷ x) (append-nil (rows 0 t.rest)) in
     ap (λ x. root start t.comments ∷ x) (sym (arranged_all t.rest)) ∙ sym (ap nodes_of_rows all)
 
-start_none : start_of [] ≡ Ok start_board
+pub start_none : start_of [] ≡ Ok start_board
 unfolding start_of
 start_none = refl
 
@@ -143,7 +143,7 @@ begins ts (ended h f result) is live =
     record { more = []; game = spelled.game; spelled = subst (λ x. SpellsAny x spelled.game) (sym (append-nil ts)) spelled.spells }
 begins ts stuck is live = absurd (live refl)
 
-stuck_stays : (ts : List Word) → run stuck ts ≡ stuck
+pub stuck_stays : (ts : List Word) → run stuck ts ≡ stuck
 unfolding feed
 stuck_stays [] = refl
 stuck_stays (w ∷ ts) = stuck_stays ts

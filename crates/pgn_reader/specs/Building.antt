@@ -3,6 +3,7 @@ use Rattle.std.specs.Prelude.{ℕ, ◌-◌, ◌<◌, List, ◌++◌, length, Con
 use Rattle.cq_position.specs.Games.{Node, node_at, way_up}
 use Rattle.cq_position.specs.Legal.{Leads}
 use Rattle.cq_position.specs.Continuations.{Played}
+use Rattle.pgn_reader.specs.Limits.{most_positions}
 
 -- a node with more glyphs, and with more comments
 abbrev pub with_nags : List ℕ → Node → Node
@@ -16,4 +17,4 @@ pub record IsNext (nodes : List Node) (parent : ℕ) (m : Played) : Type 0 where
   pub node : parent < length nodes
   pub preorder : Contains (way_up nodes (length nodes - 1)) parent
   pub leads : Leads (node_at nodes parent).position m.move m.position
-  pub few : length nodes < 65536
+  pub few : length nodes < most_positions

@@ -6,6 +6,7 @@ use Rattle.pgn_reader.specs.declared.fault.Reason.TheVariants.{TooManyPositions}
 use Rattle.pgn_reader.specs.Words.{Word}
 use Rattle.pgn_reader.specs.Games.{SpellsAny}
 use Rattle.pgn_reader.specs.Standing.{Standing, StandsAt, fault_at, fault_at_end, moves_before}
+use Rattle.pgn_reader.specs.Limits.{most_moves}
 
 -- some game, of however many positions, begins with the tokens
 pub record Begins (ts : List Word) : Type 0 where
@@ -28,6 +29,6 @@ pub record IsFault (ts : List Word) (k : ℕ) (reason : Reason) : Type 0 where
   pub alive : Begins (take k ts)
   pub standing : Standing
   pub stands : StandsAt (take k ts) standing
-  pub few : moves_before standing ≤ 65535
+  pub few : moves_before standing ≤ most_moves
   pub fault : ((w : Word) × (take (k + 1) ts ≡ take k ts ++ w ∷ []) × (k < length ts) × IsFaultOf (take k ts) w standing reason)
       ⊎ ((k ≡ length ts) × IsFaultOfEnd ts standing reason)

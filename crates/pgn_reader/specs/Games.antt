@@ -8,6 +8,7 @@ use Rattle.cq_position.specs.Continuations.{nodes_from}
 use Rattle.pgn_reader.specs.Words.{Word, ends, sense}
 use Rattle.pgn_reader.specs.Tags.{Pair, IsPair, pair_text, Tags, tags_of, start_of, result_of_tags}
 use Rattle.pgn_reader.specs.Line.{Line, text, Told, Tells, beginning}
+use Rattle.pgn_reader.specs.Limits.{most_positions}
 
 -- tag pairs, with the comments before each
 abbrev pub AreHeading : List Pair → Type 0
@@ -50,4 +51,4 @@ pub record SpellsAny (ts : List Word) (g : Game) : Type 0 where
 -- a game has at most 65,536 positions
 pub record Spells (ts : List Word) (g : Game) : Type 0 where
   pub spells : SpellsAny ts g
-  pub few : length g.nodes ≤ 65536
+  pub few : length g.nodes ≤ most_positions

@@ -1,3 +1,4 @@
+pub mod Limits
 pub mod Words
 pub mod Tags
 pub mod Line
@@ -14,3 +15,7 @@ pub mod Arranged
 pub mod Shown
 pub mod Reading
 pub mod Building
+pub mod Elsewhere
+pub mod Marker
+pub mod Preface
+pub mod PrefaceInside

@@ -7,6 +7,7 @@ use Rattle.cq_position.specs.Continuations.{Continuations, none, played}
 use Rattle.cq_san.specs.San.{san}
 use Rattle.pgn_reader.specs.Words.{Word, Sense, plays, annotates, remarks, ends, opens, closes, means_nothing, out_of_place, sense}
 use Rattle.cq_position.specs.Comments.{words, comment_of}
+use Rattle.pgn_reader.specs.Limits.{most_levels}
 
 -- A line: tokens, and variations, each a line between two tokens, its parentheses.
 pub data Line : Type 0 where
@@ -95,6 +96,6 @@ abbrev pub Tells : ℕ → Place → Line → Told → Type 0
 Tells depth a nothing t = t ≡ nothing_told a
 Tells depth a (word w rest) t = (b : Place) × (u : Told) × TellsWord depth a (sense w) b u t × Tells depth b rest u
 Tells depth a (variation opening inner closing rest) t =
-    (p : Board) × (a.before ≡ Some p) × (depth < 100) × (sense opening ≡ opens) × (sense closing ≡ closes)
+    (p : Board) × (a.before ≡ Some p) × (depth < most_levels) × (sense opening ≡ opens) × (sense closing ≡ closes)
     × (v : Told) × Tells (depth + 1) (beginning p) inner v × (q : Board) × (v.end.before ≡ Some q)
     × (u : Told) × Tells depth a rest u × (t ≡ variation_told v u)

@@ -13,6 +13,7 @@ use Rattle.cq_position.specs.Games.{with_tag}
 use Rattle.pgn_reader.specs.Tags.{Tags, start_of, value_of}
 use Rattle.pgn_reader.specs.Line.{led_to}
 use Rattle.pgn_reader.specs.Frame.{Frame, begin, begin_game, advance, annotated, remarked, with_variation}
+use Rattle.pgn_reader.specs.Limits.{most_levels}
 
 -- the tags, the position in which the game begins, whether tag pairs may still come, and the number of the moves so far
 pub record Head : Type 0 where
@@ -92,7 +93,7 @@ on_sense h f k kind (plays m) = on_move h f k (san f.reached m)
 on_sense h f k kind (annotates n) = at (in_body h) (annotated f n) k
 on_sense h f k kind (remarks c) = at h (remarked f c) k
 on_sense h f k kind (ends result) = on_marker h f k result
-on_sense h f k kind opens = on_opening h f k (nat_lt (length k) 100) f.before
+on_sense h f k kind opens = on_opening h f k (nat_lt (length k) most_levels) f.before
 on_sense h f k kind closes = on_end h f k f.before
 on_sense h f k kind means_nothing = at (in_body h) f k
 on_sense h f k kind (out_of_place reason) = on_misplaced h kind

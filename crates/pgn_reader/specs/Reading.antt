@@ -13,11 +13,12 @@ use Rattle.pgn_reader.specs.Faults.{IsFault}
 use Rattle.pgn_reader.specs.Machine.{run, first}
 use Rattle.pgn_reader.specs.Arranged.{standing_of, game_shown}
 use Rattle.pgn_reader.specs.Shown.{head_of, shown, moves_in}
+use Rattle.pgn_reader.specs.Limits.{most_moves}
 
 -- all tokens were read, and a game ends with them
 pub record IsWhole (ts : List Word) (r : Reader) : Type 0 where
   pub is_run : run first ts ≡ shown r
-  pub few : moves_in (shown r) ≤ 65535
+  pub few : moves_in (shown r) ≤ most_moves
   pub ends : fault_at_end (standing_of (shown r)) ≡ None
 
 abbrev pub IsReading : List Word → Result Reader TokenFault → Type 0
@@ -31,4 +32,4 @@ ending_by _ tags = result_of_tags tags
 
 -- the game of which all tokens were read
 abbrev pub game_of : Reader → Game
-game_of r = game_shown (head_of r) r.line (ending_by r.phase r.tags)
+game_of r = game_shown (head_of r) r.line (ending_by r.phase r.preface.tags)

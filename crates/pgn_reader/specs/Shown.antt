@@ -12,15 +12,16 @@ use Rattle.pgn_lexer.specs.declared.token.TokenKind.{TokenKind}
 use Rattle.pgn_reader.specs.Standing.{movetext_fault}
 use Rattle.pgn_reader.specs.Frame.{Frame, place}
 use Rattle.pgn_reader.specs.Machine.{Head, State, opened, named, valued, at, ended, stuck, on_sense}
+use Rattle.pgn_reader.specs.Limits.{most_moves}
 
 abbrev pub head_of : Reader → Head
-head_of r = record { tags = r.tags; start = r.start; heading = r.heading; moves = r.moves }
+head_of r = record { tags = r.preface.tags; start = r.preface.start; heading = r.heading; moves = r.moves }
 
 abbrev pub shown_by : Phase → Reader → State
 shown_by Movetext r = at (head_of r) r.line (reverse r.around.items)
-shown_by Opened r = opened r.tags
-shown_by Named r = named r.tags r.name
-shown_by Valued r = valued r.tags r.start
+shown_by Opened r = opened r.preface.tags
+shown_by Named r = named r.preface.tags r.name
+shown_by Valued r = valued r.preface.tags r.preface.start
 shown_by (Ended result) r = ended (head_of r) r.line result
 
 abbrev pub shown : Reader → State
@@ -35,7 +36,7 @@ moves_in _ = 0
 -- A step of the reader: it goes on to a state, or it is refused. A refusal gives the reason, and there the state would be stuck, but where
 -- the limit of positions is passed.
 abbrev pub Steps : State → Option Reason → State → Result (Unit {0}) (Refusal Reason) → Type 0
-Steps next reason s (Ok done) = (next ≡ s) × (moves_in s ≤ 65535)
+Steps next reason s (Ok done) = (next ≡ s) × (moves_in s ≤ most_moves)
 Steps next reason s (Err (Fault found)) = (reason ≡ Some found) × (found ≢ TooManyPositions → next ≡ stuck)
 Steps next reason s (Err NoMemory) = Unit {0}
 

@@ -18,6 +18,7 @@ use Rattle.cq_position.specs.Games.{with_tag}
 use Rattle.pgn_reader.specs.Tags.{Pair, Tags, tags_of, start_of, value_of}
 use Rattle.pgn_reader.specs.Line.{Line, text, Place, beginning, Told, Tells}
 use Rattle.pgn_reader.specs.Games.{heading_text, AreHeading, Spells}
+use Rattle.pgn_reader.specs.Limits.{glyph_numbers, most_levels, most_moves}
 
 -- The beginning of a game's movetext: a line, or what begins so, the parenthesis of a variation, and the beginning of its line.
 pub data Begun : Type 0 where
@@ -38,7 +39,7 @@ depth_of (within around opening line) = depth_of around + 1
 abbrev pub Reaches : Board → Begun → Place → Type 0
 Reaches start (outermost line) a = (t : Told) × Tells 0 (beginning start) line t × (t.end ≡ a)
 Reaches start (within around opening line) a =
-    (b : Place) × Reaches start around b × (p : Board) × (b.before ≡ Some p) × (depth_of around < 100) × (sense opening ≡ opens)
+    (b : Place) × Reaches start around b × (p : Board) × (b.before ≡ Some p) × (depth_of around < most_levels) × (sense opening ≡ opens)
     × (t : Told) × Tells (depth_of around + 1) (beginning p) line t × (t.end ≡ a)
 
 -- Where some tokens stand: after the `[` of a tag pair, its name or its value, with the tags before it; in the movetext, with the number of
@@ -128,12 +129,12 @@ san_reason IsAmbiguous = AmbiguousMove
 
 abbrev pub move_fault : (moves : ℕ) → Result Move SanFault → Option Reason
 move_fault moves (Err fault) = Some (san_reason fault)
-move_fault moves (Ok move) = if nat_lt moves 65535 then None else Some TooManyPositions
+move_fault moves (Ok move) = if nat_lt moves most_moves then None else Some TooManyPositions
 
 -- the parenthesis that opens a variation, and the one that closes it
 abbrev pub variation_fault : (depth : ℕ) → Option Board → Option Reason
 variation_fault depth None = Some VariationWithoutMove
-variation_fault depth (Some before) = if nat_lt depth 100 then None else Some TooDeep
+variation_fault depth (Some before) = if nat_lt depth most_levels then None else Some TooDeep
 
 abbrev pub end_of_variation_fault : (depth : ℕ) → Option Board → Option Reason
 end_of_variation_fault zero before = Some UnopenedVariation
@@ -154,7 +155,7 @@ movetext_fault heading depth moves a kind _ = None
 
 -- nothing stands after a marker
 abbrev pub marker_fault : TokenKind → Option Reason
-marker_fault (Nag n) = Some (if nat_lt n 256 then BadTag else NagRange)
+marker_fault (Nag n) = Some (if nat_lt n glyph_numbers then BadTag else NagRange)
 marker_fault kind = Some (tag_reason kind)
 
 -- why a token is a fault where it stands, none where a game may go on with it

@@ -1,5 +1,5 @@
 -- What the bytes of a game spell, and their fault.
-use Rattle.std.specs.Prelude.{◌≡◌, ℕ, ◌+◌, ◌^◌, ◌<◌, ◌≤◌, ◌⊎◌, Bool, List, length, slice_get, Option, Some, None, Result, Ok, Err}
+use Rattle.std.specs.Prelude.{◌≡◌, ℕ, ◌+◌, ◌<◌, ◌≤◌, ◌⊎◌, Bool, List, length, slice_get, Option, Some, None, Result, Ok, Err}
 use Rattle.cq_outside.specs.declared.faults.Refusal.{Refusal}
 use Rattle.cq_outside.specs.declared.faults.Refusal.TheVariants.{Fault, NoMemory}
 use Rattle.cq_position.specs.Games.{Game}
@@ -8,6 +8,7 @@ use Rattle.pgn_lexer.specs.Lexemes.{tokens_of}
 use Rattle.pgn_reader.specs.declared.fault.GameFault.{GameFault}
 use Rattle.pgn_reader.specs.declared.fault.Reason.TheVariants.{GameTooLong}
 use Rattle.pgn_reader.specs.Words.{Word, words_of}
+use Rattle.pgn_reader.specs.Limits.{longest}
 use Rattle.pgn_reader.specs.Games.{Spells}
 use Rattle.pgn_reader.specs.Faults.{IsFault}
 
@@ -23,12 +24,12 @@ place_or end (Some token) = token.at
 
 -- the bytes of a game whose first has the place `start` are too long
 pub record IsTooLong (start : ℕ) (bytes : List ℕ) (f : GameFault) : Type 0 where
-  pub long : 2 ^ 24 < length bytes
-  pub fault : f ≡ record { byte = start + 2 ^ 24; reason = GameTooLong }
+  pub long : longest < length bytes
+  pub fault : f ≡ record { byte = start + longest; reason = GameTooLong }
 
 -- or their tokens have a fault
 pub record HasTokenFault (start : ℕ) (first : Bool) (bytes : List ℕ) (f : GameFault) : Type 0 where
-  pub short : length bytes ≤ 2 ^ 24
+  pub short : length bytes ≤ longest
   pub index : ℕ
   pub fault : IsFault (words_of start first bytes) index f.reason
   pub byte : f.byte ≡ place_or (start + length bytes) (slice_get (tokens_of start first bytes) index)
@@ -36,9 +37,9 @@ pub record HasTokenFault (start : ℕ) (first : Bool) (bytes : List ℕ) (f : Ga
 abbrev pub IsGameFault : ℕ → Bool → List ℕ → GameFault → Type 0
 IsGameFault start first bytes f = IsTooLong start bytes f ⊎ HasTokenFault start first bytes f
 
--- What the bytes of a game are read as: the one game that they spell, where there are at most 2^24 of them, or their fault.
+-- What the bytes of a game are read as: the one game that they spell, where there are at most so many of them, or their fault.
 abbrev pub IsRead : ℕ → Bool → List ℕ → Result Game GameFault → Type 0
-IsRead start first bytes (Ok game) = (length bytes ≤ 2 ^ 24) × IsOnlyGame (words_of start first bytes) game
+IsRead start first bytes (Ok game) = (length bytes ≤ longest) × IsOnlyGame (words_of start first bytes) game
 IsRead start first bytes (Err fault) = IsGameFault start first bytes fault
 
 -- the same of an answer that may also be out of memory

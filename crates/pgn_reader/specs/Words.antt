@@ -12,6 +12,7 @@ use Rattle.pgn_lexer.specs.declared.token.TokenKind.TheVariants.{Open, Close, Te
 use Rattle.pgn_lexer.specs.Lexemes.{tokens_of}
 use Rattle.pgn_reader.specs.declared.fault.Reason.{Reason}
 use Rattle.pgn_reader.specs.declared.fault.Reason.TheVariants.{BadByte as IsBadByte, UnclosedComment as IsUnclosedComment, UnclosedString, BadTag, NagRange}
+use Rattle.pgn_reader.specs.Limits.{glyph_numbers}
 
 -- a token: its kind and its bytes
 pub record Word : Type 0 where
@@ -56,7 +57,7 @@ sense_of_symbol text = if list_all is_ascii_digit text then means_nothing else s
 
 -- section 8.2.4: glyphs are numbered up to 255
 unfoldable pub sense_of_glyph : ℕ → Sense
-sense_of_glyph n = if nat_lt n 256 then annotates n else out_of_place NagRange
+sense_of_glyph n = if nat_lt n glyph_numbers then annotates n else out_of_place NagRange
 
 -- A comment is kept between braces, so that a closing brace in it becomes a closing parenthesis. Only a line comment can hold one.
 abbrev pub without_braces : List ℕ → List ℕ

@@ -7,6 +7,7 @@ mod game;
 mod laws;
 mod line;
 mod notes;
+mod preface;
 mod reader;
 mod reading;
 mod row;
@@ -15,4 +16,6 @@ mod text;
 
 pub use fault::{GameFault, Reason};
 pub use game::read_game;
-pub use laws::games_have_outcomes;
+pub use laws::{
+    first_bytes_decide, games_have_one_outcome, games_have_outcomes, markers_end_games, tokens_decide,
+};

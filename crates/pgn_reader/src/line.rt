@@ -104,7 +104,7 @@ impl Line {
         self.notes.add_comment(text)
     }
 
-    /// The last move goes to the earlier ones with its glyphs and comments. Those that wait for the first move go on waiting.
+    // The last move goes to the earlier ones with its glyphs and comments. Those that wait for the first move go on waiting.
     fn keep_last(&mut self, alloc: Global) -> Result<(), NoMemory>
         ensures { OnOk result (self.new ≡ with_last_kept self.old) }
     {
@@ -116,7 +116,7 @@ impl Line {
         Ok(())
     }
 
-    /// The variations after the last move go to those after the earlier ones.
+    // The variations after the last move go to those after the earlier ones.
     fn keep_variations(&mut self, alloc: Global) -> Result<(), NoMemory>
         ensures { OnOk result (self.new ≡ with_variations_kept self.old) }
     {

@@ -9,6 +9,7 @@ ghost use Rattle.pgn_lexer.specs.declared.token.TokenKind.{TokenKind as TokenKin
 ghost use Rattle.pgn_reader.specs.Words.{plays, remarks, ends, opens, closes, means_nothing, out_of_place, sense_of, sense_of_symbol, sense_of_glyph, body_of, line_body_of, without_braces};
 ghost use Rattle.pgn_reader.specs.Inside.{HasNoBrace};
 ghost use Rattle.pgn_reader.specs.Tags.{start_of, value_of, unescaped};
+ghost use Rattle.pgn_reader.specs.Limits.{most_moves};
 ghost use Rattle.pgn_reader.specs.Line.{led_to};
 ghost use Rattle.pgn_reader.specs.Standing.{fault_at, movetext_fault, move_fault, variation_fault, end_of_variation_fault, misplaced_fault, tag_reason, name_fault, value_fault, closing_fault, marker_fault, san_reason};
 ghost use Rattle.pgn_reader.specs.Machine.{first, feed, on_name, on_value, on_closing, on_move, on_marker, on_opening, on_end, on_bracket, on_sense};
@@ -17,13 +18,13 @@ ghost use Rattle.pgn_reader.specs.Shown.{shown, moves_in, IsSenseStep, Steps, Is
 
 use crate::fault::Reason;
 use crate::line::Line;
+use crate::preface::Preface;
 use crate::text::{after_first, are_digits, inside, result_of_text, value_of, without_braces};
 use cq_moves::{pass, play};
 use cq_outside::{Bytes, NoMemory, Refusal};
-use cq_position::{FenFault, GameResult, Move, Position, read_fen};
+use cq_position::{GameResult, Move, Position};
 use cq_san::{SanFault, read_san};
 use pgn_lexer::TokenKind;
-use pgn_tree::Tags;
 use std::alloc::Global;
 use std::mem;
 
@@ -47,8 +48,7 @@ pub enum Phase {
 #[derive(Drop)]
 pub struct Reader {
     /// The tags, and the position in which the game begins by them.
-    pub tags: Tags,
-    pub start: Position,
+    pub preface: Preface,
     /// The name of the tag pair that is open.
     pub name: Bytes,
     /// Whether tag pairs may still come.
@@ -61,7 +61,7 @@ pub struct Reader {
     pub phase: Phase,
 }
 
-/// The position to which a move leads.
+// The position to which a move leads.
 #[tactic(auto)]
 fn position_after(position: &Position, step: &Move) -> Position
     requires { (q : Board) × Leads position.now step.now q }
@@ -74,7 +74,7 @@ fn position_after(position: &Position, step: &Move) -> Position
     }
 }
 
-/// Why a text means no move.
+// Why a text means no move.
 fn reason_of(fault: SanFault) -> Reason
     ensures { result ≡ san_reason fault }
 {
@@ -85,7 +85,7 @@ fn reason_of(fault: SanFault) -> Reason
     }
 }
 
-/// The reason at a token that isn't the next one of its tag pair.
+// The reason at a token that isn't the next one of its tag pair.
 fn tag_reason(kind: TokenKind) -> Reason
     ensures { result ≡ tag_reason kind }
 {
@@ -97,7 +97,7 @@ fn tag_reason(kind: TokenKind) -> Reason
     }
 }
 
-/// The reason at a token after the marker.
+// The reason at a token after the marker.
 fn marker_reason(kind: TokenKind) -> Reason
     ensures { marker_fault kind ≡ Some result }
 {
@@ -107,36 +107,23 @@ fn marker_reason(kind: TokenKind) -> Reason
     }
 }
 
-/// The position in which the game begins by its tags, or the fault of the FEN.
-#[tactic(auto, unfolding(crate::specs::Tags::start_of))]
-fn start_of(tags: &Tags) -> Result<Position, FenFault>
-    ensures { result ≡ start_of tags.now }
-{
-    match tags.get(b"FEN") {
-        Some(text) => read_fen(text),
-        None => Ok(Position::start()),
-    }
-}
-
 impl Reader {
     /// Nothing is read yet.
     pub fn new(alloc: Global) -> Reader
         ensures { shown result ≡ first }
     {
-        let start = Position::start();
         Reader {
-            tags: Tags::new(alloc),
-            start,
+            preface: Preface::new(alloc),
             name: Bytes::new(alloc),
             heading: true,
             moves: 0,
-            line: Line::of_game(alloc, start),
+            line: Line::of_game(alloc, Position::start()),
             around: Vec::new(alloc),
             phase: Phase::Movetext,
         }
     }
 
-    /// A move.
+    // A move.
     fn read_move(&mut self, alloc: Global, text: &[u8]) -> Result<(), Refusal<Reason>>
         requires next { self.old.line.next ≤ self.old.moves }
         requires phase { self.old.phase ≡ Phase.Movetext }
@@ -156,11 +143,11 @@ impl Reader {
         Ok(())
     }
 
-    /// A glyph.
+    // A glyph.
     #[tactic(auto, unfolding(crate::specs::Words::sense_of_glyph))]
     fn read_glyph(&mut self, glyph: u32) -> Result<(), Refusal<Reason>>
         requires phase { self.old.phase ≡ Phase.Movetext }
-        requires few { self.old.moves ≤ 65535 }
+        requires few { self.old.moves ≤ most_moves }
         ensures { IsSenseStep self.old (TokenKind.Nag glyph) (sense_of_glyph glyph) self.new result }
     {
         if glyph > 255 {
@@ -171,10 +158,10 @@ impl Reader {
         Ok(())
     }
 
-    /// A comment.
+    // A comment.
     fn read_comment(&mut self, alloc: Global, body: &[u8]) -> Result<(), Refusal<Reason>>
         requires phase { self.old.phase ≡ Phase.Movetext }
-        requires few { self.old.moves ≤ 65535 }
+        requires few { self.old.moves ≤ most_moves }
         ensures { (kind : TokenKindValue) → IsSenseStep self.old kind (remarks (without_braces body.now)) self.new result }
     {
         let text = without_braces(alloc, body)?;
@@ -182,10 +169,10 @@ impl Reader {
         Ok(())
     }
 
-    /// A result: within a variation it means nothing, else the game ends with it.
+    // A result: within a variation it means nothing, else the game ends with it.
     fn read_result(&mut self, ending: GameResult) -> Result<(), Refusal<Reason>>
         requires phase { self.old.phase ≡ Phase.Movetext }
-        requires few { self.old.moves ≤ 65535 }
+        requires few { self.old.moves ≤ most_moves }
         ensures { (kind : TokenKindValue) → IsSenseStep self.old kind (ends ending) self.new result }
     {
         if self.around.is_empty() {
@@ -196,20 +183,20 @@ impl Reader {
         Ok(())
     }
 
-    /// What means nothing.
+    // What means nothing.
     fn pass_over(&mut self) -> Result<(), Refusal<Reason>>
         requires phase { self.old.phase ≡ Phase.Movetext }
-        requires few { self.old.moves ≤ 65535 }
+        requires few { self.old.moves ≤ most_moves }
         ensures { (kind : TokenKindValue) → IsSenseStep self.old kind means_nothing self.new result }
     {
         self.heading = false;
         Ok(())
     }
 
-    /// The parenthesis that opens a variation.
+    // The parenthesis that opens a variation.
     fn open_variation(&mut self, alloc: Global) -> Result<(), Refusal<Reason>>
         requires phase { self.old.phase ≡ Phase.Movetext }
-        requires few { self.old.moves ≤ 65535 }
+        requires few { self.old.moves ≤ most_moves }
         ensures { (kind : TokenKindValue) → IsSenseStep self.old kind opens self.new result }
     {
         let Some(before) = self.line.before() else {
@@ -225,10 +212,10 @@ impl Reader {
         Ok(())
     }
 
-    /// The parenthesis that ends one.
+    // The parenthesis that ends one.
     fn end_variation(&mut self) -> Result<(), Refusal<Reason>>
         requires phase { self.old.phase ≡ Phase.Movetext }
-        requires few { self.old.moves ≤ 65535 }
+        requires few { self.old.moves ≤ most_moves }
         ensures { (kind : TokenKindValue) → IsSenseStep self.old kind closes self.new result }
     {
         if self.around.is_empty() {
@@ -248,12 +235,12 @@ impl Reader {
         }
     }
 
-    /// A symbol: digits number a move, a marker ends the game, and any other is a move.
+    // A symbol: digits number a move, a marker ends the game, and any other is a move.
     #[tactic(auto, unfolding(crate::specs::Words::sense_of_symbol))]
     fn read_symbol(&mut self, alloc: Global, text: &[u8]) -> Result<(), Refusal<Reason>>
         requires next { self.old.line.next ≤ self.old.moves }
         requires phase { self.old.phase ≡ Phase.Movetext }
-        requires few { self.old.moves ≤ 65535 }
+        requires few { self.old.moves ≤ most_moves }
         ensures { IsSenseStep self.old TokenKind.Symbol (sense_of_symbol text.now) self.new result }
     {
         if are_digits(text) {
@@ -265,7 +252,7 @@ impl Reader {
         }
     }
 
-    /// A token that is out of place in the movetext, but that a bracket may open a tag pair.
+    // A token that is out of place in the movetext, but that a bracket may open a tag pair.
     fn read_misplaced(&mut self, kind: TokenKind, reason: Reason) -> Result<(), Refusal<Reason>>
         requires phase { self.old.phase ≡ Phase.Movetext }
         ensures { IsSenseStep self.old kind (out_of_place reason) self.new result }
@@ -279,7 +266,7 @@ impl Reader {
         }
     }
 
-    /// A token of the movetext, or a bracket that opens a tag pair.
+    // A token of the movetext, or a bracket that opens a tag pair.
     #[tactic(auto, unfolding(crate::specs::Words::body_of, crate::specs::Words::line_body_of))]
     fn read_movetext(
         &mut self,
@@ -289,7 +276,7 @@ impl Reader {
     ) -> Result<(), Refusal<Reason>>
         requires next { self.old.line.next ≤ self.old.moves }
         requires phase { self.old.phase ≡ Phase.Movetext }
-        requires few { self.old.moves ≤ 65535 }
+        requires few { self.old.moves ≤ most_moves }
         ensures { IsSenseStep self.old kind (sense_of kind text.now) self.new result }
     {
         match kind {
@@ -311,7 +298,7 @@ impl Reader {
         }
     }
 
-    /// The name of a tag pair.
+    // The name of a tag pair.
     fn read_name(
         &mut self,
         alloc: Global,
@@ -319,7 +306,7 @@ impl Reader {
         text: &[u8],
     ) -> Result<(), Refusal<Reason>>
         requires phase { self.old.phase ≡ Phase.Opened }
-        ensures { Steps (on_name self.old.tags kind text.now) (name_fault kind) (shown self.new) result }
+        ensures { Steps (on_name self.old.preface.tags kind text.now) (name_fault kind) (shown self.new) result }
     {
         match kind {
             TokenKind::Symbol => {
@@ -331,7 +318,7 @@ impl Reader {
         }
     }
 
-    /// The value of a tag pair.
+    // The value of a tag pair.
     fn read_value(
         &mut self,
         alloc: Global,
@@ -339,36 +326,35 @@ impl Reader {
         text: &[u8],
     ) -> Result<(), Refusal<Reason>>
         requires phase { self.old.phase ≡ Phase.Named }
-        ensures { Steps (on_value (with_tag self.old.tags self.old.name (value_of text.now)) kind)
-            (value_fault kind (start_of (with_tag self.old.tags self.old.name (value_of text.now)))) (shown self.new) result }
+        ensures { Steps (on_value (with_tag self.old.preface.tags self.old.name (value_of text.now)) kind)
+            (value_fault kind (start_of (with_tag self.old.preface.tags self.old.name (value_of text.now)))) (shown self.new) result }
     {
         match kind {
             TokenKind::Text => {
                 let value = value_of(alloc, text)?;
-                self.tags.add(self.name.as_slice(), value.as_slice())?;
-                match start_of(&self.tags) {
-                    Ok(start) => {
-                        self.start = start;
+                match self.preface.add(self.name.as_slice(), value.as_slice()) {
+                    Ok(()) => {
                         self.phase = Phase::Valued;
                         Ok(())
                     }
-                    Err(_) => Err(Refusal::Fault(Reason::BadFen)),
+                    Err(Refusal::Fault(_)) => Err(Refusal::Fault(Reason::BadFen)),
+                    Err(Refusal::NoMemory) => Err(Refusal::NoMemory),
                 }
             }
             _ => Err(Refusal::Fault(tag_reason(kind))),
         }
     }
 
-    /// The bracket that closes a tag pair. The comments before it are dropped.
+    // The bracket that closes a tag pair. The comments before it are dropped.
     fn read_closing(&mut self, alloc: Global, kind: TokenKind) -> Result<(), Refusal<Reason>>
         requires phase { self.old.phase ≡ Phase.Valued }
-        ensures { Steps (on_closing self.old.tags self.old.start kind) (closing_fault kind) (shown self.new) result }
+        ensures { Steps (on_closing self.old.preface.tags self.old.preface.start kind) (closing_fault kind) (shown self.new) result }
     {
         match kind {
             TokenKind::Close => {
                 self.heading = true;
                 self.moves = 0;
-                self.line = Line::of_game(alloc, self.start);
+                self.line = Line::of_game(alloc, *self.preface.start());
                 self.around = Vec::new(alloc);
                 self.phase = Phase::Movetext;
                 Ok(())
@@ -386,7 +372,7 @@ impl Reader {
         text: &[u8],
     ) -> Result<(), Refusal<Reason>>
         requires low { IsLow (shown self.old) }
-        requires few { moves_in (shown self.old) ≤ 65535 }
+        requires few { moves_in (shown self.old) ≤ most_moves }
         ensures { Steps (feed (shown self.old) (record { kind = kind; text = text.now }))
             (fault_at (standing_of (shown self.old)) (record { kind = kind; text = text.now })) (shown self.new) result }
     {

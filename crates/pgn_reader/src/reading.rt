@@ -19,7 +19,7 @@ pub struct TokenFault {
     pub reason: Reason,
 }
 
-/// The bytes of a token of a text whose first byte has the place `start`.
+// The bytes of a token of a text whose first byte has the place `start`.
 fn text_of<'a>(bytes: &'a [u8], start: u64, token: &Token) -> &'a [u8]
     ensures { result.now ≡ take token.now.len (drop (token.now.at - start) bytes.now) }
 {
@@ -35,7 +35,7 @@ fn text_of<'a>(bytes: &'a [u8], start: u64, token: &Token) -> &'a [u8]
     }
 }
 
-/// Why the end is a fault, where it is one.
+// Why the end is a fault, where it is one.
 fn fault_at_end(reader: &Reader) -> Option<Reason>
     ensures { result ≡ fault_at_end (standing_of (shown reader.now)) }
 {

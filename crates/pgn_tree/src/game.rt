@@ -1,9 +1,9 @@
 //! A game.
 ghost use Rattle.std.specs.Option.{is_some};
 ghost use Rattle.std.specs.Int.{bit_at};
-ghost use Rattle.std.specs.Prelude.{◌≡◌, ◌≢◌, ◌&&◌, ◌||◌, ◌==◌, ◌^◌, ℕ, false, not, ◌<◌, ◌≤◌, ◌+◌, ◌-◌, ◌↔◌, [], ◌∷◌, ◌++◌, length, slice_index_or, Some, None, OnOk, OnErr, IfOk, IfSome, IsNone, IsOk, Contains, All};
+ghost use Rattle.std.specs.Prelude.{◌≡◌, ◌≢◌, ◌&&◌, ◌||◌, ◌==◌, ◌^◌, ℕ, true, false, not, ◌<◌, ◌≤◌, ◌+◌, ◌-◌, ◌↔◌, [], ◌∷◌, ◌++◌, length, slice_index_or, Some, None, OnOk, OnErr, IfOk, IfSome, IsNone, IsOk, Contains, All};
 ghost use Rattle.cq_position.specs.Legal.{Leads};
-ghost use Rattle.cq_position.specs.Games.{node_at, bare_node, with_nag, with_comment, with_node, way_up, children, first_child, next_sibling, is_main, main_line, IsLastSibling, IsTree, HaveNotes, is_below, is_searched};
+ghost use Rattle.cq_position.specs.Games.{node_at, bare_node, with_nag, with_comment, with_node, way_up, children, first_child, next_sibling, is_main, main_line, IsLastSibling, IsTree, HaveNotes, HaveDistinctNames, is_below, is_searched};
 ghost use Rattle.cq_position.specs.Men.{man_number};
 ghost use Rattle.cq_position.specs.Search.{IsDownPath, has_man, has_man_in};
 ghost use Rattle.pgn_tree.specs.Links.{linked_at, with_link, linked};
@@ -71,6 +71,17 @@ impl Game {
         ensures notes { HaveNotes self.now.nodes }
     {
         self.nodes.len() as u32
+    }
+
+    /// Whether the nodes have a root: they always do. The clauses are what every game keeps.
+    pub fn is_tree(&self) -> bool
+        ensures value { result ≡ true }
+        ensures tree { IsTree self.now.nodes }
+        ensures notes { HaveNotes self.now.nodes }
+        ensures names { HaveDistinctNames self.now.tags }
+    {
+        prove!(self.tags.have_distinct_names());
+        self.len() > 0
     }
 
     /// The result.

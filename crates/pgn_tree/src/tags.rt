@@ -1,5 +1,5 @@
 //! The tags of a game.
-ghost use Rattle.std.specs.Prelude.{◌≡◌, ◌<◌, [], length, OnOk, OnErr};
+ghost use Rattle.std.specs.Prelude.{◌≡◌, ◌<◌, true, [], length, OnOk, OnErr};
 ghost use Rattle.std.specs.Option.{option_copied};
 ghost use Rattle.cq_position.specs.Games.{tag_at, tag_value, with_tag, HaveDistinctNames};
 
@@ -48,6 +48,16 @@ impl Tags {
         ensures kept { HaveDistinctNames self.now }
     {
         self.pairs.len()
+    }
+
+    /// No name stands twice: the clause is what tags always keep.
+    pub fn have_distinct_names(&self) -> bool
+        ensures value { result ≡ true }
+        ensures names { HaveDistinctNames self.now }
+    {
+        // What a type keeps is known where its value is read.
+        let _len = self.len();
+        true
     }
 
     /// The value of the tag with a name; None where no tag has it.

@@ -19,7 +19,7 @@ returns-in-Err-Fault g c =
     let query = query_tree c.args.plan.now.query.query in
     let out = sink_view g.O.Sink.taken g.O.Sink.faults c.args.out.now in
     let err = sink_view g.E.Sink.taken g.E.Sink.faults in
-    let read = rw (c.in-Err-Fault.is ∙ ap Err c.in-Err-Fault.field-0-is) at c.read_game.ensures in
+    let read = rw (c.in-Err-Fault.is ∙ ap Err c.in-Err-Fault.field-0-is) at c.read_game.ensures.verdict in
     let ks = c.args.kept.now.items in
     read_as c.args.sorted query (IsRead c.args.game.start c.args.game.first (game_bytes c.args.archive.now c.args.game)) (Err c.in-Err-Fault.fault) (stand_of c.args.tally.now ks)
     (stand_of c.write_fault.new.tally ks) _

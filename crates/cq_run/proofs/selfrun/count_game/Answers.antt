@@ -12,5 +12,5 @@ returns-in-Ok-clause-counts c =
 
 pub returns-in-Err-Fault-clause-counts : goal.returns-in-Err-Fault-clause-counts
 returns-in-Err-Fault-clause-counts c =
-    let read = rw (c.in-Err-Fault.is ∙ ap Err c.in-Err-Fault.field-0-is) at c.read_game.ensures in
+    let read = rw (c.in-Err-Fault.is ∙ ap Err c.in-Err-Fault.field-0-is) at c.read_game.ensures.verdict in
     faulty (query_tree c.args.plan.now.query.query) (IsRead c.args.game.start c.args.game.first (game_bytes c.args.archive.now c.args.game)) _ c.args.before read

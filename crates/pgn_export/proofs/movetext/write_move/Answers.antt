@@ -5,10 +5,10 @@ use Rattle.pgn_export.proofs.Places.{led_from, parent_within}
 use Rattle.pgn_export.proofs.movetext.write_move.Goals as goal
 
 pub position-requires : goal.position-requires
-position-requires c = parent_within c.args.game.now.nodes c.len-len.ensures.kept c.args.parent c.args.k c.requires.node c.requires.parent
+position-requires c = parent_within c.args.game.now.nodes c.is_tree.ensures.tree c.args.parent c.args.k c.requires.node c.requires.parent
 
 pub write_san-requires : goal.write_san-requires
 write_san-requires c =
     let nodes = c.args.game.now.nodes in
-    let led = led_from nodes c.len-len.ensures.kept c.args.parent c.args.k c.in-Some.m c.requires.node c.requires.parent (search rules) in
+    let led = led_from nodes c.is_tree.ensures.tree c.args.parent c.args.k c.in-Some.m c.requires.node c.requires.parent (search rules) in
     ((node_at nodes c.args.k).position, subst (λ p. Leads p c.in-Some.m (node_at nodes c.args.k).position) (sym c.position.ensures) led.leads)
