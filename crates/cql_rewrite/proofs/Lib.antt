@@ -4,4 +4,5 @@ pub mod Made
 pub mod Texts
 pub mod Pairs
 pub mod Placed
+pub mod PlayedParts
 pub mod Meant

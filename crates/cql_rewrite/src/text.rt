@@ -1,5 +1,5 @@
 //! The text of a flat query: a line for each item.
-ghost use Rattle.std.specs.Prelude.{◌≡◌, IfOk, None, unwrap_or, codes, []};
+ghost use Rattle.std.specs.Prelude.{◌≡◌, IfOk, None, unwrap_or, false, []};
 ghost use Rattle.cql_syntax.specs.TreeOf.{filter_tree, filters_tree, terms_tree, line_tree, played_tree, written_tree, parts_tree, body_tree};
 ghost use Rattle.cql_rewrite.specs.FlatText as spec;
 

@@ -2,6 +2,7 @@ use Rattle.std.proofs.Common.{◌≡◌, ◌∙◌, sym, ap₂, length, ◌≤�
 use Rattle.cql_syntax.specs.Same as spec
 use Rattle.cql_syntax.specs.Unplaced.{all_with, terms_with, parts_with}
 use Rattle.cql_rewrite.proofs.Rows.{filter_rows, term_rows, part_rows, differed, stopped, moved, ended}
+use Rattle.cql_rewrite.proofs.PlayedParts.{same_parts_of, promoted_same, third_differs, fourth_decides}
 use Rattle.cql_rewrite.proofs.same.+same.Goals as goal
 
 pub same_filters-returns-then-first-second : goal.same_filters-returns-then-first-second
@@ -51,3 +52,16 @@ same_parts-loop-k-preserved t c =
 
 pub same_parts-returns : goal.same_parts-returns
 same_parts-returns t c = ended _ _ (part_rows c.args.placed) c.as_slice-first.result.now c.as_slice-second.result.now c.loop-k.k _ (omega (arith, c.loop-k-test.false)) c.if-first-second.false c.loop-k.invariant
+
+pub same_played-returns-then-not-same_written-3 : goal.same_played-returns-then-not-same_written-3
+same_played-returns-then-not-same_written-3 t c =
+    sym (same_parts_of c.args.placed c.args.a.now c.args.b.now
+    ∙ third_differs _ _ _ (promoted_same c.args.placed c.args.a.now c.args.b.now) (sym c.same_written.ensures ∙ c.if-not-same_written.false)
+    (sym c.same_written-else-not-same_written.ensures ∙ c.if-not-same_written-2.false) (sym c.same_written-2.ensures ∙ c.if-not-same_written-3.true))
+
+pub same_played-returns : goal.same_played-returns
+same_played-returns t c =
+    c.same_written-3.ensures
+    ∙ sym (same_parts_of c.args.placed c.args.a.now c.args.b.now
+    ∙ fourth_decides _ _ _ _ (sym c.same_written.ensures ∙ c.if-not-same_written.false)
+    (sym c.same_written-else-not-same_written.ensures ∙ c.if-not-same_written-2.false) (sym c.same_written-2.ensures ∙ c.if-not-same_written-3.false))
