@@ -22,3 +22,4 @@ pub mod RoundTrip
 pub mod Splitting
 pub mod Shields
 pub mod Whole
+pub mod WaysUp

@@ -19,3 +19,4 @@ pub mod FlatHits
 mod FlatRows
 pub mod FlatKept
 pub mod FlatFacts
+mod TabledLines
