@@ -13,3 +13,4 @@ pub mod Spelling
 pub mod Text
 pub mod Told
 pub mod Within
+pub mod Ways

@@ -25,3 +25,4 @@ pub mod Whole
 pub mod Digits
 pub mod Counts
 pub mod Listed
+pub mod WaysUp

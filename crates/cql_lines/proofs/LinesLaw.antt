@@ -7,7 +7,7 @@ use Rattle.cql_lines.specs.declared.plain.Plain.{Plain as Given, Atom, Empty, Bo
 use Rattle.cq_outside.specs.Spelling.{Pattern, one, nothing, joined, repeated}
 use Rattle.cql_lines.specs.Building.{begins, null_times, nullable, size, firsts_times, firsts, rows_times, rows, IsPlain, AtomsBelow}
 use Rattle.cql_lines.proofs.Built.{Built}
-use Rattle.cql_lines.specs.Ways.{Line}
+use Rattle.cq_outside.specs.Ways.{Line}
 use Rattle.cq_outside.specs.Greatest.{IsGreatest}
 use Rattle.cq_outside.proofs.WithinLaw.{is_from_to, from_to_is}
 use Rattle.cql_lines.specs.Reads.{Read}

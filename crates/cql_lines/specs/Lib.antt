@@ -7,7 +7,6 @@ pub mod Sets
 pub mod Shapes
 pub mod TreeOf
 pub mod Up
-pub mod Ways
 pub mod PatternTrees
 pub mod Automata
 pub mod Values

@@ -9,7 +9,7 @@ use Rattle.cql_lines.specs.declared.shape.Shape.{Shape}
 use Rattle.cql_lines.specs.Shapes.{Edge, is_searched}
 use Rattle.cql_lines.specs.Tables.{holds_in}
 use Rattle.cql_lines.specs.Trees.{spots_of, goes_back, is_primary, limits_of}
-use Rattle.cql_lines.specs.Ways.{Line}
+use Rattle.cq_outside.specs.Ways.{Line}
 
 -- the lengths that limits allow; without limits, all
 abbrev pub allows : Option Limits → ℕ → Bool

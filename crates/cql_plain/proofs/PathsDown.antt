@@ -5,7 +5,7 @@ use Rattle.std.proofs.lemmas.Bool.{cases_lt, eq-eqb, ne_eqb}
 use Rattle.std.proofs.lemmas.List.{get_or_past}
 use Rattle.cq_position.specs.Games.{Node, no_node, node_at, is_first_child, is_searched, IsTree}
 use Rattle.cq_position.specs.Search.{SearchedTree, IsStepDown}
-use Rattle.cq_position.proofs.Trees.{tree_first}
+use Rattle.cq_position.proofs.WaysUp.{parent_before}
 use Rattle.cql_plain.specs.Paths.{place_before, GoesTo, nodes_to, length_at, ArePaths, above, searched_above, reached_by, reached_down_by}
 use Rattle.cql_plain.specs.declared.paths.Reached.{Reached}
 
@@ -55,15 +55,6 @@ down_is tree primary k p e =
 
 pub is_down : (tree : SearchedTree) (primary : Bool) (k p : ℕ) → IsStepDown tree primary p k → searched_above tree primary k ≡ Some p
 is_down tree primary k p s = rw s.is_in (is_above tree primary k p (record { parent = s.child; first = s.first }))
-
-pub parent_before : (nodes : List Node) (k p : ℕ) → IsTree nodes → (node_at nodes k).parent ≡ Some p → (p < k) × (k < length nodes)
-parent_before nodes k p tree is = (
-  (tree_first nodes tree).before k p is,
-  elim (cases_lt k (length nodes)) [
-    | inl less ↦ less
-    | inr past ↦ absurd (let e : None ≡ Some p = ap (λ x. x.parent) (sym (get_or_past nodes k no_node past)) ∙ is in cc)
-  ],
-)
 
 -- How a node is reached: as the first of a path, or by another.
 pub record IsFirst (n k j : ℕ) (o : Option Reached) : Type 0 where

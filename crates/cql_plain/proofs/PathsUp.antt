@@ -6,7 +6,8 @@ use Rattle.cq_position.specs.Games.{IsTree}
 use Rattle.cq_position.specs.Search.{SearchedTree, IsStepUp}
 use Rattle.cql_plain.specs.Paths.{place_before, GoesTo, nodes_to, length_at, ArePaths, above}
 use Rattle.cql_plain.specs.declared.paths.Reached.{Reached}
-use Rattle.cql_plain.proofs.PathsDown.{some_same, above_is, is_above, parent_before}
+use Rattle.cql_plain.proofs.PathsDown.{some_same, above_is, is_above}
+use Rattle.cq_position.proofs.WaysUp.{parent_before}
 
 -- the path came to a node from another that is one step below it, and has one node more
 pub record IsFrom (tree : SearchedTree) (primary : Bool) (steps : List (Option Reached)) (k before nodes : ℕ) : Type 0 where

@@ -2,29 +2,21 @@
 use Rattle.std.proofs.Common.{◌≡◌, ℕ, zero, suc, ◌+◌, ◌-◌, ◌<◌, ◌≤◌, Bool, true, false, ◌&&◌, ◌||◌, nat_lt, List, [], ◌∷◌, ◌++◌, length, cond, Option, Some, None, refl, sym, ap, ap₂, ◌∙◌, subst, arith, append_assoc, append-nil, map, eqb-true, ltb-true as ltb_holds, get_or, take, count_by}
 use Rattle.std.specs.Prelude.{option_to_list, ◌==◌, IfSome, All, if◌then◌else◌, Contains}
 use Rattle.std.specs.List.{filter, find, range_with_len, list_any}
-use Rattle.std.proofs.lemmas.Bool.{lt-ltb, le-ltb, eq-eqb, ne_eqb}
+use Rattle.std.proofs.lemmas.Bool.{lt-ltb, le-ltb}
 use Rattle.std.proofs.lemmas.List.FromFn.{length-range_with_len, get_or-range_with_len, map-range_with_len_more}
 use Rattle.pgn_tree.proofs.MainLine.{filter_more}
 use Rattle.std.proofs.lemmas.List.Elements.{All-weaker, All-contains_itself, All-filter}
 use Rattle.std.proofs.lemmas.List.Sums.{sum_by_more}
 use Rattle.cq_position.specs.Games.{Node, node_at, way_up, up_from, is_below, is_child_of, is_number, children, first_child, next_sibling, is_later_sibling, is_searched, numbers, searched, IsTree}
 use Rattle.cq_position.specs.Search.{begins_variation}
-use Rattle.cq_position.proofs.Ancestors.{way_step, way_root, way_head, reaches}
+use Rattle.cq_position.proofs.Ancestors.{way_head, reaches}
 use Rattle.cq_position.proofs.Trees.{tree_first}
+use Rattle.cq_position.proofs.WaysUp.{way_from, way_on}
 use Rattle.cql_plain.proofs.Ranges.{left, right}
-
--- the way up from a node that may not be there
-abbrev pub way_from : List Node → Option ℕ → List ℕ
-way_from nodes None = []
-way_from nodes (Some n) = way_up nodes n
 
 abbrev pub left_up : Option ℕ → ℕ
 left_up None = 0
 left_up (Some n) = n + 1
-
-pub way_on : (nodes : List Node) (n : ℕ) (o : Option ℕ) → IsTree nodes → (node_at nodes n).parent ≡ o → way_up nodes n ≡ n ∷ way_from nodes o
-way_on nodes n None tree is = way_root nodes (tree_first nodes tree) n is
-way_on nodes n (Some p) tree is = way_step nodes (tree_first nodes tree) n p is
 
 pub way_more : (nodes : List Node) (way : List ℕ) (m : ℕ) (o : Option ℕ) (whole : List ℕ) → IsTree nodes → o ≡ (node_at nodes m).parent → way ++ way_up nodes m ≡ whole → (way ++ m ∷ []) ++ way_from nodes o ≡ whole
 way_more nodes way m o whole tree is e = append_assoc way (m ∷ []) (way_from nodes o) ∙ ap (λ l. way ++ l) (sym (way_on nodes m o tree (sym is))) ∙ e
@@ -128,19 +120,6 @@ next_children nodes n c (Some d) e =
 pub child_next : (nodes : List Node) (n c : ℕ) (o : Option ℕ) → (node_at nodes c).parent ≡ Some n → o ≡ next_sibling nodes c → children_from nodes n (Some c) ≡ c ∷ children_from nodes n o
 unfolding next_sibling
 child_next nodes n c o parent is = ap (λ l. c ∷ l) (next_children nodes n c o (sym (is ∙ ap (λ p. find (is_later_sibling nodes p c) (numbers nodes)) parent)))
-
--- whether a node is another or below it
-pub is_below_self : (nodes : List Node) (n : ℕ) → IsTree nodes → is_below nodes n n ≡ true
-is_below_self nodes n tree = ap (list_any (λ m. m == n)) (way_on nodes n (node_at nodes n).parent tree refl) ∙ ap (λ b. b || list_any (λ m. m == n) (way_from nodes (node_at nodes n).parent)) (eq-eqb n n refl)
-
-below_by : (nodes : List Node) (n k : ℕ) (o : Option ℕ) → IsTree nodes → (node_at nodes k).parent ≡ o → (k ≡ n → ⊥) → is_below nodes n k ≡ list_any (λ m. m == n) (way_from nodes o)
-below_by nodes n k o tree is other = ap (list_any (λ m. m == n)) (way_on nodes k o tree is) ∙ ap (λ b. b || list_any (λ m. m == n) (way_from nodes o)) (ne_eqb k n other)
-
-pub below_parent : (nodes : List Node) (n k p : ℕ) → IsTree nodes → (node_at nodes k).parent ≡ Some p → (k ≡ n → ⊥) → is_below nodes n k ≡ is_below nodes n p
-below_parent nodes n k p tree is other = below_by nodes n k (Some p) tree is other
-
-pub root_below : (nodes : List Node) (n k : ℕ) → IsTree nodes → (node_at nodes k).parent ≡ None → (k ≡ n → ⊥) → is_below nodes n k ≡ false
-root_below nodes n k tree is other = below_by nodes n k None tree is other
 
 abbrev pub left_down : ℕ → Option ℕ → ℕ
 left_down count None = 0

@@ -19,3 +19,4 @@ mod FlatRows
 pub mod FlatKept
 pub mod FlatFacts
 pub mod UnplacedSame
+mod TabledLines

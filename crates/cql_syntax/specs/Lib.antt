@@ -21,6 +21,7 @@ pub mod PositionRows
 pub mod Same
 pub mod Samples
 pub mod SetRows
+pub mod TabledLines
 pub mod TreeFaults
 pub mod TreeLists
 pub mod TreeOf

@@ -11,6 +11,7 @@ ghost use Rattle.cql_syntax.specs.Meaning.{Names, value};
 ghost use Rattle.cql_syntax.specs.NumberRows.{NumberRows, ComparisonRows};
 ghost use Rattle.cql_syntax.specs.PositionRows.{WordRows, HeaderRows, LogicRows, TreeRows};
 ghost use Rattle.cql_syntax.specs.SetRows.{SetRows, DirectionRows};
+ghost use Rattle.cql_syntax.specs.TabledLines.{LinesAreTheirs};
 ghost use Rattle.cql_syntax.specs.TreeLists.{AreInverse, AreTreesOfEach, EndsAlike, filters_from, filters_of, parts_from, parts_of, terms_from, terms_of};
 ghost use Rattle.cql_syntax.specs.Trees.{FilterTree};
 ghost use Rattle.cql_syntax.specs.Values.{Value, is_of_kind};
@@ -72,6 +73,13 @@ pub fn hits_are_as_worked()
 #[tactic(auto, using(cq_outside::proofs::SpellingLaw::spelling_law))]
 pub fn lines_are_tested_by_splits()
     ensures { TestIsSpelling (ℕ → Value) }
+{}
+
+/// Where a table has for each atom of a line the searched nodes at which its filter holds, the greatest allowed length of a way that the
+/// table's pattern spells is the value of the line.
+#[tactic(auto, using(crate::proofs::TabledLines::lines_are_theirs))]
+pub fn tables_give_their_lines()
+    ensures { LinesAreTheirs }
 {}
 
 /// The value of a filter is of the filter's kind.

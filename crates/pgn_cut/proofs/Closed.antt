@@ -94,7 +94,7 @@ span_ends : (place : ℕ) (game : List Lexeme) → FinishesAt place (span_to pla
 span_ends place [] = tt
 span_ends place (l ∷ ls) = refl
 
-last_ends : (place : ℕ) (game : List Lexeme) → FinishesAt place (cut_from place game [])
+pub last_ends : (place : ℕ) (game : List Lexeme) → FinishesAt place (cut_from place game [])
 unfolding cut_from
 last_ends place game = of_both (FinishesAt place) (list_all (λ l. is_passed_over l.kind) game) [] (span_to place game) tt (span_ends place game)
 

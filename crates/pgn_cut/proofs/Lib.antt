@@ -12,4 +12,6 @@ pub mod Pieces
 pub mod Pushes
 mod Rows
 pub mod Runs
+pub mod Seams
+pub mod SeamsOfCut
 pub mod Streams

@@ -20,15 +20,15 @@ use Rattle.pgn_cut.proofs.Joins.{StandApart, AreLocal, HasItsLexemes, joined, ma
 use Rattle.pgn_cut.proofs.Order.{StandInOrder}
 
 -- what holds of two lists holds of both together, and of each
-all_both : {A : Type 0} (P : A → Type 0) (xs ys : List A) → AllByRecursion P xs → AllByRecursion P ys → AllByRecursion P (xs ++ ys)
+pub all_both : {A : Type 0} (P : A → Type 0) (xs ys : List A) → AllByRecursion P xs → AllByRecursion P ys → AllByRecursion P (xs ++ ys)
 all_both P [] ys all rest = rest
 all_both P (x ∷ xs) ys all rest = (all.0, all_both P xs ys all.1 rest)
 
-all_front : {A : Type 0} (P : A → Type 0) (xs ys : List A) → AllByRecursion P (xs ++ ys) → AllByRecursion P xs
+pub all_front : {A : Type 0} (P : A → Type 0) (xs ys : List A) → AllByRecursion P (xs ++ ys) → AllByRecursion P xs
 all_front P [] ys all = tt
 all_front P (x ∷ xs) ys all = (all.0, all_front P xs ys all.1)
 
-all_rest : {A : Type 0} (P : A → Type 0) (xs ys : List A) → AllByRecursion P (xs ++ ys) → AllByRecursion P ys
+pub all_rest : {A : Type 0} (P : A → Type 0) (xs ys : List A) → AllByRecursion P (xs ++ ys) → AllByRecursion P ys
 all_rest P [] ys all = all
 all_rest P (x ∷ xs) ys all = all_rest P xs ys all.1
 
@@ -37,7 +37,7 @@ keeps : {A : Type 0} (p : A → Bool) (xs : List A) → AllByRecursion (λ x. p 
 keeps p [] all = refl
 keeps p (x ∷ xs) all = ap (λ t. cond t (x ∷ filter p xs) (filter p xs)) all.0 ∙ ap (λ l. x ∷ l) (keeps p xs all.1)
 
-keeps_none : {A : Type 0} (p : A → Bool) (xs : List A) → AllByRecursion (λ x. p x ≡ false) xs → filter p xs ≡ []
+pub keeps_none : {A : Type 0} (p : A → Bool) (xs : List A) → AllByRecursion (λ x. p x ≡ false) xs → filter p xs ≡ []
 keeps_none p [] all = refl
 keeps_none p (x ∷ xs) all = ap (λ t. cond t (x ∷ filter p xs) (filter p xs)) all.0 ∙ keeps_none p xs all.1
 
@@ -52,7 +52,7 @@ split_push (z ∷ zs) x (b ∷ bs) y after e =
     ⊎_elim (λ last. inl (last.0, ap₂ (λ a l. a ∷ l) (sym head) last.1, last.2)) (λ more. inr (more.0, ap₂ (λ a l. a ∷ l) head more.1))
     (split_push zs x bs y after (ap (drop 1) e))
 
-no_split : {A : Type 0} (before : List A) (y : A) (after : List A) → [] ≡ before ++ y ∷ after → ⊥
+pub no_split : {A : Type 0} (before : List A) (y : A) (after : List A) → [] ≡ before ++ y ∷ after → ⊥
 no_split [] y after e = cc
 no_split (b ∷ bs) y after e = cc
 
@@ -82,7 +82,7 @@ closed_uncut game l open_ no_before = λ before m after e. ⊎_elim
     (split_push game l before m after e)
 
 -- what opens a tag pair marks nothing
-opens_marks : (kind : LexemeKind) (text : List ℕ) → opens kind ≡ true → marks kind text ≡ false
+pub opens_marks : (kind : LexemeKind) (text : List ℕ) → opens kind ≡ true → marks kind text ≡ false
 opens_marks EscapeLine text is = refl
 opens_marks (Token Open) text is = refl
 opens_marks (Token Close) text is = refl
@@ -100,7 +100,7 @@ opens_marks (Token BadByte) text is = refl
 opens_marks (Token UnclosedComment) text is = refl
 opens_marks (Token UnclosedText) text is = refl
 
-and_false : (t : Bool) → (t && false) ≡ false
+pub and_false : (t : Bool) → (t && false) ≡ false
 and_false true = refl
 and_false false = refl
 
@@ -110,7 +110,7 @@ first_open game l ends =
     more_open [] l none_open (and_false (opens l.kind && l.first)) (ap (λ t. t && true) (opens_marks l.kind l.text is))
 
 -- lexemes in order from a place on begin there or after it
-order_from : (q : ℕ) (ls : List Lexeme) → InOrder q ls → AllByRecursion (λ l. q ≤ l.at) ls
+pub order_from : (q : ℕ) (ls : List Lexeme) → InOrder q ls → AllByRecursion (λ l. q ≤ l.at) ls
 order_from q [] order = tt
 order_from q (l ∷ ls) order = (order.0, map_all (λ m. end l ≤ m.at) (λ m. q ≤ m.at) (λ m after. let h = order.0 in omega arith) ls (order_from (end l) ls order.2))
 
@@ -135,7 +135,7 @@ inside_each from to (l ∷ ls) first last =
     (grind (arith, nat_tests), inside_each from to ls first.1 last.1)
 
 -- lexemes between others are those within their places
-within_is : (from to : ℕ) (done mid rest : List Lexeme) → AllByRecursion (λ l. l.at < from) done → AllByRecursion (λ l. from ≤ l.at) mid → AllByRecursion (λ l. l.at < to) mid → AllByRecursion (λ l. to ≤ l.at) rest
+pub within_is : (from to : ℕ) (done mid rest : List Lexeme) → AllByRecursion (λ l. l.at < from) done → AllByRecursion (λ l. from ≤ l.at) mid → AllByRecursion (λ l. l.at < to) mid → AllByRecursion (λ l. to ≤ l.at) rest
     → within from to (done ++ (mid ++ rest)) ≡ mid
 within_is from to done mid rest before first last after =
     let test : Lexeme → Bool = λ l. nat_le from l.at && nat_lt l.at to in

@@ -26,7 +26,7 @@ use Rattle.pgn_cut.proofs.Marks.{StandAlone, cut_is, bad, bad_one, bad_two, bad_
 use Rattle.pgn_cut.proofs.Order.{StandInOrder, Begins, cut_in_order}
 
 -- games in order from a place on begin there or after it
-starts_from : (from to : ℕ) (games : List Span) → AreInOrder from to games → AllByRecursion (λ g. from ≤ g.start) games
+pub starts_from : (from to : ℕ) (games : List Span) → AreInOrder from to games → AllByRecursion (λ g. from ≤ g.start) games
 starts_from from to [] order = tt
 starts_from from to (g ∷ games) order =
     let begins = order.0 in let some = order.1.0 in
@@ -137,6 +137,10 @@ some_open first InNumber bytes is other none = let e = sym is.1 ∙ none in cc
 some_open first InSuffix bytes is other none = ⊎_elim (λ e. let n = sym e ∙ none in cc) (λ e. let n = sym e ∙ none in cc) is
 some_open first InNull bytes is other none = let e = sym is ∙ none in cc
 
+-- a text begins with its archive, or after a mark
+pub starts_by : (archive : List ℕ) → (text_start archive ≡ 0) ⊎ (text_start archive ≡ 3)
+starts_by archive = ⊎_elim (λ t. inr (ap (λ b. cond b 3 0) t)) (λ f. inl (ap (λ b. cond b 3 0) f)) (cases_Bool (starts_with nat_eq archive byte_order_mark))
+
 module _ (in_order : StandInOrder) (apart : StandApart) (follow : LexemesFollow) (grow : ReadingsGrow) (longest : AreLongest) (alone : StandAlone) (ends : LexemesEnd) where
   all_end : (at : ℕ) (first : Bool) (bytes : List ℕ) (place : ℕ) → at + length bytes ≡ place → AllByRecursion (λ l. end l ≤ place) (lexemes at first bytes)
   all_end at first bytes place is =
@@ -173,7 +177,7 @@ module _ (in_order : StandInOrder) (apart : StandApart) (follow : LexemesFollow)
   open_game at first more g gs place is = open_first place at g gs (lexemes at first more) (in_order at first more) (all_end at first more place is)
 
   -- where nothing is open at all
-  open_none : (at : ℕ) (first : Bool) (more : List ℕ) (place : ℕ) → at + length more ≡ place → AllByRecursion (λ g. at ≤ g.start) (cut_from place [] (lexemes at first more))
+  pub open_none : (at : ℕ) (first : Bool) (more : List ℕ) (place : ℕ) → at + length more ≡ place → AllByRecursion (λ g. at ≤ g.start) (cut_from place [] (lexemes at first more))
   unfolding Begins
   open_none at first more place is = starts_from at place (cut_from place [] (lexemes at first more))
       (cut_in_order place at at [] (lexemes at first more) (omega arith) (omega arith) (in_order at first more) (all_end at first more place is))
@@ -214,9 +218,6 @@ module _ (in_order : StandInOrder) (apart : StandApart) (follow : LexemesFollow)
   after_mark : (archive : List ℕ) → AllByRecursion (λ g. text_start archive ≤ g.start) (cut archive)
   after_mark archive = open_none (text_start archive) true (drop (text_start archive) archive) (length archive)
       (let len = length-drop (text_start archive) archive in let inside = text_within archive in omega arith)
-
-  starts_by : (archive : List ℕ) → (text_start archive ≡ 0) ⊎ (text_start archive ≡ 3)
-  starts_by archive = ⊎_elim (λ t. inr (ap (λ b. cond b 3 0) t)) (λ f. inl (ap (λ b. cond b 3 0) f)) (cases_Bool (starts_with nat_eq archive byte_order_mark))
 
   by_mark : (front more : List ℕ) → length front ≤ 3 → (text_start (front ++ more) ≡ 0 → Opens 0 (length front) (cut (front ++ more))) → AreOpenAt (Some 0) front more (cut (front ++ more))
   by_mark front more short opened = ⊎_elim

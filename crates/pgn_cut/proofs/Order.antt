@@ -74,7 +74,7 @@ games_in_order in_order apart archive =
     cut_in_order (length archive) 0 start [] (archive_lexemes archive) (omega arith) inside (in_order start true text)
     (map_all (StandsIn start true text) (λ l. end l ≤ length archive) (λ l s. let most = s.to_end in omega arith) (archive_lexemes archive) (apart start true text))
 
-each_ends : (from to : ℕ) (spans : List Span) → AreInOrder from to spans → AllByRecursion (EndsBy to) spans
+pub each_ends : (from to : ℕ) (spans : List Span) → AreInOrder from to spans → AllByRecursion (EndsBy to) spans
 each_ends from to [] order = tt
 each_ends from to (s ∷ ss) order = (order.1, each_ends s.end to ss order.2)
 

@@ -13,10 +13,11 @@ ghost use Rattle.pgn_cut.specs.declared.state.State.TheVariants.{Between};
 ghost use Rattle.pgn_cut.specs.Joined.{HasItsTokens};
 ghost use Rattle.pgn_cut.specs.OneGame.{IsGameOfCut, IsGameIn, IsUncut, IsEndedByMarker};
 ghost use Rattle.pgn_cut.specs.declared.span.Span.{Span as ASpan};
+ghost use Rattle.pgn_cut.specs.Seams.{IsSeam};
 ghost use Rattle.pgn_cut.specs.Spans.{EndsBy, AreInOrder, FinishesAt};
 
 use pgn_lexer::{
-    fronts_settle, lexemes_are_local, lexemes_are_spelled, lexemes_follow, lexemes_stand_apart,
+    fronts_settle, lexemes_are_local, lexemes_are_spelled, lexemes_follow, lexemes_move, lexemes_stand_apart,
     readings_are_longest, readings_grow, white_space_is_passed, whole_lexemes_stay,
 };
 
@@ -61,6 +62,21 @@ pub fn closed_games_stay()
     lexemes_follow();
     readings_grow();
     readings_are_longest();
+}
+
+/// An archive splits behind each of its games. The bytes before the seam are cut into the games up to that one. Those behind it are cut,
+/// after one space, into the games after that one: the same ones with the same tokens, so many bytes further on.
+pub fn archives_split()
+    ensures { (archive : List ℕ) (before : List ASpan) (game : ASpan) (after : List ASpan) →
+        cut archive ≡ before ++ game ∷ after → IsSeam archive before game after }
+{
+    lexemes_stand_apart();
+    lexemes_are_local();
+    lexemes_are_spelled();
+    lexemes_follow();
+    readings_are_longest();
+    white_space_is_passed();
+    lexemes_move();
 }
 
 /// What is read of an open lexeme and the bytes after it follows from its state and these: it ends before the first that

@@ -16,7 +16,7 @@ mod whole;
 
 pub use cutter::Cutter;
 pub use laws::{
-    closed_games_stay, games_end_once, games_have_their_tokens, games_stand_apart,
+    archives_split, closed_games_stay, games_end_once, games_have_their_tokens, games_stand_apart,
     open_lexemes_settle,
 };
 pub use span::Span;

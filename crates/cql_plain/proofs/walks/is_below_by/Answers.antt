@@ -1,7 +1,7 @@
 use Rattle.std.proofs.Common.{◌≡◌, false, get_or, length, ap, sym, ◌∙◌, arith}
 use Rattle.std.proofs.lemmas.List.FromFn.{length-map-range_with_len, get_or-map-range_with_len}
 use Rattle.cq_position.specs.Games.{is_below}
-use Rattle.cql_plain.proofs.Ways.{is_below_self, below_parent, root_below}
+use Rattle.cq_position.proofs.WaysUp.{is_below_self, below_parent, root_below}
 use Rattle.cql_plain.proofs.walks.is_below_by.Goals as goal
 
 pub returns-then-k-n : goal.returns-then-k-n

@@ -1,7 +1,8 @@
 use Rattle.std.proofs.Common.{◌≡◌, ◌<◌, ◌++◌, length, ap, ◌∙◌, subst}
 use Rattle.std.specs.Prelude.{IfSome}
 use Rattle.cq_position.specs.Games as games
-use Rattle.cql_plain.proofs.Ways.{way_from, way_more, within_up}
+use Rattle.cq_position.proofs.WaysUp.{way_from}
+use Rattle.cql_plain.proofs.Ways.{way_more, within_up}
 use Rattle.cql_plain.proofs.walks.way_up.Goals as goal
 
 pub loop-at-preserved : goal.loop-at-preserved

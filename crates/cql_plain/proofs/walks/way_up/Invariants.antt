@@ -1,7 +1,8 @@
 use Rattle.std.proofs.Common.{◌≡◌, ◌<◌, ◌++◌, length}
 use Rattle.std.specs.Prelude.{IfSome}
 use Rattle.cq_position.specs.Games as games
-use Rattle.cql_plain.proofs.Ways.{way_from, left_up}
+use Rattle.cq_position.proofs.WaysUp.{way_from}
+use Rattle.cql_plain.proofs.Ways.{left_up}
 use Rattle.cql_plain.proofs.walks.way_up.Given as goal
 
 abbrev pub invariant-loop-at : goal.invariant-loop-at

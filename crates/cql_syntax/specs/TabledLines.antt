@@ -1,0 +1,41 @@
+-- Lines whose atoms are answered by a table.
+use Rattle.std.specs.Prelude.{◌≡◌, ℕ, Bool, true, false, Option, Some, pos, option_map}
+use Rattle.cq_outside.specs.Greatest.{IsGreatest}
+use Rattle.cq_outside.specs.Spelling.{Pattern, one, nothing, joined, repeated}
+use Rattle.cq_outside.specs.Ways.{Line}
+use Rattle.cq_position.specs.Games.{IsTree, node_at, is_first_child, is_searched}
+use Rattle.cq_position.specs.Search.{SearchedTree}
+use Rattle.cql_syntax.specs.Meaning.{line_of, allows}
+use Rattle.cql_syntax.specs.Values.{Value, holds, as_number}
+use Rattle.cql_syntax.specs.declared.extents.Extent.{Extent}
+
+abbrev pub Searched : SearchedTree → ℕ → Type 0
+Searched tree n = is_searched tree.variations tree.game.nodes n ≡ true
+
+-- Which node is above another, for each searched node that is joined to its parent: all are, or with `primary` the first children alone.
+pub record AreParents (tree : SearchedTree) (primary : Bool) (above : ℕ → Option ℕ) : Type 0 where
+  pub are_parents : (n p : ℕ) → above n ≡ Some p
+      → Searched tree n × ((node_at tree.game.nodes n).parent ≡ Some p) × (primary ≡ true → is_first_child tree.game.nodes n ≡ true)
+  pub all_parents : (n p : ℕ) → Searched tree n → (node_at tree.game.nodes n).parent ≡ Some p
+      → (primary ≡ true → is_first_child tree.game.nodes n ≡ true) → above n ≡ Some p
+
+-- a step of a way, down from the node above or, with `back`, up to it
+abbrev pub Joins : (above : ℕ → Option ℕ) → (back : Bool) → ℕ → ℕ → Type 0
+Joins above true n m = above n ≡ Some m
+Joins above false n m = above m ≡ Some n
+
+-- a pattern of numbers stands for one of values, where a table has for each number the searched nodes at which its value holds
+abbrev pub Tabled : (ℕ → ℕ → Bool) → (ℕ → Type 0) → Pattern ℕ → Pattern (ℕ → Value) → Type 0
+Tabled table Reach (one a) (one v) = (n : ℕ) → Reach n → table a n ≡ holds (v n)
+Tabled table Reach nothing nothing = Unit {0}
+Tabled table Reach (joined p q) (joined r s) = Tabled table Reach p r × Tabled table Reach q s
+Tabled table Reach (repeated l m p) (repeated k o r) = (l ≡ k) × (m ≡ o) × Tabled table Reach p r
+Tabled table Reach p r = ⊥
+
+-- At a searched node the greatest length of a way that the table's pattern spells, and that the extent allows, is the value of the line.
+abbrev pub LinesAreTheirs : Type 0
+LinesAreTheirs =
+    (tree : SearchedTree) → IsTree tree.game.nodes → (back primary : Bool) (above : ℕ → Option ℕ) → AreParents tree primary above
+    → (extent : Extent) (table : ℕ → ℕ → Bool) (p : Pattern ℕ) (r : Pattern (ℕ → Value)) → Tabled table (Searched tree) p r
+    → (n : ℕ) → Searched tree n → (o : Option ℕ)
+    → IsGreatest (λ len. Line table (Joins above back) p n len × (allows extent len ≡ true)) o → as_number (option_map pos o) ≡ line_of tree back primary extent r n
