@@ -53,7 +53,7 @@ pub fn toward(s: Square, c: Compass, n: u32) -> Option<Square>
     Some(square_at(file, rank))
 }
 
-/// The file or rank `n` times `by` further, or None where that is off the board.
+// The file or rank `n` times `by` further, or None where that is off the board.
 fn moved_times(coordinate: u8, by: i8, n: u32) -> Option<u8>
     requires low { negsuc 0 ≤ℤ by }
     requires high { by ≤ℤ pos 1 }

@@ -39,7 +39,7 @@ pub fn between(a: Square, b: Square) -> ArrayVec<Square, 6>
     }
 }
 
-/// The squares fewer than `end` steps away in a direction, the nearest first.
+// The squares fewer than `end` steps away in a direction, the nearest first.
 fn along(s: Square, c: Compass, end: u32) -> ArrayVec<Square, 6>
     requires { end ≤ 7 }
     ensures { result.items ≡ steps_below s c end }
@@ -53,7 +53,7 @@ fn along(s: Square, c: Compass, end: u32) -> ArrayVec<Square, 6>
     squares
 }
 
-/// The moves that a king needs from one square to another.
+// The moves that a king needs from one square to another.
 fn distance(a: Square, b: Square) -> u32
     ensures value { result ≡ king_distance a b }
     ensures bound { result ≤ 7 }
@@ -61,7 +61,7 @@ fn distance(a: Square, b: Square) -> u32
     u32::from(files_apart(a, b).max(ranks_apart(a, b)))
 }
 
-/// The direction from `a` to `b`, or None where they are not on one rank, file or diagonal, or are the same.
+// The direction from `a` to `b`, or None where they are not on one rank, file or diagonal, or are the same.
 #[tactic(auto, unfolding(crate::specs::Directions::direction_to))]
 fn direction(a: Square, b: Square) -> Option<Compass>
     ensures { result ≡ direction_to a b }

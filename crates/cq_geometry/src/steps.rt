@@ -65,21 +65,21 @@ pub fn knight_steps(s: Square) -> ArrayVec<Square, 8>
     kept(knight(s))
 }
 
-/// The eight steps of a king.
+// The eight steps of a king.
 fn king(s: Square) -> [Option<Square>; 8]
     ensures { result ≡ king_goals s }
 {
     goals!(s; (-1, -1), (0, -1), (1, -1), (-1, 0), (1, 0), (-1, 1), (0, 1), (1, 1))
 }
 
-/// The eight steps of a knight.
+// The eight steps of a knight.
 fn knight(s: Square) -> [Option<Square>; 8]
     ensures { result ≡ knight_goals s }
 {
     goals!(s; (-1, -2), (1, -2), (-2, -1), (2, -1), (-2, 1), (2, 1), (-1, 2), (1, 2))
 }
 
-/// The goals that are on the board.
+// The goals that are on the board.
 fn kept(goals: [Option<Square>; 8]) -> ArrayVec<Square, 8>
     ensures { result.items ≡ kept_goals goals }
 {

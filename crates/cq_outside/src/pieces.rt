@@ -52,7 +52,7 @@ pub fn read_up_to<S: Source>(
     Ok(bytes)
 }
 
-/// One read into `buffer`, whose bytes are added to `bytes`. Answers how many they are.
+// One read into `buffer`, whose bytes are added to `bytes`. Answers how many they are.
 fn append_piece<S: Source>(
     source: &mut S,
     buffer: &mut [u8],

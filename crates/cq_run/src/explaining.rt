@@ -24,7 +24,7 @@ pub fn explain<O: Sink>(alloc: Global, query: &TypedQuery, out: &mut O) -> Statu
     }
 }
 
-/// The lines of the flat form of a query, each with its end.
+// The lines of the flat form of a query, each with its end.
 #[tactic(auto, unfolding(crate::specs::Run::flat_lines))]
 fn lines_of(alloc: Global, query: &TypedQuery) -> Result<Bytes, NoMemory>
     ensures { IfOk result (λ lines. lines ≡ flat_lines (query_tree query.now.query)) }

@@ -75,14 +75,14 @@ pub fn answer_archive<O: Sink, E: Sink>(
     }
 }
 
-/// Whether the query of a plan has a sort item.
+// Whether the query of a plan has a sort item.
 fn is_sorted(plan: &Plan) -> bool
     ensures { result ≡ some_sort (query_tree plan.now.query.query).items }
 {
     have_sort(&plan.query().query.items)
 }
 
-/// Writes the matches that were kept, in the order of the query.
+// Writes the matches that were kept, in the order of the query.
 fn write_kept<O: Sink>(
     alloc: Global,
     plan: &Plan,
@@ -102,7 +102,7 @@ fn write_kept<O: Sink>(
     Ok(())
 }
 
-/// The export of a match; nothing of another answer.
+// The export of a match; nothing of another answer.
 fn text_of(answer: &GameAnswer) -> &[u8]
     ensures { result.now ≡ exports.text_of answer.now.what }
 {
@@ -112,7 +112,7 @@ fn text_of(answer: &GameAnswer) -> &[u8]
     }
 }
 
-/// Writes the last line of the report.
+// Writes the last line of the report.
 fn write_summary<E: Sink>(alloc: Global, tally: Tally, err: &mut E) -> Status
     ensures { WritesSummary tally (sink_view E.taken E.faults err.old) (sink_view E.taken E.faults err.new) result }
 {
@@ -126,7 +126,7 @@ fn write_summary<E: Sink>(alloc: Global, tally: Tally, err: &mut E) -> Status
     }
 }
 
-/// Answers one game of the archive. Memory is refused before anything of the game is written.
+// Answers one game of the archive. Memory is refused before anything of the game is written.
 fn answer_game<O: Sink, E: Sink>(
     alloc: Global,
     plan: &Plan,
@@ -157,7 +157,7 @@ fn answer_game<O: Sink, E: Sink>(
     }
 }
 
-/// Writes the export of a game that was read, where it matches, or keeps it.
+// Writes the export of a game that was read, where it matches, or keeps it.
 fn write_match<O: Sink>(
     alloc: Global,
     plan: &Plan,
@@ -203,7 +203,7 @@ pub fn marked_text(
     export(alloc, &marked)
 }
 
-/// Keeps a game that matches.
+// Keeps a game that matches.
 fn keep(
     alloc: Global,
     kept: &mut Vec<GameAnswer>,
@@ -221,7 +221,7 @@ fn keep(
     Ok(())
 }
 
-/// Writes the line of a game that is faulty.
+// Writes the line of a game that is faulty.
 fn write_fault<E: Sink>(
     alloc: Global,
     fault: GameFault,
@@ -240,7 +240,7 @@ fn write_fault<E: Sink>(
     write_to(err, line.as_slice())
 }
 
-/// Writes all of a text.
+// Writes all of a text.
 fn write_to<S: Sink>(sink: &mut S, text: &[u8]) -> Result<(), Refusal<Failed>>
     ensures { WritesText text.now (sink_view S.taken S.faults sink.old) (sink_view S.taken S.faults sink.new) result }
 {

@@ -51,7 +51,7 @@ pub fn answer_text_over_made<O: Sink, E: Sink>(
     answer_made(alloc, &query, seed, games, out)
 }
 
-/// Answers a query that is accepted over the archive of so many games that a seed gives.
+// Answers a query that is accepted over the archive of so many games that a seed gives.
 fn answer_made<O: Sink>(
     alloc: Global,
     query: &TypedQuery,
@@ -69,7 +69,7 @@ fn answer_made<O: Sink>(
     }
 }
 
-/// What a query finds in the archive of so many games that a seed gives.
+// What a query finds in the archive of so many games that a seed gives.
 fn made_totals(alloc: Global, query: &TypedQuery, seed: u32, games: u32) -> Result<Totals, NoMemory>
     requires { games ≤ 100000 }
     ensures { IfOk result (AreTotals (query_tree query.now.query) (made seed games)) }
@@ -80,7 +80,7 @@ fn made_totals(alloc: Global, query: &TypedQuery, seed: u32, games: u32) -> Resu
     count_archive(alloc, &plan, archive.as_slice())
 }
 
-/// What the query of a plan finds in an archive of fewer than 2^62 bytes.
+// What the query of a plan finds in an archive of fewer than 2^62 bytes.
 fn count_archive(alloc: Global, plan: &Plan, archive: &[u8]) -> Result<Totals, NoMemory>
     requires size { length archive.now < 2 ^ 62 }
     ensures { IfOk result (AreTotals (query_tree plan.now.query.query) archive.now) }
@@ -104,7 +104,7 @@ fn count_archive(alloc: Global, plan: &Plan, archive: &[u8]) -> Result<Totals, N
     Ok(totals)
 }
 
-/// The totals with one game more.
+// The totals with one game more.
 fn count_game(
     alloc: Global,
     plan: &Plan,
@@ -139,7 +139,7 @@ fn count_game(
     }
 }
 
-/// The totals with one game more that was read.
+// The totals with one game more that was read.
 fn count_match(alloc: Global, plan: &Plan, game: &Game, before: Totals) -> Result<Totals, NoMemory>
     requires games { before.tally.games < 2 ^ 63 }
     requires matched { before.tally.matched ≤ before.tally.games }
@@ -174,7 +174,7 @@ fn count_match(alloc: Global, plan: &Plan, game: &Game, before: Totals) -> Resul
     })
 }
 
-/// Writes the line of some totals.
+// Writes the line of some totals.
 fn write_totals<O: Sink>(alloc: Global, totals: Totals, out: &mut O) -> Status
     ensures { (err : SinkView) → WritesTotals totals result
         (sinks_of (sink_view O.taken O.faults out.old) (sink_view O.taken O.faults out.new) err err) }

@@ -73,7 +73,7 @@ pub fn run<R: Threads + Sync, D: Desk, O: Sink, E: Sink, G: Gate + Sync>(
     }
 }
 
-/// Writes the usage line.
+// Writes the usage line.
 fn refuse_words<E: Sink>(err: &mut E) -> Status
     ensures { (out : SinkView) → WritesUsage result
         (sinks_of out out (sink_view E.taken E.faults err.old) (sink_view E.taken E.faults err.new)) }
@@ -84,7 +84,7 @@ fn refuse_words<E: Sink>(err: &mut E) -> Status
     }
 }
 
-/// Does what the words ask.
+// Does what the words ask.
 fn do_job<R: Threads + Sync, D: Desk, O: Sink, E: Sink, G: Gate + Sync>(
     rt: &R,
     alloc: Global,
@@ -138,7 +138,7 @@ fn do_job<R: Threads + Sync, D: Desk, O: Sink, E: Sink, G: Gate + Sync>(
     }
 }
 
-/// Answers the query in a file over the archive in another.
+// Answers the query in a file over the archive in another.
 fn answer_query_file<R: Threads + Sync, D: Desk, O: Sink, E: Sink, G: Gate + Sync>(
     rt: &R,
     alloc: Global,
@@ -163,7 +163,7 @@ fn answer_query_file<R: Threads + Sync, D: Desk, O: Sink, E: Sink, G: Gate + Syn
     }
 }
 
-/// Answers the query that a text is over the archive in a file.
+// Answers the query that a text is over the archive in a file.
 fn answer_text<R: Threads + Sync, D: Desk, O: Sink, E: Sink, G: Gate + Sync>(
     rt: &R,
     alloc: Global,
@@ -190,7 +190,7 @@ fn answer_text<R: Threads + Sync, D: Desk, O: Sink, E: Sink, G: Gate + Sync>(
     answer_file(rt, alloc, &query, archive, settings, desk, out, err, gate)
 }
 
-/// Answers a query that is accepted over the archive in a file.
+// Answers a query that is accepted over the archive in a file.
 fn answer_file<R: Threads + Sync, D: Desk, O: Sink, E: Sink, G: Gate + Sync>(
     rt: &R,
     alloc: Global,
@@ -216,7 +216,7 @@ fn answer_file<R: Threads + Sync, D: Desk, O: Sink, E: Sink, G: Gate + Sync>(
     }
 }
 
-/// Says whether the query in a file is accepted.
+// Says whether the query in a file is accepted.
 fn check_file<D: Desk, O: Sink, E: Sink>(
     alloc: Global,
     name: &[u8],
@@ -235,7 +235,7 @@ fn check_file<D: Desk, O: Sink, E: Sink>(
     }
 }
 
-/// Writes the flat form of the query in a file.
+// Writes the flat form of the query in a file.
 fn explain_file<D: Desk, O: Sink, E: Sink>(
     alloc: Global,
     name: &[u8],

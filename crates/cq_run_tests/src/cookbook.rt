@@ -242,7 +242,7 @@ static RECIPES: [(&str, &str); 20] = [
     ),
 ];
 
-/// The lines of a text that name the event of a game.
+// The lines of a text that name the event of a game.
 fn events_in(alloc: Global, text: &[u8]) -> Result<Bytes, NoMemory> {
     let mut events = Bytes::new(alloc);
     for line in text.split(|byte| *byte == b'\n') {
@@ -254,7 +254,7 @@ fn events_in(alloc: Global, text: &[u8]) -> Result<Bytes, NoMemory> {
     Ok(events)
 }
 
-/// Asks that a query finds the games of these events in the sample archive, of which one game is refused.
+// Asks that a query finds the games of these events in the sample archive, of which one game is refused.
 fn expect_events<R: Threads + Sync + Abort>(
     rt: &R,
     alloc: Global,

@@ -104,7 +104,7 @@ impl Sink for FailingSink {
     }
 }
 
-/// How these words are answered.
+// How these words are answered.
 fn status_of<R: Threads + Sync + Abort, D: Desk, O: Sink, E: Sink>(
     rt: &R,
     alloc: Global,
@@ -120,7 +120,7 @@ fn status_of<R: Threads + Sync + Abort, D: Desk, O: Sink, E: Sink>(
 /// The words of the rows, over standard input.
 static WORDS: [&str; 2] = ["eval", "cql() Ka1"];
 
-/// Asks that a desk that answers so has this status, and that nothing is written.
+// Asks that a desk that answers so has this status, and that nothing is written.
 fn expect_from_desk<R: Threads + Sync + Abort>(
     rt: &R,
     alloc: Global,
@@ -160,7 +160,7 @@ static ROOMS: [(u64, u64, Status); 5] = [
     (1_000, 1_000, Status::Done),
 ];
 
-/// Asks that words over the archive have this status, where the sinks have so much room.
+// Asks that words over the archive have this status, where the sinks have so much room.
 fn expect_with_room<R: Threads + Sync + Abort>(
     rt: &R,
     alloc: Global,
@@ -223,7 +223,7 @@ fn a_real_file_of_several_pieces_is_read_to_its_end(rt: HostRuntime) -> Result<(
     Ok(())
 }
 
-/// Asks that a file of these words could not be opened, and that nothing was written.
+// Asks that a file of these words could not be opened, and that nothing was written.
 fn expect_unopened<R: Threads + Sync + Abort, D: Desk>(
     rt: &R,
     alloc: Global,

@@ -173,7 +173,7 @@ static MISSED: [(&str, &str); 8] = [
     ("cql() initial parent initial", OPENED),
 ];
 
-/// Asks that a query finds its game, and that the report is this.
+// Asks that a query finds its game, and that the report is this.
 fn expect_found<R: Threads + Sync + Abort>(
     rt: &R,
     alloc: Global,

@@ -139,7 +139,7 @@ static QUERIES: [(&str, &str); 60] = [
     ),
 ];
 
-/// Asks that a query is accepted, or refused by this line.
+// Asks that a query is accepted, or refused by this line.
 fn expect_said<R: Threads + Sync + Abort>(
     rt: &R,
     alloc: Global,
@@ -169,7 +169,7 @@ fn queries_are_accepted_or_refused_at_their_byte(rt: HostRuntime) -> Result<(), 
     Ok(())
 }
 
-/// A text that is so many times written after `cql()`, and then another.
+// A text that is so many times written after `cql()`, and then another.
 fn repeated(alloc: Global, start: &str, text: &str, times: u32, end: &str) -> Result<String, Fail> {
     let mut query = String::from_str(alloc, start)?;
     for _ in 0..times {

@@ -396,7 +396,7 @@ fn read_query(alloc: Global, text: &[u8]) -> Result<TypedQuery, Refusal<QueryFau
     check(&query)
 }
 
-/// Asks that a query marks the position after `1. e4`.
+// Asks that a query marks the position after `1. e4`.
 fn expect_marked_after_e4<R: Threads + Sync + Abort>(
     rt: &R,
     alloc: Global,
@@ -538,7 +538,7 @@ static ORDERS: [(&str, &[&str], &[usize]); 5] = [
     ),
 ];
 
-/// Asks that the games of some places, all of which match, are written in this order.
+// Asks that the games of some places, all of which match, are written in this order.
 fn expect_order<R: Threads + Sync + Abort>(
     rt: &R,
     alloc: Global,

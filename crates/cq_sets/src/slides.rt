@@ -34,7 +34,7 @@ pub(crate) fn moved_by(set: BitSet64, files: i8, ranks: i8) -> BitSet64
     moved_along_files(moved_along_ranks(set, files), ranks)
 }
 
-/// The squares so many files to the right.
+// The squares so many files to the right.
 #[tactic(auto, using(crate::proofs::Shifts::file_right, crate::proofs::Shifts::file_left, crate::proofs::Shifts::unmoved))]
 fn moved_along_ranks(set: BitSet64, files: i8) -> BitSet64
     requires low { negsuc 0 ≤ℤ files }
@@ -50,7 +50,7 @@ fn moved_along_ranks(set: BitSet64, files: i8) -> BitSet64
     }
 }
 
-/// The squares so many ranks up.
+// The squares so many ranks up.
 #[tactic(auto, using(crate::proofs::Shifts::rank_up, crate::proofs::Shifts::rank_down, crate::proofs::Shifts::unmoved))]
 fn moved_along_files(set: BitSet64, ranks: i8) -> BitSet64
     requires low { negsuc 0 ≤ℤ ranks }

@@ -53,7 +53,7 @@ fn squares_between_sets_are_those_between_their_squares(rt: HostRuntime) {
     );
 }
 
-/// The position after a legal move at a place that the number gives, or the initial array where no move is legal.
+// The position after a legal move at a place that the number gives, or the initial array where no move is legal.
 fn walked(position: &Position, number: u32) -> Position {
     let moves = legal_moves(position);
     let count = moves.len() as u32;
@@ -77,7 +77,7 @@ fn men_of(position: &Position, side: Side) -> BitSet64 {
     set
 }
 
-/// The squares that the men on the squares of a set attack, one man after the other.
+// The squares that the men on the squares of a set attack, one man after the other.
 fn attacked_one_by_one(position: &Position, set: BitSet64) -> BitSet64 {
     let mut all = 0;
     for number in 0..64 {
@@ -88,7 +88,7 @@ fn attacked_one_by_one(position: &Position, set: BitSet64) -> BitSet64 {
     all
 }
 
-/// The squares between one square and those of a set, pair by pair.
+// The squares between one square and those of a set, pair by pair.
 fn between_one_and(a: u8, set: BitSet64) -> BitSet64
     requires { a < 64 }
 {

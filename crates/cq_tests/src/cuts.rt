@@ -63,7 +63,7 @@ static ROWS: [Row<'static>; 36] = [
     (b"\"\\\"*\" $1!?--*", &[(0, 13, true)]),
 ];
 
-/// Asks that an archive has these games.
+// Asks that an archive has these games.
 fn has_games<R: Abort>(
     rt: &R,
     alloc: Global,
@@ -91,7 +91,7 @@ fn archives_have_their_games(rt: HostRuntime) -> Result<(), Fail> {
     Ok(())
 }
 
-/// The games of an archive that comes in pieces of so many bytes.
+// The games of an archive that comes in pieces of so many bytes.
 fn cut_in_pieces(alloc: Global, archive: &[u8], size: usize) -> Result<Vec<Span>, NoMemory>
     requires some { 0 < size }
     requires size { size < 2 ^ 32 }
@@ -111,7 +111,7 @@ fn cut_in_pieces(alloc: Global, archive: &[u8], size: usize) -> Result<Vec<Span>
     Ok(spans)
 }
 
-/// Asks that an archive has the same games whole and in pieces of so many bytes.
+// Asks that an archive has the same games whole and in pieces of so many bytes.
 fn pieces_agree<R: Abort>(
     rt: &R,
     alloc: Global,

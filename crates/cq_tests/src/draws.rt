@@ -40,7 +40,7 @@ fn a_board_of_no_numbers(rt: HostRuntime) -> Result<(), NoMemory> {
     Ok(())
 }
 
-/// Draws until None, and counts how often each number was drawn.
+// Draws until None, and counts how often each number was drawn.
 fn draw_all(board: &Board, seat: &mut ClaimSeat, times: &[AtomicU32])
     requires seat { IsSeatOf board.now seat.old }
     requires open { HasEnded seat.old → ⊥ }

@@ -88,7 +88,7 @@ const CLOCKS: (&str, &str) = (
     Qxf7# {[%clk 0:02:54]} 1-0\n\n",
 );
 
-/// The text of a game whose roster has its defaults.
+// The text of a game whose roster has its defaults.
 fn written(alloc: Global, row: Row<'_>) -> Result<Bytes, NoMemory> {
     let (_, result, tags, movetext) = row;
     let mut text = Bytes::new(alloc);
@@ -103,7 +103,7 @@ fn written(alloc: Global, row: Row<'_>) -> Result<Bytes, NoMemory> {
     Ok(text)
 }
 
-/// Asks that a game is written so, and that what is written is written the same again.
+// Asks that a game is written so, and that what is written is written the same again.
 fn expect<R: Abort>(
     rt: &R,
     alloc: Global,

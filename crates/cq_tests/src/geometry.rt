@@ -7,7 +7,7 @@ use cq_geometry::{
 };
 use std::process::Abort;
 
-/// The square of a name as `e4`.
+// The square of a name as `e4`.
 fn at(name: &[u8; 2]) -> Square
     requires file { (97 ≤ slice_index name.now 0) × (slice_index name.now 0 < 105) }
     requires rank { (49 ≤ slice_index name.now 1) × (slice_index name.now 1 < 57) }
@@ -41,12 +41,12 @@ fn squares_are_numbered_from_a1_to_h8(rt: HostRuntime) {
     }
 }
 
-/// The name of a square.
+// The name of a square.
 fn name_of(square: Square) -> [u8; 2] {
     [b'a' + file(square), b'1' + rank(square)]
 }
 
-/// Asks that squares have these names.
+// Asks that squares have these names.
 fn are_named<R: Abort>(rt: &R, squares: &[Square], names: &[&[u8; 2]]) {
     assert_eq!(rt; squares.len(), names.len(), "of {names:?}");
     for (square, name) in squares.iter().zip(names) {

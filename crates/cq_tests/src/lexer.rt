@@ -118,7 +118,7 @@ static ROWS: [Row<'static>; 25] = [
     ),
 ];
 
-/// Asks that a text, which stands at byte 1000, has these tokens.
+// Asks that a text, which stands at byte 1000, has these tokens.
 fn has_tokens<R: Abort>(
     rt: &R,
     alloc: Global,
@@ -142,7 +142,7 @@ fn texts_have_their_tokens(rt: HostRuntime) -> Result<(), Fail> {
     Ok(())
 }
 
-/// What a byte alone is: how many tokens, and whether it begins a symbol or no token.
+// What a byte alone is: how many tokens, and whether it begins a symbol or no token.
 fn alone(alloc: Global, b: u8) -> Result<(usize, bool, bool), Fail> {
     let found = tokens(alloc, &[b], 0, false)?;
     let token = found.first().filter(|token| token.len == 1);
@@ -200,7 +200,7 @@ fn readings_and_lexemes_are_found(rt: HostRuntime) {
     assert!(rt; next_lexeme(b"e4  ", 2, true).is_none());
 }
 
-/// What workers share may be sent to them and read by them.
+// What workers share may be sent to them and read by them.
 fn may_be_shared<T: Send + Sync + Drop>(_value: T) {}
 
 #[test]

@@ -58,7 +58,7 @@ g4 Qb5 15. Rf4 g5 16. Kg3 Qb6 17. e4 Qg6 18. exf5 Ra7 19. Kf3 Ke7 20. d3 *
     ),
 ];
 
-/// Asks that an archive is that of its row.
+// Asks that an archive is that of its row.
 fn expect<R: Abort>(rt: &R, alloc: Global, row: Row) -> Result<(), cq_outside::NoMemory> {
     let (seed, games, want) = row;
     assert!(rt; games <= 100_000);

@@ -87,7 +87,7 @@ static ROWS: [Row; 9] = [
     ),
 ];
 
-/// Asks that a legal move leads to its position.
+// Asks that a legal move leads to its position.
 fn leads<R: Abort>(rt: &R, row: &Row) -> Result<(), Fail> {
     let (before, from, to, promotion, after) = row;
     let position = read_fen(before)?;

@@ -169,7 +169,7 @@ fn a_sink_in_memory_tells_what_fits_its_room(rt: HostRuntime) -> Result<(), Fail
     Ok(())
 }
 
-/// What a desk has in a file, up to 100 bytes.
+// What a desk has in a file, up to 100 bytes.
 fn opened<D: Desk>(alloc: Global, desk: &mut D, name: &[u8]) -> Result<Bytes, Fail> {
     desk.open(alloc, name)?;
     Ok(read_up_to(desk, alloc, 100)?)
@@ -244,7 +244,7 @@ fn a_desk_fails_at_no_file_and_at_a_folder(rt: HostRuntime) -> Result<(), Fail> 
     Ok(())
 }
 
-/// What a write of some bytes answers.
+// What a write of some bytes answers.
 fn written_to<W: Write + Drop>(
     alloc: Global,
     to: W,

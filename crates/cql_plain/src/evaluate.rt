@@ -126,7 +126,7 @@ pub(crate) fn evaluate(
     }
 }
 
-/// What a word or mark before a part gives.
+// What a word or mark before a part gives.
 #[cycle(evaluate)]
 fn unary_at(
     alloc: Global,
@@ -199,7 +199,7 @@ fn unary_at(
     }
 }
 
-/// Whether a filter holds at one of some nodes.
+// Whether a filter holds at one of some nodes.
 #[cycle(evaluate)]
 fn some_node(
     alloc: Global,
@@ -224,7 +224,7 @@ fn some_node(
     Ok(Value::Truth(false))
 }
 
-/// The value of each of some filters.
+// The value of each of some filters.
 #[cycle(evaluate)]
 #[tactic(auto, unfolding(cql_syntax::specs::Meaning::value))]
 fn values_at(
@@ -249,7 +249,7 @@ fn values_at(
     Ok(values)
 }
 
-/// The value of each term of a sum, with whether it is subtracted.
+// The value of each term of a sum, with whether it is subtracted.
 #[cycle(evaluate)]
 #[tactic(auto, unfolding(cql_syntax::specs::Meaning::value))]
 fn terms_at(
@@ -274,7 +274,7 @@ fn terms_at(
     Ok(values)
 }
 
-/// Whether what is asked of a square holds of every square of a set, or of some.
+// Whether what is asked of a square holds of every square of a set, or of some.
 #[cycle(evaluate)]
 fn square_at(
     alloc: Global,
@@ -306,7 +306,7 @@ fn square_at(
     Ok(Value::Truth(every))
 }
 
-/// Whether a square is one of a set and settles what is asked of every square of it, or of some.
+// Whether a square is one of a set and settles what is asked of every square of it, or of some.
 #[cycle(evaluate)]
 fn decides(
     alloc: Global,
@@ -335,7 +335,7 @@ fn decides(
     Ok(value.holds() != every)
 }
 
-/// The value of a filter inside of a mapping, where it fits.
+// The value of a filter inside of a mapping, where it fits.
 #[cycle(evaluate)]
 fn member_value(
     alloc: Global,
@@ -368,7 +368,7 @@ fn member_value(
     Ok(Some(value))
 }
 
-/// The value of a filter inside of each member of a family with which it fits.
+// The value of a filter inside of each member of a family with which it fits.
 #[cycle(evaluate)]
 fn member_values(
     alloc: Global,
@@ -402,7 +402,7 @@ fn member_values(
     Ok(values)
 }
 
-/// The value of a family: of its members with which its part fits, one holds, their union, or the greatest.
+// The value of a family: of its members with which its part fits, one holds, their union, or the greatest.
 #[cycle(evaluate)]
 fn family_value(
     alloc: Global,

@@ -19,7 +19,7 @@ fn boxed(alloc: Global, form: Form) -> Result<Box<Filter>, NoMemory>
     Ok(Box::new(alloc, Filter { at: 11, form })?)
 }
 
-/// A query of one item, at byte 6.
+// A query of one item, at byte 6.
 fn query(alloc: Global, form: Form) -> Result<Query, NoMemory>
     ensures { IfOk result (λ q. (query_tree q).items ≡ more_filters (filter_at 6 (form_tree form)) no_filters) }
 {
@@ -33,7 +33,7 @@ fn query(alloc: Global, form: Form) -> Result<Query, NoMemory>
     })
 }
 
-/// The byte of the fault, and whether it is a line too long.
+// The byte of the fault, and whether it is a line too long.
 fn fault(query: &Query) -> Result<Option<(u32, bool)>, NoMemory>
     requires { has_any (query_tree query.now) ≡ false }
 {
@@ -60,7 +60,7 @@ fn a_count_of_a_position_is_refused(rt: HostRuntime) -> Result<(), Fail> {
     Ok(())
 }
 
-/// `line --> check{n}`
+// `line --> check{n}`
 #[tactic(auto, unfolding(cql_syntax::specs::TreeFaults::has_any, cql_syntax::specs::Occurrences::occurrences, cql_syntax::specs::Occurrences::inner, cql_syntax::specs::Occurrences::of_items, cql_syntax::specs::Occurrences::of_line, cql_syntax::specs::Occurrences::of_parts, cql_syntax::specs::Occurrences::of_body))]
 fn line(alloc: Global, times: u32) -> Result<Query, NoMemory>
     ensures { IfOk result (λ q. has_any (query_tree q) ≡ false) }

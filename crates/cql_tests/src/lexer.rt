@@ -45,7 +45,7 @@ fn borrowed(kind: &QueryTokenKind) -> Seen<'_> {
     }
 }
 
-/// Asks that a query has these tokens.
+// Asks that a query has these tokens.
 fn gives(rt: &impl Abort, alloc: Global, query: &[u8], wanted: &[(u32, Seen)]) -> Result<(), Fail> {
     let tokens = query_tokens(alloc, query)?;
     assert_eq!(rt; tokens.len(), wanted.len(), "in {query:?}");

@@ -242,7 +242,7 @@ fn the_first_fault_is_answered(rt: HostRuntime) -> Result<(), Fail> {
     Ok(())
 }
 
-/// `cql() `, the same word so many times, and what follows it.
+// `cql() `, the same word so many times, and what follows it.
 fn nested(alloc: Global, word: &[u8], times: usize, rest: &[u8]) -> Result<Bytes, NoMemory> {
     let mut text = Bytes::from_slice(alloc, b"cql() ".as_slice())?;
     for _ in 0..times {

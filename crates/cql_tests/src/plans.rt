@@ -15,7 +15,7 @@ use std::process::Abort;
 use std::sync::ledger::{Blank, Ledger};
 use std::test::Fail;
 
-/// The plan of the query that a text is.
+// The plan of the query that a text is.
 fn plan_of(alloc: Global, text: &[u8]) -> Result<Plan, Refusal<QueryFault>> {
     tokens_of_a_text_are_ended();
     spelled_queries_have_no_any();
@@ -60,7 +60,7 @@ static ROWS: [Row<'static>; 4] = [
     ),
 ];
 
-/// Asks what the plan of a query says of a game.
+// Asks what the plan of a query says of a game.
 fn expect<R: Abort>(rt: &R, alloc: Global, row: &Row<'_>) -> Result<(), Fail> {
     let (query, game, may, nodes, keys) = row;
     let plan = plan_of(alloc, query)?;

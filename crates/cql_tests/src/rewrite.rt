@@ -10,7 +10,7 @@ use std::alloc::Global;
 use std::process::Abort;
 use std::test::Fail;
 
-/// The flat text of a query, given what follows `cql() `.
+// The flat text of a query, given what follows `cql() `.
 fn flat_text_of(alloc: Global, items: &[u8]) -> Result<Bytes, Refusal<QueryFault>> {
     tokens_of_a_text_are_ended();
     spelled_queries_have_no_any();
@@ -155,7 +155,7 @@ fn families_are_written_out(rt: HostRuntime) -> Result<(), Fail> {
     Ok(())
 }
 
-/// A query of the greatest weight, whose families have equal members alone.
+// A query of the greatest weight, whose families have equal members alone.
 #[test]
 fn equal_members_are_left_out_at_each_level(rt: HostRuntime) -> Result<(), Fail> {
     let alloc = rt.alloc();

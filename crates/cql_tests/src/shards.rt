@@ -42,7 +42,7 @@ static ROWS: [Row<'static>; 5] = [
     ),
 ];
 
-/// A query with these sort items after another item.
+// A query with these sort items after another item.
 fn query(alloc: Global, least: &[bool]) -> Result<Query, NoMemory> {
     let mut items = Filters::new(alloc);
     items.push(Filter {
@@ -67,7 +67,7 @@ fn query(alloc: Global, least: &[bool]) -> Result<Query, NoMemory> {
     })
 }
 
-/// A miss, the matches of a row, and a faulty game.
+// A miss, the matches of a row, and a faulty game.
 fn answers(alloc: Global, matches: &[(u64, &[i64])]) -> Result<Vec<GameAnswer>, NoMemory> {
     let mut answers = Vec::new(alloc);
     answers.push(GameAnswer {

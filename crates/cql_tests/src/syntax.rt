@@ -36,7 +36,7 @@ fn checks(alloc: Global, count: usize) -> Result<Filters, NoMemory> {
     Ok(filters)
 }
 
-/// A part in so many families around it.
+// A part in so many families around it.
 fn in_families(alloc: Global, family: Family, depth: u32) -> Result<Filter, NoMemory> {
     let mut tree = check();
     for _ in 0..depth {
@@ -45,7 +45,7 @@ fn in_families(alloc: Global, family: Family, depth: u32) -> Result<Filter, NoMe
     Ok(tree)
 }
 
-/// `(check){n}`, so often nested.
+// `(check){n}`, so often nested.
 fn repeated(alloc: Global, times: u32, depth: u32) -> Result<Filter, NoMemory> {
     let mut parts = Constituents::new(alloc);
     parts.push(Constituent {
@@ -106,7 +106,7 @@ fn deep_queries_stop_above_the_limit(rt: HostRuntime) -> Result<(), Fail> {
     Ok(())
 }
 
-/// A copy has the kind and the weight.
+// A copy has the kind and the weight.
 fn agrees(
     rt: &impl Abort,
     alloc: Global,
@@ -233,7 +233,7 @@ fn forms_of_several_parts_have_their_kinds(rt: HostRuntime) -> Result<(), Fail> 
     Ok(())
 }
 
-/// All of so many checks.
+// All of so many checks.
 fn all_of_checks(alloc: Global, count: usize) -> Result<Filter, NoMemory> {
     Ok(filter(Form::Chain(Chain::All, checks(alloc, count)?)))
 }

@@ -54,7 +54,7 @@ pub(super) fn line_at(
     Ok(number_of(longest(steps.as_slice(), ends.as_slice(), &line.extent)))
 }
 
-/// The places at which parts in a row end.
+// The places at which parts in a row end.
 #[cycle(evaluate)]
 #[tactic(auto, unfolding(cql_syntax::specs::Meaning::value))]
 fn parts_ends(
@@ -116,7 +116,7 @@ fn most_of(mark: Mark, nodes: u32) -> u32
     }
 }
 
-/// The places at which a part ends that stands a number of times, from the least to the most.
+// The places at which a part ends that stands a number of times, from the least to the most.
 #[cycle(evaluate)]
 fn repeat(
     alloc: Global,
@@ -150,7 +150,7 @@ fn repeat(
     Ok(ends)
 }
 
-/// The places at which a part ends that stands once.
+// The places at which a part ends that stands once.
 #[cycle(evaluate)]
 #[tactic(auto, unfolding(cql_syntax::specs::Meaning::value))]
 fn body_ends(
@@ -184,7 +184,7 @@ fn body_ends(
     }
 }
 
-/// The places after the nodes to which a path goes on from some place, and at which a filter holds.
+// The places after the nodes to which a path goes on from some place, and at which a filter holds.
 #[cycle(evaluate)]
 fn atom_ends(
     alloc: Global,
@@ -214,7 +214,7 @@ fn atom_ends(
     Ok(ends)
 }
 
-/// Whether a path goes on from some place to a node at which a filter holds.
+// Whether a path goes on from some place to a node at which a filter holds.
 #[cycle(evaluate)]
 fn passes(
     alloc: Global,

@@ -67,7 +67,7 @@ pub(super) fn played_at(
     Ok(Value::Truth(meets_all(led_to(game, node), origin, goal, taken, promoted)))
 }
 
-/// The value of a part that is written.
+// The value of a part that is written.
 #[cycle(evaluate)]
 #[tactic(auto, unfolding(cql_syntax::specs::Meaning::value))]
 fn written_at(
