@@ -119,7 +119,9 @@ bytes_named files k o is =
 pub opened_tells : (now inside : FailingDesk) (opened : List (List ℕ)) (name : List ℕ) (file : FailingFile) (source : FailingSource) → inside ≡ now
     → opened ≡ inside.opened ++ name ∷ [] → get inside.files name ≡ Some file → source.left ≡ file.bytes
     → Opens (Some (told_of now)) (Some (record { files = bytes_by_name inside.files; opened = opened })) name (Some source.left)
-opened_tells now inside opened name file source same grown has left =
-    (ap Some (ap₂ (λ (f : Files) (o : List (List ℕ)). record { files = f; opened = o }) (ap (λ (d : FailingDesk). bytes_by_name d.files) same)
-    (grown ∙ ap (λ (d : FailingDesk). d.opened ++ name ∷ []) same)), ap Some (left
-    ∙ sym (ap (λ o. unwrap_or o []) (ap (λ (d : FailingDesk). get (bytes_by_name d.files) name) (sym same) ∙ bytes_named inside.files name (Some file) has))))
+opened_tells now inside opened name file source same grown has left = (
+  ap Some (ap₂ (λ (f : Files) (o : List (List ℕ)). record { files = f; opened = o }) (ap (λ (d : FailingDesk). bytes_by_name d.files) same)
+      (grown ∙ ap (λ (d : FailingDesk). d.opened ++ name ∷ []) same)),
+  ap Some (left
+      ∙ sym (ap (λ o. unwrap_or o []) (ap (λ (d : FailingDesk). get (bytes_by_name d.files) name) (sym same) ∙ bytes_named inside.files name (Some file) has))),
+)

@@ -121,8 +121,10 @@ impl MemDesk {
         fails: &[u64],
     ) -> Result<(), NoMemory>
         requires { 1 ≤ piece }
-        ensures ok { OnOk result (self.new ≡ record self.old { files =
-            map.insert self.old.files name.now (record { bytes = bytes.now; piece = piece; fails = fails.now }) }) }
+        ensures ok { OnOk result (self.new ≡ record self.old {
+          files =
+              map.insert self.old.files name.now (record { bytes = bytes.now; piece = piece; fails = fails.now });
+        }) }
         ensures err { OnErr result (self.new ≡ self.old) }
     {
         let file = StoredFile {

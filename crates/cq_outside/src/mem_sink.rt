@@ -46,12 +46,7 @@ impl Model for MemSink {
 impl MemSink {
     /// A sink that has taken nothing, with room for `room` bytes, that takes at most `piece` bytes of one write, and
     /// fails at the writes whose numbers are in `fails`. It takes all its memory here.
-    pub fn new(
-        alloc: Global,
-        room: usize,
-        piece: usize,
-        fails: Calls,
-    ) -> Result<MemSink, NoMemory>
+    pub fn new(alloc: Global, room: usize, piece: usize, fails: Calls) -> Result<MemSink, NoMemory>
         requires { 1 ≤ piece }
         ensures { IfOk result (λ sink. sink ≡ record { room = room; taken = Some []; piece = piece; fails = fails; writes = 0; faults = 0 }) }
     {

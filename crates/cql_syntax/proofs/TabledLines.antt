@@ -124,7 +124,7 @@ module _ (tree : SearchedTree) (is_tree : IsTree tree.game.nodes) (back primary 
           (paths_law tree is_tree back primary n (n ∷ w)).1 (record { later = w; begins = refl; goes = goes }),
           same,
           ap₂ (λ a b. a && b) (ap (allows extent) same ∙ l.1)
-          ((spelling_law (λ v m. holds (v m)) r (n ∷ w)).1 (to_values table (Searched tree) p r is (n ∷ w) (all_reached n w s goes) l.0.3)),
+              ((spelling_law (λ v m. holds (v m)) r (n ∷ w)).1 (to_values table (Searched tree) p r is (n ∷ w) (all_reached n w s goes) l.0.3)),
         )
 
     reached : (len : ℕ) → IsListed test (paths tree back primary n) len → Line table Edge p n len × (allows extent len ≡ true)
@@ -133,9 +133,10 @@ module _ (tree : SearchedTree) (is_tree : IsTree tree.game.nodes) (back primary 
         let w = path.later in
         let same : length (n ∷ w) ≡ len = ap length (sym path.begins) ∙ l.2 in
         let passes = ap test (sym path.begins) ∙ l.3 in
-        let spelled = (spelling_law (λ v m. holds (v m)) r (n ∷ w)).0 (right (allows extent (length (n ∷ w))) (spells (λ v m. holds (v m)) r (n ∷ w)) passes) in
-        ((w, follow_of n w s path.goes, sym same, from_values table (Searched tree) p r is (n ∷ w) (all_reached n w s path.goes) spelled),
-        ap (allows extent) (sym same) ∙ left (allows extent (length (n ∷ w))) (spells (λ v m. holds (v m)) r (n ∷ w)) passes)
+        let spelled = (spelling_law (λ v m. holds (v m)) r (n ∷ w)).0 (right (allows extent (length (n ∷ w))) (spells (λ v m. holds (v m)) r (n ∷ w)) passes) in (
+          (w, follow_of n w s path.goes, sym same, from_values table (Searched tree) p r is (n ∷ w) (all_reached n w s path.goes) spelled),
+          ap (allows extent) (sym same) ∙ left (allows extent (length (n ∷ w))) (spells (λ v m. holds (v m)) r (n ∷ w)) passes,
+        )
 
     value_is : (o : Option ℕ) → IsGreatest (λ len. Line table Edge p n len × (allows extent len ≡ true)) o → as_number (option_map pos o) ≡ line_of tree back primary extent r n
     value_is o g = ap (λ x. as_number (option_map pos x))
