@@ -25,5 +25,6 @@ pub mod Limit
 pub mod Located
 pub mod OneOutcome
 pub mod Elsewhere
+pub mod Split
 pub mod Marker
 pub mod FirstFen

@@ -16,6 +16,7 @@ pub mod Shown
 pub mod Reading
 pub mod Building
 pub mod Elsewhere
+pub mod Split
 pub mod Marker
 pub mod Preface
 pub mod PrefaceInside

@@ -1,7 +1,11 @@
 //! Laws of reading, for the crates above. Each is proved for all bytes; to call one costs nothing.
-ghost use Rattle.std.specs.Prelude.{◌≡◌, ◌+◌, ◌↔◌, ℕ, Bool, List, Result, take};
+ghost use Rattle.std.specs.Prelude.{◌≡◌, ◌+◌, ◌-◌, ◌∷◌, ◌++◌, ◌↔◌, ℕ, Bool, List, Result, take};
 ghost use Rattle.cq_position.specs.Games.{Game};
+ghost use Rattle.pgn_cut.specs.Cut.{cut};
 ghost use Rattle.pgn_cut.specs.OneGame.{IsGameOfCut};
+ghost use Rattle.pgn_cut.specs.Seams.{behind};
+ghost use Rattle.pgn_cut.specs.declared.span.Span.{Span as ASpan};
+ghost use Rattle.pgn_reader.specs.Split.{AreReadAlike};
 ghost use Rattle.pgn_reader.specs.declared.fault.GameFault.{GameFault};
 ghost use Rattle.pgn_reader.specs.Elsewhere.{moved, AreSameTokens};
 ghost use Rattle.pgn_reader.specs.Marker.{EndsWithItsMarker};
@@ -9,7 +13,7 @@ ghost use Rattle.pgn_reader.specs.Limits.{longest};
 ghost use Rattle.pgn_reader.specs.Verdict.{IsRead};
 ghost use Rattle.pgn_reader.specs.Words.{words_of};
 
-use pgn_cut::games_end_once;
+use pgn_cut::{archives_split, games_end_once, games_stand_apart};
 use pgn_lexer::tokens_stand_apart;
 
 /// All bytes are read as something: they spell one game, or have a first fault.
@@ -45,4 +49,14 @@ pub fn markers_end_games()
 {
     games_end_once();
     tokens_stand_apart();
+}
+
+/// The games behind a seam are read as before: where an archive splits behind a game, and what follows is cut behind one space, each
+/// game there is the same, or has the same fault so many bytes further on.
+pub fn split_games_are_read_alike()
+    ensures { (archive : List ℕ) (before : List ASpan) (game : ASpan) (after : List ASpan) → cut archive ≡ before ++ game ∷ after →
+        AreReadAlike (game.end - 1) (behind archive game.end) archive (cut (behind archive game.end)) after }
+{
+    games_stand_apart();
+    archives_split();
 }

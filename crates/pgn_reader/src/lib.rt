@@ -18,5 +18,5 @@ pub use fault::{GameFault, Reason};
 pub use game::read_game;
 pub use laws::{
     first_bytes_decide, games_have_one_outcome, games_have_outcomes, markers_end_games,
-    tokens_decide,
+    split_games_are_read_alike, tokens_decide,
 };

@@ -1,0 +1,19 @@
+-- What the games of an archive are read as where it splits behind one of them.
+use Rattle.std.specs.Prelude.{◌↔◌, ℕ, List, [], ◌∷◌, Result}
+use Rattle.cq_position.specs.Games.{Game}
+use Rattle.pgn_cut.specs.Joined.{game_bytes}
+use Rattle.pgn_cut.specs.declared.span.Span.{Span}
+use Rattle.pgn_reader.specs.declared.fault.GameFault.{GameFault}
+use Rattle.pgn_reader.specs.Elsewhere.{moved}
+use Rattle.pgn_reader.specs.Verdict.{IsRead}
+
+-- a game of one archive is read as one of another: as the same game, or the same reason at a byte so many further on
+abbrev pub IsReadAlike : (n : ℕ) (here there : List ℕ) → Span → Span → Type 0
+IsReadAlike n here there game other =
+    (outcome : Result Game GameFault) → IsRead game.start game.first (game_bytes here game) outcome
+    ↔ IsRead other.start other.first (game_bytes there other) (moved n outcome)
+
+abbrev pub AreReadAlike : (n : ℕ) (here there : List ℕ) → List Span → List Span → Type 0
+AreReadAlike n here there [] [] = Unit {0}
+AreReadAlike n here there (g ∷ games) (m ∷ others) = IsReadAlike n here there g m × AreReadAlike n here there games others
+AreReadAlike n here there _ _ = ⊥
