@@ -16,5 +16,6 @@ mod text;
 pub use fault::{GameFault, Reason};
 pub use game::read_game;
 pub use laws::{
-    first_bytes_decide, games_have_one_outcome, games_have_outcomes, markers_end_games, tokens_decide,
+    first_bytes_decide, games_have_one_outcome, games_have_outcomes, markers_end_games,
+    tokens_decide,
 };
