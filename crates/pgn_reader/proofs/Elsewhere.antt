@@ -1,5 +1,5 @@
 -- Outcomes of bytes that stand elsewhere, and of the first bytes of a game.
-use Rattle.std.proofs.Common.{◌≡◌, ◌⊎◌, ◌↔◌, ℕ, ◌+◌, ◌<◌, ◌≤◌, ◌^◌, inl, inr, ⊎_elim, List, length, take, map, Option, Some, None, Result, Ok, Err, Bool, refl, sym, ap, ap₂, ◌∙◌, subst, arith}
+use Rattle.std.proofs.Common.{◌≡◌, ◌⊎◌, ◌↔◌, ℕ, ◌+◌, ◌<◌, ◌≤◌, inl, inr, List, length, take, map, Option, Some, None, Result, Ok, Err, Bool, refl, sym, ap, ap₂, ◌∙◌, subst, arith}
 use Rattle.std.specs.Prelude.{slice_get}
 use Rattle.std.specs.Option.{option_map}
 use Rattle.std.proofs.lemmas.List.{take_all, length-take-le}
@@ -11,9 +11,8 @@ use Rattle.pgn_reader.specs.declared.fault.GameFault.{GameFault}
 use Rattle.pgn_reader.specs.declared.fault.Reason.TheVariants.{GameTooLong}
 use Rattle.pgn_reader.specs.Elsewhere.{moved, AreSameTokens}
 use Rattle.pgn_reader.specs.Faults.{IsFault}
-use Rattle.pgn_reader.specs.Verdict.{IsOnlyGame, IsTooLong, HasTokenFault, IsGameFault, IsRead, place_or}
+use Rattle.pgn_reader.specs.Verdict.{IsOnlyGame, IsGameFault, IsRead, place_or}
 use Rattle.pgn_reader.specs.Limits.{longest}
-use Rattle.pgn_reader.specs.Words.{Word, words_of}
 use Rattle.pgn_reader.proofs.OneOutcome.{one_outcome}
 use Rattle.pgn_reader.proofs.Verdicts.{verdict, long_or_short}
 

@@ -1,5 +1,5 @@
 -- Where some tokens stand, there the reader is when it has read them.
-use Rattle.std.proofs.Common.{◌≡◌, ℕ, ◌+◌, ◌≤◌, inl, inr, Bool, true, false, cond, List, [], ◌∷◌, ◌++◌, length, Option, Some, None, Result, Ok, Err, refl, sym, ap, ap₂, ◌∙◌, subst, arith}
+use Rattle.std.proofs.Common.{◌≡◌, ℕ, ◌+◌, ◌≤◌, inl, inr, Bool, true, cond, List, [], ◌∷◌, ◌++◌, length, Result, Ok, Err, refl, sym, ap, ap₂, ◌∙◌, subst, arith}
 use Rattle.std.specs.Prelude.{count_by, ◌&&◌}
 use Rattle.std.specs.List.{list_all}
 use Rattle.std.proofs.Math.Bool.{and-false}
@@ -12,7 +12,7 @@ use Rattle.cq_position.specs.Games.{Game, with_tag}
 use Rattle.pgn_lexer.specs.declared.token.TokenKind.{TokenKind}
 use Rattle.pgn_lexer.specs.declared.token.TokenKind.TheVariants.{Open, Close, Text, Symbol}
 use Rattle.pgn_reader.specs.declared.fault.Reason.TheVariants.{BadTag}
-use Rattle.pgn_reader.specs.Arranged.{game_shown, standing_of}
+use Rattle.pgn_reader.specs.Arranged.{standing_of}
 use Rattle.pgn_reader.specs.Faults.{Begins}
 use Rattle.pgn_reader.specs.Frame.{Frame, begin, begin_game, place, whole}
 use Rattle.pgn_reader.specs.Games.{heading_text, Spells}
@@ -24,7 +24,7 @@ use Rattle.pgn_reader.specs.Tags.{Tags, start_of, tags_of, value_of}
 use Rattle.pgn_reader.specs.Words.{Word, ends, out_of_place, sense, sense_of, is_comment, is_remark, is_move, is_move_sense}
 use Rattle.pgn_reader.proofs.Answer.{all_nodes_length, whole_counts}
 use Rattle.pgn_reader.proofs.Heading.{comments_read, pairs_read, bracket_fed, name_fed}
-use Rattle.pgn_reader.proofs.Read.{run_append, feed_is, opening_read, counted_word, told_is_read}
+use Rattle.pgn_reader.proofs.Read.{run_append, opening_read, counted_word, told_is_read}
 use Rattle.pgn_reader.proofs.Whole.{IsEnd, IsRead, spelled_is_read, stuck_is_dead, start_none}
 
 -- what has begun is read up to its place

@@ -1,5 +1,5 @@
 -- No token of a game of a cut stands after its marker.
-use Rattle.std.proofs.Common.{◌≡◌, ℕ, suc, ◌+◌, ◌-◌, ◌<◌, Bool, true, false, List, [], ◌∷◌, ◌++◌, All, length, length-append, take, drop, map, Option, Some, None, refl, sym, ap, ap₂, ◌∙◌, subst, arith}
+use Rattle.std.proofs.Common.{◌≡◌, ℕ, ◌+◌, ◌-◌, Bool, true, false, List, [], ◌∷◌, ◌++◌, All, length, length-append, take, drop, map, Option, Some, None, refl, sym, ap, ap₂, ◌∙◌, subst, arith}
 use Rattle.std.specs.Prelude.{◌&&◌, ◌||◌, ◌==◌, nat_lt, codes, fold, if◌then◌else◌}
 use Rattle.std.specs.List.{list_all}
 use Rattle.std.specs.Char.{is_ascii_digit, is_ascii_alphanumeric}
@@ -19,7 +19,7 @@ use Rattle.pgn_cut.specs.Cut.{is_result, marks, nest}
 use Rattle.pgn_cut.specs.OneGame.{token_depth, IsEndedByMarker}
 use Rattle.pgn_reader.specs.declared.fault.Reason.TheVariants.{NagRange}
 use Rattle.pgn_reader.specs.Marker.{nested, depth_after, EndsWithItsMarker}
-use Rattle.pgn_reader.specs.Words.{Word, Sense, plays, annotates, ends, means_nothing, out_of_place, sense, sense_of, sense_of_symbol, sense_of_marker, sense_of_glyph, result_of_text, word_of, words_of}
+use Rattle.pgn_reader.specs.Words.{Word, annotates, ends, means_nothing, out_of_place, sense, sense_of, sense_of_symbol, sense_of_marker, sense_of_glyph, result_of_text, word_of, words_of}
 
 -- tokens nest alike for the reader and the cut
 symbol_nests : (d : ℕ) (digits : Bool) (text : List ℕ) (o : Option GameResult) → nested d (if digits then means_nothing else sense_of_marker text o) ≡ d

@@ -1,5 +1,5 @@
 -- A game has one outcome: it is one game, or has one fault.
-use Rattle.std.proofs.Common.{◌≡◌, ◌⊎◌, ℕ, ◌+◌, ◌<◌, ◌≤◌, ◌^◌, inl, inr, ⊎_elim, List, [], ◌∷◌, ◌++◌, length, take, drop, Option, Some, None, Result, Ok, Err, Bool, refl, sym, ap, ap₂, ◌∙◌, subst, arith}
+use Rattle.std.proofs.Common.{◌≡◌, ◌⊎◌, ℕ, ◌+◌, ◌<◌, ◌≤◌, ◌^◌, inl, inr, ⊎_elim, List, [], ◌∷◌, ◌++◌, length, take, drop, Some, Result, Ok, Err, Bool, sym, ap, ap₂, ◌∙◌, subst, arith}
 use Rattle.std.specs.Prelude.{slice_get}
 use Rattle.std.proofs.lemmas.List.{take-append-drop, take_all, take-take}
 use Rattle.cq_position.specs.Games.{Game}
@@ -7,16 +7,16 @@ use Rattle.pgn_lexer.specs.Lexemes.{tokens_of}
 use Rattle.pgn_reader.specs.declared.fault.GameFault.{GameFault}
 use Rattle.pgn_reader.specs.declared.fault.Reason.{Reason}
 use Rattle.pgn_reader.specs.Arranged.{standing_of}
-use Rattle.pgn_reader.specs.Faults.{IsFault, IsFaultOf, IsFaultOfEnd}
+use Rattle.pgn_reader.specs.Faults.{IsFault}
 use Rattle.pgn_reader.specs.Games.{Spells}
 use Rattle.pgn_reader.specs.Machine.{State, stuck, feed, run, first}
 use Rattle.pgn_reader.specs.Shown.{moves_in}
 use Rattle.pgn_reader.specs.Standing.{fault_at, fault_at_end}
-use Rattle.pgn_reader.specs.Verdict.{HasTokenFault, IsGameFault, IsRead, place_or}
+use Rattle.pgn_reader.specs.Verdict.{IsGameFault, IsRead, place_or}
 use Rattle.pgn_reader.specs.Words.{Word, words_of}
 use Rattle.pgn_reader.proofs.Answer.{no_end_fault}
 use Rattle.pgn_reader.proofs.Limit.{AtLeast, run_keeps, end_least, live_least, fault_fed}
-use Rattle.pgn_reader.proofs.Located.{Located, located, few_moves}
+use Rattle.pgn_reader.proofs.Located.{located, few_moves}
 use Rattle.pgn_reader.proofs.Read.{run_append}
 use Rattle.pgn_reader.proofs.Whole.{IsEnd, spelled_is_read, stuck_is_dead}
 

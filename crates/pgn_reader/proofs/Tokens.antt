@@ -13,11 +13,11 @@ use Rattle.pgn_reader.specs.declared.reader.Phase.{Phase}
 use Rattle.pgn_reader.specs.declared.reader.Phase.TheVariants.{Movetext, Opened, Named, Valued, Ended}
 use Rattle.pgn_reader.specs.Words.{Word}
 use Rattle.pgn_reader.specs.Games.{Spells}
-use Rattle.pgn_reader.specs.Standing.{fault_at, fault_at_end, variations_fault, moves_before}
+use Rattle.pgn_reader.specs.Standing.{fault_at, fault_at_end, variations_fault}
 use Rattle.pgn_reader.specs.Frame.{Row, Frame, whole}
 use Rattle.pgn_reader.specs.Verdict.{IsOnlyGame}
 use Rattle.pgn_reader.specs.Faults.{IsFault}
-use Rattle.pgn_reader.specs.Machine.{State, opened, named, valued, at, ended, stuck, feed, run, first}
+use Rattle.pgn_reader.specs.Machine.{State, at, ended, stuck, feed, run, first}
 use Rattle.pgn_reader.specs.Arranged.{standing_of, nodes_of_rows}
 use Rattle.pgn_reader.specs.Shown.{head_of, shown_by, shown, moves_in, Steps, IsLow}
 use Rattle.pgn_reader.specs.Reading.{IsWhole, ending_by, game_of}

@@ -1,13 +1,13 @@
 -- The way up from a node to an ancestor, turned round, is the path down.
-use Rattle.std.proofs.Common.{◌≡◌, ◌≢◌, ℕ, suc, ◌+◌, ◌<◌, ◌≤◌, Bool, true, false, List, [], ◌∷◌, ◌++◌, length, Option, Some, None, refl, sym, ap, ap₂, ◌∙◌, subst, arith, eqb-true}
+use Rattle.std.proofs.Common.{◌≡◌, ℕ, ◌<◌, Bool, true, false, List, [], ◌∷◌, ◌++◌, length, Option, Some, None, refl, sym, ap, ap₂, ◌∙◌, subst, arith, eqb-true}
 use Rattle.std.specs.Prelude.{reverse, ◌||◌, ◌==◌, Contains, IsNone, ◌↔◌}
 use Rattle.std.specs.Option.{is_some}
 use Rattle.std.specs.List.{last_or, list_any}
 use Rattle.std.proofs.lemmas.Bool.{false_from_ne_true, eq-eqb}
 use Rattle.std.proofs.lemmas.List.{reverse-append}
 use Rattle.std.proofs.lemmas.List.Elements.{Contains-append_left, Contains-append_right}
-use Rattle.cq_position.specs.Games.{Game, Node, node_at, way_up, is_below, up_from, IsTree}
-use Rattle.cq_position.specs.Search.{SearchedTree, IsStep, Along, IsPath, IsDownPath}
+use Rattle.cq_position.specs.Games.{Game, node_at, way_up, is_below, up_from, IsTree}
+use Rattle.cq_position.specs.Search.{SearchedTree, IsStep, Along, IsDownPath}
 use Rattle.cq_position.proofs.Ancestors.{way_step, way_head, reaches}
 use Rattle.cq_position.proofs.Trees.{tree_first}
 

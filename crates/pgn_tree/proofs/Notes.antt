@@ -1,14 +1,14 @@
 -- The notes of a tree's nodes are those that a game keeps.
-use Rattle.std.proofs.Common.{◌≡◌, ◌≢◌, ℕ, ◌<◌, false, ◌==◌, List, [], ◌∷◌, ◌++◌, length, get_or, Option, Some, None, Ok, Err, refl, sym, ap, ◌∙◌, subst}
+use Rattle.std.proofs.Common.{◌≡◌, ◌≢◌, ℕ, ◌<◌, false, ◌==◌, List, [], ◌∷◌, ◌++◌, length, get_or, Option, None, Ok, Err, refl, sym, ap, ◌∙◌, subst}
 use Rattle.std.specs.Prelude.{slice_set, Result, OnOk, OnErr}
 use Rattle.std.specs.List.{All, join_with_byte}
 use Rattle.std.proofs.lemmas.List.Elements.{All-nil, All-push, All-append, All-set, All-get_or}
 use Rattle.cq_position.specs.declared.moves.Move.{Move}
 use Rattle.cq_position.specs.Board.{Board}
-use Rattle.cq_position.specs.Comments.{words, comment_of}
-use Rattle.cq_position.specs.Games.{Node, no_node, node_at, bare_node, with_nag, IsComment, HasNotes, HaveNotes}
+use Rattle.cq_position.specs.Comments.{words}
+use Rattle.cq_position.specs.Games.{Node, no_node, bare_node, with_nag, IsComment, HasNotes, HaveNotes}
 use Rattle.cq_position.proofs.Comments.{no_notes, nag_noted, comments_kept}
-use Rattle.pgn_tree.specs.Links.{Linked, unlinked, linked_at, nodes_of, with_kept_comment}
+use Rattle.pgn_tree.specs.Links.{Linked, nodes_of, with_kept_comment}
 use Rattle.pgn_tree.proofs.Linking.{nodes_of_set, length_nodes_of, node_of}
 use Rattle.pgn_tree.proofs.Linked.{read_at}
 use Rattle.pgn_tree.proofs.Words.{one_comment}

@@ -1,12 +1,12 @@
 -- A path down is the way up turned round, so there is one at most, and it lies in the tree in which it ends.
-use Rattle.std.proofs.Common.{◌≡◌, ℕ, ◌<◌, Bool, true, false, ◌&&◌, List, [], ◌∷◌, ◌++◌, length, Some, None, refl, sym, ap, ◌∙◌, subst, append_assoc}
+use Rattle.std.proofs.Common.{◌≡◌, ℕ, Bool, true, false, List, [], ◌∷◌, ◌++◌, Some, None, refl, sym, ap, ◌∙◌, append_assoc}
 use Rattle.std.specs.Prelude.{reverse}
 use Rattle.std.specs.List.{last_or, list_all}
 use Rattle.std.proofs.lemmas.Bool.{and_parts}
 use Rattle.std.proofs.lemmas.List.{reverse-append, reverse-reverse, append_cancel_right}
 use Rattle.std.proofs.lemmas.List.Folds.{list_all-append}
-use Rattle.cq_position.specs.Games.{Game, Node, node_at, way_up, is_main, is_searched, IsTree}
-use Rattle.cq_position.specs.Search.{SearchedTree, IsStep, IsStepDown, Along, IsPath, IsDownPath}
+use Rattle.cq_position.specs.Games.{Game, way_up, is_main, is_searched, IsTree}
+use Rattle.cq_position.specs.Search.{SearchedTree, IsStep, Along, IsPath, IsDownPath}
 use Rattle.cq_position.proofs.Ancestors.{way_step}
 use Rattle.cq_position.proofs.Trees.{tree_first}
 use Rattle.pgn_tree.proofs.DownPath.{all_of}

@@ -3,7 +3,7 @@ use Rattle.std.specs.Prelude.{◌^◌}
 use Rattle.std.specs.Int.Bits.{bit_or}
 use Rattle.cq_position.specs.declared.men.Man.TheVariants.{K}
 use Rattle.cq_position.specs.Men.{man_number}
-use Rattle.pgn_tree.proofs.Men.{no_squares, more_squares, all_squares}
+use Rattle.pgn_tree.proofs.Men.{more_squares, all_squares}
 use Rattle.pgn_tree.proofs.game.with_men_of.Goals as goal
 
 pub loop-square-preserved : goal.loop-square-preserved

@@ -1,4 +1,4 @@
-use Rattle.std.proofs.Common.{ℕ, None, refl, sym, ap, ◌∙◌, subst, arith}
+use Rattle.std.proofs.Common.{ℕ, None, refl, sym, ap, subst, arith}
 use Rattle.cq_position.specs.Games.{IsTree}
 use Rattle.pgn_tree.proofs.DownPath.{climbs, passed_by, is_found}
 use Rattle.pgn_tree.proofs.game.Game.down_path.Goals as goal

@@ -1,5 +1,5 @@
-use Rattle.std.proofs.Common.{ap, arith}
-use Rattle.pgn_tree.proofs.Men.{no_nodes, more_nodes, all_nodes}
+use Rattle.std.proofs.Common.{arith}
+use Rattle.pgn_tree.proofs.Men.{more_nodes, all_nodes}
 use Rattle.pgn_tree.proofs.game.Game.men.Goals as goal
 
 pub loop-k-preserved : goal.loop-k-preserved
