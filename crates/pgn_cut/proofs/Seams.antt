@@ -198,7 +198,7 @@ column_behind bytes at size text is len ends =
     let next : at + size ≡ suc (at + i) = omega arith in
     let there : at + size - at ≡ size = omega arith in
     let byte : get_or bytes (at + i) 0 ≡ get_or text i 0 =
-        sym (get_or-drop at bytes i 0) ∙ sym (get_or-take (at + size - at) (drop at bytes) i 0 (omega arith)) ∙ sym (ap (λ t. get_or t i 0) is) in
+    sym (get_or-drop at bytes i 0) ∙ sym (get_or-take (at + size - at) (drop at bytes) i 0 (omega arith)) ∙ sym (ap (λ t. get_or t i 0) is) in
     ap (first_at true bytes) next ∙ ap ends_line byte ∙ ends.dark
 
 module _ (in_order : StandInOrder) (apart : StandApart) (are_local : AreLocal) (spelled : AreSpelled) (follow : LexemesFollow) (longest : AreLongest) (nothing : NothingHasNone) (white : WhiteIsPassed) (move : LexemesMove) where

@@ -17,8 +17,9 @@ ghost use Rattle.pgn_cut.specs.Seams.{IsSeam};
 ghost use Rattle.pgn_cut.specs.Spans.{EndsBy, AreInOrder, FinishesAt};
 
 use pgn_lexer::{
-    fronts_settle, lexemes_are_local, lexemes_are_spelled, lexemes_follow, lexemes_move, lexemes_stand_apart,
-    readings_are_longest, readings_grow, white_space_is_passed, whole_lexemes_stay,
+    fronts_settle, lexemes_are_local, lexemes_are_spelled, lexemes_follow, lexemes_move,
+    lexemes_stand_apart, readings_are_longest, readings_grow, white_space_is_passed,
+    whole_lexemes_stay,
 };
 
 /// The games of a cut stand in their archive in order, each with at least one byte, and don't overlap.
