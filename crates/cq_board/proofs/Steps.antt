@@ -1,6 +1,5 @@
 -- Each kind of step keeps the rule, from any state that meets it.
-use Rattle.std.proofs.lemmas.Bool.Decides.{eqb_tells}
-use Rattle.std.proofs.Common.{ltb-true, ltb-false, lt-ltb, le-ltb, leb-true, leb-false, ◌≡◌, ◌≢◌, ◌⊎◌, inl, inr, ⊎_elim, ℕ, zero, suc, ◌+◌, ◌%◌, ◌^◌, ◌<◌, ◌≤◌, List, [], ◌∷◌, ◌++◌, length, set, get_or, Bool, true, false, ◌==◌, refl, sym, ap, ◌∙◌, subst, arith}
+use Rattle.std.proofs.Common.{leb-true, leb-false, ◌≡◌, ◌≢◌, ◌⊎◌, inl, inr, ⊎_elim, ℕ, zero, suc, ◌+◌, ◌%◌, ◌^◌, ◌<◌, ◌≤◌, List, [], ◌∷◌, ◌++◌, length, set, get_or, Bool, true, false, ◌==◌, refl, sym, ap, ◌∙◌, subst, arith}
 use Rattle.std.proofs.Math.Nat.{mod-eq_of_lt}
 use Rattle.std.specs.Prelude.{nat_lt, nat_le, sum_by}
 use Rattle.std.specs.List.Sorted.{IsStrictlyIncreasing}
@@ -12,12 +11,12 @@ use Rattle.atomic_table.specs.Table.Act.{keeps}
 use Rattle.atomic_table.proofs.Lists.{at_set, at_snoc, at_map}
 use Rattle.cq_board.specs.declared.view.View.{View}
 use Rattle.cq_board.specs.declared.view.Terms.{Terms}
-use Rattle.cq_board.specs.Draws.{times, times_in, once_below, IsDrawnOnce}
+use Rattle.cq_board.specs.Draws.{times, once_below}
 use Rattle.cq_board.specs.Views.{spent, first_view, late, share, drawn_by, IsInPlay, IsKept, drawing, one_pass_less, one_pass, merged, joined}
 use Rattle.std.proofs.lemmas.List.{map-set}
 use Rattle.cq_board.proofs.Drawing.{pushed_increases, draw_stays_sound, first_is_sound}
-use Rattle.cq_board.proofs.Increasing.{rising, increasing, one_if, rising_push, count_merged, rising_merged}
-use Rattle.cq_board.proofs.Totals.{sum_set, one_of_sum, two_of_sum, sum_map, sum_rises, at_mapped, has_all}
+use Rattle.cq_board.proofs.Increasing.{rising, increasing, one_if, count_merged, rising_merged}
+use Rattle.cq_board.proofs.Totals.{sum_set, two_of_sum, sum_map, sum_rises, at_mapped, has_all}
 
 late_push : (n : ℕ) (xs : List ℕ) (x : ℕ) → late n (xs ++ x ∷ []) ≡ late n xs + late n (x ∷ [])
 late_push n xs x = sum_by-append (λ y. one_if (nat_le n y)) xs (x ∷ [])

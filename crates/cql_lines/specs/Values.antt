@@ -27,5 +27,6 @@ abbrev pub IsValueAt : AtomTable → Shape → Pattern ℕ → ℕ → Option �
 IsValueAt table shape p n value =
     AnswerAt
     (is_searched (spots_of shape) n)
-    (λ len. Line (holds_in table) (Edge (goes_back shape) (is_primary shape) (spots_of shape)) p n len × (allows (limits_of shape) len ≡ true))
+    (λ len. Line (holds_in table) (Edge (goes_back shape) (is_primary shape) (spots_of shape)) p n len
+    × (allows (limits_of shape) len ≡ true))
     value

@@ -1,16 +1,15 @@
 -- Where the open game begins, and that the games after it begin behind what was fed.
-use Rattle.std.proofs.Common.{◌≡◌, ℕ, suc, ◌+◌, ◌<◌, ◌≤◌, ◌⊎◌, inl, inr, ⊎_elim, Bool, true, false, cond, List, [], ◌∷◌, ◌++◌, length, take, drop, Option, None, Some, refl, sym, ap, ap₂, ◌∙◌, subst, arith}
-use Rattle.std.specs.Prelude.{All, ◌&&◌, nat_eq, if◌then◌else◌}
+use Rattle.std.proofs.Common.{◌≡◌, ℕ, suc, ◌+◌, ◌<◌, ◌≤◌, ◌⊎◌, inl, inr, ⊎_elim, Bool, true, false, cond, List, [], ◌∷◌, ◌++◌, length, take, drop, None, Some, refl, sym, ap, ◌∙◌, subst, arith}
+use Rattle.std.specs.Prelude.{◌&&◌, nat_eq, if◌then◌else◌}
 use Rattle.std.specs.List.{AllByRecursion, list_all, starts_with}
 use Rattle.std.proofs.Math.Seq.{drop-append_seam}
 use Rattle.std.proofs.lemmas.Bool.{cases_Bool, cases_lt}
-use Rattle.std.proofs.lemmas.List.{append_assoc, length-append, length-take-le, length-drop}
+use Rattle.std.proofs.lemmas.List.{length-append, length-take-le, length-drop}
 use Rattle.std.proofs.lemmas.List.Elements.{All-from_recursion}
-use Rattle.pgn_lexer.specs.Grammar.{IsLexeme}
 use Rattle.pgn_lexer.specs.Lexemes.{Lexeme, end, lexeme, lexemes, first_at}
 use Rattle.pgn_lexer.specs.Local.{AreInOrder as InOrder, StandsIn, IsUnsettled}
 use Rattle.pgn_lexer.specs.Readings.{reading}
-use Rattle.pgn_cut.specs.Cut.{is_passed_over, opens, depth, has_movetext, is_marker, ends_before, ends_after, span_to, cut_from, cut, closed, text_start, byte_order_mark, archive_lexemes}
+use Rattle.pgn_cut.specs.Cut.{is_passed_over, opens, has_movetext, ends_before, ends_after, span_to, cut_from, cut, closed, text_start, byte_order_mark}
 use Rattle.pgn_cut.specs.OpenGames.{later_games, AreOpenAt, IsOpenAt, open_place}
 use Rattle.pgn_cut.specs.Progress.{begins_at, start_of, progress_of}
 use Rattle.pgn_cut.specs.Spans.{AreInOrder}

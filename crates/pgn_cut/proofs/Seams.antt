@@ -1,7 +1,7 @@
 -- An archive splits behind each of its games.
 use Rattle.std.proofs.Common.{◌≡◌, ℕ, zero, suc, ◌+◌, ◌-◌, ◌<◌, ◌≤◌, ◌⊎◌, inl, inr, ⊎_elim, Bool, true, false, cond, List, [], ◌∷◌, ◌++◌, length, get_or, take, drop, map, refl, sym, ap, ap₂, ◌∙◌, subst, arith, true≢false, append-nil, add-zero, append_assoc, length-drop}
-use Rattle.std.specs.Prelude.{◌&&◌, ◌||◌, nat_le, nat_lt, filter, codes, slice_index, slice_range}
-use Rattle.std.specs.List.{AllByRecursion, flat_map}
+use Rattle.std.specs.Prelude.{◌&&◌, ◌||◌, nat_le, nat_lt, filter, codes, slice_range}
+use Rattle.std.specs.List.{AllByRecursion}
 use Rattle.std.specs.Str.{bytes_eq}
 use Rattle.std.proofs.lemmas.Bool.{cases_Bool, cases_lt}
 use Rattle.std.proofs.lemmas.Bool.Decides.{nat_tests, leb_tells}
@@ -19,14 +19,13 @@ use Rattle.pgn_lexer.specs.Texts.{IsSpelled}
 use Rattle.pgn_lexer.specs.declared.token.LexemeKind.{LexemeKind}
 use Rattle.pgn_lexer.specs.declared.token.LexemeKind.TheVariants.{EscapeLine, Token}
 use Rattle.pgn_lexer.specs.declared.token.TokenKind.TheVariants.{Open, Close, Text, Symbol, Period, Star, LeftParen, RightParen, Nag, Null, Comment, LineComment, BadByte, UnclosedComment, UnclosedText}
-use Rattle.pgn_cut.specs.Cut.{is_result, marks, is_marker, opens, cut_from, cut, text_start, archive_lexemes}
+use Rattle.pgn_cut.specs.Cut.{is_result, marks, opens, cut_from, cut, text_start, archive_lexemes}
 use Rattle.pgn_cut.specs.Joined.{game_bytes}
-use Rattle.pgn_cut.specs.Seams.{moved_token, IsMovedGame, AreMovedGames, behind, IsSeam}
-use Rattle.pgn_cut.specs.Spans.{EndsBy, AreInOrder}
+use Rattle.pgn_cut.specs.Seams.{moved_token, AreMovedGames, behind, IsSeam}
+use Rattle.pgn_cut.specs.Spans.{EndsBy}
 use Rattle.pgn_cut.specs.declared.span.Span.{Span}
 use Rattle.pgn_cut.proofs.Closed.{LexemesFollow, AreLongest}
 use Rattle.pgn_cut.proofs.Joins.{StandApart, AreLocal, HasItsLexemes, joined, map_all, text_within}
-use Rattle.pgn_cut.proofs.Marks.{cut_is}
 use Rattle.pgn_cut.proofs.OneGame.{all_both, all_front, all_rest, keeps_none, order_from, within_is}
 use Rattle.pgn_cut.proofs.OpenGames.{starts_by, starts_from}
 use Rattle.pgn_cut.proofs.Order.{StandInOrder, Begins, cut_in_order, games_in_order, each_ends}

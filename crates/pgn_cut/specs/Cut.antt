@@ -88,9 +88,18 @@ cut_from place game (l ∷ ls) =
     else (if ends_after game l then span_to (end l) (game ++ l ∷ []) ++ cut_from place [] ls
     else cut_from place (game ++ l ∷ []) ls)
 
--- a byte order mark of UTF-8 at the archive's start is passed over
+-- a byte order mark of UTF-8 at the archive's start, EF BB BF, is passed over
+abbrev pub first_of_mark : ℕ
+first_of_mark = 239
+
+abbrev pub second_of_mark : ℕ
+second_of_mark = 187
+
+abbrev pub third_of_mark : ℕ
+third_of_mark = 191
+
 abbrev pub byte_order_mark : List ℕ
-byte_order_mark = 239 ∷ 187 ∷ 191 ∷ []
+byte_order_mark = first_of_mark ∷ second_of_mark ∷ third_of_mark ∷ []
 
 abbrev pub text_start : List ℕ → ℕ
 text_start archive = if starts_with nat_eq archive byte_order_mark then 3 else 0

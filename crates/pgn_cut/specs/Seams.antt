@@ -1,5 +1,6 @@
 -- An archive in two parts, with the seam behind one of its games.
 use Rattle.std.specs.Prelude.{◌≡◌, ℕ, ◌+◌, ◌-◌, List, [], ◌∷◌, ◌++◌, map, take, drop}
+use Rattle.pgn_lexer.specs.Bytes.{space}
 use Rattle.pgn_lexer.specs.Lexemes.{tokens_of}
 use Rattle.pgn_lexer.specs.declared.token.Token.{Token}
 use Rattle.pgn_cut.specs.Cut.{cut}
@@ -26,7 +27,7 @@ AreMovedGames n here there _ _ = ⊥
 
 -- what follows a seam, with a space for what stands before it
 abbrev pub behind : List ℕ → ℕ → List ℕ
-behind archive place = 32 ∷ drop place archive
+behind archive place = space ∷ drop place archive
 
 -- A seam behind a game: the bytes before the seam are cut into the games up to that one, and those behind it, after one space, into the
 -- games after that one.

@@ -10,7 +10,7 @@ use Rattle.pgn_lexer.specs.Local.{IsUnsettled}
 use Rattle.pgn_lexer.specs.declared.token.LexemeKind.{LexemeKind}
 use Rattle.pgn_lexer.specs.declared.token.LexemeKind.TheVariants.{EscapeLine, Token}
 use Rattle.pgn_lexer.specs.declared.token.TokenKind.TheVariants.{Text, Symbol, Null, Comment, LineComment, BadByte, UnclosedComment, UnclosedText}
-use Rattle.pgn_cut.specs.Cut.{marks, nest, opens_pair, is_movetext, is_passed_over, opens}
+use Rattle.pgn_cut.specs.Cut.{marks, nest, opens_pair, is_movetext, is_passed_over, opens, first_of_mark, second_of_mark, third_of_mark}
 use Rattle.pgn_cut.specs.declared.state.Results.{Results}
 use Rattle.pgn_cut.specs.declared.state.State.{State}
 use Rattle.pgn_cut.specs.declared.state.State.TheVariants.{AtStart, OneOfMark, TwoOfMark, Between, InComment, InLine, InText, InSymbol, InNumber, InSuffix, InNull}
@@ -74,11 +74,11 @@ begun first b =
     else (if b == hyphen then Some InNull
     else None))))))))
 
--- whether a byte belongs to what is open; the bytes of a byte order mark are 239, 187 and 191
+-- whether a byte belongs to what is open
 abbrev pub takes : State → ℕ → Bool
-takes AtStart b = b == 239
-takes OneOfMark b = b == 187
-takes TwoOfMark b = b == 191
+takes AtStart b = b == first_of_mark
+takes OneOfMark b = b == second_of_mark
+takes TwoOfMark b = b == third_of_mark
 takes Between b = true
 takes InComment b = true
 takes InLine b = not (ends_line b)

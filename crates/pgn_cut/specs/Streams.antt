@@ -2,7 +2,7 @@
 use Rattle.std.specs.Prelude.{◌≡◌, ℕ, ◌+◌, ◌*◌, ◌≤◌, ◌⊎◌, Bool, true, List, [], ◌∷◌, ◌++◌, length, Option}
 use Rattle.std.specs.Option.{option_to_list}
 use Rattle.pgn_lexer.specs.Lexemes.{Lexeme, lexemes, first_at}
-use Rattle.pgn_cut.specs.Cut.{cut_from, cut, closed}
+use Rattle.pgn_cut.specs.Cut.{cut_from, cut, closed, first_of_mark, second_of_mark}
 use Rattle.pgn_cut.specs.Progress.{progress_of}
 use Rattle.pgn_cut.specs.States.{IsOpen, takes, EndsBefore}
 use Rattle.pgn_cut.specs.declared.span.Span.{Span}
@@ -17,7 +17,7 @@ IsSound c = (c.game.depth ≤ 2 * c.place) × (c.at ≤ c.place)
 -- These bytes are a part of a byte order mark, of which another archive may have the rest.
 pub record IsInMark (c : Cutter) (fed : List ℕ) : Type 0 where
   pub part : ((c.state ≡ AtStart) × (fed ≡ []))
-      ⊎ (((c.state ≡ OneOfMark) × (fed ≡ 239 ∷ [])) ⊎ ((c.state ≡ TwoOfMark) × (fed ≡ 239 ∷ 187 ∷ [])))
+      ⊎ (((c.state ≡ OneOfMark) × (fed ≡ first_of_mark ∷ [])) ⊎ ((c.state ≡ TwoOfMark) × (fed ≡ first_of_mark ∷ second_of_mark ∷ [])))
   pub game : c.game ≡ progress_of []
   pub place : c.place ≡ length fed
   pub sound : IsSound c

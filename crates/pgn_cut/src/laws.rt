@@ -2,7 +2,7 @@
 ghost use Rattle.std.specs.Prelude.{◌≡◌, ◌+◌, ◌++◌, ◌==◌, ℕ, Bool, true, false, List, [], ◌∷◌, None, All, length};
 ghost use Rattle.pgn_lexer.specs.Lexemes.{lexemes, tokens_of};
 ghost use Rattle.cq_outside.specs.Text.{is_white};
-ghost use Rattle.pgn_lexer.specs.Bytes.{ends_line};
+ghost use Rattle.pgn_lexer.specs.Bytes.{ends_line, star};
 ghost use Rattle.pgn_lexer.specs.Lexemes.{Lexeme as ALexeme};
 ghost use Rattle.pgn_lexer.specs.Local.{IsUnsettled};
 ghost use Rattle.pgn_lexer.specs.Readings.{reading};
@@ -89,7 +89,7 @@ pub fn open_lexemes_settle()
     ensures with_last { (first : Bool) (s : AState) (bytes : List ℕ) (b : ℕ) → IsOpen first s bytes → takes s b ≡ true →
         finishes s b ≡ true → IsOneLexeme first (bytes ++ b ∷ []) (kind_with_last s) false (λ rest. Unit {0}) }
     ensures alone { (first : Bool) (b : ℕ) → is_white b ≡ false → begun first b ≡ None →
-        IsOneLexeme first (b ∷ []) (reading first b []).kind (b == 42) (λ rest. Unit {0}) }
+        IsOneLexeme first (b ∷ []) (reading first b []).kind (b == star) (λ rest. Unit {0}) }
     ensures white { (at : ℕ) (first : Bool) (b : ℕ) (bs : List ℕ) → is_white b ≡ true →
         lexemes at first (b ∷ bs) ≡ lexemes (at + 1) (ends_line b) bs }
     ensures closes { (front : List ℕ) (games : List ASpan) (at : ℕ) (first : Bool) (game : List ALexeme) (s : AState) (bytes : List ℕ) →

@@ -1,10 +1,13 @@
--- The bytes that the tokens of PGN are told apart by.
+-- The bytes that the tokens of PGN are told apart by, and the number beyond those of glyphs.
 use Rattle.std.specs.Prelude.{ℕ, Bool, ◌==◌, ◌||◌, codes}
 use Rattle.std.specs.List.{list_any}
 use Rattle.std.specs.Char.{is_ascii_alphanumeric}
 
 abbrev pub line_feed : ℕ
 line_feed = 10
+
+abbrev pub space : ℕ
+space = 32
 
 -- the bytes that tokens and escape lines begin with, and those that end comments and strings
 abbrev pub left_brace : ℕ
@@ -54,6 +57,10 @@ period = 46
 
 abbrev pub star : ℕ
 star = 42
+
+-- glyphs have the numbers from 0 to 255; this one stands for all beyond
+abbrev pub beyond_glyphs : ℕ
+beyond_glyphs = 256
 
 -- a line ends with LF
 abbrev pub ends_line : ℕ → Bool

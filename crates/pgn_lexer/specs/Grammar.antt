@@ -10,7 +10,7 @@ use Rattle.std.specs.Prelude.{ℕ, ◌<◌, ◌≤◌, ◌≡◌, ◌≢◌, ◌
 use Rattle.std.specs.List.{AllByRecursion}
 use Rattle.std.specs.Char.{is_ascii_digit, is_ascii_alphanumeric}
 use Rattle.std.specs.Str.Parse.{digits_value}
-use Rattle.pgn_lexer.specs.Bytes.{line_feed, left_brace, right_brace, semicolon, percent_sign, quote, backslash, dollar_sign, continues_symbol}
+use Rattle.pgn_lexer.specs.Bytes.{beyond_glyphs, line_feed, left_brace, right_brace, semicolon, percent_sign, quote, backslash, dollar_sign, continues_symbol}
 use Rattle.pgn_lexer.specs.declared.token.Reading.{Reading}
 use Rattle.pgn_lexer.specs.declared.token.TokenKind.TheVariants.{Open, Close, Text, Symbol, Period, Star, LeftParen, RightParen, Nag, Null, Comment, LineComment, BadByte, UnclosedComment, UnclosedText}
 use Rattle.pgn_lexer.specs.declared.token.LexemeKind.{LexemeKind}
@@ -36,11 +36,11 @@ IsSuffix n text =
     ((n ≡ 1) × (text ≡ codes "!")) ⊎ (((n ≡ 2) × (text ≡ codes "?")) ⊎ (((n ≡ 3) × (text ≡ codes "!!"))
     ⊎ (((n ≡ 4) × (text ≡ codes "??")) ⊎ (((n ≡ 5) × (text ≡ codes "!?")) ⊎ ((n ≡ 6) × (text ≡ codes "?!"))))))
 
--- a glyph by its number, every one above 255 as 256
+-- a glyph by its number
 abbrev pub IsNumbered : ℕ → List ℕ → Type 0
 IsNumbered n text =
     (digits : List ℕ) × (text ≡ dollar_sign ∷ digits) × (0 < length digits)
-    × AllByRecursion (λ d. is_ascii_digit d ≡ true) digits × (n ≡ min 256 (digits_value 10 digits))
+    × AllByRecursion (λ d. is_ascii_digit d ≡ true) digits × (n ≡ min beyond_glyphs (digits_value 10 digits))
 
 -- A text is a lexeme of a kind; `first` says whether it begins in the first column. Any one byte may be a bad one, and
 -- is read so only where nothing else is.

@@ -3,7 +3,7 @@ use Rattle.std.specs.Prelude.{ℕ, ◌+◌, Bool, false, not, ◌==◌, ◌||◌
 use Rattle.std.specs.List.{prefix_len, position_or_len}
 use Rattle.std.specs.Char.{is_ascii_digit, is_ascii_alphanumeric}
 use Rattle.std.specs.Str.Parse.{digits_value}
-use Rattle.pgn_lexer.specs.Bytes.{line_feed, left_brace, right_brace, semicolon, percent_sign, quote, backslash, dollar_sign, exclamation_mark, question_mark, hyphen, left_bracket, right_bracket, left_paren, right_paren, period, star, ends_line, continues_symbol}
+use Rattle.pgn_lexer.specs.Bytes.{beyond_glyphs, line_feed, left_brace, right_brace, semicolon, percent_sign, quote, backslash, dollar_sign, exclamation_mark, question_mark, hyphen, left_bracket, right_bracket, left_paren, right_paren, period, star, ends_line, continues_symbol}
 use Rattle.pgn_lexer.specs.declared.token.TokenKind.{TokenKind}
 use Rattle.pgn_lexer.specs.declared.token.TokenKind.TheVariants.{Open, Close, Text, Symbol, Period, Star, LeftParen, RightParen, Nag, Null, Comment, LineComment, BadByte, UnclosedComment, UnclosedText}
 use Rattle.pgn_lexer.specs.declared.token.LexemeKind.TheVariants.{EscapeLine, Token}
@@ -59,11 +59,11 @@ text rest =
 unfoldable pub symbol : List ℕ → Reading
 symbol rest = token Symbol (prefix_len continues_symbol rest + 1)
 
--- section 7: a Numeric Annotation Glyph is $ and a number, here cut at 256, which is beyond the standard's range
+-- section 7: a Numeric Annotation Glyph is $ and a number, here cut at a number beyond the standard's range
 unfoldable pub nag : List ℕ → Reading
 nag rest =
     let digits = prefix_len is_ascii_digit rest in
-    if digits == 0 then token BadByte 1 else token (Nag (min 256 (digits_value 10 (take digits rest)))) (digits + 1)
+    if digits == 0 then token BadByte 1 else token (Nag (min beyond_glyphs (digits_value 10 (take digits rest)))) (digits + 1)
 
 -- section 8.2.3.8: the suffixes stand for the glyphs 1 to 6
 unfoldable pub good_suffix : List ℕ → Reading

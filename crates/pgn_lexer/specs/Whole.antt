@@ -2,7 +2,7 @@
 use Rattle.std.specs.Prelude.{◌≡◌, ℕ, Bool, true, false, not, ◌==◌, ◌||◌, List, [], ◌∷◌, length}
 use Rattle.std.specs.Char.{is_ascii_digit}
 use Rattle.cq_outside.specs.Text.{is_white}
-use Rattle.pgn_lexer.specs.Bytes.{ends_line, continues_symbol}
+use Rattle.pgn_lexer.specs.Bytes.{exclamation_mark, question_mark, hyphen, ends_line, continues_symbol}
 use Rattle.pgn_lexer.specs.Readings.{reading}
 use Rattle.pgn_lexer.specs.declared.token.LexemeKind.{LexemeKind}
 use Rattle.pgn_lexer.specs.declared.token.LexemeKind.TheVariants.{EscapeLine, Token}
@@ -13,9 +13,9 @@ use Rattle.pgn_lexer.specs.declared.token.TokenKind.TheVariants.{Symbol, Nag, Li
 abbrev pub goes_on : LexemeKind → ℕ → Bool
 goes_on EscapeLine b = not (ends_line b)
 goes_on (Token Symbol) b = continues_symbol b
-goes_on (Token (Nag n)) b = is_ascii_digit b || b == 33 || b == 63
+goes_on (Token (Nag n)) b = is_ascii_digit b || b == exclamation_mark || b == question_mark
 goes_on (Token LineComment) b = not (ends_line b)
-goes_on (Token BadByte) b = is_ascii_digit b || b == 45
+goes_on (Token BadByte) b = is_ascii_digit b || b == hyphen
 goes_on (Token UnclosedComment) b = true
 goes_on (Token UnclosedText) b = not (ends_line b)
 goes_on _ b = false
