@@ -7,7 +7,6 @@ use Rattle.std.proofs.lemmas.List.{take_all}
 use Rattle.std.specs.Io.KnownBytes.{Consumes, IsAtEnd}
 use Rattle.cq_outside.specs.Faults.{Rose}
 use Rattle.std.specs.Option.{option_map}
-use Rattle.cql_syntax.specs.Limits.{most_open}
 use Rattle.cq_outside.specs.Told.{Told, Opens, bytes_of}
 use Rattle.cq_outside.specs.declared.faults.Refusal.{Refusal}
 use Rattle.cq_outside.specs.declared.faults.Refusal.TheVariants.{Fault}
@@ -40,24 +39,24 @@ use Rattle.cq_run.proofs.Sinks.{wrote_none}
 -- a text is one query at most, and has no fault then
 
 abbrev pub SpellOne : Type 0
-SpellOne = (tokens : List QueryToken) (q r : QueryTree) → Spells most_open tokens q → Spells most_open tokens r → q ≡ r
+SpellOne = (tokens : List QueryToken) (q r : QueryTree) → Spells 64 tokens q → Spells 64 tokens r → q ≡ r
 
 abbrev pub SpellNone : Type 0
-SpellNone = (tokens : List QueryToken) (f : QueryFault) (q : QueryTree) → IsFault tokens f → Spells most_open tokens q → ⊥
+SpellNone = (tokens : List QueryToken) (f : QueryFault) (q : QueryTree) → IsFault tokens f → Spells 64 tokens q → ⊥
 
 same_tokens : (text : List ℕ) (ts us : List QueryToken) → tokens_of text ≡ Ok ts → tokens_of text ≡ Ok us → ts ≡ us
 same_tokens text ts us e f = let g : ◌≡◌ {A = Result (List QueryToken) QueryFault} (Ok ts) (Ok us) = sym e ∙ f in cc
 
 pub one_query : SpellOne → (text : List ℕ) (q r : QueryTree) → IsQuery text q → IsQuery text r → q ≡ r
 one_query one text q r is other =
-    one is.tokens q r is.spells (subst (λ ts. Spells most_open ts r) (same_tokens text other.tokens is.tokens other.are_tokens is.are_tokens) other.spells)
+    one is.tokens q r is.spells (subst (λ ts. Spells 64 ts r) (same_tokens text other.tokens is.tokens other.are_tokens is.are_tokens) other.spells)
 
 pub no_fault : SpellOne → SpellNone → (text : List ℕ) (q : QueryTree) (f : QueryFault) → IsQuery text q → IsQueryFault text f → ⊥
 no_fault one none text q f is (inl lexical) = let g : ◌≡◌ {A = Result (List QueryToken) QueryFault} (Ok is.tokens) (Err f) = sym is.are_tokens ∙ lexical in cc
 no_fault one none text q f is (inr (inl parse)) =
     none is.tokens f q (subst (λ ts. IsFault ts f) (same_tokens text parse.tokens is.tokens parse.are_tokens is.are_tokens) parse.is_fault) is.spells
 no_fault one none text q f is (inr (inr tree)) =
-    let same : tree.query ≡ q = one is.tokens tree.query q (subst (λ ts. Spells most_open ts tree.query) (same_tokens text tree.tokens is.tokens tree.are_tokens is.are_tokens) tree.spells) is.spells in
+    let same : tree.query ≡ q = one is.tokens tree.query q (subst (λ ts. Spells 64 ts tree.query) (same_tokens text tree.tokens is.tokens tree.are_tokens is.are_tokens) tree.spells) is.spells in
     let a = tree.broken in
     let b = is.unbroken in
     cc

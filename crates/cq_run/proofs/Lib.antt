@@ -8,4 +8,3 @@ mod Counting
 mod Kept
 mod Answered
 mod Doing
-pub mod EveryText

@@ -1,7 +1,6 @@
 -- What reading a query answers, from what its steps answer.
 use Rattle.std.proofs.Common.{◌≡◌, List, ℕ, Option, Some, None, Ok, Err, subst, inl, inr}
 use Rattle.std.specs.Prelude.{Result}
-use Rattle.cql_syntax.specs.Limits.{most_open}
 use Rattle.cq_outside.specs.Refusals.{Gives, Refuses}
 use Rattle.cq_outside.specs.declared.faults.Refusal.{Refusal}
 use Rattle.cq_outside.specs.declared.faults.Refusal.TheVariants.{Fault, NoMemory}
@@ -36,12 +35,12 @@ fault_is : (o : Option QueryFault) (q : QueryTree) (f : QueryFault) → ok_unles
 fault_is None q f e = cc
 fault_is (Some g) q f e = cc
 
-pub parsed : (text : List ℕ) (tokens : List QueryToken) (q : QueryTree) (result : Result TypedQuery (Refusal QueryFault)) → tokens_of text ≡ Ok tokens → Spells most_open tokens q
+pub parsed : (text : List ℕ) (tokens : List QueryToken) (q : QueryTree) (result : Result TypedQuery (Refusal QueryFault)) → tokens_of text ≡ Ok tokens → Spells 64 tokens q
     → Gives (λ typed. query_tree typed.query) result (checked q) → ReadsQuery text result
 parsed text tokens q (Ok typed) e spells gives = record {
   tokens = tokens;
   are_tokens = e;
-  spells = subst (Spells most_open tokens) (ok_is (tree_fault q) q (query_tree typed.query) gives) spells;
+  spells = subst (Spells 64 tokens) (ok_is (tree_fault q) q (query_tree typed.query) gives) spells;
   unbroken = typed.accepted;
 }
 parsed text tokens q (Err (Fault fault)) e spells gives = inr (inr (record { tokens = tokens; are_tokens = e; query = q; spells = spells; broken = fault_is (tree_fault q) q fault gives }))

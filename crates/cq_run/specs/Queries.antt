@@ -1,6 +1,5 @@
 -- The query that a text is, or its fault.
 use Rattle.std.specs.Prelude.{◌≡◌, ◌⊎◌, ℕ, List, None, Some, Ok, Err}
-use Rattle.cql_syntax.specs.Limits.{most_open}
 use Rattle.cql_syntax.specs.Trees.{QueryTree}
 use Rattle.cql_syntax.specs.TreeFaults.{tree_fault}
 use Rattle.cql_syntax.specs.declared.fault.QueryFault.{QueryFault}
@@ -13,7 +12,7 @@ use Rattle.cql_parser.specs.Faults.{IsFault}
 pub record IsQuery (text : List ℕ) (query : QueryTree) : Type 0 where
   pub tokens : List QueryToken
   pub are_tokens : tokens_of text ≡ Ok tokens
-  pub spells : Spells most_open tokens query
+  pub spells : Spells 64 tokens query
   pub unbroken : tree_fault query ≡ None
 
 -- the tokens of a text spell no query, for this fault
@@ -27,7 +26,7 @@ pub record HasTreeFault (text : List ℕ) (fault : QueryFault) : Type 0 where
   pub tokens : List QueryToken
   pub are_tokens : tokens_of text ≡ Ok tokens
   pub query : QueryTree
-  pub spells : Spells most_open tokens query
+  pub spells : Spells 64 tokens query
   pub broken : tree_fault query ≡ Some fault
 
 -- The fault of a text that is no query: the first of its characters, else the first of its tokens, else the first of the query

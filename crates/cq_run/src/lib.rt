@@ -6,7 +6,6 @@ mod asked;
 mod explaining;
 mod finding;
 mod games;
-mod laws;
 mod selfrun;
 mod sorts;
 mod status;
@@ -15,6 +14,5 @@ mod top_call;
 mod totals;
 
 pub use answering::answer;
-pub use laws::every_text_is_a_query_or_has_a_fault;
 pub use status::Status;
 pub use top_call::run;

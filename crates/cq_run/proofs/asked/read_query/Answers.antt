@@ -1,5 +1,4 @@
 use Rattle.std.proofs.Common.{sym, subst}
-use Rattle.cql_syntax.specs.Limits.{most_open}
 use Rattle.cql_syntax.specs.TreeOf.{query_tree}
 use Rattle.cql_parser.specs.Drafts.{Spells}
 use Rattle.cql_parser.specs.Faults.{IsEnded}
@@ -15,4 +14,4 @@ check-requires c = c.spelled_queries_have_no_any.ensures c.as_slice.result.now (
 pub returns : goal.returns
 returns c =
     parsed c.args.text.now c.in_ok-tokens.tokens.items (query_tree c.in_ok-query.query) c.check.result c.in_ok-tokens.ensures.value
-    (subst (λ ts. Spells most_open ts (query_tree c.in_ok-query.query)) c.as_slice.ensures.value c.in_ok-query.ensures) c.check.ensures
+    (subst (λ ts. Spells 64 ts (query_tree c.in_ok-query.query)) c.as_slice.ensures.value c.in_ok-query.ensures) c.check.ensures
