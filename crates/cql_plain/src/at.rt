@@ -33,7 +33,7 @@ pub fn holds_at(
     ensures { IfOk result (λ b. b ≡ holds (value (searched_tree game.now variations) context.now names.now (filter_tree f.now) node)) }
 {
     // A game's nodes are a tree.
-    let _len = game.len();
+    prove!(game.is_tree());
     let value = evaluate(alloc, f, game, variations, node, context, names)?;
     Ok(value.holds())
 }
@@ -53,7 +53,7 @@ pub fn set_at(
         ≡ mask_of (has (value (searched_tree game.now variations) context.now names.now (filter_tree f.now) node))) }
 {
     // A game's nodes are a tree.
-    let _len = game.len();
+    prove!(game.is_tree());
     let value = evaluate(alloc, f, game, variations, node, context, names)?;
     Ok(value.squares())
 }
@@ -72,7 +72,7 @@ pub fn number_at(
     ensures { IfOk result (λ n. n ≡ amount (value (searched_tree game.now variations) context.now names.now (filter_tree f.now) node)) }
 {
     // A game's nodes are a tree.
-    let _len = game.len();
+    prove!(game.is_tree());
     let value = evaluate(alloc, f, game, variations, node, context, names)?;
     Ok(value.number())
 }
