@@ -237,8 +237,9 @@ static REPORTS: [(&str, Status, &str); 24] = [
     ("\u{feff}*", Status::Done, "games 1 matched 0 refused 0\n"),
 ];
 
+// No clause ties want of memory to a cause, so this row alone refuses a program that always answers it.
 #[test]
-fn games_that_match_are_written(rt: HostRuntime) -> Result<(), Fail> {
+fn always_out_of_memory_is_refused(rt: HostRuntime) -> Result<(), Fail> {
     let alloc = rt.alloc();
     for (query, archive, game) in FOUND.iter() {
         let text = written(alloc, *game)?;
