@@ -125,7 +125,7 @@ def failures(folder):
     compare("a closed pipe", process(["eval", QUERY, "a.pgn"], folder=folder, stdout=write_end), (6, b"", b""))
     os.close(write_end)
     long = process(["eval", QUERY, "a.pgn", "--limit", str(len(ARCHIVE) - 1)], folder=folder)
-    compare("one byte more than the limit", (long[0], long[1]), (8, b""))
+    compare("one byte more than the limit", long, (8, b"", b""))
     within = process(["eval", QUERY, "a.pgn", "--limit", str(len(ARCHIVE))], folder=folder)
     compare("the limit itself", within, program.run_eval(QUERY, ARCHIVE))
     hungry = process(["eval", QUERY], b"{" + b"x" * 2**24 + b"} 1. e4 *", limit_memory=2**23)
