@@ -12,7 +12,7 @@ pub returns-in-Ok : goal.returns-in-Ok
 returns-in-Ok g c =
     read_as c.args.sorted (query_tree c.args.plan.now.query.query) (IsRead c.args.game.start c.args.game.first (game_bytes c.args.archive.now c.args.game)) (Ok c.in-Ok.game)
     (stand_of c.args.tally.now c.args.kept.now.items) (stand_of c.write_match.new.tally c.write_match.new.kept.items) _
-    c.write_match.result c.in-Ok.ensures (c.write_match.ensures (sink_view g.E.Sink.taken g.E.Sink.faults c.args.err.now))
+    c.write_match.result c.in-Ok.ensures.verdict (c.write_match.ensures (sink_view g.E.Sink.taken g.E.Sink.faults c.args.err.now))
 
 pub returns-in-Err-Fault : goal.returns-in-Err-Fault
 returns-in-Err-Fault g c =

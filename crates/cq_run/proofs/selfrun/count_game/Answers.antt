@@ -8,7 +8,7 @@ use Rattle.cq_run.proofs.selfrun.count_game.Goals as goal
 pub returns-in-Ok-clause-counts : goal.returns-in-Ok-clause-counts
 returns-in-Ok-clause-counts c =
     read_counted (query_tree c.args.plan.now.query.query) (IsRead c.args.game.start c.args.game.first (game_bytes c.args.archive.now c.args.game)) (Ok c.in-Ok.game) c.args.before
-    c.count_match.result c.in-Ok.ensures c.count_match.ensures.counts
+    c.count_match.result c.in-Ok.ensures.verdict c.count_match.ensures.counts
 
 pub returns-in-Err-Fault-clause-counts : goal.returns-in-Err-Fault-clause-counts
 returns-in-Err-Fault-clause-counts c =
