@@ -1,4 +1,4 @@
-use Rattle.std.proofs.Common.{◌≡◌, ℕ, ◌+◌, ◌*◌, ◌<◌, ◌≤◌, get_or, length, None, true, drop}
+use Rattle.std.proofs.Common.{◌≡◌, ℕ, ◌+◌, ◌*◌, ◌<◌, get_or, length, None, true, drop}
 use Rattle.cql_lines.specs.Tables.{holds}
 use Rattle.cql_lines.specs.Values.{AnswerAt}
 use Rattle.cql_lines.specs.Reads.{Read}
