@@ -2,8 +2,7 @@
 ghost use Rattle.std.specs.Prelude.{ℕ, List};
 ghost use Rattle.cq_board.specs.Draws.{IsFirst, IsDraw, IsSound};
 
-/// The first state of the draws is sound, and every draw leads from a sound state to a sound one. Any number of workers in any order
-/// of their steps is a sequence of such draws.
+/// The first state of the draws is sound, and every draw leads from a sound state to a sound one.
 pub fn draws_stay_sound()
     ensures first { (next : ℕ) (lists : List (List ℕ)) → IsFirst next lists → IsSound next lists }
     ensures draw { (worker next : ℕ) (lists : List (List ℕ)) (next_after : ℕ) (lists_after : List (List ℕ)) →

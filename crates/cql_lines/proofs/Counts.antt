@@ -1,7 +1,8 @@
 -- How many of the first nodes, and of the last, are searched, and the looks at these.
-use Rattle.std.proofs.Common.{◌≡◌, ℕ, ◌+◌, ◌*◌, ◌<◌, ◌≤◌, Bool, true, false, List, None, length, take, drop, refl, sym, ap, ◌∙◌, subst, arith}
+use Rattle.std.proofs.Common.{◌≡◌, ℕ, ◌+◌, ◌-◌, ◌*◌, ◌<◌, Bool, true, false, List, None, length, take, drop, refl, sym, ap, ◌∙◌, subst, arith}
 use Rattle.std.specs.Prelude.{cond}
-use Rattle.std.proofs.lemmas.List.Sums.{sum_by_more, sum_by-take-drop, sum_by-take-le}
+use Rattle.std.proofs.lemmas.List.Sums.{sum_by_more, sum_by-take-drop}
+use Rattle.std.proofs.lemmas.List.{take_all}
 use Rattle.std.proofs.lemmas.Option.{slice_get-get_or}
 use Rattle.cql_lines.specs.declared.shape.Spot.{Spot}
 use Rattle.cql_lines.specs.Shapes.{is_searched, searched_by, searched_count}
@@ -29,40 +30,34 @@ times_same : (a m : ℕ) → a * (m + 0) ≡ a * m
 times_same a m = grind arith
 
 -- the looks that are left, of all those at searched nodes, after the looks at one more node
-one_more : (atoms a b s n m all : ℕ) (searched : Bool) → (searched ≡ false → b ≡ a) → b ≤ a + atoms → n ≡ m + cond searched 1 0
-    → a + atoms * n ≤ s + all → b + atoms * m ≤ s + all
-one_more atoms a b s n m all true same more e was =
-    let each : atoms * n ≡ atoms * m + atoms = ap (λ k. atoms * k) e ∙ times_more atoms m in omega arith
-one_more atoms a b s n m all false same more e was =
-    let is = same refl in
-    let each : atoms * n ≡ atoms * m = ap (λ k. atoms * k) e ∙ times_same atoms m in omega arith
+one_more : (atoms a b s n m all : ℕ) (searched : Bool) → (searched ≡ false → b ≡ a) → (searched ≡ true → b ≡ a + atoms)
+    → n ≡ m + cond searched 1 0 → a + atoms * n ≡ s + all → b + atoms * m ≡ s + all
+one_more atoms a b s n m all true none each e was =
+    let is = each refl in
+    let more : atoms * n ≡ atoms * m + atoms = ap (λ k. atoms * k) e ∙ times_more atoms m in omega arith
+one_more atoms a b s n m all false none each e was =
+    let is = none refl in
+    let same : atoms * n ≡ atoms * m = ap (λ k. atoms * k) e ∙ times_same atoms m in omega arith
 
-pub cost_all : (s n : ℕ) → s + n ≤ s + n
-cost_all s n = omega arith
-
-pub cost_up : (spots : List Spot) (atoms a b s n : ℕ) → n < length spots → (is_searched spots n ≡ false → b ≡ a) → b ≤ a + atoms
-    → a + atoms * searched_count (drop n spots) ≤ s + atoms * searched_count spots
-    → b + atoms * searched_count (drop (n + 1) spots) ≤ s + atoms * searched_count spots
-cost_up spots atoms a b s n low same more was =
+pub exact_up : (spots : List Spot) (atoms a b s n : ℕ) → n < length spots
+    → (is_searched spots n ≡ false → b ≡ a) → (is_searched spots n ≡ true → b ≡ a + atoms)
+    → a + atoms * searched_count (drop n spots) ≡ s + atoms * searched_count spots
+    → b + atoms * searched_count (drop (n + 1) spots) ≡ s + atoms * searched_count spots
+exact_up spots atoms a b s n low none each was =
     one_more atoms a b s (searched_count (drop n spots)) (searched_count (drop (n + 1) spots)) (atoms * searched_count spots) (is_searched spots n)
-    same more (last_more spots n low) was
+    none each (last_more spots n low) was
 
-times_least : (a m n : ℕ) → m ≤ n → a * m ≤ a * n
-times_least a m n few = grind arith
+pub exact_first : (spots : List Spot) (atoms s : ℕ)
+    → s + atoms * searched_count (take (length spots - 0) spots) ≡ s + atoms * searched_count spots
+exact_first spots atoms s = ap (λ l. s + atoms * searched_count l) (take_all (length spots - 0) spots (omega arith))
 
--- of some nodes at most as many are searched as of all
-pub cost_first : (spots : List Spot) (atoms s k : ℕ) → s + atoms * searched_count (take k spots) ≤ s + atoms * searched_count spots
-cost_first spots atoms s k =
-    let few : searched_count (take k spots) ≤ searched_count spots = sum_by-take-le one spots k in
-    let each : atoms * searched_count (take k spots) ≤ atoms * searched_count spots = times_least atoms _ _ few in omega arith
-
-pub cost_down : (spots : List Spot) (atoms a b s n behind here : ℕ) → n < length spots → behind ≡ n + 1 → here ≡ n
-    → (is_searched spots n ≡ false → b ≡ a) → b ≤ a + atoms
-    → a + atoms * searched_count (take behind spots) ≤ s + atoms * searched_count spots
-    → b + atoms * searched_count (take here spots) ≤ s + atoms * searched_count spots
-cost_down spots atoms a b s n behind here low e f same more was =
-    let before : a + atoms * searched_count (take (n + 1) spots) ≤ s + atoms * searched_count spots =
-    subst (λ k. a + atoms * searched_count (take k spots) ≤ s + atoms * searched_count spots) e was in
-    subst (λ k. b + atoms * searched_count (take k spots) ≤ s + atoms * searched_count spots) (sym f)
+pub exact_down : (spots : List Spot) (atoms a b s n behind here : ℕ) → n < length spots → behind ≡ n + 1 → here ≡ n
+    → (is_searched spots n ≡ false → b ≡ a) → (is_searched spots n ≡ true → b ≡ a + atoms)
+    → a + atoms * searched_count (take behind spots) ≡ s + atoms * searched_count spots
+    → b + atoms * searched_count (take here spots) ≡ s + atoms * searched_count spots
+exact_down spots atoms a b s n behind here low e f none each was =
+    let before : a + atoms * searched_count (take (n + 1) spots) ≡ s + atoms * searched_count spots =
+    subst (λ k. a + atoms * searched_count (take k spots) ≡ s + atoms * searched_count spots) e was in
+    subst (λ k. b + atoms * searched_count (take k spots) ≡ s + atoms * searched_count spots) (sym f)
     (one_more atoms a b s (searched_count (take (n + 1) spots)) (searched_count (take n spots)) (atoms * searched_count spots) (is_searched spots n)
-    same more (first_more spots n low) before)
+    none each (first_more spots n low) before)

@@ -9,6 +9,7 @@ pub mod pattern;
 mod plain;
 mod sets;
 pub mod shape;
+mod shared;
 pub mod table;
 mod tree;
 mod values;

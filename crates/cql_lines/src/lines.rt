@@ -1,5 +1,5 @@
 //! The value of a line at each node.
-ghost use Rattle.std.specs.Prelude.{◌≡◌, ℕ, ◌+◌, ◌*◌, ◌<◌, ◌≤◌, get_or, length, None, IfOk};
+ghost use Rattle.std.specs.Prelude.{◌≡◌, ℕ, ◌+◌, ◌*◌, ◌<◌, ◌≤◌, get_or, length, None, IfOk, OnOk};
 ghost use Rattle.cq_outside.specs.Spelling.{Pattern as SpelledPattern};
 ghost use Rattle.cql_lines.specs.Automata.{IsAutomatonOf, UsesBelow};
 ghost use Rattle.cql_lines.specs.Shapes.{searched_count};
@@ -18,7 +18,7 @@ use std::sync::ledger::Ledger;
 
 /// For each node the greatest length of a path from it that the pattern spells and whose length the limits allow, or None where there is
 /// none or the node is not searched.
-/// A look at the table is a step: there is at most one for each atom and searched node.
+/// A look at the table is a step: where memory suffices there is one for each atom and searched node, and there are never more.
 pub fn line_values<L: Ledger>(
     alloc: Global,
     automaton: &Automaton,
@@ -32,6 +32,7 @@ pub fn line_values<L: Ledger>(
     ensures values { IfOk result (λ values. (p : SpelledPattern ℕ) → IsAutomatonOf automaton.now p
         → (n : ℕ) → n < length (spots_of shape.now) → IsValueAt table.now shape.now p n (get_or values.items n None)) }
     ensures cost { steps.new ≤ steps.old + atoms_of table.now * searched_count (spots_of shape.now) }
+    ensures exact { OnOk result (steps.new ≡ steps.old + atoms_of table.now * searched_count (spots_of shape.now)) }
 {
     let rules = automaton.rules.as_slice();
     let first = automaton.first;

@@ -1,5 +1,5 @@
 //! The sets of lengths, where the lengths that count are limited: bit k of a word is the length k, and no greater length than 127 counts.
-ghost use Rattle.std.specs.Prelude.{◌≡◌, ℕ, ◌+◌, ◌*◌, ◌<◌, ◌≤◌, get_or, length, if◌then◌else◌, bit_or, slice_get, Some, None, ◌-◌, false, IfOk, replicate, true};
+ghost use Rattle.std.specs.Prelude.{◌≡◌, ℕ, ◌+◌, ◌*◌, ◌<◌, ◌≤◌, get_or, length, if◌then◌else◌, bit_or, slice_get, Some, None, ◌-◌, false, IfOk, OnOk, replicate, true};
 ghost use Rattle.cq_outside.specs.Greatest.{IsGreatest};
 ghost use Rattle.cql_lines.specs.Down.{Passed, Stands};
 ghost use Rattle.cql_lines.specs.Tables.{holds};
@@ -145,6 +145,7 @@ pub fn visit_down<L: Ledger>(
         (Read (holds table.now.words.items) rules.now (Edge false shape.now.primary shape.now.spots.items) first node)) result }
     ensures cost { steps.new ≤ steps.old + table.now.atoms }
     ensures unsearched { is_searched shape.now.spots.items node ≡ false → steps.new ≡ steps.old }
+    ensures searched { is_searched shape.now.spots.items node ≡ true → steps.new ≡ steps.old + table.now.atoms }
 {
     if !shape.searched(node) {
         return None;
@@ -188,6 +189,7 @@ pub fn within_down<L: Ledger>(
         (Read (holds table.now.words.items) rules.now (Edge false shape.now.primary shape.now.spots.items) first n))
         (get_or values.items n None)) }
     ensures cost { steps.new ≤ steps.old + table.now.atoms * searched_count shape.now.spots.items }
+    ensures exact { OnOk result (steps.new ≡ steps.old + table.now.atoms * searched_count shape.now.spots.items) }
 {
     let nodes = shape.len();
     let mut rows = blank_rows(alloc, nodes)?;
@@ -233,6 +235,7 @@ pub fn visit_up<L: Ledger>(
         (Read (holds table.now.words.items) rules.now (Edge true shape.now.primary shape.now.spots.items) first node)) result }
     ensures cost { steps.new ≤ steps.old + table.now.atoms }
     ensures unsearched { is_searched shape.now.spots.items node ≡ false → steps.new ≡ steps.old }
+    ensures searched { is_searched shape.now.spots.items node ≡ true → steps.new ≡ steps.old + table.now.atoms }
 {
     if !shape.searched(node) {
         return None;
@@ -267,6 +270,7 @@ pub fn within_up<L: Ledger>(
         (Read (holds table.now.words.items) rules.now (Edge true shape.now.primary shape.now.spots.items) first n))
         (get_or values.items n None)) }
     ensures cost { steps.new ≤ steps.old + table.now.atoms * searched_count shape.now.spots.items }
+    ensures exact { OnOk result (steps.new ≡ steps.old + table.now.atoms * searched_count shape.now.spots.items) }
 {
     let nodes = shape.len();
     let mut rows = blank_rows(alloc, nodes)?;
@@ -297,6 +301,7 @@ pub fn within<L: Ledger>(
         (Read (holds table.now.words.items) rules.now (Edge shape.now.back shape.now.primary shape.now.spots.items) first n))
         (get_or values.items n None)) }
     ensures cost { steps.new ≤ steps.old + table.now.atoms * searched_count shape.now.spots.items }
+    ensures exact { OnOk result (steps.new ≡ steps.old + table.now.atoms * searched_count shape.now.spots.items) }
 {
     if shape.back {
         return Ok(within_up(alloc, rules, first, extent, table, shape, steps)?);

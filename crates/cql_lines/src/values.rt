@@ -1,5 +1,5 @@
 //! The greatest lengths.
-ghost use Rattle.std.specs.Prelude.{◌≡◌, ℕ, ◌+◌, ◌*◌, ◌<◌, ◌≤◌, ◌||◌, get_or, length, List, max, if◌then◌else◌, slice_get, Some, None, Option, ◌-◌, false, IfOk, replicate, true};
+ghost use Rattle.std.specs.Prelude.{◌≡◌, ℕ, ◌+◌, ◌*◌, ◌<◌, ◌≤◌, ◌||◌, get_or, length, List, max, if◌then◌else◌, slice_get, Some, None, Option, ◌-◌, false, IfOk, OnOk, replicate, true};
 ghost use Rattle.cql_lines.specs.Down.{found, Passed, Stands};
 ghost use Rattle.cql_lines.specs.Tables.{holds};
 ghost use Rattle.cql_lines.specs.Values.{AnswerAt};
@@ -129,6 +129,7 @@ pub fn visit_down<L: Ledger>(
         (Read (holds table.now.words.items) rules.now (Edge false shape.now.primary shape.now.spots.items) first node) result }
     ensures cost { steps.new ≤ steps.old + table.now.atoms }
     ensures unsearched { is_searched shape.now.spots.items node ≡ false → steps.new ≡ steps.old }
+    ensures searched { is_searched shape.now.spots.items node ≡ true → steps.new ≡ steps.old + table.now.atoms }
 {
     if !shape.searched(node) {
         return None;
@@ -171,6 +172,7 @@ pub fn longest_down<L: Ledger>(
         (Read (holds table.now.words.items) rules.now (Edge false shape.now.primary shape.now.spots.items) first n)
         (get_or values.items n None)) }
     ensures cost { steps.new ≤ steps.old + table.now.atoms * searched_count shape.now.spots.items }
+    ensures exact { OnOk result (steps.new ≡ steps.old + table.now.atoms * searched_count shape.now.spots.items) }
 {
     let nodes = shape.len();
     let mut rows = blank_rows(alloc, nodes)?;
@@ -213,6 +215,7 @@ pub fn visit_up<L: Ledger>(
         (Read (holds table.now.words.items) rules.now (Edge true shape.now.primary shape.now.spots.items) first node) result }
     ensures cost { steps.new ≤ steps.old + table.now.atoms }
     ensures unsearched { is_searched shape.now.spots.items node ≡ false → steps.new ≡ steps.old }
+    ensures searched { is_searched shape.now.spots.items node ≡ true → steps.new ≡ steps.old + table.now.atoms }
 {
     if !shape.searched(node) {
         return None;
@@ -240,6 +243,7 @@ pub fn longest_up<L: Ledger>(
         (Read (holds table.now.words.items) rules.now (Edge true shape.now.primary shape.now.spots.items) first n)
         (get_or values.items n None)) }
     ensures cost { steps.new ≤ steps.old + table.now.atoms * searched_count shape.now.spots.items }
+    ensures exact { OnOk result (steps.new ≡ steps.old + table.now.atoms * searched_count shape.now.spots.items) }
 {
     let nodes = shape.len();
     let mut rows = blank_rows(alloc, nodes)?;
@@ -267,6 +271,7 @@ pub fn longest<L: Ledger>(
         (Read (holds table.now.words.items) rules.now (Edge shape.now.back shape.now.primary shape.now.spots.items) first n)
         (get_or values.items n None)) }
     ensures cost { steps.new ≤ steps.old + table.now.atoms * searched_count shape.now.spots.items }
+    ensures exact { OnOk result (steps.new ≡ steps.old + table.now.atoms * searched_count shape.now.spots.items) }
 {
     if shape.back {
         return Ok(longest_up(alloc, rules, first, table, shape, steps)?);

@@ -1,3 +1,4 @@
 pub mod Items
 pub mod Needs
 pub mod NeedsRows
+pub mod Plans

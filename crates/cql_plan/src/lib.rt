@@ -11,5 +11,6 @@ mod plan;
 mod shared;
 mod verdict;
 
-pub use plan::{Plan, match_game, may_hold};
+pub use plan::Plan;
+pub use plan::matching::{match_game, may_hold};
 pub use verdict::Verdict;

@@ -4,6 +4,7 @@ ghost use Rattle.cql_syntax.specs.Hits.{hits_in, all_keys};
 ghost use Rattle.cql_syntax.specs.TreeOf.{filters_tree};
 ghost use Rattle.cql_plain.specs.Trees.{searched_tree};
 ghost use Rattle.cql_plan.specs.Needs.{all_pass};
+ghost use Rattle.cql_plan.specs.Plans.{nodes_of, keys_of};
 
 use crate::found::hits;
 use crate::keys::keys;
@@ -23,14 +24,14 @@ pub struct Verdict {
 impl Verdict {
     /// The numbers of the nodes at which the query hits, increasing.
     pub fn nodes(&self) -> &[u32]
-        ensures { result.now ≡ self.now.nodes.items }
+        ensures { result.now ≡ nodes_of self.now }
     {
         self.nodes.as_slice()
     }
 
     /// The keys of the sort items over the hits, the first item foremost; none where there is no hit.
     pub fn keys(&self) -> &[i64]
-        ensures { result.now ≡ self.now.keys.items }
+        ensures { result.now ≡ keys_of self.now }
     {
         self.keys.as_slice()
     }

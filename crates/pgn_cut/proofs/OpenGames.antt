@@ -84,7 +84,7 @@ unfolding Opens
 opens_at front more place [] all = tt
 opens_at front more place (g ∷ games) all = (inl all.0, All-from_recursion (λ t. length front ≤ t.start) games all.1)
 
-marked_at : (front more : List ℕ) (place : ℕ) (games : List Span) → place < text_start (front ++ more) → AllByRecursion (λ t. length front ≤ t.start) games → AreOpenAt (Some place) front more games
+marked_at : (front more : List ℕ) (place : ℕ) (games : List Span) → length front < text_start (front ++ more) → AllByRecursion (λ t. length front ≤ t.start) games → AreOpenAt (Some place) front more games
 marked_at front more place [] mark all = tt
 marked_at front more place (g ∷ games) mark all = (inr (mark, all.0), All-from_recursion (λ t. length front ≤ t.start) games all.1)
 
@@ -218,10 +218,10 @@ module _ (in_order : StandInOrder) (apart : StandApart) (follow : LexemesFollow)
   after_mark archive = open_none (text_start archive) true (drop (text_start archive) archive) (length archive)
       (let len = length-drop (text_start archive) archive in let inside = text_within archive in omega arith)
 
-  by_mark : (front more : List ℕ) → length front ≤ 3 → (text_start (front ++ more) ≡ 0 → Opens 0 (length front) (cut (front ++ more))) → AreOpenAt (Some 0) front more (cut (front ++ more))
+  by_mark : (front more : List ℕ) → length front < 3 → (text_start (front ++ more) ≡ 0 → Opens 0 (length front) (cut (front ++ more))) → AreOpenAt (Some 0) front more (cut (front ++ more))
   by_mark front more short opened = ⊎_elim
       (λ none. opens_at front more 0 (cut (front ++ more)) (opened none))
-      (λ mark. marked_at front more 0 (cut (front ++ more)) (omega (arith, mark)) (map_all (λ g. text_start (front ++ more) ≤ g.start) (λ g. length front ≤ g.start) (λ g h. omega (arith, h, mark, short)) (cut (front ++ more)) (after_mark (front ++ more))))
+      (λ mark. marked_at front more 0 (cut (front ++ more)) (omega (arith, mark, short)) (map_all (λ g. text_start (front ++ more) ≤ g.start) (λ g. length front ≤ g.start) (λ g h. omega (arith, h, mark, short)) (cut (front ++ more)) (after_mark (front ++ more))))
       (starts_by (front ++ more))
 
   one_opened : (more : List ℕ) → text_start (239 ∷ more) ≡ 0 → Opens 0 1 (cut (239 ∷ more))

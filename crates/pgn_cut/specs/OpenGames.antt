@@ -13,13 +13,13 @@ later_games front more = drop (length (closed front)) (cut (front ++ more))
 abbrev pub BeginFrom : ℕ → List Span → Type 0
 BeginFrom place games = All (λ g. place ≤ g.start) games
 
--- Where a game is open, the first of the later games begins there, and those after it begin behind the front. A part of a byte order
--- mark opens a game only where the rest of the mark doesn't follow.
+-- Where a game is open, the first of the later games begins there, and those after it begin behind the front. A front that is a part
+-- of a byte order mark opens a game only where the rest of the mark doesn't follow.
 abbrev pub AreOpenAt : Option ℕ → (front more : List ℕ) → List Span → Type 0
 AreOpenAt None front more games = BeginFrom (length front) games
 AreOpenAt (Some place) front more [] = Unit {0}
 AreOpenAt (Some place) front more (g ∷ games) =
-    ((g.start ≡ place) ⊎ ((place < text_start (front ++ more)) × (length front ≤ g.start))) × BeginFrom (length front) games
+    ((g.start ≡ place) ⊎ ((length front < text_start (front ++ more)) × (length front ≤ g.start))) × BeginFrom (length front) games
 
 -- the open game of a front begins at this place, or none is open, whatever follows
 abbrev pub IsOpenAt : Option ℕ → List ℕ → Type 0

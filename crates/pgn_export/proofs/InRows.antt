@@ -1,7 +1,7 @@
 -- The lines of words are rows of them.
-use Rattle.std.proofs.Common.{◌≡◌, ◌⊎◌, ℕ, suc, ◌+◌, ◌≤◌, Bool, true, false, cond, inl, inr, List, [], ◌∷◌, ◌++◌, length, refl, sym, ap, ◌∙◌, subst, arith, append_assoc, append-nil, length-append}
+use Rattle.std.proofs.Common.{◌≡◌, ℕ, ◌+◌, ◌≤◌, Bool, true, false, cond, inl, inr, List, [], ◌∷◌, ◌++◌, length, refl, sym, ap, ◌∙◌, subst, arith, append_assoc, append-nil, length-append}
 use Rattle.std.specs.Prelude.{nat_le}
-use Rattle.std.specs.List.{AllByRecursion, flat_map, join_with_byte}
+use Rattle.std.specs.List.{join_with_byte}
 use Rattle.std.proofs.lemmas.Bool.{leb-true}
 use Rattle.std.proofs.lemmas.List.Concat.{flat_map-cons}
 use Rattle.pgn_export.specs.Lines.{filled, lines}
@@ -26,7 +26,7 @@ none_left = record { rows = []; all = refl; written = refl; fitting = tt }
 longer_row : (v : List ℕ) (vs : List (List ℕ)) (w : List ℕ) → length (join_with_byte 32 (v ∷ vs)) + 1 + length w ≤ 79 → IsFitting (v ∷ vs ++ w ∷ [])
 longer_row v vs w few =
     let n : length (join_with_byte 32 (v ∷ vs ++ w ∷ [])) ≡ length (join_with_byte 32 (v ∷ vs)) + length (32 ∷ w) = ap length (joined_more v vs w) ∙ length-append (join_with_byte 32 (v ∷ vs)) (32 ∷ w) in
-    inl (omega (arith, few, n))
+    (omega arith, inl (omega (arith, few, n)))
 
 -- a row takes the next word, or ends
 by_room : (room : Bool) (v : List ℕ) (vs : List (List ℕ)) (w : List ℕ) (ws : List (List ℕ)) → nat_le (length (join_with_byte 32 (v ∷ vs)) + 1 + length w) 79 ≡ room
@@ -44,8 +44,8 @@ filled_rows : (ws : List (List ℕ)) (v : List ℕ) (vs : List (List ℕ)) → I
 unfolding filled
 filled_rows [] v vs fits = subst (AreInRows (v ∷ vs ++ [])) (append-nil (row_of_words (v ∷ vs))) (row_first (v ∷ vs) [] [] fits none_left)
 filled_rows (w ∷ ws) v vs fits =
-    by_room (nat_le (length (join_with_byte 32 (v ∷ vs)) + 1 + length w) 79) v vs w ws refl fits (λ longer. filled_rows ws v (vs ++ w ∷ []) longer) (filled_rows ws w [] (inr refl))
+    by_room (nat_le (length (join_with_byte 32 (v ∷ vs)) + 1 + length w) 79) v vs w ws refl fits (λ longer. filled_rows ws v (vs ++ w ∷ []) longer) (filled_rows ws w [] (omega arith, inr refl))
 
 pub in_rows : (words : List (List ℕ)) → AreInRows words (lines words)
 in_rows [] = none_left
-in_rows (w ∷ ws) = filled_rows ws w [] (inr refl)
+in_rows (w ∷ ws) = filled_rows ws w [] (omega arith, inr refl)

@@ -1,5 +1,5 @@
 -- A comment is read as the words that are written of it.
-use Rattle.std.proofs.Common.{◌≡◌, ◌≢◌, ℕ, suc, ◌+◌, ◌-◌, Bool, true, false, cond, List, [], ◌∷◌, ◌++◌, length, take, refl, sym, ap, ap₂, ◌∙◌, subst, inr, arith, true≢false, length-append, eqb-true}
+use Rattle.std.proofs.Common.{◌≡◌, ◌≢◌, ℕ, suc, ◌-◌, Bool, true, false, cond, List, [], ◌∷◌, ◌++◌, length, take, refl, sym, ap, ap₂, ◌∙◌, subst, inr, arith, true≢false, length-append, eqb-true}
 use Rattle.std.specs.Prelude.{All, map, ◌==◌, if◌then◌else◌}
 use Rattle.std.specs.List.{AllByRecursion, filter, flat_map, slice_split, onto_first, join_with_byte}
 use Rattle.std.proofs.Math.Seq.{take-append_seam}

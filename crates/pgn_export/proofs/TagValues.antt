@@ -1,5 +1,5 @@
 -- The tags of an export are the game's, in order.
-use Rattle.std.proofs.Common.{◌≡◌, ◌≢◌, ℕ, suc, ◌<◌, Bool, true, false, cond, List, [], ◌∷◌, ◌++◌, length, take, drop, Option, Some, None, refl, sym, ap, ap₂, ◌∙◌, subst, arith, true≢false}
+use Rattle.std.proofs.Common.{◌≡◌, ℕ, suc, Bool, true, false, cond, List, [], ◌∷◌, ◌++◌, take, Option, Some, None, refl, sym, ap, ap₂, ◌∙◌, arith, true≢false}
 use Rattle.std.specs.Prelude.{◌&&◌, ◌||◌, not, codes, map, if◌then◌else◌}
 use Rattle.std.specs.BTreeMap.{insert_entry}
 use Rattle.std.specs.Ordering.{is_eq}
@@ -14,12 +14,12 @@ use Rattle.std.specs.declared.cmp.Ordering.TheVariants.{Less, Equal, Greater}
 use Rattle.std.proofs.lemmas.List.Folds.{find-append}
 use Rattle.std.proofs.lemmas.Map.Text.{is_eq-slice_cmp}
 use Rattle.std.proofs.lemmas.Slice.Eq.{bytes_eq-Decides}
-use Rattle.cq_position.specs.Games.{Game, tag_at, tag_value, HaveDistinctNames}
+use Rattle.cq_position.specs.Games.{Game, tag_value, HaveDistinctNames}
 use Rattle.pgn_export.specs.Movetext.{result_text}
-use Rattle.pgn_export.specs.Normal.{AreInOrder, roster_names}
+use Rattle.pgn_export.specs.Normal.{roster_names}
 use Rattle.pgn_export.specs.TagLines.{roster, is_in_roster, roster_tag, put, sorted, other_tags, written_tags}
 use Rattle.pgn_export.specs.TagValues.{written_value, AreExportTags}
-use Rattle.pgn_export.proofs.Ordered.{Tag, before, AreSorted, turned, same_name, absent}
+use Rattle.pgn_export.proofs.Ordered.{Tag, before, AreSorted, same_name, absent}
 
 -- what is said of each name is said after a tag is put
 all_put : (P : List ℕ → Type 0) (ts : List Tag) (t : Tag) → AllByRecursion P (map (λ u. u.0) ts) → P t.0 → AllByRecursion P (map (λ u. u.0) (put ts t))

@@ -1,5 +1,5 @@
 -- Texts that are one token.
-use Rattle.std.proofs.Common.{◌≡◌, ℕ, ◌+◌, ◌<◌, true, min, List, [], ◌∷◌, ◌++◌, length, refl, inl}
+use Rattle.std.proofs.Common.{◌≡◌, ℕ, ◌<◌, true, min, List, [], ◌∷◌, ◌++◌, length, refl, inl}
 use Rattle.std.specs.List.{AllByRecursion}
 use Rattle.std.specs.Char.{is_ascii_digit, is_ascii_alphanumeric}
 use Rattle.std.specs.Str.Parse.{digits_value}

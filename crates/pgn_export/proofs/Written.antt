@@ -5,7 +5,7 @@ use Rattle.std.specs.List.{AllByRecursion}
 use Rattle.std.proofs.lemmas.Bool.{lt-ltb}
 use Rattle.cq_position.specs.Board.{Board}
 use Rattle.cq_position.specs.Continuations.{Played, Continuations, none, played, Follows}
-use Rattle.cq_position.specs.Legal.{Leads, is_pseudo_legal, reaches, promotion_is_right, after}
+use Rattle.cq_position.specs.Legal.{Leads, is_pseudo_legal, reaches, promotion_is_right}
 use Rattle.cq_position.specs.Position.{IsPosition}
 use Rattle.cq_position.specs.declared.men.Side.{Side}
 use Rattle.cq_position.specs.declared.men.Side.TheVariants.{White, Black}

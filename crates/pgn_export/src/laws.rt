@@ -5,7 +5,8 @@ ghost use Rattle.pgn_export.specs.Lines.{lines};
 ghost use Rattle.pgn_export.specs.Rows.{AreInRows};
 ghost use Rattle.pgn_export.specs.TagValues.{AreExportTags};
 
-/// No line of an export has more than 79 bytes, but one that is a single word: words in lines are rows of them.
+/// No line of an export's movetext has more than 79 bytes, but one that is a single word: words in lines are rows of them, each
+/// with a word in it.
 #[tactic(auto, using(crate::proofs::InRows::in_rows))]
 pub fn lines_are_short()
     ensures { (words : List (List ℕ)) → AreInRows words (lines words) }

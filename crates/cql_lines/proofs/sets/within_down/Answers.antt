@@ -8,7 +8,7 @@ use Rattle.cql_lines.specs.Shapes.{Edge, is_searched}
 use Rattle.cql_lines.specs.Sets.{IsSet, Between}
 use Rattle.cql_lines.proofs.SetsLaw.{none_set}
 use Rattle.cql_lines.proofs.VisitLaw.{stands_first, done_more}
-use Rattle.cql_lines.proofs.Counts.{cost_first, cost_down}
+use Rattle.cql_lines.proofs.Counts.{exact_first, exact_down}
 use Rattle.cql_lines.proofs.sets.within_down.Goals as goal
 
 pub loop-turn-init : goal.loop-turn-init
@@ -20,7 +20,7 @@ loop-turn-init g c = record {
       (stands_first IsSet none_set c.args.table.now.words.items c.args.rules.now c.args.shape.now.primary c.args.shape.now.spots.items);
   size = ap length c.in_ok-values.ensures ∙ length-replicate c.len-nodes.result None ∙ c.len-nodes.ensures;
   done = λ n late low. absurd (omega arith);
-  cost = cost_first c.args.shape.now.spots.items c.args.table.now.atoms _ _;
+  exact = exact_first c.args.shape.now.spots.items c.args.table.now.atoms _;
 }
 
 turn_of : (size nodes turn : ℕ) → nodes ≡ size → turn < nodes → size - (nodes - 1 - turn) - 1 ≡ turn
@@ -59,8 +59,8 @@ loop-turn-preserved g c = record {
       (is_searched c.args.shape.now.spots.items) (length c.args.shape.now.spots.items) c.loop-turn.values.items c.visit_down.result c.loop-turn.turn (c.len-nodes.result - 1 - c.loop-turn.turn)
       c.loop-turn.invariant.size (node_of (length c.args.shape.now.spots.items) c.len-nodes.result c.loop-turn.turn c.len-nodes.ensures c.loop-turn-test.true)
       c.visit_down.ensures.value c.loop-turn.invariant.done;
-  cost = cost_down c.args.shape.now.spots.items c.args.table.now.atoms _ _ _ (c.len-nodes.result - 1 - c.loop-turn.turn) _ _
+  exact = exact_down c.args.shape.now.spots.items c.args.table.now.atoms _ _ _ (c.len-nodes.result - 1 - c.loop-turn.turn) _ _
       (within_spots _ _ _ c.len-nodes.ensures c.loop-turn-test.true) (first_of _ _ _ c.len-nodes.ensures c.loop-turn-test.true)
       (before_of _ _ _ c.len-nodes.ensures c.loop-turn-test.true)
-      c.visit_down.ensures.unsearched c.visit_down.ensures.cost c.loop-turn.invariant.cost;
+      c.visit_down.ensures.unsearched c.visit_down.ensures.searched c.loop-turn.invariant.exact;
 }

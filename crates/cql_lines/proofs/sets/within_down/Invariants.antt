@@ -13,5 +13,5 @@ invariant-loop-turn g l = record {
   size : length l.values.items ≡ length l.shape.spots.items;
   done : (n : ℕ) → length l.shape.spots.items ≤ n + l.turn → n < length l.shape.spots.items →
       AnswerAt (is_searched l.shape.spots.items n) (Between l.extent.least l.extent.most (Read (holds l.table.words.items) l.rules (Edge false l.shape.primary l.shape.spots.items) l.first n)) (get_or l.values.items n None);
-  cost : l.steps + l.table.atoms * searched_count (take (length l.shape.spots.items - l.turn) l.shape.spots.items) ≤ l.fn.steps + l.table.atoms * searched_count l.shape.spots.items;
+  exact : l.steps + l.table.atoms * searched_count (take (length l.shape.spots.items - l.turn) l.shape.spots.items) ≡ l.fn.steps + l.table.atoms * searched_count l.shape.spots.items;
 }

@@ -1,4 +1,4 @@
-use Rattle.std.proofs.Common.{◌≡◌, ℕ, ◌+◌, ◌*◌, ◌<◌, ◌≤◌, get_or, length, None, true, drop}
+use Rattle.std.proofs.Common.{◌≡◌, ℕ, ◌+◌, ◌*◌, ◌<◌, get_or, length, None, true, drop}
 use Rattle.cql_lines.specs.Tables.{holds}
 use Rattle.cql_lines.specs.Values.{AnswerAt}
 use Rattle.cql_lines.specs.Reads.{Read}
@@ -13,5 +13,5 @@ invariant-loop-node g l = record {
   size : length l.values.items ≡ length l.shape.spots.items;
   done : (n : ℕ) → n < l.node →
       AnswerAt (is_searched l.shape.spots.items n) (Between l.extent.least l.extent.most (Read (holds l.table.words.items) l.rules (Edge true l.shape.primary l.shape.spots.items) l.first n)) (get_or l.values.items n None);
-  cost : l.steps + l.table.atoms * searched_count (drop l.node l.shape.spots.items) ≤ l.fn.steps + l.table.atoms * searched_count l.shape.spots.items;
+  exact : l.steps + l.table.atoms * searched_count (drop l.node l.shape.spots.items) ≡ l.fn.steps + l.table.atoms * searched_count l.shape.spots.items;
 }

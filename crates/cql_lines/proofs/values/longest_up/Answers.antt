@@ -1,4 +1,4 @@
-use Rattle.std.proofs.Common.{◌≡◌, ℕ, ◌<◌, length, true, ◌∙◌, sym, ap, subst, arith, None}
+use Rattle.std.proofs.Common.{◌≡◌, ℕ, ◌<◌, length, true, ◌∙◌, refl, sym, ap, subst, arith, None}
 use Rattle.std.specs.Prelude.{replicate}
 use Rattle.std.proofs.lemmas.List.{length-set, length-replicate}
 use Rattle.cql_lines.specs.Reads.{Read}
@@ -7,7 +7,7 @@ use Rattle.cql_lines.specs.Up.{StandsUp}
 use Rattle.cql_lines.specs.Shapes.{Edge, is_searched}
 use Rattle.cql_lines.specs.Lengths.{IsGreatestOrZero}
 use Rattle.cql_lines.proofs.UpLaw.{stands_up_first, up_more}
-use Rattle.cql_lines.proofs.Counts.{cost_all, cost_up}
+use Rattle.cql_lines.proofs.Counts.{exact_up}
 use Rattle.cql_lines.proofs.values.longest_up.Goals as goal
 
 pub loop-node-init : goal.loop-node-init
@@ -19,7 +19,7 @@ loop-node-init g c = record {
       (stands_up_first IsGreatestOrZero c.args.table.now.words.items c.args.rules.now c.args.shape.now.primary c.args.shape.now.spots.items);
   size = ap length c.in_ok-values.ensures ∙ length-replicate c.len-nodes.result None ∙ c.len-nodes.ensures;
   done = λ n low. absurd (omega (arith, low));
-  cost = cost_all _ _;
+  exact = refl;
 }
 
 within_spots : (size nodes node : ℕ) → nodes ≡ size → node < nodes → node < size
@@ -37,6 +37,6 @@ loop-node-preserved g c = record {
       (is_searched c.args.shape.now.spots.items) c.loop-node.values.items c.visit_up.result c.loop-node.node
       (within (length c.args.shape.now.spots.items) c.len-nodes.result c.loop-node.node (length c.loop-node.values.items) c.len-nodes.ensures c.loop-node.invariant.size c.loop-node-test.true)
       c.visit_up.ensures.value c.loop-node.invariant.done;
-  cost = cost_up c.args.shape.now.spots.items c.args.table.now.atoms _ _ _ c.loop-node.node (within_spots _ _ _ c.len-nodes.ensures c.loop-node-test.true)
-      c.visit_up.ensures.unsearched c.visit_up.ensures.cost c.loop-node.invariant.cost;
+  exact = exact_up c.args.shape.now.spots.items c.args.table.now.atoms _ _ _ c.loop-node.node (within_spots _ _ _ c.len-nodes.ensures c.loop-node-test.true)
+      c.visit_up.ensures.unsearched c.visit_up.ensures.searched c.loop-node.invariant.exact;
 }

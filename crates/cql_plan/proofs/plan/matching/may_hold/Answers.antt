@@ -1,7 +1,7 @@
 use Rattle.std.proofs.Common.{◌∙◌}
 use Rattle.cql_syntax.specs.TreeOf.{filters_tree, query_tree}
 use Rattle.cql_plan.proofs.Flattened.{passes_is, flat_passes}
-use Rattle.cql_plan.proofs.plan.may_hold.Goals as goal
+use Rattle.cql_plan.proofs.plan.matching.may_hold.Goals as goal
 
 pub returns-clause-value : goal.returns-clause-value
 returns-clause-value c =

@@ -1,7 +1,7 @@
 use Rattle.std.proofs.Common.{◌≡◌, ◌≢◌, ◌∙◌, [], map, Some, IfOk, subst}
 use Rattle.cql_syntax.specs.TreeOf.{filters_tree, query_tree}
 use Rattle.cql_plan.proofs.Flattened.{passes_is, hits_are, keys_are}
-use Rattle.cql_plan.proofs.plan.match_game.Goals as goal
+use Rattle.cql_plan.proofs.plan.matching.match_game.Goals as goal
 
 pub returns-clause-nodes : goal.returns-clause-nodes
 returns-clause-nodes g c =

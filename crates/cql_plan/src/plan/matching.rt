@@ -1,0 +1,66 @@
+//! How a plan is made, and the match of one game.
+ghost use Rattle.std.specs.Prelude.{◌≡◌, ◌≢◌, ◌<◌, [], true, false, length, map, Some, All, AllPairs, IfOk};
+ghost use Rattle.cql_syntax.specs.Hits.{hits, keys};
+ghost use Rattle.cql_syntax.specs.TreeOf.{query_tree};
+ghost use Rattle.cql_plan.specs.Needs.{query_passes};
+ghost use Rattle.cql_plan.specs.Plans.{query_of, nodes_of, keys_of};
+
+use crate::needs::all_needed;
+use crate::plan::Plan;
+use crate::verdict::{Verdict, find};
+use cq_outside::{NoMemory, Steps};
+use cql_rewrite::expand;
+use cql_syntax::TypedQuery;
+use pgn_tree::Game;
+use std::alloc::Global;
+use std::sync::ledger::Ledger;
+
+impl Plan {
+    /// The plan of a query.
+    pub fn make(alloc: Global, query: &TypedQuery) -> Result<Plan, NoMemory>
+        ensures { IfOk result (λ plan. query_tree (query_of plan).query ≡ query_tree query.now.query) }
+    {
+        let flat = expand(alloc, query)?;
+        let query = TypedQuery {
+            query: query.query.copy()?,
+        };
+        Ok(Plan { query, flat })
+    }
+
+    /// The query that it was made from.
+    pub fn query(&self) -> &TypedQuery
+        ensures { result.now ≡ query_of self.now }
+    {
+        &self.query
+    }
+}
+
+/// Whether a game has what the query needs; where it hasn't, there is no hit. The game's tags and men are looked at once, and no memory
+/// is taken.
+pub fn may_hold(plan: &Plan, game: &Game) -> bool
+    ensures value { result ≡ query_passes (query_tree (query_of plan.now).query) game.now }
+    ensures hit { hits (query_tree (query_of plan.now).query) game.now ≢ [] → result ≡ true }
+{
+    all_needed(&plan.flat.items, plan.flat.variations, game)
+}
+
+/// The hits of the plan's query in a game, and its keys.
+///
+/// A game that hasn't what the query needs is turned away by [`may_hold`]. No step is taken.
+pub fn match_game<L: Ledger>(
+    alloc: Global,
+    plan: &Plan,
+    game: &Game,
+    _steps: &mut Steps<L>,
+) -> Result<Verdict, NoMemory>
+    ensures nodes { IfOk result (λ v. nodes_of v ≡ hits (query_tree (query_of plan.now).query) game.now) }
+    ensures increasing { IfOk result (λ v. AllPairs (λ m n. m < n) (nodes_of v)) }
+    ensures inside { IfOk result (λ v. All (λ n. n < length game.now.nodes) (nodes_of v)) }
+    ensures keys { IfOk result (λ v. nodes_of v ≢ [] → map Some (keys_of v) ≡ keys (query_tree (query_of plan.now).query) game.now) }
+    ensures no_keys { IfOk result (λ v. nodes_of v ≡ [] → keys_of v ≡ []) }
+    ensures turned_away { query_passes (query_tree (query_of plan.now).query) game.now ≡ false
+        → IfOk result (λ v. nodes_of v ≡ []) }
+    ensures steps { _steps.new ≡ _steps.old }
+{
+    find(alloc, &plan.flat.items, plan.flat.variations, game)
+}
