@@ -1,4 +1,5 @@
 pub mod Building
+pub mod Cells
 pub mod Down
 pub mod Lengths
 pub mod Places
