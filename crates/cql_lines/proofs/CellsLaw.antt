@@ -4,10 +4,11 @@ use Rattle.cq_outside.specs.Greatest.{IsGreatest}
 use Rattle.cql_lines.specs.Cells.{Known, both_kinds, place_cell, LeavesRoom, Counts, IsAnswer, Allowed}
 use Rattle.cql_lines.specs.Down.{found}
 use Rattle.cql_lines.specs.Lengths.{greatest_in}
+use Rattle.cql_lines.specs.Limits.{most_nodes}
 use Rattle.cql_lines.specs.Reads.{FromPlace, Read}
 use Rattle.cql_lines.specs.Sets.{union_in}
 use Rattle.cql_lines.specs.Shapes.{joined, Edge}
-use Rattle.cql_lines.specs.Tables.{holds, most_nodes}
+use Rattle.cql_lines.specs.Tables.{holds}
 use Rattle.cql_lines.specs.declared.automaton.Rule.{Rule}
 use Rattle.cql_lines.specs.declared.shape.Limits.{Limits}
 use Rattle.cql_lines.specs.declared.shape.Spot.{Spot}

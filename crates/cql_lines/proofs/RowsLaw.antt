@@ -40,11 +40,11 @@ module _ {Row : Type 0} (cells : Row → ℕ → ℕ) where
   blank_more (r ∷ rows) row blank before (suc n) j = blank_more rows row blank (λ m k. before (suc m) k) n j
 
   set_size : (rows : List Row) (n : ℕ) (row : Row) → length (map cells (slice_set rows n row)) ≡ length (map cells rows)
-  set_size rows n row = length-map cells (slice_set rows n row) ∙ length-set rows n row ∙ sym (length-map cells rows)
+  set_size rows n row = length-map (slice_set rows n row) cells ∙ length-set rows n row ∙ sym (length-map rows cells)
 
   set_here : (rows : List Row) (n j : ℕ) (row : Row) → n < length rows → cell (map cells (slice_set rows n row)) n j ≡ cells row j
   set_here rows n j row low =
-      let within : n < length (map cells rows) = (let e = length-map cells rows in omega arith) in
+      let within : n < length (map cells rows) = (let e = length-map rows cells in omega arith) in
       ap (λ rs. cell rs n j) (map-set cells rows n row) ∙ ap (λ (r : ℕ → ℕ). r j) (get_or-set_same (map cells rows) n (cells row) (λ k. 0) within)
 
   set_other : (rows : List Row) (n m j : ℕ) (row : Row) → (m ≡ n → ⊥) → cell (map cells (slice_set rows n row)) m j ≡ cell (map cells rows) m j

@@ -5,6 +5,7 @@ use Rattle.cql_lines.specs.declared.automaton.Rule.{Rule}
 use Rattle.cql_lines.specs.declared.shape.Limits.{Limits}
 use Rattle.cql_lines.specs.Down.{found}
 use Rattle.cql_lines.specs.Lengths.{IsGreatestOrZero, greatest_in, place_value}
+use Rattle.cql_lines.specs.Limits.{longest_limit}
 use Rattle.cql_lines.specs.Places.{IsIn}
 use Rattle.cql_lines.specs.Sets.{IsSet, Between, union_in, place_set}
 
@@ -30,7 +31,7 @@ LeavesRoom false m = m < 4294967295
 
 -- limits ask for sets, and only where all lengths count is the greatest of them enough
 abbrev pub Counts : Bool → Option Limits → Type 0
-Counts true (Some e) = e.most ≤ 127
+Counts true (Some e) = e.most ≤ longest_limit
 Counts false None = Unit {0}
 Counts sets extent = ⊥
 

@@ -3,7 +3,8 @@ use Rattle.std.specs.Prelude.{◌≡◌, ℕ, ◌<◌, ◌≤◌, List, Some, le
 use Rattle.cql_lines.specs.declared.automaton.Rule.{Rule}
 use Rattle.cql_lines.specs.declared.shape.Shape.{Shape}
 use Rattle.cql_lines.specs.declared.table.AtomTable.{AtomTable}
-use Rattle.cql_lines.specs.Tables.{atoms_of, most_nodes, nodes_of}
+use Rattle.cql_lines.specs.Limits.{most_nodes}
+use Rattle.cql_lines.specs.Tables.{atoms_of, nodes_of}
 use Rattle.cql_lines.specs.Trees.{spots_of}
 
 -- at most 64 rules, whose atoms the table has, and a table of the nodes of the tree, of which there are no more than there may be

@@ -7,10 +7,6 @@ use Rattle.cql_lines.specs.declared.table.AtomTable.{AtomTable}
 abbrev pub atoms_of : AtomTable → ℕ
 atoms_of table = table.atoms
 
--- how many nodes a table may have
-abbrev pub most_nodes : ℕ
-most_nodes = 65536
-
 -- for each node a word with a bit for each atom
 abbrev pub words_of : AtomTable → List ℕ
 words_of table = table.words.items

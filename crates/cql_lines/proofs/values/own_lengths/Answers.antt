@@ -1,9 +1,6 @@
-use Rattle.std.proofs.Common.{◌≡◌, ℕ, ◌<◌, ◌≤◌, ◌∙◌, get_or, length, List, slice_get, Some, slice_set, arith, refl, sym, ap, inl, inr, zero, suc, ◌+◌}
-use Rattle.std.specs.Prelude.{replicate}
-use Rattle.std.proofs.lemmas.Bool.{cases_eq}
-use Rattle.std.proofs.lemmas.Option.{get_or_from_slice_get, slice_get_within, slice_get-get_or}
-use Rattle.std.proofs.lemmas.List.{get_or-set_same, get_or-set_other, length-set}
-use Rattle.cql_lines.specs.declared.automaton.Rule.{Rule}
+use Rattle.std.proofs.Common.{◌∙◌, length, arith, refl}
+use Rattle.std.proofs.lemmas.Option.{slice_get_within, slice_get-get_or}
+use Rattle.std.proofs.lemmas.List.{length-set}
 use Rattle.cql_lines.specs.Lengths.{place_value, at}
 use Rattle.cql_lines.proofs.RowsLaw.{zeros, here_more, past_more}
 use Rattle.cql_lines.proofs.values.own_lengths.Goals as goal

@@ -1,4 +1,4 @@
-use Rattle.std.proofs.Common.{◌≡◌, ℕ, List, map, sym, subst, rules}
+use Rattle.std.proofs.Common.{◌≡◌, ℕ, map, sym, subst, rules}
 use Rattle.cql_lines.specs.Down.{cell}
 use Rattle.cql_lines.proofs.RowsLaw.{blank_more}
 use Rattle.cql_lines.proofs.visits.blank_rows.Goals as goal

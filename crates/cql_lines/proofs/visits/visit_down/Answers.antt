@@ -1,7 +1,6 @@
-use Rattle.std.proofs.Common.{◌≡◌, ◌∙◌, ℕ, ◌<◌, length, map, get_or, false, sym, ap, subst, arith}
+use Rattle.std.proofs.Common.{◌≡◌, ◌∙◌, ℕ, ◌<◌, length, map, false, sym, ap, subst, arith}
 use Rattle.std.proofs.lemmas.List.{length-map}
 use Rattle.cql_lines.specs.Cells.{Known, both_kinds, place_cell, LeavesRoom, Allowed}
-use Rattle.cql_lines.specs.Down.{cell}
 use Rattle.cql_lines.specs.Reads.{Read}
 use Rattle.cql_lines.specs.Shapes.{Edge, is_searched}
 use Rattle.cql_lines.specs.Tables.{holds}
@@ -24,7 +23,7 @@ pub own-own-requires-clause-room : goal.own-own-requires-clause-room
 own-own-requires-clause-room g c = λ j.
     let s = c.args.shape.now in
     let b = g.R.Row.sets in
-    let low = within c.args.node (length s.spots.items) (length (map g.R.Row.cells c.args.rows.now)) (length c.args.rows.now) c.requires.node c.requires.stands.count (length-map g.R.Row.cells c.args.rows.now) in
+    let low = within c.args.node (length s.spots.items) (length (map g.R.Row.cells c.args.rows.now)) (length c.args.rows.now) c.requires.node c.requires.stands.count (length-map c.args.rows.now g.R.Row.cells) in
     subst (λ row. LeavesRoom b (row j)) (cell_of g.R.Row.cells c.args.rows.now c.args.node c.index-rows-node.result low)
     (room_below s.primary s.spots.items s.below c.args.table.now.words.items c.args.rules.now c.requires.fit.nodes b c.args.node j _
     (whole_at (Known b) (both_kinds b) (same_known b) (two_known b) c.args.table.now.words.items c.args.rules.now s.primary s.spots.items s.below c.args.node (map g.R.Row.cells c.args.rows.now)
@@ -35,7 +34,7 @@ returns-clause-stands g c =
     let s = c.args.shape.now in
     let b = g.R.Row.sets in
     let rows = map g.R.Row.cells c.args.rows.now in
-    let low = within c.args.node (length s.spots.items) (length rows) (length c.args.rows.now) c.requires.node c.requires.stands.count (length-map g.R.Row.cells c.args.rows.now) in
+    let low = within c.args.node (length s.spots.items) (length rows) (length c.args.rows.now) c.requires.node c.requires.stands.count (length-map c.args.rows.now g.R.Row.cells) in
     let same = sym (cell_of g.R.Row.cells c.args.rows.now c.args.node c.index-rows-node.result low) in
     visited (Known b) (both_kinds b) (same_known b) (two_known b) c.args.table.now.words.items c.args.rules.now s.primary s.spots.items s.below c.args.node rows
     (map g.R.Row.cells c.pass_up.new.rows) (g.R.Row.cells c.own-own.result) c.requires.node c.requires.stands
@@ -49,7 +48,7 @@ returns-clause-value g c =
     let s = c.args.shape.now in
     let b = g.R.Row.sets in
     let rows = map g.R.Row.cells c.args.rows.now in
-    let low = within c.args.node (length s.spots.items) (length rows) (length c.args.rows.now) c.requires.node c.requires.stands.count (length-map g.R.Row.cells c.args.rows.now) in
+    let low = within c.args.node (length s.spots.items) (length rows) (length c.args.rows.now) c.requires.node c.requires.stands.count (length-map c.args.rows.now g.R.Row.cells) in
     let same = sym (cell_of g.R.Row.cells c.args.rows.now c.args.node c.index-rows-node.result low) in
     answered_by (is_searched s.spots.items c.args.node)
     (Allowed s.extent (Read (holds c.args.table.now.words.items) c.args.rules.now (Edge false s.primary s.spots.items) c.args.first c.args.node))

@@ -1,4 +1,4 @@
-use Rattle.std.proofs.Common.{◌∙◌, ℕ, ◌+◌, List, map, slice_set, true, sym, subst}
+use Rattle.std.proofs.Common.{◌∙◌, ◌+◌, map, true, sym, subst}
 use Rattle.std.proofs.lemmas.List.{map-set}
 use Rattle.cql_lines.specs.Cells.{Known, place_cell, Allowed}
 use Rattle.cql_lines.specs.Reads.{Read}
