@@ -121,13 +121,13 @@ impl Position {
         &self.men
     }
 
-    /// Whether the men stand on a board: they always do. The clauses are what every position keeps.
+    /// Whether the number of the move counts from 1: it always does. The clauses are what every position keeps.
     #[inline]
     pub fn is_position(&self) -> bool
         ensures value { result ≡ true }
         ensures kept { IsPosition self.now }
     {
-        true
+        self.number > 0
     }
 
     /// The side to move.
