@@ -1,5 +1,5 @@
 //! Positions.
-ghost use Rattle.std.specs.Prelude.{◌≡◌, ◌<◌};
+ghost use Rattle.std.specs.Prelude.{◌≡◌, ◌<◌, true};
 ghost use Rattle.std.specs.List.{list_any};
 ghost use Rattle.cq_position.specs.Board.{man_at, castling_right, start_board, count_of};
 ghost use Rattle.cq_position.specs.Board as board;
