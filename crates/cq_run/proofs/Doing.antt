@@ -21,10 +21,6 @@ use Rattle.cq_words.specs.declared.job.Job.TheVariants.{Run, Eval, Check, Explai
 use Rattle.cq_words.specs.declared.job.WordsRefused.{WordsRefused as RefusedWords}
 use Rattle.cql_syntax.specs.Trees.{QueryTree}
 use Rattle.cql_syntax.specs.declared.fault.QueryFault.{QueryFault}
-use Rattle.cql_syntax.specs.declared.token.QueryToken.{QueryToken}
-use Rattle.cql_lexer.specs.Tokens.{tokens_of}
-use Rattle.cql_parser.specs.Drafts.{Spells}
-use Rattle.cql_parser.specs.Faults.{IsFault}
 use Rattle.cq_run.specs.declared.asked.QueryRefusal.{QueryRefusal}
 use Rattle.cq_run.specs.declared.asked.QueryRefusal.TheVariants.{Faulty, Unopened, Unread, OutOfMemory}
 use Rattle.cq_run.specs.declared.status.Status.{Status}

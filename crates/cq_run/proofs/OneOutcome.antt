@@ -1,7 +1,6 @@
 -- A text is at most one query, has at most one fault, and not both.
 use Rattle.std.proofs.Common.{◌≡◌, inl, inr, ℕ, List, Result, Ok, Err, sym, ◌∙◌, subst}
 use Rattle.cql_syntax.specs.Limits.{most_open}
-use Rattle.cql_syntax.specs.TreeFaults.{tree_fault}
 use Rattle.cql_syntax.specs.Trees.{QueryTree}
 use Rattle.cql_syntax.specs.declared.fault.QueryFault.{QueryFault}
 use Rattle.cql_syntax.specs.declared.token.QueryToken.{QueryToken}

@@ -6,7 +6,7 @@ use Rattle.cql_lines.specs.declared.automaton.Rule.{Rule}
 use Rattle.cql_lines.specs.declared.shape.Spot.{Spot}
 use Rattle.cql_lines.specs.Reads.{FromPlace}
 use Rattle.cql_lines.proofs.Below.{Below}
-use Rattle.cql_lines.specs.Lengths.{IsGreatestOrZero, at}
+use Rattle.cql_lines.specs.Lengths.{IsGreatestOrZero}
 use Rattle.cql_lines.specs.Shapes.{joined, Edge}
 use Rattle.cql_lines.specs.Tables.{holds}
 use Rattle.cql_lines.specs.Down.{cell, Late, Stands, Passed}

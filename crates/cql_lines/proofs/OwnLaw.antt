@@ -5,7 +5,7 @@ use Rattle.std.proofs.lemmas.Option.{slice_get_within}
 use Rattle.cql_lines.specs.declared.automaton.Rule.{Rule}
 use Rattle.cql_lines.specs.Reads.{FromPlace, Read}
 use Rattle.cql_lines.proofs.Below.{Below}
-use Rattle.cql_lines.specs.Lengths.{IsGreatestOrZero, is_set, at, greatest_in, farther, place_value}
+use Rattle.cql_lines.specs.Lengths.{IsGreatestOrZero, is_set, greatest_in, farther, place_value}
 use Rattle.cq_outside.specs.Greatest.{IsGreatest}
 use Rattle.cql_lines.specs.Tables.{holds}
 use Rattle.cql_lines.specs.Down.{found}
