@@ -9,9 +9,6 @@ use crate::token::{LexemeKind, Token};
 use cq_outside::NoMemory;
 use std::alloc::Global;
 
-/// How many tokens room is made for at first, at most.
-const USUAL_TOKENS: usize = 512;
-
 /// The tokens of a text of at most 2^24 bytes; escape lines give none. `start` is the place of its first byte in the
 /// archive, from which the tokens' places count, and `first` says whether that byte stands in the first column. Fails
 /// only when out of memory.
@@ -22,8 +19,7 @@ pub fn tokens(alloc: Global, bytes: &[u8], start: u64, first: bool) -> Result<Ve
     ensures order { IfOk result (λ v. AreTokensInOrder start v.items) }
     ensures each { IfOk result (λ v. All (IsTokenOf start bytes.now) v.items) }
 {
-    // Two bytes a token, with the white space between, are few.
-    let mut tokens = Vec::with_capacity(alloc, (bytes.len() / 2).min(USUAL_TOKENS))?;
+    let mut tokens = Vec::new(alloc);
     let mut at = 0;
     while let Some(lexeme) = next_lexeme(bytes, at, first) {
         if let LexemeKind::Token(kind) = lexeme.kind {

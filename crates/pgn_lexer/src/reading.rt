@@ -1,6 +1,5 @@
 //! The longest reading at a place.
 ghost use Rattle.std.specs.Prelude.{◌≡◌, false, ◌+◌, ◌-◌, ◌<◌, ◌≤◌, ◌==◌, length, drop, slice_index};
-ghost use Rattle.std.specs.Char.{is_ascii_alphanumeric};
 ghost use Rattle.std.specs.List.{prefix_len, position_or_len};
 ghost use Rattle.pgn_lexer.specs.Bytes.{continues_symbol};
 ghost use Rattle.pgn_lexer.specs.Readings.{token, comment, line_comment, escape_line, is_special, body_len, text, symbol, nag, good_suffix, poor_suffix, null_move, single, reading};
@@ -60,7 +59,6 @@ pub fn place_of(byte: u8, bytes: &[u8]) -> usize
 }
 
 // How many bytes at the start continue a symbol.
-#[inline]
 fn symbol_len(bytes: &[u8]) -> usize
     ensures value { result ≡ prefix_len continues_symbol bytes.now }
     ensures within { result ≤ length bytes.now }
@@ -150,7 +148,6 @@ fn text(rest: &[u8]) -> Reading
 
 // A symbol from its first letter or digit.
 #[tactic(auto, unfolding(crate::specs::Readings::symbol))]
-#[inline]
 fn symbol(rest: &[u8]) -> Reading
     ensures { result ≡ symbol rest.now }
 {
@@ -226,13 +223,14 @@ fn single(b: u8) -> Reading
     token(kind, 1)
 }
 
-// The reading of a byte that is neither white space, a letter nor a digit, by its kind.
+// The reading of a byte, which is not white space, by its kind.
 #[tactic(auto, unfolding(crate::specs::Readings::reading))]
-fn read_sign(b: u8, rest: &[u8], first: bool) -> Reading
-    requires { is_ascii_alphanumeric b ≡ false }
+#[inline]
+fn read(b: u8, rest: &[u8], first: bool) -> Reading
     ensures { result ≡ reading first b rest.now }
 {
     match b {
+        _ if b.is_ascii_alphanumeric() => symbol(rest),
         b'{' => comment(rest),
         b';' => line_comment(rest),
         b'%' if first => escape_line(rest),
@@ -242,19 +240,6 @@ fn read_sign(b: u8, rest: &[u8], first: bool) -> Reading
         b'?' => poor_suffix(rest),
         b'-' => null_move(rest),
         _ => single(b),
-    }
-}
-
-// The reading of a byte that is not white space: most are symbols.
-#[tactic(auto, unfolding(crate::specs::Readings::reading))]
-#[inline]
-fn read(b: u8, rest: &[u8], first: bool) -> Reading
-    ensures { result ≡ reading first b rest.now }
-{
-    if b.is_ascii_alphanumeric() {
-        symbol(rest)
-    } else {
-        read_sign(b, rest, first)
     }
 }
 
