@@ -1,27 +1,19 @@
 -- Changes of one node after another.
-use Rattle.std.proofs.Common.{◌≡◌, ℕ, zero, suc, ◌+◌, ◌-◌, ◌<◌, ◌≤◌, Bool, true, false, ◌||◌, List, [], ◌∷◌, ◌++◌, length, take, drop, get_or, map, refl, sym, ap, ◌∙◌, subst, arith, eqb-true, inl, inr, append_assoc, append-nil, Some}
-use Rattle.std.specs.Prelude.{slice_set, All, AllPairs, if◌then◌else◌, ◌==◌, Contains}
+use Rattle.std.proofs.Common.{◌≡◌, ℕ, zero, suc, ◌+◌, ◌-◌, ◌<◌, ◌≤◌, Bool, true, false, ◌||◌, List, [], ◌∷◌, ◌++◌, length, take, drop, get_or, map, refl, sym, ap, ◌∙◌, subst, arith, eqb-true, inl, inr}
+use Rattle.std.specs.Prelude.{slice_set, All, AllPairs, if◌then◌else◌, ◌==◌}
 use Rattle.std.specs.List.{list_any}
 use Rattle.std.proofs.lemmas.Bool.{cases_eq, eq-eqb, ne_eqb}
-use Rattle.std.proofs.lemmas.List.{get_or-set_same, get_or-set_other, ext_get_or, take_more, take-append-drop, length-take-le, drop_all, drop_more, get_or-take, get_or_default}
+use Rattle.std.proofs.lemmas.List.{get_or-set_same, get_or-set_other, ext_get_or, length-take-le, drop_all, drop_more, get_or-take, get_or_default}
 use Rattle.std.proofs.lemmas.List.Sums.{fold-append}
 use Rattle.std.proofs.lemmas.List.Folds.{list_any_more, Any-from_list_any}
 use Rattle.std.proofs.lemmas.List.FromFn.{length-map-range_with_len, get_or-map-range_with_len}
 use Rattle.std.proofs.Math.ListN.{length-set}
-use Rattle.std.proofs.Math.Seq.{set-append_seam, get_or-append_seam}
-use Rattle.cq_position.specs.Board.{Board}
-use Rattle.cq_position.specs.Legal.{Leads}
-use Rattle.cq_position.specs.declared.moves.Move.{Move}
 use Rattle.cq_position.specs.declared.games.GameResult.{GameResult}
-use Rattle.cq_position.specs.Games.{Game, Node, node_at, no_node, numbers, with_node, with_nag, with_comment, bare_node, IsComment, IsTree, way_up}
-use Rattle.cq_position.specs.Comments.{words, comment_of}
-use Rattle.cq_position.proofs.Trees.{prefix_tree, way_in_prefix}
+use Rattle.cq_position.specs.Games.{Game, Node, node_at, no_node, numbers, with_node, with_comment}
 use Rattle.cql_syntax.specs.Hits.{with_marks, item_texts, comment_texts}
 use Rattle.cql_syntax.specs.TreeOf.{filter_tree, filter_trees}
 use Rattle.cql_syntax.specs.declared.tree.Filter.{Filter}
 use Rattle.cq_annotate.specs.Marking.{node_marked, game_marked}
-use Rattle.cq_annotate.specs.Copying.{with_notes_of}
-use Rattle.cq_position.specs.Games.{with_nags, with_comments}
 
 -- one change and then another
 pub twice : (nodes : List Node) (n : ℕ) (f g : Node → Node) → n < length nodes → with_node (with_node nodes n f) n g ≡ with_node nodes n (λ x. g (f x))
@@ -114,31 +106,8 @@ texts_from items i f h is =
     ap (λ l. comment_texts (filter_trees l)) (drop_more items i f h)
     ∙ ap (λ g. item_texts (filter_tree g) ++ comment_texts (filter_trees (drop (i + 1) items))) (sym is)
 
--- numeric annotation glyphs and comments one by one
-pub nags_from : (nags : List ℕ) (i nag : ℕ) → i < length nags → nag ≡ get_or nags i nag → (x : Node) → with_nags (drop i nags) x ≡ with_nags (drop (i + 1) nags) (with_nag nag x)
-nags_from nags i nag h is x =
-    ap (λ l. record x { nags = x.nags ++ l }) (drop_more nags i nag h ∙ ap (λ m. m ∷ drop (i + 1) nags) (sym is))
-    ∙ sym (ap (λ l. record x { nags = l }) (append_assoc x.nags (nag ∷ []) (drop (i + 1) nags)))
-
-pub comments_from : (comments : List (List ℕ)) (i : ℕ) (text : List ℕ) → i < length comments → text ≡ get_or comments i [] → All IsComment comments
-    → (x : Node) → with_comments (drop i comments) x ≡ with_comments (drop (i + 1) comments) (with_comment text x)
-comments_from comments i text h is all x =
-    let spaced : comment_of (words text) ≡ text ∷ [] = subst (λ t. comment_of (words t) ≡ t ∷ []) (sym is) (all i [] h).spaced in
-    ap (λ l. record x { comments = x.comments ++ l }) (drop_more comments i [] h ∙ ap (λ t. t ∷ drop (i + 1) comments) (sym is) ∙ ap (λ c. c ++ drop (i + 1) comments) (sym spaced))
-    ∙ sym (ap (λ l. record x { comments = l }) (append_assoc x.comments (comment_of (words text)) (drop (i + 1) comments)))
-
-pub no_nags_left : (nags : List ℕ) (i : ℕ) → length nags ≤ i → (x : Node) → with_nags (drop i nags) x ≡ x
-no_nags_left nags i h x = ap (λ l. record x { nags = l }) (ap (λ l. x.nags ++ l) (drop_all i nags h) ∙ append-nil x.nags)
-
-pub no_comments_left : (comments : List (List ℕ)) (i : ℕ) → length comments ≤ i → (x : Node) → with_comments (drop i comments) x ≡ x
-no_comments_left comments i h x = ap (λ l. record x { comments = l }) (ap (λ l. x.comments ++ l) (drop_all i comments h) ∙ append-nil x.comments)
-
 pub no_texts_left : (items : List Filter) (i : ℕ) → length items ≤ i → (x : Node) → with_marks (comment_texts (filter_trees (drop i items))) x ≡ x
 no_texts_left items i h x = ap (λ l. with_marks (comment_texts (filter_trees l)) x) (drop_all i items h)
-
--- one node more of a copy
-pub at_seam : (xs : List Node) (x : Node) (k : ℕ) (f : Node → Node) → k ≡ length xs → f x ≡ f (node_at (xs ++ x ∷ []) k) → with_node (xs ++ x ∷ []) k f ≡ xs ++ f x ∷ []
-at_seam xs x k f at same = ap (slice_set (xs ++ x ∷ []) k) (sym same) ∙ ap (λ i. slice_set (xs ++ x ∷ []) i (f x)) at ∙ set-append_seam xs x [] (f x)
 
 -- the nodes increase, so that none is marked twice
 not_yet : (nodes : List ℕ) (i n : ℕ) → AllPairs (λ a b. a < b) nodes → i < length nodes → n ≡ get_or nodes i n → (b : Bool) → list_any (λ k. k == n) (take i nodes) ≡ b → b ≡ false
@@ -208,68 +177,9 @@ none_marked texts old =
 pub as_many : (texts : List (List ℕ)) (nodes : List ℕ) (old now : Game) → now ≡ game_marked texts nodes old → length now.nodes ≡ length old.nodes
 as_many texts nodes old now is = ap (λ g. length g.nodes) is ∙ length-map-range_with_len (node_marked texts nodes old) 0 (length old.nodes)
 
--- what is asked where node number k is added to a copy of those before it
-pub record MayAdd (nodes : List Node) (k p : ℕ) : Type 0 where
-  pub within : p < length (take k nodes)
-  pub preorder : Contains (way_up (take k nodes) (length (take k nodes) - 1)) p
-  pub few : length (take k nodes) < 65536
-  pub here : node_at (take k nodes) p ≡ node_at nodes p
-  pub count : length (take k nodes) ≡ k
-
-pub may_add : (nodes : List Node) (k p : ℕ) → IsTree nodes → 0 < k → k < length nodes → (node_at nodes k).parent ≡ Some p → MayAdd nodes k p
-may_add nodes k p tree later h is =
-    let child = tree.children k later h in
-    let number : child.number ≡ p = some_is child.number p (sym child.parent ∙ is) in
-    let count = length-take-le k nodes (omega (arith, h)) in
-    let whole : take k nodes ++ drop k nodes ≡ nodes = take-append-drop k nodes in
-    let part : IsTree (take k nodes) = prefix_tree (take k nodes) (drop k nodes) (omega (arith, later, count)) (subst IsTree (sym whole) tree) in
-    let way : way_up (take k nodes) (k - 1) ≡ way_up nodes (k - 1) = way_in_prefix (take k nodes) (drop k nodes) (k - 1) part (omega (arith, later, count)) ∙ ap (λ l. way_up l (k - 1)) whole in
-    let last : length (take k nodes) - 1 ≡ k - 1 = omega (arith, count) in
-    record {
-      within = omega (arith, child.after, number, count);
-      preorder = subst (λ j. Contains (way_up (take k nodes) j) p) (sym last) (subst (λ l. Contains l p) (sym way) (subst (Contains (way_up nodes (k - 1))) number child.preorder));
-      few = omega (arith, count, h, tree.few);
-      here = get_or-take k nodes p no_node (omega (arith, child.after, number));
-      count = count;
-    }
-  where
-    some_is : (i j : ℕ) → Some i ≡ Some j → i ≡ j
-    some_is i j e = cc
-
 -- one change of a game and then another
 pub two_changes : (old mid new : Game) (n : ℕ) (f g h : Node → Node) → n < length old.nodes → mid ≡ record old { nodes = with_node old.nodes n f } → new ≡ record mid { nodes = with_node mid.nodes n g }
     → ((x : Node) → g (f x) ≡ h x) → new ≡ record old { nodes = with_node old.nodes n h }
 two_changes old mid new n f g h inside first second both =
     second ∙ ap (λ (m : Game). record m { nodes = with_node m.nodes n g }) first
     ∙ ap (λ (l : List Node). record old { nodes = l }) (twice old.nodes n f g inside ∙ same_change old.nodes n (λ x. g (f x)) h both)
-
--- the copy of one node more
-pub node_added : (old mid new : Game) (nodes : List Node) (k p : ℕ) (m : Move) (q : Board) → k < length nodes → old.nodes ≡ take k nodes
-    → (node_at nodes k).parent ≡ Some p → (node_at nodes k).led_by ≡ Some m → q ≡ (node_at nodes k).position
-    → mid ≡ record old { nodes = old.nodes ++ bare_node (Some p) (Some m) q ∷ [] } → new ≡ record mid { nodes = with_node mid.nodes k (with_notes_of (node_at nodes k)) }
-    → new ≡ record old { nodes = take (k + 1) nodes }
-node_added old mid new nodes k p m q h before parent led at first second =
-    let x = node_at nodes k in
-    let bare = bare_node (Some p) (Some m) q in
-    let count = length-take-le k nodes (omega (arith, h)) in
-    let noted : with_notes_of x bare ≡ x = with_parts p m q x (sym parent) (sym led) at in
-    let seam : node_at (take k nodes ++ bare ∷ []) k ≡ bare = ap (node_at (take k nodes ++ bare ∷ [])) (sym count) ∙ get_or-append_seam (take k nodes) bare [] no_node in
-    let set : with_node (take k nodes ++ bare ∷ []) k (with_notes_of x) ≡ take k nodes ++ with_notes_of x bare ∷ [] =
-    at_seam (take k nodes) bare k (with_notes_of x) (sym count) (ap (with_notes_of x) (sym seam)) in
-    second ∙ ap (λ (g : Game). record g { nodes = with_node g.nodes k (with_notes_of x) }) first
-    ∙ ap (λ (l : List Node). record old { nodes = with_node (l ++ bare ∷ []) k (with_notes_of x) }) before
-    ∙ ap (λ (l : List Node). record old { nodes = l }) (set ∙ ap (λ y. take k nodes ++ y ∷ []) noted ∙ sym (take_more nodes k no_node h))
-  where
-    with_parts : (p : ℕ) (m : Move) (q : Board) (x : Node) → Some p ≡ x.parent → Some m ≡ x.led_by → q ≡ x.position → with_notes_of x (bare_node (Some p) (Some m) q) ≡ x
-    with_parts p m q x a b e =
-        ap (λ o. with_notes_of x (bare_node o (Some m) q)) a ∙ ap (λ o. with_notes_of x (bare_node x.parent o q)) b ∙ ap (λ r. with_notes_of x (bare_node x.parent x.led_by r)) e
-
--- the move to a node leads to its position
-pub move_is : (nodes : List Node) (k p : ℕ) (m : Move) → IsTree nodes → 0 < k → k < length nodes → (node_at nodes k).parent ≡ Some p → (node_at nodes k).led_by ≡ Some m
-    → Leads (node_at nodes p).position m (node_at nodes k).position
-move_is nodes k p m tree later h parent led =
-    let child = tree.children k later h in
-    let number : child.number ≡ p = (let e = sym child.parent ∙ parent in cc) in
-    let move : child.move ≡ m = (let e = sym child.led_by ∙ led in cc) in
-    subst (λ i. Leads (node_at nodes i).position m (node_at nodes k).position) number
-    (subst (λ s. Leads (node_at nodes child.number).position s (node_at nodes k).position) move child.leads)

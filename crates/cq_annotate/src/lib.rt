@@ -1,7 +1,6 @@
 //! Games whose hits are marked by comments.
 #![tactic(auto)]
 
-mod copying;
 pub mod laws;
 mod marking;
 

@@ -6,7 +6,6 @@ ghost use Rattle.cql_syntax.specs.Hits.{marks, item_texts, comment_texts, with_m
 ghost use Rattle.cql_syntax.specs.TreeOf.{filter_tree, filters_tree, query_tree};
 ghost use Rattle.cq_annotate.specs.Marking.{game_marked};
 
-use crate::copying::copy;
 use cq_outside::NoMemory;
 use cql_syntax::{Filter, Filters, Form, Query};
 use pgn_tree::Game;
@@ -22,7 +21,7 @@ pub fn mark(alloc: Global, game: &Game, nodes: &[u32], query: &Query) -> Result<
     requires brace { All (λ text. All (λ b. b ≢ closing_brace) text) (marks (query_tree query.now)) }
     ensures { IfOk result (λ g. g ≡ game_marked (marks (query_tree query.now)) nodes.now game.now) }
 {
-    let mut marked = copy(alloc, game)?;
+    let mut marked = game.copy(alloc)?;
     for node in nodes {
         add_marks(&mut marked, *node, query)?;
     }

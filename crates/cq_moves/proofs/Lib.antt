@@ -15,3 +15,4 @@ pub mod Candidates
 pub mod Safety
 pub mod Walk
 pub mod Origins
+pub mod Targets

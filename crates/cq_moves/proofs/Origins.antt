@@ -129,3 +129,29 @@ module _ (p : Board) (a b : ℕ) (h : a < 64) (k : b < 64) where
       let e = same_man-is (man_at p.men a) (man_of p.side piece) st in
       let parts = four_parts (is_of_side p.side (man_at p.men a)) _ _ (goes_as (man_at p.men a) p a b) r in
       comes p.side piece refl e (ap (λ m. goes_as m p a b) (sym e) ∙ parts.1)
+
+  -- a queen, rook, bishop or knight is seen from the goal exactly where it attacks it
+  seen_as : (side : Side) (piece : Piece) → (piece ≡ Pawn → ⊥) → man_at p.men a ≡ man_of side piece
+      → attacks_as (man_of side piece) (is_occupied p.men) b a ≡ attacks p.men a b
+  unfolding attacks
+  seen_as White King other e = sym (both_ways White King (is_occupied p.men) a b h k other) ∙ ap (λ m. attacks_as m (is_occupied p.men) a b) (sym e)
+  seen_as White Queen other e = sym (both_ways White Queen (is_occupied p.men) a b h k other) ∙ ap (λ m. attacks_as m (is_occupied p.men) a b) (sym e)
+  seen_as White Rook other e = sym (both_ways White Rook (is_occupied p.men) a b h k other) ∙ ap (λ m. attacks_as m (is_occupied p.men) a b) (sym e)
+  seen_as White Bishop other e = sym (both_ways White Bishop (is_occupied p.men) a b h k other) ∙ ap (λ m. attacks_as m (is_occupied p.men) a b) (sym e)
+  seen_as White Knight other e = sym (both_ways White Knight (is_occupied p.men) a b h k other) ∙ ap (λ m. attacks_as m (is_occupied p.men) a b) (sym e)
+  seen_as White Pawn other e = absurd (other refl)
+  seen_as Black King other e = sym (both_ways Black King (is_occupied p.men) a b h k other) ∙ ap (λ m. attacks_as m (is_occupied p.men) a b) (sym e)
+  seen_as Black Queen other e = sym (both_ways Black Queen (is_occupied p.men) a b h k other) ∙ ap (λ m. attacks_as m (is_occupied p.men) a b) (sym e)
+  seen_as Black Rook other e = sym (both_ways Black Rook (is_occupied p.men) a b h k other) ∙ ap (λ m. attacks_as m (is_occupied p.men) a b) (sym e)
+  seen_as Black Bishop other e = sym (both_ways Black Bishop (is_occupied p.men) a b h k other) ∙ ap (λ m. attacks_as m (is_occupied p.men) a b) (sym e)
+  seen_as Black Knight other e = sym (both_ways Black Knight (is_occupied p.men) a b h k other) ∙ ap (λ m. attacks_as m (is_occupied p.men) a b) (sym e)
+  seen_as Black Pawn other e = absurd (other refl)
+
+  pub seen_attacks : (piece : Piece) → (piece ≡ King → ⊥) → (piece ≡ Pawn → ⊥) → stands p.men a (man_of p.side piece) ≡ true
+      → may_come p.side piece (is_occupied p.men) b a ≡ attacks p.men a b
+  seen_attacks King king pawn st = absurd (king refl)
+  seen_attacks Pawn king pawn st = absurd (pawn refl)
+  seen_attacks Queen king pawn st = seen_as p.side Queen pawn (same_man-is (man_at p.men a) (man_of p.side Queen) st)
+  seen_attacks Rook king pawn st = seen_as p.side Rook pawn (same_man-is (man_at p.men a) (man_of p.side Rook) st)
+  seen_attacks Bishop king pawn st = seen_as p.side Bishop pawn (same_man-is (man_at p.men a) (man_of p.side Bishop) st)
+  seen_attacks Knight king pawn st = seen_as p.side Knight pawn (same_man-is (man_at p.men a) (man_of p.side Knight) st)

@@ -1,33 +1,24 @@
--- Squares among which all goals of a man are.
-use Rattle.std.specs.Prelude.{ℕ, Bool, true, false, Some, ◌||◌, ◌==◌, pos, negsuc}
+-- Squares ahead of pawns, and those among which all are from which a man comes to a goal.
+use Rattle.std.specs.Prelude.{ℕ, Bool, Option, Some, None, ◌||◌, ◌==◌, pos, negsuc, if◌then◌else◌}
+use Rattle.cq_geometry.specs.Squares.{rank_of}
 use Rattle.cq_geometry.specs.Steps.{stepped}
-use Rattle.cq_position.specs.declared.men.Man.{Man}
-use Rattle.cq_position.specs.declared.men.Man.TheVariants.{K, P, BlackK, BlackP}
 use Rattle.cq_position.specs.declared.men.Piece.{Piece}
 use Rattle.cq_position.specs.declared.men.Piece.TheVariants.{King, Queen, Rook, Bishop, Knight, Pawn}
 use Rattle.cq_position.specs.Men.{man_of, opponent}
 use Rattle.cq_position.specs.declared.men.Side.{Side}
 use Rattle.cq_position.specs.declared.men.Side.TheVariants.{White, Black}
-use Rattle.cq_position.specs.Board.{Board, king_home}
-use Rattle.cq_position.specs.Attacks.{attacks, attacks_as, is_goal}
-use Rattle.cq_position.specs.Legal.{castling_goal}
+use Rattle.cq_position.specs.Board.{king_home}
+use Rattle.cq_position.specs.Attacks.{attacks_as, is_goal}
 
 -- the squares one and two ranks forward
 abbrev pub is_ahead : Side → ℕ → ℕ → Bool
 is_ahead White a b = is_goal (stepped (pos 0) (pos 1) a) b || is_goal (stepped (pos 0) (pos 2) a) b
 is_ahead Black a b = is_goal (stepped (pos 0) (negsuc 0) a) b || is_goal (stepped (pos 0) (negsuc 1) a) b
 
--- the squares to which a king castles
-abbrev pub is_castling_goal : Side → ℕ → Bool
-is_castling_goal side b = castling_goal side true == b || castling_goal side false == b
-
--- what the man attacks, the squares ahead of a pawn, and those to which a king castles
-abbrev pub is_candidate : Man → Board → ℕ → ℕ → Bool
-is_candidate K p a b = attacks p.men a b || is_castling_goal p.side b
-is_candidate BlackK p a b = attacks p.men a b || is_castling_goal p.side b
-is_candidate P p a b = attacks p.men a b || is_ahead p.side a b
-is_candidate BlackP p a b = attacks p.men a b || is_ahead p.side a b
-is_candidate _ p a b = attacks p.men a b
+-- the square two ranks ahead of a pawn's home
+abbrev pub double_goal : Side → ℕ → Option ℕ
+double_goal White a = if rank_of a == 1 then stepped (pos 0) (pos 2) a else None
+double_goal Black a = if rank_of a == 6 then stepped (pos 0) (negsuc 1) a else None
 
 -- seen from the goal: what such a piece would attack from there, for a king its home too, from which it castles, and for a pawn what one of
 -- the opponent attacks and the squares ahead of it

@@ -1,25 +1,29 @@
 -- What is known of the side that moves before its moves are looked at.
-use Rattle.std.specs.Prelude.{◌≡◌, ℕ, ◌<◌, false, slice_set, if◌then◌else◌, ◌==◌}
+use Rattle.std.specs.Prelude.{◌≡◌, ℕ, ◌<◌, Bool, true, false, ◌&&◌, not, slice_set, if◌then◌else◌, ◌==◌}
 use Rattle.std.specs.Int.{bit_at}
 use Rattle.cq_position.specs.declared.men.Man.TheVariants.{Empty}
 use Rattle.cq_position.specs.declared.moves.Move.{Move}
-use Rattle.cq_position.specs.Men.{opponent}
-use Rattle.cq_position.specs.Board.{Board}
+use Rattle.cq_position.specs.Men.{is_of_side, king_of, opponent}
+use Rattle.cq_position.specs.Board.{Board, man_at, stands}
 use Rattle.cq_position.specs.Position.{IsPosition}
 use Rattle.cq_position.specs.Attacks.{is_attacked}
 use Rattle.cq_position.specs.King.{IsKingSquare}
 use Rattle.cq_position.specs.Legal.{is_pseudo_legal, is_en_passant_capture}
 use Rattle.cq_position.specs.Legality.{is_safe}
-use Rattle.std.specs.Prelude.{true}
 use Rattle.cq_position.specs.Attacks.{attacks}
 use Rattle.cq_position.specs.Bitboards.{IsBitboard}
 use Rattle.cq_moves.specs.declared.mover.Mover.{Mover}
 use Rattle.cq_moves.specs.declared.mover.Origin.{Origin}
 
--- a position, where its king stands, and a set of squares beside which each may be left without leaving the king attacked
+-- no man of the side to move stands there, and no king
+abbrev pub is_free : Board → ℕ → Bool
+is_free p b = not (is_of_side p.side (man_at p.men b)) && not (stands p.men b (king_of (opponent p.side)))
+
+-- a position, where its king stands, the squares that hold no man of the side and no king, and a set of squares beside which each may be left without leaving the king attacked
 pub record IsMover (p : Board) (mover : Mover) : Type 0 where
   pub kept : IsPosition p
   pub king : IsKingSquare p.men p.side mover.king
+  pub free : IsBitboard mover.free (is_free p)
   pub shields : (square : ℕ) → square < 64 → bit_at mover.shields square ≡ 0
       → is_attacked (slice_set p.men square Empty) (opponent p.side) mover.king ≡ false
 

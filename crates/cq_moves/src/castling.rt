@@ -2,15 +2,12 @@
 ghost use Rattle.std.specs.Prelude.{◌≡◌, not};
 ghost use Rattle.std.specs.List.{list_all};
 ghost use Rattle.cq_position.specs.Attacks as attack;
-ghost use Rattle.cq_position.specs.Bitboards.{IsBitboard};
 ghost use Rattle.cq_position.specs.Legal as legal;
-ghost use Rattle.cq_moves.specs.Candidates.{is_castling_goal};
 
 use cq_geometry::{Square, files_apart};
 use cq_position::attacks::{is_attacked, is_open};
 use cq_position::home::{castling_crossed, castling_goal, king_home, rook_home};
 use cq_position::{Man, Men, Move, Position, Side, king_of, opponent, rook_of};
-use cq_sets::mark;
 
 /// Whether the move is castling: the move of the side's king by two files (FIDE Laws of Chess, article 3.8.2).
 #[inline]
@@ -49,11 +46,4 @@ pub(crate) fn move_rook(men: &mut Men, side: Side, kingside: bool)
 {
     men.set(rook_home(side, kingside), Man::Empty);
     men.set(castling_crossed(side, kingside), rook_of(side));
-}
-
-/// The squares to which a king castles: bit k of the answer is square k.
-pub(crate) fn castling_goals(side: Side) -> u64
-    ensures { IsBitboard result (is_castling_goal side) }
-{
-    mark(Some(castling_goal(side, true))) | mark(Some(castling_goal(side, false)))
 }

@@ -1,18 +1,22 @@
 //! Whether a move is legal.
-ghost use Rattle.std.specs.Prelude.{◌≡◌, ◌↔◌, IsTrue, true};
-ghost use Rattle.cq_position.specs.Board.{Board};
+ghost use Rattle.std.specs.Prelude.{◌≡◌, ◌↔◌, ◌<◌, IsTrue, true, false};
+ghost use Rattle.cq_position.specs.Attacks as attack;
+ghost use Rattle.cq_position.specs.Bitboards.{IsBitboard};
+ghost use Rattle.cq_position.specs.Board.{Board, stands};
+ghost use Rattle.cq_position.specs.Men.{man_of};
 ghost use Rattle.cq_position.specs.Legal.{Legal};
 ghost use Rattle.cq_position.specs.King.{IsKingSquare};
 ghost use Rattle.cq_position.specs.Legal as legal;
 ghost use Rattle.cq_position.specs.Legality as legality;
+ghost use Rattle.cq_moves.specs.Candidates.{may_come};
 ghost use Rattle.cq_moves.specs.Mover as mover;
 
 use crate::after::men_after;
-use crate::reach::{promotion_is_right, reaches};
+use crate::reach::{attacks, promotion_is_right, reaches};
 use cq_geometry::Square;
 use cq_position::attacks::is_attacked;
 use cq_position::king::king_square;
-use cq_position::{Move, Position, attacks_from, opponent};
+use cq_position::{Move, Piece, Position, attacks_from, opponent};
 
 /// Whether a move is legal in a position: the man can make it, and the king of its side isn't attacked then (FIDE Laws of Chess, articles
 /// 3.1 to 3.10.1). A null move is none.
@@ -23,13 +27,62 @@ pub fn is_legal(position: &Position, m: Move) -> bool
     passes(position, &m)
 }
 
+/// Whether a move of such a piece is legal. `seen` has the squares from which one may come to the goal, as [`origins_to`](crate::origins_to)
+/// tells them, so that no line is looked along again.
+#[tactic(auto, using(crate::proofs::Law::passes_in_parts, crate::proofs::Law::pseudo_legal_by_parts))]
+pub fn is_legal_seen(position: &Position, piece: Piece, seen: u64, m: &Move) -> bool
+    requires seen { IsBitboard seen (may_come position.now.side piece (attack.is_occupied position.now.men) m.now.to) }
+    requires piece { stands position.now.men m.now.from (man_of position.now.side piece) ≡ true }
+    requires null { m.now.null ≡ false }
+    ensures { result ≡ legality.legal_test position.now m.now }
+{
+    reaches(
+        position,
+        attacks_goal(position, piece, seen, m),
+        m.from,
+        m.to,
+    ) && promotion_is_right(position, m)
+        && is_safe(position, king_square(position, position.side()), m)
+}
+
+// Whether the man attacks the goal: all but pawns and kings at home are seen from there exactly where they do.
+fn attacks_goal(position: &Position, piece: Piece, seen: u64, m: &Move) -> bool
+    requires seen { IsBitboard seen (may_come position.now.side piece (attack.is_occupied position.now.men) m.now.to) }
+    requires piece { stands position.now.men m.now.from (man_of position.now.side piece) ≡ true }
+    ensures { result ≡ attack.attacks position.now.men m.now.from m.now.to }
+{
+    match piece {
+        Piece::King | Piece::Pawn => {
+            attacks(position, attacks_from(position, m.from), m.from, m.to)
+        }
+        _ => comes(position, piece, seen, m),
+    }
+}
+
+// Whether the move goes from a square of the set.
+#[inline]
+fn comes(position: &Position, piece: Piece, seen: u64, m: &Move) -> bool
+    requires { IsBitboard seen (may_come position.now.side piece (attack.is_occupied position.now.men) m.now.to) }
+    ensures value { result ≡ may_come position.now.side piece (attack.is_occupied position.now.men) m.now.to m.now.from }
+    ensures board { m.now.from < 64 }
+    ensures goal { m.now.to < 64 }
+{
+    let _goal = m.to.number();
+    seen >> m.from.number() & 1 == 1
+}
+
 // The test, the cheap parts first.
 #[tactic(auto, using(crate::proofs::Law::null_fails, crate::proofs::Law::passes_in_parts, crate::proofs::Law::pseudo_legal_by_parts))]
 fn passes(position: &Position, m: &Move) -> bool
     ensures { result ≡ legality.legal_test position.now m.now }
 {
     !m.null
-        && reaches(position, attacks_from(position, m.from), m.from, m.to)
+        && reaches(
+            position,
+            attacks(position, attacks_from(position, m.from), m.from, m.to),
+            m.from,
+            m.to,
+        )
         && promotion_is_right(position, m)
         && is_safe(position, king_square(position, position.side()), m)
 }

@@ -3,6 +3,7 @@
 
 mod after;
 mod castling;
+mod going;
 mod legality;
 mod list;
 mod mover;
@@ -15,7 +16,7 @@ pub use after::is_en_passant_capture;
 pub use castling::is_castling;
 pub use cq_position::home::castling_goal;
 pub use cq_sets::lowest_square;
-pub use legality::is_legal;
+pub use legality::{is_legal, is_legal_seen};
 pub use list::legal_moves;
 pub use next_position::play;
 pub use outcome::{is_mate, is_stalemate};

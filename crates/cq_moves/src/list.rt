@@ -8,8 +8,9 @@ ghost use Rattle.cq_position.specs.Legal as legal;
 ghost use Rattle.cq_moves.specs.LegalMoves.{legal_list, legal_from, legal_between, if_legal, pieces, Precedes};
 ghost use Rattle.cq_moves.specs.Mover.{IsMover, IsOrigin};
 
+use crate::going::goals_from;
 use crate::mover::{Mover, Origin, is_legal_there, mover_of, origin_of};
-use crate::reach::{candidates, promotes, reaches};
+use crate::reach::promotes;
 use arrayvec::ArrayVec;
 use cq_geometry::Square;
 use cq_position::{Move, Position, Promotion};
@@ -41,33 +42,16 @@ fn add_moves_from(position: &Position, mover: &Mover, from: Square, moves: &mut 
     ensures { moves.new.items ≡ moves.old.items ++ legal_from position.now from }
 {
     let origin = origin_of(position, mover, from);
-    let mut left = candidates(position, &origin);
+    let mut left = goals_from(position, mover, &origin);
     while left != 0 {
         let to = lowest_square(left);
         left &= !(1 << to.number());
-        add_moves_to(position, mover, &origin, to, moves);
-    }
-}
-
-// Adds the legal moves to a square.
-fn add_moves_to(
-    position: &Position,
-    mover: &Mover,
-    origin: &Origin,
-    to: Square,
-    moves: &mut ArrayVec<Move, 512>,
-)
-    requires mover { IsMover position.now mover.now }
-    requires origin { IsOrigin position.now origin.now }
-    requires room { length moves.old.items + length (legal_between position.now origin.now.from to) ≤ 512 }
-    ensures { moves.new.items ≡ moves.old.items ++ legal_between position.now origin.now.from to }
-{
-    if reaches(position, origin.attacked, origin.from, to) {
-        add_moves_between(position, mover, origin, to, moves);
+        add_moves_between(position, mover, &origin, to, moves);
     }
 }
 
 // Adds the legal moves to a square to which the man goes.
+#[inline]
 fn add_moves_between(
     position: &Position,
     mover: &Mover,

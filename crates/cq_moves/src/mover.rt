@@ -11,6 +11,7 @@ ghost use Rattle.cq_position.specs.Men as men_spec;
 ghost use Rattle.cq_moves.specs.Mover.{IsMover, IsOrigin, IsUnexposed};
 
 use crate::after::is_en_passant_capture;
+use crate::going::free_squares;
 use crate::legality::is_safe;
 use crate::reach::promotion_is_right;
 use cq_geometry::Square;
@@ -18,11 +19,12 @@ use cq_position::attacks::{is_attacked, queen_squares};
 use cq_position::king::king_square;
 use cq_position::{Man, Move, Position, attacks_from, opponent};
 
-/// What is found once of the side that moves: the square of its king, and a set of squares beside which each of its men leaves the king
-/// safe wherever it goes, captures on the en passant square aside. Bit k is square k.
+/// What is found once of the side that moves: the square of its king, the squares that hold no man of its own and no king, and a set of
+/// squares beside which each of its men leaves the king safe wherever it goes, captures on the en passant square aside. Bit k is square k.
 #[derive(Clone, Copy)]
 pub(crate) struct Mover {
     pub king: Square,
+    pub free: u64,
     pub shields: u64,
 }
 
@@ -33,6 +35,7 @@ pub(crate) fn mover_of(position: &Position) -> Mover
     let king = king_square(position, position.side());
     Mover {
         king,
+        free: free_squares(position),
         shields: shields_of(position, king),
     }
 }

@@ -7,8 +7,8 @@ ghost use Rattle.cq_moves.specs.LegalMoves.{all_moves, moves_from, moves_between
 ghost use Rattle.cq_moves.specs.Mover.{IsMover, IsOrigin};
 ghost use Rattle.cq_moves.specs.Outcome.{IsMate, IsStalemate};
 
+use crate::going::goals_from;
 use crate::mover::{Mover, Origin, is_legal_there, mover_of, origin_of};
-use crate::reach::{candidates, reaches};
 use cq_geometry::Square;
 use cq_position::{Move, Position, Promotion, in_check};
 use cq_sets::lowest_square;
@@ -48,24 +48,15 @@ fn has_legal_move_from(position: &Position, mover: &Mover, from: Square) -> bool
     ensures { result ≡ list_any (legal_test position.now) (moves_from from) }
 {
     let origin = origin_of(position, mover, from);
-    let mut left = candidates(position, &origin);
+    let mut left = goals_from(position, mover, &origin);
     while left != 0 {
         let to = lowest_square(left);
         left &= !(1 << to.number());
-        if has_legal_move_to(position, mover, &origin, to) {
+        if has_legal_choice(position, mover, &origin, to) {
             return true;
         }
     }
     false
-}
-
-fn has_legal_move_to(position: &Position, mover: &Mover, origin: &Origin, to: Square) -> bool
-    requires mover { IsMover position.now mover.now }
-    requires origin { IsOrigin position.now origin.now }
-    ensures { result ≡ list_any (legal_test position.now) (moves_between origin.now.from to) }
-{
-    reaches(position, origin.attacked, origin.from, to)
-        && has_legal_choice(position, mover, origin, to)
 }
 
 // Whether a move is legal, to a square to which the man goes, for some promotion or none.

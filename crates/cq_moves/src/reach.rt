@@ -3,15 +3,12 @@ ghost use Rattle.std.specs.Prelude.{◌≡◌, ◌<◌};
 ghost use Rattle.cq_position.specs.Attacks as attack;
 ghost use Rattle.cq_position.specs.Legal as legal;
 ghost use Rattle.cq_position.specs.Bitboards.{IsBitboard};
-ghost use Rattle.cq_position.specs.Board.{man_at};
-ghost use Rattle.cq_moves.specs.Candidates.{is_ahead, is_candidate, may_come};
+ghost use Rattle.cq_moves.specs.Candidates.{is_ahead, may_come};
 ghost use Rattle.cq_position.specs.Position.{IsPosition};
 ghost use Rattle.cq_moves.specs.LegalMoves as list;
-ghost use Rattle.cq_moves.specs.Mover.{IsOrigin};
 
 use crate::after::middle;
-use crate::castling::{castles, castling_goals};
-use crate::mover::Origin;
+use crate::castling::castles;
 use cq_geometry::{Square, Step, rank};
 use cq_position::attacks::{is_occupied, is_pawn_attack, squares_attacked};
 use cq_position::home::king_home;
@@ -21,12 +18,12 @@ use cq_position::{
 };
 use cq_sets::mark;
 
-/// Whether a man of the side to move goes from one square to another, which holds none of its own men and no king. Bit k of `attacked` is
-/// set where the man attacks the square k.
+/// Whether a man of the side to move goes from one square to another, which holds none of its own men and no king. `attacked` tells whether
+/// the man attacks the other square.
 #[tactic(auto, unfolding(cq_position::specs::Legal::reaches))]
 #[inline]
-pub(crate) fn reaches(position: &Position, attacked: u64, from: Square, to: Square) -> bool
-    requires { IsBitboard attacked (attack.attacks position.now.men from) }
+pub(crate) fn reaches(position: &Position, attacked: bool, from: Square, to: Square) -> bool
+    requires { attacked ≡ attack.attacks position.now.men from to }
     ensures reaches { result ≡ legal.reaches position.now from to }
     ensures board { to < 64 }
 {
@@ -38,25 +35,13 @@ pub(crate) fn reaches(position: &Position, attacked: u64, from: Square, to: Squa
         && goes(man, position, attacked, from, to)
 }
 
-/// A set that has each square to which the man goes: those that it attacks, those ahead of a pawn, and those to which a king castles. Bit k
-/// of the answer is square k.
-pub(crate) fn candidates(position: &Position, origin: &Origin) -> u64
-    requires { IsOrigin position.now origin.now }
-    ensures { IsBitboard result (is_candidate (man_at position.now.men origin.now.from) position.now origin.now.from) }
+/// Whether a man attacks a square, by the set of those that it attacks.
+#[inline]
+pub(crate) fn attacks(position: &Position, attacked: u64, from: Square, to: Square) -> bool
+    requires { IsBitboard attacked (attack.attacks position.now.men from) }
+    ensures { result ≡ attack.attacks position.now.men from to }
 {
-    candidates_of(position.at(origin.from), position, origin)
-}
-
-// The same, for the man on the square.
-fn candidates_of(man: Man, position: &Position, origin: &Origin) -> u64
-    requires { IsOrigin position.now origin.now }
-    ensures { IsBitboard result (is_candidate man position.now origin.now.from) }
-{
-    match man {
-        Man::K | Man::BlackK => origin.attacked | castling_goals(position.side()),
-        Man::P | Man::BlackP => origin.attacked | squares_ahead(position.side(), origin.from),
-        _ => origin.attacked,
-    }
+    attacked >> to.number() & 1 == 1
 }
 
 /// A set that has each square from which a man of the side to move, being such a piece, goes to the goal. Bit k of the answer is square k.
@@ -91,29 +76,18 @@ fn squares_ahead(side: Side, from: Square) -> u64
 
 // Whether the man goes from one square to the other.
 #[inline]
-fn goes(man: Man, position: &Position, attacked: u64, from: Square, to: Square) -> bool
-    requires { IsBitboard attacked (attack.attacks position.now.men from) }
+fn goes(man: Man, position: &Position, attacked: bool, from: Square, to: Square) -> bool
+    requires { attacked ≡ attack.attacks position.now.men from to }
     ensures { result ≡ legal.goes_as man position.now from to }
 {
     match man {
         Man::K | Man::BlackK => {
-            attacks(position, attacked, from, to)
-                || castles(position, from, to, true)
-                || castles(position, from, to, false)
+            attacked || castles(position, from, to, true) || castles(position, from, to, false)
         }
         Man::P | Man::BlackP => pawn_moves(position, from, to),
         Man::Empty => false,
-        _ => attacks(position, attacked, from, to),
+        _ => attacked,
     }
-}
-
-// Whether a square is among the attacked ones.
-#[inline]
-fn attacks(position: &Position, attacked: u64, from: Square, to: Square) -> bool
-    requires { IsBitboard attacked (attack.attacks position.now.men from) }
-    ensures { result ≡ attack.attacks position.now.men from to }
-{
-    attacked >> to.number() & 1 == 1
 }
 
 // Whether a pawn steps or captures so.

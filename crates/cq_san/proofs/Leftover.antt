@@ -78,7 +78,7 @@ legal_reaches p parts s e =
     (and_parts (not (move_from parts s).null && nat_lt parts.goal 64 && reaches p s parts.goal) (promotion_is_right p (move_from parts s))
     (and_parts (is_pseudo_legal p (move_from parts s)) (is_safe p (move_from parts s)) e).0).0).1
 
-first_of_five : (a b c d e : Bool) → (a && b && c && d && e) ≡ true → a ≡ true
+pub first_of_five : (a b c d e : Bool) → (a && b && c && d && e) ≡ true → a ≡ true
 first_of_five a b c d e h = (and_parts a b (and_parts (a && b) c (and_parts (a && b && c) d (and_parts (a && b && c && d) e h).0).0).0).0
 
 -- an origin is among the squares from which the piece may come, and such a piece stands there

@@ -19,3 +19,4 @@ pub mod Candidates
 pub mod ByOrigins
 pub mod RivalSquares
 pub mod Leftover
+pub mod FirstByte

@@ -1,13 +1,18 @@
 //! The squares from which a move comes that agrees with the parts of a text.
-ghost use Rattle.std.specs.Prelude.{◌≡◌};
+ghost use Rattle.std.specs.Prelude.{◌≡◌, ◌&&◌, not, true, false};
+ghost use Rattle.cq_position.specs.Attacks.{is_occupied};
+ghost use Rattle.cq_sets.specs.Bitboards.{IsBitboard};
+ghost use Rattle.cq_moves.specs.Candidates.{may_come};
+ghost use Rattle.cq_position.specs.Legal as legal;
 ghost use Rattle.cq_position.specs.Legality.{legal_test};
+ghost use Rattle.cq_san.specs.Fits as fit;
 ghost use Rattle.cq_san.specs.Origins as origin;
 
 use crate::fit::agrees_in_parts;
 use crate::parts::PieceMove;
 use arrayvec::ArrayVec;
 use cq_geometry::Square;
-use cq_moves::{castling_goal, is_castling, is_legal, origins_to};
+use cq_moves::{castling_goal, is_castling, is_legal_seen, origins_to};
 use cq_position::home::king_home;
 use cq_position::{Move, Position, Promotion, Side, man_of};
 use cq_sets::lowest_square;
@@ -20,23 +25,35 @@ pub(crate) fn origins(position: &Position, parts: &PieceMove) -> ArrayVec<Square
     let there = position
         .men()
         .squares_of(man_of(position.side(), parts.piece));
-    let mut left = origins_to(position, parts.piece, parts.goal) & there;
+    let seen = origins_to(position, parts.piece, parts.goal);
+    let mut left = seen & there;
     while left != 0 {
         let from = lowest_square(left);
         left &= !(1 << from.number());
-        if is_origin(position, parts, from) {
+        if is_origin(position, parts, seen, from) {
             found.push(from);
         }
     }
     found
 }
 
-// The parts are asked before the laws of chess, which take longer.
-fn is_origin(position: &Position, parts: &PieceMove, from: Square) -> bool
+// The parts are asked before the laws of chess, which take longer. `seen` has the squares from which the piece may come.
+fn is_origin(position: &Position, parts: &PieceMove, seen: u64, from: Square) -> bool
+    requires { IsBitboard seen (may_come position.now.side parts.now.piece (is_occupied position.now.men) parts.now.goal) }
     ensures { result ≡ origin.is_origin position.now parts.now from }
 {
     let m = move_from(parts, from);
-    agrees_in_parts(position, parts, &m) && !is_castling(position, &m) && passes(position, &m)
+    agrees_in_parts(position, parts, &m) && is_plain_and_legal(position, parts, seen, &m)
+}
+
+// Whether a move that agrees with the parts is legal and no castling.
+fn is_plain_and_legal(position: &Position, parts: &PieceMove, seen: u64, m: &Move) -> bool
+    requires seen { IsBitboard seen (may_come position.now.side parts.now.piece (is_occupied position.now.men) m.now.to) }
+    requires agrees { fit.agrees_in_parts position.now parts.now m.now ≡ true }
+    requires null { m.now.null ≡ false }
+    ensures { result ≡ (not (legal.is_castling position.now m.now) && legal_test position.now m.now) }
+{
+    !is_castling(position, m) && is_legal_seen(position, parts.piece, seen, m)
 }
 
 /// The move from a square to the goal that the parts tell.
@@ -49,13 +66,6 @@ pub(crate) fn move_from(parts: &PieceMove, from: Square) -> Move
         promotion: parts.promotion,
         null: false,
     }
-}
-
-// Whether a move is legal.
-fn passes(position: &Position, m: &Move) -> bool
-    ensures { result ≡ legal_test position.now m.now }
-{
-    is_legal(position, *m)
 }
 
 /// The move by which a side castles, on the king's side or on the queen's.

@@ -1,7 +1,8 @@
 //! Writing a move in Standard Algebraic Notation.
-ghost use Rattle.std.specs.Prelude.{◌≡◌, Ok, ◌++◌, ◌+◌, ◌≤◌, ◌<◌, ◌&&◌, ◌||◌, not, [], length, ℕ, if◌then◌else◌, Some, None, false, IfSome};
+ghost use Rattle.std.specs.Prelude.{◌≡◌, Ok, ◌++◌, ◌+◌, ◌≤◌, ◌<◌, ◌&&◌, ◌||◌, not, [], length, ℕ, if◌then◌else◌, Some, None, true, false, IfSome};
 ghost use Rattle.std.specs.List.{list_any};
 ghost use Rattle.cq_position.specs.Board.{Board};
+ghost use Rattle.cq_position.specs.Attacks as attack;
 ghost use Rattle.cq_position.specs.Position.{IsPosition};
 ghost use Rattle.cq_geometry.specs.Squares as squares;
 ghost use Rattle.cq_position.specs.Legal.{Leads, Legal, is_castling};
@@ -230,13 +231,20 @@ fn sign_of(position: &Position) -> &'static str
     ensures { result.now ≡ writing.sign_of position.now }
 {
     let side = position.side();
-    if is_mate(position) {
-        "#"
-    } else if in_check(position, side) {
-        "+"
+    if in_check(position, side) {
+        check_sign(position)
     } else {
         ""
     }
+}
+
+// The sign of a position in check.
+fn check_sign(position: &Position) -> &'static str
+    requires { attack.in_check position.now.men position.now.side ≡ true }
+    ensures { result.now ≡ writing.sign_of position.now }
+{
+    let _side = position.side();
+    if is_mate(position) { "#" } else { "+" }
 }
 
 // Writes the parts of a move of a piece.

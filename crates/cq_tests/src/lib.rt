@@ -20,6 +20,8 @@ mod lexer;
 #[cfg(test)]
 mod maker;
 #[cfg(test)]
+mod men;
+#[cfg(test)]
 mod moves;
 #[cfg(test)]
 mod next_position;

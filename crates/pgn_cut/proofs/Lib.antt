@@ -1,6 +1,5 @@
 pub mod Closed
 pub mod Joins
-pub mod Loop
 pub mod Loops
 pub mod Marks
 pub mod Meets
@@ -15,3 +14,5 @@ pub mod Runs
 pub mod Seams
 pub mod SeamsOfCut
 pub mod Streams
+pub mod WordRuns
+pub mod Settled

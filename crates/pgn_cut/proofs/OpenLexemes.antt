@@ -74,7 +74,7 @@ spelled_is : (w k d : Bool) (n : ℕ) → ((w && n == 3) || (k && n == 3) || (d 
 spelled_is true k d n = ap (λ t. t || (d && n == 7)) (or_absorbs k (n == 3))
 spelled_is false k d n = refl
 
-marker_is : (r : Results) (bytes : List ℕ) → BeginResults r bytes → are_spelled r (length bytes) ≡ is_result bytes
+pub marker_is : (r : Results) (bytes : List ℕ) → BeginResults r bytes → are_spelled r (length bytes) ≡ is_result bytes
 marker_is r bytes (w, k, d) =
     sym (spelled_is r.white r.black r.draw (length bytes))
     ∙ ap₂ (λ x y. (x && length bytes == 3) || (y && length bytes == 3) || (r.draw && length bytes == 7)) w k
@@ -100,7 +100,7 @@ body_append (b ∷ []) (c ∷ cs) front back = inl (front, back)
 body_append (b ∷ c ∷ bs) ys front back =
     ⊎_elim (λ plain. inl (plain.0, body_append (c ∷ bs) ys plain.1 back)) (λ escaped. inr (escaped.0, escaped.1, body_append bs ys escaped.2 back)) front
 
-all_push : (P : ℕ → Type 0) (xs : List ℕ) (y : ℕ) → AllByRecursion P xs → P y → AllByRecursion P (xs ++ y ∷ [])
+pub all_push : (P : ℕ → Type 0) (xs : List ℕ) (y : ℕ) → AllByRecursion P xs → P y → AllByRecursion P (xs ++ y ∷ [])
 all_push P [] y all last = (last, tt)
 all_push P (x ∷ xs) y all last = (all.0, all_push P xs y all.1 last)
 
@@ -147,7 +147,7 @@ abbrev pub StaysBefore : Type 0
 StaysBefore = (first : Bool) (kind : LexemeKind) (b : ℕ) (bs more : List ℕ) → IsReadWhole first kind b bs → IsEndedBy kind more
     → reading first b (bs ++ more) ≡ record { kind = kind; len = length (b ∷ bs) }
 
-same_kind : (k : LexemeKind) → AreAlike k k
+pub same_kind : (k : LexemeKind) → AreAlike k k
 same_kind k = record { nests = λ d. refl; pairs = λ o. refl; movetext = refl; passed_over = refl; opens_ = refl }
 
 lines_alike : AreAlike (Token LineComment) EscapeLine
@@ -212,7 +212,7 @@ ended : (s : State) (kind : LexemeKind) → ((b : ℕ) → takes s b ≡ goes_on
 ended s kind same [] ends = tt
 ended s kind same (b ∷ bs) ends = sym (same b) ∙ ends
 
-ended_always : (kind : LexemeKind) → ((b : ℕ) → goes_on_kind kind b ≡ false) → (rest : List ℕ) → IsEndedBy kind rest
+pub ended_always : (kind : LexemeKind) → ((b : ℕ) → goes_on_kind kind b ≡ false) → (rest : List ℕ) → IsEndedBy kind rest
 ended_always kind never [] = tt
 ended_always kind never (b ∷ bs) = never b
 

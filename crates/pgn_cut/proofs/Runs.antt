@@ -49,7 +49,7 @@ run_open first s (b ∷ bs) bytes is all =
     let one = subst (λ t. IsOpen first t (bytes ++ b ∷ [])) (stay.same (length bytes)) (goes_on first s bytes b is stay.some stay.takes_ stay.no_last) in
     subst (IsOpen first s) (append_assoc bytes (b ∷ []) bs) (run_open first s bs (bytes ++ b ∷ []) one all.1)
 
-run_column : (first : Bool) (bytes run : List ℕ) → 0 < length run → (get_or run (length run - 1) 0 == 10) ≡ first_at first (bytes ++ run) (length (bytes ++ run))
+pub run_column : (first : Bool) (bytes run : List ℕ) → 0 < length run → (get_or run (length run - 1) 0 == 10) ≡ first_at first (bytes ++ run) (length (bytes ++ run))
 run_column first bytes run some =
     let size = length-append bytes run in
     let last : suc (length bytes + (length run - 1)) ≡ length (bytes ++ run) = omega arith in

@@ -51,7 +51,7 @@ text_is closes c front games kept bytes game opened column here place sound cuts
 size_push : (fed more : List ℕ) (b : ℕ) → length fed + length (b ∷ more) ≡ length (fed ++ b ∷ []) + length more
 size_push fed more b = let e = length-append fed (b ∷ []) in omega arith
 
-column_push : (first : Bool) (bytes : List ℕ) (b : ℕ) → first_at first (bytes ++ b ∷ []) (length (bytes ++ b ∷ [])) ≡ ends_line b
+pub column_push : (first : Bool) (bytes : List ℕ) (b : ℕ) → first_at first (bytes ++ b ∷ []) (length (bytes ++ b ∷ [])) ≡ ends_line b
 column_push first bytes b =
     let e : length (bytes ++ b ∷ []) ≡ suc (length bytes) = let n = length-append bytes (b ∷ []) in omega arith in
     ap (first_at first (bytes ++ b ∷ [])) e ∙ ap ends_line (get_or_push bytes b 0 (length bytes) refl)

@@ -1,5 +1,5 @@
 //! An archive that comes in pieces, cut into its games.
-ghost use Rattle.std.specs.Prelude.{◌≡◌, ◌+◌, ◌*◌, ◌<◌, ◌≤◌, ◌^◌, ◌++◌, ◌==◌, ℕ, Bool, true, false, List, [], ◌∷◌, None, Some, length, take, drop, OnOk, OnErr, IfOk};
+ghost use Rattle.std.specs.Prelude.{◌≡◌, ◌+◌, ◌*◌, ◌<◌, ◌≤◌, ◌^◌, ◌++◌, ◌==◌, ℕ, Bool, true, false, List, [], ◌∷◌, None, Some, length, slice_index, take, drop, OnOk, OnErr, IfOk, ◌-◌};
 ghost use Rattle.std.specs.List.{AllByRecursion};
 ghost use Rattle.std.specs.Option.{option_to_list};
 ghost use Rattle.pgn_lexer.specs.Lexemes.{Lexeme as ALexeme};
@@ -9,15 +9,19 @@ ghost use Rattle.pgn_cut.specs.Cut.{cut, closed};
 ghost use Rattle.pgn_cut.specs.OpenGames.{IsOpenAt, open_place};
 ghost use Rattle.pgn_cut.specs.Progress.{begins_at, progress_of, IsStepOfCut, Shows};
 ghost use Rattle.pgn_cut.specs.States.{takes, is_in_mark, Stays};
+ghost use Rattle.pgn_cut.specs.WordRuns.{IsQuietRun};
+ghost use Rattle.pgn_cut.specs.Settled.{IsFound};
 ghost use Rattle.pgn_cut.specs.Streams.{IsBetween, IsSound, IsInMark, IsInText, Stands, IsEnded, IsReady, HasTaken, StandsWith, HasGained};
 ghost use Rattle.pgn_cut.specs.declared.span.Span.{Span as ASpan};
 ghost use Rattle.pgn_cut.specs.declared.game.Look.{Look as ALook};
 ghost use Rattle.pgn_cut.specs.declared.state.State.TheVariants.{Between};
 
+use crate::found::{Found, settled_lexeme};
 use crate::game::{Look, OpenGame};
 use crate::laws::open_lexemes_settle;
 use crate::span::Span;
 use crate::state::State;
+use crate::words::words_len;
 use cq_outside::{NoMemory, is_white};
 use pgn_lexer::{
     LexemeKind, TokenKind, lexemes_follow, lexemes_stand_apart, longest_reading,
@@ -122,7 +126,8 @@ impl Cutter {
             kind,
             marker,
         };
-        let (game, closed) = self.game.meet(look);
+        let mut game = self.game;
+        let closed = game.meet(look);
         (Cutter::between(game, end, column), closed)
     }
 
@@ -263,40 +268,139 @@ impl Cutter {
     }
 
     // The cutter after bytes that leave the open lexeme as it is.
-    fn passed(self, run: &[u8]) -> Cutter
+    fn pass(&mut self, run: &[u8])
         requires some { 0 < length run.now }
-        requires place { self.place + length run.now < 2 ^ 63 }
-        ensures { (fed : List ℕ) → Stands self fed → AllByRecursion (Stays self.state) run.now →
-            StandsWith result (fed ++ run.now) (closed fed) }
+        requires place { self.old.place + length run.now < 2 ^ 63 }
+        ensures { (fed : List ℕ) → Stands self.old fed → AllByRecursion (Stays self.old.state) run.now →
+            StandsWith self.new (fed ++ run.now) (closed fed) }
     {
         open_lexemes_settle();
-        Cutter {
-            state: self.state,
-            game: self.game,
+        self.place += run.len() as u64;
+        self.column = run[run.len() - 1] == b'\n';
+    }
+
+    // Nothing is open after some bytes.
+    fn go_on(&mut self, run: &[u8])
+        requires some { 0 < length run.now }
+        requires place { self.old.place + length run.now < 2 ^ 62 }
+        ensures game { self.new.game ≡ self.old.game }
+        ensures rest { self.old.state ≡ Between → IsBetween self.new (self.old.place + length run.now)
+            (slice_index run.now (length run.now - 1) == 10) }
+    {
+        self.place += run.len() as u64;
+        self.at = self.place;
+        self.column = run[run.len() - 1] == b'\n';
+        self.first = self.column;
+    }
+
+    // How many bytes at the start of some change nothing of what is kept of the open game: white space, or words.
+    fn quiet_len(&self, rest: &[u8]) -> usize
+        requires { 0 < length rest.now }
+        ensures within { result ≤ length rest.now }
+        ensures quiet { IsQuietRun self.now.game (take result rest.now) }
+    {
+        if self.game.passes_words() {
+            return words_len(rest);
+        }
+        usize::from(is_white(rest[0]))
+    }
+
+    // After bytes that change nothing of what is kept of the open game.
+    fn pass_quiet(&mut self, run: &[u8])
+        requires state { self.old.state ≡ Between }
+        requires some { 0 < length run.now }
+        requires place { self.old.place + length run.now < 2 ^ 62 }
+        requires quiet { IsQuietRun self.old.game run.now }
+        ensures { (fed : List ℕ) → Stands self.old fed → StandsWith self.new (fed ++ run.now) (closed fed) }
+    {
+        open_lexemes_settle();
+        self.go_on(run);
+    }
+
+    // After a lexeme of so many bytes, where nothing follows it but white space. Answers the game that it closes, where it closes one.
+    fn pass_lexeme(&mut self, run: &[u8], found: Found) -> Option<Span>
+        requires state { self.old.state ≡ Between }
+        requires some { 0 < length run.now }
+        requires depth { self.old.game.depth < 2 ^ 63 }
+        requires place { self.old.place + length run.now < 2 ^ 62 }
+        requires fits { found.len ≤ length run.now }
+        requires found { IsFound self.old.first run.now found }
+        ensures { (fed : List ℕ) → Stands self.old fed → StandsWith self.new (fed ++ run.now) (closed fed ++ option_to_list result) }
+    {
+        open_lexemes_settle();
+        let look = Look {
             at: self.at,
+            end: self.place + found.len as u64,
             first: self.first,
-            place: self.place + run.len() as u64,
-            column: run[run.len() - 1] == b'\n',
+            kind: found.kind,
+            marker: found.marker,
+        };
+        let closed = self.game.meet(look);
+        self.go_on(run);
+        closed
+    }
+
+    // Takes one of the bytes that are left, and appends the games that are closed by that.
+    fn take_byte(&mut self, rest: &[u8], spans: &mut Vec<Span>) -> Result<usize, NoMemory>
+        requires some { 0 < length rest.now }
+        requires depth { self.old.game.depth + 1 < 2 ^ 63 }
+        requires place { self.old.place + length rest.now < 2 ^ 62 }
+        requires at { self.old.at ≤ self.old.place }
+        ensures took { IfOk result (λ n. (0 < n) × (n ≤ length rest.now)) }
+        ensures gained { IfOk result (λ n. HasGained self.old self.new (take n rest.now) spans.old.items spans.new.items) }
+        ensures err { OnErr result (spans.new.items ≡ spans.old.items) }
+    {
+        let (cutter, before, closed) = self.step(rest[0]);
+        append(spans, before, closed)?;
+        *self = cutter;
+        Ok(1)
+    }
+
+    // The same of a lexeme, where it is settled, or of one byte. Nothing is open.
+    fn take_lexeme(&mut self, rest: &[u8], spans: &mut Vec<Span>) -> Result<usize, NoMemory>
+        requires state { self.old.state ≡ Between }
+        requires some { 0 < length rest.now }
+        requires depth { self.old.game.depth + 1 < 2 ^ 63 }
+        requires place { self.old.place + length rest.now < 2 ^ 62 }
+        requires at { self.old.at ≤ self.old.place }
+        ensures took { IfOk result (λ n. (0 < n) × (n ≤ length rest.now)) }
+        ensures gained { IfOk result (λ n. HasGained self.old self.new (take n rest.now) spans.old.items spans.new.items) }
+        ensures err { OnErr result (spans.new.items ≡ spans.old.items) }
+    {
+        match settled_lexeme(self.first, rest) {
+            Some(found) => {
+                let closed = self.pass_lexeme(&rest[..found.taken], found);
+                append(spans, None, closed)?;
+                Ok(found.taken)
+            }
+            None => self.take_byte(rest, spans),
         }
     }
 
-    // The cutter after some of the bytes that are left, and how many. The games that they close are appended.
-    fn turn(self, rest: &[u8], spans: &mut Vec<Span>) -> Result<(Cutter, usize), NoMemory>
+    // The same of bytes that leave all as it is, where there are some.
+    fn turn(&mut self, rest: &[u8], spans: &mut Vec<Span>) -> Result<usize, NoMemory>
         requires some { 0 < length rest.now }
-        requires depth { self.game.depth + 1 < 2 ^ 63 }
-        requires place { self.place + length rest.now < 2 ^ 62 }
-        requires at { self.at ≤ self.place }
-        ensures took { IfOk result (λ r. (0 < r.1) × (r.1 ≤ length rest.now)) }
-        ensures gained { IfOk result (λ r. HasGained self r.0 (take r.1 rest.now) spans.old.items spans.new.items) }
+        requires depth { self.old.game.depth + 1 < 2 ^ 63 }
+        requires place { self.old.place + length rest.now < 2 ^ 62 }
+        requires at { self.old.at ≤ self.old.place }
+        ensures took { IfOk result (λ n. (0 < n) × (n ≤ length rest.now)) }
+        ensures gained { IfOk result (λ n. HasGained self.old self.new (take n rest.now) spans.old.items spans.new.items) }
         ensures err { OnErr result (spans.new.items ≡ spans.old.items) }
     {
+        if self.state.is_between() {
+            let quiet = self.quiet_len(rest);
+            if quiet > 0 {
+                self.pass_quiet(&rest[..quiet]);
+                return Ok(quiet);
+            }
+            return self.take_lexeme(rest, spans);
+        }
         let run = self.state.run_len(rest);
         if run > 0 {
-            return Ok((self.passed(&rest[..run]), run));
+            self.pass(&rest[..run]);
+            return Ok(run);
         }
-        let (cutter, before, closed) = self.step(rest[0]);
-        append(spans, before, closed)?;
-        Ok((cutter, 1))
+        self.take_byte(rest, spans)
     }
 
     /// Takes the next bytes of the archive, and appends the games that they close. Fails only when out of memory, and then
@@ -313,10 +417,7 @@ impl Cutter {
         let mut at = 0;
         while at < piece.len() {
             match cutter.turn(&piece[at..], spans) {
-                Ok((next, taken)) => {
-                    cutter = next;
-                    at += taken;
-                }
+                Ok(taken) => at += taken,
                 Err(refusal) => {
                     spans.truncate(before);
                     return Err(refusal);

@@ -2,12 +2,12 @@
 ghost use Rattle.std.specs.Prelude.{◌≡◌, ◌+◌, ◌<◌, ◌≤◌, ◌^◌, ◌++◌, ◌||◌, ◌&&◌, ◌==◌, not, ℕ, List, [], ◌∷◌, length};
 ghost use Rattle.std.specs.Option.{option_to_list};
 ghost use Rattle.pgn_lexer.specs.Lexemes.{Lexeme as ALexeme};
-ghost use Rattle.pgn_lexer.specs.Shown.{shown};
 ghost use Rattle.pgn_cut.specs.Cut.{is_result, marks, nest, opens_pair, is_movetext, is_passed_over, opens, cut_from};
+ghost use Rattle.pgn_cut.specs.WordRuns.{passes_words};
 ghost use Rattle.pgn_cut.specs.Progress.{begins_at, progress_of, span_from, IsStepOfCut, Shows};
 
 use crate::span::Span;
-use pgn_lexer::{Lexeme, LexemeKind, TokenKind};
+use pgn_lexer::{LexemeKind, TokenKind};
 
 /// Where a game begins.
 #[derive(Clone, Copy)]
@@ -33,13 +33,13 @@ fn is_result(text: &[u8]) -> bool
     text == b"1-0".as_slice() || text == b"0-1".as_slice() || text == b"1/2-1/2".as_slice()
 }
 
-// Whether a lexeme marks the end of a game.
-fn is_marker(lexeme: Lexeme<'_>) -> bool
-    ensures { result ≡ marks lexeme.entry.kind lexeme.entry.text.now }
+/// Whether a lexeme of a kind marks the end of a game.
+pub(crate) fn marks(kind: LexemeKind, text: &[u8]) -> bool
+    ensures { result ≡ marks kind text.now }
 {
-    match lexeme.kind {
+    match kind {
         LexemeKind::Token(TokenKind::Star) => true,
-        LexemeKind::Token(TokenKind::Symbol) => is_result(lexeme.text),
+        LexemeKind::Token(TokenKind::Symbol) => is_result(text),
         _ => false,
     }
 }
@@ -52,23 +52,6 @@ pub(crate) struct Look {
     pub(crate) first: bool,
     pub(crate) kind: LexemeKind,
     pub(crate) marker: bool,
-}
-
-impl Look {
-    /// A lexeme of some bytes; `offset` is the place of the first of them.
-    pub(crate) fn of(lexeme: Lexeme<'_>, offset: u64) -> Look
-        requires { offset + lexeme.at + length lexeme.text.now < 2 ^ 63 }
-        ensures { Shows result (shown offset lexeme.entry) }
-    {
-        let at = offset + lexeme.at as u64;
-        Look {
-            at,
-            end: at + lexeme.text.len() as u64,
-            first: lexeme.first,
-            kind: lexeme.kind,
-            marker: is_marker(lexeme),
-        }
-    }
 }
 
 // The depth of variations after a lexeme.
@@ -148,6 +131,13 @@ impl OpenGame {
         }
     }
 
+    /// Whether words change nothing that is kept: there is movetext, or a tag pair is open.
+    pub(crate) fn passes_words(self) -> bool
+        ensures { result ≡ passes_words self }
+    {
+        self.has_more && (self.has_movetext || self.in_pair)
+    }
+
     // Whether the game has movetext, a further lexeme included.
     fn sees_movetext(self, kind: LexemeKind) -> bool
         ensures { result ≡ (self.has_movetext || (is_movetext kind && not self.in_pair)) }
@@ -162,6 +152,24 @@ impl OpenGame {
         self.has_more || !is_passed_over(kind)
     }
 
+    // One lexeme more.
+    fn add(&mut self, look: Look)
+        requires depth { self.old.depth < 2 ^ 63 }
+        ensures value { (game : List ALexeme) (l : ALexeme) → Shows look l → self.old ≡ progress_of game →
+            self.new ≡ progress_of (game ++ l ∷ []) }
+        ensures deeper { self.new.depth ≤ self.old.depth + 1 }
+    {
+        let start = Start {
+            at: look.at,
+            first: look.first,
+        };
+        self.start = Some(self.start.unwrap_or(start));
+        self.has_movetext = self.sees_movetext(look.kind);
+        self.has_more = self.sees_more(look.kind);
+        self.depth = nest(self.depth, look.kind);
+        self.in_pair = opens_pair(self.in_pair, look.kind);
+    }
+
     /// The game with one more lexeme.
     pub(crate) fn with(self, look: Look) -> OpenGame
         requires depth { self.depth < 2 ^ 63 }
@@ -169,17 +177,9 @@ impl OpenGame {
             result ≡ progress_of (game ++ l ∷ []) }
         ensures deeper { result.depth ≤ self.depth + 1 }
     {
-        let start = Start {
-            at: look.at,
-            first: look.first,
-        };
-        OpenGame {
-            start: Some(self.start.unwrap_or(start)),
-            depth: nest(self.depth, look.kind),
-            in_pair: opens_pair(self.in_pair, look.kind),
-            has_movetext: self.sees_movetext(look.kind),
-            has_more: self.sees_more(look.kind),
-        }
+        let mut game = self;
+        game.add(look);
+        game
     }
 
     /// Where it begins, once it has a lexeme.
@@ -225,31 +225,25 @@ impl OpenGame {
         self.depth == 0 && look.marker
     }
 
-    /// Meets the next lexeme of the archive, whose place counts from `offset`.
-    pub(crate) fn meet_lexeme(self, lexeme: Lexeme<'_>, offset: u64) -> (OpenGame, Option<Span>)
-        requires depth { self.depth < 2 ^ 62 }
-        requires place { offset + lexeme.at + length lexeme.text.now < 2 ^ 63 }
-        ensures deeper { result.0.depth ≤ self.depth + 1 }
-        ensures cuts { (game : List ALexeme) → self ≡ progress_of game →
-            IsStepOfCut result.0 result.1 (shown offset lexeme.entry) game }
-    {
-        self.meet(Look::of(lexeme, offset))
-    }
-
-    /// Meets a lexeme: the game that is open after it, and the one that it closes, where it closes one.
-    pub(crate) fn meet(self, look: Look) -> (OpenGame, Option<Span>)
-        requires depth { self.depth < 2 ^ 63 }
-        ensures deeper { result.0.depth ≤ self.depth + 1 }
-        ensures cuts { (game : List ALexeme) (l : ALexeme) → Shows look l → self ≡ progress_of game →
-            IsStepOfCut result.0 result.1 l game }
+    /// Meets a lexeme, and answers the game that it closes, where it closes one.
+    pub(crate) fn meet(&mut self, look: Look) -> Option<Span>
+        requires depth { self.old.depth < 2 ^ 63 }
+        ensures deeper { self.new.depth ≤ self.old.depth + 1 }
+        ensures cuts { (game : List ALexeme) (l : ALexeme) → Shows look l → self.old ≡ progress_of game →
+            IsStepOfCut self.new result l game }
     {
         if self.ends_before(look) {
-            return (OpenGame::new().with(look), self.span_to(look.at));
+            let closed = self.span_to(look.at);
+            *self = OpenGame::new().with(look);
+            return closed;
         }
-        let game = self.with(look);
-        if self.ends_after(look) {
-            return (OpenGame::new(), game.span_to(look.end));
+        let ends = self.ends_after(look);
+        self.add(look);
+        if ends {
+            let closed = self.span_to(look.end);
+            *self = OpenGame::new();
+            return closed;
         }
-        (game, None)
+        None
     }
 }

@@ -7,12 +7,14 @@
 #![tactic(auto)]
 
 mod cutter;
+mod found;
 mod game;
 mod laws;
 mod shared;
 mod span;
 mod state;
 mod whole;
+mod words;
 
 pub use cutter::Cutter;
 pub use laws::{

@@ -1,4 +1,5 @@
 pub mod TagPairs
+pub mod TagCopies
 pub mod Found
 pub mod Children
 pub mod MainLine

@@ -65,6 +65,18 @@ impl Game {
         })
     }
 
+    /// The same game again, which shares nothing with this one.
+    pub fn copy(&self, alloc: Global) -> Result<Game, NoMemory>
+        ensures { IfOk result (λ g. g ≡ self.now) }
+    {
+        Ok(Game {
+            alloc,
+            tags: self.tags.copy(alloc)?,
+            result: self.result,
+            nodes: copy_nodes(alloc, self.nodes.as_slice())?,
+        })
+    }
+
     /// How many nodes there are.
     pub fn len(&self) -> u32
         ensures len { result ≡ length self.now.nodes }
@@ -286,6 +298,17 @@ impl Game {
         }
         men
     }
+}
+
+// The same nodes again.
+fn copy_nodes(alloc: Global, nodes: &[Node]) -> Result<Vec<Node>, NoMemory>
+    ensures { IfOk result (λ copied. copied.items ≡ nodes.now) }
+{
+    let mut copied = Vec::with_capacity(alloc, nodes.len())?;
+    for node in nodes {
+        copied.push(node.copy(alloc)?)?;
+    }
+    Ok(copied)
 }
 
 // The men, and those of a position.

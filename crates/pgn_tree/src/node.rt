@@ -1,5 +1,5 @@
 //! A node of a game.
-ghost use Rattle.std.specs.Prelude.{◌≡◌, ◌<◌, [], ◌∷◌, ◌++◌, length, slice_index_or, OnOk, OnErr, IsOk};
+ghost use Rattle.std.specs.Prelude.{◌≡◌, ◌<◌, [], ◌∷◌, ◌++◌, length, slice_index_or, IfOk, OnOk, OnErr, IsOk};
 ghost use Rattle.cq_position.specs.Games.{bare_node, with_nag};
 ghost use Rattle.pgn_tree.specs.Links.{IsSameLinked, unlinked, with_first_child, with_kept_comment, with_last_child, with_next_sibling};
 
@@ -172,4 +172,34 @@ impl Node {
         self.comments.push(comment)?;
         Ok(())
     }
+
+    /// The same node again.
+    pub fn copy(&self, alloc: Global) -> Result<Node, NoMemory>
+        ensures { IfOk result (λ n. n ≡ self.now) }
+    {
+        let mut nags = SmallVec::new(alloc);
+        nags.extend_from_slice(self.nags.as_slice())?;
+        Ok(Node {
+            parent: self.parent,
+            first_child: self.first_child,
+            last_child: self.last_child,
+            next_sibling: self.next_sibling,
+            main: self.main,
+            led_by: self.led_by,
+            position: self.position,
+            nags,
+            comments: copy_comments(alloc, self.comments.as_slice())?,
+        })
+    }
+}
+
+// The same comments again. None take no memory.
+fn copy_comments(alloc: Global, comments: &[Bytes]) -> Result<Vec<Bytes>, NoMemory>
+    ensures { IfOk result (λ copied. copied.items ≡ comments.now) }
+{
+    let mut copied = Vec::with_capacity(alloc, comments.len())?;
+    for comment in comments {
+        copied.push(Bytes::from_slice(alloc, comment.as_slice())?)?;
+    }
+    Ok(copied)
 }

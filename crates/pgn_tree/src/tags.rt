@@ -1,5 +1,5 @@
 //! The tags of a game.
-ghost use Rattle.std.specs.Prelude.{◌≡◌, ◌<◌, true, [], length, OnOk, OnErr};
+ghost use Rattle.std.specs.Prelude.{◌≡◌, ◌<◌, true, [], length, IfOk, OnOk, OnErr};
 ghost use Rattle.std.specs.Option.{option_copied};
 ghost use Rattle.cq_position.specs.Games.{tag_at, tag_value, with_tag, HaveDistinctNames};
 
@@ -104,5 +104,16 @@ impl Tags {
         let value = Bytes::from_slice(self.alloc, value)?;
         self.pairs.insert(name, value)?;
         Ok(())
+    }
+
+    /// The same tags again.
+    pub fn copy(&self, alloc: Global) -> Result<Tags, NoMemory>
+        ensures { IfOk result (λ t. t ≡ self.now) }
+    {
+        let mut copied = Tags::new(alloc);
+        for i in 0..self.len() {
+            copied.add(self.name(i), self.value(i))?;
+        }
+        Ok(copied)
     }
 }

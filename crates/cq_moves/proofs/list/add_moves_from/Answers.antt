@@ -2,17 +2,26 @@ use Rattle.std.proofs.Common.{◌<◌, ◌≤◌, ◌^◌, ◌++◌, length, ap,
 use Rattle.std.proofs.lemmas.List.{length-append}
 use Rattle.cq_moves.specs.LegalMoves.{legal_from, legal_between}
 use Rattle.cq_moves.proofs.Bits.{walk_on, walk_room, walk_shorter, walk_ends}
-use Rattle.cq_moves.proofs.Walk.{walk_begins}
+use Rattle.cq_moves.proofs.Walk.{walk_begins, reached_begins, reached_on, reached_first}
 use Rattle.cq_moves.proofs.list.add_moves_from.Goals as goal
 
 pub loop-left-init : goal.loop-left-init
 loop-left-init c =
-    let low : c.args.from < 64 = search rules in
-    walk_begins c.args.position.now c.candidates-left.result c.origin_of-origin.result.from c.args.moves.now.items c.candidates-left.ensures
-    (omega (arith, c.origin_of-origin.ensures.from, low))
+    let p = c.args.position.now in
+    let from = c.origin_of-origin.result.from in record {
+      partly = walk_begins p c.goals_from-left.result from c.args.moves.now.items c.goals_from-left.ensures;
+      goes = reached_begins p c.goals_from-left.result from c.goals_from-left.ensures;
+    }
 
-pub add_moves_to-requires-clause-room : goal.add_moves_to-requires-clause-room
-add_moves_to-requires-clause-room c =
+pub add_moves_between-requires-clause-reaches : goal.add_moves_between-requires-clause-reaches
+add_moves_between-requires-clause-reaches c =
+    let some : 0 < c.loop-left.left = omega arith in
+    let fits : c.loop-left.left < 2 ^ 64 = search rules in
+    reached_first c.args.position.now c.origin_of-origin.result.from c.loop-left.left c.lowest_square-to.result some fits
+    c.lowest_square-to.ensures.value c.loop-left.invariant.goes
+
+pub add_moves_between-requires-clause-room : goal.add_moves_between-requires-clause-room
+add_moves_between-requires-clause-room c =
     let p = c.args.position.now in
     let from = c.origin_of-origin.result.from in
     let some : 0 < c.loop-left.left = omega arith in
@@ -21,7 +30,7 @@ add_moves_to-requires-clause-room c =
     let same = ap (λ a. length (legal_from p a)) c.origin_of-origin.ensures.from in
     let room : length whole ≤ 512 = omega (arith, length-append c.args.moves.now.items (legal_from p from), same, c.requires.room) in
     walk_room (legal_between p from) whole c.loop-left.moves.items c.loop-left.left c.lowest_square-to.result some fits
-    c.lowest_square-to.ensures.value c.loop-left.invariant room
+    c.lowest_square-to.ensures.value c.loop-left.invariant.partly room
 
 pub loop-left-smaller : goal.loop-left-smaller
 loop-left-smaller c =
@@ -35,14 +44,17 @@ loop-left-preserved c =
     let from = c.origin_of-origin.result.from in
     let some : 0 < c.loop-left.left = omega arith in
     let fits : c.loop-left.left < 2 ^ 64 = search rules in
-    walk_on (legal_between p from) (c.args.moves.now.items ++ legal_from p from) c.loop-left.moves.items c.add_moves_to.new.moves.items
-    c.loop-left.left c.lowest_square-to.result c.number.result some fits c.lowest_square-to.ensures.value c.number.ensures.value
-    c.add_moves_to.ensures c.loop-left.invariant
+    record {
+      partly = walk_on (legal_between p from) (c.args.moves.now.items ++ legal_from p from) c.loop-left.moves.items c.add_moves_between.new.moves.items
+          c.loop-left.left c.lowest_square-to.result c.number.result some fits c.lowest_square-to.ensures.value c.number.ensures.value
+          c.add_moves_between.ensures c.loop-left.invariant.partly;
+      goes = reached_on p from c.loop-left.left c.number.result c.loop-left.invariant.goes;
+    }
 
 pub returns : goal.returns
 returns c =
     let p = c.args.position.now in
     let from = c.origin_of-origin.result.from in
     walk_ends (legal_between p from) (c.args.moves.now.items ++ legal_from p from) c.loop-left.moves.items c.loop-left.left
-    c.loop-left-test.false c.loop-left.invariant
+    c.loop-left-test.false c.loop-left.invariant.partly
     ∙ ap (λ a. c.args.moves.now.items ++ legal_from p a) c.origin_of-origin.ensures.from

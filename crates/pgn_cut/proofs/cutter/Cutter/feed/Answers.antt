@@ -24,7 +24,7 @@ turn-requires-clause-at c = c.loop-at.invariant.sound.1
 
 pub loop-at-preserved : goal.loop-at-preserved
 loop-at-preserved c =
-    feeding_turn c.args.self.now c.loop-at.cutter c.in-Ok.next c.args.piece.now c.loop-at.at c.in-Ok.taken c.args.spans.now.items c.loop-at.spans.items c.turn.new.spans.items
+    feeding_turn c.args.self.now c.loop-at.cutter c.turn.new.self c.args.piece.now c.loop-at.at c.in-Ok.taken c.args.spans.now.items c.loop-at.spans.items c.turn.new.spans.items
     c.requires.0 c.requires.1 c.requires.2 c.loop-at.invariant c.in-Ok.ensures.took.1 c.in-Ok.ensures.gained
 
 pub returns-in-Err-clause-unchanged : goal.returns-in-Err-clause-unchanged

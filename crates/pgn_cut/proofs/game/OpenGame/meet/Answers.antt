@@ -6,18 +6,18 @@ use Rattle.pgn_cut.proofs.game.OpenGame.meet.Goals as goal
 
 pub returns-then-ends_before-clause-cuts : goal.returns-then-ends_before-clause-cuts
 returns-then-ends_before-clause-cuts c = λ game l shows is.
-    closes_before game l c.args.self is c.ends_before.result (c.ends_before.ensures ∙ before_shown c.args.look l shows c.args.self.has_movetext) c.if-ends_before.true
-    _ (c.with.ensures.value [] l shows c.new.ensures.value) _ (c.span_to.ensures ∙ ap (λ p. span_from p c.args.self.start) shows.at)
+    closes_before game l c.args.self.now is c.ends_before.result (c.ends_before.ensures ∙ before_shown c.args.look l shows c.args.self.now.has_movetext) c.if-ends_before.true
+    _ (c.with.ensures.value [] l shows c.new.ensures.value) _ (c.span_to-closed.ensures ∙ ap (λ p. span_from p c.args.self.now.start) shows.at)
 
-pub returns-then-ends_after-clause-cuts : goal.returns-then-ends_after-clause-cuts
-returns-then-ends_after-clause-cuts c = λ game l shows is.
-    closes_after game l c.args.self is c.ends_before.result c.ends_after.result (c.ends_before.ensures ∙ before_shown c.args.look l shows c.args.self.has_movetext) c.if-ends_before.false
-    (c.ends_after.ensures ∙ after_shown c.args.look l shows (c.args.self.depth == 0)) c.if-ends_after.true
-    c.with-game.result (c.with-game.ensures.value game l shows is) _ c.new-then-ends_after.ensures.value _
-    (c.span_to-then-ends_after.ensures ∙ ap (λ p. span_from p c.with-game.result.start) shows.ends)
+pub returns-then-ends-clause-cuts : goal.returns-then-ends-clause-cuts
+returns-then-ends-clause-cuts c = λ game l shows is.
+    closes_after game l c.args.self.now is c.ends_before.result c.ends_after-ends.result (c.ends_before.ensures ∙ before_shown c.args.look l shows c.args.self.now.has_movetext) c.if-ends_before.false
+    (c.ends_after-ends.ensures ∙ after_shown c.args.look l shows (c.args.self.now.depth == 0)) c.if-ends.true
+    c.add.new.self (c.add.ensures.value game l shows is) _ c.new-then-ends.ensures.value _
+    (c.span_to-closed-then-ends.ensures ∙ ap (λ p. span_from p c.add.new.self.start) shows.ends)
 
 pub returns-clause-cuts : goal.returns-clause-cuts
 returns-clause-cuts c = λ game l shows is.
-    goes_on game l c.args.self is c.ends_before.result c.ends_after.result (c.ends_before.ensures ∙ before_shown c.args.look l shows c.args.self.has_movetext) c.if-ends_before.false
-    (c.ends_after.ensures ∙ after_shown c.args.look l shows (c.args.self.depth == 0)) c.if-ends_after.false
-    _ (c.with-game.ensures.value game l shows is)
+    goes_on game l c.args.self.now is c.ends_before.result c.ends_after-ends.result (c.ends_before.ensures ∙ before_shown c.args.look l shows c.args.self.now.has_movetext) c.if-ends_before.false
+    (c.ends_after-ends.ensures ∙ after_shown c.args.look l shows (c.args.self.now.depth == 0)) c.if-ends.false
+    _ (c.add.ensures.value game l shows is)
