@@ -57,8 +57,8 @@ parse_or_tree none text f g parse tree =
 one_tree : SpellOne → (text : List ℕ) (f g : QueryFault) → HasTreeFault text f → HasTreeFault text g → f ≡ g
 one_tree one text f g is other =
     let same : is.query ≡ other.query =
-        one is.tokens is.query other.query is.spells
-        (subst (λ ts. Spells most_open ts other.query) (same_tokens text other.tokens is.tokens other.are_tokens is.are_tokens) other.spells) in
+    one is.tokens is.query other.query is.spells
+    (subst (λ ts. Spells most_open ts other.query) (same_tokens text other.tokens is.tokens other.are_tokens is.are_tokens) other.spells) in
     let a = is.broken in
     let b = other.broken in
     cc
