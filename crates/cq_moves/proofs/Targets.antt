@@ -1,12 +1,10 @@
 -- The sets of squares to which men go.
-use Rattle.std.proofs.Common.{◌≡◌, ℕ, ◌<◌, Bool, true, false, not, ◌&&◌, ◌||◌, ◌==◌, map, Option, Some, None, refl, inl, inr, sym, ap, ◌∙◌, pos, negsuc}
-use Rattle.std.specs.Int.{bit_at}
-use Rattle.std.specs.Prelude.{bit_and}
+use Rattle.std.proofs.Common.{◌≡◌, ℕ, ◌<◌, Bool, true, false, not, ◌&&◌, ◌==◌, map, Option, Some, None, refl, inl, inr, sym, ap, ◌∙◌, pos, negsuc}
 use Rattle.std.proofs.lemmas.Bool.{cases_eq, eq-eqb, ne_eqb, false_from_ne_true}
 use Rattle.cq_geometry.specs.Squares.{squares}
 use Rattle.cq_geometry.specs.Steps.{stepped}
 use Rattle.cq_geometry.proofs.Tables.{at_squares}
-use Rattle.cq_sets.specs.Bitboards.{IsBitboard, bit_of, is_goal}
+use Rattle.cq_sets.specs.Bitboards.{IsBitboard, is_goal}
 use Rattle.cq_sets.proofs.Marked.{marks_same, marks_none}
 use Rattle.cq_position.specs.declared.men.Man.TheVariants.{Empty}
 use Rattle.cq_position.specs.declared.men.Piece.TheVariants.{Pawn}
