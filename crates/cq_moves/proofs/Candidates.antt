@@ -1,18 +1,14 @@
 -- Where a man goes is among its candidates.
-use Rattle.std.proofs.Common.{◌≡◌, ℕ, ◌<◌, Bool, true, false, not, ◌&&◌, ◌||◌, ◌==◌, map, refl, inl, inr, sym, ap, ◌∙◌}
-use Rattle.std.specs.Int.{bit_at}
-use Rattle.std.proofs.lemmas.Bool.{and_parts, or_cases, or_left, or_right, eqb-true, eq-eqb, false_from_ne_true}
+use Rattle.std.proofs.Common.{◌≡◌, ℕ, ◌<◌, Bool, true, false, not, ◌&&◌, ◌||◌, ◌==◌, map, refl, inl, inr, sym}
+use Rattle.std.proofs.lemmas.Bool.{and_parts, or_cases, or_left, or_right, eqb-true}
 use Rattle.cq_geometry.specs.Squares.{squares}
 use Rattle.cq_geometry.proofs.Tables.{at_squares}
-use Rattle.cq_position.specs.declared.men.Man.{Man}
-use Rattle.cq_position.specs.declared.men.Man.TheVariants.{K, Q, R, B, N, P, BlackK, BlackQ, BlackR, BlackB, BlackN, BlackP, Empty}
 use Rattle.cq_position.specs.declared.men.Side.{Side}
 use Rattle.cq_position.specs.declared.men.Side.TheVariants.{White, Black}
 use Rattle.cq_position.specs.Men.{is_of_side, opponent}
 use Rattle.cq_position.specs.Board.{Board, man_at, king_home}
-use Rattle.cq_position.specs.Bitboards.{IsBitboard, bit_of}
-use Rattle.cq_position.specs.Attacks.{attacks, attacks_as, is_occupied, is_pawn_attack, is_goal}
-use Rattle.cq_position.specs.Legal.{goes_as, reaches, castles, castling_goal, pawn_moves, is_single_step, is_double_step, middle}
+use Rattle.cq_position.specs.Attacks.{is_occupied, is_pawn_attack, is_goal}
+use Rattle.cq_position.specs.Legal.{castles, castling_goal, pawn_moves, is_single_step, is_double_step, middle}
 use Rattle.cq_moves.specs.Candidates.{is_ahead}
 
 abbrev steps : Side → ℕ → ℕ → Bool

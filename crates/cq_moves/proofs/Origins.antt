@@ -4,6 +4,7 @@ use Rattle.std.proofs.lemmas.Bool.{or_cases, or_left, or_right, eqb-true, eq-eqb
 use Rattle.cq_geometry.specs.Squares.{squares}
 use Rattle.cq_geometry.specs.Steps.{is_king_step, is_knight_step}
 use Rattle.cq_geometry.proofs.Tables.{at_squares}
+use Rattle.cq_position.specs.declared.men.Man.{Man}
 use Rattle.cq_position.specs.declared.men.Piece.{Piece}
 use Rattle.cq_position.specs.declared.men.Piece.TheVariants.{King, Queen, Rook, Bishop, Knight, Pawn}
 use Rattle.cq_position.specs.declared.men.Side.{Side}
@@ -70,22 +71,29 @@ king_comes p a b h =
         eq-eqb (king_home p.side) a (sym (eqb-true a (king_home p.side) (first_of (a == king_home p.side) _ two)))
 
 module _ (p : Board) (a b : ℕ) (h : a < 64) (k : b < 64) where
-  -- the man that stands there is known
-  known : (side : Side) (piece : Piece) (other : piece ≡ Pawn → ⊥) → man_at p.men a ≡ man_of side piece → attacks p.men a b ≡ true
-      → attacks_as (man_of side piece) (is_occupied p.men) b a ≡ true
+  by_man : (m : Man) → man_at p.men a ≡ m → attacks_as m (is_occupied p.men) a b ≡ attacks p.men a b
   unfolding attacks
-  known White King other e f = sym (both_ways White King (is_occupied p.men) a b h k other) ∙ (ap (λ m. attacks_as m (is_occupied p.men) a b) (sym e) ∙ f)
-  known White Queen other e f = sym (both_ways White Queen (is_occupied p.men) a b h k other) ∙ (ap (λ m. attacks_as m (is_occupied p.men) a b) (sym e) ∙ f)
-  known White Rook other e f = sym (both_ways White Rook (is_occupied p.men) a b h k other) ∙ (ap (λ m. attacks_as m (is_occupied p.men) a b) (sym e) ∙ f)
-  known White Bishop other e f = sym (both_ways White Bishop (is_occupied p.men) a b h k other) ∙ (ap (λ m. attacks_as m (is_occupied p.men) a b) (sym e) ∙ f)
-  known White Knight other e f = sym (both_ways White Knight (is_occupied p.men) a b h k other) ∙ (ap (λ m. attacks_as m (is_occupied p.men) a b) (sym e) ∙ f)
-  known White Pawn other e f = absurd (other refl)
-  known Black King other e f = sym (both_ways Black King (is_occupied p.men) a b h k other) ∙ (ap (λ m. attacks_as m (is_occupied p.men) a b) (sym e) ∙ f)
-  known Black Queen other e f = sym (both_ways Black Queen (is_occupied p.men) a b h k other) ∙ (ap (λ m. attacks_as m (is_occupied p.men) a b) (sym e) ∙ f)
-  known Black Rook other e f = sym (both_ways Black Rook (is_occupied p.men) a b h k other) ∙ (ap (λ m. attacks_as m (is_occupied p.men) a b) (sym e) ∙ f)
-  known Black Bishop other e f = sym (both_ways Black Bishop (is_occupied p.men) a b h k other) ∙ (ap (λ m. attacks_as m (is_occupied p.men) a b) (sym e) ∙ f)
-  known Black Knight other e f = sym (both_ways Black Knight (is_occupied p.men) a b h k other) ∙ (ap (λ m. attacks_as m (is_occupied p.men) a b) (sym e) ∙ f)
-  known Black Pawn other e f = absurd (other refl)
+  by_man m e = ap (λ x. attacks_as x (is_occupied p.men) a b) (sym e)
+
+  -- the man that stands there is seen from the goal exactly where it attacks it
+  seen_as : (side : Side) (piece : Piece) → (piece ≡ Pawn → ⊥) → man_at p.men a ≡ man_of side piece
+      → attacks_as (man_of side piece) (is_occupied p.men) b a ≡ attacks p.men a b
+  seen_as White King other e = sym (both_ways White King (is_occupied p.men) a b h k other) ∙ by_man (man_of White King) e
+  seen_as White Queen other e = sym (both_ways White Queen (is_occupied p.men) a b h k other) ∙ by_man (man_of White Queen) e
+  seen_as White Rook other e = sym (both_ways White Rook (is_occupied p.men) a b h k other) ∙ by_man (man_of White Rook) e
+  seen_as White Bishop other e = sym (both_ways White Bishop (is_occupied p.men) a b h k other) ∙ by_man (man_of White Bishop) e
+  seen_as White Knight other e = sym (both_ways White Knight (is_occupied p.men) a b h k other) ∙ by_man (man_of White Knight) e
+  seen_as White Pawn other e = absurd (other refl)
+  seen_as Black King other e = sym (both_ways Black King (is_occupied p.men) a b h k other) ∙ by_man (man_of Black King) e
+  seen_as Black Queen other e = sym (both_ways Black Queen (is_occupied p.men) a b h k other) ∙ by_man (man_of Black Queen) e
+  seen_as Black Rook other e = sym (both_ways Black Rook (is_occupied p.men) a b h k other) ∙ by_man (man_of Black Rook) e
+  seen_as Black Bishop other e = sym (both_ways Black Bishop (is_occupied p.men) a b h k other) ∙ by_man (man_of Black Bishop) e
+  seen_as Black Knight other e = sym (both_ways Black Knight (is_occupied p.men) a b h k other) ∙ by_man (man_of Black Knight) e
+  seen_as Black Pawn other e = absurd (other refl)
+
+  known : (side : Side) (piece : Piece) → (piece ≡ Pawn → ⊥) → man_at p.men a ≡ man_of side piece → attacks p.men a b ≡ true
+      → attacks_as (man_of side piece) (is_occupied p.men) b a ≡ true
+  known side piece other e f = seen_as side piece other e ∙ f
 
   king_seen : (side : Side) → side ≡ p.side → man_at p.men a ≡ man_of side King → goes_as (man_of side King) p a b ≡ true
       → (attacks_as (man_of side King) (is_occupied p.men) b a || is_goal (Some (king_home side)) a) ≡ true
@@ -130,24 +138,9 @@ module _ (p : Board) (a b : ℕ) (h : a < 64) (k : b < 64) where
       let parts = four_parts (is_of_side p.side (man_at p.men a)) _ _ (goes_as (man_at p.men a) p a b) r in
       comes p.side piece refl e (ap (λ m. goes_as m p a b) (sym e) ∙ parts.1)
 
-  -- a queen, rook, bishop or knight is seen from the goal exactly where it attacks it
-  seen_as : (side : Side) (piece : Piece) → (piece ≡ Pawn → ⊥) → man_at p.men a ≡ man_of side piece
-      → attacks_as (man_of side piece) (is_occupied p.men) b a ≡ attacks p.men a b
-  unfolding attacks
-  seen_as White King other e = sym (both_ways White King (is_occupied p.men) a b h k other) ∙ ap (λ m. attacks_as m (is_occupied p.men) a b) (sym e)
-  seen_as White Queen other e = sym (both_ways White Queen (is_occupied p.men) a b h k other) ∙ ap (λ m. attacks_as m (is_occupied p.men) a b) (sym e)
-  seen_as White Rook other e = sym (both_ways White Rook (is_occupied p.men) a b h k other) ∙ ap (λ m. attacks_as m (is_occupied p.men) a b) (sym e)
-  seen_as White Bishop other e = sym (both_ways White Bishop (is_occupied p.men) a b h k other) ∙ ap (λ m. attacks_as m (is_occupied p.men) a b) (sym e)
-  seen_as White Knight other e = sym (both_ways White Knight (is_occupied p.men) a b h k other) ∙ ap (λ m. attacks_as m (is_occupied p.men) a b) (sym e)
-  seen_as White Pawn other e = absurd (other refl)
-  seen_as Black King other e = sym (both_ways Black King (is_occupied p.men) a b h k other) ∙ ap (λ m. attacks_as m (is_occupied p.men) a b) (sym e)
-  seen_as Black Queen other e = sym (both_ways Black Queen (is_occupied p.men) a b h k other) ∙ ap (λ m. attacks_as m (is_occupied p.men) a b) (sym e)
-  seen_as Black Rook other e = sym (both_ways Black Rook (is_occupied p.men) a b h k other) ∙ ap (λ m. attacks_as m (is_occupied p.men) a b) (sym e)
-  seen_as Black Bishop other e = sym (both_ways Black Bishop (is_occupied p.men) a b h k other) ∙ ap (λ m. attacks_as m (is_occupied p.men) a b) (sym e)
-  seen_as Black Knight other e = sym (both_ways Black Knight (is_occupied p.men) a b h k other) ∙ ap (λ m. attacks_as m (is_occupied p.men) a b) (sym e)
-  seen_as Black Pawn other e = absurd (other refl)
-
-  pub seen_attacks : (piece : Piece) → (piece ≡ King → ⊥) → (piece ≡ Pawn → ⊥) → stands p.men a (man_of p.side piece) ≡ true
+  -- a queen, rook, bishop or knight is among those that may come exactly where it attacks the goal
+  pub seen_attacks : (piece : Piece) → (piece ≡ King → ⊥) → (piece ≡ Pawn → ⊥)
+      → stands p.men a (man_of p.side piece) ≡ true
       → may_come p.side piece (is_occupied p.men) b a ≡ attacks p.men a b
   seen_attacks King king pawn st = absurd (king refl)
   seen_attacks Pawn king pawn st = absurd (pawn refl)

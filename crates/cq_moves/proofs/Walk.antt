@@ -56,7 +56,8 @@ reached_begins p mask a m = record { each = λ b h set. is_set (reaches p a b) (
 pub reached_on : (p : Board) (a mask bit : ℕ) → AreReached p a mask → AreReached p a (cleared mask bit)
 reached_on p a mask bit r = record { each = λ b h set. r.each b h (in_both mask (bit_not w64 (1 * 2 ^ bit % 2 ^ 64)) b set).0 }
 
-pub reached_first : (p : Board) (a mask square : ℕ) → 0 < mask → mask < 2 ^ 64 → square ≡ trailing_zeros w64 mask → AreReached p a mask → reaches p a square ≡ true
+pub reached_first : (p : Board) (a mask square : ℕ) → 0 < mask → mask < 2 ^ 64 → square ≡ trailing_zeros w64 mask
+    → AreReached p a mask → reaches p a square ≡ true
 reached_first p a mask square some fits e r =
     let found = bit_at-trailing_zeros w64 mask some fits in
     ap (reaches p a) e ∙ r.each (trailing_zeros w64 mask) found.0 found.1

@@ -19,7 +19,8 @@ use Rattle.cq_moves.specs.declared.mover.Origin.{Origin}
 abbrev pub is_free : Board → ℕ → Bool
 is_free p b = not (is_of_side p.side (man_at p.men b)) && not (stands p.men b (king_of (opponent p.side)))
 
--- a position, where its king stands, the squares that hold no man of the side and no king, and a set of squares beside which each may be left without leaving the king attacked
+-- a position, where its king stands, the squares that hold no man of the side and no king, and
+-- a set of squares beside which each may be left without leaving the king attacked
 pub record IsMover (p : Board) (mover : Mover) : Type 0 where
   pub kept : IsPosition p
   pub king : IsKingSquare p.men p.side mover.king

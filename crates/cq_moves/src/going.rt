@@ -137,7 +137,8 @@ fn double_step(side: Side, from: Square) -> Option<Square>
 // The squares where a pawn captures, the en passant square too.
 fn captures(position: &Position, from: Square) -> u64
     ensures { IsBitboard result (λ to. attack.is_pawn_attack position.now.side from to
-        && (men_spec.is_of_side (men_spec.opponent position.now.side) (man_at position.now.men to) || attack.is_goal position.now.passant to)) }
+        && (men_spec.is_of_side (men_spec.opponent position.now.side) (man_at position.now.men to)
+        || attack.is_goal position.now.passant to)) }
 {
     let side = position.side();
     let men = position.men();

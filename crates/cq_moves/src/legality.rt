@@ -27,8 +27,8 @@ pub fn is_legal(position: &Position, m: Move) -> bool
     passes(position, &m)
 }
 
-/// Whether a move of such a piece is legal. `seen` has the squares from which one may come to the goal, as [`origins_to`](crate::origins_to)
-/// tells them, so that no line is looked along again.
+/// Whether a move of such a piece is legal. `seen` has the squares from which one may come to the goal, as
+/// [`origins_to`](crate::origins_to) tells them, so that no line is looked along again.
 #[tactic(auto, using(crate::proofs::Law::passes_in_parts, crate::proofs::Law::pseudo_legal_by_parts))]
 pub fn is_legal_seen(position: &Position, piece: Piece, seen: u64, m: &Move) -> bool
     requires seen { IsBitboard seen (may_come position.now.side piece (attack.is_occupied position.now.men) m.now.to) }

@@ -1,5 +1,5 @@
 use Rattle.cq_sets.proofs.Marked.{marks_and, marks_same, marks_none}
-use Rattle.std.proofs.Common.{false, sym, ◌&&◌, ◌∙◌, ap}
+use Rattle.std.proofs.Common.{false, sym, ◌&&◌, ◌∙◌}
 use Rattle.cq_position.specs.Legal.{reaches, goes_as}
 use Rattle.cq_position.specs.Board.{man_at}
 use Rattle.cq_moves.specs.Mover.{is_free}

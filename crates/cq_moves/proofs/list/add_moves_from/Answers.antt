@@ -45,7 +45,8 @@ loop-left-preserved c =
     let some : 0 < c.loop-left.left = omega arith in
     let fits : c.loop-left.left < 2 ^ 64 = search rules in
     record {
-      partly = walk_on (legal_between p from) (c.args.moves.now.items ++ legal_from p from) c.loop-left.moves.items c.add_moves_between.new.moves.items
+      partly = walk_on (legal_between p from) (c.args.moves.now.items ++ legal_from p from)
+          c.loop-left.moves.items c.add_moves_between.new.moves.items
           c.loop-left.left c.lowest_square-to.result c.number.result some fits c.lowest_square-to.ensures.value c.number.ensures.value
           c.add_moves_between.ensures c.loop-left.invariant.partly;
       goes = reached_on p from c.loop-left.left c.number.result c.loop-left.invariant.goes;

@@ -34,7 +34,8 @@ returns-then-has_legal_choice c =
     let test = λ (b : ℕ). list_any (legal_test p) (moves_between from b) in
     let some : 0 < c.loop-left.left = omega arith in
     let fits : c.loop-left.left < 2 ^ 64 = search rules in
-    sym (any_here test c.loop-left.left c.lowest_square-to.result some fits c.lowest_square-to.ensures.value (sym c.if-has_legal_choice.ensures))
+    sym (any_here test c.loop-left.left c.lowest_square-to.result some fits c.lowest_square-to.ensures.value
+    (sym c.if-has_legal_choice.ensures))
     ∙ c.loop-left.invariant.0
     ∙ ap (λ a. list_any (legal_test p) (moves_from a)) c.origin_of-origin.ensures.from
 

@@ -11,7 +11,8 @@ loop-left-init c =
     let there = rw (c.men.ensures.men, c.man_of.ensures, c.side.ensures.side) at c.squares_of-there.ensures in
     subst (λ (xs : List ℕ). IsFound test xs (bit_and c.origins_to-seen.result c.squares_of-there.result)) (sym c.new-found.ensures)
     (found-start test (bit_and c.origins_to-seen.result c.squares_of-there.result)
-    (origin_comes c.args.position.now c.args.parts.now c.origins_to-seen.result c.squares_of-there.result c.origins_to-seen.ensures.goal c.origins_to-seen.ensures.mask there))
+    (origin_comes c.args.position.now c.args.parts.now c.origins_to-seen.result c.squares_of-there.result
+    c.origins_to-seen.ensures.goal c.origins_to-seen.ensures.mask there))
 
 pub push-requires : goal.push-requires
 push-requires c =
