@@ -1,7 +1,7 @@
 -- Words, and lexemes that no byte goes on with: what is read of them, and what an open game keeps.
-use Rattle.std.proofs.Common.{◌≡◌, ℕ, zero, suc, ◌+◌, ◌-◌, ◌<◌, ◌≤◌, ◌⊎◌, Bool, true, false, cond, List, [], ◌∷◌, ◌++◌, length, get_or, take, drop, Some, None, Option, refl, sym, ap, ap₂, ◌∙◌, subst, inl, inr, ⊎_elim, arith, true≢false, eqb-true}
+use Rattle.std.proofs.Common.{◌≡◌, ℕ, zero, suc, ◌+◌, ◌-◌, ◌<◌, ◌≤◌, Bool, true, false, cond, List, [], ◌∷◌, ◌++◌, length, get_or, take, Some, None, Option, refl, sym, ap, ap₂, ◌∙◌, subst, inr, ⊎_elim, arith, true≢false, eqb-true}
 use Rattle.std.specs.Prelude.{not, ◌&&◌, ◌||◌, ◌==◌, codes}
-use Rattle.std.specs.Option.{unwrap_or, option_to_list}
+use Rattle.std.specs.Option.{unwrap_or}
 use Rattle.std.specs.List.{AllByRecursion, prefix_len, list_any}
 use Rattle.std.specs.Str.{bytes_eq}
 use Rattle.std.specs.Char.{is_ascii_alphanumeric}
@@ -12,12 +12,9 @@ use Rattle.cq_outside.specs.Text.{is_white}
 use Rattle.pgn_lexer.specs.Bytes.{ends_line, continues_symbol}
 use Rattle.pgn_lexer.specs.Lexemes.{Lexeme, end, lexemes, first_at}
 use Rattle.pgn_lexer.specs.Readings.{reading, single}
-use Rattle.pgn_lexer.specs.declared.token.LexemeKind.{LexemeKind}
-use Rattle.pgn_lexer.specs.declared.token.LexemeKind.TheVariants.{EscapeLine, Token}
-use Rattle.pgn_lexer.specs.declared.token.TokenKind.TheVariants.{Symbol}
-use Rattle.pgn_cut.specs.Cut.{is_result, marks, is_marker, nest, depth, opens_pair, is_passed_over, opens, has_movetext, ends_before, ends_after, span_to, cut_from, cut, closed}
+use Rattle.pgn_cut.specs.Cut.{is_result, is_marker, nest, depth, opens_pair, opens, has_movetext, ends_before, ends_after, span_to, cut_from, cut, closed}
 use Rattle.pgn_cut.specs.Progress.{progress_of}
-use Rattle.pgn_cut.specs.States.{IsOpen, results_from, results_after, begun, is_in_mark, IsOneLexeme}
+use Rattle.pgn_cut.specs.States.{IsOpen, results_from, results_after, begun, is_in_mark}
 use Rattle.pgn_cut.specs.Streams.{IsBetween, IsInText, Stands, StandsWith}
 use Rattle.pgn_cut.specs.WordRuns.{is_plain, ends_in_symbol, AreWords, passes_words, IsQuietRun}
 use Rattle.pgn_cut.specs.declared.words.TheConstants.{IS_PLAIN}

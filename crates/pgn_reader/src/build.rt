@@ -26,6 +26,7 @@ pub fn game_of_rows(
     ensures { IfOk result (λ g. g ≡ record { tags = tags; result = ending; nodes = nodes_of_rows rows.now }) }
 {
     let mut game = game_at_root(alloc, tags, ending, &rows[0])?;
+    game.reserve(rows.len() - 1)?;
     add_rows(alloc, &mut game, &rows[1..])?;
     Ok(game)
 }

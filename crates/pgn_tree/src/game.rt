@@ -212,6 +212,14 @@ impl Game {
         Ok(number)
     }
 
+    /// Makes room for so many more nodes, so that none moves as they are added. Fails only when out of memory.
+    pub fn reserve(&mut self, nodes: usize) -> Result<(), NoMemory>
+        ensures { self.new ≡ self.old }
+    {
+        self.nodes.reserve(nodes)?;
+        Ok(())
+    }
+
     /// Adds a numeric annotation glyph to a node. The first four of a node take no memory.
     pub fn add_nag(&mut self, k: u32, nag: u8) -> Result<(), NoMemory>
         requires { k < length self.old.nodes }
