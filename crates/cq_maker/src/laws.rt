@@ -8,7 +8,8 @@ ghost use Rattle.cq_maker.specs.Made as made;
 /// Each game of an archive of at most 100,000 has at most 4,096 bytes.
 #[tactic(auto, using(crate::proofs::Short::each_short))]
 pub fn games_are_short()
-    ensures { (seed games : ℕ) → games ≤ 100000 → AllByRecursion (λ g. length (export_text g) ≤ 4096) (made.games_made 1 games seed) }
+    ensures { (seed games : ℕ) → games ≤ 100000
+        → AllByRecursion (λ g. length (export_text g) ≤ 4096) (made.games_made 1 games seed) }
 {}
 
 /// An archive of at most 100,000 games has at most 4,096 bytes a game.

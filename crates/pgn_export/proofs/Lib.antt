@@ -1,5 +1,5 @@
 pub mod Filled
-pub mod Closed
+pub mod Pages
 pub mod Places
 pub mod Walk
 pub mod Puts

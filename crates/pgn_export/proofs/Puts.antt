@@ -1,5 +1,5 @@
 -- Tags put in their places.
-use Rattle.std.proofs.Common.{◌≡◌, ℕ, Bool, true, false, cond, not, List, [], ◌∷◌, ◌++◌, refl, sym, ap, ◌∙◌, append_assoc, append-nil}
+use Rattle.std.proofs.Common.{◌≡◌, ℕ, ◌<◌, arith, length, Bool, true, false, cond, not, List, [], ◌∷◌, ◌++◌, refl, sym, ap, ◌∙◌, append_assoc, append-nil}
 use Rattle.std.specs.Prelude.{if◌then◌else◌}
 use Rattle.std.specs.BTreeMap.{insert_entry}
 use Rattle.std.specs.Cmp.Lexicographic.{slice_cmp}
@@ -10,7 +10,8 @@ use Rattle.std.specs.Ordering.{nat_cmp, match_ordering}
 use Rattle.std.specs.declared.cmp.Ordering.{Ordering}
 use Rattle.std.specs.declared.cmp.Ordering.TheVariants.{Less, Equal, Greater}
 use Rattle.pgn_export.specs.Plain.{plain}
-use Rattle.pgn_export.specs.TagLines.{is_in_roster, put}
+use Rattle.cq_position.specs.Games.{Game}
+use Rattle.pgn_export.specs.TagLines.{is_in_roster, put, tag_line, written_tags}
 
 by_order : (o : Ordering) (before same after : List (Vec ℕ × List ℕ)) (x y z : List (List ℕ × List ℕ)) → plain before ≡ x → plain same ≡ y → plain after ≡ z
     → plain (match_ordering o before same after) ≡ match_ordering o x y z
@@ -58,3 +59,8 @@ all_lines line old one two new roster others t p q r =
     ∙ append_assoc (old ++ flat_map line roster) (line t) (flat_map line others)
     ∙ append_assoc old (flat_map line roster) (line t ++ flat_map line others)
     ∙ ap (λ l. old ++ l) (sym (flat_map-append line roster (t ∷ others)))
+
+-- a game has tag lines
+pub some_tags : (g : Game) → 0 < length (flat_map tag_line (written_tags g))
+unfolding tag_line
+some_tags g = omega arith

@@ -1,6 +1,7 @@
 -- The words of a line and of the variations, node by node.
-use Rattle.std.proofs.Common.{◌≡◌, ℕ, suc, ◌<◌, Bool, true, false, ◌||◌, List, [], ◌∷◌, ◌++◌, length, Option, Some, None, refl, sym, ap, ◌∙◌, arith, append_assoc, append-nil, length-append, codes}
+use Rattle.std.proofs.Common.{◌≡◌, ℕ, suc, ◌<◌, Bool, true, false, ◌||◌, List, [], ◌∷◌, ◌++◌, length, Option, Some, None, refl, sym, ap, ◌∙◌, arith, codes}
 use Rattle.std.specs.Option.{is_some}
+use Rattle.std.proofs.lemmas.List.Sums.{fold-append}
 use Rattle.cq_position.specs.declared.men.Side.{Side}
 use Rattle.cq_position.specs.declared.men.Side.TheVariants.{White, Black}
 use Rattle.cq_position.specs.declared.moves.Move.{Move}
@@ -8,10 +9,11 @@ use Rattle.cq_position.specs.Board.{Board}
 use Rattle.cq_position.specs.Games.{Node, node_at, first_child, next_sibling, IsTree}
 use Rattle.cq_position.specs.Continuations.{none}
 use Rattle.cq_position.proofs.Trees.{tree_first}
+use Rattle.pgn_export.specs.Page.{Page, with_word, with_words, with_longer_word}
 use Rattle.pgn_export.specs.Words.{opened, closed, in_parens}
 use Rattle.pgn_export.specs.Movetext.{number_words, move_words, is_any, is_played, is_due, line_words, variation_words}
 use Rattle.pgn_export.specs.Places.{played_of, after_node, instead_of}
-use Rattle.pgn_export.proofs.Closed.{closed_later}
+use Rattle.pgn_export.proofs.Pages.{last_longer}
 use Rattle.pgn_export.proofs.Places.{no_child, has_child, no_sibling, has_sibling}
 
 no_mark : (ws : List (List ℕ)) → opened [] ws ≡ ws
@@ -36,15 +38,16 @@ opened_some : (mark : List ℕ) (ws : List (List ℕ)) → Starts ws → Starts 
 opened_some mark [] s = absurd (let e : 0 ≡ suc (length s.others) = ap length s.is in omega (arith, e))
 opened_some mark (w ∷ ws) s = record { first = mark ++ w; others = ws; is = refl }
 
-closed_starts : (mark : List ℕ) (xs ws : List (List ℕ)) → Starts ws → closed mark (xs ++ ws) ≡ xs ++ closed mark ws
-closed_starts mark xs [] s = absurd (let e : 0 ≡ suc (length s.others) = ap length s.is in omega (arith, e))
-closed_starts mark xs (w ∷ ws) s = closed_later mark xs w ws
+longer_starts : (mark : List ℕ) (p : Page) (ws : List (List ℕ)) → Starts ws → with_longer_word (with_words p ws) mark ≡ with_words p (closed mark ws)
+longer_starts mark p [] s = absurd (let e : 0 ≡ suc (length s.others) = ap length s.is in omega (arith, e))
+longer_starts mark p (w ∷ ws) s = last_longer mark p w ws
+
+-- some words and then others
+then : (p : Page) (xs ys : List (List ℕ)) → with_words (with_words p xs) ys ≡ with_words p (xs ++ ys)
+then p xs ys = sym (fold-append with_word p xs ys)
 
 starts_more : (ws more : List (List ℕ)) → Starts ws → Starts (ws ++ more)
 starts_more ws more s = record { first = s.first; others = s.others ++ more; is = ap (λ l. l ++ more) s.is }
-
-starts_some : (ws : List (List ℕ)) → Starts ws → 0 < length ws
-starts_some ws s = let e = ap length s.is in omega (arith, e)
 
 or_false : (b : Bool) → b ≡ (b || false)
 or_false true = refl
@@ -74,14 +77,14 @@ module _ (nodes : List Node) (tree : IsTree nodes) where
       ap (λ t. is_any (node_at nodes k).nags || is_any (node_at nodes k).comments || t) (played_by parent k (next_sibling nodes k) within is refl)
 
   -- one move of the line, with the variations that replace it
-  pub line_step : (old before mid new : List (List ℕ)) (due next_due : Bool) (rest : List (List ℕ)) (at c : ℕ) → at < length nodes → first_child nodes at ≡ Some c
-      → before ++ line_words (node_at nodes at).position due (after_node nodes at) ≡ old ++ rest
-      → ((m : Move) → (node_at nodes c).led_by ≡ Some m → mid ≡ before ++ opened [] (move_words (node_at nodes at).position due (played_of (node_at nodes c) m)))
-      → new ≡ mid ++ variation_words (node_at nodes at).position (instead_of nodes at c)
+  pub line_step : (whole before mid new : Page) (due next_due : Bool) (at c : ℕ) → at < length nodes → first_child nodes at ≡ Some c
+      → with_words before (line_words (node_at nodes at).position due (after_node nodes at)) ≡ whole
+      → ((m : Move) → (node_at nodes c).led_by ≡ Some m → mid ≡ with_words before (opened [] (move_words (node_at nodes at).position due (played_of (node_at nodes c) m))))
+      → new ≡ with_words mid (variation_words (node_at nodes at).position (instead_of nodes at c))
       → next_due ≡ (is_any (node_at nodes c).nags || is_any (node_at nodes c).comments || is_some (next_sibling nodes c))
-      → new ++ line_words (node_at nodes c).position next_due (after_node nodes c) ≡ old ++ rest
+      → with_words new (line_words (node_at nodes c).position next_due (after_node nodes c)) ≡ whole
   unfolding line_words
-  line_step old before mid new due next_due rest at c within e kept one two three =
+  line_step whole before mid new due next_due at c within e kept one two three =
       let b = has_child nodes tree at c within e in
       let l = led at c b.within b.child in
       let m = played_of (node_at nodes c) l.0 in
@@ -89,44 +92,29 @@ module _ (nodes : List Node) (tree : IsTree nodes) where
       let mw = move_words p due m in
       let vs = variation_words p (instead_of nodes at c) in
       let lw = line_words (node_at nodes c).position next_due (after_node nodes c) in
-      ap (λ x. x ++ lw) (two ∙ ap (λ x. x ++ vs) (one l.0 l.1 ∙ ap (λ x. before ++ x) (no_mark mw)))
-      ∙ append_assoc (before ++ mw) vs lw
-      ∙ append_assoc before mw (vs ++ lw)
-      ∙ ap (λ d. before ++ (mw ++ (vs ++ line_words (node_at nodes c).position d (after_node nodes c)))) (three ∙ due_in_line at c l.0 b.within b.child)
-      ∙ ap (λ k. before ++ line_words p due k) (sym (b.begins l.0 l.1))
+      ap (λ x. with_words x lw) (two ∙ ap (λ x. with_words x vs) (one l.0 l.1 ∙ ap (with_words before) (no_mark mw)))
+      ∙ then (with_words before mw) vs lw
+      ∙ then before mw (vs ++ lw)
+      ∙ ap (λ d. with_words before (mw ++ (vs ++ line_words (node_at nodes c).position d (after_node nodes c)))) (three ∙ due_in_line at c l.0 b.within b.child)
+      ∙ ap (λ k. with_words before (line_words p due k)) (sym (b.begins l.0 l.1))
       ∙ kept
 
-  pub line_end : (old words : List (List ℕ)) (due : Bool) (rest : List (List ℕ)) (at : ℕ) → at < length nodes → first_child nodes at ≡ None
-      → words ++ line_words (node_at nodes at).position due (after_node nodes at) ≡ old ++ rest → words ≡ old ++ rest
+  pub line_end : (whole page : Page) (due : Bool) (at : ℕ) → at < length nodes → first_child nodes at ≡ None
+      → with_words page (line_words (node_at nodes at).position due (after_node nodes at)) ≡ whole → page ≡ whole
   unfolding line_words
-  line_end old words due rest at within e kept =
-      sym (append-nil words) ∙ ap (λ k. words ++ line_words (node_at nodes at).position due k) (sym (no_child nodes tree at within e)) ∙ kept
-
-  -- the words of a variation so far, before its `)`
-  pub variation_some : (before mid inner : List (List ℕ)) (parent s : ℕ) → s < length nodes → (node_at nodes s).parent ≡ Some parent
-      → ((m : Move) → (node_at nodes s).led_by ≡ Some m → mid ≡ before ++ opened (codes "(") (move_words (node_at nodes parent).position true (played_of (node_at nodes s) m)))
-      → (more : List (List ℕ)) → inner ≡ mid ++ more → 0 < length inner
-  variation_some before mid inner parent s within is one more two =
-      let l = led parent s within is in
-      let p = (node_at nodes parent).position in
-      let ws = move_words p true (played_of (node_at nodes s) l.0) in
-      let some = starts_some (opened (codes "(") ws) (opened_some (codes "(") ws (number_starts p.side p.number _)) in
-      let a = length-append before (opened (codes "(") ws) in
-      let b = length-append mid more in
-      let c = ap length two in
-      let d = ap length (one l.0 l.1) in
-      omega (arith, some, a, b, c, d)
+  line_end whole page due at within e kept =
+      ap (λ k. with_words page (line_words (node_at nodes at).position due k)) (sym (no_child nodes tree at within e)) ∙ kept
 
   -- one variation
-  pub variation_step : (old before mid inner new rest : List (List ℕ)) (due : Bool) (parent at s : ℕ) → at < length nodes → (node_at nodes at).parent ≡ Some parent → next_sibling nodes at ≡ Some s
-      → before ++ variation_words (node_at nodes parent).position (instead_of nodes parent at) ≡ old ++ rest
-      → ((m : Move) → (node_at nodes s).led_by ≡ Some m → mid ≡ before ++ opened (codes "(") (move_words (node_at nodes parent).position true (played_of (node_at nodes s) m)))
+  pub variation_step : (whole before mid inner new : Page) (due : Bool) (parent at s : ℕ) → at < length nodes → (node_at nodes at).parent ≡ Some parent → next_sibling nodes at ≡ Some s
+      → with_words before (variation_words (node_at nodes parent).position (instead_of nodes parent at)) ≡ whole
+      → ((m : Move) → (node_at nodes s).led_by ≡ Some m → mid ≡ with_words before (opened (codes "(") (move_words (node_at nodes parent).position true (played_of (node_at nodes s) m))))
       → due ≡ (is_any (node_at nodes s).nags || is_any (node_at nodes s).comments)
-      → inner ≡ mid ++ line_words (node_at nodes s).position due (after_node nodes s)
-      → new ≡ closed (codes ")") inner
-      → new ++ variation_words (node_at nodes parent).position (instead_of nodes parent s) ≡ old ++ rest
+      → inner ≡ with_words mid (line_words (node_at nodes s).position due (after_node nodes s))
+      → new ≡ with_longer_word inner (codes ")")
+      → with_words new (variation_words (node_at nodes parent).position (instead_of nodes parent s)) ≡ whole
   unfolding variation_words
-  variation_step old before mid inner new rest due parent at s within is e kept one two three four =
+  variation_step whole before mid inner new due parent at s within is e kept one two three four =
       let b = has_sibling nodes tree parent at s within is e in
       let l = led parent s b.within b.child in
       let m = played_of (node_at nodes s) l.0 in
@@ -136,20 +124,20 @@ module _ (nodes : List Node) (tree : IsTree nodes) where
       let lw = line_words (node_at nodes s).position due (after_node nodes s) in
       let vs = variation_words p (instead_of nodes parent s) in
       let due_is : due ≡ is_due m none = two ∙ or_false (is_any (node_at nodes s).nags || is_any (node_at nodes s).comments) in
-      let whole : inner ≡ before ++ opened (codes "(") (mw ++ lw) =
-      three ∙ ap (λ x. x ++ lw) (one l.0 l.1) ∙ append_assoc before (opened (codes "(") mw) lw
-      ∙ ap (λ x. before ++ x) (sym (opened_starts (codes "(") mw lw starts)) in
-      let shut : new ≡ before ++ in_parens (mw ++ lw) =
-      four ∙ ap (closed (codes ")")) whole
-      ∙ closed_starts (codes ")") before (opened (codes "(") (mw ++ lw)) (opened_some (codes "(") (mw ++ lw) (starts_more mw lw starts)) in
-      ap (λ x. x ++ vs) shut
-      ∙ append_assoc before (in_parens (mw ++ lw)) vs
-      ∙ ap (λ d. before ++ (in_parens (mw ++ line_words (node_at nodes s).position d (after_node nodes s)) ++ vs)) due_is
-      ∙ ap (λ k. before ++ variation_words p k) (sym (b.begins l.0 l.1))
+      let inside : inner ≡ with_words before (opened (codes "(") (mw ++ lw)) =
+      three ∙ ap (λ x. with_words x lw) (one l.0 l.1) ∙ then before (opened (codes "(") mw) lw
+      ∙ ap (with_words before) (sym (opened_starts (codes "(") mw lw starts)) in
+      let shut : new ≡ with_words before (in_parens (mw ++ lw)) =
+      four ∙ ap (λ x. with_longer_word x (codes ")")) inside
+      ∙ longer_starts (codes ")") before (opened (codes "(") (mw ++ lw)) (opened_some (codes "(") (mw ++ lw) (starts_more mw lw starts)) in
+      ap (λ x. with_words x vs) shut
+      ∙ then before (in_parens (mw ++ lw)) vs
+      ∙ ap (λ d. with_words before (in_parens (mw ++ line_words (node_at nodes s).position d (after_node nodes s)) ++ vs)) due_is
+      ∙ ap (λ k. with_words before (variation_words p k)) (sym (b.begins l.0 l.1))
       ∙ kept
 
-  pub variations_end : (old words rest : List (List ℕ)) (parent at : ℕ) → at < length nodes → (node_at nodes at).parent ≡ Some parent → next_sibling nodes at ≡ None
-      → words ++ variation_words (node_at nodes parent).position (instead_of nodes parent at) ≡ old ++ rest → words ≡ old ++ rest
+  pub variations_end : (whole page : Page) (parent at : ℕ) → at < length nodes → (node_at nodes at).parent ≡ Some parent → next_sibling nodes at ≡ None
+      → with_words page (variation_words (node_at nodes parent).position (instead_of nodes parent at)) ≡ whole → page ≡ whole
   unfolding variation_words
-  variations_end old words rest parent at within is e kept =
-      sym (append-nil words) ∙ ap (λ k. words ++ variation_words (node_at nodes parent).position k) (sym (no_sibling nodes tree parent at within is e)) ∙ kept
+  variations_end whole page parent at within is e kept =
+      ap (λ k. with_words page (variation_words (node_at nodes parent).position k)) (sym (no_sibling nodes tree parent at within is e)) ∙ kept

@@ -1,6 +1,7 @@
 pub mod Words
 pub mod Lines
 pub mod Column
+pub mod Page
 pub mod Movetext
 pub mod TagLines
 pub mod Places

@@ -5,13 +5,18 @@ ghost use Rattle.pgn_export.specs.Normal.{IsNormal, IsReadAs};
 ghost use Rattle.pgn_reader.specs.Games.{Spells};
 ghost use Rattle.pgn_reader.specs.Words.{words_of};
 
-use crate::lines::fill;
 use crate::movetext::write_movetext;
+use crate::page::Page;
 use crate::tag_lines::write_tags;
-use crate::words::Words;
 use cq_outside::{Bytes, NoMemory};
 use pgn_tree::Game;
 use std::alloc::Global;
+
+/// How many bytes are taken for the tags.
+const ROOM_FOR_TAGS: usize = 512;
+
+/// How many bytes are taken for a move, half a number and the white space.
+const ROOM_FOR_MOVE: usize = 8;
 
 /// The text of a game in export format (PGN standard, section 3.2).
 ///
@@ -36,12 +41,15 @@ pub fn export(alloc: Global, game: &Game) -> Result<Bytes, NoMemory>
 fn written(alloc: Global, game: &Game) -> Result<Bytes, NoMemory>
     ensures { IfOk result (λ text. text ≡ export_text game.now) }
 {
-    let mut words = Words::new(alloc);
-    write_movetext(&mut words, game)?;
-    let mut text = Bytes::new(alloc);
-    write_tags(&mut text, alloc, game)?;
-    text.push_all(b"\n")?;
-    fill(&mut text, words.as_slice())?;
-    text.push_all(b"\n")?;
-    Ok(text)
+    let mut lines = Vec::with_capacity(alloc, room_for(game))?;
+    write_tags(&mut lines, alloc, game)?;
+    let mut page = Page::new(lines);
+    write_movetext(&mut page, game)?;
+    page.end()?;
+    Bytes::from_slice(alloc, page.as_slice())
+}
+
+// How many bytes most texts of so many nodes have: a longer one takes more room as it grows.
+fn room_for(game: &Game) -> usize {
+    ROOM_FOR_TAGS + game.len() as usize * ROOM_FOR_MOVE
 }

@@ -6,10 +6,9 @@
 
 mod game;
 mod laws;
-mod lines;
 mod movetext;
+mod page;
 mod tag_lines;
-mod words;
 
 pub use game::export;
 pub use laws::{lines_are_short, tags_are_the_games};

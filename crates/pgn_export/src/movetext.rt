@@ -9,10 +9,11 @@ ghost use Rattle.cq_position.specs.Games.{node_at, first_child, next_sibling};
 ghost use Rattle.cq_position.specs.Legal.{Leads};
 ghost use Rattle.cq_san.specs.Writing.{san_text};
 ghost use Rattle.pgn_export.specs.Movetext as movetext;
+ghost use Rattle.pgn_export.specs.Page.{with_word, with_words};
 ghost use Rattle.pgn_export.specs.Places.{words_to, words_after, words_instead_of, has_notes};
 ghost use Rattle.pgn_export.specs.Words.{opened, closed, comment_words};
 
-use crate::words::Words;
+use crate::page::Page;
 use cq_outside::NoMemory;
 use cq_position::{GameResult, Move, Position, Side};
 use cq_san::san_text;
@@ -32,28 +33,28 @@ pub(crate) fn result_text(ending: GameResult) -> &'static [u8]
 }
 
 /// Adds the words of a game's movetext.
-pub(crate) fn write_movetext(words: &mut Words, game: &Game) -> Result<(), NoMemory>
-    ensures { OnOk result (words.new ≡ words.old ++ movetext.movetext game.now) }
+pub(crate) fn write_movetext(page: &mut Page, game: &Game) -> Result<(), NoMemory>
+    ensures { OnOk result (page.new ≡ with_words page.old (movetext.movetext game.now)) }
 {
     prove!(game.is_tree());
-    write_comments(words, game, 0)?;
-    write_line(words, game, 0, true)?;
-    words.push(result_text(game.result()))?;
+    write_comments(page, game, 0)?;
+    write_line(page, game, 0, true)?;
+    page.push(result_text(game.result()))?;
     Ok(())
 }
 
 // Adds the words of what is played after a node. `due` says whether the number of a move of Black is due.
 #[cycle(writing)]
-fn write_line(words: &mut Words, game: &Game, of: u32, due: bool) -> Result<(), NoMemory>
+fn write_line(page: &mut Page, game: &Game, of: u32, due: bool) -> Result<(), NoMemory>
     requires { of < length game.now.nodes }
-    ensures { OnOk result (words.new ≡ words.old ++ words_after game.now.nodes due of) }
+    ensures { OnOk result (page.new ≡ with_words page.old (words_after game.now.nodes due of)) }
 {
     prove!(game.is_tree());
     let mut at = of;
     let mut due = due;
     while let Some(child) = child_of(game, at) {
-        write_move(words, game, b"", at, child, due)?;
-        write_variations(words, game, at, child)?;
+        write_move(page, game, b"", at, child, due)?;
+        write_variations(page, game, at, child)?;
         due = is_due_in_line(game, child);
         at = child;
     }
@@ -62,22 +63,17 @@ fn write_line(words: &mut Words, game: &Game, of: u32, due: bool) -> Result<(), 
 
 // Adds the words of the variations that replace the move to a node, which was played after its parent.
 #[cycle(writing)]
-fn write_variations(
-    words: &mut Words,
-    game: &Game,
-    parent: u32,
-    beside: u32,
-) -> Result<(), NoMemory>
+fn write_variations(page: &mut Page, game: &Game, parent: u32, beside: u32) -> Result<(), NoMemory>
     requires node { beside < length game.now.nodes }
     requires parent { (node_at game.now.nodes beside).parent ≡ Some parent }
-    ensures { OnOk result (words.new ≡ words.old ++ words_instead_of game.now.nodes parent beside) }
+    ensures { OnOk result (page.new ≡ with_words page.old (words_instead_of game.now.nodes parent beside)) }
 {
     prove!(game.is_tree());
     let mut at = beside;
     while let Some(sibling) = sibling_of(game, parent, at) {
-        write_move(words, game, b"(", parent, sibling, true)?;
-        write_line(words, game, sibling, is_due(game, sibling))?;
-        words.extend_last(b")")?;
+        write_move(page, game, b"(", parent, sibling, true)?;
+        write_line(page, game, sibling, is_due(game, sibling))?;
+        page.extend_last(b")")?;
         at = sibling;
     }
     Ok(())
@@ -122,7 +118,7 @@ fn is_due(game: &Game, k: u32) -> bool
 
 // Adds the words of the move that led from its parent to a node, after a mark: its number, its text, its glyphs and its comments.
 fn write_move(
-    words: &mut Words,
+    page: &mut Page,
     game: &Game,
     mark: &[u8],
     parent: u32,
@@ -132,100 +128,100 @@ fn write_move(
     requires node { k < length game.now.nodes }
     requires parent { (node_at game.now.nodes k).parent ≡ Some parent }
     ensures { OnOk result ((m : MoveValue) → (node_at game.now.nodes k).led_by ≡ Some m →
-        words.new ≡ words.old ++ opened mark.now (words_to game.now.nodes due parent k m)) }
+        page.new ≡ with_words page.old (opened mark.now (words_to game.now.nodes due parent k m))) }
 {
     prove!(game.is_tree());
     let Some(m) = game.move_to(k) else {
         return Ok(());
     };
-    write_san(words, mark, game.position(parent), m, due)?;
-    write_nags(words, game.nags(k))?;
-    write_comments(words, game, k)
+    write_san(page, mark, game.position(parent), m, due)?;
+    write_nags(page, game.nags(k))?;
+    write_comments(page, game, k)
 }
 
 // Adds the words of a move's number and text, after a mark.
 fn write_san(
-    words: &mut Words,
+    page: &mut Page,
     mark: &[u8],
     position: &Position,
     m: Move,
     due: bool,
 ) -> Result<(), NoMemory>
     requires { (q : Board) × Leads position.now m q }
-    ensures { OnOk result (words.new ≡ words.old
-        ++ opened mark.now (movetext.number_words position.now.side due position.now.number ++ san_text position.now m ∷ [])) }
+    ensures { OnOk result (page.new ≡ with_words page.old
+        (opened mark.now (movetext.number_words position.now.side due position.now.number ++ san_text position.now m ∷ []))) }
 {
     let san = san_text(position, m);
     let number = position.number();
     match (position.side(), due) {
-        (Side::White, _) => write_numbered(words, mark, number, b".", san.as_bytes()),
-        (Side::Black, true) => write_numbered(words, mark, number, b"...", san.as_bytes()),
-        (Side::Black, false) => words.push_joined(mark, san.as_bytes(), b""),
+        (Side::White, _) => write_numbered(page, mark, number, b".", san.as_bytes()),
+        (Side::Black, true) => write_numbered(page, mark, number, b"...", san.as_bytes()),
+        (Side::Black, false) => page.push_joined(mark, san.as_bytes(), b""),
     }
 }
 
 // Adds the word of a number, between a mark and periods, and a word after it.
 fn write_numbered(
-    words: &mut Words,
+    page: &mut Page,
     mark: &[u8],
     number: u32,
     periods: &[u8],
     word: &[u8],
 ) -> Result<(), NoMemory>
-    ensures { OnOk result (words.new ≡ words.old ++ ((mark.now ++ (decimal number ++ periods.now)) ∷ word.now ∷ [])) }
+    ensures { OnOk result (page.new ≡ with_words page.old ((mark.now ++ (decimal number ++ periods.now)) ∷ word.now ∷ [])) }
 {
-    write_number(words, mark, number, periods)?;
-    words.push(word)
+    write_number(page, mark, number, periods)?;
+    page.push(word)
 }
 
 // Adds the word of a number, between a mark and periods.
-fn write_number(words: &mut Words, mark: &[u8], number: u32, periods: &[u8]) -> Result<(), NoMemory>
-    ensures { OnOk result (words.new ≡ words.old ++ (mark.now ++ (decimal number ++ periods.now)) ∷ []) }
+fn write_number(page: &mut Page, mark: &[u8], number: u32, periods: &[u8]) -> Result<(), NoMemory>
+    ensures { OnOk result (page.new ≡ with_word page.old (mark.now ++ (decimal number ++ periods.now))) }
 {
-    words.push_joined(mark, Buffer::new().format(number).as_bytes(), periods)
+    page.push_joined(mark, Buffer::new().format(number).as_bytes(), periods)
 }
 
 // Adds the words of numeric annotation glyphs.
-fn write_nags(words: &mut Words, nags: &[u8]) -> Result<(), NoMemory>
-    ensures { OnOk result (words.new ≡ words.old ++ map movetext.nag_word nags.now) }
+fn write_nags(page: &mut Page, nags: &[u8]) -> Result<(), NoMemory>
+    ensures { OnOk result (page.new ≡ with_words page.old (map movetext.nag_word nags.now)) }
 {
     for nag in nags {
-        write_number(words, b"$", u32::from(*nag), b"")?;
+        write_number(page, b"$", u32::from(*nag), b"")?;
     }
     Ok(())
 }
 
 // Adds the words of the comments of a node.
-fn write_comments(words: &mut Words, game: &Game, k: u32) -> Result<(), NoMemory>
+fn write_comments(page: &mut Page, game: &Game, k: u32) -> Result<(), NoMemory>
     requires { k < length game.now.nodes }
-    ensures { OnOk result (words.new ≡ words.old ++ flat_map comment_words (node_at game.now.nodes k).comments) }
+    ensures { OnOk result (page.new ≡ with_words page.old (flat_map comment_words (node_at game.now.nodes k).comments)) }
 {
     for i in 0..game.comments(k) {
-        write_comment(words, game.comment(k, i))?;
+        write_comment(page, game.comment(k, i))?;
     }
     Ok(())
 }
 
 // Adds the words of a comment, the first after `{` and the last before `}`.
-fn write_comment(words: &mut Words, text: &[u8]) -> Result<(), NoMemory>
-    ensures { OnOk result (words.new ≡ words.old ++ comment_words text.now) }
+fn write_comment(page: &mut Page, text: &[u8]) -> Result<(), NoMemory>
+    ensures { OnOk result (page.new ≡ with_words page.old (comment_words text.now)) }
 {
     let Some((word, rest)) = first_word(text) else {
         return Ok(());
     };
-    words.push_joined(b"{", word, b"")?;
-    write_words(words, rest)?;
-    words.extend_last(b"}")?;
+    page.push_joined(b"{", word, b"")?;
+    write_words(page, rest)?;
+    page.extend_last(b"}")?;
     Ok(())
 }
 
 // Adds the words of a text.
-fn write_words(words: &mut Words, text: &[u8]) -> Result<(), NoMemory>
-    ensures { OnOk result (words.new ≡ words.old ++ words_of text.now) }
+fn write_words(page: &mut Page, text: &[u8]) -> Result<(), NoMemory>
+    ensures { OnOk result (page.new ≡ with_words page.old (words_of text.now)) }
 {
     let mut rest = text;
     while let Some((word, after)) = first_word(rest) {
-        words.push(word)?;
+        page.push(word)?;
         rest = after;
     }
     Ok(())

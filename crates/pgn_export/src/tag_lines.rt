@@ -13,8 +13,8 @@ use std::alloc::Global;
 use std::collections::BTreeMap;
 
 /// Adds the tag lines of a game.
-pub(crate) fn write_tags(out: &mut Bytes, alloc: Global, game: &Game) -> Result<(), NoMemory>
-    ensures { OnOk result (out.new ≡ out.old ++ flat_map tag_lines.tag_line (tag_lines.written_tags game.now)) }
+pub(crate) fn write_tags(out: &mut Vec<u8>, alloc: Global, game: &Game) -> Result<(), NoMemory>
+    ensures { OnOk result (out.new.items ≡ out.old.items ++ flat_map tag_lines.tag_line (tag_lines.written_tags game.now)) }
 {
     let tags = game.tags();
     write_roster(out, tags)?;
@@ -24,8 +24,9 @@ pub(crate) fn write_tags(out: &mut Bytes, alloc: Global, game: &Game) -> Result<
 }
 
 // Adds the lines of the tags of the roster, but for the result.
-fn write_roster(out: &mut Bytes, tags: &Tags) -> Result<(), NoMemory>
-    ensures { OnOk result (out.new ≡ out.old ++ flat_map tag_lines.tag_line (map (tag_lines.roster_tag tags.now) tag_lines.roster)) }
+fn write_roster(out: &mut Vec<u8>, tags: &Tags) -> Result<(), NoMemory>
+    ensures { OnOk result (out.new.items
+        ≡ out.old.items ++ flat_map tag_lines.tag_line (map (tag_lines.roster_tag tags.now) tag_lines.roster)) }
 {
     write_roster_tag(out, tags, b"Event", b"?")?;
     write_roster_tag(out, tags, b"Site", b"?")?;
@@ -39,32 +40,32 @@ fn write_roster(out: &mut Bytes, tags: &Tags) -> Result<(), NoMemory>
 // Adds the line of a tag of the roster, with this value where the tag is missing.
 #[tactic(auto, unfolding(crate::specs::TagLines::roster_tag))]
 fn write_roster_tag(
-    out: &mut Bytes,
+    out: &mut Vec<u8>,
     tags: &Tags,
     name: &[u8],
     missing: &[u8],
 ) -> Result<(), NoMemory>
-    ensures { OnOk result (out.new ≡ out.old ++ tag_lines.tag_line (tag_lines.roster_tag tags.now (name.now, missing.now))) }
+    ensures { OnOk result (out.new.items ≡ out.old.items ++ tag_lines.tag_line (tag_lines.roster_tag tags.now (name.now, missing.now))) }
 {
     write_tag(out, name, tags.get(name).unwrap_or(missing))
 }
 
 // Adds the line of a tag.
 #[tactic(auto, unfolding(crate::specs::TagLines::tag_line))]
-fn write_tag(out: &mut Bytes, name: &[u8], value: &[u8]) -> Result<(), NoMemory>
-    ensures { OnOk result (out.new ≡ out.old ++ tag_lines.tag_line (name.now, value.now)) }
+fn write_tag(out: &mut Vec<u8>, name: &[u8], value: &[u8]) -> Result<(), NoMemory>
+    ensures { OnOk result (out.new.items ≡ out.old.items ++ tag_lines.tag_line (name.now, value.now)) }
 {
-    out.push_all(b"[")?;
-    out.push_all(name)?;
-    out.push_all(b" \"")?;
+    out.extend_from_slice(b"[")?;
+    out.extend_from_slice(name)?;
+    out.extend_from_slice(b" \"")?;
     write_escaped(out, value)?;
-    out.push_all(b"\"]\n")?;
+    out.extend_from_slice(b"\"]\n")?;
     Ok(())
 }
 
 // Adds a value, each quote and backslash after a backslash.
-fn write_escaped(out: &mut Bytes, value: &[u8]) -> Result<(), NoMemory>
-    ensures { OnOk result (out.new ≡ out.old ++ tag_lines.escaped value.now) }
+fn write_escaped(out: &mut Vec<u8>, value: &[u8]) -> Result<(), NoMemory>
+    ensures { OnOk result (out.new.items ≡ out.old.items ++ tag_lines.escaped value.now) }
 {
     for byte in value {
         write_escaped_byte(out, *byte)?;
@@ -72,19 +73,19 @@ fn write_escaped(out: &mut Bytes, value: &[u8]) -> Result<(), NoMemory>
     Ok(())
 }
 
-fn write_escaped_byte(out: &mut Bytes, byte: u8) -> Result<(), NoMemory>
-    ensures { OnOk result (out.new ≡ out.old ++ tag_lines.escaped_byte byte) }
+fn write_escaped_byte(out: &mut Vec<u8>, byte: u8) -> Result<(), NoMemory>
+    ensures { OnOk result (out.new.items ≡ out.old.items ++ tag_lines.escaped_byte byte) }
 {
     if byte == b'"' || byte == b'\\' {
-        out.push_all(&[b'\\', byte])
-    } else {
-        out.push_all(&[byte])
+        out.push(b'\\')?;
     }
+    out.push(byte)?;
+    Ok(())
 }
 
 // Adds the lines of the tags that are not of the roster.
-fn write_others(out: &mut Bytes, alloc: Global, tags: &Tags) -> Result<(), NoMemory>
-    ensures { OnOk result (out.new ≡ out.old ++ flat_map tag_lines.tag_line (tag_lines.other_tags tags.now)) }
+fn write_others(out: &mut Vec<u8>, alloc: Global, tags: &Tags) -> Result<(), NoMemory>
+    ensures { OnOk result (out.new.items ≡ out.old.items ++ flat_map tag_lines.tag_line (tag_lines.other_tags tags.now)) }
 {
     let others = other_tags(alloc, tags)?;
     for (name, value) in others.iter() {

@@ -6,7 +6,7 @@ use Rattle.pgn_export.proofs.game.export.Goals as goal
 pub returns-clause-spelled : goal.returns-clause-spelled
 returns-clause-spelled c =
     answer_spells c.args.game.now c.written.result c.is_tree.ensures.tree c.is_tree.ensures.notes
-    c.is_tree.ensures.names (subst IsPosition c.position.ensures c.side-side.ensures.kept) c.written.ensures
+    c.is_tree.ensures.names (subst IsPosition c.position.ensures c.is_position.ensures.kept) c.written.ensures
 
 pub returns-clause-back : goal.returns-clause-back
 returns-clause-back c = answer_back c.args.game.now c.written.result c.written.ensures (returns-clause-spelled c)

@@ -4,4 +4,4 @@ use Rattle.pgn_export.proofs.tag_lines.write_escaped.Given as goal
 
 -- what is written, and what is left, is all
 abbrev pub invariant-loop-byte : goal.invariant-loop-byte
-invariant-loop-byte l = l.out ++ escaped (drop l.byte-index l.value) ≡ l.fn.out ++ escaped l.fn.value
+invariant-loop-byte l = l.out.items ++ escaped (drop l.byte-index l.value) ≡ l.fn.out.items ++ escaped l.fn.value
