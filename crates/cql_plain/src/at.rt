@@ -5,13 +5,13 @@ ghost use Rattle.cq_symmetry.specs.Images.{mask_of};
 ghost use Rattle.cql_syntax.specs.Meaning.{value};
 ghost use Rattle.cql_syntax.specs.TreeOf.{filter_tree};
 ghost use Rattle.cql_syntax.specs.Values.{holds, has, amount};
-ghost use Rattle.cql_plain.specs.Trees.{searched_tree};
+ghost use Rattle.cql_values.specs.Trees.{searched_tree};
 
 use crate::evaluate::evaluate;
-use crate::names::Names;
 use cq_outside::NoMemory;
 use cq_symmetry::Mapping;
 use cql_syntax::Filter;
+use cql_values::names::Names;
 use pgn_tree::Game;
 use std::alloc::Global;
 
