@@ -10,4 +10,4 @@ mod paths;
 mod places;
 mod standing;
 
-pub use at::{holds_at, number_at, set_at};
+pub use at::{holds_at, number_at, set_at, value_at};
