@@ -20,7 +20,8 @@ use Rattle.cql_syntax.specs.Hits.{with_marks, item_texts, comment_texts}
 use Rattle.cql_syntax.specs.TreeOf.{filter_tree, filter_trees}
 use Rattle.cql_syntax.specs.declared.tree.Filter.{Filter}
 use Rattle.cq_annotate.specs.Marking.{node_marked, game_marked}
-use Rattle.cq_annotate.specs.Copying.{with_nags, with_all_comments, with_notes_of}
+use Rattle.cq_annotate.specs.Copying.{with_notes_of}
+use Rattle.cq_position.specs.Games.{with_nags, with_comments}
 
 -- one change and then another
 pub twice : (nodes : List Node) (n : ℕ) (f g : Node → Node) → n < length nodes → with_node (with_node nodes n f) n g ≡ with_node nodes n (λ x. g (f x))
@@ -120,7 +121,7 @@ nags_from nags i nag h is x =
     ∙ sym (ap (λ l. record x { nags = l }) (append_assoc x.nags (nag ∷ []) (drop (i + 1) nags)))
 
 pub comments_from : (comments : List (List ℕ)) (i : ℕ) (text : List ℕ) → i < length comments → text ≡ get_or comments i [] → All IsComment comments
-    → (x : Node) → with_all_comments (drop i comments) x ≡ with_all_comments (drop (i + 1) comments) (with_comment text x)
+    → (x : Node) → with_comments (drop i comments) x ≡ with_comments (drop (i + 1) comments) (with_comment text x)
 comments_from comments i text h is all x =
     let spaced : comment_of (words text) ≡ text ∷ [] = subst (λ t. comment_of (words t) ≡ t ∷ []) (sym is) (all i [] h).spaced in
     ap (λ l. record x { comments = x.comments ++ l }) (drop_more comments i [] h ∙ ap (λ t. t ∷ drop (i + 1) comments) (sym is) ∙ ap (λ c. c ++ drop (i + 1) comments) (sym spaced))
@@ -129,7 +130,7 @@ comments_from comments i text h is all x =
 pub no_nags_left : (nags : List ℕ) (i : ℕ) → length nags ≤ i → (x : Node) → with_nags (drop i nags) x ≡ x
 no_nags_left nags i h x = ap (λ l. record x { nags = l }) (ap (λ l. x.nags ++ l) (drop_all i nags h) ∙ append-nil x.nags)
 
-pub no_comments_left : (comments : List (List ℕ)) (i : ℕ) → length comments ≤ i → (x : Node) → with_all_comments (drop i comments) x ≡ x
+pub no_comments_left : (comments : List (List ℕ)) (i : ℕ) → length comments ≤ i → (x : Node) → with_comments (drop i comments) x ≡ x
 no_comments_left comments i h x = ap (λ l. record x { comments = l }) (ap (λ l. x.comments ++ l) (drop_all i comments h) ∙ append-nil x.comments)
 
 pub no_texts_left : (items : List Filter) (i : ℕ) → length items ≤ i → (x : Node) → with_marks (comment_texts (filter_trees (drop i items))) x ≡ x

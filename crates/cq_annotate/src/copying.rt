@@ -1,7 +1,7 @@
 //! A copy of a game.
 ghost use Rattle.std.specs.Prelude.{◌≡◌, ◌<◌, length, take, ◌+◌, IfOk, OnOk};
-ghost use Rattle.cq_position.specs.Games.{node_at, with_node, HaveNotes, IsTree};
-ghost use Rattle.cq_annotate.specs.Copying.{with_nags, with_all_comments, with_notes_of};
+ghost use Rattle.cq_position.specs.Games.{node_at, with_comments, with_nags, with_node, HaveNotes, IsTree};
+ghost use Rattle.cq_annotate.specs.Copying.{with_notes_of};
 
 use cq_outside::NoMemory;
 use pgn_tree::{Game, Tags};
@@ -76,7 +76,7 @@ fn add_comments(copied: &mut Game, game: &Game, k: u32) -> Result<(), NoMemory>
     requires node { k < length game.now.nodes }
     requires notes { HaveNotes game.now.nodes }
     ensures { OnOk result (copied.new ≡ record copied.old {
-      nodes = with_node copied.old.nodes k (with_all_comments (node_at game.now.nodes k).comments);
+      nodes = with_node copied.old.nodes k (with_comments (node_at game.now.nodes k).comments);
     }) }
 {
     for i in 0..game.comments(k) {

@@ -1,5 +1,6 @@
 //! Marks of a query's hits.
 ghost use Rattle.std.specs.Prelude.{◌≡◌, ◌≢◌, ◌<◌, length, All, AllPairs, IfOk, OnOk};
+ghost use Rattle.cq_position.specs.Comments.{closing_brace};
 ghost use Rattle.cq_position.specs.Games.{with_node};
 ghost use Rattle.cql_syntax.specs.Hits.{marks, item_texts, comment_texts, with_marks};
 ghost use Rattle.cql_syntax.specs.TreeOf.{filter_tree, filters_tree, query_tree};
@@ -18,7 +19,7 @@ use std::alloc::Global;
 pub fn mark(alloc: Global, game: &Game, nodes: &[u32], query: &Query) -> Result<Game, NoMemory>
     requires increasing { AllPairs (λ m n. m < n) nodes.now }
     requires inside { All (λ n. n < length game.now.nodes) nodes.now }
-    requires brace { All (λ text. All (λ b. b ≢ 125) text) (marks (query_tree query.now)) }
+    requires brace { All (λ text. All (λ b. b ≢ closing_brace) text) (marks (query_tree query.now)) }
     ensures { IfOk result (λ g. g ≡ game_marked (marks (query_tree query.now)) nodes.now game.now) }
 {
     let mut marked = copy(alloc, game)?;
@@ -31,7 +32,7 @@ pub fn mark(alloc: Global, game: &Game, nodes: &[u32], query: &Query) -> Result<
 // Adds the texts of a query to a node.
 fn add_marks(game: &mut Game, node: u32, query: &Query) -> Result<(), NoMemory>
     requires node { node < length game.old.nodes }
-    requires brace { All (λ text. All (λ b. b ≢ 125) text) (marks (query_tree query.now)) }
+    requires brace { All (λ text. All (λ b. b ≢ closing_brace) text) (marks (query_tree query.now)) }
     ensures { OnOk result (game.new ≡ record game.old {
       nodes = with_node game.old.nodes node (with_marks (marks (query_tree query.now)));
     }) }
@@ -43,7 +44,7 @@ fn add_marks(game: &mut Game, node: u32, query: &Query) -> Result<(), NoMemory>
 
 fn add_comments(game: &mut Game, node: u32, items: &Filters) -> Result<(), NoMemory>
     requires node { node < length game.old.nodes }
-    requires brace { All (λ text. All (λ b. b ≢ 125) text) (comment_texts (filters_tree items.now)) }
+    requires brace { All (λ text. All (λ b. b ≢ closing_brace) text) (comment_texts (filters_tree items.now)) }
     ensures { OnOk result (game.new ≡ record game.old {
       nodes = with_node game.old.nodes node (with_marks (comment_texts (filters_tree items.now)));
     }) }
@@ -57,7 +58,7 @@ fn add_comments(game: &mut Game, node: u32, items: &Filters) -> Result<(), NoMem
 // Adds the text of an item that is a comment.
 fn add_comment_of(game: &mut Game, node: u32, item: &Filter) -> Result<(), NoMemory>
     requires node { node < length game.old.nodes }
-    requires brace { All (λ text. All (λ b. b ≢ 125) text) (item_texts (filter_tree item.now)) }
+    requires brace { All (λ text. All (λ b. b ≢ closing_brace) text) (item_texts (filter_tree item.now)) }
     ensures { OnOk result (game.new ≡ record game.old {
       nodes = with_node game.old.nodes node (with_marks (item_texts (filter_tree item.now)));
     }) }

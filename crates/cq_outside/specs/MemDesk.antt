@@ -74,13 +74,17 @@ file_code =
 
 abbrev pub source_code : Coded FailingSource
 source_code =
-    code_by (List ℕ × (ℕ × (List ℕ × (ℕ × ℕ)))) (coded× (coded_list coded_ℕ) (coded× coded_ℕ (coded× (coded_list coded_ℕ) (coded× coded_ℕ coded_ℕ))))
+    code_by (List ℕ × (ℕ × (List ℕ × (ℕ × ℕ))))
+    (coded× (coded_list coded_ℕ) (coded× coded_ℕ (coded× (coded_list coded_ℕ) (coded× coded_ℕ coded_ℕ))))
     (λ s. (s.left, (s.piece, (s.fails, (s.reads, s.faults)))))
     (λ p. record { left = p.0; piece = p.1.0; fails = p.1.1.0; reads = p.1.1.1.0; faults = p.1.1.1.1 }) (λ _. refl)
 
 abbrev pub desk_code : Coded FailingDesk
 desk_code =
     code_by (FailingFiles × (List (List ℕ) × (FailingSource × (List ℕ × (ℕ × ℕ)))))
-    (coded× (code (coded_list coded_ℕ) file_code) (coded× (coded_list (coded_list coded_ℕ)) (coded× source_code (coded× (coded_list coded_ℕ) (coded× coded_ℕ coded_ℕ)))))
+    (coded× (code (coded_list coded_ℕ) file_code)
+    (coded× (coded_list (coded_list coded_ℕ)) (coded× source_code (coded× (coded_list coded_ℕ) (coded× coded_ℕ coded_ℕ)))))
     (λ d. (d.files, (d.opened, (d.current, (d.fails, (d.opens, d.open_faults))))))
-    (λ p. record { files = p.0; opened = p.1.0; current = p.1.1.0; fails = p.1.1.1.0; opens = p.1.1.1.1.0; open_faults = p.1.1.1.1.1 }) (λ _. refl)
+    (λ p. record {
+      files = p.0; opened = p.1.0; current = p.1.1.0; fails = p.1.1.1.0; opens = p.1.1.1.1.0; open_faults = p.1.1.1.1.1
+    }) (λ _. refl)

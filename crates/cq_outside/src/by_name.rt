@@ -30,7 +30,8 @@ pub(crate) fn put<X: Drop>(
     name: &[u8],
     value: X,
 ) -> Result<(), NoMemory>
-    ensures ok { OnOk result (map.from_entries {R = slice_cmp nat_cmp} entries.new.items ≡ map.insert (map.from_entries entries.old.items) name.now value) }
+    ensures ok { OnOk result (map.from_entries {R = slice_cmp nat_cmp} entries.new.items
+        ≡ map.insert (map.from_entries entries.old.items) name.now value) }
     ensures err { OnErr result (entries.new.items ≡ entries.old.items) }
 {
     let entry = (Bytes::from_slice(alloc, name)?, value);

@@ -145,7 +145,8 @@ fn file_to_open<'a>(
     name: &[u8],
 ) -> Option<&'a StoredFile>
     ensures none { IfNone result ((is_listed fails.now number || is_none (map.get (files_of files.now) name.now)) ≡ true) }
-    ensures some { IfSome result (λ file. (is_listed fails.now number ≡ false) × (map.get (files_of files.now) name.now ≡ Some file.now)) }
+    ensures some { IfSome result (λ file. (is_listed fails.now number ≡ false)
+        × (map.get (files_of files.now) name.now ≡ Some file.now)) }
 {
     if fails.has(number) {
         return None;
@@ -180,7 +181,8 @@ impl Source for MemDesk {
 
     ghost follows_same = { λ s. (refl, follows_itself s.current) };
 
-    ghost follows_on = { λ s t u f g. (g.0 ∙ ap (λ (d : FailingDesk). record d { current = u.current }) f.0, follows_on s.current t.current u.current f.1 g.1) };
+    ghost follows_on = { λ s t u f g.
+      (g.0 ∙ ap (λ (d : FailingDesk). record d { current = u.current }) f.0, follows_on s.current t.current u.current f.1 g.1) };
 
     ghost never_falls = { λ s t f. faults_never_fall s.current t.current f.1 };
 }

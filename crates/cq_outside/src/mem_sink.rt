@@ -48,7 +48,9 @@ impl MemSink {
     /// fails at the writes whose numbers are in `fails`. It takes all its memory here.
     pub fn new(alloc: Global, room: usize, piece: usize, fails: Calls) -> Result<MemSink, NoMemory>
         requires { 1 ≤ piece }
-        ensures { IfOk result (λ sink. sink ≡ record { room = room; taken = Some []; piece = piece; fails = fails; writes = 0; faults = 0 }) }
+        ensures { IfOk result (λ sink. sink ≡ record {
+          room = room; taken = Some []; piece = piece; fails = fails; writes = 0; faults = 0
+        }) }
     {
         Ok(MemSink {
             kept: SureSink::new(alloc, room)?,

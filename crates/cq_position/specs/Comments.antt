@@ -8,6 +8,10 @@ use Rattle.cq_position.specs.Fen.{is_not_empty}
 unfoldable pub words : List ℕ → List (List ℕ)
 words text = filter is_not_empty (slice_split is_white text)
 
+-- `}`, which ends a comment
+abbrev pub closing_brace : ℕ
+closing_brace = 125
+
 -- the comment of some words: the words with single spaces between them; no words are no comment
 abbrev pub comment_of : List (List ℕ) → List (List ℕ)
 comment_of [] = []

@@ -6,8 +6,16 @@ use Rattle.std.specs.List.{find, list_all, list_any, range_with_len}
 use Rattle.cq_position.specs.declared.games.GameResult.{GameResult}
 use Rattle.cq_position.specs.declared.moves.Move.{Move}
 use Rattle.cq_position.specs.Board.{Board, start_board}
-use Rattle.cq_position.specs.Comments.{words, comment_of}
+use Rattle.cq_position.specs.Comments.{closing_brace, words, comment_of}
 use Rattle.cq_position.specs.Legal.{Leads}
+
+-- how many positions a game may have
+abbrev pub most_positions : ℕ
+most_positions = 65536
+
+-- glyphs are numbered up to 255 (PGN standard, section 8.2.4)
+abbrev pub glyph_numbers : ℕ
+glyph_numbers = 256
 
 -- A node is a position of a game. It has the number of the node before it and the move that led from there, which the root has not, and
 -- the numeric annotation glyphs (section 8.2.4) and the comments (section 5) that belong to the move; the root's comments belong to the
@@ -60,14 +68,21 @@ with_nag nag node = record node { nags = node.nags ++ nag ∷ [] }
 abbrev pub with_comment : List ℕ → Node → Node
 with_comment text node = record node { comments = node.comments ++ comment_of (words text) }
 
+-- a node with more numeric annotation glyphs, and with more comments, after its own
+abbrev pub with_nags : List ℕ → Node → Node
+with_nags nags node = record node { nags = node.nags ++ nags }
+
+abbrev pub with_comments : List (List ℕ) → Node → Node
+with_comments comments node = record node { comments = node.comments ++ comments }
+
 -- A comment as a game keeps it: words with single spaces between them, at least one, and no `}`, which would end it.
 pub record IsComment (comment : List ℕ) : Type 0 where
   pub spaced : comment_of (words comment) ≡ comment ∷ []
-  pub no_brace : All (λ b. b ≢ 125) comment
+  pub no_brace : All (λ b. b ≢ closing_brace) comment
 
--- what a game keeps of the notes of a node: glyphs are numbers below 256 (PGN standard, section 8.2.4), and comments are such
+-- what a game keeps of the notes of a node: glyphs have one of those numbers, and comments are such
 pub record HasNotes (node : Node) : Type 0 where
-  pub nags : All (λ nag. nag < 256) node.nags
+  pub nags : All (λ nag. nag < glyph_numbers) node.nags
   pub comments : All IsComment node.comments
 
 abbrev pub HaveNotes : List Node → Type 0
@@ -167,9 +182,9 @@ pub record IsChild (nodes : List Node) (n : ℕ) : Type 0 where
   pub leads : Leads (node_at nodes number).position move (node_at nodes n).position
   pub preorder : Contains (way_up nodes (n - 1)) number
 
--- the nodes of a game: the root, and its descendants in preorder, at most 65,536 in all
+-- the nodes of a game: the root, and its descendants in preorder, as many as a game may have at most
 pub record IsTree (nodes : List Node) : Type 0 where
   pub rooted : 0 < length nodes
-  pub few : length nodes ≤ 65536
+  pub few : length nodes ≤ most_positions
   pub root : IsRoot (node_at nodes 0)
   pub children : (n : ℕ) → 0 < n → n < length nodes → IsChild nodes n

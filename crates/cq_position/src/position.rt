@@ -121,6 +121,15 @@ impl Position {
         &self.men
     }
 
+    /// Whether the men stand on a board: they always do. The clauses are what every position keeps.
+    #[inline]
+    pub fn is_position(&self) -> bool
+        ensures value { result ≡ true }
+        ensures kept { IsPosition self.now }
+    {
+        true
+    }
+
     /// The side to move.
     #[inline]
     pub fn side(&self) -> Side

@@ -85,7 +85,7 @@ fn rivals_of(position: &Position, m: &Move) -> Rivals
     ensures on_file { result.on_file ≡ list_any (rival.on_file position.now m.now) (legal_list position.now) }
     ensures on_rank { result.on_rank ≡ list_any (rival.on_rank position.now m.now) (legal_list position.now) }
 {
-    let _side = position.side();
+    prove!(position.is_position());
     let origins = origins(position, &unplaced(position, m));
     Rivals {
         any: is_any_elsewhere(&origins, m.from),
@@ -265,7 +265,7 @@ pub fn san_text(position: &Position, m: Move) -> ArrayString<8>
     ensures alone { IsMeant position.now (writing.san_parts position.now m) m }
     ensures read { san position.now result.bytes ≡ Ok m }
 {
-    let _side = position.side();
+    prove!(position.is_position());
     text_of(position, m)
 }
 

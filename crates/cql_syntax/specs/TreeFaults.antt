@@ -2,6 +2,7 @@
 use Rattle.std.specs.Prelude.{ℕ, Bool, true, false, not, nat_eq, nat_lt, nat_le, unwrap_or, map, filter, List, [], ◌∷◌, ◌++◌, Option, None, Some, Result, Ok, Err, is_none}
 use Rattle.std.specs.List.{flat_map, list_any}
 use Rattle.std.specs.Str.{bytes_eq}
+use Rattle.cq_position.specs.Comments.{closing_brace}
 use Rattle.cql_syntax.specs.Kinds.{form_kind}
 use Rattle.cql_syntax.specs.Limits.{most_places, most_sorts, most_squares, most_weight}
 use Rattle.cql_syntax.specs.Occurrences.{Occurrence, all_occurrences}
@@ -26,10 +27,6 @@ ok_unless x (Some e) = Err e
 abbrev pub where_it : {X : Type 0} → Bool → X → List X
 where_it true x = x ∷ []
 where_it false x = []
-
--- `}`
-abbrev pub closing_brace : ℕ
-closing_brace = 125
 
 -- whether a text has a closing brace
 abbrev pub holds_brace : List ℕ → Bool

@@ -29,8 +29,7 @@ pub fn export(alloc: Global, game: &Game) -> Result<Bytes, NoMemory>
     ensures back { IfOk result (λ text. IsNormal game.now → IsReadAs text game.now) }
 {
     prove!(game.is_tree());
-    // Read for what every position keeps.
-    let _side = game.position(0).side();
+    prove!(game.position(0).is_position());
     written(alloc, game)
 }
 

@@ -12,7 +12,8 @@ use Rattle.cq_position.proofs.Trees.{prefix_tree, way_in_prefix}
 use Rattle.pgn_reader.specs.Inside.{comments_of}
 use Rattle.pgn_reader.specs.Frame.{Row}
 use Rattle.pgn_reader.specs.Arranged.{way_on, nodes_by}
-use Rattle.pgn_reader.specs.Building.{with_nags, with_comments, IsNext}
+use Rattle.cq_position.specs.Games.{with_nags, with_comments}
+use Rattle.pgn_reader.specs.Building.{IsNext}
 
 -- a game with a change of one node
 abbrev pub changed : Game → ℕ → (Node → Node) → Game

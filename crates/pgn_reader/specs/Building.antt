@@ -1,16 +1,8 @@
 -- How a game is built of the rows of its line.
-use Rattle.std.specs.Prelude.{ℕ, ◌-◌, ◌<◌, List, ◌++◌, length, Contains}
-use Rattle.cq_position.specs.Games.{Node, node_at, way_up}
+use Rattle.std.specs.Prelude.{ℕ, ◌-◌, ◌<◌, List, length, Contains}
+use Rattle.cq_position.specs.Games.{Node, most_positions, node_at, way_up}
 use Rattle.cq_position.specs.Legal.{Leads}
 use Rattle.cq_position.specs.Continuations.{Played}
-use Rattle.pgn_reader.specs.Limits.{most_positions}
-
--- a node with more glyphs, and with more comments
-abbrev pub with_nags : List ℕ → Node → Node
-with_nags nags node = record node { nags = node.nags ++ nags }
-
-abbrev pub with_comments : List (List ℕ) → Node → Node
-with_comments comments node = record node { comments = node.comments ++ comments }
 
 -- a move may be the next node: it leads from the position of its parent, which is the last node or an ancestor of it
 pub record IsNext (nodes : List Node) (parent : ℕ) (m : Played) : Type 0 where

@@ -3,12 +3,11 @@ use Rattle.std.specs.Prelude.{◌≡◌, ℕ, ◌≤◌, List, [], ◌∷◌, �
 use Rattle.std.specs.List.{AllByRecursion, flat_map}
 use Rattle.cq_position.specs.declared.games.GameResult.{GameResult}
 use Rattle.cq_position.specs.Board.{Board}
-use Rattle.cq_position.specs.Games.{Node, Game}
+use Rattle.cq_position.specs.Games.{Node, Game, most_positions}
 use Rattle.cq_position.specs.Continuations.{nodes_from}
 use Rattle.pgn_reader.specs.Words.{Word, ends, sense}
 use Rattle.pgn_reader.specs.Tags.{Pair, IsPair, pair_text, Tags, tags_of, start_of, result_of_tags}
 use Rattle.pgn_reader.specs.Line.{Line, text, Told, Tells, beginning}
-use Rattle.pgn_reader.specs.Limits.{most_positions}
 
 -- tag pairs, with the comments before each
 abbrev pub AreHeading : List Pair → Type 0

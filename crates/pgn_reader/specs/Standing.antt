@@ -14,11 +14,11 @@ use Rattle.pgn_lexer.specs.declared.token.TokenKind.TheVariants.{Open, Close, Te
 use Rattle.pgn_reader.specs.declared.fault.Reason.{Reason}
 use Rattle.pgn_reader.specs.declared.fault.Reason.TheVariants.{BadByte as IsBadByte, UnclosedComment as IsUnclosedComment, UnclosedString, BadTag, BadFen, NagRange, NotAMove, IllegalMove, AmbiguousMove, VariationWithoutMove, EmptyVariation, UnopenedVariation, UnclosedVariation, TooDeep, TooManyPositions}
 use Rattle.pgn_reader.specs.Words.{Word, Sense, plays, ends, opens, closes, out_of_place, sense, is_comment, is_move}
-use Rattle.cq_position.specs.Games.{with_tag}
+use Rattle.cq_position.specs.Games.{glyph_numbers, with_tag}
 use Rattle.pgn_reader.specs.Tags.{Pair, Tags, tags_of, start_of, value_of}
 use Rattle.pgn_reader.specs.Line.{Line, text, Place, beginning, Told, Tells}
 use Rattle.pgn_reader.specs.Games.{heading_text, AreHeading, Spells}
-use Rattle.pgn_reader.specs.Limits.{glyph_numbers, most_levels, most_moves}
+use Rattle.pgn_reader.specs.Limits.{most_levels, most_moves}
 
 -- The beginning of a game's movetext: a line, or what begins so, the parenthesis of a variation, and the beginning of its line.
 pub data Begun : Type 0 where

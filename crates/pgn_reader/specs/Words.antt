@@ -12,7 +12,7 @@ use Rattle.pgn_lexer.specs.declared.token.TokenKind.TheVariants.{Open, Close, Te
 use Rattle.pgn_lexer.specs.Lexemes.{tokens_of}
 use Rattle.pgn_reader.specs.declared.fault.Reason.{Reason}
 use Rattle.pgn_reader.specs.declared.fault.Reason.TheVariants.{BadByte as IsBadByte, UnclosedComment as IsUnclosedComment, UnclosedString, BadTag, NagRange}
-use Rattle.pgn_reader.specs.Limits.{glyph_numbers}
+use Rattle.cq_position.specs.Games.{glyph_numbers}
 
 -- a token: its kind and its bytes
 pub record Word : Type 0 where

@@ -1,12 +1,12 @@
 //! Building a game of the rows of its line.
 ghost use Rattle.std.specs.Prelude.{◌≡◌, ◌≢◌, ◌<◌, [], ◌∷◌, ◌++◌, length, slice_index, Some, None, IfOk, OnOk};
 ghost use Rattle.std.specs.List.{All};
-ghost use Rattle.cq_position.specs.Games.{with_node, IsTree};
+ghost use Rattle.cq_position.specs.Games.{with_comments, with_nags, with_node, IsTree};
 ghost use Rattle.cq_position.specs.Continuations.{node_of};
 ghost use Rattle.pgn_reader.specs.Games.{root};
 ghost use Rattle.pgn_reader.specs.Inside.{HasNoBrace, comments_of};
 ghost use Rattle.pgn_reader.specs.Arranged.{way_on, nodes_by, nodes_of_rows};
-ghost use Rattle.pgn_reader.specs.Building.{with_nags, with_comments, IsNext};
+ghost use Rattle.pgn_reader.specs.Building.{IsNext};
 
 use crate::row::Row;
 use cq_outside::NoMemory;

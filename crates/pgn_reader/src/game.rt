@@ -59,8 +59,7 @@ fn into_game(alloc: Global, reader: Reader) -> Result<Game, NoMemory>
     ensures { IfOk result (λ g. g ≡ game_of reader) }
 {
     let ending = ending_of(&reader);
-    // Read for what every position meets: the moves of the game lead from it.
-    let _side = reader.preface.start().side();
+    prove!(reader.preface.start().is_position());
     let rows = reader.line.into_rows()?;
     game_of_rows(alloc, reader.preface.into_tags(), ending, &rows)
 }

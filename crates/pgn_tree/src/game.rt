@@ -3,7 +3,8 @@ ghost use Rattle.std.specs.Option.{is_some};
 ghost use Rattle.std.specs.Int.{bit_at};
 ghost use Rattle.std.specs.Prelude.{◌≡◌, ◌≢◌, ◌&&◌, ◌||◌, ◌==◌, ◌^◌, ℕ, true, false, not, ◌<◌, ◌≤◌, ◌+◌, ◌-◌, ◌↔◌, [], ◌∷◌, ◌++◌, length, slice_index_or, Some, None, OnOk, OnErr, IfOk, IfSome, IsNone, IsOk, Contains, All};
 ghost use Rattle.cq_position.specs.Legal.{Leads};
-ghost use Rattle.cq_position.specs.Games.{node_at, bare_node, with_nag, with_comment, with_node, way_up, children, first_child, next_sibling, is_main, main_line, IsLastSibling, IsTree, HaveNotes, HaveDistinctNames, is_below, is_searched};
+ghost use Rattle.cq_position.specs.Comments.{closing_brace};
+ghost use Rattle.cq_position.specs.Games.{most_positions, node_at, bare_node, with_nag, with_comment, with_node, way_up, children, first_child, next_sibling, is_main, main_line, IsLastSibling, IsTree, HaveNotes, HaveDistinctNames, is_below, is_searched};
 ghost use Rattle.cq_position.specs.Men.{man_number};
 ghost use Rattle.cq_position.specs.Search.{IsDownPath, has_man, has_man_in};
 ghost use Rattle.pgn_tree.specs.Links.{linked_at, with_link, linked};
@@ -186,7 +187,7 @@ impl Game {
         requires node { parent < length self.old.nodes }
         requires preorder { Contains (way_up self.old.nodes (length self.old.nodes - 1)) parent }
         requires leads { Leads (node_at self.old.nodes parent).position m p }
-        requires few { length self.old.nodes < 65536 }
+        requires few { length self.old.nodes < most_positions }
         ensures ok { OnOk result (self.new ≡ record self.old { nodes = self.old.nodes ++ bare_node (Some parent) (Some m) p ∷ [] }) }
         ensures number { IfOk result (λ k. k ≡ length self.old.nodes) }
         ensures err { OnErr result (self.new ≡ self.old) }
@@ -212,7 +213,7 @@ impl Game {
     /// Adds a comment to a node: the words of the text with single spaces between them. A text without words adds nothing.
     pub fn add_comment(&mut self, k: u32, text: &[u8]) -> Result<(), NoMemory>
         requires node { k < length self.old.nodes }
-        requires brace { All (λ b. b ≢ 125) text.now }
+        requires brace { All (λ b. b ≢ closing_brace) text.now }
         ensures ok { OnOk result (self.new ≡ record self.old { nodes = with_node self.old.nodes k (with_comment text.now) }) }
         ensures err { OnErr result (self.new ≡ self.old) }
     {

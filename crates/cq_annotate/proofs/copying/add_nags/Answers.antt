@@ -1,7 +1,7 @@
 use Rattle.std.proofs.Common.{◌+◌, drop, get_or}
 use Rattle.std.proofs.lemmas.List.{get_or_default}
 use Rattle.cq_position.specs.Games.{with_nag}
-use Rattle.cq_annotate.specs.Copying.{with_nags}
+use Rattle.cq_position.specs.Games.{with_nags}
 use Rattle.cq_annotate.proofs.Nodes.{all_left, one_less, none_left, nags_from, no_nags_left}
 use Rattle.cq_annotate.proofs.copying.add_nags.Goals as goal
 

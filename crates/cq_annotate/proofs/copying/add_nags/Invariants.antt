@@ -1,5 +1,5 @@
 use Rattle.std.proofs.Common.{drop}
-use Rattle.cq_annotate.specs.Copying.{with_nags}
+use Rattle.cq_position.specs.Games.{with_nags}
 use Rattle.cq_annotate.proofs.Nodes.{IsLeft}
 use Rattle.cq_annotate.proofs.copying.add_nags.Given as goal
 

@@ -9,16 +9,16 @@ pub returns-clause-any : goal.returns-clause-any
 returns-clause-any c =
     let same = c.deref.ensures.0 ∙ c.origins-origins.ensures ∙ ap (origins c.args.position.now) c.unplaced.ensures in
     c.is_any_elsewhere.ensures ∙ ap (list_any (is_elsewhere c.args.m.now.from)) same
-    ∙ any_by_squares c.args.position.now c.args.m.now c.side-side.ensures.kept c.requires.legal.0 c.requires.legal.1 c.requires.piece c.requires.plain
+    ∙ any_by_squares c.args.position.now c.args.m.now c.is_position.ensures.kept c.requires.legal.0 c.requires.legal.1 c.requires.piece c.requires.plain
 
 pub returns-clause-on_file : goal.returns-clause-on_file
 returns-clause-on_file c =
     let same = c.deref-2.ensures.0 ∙ c.origins-origins.ensures ∙ ap (origins c.args.position.now) c.unplaced.ensures in
     c.is_any_on_file.ensures ∙ ap (list_any (is_elsewhere_on_file c.args.m.now.from)) same
-    ∙ file_by_squares c.args.position.now c.args.m.now c.side-side.ensures.kept c.requires.legal.0 c.requires.legal.1 c.requires.piece c.requires.plain
+    ∙ file_by_squares c.args.position.now c.args.m.now c.is_position.ensures.kept c.requires.legal.0 c.requires.legal.1 c.requires.piece c.requires.plain
 
 pub returns-clause-on_rank : goal.returns-clause-on_rank
 returns-clause-on_rank c =
     let same = c.deref-3.ensures.0 ∙ c.origins-origins.ensures ∙ ap (origins c.args.position.now) c.unplaced.ensures in
     c.is_any_on_rank.ensures ∙ ap (list_any (is_elsewhere_on_rank c.args.m.now.from)) same
-    ∙ rank_by_squares c.args.position.now c.args.m.now c.side-side.ensures.kept c.requires.legal.0 c.requires.legal.1 c.requires.piece c.requires.plain
+    ∙ rank_by_squares c.args.position.now c.args.m.now c.is_position.ensures.kept c.requires.legal.0 c.requires.legal.1 c.requires.piece c.requires.plain

@@ -10,13 +10,13 @@ use Rattle.cq_san.proofs.text.san_text.Goals as goal
 
 pub returns-clause-spelled : goal.returns-clause-spelled
 returns-clause-spelled c =
-    let board = on_board c.args.position.now c.args.m c.requires.0 c.side-side.ensures.kept c.requires.1 in
+    let board = on_board c.args.position.now c.args.m c.requires.0 c.is_position.ensures.kept c.requires.1 in
     subst (λ t. Spells t (writing.san_parts c.args.position.now c.args.m)) (sym c.text_of.ensures) (text_spells c.args.position.now c.args.m board.0 board.1)
 
 pub returns-clause-alone : goal.returns-clause-alone
-returns-clause-alone c = meant c.args.position.now c.args.m c.requires.0 c.side-side.ensures.kept c.requires.1
+returns-clause-alone c = meant c.args.position.now c.args.m c.requires.0 c.is_position.ensures.kept c.requires.1
 
 pub returns-clause-read : goal.returns-clause-read
 returns-clause-read c =
     ap (san c.args.position.now) c.text_of.ensures
-    ∙ written_read c.args.position.now c.args.m c.requires.0 c.side-side.ensures.kept c.requires.1
+    ∙ written_read c.args.position.now c.args.m c.requires.0 c.is_position.ensures.kept c.requires.1

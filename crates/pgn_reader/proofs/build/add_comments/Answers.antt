@@ -2,7 +2,7 @@ use Rattle.std.proofs.Common.{◌+◌, [], List, ℕ, take, ap, ◌∙◌, Vec, 
 use Rattle.std.proofs.lemmas.List.{take_all}
 use Rattle.cq_position.specs.Games.{Node, with_comment}
 use Rattle.pgn_reader.specs.Inside.{comments_of}
-use Rattle.pgn_reader.specs.Building.{with_comments}
+use Rattle.cq_position.specs.Games.{with_comments}
 use Rattle.pgn_reader.proofs.Building.{changed, unchanged, changed_on, low_in, no_comments, comments_more}
 use Rattle.pgn_reader.proofs.build.add_comments.Goals as goal
 

@@ -1,6 +1,6 @@
 use Rattle.std.proofs.Common.{◌≡◌, take}
 use Rattle.pgn_reader.specs.Inside.{comments_of}
-use Rattle.pgn_reader.specs.Building.{with_comments}
+use Rattle.cq_position.specs.Games.{with_comments}
 use Rattle.pgn_reader.proofs.Building.{changed}
 use Rattle.pgn_reader.proofs.build.add_comments.Given as goal
 

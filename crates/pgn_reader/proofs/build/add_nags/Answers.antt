@@ -1,7 +1,7 @@
 use Rattle.std.proofs.Common.{ℕ, ◌+◌, [], take, get_or, ap, ◌∙◌}
 use Rattle.std.proofs.lemmas.List.{take_all}
 use Rattle.cq_position.specs.Games.{with_nag}
-use Rattle.pgn_reader.specs.Building.{with_nags}
+use Rattle.cq_position.specs.Games.{with_nags}
 use Rattle.pgn_reader.proofs.Building.{changed, unchanged, changed_on, low_in, no_nags, nags_more}
 use Rattle.pgn_reader.proofs.build.add_nags.Goals as goal
 

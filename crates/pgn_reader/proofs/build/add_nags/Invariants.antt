@@ -1,5 +1,5 @@
 use Rattle.std.proofs.Common.{◌≡◌, take}
-use Rattle.pgn_reader.specs.Building.{with_nags}
+use Rattle.cq_position.specs.Games.{with_nags}
 use Rattle.pgn_reader.proofs.Building.{changed}
 use Rattle.pgn_reader.proofs.build.add_nags.Given as goal
 
