@@ -34,7 +34,7 @@ values_more tree g e n xs i f before later v below is had new more =
     ap (map meant) more ∙ map_snoc meant before v ∙ ap (λ vs. vs ++ meant v ∷ []) had ∙ ap (λ w. values tree g e (filter_trees (take i xs)) n ++ w ∷ []) new
     ∙ sym (values_snoc tree g e (filter_trees (take i xs)) (filter_tree f) n) ∙ sym (ap (λ fs. values tree g e fs n) (filter_trees_more xs i f below is))
 
-terms_snoc : (tree : SearchedTree) (g : Context) (e : Names) (ts : TermTrees) (minus : Bool) (f : FilterTree) (n : ℕ)
+pub terms_snoc : (tree : SearchedTree) (g : Context) (e : Names) (ts : TermTrees) (minus : Bool) (f : FilterTree) (n : ℕ)
     → term_values tree g e (with_term ts minus f) n ≡ term_values tree g e ts n ++ (minus, value tree g e f n) ∷ []
 unfolding value
 terms_snoc tree g e no_terms minus f n = refl
