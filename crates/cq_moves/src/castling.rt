@@ -8,25 +8,9 @@ ghost use Rattle.cq_moves.specs.Candidates.{is_castling_goal};
 
 use cq_geometry::{Square, files_apart};
 use cq_position::attacks::{is_attacked, is_open};
-use cq_position::home::{king_home, rook_home};
+use cq_position::home::{castling_crossed, castling_goal, king_home, rook_home};
 use cq_position::{Man, Men, Move, Position, Side, king_of, opponent, rook_of};
 use cq_sets::mark;
-
-const C1: u8 = 2;
-
-const D1: u8 = 3;
-
-const F1: u8 = 5;
-
-const G1: u8 = 6;
-
-const C8: u8 = 58;
-
-const D8: u8 = 59;
-
-const F8: u8 = 61;
-
-const G8: u8 = 62;
 
 /// Whether the move is castling: the move of the side's king by two files (FIDE Laws of Chess, article 3.8.2).
 #[inline]
@@ -72,30 +56,4 @@ pub(crate) fn castling_goals(side: Side) -> u64
     ensures { IsBitboard result (is_castling_goal side) }
 {
     mark(Some(castling_goal(side, true))) | mark(Some(castling_goal(side, false)))
-}
-
-/// The square to which the king castles.
-#[inline]
-pub fn castling_goal(side: Side, kingside: bool) -> Square
-    ensures { result ≡ legal.castling_goal side kingside }
-{
-    match (side, kingside) {
-        (Side::White, true) => Square::new(G1),
-        (Side::White, false) => Square::new(C1),
-        (Side::Black, true) => Square::new(G8),
-        (Side::Black, false) => Square::new(C8),
-    }
-}
-
-/// The square that the king crosses, to which the rook goes.
-#[inline]
-pub fn castling_crossed(side: Side, kingside: bool) -> Square
-    ensures { result ≡ legal.castling_crossed side kingside }
-{
-    match (side, kingside) {
-        (Side::White, true) => Square::new(F1),
-        (Side::White, false) => Square::new(D1),
-        (Side::Black, true) => Square::new(F8),
-        (Side::Black, false) => Square::new(D8),
-    }
 }

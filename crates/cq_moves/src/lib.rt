@@ -12,7 +12,8 @@ mod passing;
 mod reach;
 
 pub use after::is_en_passant_capture;
-pub use castling::{castling_goal, is_castling};
+pub use castling::is_castling;
+pub use cq_position::home::castling_goal;
 pub use cq_sets::lowest_square;
 pub use legality::is_legal;
 pub use list::legal_moves;

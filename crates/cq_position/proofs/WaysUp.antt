@@ -4,9 +4,11 @@ use Rattle.std.specs.Prelude.{◌==◌, All, Contains}
 use Rattle.std.specs.List.{list_any, list_all}
 use Rattle.std.proofs.lemmas.Bool.{cases_lt, eq-eqb, ne_eqb}
 use Rattle.std.proofs.lemmas.List.{get_or_past}
+use Rattle.std.proofs.lemmas.List.Elements.{All-weaker, All-contains_itself}
+use Rattle.std.proofs.lemmas.List.Folds.{list_all-append}
 use Rattle.cq_outside.proofs.WithinLaw.{right}
 use Rattle.cq_position.specs.Games.{Node, no_node, node_at, way_up, is_below, is_first_child, is_main, is_searched, IsTree}
-use Rattle.cq_position.proofs.Ancestors.{way_step, way_root}
+use Rattle.cq_position.proofs.Ancestors.{way_step, way_root, reaches}
 use Rattle.cq_position.proofs.Trees.{tree_first}
 
 -- the way up from a node that may not be there
@@ -48,3 +50,19 @@ main_up nodes m p tree is e = right _ _ (sym (ap (list_all (λ x. (x == 0) || is
 pub searched_up : (variations : Bool) (nodes : List Node) (m p : ℕ) → IsTree nodes → (node_at nodes m).parent ≡ Some p → is_searched variations nodes m ≡ true → is_searched variations nodes p ≡ true
 searched_up true nodes m p tree is e = refl
 searched_up false nodes m p tree is e = main_up nodes m p tree is e
+
+-- The whole way up of what is searched is searched: each node on it, and the way as a list.
+pub searched_on_way : (variations : Bool) (nodes : List Node) (n m : ℕ) → IsTree nodes → is_searched variations nodes n ≡ true
+    → Contains (way_up nodes n) m → is_searched variations nodes m ≡ true
+searched_on_way true nodes n m tree is on = refl
+searched_on_way false nodes n m tree is on =
+    let leads = λ (x : ℕ). (x == 0) || is_first_child nodes x in
+    let r = reaches nodes (tree_first nodes tree) n m on in
+    right (list_all leads r.before) (list_all leads (way_up nodes m))
+    (sym (list_all-append leads r.before (way_up nodes m)) ∙ sym (ap (list_all leads) r.is) ∙ is)
+
+pub searched_way : (variations : Bool) (nodes : List Node) (n : ℕ) → IsTree nodes → is_searched variations nodes n ≡ true
+    → All (λ m. is_searched variations nodes m ≡ true) (way_up nodes n)
+searched_way variations nodes n tree is =
+    All-weaker (Contains (way_up nodes n)) (λ m. is_searched variations nodes m ≡ true)
+    (λ m on. searched_on_way variations nodes n m tree is on) (way_up nodes n) (All-contains_itself (way_up nodes n))

@@ -17,8 +17,10 @@ AreMen p = AreWords 13 p.ones p.twos p.fours p.eights
 
 abbrev pub words_of : List Man → Inside
 words_of men = record {
-  ones = word_of man_number 0 men; twos = word_of man_number 1 men;
-  fours = word_of man_number 2 men; eights = word_of man_number 3 men
+  ones = word_of man_number 0 men;
+  twos = word_of man_number 1 men;
+  fours = word_of man_number 2 men;
+  eights = word_of man_number 3 men;
 }
 
 -- the number of the man of a number
@@ -48,5 +50,5 @@ by_fields a b c d e f g h p q r s = ap₂ (λ x y. inside_with x y c d) p q ∙ 
 pub men_back : (p : Inside) → AreMen p → words_of (men_inside p) ≡ p
 men_back p h =
     let back : AreBack man_number man_numbered p.ones p.twos p.fours p.eights
-        = words_back man_number man_numbered 13 numbered p.ones p.twos p.fours p.eights h in
+    = words_back man_number man_numbered 13 numbered p.ones p.twos p.fours p.eights h in
     by_fields _ _ _ _ p.ones p.twos p.fours p.eights back.ones back.twos back.fours back.eights

@@ -1,19 +1,36 @@
-//! The squares of kings and rooks at home, where a game begins and from where they castle (FIDE Laws of Chess, articles 2.3 and 3.8.2).
+//! The squares of kings and rooks at home, where a game begins, and those to which they castle (FIDE Laws of Chess, articles 2.3 and 3.8.2).
 ghost use Rattle.std.specs.Prelude.{◌≡◌};
 ghost use Rattle.cq_position.specs.Board as board;
+ghost use Rattle.cq_position.specs.Legal as legal;
 
 use crate::men::Side;
 use cq_geometry::Square;
 
 const A1: u8 = 0;
 
+const C1: u8 = 2;
+
+const D1: u8 = 3;
+
 const E1: u8 = 4;
+
+const F1: u8 = 5;
+
+const G1: u8 = 6;
 
 const H1: u8 = 7;
 
 const A8: u8 = 56;
 
+const C8: u8 = 58;
+
+const D8: u8 = 59;
+
 const E8: u8 = 60;
+
+const F8: u8 = 61;
+
+const G8: u8 = 62;
 
 const H8: u8 = 63;
 
@@ -38,5 +55,31 @@ pub fn rook_home(side: Side, kingside: bool) -> Square
         (Side::White, false) => Square::new(A1),
         (Side::Black, true) => Square::new(H8),
         (Side::Black, false) => Square::new(A8),
+    }
+}
+
+/// The square to which the king castles.
+#[inline]
+pub fn castling_goal(side: Side, kingside: bool) -> Square
+    ensures { result ≡ legal.castling_goal side kingside }
+{
+    match (side, kingside) {
+        (Side::White, true) => Square::new(G1),
+        (Side::White, false) => Square::new(C1),
+        (Side::Black, true) => Square::new(G8),
+        (Side::Black, false) => Square::new(C8),
+    }
+}
+
+/// The square that the king crosses, to which the rook goes.
+#[inline]
+pub fn castling_crossed(side: Side, kingside: bool) -> Square
+    ensures { result ≡ legal.castling_crossed side kingside }
+{
+    match (side, kingside) {
+        (Side::White, true) => Square::new(F1),
+        (Side::White, false) => Square::new(D1),
+        (Side::Black, true) => Square::new(F8),
+        (Side::Black, false) => Square::new(D8),
     }
 }

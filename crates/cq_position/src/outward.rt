@@ -31,6 +31,14 @@ pub fn is_attacked(men: &Men, by: Side, square: Square) -> bool
         || is_attacked_by_king(men, by, square)
 }
 
+/// Expands to whether one of the attackers is seen, where one stands on these lines at all.
+macro_rules! meets_seen {
+    ($attackers:expr, $lines:expr, $seen:expr) => {{
+        let attackers = $attackers;
+        meets(attackers, $lines) && meets(attackers, $seen)
+    }};
+}
+
 // Whether a rook or queen of the side attacks the square. Most squares have none on their lines, so these are asked first.
 #[inline]
 fn is_attacked_straight(men: &Men, by: Side, square: Square) -> bool
@@ -38,12 +46,11 @@ fn is_attacked_straight(men: &Men, by: Side, square: Square) -> bool
     ensures { result ≡ some_man (λ a. is_straight by (man_at men.now a))
         (λ a. lines.is_orthogonal square a && lines.is_open (attack.is_occupied men.now) square a) }
 {
-    let attackers = straight_men(men, by);
-    meets(attackers, straight_lines(square))
-        && meets(
-            attackers,
-            straight_squares(square, men.squares_of(Man::Empty)),
-        )
+    meets_seen!(
+        straight_men(men, by),
+        straight_lines(square),
+        straight_squares(square, men.squares_of(Man::Empty))
+    )
 }
 
 // Whether a bishop or queen of the side attacks the square, where one stands on its diagonals.
@@ -53,12 +60,11 @@ fn is_attacked_aslant(men: &Men, by: Side, square: Square) -> bool
     ensures { result ≡ some_man (λ a. is_slanted by (man_at men.now a))
         (λ a. lines.is_diagonal square a && lines.is_open (attack.is_occupied men.now) square a) }
 {
-    let attackers = slanted_men(men, by);
-    meets(attackers, slanted_lines(square))
-        && meets(
-            attackers,
-            slanted_squares(square, men.squares_of(Man::Empty)),
-        )
+    meets_seen!(
+        slanted_men(men, by),
+        slanted_lines(square),
+        slanted_squares(square, men.squares_of(Man::Empty))
+    )
 }
 
 // Whether a knight of the side attacks the square.

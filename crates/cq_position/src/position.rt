@@ -1,5 +1,5 @@
 //! Positions.
-ghost use Rattle.std.specs.Prelude.{◌≡◌, ◌<◌};
+ghost use Rattle.std.specs.Prelude.{◌≡◌, ◌<◌, true};
 ghost use Rattle.std.specs.List.{list_any};
 ghost use Rattle.cq_position.specs.Board.{man_at, castling_right, start_board, count_of};
 ghost use Rattle.cq_position.specs.Board as board;
@@ -121,13 +121,13 @@ impl Position {
         &self.men
     }
 
-    /// Whether the men stand on a board: they always do. The clauses are what every position keeps.
+    /// Whether the number of the move counts from 1: it always does. The clauses are what every position keeps.
     #[inline]
     pub fn is_position(&self) -> bool
         ensures value { result ≡ true }
         ensures kept { IsPosition self.now }
     {
-        true
+        self.number > 0
     }
 
     /// The side to move.

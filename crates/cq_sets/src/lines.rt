@@ -25,6 +25,16 @@ pub fn slanted_lines(from: Square) -> u64
     SLANTED_LINES[usize::from(from.number())]
 }
 
+/// Expands to the squares that are seen from a square in four directions, each listed by its files and its ranks.
+macro_rules! seen_along {
+    ($from:expr, $empty:expr; ($f1:literal, $r1:literal), ($f2:literal, $r2:literal), ($f3:literal, $r3:literal), ($f4:literal, $r4:literal)) => {
+        seen::<$f1, $r1>($from, $empty)
+            | seen::<$f2, $r2>($from, $empty)
+            | seen::<$f3, $r3>($from, $empty)
+            | seen::<$f4, $r4>($from, $empty)
+    };
+}
+
 /// The squares along a square's file and rank, up to and with the first on each side that is not empty.
 #[inline]
 pub fn straight_squares(from: Square, empty: u64) -> u64
@@ -32,10 +42,7 @@ pub fn straight_squares(from: Square, empty: u64) -> u64
     ensures { (occupied : ℕ → Bool) → IsBitboard empty (λ k. not (occupied k)) →
         IsBitboard result (λ to. is_orthogonal from to && is_open occupied from to) }
 {
-    seen::<0, 1>(from, empty)
-        | seen::<0, -1>(from, empty)
-        | seen::<-1, 0>(from, empty)
-        | seen::<1, 0>(from, empty)
+    seen_along!(from, empty; (0, 1), (0, -1), (-1, 0), (1, 0))
 }
 
 /// The squares along a square's diagonals, up to and with the first on each side that is not empty.
@@ -45,10 +52,7 @@ pub fn slanted_squares(from: Square, empty: u64) -> u64
     ensures { (occupied : ℕ → Bool) → IsBitboard empty (λ k. not (occupied k)) →
         IsBitboard result (λ to. is_diagonal from to && is_open occupied from to) }
 {
-    seen::<1, 1>(from, empty)
-        | seen::<-1, 1>(from, empty)
-        | seen::<1, -1>(from, empty)
-        | seen::<-1, -1>(from, empty)
+    seen_along!(from, empty; (1, 1), (-1, 1), (1, -1), (-1, -1))
 }
 
 // The squares from a square in a direction, up to and with the first that is not empty.
