@@ -6,5 +6,6 @@ pub mod Mates
 pub mod Ranges
 pub mod Reaching
 pub mod Reversed
+pub mod Standing
 pub mod Tagged
 pub mod Ways

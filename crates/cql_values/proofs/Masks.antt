@@ -56,7 +56,7 @@ max_of true false = refl
 max_of false true = refl
 max_of false false = refl
 
-min_of : (t u : Bool) → min (bit_of t) (bit_of u) ≡ bit_of (t && u)
+pub min_of : (t u : Bool) → min (bit_of t) (bit_of u) ≡ bit_of (t && u)
 min_of true true = refl
 min_of true false = refl
 min_of false true = refl

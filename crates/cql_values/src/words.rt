@@ -3,6 +3,7 @@ ghost use Rattle.std.specs.Prelude.{◌≡◌, ◌<◌, ◌&&◌, not, length, S
 ghost use Rattle.cq_position.specs.Games.{IsTree};
 ghost use Rattle.cq_position.specs.Legality.{has_legal_move};
 ghost use Rattle.cq_position.specs.Bitboards.{IsBitboard};
+ghost use Rattle.cq_position.specs.Board.{man_at, stands};
 ghost use Rattle.cq_position.specs.Men.{man_number};
 ghost use Rattle.cq_symmetry.specs.Images.{is_in};
 ghost use Rattle.cql_syntax.specs.Meaning as meaning;
@@ -11,13 +12,12 @@ ghost use Rattle.cql_values.specs.Trees.{searched_tree};
 
 use crate::headers::year;
 use crate::numbers::counted;
-use crate::sets::{has_square, with_square};
 use crate::value::Value;
 use crate::walks::{children, depth, ply};
-use cq_geometry::{Compass, Square};
+use cq_geometry::Compass;
 use cq_moves::{is_mate, is_stalemate};
 use cq_outside::NoMemory;
-use cq_position::{Man, Position, Side, in_check};
+use cq_position::{Man, Men, Position, Side, in_check};
 use cql_syntax::{Designator, Plain, Way};
 use pgn_tree::Game;
 use std::alloc::Global;
@@ -26,19 +26,29 @@ use std::alloc::Global;
 pub fn standing_on(position: &Position, d: &Designator) -> u64
     ensures { IsBitboard result (meaning.stands_on position.now.men (Some d.now)) }
 {
+    d.part.squares & squares_of_some(position.men(), d.men)
+}
+
+// The squares on which one of some men stands: bit k is man k.
+fn squares_of_some(men: &Men, wanted: u16) -> u64
+    ensures { IsBitboard result (λ s. is_in wanted (man_number (man_at men.now s))) }
+{
     let mut mask = 0;
-    for number in 0..64 {
-        let there = stands_there(position, d, Square::new(number));
-        mask = with_square(mask, number, there);
+    for man in &MEN {
+        mask |= squares_if(men, wanted, *man);
     }
     mask
 }
 
-// Whether one of the designator's men stands on this square of it.
-fn stands_there(position: &Position, d: &Designator, square: Square) -> bool
-    ensures { result ≡ meaning.stands_on position.now.men (Some d.now) square }
+// The squares on which a man stands, if it is wanted.
+fn squares_if(men: &Men, wanted: u16, man: Man) -> u64
+    ensures { IsBitboard result (λ s. stands men.now s man && is_in wanted (man_number man)) }
 {
-    has_square(d.part.squares, square) && has_man(d.men, position.at(square))
+    if has_man(wanted, man) {
+        men.squares_of(man)
+    } else {
+        0
+    }
 }
 
 fn has_man(men: u16, man: Man) -> bool
@@ -46,6 +56,23 @@ fn has_man(men: u16, man: Man) -> bool
 {
     men >> (man as u16) & 1 == 1
 }
+
+// Each man, the empty square among them, by its number.
+const MEN: [Man; 13] = [
+    Man::K,
+    Man::Q,
+    Man::R,
+    Man::B,
+    Man::N,
+    Man::P,
+    Man::BlackK,
+    Man::BlackQ,
+    Man::BlackR,
+    Man::BlackB,
+    Man::BlackN,
+    Man::BlackP,
+    Man::Empty,
+];
 
 /// What a filter that is one word gives.
 pub fn word_at(
