@@ -7,7 +7,7 @@ use Rattle.std.proofs.lemmas.List.{take_all}
 use Rattle.std.specs.Io.KnownBytes.{Consumes, IsAtEnd}
 use Rattle.cq_outside.specs.Faults.{Rose}
 use Rattle.std.specs.Option.{option_map}
-use Rattle.cql_syntax.specs.Limits.{most_open}
+use Rattle.cql_syntax.specs.Limits.{most_bytes}
 use Rattle.cq_outside.specs.Told.{Told, Opens, bytes_of}
 use Rattle.cq_outside.specs.declared.faults.Refusal.{Refusal}
 use Rattle.cq_outside.specs.declared.faults.Refusal.TheVariants.{Fault}
@@ -31,36 +31,12 @@ use Rattle.cq_run.specs.declared.status.Status.{Status}
 use Rattle.cq_run.specs.declared.status.Status.TheVariants.{Done, DoneWithRefusals, QueryRefused, WordsRefused, OpenFault, ReadFault, WriteFault, NoMemory, ArchiveTooLong}
 use Rattle.cq_run.specs.Queries.{IsQuery, IsQueryFault}
 use Rattle.cq_run.specs.Promise.{SourceView, DeskView, Sinks, SaysOfAnswer, IsOneOf, IsUnwritten, NoWriteFailed}
-use Rattle.cq_run.specs.Run.{Call, from_desk, IsUnmoved, with_open, Opened, FailsToOpen, query_limit, TakesQuery, LacksMemory, no_memory_to_open, no_memory_to_read, WritesUsage, RefusesQuery, AcceptsQuery, WritesFlat, AnswersFile, archive_answered, archive_unopened, archive_out_of_memory, OverText, text_accepted, text_refused, text_out_of_memory, OverFile, file_accepted, file_refused, file_unopened, file_unread, file_out_of_memory, SaysAccepted, Explains, RunsMade, DoesJob, job_done, words_refused, words_out_of_memory, Asks, AnswersItsFault, IsInFile, HasText, NothingRose, IsShort, IsWithin, good_answers, Promise}
+use Rattle.cq_run.specs.Run.{Call, from_desk, IsUnmoved, with_open, Opened, FailsToOpen, TakesQuery, LacksMemory, no_memory_to_open, no_memory_to_read, WritesUsage, RefusesQuery, AcceptsQuery, WritesFlat, AnswersFile, archive_answered, archive_unopened, archive_out_of_memory, OverText, text_accepted, text_refused, text_out_of_memory, OverFile, file_accepted, file_refused, file_unopened, file_unread, file_out_of_memory, SaysAccepted, Explains, RunsMade, DoesJob, job_done, words_refused, words_out_of_memory, Asks, AnswersItsFault, IsInFile, HasText, NothingRose, IsShort, IsWithin, good_answers, Promise}
 use Rattle.cq_run.specs.SelfRun.{WritesTotals, WritesMade, totals_written, made_out_of_memory}
 use Rattle.cq_run.specs.declared.totals.Totals.{Totals}
 use Rattle.cq_run.specs.Asked.{ReadsFile, TellsWhy, call_of}
+use Rattle.cq_run.proofs.OneOutcome.{SpellOne, SpellNone, one_query, no_fault}
 use Rattle.cq_run.proofs.Sinks.{wrote_none}
-
--- a text is one query at most, and has no fault then
-
-abbrev pub SpellOne : Type 0
-SpellOne = (tokens : List QueryToken) (q r : QueryTree) → Spells most_open tokens q → Spells most_open tokens r → q ≡ r
-
-abbrev pub SpellNone : Type 0
-SpellNone = (tokens : List QueryToken) (f : QueryFault) (q : QueryTree) → IsFault tokens f → Spells most_open tokens q → ⊥
-
-same_tokens : (text : List ℕ) (ts us : List QueryToken) → tokens_of text ≡ Ok ts → tokens_of text ≡ Ok us → ts ≡ us
-same_tokens text ts us e f = let g : ◌≡◌ {A = Result (List QueryToken) QueryFault} (Ok ts) (Ok us) = sym e ∙ f in cc
-
-pub one_query : SpellOne → (text : List ℕ) (q r : QueryTree) → IsQuery text q → IsQuery text r → q ≡ r
-one_query one text q r is other =
-    one is.tokens q r is.spells (subst (λ ts. Spells most_open ts r) (same_tokens text other.tokens is.tokens other.are_tokens is.are_tokens) other.spells)
-
-pub no_fault : SpellOne → SpellNone → (text : List ℕ) (q : QueryTree) (f : QueryFault) → IsQuery text q → IsQueryFault text f → ⊥
-no_fault one none text q f is (inl lexical) = let g : ◌≡◌ {A = Result (List QueryToken) QueryFault} (Ok is.tokens) (Err f) = sym is.are_tokens ∙ lexical in cc
-no_fault one none text q f is (inr (inl parse)) =
-    none is.tokens f q (subst (λ ts. IsFault ts f) (same_tokens text parse.tokens is.tokens parse.are_tokens is.are_tokens) parse.is_fault) is.spells
-no_fault one none text q f is (inr (inr tree)) =
-    let same : tree.query ≡ q = one is.tokens tree.query q (subst (λ ts. Spells most_open ts tree.query) (same_tokens text tree.tokens is.tokens tree.are_tokens is.are_tokens) tree.spells) is.spells in
-    let a = tree.broken in
-    let b = is.unbroken in
-    cc
 
 -- counts that stand still, and the one that may rise
 
@@ -318,7 +294,7 @@ taken_text limit file text (Some rest) takes most whole =
 -- what is taken of a query's file, by what the desk tells
 read_text : (call : Call) (name text found : List ℕ) (mid : DeskView) → (asks : IsInFile call name text) → TakesQuery name call.desk mid found → found ≡ text
 read_text call name text found mid asks takes =
-    taken_text query_limit (bytes_of asks.told.files name) found mid.file.left
+    taken_text most_bytes (bytes_of asks.told.files name) found mid.file.left
     (subst (λ l. Consumes l mid.file.left found) (takes.opened.bytes asks.told asks.tells) takes.takes) takes.few takes.whole ∙ sym asks.taken
 
 text_refused_always : SpellOne → SpellNone → (text : List ℕ) (fault : QueryFault) (Accepted : QueryTree → Status → Call → Type 0) (status : Status) (call : Call)

@@ -5,7 +5,7 @@ use Rattle.cql_syntax.specs.Trees.{QueryTree}
 use Rattle.cql_syntax.specs.declared.fault.QueryFault.{QueryFault}
 use Rattle.cql_parser.specs.Texts.{TextSpells, IsTextFault}
 use Rattle.cq_run.specs.Queries.{IsQuery, IsQueryFault}
-use Rattle.cq_run.proofs.Doing.{SpellOne, SpellNone, no_fault}
+use Rattle.cq_run.proofs.OneOutcome.{SpellOne, SpellNone, no_fault}
 
 abbrev pub IsOneOfBoth : List ℕ → Type 0
 IsOneOfBoth text =

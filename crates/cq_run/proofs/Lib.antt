@@ -7,5 +7,6 @@ mod Answers
 mod Counting
 mod Kept
 mod Answered
+mod OneOutcome
 mod Doing
 pub mod EveryText

@@ -7,6 +7,7 @@ use Rattle.clap.specs.Simple.{matches_of}
 use Rattle.cq_outside.specs.Faults.{Rose}
 use Rattle.cq_outside.specs.Flow.{TakesAtMost}
 use Rattle.cq_outside.specs.Told.{Told, bytes_of}
+use Rattle.cql_syntax.specs.Limits.{most_bytes}
 use Rattle.cq_words.specs.Jobs.{asked, job_in}
 use Rattle.cq_words.specs.Line.{line}
 use Rattle.cq_words.specs.declared.job.Job.{Job}
@@ -59,30 +60,26 @@ pub record FailsToOpen (desk after : DeskView) : Type 0 where
   pub told : after.told ≡ desk.told
   pub file : after.file ≡ desk.file
 
--- the limit on a query, in bytes
-abbrev pub query_limit : ℕ
-query_limit = 65536
-
 -- The file of a query was opened, and these bytes of it were taken: all, or one more than the limit.
 pub record TakesQuery (name : List ℕ) (desk after : DeskView) (text : List ℕ) : Type 0 where
   pub file : SourceView
   pub opened : Opened name desk after file
   pub takes : Consumes file.left after.file.left text
-  pub few : length text ≤ query_limit + 1
-  pub whole : length text ≤ query_limit → IsAtEnd after.file.left
+  pub few : length text ≤ most_bytes + 1
+  pub whole : length text ≤ most_bytes → IsAtEnd after.file.left
   pub faults : after.file.faults ≡ file.faults
 
 -- the file of a query was opened, and could not be read: its count rose
 pub record FailsToRead (name : List ℕ) (desk after : DeskView) : Type 0 where
   pub file : SourceView
   pub opened : Opened name desk after file
-  pub few : TakesAtMost query_limit file.left after.file.left
+  pub few : TakesAtMost most_bytes file.left after.file.left
   pub rose : Rose file.faults after.file.faults
 
 -- no memory to open the file of a query, or to read it
 pub data LacksMemory (name : List ℕ) (desk after : DeskView) : Type 0 where
   no_memory_to_open : after ≡ desk → LacksMemory name desk after
-  no_memory_to_read : (file : SourceView) → Opened name desk after file → TakesAtMost (query_limit + 1) file.left after.file.left
+  no_memory_to_read : (file : SourceView) → Opened name desk after file → TakesAtMost (most_bytes + 1) file.left after.file.left
       → after.file.faults ≡ file.faults → LacksMemory name desk after
 
 -- ---- lines
@@ -212,7 +209,7 @@ pub record AnswersItsFault (status : Status) (call : Call) : Type 0 where
 pub record IsInFile (call : Call) (name text : List ℕ) : Type 0 where
   pub told : Told
   pub tells : call.desk.told ≡ Some told
-  pub taken : text ≡ take (query_limit + 1) (bytes_of told.files name)
+  pub taken : text ≡ take (most_bytes + 1) (bytes_of told.files name)
   pub opens : Rose call.desk.open_faults call.desk_after.open_faults → ⊥
   pub reads : Rose call.desk.file.faults call.desk_after.file.faults → ⊥
 

@@ -8,13 +8,10 @@ use crate::status::Status;
 use cq_outside::{Desk, OpenFault, Refusal, Sink, read_up_to, write_all_of};
 use cq_report::query_line;
 use cql_kinds::check;
-use cql_lexer::query_tokens;
+use cql_lexer::{QUERY_LIMIT, query_tokens};
 use cql_parser::{parse, spelled_queries_have_no_any, tokens_of_a_text_are_ended};
 use cql_syntax::{QueryFault, TypedQuery};
 use std::alloc::Global;
-
-/// The limit on a query, in bytes.
-const QUERY_LIMIT: usize = 65_536;
 
 /// The line that answers a query that is accepted.
 const ACCEPTED: &[u8] = b"ok\n";

@@ -1,12 +1,12 @@
-//! A law of the queries that texts are.
-ghost use Rattle.std.specs.Prelude.{◌⊎◌, ℕ, List};
+//! Laws of the queries that texts are, and of their faults.
+ghost use Rattle.std.specs.Prelude.{◌≡◌, ◌⊎◌, ℕ, List};
 ghost use Rattle.cql_syntax.specs.Trees.{QueryTree};
 ghost use Rattle.cql_syntax.specs.declared.fault.QueryFault.{QueryFault};
 ghost use Rattle.cq_run.specs.Queries.{IsQuery, IsQueryFault};
 
 use cql_parser::{
     faulty_tokens_spell_no_query, texts_spell_a_query_or_have_a_fault,
-    tokens_spell_at_most_one_query,
+    tokens_have_at_most_one_fault, tokens_spell_at_most_one_query,
 };
 
 /// A law: every text is a query or has a fault, and not both.
@@ -15,6 +15,16 @@ pub fn every_text_is_a_query_or_has_a_fault()
         ⊎ (((f : QueryFault) × IsQueryFault text f) × ((q : QueryTree) → IsQuery text q → ⊥)) }
 {
     texts_spell_a_query_or_have_a_fault();
+    tokens_spell_at_most_one_query();
+    faulty_tokens_spell_no_query();
+}
+
+/// A law: a text is at most one query, and has at most one fault.
+pub fn texts_have_one_outcome()
+    ensures query { (text : List ℕ) (q r : QueryTree) → IsQuery text q → IsQuery text r → q ≡ r }
+    ensures fault { (text : List ℕ) (f g : QueryFault) → IsQueryFault text f → IsQueryFault text g → f ≡ g }
+{
+    tokens_have_at_most_one_fault();
     tokens_spell_at_most_one_query();
     faulty_tokens_spell_no_query();
 }

@@ -17,6 +17,6 @@ mod totals;
 
 pub use answering::answer;
 pub use command::answer_command;
-pub use laws::every_text_is_a_query_or_has_a_fault;
+pub use laws::{every_text_is_a_query_or_has_a_fault, texts_have_one_outcome};
 pub use status::Status;
 pub use top_call::run;

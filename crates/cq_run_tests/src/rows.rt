@@ -237,7 +237,7 @@ static REPORTS: [(&str, Status, &str); 24] = [
     ("\u{feff}*", Status::Done, "games 1 matched 0 refused 0\n"),
 ];
 
-// No clause ties want of memory to a cause, so this row alone refuses a program that always answers it.
+// No clause says when a call may run out of memory, so this row alone refuses a program that always does.
 #[test]
 fn always_out_of_memory_is_refused(rt: HostRuntime) -> Result<(), Fail> {
     let alloc = rt.alloc();

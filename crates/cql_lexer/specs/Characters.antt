@@ -17,6 +17,10 @@ begins_name_or_squares b = is_ascii_alphabetic b || b == 95 || b == 46 || b == 9
 abbrev pub is_file_byte : ℕ → Bool
 is_file_byte b = nat_le 33 b && not (b == 34 || b == 40 || b == 41)
 
+-- `-`, between the first and the last of files, or of ranks
+abbrev pub hyphen : ℕ
+hyphen = 45
+
 abbrev pub is_quote : ℕ → Bool
 is_quote b = b == 34
 

@@ -8,7 +8,7 @@ use Rattle.cq_symmetry.specs.Parts.{are_whole_ranks, are_whole_files}
 use Rattle.cql_syntax.specs.Words.{man_letters}
 use Rattle.cql_syntax.specs.declared.leaves.Designator.{Designator}
 use Rattle.std.specs.Int.{is_in_range}
-use Rattle.cql_lexer.specs.Characters.{is_comma, is_closing_bracket}
+use Rattle.cql_lexer.specs.Characters.{hyphen, is_comma, is_closing_bracket}
 use Rattle.cql_lexer.specs.Longest.{longest}
 
 -- the union of the sets that the items stand for and of those so far; none where an item stands for none
@@ -64,10 +64,10 @@ rectangle file last_file rank last_rank =
 abbrev pub specification : List ℕ → Option ℕ
 specification (file ∷ rank ∷ []) = rectangle file file rank rank
 specification (a ∷ b ∷ c ∷ d ∷ []) =
-    if b == 45 then rectangle a c d d
-    else (if c == 45 then rectangle a a b d else None)
+    if b == hyphen then rectangle a c d d
+    else (if c == hyphen then rectangle a a b d else None)
 specification (file ∷ b ∷ last_file ∷ rank ∷ c ∷ last_rank ∷ []) =
-    if b == 45 && c == 45 then rectangle file last_file rank last_rank else None
+    if b == hyphen && c == hyphen then rectangle file last_file rank last_rank else None
 specification text = None
 
 -- the squares of specifications with commas between them

@@ -33,7 +33,7 @@ none_greatest P never = record { bounds = λ k p. absurd (never k p); reached = 
 
 module _ (Known : Measure) (join : ℕ → ℕ → ℕ) (same : Keeps Known) (two : Joins Known join) (words : List ℕ) (rules : List Rule) (primary : Bool) (spots : List Spot) (below : (n p : ℕ) → joined primary spots n ≡ Some p → p < n) where
   -- the row of a node is whole when its turn comes
-  pub whole_row : (t : ℕ) (rows : List (List ℕ)) → Stands Known words rules primary spots t rows → (n : ℕ) → n + t + 1 ≡ length spots → (j : ℕ) → Known (Below (holds words) rules (Edge false primary spots) j n) (cell rows n j)
+  pub whole_row : (t : ℕ) (rows : List (ℕ → ℕ)) → Stands Known words rules primary spots t rows → (n : ℕ) → n + t + 1 ≡ length spots → (j : ℕ) → Known (Below (holds words) rules (Edge false primary spots) j n) (cell rows n j)
   whole_row t rows s n e j =
       same (Late words rules primary spots t n j) (Below (holds words) rules (Edge false primary spots) j n) (cell rows n j) (s.known n j)
       (λ k r. (r.0, (let h = below r.0 n r.1 in omega arith), r.1, r.2))
@@ -49,7 +49,7 @@ module _ (Known : Measure) (join : ℕ → ℕ → ℕ) (same : Keeps Known) (tw
   late_more : (t p j k : ℕ) → Late words rules primary spots t p j k → Late words rules primary spots (t + 1) p j k
   late_more t p j k l = (l.0, (let h = l.1 in omega arith), l.2, l.3)
 
-  known_parent : (t n p j : ℕ) (rows : List (List ℕ)) (own : ℕ) → n + t + 1 ≡ length spots → Stands Known words rules primary spots t rows → joined primary spots n ≡ Some p
+  known_parent : (t n p j : ℕ) (rows : List (ℕ → ℕ)) (own : ℕ) → n + t + 1 ≡ length spots → Stands Known words rules primary spots t rows → joined primary spots n ≡ Some p
       → Known (FromPlace (holds words) rules (Edge false primary spots) j n) own → Known (Late words rules primary spots (t + 1) p j) (join (cell rows p j) own)
   known_parent t n p j rows own e s up o =
       two (Late words rules primary spots t p j) (FromPlace (holds words) rules (Edge false primary spots) j n) (Late words rules primary spots (t + 1) p j) (cell rows p j) own (s.known p j) o
@@ -57,7 +57,7 @@ module _ (Known : Measure) (join : ℕ → ℕ → ℕ) (same : Keeps Known) (tw
       (λ k l. late_more t p j k l)
       (λ k f. (n, omega arith, up, f))
 
-  known_other : (t n p j : ℕ) (rows : List (List ℕ)) → n + t + 1 ≡ length spots → Stands Known words rules primary spots t rows → (joined primary spots n ≡ Some p → ⊥)
+  known_other : (t n p j : ℕ) (rows : List (ℕ → ℕ)) → n + t + 1 ≡ length spots → Stands Known words rules primary spots t rows → (joined primary spots n ≡ Some p → ⊥)
       → Known (Late words rules primary spots (t + 1) p j) (cell rows p j)
   known_other t n p j rows e s other =
       same (Late words rules primary spots t p j) (Late words rules primary spots (t + 1) p j) (cell rows p j) (s.known p j)
@@ -68,18 +68,18 @@ module _ (Known : Measure) (join : ℕ → ℕ → ℕ) (same : Keeps Known) (tw
   cases_joined None p = inr (λ e. cc)
   cases_joined (Some q) p = elim (cases_eq q p) [ inl is ↦ inl (ap Some is) | inr other ↦ inr (λ e. other (cc)) ]
 
-  pub stands_more : (t n : ℕ) (rows new : List (List ℕ)) (own : List ℕ) → n + t + 1 ≡ length spots → Stands Known words rules primary spots t rows
-      → ((i : ℕ) → Known (FromPlace (holds words) rules (Edge false primary spots) i n) (at own i))
+  pub stands_more : (t n : ℕ) (rows new : List (ℕ → ℕ)) (own : ℕ → ℕ) → n + t + 1 ≡ length spots → Stands Known words rules primary spots t rows
+      → ((i : ℕ) → Known (FromPlace (holds words) rules (Edge false primary spots) i n) (own i))
       → Passed join primary spots n rows new own → Stands Known words rules primary spots (t + 1) new
   stands_more t n rows new own e s known p = record {
     count = p.count ∙ s.count;
     known = λ q j. elim (cases_joined (joined primary spots n) q) [
-      | inl up ↦ subst (Known (Late words rules primary spots (t + 1) q j)) (sym (p.parent q j up)) (known_parent t n q j rows (at own j) e s up (known j))
+      | inl up ↦ subst (Known (Late words rules primary spots (t + 1) q j)) (sym (p.parent q j up)) (known_parent t n q j rows (own j) e s up (known j))
       | inr other ↦ subst (Known (Late words rules primary spots (t + 1) q j)) (sym (p.others q j other)) (known_other t n q j rows e s other)
     ];
   }
 
-  pub stands_same : (t n : ℕ) (rows : List (List ℕ)) → n + t + 1 ≡ length spots → Stands Known words rules primary spots t rows → joined primary spots n ≡ None → Stands Known words rules primary spots (t + 1) rows
+  pub stands_same : (t n : ℕ) (rows : List (ℕ → ℕ)) → n + t + 1 ≡ length spots → Stands Known words rules primary spots t rows → joined primary spots n ≡ None → Stands Known words rules primary spots (t + 1) rows
   stands_same t n rows e s none = record {
     count = s.count;
     known = λ q j. known_other t n q j rows e s (λ up. let both = sym none ∙ up in cc);

@@ -3,6 +3,7 @@ pub mod Bits
 pub mod BuildSteps
 pub mod BuildingLaw
 pub mod Built
+pub mod CellsLaw
 pub mod Counts
 pub mod DownLaw
 pub mod Lists
@@ -12,6 +13,7 @@ pub mod LinesLaw
 pub mod OwnLaw
 pub mod Parts
 pub mod PlacesLaw
+pub mod RowsLaw
 pub mod SetsLaw
 pub mod ShortLaw
 pub mod UpLaw

@@ -19,6 +19,7 @@ use Rattle.cql_lines.specs.TreeOf.{plain_tree}
 use Rattle.cql_lines.specs.declared.automaton.Automaton.{Automaton}
 use Rattle.cql_lines.specs.declared.shape.Limits.{Limits}
 use Rattle.cql_lines.specs.Automata.{places, IsAutomatonOf}
+use Rattle.cql_lines.specs.Cells.{Allowed}
 use Rattle.cql_lines.specs.Sets.{Between}
 use Rattle.cql_lines.proofs.BuildingLaw.{Sit, rows_built}
 use Rattle.cql_lines.proofs.WaysLaw.{end, read_spelled, spelled_read}
@@ -126,19 +127,13 @@ module _ (words : List ℕ) (a : Automaton) (p : Pattern ℕ) (of : IsAutomatonO
   read_of : (n k : ℕ) → Line (holds words) E p n k → Read (holds words) a.rules.items E a.first n k
   read_of n k l = (l.0, l.1, l.2, (of.reads (holds words) n l.0).1 l.3)
 
-  pub value_of_all : (rules : List Rule) (extent : Option Limits) → rules ≡ a.rules.items → extent ≡ None → (n : ℕ) (o : Option ℕ) → AnswerAt (is_searched spots n) (Read (holds words) rules E a.first n) o
+  pub value_of : (rules : List Rule) (extent : Option Limits) → rules ≡ a.rules.items → (n : ℕ) (o : Option ℕ) → AnswerAt (is_searched spots n) (Allowed extent (Read (holds words) rules E a.first n)) o
       → AnswerAt (is_searched spots n) (λ k. Line (holds words) E p n k × (allows extent k ≡ true)) o
-  value_of_all rules extent is all n o answer =
-      subst (λ e. AnswerAt (is_searched spots n) (λ k. Line (holds words) E p n k × (allows e k ≡ true)) o) (sym all)
-      (same_answer (is_searched spots n) (Read (holds words) a.rules.items E a.first n) (λ k. Line (holds words) E p n k × (allows None k ≡ true)) o
+  value_of rules None is n o answer =
+      same_answer (is_searched spots n) (Read (holds words) a.rules.items E a.first n) (λ k. Line (holds words) E p n k × (allows None k ≡ true)) o
       (λ k r. (line_of n k r, refl)) (λ k l. read_of n k l.0)
-      (subst (λ rs. AnswerAt (is_searched spots n) (Read (holds words) rs E a.first n) o) is answer))
-
-  pub value_of_some : (rules : List Rule) (extent : Option Limits) (x : Limits) → rules ≡ a.rules.items → extent ≡ Some x → (n : ℕ) (o : Option ℕ)
-      → AnswerAt (is_searched spots n) (Between x.least x.most (Read (holds words) rules E a.first n)) o
-      → AnswerAt (is_searched spots n) (λ k. Line (holds words) E p n k × (allows extent k ≡ true)) o
-  value_of_some rules extent x is some n o answer =
-      subst (λ e. AnswerAt (is_searched spots n) (λ k. Line (holds words) E p n k × (allows e k ≡ true)) o) (sym some)
-      (same_answer (is_searched spots n) (Between x.least x.most (Read (holds words) a.rules.items E a.first n)) (λ k. Line (holds words) E p n k × (allows (Some x) k ≡ true)) o
+      (subst (λ rs. AnswerAt (is_searched spots n) (Read (holds words) rs E a.first n) o) is answer)
+  value_of rules (Some x) is n o answer =
+      same_answer (is_searched spots n) (Between x.least x.most (Read (holds words) a.rules.items E a.first n)) (λ k. Line (holds words) E p n k × (allows (Some x) k ≡ true)) o
       (λ k r. (line_of n k r.0, from_to_is x.least x.most k r.1 r.2)) (λ k l. (let h = is_from_to x.least x.most k l.1 in (read_of n k l.0, h.0, h.1)))
-      (subst (λ rs. AnswerAt (is_searched spots n) (Between x.least x.most (Read (holds words) rs E a.first n)) o) is answer))
+      (subst (λ rs. AnswerAt (is_searched spots n) (Between x.least x.most (Read (holds words) rs E a.first n)) o) is answer)

@@ -33,24 +33,24 @@ module _ (words : List ℕ) (rules : List Rule) (E : ℕ → ℕ → Type 0) whe
         subst (IsGreatestOrZero (FromPlace (holds words) rules E i n)) (sym v) (place_off (holds words) rules E n i r rule (sym table ∙ unset))
   ]
 
-  pub read_found : (f n : ℕ) (own : List ℕ) → ((i : ℕ) → IsGreatestOrZero (FromPlace (holds words) rules E i n) (at own i))
-      → IsGreatest (Read (holds words) rules E f n) (found (greatest_in f (at own) (length rules)))
+  pub read_found : (f n : ℕ) (own : ℕ → ℕ) → ((i : ℕ) → IsGreatestOrZero (FromPlace (holds words) rules E i n) (own i))
+      → IsGreatest (Read (holds words) rules E f n) (found (greatest_in f own (length rules)))
   read_found f n own known =
-      longest_found (Read (holds words) rules E f n) (greatest_in f (at own) (length rules))
+      longest_found (Read (holds words) rules E f n) (greatest_in f own (length rules))
       (λ r. (let e = r.2 in omega arith))
-      (read_here (holds words) rules E f n (at own) known)
+      (read_here (holds words) rules E f n own known)
 
 -- what a node's own row has
 module _ (Known : Measure) (none : HasNone Known) (place : Rule → ℕ → (ℕ → ℕ) → ℕ → ℕ) (goes : Goes Known place) (words : List ℕ) (rules : List Rule) (E : ℕ → ℕ → Type 0) where
-  own_past : (n : ℕ) (own : List ℕ) (i : ℕ) → length rules ≤ i → at own i ≡ 0 → Known (FromPlace (holds words) rules E i n) (at own i)
+  own_past : (n : ℕ) (own : ℕ → ℕ) (i : ℕ) → length rules ≤ i → own i ≡ 0 → Known (FromPlace (holds words) rules E i n) (own i)
   own_past n own i past v =
       subst (Known (FromPlace (holds words) rules E i n)) (sym v)
       (none (FromPlace (holds words) rules E i n) (λ k f. (let within = slice_get_within rules i f.3 f.4 in omega arith)))
 
-  pub own_known : (n held : ℕ) (row : ℕ → ℕ) (own : List ℕ) → ((j : ℕ) → Known (Below (holds words) rules E j n) (row j))
+  pub own_known : (n held : ℕ) (row : ℕ → ℕ) (own : ℕ → ℕ) → ((j : ℕ) → Known (Below (holds words) rules E j n) (row j))
       → ((i : ℕ) (r : Rule) → slice_get rules i ≡ Some r → is_set held r.atom ≡ holds words r.atom n)
-      → ((i : ℕ) (r : Rule) → slice_get rules i ≡ Some r → at own i ≡ place r held row (length rules)) → ((i : ℕ) → length rules ≤ i → at own i ≡ 0)
-      → (i : ℕ) → Known (FromPlace (holds words) rules E i n) (at own i)
+      → ((i : ℕ) (r : Rule) → slice_get rules i ≡ Some r → own i ≡ place r held row (length rules)) → ((i : ℕ) → length rules ≤ i → own i ≡ 0)
+      → (i : ℕ) → Known (FromPlace (holds words) rules E i n) (own i)
   own_known n held row own known table here past i = elim (cases_lt i (length rules)) [
     | inl within ↦
         let r = rule_at rules i within in

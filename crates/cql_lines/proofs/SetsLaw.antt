@@ -10,6 +10,7 @@ use Rattle.cql_lines.specs.Places.{IsIn, when}
 use Rattle.cql_lines.specs.Reads.{FromPlace, Read}
 use Rattle.cql_lines.proofs.Below.{Below}
 use Rattle.cql_lines.specs.Lengths.{is_set}
+use Rattle.cql_lines.specs.Limits.{longest_limit}
 use Rattle.cql_lines.specs.Sets.{IsSet, shifted, union_in, place_set, Between}
 use Rattle.cq_outside.specs.Greatest.{IsGreatest}
 use Rattle.cql_lines.specs.Tables.{holds}
@@ -162,7 +163,7 @@ module _ (words : List ℕ) (rules : List Rule) (E : ℕ → ℕ → Type 0) whe
   }
 
 -- the greatest number of a set from one to another
-pub longest_between : (P : ℕ → Type 0) (set least most : ℕ) (o : Option ℕ) → most ≤ 127 → IsSet P set → IsGreatest (Between least most (IsIn set)) o → IsGreatest (Between least most P) o
+pub longest_between : (P : ℕ → Type 0) (set least most : ℕ) (o : Option ℕ) → most ≤ longest_limit → IsSet P set → IsGreatest (Between least most (IsIn set)) o → IsGreatest (Between least most P) o
 longest_between P set least most None few s l = λ k p. l k (s.off k (let h = p.2 in omega arith) p.0, p.1, p.2)
 longest_between P set least most (Some m) few s l =
     let b = l.0 in

@@ -7,6 +7,7 @@ use Rattle.cql_lines.specs.declared.shape.Spot.{Spot}
 use Rattle.cq_outside.specs.Ways.{Follow}
 use Rattle.cql_lines.proofs.Below.{Below}
 use Rattle.cql_lines.specs.Lengths.{IsGreatestOrZero}
+use Rattle.cql_lines.specs.Limits.{most_nodes}
 use Rattle.cql_lines.specs.Shapes.{joined, joined_by, Edge}
 use Rattle.cql_lines.specs.Tables.{holds}
 
@@ -25,7 +26,7 @@ module _ (primary : Bool) (spots : List Spot) (below : (n p : ℕ) → joined pr
   up_short n [] f = omega arith
   up_short n (c ∷ w) f = (let a = below n c f.0 in let h = up_short c w f.1 in omega arith)
 
-  pub below_short : (words : List ℕ) (rules : List Rule) (n j m : ℕ) → length spots ≤ 65536 → IsGreatestOrZero (Below (holds words) rules (Edge false primary spots) j n) m → m < 4294967295
+  pub below_short : (words : List ℕ) (rules : List Rule) (n j m : ℕ) → length spots ≤ most_nodes → IsGreatestOrZero (Below (holds words) rules (Edge false primary spots) j n) m → m < 4294967295
   below_short words rules n j m few g = elim (cases_lt 0 m) [
     | inl some ↦
         let r = g.reached some in
@@ -35,7 +36,7 @@ module _ (primary : Bool) (spots : List Spot) (below : (n p : ℕ) → joined pr
     | inr none ↦ omega arith
   ]
 
-  pub above_short : (words : List ℕ) (rules : List Rule) (n j m : ℕ) → n < length spots → length spots ≤ 65536 → IsGreatestOrZero (Below (holds words) rules (Edge true primary spots) j n) m → m < 4294967295
+  pub above_short : (words : List ℕ) (rules : List Rule) (n j m : ℕ) → n < length spots → length spots ≤ most_nodes → IsGreatestOrZero (Below (holds words) rules (Edge true primary spots) j n) m → m < 4294967295
   above_short words rules n j m low few g = elim (cases_lt 0 m) [
     | inl some ↦
         let r = g.reached some in

@@ -16,15 +16,15 @@ use Rattle.cql_lines.specs.Up.{StandsUp, IsAbove}
 use Rattle.cql_lines.proofs.Measures.{Measure, Keeps, HasNone, Goes}
 use Rattle.cql_lines.proofs.OwnLaw.{own_known}
 
-pub set_cell : (rows : List (List ℕ)) (n m j : ℕ) (own : List ℕ) → m ≡ n → n < length rows → cell (slice_set rows n own) m j ≡ at own j
-set_cell rows n m j own e low = ap (λ k. cell (slice_set rows n own) k j) e ∙ ap (λ r. at r j) (get_or-set_same rows n own [] low)
+pub set_cell : (rows : List (ℕ → ℕ)) (n m j : ℕ) (own : ℕ → ℕ) → m ≡ n → n < length rows → cell (slice_set rows n own) m j ≡ own j
+set_cell rows n m j own e low = ap (λ k. cell (slice_set rows n own) k j) e ∙ ap (λ r. r j) (get_or-set_same rows n own (λ j. 0) low)
 
-pub other_cell : (rows : List (List ℕ)) (n m j : ℕ) (own : List ℕ) → (m ≡ n → ⊥) → cell (slice_set rows n own) m j ≡ cell rows m j
-other_cell rows n m j own e = ap (λ r. at r j) (get_or-set_other rows n m own [] e)
+pub other_cell : (rows : List (ℕ → ℕ)) (n m j : ℕ) (own : ℕ → ℕ) → (m ≡ n → ⊥) → cell (slice_set rows n own) m j ≡ cell rows m j
+other_cell rows n m j own e = ap (λ r. r j) (get_or-set_other rows n m own (λ j. 0) e)
 
 module _ (Known : Measure) (same : Keeps Known) (none : HasNone Known) (words : List ℕ) (rules : List Rule) (primary : Bool) (spots : List Spot) (below : (n p : ℕ) → joined primary spots n ≡ Some p → (p < n) × (is_searched spots p ≡ true)) where
-  row_above : (t n : ℕ) (rows : List (List ℕ)) (row : List ℕ) (o : Option ℕ) → joined primary spots n ≡ o → n ≤ t → StandsUp Known words rules primary spots t rows → IsAbove o rows row
-      → (j : ℕ) → Known (Below (holds words) rules (Edge true primary spots) j n) (at row j)
+  row_above : (t n : ℕ) (rows : List (ℕ → ℕ)) (row : ℕ → ℕ) (o : Option ℕ) → joined primary spots n ≡ o → n ≤ t → StandsUp Known words rules primary spots t rows → IsAbove o rows row
+      → (j : ℕ) → Known (Below (holds words) rules (Edge true primary spots) j n) (row j)
   row_above t n rows row None e low s a j =
       subst (Known (Below (holds words) rules (Edge true primary spots) j n)) (sym (a.of_none j refl))
       (none (Below (holds words) rules (Edge true primary spots) j n) (λ k l. (let both = sym l.1 ∙ e in cc)))
@@ -36,31 +36,31 @@ module _ (Known : Measure) (same : Keeps Known) (none : HasNone Known) (words : 
       (λ k l. (let same : l.0 ≡ p = (let both = sym l.1 ∙ e in cc) in subst (λ c. FromPlace (holds words) rules (Edge true primary spots) j c k) same l.2))
       (λ k f. (p, e, f)))
 
-  pub row_here : (n : ℕ) (rows : List (List ℕ)) (row : List ℕ) → StandsUp Known words rules primary spots n rows → IsAbove (joined primary spots n) rows row → (j : ℕ) → Known (Below (holds words) rules (Edge true primary spots) j n) (at row j)
+  pub row_here : (n : ℕ) (rows : List (ℕ → ℕ)) (row : ℕ → ℕ) → StandsUp Known words rules primary spots n rows → IsAbove (joined primary spots n) rows row → (j : ℕ) → Known (Below (holds words) rules (Edge true primary spots) j n) (row j)
   row_here n rows row s a = row_above n n rows row (joined primary spots n) refl (omega arith) s a
 
-  pub above_known : (place : Rule → ℕ → (ℕ → ℕ) → ℕ → ℕ) (goes : Goes Known place) (n : ℕ) (rows : List (List ℕ)) (row own : List ℕ) (held atoms : ℕ) → StandsUp Known words rules primary spots n rows
+  pub above_known : (place : Rule → ℕ → (ℕ → ℕ) → ℕ → ℕ) (goes : Goes Known place) (n : ℕ) (rows : List (ℕ → ℕ)) (row own : ℕ → ℕ) (held atoms : ℕ) → StandsUp Known words rules primary spots n rows
       → IsAbove (joined primary spots n) rows row
       → ((a : ℕ) → a < atoms → is_set held a ≡ is_set (at words n) a) → ((i : ℕ) (r : Rule) → slice_get rules i ≡ Some r → r.atom < atoms)
-      → ((i : ℕ) (r : Rule) → slice_get rules i ≡ Some r → at own i ≡ place r held (at row) (length rules)) → ((i : ℕ) → length rules ≤ i → at own i ≡ 0)
-      → (i : ℕ) → Known (FromPlace (holds words) rules (Edge true primary spots) i n) (at own i)
+      → ((i : ℕ) (r : Rule) → slice_get rules i ≡ Some r → own i ≡ place r held row (length rules)) → ((i : ℕ) → length rules ≤ i → own i ≡ 0)
+      → (i : ℕ) → Known (FromPlace (holds words) rules (Edge true primary spots) i n) (own i)
   above_known place goes n rows row own held atoms s a table few here past =
-      own_known Known none place goes words rules (Edge true primary spots) n held (at row) own (row_here n rows row s a) (λ i r rule. table r.atom (few i r rule)) here past
+      own_known Known none place goes words rules (Edge true primary spots) n held row own (row_here n rows row s a) (λ i r rule. table r.atom (few i r rule)) here past
 
-  pub stands_up : (n : ℕ) (rows : List (List ℕ)) (own : List ℕ) → n < length spots → StandsUp Known words rules primary spots n rows
-      → ((i : ℕ) → Known (FromPlace (holds words) rules (Edge true primary spots) i n) (at own i))
+  pub stands_up : (n : ℕ) (rows : List (ℕ → ℕ)) (own : ℕ → ℕ) → n < length spots → StandsUp Known words rules primary spots n rows
+      → ((i : ℕ) → Known (FromPlace (holds words) rules (Edge true primary spots) i n) (own i))
       → StandsUp Known words rules primary spots (n + 1) (slice_set rows n own)
   stands_up n rows own low s known =
       let within : n < length rows = (let c = s.count in omega arith) in
       record {
         count = length-set rows n own ∙ s.count;
         known = λ m j less on. elim (cases_eq m n) [
-          | inl is ↦ subst (Known (FromPlace (holds words) rules (Edge true primary spots) j m)) (sym (set_cell rows n m j own is within)) (subst (λ k. Known (FromPlace (holds words) rules (Edge true primary spots) j k) (at own j)) (sym is) (known j))
+          | inl is ↦ subst (Known (FromPlace (holds words) rules (Edge true primary spots) j m)) (sym (set_cell rows n m j own is within)) (subst (λ k. Known (FromPlace (holds words) rules (Edge true primary spots) j k) (own j)) (sym is) (known j))
           | inr other ↦ subst (Known (FromPlace (holds words) rules (Edge true primary spots) j m)) (sym (other_cell rows n m j own other)) (s.known m j (omega arith) on)
         ];
       }
 
-  pub stands_up_same : (n : ℕ) (rows : List (List ℕ)) → StandsUp Known words rules primary spots n rows → is_searched spots n ≡ false → StandsUp Known words rules primary spots (n + 1) rows
+  pub stands_up_same : (n : ℕ) (rows : List (ℕ → ℕ)) → StandsUp Known words rules primary spots n rows → is_searched spots n ≡ false → StandsUp Known words rules primary spots (n + 1) rows
   stands_up_same n rows s off = record {
     count = s.count;
     known = λ m j less on. elim (cases_eq m n) [
@@ -69,9 +69,10 @@ module _ (Known : Measure) (same : Keeps Known) (none : HasNone Known) (words : 
     ];
   }
 
-pub stands_up_first : (Known : Measure) (words : List ℕ) (rules : List Rule) (primary : Bool) (spots : List Spot) → StandsUp Known words rules primary spots 0 (replicate (length spots) (replicate 64 0))
-stands_up_first Known words rules primary spots = record {
-  count = length-replicate (length spots) (replicate 64 0);
+pub stands_up_first : (Known : Measure) (words : List ℕ) (rules : List Rule) (primary : Bool) (spots : List Spot) (rows : List (ℕ → ℕ)) → length rows ≡ length spots
+    → StandsUp Known words rules primary spots 0 rows
+stands_up_first Known words rules primary spots rows size = record {
+  count = size;
   known = λ n j less. absurd (omega (arith, less));
 }
 

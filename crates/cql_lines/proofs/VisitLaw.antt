@@ -32,48 +32,39 @@ answered true P o m e l is = subst (IsGreatest P) (sym is) l
 answered false P o m e l is = absurd (cc)
 
 module _ (Known : Measure) (join : ℕ → ℕ → ℕ) (same : Keeps Known) (two : Joins Known join) (words : List ℕ) (rules : List Rule) (primary : Bool) (spots : List Spot) (below : (n p : ℕ) → joined primary spots n ≡ Some p → p < n) where
-  pub unvisited : (n : ℕ) (rows : List (List ℕ)) → n < length spots → Stands Known words rules primary spots (length spots - n - 1) rows → is_searched spots n ≡ false
+  pub unvisited : (n : ℕ) (rows : List (ℕ → ℕ)) → n < length spots → Stands Known words rules primary spots (length spots - n - 1) rows → is_searched spots n ≡ false
       → Stands Known words rules primary spots (length spots - n) rows
   unvisited n rows low s off =
       let t : length spots - n - 1 + 1 ≡ length spots - n = omega arith in
       subst (λ t. Stands Known words rules primary spots t rows) t
       (stands_same Known join same two words rules primary spots below (length spots - n - 1) n rows (omega arith) s (unsearched_by primary (slice_get spots n) off))
 
-  pub whole_at : (n : ℕ) (rows : List (List ℕ)) → n < length spots → Stands Known words rules primary spots (length spots - n - 1) rows → (j : ℕ) → Known (Below (holds words) rules (Edge false primary spots) j n) (cell rows n j)
+  pub whole_at : (n : ℕ) (rows : List (ℕ → ℕ)) → n < length spots → Stands Known words rules primary spots (length spots - n - 1) rows → (j : ℕ) → Known (Below (holds words) rules (Edge false primary spots) j n) (cell rows n j)
   whole_at n rows low s = whole_row Known join same two words rules primary spots below (length spots - n - 1) rows s n (omega arith)
 
-  pub known_at : (none : HasNone Known) (place : Rule → ℕ → (ℕ → ℕ) → ℕ → ℕ) (goes : Goes Known place) (n : ℕ) (rows : List (List ℕ)) (own : List ℕ) (held atoms : ℕ) → n < length spots
+  pub known_at : (none : HasNone Known) (place : Rule → ℕ → (ℕ → ℕ) → ℕ → ℕ) (goes : Goes Known place) (n : ℕ) (rows : List (ℕ → ℕ)) (own : ℕ → ℕ) (held atoms : ℕ) → n < length spots
       → Stands Known words rules primary spots (length spots - n - 1) rows
       → ((a : ℕ) → a < atoms → is_set held a ≡ is_set (at words n) a) → ((i : ℕ) (r : Rule) → slice_get rules i ≡ Some r → r.atom < atoms)
-      → ((i : ℕ) (r : Rule) → slice_get rules i ≡ Some r → at own i ≡ place r held (cell rows n) (length rules)) → ((i : ℕ) → length rules ≤ i → at own i ≡ 0)
-      → (i : ℕ) → Known (FromPlace (holds words) rules (Edge false primary spots) i n) (at own i)
+      → ((i : ℕ) (r : Rule) → slice_get rules i ≡ Some r → own i ≡ place r held (cell rows n) (length rules)) → ((i : ℕ) → length rules ≤ i → own i ≡ 0)
+      → (i : ℕ) → Known (FromPlace (holds words) rules (Edge false primary spots) i n) (own i)
   known_at none place goes n rows own held atoms low s table few here past =
       own_known Known none place goes words rules (Edge false primary spots) n held (cell rows n) own (whole_at n rows low s) (λ i r rule. table r.atom (few i r rule)) here past
 
-  pub visited : (n : ℕ) (rows new : List (List ℕ)) (own : List ℕ) → n < length spots → Stands Known words rules primary spots (length spots - n - 1) rows
-      → ((i : ℕ) → Known (FromPlace (holds words) rules (Edge false primary spots) i n) (at own i))
+  pub visited : (n : ℕ) (rows new : List (ℕ → ℕ)) (own : ℕ → ℕ) → n < length spots → Stands Known words rules primary spots (length spots - n - 1) rows
+      → ((i : ℕ) → Known (FromPlace (holds words) rules (Edge false primary spots) i n) (own i))
       → Passed join primary spots n rows new own → Stands Known words rules primary spots (length spots - n) new
   visited n rows new own low s known p =
       let t : length spots - n - 1 + 1 ≡ length spots - n = omega arith in
       subst (λ t. Stands Known words rules primary spots t new) t
       (stands_more Known join same two words rules primary spots below (length spots - n - 1) n rows new own (omega arith) s known p)
 
-pub zeros : (n i : ℕ) → at (replicate n 0) i ≡ 0
-zeros zero i = refl
-zeros (suc n) zero = refl
-zeros (suc n) (suc i) = zeros n i
-
--- rows of zeros
-pub zero_cell : (m n i : ℕ) (row : List ℕ) → ((j : ℕ) → at row j ≡ 0) → (j : ℕ) → cell (replicate n row) i j ≡ 0
-zero_cell m zero i row z j = refl
-zero_cell m (suc n) zero row z j = z j
-zero_cell m (suc n) (suc i) row z j = zero_cell m n i row z j
-
-pub stands_first : (Known : Measure) (none : HasNone Known) (words : List ℕ) (rules : List Rule) (primary : Bool) (spots : List Spot) → Stands Known words rules primary spots 0 (replicate (length spots) (replicate 64 0))
-stands_first Known none words rules primary spots = record {
-  count = length-replicate (length spots) (replicate 64 0);
+-- rows without lengths
+pub stands_first : (Known : Measure) (none : HasNone Known) (words : List ℕ) (rules : List Rule) (primary : Bool) (spots : List Spot) (rows : List (ℕ → ℕ)) → length rows ≡ length spots
+    → ((n j : ℕ) → cell rows n j ≡ 0) → Stands Known words rules primary spots 0 rows
+stands_first Known none words rules primary spots rows size blank = record {
+  count = size;
   known = λ n j.
-      subst (Known (Late words rules primary spots 0 n j)) (sym (zero_cell 0 (length spots) n (replicate 64 0) (zeros 64) j))
+      subst (Known (Late words rules primary spots 0 n j)) (sym (blank n j))
       (none (Late words rules primary spots 0 n j) (λ k l.
       let past = slice_get_past spots l.0 (let h = l.1 in omega arith) in
       let off : joined primary spots l.0 ≡ None = ap (joined_by primary) past in

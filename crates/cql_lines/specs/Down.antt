@@ -1,14 +1,14 @@
 -- What the rows of lengths tell, as the private functions fill them from the last node to the first.
-use Rattle.std.specs.Prelude.{◌≡◌, ℕ, zero, suc, ◌+◌, ◌≤◌, List, [], Bool, false, Option, Some, None, length, get_or}
+use Rattle.std.specs.Prelude.{◌≡◌, ℕ, zero, suc, ◌+◌, ◌≤◌, List, Bool, false, Option, Some, None, length, get_or}
 use Rattle.cql_lines.specs.declared.automaton.Rule.{Rule}
 use Rattle.cql_lines.specs.declared.shape.Spot.{Spot}
 use Rattle.cql_lines.specs.Reads.{FromPlace}
-use Rattle.cql_lines.specs.Lengths.{at}
 use Rattle.cql_lines.specs.Tables.{holds}
 use Rattle.cql_lines.specs.Shapes.{joined, Edge}
 
-abbrev pub cell : List (List ℕ) → ℕ → ℕ → ℕ
-cell rows n j = at (get_or rows n []) j
+-- the cell of a place in the row of a node
+abbrev pub cell : List (ℕ → ℕ) → ℕ → ℕ → ℕ
+cell rows n = get_or rows n (λ j. 0)
 
 -- a way of k nodes from some node joined to n, among the last t, that the place j begins
 abbrev pub Late : List ℕ → List Rule → Bool → List Spot → ℕ → ℕ → ℕ → ℕ → Type 0
@@ -18,7 +18,7 @@ Late words rules primary spots t n j k =
 
 -- Known says which number stands for the lengths that are of a kind: the greatest of them, or their set as bits
 pub record Stands (Known : (ℕ → Type 0) → ℕ → Type 0) (words : List ℕ) (rules : List Rule) (primary : Bool) (spots : List Spot)
-    (t : ℕ) (rows : List (List ℕ)) : Type 0 where
+    (t : ℕ) (rows : List (ℕ → ℕ)) : Type 0 where
   pub count : length rows ≡ length spots
   pub known : (n j : ℕ) → Known (Late words rules primary spots t n j) (cell rows n j)
 
@@ -28,8 +28,8 @@ found zero = None
 found (suc m) = Some (suc m)
 
 -- what a node's row gives to the row of its parent
-pub record Passed (join : ℕ → ℕ → ℕ) (primary : Bool) (spots : List Spot) (n : ℕ) (rows new : List (List ℕ))
-    (own : List ℕ) : Type 0 where
+pub record Passed (join : ℕ → ℕ → ℕ) (primary : Bool) (spots : List Spot) (n : ℕ) (rows new : List (ℕ → ℕ))
+    (own : ℕ → ℕ) : Type 0 where
   pub count : length new ≡ length rows
-  pub parent : (p j : ℕ) → joined primary spots n ≡ Some p → cell new p j ≡ join (cell rows p j) (at own j)
+  pub parent : (p j : ℕ) → joined primary spots n ≡ Some p → cell new p j ≡ join (cell rows p j) (own j)
   pub others : (p j : ℕ) → (joined primary spots n ≡ Some p → ⊥) → cell new p j ≡ cell rows p j

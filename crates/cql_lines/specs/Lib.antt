@@ -1,6 +1,8 @@
 pub mod Building
+pub mod Cells
 pub mod Down
 pub mod Lengths
+pub mod Limits
 pub mod Places
 pub mod Reads
 pub mod Sets

@@ -7,12 +7,14 @@ mod build;
 mod lines;
 pub mod pattern;
 mod plain;
+mod rows;
 mod sets;
 pub mod shape;
 mod shared;
 pub mod table;
 mod tree;
 mod values;
+mod visits;
 
 pub use automaton::Automaton;
 pub use lines::line_values;

@@ -8,10 +8,9 @@ ghost use Rattle.cql_lines.specs.Trees.{spots_of};
 ghost use Rattle.cql_lines.specs.Values.{IsValueAt};
 
 use crate::automaton::Automaton;
-use crate::sets::within;
 use crate::shape::Shape;
 use crate::table::AtomTable;
-use crate::values::longest;
+use crate::visits::longest;
 use cq_outside::{NoMemory, Steps};
 use std::alloc::Global;
 use std::sync::ledger::Ledger;
@@ -37,7 +36,7 @@ pub fn line_values<L: Ledger>(
     let rules = automaton.rules.as_slice();
     let first = automaton.first;
     match shape.extent {
-        Some(extent) => Ok(within(alloc, rules, first, extent, table, shape, steps)?),
-        None => Ok(longest(alloc, rules, first, table, shape, steps)?),
+        Some(_) => Ok(longest::<L, [u128; 64]>(alloc, rules, first, table, shape, steps)?),
+        None => Ok(longest::<L, [u32; 64]>(alloc, rules, first, table, shape, steps)?),
     }
 }

@@ -1,6 +1,7 @@
 //! The tree, and which paths through it count.
 ghost use Rattle.std.specs.Prelude.{◌≡◌, ℕ, ◌<◌, ◌≤◌, true, Some};
 ghost use Rattle.cql_lines.specs.declared.shape.Limits.{Limits as SomeLimits};
+ghost use Rattle.cql_lines.specs.Limits.{longest_limit};
 ghost use Rattle.cql_lines.specs.Shapes.{joined, is_searched};
 
 /// A node of the tree.
@@ -28,5 +29,5 @@ pub struct Shape {
     pub(crate) extent: Option<Limits>,
     ghost below: { (n p : ℕ) → joined primary spots.items n ≡ Some p → p < n },
     ghost whole: { (n p : ℕ) → joined primary spots.items n ≡ Some p → is_searched spots.items p ≡ true },
-    ghost short: { (e : SomeLimits) → extent ≡ Some e → e.most ≤ 127 },
+    ghost short: { (e : SomeLimits) → extent ≡ Some e → e.most ≤ longest_limit },
 }

@@ -1,5 +1,6 @@
 //! Which atoms hold at which nodes.
 ghost use Rattle.std.specs.Prelude.{◌≤◌, length};
+ghost use Rattle.cql_lines.specs.Limits.{most_nodes};
 
 mod looks;
 
@@ -10,5 +11,5 @@ pub struct AtomTable {
     atoms: u32,
     words: Vec<u64>,
     ghost few: { atoms ≤ 64 },
-    ghost nodes: { length words.items ≤ 65536 },
+    ghost nodes: { length words.items ≤ most_nodes },
 }

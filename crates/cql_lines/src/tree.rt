@@ -1,5 +1,6 @@
 //! Trees, made node by node and read.
 ghost use Rattle.std.specs.Prelude.{◌≡◌, ◌<◌, ◌≤◌, ◌++◌, ◌∷◌, [], length, true, Some, None, IfSome, OnOk, OnErr};
+ghost use Rattle.cql_lines.specs.Limits.{longest_limit};
 ghost use Rattle.cql_lines.specs.Shapes.{joined, is_searched};
 ghost use Rattle.cql_lines.specs.Trees.{spots_of, goes_back, is_primary, limits_of};
 
@@ -23,8 +24,8 @@ impl Shape {
 
     /// From now on only paths of `least` to `most` nodes count, both numbers from 1 to 127; of none, where `least` is above `most`.
     pub fn limit(&mut self, least: u32, most: u32)
-        requires least { (0 < least) × (least ≤ 127) }
-        requires most { (0 < most) × (most ≤ 127) }
+        requires least { (0 < least) × (least ≤ longest_limit) }
+        requires most { (0 < most) × (most ≤ longest_limit) }
         ensures extent { limits_of self.new ≡ Some (record { least = least; most = most }) }
         ensures tree { (spots_of self.new ≡ spots_of self.old) × (goes_back self.new ≡ goes_back self.old)
             × (is_primary self.new ≡ is_primary self.old) }

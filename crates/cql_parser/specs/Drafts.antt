@@ -117,7 +117,7 @@ say_sign d (Some signs.Plus) = record d { mark = marks.Plus }
 say_sign d (Some signs.Question) = record d { mark = marks.Maybe }
 say_sign d sign = d
 
--- the lengths of paths from one number to another, both from 1 to 127
+-- the lengths of paths from one number to another, where both may be such lengths
 abbrev pub extent_of : Option ℕ → Option ℕ → Extent
 extent_of (Some a) (Some b) = Within a b
 extent_of a b = Any

@@ -4,6 +4,7 @@
 -- due, or the rule may be at its end. The levels of filters, from those that bind least: 0 or, 1 and, 2 pre, 3 comparison,
 -- 4 sum, 5 product, 6 union, 7 intersection, 8 pair, 9 unary, 10 primary.
 use Rattle.std.specs.Prelude.{ℕ, Bool, true, false, Option, None, Some, nat_le, nat_lt, ◌&&◌}
+use Rattle.cql_syntax.specs.Limits.{longest_path}
 use Rattle.cql_syntax.specs.Words.{word_of, sign_of}
 use Rattle.cql_syntax.specs.declared.leaves.Chain.{Chain}
 use Rattle.cql_syntax.specs.declared.leaves.Chain.TheVariants as chains
@@ -37,13 +38,13 @@ abbrev pub sign_role : Option OneSign → Role
 sign_role (Some sign) = Sign sign
 sign_role None = Other
 
--- what the grammar sees of a token; of a number, whether it is from 1 to 127
+-- what the grammar sees of a token; of a number, whether it may be the length of a path
 unfoldable pub role : QueryTokenKind → Role
 role (tokens.Word number) = word_role (word_of number)
 role (tokens.Reserved name) = Other
 role (tokens.Name name) = Name
 role (tokens.Squares designator) = Designator
-role (tokens.Number number) = Number (nat_le 1 number && nat_le number 127)
+role (tokens.Number number) = Number (nat_le 1 number && nat_le number longest_path)
 role (tokens.Text text) = Text
 role (tokens.FileName name) = FileName
 role (tokens.Outcome outcome) = Outcome

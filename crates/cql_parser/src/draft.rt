@@ -68,7 +68,7 @@ fn copied_name(alloc: Global, kind: &QueryTokenKind) -> Result<Bytes, NoMemory>
     }
 }
 
-// The lengths of paths from one number to another, both from 1 to 127.
+// The lengths of paths from one number to another, where both may be such lengths.
 fn extent_between(least: Option<PathLength>, most: Option<PathLength>) -> Extent
     ensures { result ≡ extent_of least most }
 {

@@ -41,7 +41,8 @@ pub fn tokens_of_a_text_are_ended()
 
 /// A law: tokens of which the last is the end spell a query, or have a fault.
 pub fn tokens_spell_a_query_or_have_a_fault()
-    ensures { (tokens : List QueryToken) → IsEnded tokens → ((q : QueryTree) × Spells most_open tokens q) ⊎ ((f : QueryFault) × IsFault tokens f) }
+    ensures { (tokens : List QueryToken) → IsEnded tokens
+        → ((q : QueryTree) × Spells most_open tokens q) ⊎ ((f : QueryFault) × IsFault tokens f) }
 {}
 
 /// A law: every text spells a query, or has a fault: of its characters, or of its tokens.

@@ -2,7 +2,7 @@
 ghost use Rattle.std.specs.Prelude.{◌≡◌, ◌≤◌};
 ghost use Rattle.cql_parser.specs.Places.{role, word_role, sign_role, joint, joint_level, chain_level, pair_level, takes, joins};
 
-use cql_syntax::{Chain, Pair, QueryTokenKind, Sign, Word, sign_of, word_of};
+use cql_syntax::{Chain, LONGEST_PATH, Pair, QueryTokenKind, Sign, Word, sign_of, word_of};
 
 /// What a token between two filters makes of them.
 #[derive(Clone, Copy, Debug, PartialEq, Eq)]
@@ -18,7 +18,7 @@ pub enum Joint {
 pub enum Role {
     Word(Word),
     Sign(Sign),
-    /// A number, and whether it is from 1 to 127.
+    /// A number, and whether it may be the length of a path, from 1 to `LONGEST_PATH`.
     Number(bool),
     Name,
     Text,
@@ -60,7 +60,7 @@ pub fn role_of(kind: &QueryTokenKind) -> Role
         QueryTokenKind::Reserved(_) => Role::Other,
         QueryTokenKind::Name(_) => Role::Name,
         QueryTokenKind::Squares(_) => Role::Designator,
-        QueryTokenKind::Number(number) => Role::Number(1 <= *number && *number <= 127),
+        QueryTokenKind::Number(number) => Role::Number(1 <= *number && *number <= LONGEST_PATH),
         QueryTokenKind::Text(_) => Role::Text,
         QueryTokenKind::FileName(_) => Role::FileName,
         QueryTokenKind::Outcome(_) => Role::Outcome,

@@ -50,20 +50,16 @@ outcome_word BlackWins = codes "0-1"
 outcome_word Draw = codes "1/2-1/2"
 outcome_word Unfinished = codes "*"
 
-abbrev pub player_word : Of → List ℕ
-player_word Either = word_text meanings.Player
-player_word White = two_words meanings.Player meanings.White
-player_word Black = two_words meanings.Player meanings.Black
+-- a word, and whose it is
+abbrev pub whose_word : Word → Of → List ℕ
+whose_word word Either = word_text word
+whose_word word White = two_words word meanings.White
+whose_word word Black = two_words word meanings.Black
 
 abbrev pub field_word : Field → List ℕ
-field_word (Player whose) = player_word whose
+field_word (Player whose) = whose_word meanings.Player whose
 field_word Event = word_text meanings.Event
 field_word Site = word_text meanings.Site
-
-abbrev pub elo_word : Of → List ℕ
-elo_word Either = word_text meanings.Elo
-elo_word White = two_words meanings.Elo meanings.White
-elo_word Black = two_words meanings.Elo meanings.Black
 
 abbrev pub chain_word : Chain → List ℕ
 chain_word Or = word_text meanings.Or
@@ -180,7 +176,7 @@ unfoldable mutual
   form_text (plain word) = plain_text word
   form_text (tagged field value) = in_parens (field_word field) (quoted value ∷ [])
   form_text (outcome o) = in_parens (word_text meanings.Result) (outcome_word o ∷ [])
-  form_text (elo whose) = in_parens (elo_word whose) []
+  form_text (elo whose) = in_parens (whose_word meanings.Elo whose) []
   form_text (unary u f) = in_parens (unary_text u) (text f ∷ [])
   form_text (direction way m n f) = in_parens (way_text way) (decimal m ∷ decimal n ∷ text f ∷ [])
   form_text (chain c fs) = in_parens (chain_word c) (texts fs)

@@ -8,7 +8,7 @@ use crate::pieces::{
 };
 use crate::sums::{push_term, sum_start};
 use crate::words::{
-    any_word, chain_word, elo_word, field_word, outcome_word, pair_word, sort_word, square_word,
+    any_word, chain_word, field_word, outcome_word, pair_word, sort_word, square_word,
 };
 use cq_outside::{Bytes, NoMemory};
 use cql_syntax::{Body, Constituents, Filter, Filters, FlatQuery, Form, Line, Played, Terms, Word};
@@ -57,7 +57,7 @@ pub(crate) fn text_of(alloc: Global, f: &Filter) -> Result<Bytes, NoMemory>
             in_parens(alloc, Word::Result.text(), &[outcome])
         }
         Form::Elo(of) => {
-            let word = elo_word(alloc, *of)?;
+            let word = whose_word(alloc, Word::Elo, *of)?;
             in_parens(alloc, word.as_slice(), &[])
         }
         Form::Unary(word, a) => {

@@ -27,13 +27,14 @@ pub(crate) fn outcome_word(outcome: Outcome) -> &'static [u8]
     }
 }
 
-fn player_word(alloc: Global, of: Of) -> Result<Bytes, NoMemory>
-    ensures { IfOk result (λ t. t ≡ spec.player_word of) }
+// A word, and whose it is.
+pub(crate) fn whose_word(alloc: Global, word: Word, of: Of) -> Result<Bytes, NoMemory>
+    ensures { IfOk result (λ t. t ≡ spec.whose_word word of) }
 {
     match of {
-        Of::Either => Bytes::from_slice(alloc, Word::Player.text()),
-        Of::White => two_words(alloc, Word::Player, Word::White),
-        Of::Black => two_words(alloc, Word::Player, Word::Black),
+        Of::Either => Bytes::from_slice(alloc, word.text()),
+        Of::White => two_words(alloc, word, Word::White),
+        Of::Black => two_words(alloc, word, Word::Black),
     }
 }
 
@@ -41,19 +42,9 @@ pub(crate) fn field_word(alloc: Global, field: Field) -> Result<Bytes, NoMemory>
     ensures { IfOk result (λ t. t ≡ spec.field_word field) }
 {
     match field {
-        Field::Player(of) => player_word(alloc, of),
+        Field::Player(of) => whose_word(alloc, Word::Player, of),
         Field::Event => Bytes::from_slice(alloc, Word::Event.text()),
         Field::Site => Bytes::from_slice(alloc, Word::Site.text()),
-    }
-}
-
-pub(crate) fn elo_word(alloc: Global, of: Of) -> Result<Bytes, NoMemory>
-    ensures { IfOk result (λ t. t ≡ spec.elo_word of) }
-{
-    match of {
-        Of::Either => Bytes::from_slice(alloc, Word::Elo.text()),
-        Of::White => two_words(alloc, Word::Elo, Word::White),
-        Of::Black => two_words(alloc, Word::Elo, Word::Black),
     }
 }
 

@@ -3,6 +3,7 @@ use Rattle.std.proofs.Common.{◌≡◌, ℕ, Bool, true, false, ◌&&◌, ◌==
 use Rattle.std.specs.Prelude.{[], ◌∷◌, slice_index_or}
 use Rattle.std.proofs.lemmas.Bool.{eqb-true}
 use Rattle.std.proofs.lemmas.Bool.Decides.{Decides-eqb}
+use Rattle.cq_outside.proofs.SpellingLaw.{left, right, both_true as both}
 use Rattle.cq_symmetry.specs.declared.families.Family.{Family}
 use Rattle.cq_symmetry.specs.declared.families.Family.TheVariants.{Flip, Rotate90, FlipVertical, FlipHorizontal, FlipColor, Shift, ShiftHorizontal, ShiftVertical}
 use Rattle.cq_symmetry.specs.declared.parts.SquarePart.{SquarePart}
@@ -30,17 +31,6 @@ use Rattle.cql_syntax.specs.declared.leaves.Unary.{Unary}
 use Rattle.cql_syntax.specs.declared.leaves.Unary.TheVariants.{Not, Complement, Count, Power, Light, Dark, Find, FindUp, Child, Parent}
 use Rattle.cql_syntax.specs.declared.leaves.Way.{Way}
 use Rattle.cql_syntax.specs.declared.leaves.Way.TheVariants.{Up, Down, Left, Right, Northeast, Northwest, Southeast, Southwest, Diagonal, Orthogonal, AnyDirection}
-
-pub left : (a b : Bool) → (a && b) ≡ true → a ≡ true
-left true b e = refl
-left false b e = e
-
-pub right : (a b : Bool) → (a && b) ≡ true → b ≡ true
-right true b e = e
-right false b e = cc
-
-pub both : (a b : Bool) → a ≡ true → b ≡ true → (a && b) ≡ true
-both a b e f = cc
 
 pub same_numbers : (a : ℕ) → (a == a) ≡ true
 same_numbers a = (Decides-eqb a a).1 refl

@@ -38,4 +38,5 @@ LinesAreTheirs =
     (tree : SearchedTree) → IsTree tree.game.nodes → (back primary : Bool) (above : ℕ → Option ℕ) → AreParents tree primary above
     → (extent : Extent) (table : ℕ → ℕ → Bool) (p : Pattern ℕ) (r : Pattern (ℕ → Value)) → Tabled table (Searched tree) p r
     → (n : ℕ) → Searched tree n → (o : Option ℕ)
-    → IsGreatest (λ len. Line table (Joins above back) p n len × (allows extent len ≡ true)) o → as_number (option_map pos o) ≡ line_of tree back primary extent r n
+    → IsGreatest (λ len. Line table (Joins above back) p n len × (allows extent len ≡ true)) o
+    → as_number (option_map pos o) ≡ line_of tree back primary extent r n

@@ -1,10 +1,14 @@
 //! The lengths of the paths that a line speaks of.
 ghost use Rattle.std.specs.Prelude.{◌≡◌, ◌≤◌, ℕ};
 ghost use Rattle.cql_syntax.specs.Extents.{path_length};
+ghost use Rattle.cql_syntax.specs.Limits.{longest_path};
 
 use std::marker::Model;
 
-/// A number of nodes along a path, from 1 to 127.
+/// The greatest length of a path that a line may ask for, in nodes.
+pub const LONGEST_PATH: u32 = 127;
+
+/// A number of nodes along a path, from 1 to `LONGEST_PATH`.
 #[derive(Clone, Copy, Debug, PartialEq, Eq)]
 pub struct PathLength {
     nodes: u32,
@@ -15,17 +19,17 @@ impl Model for PathLength {
 
     ghost view = { λ length. length.nodes };
 
-    ghost invariant = { λ length. (1 ≤ length.nodes) × (length.nodes ≤ 127) };
+    ghost invariant = { λ length. (1 ≤ length.nodes) × (length.nodes ≤ longest_path) };
 
     ghost inverse = { λ nodes. record { nodes = nodes } };
 }
 
 impl PathLength {
-    /// The length of so many nodes, none where there are not from 1 to 127.
+    /// The length of so many nodes, none where there are not from 1 to `LONGEST_PATH`.
     pub fn new(nodes: u32) -> Option<PathLength>
         ensures { result ≡ path_length nodes }
     {
-        if 1 <= nodes && nodes <= 127 {
+        if 1 <= nodes && nodes <= LONGEST_PATH {
             Some(PathLength { nodes })
         } else {
             None
@@ -36,7 +40,7 @@ impl PathLength {
     pub fn nodes(self) -> u32
         ensures value { result ≡ self }
         ensures least { 1 ≤ result }
-        ensures most { result ≤ 127 }
+        ensures most { result ≤ longest_path }
     {
         self.nodes
     }

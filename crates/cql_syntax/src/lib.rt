@@ -17,7 +17,7 @@ pub mod typed;
 mod weights;
 pub mod words;
 
-pub use extents::{Extent, PathLength};
+pub use extents::{Extent, LONGEST_PATH, PathLength};
 pub use fault::{QueryFault, QueryReason};
 pub use flat::FlatQuery;
 pub use kinds::kind_of;

@@ -1,6 +1,7 @@
 //! Atoms put into a table and looked at. Nothing else reads its bits, and each look counts a step.
 ghost use Rattle.std.specs.Prelude.{◌≡◌, ℕ, ◌+◌, ◌<◌, ◌≤◌, ◌||◌, true, false, IfOk, replicate};
 ghost use Rattle.cql_lines.specs.Lengths.{is_set, at};
+ghost use Rattle.cql_lines.specs.Limits.{most_nodes};
 ghost use Rattle.cql_lines.specs.Tables.{atoms_of, nodes_of, words_of, holds_in};
 
 use crate::table::AtomTable;
@@ -12,7 +13,7 @@ impl AtomTable {
     /// A table of at most 64 atoms and 65,536 nodes, in which no atom holds anywhere.
     pub fn new(alloc: Global, atoms: u32, nodes: u32) -> Result<AtomTable, NoMemory>
         requires atoms { atoms ≤ 64 }
-        requires nodes { nodes ≤ 65536 }
+        requires nodes { nodes ≤ most_nodes }
         ensures atoms { IfOk result (λ table. atoms_of table ≡ atoms) }
         ensures bits { IfOk result (λ table. words_of table ≡ replicate nodes 0) }
     {

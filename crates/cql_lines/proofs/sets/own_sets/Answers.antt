@@ -1,28 +1,10 @@
-use Rattle.std.proofs.Common.{◌≡◌, ℕ, ◌<◌, ◌≤◌, ◌∙◌, get_or, length, List, slice_get, Some, slice_set, arith, refl, sym, ap, inl, inr, zero, suc, ◌+◌}
-use Rattle.std.specs.Prelude.{replicate}
-use Rattle.std.proofs.lemmas.Bool.{cases_eq}
-use Rattle.std.proofs.lemmas.Option.{get_or_from_slice_get, slice_get_within, slice_get-get_or}
-use Rattle.std.proofs.lemmas.List.{get_or-set_same, get_or-set_other, length-set}
-use Rattle.cql_lines.specs.declared.automaton.Rule.{Rule}
+use Rattle.std.proofs.Common.{◌∙◌, length, arith, refl}
+use Rattle.std.proofs.lemmas.Option.{slice_get_within, slice_get-get_or}
+use Rattle.std.proofs.lemmas.List.{length-set}
 use Rattle.cql_lines.specs.Lengths.{at}
 use Rattle.cql_lines.specs.Sets.{place_set}
+use Rattle.cql_lines.proofs.RowsLaw.{zeros, here_more, past_more}
 use Rattle.cql_lines.proofs.sets.own_sets.Goals as goal
-
-zeros : (n i : ℕ) → at (replicate n 0) i ≡ 0
-zeros zero i = refl
-zeros (suc n) zero = refl
-zeros (suc n) (suc i) = zeros n i
-
-here_more : (rules : List Rule) (own : List ℕ) (n v : ℕ) (value : Rule → ℕ) (d : Rule) → length own ≡ 64 → n < 64 → v ≡ value (get_or rules n d)
-    → ((i : ℕ) (r : Rule) → i < n → slice_get rules i ≡ Some r → at own i ≡ value r)
-    → (i : ℕ) (r : Rule) → i < n + 1 → slice_get rules i ≡ Some r → at (slice_set own n v) i ≡ value r
-here_more rules own n v value d size low is before i r less e = elim (cases_eq i n) [
-  | inl same ↦ ap (λ k. at (slice_set own n v) k) same ∙ get_or-set_same own n v 0 (omega arith) ∙ is ∙ ap (λ k. value (get_or rules k d)) (sym same) ∙ ap value (get_or_from_slice_get rules i r d e)
-  | inr other ↦ get_or-set_other own n i v 0 other ∙ before i r (omega arith) e
-]
-
-past_more : (own : List ℕ) (n v : ℕ) → ((i : ℕ) → n ≤ i → at own i ≡ 0) → (i : ℕ) → n + 1 ≤ i → at (slice_set own n v) i ≡ 0
-past_more own n v before i more = get_or-set_other own n i v 0 (omega arith) ∙ before i (omega arith)
 
 pub loop-i-init : goal.loop-i-init
 loop-i-init c = record {

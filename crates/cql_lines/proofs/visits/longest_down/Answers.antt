@@ -1,23 +1,21 @@
-use Rattle.std.proofs.Common.{◌≡◌, ℕ, ◌+◌, ◌<◌, length, ◌-◌, false, ◌∙◌, sym, ap, subst, arith, None}
-use Rattle.std.proofs.lemmas.List.{length-set, length-replicate}
-use Rattle.std.specs.Prelude.{replicate}
-use Rattle.cql_lines.specs.Down.{Stands}
+use Rattle.std.proofs.Common.{◌≡◌, ℕ, ◌+◌, ◌<◌, length, map, ◌-◌, false, ◌∙◌, sym, ap, subst, arith, None}
+use Rattle.std.proofs.lemmas.List.{length-map, length-set, length-replicate}
+use Rattle.cql_lines.specs.Cells.{Known, Allowed}
+use Rattle.cql_lines.specs.Down.{Stands, cell}
 use Rattle.cql_lines.specs.Reads.{Read}
-use Rattle.cql_lines.specs.Tables.{holds}
 use Rattle.cql_lines.specs.Shapes.{Edge, is_searched}
-use Rattle.cql_lines.specs.Lengths.{IsGreatestOrZero}
-use Rattle.cql_lines.proofs.DownLaw.{none_greatest}
-use Rattle.cql_lines.proofs.VisitLaw.{stands_first, done_more}
+use Rattle.cql_lines.specs.Tables.{holds}
+use Rattle.cql_lines.proofs.CellsLaw.{none_known}
 use Rattle.cql_lines.proofs.Counts.{exact_first, exact_down}
-use Rattle.cql_lines.proofs.values.longest_down.Goals as goal
+use Rattle.cql_lines.proofs.VisitLaw.{stands_first, done_more}
+use Rattle.cql_lines.proofs.visits.longest_down.Goals as goal
 
 pub loop-turn-init : goal.loop-turn-init
 loop-turn-init g c = record {
   stands =
-      let rows : c.as_mut_slice-grid.result.now ≡ replicate (length c.args.shape.now.spots.items) (replicate 64 0) =
-      c.as_mut_slice-grid.ensures.value ∙ c.in_ok-rows.ensures ∙ ap (λ n. replicate n (replicate 64 0)) c.len-nodes.ensures in
-      subst (Stands IsGreatestOrZero c.args.table.now.words.items c.args.rules.now c.args.shape.now.primary c.args.shape.now.spots.items 0) (sym rows)
-      (stands_first IsGreatestOrZero none_greatest c.args.table.now.words.items c.args.rules.now c.args.shape.now.primary c.args.shape.now.spots.items);
+      stands_first (Known g.R.Row.sets) (none_known g.R.Row.sets) c.args.table.now.words.items c.args.rules.now c.args.shape.now.primary c.args.shape.now.spots.items (map g.R.Row.cells c.as_mut_slice-grid.result.now)
+      (length-map c.as_mut_slice-grid.result.now g.R.Row.cells ∙ ap length c.as_mut_slice-grid.ensures.value ∙ c.in_ok-rows.ensures.count ∙ c.len-nodes.ensures)
+      (subst (λ rows. (n j : ℕ) → cell (map g.R.Row.cells rows) n j ≡ 0) (sym c.as_mut_slice-grid.ensures.value) c.in_ok-rows.ensures.blank);
   size = ap length c.in_ok-values.ensures ∙ length-replicate c.len-nodes.result None ∙ c.len-nodes.ensures;
   done = λ n late low. absurd (omega arith);
   exact = exact_first c.args.shape.now.spots.items c.args.table.now.atoms _;
@@ -43,19 +41,19 @@ within_spots size nodes turn e low = omega arith
 
 pub visit_down-requires-clause-stands : goal.visit_down-requires-clause-stands
 visit_down-requires-clause-stands g c =
-    subst (λ t. Stands IsGreatestOrZero c.args.table.now.words.items c.args.rules.now c.args.shape.now.primary c.args.shape.now.spots.items t c.loop-turn.grid)
+    subst (λ t. Stands (Known g.R.Row.sets) c.args.table.now.words.items c.args.rules.now c.args.shape.now.primary c.args.shape.now.spots.items t (map g.R.Row.cells c.loop-turn.grid))
     (sym (turn_of (length c.args.shape.now.spots.items) c.len-nodes.result c.loop-turn.turn c.len-nodes.ensures c.loop-turn-test.true))
     c.loop-turn.invariant.stands
 
 pub loop-turn-preserved : goal.loop-turn-preserved
 loop-turn-preserved g c = record {
   stands =
-      subst (λ t. Stands IsGreatestOrZero c.args.table.now.words.items c.args.rules.now c.args.shape.now.primary c.args.shape.now.spots.items t c.visit_down.new.rows)
+      subst (λ t. Stands (Known g.R.Row.sets) c.args.table.now.words.items c.args.rules.now c.args.shape.now.primary c.args.shape.now.spots.items t (map g.R.Row.cells c.visit_down.new.rows))
       (next_of (length c.args.shape.now.spots.items) c.len-nodes.result c.loop-turn.turn c.len-nodes.ensures c.loop-turn-test.true)
       c.visit_down.ensures.stands;
   size = length-set c.loop-turn.values.items (c.len-nodes.result - 1 - c.loop-turn.turn) c.visit_down.result ∙ c.loop-turn.invariant.size;
   done = done_more
-      (Read (holds c.args.table.now.words.items) c.args.rules.now (Edge false c.args.shape.now.primary c.args.shape.now.spots.items) c.args.first)
+      (λ n. Allowed c.args.shape.now.extent (Read (holds c.args.table.now.words.items) c.args.rules.now (Edge false c.args.shape.now.primary c.args.shape.now.spots.items) c.args.first n))
       (is_searched c.args.shape.now.spots.items) (length c.args.shape.now.spots.items) c.loop-turn.values.items c.visit_down.result c.loop-turn.turn (c.len-nodes.result - 1 - c.loop-turn.turn)
       c.loop-turn.invariant.size (node_of (length c.args.shape.now.spots.items) c.len-nodes.result c.loop-turn.turn c.len-nodes.ensures c.loop-turn-test.true)
       c.visit_down.ensures.value c.loop-turn.invariant.done;

@@ -1,0 +1,64 @@
+-- Rows as their cells.
+use Rattle.std.proofs.Common.{◌≡◌, ℕ, zero, suc, ◌<◌, Bool, List, [], ◌∷◌, ◌++◌, length, map, get_or, slice_set, refl, sym, ap, ap₂, ◌∙◌, Some, inl, inr, arith, slice_get, ◌≤◌, ◌+◌}
+use Rattle.std.specs.Prelude.{replicate}
+use Rattle.std.proofs.lemmas.Bool.{cases_eq}
+use Rattle.std.proofs.lemmas.Option.{get_or_from_slice_get}
+use Rattle.std.proofs.lemmas.List.{get_or-map, get_or-set_same, get_or-set_other, length-map, length-set, map-set}
+use Rattle.cql_lines.specs.declared.automaton.Rule.{Rule}
+use Rattle.cql_lines.specs.declared.shape.Spot.{Spot}
+use Rattle.cql_lines.specs.Down.{cell, Passed}
+use Rattle.cql_lines.specs.Lengths.{at}
+use Rattle.cql_lines.specs.Shapes.{joined}
+
+-- a row of zeros
+pub zeros : (n i : ℕ) → at (replicate n 0) i ≡ 0
+zeros zero i = refl
+zeros (suc n) zero = refl
+zeros (suc n) (suc i) = zeros n i
+
+-- a row that is filled place by place
+pub here_more : (rules : List Rule) (own : List ℕ) (n v : ℕ) (value : Rule → ℕ) (d : Rule) → length own ≡ 64 → n < 64 → v ≡ value (get_or rules n d)
+    → ((i : ℕ) (r : Rule) → i < n → slice_get rules i ≡ Some r → at own i ≡ value r)
+    → (i : ℕ) (r : Rule) → i < n + 1 → slice_get rules i ≡ Some r → at (slice_set own n v) i ≡ value r
+here_more rules own n v value d size low is before i r less e = elim (cases_eq i n) [
+  | inl same ↦ ap (λ k. at (slice_set own n v) k) same ∙ get_or-set_same own n v 0 (omega arith) ∙ is ∙ ap (λ k. value (get_or rules k d)) (sym same) ∙ ap value (get_or_from_slice_get rules i r d e)
+  | inr other ↦ get_or-set_other own n i v 0 other ∙ before i r (omega arith) e
+]
+
+pub past_more : (own : List ℕ) (n v : ℕ) → ((i : ℕ) → n ≤ i → at own i ≡ 0) → (i : ℕ) → n + 1 ≤ i → at (slice_set own n v) i ≡ 0
+past_more own n v before i more = get_or-set_other own n i v 0 (omega arith) ∙ before i (omega arith)
+
+module _ {Row : Type 0} (cells : Row → ℕ → ℕ) where
+  pub cell_of : (rows : List Row) (n : ℕ) (other : Row) → n < length rows → cell (map cells rows) n ≡ cells (get_or rows n other)
+  cell_of rows n other low = get_or-map cells rows n other (λ j. 0) low
+
+  pub blank_more : (rows : List Row) (row : Row) → ((j : ℕ) → cells row j ≡ 0) → ((n j : ℕ) → cell (map cells rows) n j ≡ 0)
+      → (n j : ℕ) → cell (map cells (rows ++ row ∷ [])) n j ≡ 0
+  blank_more [] row blank before zero j = blank j
+  blank_more [] row blank before (suc n) j = refl
+  blank_more (r ∷ rows) row blank before zero j = before zero j
+  blank_more (r ∷ rows) row blank before (suc n) j = blank_more rows row blank (λ m k. before (suc m) k) n j
+
+  set_size : (rows : List Row) (n : ℕ) (row : Row) → length (map cells (slice_set rows n row)) ≡ length (map cells rows)
+  set_size rows n row = length-map (slice_set rows n row) cells ∙ length-set rows n row ∙ sym (length-map rows cells)
+
+  set_here : (rows : List Row) (n j : ℕ) (row : Row) → n < length rows → cell (map cells (slice_set rows n row)) n j ≡ cells row j
+  set_here rows n j row low =
+      let within : n < length (map cells rows) = (let e = length-map rows cells in omega arith) in
+      ap (λ rs. cell rs n j) (map-set cells rows n row) ∙ ap (λ (r : ℕ → ℕ). r j) (get_or-set_same (map cells rows) n (cells row) (λ k. 0) within)
+
+  set_other : (rows : List Row) (n m j : ℕ) (row : Row) → (m ≡ n → ⊥) → cell (map cells (slice_set rows n row)) m j ≡ cell (map cells rows) m j
+  set_other rows n m j row other =
+      ap (λ rs. cell rs m j) (map-set cells rows n row) ∙ ap (λ (r : ℕ → ℕ). r j) (get_or-set_other (map cells rows) n m (cells row) (λ k. 0) other)
+
+  pub passed : (join : ℕ → ℕ → ℕ) (primary : Bool) (spots : List Spot) (n above : ℕ) (rows : List Row) (new other : Row) (own : ℕ → ℕ) → joined primary spots n ≡ Some above
+      → above < length rows → ((j : ℕ) → cells new j ≡ join (cells (get_or rows above other) j) (own j))
+      → Passed join primary spots n (map cells rows) (map cells (slice_set rows above new)) own
+  passed join primary spots n above rows new other own up low given = record {
+    count = set_size rows above new;
+    parent = λ p j e. (
+        let same : p ≡ above = (let both = sym e ∙ up in cc) in
+        ap (λ k. cell (map cells (slice_set rows above new)) k j) same ∙ set_here rows above j new low ∙ given j
+        ∙ ap (λ r. join (r j) (own j)) (sym (cell_of rows above other low)) ∙ ap (λ k. join (cell (map cells rows) k j) (own j)) (sym same));
+    others = λ p j e. set_other rows above p j new (λ same. e (up ∙ ap Some (sym same)));
+  }

@@ -1,0 +1,215 @@
+//! The nodes of a tree visited one by one, each after those whose lengths it needs.
+ghost use Rattle.std.specs.Prelude.{◌≡◌, ℕ, ◌+◌, ◌*◌, ◌<◌, ◌≤◌, get_or, length, map, None, ◌-◌, false, IfOk, OnOk, replicate, true};
+ghost use Rattle.cql_lines.specs.Cells.{Known, both_kinds, Counts, Allowed};
+ghost use Rattle.cql_lines.specs.Down.{Passed, Stands, cell};
+ghost use Rattle.cql_lines.specs.Fits.{Fit};
+ghost use Rattle.cql_lines.specs.Reads.{Read};
+ghost use Rattle.cql_lines.specs.Shapes.{Edge, is_searched, joined, searched_count};
+ghost use Rattle.cql_lines.specs.Tables.{holds};
+ghost use Rattle.cql_lines.specs.Up.{StandsUp, IsAbove};
+ghost use Rattle.cql_lines.specs.Values.{AnswerAt};
+
+use crate::automaton::Rule;
+use crate::rows::Row;
+use crate::shape::Shape;
+use crate::table::AtomTable;
+use cq_outside::Steps;
+use std::alloc::{AllocError, Global};
+use std::sync::ledger::Ledger;
+
+// What a node's lengths give to those of the node above.
+fn pass_up<R: Row>(shape: &Shape, node: usize, rows: &mut [R], own: &R)
+    requires node { node < length shape.now.spots.items }
+    requires rows { length rows.old ≡ length shape.now.spots.items }
+    ensures { Passed (both_kinds R.sets) shape.now.primary shape.now.spots.items node
+        (map R.cells rows.old) (map R.cells rows.new) (R.cells own.now) }
+{
+    let Some(above) = shape.joined_to(node) else {
+        return;
+    };
+    rows[above as usize].unite(own);
+}
+
+// The greatest allowed length at one node, and what its lengths give to the row of the node above.
+fn visit_down<L: Ledger, R: Row>(
+    rules: &[Rule],
+    first: u64,
+    table: &AtomTable,
+    shape: &Shape,
+    node: usize,
+    rows: &mut [R],
+    steps: &mut Steps<L>,
+) -> Option<u32>
+    requires counts { Counts R.sets shape.now.extent }
+    requires fit { Fit rules.now table.now shape.now }
+    requires node { node < length shape.now.spots.items }
+    requires stands { Stands (Known R.sets) table.now.words.items rules.now shape.now.primary shape.now.spots.items
+        (length shape.now.spots.items - node - 1) (map R.cells rows.old) }
+    ensures stands { Stands (Known R.sets) table.now.words.items rules.now shape.now.primary shape.now.spots.items
+        (length shape.now.spots.items - node) (map R.cells rows.new) }
+    ensures value { AnswerAt (is_searched shape.now.spots.items node)
+        (Allowed shape.now.extent
+        (Read (holds table.now.words.items) rules.now (Edge false shape.now.primary shape.now.spots.items) first node)) result }
+    ensures cost { steps.new ≤ steps.old + table.now.atoms }
+    ensures unsearched { is_searched shape.now.spots.items node ≡ false → steps.new ≡ steps.old }
+    ensures searched { is_searched shape.now.spots.items node ≡ true → steps.new ≡ steps.old + table.now.atoms }
+{
+    if !shape.searched(node) {
+        return None;
+    }
+    let held = table.held(node, steps);
+    let own = rows[node].own(rules, held);
+    pass_up(shape, node, rows, &own);
+    own.answer(first, rules.len(), shape.extent)
+}
+
+// Rows without lengths.
+fn blank_rows<R: Row>(alloc: Global, nodes: usize) -> Result<Vec<R>, AllocError>
+    ensures count { IfOk result (λ rows. length rows.items ≡ nodes) }
+    ensures blank { IfOk result (λ rows. (n j : ℕ) → cell (map R.cells rows.items) n j ≡ 0) }
+{
+    let mut rows = vec![in alloc]?;
+    for _turn in 0..nodes {
+        rows.push(R::blank())?;
+    }
+    Ok(rows)
+}
+
+fn blank_values(alloc: Global, nodes: usize) -> Result<Vec<Option<u32>>, AllocError>
+    ensures { IfOk result (λ values. values.items ≡ replicate nodes None) }
+{
+    Ok(vec![in alloc; None; nodes]?)
+}
+
+// For each node the greatest allowed length of a way down that is read.
+fn longest_down<L: Ledger, R: Row>(
+    alloc: Global,
+    rules: &[Rule],
+    first: u64,
+    table: &AtomTable,
+    shape: &Shape,
+    steps: &mut Steps<L>,
+) -> Result<Vec<Option<u32>>, AllocError>
+    requires counts { Counts R.sets shape.now.extent }
+    requires fit { Fit rules.now table.now shape.now }
+    ensures count { IfOk result (λ values. length values.items ≡ length shape.now.spots.items) }
+    ensures values { IfOk result (λ values. (n : ℕ) → n < length shape.now.spots.items →
+        AnswerAt (is_searched shape.now.spots.items n)
+        (Allowed shape.now.extent
+        (Read (holds table.now.words.items) rules.now (Edge false shape.now.primary shape.now.spots.items) first n))
+        (get_or values.items n None)) }
+    ensures cost { steps.new ≤ steps.old + table.now.atoms * searched_count shape.now.spots.items }
+    ensures exact { OnOk result (steps.new ≡ steps.old + table.now.atoms * searched_count shape.now.spots.items) }
+{
+    let nodes = shape.len();
+    let mut rows = blank_rows::<R>(alloc, nodes)?;
+    let mut values = blank_values(alloc, nodes)?;
+    let grid = rows.as_mut_slice();
+    for turn in 0..nodes {
+        let node = nodes - 1 - turn;
+        values[node] = visit_down(rules, first, table, shape, node, grid, steps);
+    }
+    Ok(values)
+}
+
+// The lengths of the node above, none where there is no such node.
+fn row_above<R: Row>(shape: &Shape, node: usize, rows: &[R]) -> R
+    requires node { node < length shape.now.spots.items }
+    requires rows { length rows.now ≡ length shape.now.spots.items }
+    ensures { IsAbove (joined shape.now.primary shape.now.spots.items node) (map R.cells rows.now) (R.cells result) }
+{
+    match shape.joined_to(node) {
+        Some(above) => rows[above as usize],
+        None => R::blank(),
+    }
+}
+
+// The greatest allowed length at one node, and its lengths in its row.
+fn visit_up<L: Ledger, R: Row>(
+    rules: &[Rule],
+    first: u64,
+    table: &AtomTable,
+    shape: &Shape,
+    node: usize,
+    rows: &mut [R],
+    steps: &mut Steps<L>,
+) -> Option<u32>
+    requires counts { Counts R.sets shape.now.extent }
+    requires fit { Fit rules.now table.now shape.now }
+    requires node { node < length shape.now.spots.items }
+    requires stands { StandsUp (Known R.sets) table.now.words.items rules.now shape.now.primary shape.now.spots.items node
+        (map R.cells rows.old) }
+    ensures stands { StandsUp (Known R.sets) table.now.words.items rules.now shape.now.primary shape.now.spots.items (node + 1)
+        (map R.cells rows.new) }
+    ensures value { AnswerAt (is_searched shape.now.spots.items node)
+        (Allowed shape.now.extent
+        (Read (holds table.now.words.items) rules.now (Edge true shape.now.primary shape.now.spots.items) first node)) result }
+    ensures cost { steps.new ≤ steps.old + table.now.atoms }
+    ensures unsearched { is_searched shape.now.spots.items node ≡ false → steps.new ≡ steps.old }
+    ensures searched { is_searched shape.now.spots.items node ≡ true → steps.new ≡ steps.old + table.now.atoms }
+{
+    if !shape.searched(node) {
+        return None;
+    }
+    let held = table.held(node, steps);
+    let above = row_above(shape, node, rows);
+    let own = above.own(rules, held);
+    rows[node] = own;
+    own.answer(first, rules.len(), shape.extent)
+}
+
+// For each node the greatest allowed length of a way up that is read.
+fn longest_up<L: Ledger, R: Row>(
+    alloc: Global,
+    rules: &[Rule],
+    first: u64,
+    table: &AtomTable,
+    shape: &Shape,
+    steps: &mut Steps<L>,
+) -> Result<Vec<Option<u32>>, AllocError>
+    requires counts { Counts R.sets shape.now.extent }
+    requires fit { Fit rules.now table.now shape.now }
+    ensures count { IfOk result (λ values. length values.items ≡ length shape.now.spots.items) }
+    ensures values { IfOk result (λ values. (n : ℕ) → n < length shape.now.spots.items →
+        AnswerAt (is_searched shape.now.spots.items n)
+        (Allowed shape.now.extent
+        (Read (holds table.now.words.items) rules.now (Edge true shape.now.primary shape.now.spots.items) first n))
+        (get_or values.items n None)) }
+    ensures cost { steps.new ≤ steps.old + table.now.atoms * searched_count shape.now.spots.items }
+    ensures exact { OnOk result (steps.new ≡ steps.old + table.now.atoms * searched_count shape.now.spots.items) }
+{
+    let nodes = shape.len();
+    let mut rows = blank_rows::<R>(alloc, nodes)?;
+    let mut values = blank_values(alloc, nodes)?;
+    let grid = rows.as_mut_slice();
+    for node in 0..nodes {
+        values[node] = visit_up(rules, first, table, shape, node, grid, steps);
+    }
+    Ok(values)
+}
+
+/// For each node the greatest allowed length of a way that is read.
+pub fn longest<L: Ledger, R: Row>(
+    alloc: Global,
+    rules: &[Rule],
+    first: u64,
+    table: &AtomTable,
+    shape: &Shape,
+    steps: &mut Steps<L>,
+) -> Result<Vec<Option<u32>>, AllocError>
+    requires counts { Counts R.sets shape.now.extent }
+    requires fit { Fit rules.now table.now shape.now }
+    ensures count { IfOk result (λ values. length values.items ≡ length shape.now.spots.items) }
+    ensures values { IfOk result (λ values. (n : ℕ) → n < length shape.now.spots.items →
+        AnswerAt (is_searched shape.now.spots.items n)
+        (Allowed shape.now.extent
+        (Read (holds table.now.words.items) rules.now (Edge shape.now.back shape.now.primary shape.now.spots.items) first n))
+        (get_or values.items n None)) }
+    ensures cost { steps.new ≤ steps.old + table.now.atoms * searched_count shape.now.spots.items }
+    ensures exact { OnOk result (steps.new ≡ steps.old + table.now.atoms * searched_count shape.now.spots.items) }
+{
+    if shape.back {
+        return Ok(longest_up::<L, R>(alloc, rules, first, table, shape, steps)?);
+    }
+    Ok(longest_down::<L, R>(alloc, rules, first, table, shape, steps)?)
+}
