@@ -8,7 +8,7 @@ use crate::pieces::{
 };
 use crate::sums::{push_term, sum_start};
 use crate::words::{
-    any_word, chain_word, field_word, outcome_word, pair_word, sort_word, square_word,
+    any_word, chain_word, field_word, outcome_word, pair_word, sort_word, square_word, whose_word,
 };
 use cq_outside::{Bytes, NoMemory};
 use cql_syntax::{Body, Constituents, Filter, Filters, FlatQuery, Form, Line, Played, Terms, Word};
