@@ -1,17 +1,8 @@
-pub mod Bound
 pub mod Evaluated
-pub mod Filling
 pub mod Lengths
 pub mod LineLaw
 pub mod LineValue
-pub mod Masks
-pub mod Mates
 pub mod PartEnds
 pub mod PathsDown
 pub mod PathsUp
 pub mod PatternEnds
-pub mod Ranges
-pub mod Reaching
-pub mod Reversed
-pub mod Tagged
-pub mod Ways

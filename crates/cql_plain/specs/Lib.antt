@@ -1,9 +1,4 @@
-pub mod Asked
 pub mod Lines
 pub mod Members
-pub mod Names
 pub mod Paths
 pub mod Places
-pub mod Shown
-pub mod Squares
-pub mod Trees

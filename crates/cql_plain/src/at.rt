@@ -5,15 +5,35 @@ ghost use Rattle.cq_symmetry.specs.Images.{mask_of};
 ghost use Rattle.cql_syntax.specs.Meaning.{value};
 ghost use Rattle.cql_syntax.specs.TreeOf.{filter_tree};
 ghost use Rattle.cql_syntax.specs.Values.{holds, has, amount};
-ghost use Rattle.cql_plain.specs.Trees.{searched_tree};
+ghost use Rattle.cql_values.specs.Shown.{meant};
+ghost use Rattle.cql_values.specs.Trees.{searched_tree};
 
 use crate::evaluate::evaluate;
-use crate::names::Names;
 use cq_outside::NoMemory;
 use cq_symmetry::Mapping;
 use cql_syntax::Filter;
+use cql_values::names::Names;
+use cql_values::value::Value;
 use pgn_tree::Game;
 use std::alloc::Global;
+
+/// What a filter gives at a node of a game, of which the variations are searched or the main line alone.
+pub fn value_at(
+    alloc: Global,
+    f: &Filter,
+    game: &Game,
+    variations: bool,
+    node: u32,
+    context: &[Mapping],
+    names: &Names,
+) -> Result<Value, NoMemory>
+    requires { node < length game.now.nodes }
+    ensures { IfOk result (λ v. meant v ≡ value (searched_tree game.now variations) context.now names.now (filter_tree f.now) node) }
+{
+    // A game's nodes are a tree.
+    prove!(game.is_tree());
+    evaluate(alloc, f, game, variations, node, context, names)
+}
 
 /// Whether a filter holds at a node of a game, of which the variations are searched or the main line alone: a set holds where it has a
 /// square, and a number where it has a value.

@@ -1,23 +1,13 @@
 //! The written meaning of queries: what a filter gives at a node of a game, member by member of each family and path by path of each
 //! line.
 //!
-//! `cql_syntax/specs/Meaning` has the meaning, `specs/Shown` how values are kept.
+//! `cql_syntax/specs/Meaning` has the meaning, `cql_values` the values and their combination.
 #![tactic(auto)]
 
 mod at;
-mod combine;
 mod evaluate;
-mod headers;
-mod led;
-pub mod names;
-mod numbers;
 mod paths;
 mod places;
-mod sets;
-mod value;
-mod walks;
-mod words;
+mod standing;
 
-pub use at::{holds_at, number_at, set_at};
-pub use headers::{has_text, is_result};
-pub use names::Names;
+pub use at::{holds_at, number_at, set_at, value_at};

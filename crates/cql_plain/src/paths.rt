@@ -6,13 +6,13 @@ ghost use Rattle.cql_syntax.specs.Values.{as_number};
 ghost use Rattle.cql_plain.specs.Paths as path;
 ghost use Rattle.cq_outside.specs.Greatest.{IsGreatest, with_number};
 ghost use Rattle.cql_plain.specs.Paths.{ArePaths, IsLength};
-ghost use Rattle.cql_plain.specs.Shown.{meant};
-ghost use Rattle.cql_plain.specs.Trees.{searched_tree};
+ghost use Rattle.cql_values.specs.Shown.{meant};
+ghost use Rattle.cql_values.specs.Trees.{searched_tree};
 
-use crate::value::Value;
-use crate::walks::{both, is_first_child, is_searched};
 use cq_outside::NoMemory;
 use cql_syntax::Extent;
+use cql_values::value::Value;
+use cql_values::walks::{both, is_first_child, is_searched};
 use pgn_tree::Game;
 use std::alloc::Global;
 

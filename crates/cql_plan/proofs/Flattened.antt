@@ -1,7 +1,7 @@
 -- A query by its flat items.
 use Rattle.std.proofs.Common.{◌≡◌, Bool, true, [], sym, ap, ap₂, ◌∙◌}
 use Rattle.cq_position.specs.Games.{Game}
-use Rattle.cql_plain.specs.Trees.{searched_tree}
+use Rattle.cql_values.specs.Trees.{searched_tree}
 use Rattle.cql_syntax.specs.Flat.{flat_query}
 use Rattle.cql_syntax.specs.Hits.{hits, hits_in, keys, all_keys, tree_of}
 use Rattle.cql_syntax.specs.Same.{same_filter, same_filters}

@@ -12,8 +12,8 @@ use Rattle.cq_position.specs.Games.{node_at}
 use Rattle.cq_position.specs.Men.{man_number}
 use Rattle.cq_position.specs.Search.{SearchedTree, has_man, has_man_in, nodes_in}
 use Rattle.cq_symmetry.specs.Images.{is_in}
-use Rattle.cql_plain.proofs.Masks.{some_set, in_both}
-use Rattle.cql_plain.proofs.Ranges.{same_truth, left, right, both, in_range, from_range, some_square, square_found}
+use Rattle.cql_values.proofs.Masks.{some_set, in_both}
+use Rattle.cql_values.proofs.Ranges.{same_truth, left, right, both, in_range, from_range, some_square, square_found}
 use Rattle.cql_plan.specs.Needs.{one_stands}
 use Rattle.cql_plan.proofs.Needed.{number_low}
 

@@ -13,7 +13,7 @@ use Rattle.cq_position.specs.Search.{SearchedTree, has_man, has_man_in, nodes_in
 use Rattle.cq_position.specs.declared.men.Man.{Man}
 use Rattle.cq_position.specs.declared.men.Man.TheVariants.{K, Q, R, B, N, P, BlackK, BlackQ, BlackR, BlackB, BlackN, BlackP, Empty}
 use Rattle.cq_symmetry.specs.Images.{is_in}
-use Rattle.cql_plain.proofs.Ranges.{left, right, both, in_range, some_square, square_found}
+use Rattle.cql_values.proofs.Ranges.{left, right, both, in_range, some_square, square_found}
 use Rattle.cql_syntax.specs.Contexts.{designator_image}
 use Rattle.cql_syntax.specs.Hits.{hits, hits_in, is_hit, tree_of}
 use Rattle.cql_syntax.specs.Meaning.{Names, value, form_value, values, position_at, stands_on}

@@ -3,11 +3,12 @@ ghost use Rattle.std.specs.Prelude.{◌≡◌, ◌<◌, ◌&&◌, length, All, A
 ghost use Rattle.cq_position.specs.Games.{is_searched};
 ghost use Rattle.cql_syntax.specs.Hits.{is_hit as is_hit_of, hits_in};
 ghost use Rattle.cql_syntax.specs.TreeOf.{filters_tree};
-ghost use Rattle.cql_plain.specs.Trees.{searched_tree};
+ghost use Rattle.cql_values.specs.Trees.{searched_tree};
 
 use cq_outside::NoMemory;
-use cql_plain::{Names, holds_at};
+use cql_plain::holds_at;
 use cql_syntax::Filters;
+use cql_values::Names;
 use pgn_tree::Game;
 use std::alloc::Global;
 

@@ -4,12 +4,13 @@ ghost use Rattle.cql_syntax.specs.Hits.{is_hit, all_keys, item_keys, key_of, cho
 ghost use Rattle.cql_syntax.specs.Meaning.{value};
 ghost use Rattle.cql_syntax.specs.TreeOf.{filter_tree, filters_tree};
 ghost use Rattle.cql_syntax.specs.Values.{amount};
-ghost use Rattle.cql_plain.specs.Trees.{searched_tree};
+ghost use Rattle.cql_values.specs.Trees.{searched_tree};
 ghost use Rattle.cql_plan.specs.Items.{item_holds};
 
 use cq_outside::NoMemory;
-use cql_plain::{Names, number_at};
+use cql_plain::number_at;
 use cql_syntax::{Filter, Filters, Form};
+use cql_values::Names;
 use pgn_tree::Game;
 use std::alloc::Global;
 

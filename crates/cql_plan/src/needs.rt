@@ -5,12 +5,12 @@ ghost use Rattle.cq_position.specs.Men.{man_number};
 ghost use Rattle.cq_position.specs.Search.{has_man_in};
 ghost use Rattle.cq_symmetry.specs.Images.{is_in};
 ghost use Rattle.cql_syntax.specs.TreeOf.{filter_tree, filters_tree};
-ghost use Rattle.cql_plain.specs.Trees.{searched_tree};
+ghost use Rattle.cql_values.specs.Trees.{searched_tree};
 ghost use Rattle.cql_plan.specs.Needs as spec;
 
 use cq_position::Man;
-use cql_plain::{has_text, is_result};
 use cql_syntax::{Chain, Designator, Filter, Filters, Form, Kind};
+use cql_values::headers::{has_text, is_result};
 use pgn_tree::Game;
 
 /// Whether a game has what each of the items of a query needs. It is looked at once, and no memory is taken.

@@ -2,7 +2,7 @@
 ghost use Rattle.std.specs.Prelude.{◌≡◌, ◌≢◌, ◌<◌, [], false, length, map, Some, All, AllPairs, IfOk};
 ghost use Rattle.cql_syntax.specs.Hits.{hits_in, all_keys};
 ghost use Rattle.cql_syntax.specs.TreeOf.{filters_tree};
-ghost use Rattle.cql_plain.specs.Trees.{searched_tree};
+ghost use Rattle.cql_values.specs.Trees.{searched_tree};
 ghost use Rattle.cql_plan.specs.Needs.{all_pass};
 ghost use Rattle.cql_plan.specs.Plans.{nodes_of, keys_of};
 

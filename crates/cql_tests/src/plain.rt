@@ -1,8 +1,9 @@
 use cq_geometry::Square;
 use cq_outside::{Bytes, NoMemory};
 use cq_position::{GameResult, Position};
-use cql_plain::{Names, holds_at, number_at, set_at};
+use cql_plain::{holds_at, number_at, set_at};
 use cql_syntax::{Filter, Form, Plain, Unary};
+use cql_values::Names;
 use pgn_tree::{Game, Tags};
 use std::alloc::Global;
 use std::test::Fail;

@@ -7,17 +7,17 @@ ghost use Rattle.cql_syntax.specs.TreeOf.{body_tree, filter_tree, line_tree, par
 ghost use Rattle.cql_syntax.specs.Values as spec;
 ghost use Rattle.cql_plain.specs.Lines.{EndsOf, least_times, most_times};
 ghost use Rattle.cql_plain.specs.Paths.{AreSteps, comes_from as goes_from};
-ghost use Rattle.cql_plain.specs.Shown.{meant};
-ghost use Rattle.cql_plain.specs.Trees.{searched_tree};
+ghost use Rattle.cql_values.specs.Shown.{meant};
+ghost use Rattle.cql_values.specs.Trees.{searched_tree};
 
 use super::evaluate;
-use crate::names::Names;
 use crate::paths::{Reached, longest, number_of, paths_from};
 use crate::places::{comes_from, fresh, has_some, only_first, where_counted, with_next};
-use crate::value::Value;
 use cq_outside::NoMemory;
 use cq_symmetry::Mapping;
 use cql_syntax::{Body, Constituents, Filter, Line, Mark};
+use cql_values::names::Names;
+use cql_values::value::Value;
 use pgn_tree::Game;
 use std::alloc::Global;
 

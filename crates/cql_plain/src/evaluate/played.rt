@@ -4,16 +4,16 @@ ghost use Rattle.cq_position.specs.Games.{IsTree};
 ghost use Rattle.cql_syntax.specs.Meaning as meaning;
 ghost use Rattle.cql_syntax.specs.TreeOf.{played_tree, written_tree};
 ghost use Rattle.cql_syntax.specs.Values.{as_truth};
-ghost use Rattle.cql_plain.specs.Shown.{meant};
-ghost use Rattle.cql_plain.specs.Trees.{searched_tree};
+ghost use Rattle.cql_values.specs.Shown.{meant};
+ghost use Rattle.cql_values.specs.Trees.{searched_tree};
 
 use super::evaluate;
-use crate::led::{before, led_to, meets_all};
-use crate::names::Names;
-use crate::value::Value;
 use cq_outside::NoMemory;
 use cq_symmetry::Mapping;
 use cql_syntax::{Filter, Played};
+use cql_values::led::{before, led_to, meets_all};
+use cql_values::names::Names;
+use cql_values::value::Value;
 use pgn_tree::Game;
 use std::alloc::Global;
 

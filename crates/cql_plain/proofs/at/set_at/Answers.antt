@@ -2,8 +2,8 @@ use Rattle.std.proofs.Common.{◌<◌, ◌^◌, ap, sym, ◌∙◌, arith}
 use Rattle.cql_syntax.specs.Meaning.{value}
 use Rattle.cql_syntax.specs.TreeOf.{filter_tree}
 use Rattle.cql_syntax.specs.Values.{has}
-use Rattle.cql_plain.specs.Trees.{searched_tree}
-use Rattle.cql_plain.proofs.Masks.{own_mask}
+use Rattle.cql_values.specs.Trees.{searched_tree}
+use Rattle.cql_values.proofs.Masks.{own_mask}
 use Rattle.cql_plain.proofs.at.set_at.Goals as goal
 
 pub returns : goal.returns

@@ -6,11 +6,12 @@ use Rattle.cql_syntax.specs.Trees.{filter_at, transform}
 use Rattle.cq_symmetry.specs.Images.{is_in}
 use Rattle.cql_syntax.specs.Meaning as meaning
 use Rattle.cql_syntax.specs.Values as spec
-use Rattle.cql_plain.specs.Asked.{settles, of_value}
-use Rattle.cql_plain.specs.Shown.{meant}
-use Rattle.cql_plain.specs.Trees.{searched_tree}
-use Rattle.cql_plain.proofs.Evaluated.{values_more, terms_more, members_more, settled, never_settled, none_more, family_is, word_here}
-use Rattle.cql_plain.proofs.Ways.{below_inside, way_inside, children_inside, parent_inside}
+use Rattle.cql_values.specs.Asked.{settles, of_value}
+use Rattle.cql_values.specs.Shown.{meant}
+use Rattle.cql_values.specs.Trees.{searched_tree}
+use Rattle.cql_plain.proofs.Evaluated.{members_more, settled, never_settled, none_more, family_is}
+use Rattle.cql_values.proofs.Evaluated.{values_more, terms_more, word_here}
+use Rattle.cql_values.proofs.Ways.{below_inside, way_inside, children_inside, parent_inside}
 use Rattle.std.specs.List.{list_any}
 use Rattle.std.proofs.lemmas.Bool.{leb-true, le-leb}
 use Rattle.cql_plain.proofs.LineValue.{line_is}

@@ -5,10 +5,10 @@ use Rattle.cq_symmetry.specs.Images.{is_in}
 use Rattle.cql_syntax.specs.TreeOf.{filter_tree, filter_trees, term_trees, body_tree, part_trees, parts_tree}
 use Rattle.cql_syntax.specs.Meaning as meaning
 use Rattle.cql_syntax.specs.Values as spec
-use Rattle.cql_plain.specs.Asked.{settles}
+use Rattle.cql_values.specs.Asked.{settles}
 use Rattle.cql_plain.specs.Members.{values_in_members}
-use Rattle.cql_plain.specs.Shown.{meant, terms_meant}
-use Rattle.cql_plain.specs.Trees.{searched_tree}
+use Rattle.cql_values.specs.Shown.{meant, terms_meant}
+use Rattle.cql_values.specs.Trees.{searched_tree}
 use Rattle.cql_plain.specs.Paths.{comes_from}
 use Rattle.cql_plain.proofs.PartEnds.{AreParts, AreTurns}
 use Rattle.cql_plain.proofs.evaluate.+evaluate.Given as goal

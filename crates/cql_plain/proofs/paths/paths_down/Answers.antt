@@ -1,6 +1,6 @@
 use Rattle.std.proofs.Common.{◌≡◌, length, subst, ap, ◌∙◌, arith}
 use Rattle.cql_plain.specs.Paths.{reached_down_by}
-use Rattle.cql_plain.specs.Trees.{searched_tree}
+use Rattle.cql_values.specs.Trees.{searched_tree}
 use Rattle.cql_plain.proofs.PathsDown.{AreDown, down_more, down_paths}
 use Rattle.cql_plain.proofs.paths.paths_down.Goals as goal
 

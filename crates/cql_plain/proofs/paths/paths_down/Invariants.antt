@@ -1,4 +1,4 @@
-use Rattle.cql_plain.specs.Trees.{searched_tree}
+use Rattle.cql_values.specs.Trees.{searched_tree}
 use Rattle.cql_plain.proofs.PathsDown.{AreDown}
 use Rattle.cql_plain.proofs.paths.paths_down.Given as goal
 

@@ -1,6 +1,6 @@
 use Rattle.std.proofs.Common.{None, length, replicate, subst, refl, ap, ◌∙◌, arith}
 use Rattle.std.proofs.lemmas.List.{length-replicate}
-use Rattle.cql_plain.specs.Trees.{searched_tree}
+use Rattle.cql_values.specs.Trees.{searched_tree}
 use Rattle.cql_plain.proofs.PathsUp.{AreUp, up_begun, up_more, up_paths}
 use Rattle.cql_plain.proofs.paths.paths_up.Goals as goal
 

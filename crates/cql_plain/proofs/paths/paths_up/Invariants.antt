@@ -1,5 +1,5 @@
 use Rattle.std.proofs.Common.{ℕ, ◌+◌, Option, Some, None}
-use Rattle.cql_plain.specs.Trees.{searched_tree}
+use Rattle.cql_values.specs.Trees.{searched_tree}
 use Rattle.cql_plain.proofs.PathsUp.{AreUp}
 use Rattle.cql_plain.proofs.paths.paths_up.Given as goal
 

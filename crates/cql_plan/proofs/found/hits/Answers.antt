@@ -1,6 +1,6 @@
 use Rattle.std.proofs.Common.{All, AllPairs, ◌<◌, subst, ◌≡◌, ◌∙◌, ◌++◌, ◌∷◌, [], length, sym, ap, arith}
 use Rattle.cq_position.specs.Games.{is_searched}
-use Rattle.cql_plain.specs.Trees.{searched_tree}
+use Rattle.cql_values.specs.Trees.{searched_tree}
 use Rattle.cql_syntax.specs.Hits.{is_hit}
 use Rattle.cql_syntax.specs.TreeOf.{filters_tree}
 use Rattle.cql_plan.proofs.Items.{found_below, one_found, none_found, all_found, hits_increase, hits_are_inside}

@@ -1,7 +1,7 @@
 use Rattle.std.proofs.Common.{[], ◌∙◌, sym, ap}
 use Rattle.std.specs.List.{list_all}
 use Rattle.std.proofs.lemmas.List.{take_all}
-use Rattle.cql_plain.specs.Trees.{searched_tree}
+use Rattle.cql_values.specs.Trees.{searched_tree}
 use Rattle.cql_syntax.specs.Meaning.{value}
 use Rattle.cql_syntax.specs.TreeOf.{filter_tree}
 use Rattle.cql_syntax.specs.Values.{holds}

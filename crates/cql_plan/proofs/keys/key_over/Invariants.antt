@@ -1,5 +1,5 @@
 use Rattle.std.proofs.Common.{◌≡◌, [], take, map, Some}
-use Rattle.cql_plain.specs.Trees.{searched_tree}
+use Rattle.cql_values.specs.Trees.{searched_tree}
 use Rattle.cql_syntax.specs.Hits.{key_of}
 use Rattle.cql_syntax.specs.Meaning.{value}
 use Rattle.cql_syntax.specs.TreeOf.{filter_tree}

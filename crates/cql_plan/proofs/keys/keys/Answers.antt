@@ -1,4 +1,4 @@
-use Rattle.cql_plain.specs.Trees.{searched_tree}
+use Rattle.cql_values.specs.Trees.{searched_tree}
 use Rattle.cql_syntax.specs.TreeOf.{filters_tree}
 use Rattle.cql_plan.proofs.ItemsHeld.{item_at_hits}
 use Rattle.cql_plan.proofs.keys.keys.Goals as goal

@@ -1,5 +1,5 @@
 use Rattle.std.proofs.Common.{◌≡◌, ◌++◌, drop, map, Some}
-use Rattle.cql_plain.specs.Trees.{searched_tree}
+use Rattle.cql_values.specs.Trees.{searched_tree}
 use Rattle.cql_syntax.specs.Hits.{all_keys}
 use Rattle.cql_syntax.specs.TreeOf.{filter_trees}
 use Rattle.cql_plan.proofs.keys.keys.Given as goal

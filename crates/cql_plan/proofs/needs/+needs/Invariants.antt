@@ -1,5 +1,5 @@
 use Rattle.std.proofs.Common.{◌≡◌, drop}
-use Rattle.cql_plain.specs.Trees.{searched_tree}
+use Rattle.cql_values.specs.Trees.{searched_tree}
 use Rattle.cql_syntax.specs.TreeOf.{filters_tree, filter_trees}
 use Rattle.cql_plan.specs.Needs as needs
 use Rattle.cql_plan.proofs.needs.+needs.Given as goal

@@ -1,6 +1,6 @@
 use Rattle.std.proofs.Common.{◌≡◌, ◌^◌, ◌<◌, ◌∙◌, false, sym, ap, arith}
 use Rattle.std.specs.Prelude.{◌||◌}
-use Rattle.cql_plain.specs.Trees.{searched_tree}
+use Rattle.cql_values.specs.Trees.{searched_tree}
 use Rattle.cq_symmetry.specs.Images.{is_in}
 use Rattle.cql_plan.specs.Needs.{one_stands}
 use Rattle.cql_plan.proofs.MenLaw.{some_stands}

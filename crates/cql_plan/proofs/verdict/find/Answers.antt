@@ -1,5 +1,5 @@
 use Rattle.std.proofs.Common.{◌≡◌, ◌∙◌, true, sym, subst, All}
-use Rattle.cql_plain.specs.Trees.{searched_tree}
+use Rattle.cql_values.specs.Trees.{searched_tree}
 use Rattle.cql_syntax.specs.Hits.{is_hit}
 use Rattle.cql_syntax.specs.TreeOf.{filters_tree}
 use Rattle.cql_plan.proofs.Needed.{hits_hit, none_where_refused}

@@ -1,5 +1,0 @@
-use Rattle.cql_plain.proofs.Tagged.{IsNumberSoFar}
-use Rattle.cql_plain.proofs.headers.number_of.Given as goal
-
-abbrev pub invariant-loop-digit : goal.invariant-loop-digit
-invariant-loop-digit l = IsNumberSoFar l.text l.digit-index l.number

@@ -1,9 +1,0 @@
-use Rattle.std.proofs.Common.{◌≡◌, drop, map, fold, Some}
-use Rattle.std.specs.Int.{int_min}
-use Rattle.cql_syntax.specs.Values as spec
-use Rattle.cql_plain.specs.Shown.{meant}
-use Rattle.cql_plain.proofs.numbers.least_of_all.Given as goal
-
-abbrev pub invariant-loop-value : goal.invariant-loop-value
-invariant-loop-value l =
-    fold (λ a w. spec.of_both (λ x y. Some (int_min x y)) a (spec.amount w)) l.chosen (map meant (drop l.value-index l.rest)) ≡ spec.chosen_from int_min (map meant l.values)

@@ -1,7 +1,0 @@
-use Rattle.std.proofs.Common.{ap, ◌∙◌, sym, count_by}
-use Rattle.cq_geometry.specs.Squares.{squares}
-use Rattle.cql_syntax.specs.Values.{count}
-use Rattle.cql_plain.proofs.numbers.size.Goals as goal
-
-pub returns : goal.returns
-returns c = c.counted.ensures ∙ ap count (c.count.ensures ∙ sym (ap (λ x. count_by x squares) c.squares.ensures))

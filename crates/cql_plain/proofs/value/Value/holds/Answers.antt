@@ -1,6 +1,0 @@
-use Rattle.std.proofs.Common.{arith}
-use Rattle.cql_plain.proofs.Masks.{some_set}
-use Rattle.cql_plain.proofs.value.Value.holds.Goals as goal
-
-pub returns-in-Set : goal.returns-in-Set
-returns-in-Set c = rw c.in-Set.is (some_set c.in-Set.squares (omega arith))

@@ -1,0 +1,11 @@
+pub mod Bound
+pub mod Evaluated
+pub mod Filling
+pub mod Masks
+pub mod Mates
+pub mod Ranges
+pub mod Reaching
+pub mod Reversed
+pub mod Standing
+pub mod Tagged
+pub mod Ways

@@ -1,0 +1,109 @@
+//! What filters of parts make of the values of their parts.
+ghost use Rattle.std.specs.Prelude.{◌≡◌, map, int_lt, int_le};
+ghost use Rattle.std.specs.List.{list_any, list_all};
+ghost use Rattle.cql_syntax.specs.Values as spec;
+ghost use Rattle.cql_values.specs.Asked.{of_value};
+ghost use Rattle.cql_values.specs.Shown.{meant};
+
+use crate::numbers::{greatest, greatest_of_all, least_of_all, power, product, size};
+use crate::sets::{attacked_by, attacking, between, complement, dark, intersection, light, union};
+use crate::value::Value;
+use cq_position::Position;
+use cql_syntax::{Chain, Kind, Pair, Unary};
+
+fn some_holds(values: &[Value]) -> bool
+    ensures { result ≡ list_any (λ v. spec.holds (meant v)) values.now }
+{
+    values.iter().any(|value| value.holds())
+}
+
+fn all_hold(values: &[Value]) -> bool
+    ensures { result ≡ list_all (λ v. spec.holds (meant v)) values.now }
+{
+    values.iter().all(|value| value.holds())
+}
+
+/// What a filter of any number of parts makes of their values.
+pub fn chain_of(chain: Chain, values: &[Value]) -> Value
+    ensures { meant result ≡ spec.chain_of chain (map meant values.now) }
+{
+    match chain {
+        Chain::Or => Value::Truth(some_holds(values)),
+        Chain::And | Chain::All => Value::Truth(all_hold(values)),
+        Chain::Union => Value::Set(union(values)),
+        Chain::Intersect => Value::Set(intersection(values)),
+        Chain::Product => product(values),
+        Chain::Max => greatest_of_all(values),
+        Chain::Min => least_of_all(values),
+    }
+}
+
+/// Any of some values of a kind: whether one holds, their union, or the greatest of them.
+pub fn any_of(kind: Kind, values: &[Value]) -> Value
+    ensures { meant result ≡ spec.any_of kind (map meant values.now) }
+{
+    match kind {
+        Kind::Position => Value::Truth(some_holds(values)),
+        Kind::Set => Value::Set(union(values)),
+        Kind::Number => Value::Number(greatest(values)),
+    }
+}
+
+/// What a filter of two parts makes of their values.
+pub fn pair_of(position: &Position, pair: Pair, x: Value, y: Value) -> Value
+    ensures { meant result ≡ spec.pair_of position.now.men pair (meant x) (meant y) }
+{
+    match pair {
+        Pair::Attacks => attacking(position, x, y),
+        Pair::AttackedBy => attacked_by(position, x, y),
+        Pair::Between => between(x, y),
+        Pair::Less => Value::Truth(is_less(x, y)),
+        Pair::AtMost => Value::Truth(is_at_most(x, y)),
+        Pair::Equal => Value::Truth(is_at_most(x, y) && is_at_most(y, x)),
+        Pair::AtLeast => Value::Truth(is_at_most(y, x)),
+        Pair::Greater => Value::Truth(is_less(y, x)),
+    }
+}
+
+// Whether both have a value, and the first is less.
+fn is_less(x: Value, y: Value) -> bool
+    ensures { result ≡ spec.compares int_lt (spec.amount (meant x)) (spec.amount (meant y)) }
+{
+    match (x.number(), y.number()) {
+        (Some(a), Some(b)) => a < b,
+        _ => false,
+    }
+}
+
+// Whether both have a value, and the first is at most the second.
+fn is_at_most(x: Value, y: Value) -> bool
+    ensures { result ≡ spec.compares int_le (spec.amount (meant x)) (spec.amount (meant y)) }
+{
+    match (x.number(), y.number()) {
+        (Some(a), Some(b)) => a <= b,
+        _ => false,
+    }
+}
+
+/// The second where the first holds, else the third.
+pub fn if_of(x: Value, y: Value, z: Value) -> Value
+    ensures { meant result ≡ spec.if_of (meant x) (meant y) (meant z) }
+{
+    Value::Truth(if x.holds() { y.holds() } else { z.holds() })
+}
+
+/// What a word or mark before a part makes of its value, where it asks of no other node.
+pub fn unary_here(word: Unary, position: &Position, x: Value) -> Value
+    ensures { meant result ≡ of_value position.now.men word (meant x) }
+{
+    match word {
+        Unary::Complement => complement(x),
+        Unary::Count => size(x),
+        Unary::Power => power(position, x),
+        Unary::Light => light(x),
+        Unary::Dark => dark(x),
+        Unary::Not | Unary::Find | Unary::FindUp | Unary::Child | Unary::Parent => {
+            Value::Truth(!x.holds())
+        }
+    }
+}

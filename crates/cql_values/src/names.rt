@@ -1,0 +1,91 @@
+//! The squares bound to names.
+ghost use Rattle.std.specs.Prelude.{◌≡◌, ◌<◌, [], ◌∷◌, length, drop, IfOk, OnOk, OnErr};
+ghost use Rattle.cql_syntax.specs.Meaning.{is_bound_to};
+ghost use Rattle.cql_syntax.specs.Values.{squares_where};
+ghost use Rattle.cql_values.specs.Shown.{meant};
+
+use crate::value::Value;
+use cq_geometry::Square;
+use cq_outside::{Bytes, NoMemory};
+use std::alloc::Global;
+use std::marker::Model;
+
+/// The squares bound to names, which contracts see as a list of both, the innermost binding first.
+#[derive(Drop)]
+pub struct Names {
+    alloc: Global,
+    pairs: Vec<(Bytes, Square)>,
+}
+
+impl Model for Names {
+    ghost use Rattle.std.specs.Prelude.{ℕ, List};
+    ghost use Rattle.cql_values.specs.Names.{names_inside};
+
+    ghost Value = { List (List ℕ × ℕ) };
+
+    ghost view = { names_inside };
+}
+
+impl Names {
+    /// No bindings. Takes no memory.
+    pub fn new(alloc: Global) -> Names
+        ensures { result ≡ [] }
+    {
+        Names {
+            alloc,
+            pairs: Vec::new(alloc),
+        }
+    }
+
+    /// Binds a name to a square, inside all bindings that there are.
+    pub fn bind(&mut self, name: &[u8], s: Square) -> Result<(), NoMemory>
+        ensures ok { OnOk result (self.new ≡ (name.now, s) ∷ self.old) }
+        ensures err { OnErr result (self.new ≡ self.old) }
+    {
+        let name = Bytes::from_slice(self.alloc, name)?;
+        self.pairs.push((name, s))?;
+        Ok(())
+    }
+
+    /// Drops the innermost binding; there is one.
+    pub fn unbind(&mut self)
+        requires { 0 < length self.old }
+        ensures { self.new ≡ drop 1 self.old }
+    {
+        let kept = self.pairs.len() - 1;
+        self.pairs.truncate(kept);
+    }
+
+    /// The same bindings, and one more inside of them.
+    pub fn with(&self, alloc: Global, name: &[u8], s: Square) -> Result<Names, NoMemory>
+        ensures { IfOk result (λ inner. inner ≡ (name.now, s) ∷ self.now) }
+    {
+        let mut inner = self.copy(alloc)?;
+        inner.bind(name, s)?;
+        Ok(inner)
+    }
+
+    fn copy(&self, alloc: Global) -> Result<Names, NoMemory>
+        ensures { IfOk result (λ same. same ≡ self.now) }
+    {
+        let mut copied = Names::new(alloc);
+        for pair in self.pairs.as_slice() {
+            copied.bind(pair.0.as_slice(), pair.1)?;
+        }
+        Ok(copied)
+    }
+
+    /// The square that is bound to a name, as a set; of a name that isn't bound there is none.
+    pub fn squares_of(&self, name: &[u8]) -> Value
+        ensures { meant result ≡ squares_where (is_bound_to self.now name.now) }
+    {
+        let mut kept = self.pairs.len();
+        while kept > 0 {
+            kept -= 1;
+            if self.pairs[kept].0.as_slice() == name {
+                return Value::Set(1 << self.pairs[kept].1.number());
+            }
+        }
+        Value::Set(0)
+    }
+}

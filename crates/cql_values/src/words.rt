@@ -1,0 +1,154 @@
+//! Filters of one leaf.
+ghost use Rattle.std.specs.Prelude.{◌≡◌, ◌<◌, ◌&&◌, not, length, Some, IfOk};
+ghost use Rattle.cq_position.specs.Games.{IsTree};
+ghost use Rattle.cq_position.specs.Legality.{has_legal_move};
+ghost use Rattle.cq_position.specs.Bitboards.{IsBitboard};
+ghost use Rattle.cq_position.specs.Board.{man_at, stands};
+ghost use Rattle.cq_position.specs.Men.{man_number};
+ghost use Rattle.cq_symmetry.specs.Images.{is_in};
+ghost use Rattle.cql_syntax.specs.Meaning as meaning;
+ghost use Rattle.cql_values.specs.Shown.{meant};
+ghost use Rattle.cql_values.specs.Trees.{searched_tree};
+
+use crate::headers::year;
+use crate::numbers::counted;
+use crate::value::Value;
+use crate::walks::{children, depth, ply};
+use cq_geometry::Compass;
+use cq_moves::{is_mate, is_stalemate};
+use cq_outside::NoMemory;
+use cq_position::{Man, Men, Position, Side, in_check};
+use cql_syntax::{Designator, Plain, Way};
+use pgn_tree::Game;
+use std::alloc::Global;
+
+/// The squares of a designator on which one of its men stands.
+pub fn standing_on(position: &Position, d: &Designator) -> u64
+    ensures { IsBitboard result (meaning.stands_on position.now.men (Some d.now)) }
+{
+    d.part.squares & squares_of_some(position.men(), d.men)
+}
+
+// The squares on which one of some men stands: bit k is man k.
+fn squares_of_some(men: &Men, wanted: u16) -> u64
+    ensures { IsBitboard result (λ s. is_in wanted (man_number (man_at men.now s))) }
+{
+    let mut mask = 0;
+    for man in &MEN {
+        mask |= squares_if(men, wanted, *man);
+    }
+    mask
+}
+
+// The squares on which a man stands, if it is wanted.
+fn squares_if(men: &Men, wanted: u16, man: Man) -> u64
+    ensures { IsBitboard result (λ s. stands men.now s man && is_in wanted (man_number man)) }
+{
+    if has_man(wanted, man) {
+        men.squares_of(man)
+    } else {
+        0
+    }
+}
+
+fn has_man(men: u16, man: Man) -> bool
+    ensures { result ≡ is_in men (man_number man) }
+{
+    men >> (man as u16) & 1 == 1
+}
+
+// Each man, the empty square among them, by its number.
+const MEN: [Man; 13] = [
+    Man::K,
+    Man::Q,
+    Man::R,
+    Man::B,
+    Man::N,
+    Man::P,
+    Man::BlackK,
+    Man::BlackQ,
+    Man::BlackR,
+    Man::BlackB,
+    Man::BlackN,
+    Man::BlackP,
+    Man::Empty,
+];
+
+/// What a filter that is one word gives.
+pub fn word_at(
+    alloc: Global,
+    word: Plain,
+    game: &Game,
+    variations: bool,
+    n: u32,
+) -> Result<Value, NoMemory>
+    requires tree { IsTree game.now.nodes }
+    requires node { n < length game.now.nodes }
+    ensures { IfOk result (λ v. meant v ≡ meaning.word_of (searched_tree game.now variations) word n) }
+{
+    let position = game.position(n);
+    Ok(match word {
+        Plain::Check => Value::Truth(in_check(position, position.side())),
+        Plain::Mate => Value::Truth(mated(position)),
+        Plain::Stalemate => Value::Truth(stalemated(position)),
+        Plain::Wtm => Value::Truth(is_white(position.side())),
+        Plain::Btm => Value::Truth(!is_white(position.side())),
+        Plain::Initial => Value::Truth(n == 0),
+        Plain::Terminal => Value::Truth(children(alloc, game, variations, n)?.is_empty()),
+        Plain::Mainline => Value::Truth(game.is_main(n)),
+        Plain::Variation => Value::Truth(!game.is_main(n)),
+        Plain::HasComment => Value::Truth(game.comments(n) != 0),
+        Plain::Ply => counted(ply(alloc, game, n)?),
+        Plain::MoveNumber => counted(position.number()),
+        Plain::Depth => counted(depth(alloc, game, n)?),
+        Plain::Year => Value::Number(year(game)),
+    })
+}
+
+fn mated(position: &Position) -> bool
+    ensures { result ≡ (meaning.is_check position.now && not (has_legal_move position.now)) }
+{
+    in_check(position, position.side()) && is_mate(position)
+}
+
+fn stalemated(position: &Position) -> bool
+    ensures { result ≡ (not (meaning.is_check position.now) && not (has_legal_move position.now)) }
+{
+    !in_check(position, position.side()) && is_stalemate(position)
+}
+
+fn is_white(side: Side) -> bool
+    ensures { result ≡ meaning.is_white side }
+{
+    matches!(side, Side::White)
+}
+
+/// The directions of a word.
+pub fn directions(way: Way) -> &'static [Compass]
+    ensures { result.now ≡ meaning.directions_of way }
+{
+    match way {
+        Way::Up => &[Compass::Up],
+        Way::Down => &[Compass::Down],
+        Way::Left => &[Compass::Left],
+        Way::Right => &[Compass::Right],
+        Way::Northeast => &[Compass::Northeast],
+        Way::Northwest => &[Compass::Northwest],
+        Way::Southeast => &[Compass::Southeast],
+        Way::Southwest => &[Compass::Southwest],
+        Way::Diagonal => &DIRECTIONS[4..],
+        Way::Orthogonal => &DIRECTIONS[..4],
+        Way::AnyDirection => &DIRECTIONS,
+    }
+}
+
+const DIRECTIONS: [Compass; 8] = [
+    Compass::Up,
+    Compass::Down,
+    Compass::Left,
+    Compass::Right,
+    Compass::Northeast,
+    Compass::Northwest,
+    Compass::Southeast,
+    Compass::Southwest,
+];
