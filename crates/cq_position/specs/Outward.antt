@@ -54,7 +54,7 @@ holds men man (Some square) = stands men square man
 abbrev pub some_man : (ℕ → Bool) → (ℕ → Bool) → Bool
 some_man t u = list_any (λ a. t a && u a) squares
 
--- the squares from which a pawn of the side attacks the square: diagonally, one rank behind it
+-- the squares from which a pawn of the side attacks the square: diagonally, one rank nearer to that side
 abbrev pub pawn_origins : Side → ℕ → List (Option ℕ)
 pawn_origins White square = stepped (negsuc 0) (negsuc 0) square ∷ stepped (pos 1) (negsuc 0) square ∷ []
 pawn_origins Black square = stepped (negsuc 0) (pos 1) square ∷ stepped (pos 1) (pos 1) square ∷ []

@@ -1,4 +1,5 @@
-//! The squares of kings and rooks at home, where a game begins, and those to which they castle (FIDE Laws of Chess, articles 2.3 and 3.8.2).
+//! The squares of kings and rooks at home, where a game begins, and those to which they castle (FIDE Laws of Chess, articles 2.3 and
+//! 3.8.2).
 ghost use Rattle.std.specs.Prelude.{◌≡◌};
 ghost use Rattle.cq_position.specs.Board as board;
 ghost use Rattle.cq_position.specs.Legal as legal;

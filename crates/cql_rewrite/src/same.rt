@@ -164,7 +164,8 @@ fn same_played(placed: bool, a: &Played, b: &Played) -> bool
 #[cycle(same)]
 #[tactic(auto, unfolding(cql_syntax::specs::Same::same_filter, cql_syntax::specs::Unplaced::with_places))]
 fn same_written(placed: bool, a: &Option<Box<Filter>>, b: &Option<Box<Filter>>) -> bool
-    ensures { result ≡ spec.same_written (places.written_with placed (written_tree a.now)) (places.written_with placed (written_tree b.now)) }
+    ensures { result
+        ≡ spec.same_written (places.written_with placed (written_tree a.now)) (places.written_with placed (written_tree b.now)) }
 {
     match (a, b) {
         (Some(f), Some(g)) => same_as(placed, f, g),
@@ -175,7 +176,8 @@ fn same_written(placed: bool, a: &Option<Box<Filter>>, b: &Option<Box<Filter>>) 
 
 #[cycle(same)]
 fn same_part(placed: bool, a: &Constituent, b: &Constituent) -> bool
-    ensures { result ≡ (spec.same_body (places.body_with placed (body_tree a.now.body)) (places.body_with placed (body_tree b.now.body)) && leaves.same_mark a.now.mark b.now.mark) }
+    ensures { result ≡ (spec.same_body (places.body_with placed (body_tree a.now.body)) (places.body_with placed (body_tree b.now.body))
+        && leaves.same_mark a.now.mark b.now.mark) }
 {
     same_body(placed, &a.body, &b.body) && same_mark(a.mark, b.mark)
 }

@@ -1,4 +1,4 @@
--- An archive splits behind each of its games.
+-- An archive splits after each of its games.
 use Rattle.std.proofs.Common.{◌≡◌, ℕ, zero, suc, ◌+◌, ◌-◌, ◌<◌, ◌≤◌, ◌⊎◌, inl, inr, ⊎_elim, Bool, true, false, cond, List, [], ◌∷◌, ◌++◌, length, get_or, take, drop, map, refl, sym, ap, ap₂, ◌∙◌, subst, arith, true≢false, append-nil, add-zero, append_assoc, length-drop}
 use Rattle.std.specs.Prelude.{◌&&◌, ◌||◌, nat_le, nat_lt, filter, codes, slice_range}
 use Rattle.std.specs.List.{AllByRecursion}
@@ -21,7 +21,7 @@ use Rattle.pgn_lexer.specs.declared.token.LexemeKind.TheVariants.{EscapeLine, To
 use Rattle.pgn_lexer.specs.declared.token.TokenKind.TheVariants.{Open, Close, Text, Symbol, Period, Star, LeftParen, RightParen, Nag, Null, Comment, LineComment, BadByte, UnclosedComment, UnclosedText}
 use Rattle.pgn_cut.specs.Cut.{is_result, marks, opens, cut_from, cut, text_start, archive_lexemes}
 use Rattle.pgn_cut.specs.Joined.{game_bytes}
-use Rattle.pgn_cut.specs.Seams.{moved_token, AreMovedGames, behind, IsSeam}
+use Rattle.pgn_cut.specs.Seams.{moved_token, AreMovedGames, spaced_rest, IsSeam}
 use Rattle.pgn_cut.specs.Spans.{EndsBy}
 use Rattle.pgn_cut.specs.declared.span.Span.{Span}
 use Rattle.pgn_cut.proofs.Closed.{LexemesFollow, AreLongest}
@@ -190,7 +190,7 @@ marker_ends first (Token UnclosedComment) text is m = absurd (true≢false (sym 
 marker_ends first (Token UnclosedText) text is m = absurd (true≢false (sym m))
 marker_ends first EscapeLine text is m = absurd (true≢false (sym m))
 
--- the column behind such a text
+-- the column after such a text
 column_behind : (bytes : List ℕ) (at size : ℕ) (text : List ℕ) → text ≡ slice_range bytes at (at + size) → length text ≡ size → EndsDark text → first_at true bytes (at + size) ≡ false
 column_behind bytes at size text is len ends =
     let some_ = ends.size in
@@ -292,7 +292,7 @@ module _ (in_order : StandInOrder) (apart : StandApart) (are_local : AreLocal) (
         ∙ ap (λ t. cut_from g.end [] (lexemes (text_start w) true t)) (ap (λ k. drop (text_start w) (take k w)) n ∙ drop-take (text_start w) (g.end - text_start w) w)
         ∙ ap (cut_from g.end []) front_lexemes ∙ s.closes
 
-    -- and those behind it
+    -- and those after it
     rest_lexemes : lexemes g.end column rest ≡ s.post
     unfolding all column rest start text
     rest_lexemes =
@@ -318,7 +318,7 @@ module _ (in_order : StandInOrder) (apart : StandApart) (are_local : AreLocal) (
         let one : 1 + (g.end - 1) ≡ g.end = omega arith in
         sym rest_lexemes ∙ ap (λ k. lexemes k column rest) (sym one) ∙ move (g.end - 1) 1 column rest
 
-    -- behind a marker no first column begins
+    -- after a marker no first column begins
     marker_column : WithMarker g.end s.pre → column ≡ false
     unfolding all column
     marker_column m =
@@ -357,11 +357,11 @@ module _ (in_order : StandInOrder) (apart : StandApart) (are_local : AreLocal) (
             inl (ap (lexemes 1 false) none ∙ nothing 1 false ∙ sym (ap (lexemes 1 column) none ∙ nothing 1 column))
 
     -- the cut of the rest
-    behind_lexemes : archive_lexemes (behind w g.end) ≡ lexemes 1 false rest
+    behind_lexemes : archive_lexemes (spaced_rest w g.end) ≡ lexemes 1 false rest
     unfolding rest
     behind_lexemes = white 0 true 32 (drop g.end w) refl
 
-    behind_cut : cut (behind w g.end) ≡ cut_from (suc (length rest)) [] (lexemes 1 false rest)
+    behind_cut : cut (spaced_rest w g.end) ≡ cut_from (suc (length rest)) [] (lexemes 1 false rest)
     unfolding rest
     behind_cut = ap (cut_from (suc (length (drop g.end w))) []) behind_lexemes
 
@@ -373,7 +373,7 @@ module _ (in_order : StandInOrder) (apart : StandApart) (are_local : AreLocal) (
         let whole : length w ≡ suc (length (drop g.end w)) + (g.end - 1) = omega arith in
         sym s.later ∙ ap₂ (λ k ls. cut_from k [] ls) whole post_moved ∙ cut_moves (g.end - 1) (suc (length (drop g.end w))) [] (lexemes 1 column (drop g.end w))
 
-    -- games behind the space begin behind it
+    -- games after the space begin after it
     late : AllByRecursion (λ h. 1 ≤ h.start) (cut_from (suc (length rest)) [] (lexemes 1 false rest))
     unfolding Begins
     late = starts_from 1 (suc (length rest)) (cut_from (suc (length rest)) [] (lexemes 1 false rest))
@@ -390,8 +390,8 @@ module _ (in_order : StandInOrder) (apart : StandApart) (are_local : AreLocal) (
         ∙ ap (filter test) post_moved ∙ within_moves (g.end - 1) from to (lexemes 1 column rest))
         ∙ tokens_move (g.end - 1) (within from to (lexemes 1 column rest)) ∙ ap (map (moved_token (g.end - 1))) (near_tokens from to (lexemes 1 column rest) (lexemes 1 false rest) near)
 
-    moved_all : (ms ls : List Span) → SamePlaces ms ls → AllByRecursion (HasItsLexemes (behind w g.end)) ms → AllByRecursion (λ h. 1 ≤ h.start) ms → AllByRecursion (HasItsLexemes w) (map (moved_span n) ls)
-        → AreMovedGames n (behind w g.end) w ms (map (moved_span n) ls)
+    moved_all : (ms ls : List Span) → SamePlaces ms ls → AllByRecursion (HasItsLexemes (spaced_rest w g.end)) ms → AllByRecursion (λ h. 1 ≤ h.start) ms → AllByRecursion (HasItsLexemes w) (map (moved_span n) ls)
+        → AreMovedGames n (spaced_rest w g.end) w ms (map (moved_span n) ls)
     unfolding all start text
     moved_all [] [] same here begins there = tt
     moved_all [] (l ∷ ls) same here begins there = absurd same
@@ -401,8 +401,8 @@ module _ (in_order : StandInOrder) (apart : StandApart) (are_local : AreLocal) (
       moved_all ms ls same.2 here.1 begins.1 there.1,
     )
       where
-        one_tokens : (m l : Span) → m.start ≡ l.start → m.end ≡ l.end → HasItsLexemes (behind w g.end) m → 1 ≤ m.start → HasItsLexemes w (moved_span n l)
-            → tokens_among (lexemes (l.start + n) l.first (game_bytes w (moved_span n l))) ≡ map (moved_token n) (tokens_among (lexemes m.start m.first (game_bytes (behind w g.end) m)))
+        one_tokens : (m l : Span) → m.start ≡ l.start → m.end ≡ l.end → HasItsLexemes (spaced_rest w g.end) m → 1 ≤ m.start → HasItsLexemes w (moved_span n l)
+            → tokens_among (lexemes (l.start + n) l.first (game_bytes w (moved_span n l))) ≡ map (moved_token n) (tokens_among (lexemes m.start m.first (game_bytes (spaced_rest w g.end) m)))
         one_tokens m l start_is end_is here begins there =
             ap tokens_among there ∙ ap₂ (λ a b. tokens_among (within (a + n) (b + n) all)) (sym start_is) (sym end_is)
             ∙ same_tokens m.start m.end begins ∙ ap (λ ls. map (moved_token n) (tokens_among (within m.start m.end ls))) (sym behind_lexemes) ∙ sym (ap (λ ls. map (moved_token n) (tokens_among ls)) here)
@@ -411,11 +411,11 @@ module _ (in_order : StandInOrder) (apart : StandApart) (are_local : AreLocal) (
     unfolding n
     is_seam = record {
       front = front_cut;
-      rest = subst (λ ms. AreMovedGames (g.end - 1) (behind w g.end) w ms after) (sym behind_cut)
-          (subst (AreMovedGames (g.end - 1) (behind w g.end) w (cut_from (suc (length rest)) [] (lexemes 1 false rest))) (sym after_is)
+      rest = subst (λ ms. AreMovedGames (g.end - 1) (spaced_rest w g.end) w ms after) (sym behind_cut)
+          (subst (AreMovedGames (g.end - 1) (spaced_rest w g.end) w (cut_from (suc (length rest)) [] (lexemes 1 false rest))) (sym after_is)
           (moved_all (cut_from (suc (length rest)) [] (lexemes 1 false rest)) (cut_from (suc (length rest)) [] (lexemes 1 column rest))
           (near_places (suc (length rest)) (lexemes 1 column rest) (lexemes 1 false rest) near)
-          (subst (AllByRecursion (HasItsLexemes (behind w g.end))) behind_cut (joined apart are_local (behind w g.end)))
+          (subst (AllByRecursion (HasItsLexemes (spaced_rest w g.end))) behind_cut (joined apart are_local (spaced_rest w g.end)))
           late
           (subst (AllByRecursion (HasItsLexemes w)) after_is (all_rest (HasItsLexemes w) before (g ∷ after) (subst (AllByRecursion (HasItsLexemes w)) e (joined apart are_local w))).1)));
     }

@@ -1,4 +1,4 @@
--- Where a cut is split behind one of its games, so are its lexemes.
+-- Where a cut is split after one of its games, so are its lexemes.
 use Rattle.std.proofs.Common.{◌≡◌, ℕ, ◌+◌, ◌≤◌, ◌⊎◌, inl, inr, ⊎_elim, Bool, true, false, cond, List, [], ◌∷◌, ◌++◌, get_or, drop, map, refl, sym, ap, ap₂, ◌∙◌, subst, arith, true≢false}
 use Rattle.std.specs.Prelude.{◌&&◌, ◌||◌, ◌==◌, not, fold}
 use Rattle.std.specs.List.{AllByRecursion, list_all}
@@ -42,7 +42,7 @@ pub record BeforePair (to : ℕ) (post : List Lexeme) : Type 0 where
 abbrev pub Ends : (place to : ℕ) → List Lexeme → List Lexeme → Type 0
 Ends place to pre post = WithMarker to pre ⊎ (BeforePair to post ⊎ (to ≡ place))
 
--- The lexemes of a cut are split behind a game: those before the seam close the games up to that one, and those behind it are cut into the
+-- The lexemes of a cut are split after a game: those before the seam close the games up to that one, and those after it are cut into the
 -- games after it.
 pub record Split (from place : ℕ) (game rest : List Lexeme) (before : List Span) (g : Span) (after : List Span) : Type 0 where
   pub pre : List Lexeme

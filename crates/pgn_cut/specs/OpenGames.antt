@@ -13,7 +13,7 @@ later_games front more = drop (length (closed front)) (cut (front ++ more))
 abbrev pub BeginFrom : ℕ → List Span → Type 0
 BeginFrom place games = All (λ g. place ≤ g.start) games
 
--- Where a game is open, the first of the later games begins there, and those after it begin behind the front. A front that is a part
+-- Where a game is open, the first of the later games begins there, and those after it begin after the front. A front that is a part
 -- of a byte order mark opens a game only where the rest of the mark doesn't follow.
 abbrev pub AreOpenAt : Option ℕ → (front more : List ℕ) → List Span → Type 0
 AreOpenAt None front more games = BeginFrom (length front) games

@@ -1,4 +1,4 @@
--- An archive in two parts, with the seam behind one of its games.
+-- An archive in two parts, with the seam after one of its games.
 use Rattle.std.specs.Prelude.{◌≡◌, ℕ, ◌+◌, ◌-◌, List, [], ◌∷◌, ◌++◌, map, take, drop}
 use Rattle.pgn_lexer.specs.Bytes.{space}
 use Rattle.pgn_lexer.specs.Lexemes.{tokens_of}
@@ -26,11 +26,11 @@ AreMovedGames n here there (g ∷ games) (m ∷ moved) = IsMovedGame n here ther
 AreMovedGames n here there _ _ = ⊥
 
 -- what follows a seam, with a space for what stands before it
-abbrev pub behind : List ℕ → ℕ → List ℕ
-behind archive place = space ∷ drop place archive
+abbrev pub spaced_rest : List ℕ → ℕ → List ℕ
+spaced_rest archive place = space ∷ drop place archive
 
--- A seam behind a game: the bytes before the seam are cut into the games up to that one, and those behind it, after one space, into the
+-- A seam after a game: the bytes before the seam are cut into the games up to that one, and the others, with one space before them, into the
 -- games after that one.
 pub record IsSeam (archive : List ℕ) (before : List Span) (game : Span) (after : List Span) : Type 0 where
   pub front : cut (take game.end archive) ≡ before ++ game ∷ []
-  pub rest : AreMovedGames (game.end - 1) (behind archive game.end) archive (cut (behind archive game.end)) after
+  pub rest : AreMovedGames (game.end - 1) (spaced_rest archive game.end) archive (cut (spaced_rest archive game.end)) after

@@ -65,7 +65,7 @@ pub fn closed_games_stay()
     readings_are_longest();
 }
 
-/// An archive splits behind each of its games. The bytes before the seam are cut into the games up to that one. Those behind it are cut,
+/// An archive splits after each of its games. The bytes before the seam are cut into the games up to that one. Those after it are cut,
 /// after one space, into the games after that one: the same ones with the same tokens, so many bytes further on.
 pub fn archives_split()
     ensures { (archive : List ℕ) (before : List ASpan) (game : ASpan) (after : List ASpan) →

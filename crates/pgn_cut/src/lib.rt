@@ -3,7 +3,7 @@
 //! `specs/Cut` says where games begin and end, by the lexemes of the whole archive; `cut_whole` gives exactly these.
 //! The laws say that games stand in order, that the tokens of a game are the archive's lexemes within it, that no game
 //! ends within another, that the games which a prefix of an archive closes stay, whatever follows, and that an archive splits
-//! behind each of its games. A `Cutter` gives the games of an archive that comes in pieces, and where the open game begins.
+//! after each of its games. A `Cutter` gives the games of an archive that comes in pieces, and where the open game begins.
 #![tactic(auto)]
 
 mod cutter;

@@ -1,4 +1,4 @@
--- Games behind a seam of an archive are read as before it was split.
+-- Games after a seam of an archive are read as before it was split.
 use Rattle.std.proofs.Common.{◌≡◌, ◌↔◌, ℕ, suc, zero, ◌+◌, ◌-◌, ◌<◌, ◌≤◌, Bool, List, [], ◌∷◌, ◌++◌, length, take, drop, map, refl, sym, ap, ap₂, ◌∙◌, subst, arith, Result}
 use Rattle.std.proofs.lemmas.List.{drop-drop}
 use Rattle.cq_position.specs.Games.{Game}
@@ -6,7 +6,7 @@ use Rattle.pgn_lexer.specs.Lexemes.{tokens_of}
 use Rattle.pgn_lexer.specs.declared.token.Token.{Token}
 use Rattle.pgn_cut.specs.Cut.{cut}
 use Rattle.pgn_cut.specs.Joined.{game_bytes}
-use Rattle.pgn_cut.specs.Seams.{moved_token, behind, IsMovedGame, AreMovedGames, IsSeam}
+use Rattle.pgn_cut.specs.Seams.{moved_token, spaced_rest, IsMovedGame, AreMovedGames, IsSeam}
 use Rattle.pgn_cut.specs.Spans.{AreInOrder}
 use Rattle.pgn_cut.specs.declared.span.Span.{Span}
 use Rattle.pgn_reader.specs.declared.fault.GameFault.{GameFault}
@@ -16,18 +16,18 @@ use Rattle.pgn_reader.specs.Words.{Word, word_of, words_of}
 use Rattle.pgn_reader.specs.Split.{IsReadAlike, AreReadAlike}
 use Rattle.pgn_reader.proofs.Elsewhere.{decided}
 
--- the bytes behind a space are those of the archive
+-- the bytes after the space are those of the archive
 past_first : {A : Type 0} (x : A) (xs : List A) (s : ℕ) → 0 < s → drop s (x ∷ xs) ≡ drop (s - 1) xs
 past_first x xs zero pos = absurd (omega (arith, pos))
 past_first x xs (suc k) pos = ap (λ j. drop j xs) (let e : k ≡ suc k - 1 = omega arith in e)
 
-dropped : (archive : List ℕ) (place s : ℕ) → 0 < place → 0 < s → drop s (behind archive place) ≡ drop (s + (place - 1)) archive
+dropped : (archive : List ℕ) (place s : ℕ) → 0 < place → 0 < s → drop s (spaced_rest archive place) ≡ drop (s + (place - 1)) archive
 dropped archive place s some pos =
     past_first _ (drop place archive) s pos ∙ drop-drop (s - 1) place archive
     ∙ ap (λ j. drop j archive) (let e : place + (s - 1) ≡ s + (place - 1) = omega (arith, some, pos) in e)
 
 same_bytes : (archive : List ℕ) (place : ℕ) (g m : Span) → 0 < place → place ≤ m.start → m.start ≡ g.start + (place - 1) → m.end ≡ g.end + (place - 1)
-    → game_bytes archive m ≡ game_bytes (behind archive place) g
+    → game_bytes archive m ≡ game_bytes (spaced_rest archive place) g
 same_bytes archive place g m some behind_it starts ends =
     let pos : 0 < g.start = omega (arith, some, behind_it, starts) in
     let len : m.end - m.start ≡ g.end - g.start = let e = starts in let f = ends in omega (arith, e, f) in
@@ -54,18 +54,18 @@ same_tokens n start first other_first bytes other is tokens = record {
   places = ap (map (λ (t : Token). t.at)) tokens ∙ moved_places n (tokens_of start first bytes);
 }
 
-alike : (archive : List ℕ) (place : ℕ) (g m : Span) → 0 < place → place ≤ m.start → IsMovedGame (place - 1) (behind archive place) archive g m
-    → IsReadAlike (place - 1) (behind archive place) archive g m
+alike : (archive : List ℕ) (place : ℕ) (g m : Span) → 0 < place → place ≤ m.start → IsMovedGame (place - 1) (spaced_rest archive place) archive g m
+    → IsReadAlike (place - 1) (spaced_rest archive place) archive g m
 alike archive place g m some behind_it moves outcome =
     let n : ℕ = place - 1 in
-    let bytes : game_bytes archive m ≡ game_bytes (behind archive place) g = same_bytes archive place g m some behind_it moves.starts moves.ends in
-    subst (λ s. IsRead g.start g.first (game_bytes (behind archive place) g) outcome ↔ IsRead s m.first (game_bytes archive m) (moved n outcome)) (sym moves.starts)
-    (decided n g.start g.first m.first (game_bytes (behind archive place) g) (game_bytes archive m)
-    (same_tokens n g.start g.first m.first (game_bytes (behind archive place) g) (game_bytes archive m) bytes
+    let bytes : game_bytes archive m ≡ game_bytes (spaced_rest archive place) g = same_bytes archive place g m some behind_it moves.starts moves.ends in
+    subst (λ s. IsRead g.start g.first (game_bytes (spaced_rest archive place) g) outcome ↔ IsRead s m.first (game_bytes archive m) (moved n outcome)) (sym moves.starts)
+    (decided n g.start g.first m.first (game_bytes (spaced_rest archive place) g) (game_bytes archive m)
+    (same_tokens n g.start g.first m.first (game_bytes (spaced_rest archive place) g) (game_bytes archive m) bytes
     (ap (λ s. tokens_of s m.first (game_bytes archive m)) (sym moves.starts) ∙ moves.tokens)) outcome)
 
 all_alike : (archive : List ℕ) (place from to : ℕ) (games others : List Span) → 0 < place → place ≤ from → AreInOrder from to others
-    → AreMovedGames (place - 1) (behind archive place) archive games others → AreReadAlike (place - 1) (behind archive place) archive games others
+    → AreMovedGames (place - 1) (spaced_rest archive place) archive games others → AreReadAlike (place - 1) (spaced_rest archive place) archive games others
 all_alike archive place from to [] [] some le order all = tt
 all_alike archive place from to [] (m ∷ others) some le order all = absurd all
 all_alike archive place from to (g ∷ games) [] some le order all = absurd all
@@ -82,7 +82,7 @@ behind_one from to (s ∷ before) game after order = behind_one s.end to before 
 
 pub split_alike : (archive : List ℕ) (before : List Span) (game : Span) (after : List Span) → AreInOrder 0 (length archive) (cut archive)
     → cut archive ≡ before ++ game ∷ after → IsSeam archive before game after
-    → AreReadAlike (game.end - 1) (behind archive game.end) archive (cut (behind archive game.end)) after
+    → AreReadAlike (game.end - 1) (spaced_rest archive game.end) archive (cut (spaced_rest archive game.end)) after
 split_alike archive before game after order is seam =
     let behind_it = behind_one 0 (length archive) before game after (subst (AreInOrder 0 (length archive)) is order) in
-    all_alike archive game.end game.end (length archive) (cut (behind archive game.end)) after behind_it.0 (omega arith) behind_it.1 seam.rest
+    all_alike archive game.end game.end (length archive) (cut (spaced_rest archive game.end)) after behind_it.0 (omega arith) behind_it.1 seam.rest

@@ -1,4 +1,4 @@
--- What the games of an archive are read as where it splits behind one of them.
+-- What the games of an archive are read as where it splits after one of them.
 use Rattle.std.specs.Prelude.{◌↔◌, ℕ, List, [], ◌∷◌, Result}
 use Rattle.cq_position.specs.Games.{Game}
 use Rattle.pgn_cut.specs.Joined.{game_bytes}

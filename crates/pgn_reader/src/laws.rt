@@ -3,7 +3,7 @@ ghost use Rattle.std.specs.Prelude.{◌≡◌, ◌+◌, ◌-◌, ◌∷◌, ◌+
 ghost use Rattle.cq_position.specs.Games.{Game};
 ghost use Rattle.pgn_cut.specs.Cut.{cut};
 ghost use Rattle.pgn_cut.specs.OneGame.{IsGameOfCut};
-ghost use Rattle.pgn_cut.specs.Seams.{behind};
+ghost use Rattle.pgn_cut.specs.Seams.{spaced_rest};
 ghost use Rattle.pgn_cut.specs.declared.span.Span.{Span as ASpan};
 ghost use Rattle.pgn_reader.specs.Split.{AreReadAlike};
 ghost use Rattle.pgn_reader.specs.declared.fault.GameFault.{GameFault};
@@ -51,11 +51,11 @@ pub fn markers_end_games()
     tokens_stand_apart();
 }
 
-/// The games behind a seam are read as before: where an archive splits behind a game, and what follows is cut behind one space, each
+/// The games after a seam are read as before: where an archive splits after a game, and what follows is cut with one space before it, each
 /// game there is the same, or has the same fault so many bytes further on.
 pub fn split_games_are_read_alike()
     ensures { (archive : List ℕ) (before : List ASpan) (game : ASpan) (after : List ASpan) → cut archive ≡ before ++ game ∷ after →
-        AreReadAlike (game.end - 1) (behind archive game.end) archive (cut (behind archive game.end)) after }
+        AreReadAlike (game.end - 1) (spaced_rest archive game.end) archive (cut (spaced_rest archive game.end)) after }
 {
     games_stand_apart();
     archives_split();
