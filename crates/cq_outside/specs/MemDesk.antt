@@ -86,5 +86,10 @@ desk_code =
     (coded× (coded_list (coded_list coded_ℕ)) (coded× source_code (coded× (coded_list coded_ℕ) (coded× coded_ℕ coded_ℕ)))))
     (λ d. (d.files, (d.opened, (d.current, (d.fails, (d.opens, d.open_faults))))))
     (λ p. record {
-      files = p.0; opened = p.1.0; current = p.1.1.0; fails = p.1.1.1.0; opens = p.1.1.1.1.0; open_faults = p.1.1.1.1.1
+      files = p.0;
+      opened = p.1.0;
+      current = p.1.1.0;
+      fails = p.1.1.1.0;
+      opens = p.1.1.1.1.0;
+      open_faults = p.1.1.1.1.1;
     }) (λ _. refl)

@@ -182,7 +182,7 @@ impl Source for MemDesk {
     ghost follows_same = { λ s. (refl, follows_itself s.current) };
 
     ghost follows_on = { λ s t u f g.
-      (g.0 ∙ ap (λ (d : FailingDesk). record d { current = u.current }) f.0, follows_on s.current t.current u.current f.1 g.1) };
+        (g.0 ∙ ap (λ (d : FailingDesk). record d { current = u.current }) f.0, follows_on s.current t.current u.current f.1 g.1) };
 
     ghost never_falls = { λ s t f. faults_never_fall s.current t.current f.1 };
 }

@@ -49,7 +49,12 @@ impl MemSink {
     pub fn new(alloc: Global, room: usize, piece: usize, fails: Calls) -> Result<MemSink, NoMemory>
         requires { 1 ≤ piece }
         ensures { IfOk result (λ sink. sink ≡ record {
-          room = room; taken = Some []; piece = piece; fails = fails; writes = 0; faults = 0
+          room = room;
+          taken = Some [];
+          piece = piece;
+          fails = fails;
+          writes = 0;
+          faults = 0;
         }) }
     {
         Ok(MemSink {

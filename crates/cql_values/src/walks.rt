@@ -27,12 +27,7 @@ pub fn way_up(alloc: Global, game: &Game, n: u32) -> Result<Vec<u32>, NoMemory>
 }
 
 /// The children of a node that are searched.
-pub fn children(
-    alloc: Global,
-    game: &Game,
-    variations: bool,
-    n: u32,
-) -> Result<Vec<u32>, NoMemory>
+pub fn children(alloc: Global, game: &Game, variations: bool, n: u32) -> Result<Vec<u32>, NoMemory>
     requires tree { IsTree game.now.nodes }
     requires node { n < length game.now.nodes }
     ensures { IfOk result (λ nodes. nodes.items ≡ search_of.children_in (searched_tree game.now variations) n) }
@@ -59,12 +54,7 @@ pub fn parents(alloc: Global, game: &Game, n: u32) -> Result<Vec<u32>, NoMemory>
 }
 
 /// A node and its descendants that are searched.
-pub fn below(
-    alloc: Global,
-    game: &Game,
-    variations: bool,
-    n: u32,
-) -> Result<Vec<u32>, NoMemory>
+pub fn below(alloc: Global, game: &Game, variations: bool, n: u32) -> Result<Vec<u32>, NoMemory>
     requires tree { IsTree game.now.nodes }
     requires node { n < length game.now.nodes }
     ensures { IfOk result (λ nodes. nodes.items ≡ search_of.below_in (searched_tree game.now variations) n) }
