@@ -4,4 +4,3 @@ pub mod NeedsRows
 pub mod Needed
 pub mod ItemsHeld
 pub mod MenLaw
-pub mod RowsLaw

@@ -2,4 +2,3 @@ pub mod Items
 pub mod Needs
 pub mod NeedsRows
 pub mod Plans
-pub mod Rows

@@ -4,6 +4,7 @@
 #![tactic(auto)]
 
 mod found;
+mod keys;
 pub mod laws;
 mod needs;
 mod plan;
