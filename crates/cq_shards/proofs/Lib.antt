@@ -6,3 +6,9 @@ pub mod Counts
 pub mod OnlyOrder
 pub mod OneWay
 pub mod Values
+pub mod Batching
+pub mod KeptStay
+pub mod Queues
+pub mod Windows
+pub mod Streams
+pub mod Filling
