@@ -12,3 +12,7 @@ pub mod Queues
 pub mod Windows
 pub mod Streams
 pub mod Filling
+pub mod Braces
+pub mod Found
+pub mod Drains
+pub mod Beside

@@ -6,6 +6,9 @@ pub mod Queues
 pub mod Streams
 pub mod Filling
 pub mod Nexts
+pub mod Outcomes
 pub mod Order
 pub mod Comparing
 pub mod OrderRows
+pub mod Answers
+pub mod Work

@@ -5,9 +5,11 @@ ghost use Rattle.cq_position.specs.Games.{Game};
 ghost use Rattle.cql_syntax.specs.Hits.{hits, keys};
 ghost use Rattle.cql_syntax.specs.Trees.{QueryTree};
 ghost use Rattle.cq_shards.specs.declared.answers.GameAnswer.{GameAnswer};
+ghost use Rattle.cq_shards.specs.declared.batch.Batch.{Batch};
+ghost use Rattle.cq_shards.specs.Answers.{AnswersBatch, AreAnswersOf};
 ghost use Rattle.cq_shards.specs.Batching.{flat, full_batches, left_over};
 ghost use Rattle.cq_shards.specs.Kept.{KeptGames};
-ghost use Rattle.cq_shards.specs.Order.{ComesBefore, IsEarlier, directions, values_in};
+ghost use Rattle.cq_shards.specs.Order.{AreApart, ComesBefore, IsEarlier, directions, values_in};
 ghost use Rattle.cq_shards.specs.OrderRows.{OrderRows};
 ghost use Rattle.cq_shards.specs.Whole.{closed_games, whole};
 
@@ -32,6 +34,13 @@ pub fn answers_have_one_order()
     ensures games { (xs ys : List GameAnswer) → IsPermutation xs ys → AllPairs IsEarlier xs → AllPairs IsEarlier ys → xs ≡ ys }
     ensures keys { (items : List Bool) (xs ys : List GameAnswer) → IsPermutation xs ys
         → AllPairs (ComesBefore items) xs → AllPairs (ComesBefore items) ys → xs ≡ ys }
+{}
+
+/// The answers of a batch, each once, in the order of their games, are the answers of its games one by one.
+#[tactic(auto, using(crate::proofs::Beside::ordered_answers))]
+pub fn ordered_answers_stand_beside_their_games()
+    ensures { (query : QueryTree) (batch : Batch) (answers sorted : List GameAnswer) → AreAnswersOf query batch answers
+        → IsPermutation answers sorted → (AreApart answers → AllPairs IsEarlier sorted) → AnswersBatch query batch sorted }
 {}
 
 /// The full batches of some games are the first ones of more games, and with what is left over they are all of them. The games that
