@@ -133,8 +133,11 @@ fn do_job<R: Threads + Sync, D: Desk, O: Sink, E: Sink, G: Gate + Sync>(
             text,
             seed,
             games,
-            ..
-        } => answer_text_over_made(alloc, text.as_slice(), *seed, *games, out, err),
+            workers,
+        } => {
+            let text = text.as_slice();
+            answer_text_over_made(rt, alloc, text, *seed, *games, *workers, out, err, gate)
+        }
     }
 }
 
