@@ -8,7 +8,7 @@ use Rattle.std.proofs.lemmas.List.Sums.{count_by-le-length}
 use Rattle.std.proofs.lemmas.List.Sorted.{sum_by-IsPermutation}
 use Rattle.cq_outside.specs.Faults.{Rose}
 use Rattle.cq_outside.specs.declared.faults.Refusal.TheVariants.{Fault}
-use Rattle.cq_shards.specs.Answers.{AnswersBatch, answers_from, found_in, text_of}
+use Rattle.cq_shards.specs.Answers.{AnswersBatch, answers_from, found_in, games_of, number_of, text_of}
 use Rattle.cq_shards.specs.Nexts.{GivesBatch, GivesNoMore, GivesNone, HasBatchCause, Moves, SaysNext}
 use Rattle.cq_shards.specs.Outcomes.{AreKeptRead, Outcome}
 use Rattle.cq_shards.specs.Streams.{Stands}
@@ -135,9 +135,9 @@ pub record CountsTurn (query : QueryTree) (archive : List ℕ) (limit : ℕ) (b 
   pub outcomes : List Outcome
   pub stands : Stands b front (m + 1)
   pub reached : Reached limit b (sure archive) (sure left) front (m + 1)
-  pub games : given front (m + 1) ≡ given front m ++ batch.games.items
+  pub games : given front (m + 1) ≡ given front m ++ games_of batch
   pub are_read : AreKeptRead (given front m) outcomes
-  pub index : batch.index ≡ length outcomes
+  pub index : number_of batch ≡ length outcomes
   pub totals_ : totals ≡ totals_of query (length archive) outcomes
 
 pub counts_turn : Laws → (query : QueryTree) (archive : List ℕ) (limit : ℕ) (was now : Batches) (left after : List ℕ) (totals : Totals) (batch : Batch) (t : ℕ)
@@ -166,10 +166,10 @@ pub turn_few : Laws → InOrder → (query : QueryTree) (archive : List ℕ) (li
 turn_few laws order query archive limit b left totals batch answers t low turn answered =
     let games : totals.tally.games ≡ length turn.outcomes = ap (λ (t : Totals). t.tally.games) turn.totals_ in
     let before = count_read (given turn.front turn.m) turn.outcomes turn.are_read in
-    let count : length answers ≡ length answered.outcomes = ap length answered.are ∙ answers_count query batch.index answered.outcomes in
-    let read = count_read batch.games.items answered.outcomes answered.are_read in
-    let more : length (given turn.front (turn.m + 1)) ≡ length (given turn.front turn.m ++ batch.games.items) = ap length turn.games in
-    let parts = length-append (given turn.front turn.m) batch.games.items in
+    let count : length answers ≡ length answered.outcomes = ap length answered.are ∙ answers_count query (number_of batch) answered.outcomes in
+    let read = count_read (games_of batch) answered.outcomes answered.are_read in
+    let more : length (given turn.front (turn.m + 1)) ≡ length (given turn.front turn.m ++ (games_of batch)) = ap length turn.games in
+    let parts = length-append (given turn.front turn.m) (games_of batch) in
     let most = given_few laws order turn.front (turn.m + 1) in
     let few = turn.reached.few in
     omega (arith, games, before, count, read, more, parts, most, few, low)
@@ -187,7 +187,7 @@ turn_counted query archive limit b left totals new batch answers t turn answered
         stands = turn.stands;
         reached = turn.reached;
         are_read = subst (λ gs. AreKeptRead gs (turn.outcomes ++ answered.outcomes)) (sym turn.games)
-            (kept_read_on (given turn.front turn.m) batch.games.items turn.outcomes answered.outcomes turn.are_read answered.are_read);
+            (kept_read_on (given turn.front turn.m) (games_of batch) turn.outcomes answered.outcomes turn.are_read answered.are_read);
         totals_ = counts (length archive) turn.outcomes answered.outcomes (answered.are ∙ ap (λ n. answers_from query n answered.outcomes) turn.index) turn.totals_;
       },
       let a = turn.turns in omega (arith, a),

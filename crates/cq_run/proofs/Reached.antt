@@ -14,6 +14,7 @@ use Rattle.pgn_cut.specs.Cut.{cut, closed}
 use Rattle.pgn_cut.specs.Spans.{AreInOrder, EndsBy, FinishesAt}
 use Rattle.pgn_cut.specs.declared.span.Span.{Span}
 use Rattle.pgn_reader.specs.Verdict.{IsRead}
+use Rattle.cq_shards.specs.Answers.{games_of, number_of}
 use Rattle.cq_shards.specs.declared.batch.Batch.{Batch}
 use Rattle.cq_shards.specs.declared.kept.KeptGame.{KeptGame}
 use Rattle.cq_shards.specs.declared.state.Batches.{Batches}
@@ -106,30 +107,30 @@ moved laws limit was now source mid after front m Given stood r moves = moved_by
 pub record Turned (limit : ℕ) (b : Batches) (source now : SourceView) (front : List ℕ) (m : ℕ) (batch : Batch) : Type 0 where
   pub before : Reached limit b source now front m
   pub reached : Reached limit b source now front (m + 1)
-  pub games : given front (m + 1) ≡ given front m ++ batch.games.items
-  pub index : batch.index ≡ length (given front m)
+  pub games : given front (m + 1) ≡ given front m ++ games_of batch
+  pub index : number_of batch ≡ length (given front m)
 
 batch_cases : Laws → (b : Batches) (batch : Batch) (front : List ℕ) (m : ℕ) → IsNextBatch (closed_games front) m batch ⊎ (IsBatchAt (cut_games front) m batch × (b.ended ≡ true))
-    → (slice_get (batches (cut_games front)) m ≡ Some batch.games.items) × (batch.index ≡ length (given front m)) × (b.ended ≡ false → m + 1 ≤ length (full_batches (closed_games front)))
+    → (slice_get (batches (cut_games front)) m ≡ Some (games_of batch)) × (number_of batch ≡ length (given front m)) × (b.ended ≡ false → m + 1 ≤ length (full_batches (closed_games front)))
 batch_cases laws b batch front m (inl next) =
     let f = full_first laws front in
     let full = full_batches (closed_games front) in
-    let less = slice_get_within full m batch.games.items next.is in (
-      subst (λ bs. slice_get bs m ≡ Some batch.games.items) (sym f.1) (within_first full f.0 m batch.games.items next.is),
+    let less = slice_get_within full m (games_of batch) next.is in (
+      subst (λ bs. slice_get bs m ≡ Some (games_of batch)) (sym f.1) (within_first full f.0 m (games_of batch) next.is),
       next.index ∙ ap (λ bs. length (flat bs)) (sym (given_full laws front m (omega (arith, less)))),
       λ _. omega (arith, less),
     )
 batch_cases laws b batch front m (inr (at, over)) = (at.is, at.index, λ reads. absurd (true_not_false b.ended over reads))
 
 batch_is : Laws → (b : Batches) (batch : Batch) (front : List ℕ) (m : ℕ) → (gives : GivesBatch b batch front m)
-    → (slice_get (batches (cut_games front)) m ≡ Some batch.games.items) × (batch.index ≡ length (given front m)) × (b.ended ≡ false → m + 1 ≤ length (full_batches (closed_games front)))
+    → (slice_get (batches (cut_games front)) m ≡ Some (games_of batch)) × (number_of batch ≡ length (given front m)) × (b.ended ≡ false → m + 1 ≤ length (full_batches (closed_games front)))
 batch_is laws b batch front m gives = batch_cases laws b batch front m gives.is
 
 pub turned : Laws → (limit : ℕ) (b : Batches) (source now : SourceView) (front : List ℕ) (m : ℕ) (batch : Batch) → Reached limit b source now front m → GivesBatch b batch front m
     → Turned limit b source now front m batch
 turned laws limit b source now front m batch r gives =
     let is = batch_is laws b batch front m gives in
-    let less = slice_get_within (batches (cut_games front)) m batch.games.items is.0 in
+    let less = slice_get_within (batches (cut_games front)) m (games_of batch) is.0 in
     record {
       before = r;
       reached = record {
@@ -141,7 +142,7 @@ turned laws limit b source now front m batch r gives =
         open_ = is.2;
         all = omega (arith, less);
       };
-      games = flat_next (batches (cut_games front)) m batch.games.items is.0;
+      games = flat_next (batches (cut_games front)) m (games_of batch) is.0;
       index = is.1;
     }
 

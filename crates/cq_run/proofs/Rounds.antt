@@ -30,7 +30,7 @@ use Rattle.cq_shards.specs.Kept.{kept, most_kept}
 use Rattle.cq_run.specs.declared.status.Status.{Status}
 use Rattle.cq_run.specs.declared.status.Status.TheVariants.{Done, DoneWithRefusals, QueryRefused, WordsRefused, OpenFault, ReadFault, WriteFault, NoMemory, ArchiveTooLong}
 use Rattle.cq_run.specs.Asking.{texts_of, texts_so_far}
-use Rattle.cq_shards.specs.Answers.{AnswersBatch, answers_from}
+use Rattle.cq_shards.specs.Answers.{AnswersBatch, answers_from, games_of, number_of}
 use Rattle.cq_shards.specs.Nexts.{Moves, GivesBatch, GivesNoMore, GivesNone}
 use Rattle.cq_shards.specs.Outcomes.{Outcome, AreKeptRead}
 use Rattle.cq_run.specs.Outcomes.{AreRead, HasGames}
@@ -271,7 +271,7 @@ pub record Turn (sorted : Bool) (query : QueryTree) (limit : ℕ) (b : Batches) 
   pub turned : Turned limit b source now front m batch
   pub counts : now.faults ≡ source.faults
   pub are_read : AreKeptRead (given front m) outcomes
-  pub index : batch.index ≡ length outcomes
+  pub index : number_of batch ≡ length outcomes
   pub found : FoundSoFar sorted query outcomes sinks stand
 
 pub round_turns : Laws → (sorted : Bool) (query : QueryTree) (limit : ℕ) (was now : Batches) (source mid after : SourceView) (sinks : Sinks) (stand : Stand) (batch : Batch) (t : ℕ)
@@ -349,10 +349,10 @@ pub turn_few : Laws → InOrder → (sorted : Bool) (query : QueryTree) (limit :
 turn_few laws order sorted query limit b source now sinks stand batch answers t low turn answered =
     let games : stand.tally.games ≡ length turn.outcomes = ap (λ (t : Stand). t.tally.games) turn.found.is in
     let before = count_read (given turn.front turn.m) turn.outcomes turn.are_read in
-    let count : length answers ≡ length answered.outcomes = ap length answered.are ∙ answers_count query batch.index answered.outcomes in
-    let read = count_read batch.games.items answered.outcomes answered.are_read in
-    let more : length (given turn.front (turn.m + 1)) ≡ length (given turn.front turn.m ++ batch.games.items) = ap length turn.turned.games in
-    let parts = length-append (given turn.front turn.m) batch.games.items in
+    let count : length answers ≡ length answered.outcomes = ap length answered.are ∙ answers_count query (number_of batch) answered.outcomes in
+    let read = count_read (games_of batch) answered.outcomes answered.are_read in
+    let more : length (given turn.front (turn.m + 1)) ≡ length (given turn.front turn.m ++ (games_of batch)) = ap length turn.turned.games in
+    let parts = length-append (given turn.front turn.m) (games_of batch) in
     let most = given_few laws order turn.front (turn.m + 1) in
     let few = turn.turned.reached.few in
     omega (arith, games, before, count, read, more, parts, most, few, low)
@@ -367,7 +367,7 @@ all_of_turn : (sorted : Bool) (query : QueryTree) (limit : ℕ) (b : Batches) (s
     → AreKeptRead (given turn.front (turn.m + 1)) (turn.outcomes ++ answered.outcomes)
 all_of_turn sorted query limit b source now sinks stand batch answers t turn answered =
     subst (λ gs. AreKeptRead gs (turn.outcomes ++ answered.outcomes)) (sym turn.turned.games)
-    (kept_read_on (given turn.front turn.m) batch.games.items turn.outcomes answered.outcomes turn.are_read answered.are_read)
+    (kept_read_on (given turn.front turn.m) (games_of batch) turn.outcomes answered.outcomes turn.are_read answered.are_read)
 
 pub turn_done : (sorted : Bool) (query : QueryTree) (limit : ℕ) (b : Batches) (source now : SourceView) (sinks new_sinks : Sinks) (stand new : Stand) (batch : Batch) (answers : List GameAnswer) (t : ℕ)
     → (turn : Turn sorted query limit b source now sinks stand batch t) → (answered : AnswersBatch query batch answers)
