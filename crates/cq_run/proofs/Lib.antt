@@ -1,14 +1,12 @@
 mod Sinks
 mod Texts
+mod Braces
 mod SortItems
 mod Exports
 mod Answers
 mod Counting
 mod Kept
-mod Given
 mod Answered
 mod OneOutcome
-mod Reached
-mod Rounds
 mod Doing
 pub mod EveryText
