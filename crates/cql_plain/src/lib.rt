@@ -11,3 +11,4 @@ mod places;
 mod standing;
 
 pub use at::{holds_at, number_at, set_at, value_at};
+pub use cql_values::Names;

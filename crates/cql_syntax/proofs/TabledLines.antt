@@ -1,5 +1,5 @@
 -- The greatest length that a table's atoms spell is the value of a line.
-use Rattle.std.proofs.Common.{◌≡◌, ℕ, zero, suc, ◌+◌, ◌<◌, ◌≤◌, pos, Bool, true, false, ◌&&◌, List, [], ◌∷◌, ◌++◌, length, Option, Some, None, option_map, refl, sym, ap, ap₂, ◌∙◌, subst}
+use Rattle.std.proofs.Common.{◌≡◌, ℕ, zero, suc, ◌<◌, ◌≤◌, pos, Bool, true, false, ◌&&◌, List, [], ◌∷◌, ◌++◌, length, Option, option_map, refl, sym, ap, ap₂, ◌∙◌, subst, arith}
 use Rattle.std.specs.Prelude.{Contains, IfSome}
 use Rattle.cq_outside.specs.Greatest.{IsGreatest, longest}
 use Rattle.cq_outside.specs.Spelling.{Pattern, one, nothing, joined, repeated, Spells, Times, spells}
@@ -10,9 +10,9 @@ use Rattle.cq_outside.proofs.WithinLaw.{left, right}
 use Rattle.cq_position.specs.Games.{IsTree}
 use Rattle.cq_position.specs.Search.{SearchedTree, IsStep, Along, IsPath, paths}
 use Rattle.cq_position.proofs.Paths.{paths_law}
-use Rattle.cq_position.proofs.WaysUp.{searched_up}
+use Rattle.cq_position.proofs.WaysUp.{searched_up, parent_before}
 use Rattle.cql_syntax.specs.Meaning.{allows, line_of}
-use Rattle.cql_syntax.specs.TabledLines.{AreParents, Joins, Tabled, Searched, LinesAreTheirs}
+use Rattle.cql_syntax.specs.TabledLines.{AreParents, Joins, Tabled, Searched, IsAsked, LinesAreTheirs}
 use Rattle.cql_syntax.specs.Values.{Value, as_number, holds}
 use Rattle.cql_syntax.specs.declared.extents.Extent.{Extent}
 
@@ -93,7 +93,11 @@ steps_of tree false primary above are = record {
   all_steps = λ n m s step. are.all_parents m n step.is_in step.child step.first;
 }
 
--- a step from a searched node leads to one
+-- a step leads to a node of the game, and from a searched one to a searched one
+step_inside : (tree : SearchedTree) → IsTree tree.game.nodes → (back primary : Bool) (n m : ℕ) → IsStep tree back primary n m → m < length tree.game.nodes
+step_inside tree is_tree true primary n m step = let b = parent_before tree.game.nodes n m is_tree step.parent in omega (arith, b.0, b.1)
+step_inside tree is_tree false primary n m step = (parent_before tree.game.nodes m n is_tree step.child).1
+
 step_searched : (tree : SearchedTree) → IsTree tree.game.nodes → (back primary : Bool) (n m : ℕ) → Searched tree n → IsStep tree back primary n m → Searched tree m
 step_searched tree is_tree true primary n m s step = searched_up tree.variations tree.game.nodes n m is_tree step.parent s
 step_searched tree is_tree false primary n m s step = step.is_in
@@ -107,24 +111,24 @@ module _ (tree : SearchedTree) (is_tree : IsTree tree.game.nodes) (back primary 
   follow_of n [] s a = tt
   follow_of n (m ∷ w) s a = (are.all_steps n m s a.0, follow_of m w (step_searched tree is_tree back primary n m s a.0) a.1)
 
-  all_reached : (n : ℕ) (w : List ℕ) → Searched tree n → Along (IsStep tree back primary) n w → AllReached (Searched tree) (n ∷ w)
+  all_reached : (n : ℕ) (w : List ℕ) → IsAsked tree n → Along (IsStep tree back primary) n w → AllReached (IsAsked tree) (n ∷ w)
   all_reached n [] s a = (s, tt)
-  all_reached n (m ∷ w) s a = (s, all_reached m w (step_searched tree is_tree back primary n m s a.0) a.1)
+  all_reached n (m ∷ w) s a = (s, all_reached m w (step_searched tree is_tree back primary n m s.0 a.0, step_inside tree is_tree back primary n m a.0) a.1)
 
-  module _ (extent : Extent) (table : ℕ → ℕ → Bool) (p : Pattern ℕ) (r : Pattern (ℕ → Value)) (is : Tabled table (Searched tree) p r) (n : ℕ) (s : Searched tree n) where
+  module _ (extent : Extent) (table : ℕ → ℕ → Bool) (p : Pattern ℕ) (r : Pattern (ℕ → Value)) (is : Tabled table (IsAsked tree) p r) (n : ℕ) (s : IsAsked tree n) where
     abbrev test : List ℕ → Bool
     test w = allows extent (length w) && spells (λ v m. holds (v m)) r w
 
     listed : (len : ℕ) → Line table Edge p n len × (allows extent len ≡ true) → IsListed test (paths tree back primary n) len
     listed len l =
         let w = l.0.0 in
-        let goes = along_of n w s l.0.1 in
+        let goes = along_of n w s.0 l.0.1 in
         let same : length (n ∷ w) ≡ len = sym l.0.2 in (
           n ∷ w,
           (paths_law tree is_tree back primary n (n ∷ w)).1 (record { later = w; begins = refl; goes = goes }),
           same,
           ap₂ (λ a b. a && b) (ap (allows extent) same ∙ l.1)
-              ((spelling_law (λ v m. holds (v m)) r (n ∷ w)).1 (to_values table (Searched tree) p r is (n ∷ w) (all_reached n w s goes) l.0.3)),
+              ((spelling_law (λ v m. holds (v m)) r (n ∷ w)).1 (to_values table (IsAsked tree) p r is (n ∷ w) (all_reached n w s goes) l.0.3)),
         )
 
     reached : (len : ℕ) → IsListed test (paths tree back primary n) len → Line table Edge p n len × (allows extent len ≡ true)
@@ -134,7 +138,7 @@ module _ (tree : SearchedTree) (is_tree : IsTree tree.game.nodes) (back primary 
         let same : length (n ∷ w) ≡ len = ap length (sym path.begins) ∙ l.2 in
         let passes = ap test (sym path.begins) ∙ l.3 in
         let spelled = (spelling_law (λ v m. holds (v m)) r (n ∷ w)).0 (right (allows extent (length (n ∷ w))) (spells (λ v m. holds (v m)) r (n ∷ w)) passes) in (
-          (w, follow_of n w s path.goes, sym same, from_values table (Searched tree) p r is (n ∷ w) (all_reached n w s path.goes) spelled),
+          (w, follow_of n w s.0 path.goes, sym same, from_values table (IsAsked tree) p r is (n ∷ w) (all_reached n w s path.goes) spelled),
           ap (allows extent) (sym same) ∙ left (allows extent (length (n ∷ w))) (spells (λ v m. holds (v m)) r (n ∷ w)) passes,
         )
 

@@ -1,5 +1,5 @@
 -- Lines whose atoms are answered by a table.
-use Rattle.std.specs.Prelude.{◌≡◌, ℕ, Bool, true, false, Option, Some, pos, option_map}
+use Rattle.std.specs.Prelude.{◌≡◌, ℕ, ◌<◌, Bool, true, false, Option, Some, length, pos, option_map}
 use Rattle.cq_outside.specs.Greatest.{IsGreatest}
 use Rattle.cq_outside.specs.Spelling.{Pattern, one, nothing, joined, repeated}
 use Rattle.cq_outside.specs.Ways.{Line}
@@ -11,6 +11,10 @@ use Rattle.cql_syntax.specs.declared.extents.Extent.{Extent}
 
 abbrev pub Searched : SearchedTree → ℕ → Type 0
 Searched tree n = is_searched tree.variations tree.game.nodes n ≡ true
+
+-- a searched node of the game: with variations each number is searched, also past the last node
+abbrev pub IsAsked : SearchedTree → ℕ → Type 0
+IsAsked tree n = Searched tree n × (n < length tree.game.nodes)
 
 -- Which node is above another, for each searched node that is joined to its parent: all are, or with `primary` the first children alone.
 pub record AreParents (tree : SearchedTree) (primary : Bool) (above : ℕ → Option ℕ) : Type 0 where
@@ -32,11 +36,11 @@ Tabled table Reach (joined p q) (joined r s) = Tabled table Reach p r × Tabled 
 Tabled table Reach (repeated l m p) (repeated k o r) = (l ≡ k) × (m ≡ o) × Tabled table Reach p r
 Tabled table Reach p r = ⊥
 
--- At a searched node the greatest length of a way that the table's pattern spells, and that the extent allows, is the value of the line.
+-- At a searched node of the game the greatest length of a way that the table's pattern spells, and that the extent allows, is the value of the line.
 abbrev pub LinesAreTheirs : Type 0
 LinesAreTheirs =
     (tree : SearchedTree) → IsTree tree.game.nodes → (back primary : Bool) (above : ℕ → Option ℕ) → AreParents tree primary above
-    → (extent : Extent) (table : ℕ → ℕ → Bool) (p : Pattern ℕ) (r : Pattern (ℕ → Value)) → Tabled table (Searched tree) p r
-    → (n : ℕ) → Searched tree n → (o : Option ℕ)
+    → (extent : Extent) (table : ℕ → ℕ → Bool) (p : Pattern ℕ) (r : Pattern (ℕ → Value)) → Tabled table (IsAsked tree) p r
+    → (n : ℕ) → IsAsked tree n → (o : Option ℕ)
     → IsGreatest (λ len. Line table (Joins above back) p n len × (allows extent len ≡ true)) o
     → as_number (option_map pos o) ≡ line_of tree back primary extent r n

@@ -86,6 +86,7 @@ fn is_below_by(game: &Game, n: u32, k: u32, before: &[bool]) -> bool
     }
 }
 
+/// Whether both hold.
 pub fn both(a: bool, b: bool) -> bool
     ensures { result ≡ (a && b) }
 {
