@@ -3,7 +3,7 @@
 #
 #   bench/archives.sh ARCHIVE [ROUNDS]
 #
-# Each figure is the median of ROUNDS runs (3), in megabytes of the archive a second; the ratio is cqlpgn's to pgn-extract's.
+# Each figure is the median of ROUNDS runs (3), in megabytes of the archive a second of processor time; the ratio is cqlpgn's to pgn-extract's.
 # pgn-extract is a package of Debian. CQLPGN names the program, if it isn't the one that this repository builds.
 set -eu
 archive=${1:?usage: bench/archives.sh ARCHIVE [ROUNDS]}
@@ -14,14 +14,7 @@ other=$(PATH=$PATH:/usr/games command -v pgn-extract) || { echo "pgn-extract is 
 [ -x "$program" ] || { echo "$program is missing: make install builds it" >&2; exit 1; }
 bytes=$(stat -c %s "$archive")
 
-# the median of the seconds that a command takes
-seconds() {
-  for _ in $(seq "$rounds"); do
-    from=$(date +%s.%N)
-    "$@" < "$archive" > /dev/null 2>&1 || true
-    echo "$(date +%s.%N) $from" | awk '{ printf "%.3f\n", $1 - $2 }'
-  done | sort -n | sed -n "$(((rounds + 1) / 2))p"
-}
+. "$top/bench/seconds.sh"
 
 # a line of the table: what is measured, and the seconds of both
 line() {
@@ -33,6 +26,6 @@ line() {
 
 printf '%-24s %8s %12s %8s\n' "MB/s, median of $rounds" cqlpgn pgn-extract ratio
 # no white pawn ever stands on a8, so nothing is written
-line "reading alone" "$(seconds "$program" eval 'cql() Pa8')" "$(seconds "$other" -s -r)"
+line "reading alone" "$(seconds "$rounds" "$archive" "$program" eval 'cql() Pa8')" "$(seconds "$rounds" "$archive" "$other" -s -r)"
 # the white king stands on e1 as every game from the initial position begins
-line "reading and writing" "$(seconds "$program" eval 'cql() Ke1')" "$(seconds "$other" -s)"
+line "reading and writing" "$(seconds "$rounds" "$archive" "$program" eval 'cql() Ke1')" "$(seconds "$rounds" "$archive" "$other" -s)"

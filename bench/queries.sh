@@ -1,0 +1,66 @@
+#!/usr/bin/env bash
+# Measures what queries cost over an archive, beside reading alone, in one run.
+#
+#   bench/queries.sh ARCHIVE [ROUNDS]
+#
+# Each figure is the median of the processor seconds of ROUNDS runs (3). A query's cost is its seconds less those of reading alone by the same
+# program, as a multiple of those of reading alone by the program that BASE names (the same one, if BASE is not set). CQLPGN names the program,
+# if it isn't the one that this repository builds. Where pgn-extract (a package of Debian) is installed, four searches of its own are measured too.
+set -eu
+archive=${1:?usage: bench/queries.sh ARCHIVE [ROUNDS]}
+rounds=${2:-3}
+top=$(cd "$(dirname "$0")/.." && pwd)
+program=${CQLPGN:-$top/crates/cqlpgn/out/cqlpgn}
+base=${BASE:-$program}
+other=$(PATH=$PATH:/usr/games command -v pgn-extract) || other=
+[ -x "$program" ] || { echo "$program is missing: make install builds it" >&2; exit 1; }
+. "$top/bench/seconds.sh"
+
+# no white pawn ever stands on a8, so every game is read and none is written
+reading=$(seconds "$rounds" "$archive" "$program" eval 'cql() Pa8')
+unit=$(seconds "$rounds" "$archive" "$base" eval 'cql() Pa8')
+printf 'reading alone: %s s, by the program of BASE %s s\n\n%8s %8s  %s\n' "$reading" "$unit" seconds cost query
+
+while read -r query; do
+  taken=$(seconds "$rounds" "$archive" "$program" eval "$query")
+  awk -v t="$taken" -v r="$reading" -v u="$unit" -v q="$query" 'BEGIN { printf "%8.3f %8.2f  %s\n", t, (t - r) / u, q }'
+done <<'QUERIES'
+cql() mate
+cql() stalemate
+cql() flipcolor { mate N attacks k not (anydirection 1 k & ~a) }
+cql() flipcolor { mate [RQ]a-h8 attacks ka-h8 not ((southwest 1 k | down 1 k | southeast 1 k) & ~p) }
+cql() flipcolor move promote [RBN]
+cql() flipcolor move from Pa-h5 to a-h6 capture pa-h5
+cql() flipcolor { btm #(A attacks k) >= 2 }
+cql() flipcolor { btm check N attacks q }
+cql() flipcolor line --> { btm check } --> wtm --> { btm check } --> wtm --> { btm check }
+cql() (line --> check+) >= 2
+cql() initial find move from Ke1 to g1 find move from ke8 to c8
+cql() flipcolor line --> {move from Pa-h2} --> wtm --> ({btm move from P} --> wtm){2,5} --> {move promote A}
+cql() #[Qq] >= 3
+cql() power A - power a > 5
+cql() move capture [Qq]
+cql() square x in [RQ] {x attacks k}
+cql() flipcolor line --> ({btm B attacks k move from R} --> wtm --> {btm R attacks k} --> wtm){2,10}
+cql() initial find {check R attacks k}
+cql() find {check R attacks k}
+cql() initial #(A | a) <= 4
+cql() Pe4
+cql() { #R == 1 #r == 1 #[QBNqbn] == 0 }
+QUERIES
+
+[ -n "$other" ] || exit 0
+lists=$(mktemp -d)
+trap 'rm -rf "$lists"' EXIT
+echo 'FENPattern "*/*/*/*/4P3/*/*/*"' > "$lists/pattern"
+echo '1 RP* RP*' > "$lists/material"
+printf '\n%8s  %s\n' seconds 'pgn-extract'
+while read -r flags; do
+  # shellcheck disable=SC2086 # the flags are words
+  printf '%8.3f  %s\n' "$(seconds "$rounds" "$archive" "$other" -s $flags)" "$flags"
+done <<FLAGS
+-M
+--stalemate
+-t$lists/pattern
+-y$lists/material
+FLAGS
