@@ -1,0 +1,85 @@
+#!/usr/bin/env python3
+"""Refuses each request for memory in turn, in runs of every mode and of queries of each form.
+
+    bench/allocations.py BINARY
+
+Each run must have the status and the bytes of a run with ample memory, or status 7 and a prefix of these bytes on each stream. refuse.c beside
+this file is what refuses; cc compiles it. Outside the gate."""
+
+import os
+import subprocess
+import sys
+import tempfile
+
+HERE = os.path.dirname(os.path.abspath(__file__))
+COMPOSITE = (
+    b"\xef\xbb\xbf"
+    + b"\r\n".join(
+        [b'[Event "Rated blitz game"]', b'[Site "https://lichess.org/abcd1234"]', b'[Date "2023.05.14"]', b'[Round "-"]']
+        + ['[White "Müller"]'.encode(), b'[Black "anna"]', b'[Result "1-0"]', b'[WhiteElo "1850"]', b'[BlackElo "1799"]']
+        + [b'[TimeControl "180+2"]', b"", b"1. e4 { [%clk 0:03:00] } 1... e5 { [%clk 0:03:00] } 2. Qh5!? { [%clk 0:02:58] } 2... Nc6"]
+        + [b"{ [%clk 0:02:57] } 3. Bc4 $1 { [%clk 0:02:55] } 3... Nf6?? { [%clk 0:02:51] } 4. Qxf7# { [%clk 0:02:54] } 1-0", b""]
+    )
+)
+GAMES = b'[Event "a"]\n\n1. e4 (1. d4 d5 {x}) 1... e5 2. Nf3 Nc6 *\n1. f3 e5 2. g4 Qh4# 0-1\n1. e4 e5 2. Ke3 *\n'
+# one query of each form
+QUERIES = [
+    "Ke1", "[RQ]a-h8", "check", "mate", "ply > 2", 'event "a"', "result 0-1", "elo == 1", "not check", "#A == 16", "power A - power a > 5",
+    "light A", "find mate", "find <-- check", "child check", "parent wtm", "up 1 k", "A & light A", "A | a", "check or mate", "{wtm check}",
+    "A attacks k", "a attackedby A", "between(K k)", "max(1 #Q) == 1", "if check then mate else wtm", "square x in [RQ] {x attacks k}",
+    "line --> check", "(line --> wtm --> btm*) >= 2", "move from P capture p", "flipcolor mate", "shift {Pa2}", 'sort "p" power A', 'comment "c"',
+]  # fmt: skip
+
+
+def runs(folder):
+    """the words of each run, and its standard input"""
+    with open(os.path.join(folder, "q.cql"), "w") as f:
+        f.write('cql(variations) flipcolor {A attacks k} sort "p" power A\n')
+    with open(os.path.join(folder, "faulty.cql"), "w") as f:
+        f.write("cql() {check\n")
+    composite = 'cql(matchstring "mate") mate year == 2023 elo white > 1800'
+    yield ["eval", composite], COMPOSITE
+    yield ["eval", composite, "--workers", "2"], COMPOSITE
+    for query in QUERIES:
+        yield ["eval", "cql(variations) " + query], GAMES
+    for words in (["run", "q.cql"], ["run", "q.cql", "--workers", "2"], ["run", "faulty.cql"]):
+        yield words, GAMES
+    for words in (["explain", "q.cql"], ["check", "q.cql"], ["check", "faulty.cql"], ["eval"], ["run", "none.cql"]):
+        yield words, b""
+    yield ["selfrun", "cql() mate", "--games", "3"], b""
+    yield ["selfrun", "cql() mate", "--games", "3", "--workers", "2"], b""
+
+
+def run(words, data, folder, shim, **more):
+    environment = {"LD_PRELOAD": shim, "REQUESTS": os.path.join(folder, "requests"), **more}
+    p = subprocess.run(words, input=data, capture_output=True, cwd=folder, env=environment, timeout=60)
+    return p.returncode, p.stdout, p.stderr
+
+
+def main():
+    binary = os.path.abspath(sys.argv[1])
+    wrong, total, ample, starved = 0, 0, 0, 0
+    with tempfile.TemporaryDirectory() as folder:
+        shim = os.path.join(folder, "refuse.so")
+        subprocess.run(["cc", "-O2", "-shared", "-fPIC", os.path.join(HERE, "refuse.c"), "-o", shim, "-ldl"], check=True)
+        for words, data in runs(folder):
+            whole = run([binary] + words, data, folder, shim)
+            with open(os.path.join(folder, "requests")) as f:
+                requests = int(f.read())
+            for number in range(1, requests + 1):
+                got = run([binary] + words, data, folder, shim, REFUSE=str(number))
+                total += 1
+                if got == whole:
+                    ample += 1
+                elif got[0] == 7 and whole[1].startswith(got[1]) and whole[2].startswith(got[2]):
+                    starved += 1
+                else:
+                    wrong += 1
+                    print("WRONG", words, "request", number, got)
+            print(words, "status", whole[0], "requests", requests, flush=True)
+    print("requests refused %d: as with ample memory %d, status 7 with prefixes %d, wrong %d" % (total, ample, starved, wrong))
+    return 1 if wrong else 0
+
+
+if __name__ == "__main__":
+    sys.exit(main())
