@@ -1,13 +1,14 @@
 -- The squares of a set, and what stands on them.
 use Rattle.std.proofs.Common.{true≢false, eqb-true, eq-eqb, not, ◌&&◌, List, ◌≡◌, ℕ, ◌+◌, ◌*◌, ◌%◌, ◌^◌, ◌<◌, ◌≤◌, ◌⊎◌, inl, inr, ⊎_elim, ◌↔◌, Bool, true, false, refl, sym, ◌∙◌, subst, arith}
 use Rattle.std.specs.Prelude.{bit_or, bit_and}
-use Rattle.std.specs.Int.{bit_at, w64}
+use Rattle.std.specs.Int.{bit_at, bit_not, w64}
 use Rattle.std.proofs.lemmas.Bool.{cases_eq}
 use Rattle.std.proofs.lemmas.Nat.Bits.{bit_at_set_same, bit_at_set_other}
 use Rattle.cq_position.specs.Board.{man_at}
 use Rattle.cq_position.specs.Bitboards.{IsBitboard, bit_of}
 use Rattle.cq_position.specs.declared.men.Man.{Man}
-use Rattle.cq_bits.specs.Sets.{Has, has, IsSetOf, IsChosen, slides}
+use Rattle.cq_bits.specs.Sets.{Has, has, IsSetOf, IsChosen, slides, goes_straight, goes_diagonally}
+use Rattle.cq_sets.proofs.Marked.{marks_or, marks_not}
 use Rattle.cq_sets.proofs.Bits.{nothing_there, in_either, in_both, both_have, from_first, from_second}
 
 pub one_more : (set number : ℕ) → number < 64 → (square : ℕ) → square < 64
@@ -47,25 +48,11 @@ chosen_exactly kind men set there m k low =
     let b = bitboard_has there (λ s. kind (man_at men s)) m k low in
     ((λ h. let p = in_both set there k h in (p.0, b.0 p.1)), (λ p. both_have set there k p.0 (b.1 p.1)))
 
-pub leaps_exactly : (men : List Man) (set k : ℕ) (there : Bool) → there ≡ (has set k && not (slides (man_at men k))) → (there ≡ true) ↔ (Has set k × (slides (man_at men k) ≡ false))
-leaps_exactly men set k there e =
-    let b = both_true (has set k) (not (slides (man_at men k))) in let n = not_is (slides (man_at men k)) in
-    ((λ t. let p = b.0 (sym e ∙ t) in (has_true set k p.0, n.0 p.1)), (λ p. e ∙ b.1 ((has_exactly set k).1 p.0, n.1 p.1)))
-
--- what is attacked from one more square
-pub more_leaps : (P : ℕ → ℕ → Type 0) (reached one number : ℕ) → number < 64 → IsSetOf one (P number) → IsSetOf reached (λ t. (s : ℕ) × (s < 64) × (s < number) × P s t)
-    → IsSetOf (bit_or reached one) (λ t. (s : ℕ) × (s < 64) × (s < number + 1) × P s t)
-more_leaps P reached one number low new so_far t below = (to, from)
-  where
-    to : Has (bit_or reached one) t → (s : ℕ) × (s < 64) × (s < number + 1) × P s t
-    to h = ⊎_elim (λ old. let p = (so_far t below).0 old in let l = p.2 in (p.0, p.1, omega arith, p.3)) (λ n. (number, low, omega arith, (new t below).0 n)) (in_either reached one t h)
-
-    from : (s : ℕ) × (s < 64) × (s < number + 1) × P s t → Has (bit_or reached one) t
-    from p = ⊎_elim (λ same. from_second reached one t ((new t below).1 (subst (λ s. P s t) same p.3)))
-        (λ other. let l = p.2 in from_first reached one t ((so_far t below).1 (p.0, p.1, omega (arith, other), p.3))) (cases_eq p.0 number)
-
-pub no_leaps : (P : ℕ → ℕ → Type 0) → IsSetOf 0 (λ t. (s : ℕ) × (s < 64) × (s < 0) × P s t)
-no_leaps P t below = ((λ h. absurd (nothing_there t h)), (λ p. let l = p.2 in absurd (omega arith)))
-
-pub all_leaps : (P : ℕ → ℕ → Type 0) (reached number : ℕ) → 64 ≤ number → IsSetOf reached (λ t. (s : ℕ) × (s < 64) × (s < number) × P s t) → IsSetOf reached (λ t. (s : ℕ) × (s < 64) × P s t)
-all_leaps P reached number all so_far t below = ((λ h. let p = (so_far t below).0 h in (p.0, p.1, p.3)), (λ p. let l = p.1 in (so_far t below).1 (p.0, p.1, omega arith, p.2)))
+-- the squares of a set on which no man stands that goes along lines
+pub leapers_exactly : (men : List Man) (set a b : ℕ) → bit_or a b < 2 ^ 64 → IsBitboard a (λ k. goes_straight (man_at men k)) → IsBitboard b (λ k. goes_diagonally (man_at men k))
+    → IsSetOf (bit_and set (bit_not w64 (bit_or a b))) (λ k. Has set k × (slides (man_at men k) ≡ false))
+leapers_exactly men set a b fits straight diagonal k low =
+    let lines = marks_or a b _ _ straight diagonal in
+    let board = bitboard_has (bit_not w64 (bit_or a b)) (λ s. not (slides (man_at men s))) (marks_not (bit_or a b) (λ s. slides (man_at men s)) fits lines) k low in
+    let n = not_is (slides (man_at men k)) in
+    ((λ h. let p = in_both set (bit_not w64 (bit_or a b)) k h in (p.0, n.0 (board.0 p.1))), (λ p. both_have set (bit_not w64 (bit_or a b)) k p.0 (board.1 (n.1 p.1))))

@@ -1,10 +1,13 @@
--- What the men of a set of squares attack, and what lies between two sets.
-use Rattle.std.specs.Prelude.{◌≡◌, ℕ, ◌<◌, Bool, true, false, ◌||◌, List}
+-- What the men of a set of squares attack, which men attack it, and what lies between two sets.
+use Rattle.std.specs.Prelude.{◌≡◌, ℕ, ◌+◌, ◌<◌, Bool, true, false, ◌&&◌, ◌||◌, ◌==◌, List}
 use Rattle.cq_geometry.specs.Lines.{lies_between}
+use Rattle.cq_geometry.specs.Squares.{rank_of}
+use Rattle.cq_geometry.specs.Steps.{files_apart, is_king_step, is_knight_step}
 use Rattle.cq_position.specs.Attacks.{attacks}
 use Rattle.cq_position.specs.Board.{man_at}
 use Rattle.cq_position.specs.declared.men.Man.{Man}
-use Rattle.cq_position.specs.declared.men.Man.TheVariants.{Q, R, B, BlackQ, BlackR, BlackB}
+use Rattle.cq_position.specs.declared.men.Man.TheVariants.{K, Q, R, B, N, P, BlackK, BlackQ, BlackR, BlackB, BlackN, BlackP}
+use Rattle.cq_position.specs.Men.{same_man}
 pub use Rattle.cq_sets.specs.Sets.{Has, has, IsSetOf, IsStepped, IsSlid, reaches}
 
 -- a rook and a queen attack along their files and ranks (FIDE Laws of Chess, articles 3.3 and 3.4)
@@ -38,14 +41,22 @@ IsLeap men set from to = Has set from × (slides (man_at men from) ≡ false) ×
 abbrev pub IsAttacked : List Man → ℕ → ℕ → Type 0
 IsAttacked men set to = (from : ℕ) × (from < 64) × Has set from × (attacks men from to ≡ true)
 
--- one square is of the first set, one is of the second, and the third is strictly between them, on one file, rank or diagonal
-abbrev pub IsBetweenTwo : ℕ → ℕ → ℕ → ℕ → ℕ → Type 0
-IsBetweenTwo a b from to square = Has a from × Has b to × (lies_between from to square ≡ true)
+-- the man on this square attacks some square of the set
+abbrev pub IsAttacker : List Man → ℕ → ℕ → Type 0
+IsAttacker men set from = (to : ℕ) × (to < 64) × Has set to × (attacks men from to ≡ true)
 
--- one square is of the first set, and the other is strictly between it and some square of the second
-abbrev pub IsBetweenOne : ℕ → ℕ → ℕ → ℕ → Type 0
-IsBetweenOne a b from square = (to : ℕ) × (to < 64) × IsBetweenTwo a b from to square
+-- a king, a knight or a pawn on the second square attacks the first
+abbrev pub leaps_to : Man → ℕ → ℕ → Bool
+leaps_to man to from =
+    (((same_man man N || same_man man BlackN) && is_knight_step to from
+    || (same_man man K || same_man man BlackK) && is_king_step to from)
+    || same_man man P && ((rank_of to == rank_of from + 1) && (files_apart to from == 1)))
+    || same_man man BlackP && ((rank_of from == rank_of to + 1) && (files_apart to from == 1))
+
+-- this square is strictly between the first one and some square of the set, on one file, rank or diagonal
+abbrev pub IsBetweenOne : ℕ → ℕ → ℕ → Type 0
+IsBetweenOne b from square = (to : ℕ) × (to < 64) × Has b to × (lies_between from to square ≡ true)
 
 -- this square is strictly between some square of the first set and some square of the second
 abbrev pub IsBetween : ℕ → ℕ → ℕ → Type 0
-IsBetween a b square = (from : ℕ) × (from < 64) × IsBetweenOne a b from square
+IsBetween a b square = (from : ℕ) × (from < 64) × Has a from × IsBetweenOne b from square

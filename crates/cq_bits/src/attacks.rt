@@ -1,13 +1,12 @@
 //! What the men of a set attack.
-ghost use Rattle.std.specs.Prelude.{◌≡◌, ℕ, ◌<◌, ◌≤◌, ◌↔◌, ◌⊎◌, ◌&&◌, ◌||◌, not, true};
-ghost use Rattle.cq_bits.specs.Sets.{Has, has, IsSetOf, IsAttacked, IsChosen, IsLeap, slides};
+ghost use Rattle.std.specs.Prelude.{◌≡◌, ℕ, ◌<◌, ◌↔◌, ◌⊎◌, ◌||◌, true, false};
+ghost use Rattle.cq_bits.specs.Sets.{Has, IsSetOf, IsAttacked, IsChosen, IsLeap, slides};
 ghost use Rattle.cq_sets.specs.Bitboards.{IsBitboard};
 ghost use Rattle.cq_position.specs.Board.{man_at, stands};
 ghost use Rattle.cq_bits.specs.Kinds.{is_of_kind};
 
-use cq_geometry::Square;
 use cq_position::{Man, Men, Position, attacks_from};
-use cq_sets::{BitSet64, slide};
+use cq_sets::{BitSet64, lowest_square, slide};
 
 /// Expands to the union of the slides that are listed, each from its set in its direction.
 macro_rules! slides {
@@ -49,7 +48,7 @@ fn chosen(position: &Position, kind: Kind, among: BitSet64) -> BitSet64
 }
 
 // The squares on which this stands.
-fn standing(men: &Men, kind: Kind) -> BitSet64
+pub(crate) fn standing(men: &Men, kind: Kind) -> BitSet64
     ensures { IsBitboard result (λ square. is_of_kind kind (man_at men.now square)) }
 {
     match kind {
@@ -62,7 +61,7 @@ fn standing(men: &Men, kind: Kind) -> BitSet64
 }
 
 // The squares of either man.
-fn either_side(men: &Men, white: Man, black: Man) -> BitSet64
+pub(crate) fn either_side(men: &Men, white: Man, black: Man) -> BitSet64
     ensures { IsBitboard result (λ square. stands men.now square white || stands men.now square black) }
 {
     men.squares_of(white) | men.squares_of(black)
@@ -73,49 +72,21 @@ fn leaps(position: &Position, from: BitSet64) -> BitSet64
     ensures { IsSetOf result (λ to. (square : ℕ) × (square < 64) × IsLeap position.now.men from square to) }
 {
     let mut reached = 0;
-    for number in 0..64 {
-        reached |= leaps_from(position, from, number);
+    let leapers = leapers(position.men(), from);
+    let mut left = leapers;
+    while left != 0 {
+        let square = lowest_square(left);
+        left &= !(1 << square.number());
+        reached |= attacks_from(position, square);
     }
     reached
 }
 
-// What a king, a knight or a pawn attacks from this square, if it is one of `from`.
-fn leaps_from(position: &Position, from: BitSet64, number: u8) -> BitSet64
-    requires { number < 64 }
-    ensures { IsSetOf result (IsLeap position.now.men from number) }
+// The squares of a set on which neither a rook, a bishop nor a queen stands.
+fn leapers(men: &Men, from: BitSet64) -> BitSet64
+    ensures { IsSetOf result (λ square. Has from square × (slides (man_at men.now square) ≡ false)) }
 {
-    if is_leaper(position, from, number) {
-        attacks_from(position, Square::new(number))
-    } else {
-        0
-    }
-}
-
-// Whether the square is one of `from` and neither a rook, a bishop nor a queen stands there.
-fn is_leaper(position: &Position, from: BitSet64, number: u8) -> bool
-    requires { number < 64 }
-    ensures { result ≡ (has from number && not (slides (man_at position.now.men number))) }
-{
-    let man = position.at(Square::new(number));
-    has_square(from, number) && !(is_kind(man, Kind::Straight) || is_kind(man, Kind::Diagonal))
-}
-
-fn is_kind(man: Man, kind: Kind) -> bool
-    ensures { result ≡ is_of_kind kind man }
-{
-    match kind {
-        Kind::Nothing => man == Man::Empty,
-        Kind::Straight => matches!(man, Man::Q | Man::R | Man::BlackQ | Man::BlackR),
-        Kind::Diagonal => matches!(man, Man::Q | Man::B | Man::BlackQ | Man::BlackB),
-    }
-}
-
-/// Whether the set has the square of this number.
-pub(crate) fn has_square(set: BitSet64, number: u8) -> bool
-    requires { number < 64 }
-    ensures { result ≡ has set number }
-{
-    (set >> number) & 1 == 1
+    from & !(standing(men, Kind::Straight) | standing(men, Kind::Diagonal))
 }
 
 /// The set, with the square of this number if `there`.

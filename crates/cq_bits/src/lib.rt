@@ -1,9 +1,12 @@
-//! Sets of squares as numbers of 64 bits: slides in the eight directions, what the men of a set attack, and what lies between two sets.
+//! Sets of squares as numbers of 64 bits: slides in the eight directions, what the men of a set attack,
+//! which men attack a set, and what lies between two sets.
 #![tactic(auto)]
 
+pub mod attacking;
 pub mod attacks;
 pub mod between;
 
+pub use attacking::attackers;
 pub use attacks::attacked;
 pub use between::between_all;
 pub use cq_sets::{BitSet64, slide};

@@ -1,7 +1,7 @@
 //! Slides and sets by hand, and sets in positions from play.
 ghost use Rattle.std.specs.Prelude.{◌<◌};
 
-use cq_bits::{BitSet64, attacked, between_all, slide};
+use cq_bits::{BitSet64, attacked, attackers, between_all, slide};
 use cq_geometry::{Square, between};
 use cq_moves::{is_legal, legal_moves, play};
 use cq_position::{Position, Side, attacks_from, is_of_side, read_fen};
@@ -35,6 +35,19 @@ fn attacks_of_sets_are_those_of_their_squares(rt: HostRuntime) -> Result<(), Fai
         }
         assert_eq!(rt; attacked(&position, BitSet64::MAX), all);
     }
+    Ok(())
+}
+
+#[test]
+fn attackers_of_squares_are_those_that_attack_them(rt: HostRuntime) -> Result<(), Fail> {
+    // The queen on e2 and the pawn on d4 attack e5, the knight on c3 attacks d5; the rook stands behind the queen.
+    let position = read_fen(b"4k3/8/8/8/3P4/2N5/4Q3/4R1K1 w - - 0 1")?;
+    assert_eq!(rt; attackers(&position, 1 << 36), 1 << 27 | 1 << 12);
+    assert_eq!(rt;
+        attackers(&position, 1 << 36 | 1 << 35),
+        1 << 27 | 1 << 12 | 1 << 18
+    );
+    assert_eq!(rt; attackers(&position, 1 << 63), 0);
     Ok(())
 }
 

@@ -1,6 +1,5 @@
 pub mod Bound
 pub mod Evaluated
-pub mod Filling
 pub mod Masks
 pub mod Mates
 pub mod Ranges
@@ -9,3 +8,4 @@ pub mod Reversed
 pub mod Standing
 pub mod Tagged
 pub mod Ways
+pub mod Counted

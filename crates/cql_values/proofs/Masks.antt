@@ -17,7 +17,7 @@ use Rattle.cq_position.specs.declared.men.Man.{Man}
 use Rattle.cq_position.proofs.Marked.{marks_same}
 use Rattle.cq_symmetry.specs.Images.{is_in, is_light, mask_of, bit}
 use Rattle.cq_symmetry.proofs.Masks.{is_mask as is_mask_of}
-use Rattle.cq_bits.specs.Sets.{Has, IsSetOf, IsAttacked, IsBetween}
+use Rattle.cq_bits.specs.Sets.{Has, IsSetOf, IsAttacked, IsAttacker, IsBetween}
 use Rattle.cq_geometry.specs.Lines.{lies_between}
 use Rattle.cql_values.proofs.Ranges.{same_truth, left, right, both, some_square, square_found, same_any, any_last, any_mapped, all_mapped}
 
@@ -159,17 +159,27 @@ light_is a fits = both_is a 6172840429334713770 is_light fits (at_square (is_in 
 pub dark_is : (a : ℕ) → a < 2 ^ 64 → is_in (bit_and a 12273903644374837845) ≡ (λ s. nat_lt s 64 && (is_in a s && not (is_light s)))
 dark_is a fits = both_is a 12273903644374837845 (λ s. not (is_light s)) fits (at_square (is_in 12273903644374837845) (λ s. not (is_light s)) dark_table)
 
--- squares that some man on a set attacks
-attacked_here : (men : List Man) (set mask s : ℕ) → s < 64 → IsSetOf mask (IsAttacked men set) → is_in mask s ≡ list_any (λ t. is_in set t && attacks men t s) squares
-attacked_here men set mask s low m = same_truth (is_in mask s) (list_any (λ t. is_in set t && attacks men t s) squares)
-    (λ e. let f = (m s low).0 (has_bit mask s e) in some_square (λ t. is_in set t && attacks men t s) f.0 f.1 (both (is_in set f.0) (attacks men f.0 s) (bit_in set f.0 f.2) f.3))
-    (λ e. let f = square_found (λ t. is_in set t && attacks men t s) e in
+-- squares that are joined to some square of a set
+joined_here : (joins : ℕ → ℕ → Bool) (set mask s : ℕ) → s < 64 → IsSetOf mask (λ q. (t : ℕ) × (t < 64) × Has set t × (joins t q ≡ true))
+    → is_in mask s ≡ list_any (λ t. is_in set t && joins t s) squares
+joined_here joins set mask s low m = same_truth (is_in mask s) (list_any (λ t. is_in set t && joins t s) squares)
+    (λ e. let f = (m s low).0 (has_bit mask s e) in some_square (λ t. is_in set t && joins t s) f.0 f.1 (both (is_in set f.0) (joins f.0 s) (bit_in set f.0 f.2) f.3))
+    (λ e. let f = square_found (λ t. is_in set t && joins t s) e in
     let low' : f.k < 64 = omega (arith, f.high) in
-    bit_in mask s ((m s low).1 (f.k, low', has_bit set f.k (left (is_in set f.k) (attacks men f.k s) f.passes), right (is_in set f.k) (attacks men f.k s) f.passes)))
+    bit_in mask s ((m s low).1 (f.k, low', has_bit set f.k (left (is_in set f.k) (joins f.k s) f.passes), right (is_in set f.k) (joins f.k s) f.passes)))
 
+joined_is : (joins : ℕ → ℕ → Bool) (from set mask : ℕ) → from < 2 ^ 64 → IsSetOf mask (λ q. (t : ℕ) × (t < 64) × Has set t × (joins t q ≡ true))
+    → is_in (bit_and from mask) ≡ (λ s. nat_lt s 64 && (is_in from s && list_any (λ t. is_in set t && joins t s) squares))
+joined_is joins from set mask fits m = both_is from mask (λ s. list_any (λ t. is_in set t && joins t s) squares) fits (λ s low. joined_here joins set mask s low m)
+
+-- squares that some man on a set attacks, and those whose men attack a square of one
 pub attacked_is : (men : List Man) (from set mask : ℕ) → from < 2 ^ 64 → IsSetOf mask (IsAttacked men set)
     → is_in (bit_and from mask) ≡ (λ s. nat_lt s 64 && (is_in from s && list_any (λ t. is_in set t && attacks men t s) squares))
-attacked_is men from set mask fits m = both_is from mask (λ s. list_any (λ t. is_in set t && attacks men t s) squares) fits (λ s low. attacked_here men set mask s low m)
+attacked_is men from set mask fits m = joined_is (attacks men) from set mask fits m
+
+pub attackers_is : (men : List Man) (from set mask : ℕ) → from < 2 ^ 64 → IsSetOf mask (IsAttacker men set)
+    → is_in (bit_and from mask) ≡ (λ s. nat_lt s 64 && (is_in from s && list_any (λ t. is_in set t && attacks men s t) squares))
+attackers_is men from set mask fits m = joined_is (λ t s. attacks men s t) from set mask fits m
 
 between_here : (a b mask s : ℕ) → s < 64 → IsSetOf mask (IsBetween a b) → is_in mask s ≡ list_any (λ f. is_in a f && list_any (λ t. is_in b t && lies_between f t s) squares) squares
 between_here a b mask s low m =
@@ -177,10 +187,9 @@ between_here a b mask s low m =
     let from = λ (f : ℕ). is_in a f && list_any (to f) squares in
     same_truth (is_in mask s) (list_any from squares)
     (λ e. let g = (m s low).0 (has_bit mask s e) in
-    let h = g.2 in
-    let is = h.2 in
-    some_square from g.0 g.1 (both (is_in a g.0) (list_any (to g.0) squares) (bit_in a g.0 is.0)
-    (some_square (to g.0) h.0 h.1 (both (is_in b h.0) (lies_between g.0 h.0 s) (bit_in b h.0 is.1) is.2))))
+    let h = g.3 in
+    some_square from g.0 g.1 (both (is_in a g.0) (list_any (to g.0) squares) (bit_in a g.0 g.2)
+    (some_square (to g.0) h.0 h.1 (both (is_in b h.0) (lies_between g.0 h.0 s) (bit_in b h.0 h.2) h.3))))
     (λ e. let f = square_found from e in
     let t = square_found (to f.k) (right (is_in a f.k) (list_any (to f.k) squares) f.passes) in
     let f_low : f.k < 64 = omega (arith, f.high) in
@@ -188,15 +197,8 @@ between_here a b mask s low m =
     bit_in mask s ((m s low).1 (
       f.k,
       f_low,
-      (
-        t.k,
-        t_low,
-        (
-          has_bit a f.k (left (is_in a f.k) (list_any (to f.k) squares) f.passes),
-          has_bit b t.k (left (is_in b t.k) (lies_between f.k t.k s) t.passes),
-          right (is_in b t.k) (lies_between f.k t.k s) t.passes,
-        ),
-      ),
+      has_bit a f.k (left (is_in a f.k) (list_any (to f.k) squares) f.passes),
+      (t.k, t_low, has_bit b t.k (left (is_in b t.k) (lies_between f.k t.k s) t.passes), right (is_in b t.k) (lies_between f.k t.k s) t.passes),
     )))
 
 pub between_is : (a b mask : ℕ) → mask < 2 ^ 64 → IsSetOf mask (IsBetween a b)

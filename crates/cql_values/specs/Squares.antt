@@ -11,10 +11,6 @@ use Rattle.cq_position.specs.declared.men.Man.{Man}
 use Rattle.cq_symmetry.specs.Images.{is_in, is_square}
 use Rattle.cql_syntax.specs.Values.{worth}
 
--- a square of one set has a man that attacks a square of another
-abbrev pub attacks_some : List Man → (from to : ℕ) → ℕ → Bool
-attacks_some men from to square = is_in from square && list_any (λ t. is_in to t && attacks men square t) squares
-
 -- so many steps are allowed, and lead to a goal
 abbrev pub is_step_to : ℕ → ℕ → ℕ → Compass → ℕ → ℕ → Bool
 is_step_to m n square direction k goal =

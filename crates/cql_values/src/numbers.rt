@@ -1,16 +1,15 @@
 //! Numbers that are made of values.
-ghost use Rattle.std.specs.Prelude.{◌≡◌, Some, map, count_by, sum_by, if◌then◌else◌};
+ghost use Rattle.std.specs.Prelude.{◌≡◌, ◌≤◌, ◌||◌, ℕ, Bool, Some, map, count_by, sum_by, if◌then◌else◌};
 ghost use Rattle.std.specs.Int.{int_max, int_min};
 ghost use Rattle.cq_geometry.specs.Squares.{squares};
+ghost use Rattle.cq_position.specs.Bitboards.{IsBitboard};
+ghost use Rattle.cq_position.specs.Board.{stands};
 ghost use Rattle.cql_syntax.specs.Values as spec;
-ghost use Rattle.cq_symmetry.specs.Images.{is_in};
 ghost use Rattle.cql_values.specs.Shown.{meant, terms_meant};
 ghost use Rattle.cql_values.specs.Squares.{worth_there};
 
-use crate::sets::has_square;
 use crate::value::Value;
-use cq_geometry::Square;
-use cq_position::{Man, Position};
+use cq_position::{Man, Men, Position};
 
 /// The product of some numbers, from left to right; no value once it leaves 64 bits, or where one has none.
 pub fn product(values: &[Value]) -> Value
@@ -131,14 +130,12 @@ pub fn counted(n: u32) -> Value
     Value::Number(Some(i64::from(n)))
 }
 
+// How many squares a set has.
 fn count(set: u64) -> u32
-    ensures { result ≡ count_by (is_in set) squares }
+    ensures value { (test : ℕ → Bool) → IsBitboard set test → result ≡ count_by test squares }
+    ensures few { result ≤ 64 }
 {
-    let mut total = 0;
-    for number in 0..64 {
-        total += one_if(has_square(set, Square::new(number)));
-    }
-    total
+    set.count_ones()
 }
 
 /// 1 where something is so, else 0.
@@ -148,44 +145,26 @@ pub fn one_if(there: bool) -> u32
     if there { 1 } else { 0 }
 }
 
-/// What the men on a set are worth together.
+/// What the men on a set are worth together: a pawn 1, a knight and a bishop 3, a rook 5 and a queen 9.
 pub fn power(position: &Position, x: Value) -> Value
     ensures { meant result ≡ spec.power_of position.now.men (meant x) }
 {
-    counted(worth_of_all(position, x.squares()))
+    counted(worth_of_all(position.men(), x.squares()))
 }
 
-fn worth_of_all(position: &Position, set: u64) -> u32
-    ensures { result ≡ sum_by (worth_there position.now.men set) squares }
+fn worth_of_all(men: &Men, set: u64) -> u32
+    ensures { result ≡ sum_by (worth_there men.now set) squares }
 {
-    let mut total = 0;
-    for number in 0..64 {
-        total += worth_on(position, set, Square::new(number));
-    }
-    total
+    let minor = either_side(men, Man::N, Man::BlackN) | either_side(men, Man::B, Man::BlackB);
+    count(set & either_side(men, Man::P, Man::BlackP))
+        + 3 * count(set & minor)
+        + 5 * count(set & either_side(men, Man::R, Man::BlackR))
+        + 9 * count(set & either_side(men, Man::Q, Man::BlackQ))
 }
 
-// What the man on a square is worth, if the square is one of the set.
-fn worth_on(position: &Position, set: u64, square: Square) -> u32
-    ensures { result ≡ worth_there position.now.men set square }
+// The squares of either man.
+fn either_side(men: &Men, white: Man, black: Man) -> u64
+    ensures { IsBitboard result (λ square. stands men.now square white || stands men.now square black) }
 {
-    if has_square(set, square) {
-        worth(position.at(square))
-    } else {
-        0
-    }
-}
-
-// Pawns count 1, knights and bishops 3, rooks 5 and queens 9.
-fn worth(man: Man) -> u32
-    ensures { result ≡ spec.worth man }
-{
-    match man {
-        Man::P | Man::BlackP => 1,
-        Man::N | Man::BlackN => 3,
-        Man::B | Man::BlackB => 3,
-        Man::R | Man::BlackR => 5,
-        Man::Q | Man::BlackQ => 9,
-        Man::K | Man::BlackK | Man::Empty => 0,
-    }
+    men.squares_of(white) | men.squares_of(black)
 }

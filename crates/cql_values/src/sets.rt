@@ -1,5 +1,5 @@
 //! Sets of squares that are made of sets: bit k is square k.
-ghost use Rattle.std.specs.Prelude.{◌≡◌, ◌<◌, ◌*◌, ◌^◌, ◌%◌, ◌&&◌, bit_or, if◌then◌else◌};
+ghost use Rattle.std.specs.Prelude.{◌≡◌, ◌&&◌};
 ghost use Rattle.std.specs.List.{list_any, list_all};
 ghost use Rattle.cq_geometry.specs.Squares.{squares};
 ghost use Rattle.cq_position.specs.Attacks.{attacks};
@@ -7,12 +7,12 @@ ghost use Rattle.cq_position.specs.Bitboards.{IsBitboard};
 ghost use Rattle.cq_symmetry.specs.Images.{is_in};
 ghost use Rattle.cql_syntax.specs.Values as spec;
 ghost use Rattle.cql_values.specs.Shown.{meant};
-ghost use Rattle.cql_values.specs.Squares.{attacks_some, is_step_to};
+ghost use Rattle.cql_values.specs.Squares.{is_step_to};
 
 use crate::value::Value;
-use cq_bits::{attacked, between_all};
+use cq_bits::{attacked, attackers, between_all};
 use cq_geometry::{Compass, Square, toward};
-use cq_position::{Position, attacks_from};
+use cq_position::Position;
 
 /// The light squares: b1, d1, f1, h1, a2 and so on.
 const LIGHT: u64 = 0x55aa_55aa_55aa_55aa;
@@ -71,33 +71,7 @@ pub fn has_square(set: u64, square: Square) -> bool
 pub fn attacking(position: &Position, x: Value, y: Value) -> Value
     ensures { meant result ≡ spec.related (attacks position.now.men) (meant x) (meant y) }
 {
-    Value::Set(attackers(position, x.squares(), y.squares()))
-}
-
-fn attackers(position: &Position, from: u64, to: u64) -> u64
-    ensures { IsBitboard result (attacks_some position.now.men from to) }
-{
-    let mut mask = 0;
-    for number in 0..64 {
-        let there = is_attacker(position, from, to, Square::new(number));
-        mask = with_square(mask, number, there);
-    }
-    mask
-}
-
-// Whether a square is one of the first set and its man attacks a square of the second.
-fn is_attacker(position: &Position, from: u64, to: u64, square: Square) -> bool
-    ensures { result ≡ attacks_some position.now.men from to square }
-{
-    has_square(from, square) && attacks_from(position, square) & to != 0
-}
-
-/// A set, with the square of a number where it is there.
-pub fn with_square(mask: u64, number: u8, there: bool) -> u64
-    requires { number < 64 }
-    ensures { result ≡ (if there then bit_or mask (1 * 2 ^ number % 18446744073709551616) else mask) }
-{
-    if there { mask | 1 << number } else { mask }
+    Value::Set(x.squares() & attackers(position, y.squares()))
 }
 
 /// The squares of the first set that a man on a square of the second attacks.

@@ -1,6 +1,10 @@
-use Rattle.std.proofs.Common.{ℕ, ◌<◌}
-use Rattle.cq_bits.specs.Sets.{IsSetOf, IsLeap}
+use Rattle.std.proofs.Common.{◌≡◌, true}
+use Rattle.cq_position.specs.Attacks.{attacks}
+use Rattle.cq_bits.proofs.Gathering.{IsGathered}
 use Rattle.cq_bits.proofs.attacks.leaps.Given as goal
 
-abbrev pub invariant-loop-number : goal.invariant-loop-number
-invariant-loop-number l = IsSetOf l.reached (λ t. (s : ℕ) × (s < 64) × (s < l.number) × IsLeap l.position.men l.from s t)
+abbrev pub invariant-loop-left : goal.invariant-loop-left
+invariant-loop-left l = IsGathered (λ s t. attacks l.position.men t s ≡ true) l.leapers l.left l.reached
+
+abbrev pub decreases-loop-left : goal.decreases-loop-left
+decreases-loop-left l = l.left

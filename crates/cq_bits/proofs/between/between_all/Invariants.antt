@@ -1,6 +1,9 @@
-use Rattle.std.proofs.Common.{ℕ, ◌<◌}
-use Rattle.cq_bits.specs.Sets.{IsSetOf, IsBetweenOne}
+use Rattle.cq_bits.specs.Sets.{IsBetweenOne}
+use Rattle.cq_bits.proofs.Gathering.{IsGathered}
 use Rattle.cq_bits.proofs.between.between_all.Given as goal
 
-abbrev pub invariant-loop-from : goal.invariant-loop-from
-invariant-loop-from l = IsSetOf l.found (λ t. (s : ℕ) × (s < 64) × (s < l.from) × IsBetweenOne l.a l.b s t)
+abbrev pub invariant-loop-left : goal.invariant-loop-left
+invariant-loop-left l = IsGathered (λ s t. IsBetweenOne l.b t s) l.a l.left l.found
+
+abbrev pub decreases-loop-left : goal.decreases-loop-left
+decreases-loop-left l = l.left

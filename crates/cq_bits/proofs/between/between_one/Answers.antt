@@ -1,12 +1,23 @@
-use Rattle.cq_bits.specs.Sets.{IsBetweenTwo}
-use Rattle.cq_bits.proofs.Members.{no_leaps, more_leaps, all_leaps}
+use Rattle.std.proofs.Common.{◌≡◌, ◌<◌, ◌^◌, true, arith, rules}
+use Rattle.cq_geometry.specs.Lines.{lies_between}
+use Rattle.cq_bits.proofs.Gathering.{gathered_none, gathered_all, more, smaller}
 use Rattle.cq_bits.proofs.between.between_one.Goals as goal
 
-pub loop-to-init : goal.loop-to-init
-loop-to-init c = no_leaps (IsBetweenTwo c.args.a c.args.b c.args.from)
+pub loop-left-init : goal.loop-left-init
+loop-left-init c = gathered_none (λ s t. lies_between c.args.from t s ≡ true) c.args.b
 
-pub loop-to-preserved : goal.loop-to-preserved
-loop-to-preserved c = more_leaps (IsBetweenTwo c.args.a c.args.b c.args.from) _ _ _ c.loop-to-test.true c.between_two-found.ensures c.loop-to.invariant
+pub loop-left-smaller : goal.loop-left-smaller
+loop-left-smaller c =
+    let some : 0 < c.loop-left.left = omega arith in
+    let fits : c.loop-left.left < 2 ^ 64 = search rules in
+    smaller c.loop-left.left c.lowest_square-to.result c.number.result some fits c.lowest_square-to.ensures.value c.number.ensures.value
+
+pub loop-left-preserved : goal.loop-left-preserved
+loop-left-preserved c =
+    let some : 0 < c.loop-left.left = omega arith in
+    let fits : c.loop-left.left < 2 ^ 64 = search rules in
+    more (λ s t. lies_between c.args.from t s ≡ true) c.args.b c.loop-left.left c.loop-left.found _ c.lowest_square-to.result c.number.result
+    some fits c.lowest_square-to.ensures.value c.number.ensures.value c.between_two-found.ensures c.loop-left.invariant
 
 pub returns : goal.returns
-returns c = all_leaps (IsBetweenTwo c.args.a c.args.b c.args.from) _ _ c.loop-to-test.false c.loop-to.invariant
+returns c = gathered_all (λ s t. lies_between c.args.from t s ≡ true) c.args.b c.loop-left.left c.loop-left.found c.loop-left-test.false c.loop-left.invariant

@@ -1,6 +1,10 @@
-use Rattle.std.proofs.Common.{ℕ, ◌<◌}
-use Rattle.cq_bits.specs.Sets.{IsSetOf, IsBetweenTwo}
+use Rattle.std.proofs.Common.{◌≡◌, true}
+use Rattle.cq_geometry.specs.Lines.{lies_between}
+use Rattle.cq_bits.proofs.Gathering.{IsGathered}
 use Rattle.cq_bits.proofs.between.between_one.Given as goal
 
-abbrev pub invariant-loop-to : goal.invariant-loop-to
-invariant-loop-to l = IsSetOf l.found (λ t. (s : ℕ) × (s < 64) × (s < l.to) × IsBetweenTwo l.a l.b l.from s t)
+abbrev pub invariant-loop-left : goal.invariant-loop-left
+invariant-loop-left l = IsGathered (λ s t. lies_between l.from t s ≡ true) l.b l.left l.found
+
+abbrev pub decreases-loop-left : goal.decreases-loop-left
+decreases-loop-left l = l.left

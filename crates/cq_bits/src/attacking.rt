@@ -1,0 +1,50 @@
+//! Whose men attack the squares of a set.
+ghost use Rattle.std.specs.Prelude.{◌<◌};
+ghost use Rattle.cq_position.specs.Attacks.{attacks};
+ghost use Rattle.cq_position.specs.Board.{man_at};
+ghost use Rattle.cq_sets.specs.Bitboards.{IsBitboard};
+ghost use Rattle.cq_bits.specs.Sets.{IsSetOf, IsAttacker, leaps_to};
+
+use crate::attacks::{Kind, either_side, standing};
+use cq_geometry::Square;
+use cq_position::{Man, Men, Position};
+use cq_sets::{
+    BitSet64, king_steps, knight_steps, lowest_square, slanted_squares, steps_down, steps_up,
+    straight_squares,
+};
+
+/// The squares on which a man stands that attacks a square of `to` (FIDE Laws of Chess, articles 3.1 to 3.8).
+pub fn attackers(position: &Position, to: BitSet64) -> BitSet64
+    ensures { IsSetOf result (IsAttacker position.now.men to) }
+{
+    let mut found = 0;
+    let mut left = to;
+    while left != 0 {
+        let square = lowest_square(left);
+        left &= !(1 << square.number());
+        found |= attackers_of(position.men(), square);
+    }
+    found
+}
+
+// The squares on which a man stands that attacks a square: each is seen from there as it sees it.
+fn attackers_of(men: &Men, square: Square) -> BitSet64
+    requires { square < 64 }
+    ensures { IsBitboard result (λ from. attacks men.now from square) }
+{
+    let empty = men.squares_of(Man::Empty);
+    let straight = standing(men, Kind::Straight) & straight_squares(square, empty);
+    let diagonal = standing(men, Kind::Diagonal) & slanted_squares(square, empty);
+    straight | diagonal | leapers_of(men, square)
+}
+
+// The squares on which a king, a knight or a pawn stands that attacks a square.
+fn leapers_of(men: &Men, square: Square) -> BitSet64
+    requires { square < 64 }
+    ensures { IsBitboard result (λ from. leaps_to (man_at men.now from) square from) }
+{
+    either_side(men, Man::N, Man::BlackN) & knight_steps(square)
+        | either_side(men, Man::K, Man::BlackK) & king_steps(square)
+        | men.squares_of(Man::P) & steps_down(square)
+        | men.squares_of(Man::BlackP) & steps_up(square)
+}
