@@ -1,15 +1,20 @@
 -- How a list of games is cut into batches.
-use Rattle.std.specs.Prelude.{ℕ, ◌^◌, Bool, ◌||◌, List, [], ◌∷◌, ◌++◌, length, sum_by, nat_le, if◌then◌else◌}
+use Rattle.std.specs.Prelude.{ℕ, Bool, ◌||◌, List, [], ◌∷◌, ◌++◌, length, sum_by, nat_le, if◌then◌else◌}
 use Rattle.std.specs.List.{flat_map}
+use Rattle.pgn_reader.specs.Limits.{longest}
 use Rattle.cq_shards.specs.Kept.{KeptGames}
 
 -- how many bytes are kept of some games
 abbrev pub size_of : KeptGames → ℕ
 size_of games = sum_by (λ g. length g.bytes) games
 
--- so many games, of which so many bytes are kept, fill a batch
+-- how many games fill a batch
+abbrev pub most_games : ℕ
+most_games = 1024
+
+-- so many games, of which so many bytes are kept, fill a batch: that many games, or as many bytes as one game may have
 unfoldable pub full_at : (games bytes : ℕ) → Bool
-full_at games bytes = nat_le 1024 games || nat_le (2 ^ 24) bytes
+full_at games bytes = nat_le most_games games || nat_le longest bytes
 
 abbrev pub is_full : KeptGames → Bool
 is_full games = full_at (length games) (size_of games)

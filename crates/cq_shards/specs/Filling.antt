@@ -37,7 +37,8 @@ pub record HasRead (was now : Batches) (left left_after : Option (List ℕ)) : T
 
 -- where bytes were taken, the batches given were all that the bytes before the last read fill
 abbrev pub IsNeeded : List ℕ → List ℕ → ℕ → Type 0
-IsNeeded front bytes m = 0 < length bytes → length (full_batches (closed_games (take (length (front ++ bytes) - 65536) (front ++ bytes)))) ≤ m
+IsNeeded front bytes m = 0 < length bytes
+    → length (full_batches (closed_games (take (length (front ++ bytes) - 65536) (front ++ bytes)))) ≤ m
 
 -- some reads were made, each where no full batch was there
 pub record HasFilled (was now : Batches) (left left_after : Option (List ℕ)) : Type 0 where
@@ -73,7 +74,7 @@ IsGiven front m b left (Some batch) =
     (IsNextBatch (closed_games front) m batch ⊎ (IsBatchAt (cut_games front) m batch × IsAtEnd left)) × Stands b front (m + 1)
 IsGiven front m b left None = (length (batches (cut_games front)) ≡ m) × IsAtEnd left × Stands b front m
 
--- a call that was refused by the source, or for want of memory
+-- a call that was refused by the source, or out of memory
 abbrev pub OnFault : {A F : Type 0} → Result A (Refusal F) → Type 0 → Type 0
 OnFault (Ok _) X = Unit {0}
 OnFault (Err (Fault _)) X = X

@@ -5,19 +5,22 @@ ghost use Rattle.cq_shards.specs.Kept.{KeptGames};
 ghost use Rattle.cq_shards.specs.Queues.{Fills, IsNextBatch, IsDone, GivesLast};
 
 use crate::batch::Batch;
-use crate::kept::KeptGame;
+use crate::kept::{KeptGame, LONGEST};
 use crate::state::Queue;
 use cq_outside::NoMemory;
 use std::alloc::Global;
 use std::collections::VecDeque;
 use std::mem;
 
-/// Whether so many games of so many bytes together fill a batch.
+/// How many games fill a batch.
+const MOST_GAMES: usize = 1024;
+
+/// Whether so many games of so many bytes together fill a batch: that many games, or as many bytes as one game may have.
 #[tactic(auto, unfolding(crate::specs::Batching::full_at))]
 fn is_full(games: usize, bytes: u64) -> bool
     ensures { result ≡ full_at games bytes }
 {
-    games >= 1024 || bytes >= 1 << 24
+    games >= MOST_GAMES || bytes >= LONGEST
 }
 
 impl Queue {
@@ -57,11 +60,13 @@ impl Queue {
 
     /// The next full batch.
     pub(crate) fn take_full(&mut self) -> Option<Batch>
-        ensures some { IfSome result (λ batch. (games : KeptGames) (m : ℕ) → Fills self.old games m → IsNextBatch games m batch × Fills self.new games (m + 1)) }
+        ensures some { IfSome result (λ batch. (games : KeptGames) (m : ℕ) → Fills self.old games m
+            → IsNextBatch games m batch × Fills self.new games (m + 1)) }
         ensures first { IfSome result (λ batch. self.old.full.items ≡ batch ∷ self.new.full.items) }
         ensures none { result ≡ None → self.new.full.items ≡ [] }
         ensures empty { result ≡ None → self.old.full.items ≡ [] }
-        ensures kept { result ≡ None → (games : KeptGames) (m : ℕ) → Fills self.old games m ⊎ IsDone self.old games m → Fills self.new games m ⊎ IsDone self.new games m }
+        ensures kept { result ≡ None → (games : KeptGames) (m : ℕ) → Fills self.old games m ⊎ IsDone self.old games m
+            → Fills self.new games m ⊎ IsDone self.new games m }
     {
         self.full.pop_front()
     }
@@ -76,7 +81,8 @@ impl Queue {
 
     /// The games that fill no batch, where there are some.
     pub(crate) fn take_last(&mut self, alloc: Global) -> Option<Batch>
-        ensures { (games : KeptGames) (m : ℕ) → Fills self.old games m ⊎ IsDone self.old games m → self.old.full.items ≡ [] → GivesLast games m result self.new }
+        ensures { (games : KeptGames) (m : ℕ) → Fills self.old games m ⊎ IsDone self.old games m → self.old.full.items ≡ []
+            → GivesLast games m result self.new }
     {
         if self.open.is_empty() {
             return None;

@@ -3,14 +3,14 @@ ghost use Rattle.std.specs.Prelude.{◌≡◌, ◌+◌, ◌-◌, ◌++◌, [], �
 ghost use Rattle.cq_shards.specs.Kept.{kept};
 ghost use Rattle.cq_shards.specs.Windows.{IsInside, Shows};
 
-use crate::kept::KeptGame;
+use crate::kept::{KeptGame, LONGEST};
 use crate::state::Window;
 use cq_outside::{Bytes, NoMemory};
 use pgn_cut::Span;
 use std::alloc::Global;
 
 /// How many bytes of a game are kept at most.
-pub(crate) const MOST_KEPT: u64 = (1 << 24) + 1;
+pub(crate) const MOST_KEPT: u64 = LONGEST + 1;
 
 impl Window {
     pub(crate) fn new(alloc: Global) -> Window
@@ -34,7 +34,8 @@ impl Window {
     ) -> Result<KeptGame, NoMemory>
         requires size { at + length piece.now < 2 ^ 62 }
         requires inside { IsInside self.now at (length piece.now) span }
-        ensures { IfOk result (λ game. (archive : List ℕ) → Shows self.now archive → length archive ≡ at → game ≡ kept (archive ++ piece.now) span) }
+        ensures { IfOk result (λ game. (archive : List ℕ) → Shows self.now archive → length archive ≡ at
+            → game ≡ kept (archive ++ piece.now) span) }
     {
         let end = span.end.min(span.start + MOST_KEPT);
         let mut bytes = Bytes::new(alloc);
@@ -50,7 +51,8 @@ impl Window {
     /// A piece at the place `at` follows, and the open game begins at `place`: there in the piece, or with the window.
     pub(crate) fn go_on(&mut self, at: u64, piece: &[u8], place: u64) -> Result<(), NoMemory>
         requires size { at + length piece.now < 2 ^ 62 }
-        ensures shows { OnOk result ((archive : List ℕ) → Shows self.old archive → length archive ≡ at → Shows self.new (archive ++ piece.now)) }
+        ensures shows { OnOk result ((archive : List ℕ) → Shows self.old archive → length archive ≡ at
+            → Shows self.new (archive ++ piece.now)) }
         ensures same { place < at → self.new.from ≡ self.old.from }
         ensures moved { at ≤ place → self.new.from ≡ min place (at + length piece.now) }
     {
