@@ -165,25 +165,27 @@ fn batch_of<R: Abort>(rt: &R, alloc: Global, archive: &[u8]) -> Result<Batch, No
 fn expect_both<R: Threads + Sync + Abort>(
     rt: &R,
     alloc: Global,
+    plan: &Plan,
     at_enter: bool,
 ) -> Result<(), Fail> {
-    let plan = plan_of(alloc, b"cql() initial")?;
     let (archive, _) = archive_of(alloc, WATCHED)?;
     let batch = batch_of(rt, alloc, archive.as_slice())?;
     let watch = Watch::new(alloc, at_enter)?;
-    let answers = run_batch(rt, alloc, &plan, &batch, 2, &watch)?;
+    let answers = run_batch(rt, alloc, plan, &batch, 2, &watch)?;
     assert_eq!(rt; (answers.len(), watch.calls()), (64, (64, 64, 0)));
     Ok(())
 }
 
 #[test]
 fn two_workers_meet(rt: HostRuntime) -> Result<(), Fail> {
-    expect_both(&rt, rt.alloc(), false)
+    let plan = plan_of(rt.alloc(), b"cql() initial")?;
+    expect_both(&rt, rt.alloc(), &plan, false)
 }
 
 #[test]
 fn one_worker_takes_the_rest(rt: HostRuntime) -> Result<(), Fail> {
-    expect_both(&rt, rt.alloc(), true)
+    let plan = plan_of(rt.alloc(), b"cql() initial")?;
+    expect_both(&rt, rt.alloc(), &plan, true)
 }
 
 #[test]
@@ -202,14 +204,11 @@ fn an_empty_batch_has_no_answers(rt: HostRuntime) -> Result<(), Fail> {
 /// batches have.
 type Row<'a> = (u32, usize, u32, &'a [u32]);
 
-static ROWS: [Row<'static>; 8] = [
+static ROWS: [Row<'static>; 5] = [
     (1023, 65_536, 1, &[1023]),
     (1024, 4096, 2, &[1024]),
     (1025, 1, 3, &[1024, 1]),
-    (1025, 7, 64, &[1024, 1]),
     (2048, 7, 4, &[1024, 1024]),
-    (2048, 65_536, 3, &[1024, 1024]),
-    (2049, 4096, 1, &[1024, 1024, 1]),
     (2049, 65_536, 64, &[1024, 1024, 1]),
 ];
 
@@ -261,6 +260,7 @@ fn push_answers<R: Threads + Sync>(
 fn expect<R: Threads + Sync + Abort>(
     rt: &R,
     alloc: Global,
+    plan: &Plan,
     archive: &[u8],
     row: Row<'_>,
     want: &[u8],
@@ -269,9 +269,8 @@ fn expect<R: Threads + Sync + Abort>(
     assert!(rt; piece >= 1);
     assert!(rt; workers >= 1);
     assert!(rt; workers <= 64);
-    let plan = plan_of(alloc, b"cql() initial")?;
     let source = MemSource::new(alloc, archive, piece, &[])?;
-    let (sizes, text) = answered(rt, alloc, &plan, source, workers)?;
+    let (sizes, text) = answered(rt, alloc, plan, source, workers)?;
     let found = (sizes.as_slice(), text.as_slice() == want);
     assert_eq!(rt;
         found,
@@ -284,9 +283,10 @@ fn expect<R: Threads + Sync + Abort>(
 #[test]
 fn batches_have_their_games_and_answers(rt: HostRuntime) -> Result<(), Fail> {
     let alloc = rt.alloc();
+    let plan = plan_of(alloc, b"cql() initial")?;
     for row in ROWS.iter() {
         let (archive, text) = archive_of(alloc, row.0)?;
-        expect(&rt, alloc, archive.as_slice(), *row, text.as_slice())?;
+        expect(&rt, alloc, &plan, archive.as_slice(), *row, text.as_slice())?;
     }
     Ok(())
 }
@@ -295,6 +295,7 @@ fn batches_have_their_games_and_answers(rt: HostRuntime) -> Result<(), Fail> {
 #[test]
 fn a_long_game_fills_its_batch(rt: HostRuntime) -> Result<(), Fail> {
     let alloc = rt.alloc();
+    let plan = plan_of(alloc, b"cql() initial")?;
     let mut archive = Bytes::new(alloc);
     let mut text = Bytes::new(alloc);
     push_game(&mut archive, 0)?;
@@ -312,6 +313,7 @@ fn a_long_game_fills_its_batch(rt: HostRuntime) -> Result<(), Fail> {
         expect(
             &rt,
             alloc,
+            &plan,
             archive.as_slice(),
             (5, piece, workers, &[2, 3]),
             text.as_slice(),
