@@ -1,10 +1,10 @@
 -- Answering game by game.
-use Rattle.std.proofs.Common.{◌≡◌, ℕ, ◌+◌, ℤ, Bool, true, false, List, [], ◌∷◌, ◌++◌, map, Some, length, length-append, take, drop, get_or, ◌<◌, ◌≤◌, ◌==◌, inl, inr, arith, refl, ap, sym, ◌∙◌, append_assoc, append-nil, cond, subst, Ok, Err}
+use Rattle.std.proofs.Common.{◌≡◌, ℕ, ◌+◌, ℤ, Bool, true, false, List, [], ◌∷◌, ◌++◌, map, Some, length, length-append, take, drop, get_or, ◌<◌, ◌≤◌, ◌==◌, inl, inr, arith, refl, ap, sym, ◌∙◌, append_assoc, append-nil, cond, subst, Ok, Err, Option}
 use Rattle.std.specs.Prelude.{count_by, Result, if◌then◌else◌}
 use Rattle.std.specs.List.{flat_map}
 use Rattle.std.proofs.lemmas.Grind.{flat_map-append}
 use Rattle.std.proofs.lemmas.List.Sums.{fold-append}
-use Rattle.std.proofs.lemmas.List.{take_more, take_all, drop_more, take-append-drop}
+use Rattle.std.proofs.lemmas.List.{length-take, take_all}
 use Rattle.cq_outside.specs.Flow.{Grew}
 use Rattle.cq_outside.specs.declared.faults.Failed.{Failed}
 use Rattle.cq_outside.specs.declared.faults.Refusal.{Refusal}
@@ -12,26 +12,28 @@ use Rattle.cq_outside.specs.declared.faults.Refusal.TheVariants.{Fault, NoMemory
 use Rattle.cq_position.specs.Games.{Game}
 use Rattle.pgn_export.specs.Export.{export_text}
 use Rattle.pgn_cut.specs.declared.span.Span.{Span}
-use Rattle.pgn_cut.specs.Cut.{cut}
-use Rattle.pgn_cut.specs.Joined.{game_bytes}
 use Rattle.pgn_reader.specs.declared.fault.GameFault.{GameFault}
-use Rattle.pgn_reader.specs.Verdict.{IsRead}
 use Rattle.cq_run.specs.Sorts.{have_sort}
 use Rattle.cq_report.specs.Games.{fault_line}
-use Rattle.cq_shards.specs.declared.answers.Answer.TheVariants.{Match}
+use Rattle.cq_shards.specs.declared.answers.Answer.{Answer}
+use Rattle.cq_shards.specs.declared.answers.Answer.TheVariants.{Refused, Miss, Match}
 use Rattle.cq_shards.specs.declared.answers.GameAnswer.{GameAnswer}
 use Rattle.cq_run.specs.declared.status.Status.{Status}
 use Rattle.cq_run.specs.declared.status.Status.TheVariants.{Done, DoneWithRefusals, QueryRefused, WordsRefused, OpenFault, ReadFault, WriteFault, NoMemory, ArchiveTooLong}
 use Rattle.cq_run.specs.declared.tally.Tally.{Tally}
-use Rattle.cq_run.specs.Outcomes.{Outcome, AreRead, HasGames}
+use Rattle.cq_run.specs.Asking.{AreAnswers, texts_of, texts_so_far, written}
+use Rattle.cq_shards.specs.Answers.{found_in, answer_of, answers_from}
+use Rattle.cq_shards.specs.Outcomes.{Outcome}
+use Rattle.cq_run.specs.Outcomes.{AreRead}
 use Rattle.cql_syntax.specs.Hits.{marked, keys}
 use Rattle.cql_syntax.specs.Trees.{QueryTree}
-use Rattle.cq_run.specs.Answer.{has_match, tally_of, report_of, export_if, fault_if, fault_lines, is_match, is_refused, summary_of}
+use Rattle.cq_shards.specs.Answers.{has_match}
+use Rattle.cq_run.specs.Answer.{tally_of, report_of, export_if, fault_if, fault_lines, is_match, is_refused, summary_of}
 use Rattle.cq_run.specs.Exports.{AreExports, exports_of, match_if, matches_from}
 use Rattle.cq_shards.specs.Order.{values_in}
-use Rattle.cq_run.specs.Promise.{SinkView, Sinks, WritesPrefix, WritesWhole, WritesPart, TakesPart, IsUnwritten, NoWriteFailed, OneSinkFailed, sinks_of}
-use Rattle.cq_run.specs.Writing.{WritesText, WritesKept, InOrder, AnswersGame, AnswersArchive, WritesSummary, Stand, stand_of, onward, tallied, written, kept_if, texts_of_game}
-use Rattle.cq_run.proofs.Exports.{matches_more, written_none, first_none, only_values, unsorted_exports, sorted_exports, none_ordered}
+use Rattle.cq_run.specs.Promise.{SinkView, Sinks, Texts, Writes, WritesPrefix, WritesSome, WritesAll, WritesPart, Unfinished, IsUnwritten, NoWriteFailed, OneSinkFailed, sinks_of}
+use Rattle.cq_run.specs.Writing.{WritesText, WritesFault, WritesKept, InOrder, AnswersGame, AnswersSome, FoundSoFar, WritesAnswer, WritesSummary, Stand, stand_of, onward, tallied, kept_if, kept_from, texts_of_game}
+use Rattle.cq_run.proofs.Exports.{matches_more, written_none, unsorted_exports, sorted_exports, none_ordered}
 use Rattle.cq_run.proofs.Sinks.{unwritten, wrote_none, grew_on, Took, took_count, took_on, took_front, prefix_of, fails_after, none_after}
 
 fault_lines_on : (n : ℕ) (rs ss : List Outcome) → fault_lines n (rs ++ ss) ≡ fault_lines n rs ++ fault_lines (n + length rs) ss
@@ -86,38 +88,54 @@ pub matched_tally : (query : QueryTree) (game : Game) (before : Tally) → has_m
 matched_tally query game before some = same_tally _ _ _ _ _ _ refl (ap (λ b. before.matched + cond b 1 0) (sym some)) (omega (arith))
 
 -- some nodes are not none
-pub some_in : (ns : List ℕ) → (length ns == 0) ≡ false → ns ≡ [] → ⊥
-some_in [] some none = cc
-some_in (n ∷ ns) some none = cc
+-- ---- the answer of one game
 
--- a game that does not match is counted, and nothing is written or kept
-pub unmatched : (sorted : Bool) (query : QueryTree) (game : Game) (before after : Tally) (ks : List GameAnswer) (out err : SinkView) → has_match query game ≡ false
+no_match : (b : Bool) (text : List ℕ) (values : List ℤ) → cond b (Match text values) Miss ≡ Miss → b ≡ false
+no_match true text values e = absurd cc
+no_match false text values e = refl
+
+pub is_no_match : (query : QueryTree) (r : Outcome) → Miss ≡ found_in query r → is_match query r ≡ false
+is_no_match query (Ok game) e = no_match (has_match query game) (export_text (marked query game)) (values_in (keys query game)) (sym e)
+is_no_match query (Err fault) e = refl
+
+-- a game that is missed is counted, and nothing is written or kept
+pub missed : (sorted : Bool) (query : QueryTree) (r : Outcome) (before after : Tally) (ks : List GameAnswer) (out err : SinkView) → Miss ≡ found_in query r
     → after ≡ tally_with (before.games + 1) before.matched before.refused
-    → AnswersGame sorted query (λ outcome. outcome ≡ Ok game) (stand_of before ks) (stand_of after ks) (sinks_of out out err err) (Ok tt)
-unmatched sorted query game before after ks out err none e = (
-  Ok game,
-  refl,
-  same_stand _ _ _ _
-      (e ∙ same_tally _ _ _ _ _ _ refl (let m : before.matched ≡ before.matched + 0 = omega arith in m ∙ ap (λ b. before.matched + cond b 1 0) (sym none)) (omega arith))
-      (sym (append-nil ks) ∙ ap (λ more. ks ++ more) (sym (nothing_kept sorted query before.games game none))),
-  record { out = subst (Grew out.taken out.taken) (sym (nothing_written sorted query game none)) (unwritten out.taken); err = unwritten err.taken },
-  record { out = refl; err = refl },
-)
+    → AnswersGame sorted query r (stand_of before ks) (stand_of after ks) (sinks_of out out err err) (Ok tt)
+missed sorted query (Ok game) before after ks out err is e =
+    let none = is_no_match query (Ok game) is in (
+      same_stand _ _ _ _
+          (e ∙ same_tally _ _ _ _ _ _ refl (let m : before.matched ≡ before.matched + 0 = omega arith in m ∙ ap (λ b. before.matched + cond b 1 0) (sym none)) (omega arith))
+          (sym (append-nil ks) ∙ ap (λ more. ks ++ more) (sym (nothing_kept sorted query before.games game none))),
+      record { out = subst (Grew out.taken out.taken) (sym (nothing_written sorted query game none)) (unwritten out.taken); err = unwritten err.taken },
+      record { out = refl; err = refl },
+    )
+missed sorted query (Err fault) before after ks out err is e = absurd cc
 
--- a game that matches is counted, and its export is written
-pub matched : (query : QueryTree) (game : Game) (before after : Tally) (ks : List GameAnswer) (out out' err : SinkView) (text : List ℕ) (result : Result (Unit {0}) (Refusal Failed))
+pub record IsFound (query : QueryTree) (r : Outcome) (text : List ℕ) : Type 0 where
+  pub game : Game
+  pub is : r ≡ Ok game
+  pub some : has_match query game ≡ true
+  pub text_is : text ≡ export_text (marked query game)
+
+found_if : (query : QueryTree) (game : Game) (b : Bool) (text : List ℕ) (values : List ℤ) → has_match query game ≡ b
+    → Match text values ≡ cond b (Match (export_text (marked query game)) (values_in (keys query game))) Miss → IsFound query (Ok game) text
+found_if query game true text values some e = record { game = game; is = refl; some = some; text_is = cc }
+found_if query game false text values some e = absurd cc
+
+pub is_found : (query : QueryTree) (r : Outcome) (text : List ℕ) (values : List ℤ) → Match text values ≡ found_in query r → IsFound query r text
+is_found query (Ok game) text values e = found_if query game (has_match query game) text values refl e
+is_found query (Err fault) text values e = absurd cc
+
+matched_game : (query : QueryTree) (game : Game) (before after : Tally) (ks : List GameAnswer) (out out' err : SinkView) (text : List ℕ) (result : Result (Unit {0}) (Refusal Failed))
     → has_match query game ≡ true → after ≡ tally_with (before.games + 1) (before.matched + 1) before.refused → text ≡ export_text (marked query game)
-    → WritesText text out out' result → AnswersGame false query (λ outcome. outcome ≡ Ok game) (stand_of before ks) (stand_of after ks) (sinks_of out out' err err) result
-matched query game before after ks out out' err text (Ok _) some e is wrote = (
-  Ok game,
-  refl,
+    → WritesText text out out' result → AnswersGame false query (Ok game) (stand_of before ks) (stand_of after ks) (sinks_of out out' err err) result
+matched_game query game before after ks out out' err text (Ok _) some e is wrote = (
   same_stand _ _ _ _ (e ∙ matched_tally query game before some) (sym (append-nil ks)),
   record { out = subst (Grew out.taken out'.taken) (is ∙ sym (all_written query game some)) wrote.0; err = unwritten err.taken },
   record { out = wrote.1; err = refl },
 )
-matched query game before after ks out out' err text (Err (Fault _)) some e is wrote = (
-  Ok game,
-  refl,
+matched_game query game before after ks out out' err text (Err (Fault _)) some e is wrote = (
   record {
     out_count = wrote.0.0;
     err_count = 0;
@@ -126,23 +144,38 @@ matched query game before after ks out out' err text (Err (Fault _)) some e is w
   },
   inl (wrote.1, refl),
 )
-matched query game before after ks out out' err text (Err IsNoMemory) some e is wrote = absurd wrote
+matched_game query game before after ks out out' err text (Err IsNoMemory) some e is wrote = absurd wrote
+
+-- a game that matches is counted, and its export is written
+pub matched : (query : QueryTree) (r : Outcome) (before after : Tally) (ks : List GameAnswer) (out out' err : SinkView) (text : List ℕ) (values : List ℤ)
+    (result : Result (Unit {0}) (Refusal Failed)) → Match text values ≡ found_in query r → after ≡ tally_with (before.games + 1) (before.matched + 1) before.refused
+    → WritesText text out out' result → AnswersGame false query r (stand_of before ks) (stand_of after ks) (sinks_of out out' err err) result
+matched query r before after ks out out' err text values result is e wrote =
+    let found = is_found query r text values is in
+    subst (λ (q : Outcome). AnswersGame false query q (stand_of before ks) (stand_of after ks) (sinks_of out out' err err) result) (sym found.is)
+    (matched_game query found.game before after ks out out' err text result found.some e found.text_is wrote)
 
 -- or it is kept
-pub kept_back : (query : QueryTree) (game : Game) (before after : Tally) (ks ls : List GameAnswer) (out err : SinkView) (text : List ℕ) (values : List ℤ) (number : ℕ)
-    → has_match query game ≡ true → after ≡ tally_with (before.games + 1) (before.matched + 1) before.refused → text ≡ export_text (marked query game)
-    → map Some values ≡ keys query game → number ≡ before.games → ls ≡ ks ++ record { index = number; what = Match text values } ∷ []
-    → AnswersGame true query (λ outcome. outcome ≡ Ok game) (stand_of before ks) (stand_of after ls) (sinks_of out out err err) (Ok tt)
-kept_back query game before after ks ls out err text values number some e is keyed at grown =
-    let values_are : values ≡ values_in (keys query game) = sym (only_values values) ∙ ap values_in keyed in
-    let one : ◌≡◌ {A = GameAnswer} (record { index = number; what = Match text values }) (match_of query before.games game) = cc (at, is, values_are) in (
-      Ok game,
-      refl,
+kept_game : (query : QueryTree) (game : Game) (before after : Tally) (ks ls : List GameAnswer) (out err : SinkView) (a : GameAnswer)
+    → has_match query game ≡ true → after ≡ tally_with (before.games + 1) (before.matched + 1) before.refused → a ≡ answer_of query before.games (Ok game) → ls ≡ ks ++ a ∷ []
+    → AnswersGame true query (Ok game) (stand_of before ks) (stand_of after ls) (sinks_of out out err err) (Ok tt)
+kept_game query game before after ks ls out err a some e is grown =
+    let what : found_in query (Ok game) ≡ Match (export_text (marked query game)) (values_in (keys query game)) =
+    ap (λ b. cond b (Match (export_text (marked query game)) (values_in (keys query game))) Miss) some in
+    let one : a ≡ match_of query before.games game = is ∙ ap (λ w. record { index = before.games; what = w }) what in (
       same_stand _ _ _ _ (e ∙ matched_tally query game before some)
-          (grown ∙ ap (λ a. ks ++ a ∷ []) one ∙ ap (λ more. ks ++ more) (sym (all_kept query before.games game some))),
+          (grown ∙ ap (λ x. ks ++ x ∷ []) one ∙ ap (λ more. ks ++ more) (sym (all_kept query before.games game some))),
       record { out = unwritten out.taken; err = unwritten err.taken },
       record { out = refl; err = refl },
     )
+
+pub kept_back : (query : QueryTree) (r : Outcome) (before after : Tally) (ks ls : List GameAnswer) (out err : SinkView) (a : GameAnswer) (text : List ℕ) (values : List ℤ)
+    → a.what ≡ Match text values → a ≡ answer_of query before.games r → after ≡ tally_with (before.games + 1) (before.matched + 1) before.refused → ls ≡ ks ++ a ∷ []
+    → AnswersGame true query r (stand_of before ks) (stand_of after ls) (sinks_of out out err err) (Ok tt)
+kept_back query r before after ks ls out err a text values what is e grown =
+    let found = is_found query r text values (sym what ∙ ap (λ (x : GameAnswer). x.what) is) in
+    subst (λ (q : Outcome). AnswersGame true query q (stand_of before ks) (stand_of after ls) (sinks_of out out err err) (Ok tt)) (sym found.is)
+    (kept_game query found.game before after ks ls out err a found.some e (is ∙ ap (answer_of query before.games) found.is) grown)
 
 none_written : (sorted : Bool) (query : QueryTree) (fault : GameFault) → written sorted query (Err fault) ≡ []
 none_written true query fault = refl
@@ -152,36 +185,42 @@ none_kept : (sorted : Bool) (query : QueryTree) (number : ℕ) (fault : GameFaul
 none_kept true query number fault = refl
 none_kept false query number fault = refl
 
--- a faulty game is counted, and its line is written
-pub refused : (sorted : Bool) (query : QueryTree) (fault : GameFault) (before after : Tally) (ks : List GameAnswer) (out err err' : SinkView) (text : List ℕ)
-    (result : Result (Unit {0}) (Refusal Failed)) → after ≡ tally_with (before.games + 1) before.matched (before.refused + 1) → text ≡ fault_line (before.games + 1) fault
-    → WritesText text err err' result
-    → AnswersGame sorted query (λ outcome. outcome ≡ Err fault) (stand_of before ks) (stand_of after ks) (sinks_of out out err err') result
-refused sorted query fault before after ks out err err' text (Ok _) e is wrote = (
-  Err fault,
-  refl,
+refused_game : (sorted : Bool) (query : QueryTree) (fault : GameFault) (before after : Tally) (ks : List GameAnswer) (out err err' : SinkView) (number : ℕ)
+    (result : Result (Unit {0}) (Refusal Failed)) → after ≡ tally_with (before.games + 1) before.matched (before.refused + 1) → number ≡ before.games + 1
+    → WritesFault number fault err err' result
+    → AnswersGame sorted query (Err fault) (stand_of before ks) (stand_of after ks) (sinks_of out out err err') result
+refused_game sorted query fault before after ks out err err' number (Ok _) e is wrote = (
   same_stand _ _ _ _ (e ∙ same_tally _ _ _ _ _ _ refl (omega arith) refl) (sym (append-nil ks) ∙ ap (λ more. ks ++ more) (sym (none_kept sorted query before.games fault))),
-  record { out = subst (Grew out.taken out.taken) (sym (none_written sorted query fault)) (unwritten out.taken); err = subst (Grew err.taken err'.taken) is wrote.0 },
+  record {
+    out = subst (Grew out.taken out.taken) (sym (none_written sorted query fault)) (unwritten out.taken);
+    err = subst (λ n. Grew err.taken err'.taken (fault_line n fault)) is wrote.0;
+  },
   record { out = refl; err = wrote.1 },
 )
-refused sorted query fault before after ks out err err' text (Err (Fault _)) e is wrote = (
-  Err fault,
-  refl,
-  record { out_count = 0; err_count = wrote.0.0; out = unwritten out.taken; err = subst (λ l. Grew err.taken err'.taken (take wrote.0.0 l)) is wrote.0.1 },
+refused_game sorted query fault before after ks out err err' number (Err (Fault _)) e is wrote = (
+  record { out_count = 0; err_count = wrote.0.0; out = unwritten out.taken; err = subst (λ n. Grew err.taken err'.taken (take wrote.0.0 (fault_line n fault))) is wrote.0.1 },
   inr (wrote.1, refl),
 )
-refused sorted query fault before after ks out err err' text (Err IsNoMemory) e is wrote = absurd wrote
+refused_game sorted query fault before after ks out err err' number (Err IsNoMemory) e is wrote = record { out = refl; err = wrote }
 
--- a game that is read as an outcome is answered by this outcome
-pub read_as : (sorted : Bool) (query : QueryTree) (Reads : Outcome → Type 0) (r : Outcome) (before after : Stand) (sinks : Sinks) (result : Result (Unit {0}) (Refusal Failed)) → Reads r
-    → AnswersGame sorted query (λ outcome. outcome ≡ r) before after sinks result → AnswersGame sorted query Reads before after sinks result
-read_as sorted query Reads r before after sinks (Ok _) reads (outcome, is, counts, writes, unfailed) = (outcome, subst Reads (sym is) reads, counts, writes, unfailed)
-read_as sorted query Reads r before after sinks (Err (Fault _)) reads (outcome, is, writes, failed) = (outcome, subst Reads (sym is) reads, writes, failed)
-read_as sorted query Reads r before after sinks (Err IsNoMemory) reads same = same
+faulty_if : (b : Bool) (fault : GameFault) (text : List ℕ) (values : List ℤ) → Refused fault ≡ cond b (Match text values) Miss → ⊥
+faulty_if true fault text values e = cc
+faulty_if false fault text values e = cc
 
--- the games that are kept, of these with this number and the next ones
-abbrev pub kept_from : (sorted : Bool) → QueryTree → ℕ → List Outcome → List GameAnswer
-kept_from sorted query number outcomes = if sorted then matches_from query number outcomes else []
+pub is_faulty : (query : QueryTree) (r : Outcome) (fault : GameFault) → Refused fault ≡ found_in query r → r ≡ Err fault
+is_faulty query (Ok game) fault e = absurd (faulty_if (has_match query game) fault (export_text (marked query game)) (values_in (keys query game)) e)
+is_faulty query (Err other) fault e = cc
+
+-- a faulty game is counted, and its line is written
+pub refused : (sorted : Bool) (query : QueryTree) (r : Outcome) (fault : GameFault) (before after : Tally) (ks : List GameAnswer) (out err err' : SinkView) (number : ℕ)
+    (result : Result (Unit {0}) (Refusal Failed)) → Refused fault ≡ found_in query r → after ≡ tally_with (before.games + 1) before.matched (before.refused + 1)
+    → number ≡ before.games + 1 → WritesFault number fault err err' result
+    → AnswersGame sorted query r (stand_of before ks) (stand_of after ks) (sinks_of out out err err') result
+refused sorted query r fault before after ks out err err' number result is e count wrote =
+    subst (λ (q : Outcome). AnswersGame sorted query q (stand_of before ks) (stand_of after ks) (sinks_of out out err err') result) (sym (is_faulty query r fault is))
+    (refused_game sorted query fault before after ks out err err' number result e count wrote)
+
+-- ---- the answers of games
 
 kept_none : (sorted : Bool) (query : QueryTree) (n : ℕ) → kept_from sorted query n [] ≡ []
 unfolding matches_from
@@ -194,33 +233,6 @@ kept_on false query rs r = refl
 kept_on true query rs r =
     let e : length rs ≡ 0 + length rs = omega arith in
     ap (λ k. matches_from query 0 rs ++ match_if query k r) e ∙ matches_more query 0 rs r
-
--- the first games of an archive are answered: counted, and written
-pub record FoundSoFar (sorted : Bool) (query : QueryTree) (archive : List ℕ) (spans : List Span) (count : ℕ) (sinks : Sinks) (stand : Stand) : Type 0 where
-  pub outcomes : List Outcome
-  pub are_read : AreRead archive (take count spans) outcomes
-  pub counted : length outcomes ≡ count
-  pub is : stand ≡ stand_of (tally_of query outcomes) (kept_from sorted query 0 outcomes)
-  pub out : Grew sinks.out.taken sinks.out_after.taken (flat_map (written sorted query) outcomes)
-  pub err : Grew sinks.err.taken sinks.err_after.taken (fault_lines 1 outcomes)
-  pub unfailed : NoWriteFailed sinks
-
-pub none_found : (sorted : Bool) (query : QueryTree) (archive : List ℕ) (spans : List Span) (out err : SinkView) → FoundSoFar sorted query archive spans 0 (sinks_of out out err err) (stand_of (tally_with 0 0 0) [])
-none_found sorted query archive spans out err = record {
-  outcomes = [];
-  are_read = tt;
-  counted = refl;
-  is = same_stand _ _ _ _ refl (sym (kept_none sorted query 0));
-  out = unwritten out.taken;
-  err = subst (Grew err.taken err.taken) (sym (no_fault_lines 1)) (unwritten err.taken);
-  unfailed = record { out = refl; err = refl };
-}
-
-pub are_read_on : (archive : List ℕ) (ss ts : List Span) (rs qs : List Outcome) → AreRead archive ss rs → AreRead archive ts qs → AreRead archive (ss ++ ts) (rs ++ qs)
-are_read_on archive [] ts [] qs before after = after
-are_read_on archive [] ts (r ∷ rs) qs before after = absurd before
-are_read_on archive (s ∷ ss) ts [] qs before after = absurd before
-are_read_on archive (s ∷ ss) ts (r ∷ rs) qs before after = (before.0, are_read_on archive ss ts rs qs before.1 after)
 
 counted_more : (test : Outcome → Bool) (rs : List Outcome) (r : Outcome) → count_by test (rs ++ r ∷ []) ≡ count_by test rs + cond (test r) 1 0
 counted_more test rs r = fold-append (λ a x. a + cond (test x) 1 0) 0 rs (r ∷ [])
@@ -239,137 +251,207 @@ lines_more rs r n counted =
     (ap (λ k. fault_if k r) e ∙ sym (fault_lines_from (1 + length rs) r [] ∙ ap (λ l. fault_if (1 + length rs) r ++ l) (no_fault_lines (1 + length rs + 1)) ∙ append-nil (fault_if (1 + length rs) r)))
     ∙ sym (fault_lines_on 1 rs (r ∷ []))
 
+pub none_found : (sorted : Bool) (query : QueryTree) (out err : SinkView) → FoundSoFar sorted query [] (sinks_of out out err err) (stand_of (tally_with 0 0 0) [])
+none_found sorted query out err = record {
+  is = same_stand _ _ _ _ refl (sym (kept_none sorted query 0));
+  writes = record { out = unwritten out.taken; err = subst (Grew err.taken err.taken) (sym (no_fault_lines 1)) (unwritten err.taken) };
+  unfailed = record { out = refl; err = refl };
+}
+
 -- one more game
-pub found_more : (sorted : Bool) (query : QueryTree) (archive : List ℕ) (spans : List Span) (i : ℕ) (s : Span) (out out' out'' err err' err'' : SinkView) (stand new : Stand)
-    → i < length spans → s ≡ get_or spans i s → FoundSoFar sorted query archive spans i (sinks_of out out' err err') stand
-    → AnswersGame sorted query (IsRead s.start s.first (game_bytes archive s)) stand new (sinks_of out' out'' err' err'') (Ok tt)
-    → FoundSoFar sorted query archive spans (i + 1) (sinks_of out out'' err err'') new
-found_more sorted query archive spans i s out out' out'' err err' err'' stand new inside is so_far (r, read, counts, writes, unfailed) =
-    let rs = so_far.outcomes in
+pub found_more : (sorted : Bool) (query : QueryTree) (rs : List Outcome) (r : Outcome) (out out' out'' err err' err'' : SinkView) (stand new : Stand)
+    → FoundSoFar sorted query rs (sinks_of out out' err err') stand → AnswersGame sorted query r stand new (sinks_of out' out'' err' err'') (Ok tt)
+    → FoundSoFar sorted query (rs ++ r ∷ []) (sinks_of out out'' err err'') new
+found_more sorted query rs r out out' out'' err err' err'' stand new so_far (counts, writes, unfailed) =
     let games : stand.tally.games ≡ length rs = ap (λ (t : Stand). t.tally.games) so_far.is in
     record {
-      outcomes = rs ++ r ∷ [];
-      are_read = subst (λ ss. AreRead archive ss (rs ++ r ∷ [])) (ap (λ x. take i spans ++ x ∷ []) is ∙ sym (take_more spans i s inside))
-          (are_read_on archive (take i spans) (s ∷ []) rs (r ∷ []) so_far.are_read (read, tt));
-      counted = length-append rs (r ∷ []) ∙ ap (λ n. n + 1) so_far.counted;
       is = counts ∙ ap (λ t. onward sorted query t r) so_far.is ∙ same_stand _ _ _ _ (sym (tallied_more query rs r)) (kept_on sorted query rs r);
-      out = subst (Grew out.taken out''.taken) (exports_more sorted query rs r) (grew_on out.taken out'.taken out''.taken _ _ so_far.out writes.out);
-      err = subst (Grew err.taken err''.taken) (lines_more rs r stand.tally.games (sym games)) (grew_on err.taken err'.taken err''.taken _ _ so_far.err writes.err);
+      writes = record {
+        out = subst (Grew out.taken out''.taken) (exports_more sorted query rs r) (grew_on out.taken out'.taken out''.taken _ _ so_far.writes.out writes.out);
+        err = subst (Grew err.taken err''.taken) (lines_more rs r stand.tally.games (sym games)) (grew_on err.taken err'.taken err''.taken _ _ so_far.writes.err writes.err);
+      };
       unfailed = none_after out out' out'' err err' err'' so_far.unfailed unfailed;
     }
 
--- all games have outcomes
-abbrev pub HaveOutcomes : Type 0
-HaveOutcomes = (start : ℕ) (first : Bool) (bytes : List ℕ) → (outcome : Result Game GameFault) × IsRead start first bytes outcome
+-- ---- what is written is a prefix of what is written of more games
 
-pub record Rest (archive : List ℕ) (spans : List Span) : Type 0 where
-  pub outcomes : List Outcome
-  pub are_read : AreRead archive spans outcomes
+exports_split : (sorted : Bool) (query : QueryTree) (rs qs : List Outcome) → flat_map (written sorted query) (rs ++ qs) ≡ flat_map (written sorted query) rs ++ flat_map (written sorted query) qs
+exports_split sorted query rs qs = flat_map-append (written sorted query) rs qs
 
-pub rest_of : HaveOutcomes → (archive : List ℕ) (spans : List Span) → Rest archive spans
-rest_of have archive [] = record { outcomes = []; are_read = tt }
-rest_of have archive (s ∷ ss) =
-    let one = have s.start s.first (game_bytes archive s) in
-    let rest : Rest archive ss = rest_of have archive ss in
-    record { outcomes = one.0 ∷ rest.outcomes; are_read = (one.1, rest.are_read) }
+pub record TookBoth (sinks : Sinks) (texts : Texts) : Type 0 where
+  pub out : Took sinks.out.taken sinks.out_after.taken texts.out
+  pub err : Took sinks.err.taken sinks.err_after.taken texts.err
 
--- some games, and those after them, are all of the archive's
-all_games : (archive : List ℕ) (spans : List Span) (i : ℕ) (rs qs : List Outcome) → spans ≡ cut archive → AreRead archive (take i spans) rs → AreRead archive (drop i spans) qs
-    → HasGames archive (rs ++ qs)
-all_games archive spans i rs qs e before after =
-    subst (λ ss. AreRead archive ss (rs ++ qs)) (take-append-drop i spans ∙ e) (are_read_on archive (take i spans) (drop i spans) rs qs before after)
-
--- no memory before anything was written
-pub none_answered : HaveOutcomes → (query : QueryTree) (archive : List ℕ) (out err : SinkView) → AnswersArchive query archive (sinks_of out out err err) NoMemory
-none_answered have query archive out err =
-    let rest : Rest archive (cut archive) = rest_of have archive (cut archive) in
-    record {
-      outcomes = rest.outcomes;
-      holds = rest.are_read;
-      writes = (record { out = inl (unwritten out.taken); err_count = 0; err = unwritten err.taken }, record { out = refl; err = refl });
-    }
-
--- what was written of the exports, as games were answered
-part_out : (sorted : Bool) (query : QueryTree) (outcomes : List Outcome) (out out' : SinkView) → have_sort query.items ≡ sorted
-    → Took out.taken out'.taken (flat_map (written sorted query) outcomes) → TakesPart query outcomes out out'
-part_out true query outcomes out out' is took =
-    inl (subst (Grew out.taken out'.taken) (first_none took.part took.rest (sym took.is ∙ written_none query outcomes)) took.grew)
-part_out false query outcomes out out' is took =
-    inr (flat_map (export_if query) outcomes, unsorted_exports query outcomes is, (length took.part, prefix_of out.taken out'.taken (flat_map (export_if query) outcomes) took))
-
-writes_part : (sorted : Bool) (query : QueryTree) (outcomes : List Outcome) (sinks : Sinks) → have_sort query.items ≡ sorted
-    → Took sinks.out.taken sinks.out_after.taken (flat_map (written sorted query) outcomes) → Took sinks.err.taken sinks.err_after.taken (report_of query outcomes)
-    → WritesPart query outcomes sinks
-writes_part sorted query outcomes sinks is out err = record {
-  out = part_out sorted query outcomes sinks.out sinks.out_after is out;
-  err_count = length err.part;
-  err = prefix_of sinks.err.taken sinks.err_after.taken (report_of query outcomes) err;
+pub both_prefix : (sinks : Sinks) (texts : Texts) → TookBoth sinks texts → WritesPrefix sinks texts
+both_prefix sinks texts took = record {
+  out_count = length took.out.part;
+  err_count = length took.err.part;
+  out = prefix_of sinks.out.taken sinks.out_after.taken texts.out took.out;
+  err = prefix_of sinks.err.taken sinks.err_after.taken texts.err took.err;
 }
 
--- no memory for a game: what was written before stays
-pub out_of_memory : HaveOutcomes → (sorted : Bool) (query : QueryTree) (archive : List ℕ) (spans : List Span) (i : ℕ) (out out' out'' err err' err'' : SinkView) (stand : Stand)
-    → have_sort query.items ≡ sorted → spans ≡ cut archive → FoundSoFar sorted query archive spans i (sinks_of out out' err err') stand → IsUnwritten (sinks_of out' out'' err' err'')
-    → AnswersArchive query archive (sinks_of out out'' err err'') NoMemory
-out_of_memory have sorted query archive spans i out out' out'' err err' err'' stand sorts e so_far same =
-    let rest : Rest archive (drop i spans) = rest_of have archive (drop i spans) in
-    let before = so_far.outcomes in
-    let all = before ++ rest.outcomes in
-    let grown_out : Grew out.taken out''.taken (flat_map (written sorted query) before) = subst (λ (s : SinkView). Grew out.taken s.taken (flat_map (written sorted query) before)) (sym same.out) so_far.out in
-    let grown_err : Grew err.taken err''.taken (fault_lines 1 before) = subst (λ (s : SinkView). Grew err.taken s.taken (fault_lines 1 before)) (sym same.err) so_far.err in
-    let exports : flat_map (written sorted query) before ++ flat_map (written sorted query) rest.outcomes ≡ flat_map (written sorted query) all = sym (flat_map-append (written sorted query) before rest.outcomes) in
-    let lines : fault_lines 1 before ++ (fault_lines (1 + length before) rest.outcomes ++ summary_of (tally_of query all)) ≡ fault_lines 1 all ++ summary_of (tally_of query all) =
-    sym (append_assoc (fault_lines 1 before) (fault_lines (1 + length before) rest.outcomes) (summary_of (tally_of query all)))
-    ∙ ap (λ l. l ++ summary_of (tally_of query all)) (sym (fault_lines_on 1 before rest.outcomes)) in
-    record {
-      outcomes = all;
-      holds = all_games archive spans i before rest.outcomes e so_far.are_read rest.are_read;
-      writes = (
-        writes_part sorted query all (sinks_of out out'' err err'') sorts
-            (subst (Took out.taken out''.taken) exports (took_front out.taken out''.taken (flat_map (written sorted query) before) (flat_map (written sorted query) rest.outcomes) grown_out))
-            (subst (Took err.taken err''.taken) lines (took_front err.taken err''.taken (fault_lines 1 before) (fault_lines (1 + length before) rest.outcomes ++ summary_of (tally_of query all)) grown_err)),
-        none_after out out' out'' err err' err'' so_far.unfailed (wrote_none (sinks_of out' out'' err' err'') same),
-      );
-    }
+-- a prefix, of a text that goes on
+took_more : (a b : Option (List ℕ)) (xs more : List ℕ) → Took a b xs → Took a b (xs ++ more)
+took_more a b xs more t = record { part = t.part; rest = t.rest ++ more; is = ap (λ l. l ++ more) t.is ∙ append_assoc t.part t.rest more; grew = t.grew }
 
--- a write that failed at a game
-pub stopped : HaveOutcomes → (sorted : Bool) (query : QueryTree) (archive : List ℕ) (spans : List Span) (i : ℕ) (s : Span) (out out' out'' err err' err'' : SinkView) (stand : Stand)
-    → have_sort query.items ≡ sorted → spans ≡ cut archive → i < length spans → s ≡ get_or spans i s → FoundSoFar sorted query archive spans i (sinks_of out out' err err') stand
-    → (r : Outcome) → IsRead s.start s.first (game_bytes archive s) r → WritesPrefix (sinks_of out' out'' err' err'') (texts_of_game sorted query stand.tally.games r)
-    → OneSinkFailed (sinks_of out' out'' err' err'') → AnswersArchive query archive (sinks_of out out'' err err'') WriteFault
-stopped have sorted query archive spans i s out out' out'' err err' err'' stand sorts e inside is so_far r read writes failed =
-    let rest : Rest archive (drop (i + 1) spans) = rest_of have archive (drop (i + 1) spans) in
-    let before = so_far.outcomes in
-    let after = rest.outcomes in
-    let all = before ++ r ∷ after in
-    let games : stand.tally.games + 1 ≡ 1 + length before = let g : stand.tally.games ≡ length before = ap (λ (t : Stand). t.tally.games) so_far.is in omega (arith, g) in
-    let part : Grew err'.taken err''.taken (take writes.err_count (fault_if (1 + length before) r)) = subst (λ n. Grew err'.taken err''.taken (take writes.err_count (fault_if n r))) games writes.err in
-    let exports : flat_map (written sorted query) before ++ (written sorted query r ++ flat_map (written sorted query) after) ≡ flat_map (written sorted query) all =
-    sym (flat_map-append (written sorted query) before (r ∷ after)) in
-    let last = summary_of (tally_of query all) in
-    let lines : fault_lines 1 before ++ (fault_if (1 + length before) r ++ (fault_lines (1 + length before + 1) after ++ last)) ≡ fault_lines 1 all ++ last =
-    ap (λ l. fault_lines 1 before ++ l)
-    (sym (append_assoc (fault_if (1 + length before) r) (fault_lines (1 + length before + 1) after) last) ∙ ap (λ l. l ++ last) (sym (fault_lines_from (1 + length before) r after)))
-    ∙ sym (append_assoc (fault_lines 1 before) (fault_lines (1 + length before) (r ∷ after)) last) ∙ ap (λ l. l ++ last) (sym (fault_lines_on 1 before (r ∷ after))) in
-    record {
-      outcomes = all;
-      holds = all_games archive spans i before (r ∷ after) e so_far.are_read
-          (subst (λ ss. AreRead archive ss (r ∷ after)) (ap (λ x. x ∷ drop (i + 1) spans) is ∙ sym (drop_more spans i s inside)) (read, rest.are_read));
-      writes = (
-        fails_after out out' out'' err err' err'' so_far.unfailed failed,
-        writes_part sorted query all (sinks_of out out'' err err'') sorts
-            (subst (Took out.taken out''.taken) exports
-            (took_on out.taken out'.taken out''.taken (flat_map (written sorted query) before) (written sorted query r) (flat_map (written sorted query) after) so_far.out
-            (took_count out'.taken out''.taken (written sorted query r) writes.out_count writes.out)))
-            (subst (Took err.taken err''.taken) lines
-            (took_on err.taken err'.taken err''.taken (fault_lines 1 before) (fault_if (1 + length before) r) (fault_lines (1 + length before + 1) after ++ last) so_far.err
-            (took_count err'.taken err''.taken (fault_if (1 + length before) r) writes.err_count part))),
-      );
-    }
+pub prefix_grows : (sorted : Bool) (query : QueryTree) (rs qs : List Outcome) (sinks : Sinks) → WritesPrefix sinks (texts_so_far sorted query rs)
+    → WritesPrefix sinks (texts_so_far sorted query (rs ++ qs))
+prefix_grows sorted query rs qs sinks writes =
+    both_prefix sinks (texts_so_far sorted query (rs ++ qs)) (record {
+      out = subst (Took sinks.out.taken sinks.out_after.taken) (sym (exports_split sorted query rs qs))
+          (took_more sinks.out.taken sinks.out_after.taken (flat_map (written sorted query) rs) (flat_map (written sorted query) qs)
+          (took_count sinks.out.taken sinks.out_after.taken (flat_map (written sorted query) rs) writes.out_count writes.out));
+      err = subst (Took sinks.err.taken sinks.err_after.taken) (sym (fault_lines_on 1 rs qs))
+          (took_more sinks.err.taken sinks.err_after.taken (fault_lines 1 rs) (fault_lines (1 + length rs) qs)
+          (took_count sinks.err.taken sinks.err_after.taken (fault_lines 1 rs) writes.err_count writes.err));
+    })
 
--- all games were answered
-all_found : (sorted : Bool) (query : QueryTree) (archive : List ℕ) (spans : List Span) (i : ℕ) (sinks : Sinks) (stand : Stand) → length spans ≤ i → spans ≡ cut archive
-    → (found : FoundSoFar sorted query archive spans i sinks stand) → HasGames archive found.outcomes
-all_found sorted query archive spans i sinks stand all e found = subst (λ ss. AreRead archive ss found.outcomes) (take_all i spans all ∙ e) found.are_read
+-- all that was written of the games before, and a part of what is written of the next
+part_more : (a b c : Option (List ℕ)) (xs ys : List ℕ) (count : ℕ) → Grew a b xs → Grew b c (take count ys) → Took a c (xs ++ ys)
+part_more a b c xs ys count f g = subst (λ l. Took a c (xs ++ l)) (append-nil ys) (took_on a b c xs ys [] f (took_count b c ys count g))
+
+pub stopped_at : (sorted : Bool) (query : QueryTree) (rs : List Outcome) (r : Outcome) (out out' out'' err err' err'' : SinkView) (stand : Stand)
+    → FoundSoFar sorted query rs (sinks_of out out' err err') stand → WritesPrefix (sinks_of out' out'' err' err'') (texts_of_game sorted query stand.tally.games r)
+    → WritesPrefix (sinks_of out out'' err err'') (texts_so_far sorted query (rs ++ r ∷ []))
+stopped_at sorted query rs r out out' out'' err err' err'' stand so_far writes =
+    let games : stand.tally.games ≡ length rs = ap (λ (t : Stand). t.tally.games) so_far.is in
+    both_prefix (sinks_of out out'' err err'') (texts_so_far sorted query (rs ++ r ∷ [])) (record {
+      out = subst (Took out.taken out''.taken) (exports_more sorted query rs r)
+          (part_more out.taken out'.taken out''.taken (flat_map (written sorted query) rs) (written sorted query r) writes.out_count so_far.writes.out writes.out);
+      err = subst (Took err.taken err''.taken) (lines_more rs r stand.tally.games (sym games))
+          (part_more err.taken err'.taken err''.taken (fault_lines 1 rs) (fault_if (stand.tally.games + 1) r) writes.err_count so_far.writes.err writes.err);
+    })
+
+-- what was written of all games so far is a prefix of itself
+pub as_prefix : (sinks : Sinks) (texts : Texts) → Writes sinks texts → WritesPrefix sinks texts
+as_prefix sinks texts writes = both_prefix sinks texts (record {
+  out = subst (Took sinks.out.taken sinks.out_after.taken) (append-nil texts.out) (took_front sinks.out.taken sinks.out_after.taken texts.out [] writes.out);
+  err = subst (Took sinks.err.taken sinks.err_after.taken) (append-nil texts.err) (took_front sinks.err.taken sinks.err_after.taken texts.err [] writes.err);
+})
+
+pub unwritten_since : (out out' out'' err err' err'' : SinkView) (texts : Texts) → Writes (sinks_of out out' err err') texts → IsUnwritten (sinks_of out' out'' err' err'')
+    → Writes (sinks_of out out'' err err'') texts
+unwritten_since out out' out'' err err' err'' texts writes same = record {
+  out = subst (λ (s : SinkView). Grew out.taken s.taken texts.out) (sym same.out) writes.out;
+  err = subst (λ (s : SinkView). Grew err.taken s.taken texts.err) (sym same.err) writes.err;
+}
+
+-- ---- the answers of a batch, one by one
+
+-- the answer of the next game, after those of `ys`
+pub record IsNext (query : QueryTree) (n : ℕ) (ys : List GameAnswer) (outcomes : List Outcome) (a : GameAnswer) : Type 0 where
+  pub r : Outcome
+  pub more : List Outcome
+  pub is : outcomes ≡ take (length ys) outcomes ++ r ∷ more
+  pub step : take (length (ys ++ a ∷ [])) outcomes ≡ take (length ys) outcomes ++ r ∷ []
+  pub answer : a ≡ answer_of query (n + length ys) r
+
+next_later : (query : QueryTree) (n : ℕ) (y : GameAnswer) (ys : List GameAnswer) (r : Outcome) (rs : List Outcome) (a : GameAnswer) → IsNext query (n + 1) ys rs a → IsNext query n (y ∷ ys) (r ∷ rs) a
+next_later query n y ys r rs a next = record {
+  r = next.r;
+  more = next.more;
+  is = ap (λ l. r ∷ l) next.is;
+  step = ap (λ l. r ∷ l) next.step;
+  answer = next.answer ∙ ap (λ j. answer_of query j next.r) (let e : (n + 1) + length ys ≡ n + length (y ∷ ys) = omega arith in e);
+}
+
+pub next_of : (query : QueryTree) (n : ℕ) (ys : List GameAnswer) (a : GameAnswer) (more : List GameAnswer) (outcomes : List Outcome) → ys ++ a ∷ more ≡ answers_from query n outcomes
+    → IsNext query n ys outcomes a
+unfolding answers_from
+next_of query n [] a more [] e = absurd cc
+next_of query n [] a more (r ∷ rs) e = record {
+  r = r;
+  more = rs;
+  is = refl;
+  step = refl;
+  answer = let here : a ≡ answer_of query n r = cc in here ∙ ap (λ j. answer_of query j r) (let e : n ≡ n + 0 = omega arith in e);
+}
+next_of query n (y ∷ ys) a more [] e = absurd cc
+next_of query n (y ∷ ys) a more (r ∷ rs) e =
+    let tails : ys ++ a ∷ more ≡ answers_from query (n + 1) rs = cc in
+    next_later query n y ys r rs a (next_of query (n + 1) ys a more rs tails)
+
+pub answers_count : (query : QueryTree) (n : ℕ) (outcomes : List Outcome) → length (answers_from query n outcomes) ≡ length outcomes
+unfolding answers_from
+answers_count query n [] = refl
+answers_count query n (r ∷ rs) = let e = answers_count query (n + 1) rs in omega (arith, e)
+
+pub no_items : (xs : List GameAnswer) → length xs ≡ 0 → xs ≡ []
+no_items [] e = refl
+no_items (a ∷ xs) e = cc
+
+pub all_of_batch : (query : QueryTree) (n : ℕ) (ys rest items : List GameAnswer) (outcomes : List Outcome) → items ≡ ys ++ rest → rest ≡ [] → items ≡ answers_from query n outcomes
+    → take (length ys) outcomes ≡ outcomes
+all_of_batch query n ys rest items outcomes e none is =
+    let all : length ys ≡ length outcomes =
+    ap length (sym (append-nil ys) ∙ ap (λ l. ys ++ l) (sym none) ∙ sym e ∙ is) ∙ answers_count query n outcomes in
+    take_all (length ys) outcomes (let l = all in omega arith)
+
+-- the next game's number
+numbered : (query : QueryTree) (sorted : Bool) (before outcomes : List Outcome) (ys : List GameAnswer) (sinks : Sinks) (stand : Stand) (r : Outcome) (more : List Outcome)
+    → outcomes ≡ take (length ys) outcomes ++ r ∷ more → FoundSoFar sorted query (before ++ take (length ys) outcomes) sinks stand → length before + length ys ≡ stand.tally.games
+numbered query sorted before outcomes ys sinks stand r more is so_far =
+    let games : stand.tally.games ≡ length (before ++ take (length ys) outcomes) = ap (λ (t : Stand). t.tally.games) so_far.is in
+    let a = length-append before (take (length ys) outcomes) in
+    let b = length-take (length ys) outcomes in
+    let c : length outcomes ≡ length (take (length ys) outcomes ++ r ∷ more) = ap length is in
+    let d = length-append (take (length ys) outcomes) (r ∷ more) in
+    omega (arith, games, a, b, c, d)
+
+-- one answer more
+pub one_more : (sorted : Bool) (query : QueryTree) (before outcomes : List Outcome) (ys rest more items : List GameAnswer) (a : GameAnswer)
+    (out out' out'' err err' err'' : SinkView) (stand new : Stand)
+    → items ≡ ys ++ rest → rest ≡ a ∷ more → items ≡ answers_from query (length before) outcomes
+    → FoundSoFar sorted query (before ++ take (length ys) outcomes) (sinks_of out out' err err') stand
+    → ((r : Outcome) → a ≡ answer_of query stand.tally.games r → AnswersGame sorted query r stand new (sinks_of out' out'' err' err'') (Ok tt))
+    → FoundSoFar sorted query (before ++ take (length (ys ++ a ∷ [])) outcomes) (sinks_of out out'' err err'') new
+one_more sorted query before outcomes ys rest more items a out out' out'' err err' err'' stand new splits first are so_far does =
+    let next = next_of query (length before) ys a more outcomes (ap (λ l. ys ++ l) (sym first) ∙ sym splits ∙ are) in
+    let number = numbered query sorted before outcomes ys (sinks_of out out' err err') stand next.r next.more next.is so_far in
+    subst (λ rs. FoundSoFar sorted query rs (sinks_of out out'' err err'') new)
+    (append_assoc before (take (length ys) outcomes) (next.r ∷ []) ∙ ap (λ l. before ++ l) (sym next.step))
+    (found_more sorted query (before ++ take (length ys) outcomes) next.r out out' out'' err err' err'' stand new so_far (does next.r (next.answer ∙ ap (λ j. answer_of query j next.r) number)))
+
+-- a write of it failed
+pub one_stopped : (sorted : Bool) (query : QueryTree) (before outcomes : List Outcome) (ys rest more items : List GameAnswer) (a : GameAnswer)
+    (out out' out'' err err' err'' : SinkView) (stand new : Stand) (failed : Failed)
+    → items ≡ ys ++ rest → rest ≡ a ∷ more → items ≡ answers_from query (length before) outcomes
+    → FoundSoFar sorted query (before ++ take (length ys) outcomes) (sinks_of out out' err err') stand
+    → ((r : Outcome) → a ≡ answer_of query stand.tally.games r → AnswersGame sorted query r stand new (sinks_of out' out'' err' err'') (Err (Fault failed)))
+    → WritesPrefix (sinks_of out out'' err err'') (texts_so_far sorted query (before ++ outcomes)) × OneSinkFailed (sinks_of out out'' err err'')
+one_stopped sorted query before outcomes ys rest more items a out out' out'' err err' err'' stand new failed splits first are so_far does =
+    let next = next_of query (length before) ys a more outcomes (ap (λ l. ys ++ l) (sym first) ∙ sym splits ∙ are) in
+    let number = numbered query sorted before outcomes ys (sinks_of out out' err err') stand next.r next.more next.is so_far in
+    let done = does next.r (next.answer ∙ ap (λ j. answer_of query j next.r) number) in
+    let rs = before ++ take (length ys) outcomes in (
+      subst (λ l. WritesPrefix (sinks_of out out'' err err'') (texts_so_far sorted query l))
+      (append_assoc rs (next.r ∷ []) next.more ∙ append_assoc before (take (length ys) outcomes) (next.r ∷ next.more) ∙ ap (λ l. before ++ l) (sym next.is))
+      (prefix_grows sorted query (rs ++ next.r ∷ []) next.more (sinks_of out out'' err err'')
+      (stopped_at sorted query rs next.r out out' out'' err err' err'' stand so_far done.0)),
+      fails_after out out' out'' err err' err'' so_far.unfailed done.1,
+    )
+
+-- no memory for it
+pub one_starved : (sorted : Bool) (query : QueryTree) (before outcomes : List Outcome) (ys rest more items : List GameAnswer) (a : GameAnswer)
+    (out out' out'' err err' err'' : SinkView) (stand new : Stand)
+    → items ≡ ys ++ rest → rest ≡ a ∷ more → items ≡ answers_from query (length before) outcomes
+    → FoundSoFar sorted query (before ++ take (length ys) outcomes) (sinks_of out out' err err') stand
+    → ((r : Outcome) → a ≡ answer_of query stand.tally.games r → AnswersGame sorted query r stand new (sinks_of out' out'' err' err'') (Err IsNoMemory))
+    → WritesPrefix (sinks_of out out'' err err'') (texts_so_far sorted query (before ++ outcomes)) × NoWriteFailed (sinks_of out out'' err err'')
+one_starved sorted query before outcomes ys rest more items a out out' out'' err err' err'' stand new splits first are so_far does =
+    let next = next_of query (length before) ys a more outcomes (ap (λ l. ys ++ l) (sym first) ∙ sym splits ∙ are) in
+    let number = numbered query sorted before outcomes ys (sinks_of out out' err err') stand next.r next.more next.is so_far in
+    let same = does next.r (next.answer ∙ ap (λ j. answer_of query j next.r) number) in
+    let rs = before ++ take (length ys) outcomes in
+    let sinks = sinks_of out out'' err err'' in (
+      subst (λ l. WritesPrefix sinks (texts_so_far sorted query l))
+      (append_assoc before (take (length ys) outcomes) (next.r ∷ next.more) ∙ ap (λ l. before ++ l) (sym next.is))
+      (prefix_grows sorted query rs (next.r ∷ next.more) sinks
+      (as_prefix sinks (texts_so_far sorted query rs) (unwritten_since out out' out'' err err' err'' (texts_so_far sorted query rs) so_far.writes same))),
+      none_after out out' out'' err err' err'' so_far.unfailed (wrote_none (sinks_of out' out'' err' err'') same),
+    )
+
+-- ---- the end
 
 -- the exports as games were answered, and then those of the games that were kept
 exports_whole : (sorted : Bool) (query : QueryTree) (outcomes : List Outcome) (answers ordered : List GameAnswer) → have_sort query.items ≡ sorted
@@ -385,39 +467,42 @@ exports_whole false query outcomes answers ordered sorts are order =
     (unsorted_exports query outcomes sorts)
 
 -- no memory to put the games in order, or a write of them that failed
-pub unordered : HaveOutcomes → (sorted : Bool) (query : QueryTree) (archive : List ℕ) (spans : List Span) (i : ℕ) (out out' out'' err err' : SinkView) (stand : Stand)
-    → have_sort query.items ≡ sorted → length spans ≤ i → spans ≡ cut archive → FoundSoFar sorted query archive spans i (sinks_of out out' err err') stand → out'' ≡ out'
-    → AnswersArchive query archive (sinks_of out out'' err err') NoMemory
-unordered have sorted query archive spans i out out' out'' err err' stand sorts all e found same =
-    out_of_memory have sorted query archive spans i out out' out'' err err' err' stand sorts e found (record { out = same; err = refl })
+pub unordered : (sorted : Bool) (query : QueryTree) (rs : List Outcome) (out out' out'' err err' : SinkView) (stand : Stand)
+    → have_sort query.items ≡ sorted → FoundSoFar sorted query rs (sinks_of out out' err err') stand → out'' ≡ out'
+    → WritesAnswer query rs (sinks_of out out'' err err') NoMemory
+unordered sorted query rs out out' out'' err err' stand sorts found same =
+    let unmoved : IsUnwritten (sinks_of out' out'' err' err') = record { out = same; err = refl } in (
+      record {
+        texts = texts_so_far sorted query rs;
+        are = inl (ap (λ b. texts_so_far b query rs) (sym sorts));
+        writes = as_prefix (sinks_of out out'' err err') (texts_so_far sorted query rs) (unwritten_since out out' out'' err err' err' (texts_so_far sorted query rs) found.writes unmoved);
+      },
+      none_after out out' out'' err err' err' found.unfailed (wrote_none (sinks_of out' out'' err' err') unmoved),
+    )
 
-pub unkept : (sorted : Bool) (query : QueryTree) (archive : List ℕ) (spans : List Span) (i : ℕ) (out out' out'' err err' : SinkView) (stand : Stand) (failed : Failed)
-    → have_sort query.items ≡ sorted → length spans ≤ i → spans ≡ cut archive → FoundSoFar sorted query archive spans i (sinks_of out out' err err') stand
-    → WritesKept query stand.kept out' out'' (Err (Fault failed)) → AnswersArchive query archive (sinks_of out out'' err err') WriteFault
-unkept sorted query archive spans i out out' out'' err err' stand failed sorts all e found (ordered, order, part, rose) =
-    let rs = found.outcomes in
+pub are_answers : (query : QueryTree) (rs : List Outcome) (exports : List ℕ) → AreExports query rs exports
+    → AreAnswers query rs (tally_of query rs).refused (record { out = exports; err = report_of query rs })
+are_answers query rs exports are = record { exports = are; report = refl; count = refl }
+
+pub unkept : (sorted : Bool) (query : QueryTree) (rs : List Outcome) (out out' out'' err err' : SinkView) (stand : Stand) (failed : Failed)
+    → have_sort query.items ≡ sorted → FoundSoFar sorted query rs (sinks_of out out' err err') stand
+    → WritesKept query stand.kept out' out'' (Err (Fault failed)) → WritesAnswer query rs (sinks_of out out'' err err') WriteFault
+unkept sorted query rs out out' out'' err err' stand failed sorts found (ordered, order, part, rose) =
     let exports = flat_map (written sorted query) rs ++ exports_of ordered in
-    let took : Took out.taken out''.taken exports =
-    subst (Took out.taken out''.taken) (ap (λ l. flat_map (written sorted query) rs ++ l) (append-nil (exports_of ordered)))
-    (took_on out.taken out'.taken out''.taken (flat_map (written sorted query) rs) (exports_of ordered) [] found.out (took_count out'.taken out''.taken (exports_of ordered) part.0 part.1)) in
-    let lines : Took err.taken err'.taken (report_of query rs) = took_front err.taken err'.taken (fault_lines 1 rs) (summary_of (tally_of query rs)) found.err in
-    record {
-      outcomes = rs;
-      holds = all_found sorted query archive spans i (sinks_of out out' err err') stand all e found;
-      writes = (
-        fails_after out out' out'' err err' err' found.unfailed (inl (rose, refl)),
-        record {
-          out = inr (exports, exports_whole sorted query rs stand.kept ordered sorts (ap (λ (t : Stand). t.kept) found.is) order, (length took.part, prefix_of out.taken out''.taken exports took));
-          err_count = length lines.part;
-          err = prefix_of err.taken err'.taken (report_of query rs) lines;
-        },
-      );
-    }
+    let texts : Texts = record { out = exports; err = report_of query rs } in (
+      record {
+        texts = texts;
+        are = inr ((tally_of query rs).refused, are_answers query rs exports (exports_whole sorted query rs stand.kept ordered sorts (ap (λ (t : Stand). t.kept) found.is) order));
+        writes = both_prefix (sinks_of out out'' err err') texts (record {
+          out = part_more out.taken out'.taken out''.taken (flat_map (written sorted query) rs) (exports_of ordered) part.0 found.writes.out part.1;
+          err = took_front err.taken err'.taken (fault_lines 1 rs) (summary_of (tally_of query rs)) found.writes.err;
+        });
+      },
+      fails_after out out' out'' err err' err' found.unfailed (inl (rose, refl)),
+    )
 
 -- all exports were written
-pub record FoundAll (query : QueryTree) (archive : List ℕ) (sinks : Sinks) (tally : Tally) : Type 0 where
-  pub outcomes : List Outcome
-  pub holds : HasGames archive outcomes
+pub record FoundAll (query : QueryTree) (outcomes : List Outcome) (sinks : Sinks) (tally : Tally) : Type 0 where
   pub is : tally ≡ tally_of query outcomes
   pub exports : List ℕ
   pub are : AreExports query outcomes exports
@@ -425,89 +510,72 @@ pub record FoundAll (query : QueryTree) (archive : List ℕ) (sinks : Sinks) (ta
   pub err : Grew sinks.err.taken sinks.err_after.taken (fault_lines 1 outcomes)
   pub unfailed : NoWriteFailed sinks
 
-pub ordered_all : (sorted : Bool) (query : QueryTree) (archive : List ℕ) (spans : List Span) (i : ℕ) (out out' out'' err err' : SinkView) (stand : Stand)
-    → have_sort query.items ≡ sorted → length spans ≤ i → spans ≡ cut archive → FoundSoFar sorted query archive spans i (sinks_of out out' err err') stand
-    → WritesKept query stand.kept out' out'' (Ok tt) → FoundAll query archive (sinks_of out out'' err err') stand.tally
-ordered_all sorted query archive spans i out out' out'' err err' stand sorts all e found (ordered, order, grew, same) = record {
-  outcomes = found.outcomes;
-  holds = all_found sorted query archive spans i (sinks_of out out' err err') stand all e found;
+pub ordered_all : (sorted : Bool) (query : QueryTree) (rs : List Outcome) (out out' out'' err err' : SinkView) (stand : Stand)
+    → have_sort query.items ≡ sorted → FoundSoFar sorted query rs (sinks_of out out' err err') stand
+    → WritesKept query stand.kept out' out'' (Ok tt) → FoundAll query rs (sinks_of out out'' err err') stand.tally
+ordered_all sorted query rs out out' out'' err err' stand sorts found (ordered, order, grew, same) = record {
   is = ap (λ (t : Stand). t.tally) found.is;
-  exports = flat_map (written sorted query) found.outcomes ++ exports_of ordered;
-  are = exports_whole sorted query found.outcomes stand.kept ordered sorts (ap (λ (t : Stand). t.kept) found.is) order;
-  out = grew_on out.taken out'.taken out''.taken (flat_map (written sorted query) found.outcomes) (exports_of ordered) found.out grew;
-  err = found.err;
+  exports = flat_map (written sorted query) rs ++ exports_of ordered;
+  are = exports_whole sorted query rs stand.kept ordered sorts (ap (λ (t : Stand). t.kept) found.is) order;
+  out = grew_on out.taken out'.taken out''.taken (flat_map (written sorted query) rs) (exports_of ordered) found.writes.out grew;
+  err = found.writes.err;
   unfailed = record { out = same ∙ found.unfailed.out; err = found.unfailed.err };
 }
 
 -- the last line was written
-finished : (query : QueryTree) (archive : List ℕ) (out out' err err' err'' : SinkView) (tally : Tally) → (found : FoundAll query archive (sinks_of out out' err err') tally)
-    → Grew err'.taken err''.taken (summary_of tally) → WritesWhole query found.outcomes (sinks_of out out' err err'')
-finished query archive out out' err err' err'' tally found grew = record {
-  exports = found.exports;
-  are = found.are;
+finished : (query : QueryTree) (rs : List Outcome) (out out' err err' err'' : SinkView) (tally : Tally) (AreRefused : ℕ → Type 0) → (found : FoundAll query rs (sinks_of out out' err err') tally)
+    → AreRefused tally.refused → Grew err'.taken err''.taken (summary_of tally) → WritesAll (AreAnswers query rs) AreRefused (sinks_of out out' err err'')
+finished query rs out out' err err' err'' tally AreRefused found refused_ grew = record {
+  refused = (tally_of query rs).refused;
+  is = subst (λ (t : Tally). AreRefused t.refused) found.is refused_;
   writes = record {
-    out = found.out;
-    err = subst (λ t. Grew err.taken err''.taken (fault_lines 1 found.outcomes ++ summary_of t)) found.is
-        (grew_on err.taken err'.taken err''.taken (fault_lines 1 found.outcomes) (summary_of tally) found.err grew);
+    texts = record { out = found.exports; err = report_of query rs };
+    are = are_answers query rs found.exports found.are;
+    writes = record {
+      out = found.out;
+      err = subst (λ t. Grew err.taken err''.taken (fault_lines 1 rs ++ summary_of t)) found.is
+          (grew_on err.taken err'.taken err''.taken (fault_lines 1 rs) (summary_of tally) found.err grew);
+    };
   };
 }
 
 -- the last line could not be written, or only a part of it
-unfinished : (query : QueryTree) (archive : List ℕ) (out out' err err' err'' : SinkView) (tally : Tally) (count : ℕ) → (found : FoundAll query archive (sinks_of out out' err err') tally)
-    → Grew err'.taken err''.taken (take count (summary_of tally)) → WritesPart query found.outcomes (sinks_of out out' err err'')
-unfinished query archive out out' err err' err'' tally count found grew =
-    let rs = found.outcomes in
+unfinished : (query : QueryTree) (rs : List Outcome) (out out' err err' err'' : SinkView) (tally : Tally) (count : ℕ) → (found : FoundAll query rs (sinks_of out out' err err') tally)
+    → Grew err'.taken err''.taken (take count (summary_of tally)) → WritesPart (Unfinished (texts_of query) rs) (sinks_of out out' err err'')
+unfinished query rs out out' err err' err'' tally count found grew =
     let last = summary_of (tally_of query rs) in
     let part : Grew err'.taken err''.taken (take count last) = subst (λ t. Grew err'.taken err''.taken (take count (summary_of t))) found.is grew in
-    let exports : Took out.taken out'.taken found.exports = subst (Took out.taken out'.taken) (append-nil found.exports) (took_front out.taken out'.taken found.exports [] found.out) in
-    let lines : Took err.taken err''.taken (report_of query rs) =
-    subst (Took err.taken err''.taken) (ap (λ l. fault_lines 1 rs ++ l) (append-nil last))
-    (took_on err.taken err'.taken err''.taken (fault_lines 1 rs) last [] found.err (took_count err'.taken err''.taken last count part)) in
+    let texts : Texts = record { out = found.exports; err = report_of query rs } in
     record {
-      out = inr (found.exports, found.are, (length exports.part, prefix_of out.taken out'.taken found.exports exports));
-      err_count = length lines.part;
-      err = prefix_of err.taken err''.taken (report_of query rs) lines;
+      texts = texts;
+      are = inr ((tally_of query rs).refused, are_answers query rs found.exports found.are);
+      writes = both_prefix (sinks_of out out' err err'') texts (record {
+        out = subst (Took out.taken out'.taken) (append-nil found.exports) (took_front out.taken out'.taken found.exports [] found.out);
+        err = part_more err.taken err'.taken err''.taken (fault_lines 1 rs) last count found.err part;
+      });
     }
 
 -- all exports were written, and the last line was written or could not be
-pub ended : (status : Status) (query : QueryTree) (archive : List ℕ) (out out' err err' err'' : SinkView) (tally : Tally) → FoundAll query archive (sinks_of out out' err err') tally
-    → WritesSummary tally err' err'' status → AnswersArchive query archive (sinks_of out out' err err'') status
-ended Done query archive out out' err err' err'' tally found writes = record {
-  outcomes = found.outcomes;
-  holds = found.holds;
-  writes = (
-    ap (λ (t : Tally). t.refused) (sym found.is) ∙ writes.0,
-    finished query archive out out' err err' err'' tally found writes.1,
-    record { out = found.unfailed.out; err = writes.2 ∙ found.unfailed.err },
-  );
-}
-ended DoneWithRefusals query archive out out' err err' err'' tally found writes = record {
-  outcomes = found.outcomes;
-  holds = found.holds;
-  writes = (
-    subst (λ (t : Tally). 0 < t.refused) found.is writes.0,
-    finished query archive out out' err err' err'' tally found writes.1,
-    record { out = found.unfailed.out; err = writes.2 ∙ found.unfailed.err },
-  );
-}
-ended WriteFault query archive out out' err err' err'' tally found writes = record {
-  outcomes = found.outcomes;
-  holds = found.holds;
-  writes = (
-    fails_after out out' out' err err' err'' found.unfailed (inr (writes.1, refl)),
-    unfinished query archive out out' err err' err'' tally writes.0.0 found writes.0.1,
-  );
-}
-ended NoMemory query archive out out' err err' err'' tally found writes = record {
-  outcomes = found.outcomes;
-  holds = found.holds;
-  writes = (
-    unfinished query archive out out' err err' err'' tally 0 found (subst (λ (s : SinkView). Grew err'.taken s.taken []) (sym writes) (unwritten err'.taken)),
-    record { out = found.unfailed.out; err = ap (λ (s : SinkView). s.faults) writes ∙ found.unfailed.err },
-  );
-}
-ended QueryRefused query archive out out' err err' err'' tally found writes = absurd writes
-ended WordsRefused query archive out out' err err' err'' tally found writes = absurd writes
-ended OpenFault query archive out out' err err' err'' tally found writes = absurd writes
-ended ReadFault query archive out out' err err' err'' tally found writes = absurd writes
-ended ArchiveTooLong query archive out out' err err' err'' tally found writes = absurd writes
+pub ended : (status : Status) (query : QueryTree) (rs : List Outcome) (out out' err err' err'' : SinkView) (tally : Tally) → FoundAll query rs (sinks_of out out' err err') tally
+    → WritesSummary tally err' err'' status → WritesAnswer query rs (sinks_of out out' err err'') status
+ended Done query rs out out' err err' err'' tally found writes = (
+  finished query rs out out' err err' err'' tally (λ n. n ≡ 0) found writes.0 writes.1,
+  record { out = found.unfailed.out; err = writes.2 ∙ found.unfailed.err },
+)
+ended DoneWithRefusals query rs out out' err err' err'' tally found writes = (
+  finished query rs out out' err err' err'' tally (λ n. 0 < n) found writes.0 writes.1,
+  record { out = found.unfailed.out; err = writes.2 ∙ found.unfailed.err },
+)
+ended WriteFault query rs out out' err err' err'' tally found writes = (
+  unfinished query rs out out' err err' err'' tally writes.0.0 found writes.0.1,
+  fails_after out out' out' err err' err'' found.unfailed (inr (writes.1, refl)),
+)
+ended NoMemory query rs out out' err err' err'' tally found writes = (
+  unfinished query rs out out' err err' err'' tally 0 found (subst (λ (s : SinkView). Grew err'.taken s.taken []) (sym writes) (unwritten err'.taken)),
+  record { out = found.unfailed.out; err = ap (λ (s : SinkView). s.faults) writes ∙ found.unfailed.err },
+)
+ended QueryRefused query rs out out' err err' err'' tally found writes = absurd writes
+ended WordsRefused query rs out out' err err' err'' tally found writes = absurd writes
+ended OpenFault query rs out out' err err' err'' tally found writes = absurd writes
+ended ReadFault query rs out out' err err' err'' tally found writes = absurd writes
+ended ArchiveTooLong query rs out out' err err' err'' tally found writes = absurd writes

@@ -1,81 +1,76 @@
--- Counting what a query finds, game by game.
-use Rattle.std.proofs.Common.{◌≡◌, ℕ, ◌+◌, ◌*◌, ◌^◌, true, false, List, [], ◌∷◌, ◌++◌, length, length-append, take, get_or, ◌<◌, ◌≤◌, arith, refl, ap, sym, ◌∙◌, append-nil, cond, subst, Ok, Err}
-use Rattle.std.specs.Prelude.{Result, IfOk}
+-- Counting what a query finds, batch by batch.
+use Rattle.std.proofs.Common.{◌≡◌, ◌⊎◌, inl, inr, ℕ, ◌+◌, ◌*◌, ◌^◌, Bool, true, false, ℤ, List, [], ◌∷◌, ◌++◌, length, length-append, length-map, append_assoc, append-nil, map, take, Some, ◌<◌, ◌≤◌, arith, refl, ap, sym, ◌∙◌, cond, subst, Ok, Err}
 use Rattle.std.specs.List.{flat_map}
+use Rattle.std.specs.Io.KnownBytes.{Consumes}
 use Rattle.std.proofs.lemmas.Grind.{flat_map-append}
-use Rattle.std.proofs.lemmas.List.{take_more, take_all}
 use Rattle.std.proofs.lemmas.List.Concat.{length-flat_map}
+use Rattle.std.proofs.lemmas.List.Sums.{count_by-le-length}
 use Rattle.std.proofs.lemmas.List.Sorted.{sum_by-IsPermutation}
-use Rattle.cq_outside.specs.declared.faults.NoMemory.{NoMemory}
-use Rattle.cq_position.specs.Games.{Game}
+use Rattle.cq_outside.specs.Faults.{Rose}
+use Rattle.cq_outside.specs.declared.faults.Refusal.TheVariants.{Fault}
+use Rattle.cq_shards.specs.Answers.{AnswersBatch, answers_from, found_in, games_of, number_of, text_of}
+use Rattle.cq_shards.specs.Nexts.{GivesBatch, GivesNoMore, GivesNone, HasBatchCause, Moves, SaysNext}
+use Rattle.cq_shards.specs.Outcomes.{AreKeptRead, Outcome}
+use Rattle.cq_shards.specs.Streams.{Stands}
+use Rattle.cq_shards.specs.declared.answers.Answer.TheVariants.{Match, Miss, Refused}
 use Rattle.cq_shards.specs.declared.answers.GameAnswer.{GameAnswer}
+use Rattle.cq_shards.specs.declared.batch.Batch.{Batch}
+use Rattle.cq_shards.specs.declared.state.BatchFault.{BatchFault}
+use Rattle.cq_shards.specs.declared.state.BatchFault.TheVariants.{ReadFault, ArchiveTooLong}
+use Rattle.cq_shards.specs.declared.state.Batches.{Batches}
 use Rattle.cql_syntax.specs.Hits.{marked}
 use Rattle.cql_syntax.specs.Trees.{QueryTree}
-use Rattle.pgn_cut.specs.Cut.{cut}
-use Rattle.pgn_cut.specs.Joined.{game_bytes}
-use Rattle.pgn_cut.specs.declared.span.Span.{Span}
 use Rattle.pgn_export.specs.Export.{export_text}
-use Rattle.pgn_reader.specs.Verdict.{IsRead}
 use Rattle.pgn_reader.specs.declared.fault.GameFault.{GameFault}
 use Rattle.cq_run.specs.declared.tally.Tally.{Tally}
 use Rattle.cq_run.specs.declared.totals.Totals.{Totals}
-use Rattle.cq_run.specs.Answer.{export_if, has_match, tally_of}
-use Rattle.cq_run.specs.Exports.{AreExports, matches_from, text_of}
-use Rattle.cq_run.specs.Outcomes.{Outcome, AreRead}
-use Rattle.cq_run.specs.SelfRun.{AreTotals}
-use Rattle.cq_run.specs.Writing.{CountsGame, counted, tallied}
-use Rattle.cq_run.proofs.Answers.{are_read_on, tally_with, same_tally, matched_tally, tallied_more}
+use Rattle.cq_run.specs.Answer.{export_if, is_match, is_refused, tally_of}
+use Rattle.cq_run.specs.Exports.{AreExports, matches_from}
+use Rattle.cq_run.specs.Outcomes.{HasGames}
+use Rattle.cq_run.specs.Promise.{SourceView}
+use Rattle.cq_run.specs.SelfRun.{AreTotals, totals_of}
+use Rattle.cq_run.specs.Writing.{counted}
+use Rattle.cq_run.proofs.Answered.{may_be}
+use Rattle.cq_run.proofs.Answers.{IsFound, answers_count, is_faulty, is_found, is_no_match, matched_tally, next_of, same_tally, tallied_more, tally_with}
 use Rattle.cq_run.proofs.Exports.{texts_same}
+use Rattle.cq_run.proofs.Given.{InOrder, Laws, count_read, given, given_few, kept_read_on}
+use Rattle.cq_run.proofs.Reached.{Reached, all_read, moved, no_reads, rounds_few, turned}
+use Rattle.cq_shards.proofs.Filling.{consumes_none}
 
 -- ---- one game
 
-abbrev totals_with : ℕ → Tally → ℕ → Totals
+abbrev pub totals_with : ℕ → Tally → ℕ → Totals
 totals_with bytes tally written = record { bytes = bytes; tally = tally; written = written }
 
 same_totals : (bytes : ℕ) (t u : Tally) (m n : ℕ) → t ≡ u → m ≡ n → totals_with bytes t m ≡ totals_with bytes u n
 same_totals bytes t u m n e f = cc
 
-pub missed : (query : QueryTree) (game : Game) (before : Totals) → has_match query game ≡ false
-    → totals_with before.bytes (tally_with (before.tally.games + 1) before.tally.matched before.tally.refused) before.written ≡ counted query before (Ok game)
-missed query game before none =
-    let matched : before.tally.matched ≡ before.tally.matched + 0 = omega arith in
-    let written : before.written ≡ before.written + 0 = omega arith in
-    same_totals before.bytes _ _ _ _
-    (same_tally _ _ _ _ _ _ refl (matched ∙ ap (λ b. before.tally.matched + cond b 1 0) (sym none)) (omega arith))
-    (written ∙ ap (λ b. before.written + length (cond b (export_text (marked query game)) [])) (sym none))
+-- a game more, of which so many match and are refused, and whose export has so many bytes
+abbrev pub with_one : Totals → ℕ → ℕ → ℕ → Totals
+with_one before matched refused written =
+    totals_with before.bytes (tally_with (before.tally.games + 1) (before.tally.matched + matched) (before.tally.refused + refused)) (before.written + written)
 
-pub found : (query : QueryTree) (game : Game) (before : Totals) (text : List ℕ) (n : ℕ) → has_match query game ≡ true → text ≡ export_text (marked query game)
-    → n ≡ length text → totals_with before.bytes (tally_with (before.tally.games + 1) (before.tally.matched + 1) before.tally.refused) (before.written + n) ≡ counted query before (Ok game)
-found query game before text n some is long =
-    same_totals before.bytes _ _ _ _ (matched_tally query game before.tally some)
-    (ap (λ k. before.written + k) long ∙ ap (λ t. before.written + length t) is ∙ ap (λ b. before.written + length (cond b (export_text (marked query game)) [])) (sym some))
+pub missed : (query : QueryTree) (r : Outcome) (before : Totals) → Miss ≡ found_in query r → with_one before 0 0 0 ≡ counted query before r
+missed query (Ok game) before is =
+    let none = is_no_match query (Ok game) is in
+    same_totals before.bytes _ _ _ _ (same_tally _ _ _ _ _ _ refl (ap (λ b. before.tally.matched + cond b 1 0) (sym none)) refl)
+    (ap (λ b. before.written + length (cond b (export_text (marked query game)) [])) (sym none))
+missed query (Err fault) before is = absurd cc
 
-pub faulty : (query : QueryTree) (Reads : Outcome → Type 0) (fault : GameFault) (before : Totals) → Reads (Err fault)
-    → CountsGame query Reads before (totals_with before.bytes (tally_with (before.tally.games + 1) before.tally.matched (before.tally.refused + 1)) before.written)
-faulty query Reads fault before reads =
-    let written : before.written ≡ before.written + 0 = omega arith in
-    (Err fault, reads, same_totals before.bytes _ _ _ _ (same_tally _ _ _ _ _ _ refl (omega arith) refl) written)
+pub found : (query : QueryTree) (r : Outcome) (before : Totals) (text : List ℕ) (values : List ℤ) (n : ℕ) → Match text values ≡ found_in query r → n ≡ length text
+    → with_one before 1 0 n ≡ counted query before r
+found query r before text values n is long =
+    let one : IsFound query r text = is_found query r text values is in
+    subst (λ o. with_one before 1 0 n ≡ counted query before o) (sym one.is)
+    (same_totals before.bytes _ _ _ _
+    (same_tally _ _ _ _ _ _ refl (ap (λ b. before.tally.matched + cond b 1 0) (sym one.some)) refl)
+    (ap (λ k. before.written + k) long ∙ ap (λ t. before.written + length t) one.text_is
+    ∙ ap (λ b. before.written + length (cond b (export_text (marked query one.game)) [])) (sym one.some)))
 
-pub read_counted : (query : QueryTree) (Reads : Outcome → Type 0) (r : Outcome) (before : Totals) (result : Result Totals NoMemory) → Reads r
-    → IfOk result (λ after. after ≡ counted query before r) → IfOk result (CountsGame query Reads before)
-read_counted query Reads r before (Ok after) reads is = (r, reads, is)
-read_counted query Reads r before (Err none) reads is = tt
+pub faulty : (query : QueryTree) (r : Outcome) (before : Totals) (fault : GameFault) → Refused fault ≡ found_in query r → with_one before 0 1 0 ≡ counted query before r
+faulty query r before fault is = subst (λ o. with_one before 0 1 0 ≡ counted query before o) (sym (is_faulty query r fault is)) refl
 
--- ---- all games
-
--- the first games of an archive are counted
-pub record CountedSoFar (query : QueryTree) (archive : List ℕ) (spans : List Span) (count : ℕ) (totals : Totals) : Type 0 where
-  pub outcomes : List Outcome
-  pub are_read : AreRead archive (take count spans) outcomes
-  pub counted : length outcomes ≡ count
-  pub bytes : totals.bytes ≡ length archive
-  pub tally : totals.tally ≡ tally_of query outcomes
-  pub written : totals.written ≡ length (flat_map (export_if query) outcomes)
-  pub few : totals.written ≤ 2 ^ 64 * totals.tally.games
-
-pub none_counted : (query : QueryTree) (archive : List ℕ) (spans : List Span) (bytes : ℕ) → bytes ≡ length archive
-    → CountedSoFar query archive spans 0 (totals_with bytes (tally_with 0 0 0) 0)
-none_counted query archive spans bytes e = record { outcomes = []; are_read = tt; counted = refl; bytes = e; tally = refl; written = refl; few = omega arith }
+-- ---- the games of a batch
 
 lengths_more : (query : QueryTree) (rs : List Outcome) (r : Outcome)
     → length (flat_map (export_if query) rs) + length (export_if query r) ≡ length (flat_map (export_if query) (rs ++ r ∷ []))
@@ -83,22 +78,20 @@ lengths_more query rs r =
     sym (ap length (flat_map-append (export_if query) rs (r ∷ [])) ∙ length-append (flat_map (export_if query) rs) (flat_map (export_if query) (r ∷ []))
     ∙ ap (λ l. length (flat_map (export_if query) rs) + length l) (append-nil (export_if query r)))
 
--- one more game
-pub counted_more : (query : QueryTree) (archive : List ℕ) (spans : List Span) (i : ℕ) (s : Span) (totals new : Totals) → i < length spans → s ≡ get_or spans i s
-    → CountedSoFar query archive spans i totals → CountsGame query (IsRead s.start s.first (game_bytes archive s)) totals new → new.written ≤ 2 ^ 64 * new.tally.games
-    → CountedSoFar query archive spans (i + 1) new
-counted_more query archive spans i s totals new inside is so_far (r, read, counts) few =
-    let rs = so_far.outcomes in
-    record {
-      outcomes = rs ++ r ∷ [];
-      are_read = subst (λ ss. AreRead archive ss (rs ++ r ∷ [])) (ap (λ x. take i spans ++ x ∷ []) is ∙ sym (take_more spans i s inside))
-          (are_read_on archive (take i spans) (s ∷ []) rs (r ∷ []) so_far.are_read (read, tt));
-      counted = length-append rs (r ∷ []) ∙ ap (λ n. n + 1) so_far.counted;
-      bytes = ap (λ (t : Totals). t.bytes) counts ∙ so_far.bytes;
-      tally = ap (λ (t : Totals). t.tally) counts ∙ ap (λ (t : Tally). tallied query t r) so_far.tally ∙ sym (tallied_more query rs r);
-      written = ap (λ (t : Totals). t.written) counts ∙ ap (λ n. n + length (export_if query r)) so_far.written ∙ lengths_more query rs r;
-      few = few;
-    }
+totals_more : (query : QueryTree) (bytes : ℕ) (rs : List Outcome) (r : Outcome) → counted query (totals_of query bytes rs) r ≡ totals_of query bytes (rs ++ r ∷ [])
+totals_more query bytes rs r = same_totals bytes _ _ _ _ (sym (tallied_more query rs r)) (lengths_more query rs r)
+
+-- one answer more
+pub count_more : (query : QueryTree) (bytes : ℕ) (rs qs : List Outcome) (ys rest more items : List GameAnswer) (a : GameAnswer) (totals new : Totals)
+    → items ≡ ys ++ rest → rest ≡ a ∷ more → items ≡ answers_from query (length rs) qs → totals ≡ totals_of query bytes (rs ++ take (length ys) qs)
+    → ((r : Outcome) (n : ℕ) → a ≡ record { index = n; what = found_in query r } → new ≡ counted query totals r)
+    → new ≡ totals_of query bytes (rs ++ take (length (ys ++ a ∷ [])) qs)
+count_more query bytes rs qs ys rest more items a totals new splits first are so_far does =
+    let next = next_of query (length rs) ys a more qs (ap (λ l. ys ++ l) (sym first) ∙ sym splits ∙ are) in
+    does next.r (length rs + length ys) next.answer ∙ ap (λ t. counted query t next.r) so_far ∙ totals_more query bytes (rs ++ take (length ys) qs) next.r
+    ∙ ap (totals_of query bytes) (append_assoc rs (take (length ys) qs) (next.r ∷ []) ∙ ap (λ l. rs ++ l) (sym next.step))
+
+-- ---- all batches
 
 -- the exports are as long in any order
 same_length : (query : QueryTree) (outcomes : List Outcome) (exports : List ℕ) → AreExports query outcomes exports
@@ -109,14 +102,145 @@ same_length query outcomes exports are =
     ∙ sym (sum_by-IsPermutation (λ (a : GameAnswer). length (text_of a.what)) here are.sorted are.same)
     ∙ sym (length-flat_map (λ (a : GameAnswer). text_of a.what) are.sorted) ∙ sym (ap length are.is)
 
--- all games were counted
-pub all_counted : (query : QueryTree) (archive : List ℕ) (spans : List Span) (i : ℕ) (totals : Totals) → length spans ≤ i → spans ≡ cut archive
-    → CountedSoFar query archive spans i totals → AreTotals query archive totals
-all_counted query archive spans i totals all e so_far = record {
-  outcomes = so_far.outcomes;
-  holds = subst (λ ss. AreRead archive ss so_far.outcomes) (take_all i spans all ∙ e) so_far.are_read;
-  bytes = so_far.bytes;
-  tally = so_far.tally;
-  written = so_far.written;
-  as_run = λ exports are. so_far.written ∙ same_length query so_far.outcomes exports are;
+abbrev pub sure : List ℕ → SourceView
+sure bytes = record { left = Some bytes; faults = 0 }
+
+-- the games of the batches given are counted
+pub record CountedSoFar (query : QueryTree) (archive : List ℕ) (limit : ℕ) (b : Batches) (left : List ℕ) (totals : Totals) : Type 0 where
+  pub front : List ℕ
+  pub m : ℕ
+  pub outcomes : List Outcome
+  pub stands : Stands b front m
+  pub reached : Reached limit b (sure archive) (sure left) front m
+  pub are_read : AreKeptRead (given front m) outcomes
+  pub totals_ : totals ≡ totals_of query (length archive) outcomes
+
+pub none_counted : (query : QueryTree) (archive : List ℕ) (limit : ℕ) (b : Batches) (totals : Totals) → Stands b [] 0 → b.limit ≡ limit → b.ended ≡ false
+    → totals ≡ totals_of query (length archive) [] → CountedSoFar query archive limit b archive totals
+none_counted query archive limit b totals stands same reads none = record {
+  front = [];
+  m = 0;
+  outcomes = [];
+  stands = stands;
+  reached = no_reads limit b (sure archive) same reads;
+  are_read = tt;
+  totals_ = none;
 }
+
+-- a batch more was given
+pub record CountsTurn (query : QueryTree) (archive : List ℕ) (limit : ℕ) (b : Batches) (left : List ℕ) (totals : Totals) (batch : Batch) (t : ℕ) : Type 0 where
+  pub front : List ℕ
+  pub m : ℕ
+  pub turns : t ≤ m
+  pub outcomes : List Outcome
+  pub stands : Stands b front (m + 1)
+  pub reached : Reached limit b (sure archive) (sure left) front (m + 1)
+  pub games : given front (m + 1) ≡ given front m ++ games_of batch
+  pub are_read : AreKeptRead (given front m) outcomes
+  pub index : number_of batch ≡ length outcomes
+  pub totals_ : totals ≡ totals_of query (length archive) outcomes
+
+pub counts_turn : Laws → (query : QueryTree) (archive : List ℕ) (limit : ℕ) (was now : Batches) (left after : List ℕ) (totals : Totals) (batch : Batch) (t : ℕ)
+    → (so : CountedSoFar query archive limit was left totals) → t ≤ so.m → Moves was now (Some left) (Some after) (GivesBatch now batch)
+    → CountsTurn query archive limit now after totals batch t
+counts_turn laws query archive limit was now left after totals batch t so turns moves =
+    let at = moved laws limit was now (sure archive) (sure left) (sure after) so.front so.m (GivesBatch now batch) so.stands so.reached moves in
+    let gives = moves.given so.front so.m so.stands in
+    let turn = turned laws limit now (sure archive) (sure after) (so.front ++ moves.bytes) so.m batch at.reached gives in
+    let read : AreKeptRead (given (so.front ++ moves.bytes) so.m) so.outcomes = subst (λ gs. AreKeptRead gs so.outcomes) (sym at.same) so.are_read in
+    record {
+      front = so.front ++ moves.bytes;
+      m = so.m;
+      turns = turns;
+      outcomes = so.outcomes;
+      stands = gives.stands;
+      reached = turn.reached;
+      games = turn.games;
+      are_read = read;
+      index = turn.index ∙ count_read (given (so.front ++ moves.bytes) so.m) so.outcomes read;
+      totals_ = so.totals_;
+    }
+
+pub turn_few : Laws → InOrder → (query : QueryTree) (archive : List ℕ) (limit : ℕ) (b : Batches) (left : List ℕ) (totals : Totals) (batch : Batch) (answers : List GameAnswer) (t : ℕ)
+    → limit ≤ 2 ^ 40 → CountsTurn query archive limit b left totals batch t → AnswersBatch query batch answers → totals.tally.games + length answers < 2 ^ 62
+turn_few laws order query archive limit b left totals batch answers t low turn answered =
+    let games : totals.tally.games ≡ length turn.outcomes = ap (λ (t : Totals). t.tally.games) turn.totals_ in
+    let before = count_read (given turn.front turn.m) turn.outcomes turn.are_read in
+    let count : length answers ≡ length answered.outcomes = ap length answered.are ∙ answers_count query (number_of batch) answered.outcomes in
+    let read = count_read (games_of batch) answered.outcomes answered.are_read in
+    let more : length (given turn.front (turn.m + 1)) ≡ length (given turn.front turn.m ++ (games_of batch)) = ap length turn.games in
+    let parts = length-append (given turn.front turn.m) (games_of batch) in
+    let most = given_few laws order turn.front (turn.m + 1) in
+    let few = turn.reached.few in
+    omega (arith, games, before, count, read, more, parts, most, few, low)
+
+pub turn_counted : (query : QueryTree) (archive : List ℕ) (limit : ℕ) (b : Batches) (left : List ℕ) (totals new : Totals) (batch : Batch) (answers : List GameAnswer) (t : ℕ)
+    → (turn : CountsTurn query archive limit b left totals batch t) → (answered : AnswersBatch query batch answers)
+    → ((bytes : ℕ) (rs qs : List Outcome) → answers ≡ answers_from query (length rs) qs → totals ≡ totals_of query bytes rs → new ≡ totals_of query bytes (rs ++ qs))
+    → (so : CountedSoFar query archive limit b left new) × (t + 1 ≤ so.m)
+turn_counted query archive limit b left totals new batch answers t turn answered counts =
+    (
+      record {
+        front = turn.front;
+        m = turn.m + 1;
+        outcomes = turn.outcomes ++ answered.outcomes;
+        stands = turn.stands;
+        reached = turn.reached;
+        are_read = subst (λ gs. AreKeptRead gs (turn.outcomes ++ answered.outcomes)) (sym turn.games)
+            (kept_read_on (given turn.front turn.m) (games_of batch) turn.outcomes answered.outcomes turn.are_read answered.are_read);
+        totals_ = counts (length archive) turn.outcomes answered.outcomes (answered.are ∙ ap (λ n. answers_from query n answered.outcomes) turn.index) turn.totals_;
+      },
+      let a = turn.turns in omega (arith, a),
+    )
+
+-- all games were counted
+pub all_counted : Laws → (query : QueryTree) (archive : List ℕ) (limit : ℕ) (was now : Batches) (left after : List ℕ) (totals : Totals)
+    → CountedSoFar query archive limit was left totals → Moves was now (Some left) (Some after) (GivesNoMore now) → AreTotals query archive totals
+all_counted laws query archive limit was now left after totals so moves =
+    let at = moved laws limit was now (sure archive) (sure left) (sure after) so.front so.m (GivesNoMore now) so.stands so.reached moves in
+    let front = so.front ++ moves.bytes in
+    let all = all_read laws limit now (sure archive) (sure after) front so.m so.outcomes at.reached refl
+        (subst (λ gs. AreKeptRead gs so.outcomes) (sym at.same) so.are_read) (moves.given so.front so.m so.stands) in
+    let same : archive ≡ front = may_be (Some archive) (Some after) front all.takes all.at_end in
+    record {
+      outcomes = so.outcomes;
+      holds = subst (λ a. HasGames a so.outcomes) (sym same) all.are_read;
+      bytes = ap (λ (t : Totals). t.bytes) so.totals_;
+      tally = ap (λ (t : Totals). t.tally) so.totals_;
+      written = ap (λ (t : Totals). t.written) so.totals_;
+      as_run = λ exports are. ap (λ (t : Totals). t.written) so.totals_ ∙ same_length query so.outcomes exports are;
+    }
+
+-- a source in memory never fails, and its bytes are not too many
+pub none_rose : Rose 0 0 → ⊥
+none_rose (inl less) = omega (arith, less)
+none_rose (inr last) = omega (arith, last)
+
+taken_few : (archive front rest : List ℕ) → archive ≡ front ++ rest → length front ≤ length archive
+taken_few archive front rest is = let l = length-append front rest in let e : length archive ≡ length (front ++ rest) = ap length is in omega (arith, l, e)
+
+pub none_too_long : Laws → (query : QueryTree) (archive : List ℕ) (limit : ℕ) (was now : Batches) (left after : List ℕ) (totals : Totals)
+    → CountedSoFar query archive limit was left totals → Moves was now (Some left) (Some after) (GivesNone was (λ n. was.limit < n)) → length archive ≤ limit → ⊥
+none_too_long laws query archive limit was now left after totals so moves low =
+    let at = moved laws limit was now (sure archive) (sure left) (sure after) so.front so.m (GivesNone was (λ n. was.limit < n)) so.stands so.reached moves in
+    let long = (moves.given so.front so.m so.stands).taken in
+    let few = taken_few archive (so.front ++ moves.bytes) after at.reached.takes in
+    let same = so.reached.limit_ in
+    omega (arith, long, few, same, low)
+
+pub never_faults : Laws → (query : QueryTree) (archive : List ℕ) (limit : ℕ) (was now : Batches) (left after : List ℕ) (totals : Totals) (fault : BatchFault)
+    → CountedSoFar query archive limit was left totals → length archive ≤ limit → SaysNext was now (Some left) (Some after) (Err (Fault fault)) → HasBatchCause 0 0 (Err (Fault fault)) → ⊥
+never_faults laws query archive limit was now left after totals ReadFault so low says cause = none_rose cause.1
+never_faults laws query archive limit was now left after totals ArchiveTooLong so low says cause = none_too_long laws query archive limit was now left after totals so says low
+
+pub few_counts : InOrder → (query : QueryTree) (archive : List ℕ) (limit : ℕ) (b : Batches) (left : List ℕ) (totals : Totals) → (so : CountedSoFar query archive limit b left totals)
+    → so.m < limit + 3
+few_counts order query archive limit b left totals so = rounds_few order limit b (sure archive) (sure left) so.front so.m so.reached
+
+pub matched_few : (query : QueryTree) (archive : List ℕ) (limit : ℕ) (b : Batches) (left : List ℕ) (totals : Totals) → CountedSoFar query archive limit b left totals
+    → totals.tally.matched ≤ totals.tally.games
+matched_few query archive limit b left totals so = subst (λ (t : Totals). t.tally.matched ≤ t.tally.games) (sym so.totals_) (count_by-le-length (is_match query) so.outcomes)
+
+pub refused_few : (query : QueryTree) (archive : List ℕ) (limit : ℕ) (b : Batches) (left : List ℕ) (totals : Totals) → CountedSoFar query archive limit b left totals
+    → totals.tally.refused ≤ totals.tally.games
+refused_few query archive limit b left totals so = subst (λ (t : Totals). t.tally.refused ≤ t.tally.games) (sym so.totals_) (count_by-le-length is_refused so.outcomes)

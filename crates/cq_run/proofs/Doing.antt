@@ -26,7 +26,8 @@ use Rattle.cq_run.specs.declared.asked.QueryRefusal.TheVariants.{Faulty, Unopene
 use Rattle.cq_run.specs.declared.status.Status.{Status}
 use Rattle.cq_run.specs.declared.status.Status.TheVariants.{Done, DoneWithRefusals, QueryRefused, WordsRefused, OpenFault, ReadFault, WriteFault, NoMemory, ArchiveTooLong}
 use Rattle.cq_run.specs.Queries.{IsQuery, IsQueryFault}
-use Rattle.cq_run.specs.Promise.{SourceView, DeskView, Sinks, SaysOfAnswer, IsOneOf, IsUnwritten, NoWriteFailed}
+use Rattle.cq_run.specs.Promise.{SourceView, DeskView, Sinks, Wanted, SaysOfAnswer, IsOneOf, IsUnwritten, NoWriteFailed}
+use Rattle.cq_run.specs.Asking.{texts_of}
 use Rattle.cq_run.specs.Run.{Call, from_desk, IsUnmoved, with_open, Opened, FailsToOpen, TakesQuery, LacksMemory, no_memory_to_open, no_memory_to_read, WritesUsage, RefusesQuery, AcceptsQuery, WritesFlat, AnswersFile, archive_answered, archive_unopened, archive_out_of_memory, OverText, text_accepted, text_refused, text_out_of_memory, OverFile, file_accepted, file_refused, file_unopened, file_unread, file_out_of_memory, SaysAccepted, Explains, RunsMade, DoesJob, job_done, words_refused, words_out_of_memory, Asks, AnswersItsFault, IsInFile, HasText, NothingRose, IsShort, IsWithin, good_answers, Promise}
 use Rattle.cq_run.specs.SelfRun.{WritesTotals, WritesMade, totals_written, made_out_of_memory}
 use Rattle.cq_run.specs.declared.totals.Totals.{Totals}
@@ -129,17 +130,17 @@ made_faults : (archive : List ℕ) (q : QueryTree) (status : Status) (call : Cal
 made_faults archive q status call input (totals_written totals are does) = totals_faults totals status call input does
 made_faults archive q status call input (made_out_of_memory is same) = at_none status call input (wrote_none call.sinks same)
 
-answer_faults : (name : List ℕ) (limit : ℕ) (q : QueryTree) (file : SourceView) (status : Status) (call : Call) → Opened name call.desk call.desk_after file
-    → SaysOfAnswer status (record { query = q; limit = limit; source = file; source_after = call.desk_after.file; sinks = call.sinks }) → AnswersItsFault status call
-answer_faults name limit q file Done call opened says = at_none Done call (opened_counts name call.desk call.desk_after file opened says.1.source) says.1.sinks
-answer_faults name limit q file DoneWithRefusals call opened says = at_none DoneWithRefusals call (opened_counts name call.desk call.desk_after file opened says.1.source) says.1.sinks
-answer_faults name limit q file ReadFault call opened says = at_read call opened.opens (wrote_none call.sinks says.1)
-answer_faults name limit q file WriteFault call opened says = at_write call (opened_counts name call.desk call.desk_after file opened says.1)
-answer_faults name limit q file NoMemory call opened says = at_none NoMemory call (opened_counts name call.desk call.desk_after file opened says.1.source) says.1.sinks
-answer_faults name limit q file ArchiveTooLong call opened says = at_none ArchiveTooLong call (opened_counts name call.desk call.desk_after file opened says.2.source) says.2.sinks
-answer_faults name limit q file QueryRefused call opened says = absurd says
-answer_faults name limit q file WordsRefused call opened says = absurd says
-answer_faults name limit q file OpenFault call opened says = absurd says
+answer_faults : (name : List ℕ) (limit : ℕ) (wanted : Wanted) (file : SourceView) (status : Status) (call : Call) → Opened name call.desk call.desk_after file
+    → SaysOfAnswer status wanted (record { limit = limit; source = file; source_after = call.desk_after.file; sinks = call.sinks }) → AnswersItsFault status call
+answer_faults name limit wanted file Done call opened says = at_none Done call (opened_counts name call.desk call.desk_after file opened says.1.source) says.1.sinks
+answer_faults name limit wanted file DoneWithRefusals call opened says = at_none DoneWithRefusals call (opened_counts name call.desk call.desk_after file opened says.1.source) says.1.sinks
+answer_faults name limit wanted file ReadFault call opened says = at_read call opened.opens says.1
+answer_faults name limit wanted file WriteFault call opened says = at_write call (opened_counts name call.desk call.desk_after file opened says.1)
+answer_faults name limit wanted file NoMemory call opened says = at_none NoMemory call (opened_counts name call.desk call.desk_after file opened says.1.source) says.1.sinks
+answer_faults name limit wanted file ArchiveTooLong call opened says = at_none ArchiveTooLong call (opened_counts name call.desk call.desk_after file opened says.1.source) says.1.sinks
+answer_faults name limit wanted file QueryRefused call opened says = absurd says
+answer_faults name limit wanted file WordsRefused call opened says = absurd says
+answer_faults name limit wanted file OpenFault call opened says = absurd says
 
 unmoved_faults : (status : Status) (call : Call) → IsUnmoved call → AnswersItsFault status call
 unmoved_faults status call same = at_none status call (same_counts call.desk call.desk_after same.desk) (wrote_none call.sinks same.sinks)
@@ -149,7 +150,7 @@ unopened_faults status call is fails same =
     subst (λ s. AnswersItsFault s call) (sym is) (at_open call (ap (λ (s : SourceView). s.faults) fails.file) (wrote_none call.sinks same))
 
 archive_faults : (archive : List ℕ) (limit : ℕ) (q : QueryTree) (status : Status) (call : Call) → AnswersFile archive limit q status call → AnswersItsFault status call
-archive_faults archive limit q status call (archive_answered file opened answers) = answer_faults archive limit q file status call opened answers.says
+archive_faults archive limit q status call (archive_answered file opened answers) = answer_faults archive limit (texts_of q) file status call opened answers.says
 archive_faults archive limit q status call (archive_unopened is fails same) = unopened_faults status call is fails same
 archive_faults archive limit q status call (archive_out_of_memory is same) = unmoved_faults status call same
 
@@ -221,7 +222,7 @@ not_twice status s is e = sym is ∙ e
 
 archive_not_words : (archive : List ℕ) (limit : ℕ) (q : QueryTree) (status : Status) (call : Call) → AnswersFile archive limit q status call → status ≡ WordsRefused → ⊥
 archive_not_words archive limit q status call (archive_answered file opened answers) e =
-    subst (λ s. SaysOfAnswer s (record { query = q; limit = limit; source = file; source_after = call.desk_after.file; sinks = call.sinks })) e answers.says
+    subst (λ s. SaysOfAnswer s (texts_of q) (record { limit = limit; source = file; source_after = call.desk_after.file; sinks = call.sinks })) e answers.says
 archive_not_words archive limit q status call (archive_unopened is fails same) e = let f = not_twice status OpenFault is e in cc
 archive_not_words archive limit q status call (archive_out_of_memory is same) e = let f = not_twice status NoMemory is e in cc
 
@@ -328,7 +329,7 @@ archive_complete archive limit q status call short none (archive_answered file o
     answers.complete (record {
       archive = bytes_of short.told.files archive;
       tells = opened.bytes short.told short.tells;
-      within = short.within;
+      within = inl short.within;
       no_read = λ rose. none.reads (subst (λ n. Rose n call.desk_after.file.faults) opened.faults rose);
       no_write = none.writes;
     })

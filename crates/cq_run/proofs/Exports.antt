@@ -17,10 +17,13 @@ use Rattle.cq_shards.specs.declared.answers.Answer.TheVariants.{Match}
 use Rattle.cq_shards.specs.declared.answers.GameAnswer.{GameAnswer}
 use Rattle.cql_syntax.specs.Hits.{marked, keys, hits}
 use Rattle.cql_syntax.specs.Trees.{FilterTrees, QueryTree}
-use Rattle.cq_run.specs.Answer.{has_match, export_if}
-use Rattle.cq_run.specs.Exports.{AreExports, exports_of, match_if, matches_from, text_of}
-use Rattle.cq_run.specs.Outcomes.{Outcome}
-use Rattle.cq_run.specs.Writing.{InOrder, written}
+use Rattle.cq_shards.specs.Answers.{has_match}
+use Rattle.cq_run.specs.Answer.{export_if}
+use Rattle.cq_run.specs.Exports.{AreExports, exports_of, match_if, matches_from}
+use Rattle.cq_shards.specs.Answers.{text_of}
+use Rattle.cq_shards.specs.Outcomes.{Outcome}
+use Rattle.cq_run.specs.Writing.{InOrder}
+use Rattle.cq_run.specs.Asking.{written}
 
 pub only_values : (values : List ℤ) → values_in (map Some values) ≡ values
 only_values [] = refl

@@ -8,7 +8,8 @@ use Rattle.cq_shards.specs.Order.{AreApart, ComesBefore, HasKeys, directions, is
 use Rattle.cq_shards.specs.declared.answers.GameAnswer.{GameAnswer}
 use Rattle.cql_syntax.specs.TreeOf.{query_tree}
 use Rattle.cql_syntax.specs.declared.typed.TypedQuery.{TypedQuery}
-use Rattle.cq_run.specs.Exports.{exports_of, text_of}
+use Rattle.cq_run.specs.Exports.{exports_of}
+use Rattle.cq_shards.specs.Answers.{text_of}
 use Rattle.cq_run.specs.Writing.{InOrder}
 use Rattle.cq_run.proofs.Sinks.{grew_on, Took, took_count, took_on, prefix_of}
 

@@ -1,12 +1,14 @@
 mod Sinks
 mod Texts
-mod Braces
 mod SortItems
 mod Exports
 mod Answers
 mod Counting
 mod Kept
+mod Given
 mod Answered
 mod OneOutcome
+mod Reached
+mod Rounds
 mod Doing
 pub mod EveryText

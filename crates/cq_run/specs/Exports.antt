@@ -6,11 +6,10 @@ use Rattle.pgn_export.specs.Export.{export_text}
 use Rattle.cql_syntax.specs.Hits.{marked, keys}
 use Rattle.cql_syntax.specs.Trees.{QueryTree}
 use Rattle.cq_shards.specs.Order.{ComesBefore, directions, values_in}
-use Rattle.cq_shards.specs.declared.answers.Answer.{Answer}
-use Rattle.cq_shards.specs.declared.answers.Answer.TheVariants.{Refused, Miss, Match}
+use Rattle.cq_shards.specs.declared.answers.Answer.TheVariants.{Match}
 use Rattle.cq_shards.specs.declared.answers.GameAnswer.{GameAnswer}
-use Rattle.cq_run.specs.Answer.{has_match}
-use Rattle.cq_run.specs.Outcomes.{Outcome}
+use Rattle.cq_shards.specs.Answers.{has_match, text_of}
+use Rattle.cq_shards.specs.Outcomes.{Outcome}
 
 -- a game that matches: its number from 0, its export with its marks, and its keys
 abbrev pub match_if : QueryTree → ℕ → Outcome → List GameAnswer
@@ -23,11 +22,6 @@ match_if query number (Err fault) = []
 unfoldable pub matches_from : QueryTree → ℕ → List Outcome → List GameAnswer
 matches_from query number [] = []
 matches_from query number (r ∷ rs) = match_if query number r ++ matches_from query (number + 1) rs
-
-abbrev pub text_of : Answer → List ℕ
-text_of (Refused fault) = []
-text_of Miss = []
-text_of (Match text keys) = text
 
 abbrev pub exports_of : List GameAnswer → List ℕ
 exports_of answers = flat_map (λ a. text_of a.what) answers

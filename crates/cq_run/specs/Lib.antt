@@ -5,6 +5,7 @@ pub mod Answer
 pub mod Sorts
 pub mod Exports
 pub mod Promise
+pub mod Asking
 pub mod Writing
 pub mod SelfRun
 pub mod Run

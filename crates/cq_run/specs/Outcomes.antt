@@ -1,15 +1,10 @@
 -- How the games of an archive are read.
-use Rattle.std.specs.Prelude.{ℕ, List, [], ◌∷◌, Result}
-use Rattle.cq_position.specs.Games.{Game}
+use Rattle.std.specs.Prelude.{ℕ, List, [], ◌∷◌}
 use Rattle.pgn_cut.specs.declared.span.Span.{Span}
 use Rattle.pgn_cut.specs.Joined.{game_bytes}
 use Rattle.pgn_cut.specs.Cut.{cut}
-use Rattle.pgn_reader.specs.declared.fault.GameFault.{GameFault}
 use Rattle.pgn_reader.specs.Verdict.{IsRead}
-
--- what a game of an archive is read as: a game, or its first fault
-abbrev pub Outcome : Type 0
-Outcome = Result Game GameFault
+use Rattle.cq_shards.specs.Outcomes.{Outcome}
 
 -- the games of some spans of an archive are read as these
 abbrev pub AreRead : List ℕ → List Span → List Outcome → Type 0

@@ -4,12 +4,13 @@ use Rattle.std.specs.Io.KnownBytes.{Consumes, IsAtEnd}
 use Rattle.cq_outside.specs.Faults.{Rose}
 use Rattle.cq_outside.specs.Flow.{Grew, TakesAtMost}
 use Rattle.cq_outside.specs.Told.{Told}
-use Rattle.cql_syntax.specs.Trees.{QueryTree}
 use Rattle.cq_run.specs.declared.status.Status.{Status}
 use Rattle.cq_run.specs.declared.status.Status.TheVariants.{Done, DoneWithRefusals, ReadFault, WriteFault, NoMemory, ArchiveTooLong}
-use Rattle.cq_run.specs.Outcomes.{Outcome, HasGames}
-use Rattle.cq_run.specs.Answer.{report_of, tally_of}
-use Rattle.cq_run.specs.Exports.{AreExports}
+use Rattle.cq_shards.specs.Outcomes.{Outcome}
+use Rattle.cq_run.specs.Outcomes.{AreRead, HasGames}
+use Rattle.pgn_cut.specs.Cut.{closed}
+use Rattle.pgn_cut.specs.declared.span.Span.{Span}
+use Rattle.cq_shards.specs.Whole.{whole_spans}
 
 -- a source at one moment: the bytes that are left, where it tells them, and its count of faults
 pub record SourceView : Type 0 where
@@ -83,13 +84,22 @@ abbrev pub IsOneOf : Status → List Status → Type 0
 IsOneOf status [] = ⊥
 IsOneOf status (one ∷ more) = (status ≡ one) ⊎ IsOneOf status more
 
--- a call of `answer`: its query, the limit on the archive in bytes, and what it was lent, as the call began and as it ended
+-- a call of `answer`: the limit on the archive in bytes, and what it was lent, as the call began and as it ended
 pub record Answering : Type 0 where
-  pub query : QueryTree
   pub limit : ℕ
   pub source : SourceView
   pub source_after : SourceView
   pub sinks : Sinks
+
+-- What is asked to be written, of how the games of an archive are read. `ended`: of all games of an archive that was read to its
+-- end, so many of which are refused. `early`: of the games of the whole batches, where these suffice and no more is read. `faulted`: of
+-- the games of the whole batches, after a fault of reading. `reading`: of the closed games, of which a prefix is written while
+-- the archive is read.
+pub record Wanted : Type 1 where
+  pub ended : List Outcome → ℕ → Texts → Type 0
+  pub early : List Outcome → ℕ → Texts → Type 0
+  pub faulted : List Outcome → Texts → Type 0
+  pub reading : List Outcome → Texts → Type 0
 
 -- told bytes are these; where nothing is told they may be any
 abbrev pub MayBe : Option (List ℕ) → List ℕ → Type 0
@@ -119,69 +129,102 @@ pub record NothingFails (call : Answering) : Type 0 where
   pub source : call.source_after.faults ≡ call.source.faults
   pub sinks : NoWriteFailed call.sinks
 
--- out has taken the exports, and err the report
-pub record WritesWhole (query : QueryTree) (outcomes : List Outcome) (sinks : Sinks) : Type 0 where
-  pub exports : List ℕ
-  pub are : AreExports query outcomes exports
-  pub writes : Writes sinks (record { out = exports; err = report_of query outcomes })
+-- the sinks have taken some of these texts
+pub record WritesSome (Are : Texts → Type 0) (sinks : Sinks) : Type 0 where
+  pub texts : Texts
+  pub are : Are texts
+  pub writes : Writes sinks texts
 
--- of the exports a prefix was taken; it is empty as long as they are not in order
-abbrev pub TakesPart : QueryTree → List Outcome → SinkView → SinkView → Type 0
-TakesPart query outcomes out out_after =
-    Grew out.taken out_after.taken []
-    ⊎ ((exports : List ℕ) × AreExports query outcomes exports
-    × ((count : ℕ) × Grew out.taken out_after.taken (take count exports)))
+-- each sink has taken a prefix of one of these texts
+pub record WritesPart (Are : Texts → Type 0) (sinks : Sinks) : Type 0 where
+  pub texts : Texts
+  pub are : Are texts
+  pub writes : WritesPrefix sinks texts
 
--- out has taken a prefix of the exports, and err a prefix of the report
-pub record WritesPart (query : QueryTree) (outcomes : List Outcome) (sinks : Sinks) : Type 0 where
-  pub out : TakesPart query outcomes sinks.out sinks.out_after
-  pub err_count : ℕ
-  pub err : Grew sinks.err.taken sinks.err_after.taken (take err_count (report_of query outcomes))
+-- so many games are refused as is asked, and the sinks have taken the texts
+pub record WritesAll (Are : ℕ → Texts → Type 0) (AreRefused : ℕ → Type 0) (sinks : Sinks) : Type 0 where
+  pub refused : ℕ
+  pub is : AreRefused refused
+  pub writes : WritesSome (Are refused) sinks
 
--- The archive was read to its end; its games are read as these, and of what the query finds in them so much was taken.
-pub record Finds (call : Answering) (Takes : List Outcome → Type 0) : Type 0 where
+-- The bytes taken of the archive, and what some of its games are read as.
+pub record Finds (call : Answering) (games : List ℕ → List Span) (Holds : List ℕ → List Outcome → Type 0) : Type 0 where
+  pub front : List ℕ
+  pub outcomes : List Outcome
+  pub takes : Consumes call.source.left call.source_after.left front
+  pub few : length front ≤ call.limit + 1
+  pub are_read : AreRead front (games front) outcomes
+  pub holds : Holds front outcomes
+
+-- The archive was read to its end, and its games are read as these.
+pub record FindsAll (call : Answering) (Holds : List Outcome → Type 0) : Type 0 where
   pub archive : List ℕ
   pub outcomes : List Outcome
   pub reads : ReadsWhole call.limit call.source call.source_after archive
-  pub holds : HasGames archive outcomes
-  pub takes : Takes outcomes
+  pub are_read : HasGames archive outcomes
+  pub holds : Holds outcomes
 
--- so many games are refused as is asked, and out and err have the exports and the report
-pub record TakesAll (call : Answering) (AreRefused : ℕ → Type 0) (outcomes : List Outcome) : Type 0 where
-  pub refused : AreRefused (tally_of call.query outcomes).refused
-  pub writes : WritesWhole call.query outcomes call.sinks
+-- all was written: of all games, or of those that suffice
+abbrev pub Answers : Wanted → Answering → (ℕ → Type 0) → Type 0
+Answers wanted call AreRefused =
+    (FindsAll call (λ outcomes. WritesAll (wanted.ended outcomes) AreRefused call.sinks)
+    ⊎ Finds call whole_spans (λ front outcomes. WritesAll (wanted.early outcomes) AreRefused call.sinks))
+    × NothingFails call
 
-abbrev pub Answers : Answering → (ℕ → Type 0) → Type 0
-Answers call AreRefused = Finds call (TakesAll call AreRefused) × NothingFails call
+-- the texts of an archive that was read to its end, and those before its end
+abbrev pub Unfinished : Wanted → List Outcome → Texts → Type 0
+Unfinished wanted outcomes texts = wanted.reading outcomes texts ⊎ ((refused : ℕ) × wanted.ended outcomes refused texts)
 
--- each sink has taken a prefix of its text
-abbrev pub Stops : Answering → Type 0
-Stops call = Finds call (λ outcomes. WritesPart call.query outcomes call.sinks)
+-- each sink has taken a prefix of its text, as the archive was read or once it was
+abbrev pub Stops : Wanted → Answering → Type 0
+Stops wanted call =
+    Finds call closed (λ front outcomes. WritesPart (wanted.reading outcomes) call.sinks)
+    ⊎ FindsAll call (λ outcomes. WritesPart (Unfinished wanted outcomes) call.sinks)
+
+-- after a fault of reading: what the games of the whole batches give was written
+abbrev pub Breaks : Wanted → Answering → (ℕ → Type 0) → Type 0
+Breaks wanted call AreTaken =
+    Finds call whole_spans (λ front outcomes. AreTaken (length front) × WritesSome (wanted.faulted outcomes) call.sinks)
 
 -- what each status says
-abbrev pub SaysOfAnswer : Status → Answering → Type 0
-SaysOfAnswer Done call = Answers call (λ refused. refused ≡ 0)
-SaysOfAnswer DoneWithRefusals call = Answers call (λ refused. 0 < refused)
-SaysOfAnswer ReadFault call = Rose call.source.faults call.source_after.faults × IsUnwritten call.sinks
-SaysOfAnswer WriteFault call = OneSinkFailed call.sinks × (call.source_after.faults ≡ call.source.faults) × Stops call
-SaysOfAnswer NoMemory call = (IsUnwritten call.sinks ⊎ Stops call) × NothingFails call
-SaysOfAnswer ArchiveTooLong call = TakesTooMuch call.limit call.source call.source_after × IsUnwritten call.sinks × NothingFails call
-SaysOfAnswer _ call = ⊥
+abbrev pub SaysOfAnswer : Status → Wanted → Answering → Type 0
+SaysOfAnswer Done wanted call = Answers wanted call (λ refused. refused ≡ 0)
+SaysOfAnswer DoneWithRefusals wanted call = Answers wanted call (λ refused. 0 < refused)
+SaysOfAnswer ReadFault wanted call =
+    Rose call.source.faults call.source_after.faults × NoWriteFailed call.sinks × Breaks wanted call (λ taken. Unit {0})
+SaysOfAnswer WriteFault wanted call =
+    OneSinkFailed call.sinks × (call.source_after.faults ≡ call.source.faults) × Stops wanted call
+SaysOfAnswer NoMemory wanted call = Stops wanted call × NothingFails call
+SaysOfAnswer ArchiveTooLong wanted call = Breaks wanted call (λ taken. call.limit < taken) × NothingFails call
+SaysOfAnswer _ wanted call = ⊥
 
--- an archive within the limit, and no count that rose
-pub record AnswersAll (call : Answering) : Type 0 where
+-- the games of the whole batches of some bytes suffice
+pub record Suffices (wanted : Wanted) (front : List ℕ) : Type 0 where
+  pub outcomes : List Outcome
+  pub are_read : AreRead front (whole_spans front) outcomes
+  pub refused : ℕ
+  pub texts : Texts
+  pub early : wanted.early outcomes refused texts
+
+-- the games of the whole batches of the bytes taken suffice
+abbrev pub EndsEarly : Wanted → Answering → Type 0
+EndsEarly wanted call = (front : List ℕ) × Consumes call.source.left call.source_after.left front × Suffices wanted front
+
+-- an archive within the limit, or one of which less suffices, and no count that rose
+pub record AnswersAll (wanted : Wanted) (call : Answering) : Type 0 where
   pub archive : List ℕ
   pub tells : call.source.left ≡ Some archive
-  pub within : length archive ≤ call.limit
+  pub within : (length archive ≤ call.limit) ⊎ Suffices wanted (take call.limit archive)
   pub no_read : Rose call.source.faults call.source_after.faults → ⊥
   pub no_write : SinkFailed call.sinks → ⊥
 
 -- what `answer` promises of its status
-pub record AnswerPromise (status : Status) (call : Answering) : Type 0 where
-  pub says : SaysOfAnswer status call
+pub record AnswerPromise (wanted : Wanted) (status : Status) (call : Answering) : Type 0 where
+  pub says : SaysOfAnswer status wanted call
   pub takes : TakesAtMost (call.limit + 1) call.source.left call.source_after.left
-  pub too_long_always : Overruns call.limit call.source call.source_after → IsOneOf status (ArchiveTooLong ∷ NoMemory ∷ [])
-  pub complete : AnswersAll call → IsOneOf status (Done ∷ DoneWithRefusals ∷ NoMemory ∷ [])
+  pub too_long_always : Overruns call.limit call.source call.source_after
+      → IsOneOf status (ArchiveTooLong ∷ WriteFault ∷ NoMemory ∷ []) ⊎ EndsEarly wanted call
+  pub complete : AnswersAll wanted call → IsOneOf status (Done ∷ DoneWithRefusals ∷ NoMemory ∷ [])
 
 -- the views of a source, a desk and the sinks, by what their types tell
 abbrev pub source_view : {S : Type 0} → (S → Option (List ℕ)) → (S → ℕ) → S → SourceView

@@ -23,6 +23,7 @@ use Rattle.cq_run.specs.declared.status.Status.TheVariants.{Done, DoneWithRefusa
 use Rattle.cq_run.specs.declared.status.Status.TheVariants.{OpenFault, ReadFault, WriteFault, NoMemory}
 use Rattle.cq_run.specs.Queries.{IsQuery, IsQueryFault}
 use Rattle.cq_run.specs.SelfRun.{WritesMade}
+use Rattle.cq_run.specs.Asking.{texts_of}
 use Rattle.cq_run.specs.Promise.{SourceView, DeskView, Sinks, Texts, Writes, WritesPrefix, IsUnwritten, NoWriteFailed}
 use Rattle.cq_run.specs.Promise.{OutFailed, ErrFailed, SinkFailed, IsOneOf, AnswerPromise}
 
@@ -132,8 +133,7 @@ WritesFlat query _ sinks = ⊥
 -- A query that is accepted is answered over the archive in a file, of which so many bytes are the limit.
 pub data AnswersFile (archive : List ℕ) (limit : ℕ) (query : QueryTree) (status : Status) (call : Call) : Type 0 where
   archive_answered : (file : SourceView) → Opened archive call.desk call.desk_after file
-      → AnswerPromise status (record {
-        query = query;
+      → AnswerPromise (texts_of query) status (record {
         limit = limit;
         source = file;
         source_after = call.desk_after.file;

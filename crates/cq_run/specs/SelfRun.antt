@@ -8,7 +8,8 @@ use Rattle.cq_run.specs.declared.status.Status.TheVariants.{Done, DoneWithRefusa
 use Rattle.cq_run.specs.declared.totals.Totals.{Totals}
 use Rattle.cq_run.specs.Answer.{export_if, tally_of}
 use Rattle.cq_run.specs.Exports.{AreExports}
-use Rattle.cq_run.specs.Outcomes.{Outcome, HasGames}
+use Rattle.cq_shards.specs.Outcomes.{Outcome}
+use Rattle.cq_run.specs.Outcomes.{HasGames}
 use Rattle.cq_run.specs.Promise.{Sinks, Texts, Writes, WritesPrefix, IsUnwritten, NoWriteFailed, OutFailed}
 
 -- Of the games of an archive: how many there are, match and are refused, and how long their exports are together. In any order they are
@@ -20,6 +21,14 @@ pub record AreTotals (query : QueryTree) (archive : List ℕ) (totals : Totals) 
   pub tally : totals.tally ≡ tally_of query outcomes
   pub written : totals.written ≡ length (flat_map (export_if query) outcomes)
   pub as_run : (exports : List ℕ) → AreExports query outcomes exports → totals.written ≡ length exports
+
+-- the totals of an archive of so many bytes, of whose games these are read
+abbrev pub totals_of : QueryTree → ℕ → List Outcome → Totals
+totals_of query bytes outcomes = record {
+  bytes = bytes;
+  tally = tally_of query outcomes;
+  written = length (flat_map (export_if query) outcomes);
+}
 
 -- the line of totals
 abbrev pub line_of : Totals → List ℕ

@@ -1,5 +1,5 @@
 -- What answering an archive, and each game of it, leaves, as the private functions give it.
-use Rattle.std.specs.Prelude.{◌≡◌, ℕ, ◌+◌, ◌<◌, Bool, List, [], ◌++◌, length, take, filter, All, AllPairs, Result, Ok, Err, if◌then◌else◌}
+use Rattle.std.specs.Prelude.{◌≡◌, ◌≢◌, ℕ, ◌+◌, ◌<◌, Bool, List, [], ◌∷◌, ◌++◌, length, take, filter, All, AllPairs, Result, Ok, Err, if◌then◌else◌}
 use Rattle.std.specs.List.Sorted.{IsPermutation}
 use Rattle.cq_outside.specs.Faults.{Rose}
 use Rattle.cq_outside.specs.Flow.{Grew}
@@ -11,12 +11,15 @@ use Rattle.cq_run.specs.declared.status.Status.TheVariants.{Done, DoneWithRefusa
 use Rattle.cq_run.specs.declared.tally.Tally.{Tally}
 use Rattle.cq_run.specs.declared.totals.Totals.{Totals}
 use Rattle.cql_syntax.specs.Trees.{QueryTree}
+use Rattle.cq_report.specs.Games.{fault_line}
+use Rattle.pgn_reader.specs.declared.fault.GameFault.{GameFault}
 use Rattle.cq_shards.specs.Order.{AreApart, ComesBefore, HasKeys, directions, is_match as is_match_kept}
 use Rattle.cq_shards.specs.declared.answers.GameAnswer.{GameAnswer}
-use Rattle.cq_run.specs.Outcomes.{Outcome, HasGames}
+use Rattle.cq_shards.specs.Outcomes.{Outcome}
 use Rattle.cq_run.specs.Answer.{export_if, fault_if, is_match, is_refused, summary_of, tally_of}
-use Rattle.cq_run.specs.Exports.{exports_of, match_if}
-use Rattle.cq_run.specs.Promise.{SinkView, Sinks, Texts, Writes, WritesPrefix, WritesWhole, WritesPart, IsUnwritten}
+use Rattle.cq_run.specs.Exports.{exports_of, match_if, matches_from}
+use Rattle.cq_run.specs.Asking.{AreAnswers, texts_of, texts_so_far, written}
+use Rattle.cq_run.specs.Promise.{SinkView, Sinks, Texts, Writes, WritesPrefix, WritesAll, WritesPart, Unfinished, IsUnwritten}
 use Rattle.cq_run.specs.Promise.{OneSinkFailed, NoWriteFailed}
 
 -- writing a text to a sink: all of it was taken, or its count rose and a prefix was
@@ -25,6 +28,14 @@ WritesText text before after (Ok _) = Grew before.taken after.taken text × (aft
 WritesText text before after (Err (Fault _)) =
     ((count : ℕ) × Grew before.taken after.taken (take count text)) × Rose before.faults after.faults
 WritesText text before after (Err IsNoMemory) = ⊥
+
+-- writing the line of a faulty game, of which nothing is written out of memory
+abbrev pub WritesFault : ℕ → GameFault → SinkView → SinkView → Result (Unit {0}) (Refusal Failed) → Type 0
+WritesFault number fault before after (Ok _) =
+    Grew before.taken after.taken (fault_line number fault) × (after.faults ≡ before.faults)
+WritesFault number fault before after (Err (Fault _)) =
+    ((count : ℕ) × Grew before.taken after.taken (take count (fault_line number fault))) × Rose before.faults after.faults
+WritesFault number fault before after (Err IsNoMemory) = after ≡ before
 
 -- writing the last line of a report: the status tells whether a game is refused, or why not all of it is written
 abbrev pub WritesSummary : Tally → SinkView → SinkView → Status → Type 0
@@ -45,13 +56,13 @@ tallied query tally outcome = record {
   refused = tally.refused + (if is_refused outcome then 1 else 0);
 }
 
--- What is written of a game as it is answered, and what is kept until the games can be put in order: with a sort item the games that
--- match are kept, without one their exports are written.
-abbrev pub written : (sorted : Bool) → QueryTree → Outcome → List ℕ
-written sorted query outcome = if sorted then [] else export_if query outcome
-
+-- What is kept of a game until the games can be put in order: with a sort item the games that match.
 abbrev pub kept_if : (sorted : Bool) → QueryTree → ℕ → Outcome → List GameAnswer
 kept_if sorted query number outcome = if sorted then match_if query number outcome else []
+
+-- the games that are kept, of these with this number and the next ones
+abbrev pub kept_from : (sorted : Bool) → QueryTree → ℕ → List Outcome → List GameAnswer
+kept_from sorted query number outcomes = if sorted then matches_from query number outcomes else []
 
 -- what is written of the game that follows so many
 abbrev pub texts_of_game : (sorted : Bool) → QueryTree → ℕ → Outcome → Texts
@@ -73,15 +84,27 @@ onward sorted query stand outcome = record {
 }
 
 -- one game is answered: it is counted and written or kept, or a write fails, or out of memory nothing of it is written
-abbrev pub AnswersGame : (sorted : Bool) → QueryTree → (Outcome → Type 0) → Stand → Stand → Sinks
-    → Result (Unit {0}) (Refusal Failed) → Type 0
-AnswersGame sorted query Reads before after sinks (Ok _) =
-    (outcome : Outcome) × Reads outcome × (after ≡ onward sorted query before outcome)
+abbrev pub AnswersGame : (sorted : Bool) → QueryTree → Outcome → Stand → Stand → Sinks → Result (Unit {0}) (Refusal Failed) → Type 0
+AnswersGame sorted query outcome before after sinks (Ok _) =
+    (after ≡ onward sorted query before outcome)
     × Writes sinks (texts_of_game sorted query before.tally.games outcome) × NoWriteFailed sinks
-AnswersGame sorted query Reads before after sinks (Err (Fault _)) =
-    (outcome : Outcome) × Reads outcome
-    × WritesPrefix sinks (texts_of_game sorted query before.tally.games outcome) × OneSinkFailed sinks
-AnswersGame sorted query Reads before after sinks (Err IsNoMemory) = IsUnwritten sinks
+AnswersGame sorted query outcome before after sinks (Err (Fault _)) =
+    WritesPrefix sinks (texts_of_game sorted query before.tally.games outcome) × OneSinkFailed sinks
+AnswersGame sorted query outcome before after sinks (Err IsNoMemory) = IsUnwritten sinks
+
+-- the games with these outcomes are answered: counted and kept, and what is to be written of them is written
+pub record FoundSoFar (sorted : Bool) (query : QueryTree) (outcomes : List Outcome) (sinks : Sinks) (stand : Stand) : Type 0 where
+  pub is : stand ≡ stand_of (tally_of query outcomes) (kept_from sorted query 0 outcomes)
+  pub writes : Writes sinks (texts_so_far sorted query outcomes)
+  pub unfailed : NoWriteFailed sinks
+
+-- the same after a call that may be refused
+abbrev pub AnswersSome : (sorted : Bool) → QueryTree → List Outcome → Sinks → Stand → Result (Unit {0}) (Refusal Failed) → Type 0
+AnswersSome sorted query outcomes sinks stand (Ok _) = FoundSoFar sorted query outcomes sinks stand
+AnswersSome sorted query outcomes sinks stand (Err (Fault _)) =
+    WritesPrefix sinks (texts_so_far sorted query outcomes) × OneSinkFailed sinks
+AnswersSome sorted query outcomes sinks stand (Err IsNoMemory) =
+    WritesPrefix sinks (texts_so_far sorted query outcomes) × NoWriteFailed sinks
 
 -- the matches that were kept are written in the order of a query, as far as is taken
 pub record InOrder (query : QueryTree) (answers ordered : List GameAnswer) : Type 0 where
@@ -98,21 +121,17 @@ WritesKept query answers before after (Err (Fault _)) =
     × ((count : ℕ) × Grew before.taken after.taken (take count (exports_of ordered))) × Rose before.faults after.faults
 WritesKept query answers before after (Err IsNoMemory) = after ≡ before
 
--- what each status says of the sinks
+-- what each status says of the sinks, where all games have these outcomes
 abbrev pub WritesAnswer : QueryTree → List Outcome → Sinks → Status → Type 0
 WritesAnswer query outcomes sinks Done =
-    ((tally_of query outcomes).refused ≡ 0) × WritesWhole query outcomes sinks × NoWriteFailed sinks
+    WritesAll (AreAnswers query outcomes) (λ refused. refused ≡ 0) sinks × NoWriteFailed sinks
 WritesAnswer query outcomes sinks DoneWithRefusals =
-    (0 < (tally_of query outcomes).refused) × WritesWhole query outcomes sinks × NoWriteFailed sinks
-WritesAnswer query outcomes sinks WriteFault = OneSinkFailed sinks × WritesPart query outcomes sinks
-WritesAnswer query outcomes sinks NoMemory = WritesPart query outcomes sinks × NoWriteFailed sinks
+    WritesAll (AreAnswers query outcomes) (λ refused. 0 < refused) sinks × NoWriteFailed sinks
+WritesAnswer query outcomes sinks WriteFault =
+    WritesPart (Unfinished (texts_of query) outcomes) sinks × OneSinkFailed sinks
+WritesAnswer query outcomes sinks NoMemory =
+    WritesPart (Unfinished (texts_of query) outcomes) sinks × NoWriteFailed sinks
 WritesAnswer query outcomes sinks _ = ⊥
-
--- the games of an archive are read as these, and what the query finds in them is written
-pub record AnswersArchive (query : QueryTree) (archive : List ℕ) (sinks : Sinks) (status : Status) : Type 0 where
-  pub outcomes : List Outcome
-  pub holds : HasGames archive outcomes
-  pub writes : WritesAnswer query outcomes sinks status
 
 -- one game more of a made archive is counted
 abbrev pub counted : QueryTree → Totals → Outcome → Totals
@@ -121,6 +140,3 @@ counted query before outcome = record {
   tally = tallied query before.tally outcome;
   written = before.written + length (export_if query outcome);
 }
-
-abbrev pub CountsGame : QueryTree → (Outcome → Type 0) → Totals → Totals → Type 0
-CountsGame query Reads before after = (outcome : Outcome) × Reads outcome × (after ≡ counted query before outcome)

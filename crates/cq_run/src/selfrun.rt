@@ -1,44 +1,51 @@
 //! Answering a query over an archive that is made. The exports are not written, but their bytes are counted.
-ghost use Rattle.std.specs.Prelude.{◌≡◌, ◌+◌, ◌*◌, ◌<◌, ◌≤◌, ◌^◌, IfOk, Ok, length};
+ghost use Rattle.std.specs.Prelude.{◌≡◌, ◌+◌, ◌*◌, ◌<◌, ◌≤◌, ◌^◌, ◌++◌, [], ℕ, List, length, IfOk};
 ghost use Rattle.cql_syntax.specs.TreeOf.{query_tree};
-ghost use Rattle.pgn_cut.specs.Joined.{game_bytes};
-ghost use Rattle.pgn_cut.specs.OneGame.{IsGameIn};
-ghost use Rattle.pgn_cut.specs.Spans.{EndsBy};
-ghost use Rattle.pgn_reader.specs.Verdict.{IsRead};
+ghost use Rattle.cql_syntax.specs.Trees.{QueryTree};
 ghost use Rattle.cq_maker.specs.Made.{made};
+ghost use Rattle.cq_shards.specs.Answers.{answer_of, answers_from, query_in};
+ghost use Rattle.cq_shards.specs.Outcomes.{Outcome};
 ghost use Rattle.cq_run.specs.Asked.{call_of};
 ghost use Rattle.cq_run.specs.Promise.{DeskView, SinkView, sink_view, sinks_of};
 ghost use Rattle.cq_run.specs.Run.{OverText, RunsMade};
-ghost use Rattle.cq_run.specs.SelfRun.{AreTotals, WritesMade, WritesTotals};
-ghost use Rattle.cq_run.specs.Writing.{CountsGame, counted};
+ghost use Rattle.cq_run.specs.SelfRun.{AreTotals, WritesMade, WritesTotals, totals_of};
+ghost use Rattle.cq_run.specs.Writing.{counted};
 
 use crate::asked::{read_query, refuse};
-use crate::finding::find;
-use crate::games::marked_text;
 use crate::status::Status;
+use crate::streaming::batch_answers;
 use crate::tally::Tally;
 use crate::totals::Totals;
 use cq_maker::laws::archives_are_short;
 use cq_maker::make_archive;
-use cq_outside::{NoMemory, Refusal, Sink, write_all_of};
+use cq_outside::{Bytes, Gate, NoMemory, Refusal, Sink, SureSource, write_all_of};
 use cq_report::made_line;
+use cq_shards::laws::batches_stay;
+use cq_shards::{Answer, Batches, GameAnswer};
 use cql_plan::Plan;
 use cql_syntax::TypedQuery;
-use pgn_cut::{Span, cut_whole, games_end_once};
-use pgn_reader::read_game;
-use pgn_tree::Game;
+use pgn_cut::{closed_games_stay, games_stand_apart};
+use pgn_reader::{first_bytes_decide, games_have_outcomes};
 use std::alloc::Global;
+use std::thread::Threads;
+
+/// A limit that no made archive reaches, in bytes.
+const LIMIT: u64 = 1 << 40;
 
 /// Answers the query that a text is over the archive of so many games that a seed gives: `out` takes one line with the counts.
-pub fn answer_text_over_made<O: Sink, E: Sink>(
+pub fn answer_text_over_made<R: Threads + Sync, O: Sink, E: Sink, G: Gate + Sync>(
+    rt: &R,
     alloc: Global,
     text: &[u8],
     seed: u32,
     games: u32,
+    workers: u32,
     out: &mut O,
     err: &mut E,
+    gate: &G,
 ) -> Status
-    requires { games ≤ 100000 }
+    requires games { games ≤ 100000 }
+    requires workers { (1 ≤ workers) × (workers ≤ 64) }
     ensures { (desk : DeskView) → OverText text.now (RunsMade seed games) result (call_of desk desk
         (sinks_of (sink_view O.taken O.faults out.old) (sink_view O.taken O.faults out.new)
         (sink_view E.taken E.faults err.old) (sink_view E.taken E.faults err.new))) }
@@ -48,130 +55,161 @@ pub fn answer_text_over_made<O: Sink, E: Sink>(
         Err(Refusal::Fault(fault)) => return refuse(alloc, &fault, err),
         Err(Refusal::NoMemory) => return Status::NoMemory,
     };
-    answer_made(alloc, &query, seed, games, out)
+    answer_made(rt, alloc, &query, seed, games, workers, out, gate)
 }
 
 // Answers a query that is accepted over the archive of so many games that a seed gives.
-fn answer_made<O: Sink>(
+fn answer_made<R: Threads + Sync, O: Sink, G: Gate + Sync>(
+    rt: &R,
     alloc: Global,
     query: &TypedQuery,
     seed: u32,
     games: u32,
+    workers: u32,
     out: &mut O,
+    gate: &G,
 ) -> Status
-    requires { games ≤ 100000 }
+    requires games { games ≤ 100000 }
+    requires workers { (1 ≤ workers) × (workers ≤ 64) }
     ensures { (err : SinkView) → WritesMade (made seed games) (query_tree query.now.query) result
         (sinks_of (sink_view O.taken O.faults out.old) (sink_view O.taken O.faults out.new) err err) }
 {
-    match made_totals(alloc, query, seed, games) {
+    match made_totals(rt, alloc, query, seed, games, workers, gate) {
         Ok(totals) => write_totals(alloc, totals, out),
         Err(_) => Status::NoMemory,
     }
 }
 
 // What a query finds in the archive of so many games that a seed gives.
-fn made_totals(alloc: Global, query: &TypedQuery, seed: u32, games: u32) -> Result<Totals, NoMemory>
-    requires { games ≤ 100000 }
+fn made_totals<R: Threads + Sync, G: Gate + Sync>(
+    rt: &R,
+    alloc: Global,
+    query: &TypedQuery,
+    seed: u32,
+    games: u32,
+    workers: u32,
+    gate: &G,
+) -> Result<Totals, NoMemory>
+    requires games { games ≤ 100000 }
+    requires workers { (1 ≤ workers) × (workers ≤ 64) }
     ensures { IfOk result (AreTotals (query_tree query.now.query) (made seed games)) }
 {
     archives_are_short();
     let plan = Plan::make(alloc, query)?;
     let archive = make_archive(alloc, seed, games)?;
-    count_archive(alloc, &plan, archive.as_slice())
+    count_archive(rt, alloc, &plan, archive, workers, gate)
 }
 
-// What the query of a plan finds in an archive of fewer than 2^62 bytes.
-fn count_archive(alloc: Global, plan: &Plan, archive: &[u8]) -> Result<Totals, NoMemory>
-    requires size { length archive.now < 2 ^ 62 }
-    ensures { IfOk result (AreTotals (query_tree plan.now.query.query) archive.now) }
+// What the query of a plan finds in an archive within the limit, batch by batch.
+fn count_archive<R: Threads + Sync, G: Gate + Sync>(
+    rt: &R,
+    alloc: Global,
+    plan: &Plan,
+    archive: Bytes,
+    workers: u32,
+    gate: &G,
+) -> Result<Totals, NoMemory>
+    requires size { length archive ≤ 2 ^ 40 }
+    requires workers { (1 ≤ workers) × (workers ≤ 64) }
+    ensures { IfOk result (AreTotals (query_in plan.now) archive) }
 {
-    games_end_once();
-    let games = cut_whole(alloc, archive)?;
-    let mut totals = Totals {
-        bytes: archive.len() as u64,
+    games_have_outcomes();
+    first_bytes_decide();
+    closed_games_stay();
+    games_stand_apart();
+    batches_stay();
+    let mut totals = no_totals(archive.len() as u64);
+    let mut source = SureSource::new(archive);
+    let mut batches = Batches::new(alloc, LIMIT);
+    for _turn in 0..LIMIT + 3 {
+        let batch = match batches.next(&mut source) {
+            Ok(Some(batch)) => batch,
+            Ok(None) => return Ok(totals),
+            Err(Refusal::Fault(_)) => unreachable!(),
+            Err(Refusal::NoMemory) => return Err(NoMemory),
+        };
+        let answers = batch_answers(rt, alloc, plan, &batch, workers, gate)?;
+        let after = count_answers(totals, answers);
+        totals = after;
+    }
+    unreachable!()
+}
+
+// Of an archive of so many bytes, before the first game.
+fn no_totals(bytes: u64) -> Totals
+    ensures { (query : QueryTree) → result ≡ totals_of query bytes [] }
+{
+    Totals {
+        bytes,
         tally: Tally {
             games: 0,
             matched: 0,
             refused: 0,
         },
         written: 0,
-    };
-    for i in 0..games.len() {
-        let game = games[i];
-        let after = count_game(alloc, plan, archive, game, totals)?;
+    }
+}
+
+// The totals with the games of these answers, which follow those before.
+fn count_answers(before: Totals, answers: Vec<GameAnswer>) -> Totals
+    requires games { before.tally.games + length answers.items < 2 ^ 63 }
+    requires matched { before.tally.matched ≤ before.tally.games }
+    requires refused { before.tally.refused ≤ before.tally.games }
+    requires written { before.written ≤ 2 ^ 64 * before.tally.games }
+    ensures counts { (query : QueryTree) (bytes : ℕ) (rs qs : List Outcome) → answers.items ≡ answers_from query (length rs) qs
+        → before ≡ totals_of query bytes rs → result ≡ totals_of query bytes (rs ++ qs) }
+    ensures written { result.written ≤ 2 ^ 64 * result.tally.games }
+{
+    let mut totals = before;
+    for answer in answers {
+        let after = count_answer(totals, &answer);
         totals = after;
     }
-    Ok(totals)
+    totals
 }
 
 // The totals with one game more.
-fn count_game(
-    alloc: Global,
-    plan: &Plan,
-    archive: &[u8],
-    game: Span,
-    before: Totals,
-) -> Result<Totals, NoMemory>
-    requires within { EndsBy (length archive.now) game }
-    requires size { length archive.now < 2 ^ 62 }
-    requires one { IsGameIn archive.now game }
+fn count_answer(before: Totals, answer: &GameAnswer) -> Totals
     requires games { before.tally.games < 2 ^ 63 }
     requires matched { before.tally.matched ≤ before.tally.games }
     requires refused { before.tally.refused ≤ before.tally.games }
     requires written { before.written ≤ 2 ^ 64 * before.tally.games }
-    ensures counts { IfOk result (CountsGame (query_tree plan.now.query.query)
-        (IsRead game.start game.first (game_bytes archive.now game)) before) }
-    ensures written { IfOk result (λ after. after.written ≤ 2 ^ 64 * after.tally.games) }
+    ensures counts { (query : QueryTree) (outcome : Outcome) (n : ℕ) → answer.now ≡ answer_of query n outcome
+        → result ≡ counted query before outcome }
+    ensures games { result.tally.games ≡ before.tally.games + 1 }
+    ensures matched { result.tally.matched ≤ result.tally.games }
+    ensures refused { result.tally.refused ≤ result.tally.games }
+    ensures written { result.written ≤ 2 ^ 64 * result.tally.games }
 {
-    let bytes = &archive[game.start as usize..game.end as usize];
-    match read_game(alloc, bytes, game.start, game.first) {
-        Ok(game) => count_match(alloc, plan, &game, before),
-        Err(Refusal::Fault(_)) => Ok(Totals {
-            bytes: before.bytes,
-            tally: Tally {
-                games: before.tally.games + 1,
-                matched: before.tally.matched,
-                refused: before.tally.refused + 1,
-            },
-            written: before.written,
-        }),
-        Err(Refusal::NoMemory) => Err(NoMemory),
+    match &answer.what {
+        Answer::Miss => one_more(before, 0, 0, 0),
+        Answer::Refused(_) => one_more(before, 0, 1, 0),
+        Answer::Match { text, .. } => one_more(before, 1, 0, text.len() as u128),
     }
 }
 
-// The totals with one game more that was read.
-fn count_match(alloc: Global, plan: &Plan, game: &Game, before: Totals) -> Result<Totals, NoMemory>
+// The totals with one game more, of which so many match and are refused, and whose export has so many bytes.
+fn one_more(before: Totals, matched: u64, refused: u64, written: u128) -> Totals
     requires games { before.tally.games < 2 ^ 63 }
-    requires matched { before.tally.matched ≤ before.tally.games }
-    requires written { before.written ≤ 2 ^ 64 * before.tally.games }
-    ensures counts { IfOk result (λ after. after ≡ counted (query_tree plan.now.query.query) before (Ok game.now)) }
-    ensures written { IfOk result (λ after. after.written ≤ 2 ^ 64 * after.tally.games) }
+    requires matched { before.tally.matched + matched ≤ before.tally.games + 1 }
+    requires refused { before.tally.refused + refused ≤ before.tally.games + 1 }
+    requires few { before.written ≤ 2 ^ 64 * before.tally.games }
+    requires written { written < 2 ^ 64 }
+    ensures { result ≡ record {
+      bytes = before.bytes;
+      tally = record { games = before.tally.games + 1; matched = before.tally.matched + matched; refused = before.tally.refused + refused };
+      written = before.written + written;
+    } }
 {
-    let found = find(alloc, plan, game)?;
-    let hits = found.nodes();
-    let games = before.tally.games + 1;
-    let refused = before.tally.refused;
-    if hits.is_empty() {
-        return Ok(Totals {
-            bytes: before.bytes,
-            tally: Tally {
-                games,
-                matched: before.tally.matched,
-                refused,
-            },
-            written: before.written,
-        });
-    }
-    let text = marked_text(alloc, plan, game, hits)?;
-    Ok(Totals {
+    Totals {
         bytes: before.bytes,
         tally: Tally {
-            games,
-            matched: before.tally.matched + 1,
-            refused,
+            games: before.tally.games + 1,
+            matched: before.tally.matched + matched,
+            refused: before.tally.refused + refused,
         },
-        written: before.written + text.len() as u128,
-    })
+        written: before.written + written,
+    }
 }
 
 // Writes the line of some totals.

@@ -35,18 +35,20 @@ const USAGE: &[u8] =
 ///   by default 100, from `--seed S`, from 0 to 2^32 - 1 and by default 1: `out` takes one line, `bytes B games G matched M refused
 ///   R written W`, where B is the length of the archive and W that of the exports, and no file is opened.
 ///
-/// `run`, `eval` and `selfrun` take `--workers N`, from 1 to 64, which has no effect yet, and `run` and `eval` `--limit B`, from
-/// 1 to 2^40: more than so many bytes of an archive are refused. Of a query's file at most 65,537 bytes are taken. A query with a
-/// fault is refused by a line on `err`, `query byte B: REASON`, before the archive is opened, and other words by the usage line.
-/// `rt` and `gate` are not used yet.
+/// `run`, `eval` and `selfrun` take `--workers N`, from 1 to 64, the number of workers that answer the games of a batch, in threads of
+/// `rt`; each tells `gate` as it enters and leaves a game. `run` and `eval` take `--limit B`, from 1 to 2^40: more than so many bytes
+/// of an archive are refused. Of a query's file at most 65,537 bytes are taken. A query with a fault is refused by a line on `err`,
+/// `query byte B: REASON`, before the archive is opened, and other words by the usage line.
 ///
 /// Answers:
 /// - `Done` or `DoneWithRefusals`: both sinks have taken all, and no game, or some, is faulty. `check` and `explain` answer `Done`.
 /// - `QueryRefused` or `WordsRefused`: the query has a fault, or the words are refused; the line is written.
-/// - `OpenFault` or `ReadFault`: that count of the desk rose, and no other; nothing is written.
+/// - `OpenFault`: that count of the desk rose, and no other; nothing is written.
+/// - `ReadFault`: that count of the desk rose, and no other. Of the games of the whole batches that were read the lines of the faulty
+///   ones are written, and the exports where the query has no sort item.
 /// - `WriteFault`: the count of one sink rose, and no other. Each sink has taken a prefix of its text.
 /// - `NoMemory`: no memory was found, and no count rose; each sink has taken a prefix of its text.
-/// - `ArchiveTooLong`: more bytes of the archive than the limit were taken; nothing is written.
+/// - `ArchiveTooLong`: more bytes of the archive than the limit were taken; written is as much as after a fault of reading.
 ///
 /// In all the others no count rose. The clause `Promise` says each of these exactly, and when an answer always comes; the
 /// table of statuses in README says what the program's user sees of it.
@@ -133,8 +135,11 @@ fn do_job<R: Threads + Sync, D: Desk, O: Sink, E: Sink, G: Gate + Sync>(
             text,
             seed,
             games,
-            ..
-        } => answer_text_over_made(alloc, text.as_slice(), *seed, *games, out, err),
+            workers,
+        } => {
+            let text = text.as_slice();
+            answer_text_over_made(rt, alloc, text, *seed, *games, *workers, out, err, gate)
+        }
     }
 }
 

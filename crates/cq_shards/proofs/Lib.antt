@@ -6,3 +6,13 @@ pub mod Counts
 pub mod OnlyOrder
 pub mod OneWay
 pub mod Values
+pub mod Batching
+pub mod KeptStay
+pub mod Queues
+pub mod Windows
+pub mod Streams
+pub mod Filling
+pub mod Braces
+pub mod Found
+pub mod Drains
+pub mod Beside

@@ -1,3 +1,14 @@
+pub mod Kept
+pub mod Batching
+pub mod Whole
+pub mod Windows
+pub mod Queues
+pub mod Streams
+pub mod Filling
+pub mod Nexts
+pub mod Outcomes
 pub mod Order
 pub mod Comparing
 pub mod OrderRows
+pub mod Answers
+pub mod Work

@@ -1,10 +1,25 @@
-//! The answers of games: in the order of the archive, and the matches by the sort items of a query.
+//! The games of an archive in batches, what a query finds in them, by several workers, and the order of the answers.
 #![tactic(auto)]
 
+mod answering;
 mod answers;
+mod batch;
+mod cutting;
+mod finding;
+mod kept;
 pub mod laws;
+mod making;
 mod order;
+mod queue;
+mod reading;
 mod shared;
+mod state;
+mod window;
+mod workers;
 
 pub use answers::{Answer, GameAnswer, Keys};
+pub use batch::Batch;
+pub use kept::KeptGame;
 pub use order::{by_keys, in_order};
+pub use state::{BatchFault, Batches};
+pub use workers::run_batch;

@@ -1,0 +1,179 @@
+-- The games of the batches that are given.
+use Rattle.std.proofs.Common.{◌≡◌, ◌⊎◌, ◌↔◌, ℕ, ◌+◌, ◌^◌, ◌≤◌, ◌<◌, Bool, true, false, List, [], ◌∷◌, ◌++◌, length, length-append, append-nil, append_assoc, map, take, drop, get_or, Option, Some, None, Ok, Err, refl, ap, sym, ◌∙◌, arith, subst, inl, inr}
+use Rattle.std.specs.Prelude.{Result, slice_get, if◌then◌else◌}
+use Rattle.std.proofs.lemmas.Bool.{cases_Bool, cases_lt}
+use Rattle.std.proofs.lemmas.Grind.{flat_map-append}
+use Rattle.std.proofs.lemmas.List.{take-append-le, take-append-drop, take_more, take_all, map-append, length-map, length-take}
+use Rattle.std.specs.Prelude.{All}
+use Rattle.std.proofs.lemmas.List.Elements.{All-head, All-tail, All-nil, All-cons}
+use Rattle.std.proofs.lemmas.Option.{slice_get_within, slice_get-get_or, get_or_from_slice_get}
+use Rattle.std.proofs.Math.ListN.{get_or-append}
+use Rattle.pgn_cut.specs.Cut.{cut, closed}
+use Rattle.pgn_cut.specs.Joined.{game_bytes}
+use Rattle.pgn_cut.specs.Spans.{AreInOrder, EndsBy, FinishesAt}
+use Rattle.pgn_cut.specs.declared.span.Span.{Span}
+use Rattle.pgn_reader.specs.Limits.{longest}
+use Rattle.pgn_reader.specs.Verdict.{IsRead}
+use Rattle.cq_shards.specs.declared.kept.KeptGame.{KeptGame}
+use Rattle.cq_shards.specs.Kept.{KeptGames}
+use Rattle.cq_shards.specs.Batching.{batches, full_batches, full_from, is_full, left_over, as_last, flat}
+use Rattle.cq_shards.specs.Whole.{closed_games, cut_games, whole, whole_spans}
+use Rattle.cq_shards.specs.Kept.{kept, most_kept}
+use Rattle.cq_shards.specs.Answers.{AnswersBatch, answers_from}
+use Rattle.cq_shards.specs.Outcomes.{Outcome, AreKeptRead}
+use Rattle.cq_run.specs.Outcomes.{AreRead, HasGames}
+use Rattle.cq_shards.proofs.Streams.{count_within}
+use Rattle.cq_position.specs.Games.{Game}
+use Rattle.pgn_reader.specs.declared.fault.GameFault.{GameFault}
+use Rattle.std.proofs.Math.Seq.{take-append_seam}
+use Rattle.std.proofs.lemmas.List.{take-map}
+
+-- all games have outcomes
+abbrev pub HaveOutcomes : Type 0
+HaveOutcomes = (start : ℕ) (first : Bool) (bytes : List ℕ) → (outcome : Result Game GameFault) × IsRead start first bytes outcome
+
+pub record Rest (games : KeptGames) : Type 0 where
+  pub outcomes : List Outcome
+  pub are_read : AreKeptRead games outcomes
+
+pub rest_of : HaveOutcomes → (games : KeptGames) → Rest games
+rest_of have [] = record { outcomes = []; are_read = tt }
+rest_of have (g ∷ gs) =
+    let one = have g.start g.first g.bytes in
+    let rest : Rest gs = rest_of have gs in
+    record { outcomes = one.0 ∷ rest.outcomes; are_read = (one.1, rest.are_read) }
+
+pub kept_read_on : (gs hs : KeptGames) (rs qs : List Outcome) → AreKeptRead gs rs → AreKeptRead hs qs → AreKeptRead (gs ++ hs) (rs ++ qs)
+kept_read_on [] hs [] qs before after = after
+kept_read_on [] hs (r ∷ rs) qs before after = absurd before
+kept_read_on (g ∷ gs) hs [] qs before after = absurd before
+kept_read_on (g ∷ gs) hs (r ∷ rs) qs before after = (before.0, kept_read_on gs hs rs qs before.1 after)
+
+pub record Laws : Type 0 where
+  pub full : (games more : KeptGames) → (rest : List KeptGames) × (full_batches (games ++ more) ≡ full_batches games ++ rest)
+  pub all : (games : KeptGames) → flat (full_batches games) ++ left_over games ≡ games
+  pub closed_ : (front more : List ℕ) → (rest : KeptGames) × (closed_games (front ++ more) ≡ closed_games front ++ rest)
+  pub cuts : (front : List ℕ) → (last : List Span) × (cut front ≡ closed front ++ last) × FinishesAt (length front) last
+  pub have : HaveOutcomes
+  pub decide : (start : ℕ) (first : Bool) (bytes : List ℕ) (outcome : Outcome) → IsRead start first (take (longest + 1) bytes) outcome ↔ IsRead start first bytes outcome
+
+-- what is kept of a game is read as the game
+kept_read : Laws → (start : ℕ) (first : Bool) (bytes : List ℕ) (r : Outcome) → IsRead start first (take most_kept bytes) r → IsRead start first bytes r
+unfolding most_kept
+kept_read laws start first bytes r read = (laws.decide start first bytes r).0 read
+
+pub reads_archive : Laws → (archive : List ℕ) (spans : List Span) (rs : List Outcome) → AreKeptRead (map (kept archive) spans) rs → AreRead archive spans rs
+reads_archive laws archive [] [] read = tt
+reads_archive laws archive [] (r ∷ rs) read = absurd read
+reads_archive laws archive (s ∷ ss) [] read = absurd read
+reads_archive laws archive (s ∷ ss) (r ∷ rs) read = (kept_read laws s.start s.first (game_bytes archive s) r read.0, reads_archive laws archive ss rs read.1)
+
+pub count_read : (gs : KeptGames) (rs : List Outcome) → AreKeptRead gs rs → length gs ≡ length rs
+count_read [] [] read = refl
+count_read [] (r ∷ rs) read = absurd read
+count_read (g ∷ gs) [] read = absurd read
+count_read (g ∷ gs) (r ∷ rs) read = let e = count_read gs rs read.1 in omega (arith, e)
+
+-- the games of the first batches of an archive's bytes
+abbrev pub given : List ℕ → ℕ → KeptGames
+given front m = flat (take m (batches (cut_games front)))
+
+-- the full batches of the closed games are the first ones
+pub full_first : Laws → (front : List ℕ) → (rest : List KeptGames) × (batches (cut_games front) ≡ full_batches (closed_games front) ++ rest)
+full_first laws front =
+    let c = laws.cuts front in
+    let last = map (kept front) c.0 in
+    let f = laws.full (closed_games front) last in
+    let games : cut_games front ≡ closed_games front ++ last = ap (map (kept front)) c.1 ∙ map-append (kept front) (closed front) c.0 in
+    let over = as_last (left_over (cut_games front)) in
+    (f.0 ++ over, ap (λ gs. full_batches gs ++ over) games ∙ ap (λ l. l ++ over) f.1 ∙ append_assoc (full_batches (closed_games front)) f.0 over)
+
+pub full_low : Laws → (front : List ℕ) → length (full_batches (closed_games front)) ≤ length (batches (cut_games front))
+full_low laws front =
+    let f = full_first laws front in
+    let e : length (batches (cut_games front)) ≡ length (full_batches (closed_games front) ++ f.0) = ap length f.1 in
+    let l = length-append (full_batches (closed_games front)) f.0 in omega (arith, e, l)
+
+-- the first batches of an archive's bytes, where they are full ones of closed games
+pub given_full : Laws → (front : List ℕ) (m : ℕ) → m ≤ length (full_batches (closed_games front)) → take m (batches (cut_games front)) ≡ take m (full_batches (closed_games front))
+given_full laws front m low =
+    let f = full_first laws front in
+    ap (take m) f.1 ∙ take-append-le m (full_batches (closed_games front)) f.0 low
+
+-- more bytes close at least as many
+pub full_grows : Laws → (front more : List ℕ) → (rest : List KeptGames) × (full_batches (closed_games (front ++ more)) ≡ full_batches (closed_games front) ++ rest)
+full_grows laws front more =
+    let c = laws.closed_ front more in
+    let f = laws.full (closed_games front) c.0 in
+    (f.0, ap full_batches c.1 ∙ f.1)
+
+pub full_rises : Laws → (front more : List ℕ) → length (full_batches (closed_games front)) ≤ length (full_batches (closed_games (front ++ more)))
+full_rises laws front more =
+    let f = full_grows laws front more in
+    let e : length (full_batches (closed_games (front ++ more))) ≡ length (full_batches (closed_games front) ++ f.0) = ap length f.1 in
+    let l = length-append (full_batches (closed_games front)) f.0 in omega (arith, e, l)
+
+pub given_stays : Laws → (front more : List ℕ) (m : ℕ) → m ≤ length (full_batches (closed_games front)) → given (front ++ more) m ≡ given front m
+given_stays laws front more m low =
+    let f = full_grows laws front more in
+    let rises = full_rises laws front more in
+    ap flat (given_full laws (front ++ more) m (omega (arith, low, rises)) ∙ ap (take m) f.1 ∙ take-append-le m (full_batches (closed_games front)) f.0 low
+    ∙ sym (given_full laws front m low))
+
+-- a batch more
+pub within_first : (xs ys : List KeptGames) (m : ℕ) (x : KeptGames) → slice_get xs m ≡ Some x → slice_get (xs ++ ys) m ≡ Some x
+within_first xs ys m x at =
+    let less = slice_get_within xs m x at in
+    let l = length-append xs ys in
+    slice_get-get_or (xs ++ ys) m x (omega (arith, less, l)) ∙ ap Some (get_or-append xs ys x m less ∙ get_or_from_slice_get xs m x x at)
+
+pub flat_next : (xs : List KeptGames) (m : ℕ) (x : KeptGames) → slice_get xs m ≡ Some x → flat (take (m + 1) xs) ≡ flat (take m xs) ++ x
+flat_next xs m x at =
+    let less = slice_get_within xs m x at in
+    ap flat (take_more xs m x less ∙ ap (λ y. take m xs ++ y ∷ []) (get_or_from_slice_get xs m x x at))
+    ∙ flat_map-append (λ (b : KeptGames). b) (take m xs) (x ∷ []) ∙ ap (λ l. flat (take m xs) ++ l) (append-nil x)
+
+pub last_flat : (games : KeptGames) → flat (as_last games) ≡ games
+last_flat [] = refl
+last_flat (g ∷ gs) = append-nil (g ∷ gs)
+
+-- all batches are all games
+pub all_batches : Laws → (games : KeptGames) → flat (batches games) ≡ games
+all_batches laws games =
+    flat_map-append (λ (x : KeptGames). x) (full_batches games) (as_last (left_over games)) ∙ ap (λ l. flat (full_batches games) ++ l) (last_flat (left_over games)) ∙ laws.all games
+
+full_if : (b : Bool) (x : KeptGames) (ys zs : List KeptGames) (n : ℕ) → length ys ≤ n → length zs ≤ n → length (if b then x ∷ ys else zs) ≤ n + 1
+full_if true x ys zs n f g = omega (arith, f)
+full_if false x ys zs n f g = omega (arith, g)
+
+pub full_each : (before games : KeptGames) → length (full_from before games) ≤ length games
+unfolding full_from
+full_each before [] = omega arith
+full_each before (g ∷ gs) =
+    let r : length (full_from before (g ∷ gs)) ≤ length gs + 1 =
+    full_if (is_full (before ++ g ∷ [])) (before ++ g ∷ []) (full_from [] gs) (full_from (before ++ g ∷ []) gs) (length gs) (full_each [] gs) (full_each (before ++ g ∷ []) gs) in
+    omega (arith, r)
+
+pub last_one : (games : KeptGames) → length (as_last games) ≤ 1
+last_one [] = omega arith
+last_one (g ∷ gs) = omega arith
+
+abbrev pub InOrder : Type 0
+InOrder = (archive : List ℕ) → AreInOrder 0 (length archive) (cut archive)
+
+given_few : Laws → InOrder → (front : List ℕ) (k : ℕ) → length (given front k) ≤ length front
+given_few laws order front k =
+    let bs = batches (cut_games front) in
+    let split : given front k ++ flat (drop k bs) ≡ cut_games front =
+    sym (flat_map-append (λ (x : KeptGames). x) (take k bs) (drop k bs)) ∙ ap flat (take-append-drop k bs) ∙ all_batches laws (cut_games front) in
+    let lengths : length (given front k ++ flat (drop k bs)) ≡ length (cut_games front) = ap length split in
+    let parts = length-append (given front k) (flat (drop k bs)) in
+    let count = count_within 0 (length front) (cut front) (order front) (omega arith) in
+    let same = length-map (cut front) (kept front) in
+    omega (arith, lengths, parts, count, same)
+
+-- the games of the whole batches stand in the archive where its first closed games do
+pub whole_are : Laws → (front : List ℕ) → whole front ≡ map (kept front) (whole_spans front)
+whole_are laws front =
+    sym (take-append_seam (whole front) (left_over (closed_games front))) ∙ ap (take (length (whole front))) (laws.all (closed_games front))
+    ∙ take-map (kept front) (length (whole front)) (closed front)

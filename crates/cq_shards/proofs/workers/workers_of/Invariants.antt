@@ -1,0 +1,13 @@
+use Rattle.std.proofs.Common.{◌≡◌, ◌+◌, length, All, [], ℕ}
+use Rattle.cq_board.specs.Seats.{IsSeatOf, drawn, HasEnded}
+use Rattle.cq_shards.specs.Work.{IsFresh}
+use Rattle.cq_shards.proofs.workers.workers_of.Given as goal
+
+abbrev pub invariant-loop-seat : goal.invariant-loop-seat
+invariant-loop-seat l =
+    All (λ s. IsSeatOf l.board s × (drawn s ≡ []) × (HasEnded s → ⊥)) l.seats.items
+    × All (IsFresh l.board) l.slots.items
+    × (length l.slots.items + length l.seats.items ≡ length l.fn.seats.items)
+
+abbrev pub decreases-loop-seat : goal.decreases-loop-seat
+decreases-loop-seat l = length l.seats.items

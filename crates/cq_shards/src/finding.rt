@@ -1,0 +1,39 @@
+//! What a plan finds in a game, by a thread that counts no steps.
+ghost use Rattle.std.specs.Prelude.{◌≡◌, ◌≢◌, ◌<◌, [], length, map, Some, All, AllPairs, IfOk};
+ghost use Rattle.cql_syntax.specs.Hits.{hits, keys};
+ghost use Rattle.cql_plan.specs.Plans.{keys_of, nodes_of};
+ghost use Rattle.cq_shards.specs.Answers.{query_in};
+
+use cq_outside::{NoMemory, Steps};
+use cql_plan::{Plan, Verdict, match_game};
+use pgn_tree::Game;
+use std::alloc::Global;
+use std::marker::Brand;
+use std::sync::ledger::{Blank, Ledger};
+
+/// The hits of the plan's query in a game, and its keys.
+pub(crate) fn find(alloc: Global, plan: &Plan, game: &Game) -> Result<Verdict, NoMemory>
+    ensures nodes { IfOk result (λ v. nodes_of v ≡ hits (query_in plan.now) game.now) }
+    ensures increasing { IfOk result (λ v. AllPairs (λ m n. m < n) (nodes_of v)) }
+    ensures inside { IfOk result (λ v. All (λ n. n < length game.now.nodes) (nodes_of v)) }
+    ensures keys { IfOk result (λ v. nodes_of v ≢ [] → map Some (keys_of v) ≡ keys (query_in plan.now) game.now) }
+{
+    counted::<Brand>(alloc, plan, game, Blank::new(1))
+}
+
+// The same, from a blank for the count of steps.
+fn counted<L: Ledger>(
+    alloc: Global,
+    plan: &Plan,
+    game: &Game,
+    blank: Blank,
+) -> Result<Verdict, NoMemory>
+    requires { (blank.name ≡ L.name) × (blank.parts ≡ L.parts) × (0 < blank.parts) }
+    ensures nodes { IfOk result (λ v. nodes_of v ≡ hits (query_in plan.now) game.now) }
+    ensures increasing { IfOk result (λ v. AllPairs (λ m n. m < n) (nodes_of v)) }
+    ensures inside { IfOk result (λ v. All (λ n. n < length game.now.nodes) (nodes_of v)) }
+    ensures keys { IfOk result (λ v. nodes_of v ≢ [] → map Some (keys_of v) ≡ keys (query_in plan.now) game.now) }
+{
+    let mut steps = Steps::<L>::new(blank);
+    match_game(alloc, plan, game, &mut steps)
+}
