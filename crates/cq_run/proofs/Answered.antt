@@ -12,8 +12,8 @@ use Rattle.cq_run.specs.declared.status.Status.{Status}
 use Rattle.cq_run.specs.declared.status.Status.TheVariants.{Done, DoneWithRefusals, QueryRefused, WordsRefused, OpenFault, ReadFault, WriteFault, NoMemory, ArchiveTooLong}
 use Rattle.cq_run.specs.Asking.{texts_of, texts_so_far}
 use Rattle.cq_shards.specs.Outcomes.{Outcome}
+use Rattle.cq_run.specs.ByBatches.{HaveOutcomes}
 use Rattle.cq_run.specs.Outcomes.{AreRead}
-use Rattle.cq_run.proofs.Given.{HaveOutcomes}
 use Rattle.cq_run.specs.Promise.{SourceView, SinkView, Sinks, Answering, MayBe, ReadsWhole, TakesTooMuch, Overruns, Finds, FindsAll, WritesPart, WritesPrefix, SaysOfAnswer, AnswersAll, AnswerPromise, IsUnwritten, NoWriteFailed, SinkFailed, IsOneOf, sinks_of}
 use Rattle.cq_run.specs.Sorts.{have_sort}
 use Rattle.cq_run.specs.Writing.{FoundSoFar}

@@ -55,7 +55,8 @@ no_fault_lines n = refl
 abbrev pub tally_with : ℕ → ℕ → ℕ → Tally
 tally_with games matched refused = record { games = games; matched = matched; refused = refused }
 
-pub same_tally : (games games' matched matched' refused refused' : ℕ) → games ≡ games' → matched ≡ matched' → refused ≡ refused' → tally_with games matched refused ≡ tally_with games' matched' refused'
+pub same_tally : (games games' matched matched' refused refused' : ℕ) → games ≡ games' → matched ≡ matched' → refused ≡ refused'
+    → tally_with games matched refused ≡ tally_with games' matched' refused'
 same_tally games games' matched matched' refused refused' g m r = cc
 
 -- the same texts and games kept, by cases on whether the query has a sort item

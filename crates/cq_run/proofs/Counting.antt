@@ -26,6 +26,7 @@ use Rattle.cq_run.specs.declared.tally.Tally.{Tally}
 use Rattle.cq_run.specs.declared.totals.Totals.{Totals}
 use Rattle.cq_run.specs.Answer.{export_if, is_match, is_refused, tally_of}
 use Rattle.cq_run.specs.Exports.{AreExports, matches_from}
+use Rattle.cq_run.specs.ByBatches.{Laws}
 use Rattle.cq_run.specs.Outcomes.{HasGames}
 use Rattle.cq_run.specs.Promise.{SourceView}
 use Rattle.cq_run.specs.SelfRun.{AreTotals, totals_of}
@@ -33,7 +34,7 @@ use Rattle.cq_run.specs.Writing.{counted}
 use Rattle.cq_run.proofs.Answered.{may_be}
 use Rattle.cq_run.proofs.Answers.{IsFound, answers_count, is_faulty, is_found, is_no_match, matched_tally, next_of, same_tally, tallied_more, tally_with}
 use Rattle.cq_run.proofs.Exports.{texts_same}
-use Rattle.cq_run.proofs.Given.{InOrder, Laws, count_read, given, given_few, kept_read_on}
+use Rattle.cq_run.proofs.Given.{count_read, given, given_few, kept_read_on}
 use Rattle.cq_run.proofs.Reached.{Reached, all_read, moved, no_reads, rounds_few, turned}
 use Rattle.cq_shards.proofs.Filling.{consumes_none}
 
@@ -161,16 +162,16 @@ counts_turn laws query archive limit was now left after totals batch t so turns 
       totals_ = so.totals_;
     }
 
-pub turn_few : Laws → InOrder → (query : QueryTree) (archive : List ℕ) (limit : ℕ) (b : Batches) (left : List ℕ) (totals : Totals) (batch : Batch) (answers : List GameAnswer) (t : ℕ)
+pub turn_few : Laws → (query : QueryTree) (archive : List ℕ) (limit : ℕ) (b : Batches) (left : List ℕ) (totals : Totals) (batch : Batch) (answers : List GameAnswer) (t : ℕ)
     → limit ≤ 2 ^ 40 → CountsTurn query archive limit b left totals batch t → AnswersBatch query batch answers → totals.tally.games + length answers < 2 ^ 62
-turn_few laws order query archive limit b left totals batch answers t low turn answered =
+turn_few laws query archive limit b left totals batch answers t low turn answered =
     let games : totals.tally.games ≡ length turn.outcomes = ap (λ (t : Totals). t.tally.games) turn.totals_ in
     let before = count_read (given turn.front turn.m) turn.outcomes turn.are_read in
     let count : length answers ≡ length answered.outcomes = ap length answered.are ∙ answers_count query (number_of batch) answered.outcomes in
     let read = count_read (games_of batch) answered.outcomes answered.are_read in
     let more : length (given turn.front (turn.m + 1)) ≡ length (given turn.front turn.m ++ (games_of batch)) = ap length turn.games in
     let parts = length-append (given turn.front turn.m) (games_of batch) in
-    let most = given_few laws order turn.front (turn.m + 1) in
+    let most = given_few laws turn.front (turn.m + 1) in
     let few = turn.reached.few in
     omega (arith, games, before, count, read, more, parts, most, few, low)
 
@@ -233,9 +234,9 @@ pub never_faults : Laws → (query : QueryTree) (archive : List ℕ) (limit : �
 never_faults laws query archive limit was now left after totals ReadFault so low says cause = none_rose cause.1
 never_faults laws query archive limit was now left after totals ArchiveTooLong so low says cause = none_too_long laws query archive limit was now left after totals so says low
 
-pub few_counts : InOrder → (query : QueryTree) (archive : List ℕ) (limit : ℕ) (b : Batches) (left : List ℕ) (totals : Totals) → (so : CountedSoFar query archive limit b left totals)
+pub few_counts : Laws → (query : QueryTree) (archive : List ℕ) (limit : ℕ) (b : Batches) (left : List ℕ) (totals : Totals) → (so : CountedSoFar query archive limit b left totals)
     → so.m < limit + 3
-few_counts order query archive limit b left totals so = rounds_few order limit b (sure archive) (sure left) so.front so.m so.reached
+few_counts laws query archive limit b left totals so = rounds_few laws limit b (sure archive) (sure left) so.front so.m so.reached
 
 pub matched_few : (query : QueryTree) (archive : List ℕ) (limit : ℕ) (b : Batches) (left : List ℕ) (totals : Totals) → CountedSoFar query archive limit b left totals
     → totals.tally.matched ≤ totals.tally.games

@@ -26,11 +26,12 @@ use Rattle.cq_shards.specs.Whole.{closed_games, cut_games, whole}
 use Rattle.cq_shards.specs.Kept.{kept, most_kept}
 use Rattle.cq_shards.specs.Nexts.{Moves, GivesBatch, GivesNoMore, GivesNone}
 use Rattle.cq_shards.specs.Outcomes.{Outcome, AreKeptRead}
+use Rattle.cq_run.specs.ByBatches.{Laws}
 use Rattle.cq_run.specs.Outcomes.{AreRead, HasGames}
 use Rattle.cq_run.specs.Promise.{SourceView}
 use Rattle.cq_shards.proofs.Streams.{count_within}
 use Rattle.cq_shards.proofs.Filling.{consumes_none, consumes_on}
-use Rattle.cq_run.proofs.Given.{InOrder, Laws, all_batches, count_read, flat_next, full_each, full_first, full_low, full_rises, given, given_full, given_stays, last_one, reads_archive, within_first}
+use Rattle.cq_run.proofs.Given.{all_batches, count_read, flat_next, full_each, full_first, full_low, full_rises, given, given_full, given_stays, last_one, reads_archive, within_first}
 
 pub record Reached (limit : ℕ) (b : Batches) (source now : SourceView) (front : List ℕ) (m : ℕ) : Type 0 where
   pub limit_ : b.limit ≡ limit
@@ -182,14 +183,14 @@ no_reads limit b source same reads = record {
 }
 
 -- there are no more batches than bytes
-pub rounds_few : InOrder → (limit : ℕ) (b : Batches) (source now : SourceView) (front : List ℕ) (m : ℕ) → Reached limit b source now front m → m < limit + 3
-rounds_few order limit b source now front m reached =
+pub rounds_few : Laws → (limit : ℕ) (b : Batches) (source now : SourceView) (front : List ℕ) (m : ℕ) → Reached limit b source now front m → m < limit + 3
+rounds_few laws limit b source now front m reached =
     let games = cut_games front in
     let most = reached.all in
     let parts = length-append (full_batches games) (as_last (left_over games)) in
     let full = full_each [] games in
     let last = last_one (left_over games) in
-    let count = count_within 0 (length front) (cut front) (order front) (omega arith) in
+    let count = count_within 0 (length front) (cut front) (laws.order front) (omega arith) in
     let same = length-map (cut front) (kept front) in
     let few = reached.few in
     omega (arith, most, parts, full, last, count, same, few)

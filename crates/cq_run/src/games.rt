@@ -98,9 +98,11 @@ pub fn write_answers<O: Sink, E: Sink>(
     ensures { (query : QueryTree) (before : List Outcome) (outcomes : List Outcome) (first : SinkView) (second : SinkView)
         → answers.items ≡ answers_from query (length before) outcomes
         → FoundSoFar sorted query before
-            (sinks_of first (sink_view O.taken O.faults out.old) second (sink_view E.taken E.faults err.old)) (stand_of tally.old kept.old.items)
+            (sinks_of first (sink_view O.taken O.faults out.old) second (sink_view E.taken E.faults err.old))
+            (stand_of tally.old kept.old.items)
         → AnswersSome sorted query (before ++ outcomes)
-            (sinks_of first (sink_view O.taken O.faults out.new) second (sink_view E.taken E.faults err.new)) (stand_of tally.new kept.new.items) result }
+            (sinks_of first (sink_view O.taken O.faults out.new) second (sink_view E.taken E.faults err.new))
+            (stand_of tally.new kept.new.items) result }
 {
     for answer in answers {
         match write_answer(alloc, sorted, answer, tally, kept, out, err) {
