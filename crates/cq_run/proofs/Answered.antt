@@ -26,7 +26,7 @@ outcomes_of have archive [] = ([], tt)
 outcomes_of have archive (s ∷ ss) =
     let one = have s.start s.first (game_bytes archive s) in
     let rest = outcomes_of have archive ss in
-    (one.0 ∷ rest.0, one.1, rest.1)
+    (one.0 ∷ rest.0, (one.1, rest.1))
 
 pub may_be : (left after : Option (List ℕ)) (bytes : List ℕ) → Consumes left after bytes → IsAtEnd after → MayBe left bytes
 may_be None after bytes takes end = tt

@@ -1,5 +1,5 @@
 -- Counting what a query finds, batch by batch.
-use Rattle.std.proofs.Common.{◌≡◌, ◌⊎◌, inl, inr, ℕ, ◌+◌, ◌*◌, ◌^◌, Bool, true, false, ℤ, List, [], ◌∷◌, ◌++◌, length, length-append, length-map, append_assoc, append-nil, map, take, Some, ◌<◌, ◌≤◌, arith, refl, ap, sym, ◌∙◌, cond, subst, Ok, Err}
+use Rattle.std.proofs.Common.{◌≡◌, ◌⊎◌, inl, inr, ℕ, ◌+◌, ◌*◌, ◌^◌, Bool, true, false, ℤ, List, [], ◌∷◌, ◌++◌, length, length-append, append_assoc, append-nil, map, take, Some, ◌<◌, ◌≤◌, arith, refl, ap, sym, ◌∙◌, cond, subst, Ok, Err}
 use Rattle.std.specs.List.{flat_map}
 use Rattle.std.specs.Io.KnownBytes.{Consumes}
 use Rattle.std.proofs.lemmas.Grind.{flat_map-append}
