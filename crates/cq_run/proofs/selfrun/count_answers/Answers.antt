@@ -14,8 +14,8 @@ loop-answer-init c = (
   λ query bytes rs qs are is. is ∙ ap (totals_of query bytes) (sym (append-nil rs)),
 )
 
-pub loop-answer-preserved-in-Some : goal.loop-answer-preserved-in-Some
-loop-answer-preserved-in-Some c =
+pub loop-answer-preserved : goal.loop-answer-preserved
+loop-answer-preserved c =
     let was = c.loop-answer.invariant in
     let ys = c.loop-answer.yielded in (
       was.0 ∙ ap (λ l. ys ++ l) c.in-Some.ensures.steps.0 ∙ sym (append_assoc ys (c.in-Some.answer ∷ []) c.next.new.self.rest.items),

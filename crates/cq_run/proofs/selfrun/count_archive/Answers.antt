@@ -1,4 +1,4 @@
-use Rattle.std.proofs.Common.{◌≡◌, ◌+◌, ◌*◌, ◌≤◌, ◌<◌, ◌^◌, List, length, Ok, Err, Some, None, ap, sym, ◌∙◌, refl, subst, arith, rules}
+use Rattle.std.proofs.Common.{◌≡◌, ◌+◌, ◌*◌, ◌≤◌, ◌<◌, ◌^◌, List, [], length, Ok, Err, Some, None, ap, sym, ◌∙◌, refl, subst, arith, rules}
 use Rattle.cq_outside.specs.declared.faults.Refusal.TheVariants.{Fault}
 use Rattle.cq_shards.specs.Answers.{query_in}
 use Rattle.cq_run.specs.SelfRun.{totals_of}
@@ -22,19 +22,19 @@ returns-in-Ok-None g c =
     let says = rw (c.in-Ok-None.is ∙ ap Ok c.in-Ok-None.field-0-is) at c.next.ensures.says in
     all_counted c.archives_come_in_batches.ensures _ _ _ _ _ _ _ _ c.loop-turn.invariant.0 says
 
-pub count_answers-requires-clause-games : goal.count_answers-requires-clause-games
-count_answers-requires-clause-games g c =
+pub count_answers-after-requires-clause-games : goal.count_answers-after-requires-clause-games
+count_answers-after-requires-clause-games g c =
     let says = rw (c.in-Ok-Some.is ∙ ap Ok c.in-Ok-Some.field-0-is) at c.next.ensures.says in
     let laws = c.archives_come_in_batches.ensures in
     let turn = counts_turn laws _ _ _ _ _ _ _ _ _ c.loop-turn._turn c.loop-turn.invariant.0 c.loop-turn.invariant.1 says in
     let few = turn_few laws _ _ _ _ _ _ _ _ _ (omega arith) turn c.in_ok-answers.ensures in
     omega (arith, few)
 
-pub count_answers-requires-clause-matched : goal.count_answers-requires-clause-matched
-count_answers-requires-clause-matched g c = matched_few _ _ _ _ _ _ c.loop-turn.invariant.0
+pub count_answers-after-requires-clause-matched : goal.count_answers-after-requires-clause-matched
+count_answers-after-requires-clause-matched g c = matched_few _ _ _ _ _ _ c.loop-turn.invariant.0
 
-pub count_answers-requires-clause-refused : goal.count_answers-requires-clause-refused
-count_answers-requires-clause-refused g c = refused_few _ _ _ _ _ _ c.loop-turn.invariant.0
+pub count_answers-after-requires-clause-refused : goal.count_answers-after-requires-clause-refused
+count_answers-after-requires-clause-refused g c = refused_few _ _ _ _ _ _ c.loop-turn.invariant.0
 
 pub loop-turn-preserved : goal.loop-turn-preserved
 loop-turn-preserved g c =
