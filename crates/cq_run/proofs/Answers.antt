@@ -61,9 +61,6 @@ same_tally games games' matched matched' refused refused' g m r = cc
 
 -- the same texts and games kept, by cases on whether the query has a sort item
 
-abbrev counted_on : Tally → ℕ → ℕ → Tally
-counted_on before matched refused = tally_with (before.games + 1) (before.matched + matched) (before.refused + refused)
-
 same_stand : (t u : Tally) (ks ls : List GameAnswer) → t ≡ u → ks ≡ ls → stand_of t ks ≡ stand_of u ls
 same_stand t u ks ls e f = cc
 
@@ -88,7 +85,6 @@ pub matched_tally : (query : QueryTree) (game : Game) (before : Tally) → has_m
     → tally_with (before.games + 1) (before.matched + 1) before.refused ≡ tallied query before (Ok game)
 matched_tally query game before some = same_tally _ _ _ _ _ _ refl (ap (λ b. before.matched + cond b 1 0) (sym some)) (omega (arith))
 
--- some nodes are not none
 -- ---- the answer of one game
 
 no_match : (b : Bool) (text : List ℕ) (values : List ℤ) → cond b (Match text values) Miss ≡ Miss → b ≡ false

@@ -1,7 +1,6 @@
 -- Counting what a query finds, batch by batch.
-use Rattle.std.proofs.Common.{◌≡◌, ◌⊎◌, inl, inr, ℕ, ◌+◌, ◌*◌, ◌^◌, Bool, true, false, ℤ, List, [], ◌∷◌, ◌++◌, length, length-append, append_assoc, append-nil, map, take, Some, ◌<◌, ◌≤◌, arith, refl, ap, sym, ◌∙◌, cond, subst, Ok, Err}
+use Rattle.std.proofs.Common.{◌≡◌, inl, inr, ℕ, ◌+◌, ◌^◌, false, ℤ, List, [], ◌∷◌, ◌++◌, length, length-append, append_assoc, append-nil, take, Some, ◌<◌, ◌≤◌, arith, refl, ap, sym, ◌∙◌, cond, subst, Ok, Err}
 use Rattle.std.specs.List.{flat_map}
-use Rattle.std.specs.Io.KnownBytes.{Consumes}
 use Rattle.std.proofs.lemmas.Grind.{flat_map-append}
 use Rattle.std.proofs.lemmas.List.Concat.{length-flat_map}
 use Rattle.std.proofs.lemmas.List.Sums.{count_by-le-length}
@@ -24,7 +23,7 @@ use Rattle.pgn_export.specs.Export.{export_text}
 use Rattle.pgn_reader.specs.declared.fault.GameFault.{GameFault}
 use Rattle.cq_run.specs.declared.tally.Tally.{Tally}
 use Rattle.cq_run.specs.declared.totals.Totals.{Totals}
-use Rattle.cq_run.specs.Answer.{export_if, is_match, is_refused, tally_of}
+use Rattle.cq_run.specs.Answer.{export_if, is_match, is_refused}
 use Rattle.cq_run.specs.Exports.{AreExports, matches_from}
 use Rattle.cq_run.specs.ByBatches.{Laws}
 use Rattle.cq_run.specs.Outcomes.{HasGames}
@@ -32,11 +31,10 @@ use Rattle.cq_run.specs.Promise.{SourceView}
 use Rattle.cq_run.specs.SelfRun.{AreTotals, totals_of}
 use Rattle.cq_run.specs.Writing.{counted}
 use Rattle.cq_run.proofs.Answered.{may_be}
-use Rattle.cq_run.proofs.Answers.{IsFound, answers_count, is_faulty, is_found, is_no_match, matched_tally, next_of, same_tally, tallied_more, tally_with}
+use Rattle.cq_run.proofs.Answers.{IsFound, answers_count, is_faulty, is_found, is_no_match, next_of, same_tally, tallied_more, tally_with}
 use Rattle.cq_run.proofs.Exports.{texts_same}
 use Rattle.cq_run.proofs.Given.{count_read, given, given_few, kept_read_on}
 use Rattle.cq_run.proofs.Reached.{Reached, all_read, moved, no_reads, rounds_few, turned}
-use Rattle.cq_shards.proofs.Filling.{consumes_none}
 
 -- ---- one game
 

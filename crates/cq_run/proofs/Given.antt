@@ -1,31 +1,22 @@
 -- The games of the batches that are given.
-use Rattle.std.proofs.Common.{◌≡◌, ◌⊎◌, ◌↔◌, ℕ, ◌+◌, ◌^◌, ◌≤◌, ◌<◌, Bool, true, false, List, [], ◌∷◌, ◌++◌, length, length-append, append-nil, append_assoc, map, take, drop, get_or, Option, Some, None, Ok, Err, refl, ap, sym, ◌∙◌, arith, subst, inl, inr}
-use Rattle.std.specs.Prelude.{Result, slice_get, if◌then◌else◌}
-use Rattle.std.proofs.lemmas.Bool.{cases_Bool, cases_lt}
+use Rattle.std.proofs.Common.{◌≡◌, ℕ, ◌+◌, ◌≤◌, Bool, true, false, List, [], ◌∷◌, ◌++◌, length, length-append, append-nil, append_assoc, map, take, drop, Some, refl, ap, sym, ◌∙◌, arith}
+use Rattle.std.specs.Prelude.{slice_get, if◌then◌else◌}
 use Rattle.std.proofs.lemmas.Grind.{flat_map-append}
-use Rattle.std.proofs.lemmas.List.{take-append-le, take-append-drop, take_more, take_all, map-append, length-map, length-take}
-use Rattle.std.specs.Prelude.{All}
-use Rattle.std.proofs.lemmas.List.Elements.{All-head, All-tail, All-nil, All-cons}
+use Rattle.std.proofs.lemmas.List.{take-append-le, take-append-drop, take_more, map-append, length-map}
 use Rattle.std.proofs.lemmas.Option.{slice_get_within, slice_get-get_or, get_or_from_slice_get}
 use Rattle.std.proofs.Math.ListN.{get_or-append}
 use Rattle.pgn_cut.specs.Cut.{cut, closed}
 use Rattle.pgn_cut.specs.Joined.{game_bytes}
-use Rattle.pgn_cut.specs.Spans.{AreInOrder, EndsBy, FinishesAt}
 use Rattle.pgn_cut.specs.declared.span.Span.{Span}
-use Rattle.pgn_reader.specs.Limits.{longest}
 use Rattle.pgn_reader.specs.Verdict.{IsRead}
-use Rattle.cq_shards.specs.declared.kept.KeptGame.{KeptGame}
 use Rattle.cq_shards.specs.Kept.{KeptGames}
 use Rattle.cq_shards.specs.Batching.{batches, full_batches, full_from, is_full, left_over, as_last, flat}
 use Rattle.cq_shards.specs.Whole.{closed_games, cut_games, whole, whole_spans}
 use Rattle.cq_shards.specs.Kept.{kept, most_kept}
-use Rattle.cq_shards.specs.Answers.{AnswersBatch, answers_from}
 use Rattle.cq_shards.specs.Outcomes.{Outcome, AreKeptRead}
 use Rattle.cq_run.specs.ByBatches.{HaveOutcomes, Laws}
-use Rattle.cq_run.specs.Outcomes.{AreRead, HasGames}
+use Rattle.cq_run.specs.Outcomes.{AreRead}
 use Rattle.cq_shards.proofs.Streams.{count_within}
-use Rattle.cq_position.specs.Games.{Game}
-use Rattle.pgn_reader.specs.declared.fault.GameFault.{GameFault}
 use Rattle.std.proofs.Math.Seq.{take-append_seam}
 use Rattle.std.proofs.lemmas.List.{take-map}
 

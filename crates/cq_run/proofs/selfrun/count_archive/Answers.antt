@@ -3,7 +3,7 @@ use Rattle.cq_outside.specs.declared.faults.Refusal.TheVariants.{Fault}
 use Rattle.cq_shards.specs.Answers.{query_in}
 use Rattle.cq_run.specs.SelfRun.{totals_of}
 use Rattle.cq_run.specs.declared.totals.Totals.{Totals}
-use Rattle.cq_run.proofs.Counting.{all_counted, counts_turn, few_counts, matched_few, never_faults, none_counted, refused_few, turn_counted, turn_few}
+use Rattle.cq_run.proofs.Counting.{CountedSoFar, all_counted, counts_turn, few_counts, matched_few, never_faults, none_counted, refused_few, turn_counted, turn_few}
 use Rattle.cq_run.proofs.selfrun.count_archive.Goals as goal
 
 pub loop-turn-init : goal.loop-turn-init
@@ -11,8 +11,9 @@ loop-turn-init g c =
     let query = query_in c.args.plan.now in
     let none = c.no_totals-totals.ensures query in
     let made = c.new-batches in (
-      none_counted query c.args.archive 1099511627776 made.result c.no_totals-totals.result made.ensures.stands made.ensures.limit made.ensures.reads
-          (none ∙ ap (λ n. totals_of query n []) c.len.ensures),
+      subst (λ left. CountedSoFar query c.args.archive 1099511627776 made.result left c.no_totals-totals.result) (sym c.new-source.ensures)
+          (none_counted query c.args.archive 1099511627776 made.result c.no_totals-totals.result made.ensures.stands made.ensures.limit
+          made.ensures.reads (none ∙ ap (λ n. totals_of query n []) c.len.ensures)),
       omega arith,
       subst (λ (t : Totals). t.written ≤ 2 ^ 64 * t.tally.games) (sym none) (omega arith),
     )
