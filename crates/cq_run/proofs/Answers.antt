@@ -422,9 +422,9 @@ one_stopped sorted query before outcomes ys rest more items a out out' out'' err
     let done = does next.r (next.answer ∙ ap (λ j. answer_of query j next.r) number) in
     let rs = before ++ take (length ys) outcomes in (
       subst (λ l. WritesPrefix (sinks_of out out'' err err'') (texts_so_far sorted query l))
-      (append_assoc rs (next.r ∷ []) next.more ∙ append_assoc before (take (length ys) outcomes) (next.r ∷ next.more) ∙ ap (λ l. before ++ l) (sym next.is))
-      (prefix_grows sorted query (rs ++ next.r ∷ []) next.more (sinks_of out out'' err err'')
-      (stopped_at sorted query rs next.r out out' out'' err err' err'' stand so_far done.0)),
+          (append_assoc rs (next.r ∷ []) next.more ∙ append_assoc before (take (length ys) outcomes) (next.r ∷ next.more) ∙ ap (λ l. before ++ l) (sym next.is))
+          (prefix_grows sorted query (rs ++ next.r ∷ []) next.more (sinks_of out out'' err err'')
+          (stopped_at sorted query rs next.r out out' out'' err err' err'' stand so_far done.0)),
       fails_after out out' out'' err err' err'' so_far.unfailed done.1,
     )
 
@@ -442,9 +442,9 @@ one_starved sorted query before outcomes ys rest more items a out out' out'' err
     let rs = before ++ take (length ys) outcomes in
     let sinks = sinks_of out out'' err err'' in (
       subst (λ l. WritesPrefix sinks (texts_so_far sorted query l))
-      (append_assoc before (take (length ys) outcomes) (next.r ∷ next.more) ∙ ap (λ l. before ++ l) (sym next.is))
-      (prefix_grows sorted query rs (next.r ∷ next.more) sinks
-      (as_prefix sinks (texts_so_far sorted query rs) (unwritten_since out out' out'' err err' err'' (texts_so_far sorted query rs) so_far.writes same))),
+          (append_assoc before (take (length ys) outcomes) (next.r ∷ next.more) ∙ ap (λ l. before ++ l) (sym next.is))
+          (prefix_grows sorted query rs (next.r ∷ next.more) sinks
+          (as_prefix sinks (texts_so_far sorted query rs) (unwritten_since out out' out'' err err' err'' (texts_so_far sorted query rs) so_far.writes same))),
       none_after out out' out'' err err' err'' so_far.unfailed (wrote_none (sinks_of out' out'' err' err'') same),
     )
 

@@ -177,20 +177,19 @@ pub turn_counted : (query : QueryTree) (archive : List ℕ) (limit : ℕ) (b : B
     → (turn : CountsTurn query archive limit b left totals batch t) → (answered : AnswersBatch query batch answers)
     → ((bytes : ℕ) (rs qs : List Outcome) → answers ≡ answers_from query (length rs) qs → totals ≡ totals_of query bytes rs → new ≡ totals_of query bytes (rs ++ qs))
     → (so : CountedSoFar query archive limit b left new) × (t + 1 ≤ so.m)
-turn_counted query archive limit b left totals new batch answers t turn answered counts =
-    (
-      record {
-        front = turn.front;
-        m = turn.m + 1;
-        outcomes = turn.outcomes ++ answered.outcomes;
-        stands = turn.stands;
-        reached = turn.reached;
-        are_read = subst (λ gs. AreKeptRead gs (turn.outcomes ++ answered.outcomes)) (sym turn.games)
-            (kept_read_on (given turn.front turn.m) (games_of batch) turn.outcomes answered.outcomes turn.are_read answered.are_read);
-        totals_ = counts (length archive) turn.outcomes answered.outcomes (answered.are ∙ ap (λ n. answers_from query n answered.outcomes) turn.index) turn.totals_;
-      },
-      let a = turn.turns in omega (arith, a),
-    )
+turn_counted query archive limit b left totals new batch answers t turn answered counts = (
+  record {
+    front = turn.front;
+    m = turn.m + 1;
+    outcomes = turn.outcomes ++ answered.outcomes;
+    stands = turn.stands;
+    reached = turn.reached;
+    are_read = subst (λ gs. AreKeptRead gs (turn.outcomes ++ answered.outcomes)) (sym turn.games)
+        (kept_read_on (given turn.front turn.m) (games_of batch) turn.outcomes answered.outcomes turn.are_read answered.are_read);
+    totals_ = counts (length archive) turn.outcomes answered.outcomes (answered.are ∙ ap (λ n. answers_from query n answered.outcomes) turn.index) turn.totals_;
+  },
+  let a = turn.turns in omega (arith, a),
+)
 
 -- all games were counted
 pub all_counted : Laws → (query : QueryTree) (archive : List ℕ) (limit : ℕ) (was now : Batches) (left after : List ℕ) (totals : Totals)
@@ -199,7 +198,7 @@ all_counted laws query archive limit was now left after totals so moves =
     let at = moved laws limit was now (sure archive) (sure left) (sure after) so.front so.m (GivesNoMore now) so.stands so.reached moves in
     let front = so.front ++ moves.bytes in
     let all = all_read laws limit now (sure archive) (sure after) front so.m so.outcomes at.reached refl
-        (subst (λ gs. AreKeptRead gs so.outcomes) (sym at.same) so.are_read) (moves.given so.front so.m so.stands) in
+    (subst (λ gs. AreKeptRead gs so.outcomes) (sym at.same) so.are_read) (moves.given so.front so.m so.stands) in
     let same : archive ≡ front = may_be (Some archive) (Some after) front all.takes all.at_end in
     record {
       outcomes = so.outcomes;

@@ -345,20 +345,19 @@ pub turn_done : (sorted : Bool) (query : QueryTree) (limit : ℕ) (b : Batches) 
     (answers : List GameAnswer) (t : ℕ)
     → (turn : Turn sorted query limit b source now sinks stand batch t) → (answered : AnswersBatch query batch answers)
     → FoundSoFar sorted query (turn.outcomes ++ answered.outcomes) new_sinks new → (r : Rounds sorted query limit b source now new_sinks new) × (t + 1 ≤ r.m)
-turn_done sorted query limit b source now sinks new_sinks stand new batch answers t turn answered found =
-    (
-      record {
-        front = turn.front;
-        m = turn.m + 1;
-        outcomes = turn.outcomes ++ answered.outcomes;
-        stands = turn.stands;
-        reached = turn.turned.reached;
-        counts = turn.counts;
-        are_read = all_of_turn sorted query limit b source now sinks stand batch answers t turn answered;
-        found = found;
-      },
-      let a = turn.turns in omega (arith, a),
-    )
+turn_done sorted query limit b source now sinks new_sinks stand new batch answers t turn answered found = (
+  record {
+    front = turn.front;
+    m = turn.m + 1;
+    outcomes = turn.outcomes ++ answered.outcomes;
+    stands = turn.stands;
+    reached = turn.turned.reached;
+    counts = turn.counts;
+    are_read = all_of_turn sorted query limit b source now sinks stand batch answers t turn answered;
+    found = found;
+  },
+  let a = turn.turns in omega (arith, a),
+)
 
 pub turn_fails : Laws → (sorted : Bool) (query : QueryTree) (limit : ℕ) (b : Batches) (source now : SourceView) (sinks new_sinks : Sinks) (stand : Stand) (batch : Batch)
     (answers : List GameAnswer) (t : ℕ)
@@ -377,4 +376,3 @@ pub turn_wants : Laws → (sorted : Bool) (query : QueryTree) (limit : ℕ) (b :
 turn_wants laws sorted query limit b source now sinks new_sinks stand batch answers t sorts turn answered (writes, unfailed) =
     starves laws sorted query limit b source now turn.front (turn.m + 1) (turn.outcomes ++ answered.outcomes) new_sinks sorts turn.turned.reached turn.counts
     (all_of_turn sorted query limit b source now sinks stand batch answers t turn answered) writes unfailed
-

@@ -4,8 +4,8 @@ ghost use Rattle.cql_syntax.specs.TreeOf.{query_tree};
 ghost use Rattle.cq_run.specs.Asking.{texts_of};
 ghost use Rattle.cq_run.specs.Promise.{AnswerPromise, source_view, sink_view, sinks_of};
 
-use crate::streaming::answer_all;
 use crate::status::Status;
+use crate::streaming::answer_all;
 use cq_outside::{Gate, Sink, Source};
 use cq_words::Settings;
 use cql_plan::Plan;

@@ -5,11 +5,11 @@ ghost use Rattle.cql_syntax.specs.declared.fault.QueryFault.{QueryFault};
 ghost use Rattle.cq_run.specs.ByBatches.{Laws};
 ghost use Rattle.cq_run.specs.Queries.{IsQuery, IsQueryFault};
 
+use cq_shards::laws::batches_stay;
 use cql_parser::{
     faulty_tokens_spell_no_query, texts_spell_a_query_or_have_a_fault,
     tokens_have_at_most_one_fault, tokens_spell_at_most_one_query,
 };
-use cq_shards::laws::batches_stay;
 use pgn_cut::{closed_games_stay, games_stand_apart};
 use pgn_reader::{first_bytes_decide, games_have_outcomes};
 

@@ -43,7 +43,7 @@ loop-turn-preserved g c =
     let says = rw (c.in-Ok-Some.is ∙ ap Ok c.in-Ok-Some.field-0-is) at c.next.ensures.says in
     let turn = counts_turn c.archives_come_in_batches.ensures _ _ _ _ _ _ _ _ _ c.loop-turn._turn c.loop-turn.invariant.0 c.loop-turn.invariant.1 says in
     let next = turn_counted _ _ _ _ _ _ _ _ _ _ turn c.in_ok-answers.ensures
-        (λ bytes rs qs are is. c.count_answers-after.ensures.counts query bytes rs qs are is) in
+    (λ bytes rs qs are is. c.count_answers-after.ensures.counts query bytes rs qs are is) in
     (next.0, next.1, c.count_answers-after.ensures.written)
 
 pub unreachable-requires : goal.unreachable-requires
