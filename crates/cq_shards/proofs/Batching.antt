@@ -19,7 +19,8 @@ full_splits before (g ∷ gs) more =
     splits_if (is_full (before ++ g ∷ [])) (before ++ g ∷ []) (full_from [] gs) (full_from (before ++ g ∷ []) gs) (full_from [] (gs ++ more)) (full_from (before ++ g ∷ []) (gs ++ more))
     (left_from [] gs) (left_from (before ++ g ∷ []) gs) (λ l. full_from l more) (full_splits [] gs more) (full_splits (before ++ g ∷ []) gs more)
 
-left_if : (b : Bool) (full1 full2 more1 more2 : KeptGames) (after : KeptGames → KeptGames) → more1 ≡ after full1 → more2 ≡ after full2 → (if b then more1 else more2) ≡ after (if b then full1 else full2)
+left_if : (b : Bool) (full1 full2 more1 more2 : KeptGames) (after : KeptGames → KeptGames) → more1 ≡ after full1 → more2 ≡ after full2
+    → (if b then more1 else more2) ≡ after (if b then full1 else full2)
 left_if true full1 full2 more1 more2 after y n = y
 left_if false full1 full2 more1 more2 after y n = n
 

@@ -156,7 +156,8 @@ once_at next x less = grind arith
 below_once : (next x : ℕ) → 0 < once_below next x → x < next
 below_once next x some = grind arith
 
-pub gathered : (board : Board) (query : QueryTree) (batch : Batch) (left : List Worker) (seats : List ClaimSeat) (answers : List GameAnswer) (next : ℕ) → IsGathering board query batch left seats answers
+pub gathered : (board : Board) (query : QueryTree) (batch : Batch) (left : List Worker) (seats : List ClaimSeat) (answers : List GameAnswer) (next : ℕ)
+    → IsGathering board query batch left seats answers
     → left ≡ [] → 0 < seats_of board → IsDrawnOnce next (all_drawn seats) → AreAnswersOf query batch answers
 gathered board query batch left seats answers next was none some once =
     let count = was.count in

@@ -114,12 +114,14 @@ abbrev pub one_if : Bool → ℕ
 one_if true = 1
 one_if false = 0
 
-pub nearer : (limit limit' t t' p : ℕ) (old now : Bool) → limit' ≡ limit → t' ≡ t + p → old ≡ false → (now ≡ false → 0 < p) → t ≤ limit → (limit' + 2) - (t' + one_if now) < (limit + 2) - (t + one_if old)
+pub nearer : (limit limit' t t' p : ℕ) (old now : Bool) → limit' ≡ limit → t' ≡ t + p → old ≡ false → (now ≡ false → 0 < p) → t ≤ limit
+    → (limit' + 2) - (t' + one_if now) < (limit + 2) - (t + one_if old)
 nearer limit limit' t t' p true now same more reads some low = absurd (grind arith)
 nearer limit limit' t t' p false true same more reads some low = omega arith
 nearer limit limit' t t' p false false same more reads some low = let s = some refl in omega arith
 
-pub took_none : {T E : Type 0} (r : Result T E) (was now : Batches) (piece : List ℕ) → was.taken ≤ was.limit → length piece ≡ 0 → OnOk r ((front : List ℕ) (m : ℕ) → Stands was front m → Stands now front m) → OnOk r (now.ended ≡ true)
+pub took_none : {T E : Type 0} (r : Result T E) (was now : Batches) (piece : List ℕ) → was.taken ≤ was.limit → length piece ≡ 0
+    → OnOk r ((front : List ℕ) (m : ℕ) → Stands was front m → Stands now front m) → OnOk r (now.ended ≡ true)
     → now.limit ≡ was.limit → now.taken ≡ was.taken → OnOk r (Took was now piece)
 took_none (Ok x) was now [] low none stands ended limit taken = record {
   stands = λ front m stood. subst (λ (f : List ℕ). Stands now f m) (sym (append-nil front)) (stands front m stood);
@@ -243,7 +245,8 @@ fills_no_more was now left mid after so nothing reads = record {
 }
 
 -- no full batch is there
-pub given_none : (was mid now : Batches) (left left_after : Option (List ℕ)) (AreTaken : ℕ → Type 0) → HasFilled was mid left left_after → IsSame mid now → mid.queue.full.items ≡ [] → mid.ended ≡ false
+pub given_none : (was mid now : Batches) (left left_after : Option (List ℕ)) (AreTaken : ℕ → Type 0) → HasFilled was mid left left_after → IsSame mid now → mid.queue.full.items ≡ []
+    → mid.ended ≡ false
     → ((n : ℕ) → mid.taken ≡ n → AreTaken n) → Moves was now left left_after (GivesNone was AreTaken)
 given_none was mid now left left_after AreTaken so same none reads taken =
     moves_of was mid now left left_after (GivesNone was AreTaken) so same

@@ -31,7 +31,8 @@ pub matched_answer : (query : QueryTree) (n : ℕ) (game : Game) (text : List �
     → map Some values ≡ keys query game → ◌≡◌ {A = GameAnswer} (record { index = n; what = Match text values }) (answer_of query n (Ok game))
 matched_answer query n game text values some is keyed =
     let values_are : values ≡ values_in (keys query game) = sym (only_values values) ∙ ap values_in keyed in
-    let one : ◌≡◌ {A = GameAnswer} (record { index = n; what = Match text values }) (record { index = n; what = Match (export_text (marked query game)) (values_in (keys query game)) }) = cc (is, values_are) in
+    let one : ◌≡◌ {A = GameAnswer} (record { index = n; what = Match text values }) (record { index = n; what = Match (export_text (marked query game)) (values_in (keys query game)) }) =
+    cc (is, values_are) in
     one ∙ ap (λ b. record { index = n; what = cond b (Match (export_text (marked query game)) (values_in (keys query game))) Miss }) (sym some)
 
 -- a game that is read as an outcome has the answer of this outcome

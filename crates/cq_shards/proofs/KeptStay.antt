@@ -18,7 +18,8 @@ range_stays : (f more : List ℕ) (a b : ℕ) → a ≤ b → b ≤ length f →
 range_stays f more a b order within = grind (arith, drop-append-le a f more, take-append-le (b - a) (drop a f) more, length-drop a f)
 
 pub kept_stays : (f more : List ℕ) (s : Span) → EndsBy (length f) s → kept (f ++ more) s ≡ kept f s
-kept_stays f more s ends = let a = ends.0 in let b = ends.1 in ap (λ (l : List ℕ). record { bytes = take most_kept l; start = s.start; first = s.first }) (range_stays f more s.start s.end (omega arith) b)
+kept_stays f more s ends = let a = ends.0 in let b = ends.1 in
+    ap (λ (l : List ℕ). record { bytes = take most_kept l; start = s.start; first = s.first }) (range_stays f more s.start s.end (omega arith) b)
 
 -- each span of a list begins and ends by a place
 kept_stay : (f more : List ℕ) (ss : List Span) → ((k : ℕ) (d : Span) → k < length ss → EndsBy (length f) (slice_index_or ss k d)) → map (kept (f ++ more)) ss ≡ map (kept f) ss

@@ -34,8 +34,11 @@ are_more : (n : ℕ) (bs : List KeptGames) (qs : List Batch) (b : KeptGames) (q 
 are_more n [] [] b q are has = (subst (λ (k : ℕ). HasGames k b q) (omega arith) has, tt)
 are_more n [] (r ∷ qs) b q are has = absurd are
 are_more n (c ∷ bs) [] b q are has = absurd are
-are_more n (c ∷ bs) (r ∷ qs) b q are has =
-    (are.0, are_more (n + length c) bs qs b q are.1 (let l = length-append c (flat bs) in let e : n + length (flat (c ∷ bs)) ≡ (n + length c) + length (flat bs) = omega arith in subst (λ (k : ℕ). HasGames k b q) e has))
+are_more n (c ∷ bs) (r ∷ qs) b q are has = (
+  are.0,
+  are_more (n + length c) bs qs b q are.1
+      (let l = length-append c (flat bs) in let e : n + length (flat (c ∷ bs)) ≡ (n + length c) + length (flat bs) = omega arith in subst (λ (k : ℕ). HasGames k b q) e has),
+)
 
 if_true : {A : Type 0} (b : Bool) (x y : A) → b ≡ true → (if b then x else y) ≡ x
 if_true true x y is = refl
@@ -126,7 +129,8 @@ leaves q now batch games m given (b ∷ bs) count full are open_ size index =
         waiting = bs;
         count = let l = length-append given (b ∷ []) in omega arith;
         full = full ∙ sym (append_assoc given (b ∷ []) bs);
-        are = subst (λ (n : ℕ). AreBatches n bs now.full.items) (sym (ap length (flat_append given (b ∷ []) ∙ ap (λ (l : KeptGames). flat given ++ l) (append-nil b)) ∙ length-append (flat given) b)) are.1;
+        are = subst (λ (n : ℕ). AreBatches n bs now.full.items)
+            (sym (ap length (flat_append given (b ∷ []) ∙ ap (λ (l : KeptGames). flat given ++ l) (append-nil b)) ∙ length-append (flat given) b)) are.1;
         open_ = open_;
         size = size;
         index = index;
@@ -154,7 +158,8 @@ all_given q games m was none =
     ap length (was.full ∙ ap (λ (l : List KeptGames). was.given ++ l) e ∙ append-nil was.given) ∙ was.count
 
 -- no game is left
-pub last_none : (q now : Queue) (games : KeptGames) (m : ℕ) → Fills q games m ⊎ IsDone q games m → q.full.items ≡ [] → q.open.items ≡ [] → now.full.items ≡ q.full.items → now.open.items ≡ q.open.items → IsDone now games m
+pub last_none : (q now : Queue) (games : KeptGames) (m : ℕ) → Fills q games m ⊎ IsDone q games m → q.full.items ≡ [] → q.open.items ≡ [] → now.full.items ≡ q.full.items
+    → now.open.items ≡ q.open.items → IsDone now games m
 last_none q now games m (inl was) none nothing full open_ =
     let l : left_over games ≡ [] = sym was.open_ ∙ nothing in
     record {

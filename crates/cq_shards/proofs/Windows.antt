@@ -206,7 +206,8 @@ more_kept game games ss i d inside =
 
 span_ends : (archive : List ℕ) (before : List Span) (s : Span) (after : List Span) → All (EndsBy (length archive)) (before ++ s ∷ after) → EndsBy (length archive) s
 span_ends archive before s after ends =
-    All-head (EndsBy (length archive)) s after (subst (All (EndsBy (length archive))) (drop-append_seam before (s ∷ after)) (All-drop (EndsBy (length archive)) (length before) (before ++ s ∷ after) ends))
+    All-head (EndsBy (length archive)) s after
+    (subst (All (EndsBy (length archive))) (drop-append_seam before (s ∷ after)) (All-drop (EndsBy (length archive)) (length before) (before ++ s ∷ after) ends))
 
 -- one of some games that stand in an archive
 pub inside_of : (archive : List ℕ) (before ss after : List Span) (i : ℕ) (d : Span) → i < length ss → All (EndsBy (length archive)) (before ++ (ss ++ after))

@@ -1,7 +1,6 @@
 //! Workers that draw the games of a batch.
 ghost use Rattle.std.specs.Prelude.{◌≡◌, ◌≤◌, [], length, All, IfOk};
 ghost use Rattle.cq_board.specs.Seats.{numbers_of, seats_of, IsSeatOf, drawn, HasEnded};
-ghost use Rattle.cql_syntax.specs.Trees.{QueryTree};
 ghost use Rattle.cq_shards.specs.Answers.{AreAnswersOf, games_of, query_in};
 ghost use Rattle.cq_shards.specs.Work.{IsFresh, IsThrough};
 
@@ -48,7 +47,7 @@ pub fn run_batch<R: Threads + Sync, G: Gate + Sync>(
         MOST_WORKERS,
         &|me, worker| { draw_all(alloc, plan, &board, batch, me as u64, worker, gate) },
     );
-    gathered(alloc, board, batch, slots)
+    gathered(alloc, plan, board, batch, slots)
 }
 
 // A worker at each seat.
@@ -103,15 +102,15 @@ fn draw_all<G: Gate>(
 // The answers of all workers, once they have ended.
 fn gathered(
     alloc: Global,
+    plan: &Plan,
     board: Board,
     batch: &Batch,
     slots: Vec<Worker>,
 ) -> Result<Vec<GameAnswer>, NoMemory>
     requires numbers { numbers_of board ≡ length (games_of batch.now) }
-    requires through { (query : QueryTree) × All (IsThrough board query batch.now) slots.items }
+    requires through { All (IsThrough board (query_in plan.now) batch.now) slots.items }
     requires count { length slots.items ≡ seats_of board }
-    ensures { (query : QueryTree) → All (IsThrough board query batch.now) slots.items
-        → IfOk result (λ answers. AreAnswersOf query batch.now answers.items) }
+    ensures { IfOk result (λ answers. AreAnswersOf (query_in plan.now) batch.now answers.items) }
 {
     let mut slots = slots;
     let mut seats = Vec::with_capacity(alloc, slots.len())?;

@@ -20,9 +20,10 @@ mod rewrite;
 #[cfg(test)]
 mod shards;
 #[cfg(test)]
-#[cfg(test)]
 mod symmetry;
 #[cfg(test)]
 mod syntax;
 #[cfg(test)]
 mod table;
+#[cfg(test)]
+mod workers;

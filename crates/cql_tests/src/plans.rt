@@ -15,8 +15,8 @@ use std::process::Abort;
 use std::sync::ledger::{Blank, Ledger};
 use std::test::Fail;
 
-// The plan of the query that a text is.
-fn plan_of(alloc: Global, text: &[u8]) -> Result<Plan, Refusal<QueryFault>> {
+/// The plan of the query that a text is.
+pub(crate) fn plan_of(alloc: Global, text: &[u8]) -> Result<Plan, Refusal<QueryFault>> {
     tokens_of_a_text_are_ended();
     spelled_queries_have_no_any();
     let tokens = query_tokens(alloc, text)?;

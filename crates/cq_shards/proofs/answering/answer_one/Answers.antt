@@ -14,4 +14,5 @@ returns-in-Ok c = read_one (query_in c.args.plan.now) c.args.index c.args.game.n
 pub returns-in-Err-Fault : goal.returns-in-Err-Fault
 returns-in-Err-Fault c =
     let read = rw (c.in-Err-Fault.is ∙ ap Err c.in-Err-Fault.field-0-is) at c.read_game.ensures.verdict in
-    (Err c.in-Err-Fault.fault, subst (λ bs. IsRead c.args.game.now.start c.args.game.now.first bs (Err c.in-Err-Fault.fault)) c.as_slice.ensures read, ap (λ (f : GameFault). record { index = c.args.index; what = Refused f }) c.in-Err-Fault.fault-is)
+    let refused = ap (λ (f : GameFault). record { index = c.args.index; what = Refused f }) c.in-Err-Fault.fault-is in
+    (Err c.in-Err-Fault.fault, subst (λ bs. IsRead c.args.game.now.start c.args.game.now.first bs (Err c.in-Err-Fault.fault)) c.as_slice.ensures read, refused)

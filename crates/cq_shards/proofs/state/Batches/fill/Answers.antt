@@ -13,16 +13,19 @@ loop-self-smaller g c =
 
 pub loop-self-preserved : goal.loop-self-preserved
 loop-self-preserved g c = (
-  fills_more c.batches_stay.ensures.closed c.args.self.now c.loop-self.self c.read_more.new.self _ _ _ c.loop-self.invariant.0 (c.has_none.ensures.none c.loop-self-test.true) (let t = c.if-not-self.true in search rules) c.in-Ok.ensures.read,
+  fills_more c.batches_stay.ensures.closed c.args.self.now c.loop-self.self c.read_more.new.self _ _ _ c.loop-self.invariant.0 (c.has_none.ensures.none c.loop-self-test.true)
+      (let t = c.if-not-self.true in search rules) c.in-Ok.ensures.read,
   c.in-Ok.ensures.cause ∙ c.loop-self.invariant.1,
   g.met.S.Source.follows_on c.args.source.now c.loop-self.source c.read_more.new.source c.loop-self.invariant.2 c.in-Ok.ensures.next,
 )
 
 pub returns-in-Err-Fault-clause-failed : goal.returns-in-Err-Fault-clause-failed
 returns-in-Err-Fault-clause-failed g c =
-    fills_failed c.args.self.now c.loop-self.self c.read_more.new.self _ _ _ c.loop-self.invariant.0 (rw (c.in-Err-Fault.is ∙ ap Err c.in-Err-Fault.field-0-is) at c.read_more.ensures.failed) (c.has_none.ensures.none c.loop-self-test.true) (let t = c.if-not-self.true in search rules)
+    fills_failed c.args.self.now c.loop-self.self c.read_more.new.self _ _ _ c.loop-self.invariant.0
+    (rw (c.in-Err-Fault.is ∙ ap Err c.in-Err-Fault.field-0-is) at c.read_more.ensures.failed) (c.has_none.ensures.none c.loop-self-test.true) (let t = c.if-not-self.true in search rules)
 
 pub returns-in-Err-NoMemory-clause-lost : goal.returns-in-Err-NoMemory-clause-lost
 returns-in-Err-NoMemory-clause-lost g c =
-    lost_more c.batches_stay.ensures.closed c.args.self.now c.loop-self.self c.read_more.new.self _ _ _ c.loop-self.invariant.0 (c.has_none.ensures.none c.loop-self-test.true) (let t = c.if-not-self.true in search rules)
+    lost_more c.batches_stay.ensures.closed c.args.self.now c.loop-self.self c.read_more.new.self _ _ _ c.loop-self.invariant.0 (c.has_none.ensures.none c.loop-self-test.true)
+    (let t = c.if-not-self.true in search rules)
     (rw (c.in-Err-NoMemory.is ∙ ap Err c.in-Err-NoMemory.field-0-is) at c.read_more.ensures.lost)

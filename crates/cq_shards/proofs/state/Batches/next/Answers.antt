@@ -31,4 +31,5 @@ returns-then-not-self-clause-says g c =
     let reads : c.fill.new.self.ended ≡ false = (let t = c.if-not-self.true in search rules) in
     let limit = c.in-Ok.ensures.fills.limit in
     let long = c.in-Ok.ensures.until none reads in
-    given_none c.args.self.now c.fill.new.self _ _ _ (λ n. c.args.self.now.limit < n) c.in-Ok.ensures.fills (record { cutter = refl; taken = refl; limit = refl; window = refl; ended = refl }) none reads (λ n t. (omega arith))
+    given_none c.args.self.now c.fill.new.self _ _ _ (λ n. c.args.self.now.limit < n) c.in-Ok.ensures.fills
+    (record { cutter = refl; taken = refl; limit = refl; window = refl; ended = refl }) none reads (λ n t. (omega arith))

@@ -7,7 +7,8 @@ feed-requires-clause-stands c = let s = c.requires.stands in let t = s.2.taken i
 
 pub returns-then-is_empty-clause-took : goal.returns-then-is_empty-clause-took
 returns-then-is_empty-clause-took c =
-    took_none c.end.result c.args.self.now c.end.new.self c.args.piece.now c.requires.low (let e = c.is_empty.ensures in let t = c.if-is_empty.true in search rules) c.end.ensures.stands c.end.ensures.ended c.end.ensures.limit c.end.ensures.taken
+    took_none c.end.result c.args.self.now c.end.new.self c.args.piece.now c.requires.low (let e = c.is_empty.ensures in let t = c.if-is_empty.true in search rules)
+    c.end.ensures.stands c.end.ensures.ended c.end.ensures.limit c.end.ensures.taken
 
 pub returns-clause-took : goal.returns-clause-took
 returns-clause-took c =

@@ -16,7 +16,8 @@ returns-in_ok-push_back c = λ games m was.
     let open_ : c.push.new.self.items ≡ q.open.items ++ c.args.game ∷ [] = c.in_ok-push.ensures.items in
     let taken : c.replace-games.result.items ≡ q.open.items ++ c.args.game ∷ [] = ap (λ v. v.items) c.replace-games.ensures.value ∙ open_ in
     filled q _ c.args.game _ games m was
-    (tested q c.args.game games m was c.len.result (q.size + c.len-bytes.result) (c.len.ensures ∙ sym (let o = c.push.new.self.ok.0 in let e = ap length open_ in search rules)) (ap (λ (n : ℕ). q.size + n) c.len-bytes.ensures) true (sym c.is_full.ensures ∙ c.if-is_full.true))
+    (tested q c.args.game games m was c.len.result (q.size + c.len-bytes.result) (c.len.ensures ∙ sym (let o = c.push.new.self.ok.0 in let e = ap length open_ in search rules))
+    (ap (λ (n : ℕ). q.size + n) c.len-bytes.ensures) true (sym c.is_full.ensures ∙ c.if-is_full.true))
     c.in_ok-push_back.ensures.items taken refl (ap (λ v. v.items) c.replace-games.ensures.after ∙ c.new.ensures.items) refl
     (ap (λ (n : ℕ). q.index + n) (c.len-count.ensures ∙ (let o = c.push.new.self.ok.0 in let e = ap length (taken ∙ sym open_) in search rules)))
 
@@ -25,7 +26,8 @@ returns-else-is_full c = λ games m was.
     let q = c.args.self.now in
     let open_ : c.push.new.self.items ≡ q.open.items ++ c.args.game ∷ [] = c.in_ok-push.ensures.items in
     grown q _ c.args.game games m was
-    (tested q c.args.game games m was c.len.result (q.size + c.len-bytes.result) (c.len.ensures ∙ sym (let o = c.push.new.self.ok.0 in let e = ap length open_ in search rules)) (ap (λ (n : ℕ). q.size + n) c.len-bytes.ensures) false (sym c.is_full.ensures ∙ c.if-is_full.false))
+    (tested q c.args.game games m was c.len.result (q.size + c.len-bytes.result) (c.len.ensures ∙ sym (let o = c.push.new.self.ok.0 in let e = ap length open_ in search rules))
+    (ap (λ (n : ℕ). q.size + n) c.len-bytes.ensures) false (sym c.is_full.ensures ∙ c.if-is_full.false))
     refl open_ (ap (λ (n : ℕ). q.size + n) c.len-bytes.ensures) refl
 
 pub invariant_of-push_back : goal.invariant_of-push_back

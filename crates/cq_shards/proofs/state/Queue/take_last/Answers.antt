@@ -4,7 +4,8 @@ use Rattle.cq_shards.proofs.state.Queue.take_last.Goals as goal
 
 pub returns-then-is_empty : goal.returns-then-is_empty
 returns-then-is_empty c = λ games m was none.
-    last_none c.args.self.now _ games m was none (none_of c.args.self.now.open.items (let e = c.is_empty.ensures in let t = c.if-is_empty.true in let o = c.args.self.now.open.ok.0 in search rules)) refl refl
+    last_none c.args.self.now _ games m was none
+    (none_of c.args.self.now.open.items (let e = c.is_empty.ensures in let t = c.if-is_empty.true in let o = c.args.self.now.open.ok.0 in search rules)) refl refl
 
 pub returns : goal.returns
 returns c = λ games m was none.
