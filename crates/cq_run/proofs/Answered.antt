@@ -1,24 +1,20 @@
 -- The promise of `answer`, from what its parts answer.
-use Rattle.std.proofs.Common.{◌≡◌, ◌⊎◌, ℕ, ◌+◌, ◌≤◌, ◌<◌, Bool, List, [], ◌∷◌, ◌++◌, length, length-append, append-nil, Option, Some, None, refl, ap, sym, ◌∙◌, arith, subst, inl, inr}
+use Rattle.std.proofs.Common.{◌≡◌, ℕ, ◌+◌, ◌≤◌, List, [], ◌∷◌, ◌++◌, length, length-append, append-nil, Option, Some, None, refl, ap, sym, ◌∙◌, arith, subst, inl, inr}
 use Rattle.std.specs.Io.KnownBytes.{Consumes, IsAtEnd}
-use Rattle.cq_outside.specs.Faults.{Rose}
 use Rattle.cq_outside.specs.Flow.{TakesAtMost}
 use Rattle.cql_syntax.specs.Trees.{QueryTree}
 use Rattle.pgn_cut.specs.Cut.{closed}
 use Rattle.pgn_cut.specs.Joined.{game_bytes}
 use Rattle.pgn_cut.specs.declared.span.Span.{Span}
 use Rattle.cq_shards.proofs.Filling.{consumes_none}
-use Rattle.cq_run.specs.declared.status.Status.{Status}
-use Rattle.cq_run.specs.declared.status.Status.TheVariants.{Done, DoneWithRefusals, QueryRefused, WordsRefused, OpenFault, ReadFault, WriteFault, NoMemory, ArchiveTooLong}
+use Rattle.cq_run.specs.declared.status.Status.TheVariants.{NoMemory}
 use Rattle.cq_run.specs.Asking.{texts_of, texts_so_far}
 use Rattle.cq_shards.specs.Outcomes.{Outcome}
+use Rattle.cq_run.specs.ByBatches.{HaveOutcomes}
 use Rattle.cq_run.specs.Outcomes.{AreRead}
-use Rattle.cq_run.proofs.Given.{HaveOutcomes}
-use Rattle.cq_run.specs.Promise.{SourceView, SinkView, Sinks, Answering, MayBe, ReadsWhole, TakesTooMuch, Overruns, Finds, FindsAll, WritesPart, WritesPrefix, SaysOfAnswer, AnswersAll, AnswerPromise, IsUnwritten, NoWriteFailed, SinkFailed, IsOneOf, sinks_of}
+use Rattle.cq_run.specs.Promise.{SourceView, SinkView, Sinks, Answering, MayBe, TakesTooMuch, Overruns, AnswerPromise, sinks_of}
 use Rattle.cq_run.specs.Sorts.{have_sort}
-use Rattle.cq_run.specs.Writing.{FoundSoFar}
 use Rattle.cq_run.proofs.Answers.{none_found, as_prefix, prefix_grows}
-use Rattle.cq_run.proofs.Sinks.{wrote_none, some_failed}
 
 -- the games of some spans have outcomes
 outcomes_of : HaveOutcomes → (archive : List ℕ) (spans : List Span) → (outcomes : List Outcome) × AreRead archive spans outcomes
@@ -26,7 +22,7 @@ outcomes_of have archive [] = ([], tt)
 outcomes_of have archive (s ∷ ss) =
     let one = have s.start s.first (game_bytes archive s) in
     let rest = outcomes_of have archive ss in
-    (one.0 ∷ rest.0, one.1, rest.1)
+    (one.0 ∷ rest.0, (one.1, rest.1))
 
 pub may_be : (left after : Option (List ℕ)) (bytes : List ℕ) → Consumes left after bytes → IsAtEnd after → MayBe left bytes
 may_be None after bytes takes end = tt
@@ -63,7 +59,6 @@ not_too_long limit source after told tells few much =
 abbrev pub asked : ℕ → SourceView → SourceView → Sinks → Answering
 asked limit source after sinks = record { limit = limit; source = source; source_after = after; sinks = sinks }
 
--- nothing was taken
 -- no memory before anything was read
 pub none_answered : HaveOutcomes → (q : QueryTree) (limit : ℕ) (source : SourceView) (out err : SinkView)
     → AnswerPromise (texts_of q) NoMemory (asked limit source source (sinks_of out out err err))

@@ -55,13 +55,11 @@ no_fault_lines n = refl
 abbrev pub tally_with : ℕ → ℕ → ℕ → Tally
 tally_with games matched refused = record { games = games; matched = matched; refused = refused }
 
-pub same_tally : (games games' matched matched' refused refused' : ℕ) → games ≡ games' → matched ≡ matched' → refused ≡ refused' → tally_with games matched refused ≡ tally_with games' matched' refused'
+pub same_tally : (games games' matched matched' refused refused' : ℕ) → games ≡ games' → matched ≡ matched' → refused ≡ refused'
+    → tally_with games matched refused ≡ tally_with games' matched' refused'
 same_tally games games' matched matched' refused refused' g m r = cc
 
 -- the same texts and games kept, by cases on whether the query has a sort item
-
-abbrev counted_on : Tally → ℕ → ℕ → Tally
-counted_on before matched refused = tally_with (before.games + 1) (before.matched + matched) (before.refused + refused)
 
 same_stand : (t u : Tally) (ks ls : List GameAnswer) → t ≡ u → ks ≡ ls → stand_of t ks ≡ stand_of u ls
 same_stand t u ks ls e f = cc
@@ -87,7 +85,6 @@ pub matched_tally : (query : QueryTree) (game : Game) (before : Tally) → has_m
     → tally_with (before.games + 1) (before.matched + 1) before.refused ≡ tallied query before (Ok game)
 matched_tally query game before some = same_tally _ _ _ _ _ _ refl (ap (λ b. before.matched + cond b 1 0) (sym some)) (omega (arith))
 
--- some nodes are not none
 -- ---- the answer of one game
 
 no_match : (b : Bool) (text : List ℕ) (values : List ℤ) → cond b (Match text values) Miss ≡ Miss → b ≡ false
@@ -425,9 +422,9 @@ one_stopped sorted query before outcomes ys rest more items a out out' out'' err
     let done = does next.r (next.answer ∙ ap (λ j. answer_of query j next.r) number) in
     let rs = before ++ take (length ys) outcomes in (
       subst (λ l. WritesPrefix (sinks_of out out'' err err'') (texts_so_far sorted query l))
-      (append_assoc rs (next.r ∷ []) next.more ∙ append_assoc before (take (length ys) outcomes) (next.r ∷ next.more) ∙ ap (λ l. before ++ l) (sym next.is))
-      (prefix_grows sorted query (rs ++ next.r ∷ []) next.more (sinks_of out out'' err err'')
-      (stopped_at sorted query rs next.r out out' out'' err err' err'' stand so_far done.0)),
+          (append_assoc rs (next.r ∷ []) next.more ∙ append_assoc before (take (length ys) outcomes) (next.r ∷ next.more) ∙ ap (λ l. before ++ l) (sym next.is))
+          (prefix_grows sorted query (rs ++ next.r ∷ []) next.more (sinks_of out out'' err err'')
+          (stopped_at sorted query rs next.r out out' out'' err err' err'' stand so_far done.0)),
       fails_after out out' out'' err err' err'' so_far.unfailed done.1,
     )
 
@@ -445,9 +442,9 @@ one_starved sorted query before outcomes ys rest more items a out out' out'' err
     let rs = before ++ take (length ys) outcomes in
     let sinks = sinks_of out out'' err err'' in (
       subst (λ l. WritesPrefix sinks (texts_so_far sorted query l))
-      (append_assoc before (take (length ys) outcomes) (next.r ∷ next.more) ∙ ap (λ l. before ++ l) (sym next.is))
-      (prefix_grows sorted query rs (next.r ∷ next.more) sinks
-      (as_prefix sinks (texts_so_far sorted query rs) (unwritten_since out out' out'' err err' err'' (texts_so_far sorted query rs) so_far.writes same))),
+          (append_assoc before (take (length ys) outcomes) (next.r ∷ next.more) ∙ ap (λ l. before ++ l) (sym next.is))
+          (prefix_grows sorted query rs (next.r ∷ next.more) sinks
+          (as_prefix sinks (texts_so_far sorted query rs) (unwritten_since out out' out'' err err' err'' (texts_so_far sorted query rs) so_far.writes same))),
       none_after out out' out'' err err' err'' so_far.unfailed (wrote_none (sinks_of out' out'' err' err'') same),
     )
 

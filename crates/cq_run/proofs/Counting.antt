@@ -1,7 +1,6 @@
 -- Counting what a query finds, batch by batch.
-use Rattle.std.proofs.Common.{◌≡◌, ◌⊎◌, inl, inr, ℕ, ◌+◌, ◌*◌, ◌^◌, Bool, true, false, ℤ, List, [], ◌∷◌, ◌++◌, length, length-append, length-map, append_assoc, append-nil, map, take, Some, ◌<◌, ◌≤◌, arith, refl, ap, sym, ◌∙◌, cond, subst, Ok, Err}
+use Rattle.std.proofs.Common.{◌≡◌, inl, inr, ℕ, ◌+◌, ◌^◌, false, ℤ, List, [], ◌∷◌, ◌++◌, length, length-append, append_assoc, append-nil, take, Some, ◌<◌, ◌≤◌, arith, refl, ap, sym, ◌∙◌, cond, subst, Ok, Err}
 use Rattle.std.specs.List.{flat_map}
-use Rattle.std.specs.Io.KnownBytes.{Consumes}
 use Rattle.std.proofs.lemmas.Grind.{flat_map-append}
 use Rattle.std.proofs.lemmas.List.Concat.{length-flat_map}
 use Rattle.std.proofs.lemmas.List.Sums.{count_by-le-length}
@@ -24,18 +23,18 @@ use Rattle.pgn_export.specs.Export.{export_text}
 use Rattle.pgn_reader.specs.declared.fault.GameFault.{GameFault}
 use Rattle.cq_run.specs.declared.tally.Tally.{Tally}
 use Rattle.cq_run.specs.declared.totals.Totals.{Totals}
-use Rattle.cq_run.specs.Answer.{export_if, is_match, is_refused, tally_of}
+use Rattle.cq_run.specs.Answer.{export_if, is_match, is_refused}
 use Rattle.cq_run.specs.Exports.{AreExports, matches_from}
+use Rattle.cq_run.specs.ByBatches.{Laws}
 use Rattle.cq_run.specs.Outcomes.{HasGames}
 use Rattle.cq_run.specs.Promise.{SourceView}
 use Rattle.cq_run.specs.SelfRun.{AreTotals, totals_of}
 use Rattle.cq_run.specs.Writing.{counted}
 use Rattle.cq_run.proofs.Answered.{may_be}
-use Rattle.cq_run.proofs.Answers.{IsFound, answers_count, is_faulty, is_found, is_no_match, matched_tally, next_of, same_tally, tallied_more, tally_with}
+use Rattle.cq_run.proofs.Answers.{IsFound, answers_count, is_faulty, is_found, is_no_match, next_of, same_tally, tallied_more, tally_with}
 use Rattle.cq_run.proofs.Exports.{texts_same}
-use Rattle.cq_run.proofs.Given.{InOrder, Laws, count_read, given, given_few, kept_read_on}
+use Rattle.cq_run.proofs.Given.{count_read, given, given_few, kept_read_on}
 use Rattle.cq_run.proofs.Reached.{Reached, all_read, moved, no_reads, rounds_few, turned}
-use Rattle.cq_shards.proofs.Filling.{consumes_none}
 
 -- ---- one game
 
@@ -161,16 +160,16 @@ counts_turn laws query archive limit was now left after totals batch t so turns 
       totals_ = so.totals_;
     }
 
-pub turn_few : Laws → InOrder → (query : QueryTree) (archive : List ℕ) (limit : ℕ) (b : Batches) (left : List ℕ) (totals : Totals) (batch : Batch) (answers : List GameAnswer) (t : ℕ)
+pub turn_few : Laws → (query : QueryTree) (archive : List ℕ) (limit : ℕ) (b : Batches) (left : List ℕ) (totals : Totals) (batch : Batch) (answers : List GameAnswer) (t : ℕ)
     → limit ≤ 2 ^ 40 → CountsTurn query archive limit b left totals batch t → AnswersBatch query batch answers → totals.tally.games + length answers < 2 ^ 62
-turn_few laws order query archive limit b left totals batch answers t low turn answered =
+turn_few laws query archive limit b left totals batch answers t low turn answered =
     let games : totals.tally.games ≡ length turn.outcomes = ap (λ (t : Totals). t.tally.games) turn.totals_ in
     let before = count_read (given turn.front turn.m) turn.outcomes turn.are_read in
     let count : length answers ≡ length answered.outcomes = ap length answered.are ∙ answers_count query (number_of batch) answered.outcomes in
     let read = count_read (games_of batch) answered.outcomes answered.are_read in
     let more : length (given turn.front (turn.m + 1)) ≡ length (given turn.front turn.m ++ (games_of batch)) = ap length turn.games in
     let parts = length-append (given turn.front turn.m) (games_of batch) in
-    let most = given_few laws order turn.front (turn.m + 1) in
+    let most = given_few laws turn.front (turn.m + 1) in
     let few = turn.reached.few in
     omega (arith, games, before, count, read, more, parts, most, few, low)
 
@@ -178,20 +177,19 @@ pub turn_counted : (query : QueryTree) (archive : List ℕ) (limit : ℕ) (b : B
     → (turn : CountsTurn query archive limit b left totals batch t) → (answered : AnswersBatch query batch answers)
     → ((bytes : ℕ) (rs qs : List Outcome) → answers ≡ answers_from query (length rs) qs → totals ≡ totals_of query bytes rs → new ≡ totals_of query bytes (rs ++ qs))
     → (so : CountedSoFar query archive limit b left new) × (t + 1 ≤ so.m)
-turn_counted query archive limit b left totals new batch answers t turn answered counts =
-    (
-      record {
-        front = turn.front;
-        m = turn.m + 1;
-        outcomes = turn.outcomes ++ answered.outcomes;
-        stands = turn.stands;
-        reached = turn.reached;
-        are_read = subst (λ gs. AreKeptRead gs (turn.outcomes ++ answered.outcomes)) (sym turn.games)
-            (kept_read_on (given turn.front turn.m) (games_of batch) turn.outcomes answered.outcomes turn.are_read answered.are_read);
-        totals_ = counts (length archive) turn.outcomes answered.outcomes (answered.are ∙ ap (λ n. answers_from query n answered.outcomes) turn.index) turn.totals_;
-      },
-      let a = turn.turns in omega (arith, a),
-    )
+turn_counted query archive limit b left totals new batch answers t turn answered counts = (
+  record {
+    front = turn.front;
+    m = turn.m + 1;
+    outcomes = turn.outcomes ++ answered.outcomes;
+    stands = turn.stands;
+    reached = turn.reached;
+    are_read = subst (λ gs. AreKeptRead gs (turn.outcomes ++ answered.outcomes)) (sym turn.games)
+        (kept_read_on (given turn.front turn.m) (games_of batch) turn.outcomes answered.outcomes turn.are_read answered.are_read);
+    totals_ = counts (length archive) turn.outcomes answered.outcomes (answered.are ∙ ap (λ n. answers_from query n answered.outcomes) turn.index) turn.totals_;
+  },
+  let a = turn.turns in omega (arith, a),
+)
 
 -- all games were counted
 pub all_counted : Laws → (query : QueryTree) (archive : List ℕ) (limit : ℕ) (was now : Batches) (left after : List ℕ) (totals : Totals)
@@ -200,7 +198,7 @@ all_counted laws query archive limit was now left after totals so moves =
     let at = moved laws limit was now (sure archive) (sure left) (sure after) so.front so.m (GivesNoMore now) so.stands so.reached moves in
     let front = so.front ++ moves.bytes in
     let all = all_read laws limit now (sure archive) (sure after) front so.m so.outcomes at.reached refl
-        (subst (λ gs. AreKeptRead gs so.outcomes) (sym at.same) so.are_read) (moves.given so.front so.m so.stands) in
+    (subst (λ gs. AreKeptRead gs so.outcomes) (sym at.same) so.are_read) (moves.given so.front so.m so.stands) in
     let same : archive ≡ front = may_be (Some archive) (Some after) front all.takes all.at_end in
     record {
       outcomes = so.outcomes;
@@ -233,9 +231,9 @@ pub never_faults : Laws → (query : QueryTree) (archive : List ℕ) (limit : �
 never_faults laws query archive limit was now left after totals ReadFault so low says cause = none_rose cause.1
 never_faults laws query archive limit was now left after totals ArchiveTooLong so low says cause = none_too_long laws query archive limit was now left after totals so says low
 
-pub few_counts : InOrder → (query : QueryTree) (archive : List ℕ) (limit : ℕ) (b : Batches) (left : List ℕ) (totals : Totals) → (so : CountedSoFar query archive limit b left totals)
+pub few_counts : Laws → (query : QueryTree) (archive : List ℕ) (limit : ℕ) (b : Batches) (left : List ℕ) (totals : Totals) → (so : CountedSoFar query archive limit b left totals)
     → so.m < limit + 3
-few_counts order query archive limit b left totals so = rounds_few order limit b (sure archive) (sure left) so.front so.m so.reached
+few_counts laws query archive limit b left totals so = rounds_few laws limit b (sure archive) (sure left) so.front so.m so.reached
 
 pub matched_few : (query : QueryTree) (archive : List ℕ) (limit : ℕ) (b : Batches) (left : List ℕ) (totals : Totals) → CountedSoFar query archive limit b left totals
     → totals.tally.matched ≤ totals.tally.games

@@ -1,36 +1,24 @@
 -- The games of the batches that are given.
-use Rattle.std.proofs.Common.{◌≡◌, ◌⊎◌, ◌↔◌, ℕ, ◌+◌, ◌^◌, ◌≤◌, ◌<◌, Bool, true, false, List, [], ◌∷◌, ◌++◌, length, length-append, append-nil, append_assoc, map, take, drop, get_or, Option, Some, None, Ok, Err, refl, ap, sym, ◌∙◌, arith, subst, inl, inr}
-use Rattle.std.specs.Prelude.{Result, slice_get, if◌then◌else◌}
-use Rattle.std.proofs.lemmas.Bool.{cases_Bool, cases_lt}
+use Rattle.std.proofs.Common.{◌≡◌, ℕ, ◌+◌, ◌≤◌, Bool, true, false, List, [], ◌∷◌, ◌++◌, length, length-append, append-nil, append_assoc, map, take, drop, Some, refl, ap, sym, ◌∙◌, arith}
+use Rattle.std.specs.Prelude.{slice_get, if◌then◌else◌}
 use Rattle.std.proofs.lemmas.Grind.{flat_map-append}
-use Rattle.std.proofs.lemmas.List.{take-append-le, take-append-drop, take_more, take_all, map-append, length-map, length-take}
-use Rattle.std.specs.Prelude.{All}
-use Rattle.std.proofs.lemmas.List.Elements.{All-head, All-tail, All-nil, All-cons}
+use Rattle.std.proofs.lemmas.List.{take-append-le, take-append-drop, take_more, map-append, length-map}
 use Rattle.std.proofs.lemmas.Option.{slice_get_within, slice_get-get_or, get_or_from_slice_get}
 use Rattle.std.proofs.Math.ListN.{get_or-append}
 use Rattle.pgn_cut.specs.Cut.{cut, closed}
 use Rattle.pgn_cut.specs.Joined.{game_bytes}
-use Rattle.pgn_cut.specs.Spans.{AreInOrder, EndsBy, FinishesAt}
 use Rattle.pgn_cut.specs.declared.span.Span.{Span}
-use Rattle.pgn_reader.specs.Limits.{longest}
 use Rattle.pgn_reader.specs.Verdict.{IsRead}
-use Rattle.cq_shards.specs.declared.kept.KeptGame.{KeptGame}
 use Rattle.cq_shards.specs.Kept.{KeptGames}
 use Rattle.cq_shards.specs.Batching.{batches, full_batches, full_from, is_full, left_over, as_last, flat}
 use Rattle.cq_shards.specs.Whole.{closed_games, cut_games, whole, whole_spans}
 use Rattle.cq_shards.specs.Kept.{kept, most_kept}
-use Rattle.cq_shards.specs.Answers.{AnswersBatch, answers_from}
 use Rattle.cq_shards.specs.Outcomes.{Outcome, AreKeptRead}
-use Rattle.cq_run.specs.Outcomes.{AreRead, HasGames}
+use Rattle.cq_run.specs.ByBatches.{HaveOutcomes, Laws}
+use Rattle.cq_run.specs.Outcomes.{AreRead}
 use Rattle.cq_shards.proofs.Streams.{count_within}
-use Rattle.cq_position.specs.Games.{Game}
-use Rattle.pgn_reader.specs.declared.fault.GameFault.{GameFault}
 use Rattle.std.proofs.Math.Seq.{take-append_seam}
 use Rattle.std.proofs.lemmas.List.{take-map}
-
--- all games have outcomes
-abbrev pub HaveOutcomes : Type 0
-HaveOutcomes = (start : ℕ) (first : Bool) (bytes : List ℕ) → (outcome : Result Game GameFault) × IsRead start first bytes outcome
 
 pub record Rest (games : KeptGames) : Type 0 where
   pub outcomes : List Outcome
@@ -48,14 +36,6 @@ kept_read_on [] hs [] qs before after = after
 kept_read_on [] hs (r ∷ rs) qs before after = absurd before
 kept_read_on (g ∷ gs) hs [] qs before after = absurd before
 kept_read_on (g ∷ gs) hs (r ∷ rs) qs before after = (before.0, kept_read_on gs hs rs qs before.1 after)
-
-pub record Laws : Type 0 where
-  pub full : (games more : KeptGames) → (rest : List KeptGames) × (full_batches (games ++ more) ≡ full_batches games ++ rest)
-  pub all : (games : KeptGames) → flat (full_batches games) ++ left_over games ≡ games
-  pub closed_ : (front more : List ℕ) → (rest : KeptGames) × (closed_games (front ++ more) ≡ closed_games front ++ rest)
-  pub cuts : (front : List ℕ) → (last : List Span) × (cut front ≡ closed front ++ last) × FinishesAt (length front) last
-  pub have : HaveOutcomes
-  pub decide : (start : ℕ) (first : Bool) (bytes : List ℕ) (outcome : Outcome) → IsRead start first (take (longest + 1) bytes) outcome ↔ IsRead start first bytes outcome
 
 -- what is kept of a game is read as the game
 kept_read : Laws → (start : ℕ) (first : Bool) (bytes : List ℕ) (r : Outcome) → IsRead start first (take most_kept bytes) r → IsRead start first bytes r
@@ -158,17 +138,14 @@ pub last_one : (games : KeptGames) → length (as_last games) ≤ 1
 last_one [] = omega arith
 last_one (g ∷ gs) = omega arith
 
-abbrev pub InOrder : Type 0
-InOrder = (archive : List ℕ) → AreInOrder 0 (length archive) (cut archive)
-
-given_few : Laws → InOrder → (front : List ℕ) (k : ℕ) → length (given front k) ≤ length front
-given_few laws order front k =
+pub given_few : Laws → (front : List ℕ) (k : ℕ) → length (given front k) ≤ length front
+given_few laws front k =
     let bs = batches (cut_games front) in
     let split : given front k ++ flat (drop k bs) ≡ cut_games front =
     sym (flat_map-append (λ (x : KeptGames). x) (take k bs) (drop k bs)) ∙ ap flat (take-append-drop k bs) ∙ all_batches laws (cut_games front) in
     let lengths : length (given front k ++ flat (drop k bs)) ≡ length (cut_games front) = ap length split in
     let parts = length-append (given front k) (flat (drop k bs)) in
-    let count = count_within 0 (length front) (cut front) (order front) (omega arith) in
+    let count = count_within 0 (length front) (cut front) (laws.order front) (omega arith) in
     let same = length-map (cut front) (kept front) in
     omega (arith, lengths, parts, count, same)
 

@@ -10,5 +10,6 @@ mod Answered
 mod OneOutcome
 mod Reached
 mod Rounds
+mod Sorted
 mod Doing
 pub mod EveryText

@@ -32,7 +32,8 @@ no_fault one none text q f is (inl lexical) = let g : ◌≡◌ {A = Result (Lis
 no_fault one none text q f is (inr (inl parse)) =
     none is.tokens f q (subst (λ ts. IsFault ts f) (same_tokens text parse.tokens is.tokens parse.are_tokens is.are_tokens) parse.is_fault) is.spells
 no_fault one none text q f is (inr (inr tree)) =
-    let same : tree.query ≡ q = one is.tokens tree.query q (subst (λ ts. Spells most_open ts tree.query) (same_tokens text tree.tokens is.tokens tree.are_tokens is.are_tokens) tree.spells) is.spells in
+    let same : tree.query ≡ q =
+    one is.tokens tree.query q (subst (λ ts. Spells most_open ts tree.query) (same_tokens text tree.tokens is.tokens tree.are_tokens is.are_tokens) tree.spells) is.spells in
     let a = tree.broken in
     let b = is.unbroken in
     cc

@@ -1,36 +1,28 @@
 -- How far an archive was read, and its batches were given.
-use Rattle.std.proofs.Common.{◌≡◌, ◌⊎◌, ◌↔◌, ℕ, ◌+◌, ◌^◌, ◌≤◌, ◌<◌, Bool, true, false, List, [], ◌∷◌, ◌++◌, length, length-append, append-nil, append_assoc, map, take, drop, get_or, Option, Some, None, Ok, Err, refl, ap, sym, ◌∙◌, arith, subst, inl, inr}
-use Rattle.std.specs.Prelude.{Result, slice_get, if◌then◌else◌}
-use Rattle.std.proofs.lemmas.Bool.{cases_Bool, cases_lt}
-use Rattle.std.proofs.lemmas.Grind.{flat_map-append}
-use Rattle.std.proofs.lemmas.List.{take-append-le, take-append-drop, take_more, take_all, map-append, length-map, length-take}
-use Rattle.std.specs.Prelude.{All}
-use Rattle.std.proofs.lemmas.List.Elements.{All-head, All-tail, All-nil, All-cons}
-use Rattle.std.proofs.lemmas.Option.{slice_get_within, slice_get-get_or, get_or_from_slice_get}
-use Rattle.std.proofs.Math.ListN.{get_or-append}
+use Rattle.std.proofs.Common.{◌≡◌, ◌⊎◌, ℕ, ◌+◌, ◌≤◌, ◌<◌, Bool, true, false, List, [], ◌++◌, length, length-append, append-nil, Some, ap, sym, ◌∙◌, arith, subst, inl, inr}
+use Rattle.std.specs.Prelude.{slice_get}
+use Rattle.std.proofs.lemmas.Bool.{cases_Bool}
+use Rattle.std.proofs.lemmas.List.{take_all, length-map}
+use Rattle.std.proofs.lemmas.Option.{slice_get_within}
 use Rattle.std.specs.Io.KnownBytes.{Consumes, IsAtEnd}
 use Rattle.cq_outside.specs.Flow.{TakesAtMost}
-use Rattle.pgn_cut.specs.Cut.{cut, closed}
-use Rattle.pgn_cut.specs.Spans.{AreInOrder, EndsBy, FinishesAt}
-use Rattle.pgn_cut.specs.declared.span.Span.{Span}
-use Rattle.pgn_reader.specs.Verdict.{IsRead}
+use Rattle.pgn_cut.specs.Cut.{cut}
 use Rattle.cq_shards.specs.Answers.{games_of, number_of}
 use Rattle.cq_shards.specs.declared.batch.Batch.{Batch}
-use Rattle.cq_shards.specs.declared.kept.KeptGame.{KeptGame}
 use Rattle.cq_shards.specs.declared.state.Batches.{Batches}
-use Rattle.cq_shards.specs.Kept.{KeptGames}
-use Rattle.cq_shards.specs.Batching.{batches, full_batches, full_from, is_full, left_over, as_last, flat}
+use Rattle.cq_shards.specs.Batching.{batches, full_batches, left_over, as_last, flat}
 use Rattle.cq_shards.specs.Queues.{IsNextBatch, IsBatchAt}
 use Rattle.cq_shards.specs.Streams.{Stands}
-use Rattle.cq_shards.specs.Whole.{closed_games, cut_games, whole}
-use Rattle.cq_shards.specs.Kept.{kept, most_kept}
-use Rattle.cq_shards.specs.Nexts.{Moves, GivesBatch, GivesNoMore, GivesNone}
+use Rattle.cq_shards.specs.Whole.{closed_games, cut_games}
+use Rattle.cq_shards.specs.Kept.{kept}
+use Rattle.cq_shards.specs.Nexts.{Moves, GivesBatch, GivesNoMore}
 use Rattle.cq_shards.specs.Outcomes.{Outcome, AreKeptRead}
-use Rattle.cq_run.specs.Outcomes.{AreRead, HasGames}
+use Rattle.cq_run.specs.ByBatches.{Laws}
+use Rattle.cq_run.specs.Outcomes.{HasGames}
 use Rattle.cq_run.specs.Promise.{SourceView}
 use Rattle.cq_shards.proofs.Streams.{count_within}
 use Rattle.cq_shards.proofs.Filling.{consumes_none, consumes_on}
-use Rattle.cq_run.proofs.Given.{InOrder, Laws, all_batches, count_read, flat_next, full_each, full_first, full_low, full_rises, given, given_full, given_stays, last_one, reads_archive, within_first}
+use Rattle.cq_run.proofs.Given.{all_batches, flat_next, full_each, full_first, full_low, full_rises, given, given_full, given_stays, last_one, reads_archive, within_first}
 
 pub record Reached (limit : ℕ) (b : Batches) (source now : SourceView) (front : List ℕ) (m : ℕ) : Type 0 where
   pub limit_ : b.limit ≡ limit
@@ -182,14 +174,14 @@ no_reads limit b source same reads = record {
 }
 
 -- there are no more batches than bytes
-pub rounds_few : InOrder → (limit : ℕ) (b : Batches) (source now : SourceView) (front : List ℕ) (m : ℕ) → Reached limit b source now front m → m < limit + 3
-rounds_few order limit b source now front m reached =
+pub rounds_few : Laws → (limit : ℕ) (b : Batches) (source now : SourceView) (front : List ℕ) (m : ℕ) → Reached limit b source now front m → m < limit + 3
+rounds_few laws limit b source now front m reached =
     let games = cut_games front in
     let most = reached.all in
     let parts = length-append (full_batches games) (as_last (left_over games)) in
     let full = full_each [] games in
     let last = last_one (left_over games) in
-    let count = count_within 0 (length front) (cut front) (order front) (omega arith) in
+    let count = count_within 0 (length front) (cut front) (laws.order front) (omega arith) in
     let same = length-map (cut front) (kept front) in
     let few = reached.few in
     omega (arith, most, parts, full, last, count, same, few)

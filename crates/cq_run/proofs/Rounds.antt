@@ -1,53 +1,33 @@
 -- Answering batch by batch.
-use Rattle.std.proofs.Common.{◌≡◌, ◌⊎◌, ◌↔◌, ℕ, ◌+◌, ◌^◌, ◌≤◌, ◌<◌, Bool, true, false, List, [], ◌∷◌, ◌++◌, length, length-append, append-nil, append_assoc, map, take, drop, get_or, Option, Some, None, Ok, Err, refl, ap, sym, ◌∙◌, arith, subst, inl, inr}
-use Rattle.std.specs.Prelude.{Result, slice_get, if◌then◌else◌}
-use Rattle.std.proofs.lemmas.Bool.{cases_Bool, cases_lt}
+use Rattle.std.proofs.Common.{◌≡◌, ◌⊎◌, ℕ, ◌+◌, ◌^◌, ◌≤◌, ◌<◌, Bool, true, false, List, [], ◌∷◌, ◌++◌, length, length-append, append_assoc, take, drop, refl, ap, sym, ◌∙◌, arith, subst, inl, inr}
+use Rattle.std.proofs.lemmas.Bool.{cases_Bool}
 use Rattle.std.proofs.lemmas.Grind.{flat_map-append}
-use Rattle.std.proofs.lemmas.List.{take-append-le, take-append-drop, take_more, take_all, map-append, length-map, length-take}
-use Rattle.std.specs.Prelude.{All}
-use Rattle.std.proofs.lemmas.List.Elements.{All-head, All-tail, All-nil, All-cons}
-use Rattle.std.proofs.lemmas.Option.{slice_get_within, slice_get-get_or, get_or_from_slice_get}
-use Rattle.std.proofs.Math.ListN.{get_or-append}
-use Rattle.std.specs.Io.KnownBytes.{Consumes, IsAtEnd}
+use Rattle.std.proofs.lemmas.List.{take-append-drop, take_all}
 use Rattle.cq_outside.specs.Faults.{Rose}
-use Rattle.cq_outside.specs.Flow.{TakesAtMost}
 use Rattle.cql_syntax.specs.Trees.{QueryTree}
 use Rattle.pgn_cut.specs.Cut.{cut, closed}
-use Rattle.pgn_cut.specs.Joined.{game_bytes}
-use Rattle.pgn_cut.specs.Spans.{AreInOrder, EndsBy, FinishesAt}
-use Rattle.pgn_cut.specs.declared.span.Span.{Span}
-use Rattle.pgn_reader.specs.Limits.{longest}
-use Rattle.pgn_reader.specs.Verdict.{IsRead}
 use Rattle.cq_shards.specs.declared.batch.Batch.{Batch}
-use Rattle.cq_shards.specs.declared.kept.KeptGame.{KeptGame}
 use Rattle.cq_shards.specs.declared.state.Batches.{Batches}
 use Rattle.cq_shards.specs.Kept.{KeptGames}
-use Rattle.cq_shards.specs.Batching.{batches, full_batches, full_from, is_full, left_over, as_last, flat}
-use Rattle.cq_shards.specs.Queues.{IsNextBatch, IsBatchAt}
+use Rattle.cq_shards.specs.Batching.{batches, full_batches, left_over, flat}
 use Rattle.cq_shards.specs.Streams.{Stands}
 use Rattle.cq_shards.specs.Whole.{closed_games, cut_games, whole, whole_spans}
-use Rattle.cq_shards.specs.Kept.{kept, most_kept}
 use Rattle.cq_run.specs.declared.status.Status.{Status}
 use Rattle.cq_run.specs.declared.status.Status.TheVariants.{Done, DoneWithRefusals, QueryRefused, WordsRefused, OpenFault, ReadFault, WriteFault, NoMemory, ArchiveTooLong}
 use Rattle.cq_run.specs.Asking.{texts_of, texts_so_far}
 use Rattle.cq_shards.specs.Answers.{AnswersBatch, answers_from, games_of, number_of}
 use Rattle.cq_shards.specs.Nexts.{Moves, GivesBatch, GivesNoMore, GivesNone}
 use Rattle.cq_shards.specs.Outcomes.{Outcome, AreKeptRead}
-use Rattle.cq_run.specs.Outcomes.{AreRead, HasGames}
-use Rattle.cq_run.specs.Promise.{SourceView, SinkView, Sinks, Answering, ReadsWhole, TakesTooMuch, Overruns, Finds, FindsAll, Stops, Breaks, WritesPrefix, WritesPart, SaysOfAnswer, Suffices, AnswersAll, AnswerPromise, NoWriteFailed, OneSinkFailed, IsOneOf, sinks_of}
+use Rattle.cq_run.specs.ByBatches.{Laws}
+use Rattle.cq_run.specs.Promise.{SourceView, SinkView, Sinks, FindsAll, Stops, Breaks, WritesPrefix, SaysOfAnswer, Suffices, AnswersAll, AnswerPromise, NoWriteFailed, OneSinkFailed, IsOneOf, sinks_of}
 use Rattle.cq_run.specs.Sorts.{have_sort}
 use Rattle.cq_run.specs.Writing.{FoundSoFar, WritesAnswer, Stand, stand_of}
 use Rattle.cq_shards.specs.declared.answers.GameAnswer.{GameAnswer}
 use Rattle.cq_run.proofs.Answered.{asked, may_be, not_overrun, not_too_long}
 use Rattle.cq_run.proofs.Answers.{none_found, as_prefix, prefix_grows, tally_with, answers_count}
-use Rattle.cq_shards.proofs.Streams.{count_within}
 use Rattle.cq_run.proofs.Sinks.{some_failed}
-use Rattle.cq_shards.proofs.Filling.{consumes_none}
-use Rattle.cq_run.proofs.Given.{InOrder, Laws, Rest, all_batches, count_read, full_each, given, given_few, given_full, kept_read_on, last_one, reads_archive, rest_of, whole_are}
-use Rattle.cq_run.proofs.Reached.{Reached, ReadsAll, Turned, all_read, moved, no_reads, rounds_few, takes_some, true_not_false, turned}
-
-
--- ---- laws of batches and of reading
+use Rattle.cq_run.proofs.Given.{Rest, all_batches, count_read, given, given_few, given_full, kept_read_on, reads_archive, rest_of, whole_are}
+use Rattle.cq_run.proofs.Reached.{Reached, ReadsAll, Turned, all_read, moved, no_reads, rounds_few, takes_some, turned}
 
 -- ---- how far the archive was read and its batches were given
 
@@ -60,8 +40,6 @@ pub record Rounds (sorted : Bool) (query : QueryTree) (limit : ℕ) (b : Batches
   pub counts : now.faults ≡ source.faults
   pub are_read : AreKeptRead (given front m) outcomes
   pub found : FoundSoFar sorted query outcomes sinks stand
-
--- ---- a batch was given
 
 -- ---- where reading stops
 
@@ -168,7 +146,8 @@ within_of query limit source after sinks all (inl few) = few
 within_of query limit source after sinks all (inr enough) = absurd enough.early
 
 -- nothing suffices of one query
-none_suffices : (query : QueryTree) (front : List ℕ) (limit : ℕ) (source after : SourceView) (sinks : Sinks) → (all : AnswersAll (texts_of query) (asked limit source after sinks)) → length all.archive ≤ limit
+none_suffices : (query : QueryTree) (front : List ℕ) (limit : ℕ) (source after : SourceView) (sinks : Sinks)
+    → (all : AnswersAll (texts_of query) (asked limit source after sinks)) → length all.archive ≤ limit
 none_suffices query front limit source after sinks all = within_of query limit source after sinks all all.within
 
 pub unread : Laws → (sorted : Bool) (query : QueryTree) (limit : ℕ) (b : Batches) (source now : SourceView) (front : List ℕ) (m : ℕ) (rs : List Outcome) (sinks : Sinks) (stand : Stand)
@@ -255,9 +234,9 @@ no_rounds sorted query limit b source out err stands same reads = record {
 
 -- ---- there are no more rounds than bytes
 
-pub few_rounds : InOrder → (sorted : Bool) (query : QueryTree) (limit : ℕ) (b : Batches) (source now : SourceView) (sinks : Sinks) (stand : Stand)
+pub few_rounds : Laws → (sorted : Bool) (query : QueryTree) (limit : ℕ) (b : Batches) (source now : SourceView) (sinks : Sinks) (stand : Stand)
     → (so : Rounds sorted query limit b source now sinks stand) → so.m < limit + 3
-few_rounds order sorted query limit b source now sinks stand so = rounds_few order limit b source now so.front so.m so.reached
+few_rounds laws sorted query limit b source now sinks stand so = rounds_few laws limit b source now so.front so.m so.reached
 
 -- ---- what a call for the next batch answers, after some rounds
 
@@ -303,13 +282,6 @@ round_starves laws sorted query limit was now source mid after sinks stand Given
     starves laws sorted query limit now source after (so.front ++ moves.bytes) so.m so.outcomes sinks sorts at.reached (counts ∙ so.counts)
     (subst (λ gs. AreKeptRead gs so.outcomes) (sym at.same) so.are_read) (as_prefix sinks (texts_so_far sorted query so.outcomes) so.found.writes) so.found.unfailed
 
--- no more rounds are made
-pub rounds_stop : Laws → (sorted : Bool) (query : QueryTree) (limit : ℕ) (b : Batches) (source now : SourceView) (sinks : Sinks) (stand : Stand)
-    → have_sort query.items ≡ sorted → Rounds sorted query limit b source now sinks stand → AnswerPromise (texts_of query) NoMemory (asked limit source now sinks)
-rounds_stop laws sorted query limit b source now sinks stand sorts so =
-    starves laws sorted query limit b source now so.front so.m so.outcomes sinks sorts so.reached so.counts so.are_read
-    (as_prefix sinks (texts_so_far sorted query so.outcomes) so.found.writes) so.found.unfailed
-
 pub round_unread : Laws → (sorted : Bool) (query : QueryTree) (limit : ℕ) (was now : Batches) (source mid after : SourceView) (sinks : Sinks) (stand : Stand)
     → have_sort query.items ≡ sorted → Rounds sorted query limit was source mid sinks stand → Moves was now mid.left after.left (GivesNone was (λ n. n ≤ was.limit))
     → Rose mid.faults after.faults → AnswerPromise (texts_of query) ReadFault (asked limit source after sinks)
@@ -344,16 +316,16 @@ turn_starves laws sorted query limit b source now sinks stand batch t sorts turn
 
 -- the batch is answered
 
-pub turn_few : Laws → InOrder → (sorted : Bool) (query : QueryTree) (limit : ℕ) (b : Batches) (source now : SourceView) (sinks : Sinks) (stand : Stand) (batch : Batch) (answers : List GameAnswer) (t : ℕ)
+pub turn_few : Laws → (sorted : Bool) (query : QueryTree) (limit : ℕ) (b : Batches) (source now : SourceView) (sinks : Sinks) (stand : Stand) (batch : Batch) (answers : List GameAnswer) (t : ℕ)
     → limit ≤ 2 ^ 40 → Turn sorted query limit b source now sinks stand batch t → AnswersBatch query batch answers → stand.tally.games + length answers < 2 ^ 62
-turn_few laws order sorted query limit b source now sinks stand batch answers t low turn answered =
+turn_few laws sorted query limit b source now sinks stand batch answers t low turn answered =
     let games : stand.tally.games ≡ length turn.outcomes = ap (λ (t : Stand). t.tally.games) turn.found.is in
     let before = count_read (given turn.front turn.m) turn.outcomes turn.are_read in
     let count : length answers ≡ length answered.outcomes = ap length answered.are ∙ answers_count query (number_of batch) answered.outcomes in
     let read = count_read (games_of batch) answered.outcomes answered.are_read in
     let more : length (given turn.front (turn.m + 1)) ≡ length (given turn.front turn.m ++ (games_of batch)) = ap length turn.turned.games in
     let parts = length-append (given turn.front turn.m) (games_of batch) in
-    let most = given_few laws order turn.front (turn.m + 1) in
+    let most = given_few laws turn.front (turn.m + 1) in
     let few = turn.turned.reached.few in
     omega (arith, games, before, count, read, more, parts, most, few, low)
 
@@ -369,25 +341,26 @@ all_of_turn sorted query limit b source now sinks stand batch answers t turn ans
     subst (λ gs. AreKeptRead gs (turn.outcomes ++ answered.outcomes)) (sym turn.turned.games)
     (kept_read_on (given turn.front turn.m) (games_of batch) turn.outcomes answered.outcomes turn.are_read answered.are_read)
 
-pub turn_done : (sorted : Bool) (query : QueryTree) (limit : ℕ) (b : Batches) (source now : SourceView) (sinks new_sinks : Sinks) (stand new : Stand) (batch : Batch) (answers : List GameAnswer) (t : ℕ)
+pub turn_done : (sorted : Bool) (query : QueryTree) (limit : ℕ) (b : Batches) (source now : SourceView) (sinks new_sinks : Sinks) (stand new : Stand) (batch : Batch)
+    (answers : List GameAnswer) (t : ℕ)
     → (turn : Turn sorted query limit b source now sinks stand batch t) → (answered : AnswersBatch query batch answers)
     → FoundSoFar sorted query (turn.outcomes ++ answered.outcomes) new_sinks new → (r : Rounds sorted query limit b source now new_sinks new) × (t + 1 ≤ r.m)
-turn_done sorted query limit b source now sinks new_sinks stand new batch answers t turn answered found =
-    (
-      record {
-        front = turn.front;
-        m = turn.m + 1;
-        outcomes = turn.outcomes ++ answered.outcomes;
-        stands = turn.stands;
-        reached = turn.turned.reached;
-        counts = turn.counts;
-        are_read = all_of_turn sorted query limit b source now sinks stand batch answers t turn answered;
-        found = found;
-      },
-      let a = turn.turns in omega (arith, a),
-    )
+turn_done sorted query limit b source now sinks new_sinks stand new batch answers t turn answered found = (
+  record {
+    front = turn.front;
+    m = turn.m + 1;
+    outcomes = turn.outcomes ++ answered.outcomes;
+    stands = turn.stands;
+    reached = turn.turned.reached;
+    counts = turn.counts;
+    are_read = all_of_turn sorted query limit b source now sinks stand batch answers t turn answered;
+    found = found;
+  },
+  let a = turn.turns in omega (arith, a),
+)
 
-pub turn_fails : Laws → (sorted : Bool) (query : QueryTree) (limit : ℕ) (b : Batches) (source now : SourceView) (sinks new_sinks : Sinks) (stand : Stand) (batch : Batch) (answers : List GameAnswer) (t : ℕ)
+pub turn_fails : Laws → (sorted : Bool) (query : QueryTree) (limit : ℕ) (b : Batches) (source now : SourceView) (sinks new_sinks : Sinks) (stand : Stand) (batch : Batch)
+    (answers : List GameAnswer) (t : ℕ)
     → have_sort query.items ≡ sorted → (turn : Turn sorted query limit b source now sinks stand batch t) → (answered : AnswersBatch query batch answers)
     → WritesPrefix new_sinks (texts_so_far sorted query (turn.outcomes ++ answered.outcomes)) × OneSinkFailed new_sinks
     → AnswerPromise (texts_of query) WriteFault (asked limit source now new_sinks)
@@ -395,11 +368,11 @@ turn_fails laws sorted query limit b source now sinks new_sinks stand batch answ
     breaks_off laws sorted query limit b source now turn.front (turn.m + 1) (turn.outcomes ++ answered.outcomes) new_sinks sorts turn.turned.reached turn.counts
     (all_of_turn sorted query limit b source now sinks stand batch answers t turn answered) writes failed
 
-pub turn_wants : Laws → (sorted : Bool) (query : QueryTree) (limit : ℕ) (b : Batches) (source now : SourceView) (sinks new_sinks : Sinks) (stand : Stand) (batch : Batch) (answers : List GameAnswer) (t : ℕ)
+pub turn_wants : Laws → (sorted : Bool) (query : QueryTree) (limit : ℕ) (b : Batches) (source now : SourceView) (sinks new_sinks : Sinks) (stand : Stand) (batch : Batch)
+    (answers : List GameAnswer) (t : ℕ)
     → have_sort query.items ≡ sorted → (turn : Turn sorted query limit b source now sinks stand batch t) → (answered : AnswersBatch query batch answers)
     → WritesPrefix new_sinks (texts_so_far sorted query (turn.outcomes ++ answered.outcomes)) × NoWriteFailed new_sinks
     → AnswerPromise (texts_of query) NoMemory (asked limit source now new_sinks)
 turn_wants laws sorted query limit b source now sinks new_sinks stand batch answers t sorts turn answered (writes, unfailed) =
     starves laws sorted query limit b source now turn.front (turn.m + 1) (turn.outcomes ++ answered.outcomes) new_sinks sorts turn.turned.reached turn.counts
     (all_of_turn sorted query limit b source now sinks stand batch answers t turn answered) writes unfailed
-

@@ -4,6 +4,7 @@ pub mod Outcomes
 pub mod Answer
 pub mod Sorts
 pub mod Exports
+pub mod ByBatches
 pub mod Promise
 pub mod Asking
 pub mod Writing

@@ -4,8 +4,8 @@ ghost use Rattle.cql_syntax.specs.TreeOf.{query_tree};
 ghost use Rattle.cq_run.specs.Asking.{texts_of};
 ghost use Rattle.cq_run.specs.Promise.{AnswerPromise, source_view, sink_view, sinks_of};
 
-use crate::streaming::answer_all;
 use crate::status::Status;
+use crate::streaming::answer_all;
 use cq_outside::{Gate, Sink, Source};
 use cq_words::Settings;
 use cql_plan::Plan;
@@ -14,7 +14,9 @@ use pgn_reader::games_have_outcomes;
 use std::alloc::Global;
 use std::thread::Threads;
 
-/// Answers a query over the archive that `source` has left, batch by batch.
+/// Answers a query over the archive that `source` has left: batch by batch, the games of each by 1 to 64 workers in threads of `rt`.
+/// Without a sort item the exports and fault lines of a batch are written before the next one is asked for; with one the games that
+/// match are kept until all are answered. `AnswerPromise` says what each status means, and what the sinks have taken then.
 pub fn answer<R: Threads + Sync, S: Source, O: Sink, E: Sink, G: Gate + Sync>(
     rt: &R,
     alloc: Global,

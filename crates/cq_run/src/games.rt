@@ -30,9 +30,9 @@ pub fn finish<O: Sink, E: Sink>(
     ensures { (outcomes : List Outcome) (sorted : Bool) (first : SinkView) (second : SinkView)
         → some_sort (query_in plan.now).items ≡ sorted
         → FoundSoFar sorted (query_in plan.now) outcomes
-            (sinks_of first (sink_view O.taken O.faults out.old) second (sink_view E.taken E.faults err.old)) (stand_of tally kept.items)
+        (sinks_of first (sink_view O.taken O.faults out.old) second (sink_view E.taken E.faults err.old)) (stand_of tally kept.items)
         → WritesAnswer (query_in plan.now) outcomes
-            (sinks_of first (sink_view O.taken O.faults out.new) second (sink_view E.taken E.faults err.new)) result }
+        (sinks_of first (sink_view O.taken O.faults out.new) second (sink_view E.taken E.faults err.new)) result }
 {
     match write_kept(alloc, plan, kept, out) {
         Ok(()) => write_summary(alloc, tally, err),
@@ -98,9 +98,11 @@ pub fn write_answers<O: Sink, E: Sink>(
     ensures { (query : QueryTree) (before : List Outcome) (outcomes : List Outcome) (first : SinkView) (second : SinkView)
         → answers.items ≡ answers_from query (length before) outcomes
         → FoundSoFar sorted query before
-            (sinks_of first (sink_view O.taken O.faults out.old) second (sink_view E.taken E.faults err.old)) (stand_of tally.old kept.old.items)
+        (sinks_of first (sink_view O.taken O.faults out.old) second (sink_view E.taken E.faults err.old))
+        (stand_of tally.old kept.old.items)
         → AnswersSome sorted query (before ++ outcomes)
-            (sinks_of first (sink_view O.taken O.faults out.new) second (sink_view E.taken E.faults err.new)) (stand_of tally.new kept.new.items) result }
+        (sinks_of first (sink_view O.taken O.faults out.new) second (sink_view E.taken E.faults err.new))
+        (stand_of tally.new kept.new.items) result }
 {
     for answer in answers {
         match write_answer(alloc, sorted, answer, tally, kept, out, err) {
@@ -152,7 +154,12 @@ fn write_answer<O: Sink, E: Sink>(
 }
 
 // Writes the line of a game that is faulty.
-fn write_fault<E: Sink>(alloc: Global, fault: &GameFault, number: u64, err: &mut E) -> Result<(), Refusal<Failed>>
+fn write_fault<E: Sink>(
+    alloc: Global,
+    fault: &GameFault,
+    number: u64,
+    err: &mut E,
+) -> Result<(), Refusal<Failed>>
     ensures { WritesFault number fault.now (sink_view E.taken E.faults err.old) (sink_view E.taken E.faults err.new) result }
 {
     let line = fault_line(alloc, number, fault)?;

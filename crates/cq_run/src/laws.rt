@@ -1,13 +1,17 @@
-//! Laws of the queries that texts are, and of their faults.
+//! Laws of the queries that texts are, and of their faults, and what answering batch by batch rests on.
 ghost use Rattle.std.specs.Prelude.{◌≡◌, ◌⊎◌, ℕ, List};
 ghost use Rattle.cql_syntax.specs.Trees.{QueryTree};
 ghost use Rattle.cql_syntax.specs.declared.fault.QueryFault.{QueryFault};
+ghost use Rattle.cq_run.specs.ByBatches.{Laws};
 ghost use Rattle.cq_run.specs.Queries.{IsQuery, IsQueryFault};
 
+use cq_shards::laws::batches_stay;
 use cql_parser::{
     faulty_tokens_spell_no_query, texts_spell_a_query_or_have_a_fault,
     tokens_have_at_most_one_fault, tokens_spell_at_most_one_query,
 };
+use pgn_cut::{closed_games_stay, games_stand_apart};
+use pgn_reader::{first_bytes_decide, games_have_outcomes};
 
 /// A law: every text is a query or has a fault, and not both.
 pub fn every_text_is_a_query_or_has_a_fault()
@@ -27,4 +31,15 @@ pub fn texts_have_one_outcome()
     tokens_have_at_most_one_fault();
     tokens_spell_at_most_one_query();
     faulty_tokens_spell_no_query();
+}
+
+// What is given of an archive in batches, piece by piece, are its games as they are cut, and each is read from what is kept of it.
+pub(crate) fn archives_come_in_batches()
+    ensures { Laws }
+{
+    games_have_outcomes();
+    first_bytes_decide();
+    closed_games_stay();
+    games_stand_apart();
+    batches_stay();
 }

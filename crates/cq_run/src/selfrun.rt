@@ -12,6 +12,7 @@ ghost use Rattle.cq_run.specs.SelfRun.{AreTotals, WritesMade, WritesTotals, tota
 ghost use Rattle.cq_run.specs.Writing.{counted};
 
 use crate::asked::{read_query, refuse};
+use crate::laws::archives_come_in_batches;
 use crate::status::Status;
 use crate::streaming::batch_answers;
 use crate::tally::Tally;
@@ -20,12 +21,9 @@ use cq_maker::laws::archives_are_short;
 use cq_maker::make_archive;
 use cq_outside::{Bytes, Gate, NoMemory, Refusal, Sink, SureSource, write_all_of};
 use cq_report::made_line;
-use cq_shards::laws::batches_stay;
 use cq_shards::{Answer, Batches, GameAnswer};
 use cql_plan::Plan;
 use cql_syntax::TypedQuery;
-use pgn_cut::{closed_games_stay, games_stand_apart};
-use pgn_reader::{first_bytes_decide, games_have_outcomes};
 use std::alloc::Global;
 use std::thread::Threads;
 
@@ -113,11 +111,7 @@ fn count_archive<R: Threads + Sync, G: Gate + Sync>(
     requires workers { (1 ≤ workers) × (workers ≤ 64) }
     ensures { IfOk result (AreTotals (query_in plan.now) archive) }
 {
-    games_have_outcomes();
-    first_bytes_decide();
-    closed_games_stay();
-    games_stand_apart();
-    batches_stay();
+    archives_come_in_batches();
     let mut totals = no_totals(archive.len() as u64);
     let mut source = SureSource::new(archive);
     let mut batches = Batches::new(alloc, LIMIT);

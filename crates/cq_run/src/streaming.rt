@@ -5,15 +5,14 @@ ghost use Rattle.cq_run.specs.Asking.{texts_of};
 ghost use Rattle.cq_run.specs.Promise.{AnswerPromise, source_view, sink_view, sinks_of};
 
 use crate::games::{finish, is_sorted, write_answers};
+use crate::laws::archives_come_in_batches;
 use crate::status::Status;
 use crate::tally::Tally;
 use cq_outside::{Gate, NoMemory, Refusal, Sink, Source};
-use cq_words::Settings;
-use cq_shards::laws::{batches_stay, ordered_answers_stand_beside_their_games};
+use cq_shards::laws::ordered_answers_stand_beside_their_games;
 use cq_shards::{Batch, BatchFault, Batches, GameAnswer, in_order, run_batch};
+use cq_words::Settings;
 use cql_plan::Plan;
-use pgn_cut::{closed_games_stay, games_stand_apart};
-use pgn_reader::{first_bytes_decide, games_have_outcomes};
 use std::alloc::Global;
 use std::thread::Threads;
 
@@ -40,11 +39,7 @@ pub fn answer_all<R: Threads + Sync, S: Source, O: Sink, E: Sink, G: Gate + Sync
     }) }
     ensures next { S.follows source.old source.new }
 {
-    games_have_outcomes();
-    first_bytes_decide();
-    closed_games_stay();
-    games_stand_apart();
-    batches_stay();
+    archives_come_in_batches();
     let sorted = is_sorted(plan);
     let mut batches = Batches::new(alloc, settings.limit);
     let mut tally = Tally {

@@ -59,5 +59,6 @@ returns g c = λ query before outcomes first second are found.
     let out = sink_view g.O.Sink.taken g.O.Sink.faults in
     let err = sink_view g.E.Sink.taken g.E.Sink.faults in
     subst (λ rs. FoundSoFar c.args.sorted query (before ++ rs) (sinks_of first (out c.loop-answer.out) second (err c.loop-answer.err)) (stand_of c.loop-answer.tally c.loop-answer.kept.items))
-    (all_of_batch query (length before) c.loop-answer.yielded c.loop-answer.answer-iterator.rest.items c.args.answers.items outcomes was.0 (no_items c.loop-answer.answer-iterator.rest.items (search rules)) are)
+    (all_of_batch query (length before) c.loop-answer.yielded c.loop-answer.answer-iterator.rest.items c.args.answers.items outcomes was.0
+    (no_items c.loop-answer.answer-iterator.rest.items (search rules)) are)
     (was.4 query before outcomes first second are found)

@@ -13,5 +13,5 @@ invariant-loop-answer g l =
     (l.fn.answers.items ≡ l.yielded ++ l.answer-iterator.rest.items)
     × (l.tally.games ≡ l.fn.tally.games + length l.yielded) × (l.tally.matched ≤ l.tally.games) × (l.tally.refused ≤ l.tally.games)
     × ((query : QueryTree) (before outcomes : List Outcome) (first second : SinkView) → l.fn.answers.items ≡ answers_from query (length before) outcomes
-      → FoundSoFar l.sorted query before (sinks_of first (out l.fn.out) second (err l.fn.err)) (stand_of l.fn.tally l.fn.kept.items)
-      → FoundSoFar l.sorted query (before ++ take (length l.yielded) outcomes) (sinks_of first (out l.out) second (err l.err)) (stand_of l.tally l.kept.items))
+    → FoundSoFar l.sorted query before (sinks_of first (out l.fn.out) second (err l.fn.err)) (stand_of l.fn.tally l.fn.kept.items)
+    → FoundSoFar l.sorted query (before ++ take (length l.yielded) outcomes) (sinks_of first (out l.out) second (err l.err)) (stand_of l.tally l.kept.items))

@@ -9,8 +9,8 @@ returns-in-Miss-clause-counts c = λ query r n is.
 
 pub returns-in-Refused-clause-counts : goal.returns-in-Refused-clause-counts
 returns-in-Refused-clause-counts c = λ query r n is.
-    c.one_more.ensures ∙ faulty query r c.args.before _ (sym c.in-Refused.is ∙ ap (λ (a : GameAnswer). a.what) is)
+    c.one_more-in-Refused.ensures ∙ faulty query r c.args.before _ (sym c.in-Refused.is ∙ ap (λ (a : GameAnswer). a.what) is)
 
 pub returns-in-Match-clause-counts : goal.returns-in-Match-clause-counts
 returns-in-Match-clause-counts c = λ query r n is.
-    c.one_more.ensures ∙ found query r c.args.before c.in-Match.text _ _ (sym c.in-Match.is ∙ ap (λ (a : GameAnswer). a.what) is) c.len.ensures
+    c.one_more-in-Match.ensures ∙ found query r c.args.before c.in-Match.text _ _ (sym c.in-Match.is ∙ ap (λ (a : GameAnswer). a.what) is) c.len.ensures

@@ -28,6 +28,20 @@ loop-answer-preserved c =
           (λ r n same. c.count_answer-after.ensures.counts query r n same),
     )
 
+pub loop-answer-preserved-in-Some : goal.loop-answer-preserved-in-Some
+loop-answer-preserved-in-Some c =
+    let was = c.loop-answer.invariant in
+    let ys = c.loop-answer.yielded in (
+      was.0 ∙ ap (λ l. ys ++ l) c.in-Some.ensures.steps.0 ∙ sym (append_assoc ys (c.in-Some.answer ∷ []) c.next.new.self.rest.items),
+      let a = c.count_answer-after.ensures.games in let b = was.1 in let l = length-append ys (c.in-Some.answer ∷ []) in omega (arith, a, b, l),
+      c.count_answer-after.ensures.matched,
+      c.count_answer-after.ensures.refused,
+      c.count_answer-after.ensures.written,
+      λ query bytes rs qs are is.
+          count_more query bytes rs qs ys _ _ _ c.in-Some.answer c.loop-answer.totals c.count_answer-after.result was.0 c.in-Some.ensures.steps.0 are (was.5 query bytes rs qs are is)
+          (λ r n same. c.count_answer-after.ensures.counts query r n same),
+    )
+
 pub returns-clause-counts : goal.returns-clause-counts
 returns-clause-counts c = λ query bytes rs qs are is.
     let was = c.loop-answer.invariant in

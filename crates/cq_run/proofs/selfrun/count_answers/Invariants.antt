@@ -12,4 +12,4 @@ invariant-loop-answer l =
     × (l.totals.tally.games ≡ l.fn.before.tally.games + length l.yielded) × (l.totals.tally.matched ≤ l.totals.tally.games)
     × (l.totals.tally.refused ≤ l.totals.tally.games) × (l.totals.written ≤ 2 ^ 64 * l.totals.tally.games)
     × ((query : QueryTree) (bytes : ℕ) (rs qs : List Outcome) → l.fn.answers.items ≡ answers_from query (length rs) qs → l.fn.before ≡ totals_of query bytes rs
-      → l.totals ≡ totals_of query bytes (rs ++ take (length l.yielded) qs))
+    → l.totals ≡ totals_of query bytes (rs ++ take (length l.yielded) qs))

@@ -10,5 +10,6 @@ invariant-loop-turn g l =
     let source = source_view g.S.Source.left g.S.Source.faults in
     let out = sink_view g.O.Sink.taken g.O.Sink.faults in
     let err = sink_view g.E.Sink.taken g.E.Sink.faults in
-    (r : Rounds l.sorted (query_in l.fn.plan) l.fn.settings.limit l.batches (source l.fn.source) (source l.source) (sinks_of (out l.fn.out) (out l.out) (err l.fn.err) (err l.err)) (stand_of l.tally l.kept.items))
+    (r : Rounds l.sorted (query_in l.fn.plan) l.fn.settings.limit l.batches (source l.fn.source) (source l.source)
+    (sinks_of (out l.fn.out) (out l.out) (err l.fn.err) (err l.err)) (stand_of l.tally l.kept.items))
     × g.S.Source.follows l.fn.source l.source × (l._turn ≤ r.m)

@@ -16,5 +16,5 @@ returns-in-Explain g c = explain_done c.args.job.now _ _ _ _ c.in-Explain.is c.a
 
 pub returns-in-SelfRun : goal.returns-in-SelfRun
 returns-in-SelfRun g c =
-    selfrun_done c.args.job.now _ _ _ _ _ _ _ c.in-SelfRun.is c.as_slice-in-SelfRun.ensures
+    selfrun_done c.args.job.now _ _ _ _ _ _ _ c.in-SelfRun.is c.as_slice-text-in-SelfRun.ensures
     (c.answer_text_over_made.ensures (desk_view g.D.Desk.told g.D.Source.left g.D.Source.faults g.D.Desk.open_faults c.args.desk.now))
