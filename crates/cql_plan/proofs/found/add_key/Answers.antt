@@ -1,0 +1,21 @@
+use Rattle.std.proofs.Common.{◌∙◌, ap, sym, subst, length, get_or, []}
+use Rattle.cql_values.specs.Trees.{searched_tree}
+use Rattle.cql_eval.specs.Hits.{keys_of}
+use Rattle.cql_syntax.specs.TreeOf.{filter_tree, form_tree}
+use Rattle.cql_syntax.specs.Trees.{filter_at}
+use Rattle.cql_plan.proofs.RowsLaw.{sort_row, entries_inside, entries_there, key_added}
+use Rattle.cql_plan.proofs.found.add_key.Goals as goal
+
+pub row-row-requires : goal.row-row-requires
+row-row-requires c =
+    (sort_row (searched_tree c.args.told.now.game.now c.args.told.now.query.now.variations) c.args.nodes.now (keys_of c.args.told.now.column) _ (filter_tree c.args.item.now) _ c.args.item.now.at _ _
+    (ap (λ form. filter_at c.args.item.now.at (form_tree form)) c.in-Sort.is) c.requires.rows).0
+
+pub key_over-key-requires-clause-inside : goal.key_over-key-requires-clause-inside
+key_over-key-requires-clause-inside c = ?
+
+pub key_over-key-requires-clause-values : goal.key_over-key-requires-clause-values
+key_over-key-requires-clause-values c = ?
+
+pub returns-in_ok-push-in-Sort-clause-keys : goal.returns-in_ok-push-in-Sort-clause-keys
+returns-in_ok-push-in-Sort-clause-keys c = ?
