@@ -5,7 +5,6 @@ pub mod FindLaw
 pub mod FlatLaw
 pub mod Gathering
 pub mod HitsLaw
-pub mod LinesInside
 pub mod LinesLaw
 pub mod Lives
 pub mod Lowering

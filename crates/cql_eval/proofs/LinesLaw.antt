@@ -33,7 +33,7 @@ use Rattle.cql_lines.specs.declared.shape.Spot.{Spot}
 use Rattle.cql_lines.specs.declared.table.AtomTable.{AtomTable}
 use Rattle.cql_syntax.specs.Meaning.{Names, marked, value, pattern, body_pattern, line_of, line_value}
 use Rattle.cql_syntax.specs.Places.{copies, parts_places, body_places}
-use Rattle.cql_syntax.specs.TabledLines.{Tabled, Searched, AreParents, Joins}
+use Rattle.cql_syntax.specs.TabledLines.{Tabled, Searched, IsAsked, AreParents, Joins}
 use Rattle.cql_syntax.specs.TreeOf.{body_tree, part_trees, parts_tree, line_tree}
 use Rattle.cql_syntax.specs.Trees.{FilterTree, PartTrees, no_parts, more_parts, BodyTree, atom, group}
 use Rattle.cql_syntax.specs.Values.{Value, as_number, holds as value_holds}
@@ -46,10 +46,10 @@ use Rattle.cql_syntax.specs.declared.tree.Line.{Line as OneLine, Line', out-Line
 use Rattle.cql_eval.specs.Columns.{is_live, shown, IsColumn}
 use Rattle.cql_eval.specs.Costs.{filter_cost, line_cost, parts_atoms, body_atoms, parts_cost, body_cost}
 use Rattle.cql_eval.specs.FlatTrees.{IsFlatLine, AreFlatParts, IsFlatBody, IsFlat}
-use Rattle.cql_eval.specs.LineAtoms.{IsAsked, AreAllAsked, parts_numbered, body_numbered, limits_in, spot_at, AreClearFrom, IsPut, IsFilledIn, AreTabled}
+use Rattle.cql_eval.specs.LineAtoms.{AreAllAsked, parts_numbered, body_numbered, limits_in, spot_at, AreClearFrom, IsPut, IsFilledIn, AreTabled}
 use Rattle.cql_eval.specs.declared.filter_column.FilterColumn.{FilterColumn}
 use Rattle.cql_eval.proofs.Filling.{split_last, live_below}
-use Rattle.cql_eval.proofs.LinesInside.{line_is}
+use Rattle.cql_syntax.proofs.TabledLines.{lines_are_theirs}
 
 -- as many places as the line has, and no more atoms
 
@@ -377,10 +377,10 @@ greatest_is : (tree : SearchedTree) → IsTree tree.game.nodes → (back primary
     → (n : ℕ) → IsAsked tree n → (o : Option ℕ)
     → IsGreatest (λ len. Line (holds_in table) (Edge back primary (spots_in tree)) p n len × (values.allows (limits_in extent) len ≡ true)) o
     → as_number (option_map pos o) ≡ line_of tree back primary extent r n
-greatest_is tree is_tree true primary Any table p r tabled n asked o g = line_is tree is_tree true primary (shapes.joined primary (spots_in tree)) (spots_join tree primary is_tree) Any (holds_in table) p r tabled n asked o g
-greatest_is tree is_tree false primary Any table p r tabled n asked o g = line_is tree is_tree false primary (shapes.joined primary (spots_in tree)) (spots_join tree primary is_tree) Any (holds_in table) p r tabled n asked o g
-greatest_is tree is_tree true primary (Within least most) table p r tabled n asked o g = line_is tree is_tree true primary (shapes.joined primary (spots_in tree)) (spots_join tree primary is_tree) (Within least most) (holds_in table) p r tabled n asked o g
-greatest_is tree is_tree false primary (Within least most) table p r tabled n asked o g = line_is tree is_tree false primary (shapes.joined primary (spots_in tree)) (spots_join tree primary is_tree) (Within least most) (holds_in table) p r tabled n asked o g
+greatest_is tree is_tree true primary Any table p r tabled n asked o g = lines_are_theirs tree is_tree true primary (shapes.joined primary (spots_in tree)) (spots_join tree primary is_tree) Any (holds_in table) p r tabled n asked o g
+greatest_is tree is_tree false primary Any table p r tabled n asked o g = lines_are_theirs tree is_tree false primary (shapes.joined primary (spots_in tree)) (spots_join tree primary is_tree) Any (holds_in table) p r tabled n asked o g
+greatest_is tree is_tree true primary (Within least most) table p r tabled n asked o g = lines_are_theirs tree is_tree true primary (shapes.joined primary (spots_in tree)) (spots_join tree primary is_tree) (Within least most) (holds_in table) p r tabled n asked o g
+greatest_is tree is_tree false primary (Within least most) table p r tabled n asked o g = lines_are_theirs tree is_tree false primary (shapes.joined primary (spots_in tree)) (spots_join tree primary is_tree) (Within least most) (holds_in table) p r tabled n asked o g
 
 abbrev Wanted : AtomTable → Pattern ℕ → ℕ → Option ℕ → List Spot → Bool → Bool → Option Limits → Type 0
 Wanted table p n o xs x y z = IsGreatest (λ len. Line (holds_in table) (Edge x y xs) p n len × (values.allows z len ≡ true)) o

@@ -8,17 +8,13 @@ use Rattle.cql_lines.specs.declared.shape.Limits.{Limits}
 use Rattle.cql_lines.specs.declared.shape.Spot.{Spot}
 use Rattle.cql_lines.specs.declared.table.AtomTable.{AtomTable}
 use Rattle.cql_syntax.specs.Meaning.{marked}
-use Rattle.cql_syntax.specs.TabledLines.{Tabled, Searched}
+use Rattle.cql_syntax.specs.TabledLines.{Tabled, IsAsked}
 use Rattle.cql_syntax.specs.Trees.{PartTrees, no_parts, more_parts, BodyTree, atom, group}
 use Rattle.cql_syntax.specs.Values.{Value}
 use Rattle.cql_syntax.specs.declared.extents.Extent.{Extent}
 use Rattle.cql_syntax.specs.declared.extents.Extent.TheVariants.{Any, Within}
 use Rattle.cql_eval.specs.Columns.{is_live, AreAsked}
 use Rattle.cql_eval.specs.Costs.{body_atoms}
-
--- a searched node of the game
-abbrev pub IsAsked : SearchedTree → ℕ → Type 0
-IsAsked tree n = Searched tree n × (n < length tree.game.nodes)
 
 -- all searched nodes are asked for
 pub record AreAllAsked (tree : SearchedTree) (all : List Bool) : Type 0 where

@@ -19,4 +19,4 @@ mod FlatRows
 pub mod FlatKept
 pub mod FlatFacts
 pub mod UnplacedSame
-mod TabledLines
+pub mod TabledLines
