@@ -151,6 +151,10 @@ pub sort_row : (tree : SearchedTree) (nodes : List ℕ) (rows : List (List (Opti
     → AreRowsFrom tree nodes rows k (item_numbers item) → (k < length rows) × IsRowOf tree nodes (get_or rows k []) part
 sort_row tree nodes rows k item part at least text is are = let row = subst (λ g. AreRowsFrom tree nodes rows k (item_numbers g)) is are in (row.0, row.1)
 
+pub row_given : (tree : SearchedTree) (nodes : List ℕ) (rows : List (List (Option ℤ))) (k : ℕ) (item part : FilterTree) (at : ℕ) (least : Bool) (text : List ℕ) (row : List (Option ℤ)) → item ≡ filter_at at (sort least text part)
+    → AreRowsFrom tree nodes rows k (item_numbers item) → row ≡ get_or rows k [] → IsRowOf tree nodes row part
+row_given tree nodes rows k item part at least text row is are given = subst (λ r. IsRowOf tree nodes r part) (sym given) (sort_row tree nodes rows k item part at least text is are).1
+
 pub entries_inside : (tree : SearchedTree) (nodes : List ℕ) (row : List (Option ℤ)) (f : FilterTree) → IsRowOf tree nodes row f → All (λ n. n < length tree.game.nodes) nodes → All (λ n. n < length row) nodes
 entries_inside tree nodes row f is inside = λ i d below. omega (arith, inside i d below, is.count)
 
