@@ -1,12 +1,11 @@
 -- The parents of the nodes of a set, by one pass over them; and the nodes on the ways up.
-use Rattle.std.proofs.Common.{◌≡◌, ℕ, zero, suc, ◌+◌, ◌<◌, ◌≤◌, ◌⊎◌, ◌&&◌, ◌||◌, Bool, true, false, List, length, get_or, Option, Some, None, refl, sym, ap, ◌∙◌, subst, arith, inl, inr, ⊎_elim}
+use Rattle.std.proofs.Common.{◌≡◌, ℕ, zero, suc, ◌+◌, ◌<◌, ◌≤◌, ◌⊎◌, ◌&&◌, Bool, true, false, List, length, get_or, Option, Some, None, refl, sym, ap, ◌∙◌, subst, arith, inl, inr, ⊎_elim}
 use Rattle.std.specs.Prelude.{replicate, unwrap_or}
 use Rattle.cq_position.specs.Games.{Node, node_at, IsTree, is_below, is_child_of, is_searched}
 use Rattle.cq_position.specs.Search.{SearchedTree}
 use Rattle.cq_position.proofs.WaysUp.{below_parent, root_below, parent_before, searched_up}
-use Rattle.cql_syntax.specs.Meaning.{before}
 use Rattle.cql_values.proofs.Ranges.{left, right, both}
-use Rattle.cql_eval.specs.Columns.{is_live, AreAsked}
+use Rattle.cql_eval.specs.Columns.{AreAsked}
 use Rattle.cql_eval.specs.Trees.{IsRaised, AreRaised, HasParents, IsAboveLive, AreParentsOfLive, AreBeforeLive}
 use Rattle.cql_eval.proofs.Filling.{equal_or, split_last, live_below}
 use Rattle.cql_eval.proofs.Raising.{either, or_left, or_right, child_is, is_child}

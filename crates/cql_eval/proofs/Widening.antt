@@ -1,12 +1,12 @@
 -- The searched nodes below those that are asked for, by one pass from the first node to the last.
-use Rattle.std.proofs.Common.{◌≡◌, ℕ, ◌+◌, ◌<◌, ◌≤◌, ◌⊎◌, ◌&&◌, ◌||◌, Bool, true, false, List, [], ◌∷◌, ◌++◌, length, get_or, Option, Some, None, refl, sym, ap, ◌∙◌, subst, arith, ⊎_elim, length-append}
+use Rattle.std.proofs.Common.{◌≡◌, ℕ, ◌+◌, ◌<◌, ◌||◌, Bool, true, false, List, [], ◌∷◌, ◌++◌, length, get_or, Option, Some, None, refl, sym, ap, ◌∙◌, arith, ⊎_elim, length-append}
 use Rattle.std.proofs.lemmas.List.{get_or_append_left}
 use Rattle.std.proofs.Math.Seq.{get_or-append_seam}
 use Rattle.cq_position.specs.Games.{node_at, IsTree, is_below, is_searched}
 use Rattle.cq_position.specs.Search.{SearchedTree}
-use Rattle.cq_position.proofs.WaysUp.{is_below_self, below_parent, root_below, parent_before, searched_up}
+use Rattle.cq_position.proofs.WaysUp.{below_parent, root_below, parent_before, searched_up}
 use Rattle.cql_values.proofs.Ranges.{left, both}
-use Rattle.cql_eval.specs.Columns.{is_live, AreAsked}
+use Rattle.cql_eval.specs.Columns.{is_live}
 use Rattle.cql_eval.specs.Trees.{IsBelowLive, is_below_live, flag_of}
 use Rattle.cql_eval.proofs.Filling.{live_below, split_last, equal_or}
 

@@ -1,5 +1,5 @@
 use Rattle.std.proofs.Common.{arith}
-use Rattle.cql_eval.proofs.Filling.{told_none, told_more, numbered_all}
+use Rattle.cql_eval.proofs.Filling.{numbered_all}
 use Rattle.cql_eval.proofs.combine.numbered.Goals as goal
 
 pub returns : goal.returns

@@ -1,4 +1,3 @@
-use Rattle.cql_values.specs.Trees.{searched_tree}
 use Rattle.cq_position.specs.Games.{is_searched}
 use Rattle.cql_eval.proofs.Filling.{Told}
 use Rattle.cql_eval.proofs.nodes.all_nodes.Given as goal

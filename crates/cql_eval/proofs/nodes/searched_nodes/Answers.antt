@@ -1,10 +1,9 @@
-use Rattle.std.proofs.Common.{◌∷◌, [], ◌++◌, ◌∙◌, ap, sym, arith, length, map, refl}
+use Rattle.std.proofs.Common.{◌∷◌, [], ◌++◌, ◌∙◌, ap, sym, arith, length, map}
 use Rattle.std.specs.List.{range_with_len}
 use Rattle.std.proofs.lemmas.List.FromFn.{map-range_with_len_more}
-use Rattle.cq_position.specs.Games.{is_searched, searched}
-use Rattle.cq_position.specs.Search.{nodes_in}
+use Rattle.cq_position.specs.Games.{is_searched}
 use Rattle.cql_values.specs.Trees.{searched_tree}
-use Rattle.cql_eval.proofs.HitsLaw.{all_left, steps_next, steps_all}
+use Rattle.cql_eval.proofs.HitsLaw.{all_left, steps_next}
 use Rattle.cql_eval.proofs.nodes.searched_nodes.Goals as goal
 
 pub loop-k-init : goal.loop-k-init

@@ -1,4 +1,4 @@
-use Rattle.std.specs.Prelude.{◌&&◌, length}
+use Rattle.std.specs.Prelude.{◌&&◌}
 use Rattle.cq_position.specs.Games.{is_searched, node_at}
 use Rattle.cql_eval.specs.Trees.{flag_of}
 use Rattle.cql_eval.proofs.Filling.{Told}

@@ -1,4 +1,4 @@
-use Rattle.std.proofs.Common.{length, arith, ◌-◌, ◌∙◌, false}
+use Rattle.std.proofs.Common.{arith, ◌-◌, ◌∙◌, false}
 use Rattle.cql_eval.proofs.Filling.{any_default}
 use Rattle.cql_eval.proofs.Raising.{raised_begun, raised_next, raised_all}
 use Rattle.cql_eval.proofs.tree.raised.Goals as goal
