@@ -25,11 +25,14 @@ module _ (nodes : List Node) (tree : IsTree nodes) (set : List Bool) (k : ℕ) (
   down : (o : Option ℕ) → (node_at nodes k).parent ≡ o → flag_of found o ≡ true → IsUnder nodes set k
   down None is e = cc
   down (Some p) is e =
-      let x = had.to p (parent_before nodes k p tree is).0 e in
-      (x.0, x.1, ⊎_elim
-          (λ same. ap (λ i. is_below nodes i k) (sym same) ∙ is_below_self nodes k tree)
-          (λ other. below_parent nodes x.0 k p tree is other ∙ x.2)
-          (equal_or k x.0))
+      let x = had.to p (parent_before nodes k p tree is).0 e in (
+        x.0,
+        x.1,
+        ⊎_elim
+            (λ same. ap (λ i. is_below nodes i k) (sym same) ∙ is_below_self nodes k tree)
+            (λ other. below_parent nodes x.0 k p tree is other ∙ x.2)
+            (equal_or k x.0),
+      )
 
   up : (o : Option ℕ) (m : ℕ) → (node_at nodes k).parent ≡ o → get_or set m false ≡ true → is_below nodes m k ≡ true → (k ≡ m → ⊥) → flag_of found o ≡ true
   up None m is s b other = absurd (let e : true ≡ false = sym b ∙ root_below nodes m k tree is other in cc)
@@ -41,17 +44,17 @@ module _ (nodes : List Node) (tree : IsTree nodes) (set : List Bool) (k : ℕ) (
     to = λ n h e. ⊎_elim
         (λ less. had.to n less (sym (before n less) ∙ e))
         (λ same. subst (IsUnder nodes set) (sym same) (⊎_elim
-            (λ s. (k, s, is_below_self nodes k tree))
-            (λ f. down (node_at nodes k).parent refl f)
-            (either (get_or set k false) (flag_of found (node_at nodes k).parent) (sym new ∙ sym (here n same) ∙ e))))
+        (λ s. (k, s, is_below_self nodes k tree))
+        (λ f. down (node_at nodes k).parent refl f)
+        (either (get_or set k false) (flag_of found (node_at nodes k).parent) (sym new ∙ sym (here n same) ∙ e))))
         (split_last n k h);
     from = λ n h u. ⊎_elim
         (λ less. before n less ∙ had.from n less u)
         (λ same. here n same ∙ new ∙ ⊎_elim
-            (λ at. or_left (get_or set k false) (flag_of found (node_at nodes k).parent) (ap (λ i. get_or set i false) at ∙ u.1))
-            (λ other. or_right (get_or set k false) (flag_of found (node_at nodes k).parent)
-                (up (node_at nodes k).parent u.0 refl u.1 (ap (is_below nodes u.0) (sym same) ∙ u.2) other))
-            (equal_or k u.0))
+        (λ at. or_left (get_or set k false) (flag_of found (node_at nodes k).parent) (ap (λ i. get_or set i false) at ∙ u.1))
+        (λ other. or_right (get_or set k false) (flag_of found (node_at nodes k).parent)
+        (up (node_at nodes k).parent u.0 refl u.1 (ap (is_below nodes u.0) (sym same) ∙ u.2) other))
+        (equal_or k u.0))
         (split_last n k h);
   }
     where

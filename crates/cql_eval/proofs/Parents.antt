@@ -37,10 +37,10 @@ parents_more nodes set start old new k there is r had = record {
   from = λ n h. ⊎_elim
       (λ s. keeps n (had.from n (inl s)))
       (λ by. ⊎_elim
-          (λ less. keeps n (had.from n (inr (by.0, less, by.2, by.3))))
-          (λ same. r.each n ∙ or_right (get_or old n false) (there && is_child_of nodes n k)
-              (both there (is_child_of nodes n k) (is ∙ ap (λ i. get_or set i false) (sym same) ∙ by.2) (is_child n (node_at nodes k).parent (ap (λ i. (node_at nodes i).parent) (sym same) ∙ by.3))))
-          (split_last by.0 k by.1))
+      (λ less. keeps n (had.from n (inr (by.0, less, by.2, by.3))))
+      (λ same. r.each n ∙ or_right (get_or old n false) (there && is_child_of nodes n k)
+      (both there (is_child_of nodes n k) (is ∙ ap (λ i. get_or set i false) (sym same) ∙ by.2) (is_child n (node_at nodes k).parent (ap (λ i. (node_at nodes i).parent) (sym same) ∙ by.3))))
+      (split_last by.0 k by.1))
       h;
 }
   where
@@ -100,8 +100,10 @@ module _ (tree : SearchedTree) (is_tree : IsTree tree.game.nodes) (live : List B
       has = subst (λ l. HasParents tree.game.nodes live l found) begun (subst (λ l. HasParents tree.game.nodes l start found) same has_given)
 
   -- what is above a searched node is searched
-  up_at : (m n : ℕ) (o : Option ℕ) → ((p : ℕ) → p < n → is_below tree.game.nodes m p ≡ true → is_searched tree.variations tree.game.nodes p ≡ true → is_searched tree.variations tree.game.nodes m ≡ true)
-      → is_below tree.game.nodes m n ≡ true → is_searched tree.variations tree.game.nodes n ≡ true → (n ≡ m → ⊥) → (node_at tree.game.nodes n).parent ≡ o → is_searched tree.variations tree.game.nodes m ≡ true
+  up_at : (m n : ℕ) (o : Option ℕ)
+      → ((p : ℕ) → p < n → is_below tree.game.nodes m p ≡ true → is_searched tree.variations tree.game.nodes p ≡ true → is_searched tree.variations tree.game.nodes m ≡ true)
+      → is_below tree.game.nodes m n ≡ true → is_searched tree.variations tree.game.nodes n ≡ true → (n ≡ m → ⊥) → (node_at tree.game.nodes n).parent ≡ o
+      → is_searched tree.variations tree.game.nodes m ≡ true
   up_at m n None up b s other is = absurd (let e : true ≡ false = sym b ∙ root_below tree.game.nodes m n is_tree is other in cc)
   up_at m n (Some p) up b s other is =
       up p (parent_before tree.game.nodes n p is_tree is).0 (sym (below_parent tree.game.nodes m n p is_tree is other) ∙ b) (searched_up tree.variations tree.game.nodes n p is_tree is s)

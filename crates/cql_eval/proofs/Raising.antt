@@ -74,16 +74,22 @@ module _ (nodes : List Node) (tree : IsTree nodes) where
   below_up n c m p b = up_within (m + 1) n c m (omega arith) p b
 
   -- what is below n comes by a child
-  down_at : (n m : ℕ) (o : Option ℕ) → ((q : ℕ) → q < m → is_below nodes n q ≡ true → Via nodes (n + 1) n q) → is_below nodes n m ≡ true → (m ≡ n → ⊥) → (node_at nodes m).parent ≡ o → Via nodes (n + 1) n m
+  down_at : (n m : ℕ) (o : Option ℕ) → ((q : ℕ) → q < m → is_below nodes n q ≡ true → Via nodes (n + 1) n q) → is_below nodes n m ≡ true → (m ≡ n → ⊥) → (node_at nodes m).parent ≡ o
+      → Via nodes (n + 1) n m
   down_at n m None before b other is = absurd (let e : true ≡ false = sym b ∙ root_below nodes n m tree is other in cc)
   down_at n m (Some q) before b other is =
       let less = (parent_before nodes m q tree is).0 in
       ⊎_elim
       (λ same. inr (m, omega (arith, less, same), is ∙ ap Some same, is_below_self nodes m tree))
-      (λ by. inr (by.0, by.1, by.2, ⊎_elim
-          (λ here. ap (is_below nodes by.0) here ∙ is_below_self nodes by.0 tree)
-          (λ away. below_parent nodes by.0 m q tree is away ∙ by.3)
-          (equal_or m by.0)))
+      (λ by. inr (
+        by.0,
+        by.1,
+        by.2,
+        ⊎_elim
+            (λ here. ap (is_below nodes by.0) here ∙ is_below_self nodes by.0 tree)
+            (λ away. below_parent nodes by.0 m q tree is away ∙ by.3)
+            (equal_or m by.0),
+      ))
       (before q less (sym (below_parent nodes n m q tree is other) ∙ b))
 
   down_within : (i n m : ℕ) → m < i → is_below nodes n m ≡ true → Via nodes (n + 1) n m
@@ -102,13 +108,17 @@ module _ (nodes : List Node) (tree : IsTree nodes) where
   pub raised_begun : (set : List Bool) (t : ℕ) → length nodes ≤ t → RaisedTo nodes set t set
   raised_begun set t h = record {
     count = refl;
-    each = λ n. (λ e. (n, e, inl refl), λ x. ⊎_elim
-        (λ same. subst (λ k. get_or set k false ≡ true) same x.1)
-        (λ by. absurd (omega (arith, by.1, h, (parent_before nodes by.0 n tree by.2).1)))
-        x.2);
+    each = λ n. (
+      λ e. (n, e, inl refl),
+      λ x. ⊎_elim
+          (λ same. subst (λ k. get_or set k false ≡ true) same x.1)
+          (λ by. absurd (omega (arith, by.1, h, (parent_before nodes by.0 n tree by.2).1)))
+          x.2,
+    );
   }
 
-  pub raised_more : (set old new : List Bool) (k t : ℕ) (there : Bool) → t ≡ k + 1 → there ≡ get_or old k false → IsRaised nodes k there old new → RaisedTo nodes set t old → RaisedTo nodes set k new
+  pub raised_more : (set old new : List Bool) (k t : ℕ) (there : Bool) → t ≡ k + 1 → there ≡ get_or old k false → IsRaised nodes k there old new → RaisedTo nodes set t old
+      → RaisedTo nodes set k new
   raised_more set old new k t there next same r had = record {
     count = r.count ∙ had.count;
     each = λ n. (to n, from n);
@@ -132,19 +142,20 @@ module _ (nodes : List Node) (tree : IsTree nodes) where
       from n x = ⊎_elim
           (λ same. found n ((had.each n).1 (x.0, x.1, inl same)))
           (λ by. ⊎_elim
-              (λ is. let parent = ap (λ c. (node_at nodes c).parent) (sym is) ∙ by.2 in
-              let below = subst (λ c. is_below nodes c x.0 ≡ true) is by.3 in
-              let there = (had.each k).1 (x.0, x.1, subst (λ i. Via nodes i k x.0) (sym next) (below_via k x.0 below)) in
-              each n ∙ or_right (get_or old n false) (get_or old k false && is_child_of nodes n k)
-              (ap (λ b. b && is_child_of nodes n k) there ∙ is_child n (node_at nodes k).parent parent))
-              (λ later. found n ((had.each n).1 (x.0, x.1, inr (by.0, omega (arith, later, next), by.2, by.3))))
-              (split by.0 by.1))
+          (λ is. let parent = ap (λ c. (node_at nodes c).parent) (sym is) ∙ by.2 in
+          let below = subst (λ c. is_below nodes c x.0 ≡ true) is by.3 in
+          let there = (had.each k).1 (x.0, x.1, subst (λ i. Via nodes i k x.0) (sym next) (below_via k x.0 below)) in
+          each n ∙ or_right (get_or old n false) (get_or old k false && is_child_of nodes n k)
+          (ap (λ b. b && is_child_of nodes n k) there ∙ is_child n (node_at nodes k).parent parent))
+          (λ later. found n ((had.each n).1 (x.0, x.1, inr (by.0, omega (arith, later, next), by.2, by.3))))
+          (split by.0 by.1))
           x.2
         where
           split : (c : ℕ) → k ≤ c → (c ≡ k) ⊎ (k < c)
           split c h = ⊎_elim (λ same. inl same) (λ o. ⊎_elim (λ less. absurd (omega (arith, h, less))) (λ more. inr more) o) (cases_order c k)
 
-  pub raised_next : (set old new : List Bool) (k t later : ℕ) (there : Bool) → t ≡ k + 1 → k ≡ later → there ≡ get_or old k false → IsRaised nodes k there old new → RaisedTo nodes set t old → RaisedTo nodes set later new
+  pub raised_next : (set old new : List Bool) (k t later : ℕ) (there : Bool) → t ≡ k + 1 → k ≡ later → there ≡ get_or old k false → IsRaised nodes k there old new → RaisedTo nodes set t old
+      → RaisedTo nodes set later new
   raised_next set old new k t later there next same is r had = subst (λ i. RaisedTo nodes set i new) same (raised_more set old new k t there next is r had)
 
   pub raised_all : (set found : List Bool) (t : ℕ) → t ≡ 0 → RaisedTo nodes set t found → AreRaised nodes set found

@@ -38,7 +38,14 @@ pub(crate) fn moves_met(
     let mut truths = Vec::new(alloc);
     for n in 0..game.len() {
         let met = is_met(
-            live[n as usize], game, variations, origin, goal, taken, promoted, n,
+            live[n as usize],
+            game,
+            variations,
+            origin,
+            goal,
+            taken,
+            promoted,
+            n,
         );
         truths.push(met)?;
     }

@@ -67,7 +67,8 @@ pub record Split (tree : SearchedTree) (nodes : List ℕ) (rows : List (List (Op
   pub first : AreRowsFrom tree nodes rows k xs
   pub rest : AreRowsFrom tree nodes rows (k + length xs) ys
 
-pub rows_split : (tree : SearchedTree) (nodes : List ℕ) (rows : List (List (Option ℤ))) (k : ℕ) (xs ys : List FilterTree) → AreRowsFrom tree nodes rows k (xs ++ ys) → Split tree nodes rows k xs ys
+pub rows_split : (tree : SearchedTree) (nodes : List ℕ) (rows : List (List (Option ℤ))) (k : ℕ) (xs ys : List FilterTree) → AreRowsFrom tree nodes rows k (xs ++ ys)
+    → Split tree nodes rows k xs ys
 rows_split tree nodes rows k [] ys h = record { first = tt; rest = (let e : k ≡ k + 0 = omega arith in subst (λ j. AreRowsFrom tree nodes rows j ys) e h) }
 rows_split tree nodes rows k (x ∷ xs) ys h =
     let m = rows_split tree nodes rows (k + 1) xs ys h.2 in
@@ -88,10 +89,12 @@ module _ (choose : ℤ → ℤ → ℤ) (f g : ℕ → Value) where
   chosen_same [] all = refl
   chosen_same (n ∷ ns) all = fold_same (amount (f n)) (amount (g n)) ns (all 0 0 (omega arith)) (λ i d below. all (suc i) d (omega (arith, below)))
 
-pub row_key : (tree : SearchedTree) (nodes : List ℕ) (row : List (Option ℤ)) (f : FilterTree) (least : Bool) → IsRowOf tree nodes row f → key_in least row nodes ≡ key_of least (map (value tree [] [] f) nodes)
+pub row_key : (tree : SearchedTree) (nodes : List ℕ) (row : List (Option ℤ)) (f : FilterTree) (least : Bool) → IsRowOf tree nodes row f
+    → key_in least row nodes ≡ key_of least (map (value tree [] [] f) nodes)
 row_key tree nodes row f least is = chosen_same (chosen least) (λ n. as_number (get_or row n None)) (value tree [] [] f) nodes is.entries
 
-pub key_added : (tree : SearchedTree) (nodes : List ℕ) (rows : List (List (Option ℤ))) (old new : List ℤ) (key : ℤ) (item part : FilterTree) (at : ℕ) (least : Bool) (text : List ℕ) → item ≡ filter_at at (sort least text part)
+pub key_added : (tree : SearchedTree) (nodes : List ℕ) (rows : List (List (Option ℤ))) (old new : List ℤ) (key : ℤ) (item part : FilterTree) (at : ℕ) (least : Bool) (text : List ℕ)
+    → item ≡ filter_at at (sort least text part)
     → AreRowsFrom tree nodes rows (length old) (item_numbers item) → new ≡ old ++ key ∷ [] → Some key ≡ key_in least (get_or rows (length old) []) nodes
     → map Some new ≡ map Some old ++ item_keys tree nodes item
 key_added tree nodes rows old new key item part at least text is are more found =
@@ -105,7 +108,8 @@ key_added tree nodes rows old new key item part at least text is are more found 
 
 -- the key of one node, and with one node more
 
-pub key_first : (least : Bool) (row : List (Option ℤ)) (nodes : List ℕ) (n d : ℕ) (key : ℤ) → 0 < length nodes → n ≡ get_or nodes 0 d → get_or row n None ≡ Some key → Some key ≡ key_in least row (take 1 nodes)
+pub key_first : (least : Bool) (row : List (Option ℤ)) (nodes : List ℕ) (n d : ℕ) (key : ℤ) → 0 < length nodes → n ≡ get_or nodes 0 d → get_or row n None ≡ Some key
+    → Some key ≡ key_in least row (take 1 nodes)
 key_first least row [] n d key some is here = absurd (omega (arith, some))
 key_first least row (m ∷ []) n d key some is here = sym here ∙ ap (λ i. get_or row i None) is
 key_first least row (m ∷ k ∷ nodes) n d key some is here = sym here ∙ ap (λ i. get_or row i None) is
@@ -115,7 +119,8 @@ chosen_snoc choose [] v a b is here = cc
 chosen_snoc choose (w ∷ vs) v a b is here =
     ap₂ (of_both (λ x y. Some (choose x y))) is (sym here) ∙ sym (fold-append (λ c u. of_both (λ x y. Some (choose x y)) c (amount u)) (amount w) vs (v ∷ []))
 
-pub key_next : (least : Bool) (row : List (Option ℤ)) (nodes : List ℕ) (k n d : ℕ) (key value later : ℤ) → k < length nodes → n ≡ get_or nodes k d → get_or row n None ≡ Some value → later ≡ chosen least key value
+pub key_next : (least : Bool) (row : List (Option ℤ)) (nodes : List ℕ) (k n d : ℕ) (key value later : ℤ) → k < length nodes → n ≡ get_or nodes k d → get_or row n None ≡ Some value
+    → later ≡ chosen least key value
     → Some key ≡ key_in least row (take k nodes) → Some later ≡ key_in least row (take (k + 1) nodes)
 key_next least row nodes k n d key value later low is here more had =
     ap Some more
@@ -135,7 +140,8 @@ pub key_all : (least : Bool) (row : List (Option ℤ)) (nodes : List ℕ) (k : �
 key_all least row nodes k key end had = had ∙ ap (key_in least row) (take_all k nodes end)
 
 -- every hit is told as one
-pub hits_told : (tree : SearchedTree) (items : FilterTrees) (hits : List Bool) (nodes : List ℕ) → hits ≡ hit_column tree items → nodes ≡ hits_in tree items → All (λ n. get_or hits n false ≡ true) nodes
+pub hits_told : (tree : SearchedTree) (items : FilterTrees) (hits : List Bool) (nodes : List ℕ) → hits ≡ hit_column tree items → nodes ≡ hits_in tree items
+    → All (λ n. get_or hits n false ≡ true) nodes
 unfolding searched
 hits_told tree items hits nodes is are = subst (All (λ n. get_or hits n false ≡ true)) (sym are) (λ i d below.
     let n = get_or (hits_in tree items) i d in
@@ -158,18 +164,22 @@ keys_all tree nodes xs i fs ks end same had =
     sym (append-nil ks) ∙ ap (λ ys. ks ++ all_keys tree nodes (filter_trees ys)) (sym (drop_all i xs end)) ∙ had ∙ ap (all_keys tree nodes) same
 
 -- the row of a sort item
-pub sort_row : (tree : SearchedTree) (nodes : List ℕ) (rows : List (List (Option ℤ))) (k : ℕ) (item part : FilterTree) (at : ℕ) (least : Bool) (text : List ℕ) → item ≡ filter_at at (sort least text part)
+pub sort_row : (tree : SearchedTree) (nodes : List ℕ) (rows : List (List (Option ℤ))) (k : ℕ) (item part : FilterTree) (at : ℕ) (least : Bool) (text : List ℕ)
+    → item ≡ filter_at at (sort least text part)
     → AreRowsFrom tree nodes rows k (item_numbers item) → (k < length rows) × IsRowOf tree nodes (get_or rows k []) part
 sort_row tree nodes rows k item part at least text is are = let row = subst (λ g. AreRowsFrom tree nodes rows k (item_numbers g)) is are in (row.0, row.1)
 
-pub row_given : (tree : SearchedTree) (nodes : List ℕ) (rows : List (List (Option ℤ))) (k : ℕ) (item part : FilterTree) (at : ℕ) (least : Bool) (text : List ℕ) (row : List (Option ℤ)) → item ≡ filter_at at (sort least text part)
+pub row_given : (tree : SearchedTree) (nodes : List ℕ) (rows : List (List (Option ℤ))) (k : ℕ) (item part : FilterTree) (at : ℕ) (least : Bool) (text : List ℕ) (row : List (Option ℤ))
+    → item ≡ filter_at at (sort least text part)
     → AreRowsFrom tree nodes rows k (item_numbers item) → row ≡ get_or rows k [] → IsRowOf tree nodes row part
 row_given tree nodes rows k item part at least text row is are given = subst (λ r. IsRowOf tree nodes r part) (sym given) (sort_row tree nodes rows k item part at least text is are).1
 
-pub entries_inside : (tree : SearchedTree) (nodes : List ℕ) (row : List (Option ℤ)) (f : FilterTree) → IsRowOf tree nodes row f → All (λ n. n < length tree.game.nodes) nodes → All (λ n. n < length row) nodes
+pub entries_inside : (tree : SearchedTree) (nodes : List ℕ) (row : List (Option ℤ)) (f : FilterTree) → IsRowOf tree nodes row f → All (λ n. n < length tree.game.nodes) nodes
+    → All (λ n. n < length row) nodes
 entries_inside tree nodes row f is inside = λ i d below. omega (arith, inside i d below, is.count)
 
-pub entries_there : (tree : SearchedTree) (nodes : List ℕ) (row : List (Option ℤ)) (item part : FilterTree) (at : ℕ) (least : Bool) (text : List ℕ) → item ≡ filter_at at (sort least text part) → IsRowOf tree nodes row part
+pub entries_there : (tree : SearchedTree) (nodes : List ℕ) (row : List (Option ℤ)) (item part : FilterTree) (at : ℕ) (least : Bool) (text : List ℕ)
+    → item ≡ filter_at at (sort least text part) → IsRowOf tree nodes row part
     → All (λ n. holds (value tree [] [] item n) ≡ true) nodes → All (λ n. is_some (get_or row n None) ≡ true) nodes
 unfolding value
 entries_there tree nodes row item part at least text is row_is hold = λ i d below.

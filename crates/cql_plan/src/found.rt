@@ -71,12 +71,7 @@ pub(crate) fn keys(alloc: Global, told: &Told, nodes: &[u32]) -> Result<Vec<i64>
 
 // Adds the key of an item, where it is a sort item.
 #[tactic(auto, unfolding(cql_syntax::specs::Meaning::value))]
-fn add_key(
-    keys: &mut Vec<i64>,
-    item: &Filter,
-    told: &Told,
-    nodes: &[u32],
-) -> Result<(), NoMemory>
+fn add_key(keys: &mut Vec<i64>, item: &Filter, told: &Told, nodes: &[u32]) -> Result<(), NoMemory>
     requires some { 0 < length nodes.now }
     requires inside { All (λ n. n < length told.now.game.now.nodes) nodes.now }
     requires holds { All (λ n. item_holds (searched_tree told.now.game.now told.now.query.now.variations) n item.now ≡ true) nodes.now }
@@ -104,15 +99,15 @@ fn key_over(row: &[Option<i64>], least: bool, nodes: &[u32]) -> i64
     requires values { All (λ n. is_some (get_or row.now n None) ≡ true) nodes.now }
     ensures { Some result ≡ key_in least row.now nodes.now }
 {
-    let mut key = entry(row, nodes[0]);
+    let mut key = entry_at(row, nodes[0]);
     for k in 1..nodes.len() {
-        let value = entry(row, nodes[k]);
+        let value = entry_at(row, nodes[k]);
         key = chosen(least, key, value);
     }
     key
 }
 
-fn entry(row: &[Option<i64>], n: u32) -> i64
+fn entry_at(row: &[Option<i64>], n: u32) -> i64
     requires inside { n < length row.now }
     requires value { is_some (get_or row.now n None) ≡ true }
     ensures { get_or row.now n None ≡ Some result }

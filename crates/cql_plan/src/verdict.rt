@@ -47,7 +47,8 @@ pub(crate) fn find<L: Ledger>(
     game: &Game,
     steps: &mut Steps<L>,
 ) -> Result<Verdict, NoMemory>
-    ensures nodes { IfOk result (λ v. v.nodes.items ≡ hits_in (searched_tree game.now query.now.variations) (filters_tree query.now.items)) }
+    ensures nodes { IfOk result (λ v. v.nodes.items
+        ≡ hits_in (searched_tree game.now query.now.variations) (filters_tree query.now.items)) }
     ensures increasing { IfOk result (λ v. AllPairs (λ m n. m < n) v.nodes.items) }
     ensures inside { IfOk result (λ v. All (λ n. n < length game.now.nodes) v.nodes.items) }
     ensures keys { IfOk result (λ v. v.nodes.items ≢ []
@@ -56,7 +57,8 @@ pub(crate) fn find<L: Ledger>(
     ensures no_keys { IfOk result (λ v. v.nodes.items ≡ [] → v.keys.items ≡ []) }
     ensures turned_away { all_pass (searched_tree game.now query.now.variations) (filters_tree query.now.items) ≡ false
         → IfOk result (λ v. v.nodes.items ≡ []) }
-    ensures no_steps { all_pass (searched_tree game.now query.now.variations) (filters_tree query.now.items) ≡ false → steps.new ≡ steps.old }
+    ensures no_steps { all_pass (searched_tree game.now query.now.variations) (filters_tree query.now.items) ≡ false
+        → steps.new ≡ steps.old }
     ensures most { steps.new ≤ steps.old + length (nodes_in (searched_tree game.now query.now.variations))
         + filters_cost (length game.now.nodes) (filters_tree query.now.items) }
 {

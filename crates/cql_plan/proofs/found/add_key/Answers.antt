@@ -11,7 +11,7 @@ use Rattle.cql_plan.proofs.found.add_key.Goals as goal
 pub row-row-requires : goal.row-row-requires
 row-row-requires c =
     let there = sort_row (searched_tree c.args.told.now.game.now c.args.told.now.query.now.variations) c.args.nodes.now (keys_of c.args.told.now.column) (length c.args.keys.now.items)
-        (filter_tree c.args.item.now) _ c.args.item.now.at _ _ (ap (λ form. filter_at c.args.item.now.at (form_tree form)) c.in-Sort.is) c.requires.rows in
+    (filter_tree c.args.item.now) _ c.args.item.now.at _ _ (ap (λ form. filter_at c.args.item.now.at (form_tree form)) c.in-Sort.is) c.requires.rows in
     omega (arith, there.0, c.len.ensures)
 
 pub key_over-key-requires-clause-inside : goal.key_over-key-requires-clause-inside

@@ -15,7 +15,7 @@ loop-item-init c =
     let tree = searched_tree c.args.told.now.game.now c.args.told.now.query.now.variations in
     let items = filters_tree c.args.told.now.query.now.items in
     let there = rows_there tree items (hits_of c.args.told.now.column) (keys_of c.args.told.now.column) c.args.nodes.now c.args.told.now.keys
-        (hits_told tree items (hits_of c.args.told.now.column) c.args.nodes.now c.args.told.now.hits c.requires) in
+    (hits_told tree items (hits_of c.args.told.now.column) c.args.nodes.now c.args.told.now.hits c.requires) in
     record {
       keys = ap (λ ks. map Some ks ++ all_keys tree c.args.nodes.now (filter_trees c.as_slice-item-items.result.now)) c.new-keys.ensures.items;
       rows = subst (λ n. AreRowsFrom tree c.args.nodes.now (keys_of c.args.told.now.column) n (sort_numbers (filter_trees c.as_slice-item-items.result.now)))

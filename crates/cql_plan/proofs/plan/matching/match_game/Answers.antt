@@ -32,6 +32,9 @@ returns-clause-no_steps g c = λ away.
 pub returns-clause-most : goal.returns-clause-most
 returns-clause-most g c =
     let plan = c.args.plan.now in
-    omega (arith, c.find.ensures.most,
-    costs_are (query_tree plan.query.query) c.args.game.now plan.flat.variations (filters_tree plan.flat.items) (length c.args.game.now.nodes) plan.items,
-    ap (λ v. length (nodes_in (searched_tree c.args.game.now v))) plan.variations)
+    omega (
+      arith,
+      c.find.ensures.most,
+      costs_are (query_tree plan.query.query) c.args.game.now plan.flat.variations (filters_tree plan.flat.items) (length c.args.game.now.nodes) plan.items,
+      ap (λ v. length (nodes_in (searched_tree c.args.game.now v))) plan.variations,
+    )
