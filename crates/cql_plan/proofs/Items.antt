@@ -1,9 +1,9 @@
 -- The items of a query one by one, and the nodes of a game.
-use Rattle.std.proofs.Common.{AllPairs, All, ◌≡◌, ℕ, ◌+◌, ◌<◌, Bool, true, false, ◌&&◌, List, [], ◌∷◌, ◌++◌, length, get_or, refl, sym, ap, ◌∙◌, arith, map, take}
+use Rattle.std.proofs.Common.{AllPairs, All, ◌≡◌, ℕ, ◌+◌, ◌<◌, Bool, true, false, ◌&&◌, List, [], ◌∷◌, ◌++◌, length, refl, sym, ap, ◌∙◌, arith, map}
 use Rattle.std.specs.Prelude.{cond, if◌then◌else◌}
 use Rattle.std.specs.List.{list_all, filter, range_with_len}
-use Rattle.std.proofs.lemmas.List.Folds.{list_all-map, list_all_more, list_all_at}
-use Rattle.std.proofs.lemmas.List.{map-id, append-nil}
+use Rattle.std.proofs.lemmas.List.Folds.{list_all-map}
+use Rattle.std.proofs.lemmas.List.{map-id}
 use Rattle.std.proofs.lemmas.List.Kept.{AllPairs-filter}
 use Rattle.std.proofs.lemmas.List.Elements.{All-filter}
 use Rattle.std.proofs.lemmas.List.FromFn.{length-range_with_len, get_or-range_with_len, filter_of_map_range_with_len_more}
@@ -28,16 +28,6 @@ pub all_items : (tree : SearchedTree) (n : ℕ) (fs : List Filter) (items : Filt
 all_items tree n fs items is =
     ap (λ fs. is_hit tree fs n) (sym is) ∙ ap (list_all holds) (values_each tree n fs) ∙ list_all-map holds (λ f. value tree [] [] (filter_tree f) n) fs
 
--- the items so far hold
-pub one_more : (tree : SearchedTree) (n : ℕ) (fs : List Filter) (i : ℕ) (d : Filter) → i < length fs → list_all (item_holds tree n) (take i fs) ≡ true
-    → item_holds tree n (get_or fs i d) ≡ true → list_all (item_holds tree n) (take (i + 1) fs) ≡ true
-one_more tree n fs i d inside before here =
-    list_all_more (item_holds tree n) fs i d inside ∙ ap (λ b. b && item_holds tree n (get_or fs i d)) before ∙ here
-
-pub one_fails : (tree : SearchedTree) (n : ℕ) (fs : List Filter) (i : ℕ) (d : Filter) → i < length fs
-    → item_holds tree n (get_or fs i d) ≡ false → list_all (item_holds tree n) fs ≡ false
-one_fails tree n fs i d inside here = list_all_at (item_holds tree n) fs i d inside here
-
 -- the nodes that are searched and of which a test is true, with one node more
 abbrev pub found_below : (searched hit : ℕ → Bool) → ℕ → List ℕ
 found_below searched hit k = filter hit (filter searched (range_with_len 0 k))
@@ -57,18 +47,12 @@ more_below test k =
     ap (filter test) (sym (map-id (range_with_len 0 (k + 1)))) ∙ filter_of_map_range_with_len_more test (λ n. n) 0 k k (omega arith)
     ∙ ap (λ ns. filter test ns ++ cond (test k) (k ∷ []) []) (map-id (range_with_len 0 k))
 
-found_more : (searched hit : ℕ → Bool) (k : ℕ) (is_found : Bool) → (searched k && hit k) ≡ is_found
+pub found_more : (searched hit : ℕ → Bool) (k : ℕ) (is_found : Bool) → (searched k && hit k) ≡ is_found
     → found_below searched hit (k + 1) ≡ found_below searched hit k ++ cond is_found (k ∷ []) []
 found_more searched hit k is_found is =
     filter_both searched hit (range_with_len 0 (k + 1)) ∙ more_below (λ n. searched n && hit n) k
     ∙ ap (λ b. filter (λ n. searched n && hit n) (range_with_len 0 k) ++ cond b (k ∷ []) []) is
     ∙ ap (λ ns. ns ++ cond is_found (k ∷ []) []) (sym (filter_both searched hit (range_with_len 0 k)))
-
-pub one_found : (searched hit : ℕ → Bool) (k : ℕ) → (searched k && hit k) ≡ true → found_below searched hit (k + 1) ≡ found_below searched hit k ++ k ∷ []
-one_found searched hit k is = found_more searched hit k true is
-
-pub none_found : (searched hit : ℕ → Bool) (k : ℕ) → (searched k && hit k) ≡ false → found_below searched hit (k + 1) ≡ found_below searched hit k
-none_found searched hit k is = found_more searched hit k false is ∙ append-nil (found_below searched hit k)
 
 pub all_found : (tree : SearchedTree) (items : FilterTrees)
     → found_below (is_searched tree.variations tree.game.nodes) (is_hit tree items) (length tree.game.nodes) ≡ hits_in tree items

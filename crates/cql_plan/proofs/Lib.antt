@@ -4,3 +4,4 @@ pub mod NeedsRows
 pub mod Needed
 pub mod ItemsHeld
 pub mod MenLaw
+pub mod RowsLaw

@@ -183,7 +183,7 @@ pub what_holds_passes : (tree : SearchedTree) (names : Names) (f : FilterTree) (
 what_holds_passes tree names f n below kept h = held_passes tree n names (record { below = below; kept = kept }) f h
 
 -- each hit is a searched node
-hit_searched : (tree : SearchedTree) (items : FilterTrees) → All (λ n. is_searched tree.variations tree.game.nodes n ≡ true) (hits_in tree items)
+pub hit_searched : (tree : SearchedTree) (items : FilterTrees) → All (λ n. is_searched tree.variations tree.game.nodes n ≡ true) (hits_in tree items)
 unfolding searched
 hit_searched tree items =
     let kept = is_searched tree.variations tree.game.nodes in

@@ -2,3 +2,4 @@ pub mod Items
 pub mod Needs
 pub mod NeedsRows
 pub mod Plans
+pub mod Rows

@@ -1,73 +1,122 @@
-//! The hits of the items of a query.
-ghost use Rattle.std.specs.Prelude.{◌≡◌, ◌<◌, ◌&&◌, length, All, AllPairs, IfOk};
-ghost use Rattle.cq_position.specs.Games.{is_searched};
-ghost use Rattle.cql_syntax.specs.Hits.{is_hit as is_hit_of, hits_in};
-ghost use Rattle.cql_syntax.specs.TreeOf.{filters_tree};
+//! The hits of a query in a game, and the keys of its sort items over them, from the query's column.
+ghost use Rattle.std.specs.Prelude.{◌≡◌, ◌≢◌, ◌+◌, ◌<◌, ◌++◌, ◌∷◌, [], length, map, get_or, true, Some, None, is_some, All, AllPairs, IfOk, OnOk, if◌then◌else◌};
+ghost use Rattle.cql_eval.specs.Hits.{hits_of, keys_of, hit_column, item_numbers, AreKeysAtHits};
+ghost use Rattle.cql_syntax.specs.Hits.{hits_in, all_keys, item_keys, chosen as chosen_of};
+ghost use Rattle.cql_syntax.specs.TreeOf.{filter_tree, filters_tree};
 ghost use Rattle.cql_values.specs.Trees.{searched_tree};
+ghost use Rattle.cql_plan.specs.Items.{item_holds};
+ghost use Rattle.cql_plan.specs.Rows.{key_in, AreRowsFrom};
 
 use cq_outside::NoMemory;
-use cql_plain::holds_at;
-use cql_syntax::Filters;
-use cql_values::Names;
+use cql_eval::Column;
+use cql_syntax::{Filter, FlatQuery, Form};
 use pgn_tree::Game;
 use std::alloc::Global;
 
+/// What a query's column tells of a game.
+#[derive(Drop)]
+pub(crate) struct Told<'a> {
+    pub(crate) query: &'a FlatQuery,
+    pub(crate) game: &'a Game,
+    pub(crate) column: Column,
+    ghost hits: { hits_of column ≡ hit_column (searched_tree game.now query.now.variations) (filters_tree query.now.items) },
+    ghost keys: { AreKeysAtHits (searched_tree game.now query.now.variations) (filters_tree query.now.items)
+        (hits_of column) (keys_of column) },
+    ghost nodes: { length (hits_of column) ≡ length game.now.nodes },
+}
+
 /// The numbers of the nodes at which all of the items hold, increasing: of all nodes where the variations are searched, else of those of
 /// the main line.
-pub(crate) fn hits(
-    alloc: Global,
-    items: &Filters,
-    variations: bool,
-    game: &Game,
-) -> Result<Vec<u32>, NoMemory>
-    ensures value { IfOk result (λ found. found.items ≡ hits_in (searched_tree game.now variations) (filters_tree items.now)) }
+pub(crate) fn hits(alloc: Global, told: &Told) -> Result<Vec<u32>, NoMemory>
+    ensures value { IfOk result (λ found. found.items
+        ≡ hits_in (searched_tree told.now.game.now told.now.query.now.variations) (filters_tree told.now.query.now.items)) }
     ensures increasing { IfOk result (λ found. AllPairs (λ m n. m < n) found.items) }
-    ensures inside { IfOk result (λ found. All (λ n. n < length game.now.nodes) found.items) }
+    ensures inside { IfOk result (λ found. All (λ n. n < length told.now.game.now.nodes) found.items) }
 {
     let mut found = Vec::new(alloc);
-    for k in 0..game.len() {
-        if is_found(alloc, items, variations, game, k)? {
-            found.push(k)?;
-        }
+    for k in 0..told.game.len() {
+        let there = told.column.hit(k);
+        push_if(&mut found, there, k)?;
     }
     Ok(found)
 }
 
-// Whether a node is searched and all of the items hold there.
-fn is_found(
-    alloc: Global,
-    items: &Filters,
-    variations: bool,
-    game: &Game,
-    node: u32,
-) -> Result<bool, NoMemory>
-    requires inside { node < length game.now.nodes }
-    ensures { IfOk result (λ b. b ≡ (is_searched variations game.now.nodes node
-        && is_hit_of (searched_tree game.now variations) (filters_tree items.now) node)) }
+// Adds a node where it is asked.
+fn push_if(found: &mut Vec<u32>, there: bool, node: u32) -> Result<(), NoMemory>
+    ensures { OnOk result (found.new.items ≡ found.old.items ++ (if there then node ∷ [] else [])) }
 {
-    if !variations && !game.is_main(node) {
-        return Ok(false);
+    if there {
+        found.push(node)?;
     }
-    is_hit(alloc, items, variations, game, node)
+    Ok(())
 }
 
-// Whether all of the items hold at a node.
-fn is_hit(
-    alloc: Global,
-    items: &Filters,
-    variations: bool,
-    game: &Game,
-    node: u32,
-) -> Result<bool, NoMemory>
-    requires inside { node < length game.now.nodes }
-    ensures { IfOk result (λ b. b ≡ is_hit_of (searched_tree game.now variations) (filters_tree items.now) node) }
+/// One key for each sort item over the hits, the first item foremost: its greatest value there, or with `min` the least. Over no nodes
+/// there are no keys.
+pub(crate) fn keys(alloc: Global, told: &Told, nodes: &[u32]) -> Result<Vec<i64>, NoMemory>
+    requires { nodes.now ≡ hits_in (searched_tree told.now.game.now told.now.query.now.variations) (filters_tree told.now.query.now.items) }
+    ensures keys { IfOk result (λ keys. nodes.now ≢ [] → map Some keys.items
+        ≡ all_keys (searched_tree told.now.game.now told.now.query.now.variations) nodes.now (filters_tree told.now.query.now.items)) }
+    ensures none { IfOk result (λ keys. nodes.now ≡ [] → keys.items ≡ []) }
 {
-    let names = Names::new(alloc);
-    let items = items.as_slice();
-    for i in 0..items.len() {
-        if !holds_at(alloc, &items[i], game, variations, node, &[], &names)? {
-            return Ok(false);
-        }
+    let mut keys = Vec::new(alloc);
+    if nodes.is_empty() {
+        return Ok(keys);
     }
-    Ok(true)
+    for item in told.query.items.as_slice() {
+        add_key(&mut keys, item, told, nodes)?;
+    }
+    Ok(keys)
+}
+
+// Adds the key of an item, where it is a sort item.
+#[tactic(auto, unfolding(cql_syntax::specs::Meaning::value))]
+fn add_key(keys: &mut Vec<i64>, item: &Filter, told: &Told, nodes: &[u32]) -> Result<(), NoMemory>
+    requires some { 0 < length nodes.now }
+    requires inside { All (λ n. n < length told.now.game.now.nodes) nodes.now }
+    requires holds { All (λ n. item_holds (searched_tree told.now.game.now told.now.query.now.variations) n item.now ≡ true) nodes.now }
+    requires rows { AreRowsFrom (searched_tree told.now.game.now told.now.query.now.variations) nodes.now (keys_of told.now.column)
+        (length keys.old.items) (item_numbers (filter_tree item.now)) }
+    ensures keys { OnOk result (map Some keys.new.items ≡ map Some keys.old.items
+        ++ item_keys (searched_tree told.now.game.now told.now.query.now.variations) nodes.now (filter_tree item.now)) }
+    ensures count { OnOk result (length keys.new.items ≡ length keys.old.items + length (item_numbers (filter_tree item.now))) }
+{
+    match &item.form {
+        Form::Sort(least, ..) => {
+            let row = told.column.row(keys.len());
+            let key = key_over(row, *least, nodes);
+            keys.push(key)?;
+            Ok(())
+        }
+        _ => Ok(()),
+    }
+}
+
+// The greatest entry of a row at some nodes, at each of which it has one, or the least.
+fn key_over(row: &[Option<i64>], least: bool, nodes: &[u32]) -> i64
+    requires some { 0 < length nodes.now }
+    requires inside { All (λ n. n < length row.now) nodes.now }
+    requires values { All (λ n. is_some (get_or row.now n None) ≡ true) nodes.now }
+    ensures { Some result ≡ key_in least row.now nodes.now }
+{
+    let mut key = entry_at(row, nodes[0]);
+    for k in 1..nodes.len() {
+        let value = entry_at(row, nodes[k]);
+        key = chosen(least, key, value);
+    }
+    key
+}
+
+fn entry_at(row: &[Option<i64>], n: u32) -> i64
+    requires inside { n < length row.now }
+    requires value { is_some (get_or row.now n None) ≡ true }
+    ensures { get_or row.now n None ≡ Some result }
+{
+    row[n as usize].unwrap()
+}
+
+fn chosen(least: bool, a: i64, b: i64) -> i64
+    ensures { result ≡ chosen_of least a b }
+{
+    if least { a.min(b) } else { a.max(b) }
 }

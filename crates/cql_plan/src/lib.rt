@@ -4,7 +4,6 @@
 #![tactic(auto)]
 
 mod found;
-mod keys;
 pub mod laws;
 mod needs;
 mod plan;

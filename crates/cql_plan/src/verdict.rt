@@ -1,18 +1,21 @@
 //! What a query finds in a game.
-ghost use Rattle.std.specs.Prelude.{◌≡◌, ◌≢◌, ◌<◌, [], false, length, map, Some, All, AllPairs, IfOk};
+ghost use Rattle.std.specs.Prelude.{◌≡◌, ◌≢◌, ◌+◌, ◌<◌, ◌≤◌, [], false, length, map, Some, All, AllPairs, IfOk};
+ghost use Rattle.cq_position.specs.Search.{nodes_in};
+ghost use Rattle.cql_eval.specs.Costs.{filters_cost};
 ghost use Rattle.cql_syntax.specs.Hits.{hits_in, all_keys};
 ghost use Rattle.cql_syntax.specs.TreeOf.{filters_tree};
 ghost use Rattle.cql_values.specs.Trees.{searched_tree};
 ghost use Rattle.cql_plan.specs.Needs.{all_pass};
 ghost use Rattle.cql_plan.specs.Plans.{nodes_of, keys_of};
 
-use crate::found::hits;
-use crate::keys::keys;
+use crate::found::{Told, hits, keys};
 use crate::needs::all_needed;
-use cq_outside::NoMemory;
-use cql_syntax::Filters;
+use cq_outside::{NoMemory, Steps};
+use cql_eval::hit_columns;
+use cql_syntax::FlatQuery;
 use pgn_tree::Game;
 use std::alloc::Global;
+use std::sync::ledger::Ledger;
 
 /// The hits of a query in a game, and by what the game is sorted.
 #[derive(Drop, Debug)]
@@ -37,30 +40,41 @@ impl Verdict {
     }
 }
 
-/// What some items find in a game. A game that hasn't what they need is looked at once.
-pub(crate) fn find(
+/// What a flat query finds in a game. A game that hasn't what it needs is looked at once, and takes no step.
+pub(crate) fn find<L: Ledger>(
     alloc: Global,
-    items: &Filters,
-    variations: bool,
+    query: &FlatQuery,
     game: &Game,
+    steps: &mut Steps<L>,
 ) -> Result<Verdict, NoMemory>
-    ensures nodes { IfOk result (λ v. v.nodes.items ≡ hits_in (searched_tree game.now variations) (filters_tree items.now)) }
+    ensures nodes { IfOk result (λ v. v.nodes.items
+        ≡ hits_in (searched_tree game.now query.now.variations) (filters_tree query.now.items)) }
     ensures increasing { IfOk result (λ v. AllPairs (λ m n. m < n) v.nodes.items) }
     ensures inside { IfOk result (λ v. All (λ n. n < length game.now.nodes) v.nodes.items) }
     ensures keys { IfOk result (λ v. v.nodes.items ≢ []
-        → map Some v.keys.items ≡ all_keys (searched_tree game.now variations)
-        (hits_in (searched_tree game.now variations) (filters_tree items.now)) (filters_tree items.now)) }
+        → map Some v.keys.items ≡ all_keys (searched_tree game.now query.now.variations)
+        (hits_in (searched_tree game.now query.now.variations) (filters_tree query.now.items)) (filters_tree query.now.items)) }
     ensures no_keys { IfOk result (λ v. v.nodes.items ≡ [] → v.keys.items ≡ []) }
-    ensures turned_away { all_pass (searched_tree game.now variations) (filters_tree items.now) ≡ false
+    ensures turned_away { all_pass (searched_tree game.now query.now.variations) (filters_tree query.now.items) ≡ false
         → IfOk result (λ v. v.nodes.items ≡ []) }
+    ensures no_steps { all_pass (searched_tree game.now query.now.variations) (filters_tree query.now.items) ≡ false
+        → steps.new ≡ steps.old }
+    ensures most { steps.new ≤ steps.old + length (nodes_in (searched_tree game.now query.now.variations))
+        + filters_cost (length game.now.nodes) (filters_tree query.now.items) }
 {
-    if !all_needed(items, variations, game) {
+    if !all_needed(&query.items, query.variations, game) {
         return Ok(Verdict {
             nodes: Vec::new(alloc),
             keys: Vec::new(alloc),
         });
     }
-    let nodes = hits(alloc, items, variations, game)?;
-    let keys = keys(alloc, items, variations, game, nodes.as_slice())?;
+    let column = hit_columns(alloc, query, game, steps)?;
+    let told = Told {
+        query,
+        game,
+        column,
+    };
+    let nodes = hits(alloc, &told)?;
+    let keys = keys(alloc, &told, nodes.as_slice())?;
     Ok(Verdict { nodes, keys })
 }

@@ -1,7 +1,11 @@
 //! How a plan is made, and the match of one game.
-ghost use Rattle.std.specs.Prelude.{◌≡◌, ◌≢◌, ◌<◌, [], true, false, length, map, Some, All, AllPairs, IfOk};
+ghost use Rattle.std.specs.Prelude.{◌≡◌, ◌≢◌, ◌+◌, ◌<◌, ◌≤◌, [], true, false, length, map, Some, All, AllPairs, IfOk};
+ghost use Rattle.cq_position.specs.Search.{nodes_in};
+ghost use Rattle.cql_eval.specs.Costs.{filters_cost};
+ghost use Rattle.cql_syntax.specs.Flat.{flat_query};
 ghost use Rattle.cql_syntax.specs.Hits.{hits, keys};
 ghost use Rattle.cql_syntax.specs.TreeOf.{query_tree};
+ghost use Rattle.cql_values.specs.Trees.{searched_tree};
 ghost use Rattle.cql_plan.specs.Needs.{query_passes};
 ghost use Rattle.cql_plan.specs.Plans.{query_of, nodes_of, keys_of};
 
@@ -46,12 +50,13 @@ pub fn may_hold(plan: &Plan, game: &Game) -> bool
 
 /// The hits of the plan's query in a game, and its keys.
 ///
-/// A game that hasn't what the query needs is turned away by [`may_hold`]. No step is taken.
+/// A game that hasn't what the query needs is turned away by [`may_hold`], and takes no step. Else each searched node is a step, and so
+/// is each look at the atoms of a line.
 pub fn match_game<L: Ledger>(
     alloc: Global,
     plan: &Plan,
     game: &Game,
-    _steps: &mut Steps<L>,
+    steps: &mut Steps<L>,
 ) -> Result<Verdict, NoMemory>
     ensures nodes { IfOk result (λ v. nodes_of v ≡ hits (query_tree (query_of plan.now).query) game.now) }
     ensures increasing { IfOk result (λ v. AllPairs (λ m n. m < n) (nodes_of v)) }
@@ -60,7 +65,9 @@ pub fn match_game<L: Ledger>(
     ensures no_keys { IfOk result (λ v. nodes_of v ≡ [] → keys_of v ≡ []) }
     ensures turned_away { query_passes (query_tree (query_of plan.now).query) game.now ≡ false
         → IfOk result (λ v. nodes_of v ≡ []) }
-    ensures steps { _steps.new ≡ _steps.old }
+    ensures no_steps { query_passes (query_tree (query_of plan.now).query) game.now ≡ false → steps.new ≡ steps.old }
+    ensures most { steps.new ≤ steps.old + length (nodes_in (searched_tree game.now (query_of plan.now).query.variations))
+        + filters_cost (length game.now.nodes) (flat_query (query_tree (query_of plan.now).query)).items }
 {
-    find(alloc, &plan.flat.items, plan.flat.variations, game)
+    find(alloc, &plan.flat, game, steps)
 }

@@ -1,31 +1,29 @@
 use Rattle.std.proofs.Common.{All, AllPairs, ◌<◌, subst, ◌≡◌, ◌∙◌, ◌++◌, ◌∷◌, [], length, sym, ap, arith}
+use Rattle.std.specs.Prelude.{cond}
 use Rattle.cq_position.specs.Games.{is_searched}
 use Rattle.cql_values.specs.Trees.{searched_tree}
 use Rattle.cql_syntax.specs.Hits.{is_hit}
 use Rattle.cql_syntax.specs.TreeOf.{filters_tree}
-use Rattle.cql_plan.proofs.Items.{found_below, one_found, none_found, all_found, hits_increase, hits_are_inside}
+use Rattle.cql_plan.proofs.Items.{found_below, found_more, all_found, hits_increase, hits_are_inside}
+use Rattle.cql_plan.proofs.RowsLaw.{column_hit}
 use Rattle.cql_plan.proofs.found.hits.Goals as goal
-use Rattle.cql_plan.proofs.found.hits.Goals.{then-branch+in_ok-push, else-branch}
 
 pub loop-k-preserved : goal.loop-k-preserved
 loop-k-preserved c =
-    let searched = is_searched c.args.variations c.args.game.now.nodes in
-    let hit = is_hit (searched_tree c.args.game.now c.args.variations) (filters_tree c.args.items.now) in
-    elim c.if-branch.branch [
-      | then-branch+in_ok-push w ↦ ap (λ v. v.items) w.found-is ∙ w.in_ok-push.ensures.items ∙ ap (λ found. found ++ c.loop-k.k ∷ []) c.loop-k.invariant
-          ∙ sym (one_found searched hit c.loop-k.k (sym c.in_ok-is_found.ensures ∙ w.if-branch.true))
-      | else-branch w ↦ ap (λ v. v.items) w.found-is ∙ c.loop-k.invariant ∙ sym (none_found searched hit c.loop-k.k (sym c.in_ok-is_found.ensures ∙ w.if-branch.false))
-    ]
+    let tree = searched_tree c.args.told.now.game.now c.args.told.now.query.now.variations in
+    let items = filters_tree c.args.told.now.query.now.items in
+    c.in_ok-push_if.ensures ∙ ap (λ found. found ++ cond c.hit-there.result (c.loop-k.k ∷ []) []) c.loop-k.invariant
+    ∙ sym (found_more (is_searched tree.variations tree.game.nodes) (is_hit tree items) c.loop-k.k c.hit-there.result
+    (sym (column_hit tree items _ c.loop-k.k c.args.told.now.hits (omega (arith, c.loop-k-test.true, c.len-k-end.ensures.len))) ∙ sym c.hit-there.ensures))
 
 pub returns : goal.returns
 returns c =
-    let tree = searched_tree c.args.game.now c.args.variations in
-    let searched = is_searched c.args.variations c.args.game.now.nodes in
-    let hit = is_hit tree (filters_tree c.args.items.now) in
-    let all : c.loop-k.k ≡ length c.args.game.now.nodes = omega (arith, c.loop-k-test.false, c.loop-k.auto.k-end, c.len-k-end.ensures.len) in
-    let found = c.loop-k.invariant ∙ ap (found_below searched hit) all ∙ all_found tree (filters_tree c.args.items.now) in
+    let tree = searched_tree c.args.told.now.game.now c.args.told.now.query.now.variations in
+    let items = filters_tree c.args.told.now.query.now.items in
+    let all : c.loop-k.k ≡ length tree.game.nodes = omega (arith, c.loop-k-test.false, c.loop-k.auto.k-end, c.len-k-end.ensures.len) in
+    let found = c.loop-k.invariant ∙ ap (found_below (is_searched tree.variations tree.game.nodes) (is_hit tree items)) all ∙ all_found tree items in
     record {
       value = found;
-      increasing = subst (AllPairs (λ m n. m < n)) (sym found) (hits_increase tree (filters_tree c.args.items.now));
-      inside = subst (All (λ n. n < length c.args.game.now.nodes)) (sym found) (hits_are_inside tree (filters_tree c.args.items.now));
+      increasing = subst (AllPairs (λ m n. m < n)) (sym found) (hits_increase tree items);
+      inside = subst (All (λ n. n < length tree.game.nodes)) (sym found) (hits_are_inside tree items);
     }

@@ -8,4 +8,6 @@ use Rattle.cql_plan.proofs.found.hits.Given as goal
 
 abbrev pub invariant-loop-k : goal.invariant-loop-k
 invariant-loop-k l =
-    l.found.items ≡ found_below (is_searched l.fn.variations l.fn.game.nodes) (is_hit (searched_tree l.fn.game l.fn.variations) (filters_tree l.fn.items)) l.k
+    l.found.items
+    ≡ found_below (is_searched l.told.query.now.variations l.told.game.now.nodes)
+    (is_hit (searched_tree l.told.game.now l.told.query.now.variations) (filters_tree l.told.query.now.items)) l.k

@@ -1,0 +1,115 @@
+-- Columns that are filled node by node.
+use Rattle.std.proofs.Common.{◌≡◌, ℕ, zero, suc, ◌+◌, ◌<◌, ◌≤◌, ◌⊎◌, Bool, true, false, List, [], ◌∷◌, ◌++◌, length, get_or, ◌&&◌, refl, ap, sym, subst, ◌∙◌, arith, ⊎_elim, inl, inr, length-append}
+use Rattle.cq_position.specs.Search.{SearchedTree}
+use Rattle.std.specs.Prelude.{is_some}
+use Rattle.cql_syntax.specs.Values.{holds, amount}
+use Rattle.cql_eval.specs.Columns.{shown, is_so, IsNarrowed, IsNumbered, AreAsked}
+use Rattle.cql_eval.specs.declared.filter_column.FilterColumn.{FilterColumn}
+use Rattle.std.proofs.lemmas.Bool.{cases_order}
+use Rattle.std.proofs.lemmas.List.{get_or_append_left}
+use Rattle.std.proofs.Math.Seq.{get_or-append_seam}
+
+pub split_last : (n k : ℕ) → n < k + 1 → (n < k) ⊎ (n ≡ k)
+split_last n k h = ⊎_elim (λ same. inr same) (λ o. ⊎_elim (λ less. inl less) (λ more. absurd (omega (arith, h, more))) o) (cases_order n k)
+
+pub split_at : (n k : ℕ) → (n < k) ⊎ (k ≤ n)
+split_at n k = ⊎_elim (λ same. inr (omega (arith, same))) (λ o. ⊎_elim (λ less. inl less) (λ more. inr (omega (arith, more))) o) (cases_order n k)
+
+pub equal_or : (m n : ℕ) → (m ≡ n) ⊎ (m ≡ n → ⊥)
+equal_or m n = ⊎_elim (λ same. inl same) (λ o. inr (λ e. ⊎_elim (λ less. absurd (omega (arith, less, e))) (λ more. absurd (omega (arith, more, e))) o)) (cases_order m n)
+
+-- the first k nodes have their values where they are asked for
+pub record Filled {A B : Type 0} (show : A → B) (d : A) (live : List Bool) (v : ℕ → B) (k : ℕ) (items : List A) : Type 0 where
+  pub count : length items ≡ k
+  pub each : (n : ℕ) → n < k → get_or live n false ≡ true → show (get_or items n d) ≡ v n
+
+pub filled_none : {A B : Type 0} (show : A → B) (d : A) (live : List Bool) (v : ℕ → B) (items : List A) → items ≡ [] → Filled show d live v 0 items
+filled_none show d live v items is = record { count = ap length is; each = λ n h a. absurd (omega (arith, h)) }
+
+pub filled_more : {A B : Type 0} (show : A → B) (d : A) (live : List Bool) (v : ℕ → B) (k : ℕ) (items later : List A) (x : A)
+    → later ≡ items ++ x ∷ [] → (get_or live k false ≡ true → show x ≡ v k) → Filled show d live v k items → Filled show d live v (k + 1) later
+filled_more show d live v k items later x is new had = record {
+  count = ap length is ∙ length-append items (x ∷ []) ∙ ap (λ i. i + 1) had.count;
+  each = λ n h a. ⊎_elim
+      (λ less. ap show (ap (λ l. get_or l n d) is ∙ get_or_append_left items (x ∷ []) d n (omega (arith, less, had.count))) ∙ had.each n less a)
+      (λ same. let here : n ≡ length items = omega (arith, same, had.count) in
+      ap show (ap (λ l. get_or l n d) is ∙ ap (λ i. get_or (items ++ x ∷ []) i d) here ∙ get_or-append_seam items x [] d)
+      ∙ new (subst (λ i. get_or live i false ≡ true) (here ∙ had.count) a) ∙ ap v (sym (here ∙ had.count)))
+      (split_last n k h);
+}
+
+pub live_below : (live : List Bool) (n : ℕ) → get_or live n false ≡ true → n < length live
+live_below [] zero e = cc
+live_below [] (suc n) e = cc
+live_below (b ∷ live) zero e = omega arith
+live_below (b ∷ live) (suc n) e = omega (arith, live_below live n e)
+
+pub filled_all : {A B : Type 0} (show : A → B) (d : A) (live : List Bool) (v : ℕ → B) (k : ℕ) (items : List A) → length live ≤ k → Filled show d live v k items
+    → (n : ℕ) → get_or live n false ≡ true → show (get_or items n d) ≡ v n
+filled_all show d live v k items end had n a = had.each n (omega (arith, live_below live n a, end)) a
+
+-- beyond its end a list of truths has none
+pub past : (xs : List Bool) (n : ℕ) → length xs ≤ n → get_or xs n false ≡ false
+past [] zero h = refl
+past [] (suc n) h = refl
+past (x ∷ xs) zero h = absurd (omega (arith, h))
+past (x ∷ xs) (suc n) h = past xs n (omega (arith, h))
+
+-- a truth for each of the first k nodes
+pub record Told (test : ℕ → Bool) (k : ℕ) (items : List Bool) : Type 0 where
+  pub count : length items ≡ k
+  pub each : (n : ℕ) → n < k → get_or items n false ≡ test n
+
+pub told_none : (test : ℕ → Bool) (items : List Bool) → items ≡ [] → Told test 0 items
+told_none test items is = record { count = ap length is; each = λ n h. absurd (omega (arith, h)) }
+
+pub told_more : (test : ℕ → Bool) (k : ℕ) (items later : List Bool) (x : Bool) → later ≡ items ++ x ∷ [] → x ≡ test k → Told test k items → Told test (k + 1) later
+told_more test k items later x is new had = record {
+  count = ap length is ∙ length-append items (x ∷ []) ∙ ap (λ i. i + 1) had.count;
+  each = λ n h. ⊎_elim
+      (λ less. ap (λ l. get_or l n false) is ∙ get_or_append_left items (x ∷ []) false n (omega (arith, less, had.count)) ∙ had.each n less)
+      (λ same. let here : n ≡ length items = omega (arith, same, had.count) in
+      ap (λ l. get_or l n false) is ∙ ap (λ i. get_or (items ++ x ∷ []) i false) here ∙ get_or-append_seam items x [] false ∙ new ∙ ap test (sym (here ∙ had.count)))
+      (split_last n k h);
+}
+
+pub both_left : (a b : Bool) → (a && b) ≡ true → a ≡ true
+both_left true b e = refl
+both_left false b e = e
+
+-- the nodes of a set that pass a test, and those past the end
+pub told_live : (live : List Bool) (test : ℕ → Bool) (k : ℕ) (items : List Bool) → length live ≡ k → Told (λ n. get_or live n false && test n) k items
+    → (n : ℕ) → get_or items n false ≡ (get_or live n false && test n)
+told_live live test k items end had n = ⊎_elim (had.each n)
+    (λ far. past items n (omega (arith, far, had.count)) ∙ sym (ap (λ b. b && test n) (past live n (omega (arith, far, end)))))
+    (split_at n k)
+
+pub part_asked : (tree : SearchedTree) (live left : List Bool) (test : ℕ → Bool) → AreAsked tree live → length left ≡ length live → ((n : ℕ) → get_or left n false ≡ (get_or live n false && test n)) → AreAsked tree left
+part_asked tree live left test asked count each = record {
+  count = count ∙ asked.count;
+  searched = λ n e. asked.searched n (both_left (get_or live n false) (test n) (sym (each n) ∙ e));
+}
+
+pub narrowed_all : (live : List Bool) (c : FilterColumn) (want : Bool) (k : ℕ) (items : List Bool) → length live ≡ k
+    → Told (λ n. get_or live n false && is_so want (holds (shown c n))) k items → IsNarrowed live c want items
+narrowed_all live c want k items end had = record {
+  count = had.count ∙ sym end;
+  each = told_live live (λ n. is_so want (holds (shown c n))) k items end had;
+  asked = λ tree a. part_asked tree live items (λ n. is_so want (holds (shown c n))) a (had.count ∙ sym end) (told_live live (λ n. is_so want (holds (shown c n))) k items end had);
+}
+
+pub numbered_all : (live : List Bool) (c : FilterColumn) (k : ℕ) (items : List Bool) → length live ≡ k
+    → Told (λ n. get_or live n false && is_some (amount (shown c n))) k items → IsNumbered live c items
+numbered_all live c k items end had = record {
+  count = had.count ∙ sym end;
+  each = told_live live (λ n. is_some (amount (shown c n))) k items end had;
+}
+
+pub narrowed_asked : (tree : SearchedTree) (live left : List Bool) (c : FilterColumn) (want : Bool) → AreAsked tree live → IsNarrowed live c want left → AreAsked tree left
+narrowed_asked tree live left c want asked is = is.asked tree asked
+
+-- a list that reaches so far has an entry there, whatever stands for one past the end
+pub any_default : {A : Type 0} (l : List A) (k : ℕ) (d e : A) → k < length l → get_or l k d ≡ get_or l k e
+any_default [] k d e h = absurd (omega (arith, h))
+any_default (x ∷ l) zero d e h = refl
+any_default (x ∷ l) (suc k) d e h = any_default l k d e (omega (arith, h))

@@ -1,0 +1,14 @@
+pub mod Chains
+pub mod Costing
+pub mod Filling
+pub mod FindLaw
+pub mod FlatLaw
+pub mod Gathering
+pub mod HitsLaw
+pub mod LinesLaw
+pub mod Lives
+pub mod Lowering
+pub mod Parents
+pub mod Raising
+pub mod UnaryLaws
+pub mod Widening

@@ -1,0 +1,476 @@
+-- The atoms of a line one by one in a table, and the line's number from the table.
+use Rattle.std.proofs.Common.{◌≡◌, ℕ, zero, suc, ◌+◌, ◌*◌, ◌<◌, ◌≤◌, ◌&&◌, ◌||◌, max, pos, ℤ, Bool, true, false, List, [], ◌∷◌, ◌++◌, length, map, drop, take, get_or, Option, Some, None, option_map, refl, sym, ap, ap₂, ◌∙◌, subst, arith, ⊎_elim}
+use denote.Hole.Carrier as Carrier
+use Rattle.std.specs.Prelude.{not, IfSome, slice_get, if◌then◌else◌}
+use Rattle.std.specs.List.{range_with_len, count_by}
+use Rattle.std.specs.Prelude.{replicate, ◌==◌}
+use Rattle.std.specs.Int.{bit_at}
+use Rattle.std.proofs.lemmas.Nat.Bits.{bit_at-zero}
+use Rattle.std.proofs.Math.ListN.{get_or-map}
+use Rattle.std.proofs.lemmas.List.{take_more}
+use Rattle.cql_values.proofs.Evaluated.{map_snoc}
+use Rattle.std.proofs.Math.Nat.{suc-max-suc, zero-max}
+use Rattle.std.proofs.lemmas.Option.{slice_get-map, slice_get-get_or, slice_get_cases}
+use Rattle.std.proofs.lemmas.List.FromFn.{get_or-map-range_with_len, length-map-range_with_len, map-range_with_len_more}
+use Rattle.std.proofs.lemmas.List.Sums.{count_by-le-length}
+use Rattle.cq_outside.specs.Greatest.{IsGreatest}
+use Rattle.cq_outside.specs.Spelling.{Pattern, one, nothing, joined, repeated}
+use Rattle.cq_outside.specs.Ways.{Line}
+use Rattle.cq_position.specs.Games.{IsTree, node_at, is_first_child, is_searched, numbers}
+use Rattle.cq_position.specs.Search.{SearchedTree}
+use Rattle.cq_position.proofs.WaysUp.{searched_up, parent_before}
+use Rattle.cql_lines.specs.Automata.{places as automaton_places}
+use Rattle.cql_lines.specs.Building.{AtomsBelow}
+use Rattle.cql_lines.specs.PatternTrees.{pattern_tree, pattern_trees}
+use Rattle.cql_lines.specs.Shapes as shapes
+use Rattle.cql_lines.specs.Shapes.{joined_by, Edge, searched_count}
+use Rattle.cql_lines.specs.Tables.{atoms_of, nodes_of, words_of, holds, holds_in}
+use Rattle.cql_lines.specs.Values as values
+use Rattle.cql_lines.specs.Values.{AnswerAt}
+use Rattle.cql_lines.specs.declared.pattern.Pattern.{Pattern as Given}
+use Rattle.cql_lines.specs.declared.shape.Limits.{Limits}
+use Rattle.cql_lines.specs.declared.shape.Spot.{Spot}
+use Rattle.cql_lines.specs.declared.table.AtomTable.{AtomTable}
+use Rattle.cql_syntax.specs.Meaning.{Names, marked, value, pattern, body_pattern, line_of, line_value}
+use Rattle.cql_syntax.specs.Places.{copies, parts_places, body_places}
+use Rattle.cql_syntax.specs.TabledLines.{Tabled, Searched, IsAsked, AreParents, Joins}
+use Rattle.cql_syntax.specs.TreeOf.{body_tree, part_trees, parts_tree, line_tree}
+use Rattle.cql_syntax.specs.Trees.{FilterTree, PartTrees, no_parts, more_parts, BodyTree, atom, group}
+use Rattle.cql_syntax.specs.Values.{Value, as_number, holds as value_holds}
+use Rattle.cql_syntax.specs.declared.extents.Extent.{Extent}
+use Rattle.cql_syntax.specs.declared.extents.Extent.TheVariants.{Any, Within}
+use Rattle.cql_syntax.specs.declared.leaves.Mark.{Mark}
+use Rattle.cql_syntax.specs.declared.leaves.Mark.TheVariants.{Once, Star, Plus, Maybe, Times}
+use Rattle.cql_syntax.specs.declared.tree.Constituent.{Constituent}
+use Rattle.cql_syntax.specs.declared.tree.Line.{Line as OneLine, Line', out-Line}
+use Rattle.cql_eval.specs.Columns.{is_live, shown, IsColumn}
+use Rattle.cql_eval.specs.Costs.{filter_cost, line_cost, parts_atoms, body_atoms, parts_cost, body_cost}
+use Rattle.cql_eval.specs.FlatTrees.{IsFlatLine, AreFlatParts, IsFlatBody, IsFlat}
+use Rattle.cql_eval.specs.LineAtoms.{AreAllAsked, parts_numbered, body_numbered, limits_in, spot_at, AreClearFrom, IsPut, IsFilledIn, AreTabled}
+use Rattle.cql_eval.specs.declared.filter_column.FilterColumn.{FilterColumn}
+use Rattle.cql_eval.proofs.Filling.{split_last, live_below}
+use Rattle.cql_syntax.proofs.TabledLines.{lines_are_theirs}
+
+-- as many places as the line has, and no more atoms
+
+at_least_one : (n : ℕ) → max 1 (suc n) ≡ suc n
+at_least_one n = suc-max-suc 0 n ∙ ap suc (zero-max n)
+
+times_one : (n : ℕ) → n ≡ 1 * n
+times_one n = omega arith
+
+marked_places : (m : Mark) (p : Pattern ℕ) → automaton_places (marked m p) ≡ copies m * automaton_places p
+marked_places Once p = times_one (automaton_places p)
+marked_places Star p = times_one (automaton_places p)
+marked_places Plus p = times_one (automaton_places p)
+marked_places Maybe p = refl
+marked_places (Times least zero) p = times_one (automaton_places p)
+marked_places (Times least (suc n)) p = ap (λ k. k * automaton_places p) (sym (at_least_one n))
+
+times_more : (c x : ℕ) → 1 ≤ c → x ≤ c * x
+times_more zero x h = absurd (omega (arith, h))
+times_more (suc k) x h = let e : suc k * x ≡ k * x + x = grind arith in omega (arith, e)
+
+some_copies : (m : Mark) → 1 ≤ copies m
+some_copies Once = omega arith
+some_copies Star = omega arith
+some_copies Plus = omega arith
+some_copies Maybe = omega arith
+some_copies (Times least zero) = omega arith
+some_copies (Times least (suc n)) = let e = at_least_one n in omega (arith, e)
+
+mutual
+  parts_same : (k : ℕ) (cs : PartTrees) → automaton_places (parts_numbered k cs) ≡ parts_places cs
+  parts_same k no_parts = refl
+  parts_same k (more_parts body mark cs) =
+      ap₂ (λ a b. a + b) (marked_places mark (body_numbered k body) ∙ ap (λ n. copies mark * n) (body_same k body)) (parts_same (k + body_atoms body) cs)
+
+  body_same : (k : ℕ) (b : BodyTree) → automaton_places (body_numbered k b) ≡ body_places b
+  body_same k (atom f) = refl
+  body_same k (group cs) = parts_same k cs
+
+mutual
+  parts_few : (cs : PartTrees) → parts_atoms cs ≤ parts_places cs
+  parts_few no_parts = omega arith
+  parts_few (more_parts body mark cs) =
+      let here = body_few body in
+      let copied = times_more (copies mark) (body_places body) (some_copies mark) in
+      let rest = parts_few cs in
+      omega (arith, here, copied, rest)
+
+  body_few : (b : BodyTree) → body_atoms b ≤ body_places b
+  body_few (atom f) = omega arith
+  body_few (group cs) = parts_few cs
+
+pub few_atoms : (cs : PartTrees) → parts_places cs ≤ 64 → parts_atoms cs ≤ 64
+few_atoms cs h = omega (arith, parts_few cs, h)
+
+pub few_places : (cs : PartTrees) (p : Pattern ℕ) → p ≡ parts_numbered 0 cs → parts_places cs ≤ 64 → automaton_places p ≤ 64
+few_places cs p is h = omega (arith, ap automaton_places is, parts_same 0 cs, h)
+
+marked_below : (m : Mark) (p : Pattern ℕ) (n : ℕ) → AtomsBelow p n → AtomsBelow (marked m p) n
+marked_below Once p n h = h
+marked_below Star p n h = h
+marked_below Plus p n h = h
+marked_below Maybe p n h = h
+marked_below (Times least most) p n h = h
+
+mutual
+  parts_below : (k n : ℕ) (cs : PartTrees) → k + parts_atoms cs ≤ n → AtomsBelow (parts_numbered k cs) n
+  parts_below k n no_parts h = tt
+  parts_below k n (more_parts body mark cs) h = (
+    marked_below mark (body_numbered k body) n (body_below k n body (omega (arith, h))),
+    parts_below (k + body_atoms body) n cs (omega (arith, h)),
+  )
+
+  body_below : (k n : ℕ) (b : BodyTree) → k + body_atoms b ≤ n → AtomsBelow (body_numbered k b) n
+  body_below k n (atom f) h = omega (arith, h)
+  body_below k n (group cs) h = parts_below k n cs h
+
+pub atoms_below : (cs : PartTrees) (p : Pattern ℕ) (n : ℕ) → p ≡ parts_numbered 0 cs → parts_atoms cs ≤ n → AtomsBelow p n
+atoms_below cs p n is h = subst (λ q. AtomsBelow q n) (sym is) (parts_below 0 n cs (omega (arith, h)))
+
+-- what is left of parts in a row
+
+drop_parts : (xs : List Constituent) (i : ℕ) (c : Constituent) → i < length xs → c ≡ get_or xs i c → part_trees (drop i xs) ≡ more_parts (body_tree c.body) c.mark (part_trees (drop (i + 1) xs))
+drop_parts [] zero c h e = absurd (omega (arith, h))
+drop_parts [] (suc i) c h e = absurd (omega (arith, h))
+drop_parts (x ∷ xs) zero c h e = ap (λ (y : Constituent). more_parts (body_tree y.body) y.mark (part_trees xs)) (sym e)
+drop_parts (x ∷ xs) (suc i) c h e = drop_parts xs i c (omega (arith, h)) e
+
+drop_all : (xs : List Constituent) (i : ℕ) → length xs ≤ i → part_trees (drop i xs) ≡ no_parts
+drop_all [] zero h = refl
+drop_all [] (suc i) h = refl
+drop_all (x ∷ xs) zero h = absurd (omega (arith, h))
+drop_all (x ∷ xs) (suc i) h = drop_all xs i (omega (arith, h))
+
+pub part_flat : (xs : List Constituent) (i : ℕ) (c : Constituent) (cs : PartTrees) → i < length xs → c ≡ get_or xs i c → part_trees xs ≡ cs → AreFlatParts cs → IsFlatBody (body_tree c.body)
+part_flat xs i c cs below is same flat = at xs i c below is (subst AreFlatParts (sym same) flat)
+  where
+    at : (ys : List Constituent) (k : ℕ) (g : Constituent) → k < length ys → g ≡ get_or ys k g → AreFlatParts (part_trees ys) → IsFlatBody (body_tree g.body)
+    unfolding IsFlat
+    at [] zero g h e all = absurd (omega (arith, h))
+    at [] (suc k) g h e all = absurd (omega (arith, h))
+    at (y ∷ ys) zero g h e all = subst (λ (x : Constituent). IsFlatBody (body_tree x.body)) (sym e) all.0
+    at (y ∷ ys) (suc k) g h e all = at ys k g (omega (arith, h)) e all.1
+
+-- the atoms that are left after some parts
+pub atoms_left : (xs : List Constituent) (i : ℕ) (c : Constituent) → i < length xs → c ≡ get_or xs i c
+    → parts_atoms (part_trees (drop i xs)) ≡ body_atoms (body_tree c.body) + parts_atoms (part_trees (drop (i + 1) xs))
+atoms_left xs i c h e = ap parts_atoms (drop_parts xs i c h e)
+
+pub atoms_end : (xs : List Constituent) (i : ℕ) → length xs ≤ i → parts_atoms (part_trees (drop i xs)) ≡ 0
+atoms_end xs i h = ap parts_atoms (drop_all xs i h)
+
+-- The pattern of parts one by one: what the patterns so far spell, followed by the pattern of the parts that are left.
+
+abbrev pub followed_by : Pattern ℕ → List Given → Pattern ℕ
+followed_by q [] = q
+followed_by q (p ∷ ps) = joined (pattern_tree p) (followed_by q ps)
+
+followed_none : (ps : List Given) → followed_by nothing ps ≡ pattern_trees ps
+followed_none [] = refl
+followed_none (p ∷ ps) = ap (joined (pattern_tree p)) (followed_none ps)
+
+followed_snoc : (q : Pattern ℕ) (ps : List Given) (p : Given) → followed_by q (ps ++ p ∷ []) ≡ followed_by (joined (pattern_tree p) q) ps
+followed_snoc q [] p = refl
+followed_snoc q (x ∷ ps) p = ap (joined (pattern_tree x)) (followed_snoc q ps p)
+
+pub record PatternSoFar (first : ℕ) (xs : List Constituent) (i next : ℕ) (ps : List Given) : Type 0 where
+  pub whole : followed_by (parts_numbered next (part_trees (drop i xs))) ps ≡ parts_numbered first (part_trees xs)
+  pub count : next + parts_atoms (part_trees (drop i xs)) ≡ first + parts_atoms (part_trees xs)
+
+pub pattern_begun : (first : ℕ) (xs : List Constituent) (ps : List Given) → ps ≡ [] → PatternSoFar first xs 0 first ps
+pattern_begun first xs ps is = record { whole = ap (followed_by (parts_numbered first (part_trees (drop 0 xs)))) is ∙ ap (λ ys. parts_numbered first (part_trees ys)) (drop_none xs); count = ap (λ ys. first + parts_atoms (part_trees ys)) (drop_none xs) }
+  where
+    drop_none : (ys : List Constituent) → drop 0 ys ≡ ys
+    drop_none [] = refl
+    drop_none (y ∷ ys) = refl
+
+pub pattern_more : (first : ℕ) (xs : List Constituent) (i : ℕ) (c : Constituent) (next later : ℕ) (ps more : List Given) (p q : Given) → i < length xs → c ≡ get_or xs i c
+    → pattern_tree q ≡ body_numbered next (body_tree c.body) → pattern_tree p ≡ marked c.mark (pattern_tree q) → later ≡ next + body_atoms (body_tree c.body) → more ≡ ps ++ p ∷ []
+    → PatternSoFar first xs i next ps → PatternSoFar first xs (i + 1) later more
+pattern_more first xs i c next later ps more p q below is body mark on new had = record {
+  whole = ap (followed_by (parts_numbered later (part_trees (drop (i + 1) xs)))) new ∙ followed_snoc (parts_numbered later (part_trees (drop (i + 1) xs))) ps p
+      ∙ ap₂ (λ (a : Pattern ℕ) (n : ℕ). followed_by (joined a (parts_numbered n (part_trees (drop (i + 1) xs)))) ps) (mark ∙ ap (marked c.mark) body) on
+      ∙ ap (λ cs. followed_by (parts_numbered next cs) ps) (sym (drop_parts xs i c below is)) ∙ had.whole;
+  count = (let e = atoms_left xs i c below is in omega (arith, e, on, had.count));
+}
+
+pub pattern_all : (first : ℕ) (xs : List Constituent) (i next : ℕ) (ps : List Given) (cs : PartTrees) → length xs ≤ i → part_trees xs ≡ cs → PatternSoFar first xs i next ps → pattern_trees ps ≡ parts_numbered first cs
+pattern_all first xs i next ps cs end same had = sym (followed_none ps) ∙ ap (λ ds. followed_by (parts_numbered next ds) ps) (sym (drop_all xs i end)) ∙ had.whole ∙ ap (parts_numbered first) same
+
+pub next_all : (first : ℕ) (xs : List Constituent) (i next : ℕ) (ps : List Given) (cs : PartTrees) → length xs ≤ i → part_trees xs ≡ cs → PatternSoFar first xs i next ps → next ≡ first + parts_atoms cs
+next_all first xs i next ps cs end same had = let e = atoms_end xs i end in let s = ap parts_atoms same in omega (arith, e, s, had.count)
+
+-- the atoms of a table
+
+module _ (test : ℕ → ℕ → Bool) (Reach : ℕ → Type 0) where
+  tabled_marked : (m : Mark) (p : Pattern ℕ) (r : Pattern (ℕ → Value)) → Tabled test Reach p r → Tabled test Reach (marked m p) (marked m r)
+  tabled_marked Once p r h = h
+  tabled_marked Star p r h = (refl, refl, h)
+  tabled_marked Plus p r h = (refl, refl, h)
+  tabled_marked Maybe p r h = (refl, refl, h)
+  tabled_marked (Times least most) p r h = (refl, refl, h)
+
+-- what is left of the parts tells the whole, given the table of those so far
+abbrev pub TellsAll : SearchedTree → Names → ℕ → PartTrees → ℕ → PartTrees → AtomTable → Type 0
+TellsAll tree e first whole at rest table =
+    (test : ℕ → ℕ → Bool) → ((a n : ℕ) → a < at → test a n ≡ holds_in table a n) → Tabled test (IsAsked tree) (parts_numbered at rest) (pattern tree [] e rest)
+    → Tabled test (IsAsked tree) (parts_numbered first whole) (pattern tree [] e whole)
+
+tells_next : (tree : SearchedTree) (e : Names) (first at : ℕ) (whole : PartTrees) (body : BodyTree) (mark : Mark) (rest : PartTrees) (old new : AtomTable)
+    → AreTabled tree new (at + body_atoms body) (body_numbered at body) (body_pattern tree [] e body) → IsFilledIn old new at (at + body_atoms body)
+    → TellsAll tree e first whole at (more_parts body mark rest) old → TellsAll tree e first whole (at + body_atoms body) rest new
+unfolding pattern
+tells_next tree e first at whole body mark rest old new tabled filled had test same last =
+    had test (λ a n h. same a n (omega (arith, h)) ∙ filled.before a n h)
+    (tabled_marked test (IsAsked tree) mark (body_numbered at body) (body_pattern tree [] e body) (tabled test same), last)
+
+tells_end : (tree : SearchedTree) (e : Names) (first at : ℕ) (whole : PartTrees) (table : AtomTable) → TellsAll tree e first whole at no_parts table → AreTabled tree table at (parts_numbered first whole) (pattern tree [] e whole)
+unfolding pattern
+tells_end tree e first at whole table had test same = had test same tt
+
+pub record TableSoFar (tree : SearchedTree) (e : Names) (first : ℕ) (xs : List Constituent) (i at : ℕ) (old table : AtomTable) : Type 0 where
+  pub tells : TellsAll tree e first (part_trees xs) at (part_trees (drop i xs)) table
+  pub filled : IsFilledIn old table first at
+  pub count : at + parts_atoms (part_trees (drop i xs)) ≡ first + parts_atoms (part_trees xs)
+  pub beyond : first ≤ at
+
+pub table_begun : (tree : SearchedTree) (e : Names) (first : ℕ) (xs : List Constituent) (table : AtomTable) → TableSoFar tree e first xs 0 first table table
+table_begun tree e first [] table = record { tells = λ test same last. last; filled = record { atoms = refl; nodes = refl; before = λ a n h. refl; after = λ a n h. refl }; count = refl; beyond = omega arith }
+table_begun tree e first (x ∷ xs) table = record { tells = λ test same last. last; filled = record { atoms = refl; nodes = refl; before = λ a n h. refl; after = λ a n h. refl }; count = refl; beyond = omega arith }
+
+pub table_more : (tree : SearchedTree) (e : Names) (first : ℕ) (xs : List Constituent) (i : ℕ) (c : Constituent) (at later : ℕ) (old table new : AtomTable) → i < length xs → c ≡ get_or xs i c
+    → later ≡ at + body_atoms (body_tree c.body) → AreTabled tree new (at + body_atoms (body_tree c.body)) (body_numbered at (body_tree c.body)) (body_pattern tree [] e (body_tree c.body))
+    → IsFilledIn table new at (at + body_atoms (body_tree c.body)) → TableSoFar tree e first xs i at old table → TableSoFar tree e first xs (i + 1) later old new
+table_more tree e first xs i c at later old table new below is on tabled filled had = record {
+  tells = subst (λ k. TellsAll tree e first (part_trees xs) k (part_trees (drop (i + 1) xs)) new) (sym on)
+      (tells_next tree e first at (part_trees xs) (body_tree c.body) c.mark (part_trees (drop (i + 1) xs)) table new tabled filled
+      (subst (λ cs. TellsAll tree e first (part_trees xs) at cs table) (drop_parts xs i c below is) had.tells));
+  filled = record {
+    atoms = filled.atoms ∙ had.filled.atoms;
+    nodes = filled.nodes ∙ had.filled.nodes;
+    before = λ a n h. filled.before a n (omega (arith, h, had.beyond)) ∙ had.filled.before a n h;
+    after = λ a n h. filled.after a n (omega (arith, h, on)) ∙ had.filled.after a n (omega (arith, h, on));
+  };
+  count = (let l = atoms_left xs i c below is in omega (arith, l, on, had.count));
+  beyond = omega (arith, had.beyond, on);
+}
+
+pub table_all : (tree : SearchedTree) (e : Names) (first : ℕ) (xs : List Constituent) (i at : ℕ) (old table : AtomTable) (cs : PartTrees) → length xs ≤ i → part_trees xs ≡ cs → TableSoFar tree e first xs i at old table
+    → AreTabled tree table (first + parts_atoms cs) (parts_numbered first cs) (pattern tree [] e cs)
+table_all tree e first xs i at old table cs end same had =
+    subst (λ ds. AreTabled tree table (first + parts_atoms ds) (parts_numbered first ds) (pattern tree [] e ds)) same
+    (subst (λ k. AreTabled tree table k (parts_numbered first (part_trees xs)) (pattern tree [] e (part_trees xs))) (let l = atoms_end xs i end in omega (arith, l, had.count))
+    (tells_end tree e first at (part_trees xs) table (subst (λ ds. TellsAll tree e first (part_trees xs) at ds table) (drop_all xs i end) had.tells)))
+
+pub filled_all : (tree : SearchedTree) (e : Names) (first : ℕ) (xs : List Constituent) (i at : ℕ) (old table : AtomTable) (cs : PartTrees) → length xs ≤ i → part_trees xs ≡ cs → TableSoFar tree e first xs i at old table
+    → IsFilledIn old table first (first + parts_atoms cs)
+filled_all tree e first xs i at old table cs end same had =
+    subst (IsFilledIn old table first) (let l = atoms_end xs i end in let s = ap parts_atoms same in omega (arith, l, s, had.count)) had.filled
+
+pub at_all : (tree : SearchedTree) (e : Names) (first : ℕ) (xs : List Constituent) (i at : ℕ) (old table : AtomTable) (cs : PartTrees) → length xs ≤ i → part_trees xs ≡ cs → TableSoFar tree e first xs i at old table → at ≡ first + parts_atoms cs
+at_all tree e first xs i at old table cs end same had = let l = atoms_end xs i end in let s = ap parts_atoms same in omega (arith, l, s, had.count)
+
+pub still_clear : (old table : AtomTable) (first at : ℕ) → first ≤ at → AreClearFrom old first → IsFilledIn old table first at → AreClearFrom table at
+still_clear old table first at beyond clear filled a n h = filled.after a n h ∙ clear a n (omega (arith, h, beyond))
+
+-- one atom
+
+pub record PutUpTo (test : ℕ → Bool) (which k : ℕ) (old table : AtomTable) : Type 0 where
+  pub put : (n : ℕ) → n < k → holds_in table which n ≡ test n
+  pub later : (n : ℕ) → k ≤ n → holds_in table which n ≡ false
+  pub filled : IsFilledIn old table which (which + 1)
+
+pub put_begun : (test : ℕ → Bool) (which : ℕ) (table : AtomTable) → ((n : ℕ) → holds_in table which n ≡ false) → PutUpTo test which 0 table table
+put_begun test which table clear = record {
+  put = λ n h. absurd (omega (arith, h));
+  later = λ n h. clear n;
+  filled = record { atoms = refl; nodes = refl; before = λ a n h. refl; after = λ a n h. refl };
+}
+
+or_none : (b c : Bool) → c ≡ false → (b || c) ≡ b
+or_none true c e = refl
+or_none false c e = e
+
+pub put_more : (test : ℕ → Bool) (which k : ℕ) (there : Bool) (old table new : AtomTable) → there ≡ test k → IsPut which k there table new → PutUpTo test which k old table → PutUpTo test which (k + 1) old new
+put_more test which k there old table new is step had = record {
+  put = λ n h. ⊎_elim
+      (λ less. step.others which n (λ e. omega (arith, e.1, less)) ∙ had.put n less)
+      (λ same. ap (holds_in new which) same ∙ step.here ∙ or_none there (holds_in table which k) (had.later k (omega arith)) ∙ is ∙ ap test (sym same))
+      (split_last n k h);
+  later = λ n h. step.others which n (λ e. omega (arith, e.1, h)) ∙ had.later n (omega (arith, h));
+  filled = record {
+    atoms = step.atoms ∙ had.filled.atoms;
+    nodes = step.nodes ∙ had.filled.nodes;
+    before = λ a n h. step.others a n (λ e. omega (arith, e.0, h)) ∙ had.filled.before a n h;
+    after = λ a n h. step.others a n (λ e. omega (arith, e.0, h)) ∙ had.filled.after a n h;
+  };
+}
+
+pub atom_tabled : (tree : SearchedTree) (table : AtomTable) (which : ℕ) (c : FilterColumn) (v : ℕ → Value) (all given : List Bool) → AreAllAsked tree all → given ≡ all → IsColumn c all v
+    → ((n : ℕ) → n < length tree.game.nodes → holds_in table which n ≡ (is_live given n && value_holds (shown c n))) → AreTabled tree table (which + 1) (one which) (one v)
+atom_tabled tree table which c v all given every is column put test same n asked =
+    let live = every.covers n asked in
+    same which n (omega arith) ∙ put n asked.1 ∙ ap (λ l. is_live l n && value_holds (shown c n)) is ∙ ap (λ b. b && value_holds (shown c n)) live ∙ ap value_holds (column n live)
+
+-- the tree of a game
+
+spot_there : (tree : SearchedTree) (count : ℕ) (p : ℕ) → p < count → slice_get (map (spot_at tree) (range_with_len 0 count)) p ≡ Some (spot_at tree p)
+spot_there tree count p h =
+    slice_get-get_or (map (spot_at tree) (range_with_len 0 count)) p (spot_at tree p) (let e = length-map-range_with_len (spot_at tree) 0 count in omega (arith, h, e))
+    ∙ ap Some (get_or-map-range_with_len (spot_at tree) 0 count p p (spot_at tree p) h (omega arith))
+
+pub parent_in : (tree : SearchedTree) (k : ℕ) (spots : List Spot) (o : Option ℕ) → IsTree tree.game.nodes → spots ≡ map (spot_at tree) (range_with_len 0 k) → o ≡ (node_at tree.game.nodes k).parent
+    → IfSome o (λ p. p < length spots)
+parent_in tree k spots None is_tree is here = tt
+parent_in tree k spots (Some p) is_tree is here =
+    let b = parent_before tree.game.nodes k p is_tree (sym here) in
+    let e = ap length is ∙ length-map-range_with_len (spot_at tree) 0 k in
+    omega (arith, b.0, e)
+
+pub searched_in : (tree : SearchedTree) (k : ℕ) (spots : List Spot) (o : Option ℕ) (there : Bool) → IsTree tree.game.nodes → spots ≡ map (spot_at tree) (range_with_len 0 k) → o ≡ (node_at tree.game.nodes k).parent
+    → there ≡ is_searched tree.variations tree.game.nodes k → IfSome o (λ p. there ≡ true → shapes.is_searched spots p ≡ true)
+searched_in tree k spots None there is_tree is here s = tt
+searched_in tree k spots (Some p) there is_tree is here s = λ e.
+    let b = parent_before tree.game.nodes k p is_tree (sym here) in
+    ap (λ xs. shapes.is_searched xs p) is ∙ ap shapes.searched_by (spot_there tree k p b.0) ∙ searched_up tree.variations tree.game.nodes k p is_tree (sym here) (sym s ∙ e)
+
+joined_to : (searched first primary : Bool) (o : Option ℕ) (p : ℕ) → (if searched && (first || not primary) then o else None) ≡ Some p
+    → (searched ≡ true) × (o ≡ Some p) × (primary ≡ true → first ≡ true)
+joined_to false first primary o p e = cc
+joined_to true true primary o p e = (refl, e, λ h. refl)
+joined_to true false true o p e = cc
+joined_to true false false o p e = (refl, e, λ h. h)
+
+to_join : (searched first primary : Bool) (o : Option ℕ) (p : ℕ) → searched ≡ true → o ≡ Some p → (primary ≡ true → first ≡ true) → (if searched && (first || not primary) then o else None) ≡ Some p
+to_join false first primary o p s e f = cc
+to_join true true primary o p s e f = e
+to_join true false true o p s e f = absurd (let x : false ≡ true = f refl in cc)
+to_join true false false o p s e f = e
+
+-- the nodes of a game as a line's tree has them
+abbrev spots_in : SearchedTree → List Spot
+spots_in tree = map (spot_at tree) (numbers tree.game.nodes)
+
+spots_join : (tree : SearchedTree) (primary : Bool) → IsTree tree.game.nodes → AreParents tree primary (shapes.joined primary (spots_in tree))
+spots_join tree primary is_tree = record { are_parents = are; all_parents = all }
+  where
+    are : (n p : ℕ) → shapes.joined primary (spots_in tree) n ≡ Some p → Searched tree n × ((node_at tree.game.nodes n).parent ≡ Some p) × (primary ≡ true → is_first_child tree.game.nodes n ≡ true)
+    are n p e = ⊎_elim
+        (λ there. joined_to (is_searched tree.variations tree.game.nodes n) (is_first_child tree.game.nodes n) primary (node_at tree.game.nodes n).parent p
+        (sym (ap (joined_by primary) (spot_there tree (length tree.game.nodes) n (let l = length-map-range_with_len (spot_at tree) 0 (length tree.game.nodes) in omega (arith, there.1, l)))) ∙ e))
+        (λ past. absurd (let x : None ≡ Some p = sym (ap (joined_by primary) past.1) ∙ e in cc))
+        (slice_get_cases (spots_in tree) n).1
+
+    all : (n p : ℕ) → Searched tree n → (node_at tree.game.nodes n).parent ≡ Some p → (primary ≡ true → is_first_child tree.game.nodes n ≡ true) → shapes.joined primary (spots_in tree) n ≡ Some p
+    all n p s e f =
+        ap (joined_by primary) (spot_there tree (length tree.game.nodes) n (parent_before tree.game.nodes n p is_tree e).1)
+        ∙ to_join (is_searched tree.variations tree.game.nodes n) (is_first_child tree.game.nodes n) primary (node_at tree.game.nodes n).parent p s e f
+
+answer_there : (b : Bool) (P : ℕ → Type 0) (o : Option ℕ) → b ≡ true → AnswerAt b P o → IsGreatest P o
+answer_there true P o e h = h
+answer_there false P o e h = cc
+
+greatest_is : (tree : SearchedTree) → IsTree tree.game.nodes → (back primary : Bool) (extent : Extent) (table : AtomTable) (p : Pattern ℕ) (r : Pattern (ℕ → Value)) → Tabled (holds_in table) (IsAsked tree) p r
+    → (n : ℕ) → IsAsked tree n → (o : Option ℕ)
+    → IsGreatest (λ len. Line (holds_in table) (Edge back primary (spots_in tree)) p n len × (values.allows (limits_in extent) len ≡ true)) o
+    → as_number (option_map pos o) ≡ line_of tree back primary extent r n
+greatest_is tree is_tree true primary Any table p r tabled n asked o g = lines_are_theirs tree is_tree true primary (shapes.joined primary (spots_in tree)) (spots_join tree primary is_tree) Any (holds_in table) p r tabled n asked o g
+greatest_is tree is_tree false primary Any table p r tabled n asked o g = lines_are_theirs tree is_tree false primary (shapes.joined primary (spots_in tree)) (spots_join tree primary is_tree) Any (holds_in table) p r tabled n asked o g
+greatest_is tree is_tree true primary (Within least most) table p r tabled n asked o g = lines_are_theirs tree is_tree true primary (shapes.joined primary (spots_in tree)) (spots_join tree primary is_tree) (Within least most) (holds_in table) p r tabled n asked o g
+greatest_is tree is_tree false primary (Within least most) table p r tabled n asked o g = lines_are_theirs tree is_tree false primary (shapes.joined primary (spots_in tree)) (spots_join tree primary is_tree) (Within least most) (holds_in table) p r tabled n asked o g
+
+abbrev Wanted : AtomTable → Pattern ℕ → ℕ → Option ℕ → List Spot → Bool → Bool → Option Limits → Type 0
+Wanted table p n o xs x y z = IsGreatest (λ len. Line (holds_in table) (Edge x y xs) p n len × (values.allows z len ≡ true)) o
+
+-- the value at a searched node, by the parts of the shape that was made of the game
+pub line_value_is : (tree : SearchedTree) → IsTree tree.game.nodes → (back primary : Bool) (extent : Extent) (spots : List Spot) (b q : Bool) (l : Option Limits) → spots ≡ map (spot_at tree) (numbers tree.game.nodes) → b ≡ back → q ≡ primary → l ≡ limits_in extent
+    → (table : AtomTable) (p : Pattern ℕ) (r : Pattern (ℕ → Value)) → Tabled (holds_in table) (IsAsked tree) p r → (n : ℕ) → IsAsked tree n → (o : Option ℕ)
+    → AnswerAt (shapes.is_searched spots n) (λ len. Line (holds_in table) (Edge b q spots) p n len × (values.allows l len ≡ true)) o
+    → as_number (option_map pos o) ≡ line_of tree back primary extent r n
+line_value_is tree is_tree back primary extent spots b q l are is_back is_primary is_limits table p r tabled n asked o answer =
+    greatest_is tree is_tree back primary extent table p r tabled n asked o
+    (subst (λ x. Wanted table p n o (spots_in tree) back primary x) is_limits (subst (λ x. Wanted table p n o (spots_in tree) back x l) is_primary (subst (λ x. Wanted table p n o (spots_in tree) x q l) is_back (subst (λ x. Wanted table p n o x b q l) are
+    (answer_there (shapes.is_searched spots n) (λ len. Line (holds_in table) (Edge b q spots) p n len × (values.allows l len ≡ true)) o
+    (ap (λ xs. shapes.is_searched xs n) are ∙ ap shapes.searched_by (spot_there tree (length tree.game.nodes) n asked.1) ∙ asked.0) answer)))))
+
+-- the steps of a line
+
+times_within : (a c n : ℕ) → c ≤ n → a * c ≤ a * n
+times_within zero c n h = omega arith
+times_within (suc a) c n h = let e : suc a * c ≡ a * c + c = grind arith in let f : suc a * n ≡ a * n + n = grind arith in omega (arith, e, f, times_within a c n h, h)
+
+pub looks_within : (tree : SearchedTree) (atoms : ℕ) (spots : List Spot) → spots ≡ map (spot_at tree) (numbers tree.game.nodes) → atoms * searched_count spots ≤ atoms * length tree.game.nodes
+looks_within tree atoms spots is =
+    times_within atoms (searched_count spots) (length tree.game.nodes)
+    (let e = ap length is ∙ length-map-range_with_len (spot_at tree) 0 (length tree.game.nodes) in omega (arith, count_by-le-length (λ (s : Spot). s.searched) spots, e))
+
+drop_costs : (nodes : ℕ) (xs : List Constituent) (i : ℕ) (c : Constituent) → i < length xs → c ≡ get_or xs i c
+    → parts_cost nodes (part_trees (drop i xs)) ≡ body_cost nodes (body_tree c.body) + parts_cost nodes (part_trees (drop (i + 1) xs))
+unfolding filter_cost
+drop_costs nodes xs i c below is = ap (parts_cost nodes) (drop_parts xs i c below is)
+
+pub parts_cost_more : (nodes : ℕ) (xs : List Constituent) (i : ℕ) (c : Constituent) (before now later : ℕ) → i < length xs → c ≡ get_or xs i c
+    → now + parts_cost nodes (part_trees (drop i xs)) ≤ before + parts_cost nodes (part_trees xs) → later ≤ now + body_cost nodes (body_tree c.body)
+    → later + parts_cost nodes (part_trees (drop (i + 1) xs)) ≤ before + parts_cost nodes (part_trees xs)
+parts_cost_more nodes xs i c before now later below is had new = omega (arith, drop_costs nodes xs i c below is, had, new)
+
+pub parts_cost_within : (nodes : ℕ) (xs : List Constituent) (i : ℕ) (c : Constituent) (before now later : ℕ) (cs : PartTrees) → i < length xs → c ≡ get_or xs i c
+    → now + parts_cost nodes (part_trees (drop i xs)) ≤ before + parts_cost nodes (part_trees xs) → later ≤ now + body_cost nodes (body_tree c.body) → part_trees xs ≡ cs
+    → later ≤ before + parts_cost nodes cs
+parts_cost_within nodes xs i c before now later cs below is had new same = omega (arith, drop_costs nodes xs i c below is, had, new, ap (parts_cost nodes) same)
+
+-- a line as its fields
+
+pub line_flat : (l : OneLine) → IsFlatLine (line_tree l) → (parts_places (parts_tree (out-Line l).parts) ≤ 64) × AreFlatParts (parts_tree (out-Line l).parts)
+unfolding IsFlat out-Line Carrier.out
+line_flat (Line' back primary extent cs) h = h
+
+line_costs : (nodes : ℕ) (l : OneLine) → line_cost nodes (line_tree l) ≡ parts_atoms (parts_tree (out-Line l).parts) * nodes + parts_cost nodes (parts_tree (out-Line l).parts)
+unfolding filter_cost out-Line Carrier.out
+line_costs nodes (Line' back primary extent cs) = refl
+
+pub atoms_within : (nodes : ℕ) (l : OneLine) (before now : ℕ) → now ≤ before + parts_cost nodes (parts_tree (out-Line l).parts) → now ≤ before + line_cost nodes (line_tree l)
+atoms_within nodes l before now h = omega (arith, line_costs nodes l, h)
+
+pub looks_in : (tree : SearchedTree) (l : OneLine) (before now later atoms : ℕ) (spots : List Spot) → spots ≡ map (spot_at tree) (numbers tree.game.nodes) → atoms ≡ parts_atoms (parts_tree (out-Line l).parts)
+    → now ≤ before + parts_cost (length tree.game.nodes) (parts_tree (out-Line l).parts) → later ≤ now + atoms * searched_count spots → later ≤ before + line_cost (length tree.game.nodes) (line_tree l)
+looks_in tree l before now later atoms spots is count h more =
+    omega (arith, line_costs (length tree.game.nodes) l, h, more, looks_within tree atoms spots is, ap (λ a. a * length tree.game.nodes) count)
+
+pub numbers_are : (tree : SearchedTree) → IsTree tree.game.nodes → (e : Names) (l : OneLine) (spots : List Spot) (b q : Bool) (limits : Option Limits) → spots ≡ map (spot_at tree) (numbers tree.game.nodes)
+    → b ≡ (out-Line l).back → q ≡ (out-Line l).primary → limits ≡ limits_in (out-Line l).extent → (table : AtomTable) (p : Pattern ℕ) → p ≡ parts_numbered 0 (parts_tree (out-Line l).parts)
+    → AreTabled tree table (0 + parts_atoms (parts_tree (out-Line l).parts)) (parts_numbered 0 (parts_tree (out-Line l).parts)) (pattern tree [] e (parts_tree (out-Line l).parts))
+    → (wide : List (Option ℤ)) (found : List (Option ℕ)) → wide ≡ map (option_map pos) found → (n : ℕ) → IsAsked tree n
+    → AnswerAt (shapes.is_searched spots n) (λ len. Line (holds_in table) (Edge b q spots) p n len × (values.allows limits len ≡ true)) (get_or found n None)
+    → as_number (get_or wide n None) ≡ line_value tree [] e (line_tree l) n
+unfolding value out-Line Carrier.out
+numbers_are tree is_tree e (Line' back primary extent cs) spots b q limits are is_back is_primary is_limits table p is tabled wide found is_wide n asked answer =
+    ap as_number (ap (λ xs. get_or xs n None) is_wide ∙ get_or-map (option_map pos) found n None)
+    ∙ line_value_is tree is_tree back primary extent spots b q limits are is_back is_primary is_limits table p (pattern tree [] e cs)
+    (subst (λ x. Tabled (holds_in table) (IsAsked tree) x (pattern tree [] e cs)) (sym is) (tabled (holds_in table) (λ a m h. refl))) n asked (get_or found n None) answer
+
+pub table_clear : (table : AtomTable) (k : ℕ) → words_of table ≡ replicate k 0 → AreClearFrom table 0
+table_clear table k is a n h = ap (λ ws. holds ws a n) is ∙ ap (λ w. bit_at w a == 1) (zeros k n) ∙ ap (λ b. b == 1) (bit_at-zero a)
+  where
+    none : (m : ℕ) → get_or [] m 0 ≡ 0
+    none zero = refl
+    none (suc m) = refl
+
+    zeros : (j m : ℕ) → get_or (replicate j 0) m 0 ≡ 0
+    zeros zero m = none m
+    zeros (suc j) zero = refl
+    zeros (suc j) (suc m) = zeros j m
+
+pub atom_form : (tree : SearchedTree) (e : Names) (table : AtomTable) (first : ℕ) (b : BodyTree) (f : FilterTree) → b ≡ atom f → AreTabled tree table (first + 1) (one first) (one (value tree [] e f))
+    → AreTabled tree table (first + body_atoms b) (body_numbered first b) (body_pattern tree [] e b)
+unfolding value
+atom_form tree e table first b f is h = subst (λ x. AreTabled tree table (first + body_atoms x) (body_numbered first x) (body_pattern tree [] e x)) (sym is) h
+
+-- numbers of another type, one by one
+pub wide_more : (xs : List (Option ℕ)) (i : ℕ) (x : Option ℕ) (before later : List (Option ℤ)) → i < length xs → x ≡ get_or xs i x → later ≡ before ++ option_map pos x ∷ []
+    → before ≡ map (option_map pos) (take i xs) → later ≡ map (option_map pos) (take (i + 1) xs)
+wide_more xs i x before later below is more had =
+    more ∙ ap (λ l. l ++ option_map pos x ∷ []) had ∙ sym (ap (map (option_map pos)) (take_more xs i x below ∙ ap (λ y. take i xs ++ y ∷ []) (sym is)) ∙ map_snoc (option_map pos) (take i xs) x)

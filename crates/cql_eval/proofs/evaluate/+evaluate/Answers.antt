@@ -1,0 +1,433 @@
+use Rattle.std.proofs.Common.{rules, ◌≡◌, [], ◌∷◌, ◌∙◌, ap, ap₂, sym, subst, arith, refl, length, not, true, false}
+use Rattle.std.specs.Prelude.{IfOk, ◌<◌}
+use Rattle.std.specs.List.{list_all, list_any}
+use Rattle.cql_syntax.specs.Meaning.{value, values, unary_of}
+use Rattle.cql_syntax.specs.TreeOf.{filter_tree, form_tree, filters_tree, terms_tree, parts_tree, body_tree}
+use Rattle.cql_syntax.specs.Trees.{filter_at, unary, square, if_, atom}
+use Rattle.cql_syntax.specs.declared.tree.Line.{out-Line}
+use Rattle.cql_syntax.specs.Values.{holds, square_of}
+use Rattle.cql_values.specs.Trees.{searched_tree}
+use Rattle.cql_values.proofs.Evaluated.{word_here}
+use Rattle.cql_eval.specs.Columns.{AreAsked, IsColumn, shown}
+use Rattle.cql_eval.proofs.Chains.{left_begun, left_more, left_all, all_begun, all_more, none_begun, none_more, if_open, square_more, square_end, turn_all, turn_stop, unary_form, square_form, if_form}
+use Rattle.cql_eval.specs.Costs.{filter_cost, parts_atoms, body_atoms}
+use Rattle.cql_eval.specs.LineAtoms.{spot_at}
+use Rattle.cql_lines.specs.PatternTrees.{pattern_tree}
+use Rattle.cql_lines.specs.Tables.{atoms_of}
+use Rattle.cql_lines.specs.Trees.{spots_of}
+use Rattle.std.proofs.lemmas.List.{length-replicate}
+use Rattle.std.proofs.lemmas.List.FromFn.{length-map-range_with_len}
+use Rattle.cql_eval.proofs.Costing.{cost_more, cost_within, terms_cost_more, terms_cost_within, square_cost}
+use Rattle.cql_eval.proofs.Gathering.{columns_begun, columns_more, columns_all, terms_begun, terms_more, terms_all}
+use Rattle.cql_eval.proofs.Filling.{narrowed_asked, live_below}
+use Rattle.cql_eval.proofs.Lives.{none_live}
+use Rattle.cql_eval.proofs.FindLaw.{find_is}
+use Rattle.cql_eval.proofs.FlatLaw.{filter_flat, term_flat, no_family}
+use Rattle.cql_eval.proofs.LinesLaw.{few_atoms, few_places, atoms_below, part_flat, atoms_left, table_begun, table_more, table_all, filled_all, at_all, still_clear, atom_tabled, atom_form, table_clear, line_flat, numbers_are, parts_cost_more, parts_cost_within, atoms_within, looks_in}
+use Rattle.cql_eval.proofs.UnaryLaws.{find_up_is, child_holds_is, parent_holds_is}
+use Rattle.cql_eval.proofs.evaluate.+evaluate.Goals as goal
+
+pub chains::all_hold-loop-filter-init : goal.chains::all_hold-loop-filter-init
+chains::all_hold-loop-filter-init g t c = record { left = left_begun (searched_tree c.args.game.now c.args.variations) c.args.live.now _ c.in_ok-left.left.items c.requires.asked c.in_ok-left.ensures (λ n. all_begun (searched_tree c.args.game.now c.args.variations) [] c.args.names.now n c.as_slice-filter-items.result.now); cost = omega arith; rises = omega arith }
+
+pub chains::all_hold-loop-filter-preserved : goal.chains::all_hold-loop-filter-preserved
+chains::all_hold-loop-filter-preserved g t c =
+    record {
+  left = left_more (searched_tree c.args.game.now c.args.variations) c.args.live.now _ _ c.loop-filter.left.items c.deref.result.now c.deref-in-loop-filter.result.now c.in_ok-left-2.left.items c.in_ok-column.column
+    (value (searched_tree c.args.game.now c.args.variations) [] c.args.names.now (filter_tree c.filter-item.result)) true c.loop-filter.invariant.left c.deref.ensures.value c.deref-in-loop-filter.ensures.value c.in_ok-column.ensures.value c.in_ok-left-2.ensures
+    (λ n. all_more (searched_tree c.args.game.now c.args.variations) [] c.args.names.now n c.as_slice-filter-items.result.now c.loop-filter.filter-index c.filter-item.result c.loop-filter-test.true c.filter-item.is);
+  cost = cost_more (length c.args.game.now.nodes) c.as_slice-filter-items.result.now c.loop-filter.filter-index c.filter-item.result _ c.loop-filter.steps c.evaluate.new.steps c.loop-filter-test.true c.filter-item.is c.loop-filter.invariant.cost c.evaluate.ensures.cost;
+  rises = omega (arith, c.loop-filter.invariant.rises, c.evaluate.ensures.rises);
+}
+
+pub chains::all_hold-returns-clause-value : goal.chains::all_hold-returns-clause-value
+chains::all_hold-returns-clause-value g t c =
+    left_all (searched_tree c.args.game.now c.args.variations) c.args.live.now (λ fs n. list_all holds (values (searched_tree c.args.game.now c.args.variations) [] c.args.names.now fs n)) c.loop-filter.left.items c.as_slice-filter-items.result.now c.loop-filter.filter-index (filters_tree c.args.filters.now)
+    (omega (arith, c.loop-filter-test.false)) c.as_slice-filter-items.ensures.tree c.loop-filter.invariant.left
+
+pub chains::none_holds-loop-filter-init : goal.chains::none_holds-loop-filter-init
+chains::none_holds-loop-filter-init g t c = record { left = left_begun (searched_tree c.args.game.now c.args.variations) c.args.live.now _ c.in_ok-left.left.items c.requires.asked c.in_ok-left.ensures (λ n. none_begun (searched_tree c.args.game.now c.args.variations) [] c.args.names.now n c.as_slice-filter-items.result.now); cost = omega arith; rises = omega arith }
+
+pub chains::none_holds-loop-filter-preserved : goal.chains::none_holds-loop-filter-preserved
+chains::none_holds-loop-filter-preserved g t c =
+    record {
+  left = left_more (searched_tree c.args.game.now c.args.variations) c.args.live.now _ _ c.loop-filter.left.items c.deref.result.now c.deref-in-loop-filter.result.now c.in_ok-left-2.left.items c.in_ok-column.column
+    (value (searched_tree c.args.game.now c.args.variations) [] c.args.names.now (filter_tree c.filter-item.result)) false c.loop-filter.invariant.left c.deref.ensures.value c.deref-in-loop-filter.ensures.value c.in_ok-column.ensures.value c.in_ok-left-2.ensures
+    (λ n. none_more (searched_tree c.args.game.now c.args.variations) [] c.args.names.now n c.as_slice-filter-items.result.now c.loop-filter.filter-index c.filter-item.result c.loop-filter-test.true c.filter-item.is);
+  cost = cost_more (length c.args.game.now.nodes) c.as_slice-filter-items.result.now c.loop-filter.filter-index c.filter-item.result _ c.loop-filter.steps c.evaluate.new.steps c.loop-filter-test.true c.filter-item.is c.loop-filter.invariant.cost c.evaluate.ensures.cost;
+  rises = omega (arith, c.loop-filter.invariant.rises, c.evaluate.ensures.rises);
+}
+
+pub chains::none_holds-returns-clause-value : goal.chains::none_holds-returns-clause-value
+chains::none_holds-returns-clause-value g t c =
+    left_all (searched_tree c.args.game.now c.args.variations) c.args.live.now (λ fs n. not (list_any holds (values (searched_tree c.args.game.now c.args.variations) [] c.args.names.now fs n))) c.loop-filter.left.items c.as_slice-filter-items.result.now c.loop-filter.filter-index (filters_tree c.args.filters.now)
+    (omega (arith, c.loop-filter-test.false)) c.as_slice-filter-items.ensures.tree c.loop-filter.invariant.left
+
+pub squares::square_truths-loop-number-init : goal.squares::square_truths-loop-number-init
+squares::square_truths-loop-number-init g t c = record { left = left_begun (searched_tree c.args.game.now c.args.variations) c.args.live.now _ c.in_ok-left.left.items c.requires.asked c.in_ok-left.ensures (λ n. refl); cost = omega arith; rises = omega arith }
+
+pub squares::square_truths-loop-number-preserved : goal.squares::square_truths-loop-number-preserved
+squares::square_truths-loop-number-preserved g t c =
+    record {
+  left = square_more (searched_tree c.args.game.now c.args.variations) c.args.live.now c.args.every (shown c.args.squares.now) (λ n s. holds (value (searched_tree c.args.game.now c.args.variations) [] ((c.args.name.now, s) ∷ c.args.names.now) (filter_tree c.args.asked.now) n))
+    c.loop-number.number c.new-square.result c.loop-number.left.items c.in_ok-left-2.left.items c.new-square.ensures c.loop-number.invariant.left c.in_ok-left-2.ensures.value;
+  cost = square_cost (filter_cost (length c.args.game.now.nodes) (filter_tree c.args.asked.now)) c.loop-number.number _ c.loop-number.steps c.square_turn.new.steps c.loop-number-test.true c.loop-number.invariant.cost c.square_turn.ensures.cost;
+  rises = omega (arith, c.loop-number.invariant.rises, c.square_turn.ensures.rises);
+}
+
+pub squares::square_truths-returns-clause-value : goal.squares::square_truths-returns-clause-value
+squares::square_truths-returns-clause-value g t c = λ n l.
+    square_end (searched_tree c.args.game.now c.args.variations) c.args.live.now c.args.every (shown c.args.squares.now) (λ m s. holds (value (searched_tree c.args.game.now c.args.variations) [] ((c.args.name.now, s) ∷ c.args.names.now) (filter_tree c.args.asked.now) m))
+    c.loop-number.number c.loop-number.left.items c.in_ok-truths.truths.items (omega (arith, c.loop-number-test.false, c.loop-number.auto.number-end)) c.requires.asked c.loop-number.invariant.left c.in_ok-truths.ensures n l
+
+pub squares::square_turn-returns-clause-value : goal.squares::square_turn-returns-clause-value
+squares::square_turn-returns-clause-value g t c =
+    turn_all (searched_tree c.args.game.now c.args.variations) c.args.every (shown c.args.squares.now) (value (searched_tree c.args.game.now c.args.variations) [] ((c.args.name.now, c.args.square) ∷ c.args.names.now) (filter_tree c.args.asked.now)) c.args.square c.args.left.items c.in_ok-there.there.items
+    c.deref.result.now c.deref-3.result.now c.deref-4.result.now c.deref-5.result.now c.in_ok-later.later.items c.in_ok-column.column
+    c.deref.ensures.value c.deref-3.ensures.value c.deref-4.ensures.value c.deref-5.ensures.value c.in_ok-there.ensures
+    (subst (λ e. IsColumn c.in_ok-column.column c.deref-3.result.now (value (searched_tree c.args.game.now c.args.variations) [] e (filter_tree c.args.asked.now))) c.in_ok-inner.ensures c.in_ok-column.ensures.value) c.in_ok-later.ensures
+
+pub squares::square_turn-returns-then-not-any_live-clause-value : goal.squares::square_turn-returns-then-not-any_live-clause-value
+squares::square_turn-returns-then-not-any_live-clause-value g t c =
+    turn_stop c.args.every (shown c.args.squares.now) _ c.args.square c.args.left.items c.in_ok-there.there.items c.deref.result.now c.deref-2.result.now c.deref.ensures.value c.deref-2.ensures.value c.in_ok-there.ensures
+    (sym c.any_live.ensures ∙ c.if-not-any_live.true)
+
+pub unary_column-returns-in_ok-set-in-Find-clause-value : goal.unary_column-returns-in_ok-set-in-Find-clause-value
+unary_column-returns-in_ok-set-in-Find-clause-value g t c = rw c.in-Find.is (λ n l.
+    find_is (searched_tree c.args.game.now c.args.variations) c.args.live.now c.in_ok-wide-in-Find.wide.items c.deref.result.now c.deref-in-Find.result.now c.in_ok-set-in-Find.set.items c.raised-found.result.items c.in_ok-column-in-Find.column
+    (value (searched_tree c.args.game.now c.args.variations) [] c.args.names.now (filter_tree c.args.part.now)) c.in_ok-wide-in-Find.ensures c.deref.ensures.value c.deref-in-Find.ensures.value c.in_ok-column-in-Find.ensures.value c.in_ok-set-in-Find.ensures c.raised-found.ensures n l)
+
+pub unary_column-returns-in_ok-unary_values-in_default-clause-value : goal.unary_column-returns-in_ok-unary_values-in_default-clause-value
+unary_column-returns-in_ok-unary_values-in_default-clause-value g t c = λ n l.
+    let other = c.in_default in
+    c.in_ok-unary_values-in_default.ensures n l
+    ∙ word_here (searched_tree c.args.game.now c.args.variations) c.args.word (value (searched_tree c.args.game.now c.args.variations) [] c.args.names.now (filter_tree c.args.part.now)) n (shown c.in_ok-column-in_default.column n) other.not-Find other.not-FindUp other.not-Child other.not-Parent
+    (c.in_ok-column-in_default.ensures.value n l)
+
+pub evaluate-returns-in-Unary-clause-value : goal.evaluate-returns-in-Unary-clause-value
+evaluate-returns-in-Unary-clause-value g t c =
+    let f = c.args.f.now in
+    let part = c.deref.result.now in
+    subst (λ v. IfOk c.unary_column.result (λ x. IsColumn x c.args.live.now v))
+    (unary_form (searched_tree c.args.game.now c.args.variations) c.args.names.now (filter_tree f) (filter_tree part) f.at c.in-Unary.word
+    (ap (λ form. filter_at f.at (form_tree form)) c.in-Unary.is ∙ ap (λ p. filter_at f.at (unary c.in-Unary.word (filter_tree p))) (sym c.deref.ensures)))
+    c.unary_column.ensures.value
+
+pub evaluate-returns-in_ok-truths-in-Square-clause-value : goal.evaluate-returns-in_ok-truths-in-Square-clause-value
+evaluate-returns-in_ok-truths-in-Square-clause-value g t c = λ n l.
+    let f = c.args.f.now in
+    let every = c.in-Square.every in
+    let text = c.as_slice.result.now in
+    let a = c.deref-in-Square.result.now in
+    let b = c.deref-in-Square-2.result.now in
+    c.in_ok-truths-in-Square.ensures.value n l
+    ∙ ap (λ x. square_of every x (λ s. holds (value (searched_tree c.args.game.now c.args.variations) [] ((text, s) ∷ c.args.names.now) (filter_tree b) n))) (c.in_ok-squares-in-Square.ensures.value n l)
+    ∙ square_form (searched_tree c.args.game.now c.args.variations) c.args.names.now (filter_tree f) (filter_tree a) (filter_tree b) f.at every text
+    (ap (λ form. filter_at f.at (form_tree form)) c.in-Square.is
+    ∙ ap (λ x. filter_at f.at (square every x (filter_tree c.in-Square.squares.value) (filter_tree c.in-Square.asked.value))) (sym c.as_slice.ensures)
+    ∙ ap₂ (λ p q. filter_at f.at (square every text (filter_tree p) (filter_tree q))) (sym c.deref-in-Square.ensures) (sym c.deref-in-Square-2.ensures)) n
+
+pub evaluate-returns-in_ok-truths-in-If-clause-value : goal.evaluate-returns-in_ok-truths-in-If-clause-value
+evaluate-returns-in_ok-truths-in-If-clause-value g t c = λ n l.
+    let f = c.args.f.now in
+    let x = c.deref-in-If.result.now in
+    let y = c.deref-in-If-2.result.now in
+    let z = c.deref-in-If-4.result.now in
+    c.in_ok-truths-in-If.ensures n l
+    ∙ if_open c.args.live.now c.in_ok-held-in-If.held.items c.in_ok-failed-in-If.failed.items c.deref-in-If-3.result.now c.deref-in-If-5.result.now c.in_ok-first-in-If.first c.in_ok-second-in-If.second c.in_ok-third-in-If.third
+    (value (searched_tree c.args.game.now c.args.variations) [] c.args.names.now (filter_tree x)) (value (searched_tree c.args.game.now c.args.variations) [] c.args.names.now (filter_tree y)) (value (searched_tree c.args.game.now c.args.variations) [] c.args.names.now (filter_tree z))
+    c.deref-in-If-3.ensures.value c.deref-in-If-5.ensures.value c.in_ok-first-in-If.ensures.value c.in_ok-held-in-If.ensures.narrowed c.in_ok-failed-in-If.ensures.narrowed c.in_ok-second-in-If.ensures.value c.in_ok-third-in-If.ensures.value n l
+    ∙ if_form (searched_tree c.args.game.now c.args.variations) c.args.names.now (filter_tree f) (filter_tree x) (filter_tree y) (filter_tree z) f.at
+    (ap (λ form. filter_at f.at (form_tree form)) c.in-If.is
+    ∙ ap (λ p. filter_at f.at (if_ (filter_tree p) (filter_tree c.in-If.yes.value) (filter_tree c.in-If.no.value))) (sym c.deref-in-If.ensures)
+    ∙ ap₂ (λ p q. filter_at f.at (if_ (filter_tree x) (filter_tree p) (filter_tree q))) (sym c.deref-in-If-2.ensures) (sym c.deref-in-If-4.ensures)) n
+
+pub chains::all_hold-returns-in_err-column-clause-cost : goal.chains::all_hold-returns-in_err-column-clause-cost
+chains::all_hold-returns-in_err-column-clause-cost g t c =
+    cost_within (length c.args.game.now.nodes) c.as_slice-filter-items.result.now c.loop-filter.filter-index c.filter-item.result _ c.loop-filter.steps c.evaluate.new.steps (filters_tree c.args.filters.now)
+    c.loop-filter-test.true c.filter-item.is c.loop-filter.invariant.cost c.evaluate.ensures.cost c.as_slice-filter-items.ensures.tree
+
+pub chains::all_hold-returns-in_err-left-2-clause-cost : goal.chains::all_hold-returns-in_err-left-2-clause-cost
+chains::all_hold-returns-in_err-left-2-clause-cost g t c =
+    cost_within (length c.args.game.now.nodes) c.as_slice-filter-items.result.now c.loop-filter.filter-index c.filter-item.result _ c.loop-filter.steps c.evaluate.new.steps (filters_tree c.args.filters.now)
+    c.loop-filter-test.true c.filter-item.is c.loop-filter.invariant.cost c.evaluate.ensures.cost c.as_slice-filter-items.ensures.tree
+
+pub chains::none_holds-returns-in_err-column-clause-cost : goal.chains::none_holds-returns-in_err-column-clause-cost
+chains::none_holds-returns-in_err-column-clause-cost g t c =
+    cost_within (length c.args.game.now.nodes) c.as_slice-filter-items.result.now c.loop-filter.filter-index c.filter-item.result _ c.loop-filter.steps c.evaluate.new.steps (filters_tree c.args.filters.now)
+    c.loop-filter-test.true c.filter-item.is c.loop-filter.invariant.cost c.evaluate.ensures.cost c.as_slice-filter-items.ensures.tree
+
+pub chains::none_holds-returns-in_err-left-2-clause-cost : goal.chains::none_holds-returns-in_err-left-2-clause-cost
+chains::none_holds-returns-in_err-left-2-clause-cost g t c =
+    cost_within (length c.args.game.now.nodes) c.as_slice-filter-items.result.now c.loop-filter.filter-index c.filter-item.result _ c.loop-filter.steps c.evaluate.new.steps (filters_tree c.args.filters.now)
+    c.loop-filter-test.true c.filter-item.is c.loop-filter.invariant.cost c.evaluate.ensures.cost c.as_slice-filter-items.ensures.tree
+
+pub chains::columns_of-loop-filter-init : goal.chains::columns_of-loop-filter-init
+chains::columns_of-loop-filter-init g t c = record {
+  left = columns_begun (searched_tree c.args.game.now c.args.variations) c.args.names.now c.args.live.now c.as_slice-filter-items.result.now c.new-columns.result.items c.new-columns.ensures.items;
+  cost = omega arith;
+  rises = omega arith;
+}
+
+pub chains::columns_of-loop-filter-preserved : goal.chains::columns_of-loop-filter-preserved
+chains::columns_of-loop-filter-preserved g t c = record {
+  left = columns_more (searched_tree c.args.game.now c.args.variations) c.args.names.now c.args.live.now c.as_slice-filter-items.result.now c.loop-filter.filter-index c.filter-item.result
+      c.loop-filter.columns.items c.push.new.self.items c.in_ok-column.column c.loop-filter-test.true c.filter-item.is c.loop-filter.invariant.left
+      c.in_ok-column.ensures.value c.in_ok-push.ensures.items;
+  cost = cost_more (length c.args.game.now.nodes) c.as_slice-filter-items.result.now c.loop-filter.filter-index c.filter-item.result _ c.loop-filter.steps
+      c.evaluate.new.steps c.loop-filter-test.true c.filter-item.is c.loop-filter.invariant.cost c.evaluate.ensures.cost;
+  rises = omega (arith, c.loop-filter.invariant.rises, c.evaluate.ensures.rises);
+}
+
+pub chains::columns_of-returns-clause-value : goal.chains::columns_of-returns-clause-value
+chains::columns_of-returns-clause-value g t c =
+    columns_all (searched_tree c.args.game.now c.args.variations) c.args.names.now c.args.live.now c.as_slice-filter-items.result.now c.loop-filter.filter-index (filters_tree c.args.filters.now)
+    c.loop-filter.columns.items (omega (arith, c.loop-filter-test.false)) c.as_slice-filter-items.ensures.tree c.loop-filter.invariant.left
+
+pub chains::columns_of-returns-in_err-column-clause-cost : goal.chains::columns_of-returns-in_err-column-clause-cost
+chains::columns_of-returns-in_err-column-clause-cost g t c =
+    cost_within (length c.args.game.now.nodes) c.as_slice-filter-items.result.now c.loop-filter.filter-index c.filter-item.result _ c.loop-filter.steps
+    c.evaluate.new.steps (filters_tree c.args.filters.now) c.loop-filter-test.true c.filter-item.is c.loop-filter.invariant.cost
+    c.evaluate.ensures.cost c.as_slice-filter-items.ensures.tree
+
+pub chains::terms_of-loop-term-init : goal.chains::terms_of-loop-term-init
+chains::terms_of-loop-term-init g t c = record {
+  left = terms_begun (searched_tree c.args.game.now c.args.variations) c.args.names.now c.args.live.now c.as_slice-term-items.result.now c.new-columns.result.items c.new-columns.ensures.items;
+  cost = omega arith;
+  rises = omega arith;
+}
+
+pub chains::terms_of-loop-term-preserved : goal.chains::terms_of-loop-term-preserved
+chains::terms_of-loop-term-preserved g t c = record {
+  left = terms_more (searched_tree c.args.game.now c.args.variations) c.args.names.now c.args.live.now c.as_slice-term-items.result.now c.loop-term.term-index c.term-item.result
+      c.loop-term.columns.items c.push.new.self.items c.in_ok-column.column c.loop-term-test.true c.term-item.is c.loop-term.invariant.left
+      c.in_ok-column.ensures.value c.in_ok-push.ensures.items;
+  cost = terms_cost_more (length c.args.game.now.nodes) c.as_slice-term-items.result.now c.loop-term.term-index c.term-item.result _ c.loop-term.steps
+      c.evaluate.new.steps c.loop-term-test.true c.term-item.is c.loop-term.invariant.cost c.evaluate.ensures.cost;
+  rises = omega (arith, c.loop-term.invariant.rises, c.evaluate.ensures.rises);
+}
+
+pub chains::terms_of-returns-clause-value : goal.chains::terms_of-returns-clause-value
+chains::terms_of-returns-clause-value g t c =
+    terms_all (searched_tree c.args.game.now c.args.variations) c.args.names.now c.args.live.now c.as_slice-term-items.result.now c.loop-term.term-index (terms_tree c.args.terms.now)
+    c.loop-term.columns.items (omega (arith, c.loop-term-test.false)) c.as_slice-term-items.ensures.tree c.loop-term.invariant.left
+
+pub chains::terms_of-returns-in_err-column-clause-cost : goal.chains::terms_of-returns-in_err-column-clause-cost
+chains::terms_of-returns-in_err-column-clause-cost g t c =
+    terms_cost_within (length c.args.game.now.nodes) c.as_slice-term-items.result.now c.loop-term.term-index c.term-item.result _ c.loop-term.steps
+    c.evaluate.new.steps (terms_tree c.args.terms.now) c.loop-term-test.true c.term-item.is c.loop-term.invariant.cost
+    c.evaluate.ensures.cost c.as_slice-term-items.ensures.tree
+
+pub chains::all_hold-evaluate-requires : goal.chains::all_hold-evaluate-requires
+chains::all_hold-evaluate-requires g t c = (
+  search rules,
+  (c.requires.tree, search rules,
+  filter_flat c.as_slice-filter-items.result.now c.loop-filter.filter-index c.filter-item.result (filters_tree c.args.filters.now)
+  c.loop-filter-test.true c.filter-item.is c.as_slice-filter-items.ensures.tree c.requires.flat),
+)
+
+pub chains::none_holds-evaluate-requires : goal.chains::none_holds-evaluate-requires
+chains::none_holds-evaluate-requires g t c = (
+  search rules,
+  (c.requires.tree, search rules,
+  filter_flat c.as_slice-filter-items.result.now c.loop-filter.filter-index c.filter-item.result (filters_tree c.args.filters.now)
+  c.loop-filter-test.true c.filter-item.is c.as_slice-filter-items.ensures.tree c.requires.flat),
+)
+
+pub chains::columns_of-evaluate-requires : goal.chains::columns_of-evaluate-requires
+chains::columns_of-evaluate-requires g t c = (
+  search rules,
+  (c.requires.tree, search rules,
+  filter_flat c.as_slice-filter-items.result.now c.loop-filter.filter-index c.filter-item.result (filters_tree c.args.filters.now)
+  c.loop-filter-test.true c.filter-item.is c.as_slice-filter-items.ensures.tree c.requires.flat),
+)
+
+pub chains::terms_of-evaluate-requires : goal.chains::terms_of-evaluate-requires
+chains::terms_of-evaluate-requires g t c = (
+  search rules,
+  (c.requires.tree, c.requires.asked,
+  term_flat c.as_slice-term-items.result.now c.loop-term.term-index c.term-item.result (terms_tree c.args.terms.now)
+  c.loop-term-test.true c.term-item.is c.as_slice-term-items.ensures.tree c.requires.flat),
+)
+
+-- lines
+
+pub lines::put_parts-loop-part-init : goal.lines::put_parts-loop-part-init
+lines::put_parts-loop-part-init g t c = record {
+  table = table_begun (searched_tree c.args.game.now c.args.variations) c.args.names.now c.args.first c.as_slice-part-items.result.now _;
+  cost = omega arith;
+  rises = omega arith;
+}
+
+pub lines::put_parts-loop-part-preserved : goal.lines::put_parts-loop-part-preserved
+lines::put_parts-loop-part-preserved g t c = record {
+  table = table_more (searched_tree c.args.game.now c.args.variations) c.args.names.now c.args.first c.as_slice-part-items.result.now c.loop-part.part-index c.part-item.result
+      c.loop-part.at c.in_ok-at.at _ c.loop-part.table c.put_body.new.table c.loop-part-test.true c.part-item.is
+      c.in_ok-at.ensures.next c.in_ok-at.ensures.value c.in_ok-at.ensures.others c.loop-part.invariant.table;
+  cost = parts_cost_more (length c.args.game.now.nodes) c.as_slice-part-items.result.now c.loop-part.part-index c.part-item.result _ c.loop-part.steps
+      c.put_body.new.steps c.loop-part-test.true c.part-item.is c.loop-part.invariant.cost c.put_body.ensures.cost;
+  rises = omega (arith, c.loop-part.invariant.rises, c.put_body.ensures.rises);
+}
+
+pub lines::put_parts-put_body-requires : goal.lines::put_parts-put_body-requires
+lines::put_parts-put_body-requires g t c =
+    let left = atoms_left c.as_slice-part-items.result.now c.loop-part.part-index c.part-item.result c.loop-part-test.true c.part-item.is in
+    let same = ap parts_atoms c.as_slice-part-items.ensures.tree in
+    let filled = c.loop-part.invariant.table.filled in (
+      search rules,
+      (c.requires.tree, c.requires.all,
+      part_flat c.as_slice-part-items.result.now c.loop-part.part-index c.part-item.result (parts_tree c.args.parts.now)
+      c.loop-part-test.true c.part-item.is c.as_slice-part-items.ensures.tree c.requires.flat,
+      omega (arith, left, same, c.loop-part.invariant.table.count, c.requires.few),
+      omega (arith, left, same, c.loop-part.invariant.table.count, c.requires.atoms, filled.atoms),
+      filled.nodes ∙ c.requires.nodes,
+      still_clear _ c.loop-part.table c.args.first c.loop-part.at c.loop-part.invariant.table.beyond c.requires.clear filled),
+    )
+
+pub lines::put_parts-returns-clause-next : goal.lines::put_parts-returns-clause-next
+lines::put_parts-returns-clause-next g t c =
+    at_all (searched_tree c.args.game.now c.args.variations) c.args.names.now c.args.first c.as_slice-part-items.result.now c.loop-part.part-index c.loop-part.at _ c.loop-part.table
+    (parts_tree c.args.parts.now) (omega (arith, c.loop-part-test.false)) c.as_slice-part-items.ensures.tree c.loop-part.invariant.table
+
+pub lines::put_parts-returns-clause-value : goal.lines::put_parts-returns-clause-value
+lines::put_parts-returns-clause-value g t c =
+    table_all (searched_tree c.args.game.now c.args.variations) c.args.names.now c.args.first c.as_slice-part-items.result.now c.loop-part.part-index c.loop-part.at _ c.loop-part.table
+    (parts_tree c.args.parts.now) (omega (arith, c.loop-part-test.false)) c.as_slice-part-items.ensures.tree c.loop-part.invariant.table
+
+pub lines::put_parts-returns-clause-others : goal.lines::put_parts-returns-clause-others
+lines::put_parts-returns-clause-others g t c =
+    filled_all (searched_tree c.args.game.now c.args.variations) c.args.names.now c.args.first c.as_slice-part-items.result.now c.loop-part.part-index c.loop-part.at _ c.loop-part.table
+    (parts_tree c.args.parts.now) (omega (arith, c.loop-part-test.false)) c.as_slice-part-items.ensures.tree c.loop-part.invariant.table
+
+pub lines::put_parts-returns-in_err-at-clause-cost : goal.lines::put_parts-returns-in_err-at-clause-cost
+lines::put_parts-returns-in_err-at-clause-cost g t c =
+    parts_cost_within (length c.args.game.now.nodes) c.as_slice-part-items.result.now c.loop-part.part-index c.part-item.result _ c.loop-part.steps
+    c.put_body.new.steps (parts_tree c.args.parts.now) c.loop-part-test.true c.part-item.is c.loop-part.invariant.cost c.put_body.ensures.cost
+    c.as_slice-part-items.ensures.tree
+
+pub lines::put_body-put_column-requires-clause-atom : goal.lines::put_body-put_column-requires-clause-atom
+lines::put_body-put_column-requires-clause-atom g t c =
+    let form : body_tree c.args.body.now ≡ atom (filter_tree c.deref.result.now) =
+        ap body_tree c.in-Atom.is ∙ ap (λ p. atom (filter_tree p)) (sym c.deref.ensures) in
+    omega (arith, c.requires.atoms, ap body_atoms form)
+
+pub lines::put_body-put_column-requires-clause-clear : goal.lines::put_body-put_column-requires-clause-clear
+lines::put_body-put_column-requires-clause-clear g t c = λ n. c.requires.clear c.args.first n (omega arith)
+
+pub lines::put_body-returns-in_ok-column-in-Atom-clause-value : goal.lines::put_body-returns-in_ok-column-in-Atom-clause-value
+lines::put_body-returns-in_ok-column-in-Atom-clause-value g t c =
+    atom_form (searched_tree c.args.game.now c.args.variations) c.args.names.now c.put_column.new.table c.args.first (body_tree c.args.body.now) (filter_tree c.deref.result.now)
+    (ap body_tree c.in-Atom.is ∙ ap (λ p. atom (filter_tree p)) (sym c.deref.ensures))
+    (atom_tabled (searched_tree c.args.game.now c.args.variations) c.put_column.new.table c.args.first c.in_ok-column-in-Atom.column
+    (value (searched_tree c.args.game.now c.args.variations) [] c.args.names.now (filter_tree c.deref.result.now)) c.args.all.now c.args.all.now c.requires.all refl
+    c.in_ok-column-in-Atom.ensures.value c.put_column.ensures.put)
+
+pub lines::line_numbers-parts_pattern-requires : goal.lines::line_numbers-parts_pattern-requires
+lines::line_numbers-parts_pattern-requires g t c = omega (arith, few_atoms _ (line_flat c.args.line.now c.requires.flat).0)
+
+pub lines::line_numbers-build-requires : goal.lines::line_numbers-build-requires
+lines::line_numbers-build-requires g t c =
+    few_places (parts_tree (out-Line c.args.line.now).parts) (pattern_tree c.in_ok-pattern.pattern) c.in_ok-pattern.ensures.pattern
+    (line_flat c.args.line.now c.requires.flat).0
+
+pub lines::line_numbers-new-requires-clause-atoms : goal.lines::line_numbers-new-requires-clause-atoms
+lines::line_numbers-new-requires-clause-atoms g t c = omega (arith, few_atoms _ (line_flat c.args.line.now c.requires.flat).0, c.in_ok-pattern.ensures.next)
+
+pub lines::line_numbers-new-requires-clause-nodes : goal.lines::line_numbers-new-requires-clause-nodes
+lines::line_numbers-new-requires-clause-nodes g t c = omega (arith, c.requires.tree.few, c.len.ensures.len)
+
+pub lines::line_numbers-put_parts-requires : goal.lines::line_numbers-put_parts-requires
+lines::line_numbers-put_parts-requires g t c =
+    let few = few_atoms (parts_tree (out-Line c.args.line.now).parts) (line_flat c.args.line.now c.requires.flat).0 in (
+      search rules,
+      (c.requires.tree, search rules, (line_flat c.args.line.now c.requires.flat).1,
+      omega (arith, few),
+      omega (arith, c.in_ok-table.ensures.atoms, c.in_ok-pattern.ensures.next),
+      (let bits = ap length c.in_ok-table.ensures.bits in omega (arith, bits, length-replicate c.len.result 0, c.len.ensures.len)),
+      table_clear c.in_ok-table.table c.len.result c.in_ok-table.ensures.bits),
+    )
+
+pub lines::line_numbers-line_values-requires-clause-atoms : goal.lines::line_numbers-line_values-requires-clause-atoms
+lines::line_numbers-line_values-requires-clause-atoms g t c =
+    c.in_ok-automaton.ensures.atoms (atoms_of c.put_parts.new.table)
+    (atoms_below (parts_tree (out-Line c.args.line.now).parts) (pattern_tree c.in_ok-pattern.pattern) (atoms_of c.put_parts.new.table) c.in_ok-pattern.ensures.pattern
+    (omega (arith, c.in_ok-table.ensures.atoms, c.in_ok-pattern.ensures.next, c.in_ok-put_parts.ensures.others.atoms)))
+
+pub lines::line_numbers-line_values-requires-clause-nodes : goal.lines::line_numbers-line_values-requires-clause-nodes
+lines::line_numbers-line_values-requires-clause-nodes g t c =
+    let bits = ap length c.in_ok-table.ensures.bits in
+    let spots = ap length c.in_ok-shape.ensures.spots in
+    omega (arith, bits, length-replicate c.len.result 0, c.len.ensures.len, c.in_ok-put_parts.ensures.others.nodes, spots,
+    length-map-range_with_len (spot_at (searched_tree c.args.game.now c.args.variations)) 0 (length c.args.game.now.nodes))
+
+pub lines::line_numbers-returns-clause-value : goal.lines::line_numbers-returns-clause-value
+lines::line_numbers-returns-clause-value g t c = λ n l.
+    let inside = live_below c.args.live.now n l in
+    let low : n < length c.args.game.now.nodes = omega (arith, inside, c.requires.asked.count) in
+    let spots = ap length c.in_ok-shape.ensures.spots in
+    numbers_are (searched_tree c.args.game.now c.args.variations) c.requires.tree c.args.names.now c.args.line.now (spots_of c.in_ok-shape.shape) _ _ _ c.in_ok-shape.ensures.spots
+    c.in_ok-shape.ensures.way.0 c.in_ok-shape.ensures.way.1 c.in_ok-shape.ensures.way.2 c.put_parts.new.table
+    (pattern_tree c.in_ok-pattern.pattern) c.in_ok-pattern.ensures.pattern c.in_ok-put_parts.ensures.value c.in_ok-numbers.numbers.items
+    c.in_ok-values.values.items c.in_ok-numbers.ensures n (c.requires.asked.searched n l, low)
+    (c.in_ok-values.ensures.values (pattern_tree c.in_ok-pattern.pattern) c.in_ok-automaton.ensures.automaton n
+    (omega (arith, low, spots, length-map-range_with_len (spot_at (searched_tree c.args.game.now c.args.variations)) 0 (length c.args.game.now.nodes))))
+
+pub lines::line_numbers-returns-clause-cost : goal.lines::line_numbers-returns-clause-cost
+lines::line_numbers-returns-clause-cost g t c =
+    looks_in (searched_tree c.args.game.now c.args.variations) c.args.line.now _ c.put_parts.new.steps c.line_values.new.steps (atoms_of c.put_parts.new.table) (spots_of c.in_ok-shape.shape)
+    c.in_ok-shape.ensures.spots (omega (arith, c.in_ok-table.ensures.atoms, c.in_ok-pattern.ensures.next, c.in_ok-put_parts.ensures.others.atoms))
+    c.put_parts.ensures.cost c.line_values.ensures.cost
+
+pub lines::line_numbers-returns-in_err-numbers-clause-cost : goal.lines::line_numbers-returns-in_err-numbers-clause-cost
+lines::line_numbers-returns-in_err-numbers-clause-cost g t c =
+    looks_in (searched_tree c.args.game.now c.args.variations) c.args.line.now _ c.put_parts.new.steps c.line_values.new.steps (atoms_of c.put_parts.new.table) (spots_of c.in_ok-shape.shape)
+    c.in_ok-shape.ensures.spots (omega (arith, c.in_ok-table.ensures.atoms, c.in_ok-pattern.ensures.next, c.in_ok-put_parts.ensures.others.atoms))
+    c.put_parts.ensures.cost c.line_values.ensures.cost
+
+pub lines::line_numbers-returns-in_err-values-clause-cost : goal.lines::line_numbers-returns-in_err-values-clause-cost
+lines::line_numbers-returns-in_err-values-clause-cost g t c =
+    looks_in (searched_tree c.args.game.now c.args.variations) c.args.line.now _ c.put_parts.new.steps c.line_values.new.steps (atoms_of c.put_parts.new.table) (spots_of c.in_ok-shape.shape)
+    c.in_ok-shape.ensures.spots (omega (arith, c.in_ok-table.ensures.atoms, c.in_ok-pattern.ensures.next, c.in_ok-put_parts.ensures.others.atoms))
+    c.put_parts.ensures.cost c.line_values.ensures.cost
+
+pub lines::line_numbers-returns-in_err-shape-clause-cost : goal.lines::line_numbers-returns-in_err-shape-clause-cost
+lines::line_numbers-returns-in_err-shape-clause-cost g t c = atoms_within (length c.args.game.now.nodes) c.args.line.now _ c.put_parts.new.steps c.put_parts.ensures.cost
+
+pub lines::line_numbers-returns-in_err-put_parts-clause-cost : goal.lines::line_numbers-returns-in_err-put_parts-clause-cost
+lines::line_numbers-returns-in_err-put_parts-clause-cost g t c = atoms_within (length c.args.game.now.nodes) c.args.line.now _ c.put_parts.new.steps c.put_parts.ensures.cost
+
+-- where no node is asked for
+
+pub evaluate-returns-then-not-any_live-clause-value : goal.evaluate-returns-then-not-any_live-clause-value
+evaluate-returns-then-not-any_live-clause-value g t c = λ n l. absurd (none_live c.args.live.now (sym c.any_live.ensures ∙ c.if-not-any_live.true) n l)
+
+-- the family
+
+pub evaluate-returns-in-Transform-clause-value : goal.evaluate-returns-in-Transform-clause-value
+evaluate-returns-in-Transform-clause-value g t c =
+    absurd (no_family c.args.f.now.at (form_tree c.args.f.now.form) _ _ (ap form_tree c.in-Transform.is) c.requires.flat)
+
+-- words that look along the tree
+
+pub unary_column-returns-in_ok-found-in-FindUp-clause-value : goal.unary_column-returns-in_ok-found-in-FindUp-clause-value
+unary_column-returns-in_ok-found-in-FindUp-clause-value g t c = rw c.in-FindUp.is (λ n l.
+    find_up_is (searched_tree c.args.game.now c.args.variations) c.args.live.now c.in_ok-wide-in-FindUp.wide.items c.deref-in-FindUp.result.now c.deref-in-FindUp-2.result.now c.deref-in-FindUp-3.result.now
+    c.in_ok-set-in-FindUp.set.items c.in_ok-found-in-FindUp.found.items c.in_ok-column-in-FindUp.column (value (searched_tree c.args.game.now c.args.variations) [] c.args.names.now (filter_tree c.args.part.now))
+    c.in_ok-wide-in-FindUp.ensures c.deref-in-FindUp.ensures.value c.deref-in-FindUp-2.ensures.value c.deref-in-FindUp-3.ensures.value
+    c.in_ok-column-in-FindUp.ensures.value c.in_ok-set-in-FindUp.ensures c.in_ok-found-in-FindUp.ensures n
+    (omega (arith, live_below c.args.live.now n l, c.requires.asked.count)) l)
+
+pub unary_column-returns-in_ok-start-in-Child-clause-value : goal.unary_column-returns-in_ok-start-in-Child-clause-value
+unary_column-returns-in_ok-start-in-Child-clause-value g t c = rw c.in-Child.is (λ n l.
+    child_holds_is (searched_tree c.args.game.now c.args.variations) c.args.live.now c.in_ok-wide-in-Child.wide.items c.deref-in-Child.result.now c.deref-in-Child-2.result.now c.deref-in-Child-3.result.now
+    c.in_ok-set-in-Child.set.items c.in_ok-start-in-Child.start.items c.with_parents-found.result.items (length c.args.game.now.nodes) c.in_ok-column-in-Child.column (value (searched_tree c.args.game.now c.args.variations) [] c.args.names.now (filter_tree c.args.part.now))
+    c.in_ok-wide-in-Child.ensures c.deref-in-Child.ensures.value c.deref-in-Child-2.ensures.value c.deref-in-Child-3.ensures.value
+    c.in_ok-column-in-Child.ensures.value c.in_ok-set-in-Child.ensures c.in_ok-start-in-Child.ensures c.with_parents-found.ensures n l)
+
+pub unary_column-returns-in_ok-found-in-Parent-clause-value : goal.unary_column-returns-in_ok-found-in-Parent-clause-value
+unary_column-returns-in_ok-found-in-Parent-clause-value g t c = rw c.in-Parent.is (λ n l.
+    parent_holds_is (searched_tree c.args.game.now c.args.variations) c.args.live.now c.in_ok-wide-in-Parent.wide.items c.deref-in-Parent.result.now c.deref-in-Parent-2.result.now c.deref-in-Parent-3.result.now
+    c.in_ok-set-in-Parent.set.items c.in_ok-found-in-Parent.found.items c.in_ok-column-in-Parent.column (value (searched_tree c.args.game.now c.args.variations) [] c.args.names.now (filter_tree c.args.part.now))
+    c.in_ok-wide-in-Parent.ensures c.deref-in-Parent.ensures.value c.deref-in-Parent-2.ensures.value c.deref-in-Parent-3.ensures.value
+    c.in_ok-column-in-Parent.ensures.value c.in_ok-set-in-Parent.ensures c.in_ok-found-in-Parent.ensures n
+    (omega (arith, live_below c.args.live.now n l, c.requires.asked.count)) l)

@@ -1,0 +1,20 @@
+-- What is left of the nodes of a set while squares are tried one by one, as the private functions give it.
+use Rattle.std.specs.Prelude.{◌≡◌, ℕ, ◌&&◌, not, Bool, true, false, List, get_or, length, if◌then◌else◌}
+use Rattle.cql_syntax.specs.Values.{Value, has}
+use Rattle.cql_values.specs.Asked.{settles}
+use Rattle.cql_eval.specs.Columns.{is_live}
+
+-- those at which this square is of the set
+pub record AreHaving (x : ℕ → Value) (s : ℕ) (left there : List Bool) : Type 0 where
+  pub count : length there ≡ length left
+  pub each : (n : ℕ) → is_live there n ≡ (is_live left n && has (x n) s)
+
+-- those that this square does not settle
+pub record AreUnsettled (every : Bool) (x : ℕ → Value) (asked : ℕ → Bool) (s : ℕ) (left later : List Bool) : Type 0 where
+  pub count : length later ≡ length left
+  pub each : (n : ℕ) → is_live later n ≡ (is_live left n && not (settles every (has (x n)) (λ t. asked n) s))
+
+-- those of a set that are not settled, where the squares are theirs and a column has what is asked
+pub record AreLeft (every : Bool) (asked : ℕ → Bool) (left there later : List Bool) : Type 0 where
+  pub count : length later ≡ length left
+  pub each : (n : ℕ) → is_live later n ≡ (is_live left n && not (is_live there n && (if every then not (asked n) else asked n)))

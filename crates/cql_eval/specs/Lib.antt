@@ -1,0 +1,7 @@
+pub mod Asked
+pub mod Columns
+pub mod Costs
+pub mod FlatTrees
+pub mod Hits
+pub mod LineAtoms
+pub mod Trees

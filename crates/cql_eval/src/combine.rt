@@ -1,0 +1,307 @@
+//! Columns that are made of the columns of parts.
+ghost use Rattle.std.specs.Prelude.{◌≡◌, ◌<◌, ◌&&◌, length, map, true, not, IfOk};
+ghost use Rattle.cq_position.specs.Games.{node_at};
+ghost use Rattle.cql_syntax.specs.Values as spec;
+ghost use Rattle.cql_values.specs.Asked.{of_value};
+ghost use Rattle.cql_values.specs.Shown.{meant, terms_meant};
+ghost use Rattle.cql_values.specs.Trees.{searched_tree};
+ghost use Rattle.cql_eval.specs.Columns.{AreAsked, AreTruths, AreValues, IsNumbered, shown, all_shown, terms_shown};
+
+use crate::filter_column::FilterColumn;
+use cq_geometry::Compass;
+use cq_outside::NoMemory;
+use cql_syntax::{Chain, Kind, Pair, Unary};
+use cql_values::combine::{any_of, chain_of, if_of, pair_of, unary_here};
+use cql_values::numbers::total;
+use cql_values::sets::reached;
+use cql_values::value::Value;
+use pgn_tree::Game;
+use std::alloc::Global;
+
+/// Where a column doesn't hold.
+pub(crate) fn negated(
+    alloc: Global,
+    column: &FilterColumn,
+    live: &[bool],
+) -> Result<Vec<bool>, NoMemory>
+    ensures { IfOk result (λ truths. AreTruths truths.items live.now (λ n. spec.as_truth (not (spec.holds (shown column.now n))))) }
+{
+    let mut truths = Vec::new(alloc);
+    for n in 0..live.len() {
+        let fails = live[n] && !column.at(n).holds();
+        truths.push(fails)?;
+    }
+    Ok(truths)
+}
+
+/// Of the nodes of a set those at which a column has a number.
+pub(crate) fn numbered(
+    alloc: Global,
+    column: &FilterColumn,
+    live: &[bool],
+) -> Result<Vec<bool>, NoMemory>
+    ensures { IfOk result (λ left. IsNumbered live.now column.now left.items) }
+{
+    let mut left = Vec::new(alloc);
+    for n in 0..live.len() {
+        let there = live[n] && column.at(n).number().is_some();
+        left.push(there)?;
+    }
+    Ok(left)
+}
+
+/// The second column where the first holds, else the third.
+pub(crate) fn chosen(
+    alloc: Global,
+    first: &FilterColumn,
+    second: &FilterColumn,
+    third: &FilterColumn,
+    live: &[bool],
+) -> Result<Vec<bool>, NoMemory>
+    ensures { IfOk result (λ truths. AreTruths truths.items live.now
+        (λ n. spec.if_of (shown first.now n) (shown second.now n) (shown third.now n))) }
+{
+    let mut truths = Vec::new(alloc);
+    for n in 0..live.len() {
+        let truth = is_chosen(first, second, third, n);
+        truths.push(truth)?;
+    }
+    Ok(truths)
+}
+
+fn is_chosen(first: &FilterColumn, second: &FilterColumn, third: &FilterColumn, n: usize) -> bool
+    ensures { result ≡ spec.holds (spec.if_of (shown first.now n) (shown second.now n) (shown third.now n)) }
+{
+    if_of(first.at(n), second.at(n), third.at(n)).holds()
+}
+
+/// What a word makes of a column, where it asks of no other node.
+pub(crate) fn unary_values(
+    alloc: Global,
+    word: Unary,
+    game: &Game,
+    variations: bool,
+    column: &FilterColumn,
+    live: &[bool],
+) -> Result<Vec<Value>, NoMemory>
+    requires asked { AreAsked (searched_tree game.now variations) live.now }
+    ensures { IfOk result (λ values. AreValues values.items live.now
+        (λ n. of_value (node_at game.now.nodes n).position.men word (shown column.now n))) }
+{
+    let mut values = Vec::new(alloc);
+    for n in 0..game.len() {
+        let value = unary_value(live[n as usize], word, game, column, n);
+        values.push(value)?;
+    }
+    Ok(values)
+}
+
+fn unary_value(asked: bool, word: Unary, game: &Game, column: &FilterColumn, n: u32) -> Value
+    requires { n < length game.now.nodes }
+    ensures { asked ≡ true → meant result ≡ of_value (node_at game.now.nodes n).position.men word (shown column.now n) }
+{
+    if asked {
+        unary_here(word, game.position(n), column.at(n as usize))
+    } else {
+        Value::Truth(false)
+    }
+}
+
+/// The squares that are reached by steps from those of a column.
+pub(crate) fn reached_values(
+    alloc: Global,
+    directions: &[Compass],
+    least: u32,
+    most: u32,
+    column: &FilterColumn,
+    live: &[bool],
+) -> Result<Vec<Value>, NoMemory>
+    ensures { IfOk result (λ values. AreValues values.items live.now
+        (λ n. spec.reached_of directions.now least most (shown column.now n))) }
+{
+    let mut values = Vec::new(alloc);
+    for n in 0..live.len() {
+        let value = reached_value(live[n], directions, least, most, column.at(n));
+        values.push(value)?;
+    }
+    Ok(values)
+}
+
+fn reached_value(asked: bool, directions: &[Compass], least: u32, most: u32, value: Value) -> Value
+    ensures { asked ≡ true → meant result ≡ spec.reached_of directions.now least most (meant value) }
+{
+    if asked {
+        reached(directions, least, most, value)
+    } else {
+        Value::Truth(false)
+    }
+}
+
+/// What a filter of two parts makes of their columns.
+pub(crate) fn pair_values(
+    alloc: Global,
+    pair: Pair,
+    game: &Game,
+    variations: bool,
+    first: &FilterColumn,
+    second: &FilterColumn,
+    live: &[bool],
+) -> Result<Vec<Value>, NoMemory>
+    requires asked { AreAsked (searched_tree game.now variations) live.now }
+    ensures { IfOk result (λ values. AreValues values.items live.now
+        (λ n. spec.pair_of (node_at game.now.nodes n).position.men pair (shown first.now n) (shown second.now n))) }
+{
+    let mut values = Vec::new(alloc);
+    for n in 0..game.len() {
+        let value = pair_value(live[n as usize], pair, game, first, second, n);
+        values.push(value)?;
+    }
+    Ok(values)
+}
+
+fn pair_value(
+    asked: bool,
+    pair: Pair,
+    game: &Game,
+    first: &FilterColumn,
+    second: &FilterColumn,
+    n: u32,
+) -> Value
+    requires { n < length game.now.nodes }
+    ensures { asked ≡ true → meant result
+        ≡ spec.pair_of (node_at game.now.nodes n).position.men pair (shown first.now n) (shown second.now n) }
+{
+    if asked {
+        pair_of(
+            game.position(n),
+            pair,
+            first.at(n as usize),
+            second.at(n as usize),
+        )
+    } else {
+        Value::Truth(false)
+    }
+}
+
+/// What a filter of any number of parts makes of their columns.
+pub(crate) fn chain_values(
+    alloc: Global,
+    chain: Chain,
+    columns: &[FilterColumn],
+    live: &[bool],
+) -> Result<Vec<Value>, NoMemory>
+    ensures { IfOk result (λ values. AreValues values.items live.now (λ n. spec.chain_of chain (all_shown columns.now n))) }
+{
+    let mut values = Vec::new(alloc);
+    for n in 0..live.len() {
+        let value = chain_value(alloc, live[n], chain, columns, n)?;
+        values.push(value)?;
+    }
+    Ok(values)
+}
+
+fn chain_value(
+    alloc: Global,
+    asked: bool,
+    chain: Chain,
+    columns: &[FilterColumn],
+    n: usize,
+) -> Result<Value, NoMemory>
+    ensures { IfOk result (λ value. asked ≡ true → meant value ≡ spec.chain_of chain (all_shown columns.now n)) }
+{
+    if !asked {
+        return Ok(Value::Truth(false));
+    }
+    let values = values_at(alloc, columns, n)?;
+    Ok(chain_of(chain, values.as_slice()))
+}
+
+/// Any of the columns of some filters of a kind.
+pub(crate) fn any_values(
+    alloc: Global,
+    kind: Kind,
+    columns: &[FilterColumn],
+    live: &[bool],
+) -> Result<Vec<Value>, NoMemory>
+    ensures { IfOk result (λ values. AreValues values.items live.now (λ n. spec.any_of kind (all_shown columns.now n))) }
+{
+    let mut values = Vec::new(alloc);
+    for n in 0..live.len() {
+        let value = any_value(alloc, live[n], kind, columns, n)?;
+        values.push(value)?;
+    }
+    Ok(values)
+}
+
+fn any_value(
+    alloc: Global,
+    asked: bool,
+    kind: Kind,
+    columns: &[FilterColumn],
+    n: usize,
+) -> Result<Value, NoMemory>
+    ensures { IfOk result (λ value. asked ≡ true → meant value ≡ spec.any_of kind (all_shown columns.now n)) }
+{
+    if !asked {
+        return Ok(Value::Truth(false));
+    }
+    let values = values_at(alloc, columns, n)?;
+    Ok(any_of(kind, values.as_slice()))
+}
+
+// The values of columns at a node.
+fn values_at(alloc: Global, columns: &[FilterColumn], n: usize) -> Result<Vec<Value>, NoMemory>
+    ensures { IfOk result (λ values. map meant values.items ≡ all_shown columns.now n) }
+{
+    let mut values = Vec::new(alloc);
+    for column in columns {
+        values.push(column.at(n))?;
+    }
+    Ok(values)
+}
+
+/// The sums of columns, each of which is added, or subtracted where it says so.
+pub(crate) fn sum_values(
+    alloc: Global,
+    terms: &[(bool, FilterColumn)],
+    live: &[bool],
+) -> Result<Vec<Value>, NoMemory>
+    ensures { IfOk result (λ values. AreValues values.items live.now (λ n. spec.total_of (terms_shown terms.now n))) }
+{
+    let mut values = Vec::new(alloc);
+    for n in 0..live.len() {
+        let value = sum_value(alloc, live[n], terms, n)?;
+        values.push(value)?;
+    }
+    Ok(values)
+}
+
+fn sum_value(
+    alloc: Global,
+    asked: bool,
+    terms: &[(bool, FilterColumn)],
+    n: usize,
+) -> Result<Value, NoMemory>
+    ensures { IfOk result (λ value. asked ≡ true → meant value ≡ spec.total_of (terms_shown terms.now n)) }
+{
+    if !asked {
+        return Ok(Value::Truth(false));
+    }
+    let values = terms_at(alloc, terms, n)?;
+    Ok(total(values.as_slice()))
+}
+
+// The values of terms at a node.
+fn terms_at(
+    alloc: Global,
+    terms: &[(bool, FilterColumn)],
+    n: usize,
+) -> Result<Vec<(bool, Value)>, NoMemory>
+    ensures { IfOk result (λ values. terms_meant values.items ≡ terms_shown terms.now n) }
+{
+    let mut values = Vec::new(alloc);
+    for term in terms {
+        values.push((term.0, term.1.at(n)))?;
+    }
+    Ok(values)
+}

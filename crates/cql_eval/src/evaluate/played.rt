@@ -1,0 +1,82 @@
+//! Whether the moves to nodes are as they are asked for.
+ghost use Rattle.std.specs.Prelude.{◌≡◌, ℕ, ◌≤◌, ◌+◌, [], length, true, get_or, option_map, IfOk};
+ghost use Rattle.cq_position.specs.Games.{IsTree};
+ghost use Rattle.cql_syntax.specs.Meaning as meaning;
+ghost use Rattle.cql_syntax.specs.TreeOf.{filter_tree, played_tree, written_tree};
+ghost use Rattle.cql_syntax.specs.Values.{as_truth};
+ghost use Rattle.cql_values.specs.Trees.{searched_tree};
+ghost use Rattle.cql_eval.specs.Columns.{AreAsked, AreTruths, Where, shown};
+ghost use Rattle.cql_eval.specs.Costs.{played_cost, written_cost};
+ghost use Rattle.cql_eval.specs.FlatTrees.{IsFlatMove, IsFlatPart};
+
+use super::evaluate;
+use crate::filter_column::FilterColumn;
+use crate::moves::moves_met;
+use crate::tree::befores;
+use cq_outside::{NoMemory, Steps};
+use cql_syntax::{Filter, Played};
+use cql_values::names::Names;
+use pgn_tree::Game;
+use std::alloc::Global;
+use std::sync::ledger::Ledger;
+
+/// Whether the move that led to a node is as it is asked for: where it came from and what it took is asked at the node before, its goal and
+/// what it became at the node itself.
+#[cycle(evaluate)]
+#[tactic(auto, unfolding(cql_syntax::specs::Meaning::value, crate::specs::Costs::filter_cost, crate::specs::FlatTrees::IsFlat))]
+pub(super) fn played_truths<L: Ledger>(
+    alloc: Global,
+    played: &Played,
+    game: &Game,
+    variations: bool,
+    names: &Names,
+    live: &[bool],
+    steps: &mut Steps<L>,
+) -> Result<Vec<bool>, NoMemory>
+    requires tree { IsTree game.now.nodes }
+    requires asked { AreAsked (searched_tree game.now variations) live.now }
+    requires flat { IsFlatMove (played_tree played.now) }
+    ensures value { IfOk result (λ truths. AreTruths truths.items live.now
+        (λ n. as_truth (meaning.played_value (searched_tree game.now variations) [] names.now (played_tree played.now) n))) }
+    ensures cost { steps.new ≤ steps.old + played_cost (length game.now.nodes) (played_tree played.now) }
+    ensures rises { steps.old ≤ steps.new }
+{
+    let wide = befores(alloc, game, variations, live)?;
+    let origin = written_column(alloc, &played.origin, game, variations, names, &wide, steps)?;
+    let goal = written_column(alloc, &played.goal, game, variations, names, live, steps)?;
+    let taken = written_column(alloc, &played.taken, game, variations, names, &wide, steps)?;
+    let promoted = written_column(alloc, &played.promoted, game, variations, names, live, steps)?;
+    let truths = moves_met(
+        alloc, game, variations, &origin, &goal, &taken, &promoted, live,
+    )?;
+    Ok(truths)
+}
+
+// The column of a part that is written.
+#[cycle(evaluate)]
+#[tactic(auto, unfolding(cql_syntax::specs::Meaning::value, crate::specs::Costs::filter_cost, crate::specs::FlatTrees::IsFlat))]
+fn written_column<L: Ledger>(
+    alloc: Global,
+    written: &Option<Box<Filter>>,
+    game: &Game,
+    variations: bool,
+    names: &Names,
+    live: &[bool],
+    steps: &mut Steps<L>,
+) -> Result<Option<FilterColumn>, NoMemory>
+    requires tree { IsTree game.now.nodes }
+    requires asked { AreAsked (searched_tree game.now variations) live.now }
+    requires flat { IsFlatPart (written_tree written.now) }
+    ensures value { IfOk result (λ column. Where live.now (λ n. option_map (λ c. shown c n) column
+        ≡ meaning.written_value (searched_tree game.now variations) [] names.now (written_tree written.now) n)) }
+    ensures cost { steps.new ≤ steps.old + written_cost (length game.now.nodes) (written_tree written.now) }
+    ensures rises { steps.old ≤ steps.new }
+{
+    match written {
+        Some(filter) => {
+            let column = evaluate(alloc, filter, game, variations, names, live, steps)?;
+            Ok(Some(column))
+        }
+        None => Ok(None),
+    }
+}

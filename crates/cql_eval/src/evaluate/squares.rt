@@ -1,0 +1,91 @@
+//! What is asked of the squares of a set, one by one.
+ghost use Rattle.std.specs.Prelude.{◌≡◌, ℕ, ◌≤◌, ◌+◌, ◌*◌, ◌∷◌, [], length, true, get_or, IfOk};
+ghost use Rattle.cq_position.specs.Games.{IsTree};
+ghost use Rattle.cql_syntax.specs.Meaning as meaning;
+ghost use Rattle.cql_syntax.specs.TreeOf.{filter_tree};
+ghost use Rattle.cql_syntax.specs.Values as spec;
+ghost use Rattle.cql_values.specs.Trees.{searched_tree};
+ghost use Rattle.cql_eval.specs.Asked.{AreUnsettled};
+ghost use Rattle.cql_eval.specs.Columns.{AreAsked, AreTruths, shown};
+ghost use Rattle.cql_eval.specs.Costs.{filter_cost};
+ghost use Rattle.cql_eval.specs.FlatTrees.{IsFlat};
+
+use super::evaluate;
+use crate::filter_column::FilterColumn;
+use crate::nodes::{any_live, same};
+use crate::squares::{decided, having, unsettled};
+use cq_geometry::Square;
+use cq_outside::{NoMemory, Steps};
+use cql_syntax::Filter;
+use cql_values::names::Names;
+use pgn_tree::Game;
+use std::alloc::Global;
+use std::sync::ledger::Ledger;
+
+/// Whether what is asked of a square holds of every square of a set, or of some.
+#[cycle(evaluate)]
+pub(super) fn square_truths<L: Ledger>(
+    alloc: Global,
+    every: bool,
+    name: &[u8],
+    squares: &FilterColumn,
+    asked: &Filter,
+    game: &Game,
+    variations: bool,
+    names: &Names,
+    live: &[bool],
+    steps: &mut Steps<L>,
+) -> Result<Vec<bool>, NoMemory>
+    requires tree { IsTree game.now.nodes }
+    requires asked { AreAsked (searched_tree game.now variations) live.now }
+    requires flat { IsFlat (filter_tree asked.now) }
+    ensures value { IfOk result (λ truths. AreTruths truths.items live.now (λ n. spec.square_of every (shown squares.now n)
+        (λ s. spec.holds (meaning.value (searched_tree game.now variations) []
+        ((name.now, s) ∷ names.now) (filter_tree asked.now) n)))) }
+    ensures cost { steps.new ≤ steps.old + 64 * filter_cost (length game.now.nodes) (filter_tree asked.now) }
+    ensures rises { steps.old ≤ steps.new }
+{
+    let mut left = same(alloc, live)?;
+    for number in 0..64 {
+        let square = Square::new(number);
+        left = square_turn(
+            alloc, every, name, square, squares, asked, game, variations, names, left, steps,
+        )?;
+    }
+    let truths = decided(alloc, every, left)?;
+    Ok(truths)
+}
+
+/// The nodes that no square up to this one settles, of those that none before it does.
+#[cycle(evaluate)]
+fn square_turn<L: Ledger>(
+    alloc: Global,
+    every: bool,
+    name: &[u8],
+    square: Square,
+    squares: &FilterColumn,
+    asked: &Filter,
+    game: &Game,
+    variations: bool,
+    names: &Names,
+    left: Vec<bool>,
+    steps: &mut Steps<L>,
+) -> Result<Vec<bool>, NoMemory>
+    requires tree { IsTree game.now.nodes }
+    requires asked { AreAsked (searched_tree game.now variations) left.items }
+    requires flat { IsFlat (filter_tree asked.now) }
+    ensures value { IfOk result (λ later. AreUnsettled every (shown squares.now)
+        (λ n. spec.holds (meaning.value (searched_tree game.now variations) []
+        ((name.now, square) ∷ names.now) (filter_tree asked.now) n)) square left.items later.items) }
+    ensures cost { steps.new ≤ steps.old + filter_cost (length game.now.nodes) (filter_tree asked.now) }
+    ensures rises { steps.old ≤ steps.new }
+{
+    let there = having(alloc, &left, squares, square)?;
+    if !any_live(&there) {
+        return Ok(left);
+    }
+    let inner = names.with(alloc, name, square)?;
+    let column = evaluate(alloc, asked, game, variations, &inner, &there, steps)?;
+    let later = unsettled(alloc, every, &left, &there, &column)?;
+    Ok(later)
+}

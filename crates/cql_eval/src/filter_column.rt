@@ -1,0 +1,63 @@
+//! What a filter gives at each node.
+ghost use Rattle.std.specs.Prelude.{◌≡◌, get_or, false, None};
+ghost use Rattle.cql_values.specs.declared.value.Value.TheVariants.{Truth};
+ghost use Rattle.cql_eval.specs.Columns.{kept_at};
+
+use cql_values::value::Value;
+
+/// What a filter gives at each node: a list has an entry for each node of the game.
+#[derive(Drop)]
+pub enum FilterColumn {
+    Truths(Vec<bool>),
+    /// Bit k of a word is square k.
+    Sets(Vec<u64>),
+    Numbers(Vec<Option<i64>>),
+    /// Values of any kind.
+    Values(Vec<Value>),
+    /// One value at all nodes.
+    Same(Value),
+}
+
+impl FilterColumn {
+    /// The value at a node; a column that doesn't reach so far has some value.
+    pub fn at(&self, n: usize) -> Value
+        ensures { result ≡ kept_at self.now n }
+    {
+        match self {
+            FilterColumn::Truths(truths) => Value::Truth(truth_at(truths, n)),
+            FilterColumn::Sets(sets) => Value::Set(set_at(sets, n)),
+            FilterColumn::Numbers(numbers) => Value::Number(number_at(numbers, n)),
+            FilterColumn::Values(values) => value_at(values, n),
+            FilterColumn::Same(value) => *value,
+        }
+    }
+}
+
+/// The truth at a node, false past the end.
+pub fn truth_at(truths: &[bool], n: usize) -> bool
+    ensures { result ≡ get_or truths.now n false }
+{
+    if n < truths.len() { truths[n] } else { false }
+}
+
+fn set_at(sets: &[u64], n: usize) -> u64
+    ensures { result ≡ get_or sets.now n 0 }
+{
+    if n < sets.len() { sets[n] } else { 0 }
+}
+
+fn number_at(numbers: &[Option<i64>], n: usize) -> Option<i64>
+    ensures { result ≡ get_or numbers.now n None }
+{
+    if n < numbers.len() { numbers[n] } else { None }
+}
+
+fn value_at(values: &[Value], n: usize) -> Value
+    ensures { result ≡ get_or values.now n (Truth false) }
+{
+    if n < values.len() {
+        values[n]
+    } else {
+        Value::Truth(false)
+    }
+}

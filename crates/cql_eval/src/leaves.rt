@@ -1,0 +1,88 @@
+//! Columns of filters without parts.
+ghost use Rattle.std.specs.Prelude.{◌≡◌, ◌<◌, length, true, Some, IfOk};
+ghost use Rattle.cq_position.specs.Games.{IsTree, node_at};
+ghost use Rattle.cq_symmetry.specs.Images.{is_in};
+ghost use Rattle.cql_syntax.specs.Meaning as meaning;
+ghost use Rattle.cql_syntax.specs.Values.{as_squares};
+ghost use Rattle.cql_values.specs.Shown.{meant};
+ghost use Rattle.cql_values.specs.Trees.{searched_tree};
+ghost use Rattle.cql_eval.specs.Columns.{AreAsked, AreSets, AreValues};
+
+use cq_outside::NoMemory;
+use cql_syntax::{Designator, Plain};
+use cql_values::names::Names;
+use cql_values::value::Value;
+use cql_values::words::{standing_on, word_at};
+use pgn_tree::Game;
+use std::alloc::Global;
+
+/// The squares of a designator on which its men stand.
+pub(crate) fn standing_sets(
+    alloc: Global,
+    d: &Designator,
+    game: &Game,
+    variations: bool,
+    live: &[bool],
+) -> Result<Vec<u64>, NoMemory>
+    requires asked { AreAsked (searched_tree game.now variations) live.now }
+    ensures { IfOk result (λ sets. AreSets sets.items live.now
+        (λ n. meaning.standing_of (node_at game.now.nodes n).position.men (Some d.now))) }
+{
+    let mut sets = Vec::new(alloc);
+    for n in 0..game.len() {
+        let set = standing_set(live[n as usize], d, game, n);
+        sets.push(set)?;
+    }
+    Ok(sets)
+}
+
+fn standing_set(asked: bool, d: &Designator, game: &Game, n: u32) -> u64
+    requires { n < length game.now.nodes }
+    ensures { asked ≡ true → as_squares (is_in result)
+        ≡ meaning.standing_of (node_at game.now.nodes n).position.men (Some d.now) }
+{
+    if asked {
+        standing_on(game.position(n), d)
+    } else {
+        0
+    }
+}
+
+/// The values of a word.
+pub(crate) fn word_values(
+    alloc: Global,
+    word: Plain,
+    game: &Game,
+    variations: bool,
+    live: &[bool],
+) -> Result<Vec<Value>, NoMemory>
+    requires tree { IsTree game.now.nodes }
+    requires asked { AreAsked (searched_tree game.now variations) live.now }
+    ensures { IfOk result (λ values. AreValues values.items live.now (meaning.word_of (searched_tree game.now variations) word)) }
+{
+    let mut values = Vec::new(alloc);
+    for n in 0..game.len() {
+        let value = word_value(alloc, live[n as usize], word, game, variations, n)?;
+        values.push(value)?;
+    }
+    Ok(values)
+}
+
+fn word_value(
+    alloc: Global,
+    asked: bool,
+    word: Plain,
+    game: &Game,
+    variations: bool,
+    n: u32,
+) -> Result<Value, NoMemory>
+    requires tree { IsTree game.now.nodes }
+    requires node { n < length game.now.nodes }
+    ensures { IfOk result (λ value. asked ≡ true → meant value ≡ meaning.word_of (searched_tree game.now variations) word n) }
+{
+    if asked {
+        word_at(alloc, word, game, variations, n)
+    } else {
+        Ok(Value::Truth(false))
+    }
+}

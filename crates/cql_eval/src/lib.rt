@@ -1,0 +1,20 @@
+//! What each filter of a query gives at every node of a game at once: a column. A column is asked for at some nodes, and promises its
+//! values there alone, so that a later part of a filter is asked for where the earlier ones leave something open.
+//!
+//! `cql_syntax/specs/Meaning` has the meaning, `specs/Columns` what a column promises.
+#![tactic(auto)]
+
+pub mod column;
+mod combine;
+mod evaluate;
+pub mod filter_column;
+mod leaves;
+mod moves;
+mod nodes;
+mod patterns;
+mod query;
+mod squares;
+mod tree;
+
+pub use column::Column;
+pub use query::{columns, hit_columns};

@@ -1,0 +1,112 @@
+//! Sets of nodes: a truth for each node of a game.
+ghost use Rattle.std.specs.Prelude.{◌≡◌, ℕ, ◌+◌, ◌≤◌, ◌&&◌, not, length, map, get_or, true, false, IfOk, OnOk, if◌then◌else◌};
+ghost use Rattle.std.specs.List.{list_any};
+ghost use Rattle.cq_position.specs.Games.{is_searched as is_searched_in, numbers};
+ghost use Rattle.cq_position.specs.Search.{nodes_in};
+ghost use Rattle.cql_syntax.specs.Values.{holds};
+ghost use Rattle.cql_values.specs.Trees.{searched_tree};
+ghost use Rattle.cql_eval.specs.Columns.{shown, is_live, is_so, IsNarrowed, AreAsked, IsPart};
+ghost use Rattle.cql_eval.specs.LineAtoms.{AreAllAsked};
+
+use crate::filter_column::FilterColumn;
+use cq_outside::{NoMemory, Steps};
+use cql_values::walks::is_searched;
+use pgn_tree::Game;
+use std::alloc::Global;
+use std::sync::ledger::Ledger;
+
+/// The searched nodes; each takes a step.
+pub(crate) fn searched_nodes<L: Ledger>(
+    alloc: Global,
+    game: &Game,
+    variations: bool,
+    steps: &mut Steps<L>,
+) -> Result<Vec<bool>, NoMemory>
+    ensures nodes { IfOk result (λ all. all.items ≡ map (is_searched_in variations game.now.nodes) (numbers game.now.nodes)) }
+    ensures exact { OnOk result (steps.new ≡ steps.old + length (nodes_in (searched_tree game.now variations))) }
+    ensures most { steps.new ≤ steps.old + length (nodes_in (searched_tree game.now variations)) }
+    ensures rises { steps.old ≤ steps.new }
+{
+    let mut all = Vec::new(alloc);
+    for k in 0..game.len() {
+        let there = is_searched(game, variations, k);
+        all.push(there)?;
+        tick_if(steps, there);
+    }
+    Ok(all)
+}
+
+/// The searched nodes.
+pub(crate) fn all_nodes(alloc: Global, game: &Game, variations: bool) -> Result<Vec<bool>, NoMemory>
+    ensures { IfOk result (λ all. AreAllAsked (searched_tree game.now variations) all.items) }
+{
+    let mut all = Vec::new(alloc);
+    for k in 0..game.len() {
+        let there = is_searched(game, variations, k);
+        all.push(there)?;
+    }
+    Ok(all)
+}
+
+fn tick_if<L: Ledger>(steps: &mut Steps<L>, there: bool)
+    ensures { steps.new ≡ steps.old + (if there then 1 else 0) }
+{
+    if there {
+        steps.tick();
+    }
+}
+
+/// Whether a set has some node.
+pub(crate) fn any_live(live: &[bool]) -> bool
+    ensures { result ≡ list_any (λ b. b) live.now }
+{
+    live.iter().any(|there| *there)
+}
+
+/// The same set.
+pub(crate) fn same(alloc: Global, live: &[bool]) -> Result<Vec<bool>, NoMemory>
+    ensures { IfOk result (λ copy. copy.items ≡ live.now) }
+{
+    let mut copied = Vec::new(alloc);
+    copied.extend_from_slice(live)?;
+    Ok(copied)
+}
+
+/// Of the nodes of a set those at which a column holds, or those at which it doesn't.
+pub(crate) fn narrowed(
+    alloc: Global,
+    live: &[bool],
+    column: &FilterColumn,
+    want: bool,
+) -> Result<Vec<bool>, NoMemory>
+    ensures { IfOk result (λ left. IsNarrowed live.now column.now want left.items) }
+{
+    let mut left = Vec::new(alloc);
+    for n in 0..live.len() {
+        let there = is_there(live[n], column, n, want);
+        left.push(there)?;
+    }
+    Ok(left)
+}
+
+/// The same, where the nodes are those of a game that are asked for.
+pub(crate) fn part_of(
+    alloc: Global,
+    game: &Game,
+    variations: bool,
+    live: &[bool],
+    column: &FilterColumn,
+    want: bool,
+) -> Result<Vec<bool>, NoMemory>
+    requires asked { AreAsked (searched_tree game.now variations) live.now }
+    ensures { IfOk result (λ left. IsPart (searched_tree game.now variations) live.now column.now want left.items) }
+{
+    let left = narrowed(alloc, live, column, want)?;
+    Ok(left)
+}
+
+fn is_there(asked: bool, column: &FilterColumn, n: usize, want: bool) -> bool
+    ensures { result ≡ (asked && is_so want (holds (shown column.now n))) }
+{
+    asked && column.at(n).holds() == want
+}

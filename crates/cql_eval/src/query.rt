@@ -1,0 +1,159 @@
+//! The column of a query.
+ghost use Rattle.std.specs.Prelude.{◌≡◌, ℕ, ◌+◌, ◌≤◌, ◌<◌, ◌&&◌, ◌++◌, [], length, map, get_or, false, true, None, IfOk, OnOk, if◌then◌else◌};
+ghost use Rattle.std.specs.List.{range_with_len};
+ghost use Rattle.cq_position.specs.Games.{IsTree};
+ghost use Rattle.cq_position.specs.Search.{nodes_in};
+ghost use Rattle.cql_syntax.specs.Meaning.{value};
+ghost use Rattle.cql_syntax.specs.TreeOf.{filter_tree, filters_tree};
+ghost use Rattle.cql_syntax.specs.Values.{holds, amount};
+ghost use Rattle.cql_values.specs.Trees.{searched_tree};
+ghost use Rattle.cql_eval.specs.Columns.{AreAsked, is_live, shown};
+ghost use Rattle.cql_eval.specs.Costs.{filter_cost, filters_cost};
+ghost use Rattle.cql_eval.specs.FlatTrees.{IsFlat};
+ghost use Rattle.cql_eval.specs.Hits.{hits_of, keys_of, hit_column, key_columns, key_row_of, item_numbers, AreKeysAtHits};
+
+use crate::column::Column;
+use crate::combine::numbered;
+use crate::evaluate::evaluate;
+use crate::filter_column::FilterColumn;
+use crate::nodes::{narrowed, same, searched_nodes};
+use cq_outside::{NoMemory, Steps};
+use cql_syntax::{Filter, FlatQuery, Form};
+use cql_values::names::Names;
+use pgn_tree::Game;
+use std::alloc::Global;
+use std::sync::ledger::Ledger;
+
+/// Where all items of a query hold in a game, and the values of its sort items at every searched node; at a node that is not searched
+/// nothing holds, and no item has a value.
+///
+/// Each searched node is a step, and so is each look at the atoms of a line.
+pub fn columns<L: Ledger>(
+    alloc: Global,
+    query: &FlatQuery,
+    game: &Game,
+    steps: &mut Steps<L>,
+) -> Result<Column, NoMemory>
+    ensures hits { IfOk result (λ column. hits_of column
+        ≡ hit_column (searched_tree game.now query.now.variations) (filters_tree query.now.items)) }
+    ensures keys { IfOk result (λ column. keys_of column
+        ≡ key_columns (searched_tree game.now query.now.variations) (filters_tree query.now.items)) }
+    ensures nodes { IfOk result (λ column. length (hits_of column) ≡ length game.now.nodes) }
+    ensures least { OnOk result (steps.old + length (nodes_in (searched_tree game.now query.now.variations)) ≤ steps.new) }
+    ensures most { steps.new ≤ steps.old + length (nodes_in (searched_tree game.now query.now.variations))
+        + filters_cost (length game.now.nodes) (filters_tree query.now.items) }
+{
+    // A game's nodes are a tree.
+    prove!(game.is_tree());
+    let names = Names::new(alloc);
+    let variations = query.variations;
+    let all = searched_nodes(alloc, game, variations, steps)?;
+    let mut left = same(alloc, &all)?;
+    let mut keys = Vec::new(alloc);
+    for item in query.items.as_slice() {
+        left = narrowed_by(
+            alloc, item, game, variations, &names, &all, &left, &mut keys, steps,
+        )?;
+    }
+    Ok(Column { hits: left, keys })
+}
+
+/// Where all items of a query hold in a game, and the values of its sort items there alone: a sort item is asked for where all items
+/// before it hold.
+///
+/// Each searched node is a step, and so is each look at the atoms of a line.
+pub fn hit_columns<L: Ledger>(
+    alloc: Global,
+    query: &FlatQuery,
+    game: &Game,
+    steps: &mut Steps<L>,
+) -> Result<Column, NoMemory>
+    ensures hits { IfOk result (λ column. hits_of column
+        ≡ hit_column (searched_tree game.now query.now.variations) (filters_tree query.now.items)) }
+    ensures keys { IfOk result (λ column. AreKeysAtHits (searched_tree game.now query.now.variations) (filters_tree query.now.items)
+        (hits_of column) (keys_of column)) }
+    ensures nodes { IfOk result (λ column. length (hits_of column) ≡ length game.now.nodes) }
+    ensures least { OnOk result (steps.old + length (nodes_in (searched_tree game.now query.now.variations)) ≤ steps.new) }
+    ensures most { steps.new ≤ steps.old + length (nodes_in (searched_tree game.now query.now.variations))
+        + filters_cost (length game.now.nodes) (filters_tree query.now.items) }
+{
+    // A game's nodes are a tree.
+    prove!(game.is_tree());
+    let names = Names::new(alloc);
+    let variations = query.variations;
+    let all = searched_nodes(alloc, game, variations, steps)?;
+    let mut left = same(alloc, &all)?;
+    let mut keys = Vec::new(alloc);
+    for item in query.items.as_slice() {
+        left = narrowed_by(
+            alloc, item, game, variations, &names, &left, &left, &mut keys, steps,
+        )?;
+    }
+    Ok(Column { hits: left, keys })
+}
+
+// The nodes that are left at which an item holds; the values of a sort item at the nodes that are asked for are added.
+#[tactic(auto, unfolding(cql_syntax::specs::Meaning::value, crate::specs::Costs::filter_cost, crate::specs::FlatTrees::IsFlat))]
+fn narrowed_by<L: Ledger>(
+    alloc: Global,
+    item: &Filter,
+    game: &Game,
+    variations: bool,
+    names: &Names,
+    asked: &[bool],
+    left: &[bool],
+    keys: &mut Vec<Vec<Option<i64>>>,
+    steps: &mut Steps<L>,
+) -> Result<Vec<bool>, NoMemory>
+    requires tree { IsTree game.now.nodes }
+    requires names { names.now ≡ [] }
+    requires asked { AreAsked (searched_tree game.now variations) asked.now }
+    requires left { AreAsked (searched_tree game.now variations) left.now }
+    requires within { (n : ℕ) → is_live left.now n ≡ true → is_live asked.now n ≡ true }
+    requires flat { IsFlat (filter_tree item.now) }
+    ensures asked { IfOk result (λ later. AreAsked (searched_tree game.now variations) later.items) }
+    ensures each { IfOk result (λ later. (n : ℕ) → is_live later.items n
+        ≡ (is_live left.now n && holds (value (searched_tree game.now variations) [] [] (filter_tree item.now) n))) }
+    ensures keys { OnOk result (map (λ row. row.items) keys.new.items ≡ map (λ row. row.items) keys.old.items
+        ++ map (key_row_of (searched_tree game.now variations) asked.now) (item_numbers (filter_tree item.now))) }
+    ensures cost { steps.new ≤ steps.old + filter_cost (length game.now.nodes) (filter_tree item.now) }
+    ensures rises { steps.old ≤ steps.new }
+{
+    match &item.form {
+        Form::Sort(.., number) => {
+            let column = evaluate(alloc, number, game, variations, names, asked, steps)?;
+            let row = key_row(alloc, &column, asked)?;
+            keys.push(row)?;
+            let later = numbered(alloc, &column, left)?;
+            Ok(later)
+        }
+        _ => {
+            let column = evaluate(alloc, item, game, variations, names, left, steps)?;
+            let later = narrowed(alloc, left, &column, true)?;
+            Ok(later)
+        }
+    }
+}
+
+// The numbers of a column at the nodes that are asked for, and none at others.
+fn key_row(
+    alloc: Global,
+    column: &FilterColumn,
+    live: &[bool],
+) -> Result<Vec<Option<i64>>, NoMemory>
+    ensures { IfOk result (λ row. row.items
+        ≡ map (λ n. if is_live live.now n then amount (shown column.now n) else None) (range_with_len 0 (length live.now))) }
+{
+    let mut row = Vec::new(alloc);
+    for n in 0..live.len() {
+        let number = number_if(live[n], column, n);
+        row.push(number)?;
+    }
+    Ok(row)
+}
+
+fn number_if(asked: bool, column: &FilterColumn, n: usize) -> Option<i64>
+    ensures { result ≡ (if asked then amount (shown column.now n) else None) }
+{
+    if asked { column.at(n).number() } else { None }
+}

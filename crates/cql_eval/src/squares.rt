@@ -1,0 +1,80 @@
+//! What is left of a set of nodes while squares are tried one by one.
+ghost use Rattle.std.specs.Prelude.{◌≡◌, ℕ, ◌<◌, ◌&&◌, length, get_or, true, false, not, IfOk, if◌then◌else◌};
+ghost use Rattle.cql_syntax.specs.Values as spec;
+ghost use Rattle.cql_values.specs.Shown.{meant};
+ghost use Rattle.cql_eval.specs.Asked.{AreHaving, AreLeft};
+ghost use Rattle.cql_eval.specs.Columns.{shown};
+
+use crate::filter_column::{FilterColumn, truth_at};
+use cq_geometry::Square;
+use cq_outside::NoMemory;
+use cql_values::sets::has_square;
+use cql_values::value::Value;
+use std::alloc::Global;
+
+/// The nodes of a set at which this square is of the column's.
+pub(crate) fn having(
+    alloc: Global,
+    left: &[bool],
+    squares: &FilterColumn,
+    square: Square,
+) -> Result<Vec<bool>, NoMemory>
+    ensures { IfOk result (λ there. AreHaving (shown squares.now) square left.now there.items) }
+{
+    let mut there = Vec::new(alloc);
+    for n in 0..left.len() {
+        let has = has_there(left[n], squares, square, n);
+        there.push(has)?;
+    }
+    Ok(there)
+}
+
+fn has_there(asked: bool, squares: &FilterColumn, square: Square, n: usize) -> bool
+    ensures { result ≡ (asked && spec.has (shown squares.now n) square) }
+{
+    asked && has_one(squares.at(n), square)
+}
+
+fn has_one(value: Value, square: Square) -> bool
+    ensures { result ≡ spec.has (meant value) square }
+{
+    has_square(value.squares(), square)
+}
+
+/// The nodes of a set that are not settled by what a column has at some of them.
+pub(crate) fn unsettled(
+    alloc: Global,
+    every: bool,
+    left: &[bool],
+    there: &[bool],
+    column: &FilterColumn,
+) -> Result<Vec<bool>, NoMemory>
+    ensures { IfOk result (λ later. AreLeft every (λ n. spec.holds (shown column.now n)) left.now there.now later.items) }
+{
+    let mut later = Vec::new(alloc);
+    for n in 0..left.len() {
+        let kept = keeps(every, left[n], truth_at(there, n), column, n);
+        later.push(kept)?;
+    }
+    Ok(later)
+}
+
+fn keeps(every: bool, asked: bool, there: bool, column: &FilterColumn, n: usize) -> bool
+    ensures { result ≡ (asked && not (there
+        && (if every then not (spec.holds (shown column.now n)) else spec.holds (shown column.now n)))) }
+{
+    asked && !(there && column.at(n).holds() != every)
+}
+
+/// Of every square where no square settled it, of some where one did.
+pub(crate) fn decided(alloc: Global, every: bool, left: Vec<bool>) -> Result<Vec<bool>, NoMemory>
+    ensures { IfOk result (λ truths. (n : ℕ) → n < length left.items
+        → get_or truths.items n false ≡ (if get_or left.items n false then every else not every)) }
+{
+    let mut truths = Vec::new(alloc);
+    for n in 0..left.len() {
+        let truth = left[n] == every;
+        truths.push(truth)?;
+    }
+    Ok(truths)
+}

@@ -1,0 +1,187 @@
+-- The hits and the keys of a query, as its column tells them.
+use Rattle.std.proofs.Common.{◌≡◌, ℕ, zero, suc, ◌+◌, ◌<◌, ◌≤◌, Bool, true, false, ◌&&◌, List, [], ◌∷◌, ◌++◌, length, map, take, drop, get_or, All, Option, Some, None, ℤ, refl, sym, ap, ap₂, ◌∙◌, subst, arith}
+use Rattle.std.specs.Prelude.{fold, is_some}
+use Rattle.std.proofs.lemmas.List.{take_more, take_all, drop_all, append-nil}
+use Rattle.std.proofs.lemmas.List.FromFn.{get_or-map-range_with_len}
+use Rattle.std.proofs.lemmas.List.Sums.{fold-append}
+use Rattle.cq_position.specs.Games.{is_searched, searched}
+use Rattle.cq_position.specs.Search.{SearchedTree}
+use Rattle.cql_eval.specs.Hits.{hit_column, number_at, sort_numbers, item_numbers, AreKeysAtHits}
+use Rattle.cql_syntax.specs.Hits.{is_hit, hits_in, all_keys, key_of, item_keys, chosen}
+use Rattle.cql_syntax.specs.Meaning.{value}
+use Rattle.cql_syntax.specs.TreeOf.{filter_tree, filter_trees}
+use Rattle.cql_syntax.specs.Trees.{FilterTree, filter_at, sort, FilterTrees, more_filters}
+use Rattle.cql_syntax.specs.declared.tree.Filter.{Filter}
+use Rattle.cql_syntax.specs.Values.{Value, as_number, amount, of_both, holds, chosen_from}
+use Rattle.cql_plan.specs.Rows.{key_in, IsRowOf, AreRowsFrom}
+use Rattle.cql_plan.proofs.Items.{hits_are_inside}
+use Rattle.cql_plan.proofs.Needed.{hits_hit, hit_searched}
+
+-- whether a node is a hit
+pub column_hit : (tree : SearchedTree) (items : FilterTrees) (hits : List Bool) (k : ℕ) → hits ≡ hit_column tree items → k < length tree.game.nodes
+    → get_or hits k false ≡ (is_searched tree.variations tree.game.nodes k && is_hit tree items k)
+column_hit tree items hits k is low =
+    ap (λ l. get_or l k false) is
+    ∙ get_or-map-range_with_len (λ n. is_searched tree.variations tree.game.nodes n && is_hit tree items n) 0 (length tree.game.nodes) k k false low (omega arith)
+
+-- rows one by one
+
+abbrev tail_of : {A : Type 0} → List A → List A
+tail_of [] = []
+tail_of (x ∷ xs) = xs
+
+record DropsTo {A : Type 0} (d : A) (all : List A) (k : ℕ) (x : A) (xs : List A) : Type 0 where
+  low : k < length all
+  here : get_or all k d ≡ x
+  rest : drop (k + 1) all ≡ xs
+
+drop_at : {A : Type 0} (d : A) (all : List A) (k : ℕ) (x : A) (xs : List A) → drop k all ≡ x ∷ xs → DropsTo d all k x xs
+drop_at d [] zero x xs e = cc
+drop_at d [] (suc k) x xs e = cc
+drop_at d (y ∷ all) zero x xs e = record { low = omega arith; here = ap (λ l. get_or l 0 d) e; rest = ap tail_of e }
+drop_at d (y ∷ all) (suc k) x xs e =
+    let m = drop_at d all k x xs e in
+    let next : suc k + 1 ≡ suc (k + 1) = omega arith in
+    record { low = omega (arith, m.low); here = m.here; rest = ap (λ i. drop i (y ∷ all)) next ∙ m.rest }
+
+rows_from : (tree : SearchedTree) (nodes : List ℕ) (all rows : List (List (Option ℤ))) (k : ℕ) (fs : List FilterTree) → drop k all ≡ rows → map length rows ≡ map (λ f. length tree.game.nodes) fs
+    → All (λ n. map (λ row. get_or row n None) rows ≡ map (number_at tree n) fs) nodes → AreRowsFrom tree nodes all k fs
+rows_from tree nodes all [] k [] d len each = tt
+rows_from tree nodes all [] k (f ∷ fs) d len each = cc
+rows_from tree nodes all (r ∷ rows) k [] d len each = cc
+rows_from tree nodes all (r ∷ rows) k (f ∷ fs) d len each =
+    let m = drop_at [] all k r rows d in (
+      m.low,
+      record {
+        count = ap length m.here ∙ ap (λ l. get_or l 0 0) len;
+        entries = λ i e below. ap (λ row. get_or row (get_or nodes i e) None) m.here ∙ ap (λ l. get_or l 0 None) (each i e below);
+      },
+      rows_from tree nodes all rows (k + 1) fs m.rest (ap tail_of len) (λ i e below. ap tail_of (each i e below)),
+    )
+
+pub rows_there : (tree : SearchedTree) (items : FilterTrees) (hits : List Bool) (rows : List (List (Option ℤ))) (nodes : List ℕ) → AreKeysAtHits tree items hits rows
+    → All (λ n. get_or hits n false ≡ true) nodes → AreRowsFrom tree nodes rows 0 (sort_numbers items)
+rows_there tree items hits rows nodes are hit = rows_from tree nodes rows rows 0 (sort_numbers items) refl are.rows (λ i e below. are.numbers (get_or nodes i e) (hit i e below))
+
+pub record Split (tree : SearchedTree) (nodes : List ℕ) (rows : List (List (Option ℤ))) (k : ℕ) (xs ys : List FilterTree) : Type 0 where
+  pub first : AreRowsFrom tree nodes rows k xs
+  pub rest : AreRowsFrom tree nodes rows (k + length xs) ys
+
+pub rows_split : (tree : SearchedTree) (nodes : List ℕ) (rows : List (List (Option ℤ))) (k : ℕ) (xs ys : List FilterTree) → AreRowsFrom tree nodes rows k (xs ++ ys)
+    → Split tree nodes rows k xs ys
+rows_split tree nodes rows k [] ys h = record { first = tt; rest = (let e : k ≡ k + 0 = omega arith in subst (λ j. AreRowsFrom tree nodes rows j ys) e h) }
+rows_split tree nodes rows k (x ∷ xs) ys h =
+    let m = rows_split tree nodes rows (k + 1) xs ys h.2 in
+    let e : k + 1 + length xs ≡ k + length (x ∷ xs) = omega arith in
+    record { first = (h.0, h.1, m.first); rest = subst (λ j. AreRowsFrom tree nodes rows j ys) e m.rest }
+
+-- a key depends on the numbers alone
+
+module _ (choose : ℤ → ℤ → ℤ) (f g : ℕ → Value) where
+  fold_same : (a b : Option ℤ) (ns : List ℕ) → a ≡ b → All (λ n. amount (f n) ≡ amount (g n)) ns
+      → fold (λ c w. of_both (λ x y. Some (choose x y)) c (amount w)) a (map f ns) ≡ fold (λ c w. of_both (λ x y. Some (choose x y)) c (amount w)) b (map g ns)
+  fold_same a b [] e all = e
+  fold_same a b (n ∷ ns) e all =
+      fold_same (of_both (λ x y. Some (choose x y)) a (amount (f n))) (of_both (λ x y. Some (choose x y)) b (amount (g n))) ns
+      (ap₂ (of_both (λ x y. Some (choose x y))) e (all 0 0 (omega arith))) (λ i d below. all (suc i) d (omega (arith, below)))
+
+  chosen_same : (ns : List ℕ) → All (λ n. amount (f n) ≡ amount (g n)) ns → chosen_from choose (map f ns) ≡ chosen_from choose (map g ns)
+  chosen_same [] all = refl
+  chosen_same (n ∷ ns) all = fold_same (amount (f n)) (amount (g n)) ns (all 0 0 (omega arith)) (λ i d below. all (suc i) d (omega (arith, below)))
+
+pub row_key : (tree : SearchedTree) (nodes : List ℕ) (row : List (Option ℤ)) (f : FilterTree) (least : Bool) → IsRowOf tree nodes row f
+    → key_in least row nodes ≡ key_of least (map (value tree [] [] f) nodes)
+row_key tree nodes row f least is = chosen_same (chosen least) (λ n. as_number (get_or row n None)) (value tree [] [] f) nodes is.entries
+
+pub key_added : (tree : SearchedTree) (nodes : List ℕ) (rows : List (List (Option ℤ))) (old new : List ℤ) (key : ℤ) (item part : FilterTree) (at : ℕ) (least : Bool) (text : List ℕ)
+    → item ≡ filter_at at (sort least text part)
+    → AreRowsFrom tree nodes rows (length old) (item_numbers item) → new ≡ old ++ key ∷ [] → Some key ≡ key_in least (get_or rows (length old) []) nodes
+    → map Some new ≡ map Some old ++ item_keys tree nodes item
+key_added tree nodes rows old new key item part at least text is are more found =
+    let row = subst (λ g. AreRowsFrom tree nodes rows (length old) (item_numbers g)) is are in
+    ap (map Some) more ∙ map_snoc old key ∙ ap (λ o. map Some old ++ o ∷ []) (found ∙ row_key tree nodes (get_or rows (length old) []) part least row.1)
+    ∙ ap (λ g. map Some old ++ item_keys tree nodes g) (sym is)
+  where
+    map_snoc : (xs : List ℤ) (x : ℤ) → map Some (xs ++ x ∷ []) ≡ map Some xs ++ Some x ∷ []
+    map_snoc [] x = refl
+    map_snoc (y ∷ xs) x = ap (λ l. Some y ∷ l) (map_snoc xs x)
+
+-- the key of one node, and with one node more
+
+pub key_first : (least : Bool) (row : List (Option ℤ)) (nodes : List ℕ) (n d : ℕ) (key : ℤ) → 0 < length nodes → n ≡ get_or nodes 0 d → get_or row n None ≡ Some key
+    → Some key ≡ key_in least row (take 1 nodes)
+key_first least row [] n d key some is here = absurd (omega (arith, some))
+key_first least row (m ∷ []) n d key some is here = sym here ∙ ap (λ i. get_or row i None) is
+key_first least row (m ∷ k ∷ nodes) n d key some is here = sym here ∙ ap (λ i. get_or row i None) is
+
+chosen_snoc : (choose : ℤ → ℤ → ℤ) (vs : List Value) (v : Value) (a b : ℤ) → Some a ≡ chosen_from choose vs → amount v ≡ Some b → Some (choose a b) ≡ chosen_from choose (vs ++ v ∷ [])
+chosen_snoc choose [] v a b is here = cc
+chosen_snoc choose (w ∷ vs) v a b is here =
+    ap₂ (of_both (λ x y. Some (choose x y))) is (sym here) ∙ sym (fold-append (λ c u. of_both (λ x y. Some (choose x y)) c (amount u)) (amount w) vs (v ∷ []))
+
+pub key_next : (least : Bool) (row : List (Option ℤ)) (nodes : List ℕ) (k n d : ℕ) (key value later : ℤ) → k < length nodes → n ≡ get_or nodes k d → get_or row n None ≡ Some value
+    → later ≡ chosen least key value
+    → Some key ≡ key_in least row (take k nodes) → Some later ≡ key_in least row (take (k + 1) nodes)
+key_next least row nodes k n d key value later low is here more had =
+    ap Some more
+    ∙ chosen_snoc (chosen least) (map shown (take k nodes)) (shown n) key value had here
+    ∙ ap (chosen_from (chosen least)) (sym (map_snoc shown (take k nodes) n))
+    ∙ ap (λ i. key_in least row (take k nodes ++ i ∷ [])) is
+    ∙ ap (key_in least row) (sym (take_more nodes k d low))
+  where
+    shown : ℕ → Value
+    shown m = as_number (get_or row m None)
+
+    map_snoc : (f : ℕ → Value) (xs : List ℕ) (x : ℕ) → map f (xs ++ x ∷ []) ≡ map f xs ++ f x ∷ []
+    map_snoc f [] x = refl
+    map_snoc f (y ∷ xs) x = ap (λ l. f y ∷ l) (map_snoc f xs x)
+
+pub key_all : (least : Bool) (row : List (Option ℤ)) (nodes : List ℕ) (k : ℕ) (key : ℤ) → length nodes ≤ k → Some key ≡ key_in least row (take k nodes) → Some key ≡ key_in least row nodes
+key_all least row nodes k key end had = had ∙ ap (key_in least row) (take_all k nodes end)
+
+-- every hit is told as one
+pub hits_told : (tree : SearchedTree) (items : FilterTrees) (hits : List Bool) (nodes : List ℕ) → hits ≡ hit_column tree items → nodes ≡ hits_in tree items
+    → All (λ n. get_or hits n false ≡ true) nodes
+unfolding searched
+hits_told tree items hits nodes is are = subst (All (λ n. get_or hits n false ≡ true)) (sym are) (λ i d below.
+    let n = get_or (hits_in tree items) i d in
+    let low : n < length tree.game.nodes = hits_are_inside tree items i d below in
+    column_hit tree items hits n is low ∙ ap₂ (λ a b. a && b) (hit_searched tree items i d below) (hits_hit tree items i d below))
+
+-- what is left of filters
+pub filters_left : (xs : List Filter) (i : ℕ) (f : Filter) → i < length xs → f ≡ get_or xs i f → filter_trees (drop i xs) ≡ more_filters (filter_tree f) (filter_trees (drop (i + 1) xs))
+filters_left [] zero f h e = absurd (omega (arith, h))
+filters_left [] (suc i) f h e = absurd (omega (arith, h))
+filters_left (x ∷ xs) zero f h e = ap (λ (y : Filter). more_filters (filter_tree y) (filter_trees xs)) (sym e)
+filters_left (x ∷ xs) (suc i) f h e =
+    let next : suc i + 1 ≡ suc (i + 1) = omega arith in
+    filters_left xs i f (omega (arith, h)) e ∙ ap (λ j. more_filters (filter_tree f) (filter_trees (drop j (x ∷ xs)))) (sym next)
+
+-- where nothing is left of the items, all keys are there
+pub keys_all : (tree : SearchedTree) (nodes : List ℕ) (xs : List Filter) (i : ℕ) (fs : FilterTrees) (ks : List (Option ℤ)) → length xs ≤ i → filter_trees xs ≡ fs
+    → ks ++ all_keys tree nodes (filter_trees (drop i xs)) ≡ all_keys tree nodes (filter_trees xs) → ks ≡ all_keys tree nodes fs
+keys_all tree nodes xs i fs ks end same had =
+    sym (append-nil ks) ∙ ap (λ ys. ks ++ all_keys tree nodes (filter_trees ys)) (sym (drop_all i xs end)) ∙ had ∙ ap (all_keys tree nodes) same
+
+-- the row of a sort item
+pub sort_row : (tree : SearchedTree) (nodes : List ℕ) (rows : List (List (Option ℤ))) (k : ℕ) (item part : FilterTree) (at : ℕ) (least : Bool) (text : List ℕ)
+    → item ≡ filter_at at (sort least text part)
+    → AreRowsFrom tree nodes rows k (item_numbers item) → (k < length rows) × IsRowOf tree nodes (get_or rows k []) part
+sort_row tree nodes rows k item part at least text is are = let row = subst (λ g. AreRowsFrom tree nodes rows k (item_numbers g)) is are in (row.0, row.1)
+
+pub row_given : (tree : SearchedTree) (nodes : List ℕ) (rows : List (List (Option ℤ))) (k : ℕ) (item part : FilterTree) (at : ℕ) (least : Bool) (text : List ℕ) (row : List (Option ℤ))
+    → item ≡ filter_at at (sort least text part)
+    → AreRowsFrom tree nodes rows k (item_numbers item) → row ≡ get_or rows k [] → IsRowOf tree nodes row part
+row_given tree nodes rows k item part at least text row is are given = subst (λ r. IsRowOf tree nodes r part) (sym given) (sort_row tree nodes rows k item part at least text is are).1
+
+pub entries_inside : (tree : SearchedTree) (nodes : List ℕ) (row : List (Option ℤ)) (f : FilterTree) → IsRowOf tree nodes row f → All (λ n. n < length tree.game.nodes) nodes
+    → All (λ n. n < length row) nodes
+entries_inside tree nodes row f is inside = λ i d below. omega (arith, inside i d below, is.count)
+
+pub entries_there : (tree : SearchedTree) (nodes : List ℕ) (row : List (Option ℤ)) (item part : FilterTree) (at : ℕ) (least : Bool) (text : List ℕ)
+    → item ≡ filter_at at (sort least text part) → IsRowOf tree nodes row part
+    → All (λ n. holds (value tree [] [] item n) ≡ true) nodes → All (λ n. is_some (get_or row n None) ≡ true) nodes
+unfolding value
+entries_there tree nodes row item part at least text is row_is hold = λ i d below.
+    let n = get_or nodes i d in
+    ap is_some (row_is.entries i d below) ∙ ap (λ g. holds (value tree [] [] g n)) (sym is) ∙ hold i d below
