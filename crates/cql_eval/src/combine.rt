@@ -63,10 +63,16 @@ pub(crate) fn chosen(
 {
     let mut truths = Vec::new(alloc);
     for n in 0..live.len() {
-        let truth = if_of(first.at(n), second.at(n), third.at(n)).holds();
+        let truth = is_chosen(first, second, third, n);
         truths.push(truth)?;
     }
     Ok(truths)
+}
+
+fn is_chosen(first: &FilterColumn, second: &FilterColumn, third: &FilterColumn, n: usize) -> bool
+    ensures { result ≡ spec.holds (spec.if_of (shown first.now n) (shown second.now n) (shown third.now n)) }
+{
+    if_of(first.at(n), second.at(n), third.at(n)).holds()
 }
 
 /// What a word makes of a column, where it asks of no other node.

@@ -1,11 +1,13 @@
 -- The hits and the keys of a query, as its column tells them.
-use Rattle.std.proofs.Common.{◌≡◌, ℕ, zero, suc, ◌+◌, ◌<◌, Bool, true, false, ◌&&◌, List, [], ◌∷◌, ◌++◌, length, map, drop, get_or, All, Option, Some, None, ℤ, refl, sym, ap, ap₂, ◌∙◌, subst, arith}
+use Rattle.std.proofs.Common.{◌≡◌, ℕ, zero, suc, ◌+◌, ◌<◌, ◌≤◌, Bool, true, false, ◌&&◌, List, [], ◌∷◌, ◌++◌, length, map, take, drop, get_or, All, Option, Some, None, ℤ, refl, sym, ap, ap₂, ◌∙◌, subst, arith}
 use Rattle.std.specs.Prelude.{fold, is_some}
+use Rattle.std.proofs.lemmas.List.{take_more, take_all, drop_all, append-nil}
 use Rattle.std.proofs.lemmas.List.FromFn.{get_or-map-range_with_len}
+use Rattle.std.proofs.lemmas.List.Sums.{fold-append}
 use Rattle.cq_position.specs.Games.{is_searched, searched}
 use Rattle.cq_position.specs.Search.{SearchedTree}
 use Rattle.cql_eval.specs.Hits.{hit_column, number_at, sort_numbers, item_numbers, AreKeysAtHits}
-use Rattle.cql_syntax.specs.Hits.{is_hit, hits_in, key_of, item_keys, chosen}
+use Rattle.cql_syntax.specs.Hits.{is_hit, hits_in, all_keys, key_of, item_keys, chosen}
 use Rattle.cql_syntax.specs.Meaning.{value}
 use Rattle.cql_syntax.specs.TreeOf.{filter_tree, filter_trees}
 use Rattle.cql_syntax.specs.Trees.{FilterTree, filter_at, sort, FilterTrees, more_filters}
@@ -37,7 +39,10 @@ drop_at : {A : Type 0} (d : A) (all : List A) (k : ℕ) (x : A) (xs : List A) �
 drop_at d [] zero x xs e = cc
 drop_at d [] (suc k) x xs e = cc
 drop_at d (y ∷ all) zero x xs e = record { low = omega arith; here = ap (λ l. get_or l 0 d) e; rest = ap tail_of e }
-drop_at d (y ∷ all) (suc k) x xs e = let m = drop_at d all k x xs e in record { low = omega (arith, m.low); here = m.here; rest = m.rest }
+drop_at d (y ∷ all) (suc k) x xs e =
+    let m = drop_at d all k x xs e in
+    let next : suc k + 1 ≡ suc (k + 1) = omega arith in
+    record { low = omega (arith, m.low); here = m.here; rest = ap (λ i. drop i (y ∷ all)) next ∙ m.rest }
 
 rows_from : (tree : SearchedTree) (nodes : List ℕ) (all rows : List (List (Option ℤ))) (k : ℕ) (fs : List FilterTree) → drop k all ≡ rows → map length rows ≡ map (λ f. length tree.game.nodes) fs
     → All (λ n. map (λ row. get_or row n None) rows ≡ map (number_at tree n) fs) nodes → AreRowsFrom tree nodes all k fs
@@ -58,7 +63,7 @@ pub rows_there : (tree : SearchedTree) (items : FilterTrees) (hits : List Bool) 
     → All (λ n. get_or hits n false ≡ true) nodes → AreRowsFrom tree nodes rows 0 (sort_numbers items)
 rows_there tree items hits rows nodes are hit = rows_from tree nodes rows rows 0 (sort_numbers items) refl are.rows (λ i e below. are.numbers (get_or nodes i e) (hit i e below))
 
-record Split (tree : SearchedTree) (nodes : List ℕ) (rows : List (List (Option ℤ))) (k : ℕ) (xs ys : List FilterTree) : Type 0 where
+pub record Split (tree : SearchedTree) (nodes : List ℕ) (rows : List (List (Option ℤ))) (k : ℕ) (xs ys : List FilterTree) : Type 0 where
   pub first : AreRowsFrom tree nodes rows k xs
   pub rest : AreRowsFrom tree nodes rows (k + length xs) ys
 
@@ -98,6 +103,37 @@ key_added tree nodes rows old new key item part at least text is are more found 
     map_snoc [] x = refl
     map_snoc (y ∷ xs) x = ap (λ l. Some y ∷ l) (map_snoc xs x)
 
+-- the key of one node, and with one node more
+
+pub key_first : (least : Bool) (row : List (Option ℤ)) (nodes : List ℕ) (n d : ℕ) (key : ℤ) → 0 < length nodes → n ≡ get_or nodes 0 d → get_or row n None ≡ Some key → Some key ≡ key_in least row (take 1 nodes)
+key_first least row [] n d key some is here = absurd (omega (arith, some))
+key_first least row (m ∷ []) n d key some is here = sym here ∙ ap (λ i. get_or row i None) is
+key_first least row (m ∷ k ∷ nodes) n d key some is here = sym here ∙ ap (λ i. get_or row i None) is
+
+chosen_snoc : (choose : ℤ → ℤ → ℤ) (vs : List Value) (v : Value) (a b : ℤ) → Some a ≡ chosen_from choose vs → amount v ≡ Some b → Some (choose a b) ≡ chosen_from choose (vs ++ v ∷ [])
+chosen_snoc choose [] v a b is here = cc
+chosen_snoc choose (w ∷ vs) v a b is here =
+    ap₂ (of_both (λ x y. Some (choose x y))) is (sym here) ∙ sym (fold-append (λ c u. of_both (λ x y. Some (choose x y)) c (amount u)) (amount w) vs (v ∷ []))
+
+pub key_next : (least : Bool) (row : List (Option ℤ)) (nodes : List ℕ) (k n d : ℕ) (key value later : ℤ) → k < length nodes → n ≡ get_or nodes k d → get_or row n None ≡ Some value → later ≡ chosen least key value
+    → Some key ≡ key_in least row (take k nodes) → Some later ≡ key_in least row (take (k + 1) nodes)
+key_next least row nodes k n d key value later low is here more had =
+    ap Some more
+    ∙ chosen_snoc (chosen least) (map shown (take k nodes)) (shown n) key value had here
+    ∙ ap (chosen_from (chosen least)) (sym (map_snoc shown (take k nodes) n))
+    ∙ ap (λ i. key_in least row (take k nodes ++ i ∷ [])) is
+    ∙ ap (key_in least row) (sym (take_more nodes k d low))
+  where
+    shown : ℕ → Value
+    shown m = as_number (get_or row m None)
+
+    map_snoc : (f : ℕ → Value) (xs : List ℕ) (x : ℕ) → map f (xs ++ x ∷ []) ≡ map f xs ++ f x ∷ []
+    map_snoc f [] x = refl
+    map_snoc f (y ∷ xs) x = ap (λ l. f y ∷ l) (map_snoc f xs x)
+
+pub key_all : (least : Bool) (row : List (Option ℤ)) (nodes : List ℕ) (k : ℕ) (key : ℤ) → length nodes ≤ k → Some key ≡ key_in least row (take k nodes) → Some key ≡ key_in least row nodes
+key_all least row nodes k key end had = had ∙ ap (key_in least row) (take_all k nodes end)
+
 -- every hit is told as one
 pub hits_told : (tree : SearchedTree) (items : FilterTrees) (hits : List Bool) (nodes : List ℕ) → hits ≡ hit_column tree items → nodes ≡ hits_in tree items → All (λ n. get_or hits n false ≡ true) nodes
 unfolding searched
@@ -111,12 +147,24 @@ pub filters_left : (xs : List Filter) (i : ℕ) (f : Filter) → i < length xs �
 filters_left [] zero f h e = absurd (omega (arith, h))
 filters_left [] (suc i) f h e = absurd (omega (arith, h))
 filters_left (x ∷ xs) zero f h e = ap (λ (y : Filter). more_filters (filter_tree y) (filter_trees xs)) (sym e)
-filters_left (x ∷ xs) (suc i) f h e = filters_left xs i f (omega (arith, h)) e
+filters_left (x ∷ xs) (suc i) f h e =
+    let next : suc i + 1 ≡ suc (i + 1) = omega arith in
+    filters_left xs i f (omega (arith, h)) e ∙ ap (λ j. more_filters (filter_tree f) (filter_trees (drop j (x ∷ xs)))) (sym next)
+
+-- where nothing is left of the items, all keys are there
+pub keys_all : (tree : SearchedTree) (nodes : List ℕ) (xs : List Filter) (i : ℕ) (fs : FilterTrees) (ks : List (Option ℤ)) → length xs ≤ i → filter_trees xs ≡ fs
+    → ks ++ all_keys tree nodes (filter_trees (drop i xs)) ≡ all_keys tree nodes (filter_trees xs) → ks ≡ all_keys tree nodes fs
+keys_all tree nodes xs i fs ks end same had =
+    sym (append-nil ks) ∙ ap (λ ys. ks ++ all_keys tree nodes (filter_trees ys)) (sym (drop_all i xs end)) ∙ had ∙ ap (all_keys tree nodes) same
 
 -- the row of a sort item
 pub sort_row : (tree : SearchedTree) (nodes : List ℕ) (rows : List (List (Option ℤ))) (k : ℕ) (item part : FilterTree) (at : ℕ) (least : Bool) (text : List ℕ) → item ≡ filter_at at (sort least text part)
     → AreRowsFrom tree nodes rows k (item_numbers item) → (k < length rows) × IsRowOf tree nodes (get_or rows k []) part
 sort_row tree nodes rows k item part at least text is are = let row = subst (λ g. AreRowsFrom tree nodes rows k (item_numbers g)) is are in (row.0, row.1)
+
+pub row_given : (tree : SearchedTree) (nodes : List ℕ) (rows : List (List (Option ℤ))) (k : ℕ) (item part : FilterTree) (at : ℕ) (least : Bool) (text : List ℕ) (row : List (Option ℤ)) → item ≡ filter_at at (sort least text part)
+    → AreRowsFrom tree nodes rows k (item_numbers item) → row ≡ get_or rows k [] → IsRowOf tree nodes row part
+row_given tree nodes rows k item part at least text row is are given = subst (λ r. IsRowOf tree nodes r part) (sym given) (sort_row tree nodes rows k item part at least text is are).1
 
 pub entries_inside : (tree : SearchedTree) (nodes : List ℕ) (row : List (Option ℤ)) (f : FilterTree) → IsRowOf tree nodes row f → All (λ n. n < length tree.game.nodes) nodes → All (λ n. n < length row) nodes
 entries_inside tree nodes row f is inside = λ i d below. omega (arith, inside i d below, is.count)

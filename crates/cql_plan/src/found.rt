@@ -104,12 +104,20 @@ fn key_over(row: &[Option<i64>], least: bool, nodes: &[u32]) -> i64
     requires values { All (λ n. is_some (get_or row.now n None) ≡ true) nodes.now }
     ensures { Some result ≡ key_in least row.now nodes.now }
 {
-    let mut key = row[nodes[0] as usize].unwrap();
+    let mut key = entry(row, nodes[0]);
     for k in 1..nodes.len() {
-        let value = row[nodes[k] as usize].unwrap();
+        let value = entry(row, nodes[k]);
         key = chosen(least, key, value);
     }
     key
+}
+
+fn entry(row: &[Option<i64>], n: u32) -> i64
+    requires inside { n < length row.now }
+    requires value { is_some (get_or row.now n None) ≡ true }
+    ensures { get_or row.now n None ≡ Some result }
+{
+    row[n as usize].unwrap()
 }
 
 fn chosen(least: bool, a: i64, b: i64) -> i64

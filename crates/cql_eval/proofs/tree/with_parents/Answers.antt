@@ -1,4 +1,4 @@
-use Rattle.std.proofs.Common.{◌∙◌, false, arith}
+use Rattle.std.proofs.Common.{false, arith}
 use Rattle.cql_eval.proofs.Filling.{any_default}
 use Rattle.cql_eval.proofs.Parents.{parents_begun, parents_more, parents_all}
 use Rattle.cql_eval.proofs.tree.with_parents.Goals as goal
@@ -9,7 +9,7 @@ loop-k-init c = parents_begun c.args.game.now.nodes c.args.set.now c.args.start.
 pub loop-k-preserved : goal.loop-k-preserved
 loop-k-preserved c =
     parents_more c.args.game.now.nodes c.args.set.now c.args.start.items c.loop-k.found.items c.raise.new.found.items c.loop-k.k _
-    (c.index-there.ensures ∙ any_default c.args.set.now c.loop-k.k _ false (omega (arith, c.loop-k-test.true, c.len-k-end.ensures.len, c.requires.set)))
+    (any_default c.args.set.now c.loop-k.k _ false (omega (arith, c.loop-k-test.true, c.len-k-end.ensures.len, c.requires.set)))
     c.raise.ensures c.loop-k.invariant
 
 pub returns : goal.returns

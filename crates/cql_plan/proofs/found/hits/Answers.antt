@@ -1,4 +1,5 @@
-use Rattle.std.proofs.Common.{All, AllPairs, ◌<◌, subst, ◌≡◌, ◌∙◌, ◌++◌, length, sym, ap, arith}
+use Rattle.std.proofs.Common.{All, AllPairs, ◌<◌, subst, ◌≡◌, ◌∙◌, ◌++◌, ◌∷◌, [], length, sym, ap, arith}
+use Rattle.std.specs.Prelude.{cond}
 use Rattle.cq_position.specs.Games.{is_searched}
 use Rattle.cql_values.specs.Trees.{searched_tree}
 use Rattle.cql_syntax.specs.Hits.{is_hit}
@@ -11,7 +12,7 @@ pub loop-k-preserved : goal.loop-k-preserved
 loop-k-preserved c =
     let tree = searched_tree c.args.told.now.game.now c.args.told.now.query.now.variations in
     let items = filters_tree c.args.told.now.query.now.items in
-    c.in_ok-push_if.ensures ∙ ap (λ found. found ++ _) c.loop-k.invariant
+    c.in_ok-push_if.ensures ∙ ap (λ found. found ++ cond c.hit-there.result (c.loop-k.k ∷ []) []) c.loop-k.invariant
     ∙ sym (found_more (is_searched tree.variations tree.game.nodes) (is_hit tree items) c.loop-k.k c.hit-there.result
     (sym (column_hit tree items _ c.loop-k.k c.args.told.now.hits (omega (arith, c.loop-k-test.true, c.len-k-end.ensures.len))) ∙ sym c.hit-there.ensures))
 
