@@ -145,10 +145,10 @@ drop_all (x ∷ xs) zero h = absurd (omega (arith, h))
 drop_all (x ∷ xs) (suc i) h = drop_all xs i (omega (arith, h))
 
 pub part_flat : (xs : List Constituent) (i : ℕ) (c : Constituent) (cs : PartTrees) → i < length xs → c ≡ get_or xs i c → part_trees xs ≡ cs → AreFlatParts cs → IsFlatBody (body_tree c.body)
+unfolding IsFlat
 part_flat xs i c cs below is same flat = at xs i c below is (subst AreFlatParts (sym same) flat)
   where
     at : (ys : List Constituent) (k : ℕ) (g : Constituent) → k < length ys → g ≡ get_or ys k g → AreFlatParts (part_trees ys) → IsFlatBody (body_tree g.body)
-    unfolding IsFlat
     at [] zero g h e all = absurd (omega (arith, h))
     at [] (suc k) g h e all = absurd (omega (arith, h))
     at (y ∷ ys) zero g h e all = subst (λ (x : Constituent). IsFlatBody (body_tree x.body)) (sym e) all.0
