@@ -25,6 +25,9 @@ use Rattle.cql_eval.proofs.FindLaw.{find_is}
 use Rattle.cql_eval.proofs.FlatLaw.{filter_flat, term_flat, no_family}
 use Rattle.cql_eval.proofs.LinesLaw.{few_atoms, few_places, atoms_below, part_flat, atoms_left, table_begun, table_more, table_all, filled_all, at_all, still_clear, atom_tabled, atom_form, table_clear, line_flat, numbers_are, parts_cost_more, parts_cost_within, atoms_within, looks_in}
 use Rattle.cql_eval.proofs.UnaryLaws.{find_up_is, child_holds_is, parent_holds_is}
+use Rattle.cql_eval.proofs.FormLaws.{form_flat, part_is_flat, chain_form, any_form}
+use Rattle.cql_eval.proofs.MoveLaw.{move_is, move_flat, part_is, no_part_is, part_flat as written_flat}
+use Rattle.cql_eval.specs.FlatTrees.{IsFlat}
 use Rattle.cql_eval.proofs.evaluate.+evaluate.Goals as goal
 
 pub chains::all_hold-loop-filter-init : goal.chains::all_hold-loop-filter-init
@@ -117,14 +120,14 @@ pub evaluate-returns-in_ok-truths-in-Square-clause-value : goal.evaluate-returns
 evaluate-returns-in_ok-truths-in-Square-clause-value g t c = λ n l.
     let f = c.args.f.now in
     let every = c.in-Square.every in
-    let text = c.as_slice.result.now in
+    let text = c.as_slice-in-Square.result.now in
     let a = c.deref-in-Square.result.now in
     let b = c.deref-in-Square-2.result.now in
     c.in_ok-truths-in-Square.ensures.value n l
     ∙ ap (λ x. square_of every x (λ s. holds (value (searched_tree c.args.game.now c.args.variations) [] ((text, s) ∷ c.args.names.now) (filter_tree b) n))) (c.in_ok-squares-in-Square.ensures.value n l)
     ∙ square_form (searched_tree c.args.game.now c.args.variations) c.args.names.now (filter_tree f) (filter_tree a) (filter_tree b) f.at every text
     (ap (λ form. filter_at f.at (form_tree form)) c.in-Square.is
-    ∙ ap (λ x. filter_at f.at (square every x (filter_tree c.in-Square.squares.value) (filter_tree c.in-Square.asked.value))) (sym c.as_slice.ensures)
+    ∙ ap (λ x. filter_at f.at (square every x (filter_tree c.in-Square.squares.value) (filter_tree c.in-Square.asked.value))) (sym c.as_slice-in-Square.ensures)
     ∙ ap₂ (λ p q. filter_at f.at (square every text (filter_tree p) (filter_tree q))) (sym c.deref-in-Square.ensures) (sym c.deref-in-Square-2.ensures)) n
 
 pub evaluate-returns-in_ok-truths-in-If-clause-value : goal.evaluate-returns-in_ok-truths-in-If-clause-value
@@ -139,7 +142,7 @@ evaluate-returns-in_ok-truths-in-If-clause-value g t c = λ n l.
     c.deref-in-If-3.ensures.value c.deref-in-If-5.ensures.value c.in_ok-first-in-If.ensures.value c.in_ok-held-in-If.ensures.narrowed c.in_ok-failed-in-If.ensures.narrowed c.in_ok-second-in-If.ensures.value c.in_ok-third-in-If.ensures.value n l
     ∙ if_form (searched_tree c.args.game.now c.args.variations) c.args.names.now (filter_tree f) (filter_tree x) (filter_tree y) (filter_tree z) f.at
     (ap (λ form. filter_at f.at (form_tree form)) c.in-If.is
-    ∙ ap (λ p. filter_at f.at (if_ (filter_tree p) (filter_tree c.in-If.yes.value) (filter_tree c.in-If.no.value))) (sym c.deref-in-If.ensures)
+    ∙ ap (λ p. filter_at f.at (if_ (filter_tree p) (filter_tree c.in-If.then.value) (filter_tree c.in-If.otherwise.value))) (sym c.deref-in-If.ensures)
     ∙ ap₂ (λ p q. filter_at f.at (if_ (filter_tree x) (filter_tree p) (filter_tree q))) (sym c.deref-in-If-2.ensures) (sym c.deref-in-If-4.ensures)) n
 
 pub chains::all_hold-returns-in_err-column-clause-cost : goal.chains::all_hold-returns-in_err-column-clause-cost
@@ -431,3 +434,151 @@ unary_column-returns-in_ok-found-in-Parent-clause-value g t c = rw c.in-Parent.i
     c.in_ok-wide-in-Parent.ensures c.deref-in-Parent.ensures.value c.deref-in-Parent-2.ensures.value c.deref-in-Parent-3.ensures.value
     c.in_ok-column-in-Parent.ensures.value c.in_ok-set-in-Parent.ensures c.in_ok-found-in-Parent.ensures n
     (omega (arith, live_below c.args.live.now n l, c.requires.asked.count)) l)
+
+-- the parts of a flat filter are flat
+
+pub evaluate-unary_column-requires : goal.evaluate-unary_column-requires
+unfolding IsFlat
+evaluate-unary_column-requires g t c =
+    let flat = form_flat c.args.f.now _ c.in-Unary.is c.requires.flat in
+    (search rules, (c.requires.tree, search rules, part_is_flat c.deref.result.now c.in-Unary.part.value c.deref.ensures flat))
+
+pub evaluate-evaluate-requires : goal.evaluate-evaluate-requires
+unfolding IsFlat
+evaluate-evaluate-requires g t c =
+    let flat = form_flat c.args.f.now _ c.in-Steps.is c.requires.flat in
+    (search rules, (c.requires.tree, search rules, part_is_flat c.deref-in-Steps.result.now c.in-Steps.part.value c.deref-in-Steps.ensures flat))
+
+pub evaluate-chain_column-requires : goal.evaluate-chain_column-requires
+unfolding IsFlat
+evaluate-chain_column-requires g t c =
+    let flat = form_flat c.args.f.now _ c.in-Chain.is c.requires.flat in
+    (search rules, (c.requires.tree, search rules, flat))
+
+pub evaluate-terms_of-requires : goal.evaluate-terms_of-requires
+unfolding IsFlat
+evaluate-terms_of-requires g t c =
+    let flat = form_flat c.args.f.now _ c.in-Sum.is c.requires.flat in
+    (search rules, (c.requires.tree, search rules, flat))
+
+pub evaluate-evaluate-requires-in-Pair : goal.evaluate-evaluate-requires-in-Pair
+unfolding IsFlat
+evaluate-evaluate-requires-in-Pair g t c =
+    let flat = form_flat c.args.f.now _ c.in-Pair.is c.requires.flat in
+    (search rules, (c.requires.tree, search rules, part_is_flat c.deref-in-Pair.result.now c.in-Pair.first.value c.deref-in-Pair.ensures flat.0))
+
+pub evaluate-evaluate-requires-in-Pair-2 : goal.evaluate-evaluate-requires-in-Pair-2
+unfolding IsFlat
+evaluate-evaluate-requires-in-Pair-2 g t c =
+    let flat = form_flat c.args.f.now _ c.in-Pair.is c.requires.flat in
+    (search rules, (c.requires.tree, search rules, part_is_flat c.deref-in-Pair-2.result.now c.in-Pair.second.value c.deref-in-Pair-2.ensures flat.1))
+
+pub evaluate-evaluate-requires-in-If : goal.evaluate-evaluate-requires-in-If
+unfolding IsFlat
+evaluate-evaluate-requires-in-If g t c =
+    let flat = form_flat c.args.f.now _ c.in-If.is c.requires.flat in
+    (search rules, (c.requires.tree, search rules, part_is_flat c.deref-in-If.result.now c.in-If.condition.value c.deref-in-If.ensures flat.0))
+
+pub evaluate-evaluate-requires-in-If-2 : goal.evaluate-evaluate-requires-in-If-2
+unfolding IsFlat
+evaluate-evaluate-requires-in-If-2 g t c =
+    let flat = form_flat c.args.f.now _ c.in-If.is c.requires.flat in
+    (search rules, (c.requires.tree, search rules, part_is_flat c.deref-in-If-2.result.now c.in-If.then.value c.deref-in-If-2.ensures flat.1.0))
+
+pub evaluate-evaluate-requires-in-If-3 : goal.evaluate-evaluate-requires-in-If-3
+unfolding IsFlat
+evaluate-evaluate-requires-in-If-3 g t c =
+    let flat = form_flat c.args.f.now _ c.in-If.is c.requires.flat in
+    (search rules, (c.requires.tree, search rules, part_is_flat c.deref-in-If-4.result.now c.in-If.otherwise.value c.deref-in-If-4.ensures flat.1.1))
+
+pub evaluate-evaluate-requires-in-Square : goal.evaluate-evaluate-requires-in-Square
+unfolding IsFlat
+evaluate-evaluate-requires-in-Square g t c =
+    let flat = form_flat c.args.f.now _ c.in-Square.is c.requires.flat in
+    (search rules, (c.requires.tree, search rules, part_is_flat c.deref-in-Square.result.now c.in-Square.squares.value c.deref-in-Square.ensures flat.0))
+
+pub evaluate-square_truths-requires : goal.evaluate-square_truths-requires
+unfolding IsFlat
+evaluate-square_truths-requires g t c =
+    let flat = form_flat c.args.f.now _ c.in-Square.is c.requires.flat in
+    (search rules, (c.requires.tree, search rules, part_is_flat c.deref-in-Square-2.result.now c.in-Square.asked.value c.deref-in-Square-2.ensures flat.1))
+
+pub evaluate-played_truths-requires : goal.evaluate-played_truths-requires
+unfolding IsFlat
+evaluate-played_truths-requires g t c =
+    let flat = form_flat c.args.f.now _ c.in-Played.is c.requires.flat in
+    (search rules, (c.requires.tree, search rules, flat))
+
+pub evaluate-evaluate-requires-in-Sort : goal.evaluate-evaluate-requires-in-Sort
+unfolding IsFlat
+evaluate-evaluate-requires-in-Sort g t c =
+    let flat = form_flat c.args.f.now _ c.in-Sort.is c.requires.flat in
+    (search rules, (c.requires.tree, search rules, part_is_flat c.deref-in-Sort.result.now c.in-Sort.part.value c.deref-in-Sort.ensures flat))
+
+pub evaluate-any_column-requires : goal.evaluate-any_column-requires
+unfolding IsFlat
+evaluate-any_column-requires g t c =
+    let flat = form_flat c.args.f.now _ c.in-Any.is c.requires.flat in
+    (search rules, (c.requires.tree, search rules, flat))
+
+pub evaluate-line_numbers-requires : goal.evaluate-line_numbers-requires
+unfolding IsFlat
+evaluate-line_numbers-requires g t c =
+    let flat = form_flat c.args.f.now _ c.in-Line.is c.requires.flat in
+    (search rules, (c.requires.tree, search rules, flat))
+
+-- chains, and any of a kind
+
+pub evaluate-returns-in-Chain-clause-value : goal.evaluate-returns-in-Chain-clause-value
+evaluate-returns-in-Chain-clause-value g t c =
+    let f = c.args.f.now in
+    subst (λ v. IfOk c.chain_column.result (λ x. IsColumn x c.args.live.now v))
+    (chain_form (searched_tree c.args.game.now c.args.variations) c.args.names.now (filter_tree f) f.at c.in-Chain.chain (filters_tree c.in-Chain.parts)
+    (ap (λ form. filter_at f.at (form_tree form)) c.in-Chain.is))
+    c.chain_column.ensures.value
+
+pub evaluate-returns-in-Any-clause-value : goal.evaluate-returns-in-Any-clause-value
+evaluate-returns-in-Any-clause-value g t c =
+    let f = c.args.f.now in
+    subst (λ v. IfOk c.any_column.result (λ x. IsColumn x c.args.live.now v))
+    (any_form (searched_tree c.args.game.now c.args.variations) c.args.names.now (filter_tree f) f.at c.in-Any.kind (filters_tree c.in-Any.parts)
+    (ap (λ form. filter_at f.at (form_tree form)) c.in-Any.is))
+    c.any_column.ensures.value
+
+-- the move filter
+
+pub played::played_truths-written_column-requires : goal.played::played_truths-written_column-requires
+played::played_truths-written_column-requires g t c =
+    (search rules, (c.requires.tree, search rules, (move_flat c.args.played.now c.requires.flat).0))
+
+pub played::played_truths-written_column-requires-2 : goal.played::played_truths-written_column-requires-2
+played::played_truths-written_column-requires-2 g t c =
+    (search rules, (c.requires.tree, c.requires.asked, (move_flat c.args.played.now c.requires.flat).1.0))
+
+pub played::played_truths-written_column-requires-3 : goal.played::played_truths-written_column-requires-3
+played::played_truths-written_column-requires-3 g t c =
+    (search rules, (c.requires.tree, search rules, (move_flat c.args.played.now c.requires.flat).1.1.0))
+
+pub played::played_truths-written_column-requires-4 : goal.played::played_truths-written_column-requires-4
+played::played_truths-written_column-requires-4 g t c =
+    (search rules, (c.requires.tree, c.requires.asked, (move_flat c.args.played.now c.requires.flat).1.1.1))
+
+pub played::played_truths-returns-clause-value : goal.played::played_truths-returns-clause-value
+played::played_truths-returns-clause-value g t c = λ n l.
+    c.in_ok-truths.ensures n l
+    ∙ move_is (searched_tree c.args.game.now c.args.variations) c.args.names.now c.args.played.now c.args.live.now c.in_ok-wide.wide.items c.deref.result.now c.deref-2.result.now
+    c.in_ok-origin.origin c.in_ok-goal.goal c.in_ok-taken.taken c.in_ok-promoted.promoted c.in_ok-wide.ensures c.deref.ensures.value c.deref-2.ensures.value
+    c.in_ok-origin.ensures.value c.in_ok-goal.ensures.value c.in_ok-taken.ensures.value c.in_ok-promoted.ensures.value n l
+
+pub played::written_column-evaluate-requires : goal.played::written_column-evaluate-requires
+played::written_column-evaluate-requires g t c =
+    (search rules, (c.requires.tree, c.requires.asked, written_flat c.args.written.now c.in-Some.filter c.deref.result.now c.in-Some.is c.deref.ensures c.requires.flat))
+
+pub played::written_column-returns-in_ok-column-in-Some-clause-value : goal.played::written_column-returns-in_ok-column-in-Some-clause-value
+played::written_column-returns-in_ok-column-in-Some-clause-value g t c =
+    part_is (searched_tree c.args.game.now c.args.variations) c.args.names.now c.args.live.now c.args.written.now c.in-Some.filter c.deref.result.now c.in_ok-column-in-Some.column
+    c.in-Some.is c.deref.ensures c.in_ok-column-in-Some.ensures.value
+
+pub played::written_column-returns-in-None-clause-value : goal.played::written_column-returns-in-None-clause-value
+played::written_column-returns-in-None-clause-value g t c =
+    no_part_is (searched_tree c.args.game.now c.args.variations) c.args.names.now c.args.live.now c.args.written.now c.in-None.is
