@@ -45,8 +45,8 @@ spot_at tree n = record {
 }
 
 -- no atom from k on holds anywhere yet
-abbrev pub AreClearFrom : AtomTable → ℕ → Type 0
-AreClearFrom table k = (a n : ℕ) → k ≤ a → holds_in table a n ≡ false
+pub record AreClearFrom (table : AtomTable) (k : ℕ) : Type 0 where
+  pub clear : (a n : ℕ) → k ≤ a → holds_in table a n ≡ false
 
 -- an atom holds at a node where it is put there, and all else is as it was
 pub record IsPut (which node : ℕ) (there : Bool) (old new : AtomTable) : Type 0 where

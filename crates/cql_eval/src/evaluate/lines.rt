@@ -26,6 +26,7 @@ use std::sync::ledger::Ledger;
 /// The greatest length of a path from each node that a line's pattern spells: its atoms are asked for at all searched nodes, and the
 /// automaton of its pattern then answers all nodes at once.
 #[cycle(evaluate)]
+#[tactic(auto, using(crate::proofs::LinesLaw::line_parts_flat, crate::proofs::LinesLaw::line_few, crate::proofs::LinesLaw::table_nodes, crate::proofs::LinesLaw::table_clear))]
 pub(super) fn line_numbers<L: Ledger>(
     alloc: Global,
     line: &Line,
@@ -65,7 +66,7 @@ pub(super) fn line_numbers<L: Ledger>(
 
 // Puts the atoms of parts in a row into a table, with the numbers from the first on, and answers the number after them.
 #[cycle(evaluate)]
-#[tactic(auto, unfolding(crate::specs::Costs::filter_cost))]
+#[tactic(auto, using(crate::proofs::LinesLaw::part_flat, crate::proofs::LinesLaw::part_few, crate::proofs::LinesLaw::part_atoms, crate::proofs::LinesLaw::part_nodes, crate::proofs::LinesLaw::part_clear), unfolding(crate::specs::Costs::filter_cost))]
 fn put_parts<L: Ledger>(
     alloc: Global,
     parts: &Constituents,
