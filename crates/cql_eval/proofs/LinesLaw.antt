@@ -46,7 +46,7 @@ use Rattle.cql_syntax.specs.declared.tree.Line.{Line as OneLine, Line', out-Line
 use Rattle.cql_eval.specs.Columns.{is_live, shown, IsColumn}
 use Rattle.cql_eval.specs.Costs.{filter_cost, line_cost, parts_atoms, body_atoms, parts_cost, body_cost}
 use Rattle.cql_eval.specs.FlatTrees.{IsFlatLine, AreFlatParts, IsFlatBody, IsFlat}
-use Rattle.cql_eval.specs.LineAtoms.{AreAllAsked, parts_numbered, body_numbered, limits_in, spot_at, AreClearFrom, IsPut, IsFilledIn, AreTabled}
+use Rattle.cql_eval.specs.LineAtoms.{AreAllAsked, parts_numbered, body_numbered, limits_in, spot_at, AreClearFrom, HasRoom, IsPut, IsFilledIn, AreTabled}
 use Rattle.cql_eval.specs.declared.filter_column.FilterColumn.{FilterColumn}
 use Rattle.cql_eval.proofs.Filling.{split_last, live_below}
 use Rattle.cql_syntax.proofs.TabledLines.{lines_are_theirs}
@@ -282,25 +282,19 @@ pub at_all : (tree : SearchedTree) (e : Names) (first : ℕ) (xs : List Constitu
 at_all tree e first xs i at old table cs end same had = let l = atoms_end xs i end in let s = ap parts_atoms same in omega (arith, l, s, had.count)
 
 pub still_clear : (old table : AtomTable) (first at : ℕ) → first ≤ at → AreClearFrom old first → IsFilledIn old table first at → AreClearFrom table at
-still_clear old table first at beyond clear filled = record { clear = λ a n h. filled.after a n h ∙ clear.clear a n (omega (arith, h, beyond)) }
+still_clear old table first at beyond clear filled a n h = filled.after a n h ∙ clear a n (omega (arith, h, beyond))
 
--- what the next part asks, of the parts so far
-
-pub part_few : (tree : SearchedTree) (e : Names) (first : ℕ) (xs : List Constituent) (i : ℕ) (c : Constituent) (at most : ℕ) (old table : AtomTable) (cs : PartTrees) → TableSoFar tree e first xs i at old table
-    → i < length xs → c ≡ get_or xs i c → part_trees xs ≡ cs → first + parts_atoms cs ≤ most → at + body_atoms (body_tree c.body) ≤ most
-part_few tree e first xs i c at most old table cs had below is same few =
-    let l = atoms_left xs i c below is in let s = ap parts_atoms same in omega (arith, l, s, had.count, few)
-
-pub part_atoms : (tree : SearchedTree) (e : Names) (first : ℕ) (xs : List Constituent) (i : ℕ) (c : Constituent) (at : ℕ) (old table : AtomTable) (cs : PartTrees) → TableSoFar tree e first xs i at old table
-    → i < length xs → c ≡ get_or xs i c → part_trees xs ≡ cs → first + parts_atoms cs ≤ atoms_of old → at + body_atoms (body_tree c.body) ≤ atoms_of table
-part_atoms tree e first xs i c at old table cs had below is same few =
-    let f = part_few tree e first xs i c at (atoms_of old) old table cs had below is same few in omega (arith, f, had.filled.atoms)
-
-pub part_nodes : (tree : SearchedTree) (e : Names) (first : ℕ) (xs : List Constituent) (i at n : ℕ) (old table : AtomTable) → TableSoFar tree e first xs i at old table → nodes_of old ≡ n → nodes_of table ≡ n
-part_nodes tree e first xs i at n old table had is = had.filled.nodes ∙ is
-
-pub part_clear : (tree : SearchedTree) (e : Names) (first : ℕ) (xs : List Constituent) (i at : ℕ) (old table : AtomTable) → TableSoFar tree e first xs i at old table → AreClearFrom old first → AreClearFrom table at
-part_clear tree e first xs i at old table had clear = still_clear old table first at had.beyond clear had.filled
+-- the next part has room too
+pub part_room : (tree : SearchedTree) (e : Names) (first : ℕ) (xs : List Constituent) (i : ℕ) (c : Constituent) (at count : ℕ) (old table : AtomTable) (cs : PartTrees) → TableSoFar tree e first xs i at old table
+    → i < length xs → c ≡ get_or xs i c → part_trees xs ≡ cs → HasRoom count first (first + parts_atoms cs) old → HasRoom count at (at + body_atoms (body_tree c.body)) table
+part_room tree e first xs i c at count old table cs had below is same room =
+    let l = atoms_left xs i c below is in let s = ap parts_atoms same in
+    record {
+      few = omega (arith, l, s, had.count, room.few);
+      atoms = omega (arith, l, s, had.count, room.atoms, had.filled.atoms);
+      nodes = had.filled.nodes ∙ room.nodes;
+      clear = still_clear old table first at had.beyond room.clear had.filled;
+    }
 
 -- one atom
 
@@ -470,9 +464,6 @@ line_flat (Line' back primary extent cs) h = h
 pub line_parts_flat : (l : OneLine) → IsFlatLine (line_tree l) → AreFlatParts (parts_tree (out-Line l).parts)
 line_parts_flat l h = (line_flat l h).1
 
-pub line_few : (l : OneLine) → IsFlatLine (line_tree l) → parts_atoms (parts_tree (out-Line l).parts) ≤ 64
-line_few l h = few_atoms (parts_tree (out-Line l).parts) (line_flat l h).0
-
 line_costs : (nodes : ℕ) (l : OneLine) → line_cost nodes (line_tree l) ≡ parts_atoms (parts_tree (out-Line l).parts) * nodes + parts_cost nodes (parts_tree (out-Line l).parts)
 unfolding filter_cost out-Line Carrier.out
 line_costs nodes (Line' back primary extent cs) = refl
@@ -508,10 +499,16 @@ count_words d zero = refl
 count_words d (suc j) = ap suc (count_words d j)
 
 pub table_clear : (table : AtomTable) (k : ℕ) → words_of table ≡ replicate k 0 → AreClearFrom table 0
-table_clear table k is = record { clear = λ a n h. ap (λ ws. holds ws a n) is ∙ ap (λ w. bit_at w a == 1) (same_words 0 k n) ∙ ap (λ b. b == 1) (bit_at-zero a) }
+table_clear table k is a n h = ap (λ ws. holds ws a n) is ∙ ap (λ w. bit_at w a == 1) (same_words 0 k n) ∙ ap (λ b. b == 1) (bit_at-zero a)
 
 pub table_nodes : (table : AtomTable) (k n : ℕ) → words_of table ≡ replicate k 0 → k ≡ n → nodes_of table ≡ n
 table_nodes table k n is same = ap length is ∙ count_words 0 k ∙ same
+
+pub line_room : (l : OneLine) (table : AtomTable) (a k n : ℕ) → IsFlatLine (line_tree l) → atoms_of table ≡ a → a ≡ 0 + parts_atoms (parts_tree (out-Line l).parts) → words_of table ≡ replicate k 0 → k ≡ n
+    → HasRoom n 0 (0 + parts_atoms (parts_tree (out-Line l).parts)) table
+line_room l table a k n flat atoms is words same =
+    let few = few_atoms (parts_tree (out-Line l).parts) (line_flat l flat).0 in
+    record { few = omega (arith, few); atoms = omega (arith, atoms, is); nodes = table_nodes table k n words same; clear = table_clear table k words }
 
 pub atom_form : (tree : SearchedTree) (e : Names) (table : AtomTable) (first : ℕ) (b : BodyTree) (f : FilterTree) → b ≡ atom f → AreTabled tree table (first + 1) (one first) (one (value tree [] e f))
     → AreTabled tree table (first + body_atoms b) (body_numbered first b) (body_pattern tree [] e b)

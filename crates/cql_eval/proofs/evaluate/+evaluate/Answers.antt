@@ -293,10 +293,10 @@ pub lines::put_body-put_column-requires-clause-atom : goal.lines::put_body-put_c
 lines::put_body-put_column-requires-clause-atom g t c =
     let form : body_tree c.args.body.now ≡ atom (filter_tree c.deref.result.now) =
         ap body_tree c.in-Atom.is ∙ ap (λ p. atom (filter_tree p)) (sym c.deref.ensures) in
-    omega (arith, c.requires.atoms, ap body_atoms form)
+    omega (arith, c.requires.room.atoms, ap body_atoms form)
 
 pub lines::put_body-put_column-requires-clause-clear : goal.lines::put_body-put_column-requires-clause-clear
-lines::put_body-put_column-requires-clause-clear g t c = λ n. c.requires.clear.clear c.args.first n (omega arith)
+lines::put_body-put_column-requires-clause-clear g t c = λ n. c.requires.room.clear c.args.first n (omega arith)
 
 pub lines::put_body-returns-in_ok-column-in-Atom-clause-value : goal.lines::put_body-returns-in_ok-column-in-Atom-clause-value
 lines::put_body-returns-in_ok-column-in-Atom-clause-value g t c =
