@@ -1,5 +1,5 @@
-use Rattle.std.proofs.Common.{rules, ◌≡◌, [], ◌∷◌, ◌∙◌, ap, ap₂, sym, subst, arith, refl, length, not, true, false}
-use Rattle.std.specs.Prelude.{IfOk, ◌<◌}
+use Rattle.std.proofs.Common.{rules, map, ◌≡◌, [], ◌∷◌, ◌∙◌, ap, ap₂, sym, subst, arith, refl, length, not, true, false}
+use Rattle.std.specs.Prelude.{option_map, pos, IfOk, ◌<◌}
 use Rattle.std.specs.List.{list_all, list_any}
 use Rattle.cql_syntax.specs.Meaning.{value, values, unary_of}
 use Rattle.cql_syntax.specs.TreeOf.{filter_tree, form_tree, filters_tree, terms_tree, parts_tree, body_tree}
@@ -15,7 +15,6 @@ use Rattle.cql_eval.specs.LineAtoms.{spot_at}
 use Rattle.cql_lines.specs.PatternTrees.{pattern_tree}
 use Rattle.cql_lines.specs.Tables.{atoms_of}
 use Rattle.cql_lines.specs.Trees.{spots_of}
-use Rattle.std.proofs.lemmas.List.{length-replicate}
 use Rattle.std.proofs.lemmas.List.FromFn.{length-map-range_with_len}
 use Rattle.cql_eval.proofs.Costing.{cost_more, cost_within, terms_cost_more, terms_cost_within, square_cost}
 use Rattle.cql_eval.proofs.Gathering.{columns_begun, columns_more, columns_all, terms_begun, terms_more, terms_all}
@@ -23,7 +22,7 @@ use Rattle.cql_eval.proofs.Filling.{narrowed_asked, live_below}
 use Rattle.cql_eval.proofs.Lives.{none_live}
 use Rattle.cql_eval.proofs.FindLaw.{find_is}
 use Rattle.cql_eval.proofs.FlatLaw.{filter_flat, term_flat, no_family}
-use Rattle.cql_eval.proofs.LinesLaw.{few_atoms, few_places, atoms_below, part_flat, atoms_left, table_begun, table_more, table_all, filled_all, at_all, still_clear, atom_tabled, atom_form, table_clear, line_flat, numbers_are, parts_cost_more, parts_cost_within, atoms_within, looks_in}
+use Rattle.cql_eval.proofs.LinesLaw.{few_atoms, few_places, atoms_below, table_begun, table_more, table_all, filled_all, at_all, atom_tabled, atom_form, table_nodes, line_flat, numbers_are, parts_cost_more, parts_cost_within, atoms_within, looks_in}
 use Rattle.cql_eval.proofs.UnaryLaws.{find_up_is, child_holds_is, parent_holds_is}
 use Rattle.cql_eval.proofs.FormLaws.{form_flat, part_is_flat, chain_form, any_form}
 use Rattle.cql_eval.proofs.MoveLaw.{move_is, move_flat, part_is, no_part_is, part_flat as written_flat}
@@ -272,21 +271,6 @@ lines::put_parts-loop-part-preserved g t c = record {
   rises = omega (arith, c.loop-part.invariant.rises, c.put_body.ensures.rises);
 }
 
-pub lines::put_parts-put_body-requires : goal.lines::put_parts-put_body-requires
-lines::put_parts-put_body-requires g t c =
-    let left = atoms_left c.as_slice-part-items.result.now c.loop-part.part-index c.part-item.result c.loop-part-test.true c.part-item.is in
-    let same = ap parts_atoms c.as_slice-part-items.ensures.tree in
-    let filled = c.loop-part.invariant.table.filled in (
-      search rules,
-      (c.requires.tree, c.requires.all,
-      part_flat c.as_slice-part-items.result.now c.loop-part.part-index c.part-item.result (parts_tree c.args.parts.now)
-      c.loop-part-test.true c.part-item.is c.as_slice-part-items.ensures.tree c.requires.flat,
-      omega (arith, left, same, c.loop-part.invariant.table.count, c.requires.few),
-      omega (arith, left, same, c.loop-part.invariant.table.count, c.requires.atoms, filled.atoms),
-      filled.nodes ∙ c.requires.nodes,
-      still_clear _ c.loop-part.table c.args.first c.loop-part.at c.loop-part.invariant.table.beyond c.requires.clear filled),
-    )
-
 pub lines::put_parts-returns-clause-next : goal.lines::put_parts-returns-clause-next
 lines::put_parts-returns-clause-next g t c =
     at_all (searched_tree c.args.game.now c.args.variations) c.args.names.now c.args.first c.as_slice-part-items.result.now c.loop-part.part-index c.loop-part.at _ c.loop-part.table
@@ -312,10 +296,10 @@ pub lines::put_body-put_column-requires-clause-atom : goal.lines::put_body-put_c
 lines::put_body-put_column-requires-clause-atom g t c =
     let form : body_tree c.args.body.now ≡ atom (filter_tree c.deref.result.now) =
         ap body_tree c.in-Atom.is ∙ ap (λ p. atom (filter_tree p)) (sym c.deref.ensures) in
-    omega (arith, c.requires.atoms, ap body_atoms form)
+    omega (arith, c.requires.room.atoms, ap body_atoms form)
 
 pub lines::put_body-put_column-requires-clause-clear : goal.lines::put_body-put_column-requires-clause-clear
-lines::put_body-put_column-requires-clause-clear g t c = λ n. c.requires.clear c.args.first n (omega arith)
+lines::put_body-put_column-requires-clause-clear g t c = λ n. c.requires.room.clear c.args.first n (omega arith)
 
 pub lines::put_body-returns-in_ok-column-in-Atom-clause-value : goal.lines::put_body-returns-in_ok-column-in-Atom-clause-value
 lines::put_body-returns-in_ok-column-in-Atom-clause-value g t c =
@@ -329,26 +313,16 @@ pub lines::line_numbers-parts_pattern-requires : goal.lines::line_numbers-parts_
 lines::line_numbers-parts_pattern-requires g t c = omega (arith, few_atoms _ (line_flat c.args.line.now c.requires.flat).0)
 
 pub lines::line_numbers-build-requires : goal.lines::line_numbers-build-requires
-lines::line_numbers-build-requires g t c =
-    few_places (parts_tree (out-Line c.args.line.now).parts) (pattern_tree c.in_ok-pattern.pattern) c.in_ok-pattern.ensures.pattern
-    (line_flat c.args.line.now c.requires.flat).0
+lines::line_numbers-build-requires g t c = record {
+  places = few_places (parts_tree (out-Line c.args.line.now).parts) (pattern_tree c.in_ok-pattern.pattern) c.in_ok-pattern.ensures.pattern
+      (line_flat c.args.line.now c.requires.flat).0;
+}
 
 pub lines::line_numbers-new-requires-clause-atoms : goal.lines::line_numbers-new-requires-clause-atoms
 lines::line_numbers-new-requires-clause-atoms g t c = omega (arith, few_atoms _ (line_flat c.args.line.now c.requires.flat).0, c.in_ok-pattern.ensures.next)
 
 pub lines::line_numbers-new-requires-clause-nodes : goal.lines::line_numbers-new-requires-clause-nodes
 lines::line_numbers-new-requires-clause-nodes g t c = omega (arith, c.requires.tree.few, c.len.ensures.len)
-
-pub lines::line_numbers-put_parts-requires : goal.lines::line_numbers-put_parts-requires
-lines::line_numbers-put_parts-requires g t c =
-    let few = few_atoms (parts_tree (out-Line c.args.line.now).parts) (line_flat c.args.line.now c.requires.flat).0 in (
-      search rules,
-      (c.requires.tree, search rules, (line_flat c.args.line.now c.requires.flat).1,
-      omega (arith, few),
-      omega (arith, c.in_ok-table.ensures.atoms, c.in_ok-pattern.ensures.next),
-      (let bits = ap length c.in_ok-table.ensures.bits in omega (arith, bits, length-replicate c.len.result 0, c.len.ensures.len)),
-      table_clear c.in_ok-table.table c.len.result c.in_ok-table.ensures.bits),
-    )
 
 pub lines::line_numbers-line_values-requires-clause-atoms : goal.lines::line_numbers-line_values-requires-clause-atoms
 lines::line_numbers-line_values-requires-clause-atoms g t c =
@@ -358,9 +332,9 @@ lines::line_numbers-line_values-requires-clause-atoms g t c =
 
 pub lines::line_numbers-line_values-requires-clause-nodes : goal.lines::line_numbers-line_values-requires-clause-nodes
 lines::line_numbers-line_values-requires-clause-nodes g t c =
-    let bits = ap length c.in_ok-table.ensures.bits in
+    let nodes = table_nodes c.in_ok-table.table c.len.result (length c.args.game.now.nodes) c.in_ok-table.ensures.bits c.len.ensures.len in
     let spots = ap length c.in_ok-shape.ensures.spots in
-    omega (arith, bits, length-replicate c.len.result 0, c.len.ensures.len, c.in_ok-put_parts.ensures.others.nodes, spots,
+    omega (arith, nodes, c.in_ok-put_parts.ensures.others.nodes, spots,
     length-map-range_with_len (spot_at (searched_tree c.args.game.now c.args.variations)) 0 (length c.args.game.now.nodes))
 
 pub lines::line_numbers-returns-clause-value : goal.lines::line_numbers-returns-clause-value
@@ -371,7 +345,7 @@ lines::line_numbers-returns-clause-value g t c = λ n l.
     numbers_are (searched_tree c.args.game.now c.args.variations) c.requires.tree c.args.names.now c.args.line.now (spots_of c.in_ok-shape.shape) _ _ _ c.in_ok-shape.ensures.spots
     c.in_ok-shape.ensures.way.0 c.in_ok-shape.ensures.way.1 c.in_ok-shape.ensures.way.2 c.put_parts.new.table
     (pattern_tree c.in_ok-pattern.pattern) c.in_ok-pattern.ensures.pattern c.in_ok-put_parts.ensures.value c.in_ok-numbers.numbers.items
-    c.in_ok-values.values.items c.in_ok-numbers.ensures n (c.requires.asked.searched n l, low)
+    c.in_ok-values.values.items (c.in_ok-numbers.ensures ∙ ap (map (option_map pos)) c.as_slice.ensures.value) n (c.requires.asked.searched n l, low)
     (c.in_ok-values.ensures.values (pattern_tree c.in_ok-pattern.pattern) c.in_ok-automaton.ensures.automaton n
     (omega (arith, low, spots, length-map-range_with_len (spot_at (searched_tree c.args.game.now c.args.variations)) 0 (length c.args.game.now.nodes))))
 
