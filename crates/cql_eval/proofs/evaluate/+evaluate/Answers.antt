@@ -2,7 +2,7 @@ use Rattle.std.proofs.Common.{rules, map, ◌≡◌, [], ◌∷◌, ◌∙◌, a
 use Rattle.std.specs.Prelude.{option_map, pos, IfOk, ◌<◌}
 use Rattle.std.specs.List.{list_all, list_any}
 use Rattle.cql_syntax.specs.Meaning.{value, values, unary_of}
-use Rattle.cql_syntax.specs.TreeOf.{filter_tree, form_tree, filters_tree, terms_tree, parts_tree, body_tree}
+use Rattle.cql_syntax.specs.TreeOf.{filter_tree, form_tree, filters_tree, terms_tree, line_tree, parts_tree, body_tree, played_tree}
 use Rattle.cql_syntax.specs.Trees.{filter_at, unary, square, if_, atom}
 use Rattle.cql_syntax.specs.declared.tree.Line.{out-Line}
 use Rattle.cql_syntax.specs.Values.{holds, square_of}
@@ -25,8 +25,8 @@ use Rattle.cql_eval.proofs.FlatLaw.{filter_flat, term_flat, no_family}
 use Rattle.cql_eval.proofs.LinesLaw.{few_atoms, few_places, atoms_below, table_begun, table_more, table_all, filled_all, at_all, atom_tabled, atom_form, table_nodes, line_flat, numbers_are, parts_cost_more, parts_cost_within, atoms_within, looks_in}
 use Rattle.cql_eval.proofs.UnaryLaws.{find_up_is, child_holds_is, parent_holds_is}
 use Rattle.cql_eval.proofs.FormLaws.{form_flat, part_is_flat, chain_form, any_form}
-use Rattle.cql_eval.proofs.MoveLaw.{move_is, move_flat, part_is, no_part_is, part_flat as written_flat}
-use Rattle.cql_eval.specs.FlatTrees.{IsFlat}
+use Rattle.cql_eval.proofs.MoveLaw.{origin_of, goal_of, taken_of, promoted_of, move_is, move_flat, part_is, no_part_is, part_flat as written_flat}
+use Rattle.cql_eval.specs.FlatTrees.{IsFlat, AreFlat, AreFlatTerms, IsFlatLine, IsFlatMove, IsFlatPart}
 use Rattle.cql_eval.proofs.evaluate.+evaluate.Goals as goal
 
 pub chains::all_hold-loop-filter-init : goal.chains::all_hold-loop-filter-init
@@ -99,10 +99,10 @@ unary_column-returns-in_ok-set-in-Find-clause-value g t c = rw c.in-Find.is (λ 
     find_is (searched_tree c.args.game.now c.args.variations) c.args.live.now c.in_ok-wide-in-Find.wide.items c.deref.result.now c.deref-in-Find.result.now c.in_ok-set-in-Find.set.items c.raised-found.result.items c.in_ok-column-in-Find.column
     (value (searched_tree c.args.game.now c.args.variations) [] c.args.names.now (filter_tree c.args.part.now)) c.in_ok-wide-in-Find.ensures c.deref.ensures.value c.deref-in-Find.ensures.value c.in_ok-column-in-Find.ensures.value c.in_ok-set-in-Find.ensures c.raised-found.ensures n l)
 
-pub unary_column-returns-in_ok-unary_values-in_default-clause-value : goal.unary_column-returns-in_ok-unary_values-in_default-clause-value
-unary_column-returns-in_ok-unary_values-in_default-clause-value g t c = λ n l.
+pub unary_column-returns-in_ok-values-in_default-clause-value : goal.unary_column-returns-in_ok-values-in_default-clause-value
+unary_column-returns-in_ok-values-in_default-clause-value g t c = λ n l.
     let other = c.in_default in
-    c.in_ok-unary_values-in_default.ensures n l
+    c.in_ok-values-in_default.ensures n l
     ∙ word_here (searched_tree c.args.game.now c.args.variations) c.args.word (value (searched_tree c.args.game.now c.args.variations) [] c.args.names.now (filter_tree c.args.part.now)) n (shown c.in_ok-column-in_default.column n) other.not-Find other.not-FindUp other.not-Child other.not-Parent
     (c.in_ok-column-in_default.ensures.value n l)
 
@@ -221,36 +221,32 @@ chains::terms_of-returns-in_err-column-clause-cost g t c =
     c.evaluate.ensures.cost c.as_slice-term-items.ensures.tree
 
 pub chains::all_hold-evaluate-requires : goal.chains::all_hold-evaluate-requires
-chains::all_hold-evaluate-requires g t c = (
-  search rules,
-  (c.requires.tree, search rules,
-  filter_flat c.as_slice-filter-items.result.now c.loop-filter.filter-index c.filter-item.result (filters_tree c.args.filters.now)
-  c.loop-filter-test.true c.filter-item.is c.as_slice-filter-items.ensures.tree c.requires.flat),
-)
+chains::all_hold-evaluate-requires g t c =
+    let here : IsFlat (filter_tree c.filter-item.result) =
+        filter_flat c.as_slice-filter-items.result.now c.loop-filter.filter-index c.filter-item.result (filters_tree c.args.filters.now)
+        c.loop-filter-test.true c.filter-item.is c.as_slice-filter-items.ensures.tree c.requires.flat in
+    search (rules, here)
 
 pub chains::none_holds-evaluate-requires : goal.chains::none_holds-evaluate-requires
-chains::none_holds-evaluate-requires g t c = (
-  search rules,
-  (c.requires.tree, search rules,
-  filter_flat c.as_slice-filter-items.result.now c.loop-filter.filter-index c.filter-item.result (filters_tree c.args.filters.now)
-  c.loop-filter-test.true c.filter-item.is c.as_slice-filter-items.ensures.tree c.requires.flat),
-)
+chains::none_holds-evaluate-requires g t c =
+    let here : IsFlat (filter_tree c.filter-item.result) =
+        filter_flat c.as_slice-filter-items.result.now c.loop-filter.filter-index c.filter-item.result (filters_tree c.args.filters.now)
+        c.loop-filter-test.true c.filter-item.is c.as_slice-filter-items.ensures.tree c.requires.flat in
+    search (rules, here)
 
 pub chains::columns_of-evaluate-requires : goal.chains::columns_of-evaluate-requires
-chains::columns_of-evaluate-requires g t c = (
-  search rules,
-  (c.requires.tree, search rules,
-  filter_flat c.as_slice-filter-items.result.now c.loop-filter.filter-index c.filter-item.result (filters_tree c.args.filters.now)
-  c.loop-filter-test.true c.filter-item.is c.as_slice-filter-items.ensures.tree c.requires.flat),
-)
+chains::columns_of-evaluate-requires g t c =
+    let here : IsFlat (filter_tree c.filter-item.result) =
+        filter_flat c.as_slice-filter-items.result.now c.loop-filter.filter-index c.filter-item.result (filters_tree c.args.filters.now)
+        c.loop-filter-test.true c.filter-item.is c.as_slice-filter-items.ensures.tree c.requires.flat in
+    search (rules, here)
 
 pub chains::terms_of-evaluate-requires : goal.chains::terms_of-evaluate-requires
-chains::terms_of-evaluate-requires g t c = (
-  search rules,
-  (c.requires.tree, c.requires.asked,
-  term_flat c.as_slice-term-items.result.now c.loop-term.term-index c.term-item.result (terms_tree c.args.terms.now)
-  c.loop-term-test.true c.term-item.is c.as_slice-term-items.ensures.tree c.requires.flat),
-)
+chains::terms_of-evaluate-requires g t c =
+    let here : IsFlat (filter_tree c.term-item.result.filter) =
+        term_flat c.as_slice-term-items.result.now c.loop-term.term-index c.term-item.result (terms_tree c.args.terms.now)
+        c.loop-term-test.true c.term-item.is c.as_slice-term-items.ensures.tree c.requires.flat in
+    search (rules, here)
 
 -- lines
 
@@ -415,91 +411,106 @@ pub evaluate-unary_column-requires : goal.evaluate-unary_column-requires
 unfolding IsFlat
 evaluate-unary_column-requires g t c =
     let flat = form_flat c.args.f.now _ c.in-Unary.is c.requires.flat in
-    (search rules, (c.requires.tree, search rules, part_is_flat c.deref.result.now c.in-Unary.part.value c.deref.ensures flat))
+    let here : IsFlat (filter_tree c.deref.result.now) = part_is_flat c.deref.result.now c.in-Unary.part.value c.deref.ensures flat in
+    search (rules, here)
 
 pub evaluate-evaluate-requires : goal.evaluate-evaluate-requires
 unfolding IsFlat
 evaluate-evaluate-requires g t c =
     let flat = form_flat c.args.f.now _ c.in-Steps.is c.requires.flat in
-    (search rules, (c.requires.tree, search rules, part_is_flat c.deref-in-Steps.result.now c.in-Steps.part.value c.deref-in-Steps.ensures flat))
+    let here : IsFlat (filter_tree c.deref-in-Steps.result.now) = part_is_flat c.deref-in-Steps.result.now c.in-Steps.part.value c.deref-in-Steps.ensures flat in
+    search (rules, here)
 
 pub evaluate-chain_column-requires : goal.evaluate-chain_column-requires
 unfolding IsFlat
 evaluate-chain_column-requires g t c =
     let flat = form_flat c.args.f.now _ c.in-Chain.is c.requires.flat in
-    (search rules, (c.requires.tree, search rules, flat))
+    let here : AreFlat (filters_tree c.in-Chain.parts) = flat in
+    search (rules, here)
 
 pub evaluate-terms_of-requires : goal.evaluate-terms_of-requires
 unfolding IsFlat
 evaluate-terms_of-requires g t c =
     let flat = form_flat c.args.f.now _ c.in-Sum.is c.requires.flat in
-    (search rules, (c.requires.tree, search rules, flat))
+    let here : AreFlatTerms (terms_tree c.in-Sum.terms) = flat in
+    search (rules, here)
 
 pub evaluate-evaluate-requires-in-Pair : goal.evaluate-evaluate-requires-in-Pair
 unfolding IsFlat
 evaluate-evaluate-requires-in-Pair g t c =
     let flat = form_flat c.args.f.now _ c.in-Pair.is c.requires.flat in
-    (search rules, (c.requires.tree, search rules, part_is_flat c.deref-in-Pair.result.now c.in-Pair.first.value c.deref-in-Pair.ensures flat.0))
+    let here : IsFlat (filter_tree c.deref-in-Pair.result.now) = part_is_flat c.deref-in-Pair.result.now c.in-Pair.first.value c.deref-in-Pair.ensures flat.0 in
+    search (rules, here)
 
 pub evaluate-evaluate-requires-in-Pair-2 : goal.evaluate-evaluate-requires-in-Pair-2
 unfolding IsFlat
 evaluate-evaluate-requires-in-Pair-2 g t c =
     let flat = form_flat c.args.f.now _ c.in-Pair.is c.requires.flat in
-    (search rules, (c.requires.tree, search rules, part_is_flat c.deref-in-Pair-2.result.now c.in-Pair.second.value c.deref-in-Pair-2.ensures flat.1))
+    let here : IsFlat (filter_tree c.deref-in-Pair-2.result.now) = part_is_flat c.deref-in-Pair-2.result.now c.in-Pair.second.value c.deref-in-Pair-2.ensures flat.1 in
+    search (rules, here)
 
 pub evaluate-evaluate-requires-in-If : goal.evaluate-evaluate-requires-in-If
 unfolding IsFlat
 evaluate-evaluate-requires-in-If g t c =
     let flat = form_flat c.args.f.now _ c.in-If.is c.requires.flat in
-    (search rules, (c.requires.tree, search rules, part_is_flat c.deref-in-If.result.now c.in-If.condition.value c.deref-in-If.ensures flat.0))
+    let here : IsFlat (filter_tree c.deref-in-If.result.now) = part_is_flat c.deref-in-If.result.now c.in-If.condition.value c.deref-in-If.ensures flat.0 in
+    search (rules, here)
 
 pub evaluate-evaluate-requires-in-If-2 : goal.evaluate-evaluate-requires-in-If-2
 unfolding IsFlat
 evaluate-evaluate-requires-in-If-2 g t c =
     let flat = form_flat c.args.f.now _ c.in-If.is c.requires.flat in
-    (search rules, (c.requires.tree, search rules, part_is_flat c.deref-in-If-2.result.now c.in-If.then.value c.deref-in-If-2.ensures flat.1.0))
+    let here : IsFlat (filter_tree c.deref-in-If-2.result.now) = part_is_flat c.deref-in-If-2.result.now c.in-If.then.value c.deref-in-If-2.ensures flat.1.0 in
+    search (rules, here)
 
 pub evaluate-evaluate-requires-in-If-3 : goal.evaluate-evaluate-requires-in-If-3
 unfolding IsFlat
 evaluate-evaluate-requires-in-If-3 g t c =
     let flat = form_flat c.args.f.now _ c.in-If.is c.requires.flat in
-    (search rules, (c.requires.tree, search rules, part_is_flat c.deref-in-If-4.result.now c.in-If.otherwise.value c.deref-in-If-4.ensures flat.1.1))
+    let here : IsFlat (filter_tree c.deref-in-If-4.result.now) = part_is_flat c.deref-in-If-4.result.now c.in-If.otherwise.value c.deref-in-If-4.ensures flat.1.1 in
+    search (rules, here)
 
 pub evaluate-evaluate-requires-in-Square : goal.evaluate-evaluate-requires-in-Square
 unfolding IsFlat
 evaluate-evaluate-requires-in-Square g t c =
     let flat = form_flat c.args.f.now _ c.in-Square.is c.requires.flat in
-    (search rules, (c.requires.tree, search rules, part_is_flat c.deref-in-Square.result.now c.in-Square.squares.value c.deref-in-Square.ensures flat.0))
+    let here : IsFlat (filter_tree c.deref-in-Square.result.now) = part_is_flat c.deref-in-Square.result.now c.in-Square.squares.value c.deref-in-Square.ensures flat.0 in
+    search (rules, here)
 
 pub evaluate-square_truths-requires : goal.evaluate-square_truths-requires
 unfolding IsFlat
 evaluate-square_truths-requires g t c =
     let flat = form_flat c.args.f.now _ c.in-Square.is c.requires.flat in
-    (search rules, (c.requires.tree, search rules, part_is_flat c.deref-in-Square-2.result.now c.in-Square.asked.value c.deref-in-Square-2.ensures flat.1))
+    let here : IsFlat (filter_tree c.deref-in-Square-2.result.now) = part_is_flat c.deref-in-Square-2.result.now c.in-Square.asked.value c.deref-in-Square-2.ensures flat.1 in
+    search (rules, here)
 
 pub evaluate-played_truths-requires : goal.evaluate-played_truths-requires
 unfolding IsFlat
 evaluate-played_truths-requires g t c =
     let flat = form_flat c.args.f.now _ c.in-Played.is c.requires.flat in
-    (search rules, (c.requires.tree, search rules, flat))
+    let here : IsFlatMove (played_tree c.in-Played.played) = flat in
+    search (rules, here)
 
 pub evaluate-evaluate-requires-in-Sort : goal.evaluate-evaluate-requires-in-Sort
 unfolding IsFlat
 evaluate-evaluate-requires-in-Sort g t c =
     let flat = form_flat c.args.f.now _ c.in-Sort.is c.requires.flat in
-    (search rules, (c.requires.tree, search rules, part_is_flat c.deref-in-Sort.result.now c.in-Sort.part.value c.deref-in-Sort.ensures flat))
+    let here : IsFlat (filter_tree c.deref-in-Sort.result.now) = part_is_flat c.deref-in-Sort.result.now c.in-Sort.part.value c.deref-in-Sort.ensures flat in
+    search (rules, here)
 
 pub evaluate-any_column-requires : goal.evaluate-any_column-requires
 unfolding IsFlat
 evaluate-any_column-requires g t c =
     let flat = form_flat c.args.f.now _ c.in-Any.is c.requires.flat in
-    (search rules, (c.requires.tree, search rules, flat))
+    let here : AreFlat (filters_tree c.in-Any.parts) = flat in
+    search (rules, here)
 
 pub evaluate-line_numbers-requires : goal.evaluate-line_numbers-requires
 unfolding IsFlat
 evaluate-line_numbers-requires g t c =
     let flat = form_flat c.args.f.now _ c.in-Line.is c.requires.flat in
-    (search rules, (c.requires.tree, search rules, flat))
+    let here : IsFlatLine (line_tree c.in-Line.line) = flat in
+    search (rules, here)
 
 -- chains, and any of a kind
 
@@ -523,19 +534,23 @@ evaluate-returns-in-Any-clause-value g t c =
 
 pub played::played_truths-written_column-requires : goal.played::played_truths-written_column-requires
 played::played_truths-written_column-requires g t c =
-    (search rules, (c.requires.tree, search rules, (move_flat c.args.played.now c.requires.flat).0))
+    let here : IsFlatPart (origin_of c.args.played.now) = (move_flat c.args.played.now c.requires.flat).0 in
+    search (rules, here)
 
 pub played::played_truths-written_column-requires-2 : goal.played::played_truths-written_column-requires-2
 played::played_truths-written_column-requires-2 g t c =
-    (search rules, (c.requires.tree, c.requires.asked, (move_flat c.args.played.now c.requires.flat).1.0))
+    let here : IsFlatPart (goal_of c.args.played.now) = (move_flat c.args.played.now c.requires.flat).1.0 in
+    search (rules, here)
 
 pub played::played_truths-written_column-requires-3 : goal.played::played_truths-written_column-requires-3
 played::played_truths-written_column-requires-3 g t c =
-    (search rules, (c.requires.tree, search rules, (move_flat c.args.played.now c.requires.flat).1.1.0))
+    let here : IsFlatPart (taken_of c.args.played.now) = (move_flat c.args.played.now c.requires.flat).1.1.0 in
+    search (rules, here)
 
 pub played::played_truths-written_column-requires-4 : goal.played::played_truths-written_column-requires-4
 played::played_truths-written_column-requires-4 g t c =
-    (search rules, (c.requires.tree, c.requires.asked, (move_flat c.args.played.now c.requires.flat).1.1.1))
+    let here : IsFlatPart (promoted_of c.args.played.now) = (move_flat c.args.played.now c.requires.flat).1.1.1 in
+    search (rules, here)
 
 pub played::played_truths-returns-clause-value : goal.played::played_truths-returns-clause-value
 played::played_truths-returns-clause-value g t c = λ n l.
@@ -546,7 +561,9 @@ played::played_truths-returns-clause-value g t c = λ n l.
 
 pub played::written_column-evaluate-requires : goal.played::written_column-evaluate-requires
 played::written_column-evaluate-requires g t c =
-    (search rules, (c.requires.tree, c.requires.asked, written_flat c.args.written.now c.in-Some.filter c.deref.result.now c.in-Some.is c.deref.ensures c.requires.flat))
+    let here : IsFlat (filter_tree c.deref.result.now) =
+        written_flat c.args.written.now c.in-Some.filter c.deref.result.now c.in-Some.is c.deref.ensures c.requires.flat in
+    search (rules, here)
 
 pub played::written_column-returns-in_ok-column-in-Some-clause-value : goal.played::written_column-returns-in_ok-column-in-Some-clause-value
 played::written_column-returns-in_ok-column-in-Some-clause-value g t c =
@@ -556,3 +573,15 @@ played::written_column-returns-in_ok-column-in-Some-clause-value g t c =
 pub played::written_column-returns-in-None-clause-value : goal.played::written_column-returns-in-None-clause-value
 played::written_column-returns-in-None-clause-value g t c =
     no_part_is (searched_tree c.args.game.now c.args.variations) c.args.names.now c.args.live.now c.args.written.now c.in-None.is
+
+pub chains::columns_of-returns-in_err-push-clause-cost : goal.chains::columns_of-returns-in_err-push-clause-cost
+chains::columns_of-returns-in_err-push-clause-cost g t c =
+    cost_within (length c.args.game.now.nodes) c.as_slice-filter-items.result.now c.loop-filter.filter-index c.filter-item.result _ c.loop-filter.steps
+    c.evaluate.new.steps (filters_tree c.args.filters.now) c.loop-filter-test.true c.filter-item.is c.loop-filter.invariant.cost
+    c.evaluate.ensures.cost c.as_slice-filter-items.ensures.tree
+
+pub chains::terms_of-returns-in_err-push-clause-cost : goal.chains::terms_of-returns-in_err-push-clause-cost
+chains::terms_of-returns-in_err-push-clause-cost g t c =
+    terms_cost_within (length c.args.game.now.nodes) c.as_slice-term-items.result.now c.loop-term.term-index c.term-item.result _ c.loop-term.steps
+    c.evaluate.new.steps (terms_tree c.args.terms.now) c.loop-term-test.true c.term-item.is c.loop-term.invariant.cost
+    c.evaluate.ensures.cost c.as_slice-term-items.ensures.tree
