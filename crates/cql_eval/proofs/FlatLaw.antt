@@ -152,20 +152,20 @@ items_flat fs family rules = items_free fs 0 (all_free (of_items 0 fs) family ru
 -- the filters of a list one by one
 
 pub filter_flat : (xs : List Filter) (i : ℕ) (f : Filter) (fs : FilterTrees) → i < length xs → f ≡ get_or xs i f → filter_trees xs ≡ fs → AreFlat fs → IsFlat (filter_tree f)
+unfolding IsFlat
 filter_flat xs i f fs below is same flat = at xs i f below is (subst AreFlat (sym same) flat)
   where
     at : (ys : List Filter) (k : ℕ) (g : Filter) → k < length ys → g ≡ get_or ys k g → AreFlat (filter_trees ys) → IsFlat (filter_tree g)
-    unfolding IsFlat
     at [] zero g h e all = absurd (omega (arith, h))
     at [] (suc k) g h e all = absurd (omega (arith, h))
     at (y ∷ ys) zero g h e all = subst (λ x. IsFlat (filter_tree x)) (sym e) all.0
     at (y ∷ ys) (suc k) g h e all = at ys k g (omega (arith, h)) e all.1
 
 pub term_flat : (xs : List Term) (i : ℕ) (t : Term) (ts : TermTrees) → i < length xs → t ≡ get_or xs i t → term_trees xs ≡ ts → AreFlatTerms ts → IsFlat (filter_tree t.filter)
+unfolding IsFlat
 term_flat xs i t ts below is same flat = at xs i t below is (subst AreFlatTerms (sym same) flat)
   where
     at : (ys : List Term) (k : ℕ) (g : Term) → k < length ys → g ≡ get_or ys k g → AreFlatTerms (term_trees ys) → IsFlat (filter_tree g.filter)
-    unfolding IsFlat
     at [] zero g h e all = absurd (omega (arith, h))
     at [] (suc k) g h e all = absurd (omega (arith, h))
     at (y ∷ ys) zero g h e all = subst (λ x. IsFlat (filter_tree x.filter)) (sym e) all.0

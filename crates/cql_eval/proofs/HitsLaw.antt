@@ -11,7 +11,7 @@ use Rattle.cq_position.specs.Search.{SearchedTree, nodes_in}
 use Rattle.cq_position.specs.Games.{searched}
 use Rattle.cql_syntax.specs.Hits.{is_hit}
 use Rattle.cql_syntax.specs.Meaning.{value, values}
-use Rattle.cql_syntax.specs.Trees.{FilterTree, FilterTrees, filter_at, sort, no_filters, more_filters, with_filter}
+use Rattle.cql_syntax.specs.Trees.{FilterTree, FormTree, FilterTrees, filter_at, sort, no_filters, more_filters, with_filter}
 use Rattle.cql_syntax.specs.TreeOf.{filter_tree, filter_trees}
 use Rattle.cql_syntax.specs.Values.{Value, holds, amount}
 use Rattle.cql_syntax.specs.declared.tree.Filter.{Filter}
@@ -189,6 +189,9 @@ rows_all tree xs i fs left rows end same had = record {
 }
 
 -- one sort item
+
+pub sort_form : (form : FormTree) (least : Bool) (text : List ℕ) (q p : FilterTree) → form ≡ sort least text q → q ≡ p → form ≡ sort least text p
+sort_form form least text q p is same = is ∙ ap (sort least text) same
 
 pub row_is : (tree : SearchedTree) (asked : List Bool) (c : FilterColumn) (f : FilterTree) → AreAsked tree asked → IsColumn c asked (value tree [] [] f)
     → map (λ n. if is_live asked n then amount (shown c n) else None) (range_with_len 0 (length asked)) ≡ key_row_of tree asked f

@@ -3,11 +3,13 @@ pub mod Costing
 pub mod Filling
 pub mod FindLaw
 pub mod FlatLaw
+pub mod FormLaws
 pub mod Gathering
 pub mod HitsLaw
 pub mod LinesLaw
 pub mod Lives
 pub mod Lowering
+pub mod MoveLaw
 pub mod Parents
 pub mod Raising
 pub mod UnaryLaws

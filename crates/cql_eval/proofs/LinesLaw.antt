@@ -1,5 +1,5 @@
 -- The atoms of a line one by one in a table, and the line's number from the table.
-use Rattle.std.proofs.Common.{◌≡◌, ℕ, zero, suc, ◌+◌, ◌*◌, ◌<◌, ◌≤◌, ◌&&◌, ◌||◌, max, pos, ℤ, Bool, true, false, List, [], ◌∷◌, ◌++◌, length, map, drop, take, get_or, Option, Some, None, option_map, refl, sym, ap, ap₂, ◌∙◌, subst, arith, ⊎_elim}
+use Rattle.std.proofs.Common.{◌≡◌, ℕ, zero, suc, ◌+◌, ◌*◌, ◌<◌, ◌≤◌, ◌&&◌, ◌||◌, max, pos, ℤ, Bool, true, false, List, [], ◌∷◌, ◌++◌, length, map, drop, take, get_or, Option, Some, None, option_map, refl, sym, ap, ap₂, ◌∙◌, subst, arith, ⊎_elim, add-one}
 use denote.Hole.Carrier as Carrier
 use Rattle.std.specs.Prelude.{not, IfSome, slice_get, if◌then◌else◌}
 use Rattle.std.specs.List.{range_with_len, count_by}
@@ -46,7 +46,7 @@ use Rattle.cql_syntax.specs.declared.tree.Line.{Line as OneLine, Line', out-Line
 use Rattle.cql_eval.specs.Columns.{is_live, shown, IsColumn}
 use Rattle.cql_eval.specs.Costs.{filter_cost, line_cost, parts_atoms, body_atoms, parts_cost, body_cost}
 use Rattle.cql_eval.specs.FlatTrees.{IsFlatLine, AreFlatParts, IsFlatBody, IsFlat}
-use Rattle.cql_eval.specs.LineAtoms.{AreAllAsked, parts_numbered, body_numbered, limits_in, spot_at, AreClearFrom, IsPut, IsFilledIn, AreTabled}
+use Rattle.cql_eval.specs.LineAtoms.{AreAllAsked, parts_numbered, body_numbered, limits_in, spot_at, AreClearFrom, HasRoom, IsPut, IsFilledIn, AreTabled}
 use Rattle.cql_eval.specs.declared.filter_column.FilterColumn.{FilterColumn}
 use Rattle.cql_eval.proofs.Filling.{split_last, live_below}
 use Rattle.cql_syntax.proofs.TabledLines.{lines_are_theirs}
@@ -132,11 +132,14 @@ atoms_below cs p n is h = subst (λ q. AtomsBelow q n) (sym is) (parts_below 0 n
 
 -- what is left of parts in a row
 
+drop_next : (xs : List Constituent) (i : ℕ) (c : Constituent) → i < length xs → c ≡ get_or xs i c → part_trees (drop i xs) ≡ more_parts (body_tree c.body) c.mark (part_trees (drop (suc i) xs))
+drop_next [] zero c h e = absurd (omega (arith, h))
+drop_next [] (suc i) c h e = absurd (omega (arith, h))
+drop_next (x ∷ xs) zero c h e = ap (λ (y : Constituent). more_parts (body_tree y.body) y.mark (part_trees xs)) (sym e)
+drop_next (x ∷ xs) (suc i) c h e = drop_next xs i c (omega (arith, h)) e
+
 drop_parts : (xs : List Constituent) (i : ℕ) (c : Constituent) → i < length xs → c ≡ get_or xs i c → part_trees (drop i xs) ≡ more_parts (body_tree c.body) c.mark (part_trees (drop (i + 1) xs))
-drop_parts [] zero c h e = absurd (omega (arith, h))
-drop_parts [] (suc i) c h e = absurd (omega (arith, h))
-drop_parts (x ∷ xs) zero c h e = ap (λ (y : Constituent). more_parts (body_tree y.body) y.mark (part_trees xs)) (sym e)
-drop_parts (x ∷ xs) (suc i) c h e = drop_parts xs i c (omega (arith, h)) e
+drop_parts xs i c h e = drop_next xs i c h e ∙ ap (λ j. more_parts (body_tree c.body) c.mark (part_trees (drop j xs))) (sym (add-one i))
 
 drop_all : (xs : List Constituent) (i : ℕ) → length xs ≤ i → part_trees (drop i xs) ≡ no_parts
 drop_all [] zero h = refl
@@ -145,10 +148,10 @@ drop_all (x ∷ xs) zero h = absurd (omega (arith, h))
 drop_all (x ∷ xs) (suc i) h = drop_all xs i (omega (arith, h))
 
 pub part_flat : (xs : List Constituent) (i : ℕ) (c : Constituent) (cs : PartTrees) → i < length xs → c ≡ get_or xs i c → part_trees xs ≡ cs → AreFlatParts cs → IsFlatBody (body_tree c.body)
+unfolding IsFlat
 part_flat xs i c cs below is same flat = at xs i c below is (subst AreFlatParts (sym same) flat)
   where
     at : (ys : List Constituent) (k : ℕ) (g : Constituent) → k < length ys → g ≡ get_or ys k g → AreFlatParts (part_trees ys) → IsFlatBody (body_tree g.body)
-    unfolding IsFlat
     at [] zero g h e all = absurd (omega (arith, h))
     at [] (suc k) g h e all = absurd (omega (arith, h))
     at (y ∷ ys) zero g h e all = subst (λ (x : Constituent). IsFlatBody (body_tree x.body)) (sym e) all.0
@@ -196,6 +199,11 @@ pattern_more first xs i c next later ps more p q below is body mark on new had =
       ∙ ap (λ cs. followed_by (parts_numbered next cs) ps) (sym (drop_parts xs i c below is)) ∙ had.whole;
   count = (let e = atoms_left xs i c below is in omega (arith, e, on, had.count));
 }
+
+-- the next part's atoms are of the first 64
+pub next_few : (first most : ℕ) (xs : List Constituent) (i : ℕ) (c : Constituent) (next : ℕ) (ps : List Given) (cs : PartTrees) → PatternSoFar first xs i next ps → i < length xs → c ≡ get_or xs i c → part_trees xs ≡ cs
+    → first + parts_atoms cs ≤ most → next + body_atoms (body_tree c.body) ≤ most
+next_few first most xs i c next ps cs had below is same few = let l = atoms_left xs i c below is in let s = ap parts_atoms same in omega (arith, l, s, had.count, few)
 
 pub pattern_all : (first : ℕ) (xs : List Constituent) (i next : ℕ) (ps : List Given) (cs : PartTrees) → length xs ≤ i → part_trees xs ≡ cs → PatternSoFar first xs i next ps → pattern_trees ps ≡ parts_numbered first cs
 pattern_all first xs i next ps cs end same had = sym (followed_none ps) ∙ ap (λ ds. followed_by (parts_numbered next ds) ps) (sym (drop_all xs i end)) ∙ had.whole ∙ ap (parts_numbered first) same
@@ -276,6 +284,18 @@ at_all tree e first xs i at old table cs end same had = let l = atoms_end xs i e
 pub still_clear : (old table : AtomTable) (first at : ℕ) → first ≤ at → AreClearFrom old first → IsFilledIn old table first at → AreClearFrom table at
 still_clear old table first at beyond clear filled a n h = filled.after a n h ∙ clear a n (omega (arith, h, beyond))
 
+-- the next part has room too
+pub part_room : (tree : SearchedTree) (e : Names) (first : ℕ) (xs : List Constituent) (i : ℕ) (c : Constituent) (at count : ℕ) (old table : AtomTable) (cs : PartTrees) → TableSoFar tree e first xs i at old table
+    → i < length xs → c ≡ get_or xs i c → part_trees xs ≡ cs → HasRoom count first (first + parts_atoms cs) old → HasRoom count at (at + body_atoms (body_tree c.body)) table
+part_room tree e first xs i c at count old table cs had below is same room =
+    let l = atoms_left xs i c below is in let s = ap parts_atoms same in
+    record {
+      few = omega (arith, l, s, had.count, room.few);
+      atoms = omega (arith, l, s, had.count, room.atoms, had.filled.atoms);
+      nodes = had.filled.nodes ∙ room.nodes;
+      clear = still_clear old table first at had.beyond room.clear had.filled;
+    }
+
 -- one atom
 
 pub record PutUpTo (test : ℕ → Bool) (which k : ℕ) (old table : AtomTable) : Type 0 where
@@ -336,6 +356,19 @@ searched_in tree k spots None there is_tree is here s = tt
 searched_in tree k spots (Some p) there is_tree is here s = λ e.
     let b = parent_before tree.game.nodes k p is_tree (sym here) in
     ap (λ xs. shapes.is_searched xs p) is ∙ ap shapes.searched_by (spot_there tree k p b.0) ∙ searched_up tree.variations tree.game.nodes k p is_tree (sym here) (sym s ∙ e)
+
+abbrev spot_of : Option ℕ → Bool → Bool → Spot
+spot_of parent searched first = record { parent = parent; searched = searched; first = first }
+
+pub spots_more : (tree : SearchedTree) (k : ℕ) (spots : List Spot) (o : Option ℕ) (there first : Bool) → spots ≡ map (spot_at tree) (range_with_len 0 k) → o ≡ (node_at tree.game.nodes k).parent
+    → there ≡ is_searched tree.variations tree.game.nodes k → first ≡ is_first_child tree.game.nodes k
+    → spots ++ record { parent = o; searched = there; first = first } ∷ [] ≡ map (spot_at tree) (range_with_len 0 (k + 1))
+spots_more tree k spots o there first before parent searched is_first =
+    ap (λ s. s ++ spot_of o there first ∷ []) before
+    ∙ ap (λ x. map (spot_at tree) (range_with_len 0 k) ++ x ∷ [])
+    (ap (λ p. spot_of p there first) parent ∙ ap (λ b. spot_of (node_at tree.game.nodes k).parent b first) searched
+    ∙ ap (spot_of (node_at tree.game.nodes k).parent (is_searched tree.variations tree.game.nodes k)) is_first)
+    ∙ sym (map-range_with_len_more (spot_at tree) 0 k k (omega arith))
 
 joined_to : (searched first primary : Bool) (o : Option ℕ) (p : ℕ) → (if searched && (first || not primary) then o else None) ≡ Some p
     → (searched ≡ true) × (o ≡ Some p) × (primary ≡ true → first ≡ true)
@@ -428,6 +461,9 @@ pub line_flat : (l : OneLine) → IsFlatLine (line_tree l) → (parts_places (pa
 unfolding IsFlat out-Line Carrier.out
 line_flat (Line' back primary extent cs) h = h
 
+pub line_parts_flat : (l : OneLine) → IsFlatLine (line_tree l) → AreFlatParts (parts_tree (out-Line l).parts)
+line_parts_flat l h = (line_flat l h).1
+
 line_costs : (nodes : ℕ) (l : OneLine) → line_cost nodes (line_tree l) ≡ parts_atoms (parts_tree (out-Line l).parts) * nodes + parts_cost nodes (parts_tree (out-Line l).parts)
 unfolding filter_cost out-Line Carrier.out
 line_costs nodes (Line' back primary extent cs) = refl
@@ -449,20 +485,30 @@ pub numbers_are : (tree : SearchedTree) → IsTree tree.game.nodes → (e : Name
 unfolding value out-Line Carrier.out
 numbers_are tree is_tree e (Line' back primary extent cs) spots b q limits are is_back is_primary is_limits table p is tabled wide found is_wide n asked answer =
     ap as_number (ap (λ xs. get_or xs n None) is_wide ∙ get_or-map (option_map pos) found n None)
-    ∙ line_value_is tree is_tree back primary extent spots b q limits are is_back is_primary is_limits table p (pattern tree [] e cs)
-    (subst (λ x. Tabled (holds_in table) (IsAsked tree) x (pattern tree [] e cs)) (sym is) (tabled (holds_in table) (λ a m h. refl))) n asked (get_or found n None) answer
+    ∙ line_value_is tree is_tree back primary extent spots b q limits are is_back is_primary is_limits table p (pattern tree [] e (parts_tree cs))
+    (subst (λ x. Tabled (holds_in table) (IsAsked tree) x (pattern tree [] e (parts_tree cs))) (sym is) (tabled (holds_in table) (λ a m h. refl))) n asked (get_or found n None) answer
+
+same_words : (d j m : ℕ) → get_or (replicate j d) m d ≡ d
+same_words d zero zero = refl
+same_words d zero (suc m) = refl
+same_words d (suc j) zero = refl
+same_words d (suc j) (suc m) = same_words d j m
+
+count_words : (d j : ℕ) → length (replicate j d) ≡ j
+count_words d zero = refl
+count_words d (suc j) = ap suc (count_words d j)
 
 pub table_clear : (table : AtomTable) (k : ℕ) → words_of table ≡ replicate k 0 → AreClearFrom table 0
-table_clear table k is a n h = ap (λ ws. holds ws a n) is ∙ ap (λ w. bit_at w a == 1) (zeros k n) ∙ ap (λ b. b == 1) (bit_at-zero a)
-  where
-    none : (m : ℕ) → get_or [] m 0 ≡ 0
-    none zero = refl
-    none (suc m) = refl
+table_clear table k is a n h = ap (λ ws. holds ws a n) is ∙ ap (λ w. bit_at w a == 1) (same_words 0 k n) ∙ ap (λ b. b == 1) (bit_at-zero a)
 
-    zeros : (j m : ℕ) → get_or (replicate j 0) m 0 ≡ 0
-    zeros zero m = none m
-    zeros (suc j) zero = refl
-    zeros (suc j) (suc m) = zeros j m
+pub table_nodes : (table : AtomTable) (k n : ℕ) → words_of table ≡ replicate k 0 → k ≡ n → nodes_of table ≡ n
+table_nodes table k n is same = ap length is ∙ count_words 0 k ∙ same
+
+pub line_room : (l : OneLine) (table : AtomTable) (a k n : ℕ) → IsFlatLine (line_tree l) → atoms_of table ≡ a → a ≡ 0 + parts_atoms (parts_tree (out-Line l).parts) → words_of table ≡ replicate k 0 → k ≡ n
+    → HasRoom n 0 (0 + parts_atoms (parts_tree (out-Line l).parts)) table
+line_room l table a k n flat atoms is words same =
+    let few = few_atoms (parts_tree (out-Line l).parts) (line_flat l flat).0 in
+    record { few = omega (arith, few); atoms = omega (arith, atoms, is); nodes = table_nodes table k n words same; clear = table_clear table k words }
 
 pub atom_form : (tree : SearchedTree) (e : Names) (table : AtomTable) (first : ℕ) (b : BodyTree) (f : FilterTree) → b ≡ atom f → AreTabled tree table (first + 1) (one first) (one (value tree [] e f))
     → AreTabled tree table (first + body_atoms b) (body_numbered first b) (body_pattern tree [] e b)
@@ -470,7 +516,7 @@ unfolding value
 atom_form tree e table first b f is h = subst (λ x. AreTabled tree table (first + body_atoms x) (body_numbered first x) (body_pattern tree [] e x)) (sym is) h
 
 -- numbers of another type, one by one
-pub wide_more : (xs : List (Option ℕ)) (i : ℕ) (x : Option ℕ) (before later : List (Option ℤ)) → i < length xs → x ≡ get_or xs i x → later ≡ before ++ option_map pos x ∷ []
+pub wide_more : (xs : List (Option ℕ)) (i : ℕ) (d : Option ℕ) (y : Option ℤ) (before later : List (Option ℤ)) → i < length xs → y ≡ option_map pos (get_or xs i d) → later ≡ before ++ y ∷ []
     → before ≡ map (option_map pos) (take i xs) → later ≡ map (option_map pos) (take (i + 1) xs)
-wide_more xs i x before later below is more had =
-    more ∙ ap (λ l. l ++ option_map pos x ∷ []) had ∙ sym (ap (map (option_map pos)) (take_more xs i x below ∙ ap (λ y. take i xs ++ y ∷ []) (sym is)) ∙ map_snoc (option_map pos) (take i xs) x)
+wide_more xs i d y before later below is more had =
+    more ∙ ap₂ (λ l x. l ++ x ∷ []) had is ∙ sym (ap (map (option_map pos)) (take_more xs i d below) ∙ map_snoc (option_map pos) (take i xs) (get_or xs i d))

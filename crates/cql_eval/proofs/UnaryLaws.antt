@@ -19,11 +19,11 @@ use Rattle.cql_eval.proofs.Raising.{child_is, is_child, or_right}
 -- an element passes
 any_at : (p : ℕ → Bool) (m : ℕ) (xs : List ℕ) → list_any (λ x. x == m) xs ≡ true → p m ≡ true → list_any p xs ≡ true
 any_at p m [] e h = cc
-any_at p m (x ∷ xs) e h = by (x == m) refl e
+any_at p m (x ∷ xs) e h = by (x == m) refl e (λ f. any_at p m xs f h)
   where
-    by : (b : Bool) → (x == m) ≡ b → (b || list_any (λ y. y == m) xs) ≡ true → (p x || list_any p xs) ≡ true
-    by true is f = ap (λ b. b || list_any p xs) (ap p (eqb-true x m is) ∙ h)
-    by false is f = or_right (p x) (list_any p xs) (any_at p m xs f h)
+    by : (b : Bool) → (x == m) ≡ b → (b || list_any (λ y. y == m) xs) ≡ true → (list_any (λ y. y == m) xs ≡ true → list_any p xs ≡ true) → (p x || list_any p xs) ≡ true
+    by true is f rest = ap (λ b. b || list_any p xs) (ap p (eqb-true x m is) ∙ h)
+    by false is f rest = or_right (p x) (list_any p xs) (rest f)
 
 record PassesIn (p : ℕ → Bool) (xs : List ℕ) : Type 0 where
   m : ℕ
@@ -32,11 +32,11 @@ record PassesIn (p : ℕ → Bool) (xs : List ℕ) : Type 0 where
 
 at_any : (p : ℕ → Bool) (xs : List ℕ) → list_any p xs ≡ true → PassesIn p xs
 at_any p [] e = cc
-at_any p (x ∷ xs) e = by (p x) refl e
+at_any p (x ∷ xs) e = by (p x) refl e (λ f. at_any p xs f)
   where
-    by : (b : Bool) → p x ≡ b → (b || list_any p xs) ≡ true → PassesIn p (x ∷ xs)
-    by true is f = record { m = x; on = ap (λ b. b || list_any (λ y. y == x) xs) (eq-eqb x x refl); passes = is }
-    by false is f = let found = at_any p xs f in record { m = found.m; on = or_right (x == found.m) (list_any (λ y. y == found.m) xs) found.on; passes = found.passes }
+    by : (b : Bool) → p x ≡ b → (b || list_any p xs) ≡ true → (list_any p xs ≡ true → PassesIn p xs) → PassesIn p (x ∷ xs)
+    by true is f rest = record { m = x; on = ap (λ b. b || list_any (λ y. y == x) xs) (eq-eqb x x refl); passes = is }
+    by false is f rest = let found = rest f in record { m = found.m; on = or_right (x == found.m) (list_any (λ y. y == found.m) xs) found.on; passes = found.passes }
 
 -- a node of the set is one that is asked for and at which it holds
 module _ (wide asked again start : List Bool) (c : FilterColumn) (v : ℕ → Value) (is : asked ≡ wide) (is_too : again ≡ wide) (column_asked : IsColumn c asked v) (narrowed_again : IsNarrowed again c true start) where

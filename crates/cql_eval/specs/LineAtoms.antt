@@ -48,6 +48,13 @@ spot_at tree n = record {
 abbrev pub AreClearFrom : AtomTable → ℕ → Type 0
 AreClearFrom table k = (a n : ℕ) → k ≤ a → holds_in table a n ≡ false
 
+-- the atoms from the first on, below another, may be put into a table of so many nodes
+pub record HasRoom (count first past : ℕ) (table : AtomTable) : Type 0 where
+  pub few : past ≤ 64
+  pub atoms : past ≤ atoms_of table
+  pub nodes : nodes_of table ≡ count
+  pub clear : AreClearFrom table first
+
 -- an atom holds at a node where it is put there, and all else is as it was
 pub record IsPut (which node : ℕ) (there : Bool) (old new : AtomTable) : Type 0 where
   pub atoms : atoms_of new ≡ atoms_of old

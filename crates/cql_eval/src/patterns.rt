@@ -24,6 +24,7 @@ use std::alloc::Global;
 
 /// The pattern of parts in a row, whose atoms have the numbers from the next on.
 #[cycle(pattern)]
+#[tactic(auto, using(crate::proofs::LinesLaw::next_few))]
 pub(crate) fn parts_pattern(
     alloc: Global,
     parts: &Constituents,
@@ -116,7 +117,8 @@ fn push_node(shape: &mut Shape, game: &Game, variations: bool, k: u32) -> Result
 {
     let searched = is_searched(game, variations, k);
     let first = is_first_child(game, k);
-    shape.push(game.parent(k), searched, first)
+    shape.push(game.parent(k), searched, first)?;
+    Ok(())
 }
 
 /// The atom of a number holds from now on where a column does, at the nodes of a set.
@@ -136,9 +138,15 @@ pub(crate) fn put_column(
     ensures others { IsFilledIn table.old table.new atom (atom + 1) }
 {
     for n in 0..game.len() {
-        let there = live[n as usize] && column.at(n as usize).holds();
+        let there = holds_there(live[n as usize], column, n as usize);
         put_if(table, atom, n, there);
     }
+}
+
+fn holds_there(asked: bool, column: &FilterColumn, n: usize) -> bool
+    ensures { result ≡ (asked && holds (shown column.now n)) }
+{
+    asked && column.at(n).holds()
 }
 
 fn put_if(table: &mut AtomTable, atom: u32, node: u32, there: bool)

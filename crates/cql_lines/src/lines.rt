@@ -1,5 +1,5 @@
 //! The value of a line at each node.
-ghost use Rattle.std.specs.Prelude.{◌≡◌, ℕ, ◌+◌, ◌*◌, ◌<◌, ◌≤◌, get_or, length, None, IfOk, OnOk};
+ghost use Rattle.std.specs.Prelude.{◌≡◌, ℕ, ◌+◌, ◌*◌, ◌<◌, ◌≤◌, get_or, length, None, IfOk, OnErr, OnOk};
 ghost use Rattle.cq_outside.specs.Spelling.{Pattern as SpelledPattern};
 ghost use Rattle.cql_lines.specs.Automata.{IsAutomatonOf, UsesBelow};
 ghost use Rattle.cql_lines.specs.Shapes.{searched_count};
@@ -32,6 +32,7 @@ pub fn line_values<L: Ledger>(
         → (n : ℕ) → n < length (spots_of shape.now) → IsValueAt table.now shape.now p n (get_or values.items n None)) }
     ensures cost { steps.new ≤ steps.old + atoms_of table.now * searched_count (spots_of shape.now) }
     ensures exact { OnOk result (steps.new ≡ steps.old + atoms_of table.now * searched_count (spots_of shape.now)) }
+    ensures kept { OnErr result (steps.new ≡ steps.old) }
 {
     let rules = automaton.rules.as_slice();
     let first = automaton.first;

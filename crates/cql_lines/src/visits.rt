@@ -1,5 +1,5 @@
 //! The nodes of a tree visited one by one, each after those whose lengths it needs.
-ghost use Rattle.std.specs.Prelude.{◌≡◌, ℕ, ◌+◌, ◌*◌, ◌<◌, ◌≤◌, get_or, length, map, None, ◌-◌, false, IfOk, OnOk, replicate, true};
+ghost use Rattle.std.specs.Prelude.{◌≡◌, ℕ, ◌+◌, ◌*◌, ◌<◌, ◌≤◌, get_or, length, map, None, ◌-◌, false, IfOk, OnErr, OnOk, replicate, true};
 ghost use Rattle.cql_lines.specs.Cells.{Known, both_kinds, Counts, Allowed};
 ghost use Rattle.cql_lines.specs.Down.{Passed, Stands, cell};
 ghost use Rattle.cql_lines.specs.Fits.{Fit};
@@ -100,6 +100,7 @@ fn longest_down<L: Ledger, R: Row>(
         (get_or values.items n None)) }
     ensures cost { steps.new ≤ steps.old + table.now.atoms * searched_count shape.now.spots.items }
     ensures exact { OnOk result (steps.new ≡ steps.old + table.now.atoms * searched_count shape.now.spots.items) }
+    ensures kept { OnErr result (steps.new ≡ steps.old) }
 {
     let nodes = shape.len();
     let mut rows = blank_rows::<R>(alloc, nodes)?;
@@ -177,6 +178,7 @@ fn longest_up<L: Ledger, R: Row>(
         (get_or values.items n None)) }
     ensures cost { steps.new ≤ steps.old + table.now.atoms * searched_count shape.now.spots.items }
     ensures exact { OnOk result (steps.new ≡ steps.old + table.now.atoms * searched_count shape.now.spots.items) }
+    ensures kept { OnErr result (steps.new ≡ steps.old) }
 {
     let nodes = shape.len();
     let mut rows = blank_rows::<R>(alloc, nodes)?;
@@ -207,6 +209,7 @@ pub fn longest<L: Ledger, R: Row>(
         (get_or values.items n None)) }
     ensures cost { steps.new ≤ steps.old + table.now.atoms * searched_count shape.now.spots.items }
     ensures exact { OnOk result (steps.new ≡ steps.old + table.now.atoms * searched_count shape.now.spots.items) }
+    ensures kept { OnErr result (steps.new ≡ steps.old) }
 {
     if shape.back {
         return Ok(longest_up::<L, R>(alloc, rules, first, table, shape, steps)?);

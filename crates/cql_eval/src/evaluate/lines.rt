@@ -1,7 +1,6 @@
 //! The numbers of a line.
-ghost use Rattle.std.specs.Prelude.{◌≡◌, ℕ, ◌+◌, ◌<◌, ◌≤◌, [], length, true, get_or, None, IfOk, OnOk};
+ghost use Rattle.std.specs.Prelude.{◌≡◌, ◌+◌, ◌≤◌, [], length, get_or, None, IfOk, OnOk};
 ghost use Rattle.cq_position.specs.Games.{IsTree};
-ghost use Rattle.cql_lines.specs.Tables.{atoms_of, nodes_of};
 ghost use Rattle.cql_syntax.specs.Meaning as meaning;
 ghost use Rattle.cql_syntax.specs.TreeOf.{body_tree, filter_tree, line_tree, parts_tree};
 ghost use Rattle.cql_syntax.specs.Values.{as_number};
@@ -10,7 +9,7 @@ ghost use Rattle.cql_eval.specs.Columns.{AreAsked, Where};
 ghost use Rattle.cql_eval.specs.Costs.{line_cost, parts_cost, body_cost, parts_atoms, body_atoms};
 ghost use Rattle.cql_eval.specs.FlatTrees.{IsFlatLine, AreFlatParts, IsFlatBody};
 ghost use Rattle.cql_eval.specs.LineAtoms as spec;
-ghost use Rattle.cql_eval.specs.LineAtoms.{AreAllAsked, AreClearFrom, AreTabled, IsFilledIn};
+ghost use Rattle.cql_eval.specs.LineAtoms.{AreAllAsked, AreTabled, HasRoom, IsFilledIn};
 
 use super::evaluate;
 use crate::nodes::all_nodes;
@@ -26,6 +25,7 @@ use std::sync::ledger::Ledger;
 /// The greatest length of a path from each node that a line's pattern spells: its atoms are asked for at all searched nodes, and the
 /// automaton of its pattern then answers all nodes at once.
 #[cycle(evaluate)]
+#[tactic(auto, using(crate::proofs::LinesLaw::line_parts_flat, crate::proofs::LinesLaw::line_room))]
 pub(super) fn line_numbers<L: Ledger>(
     alloc: Global,
     line: &Line,
@@ -65,7 +65,7 @@ pub(super) fn line_numbers<L: Ledger>(
 
 // Puts the atoms of parts in a row into a table, with the numbers from the first on, and answers the number after them.
 #[cycle(evaluate)]
-#[tactic(auto, unfolding(crate::specs::Costs::filter_cost))]
+#[tactic(auto, using(crate::proofs::LinesLaw::part_flat, crate::proofs::LinesLaw::part_room), unfolding(crate::specs::Costs::filter_cost))]
 fn put_parts<L: Ledger>(
     alloc: Global,
     parts: &Constituents,
@@ -80,10 +80,7 @@ fn put_parts<L: Ledger>(
     requires tree { IsTree game.now.nodes }
     requires all { AreAllAsked (searched_tree game.now variations) all.now }
     requires flat { AreFlatParts (parts_tree parts.now) }
-    requires few { first + parts_atoms (parts_tree parts.now) ≤ 64 }
-    requires atoms { first + parts_atoms (parts_tree parts.now) ≤ atoms_of table.old }
-    requires nodes { nodes_of table.old ≡ length game.now.nodes }
-    requires clear { AreClearFrom table.old first }
+    requires room { HasRoom (length game.now.nodes) first (first + parts_atoms (parts_tree parts.now)) table.old }
     ensures next { IfOk result (λ next. next ≡ first + parts_atoms (parts_tree parts.now)) }
     ensures value { OnOk result (AreTabled (searched_tree game.now variations) table.new (first + parts_atoms (parts_tree parts.now))
         (spec.parts_numbered first (parts_tree parts.now))
@@ -117,10 +114,7 @@ fn put_body<L: Ledger>(
     requires tree { IsTree game.now.nodes }
     requires all { AreAllAsked (searched_tree game.now variations) all.now }
     requires flat { IsFlatBody (body_tree body.now) }
-    requires few { first + body_atoms (body_tree body.now) ≤ 64 }
-    requires atoms { first + body_atoms (body_tree body.now) ≤ atoms_of table.old }
-    requires nodes { nodes_of table.old ≡ length game.now.nodes }
-    requires clear { AreClearFrom table.old first }
+    requires room { HasRoom (length game.now.nodes) first (first + body_atoms (body_tree body.now)) table.old }
     ensures next { IfOk result (λ next. next ≡ first + body_atoms (body_tree body.now)) }
     ensures value { OnOk result (AreTabled (searched_tree game.now variations) table.new (first + body_atoms (body_tree body.now))
         (spec.body_numbered first (body_tree body.now))

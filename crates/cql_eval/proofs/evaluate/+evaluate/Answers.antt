@@ -1,8 +1,8 @@
-use Rattle.std.proofs.Common.{rules, ◌≡◌, [], ◌∷◌, ◌∙◌, ap, ap₂, sym, subst, arith, refl, length, not, true, false}
-use Rattle.std.specs.Prelude.{IfOk, ◌<◌}
+use Rattle.std.proofs.Common.{rules, map, ◌≡◌, [], ◌∷◌, ◌∙◌, ap, ap₂, sym, subst, arith, refl, length, not, true, false}
+use Rattle.std.specs.Prelude.{option_map, pos, IfOk, ◌<◌}
 use Rattle.std.specs.List.{list_all, list_any}
 use Rattle.cql_syntax.specs.Meaning.{value, values, unary_of}
-use Rattle.cql_syntax.specs.TreeOf.{filter_tree, form_tree, filters_tree, terms_tree, parts_tree, body_tree}
+use Rattle.cql_syntax.specs.TreeOf.{filter_tree, form_tree, filters_tree, terms_tree, line_tree, parts_tree, body_tree, played_tree}
 use Rattle.cql_syntax.specs.Trees.{filter_at, unary, square, if_, atom}
 use Rattle.cql_syntax.specs.declared.tree.Line.{out-Line}
 use Rattle.cql_syntax.specs.Values.{holds, square_of}
@@ -15,7 +15,6 @@ use Rattle.cql_eval.specs.LineAtoms.{spot_at}
 use Rattle.cql_lines.specs.PatternTrees.{pattern_tree}
 use Rattle.cql_lines.specs.Tables.{atoms_of}
 use Rattle.cql_lines.specs.Trees.{spots_of}
-use Rattle.std.proofs.lemmas.List.{length-replicate}
 use Rattle.std.proofs.lemmas.List.FromFn.{length-map-range_with_len}
 use Rattle.cql_eval.proofs.Costing.{cost_more, cost_within, terms_cost_more, terms_cost_within, square_cost}
 use Rattle.cql_eval.proofs.Gathering.{columns_begun, columns_more, columns_all, terms_begun, terms_more, terms_all}
@@ -23,8 +22,11 @@ use Rattle.cql_eval.proofs.Filling.{narrowed_asked, live_below}
 use Rattle.cql_eval.proofs.Lives.{none_live}
 use Rattle.cql_eval.proofs.FindLaw.{find_is}
 use Rattle.cql_eval.proofs.FlatLaw.{filter_flat, term_flat, no_family}
-use Rattle.cql_eval.proofs.LinesLaw.{few_atoms, few_places, atoms_below, part_flat, atoms_left, table_begun, table_more, table_all, filled_all, at_all, still_clear, atom_tabled, atom_form, table_clear, line_flat, numbers_are, parts_cost_more, parts_cost_within, atoms_within, looks_in}
+use Rattle.cql_eval.proofs.LinesLaw.{few_atoms, few_places, atoms_below, table_begun, table_more, table_all, filled_all, at_all, atom_tabled, atom_form, table_nodes, line_flat, numbers_are, parts_cost_more, parts_cost_within, atoms_within, looks_in}
 use Rattle.cql_eval.proofs.UnaryLaws.{find_up_is, child_holds_is, parent_holds_is}
+use Rattle.cql_eval.proofs.FormLaws.{form_flat, part_is_flat, chain_form, any_form}
+use Rattle.cql_eval.proofs.MoveLaw.{origin_of, goal_of, taken_of, promoted_of, move_is, move_flat, part_is, no_part_is, part_flat as written_flat}
+use Rattle.cql_eval.specs.FlatTrees.{IsFlat, AreFlat, AreFlatTerms, IsFlatLine, IsFlatMove, IsFlatPart}
 use Rattle.cql_eval.proofs.evaluate.+evaluate.Goals as goal
 
 pub chains::all_hold-loop-filter-init : goal.chains::all_hold-loop-filter-init
@@ -97,10 +99,10 @@ unary_column-returns-in_ok-set-in-Find-clause-value g t c = rw c.in-Find.is (λ 
     find_is (searched_tree c.args.game.now c.args.variations) c.args.live.now c.in_ok-wide-in-Find.wide.items c.deref.result.now c.deref-in-Find.result.now c.in_ok-set-in-Find.set.items c.raised-found.result.items c.in_ok-column-in-Find.column
     (value (searched_tree c.args.game.now c.args.variations) [] c.args.names.now (filter_tree c.args.part.now)) c.in_ok-wide-in-Find.ensures c.deref.ensures.value c.deref-in-Find.ensures.value c.in_ok-column-in-Find.ensures.value c.in_ok-set-in-Find.ensures c.raised-found.ensures n l)
 
-pub unary_column-returns-in_ok-unary_values-in_default-clause-value : goal.unary_column-returns-in_ok-unary_values-in_default-clause-value
-unary_column-returns-in_ok-unary_values-in_default-clause-value g t c = λ n l.
+pub unary_column-returns-in_ok-values-in_default-clause-value : goal.unary_column-returns-in_ok-values-in_default-clause-value
+unary_column-returns-in_ok-values-in_default-clause-value g t c = λ n l.
     let other = c.in_default in
-    c.in_ok-unary_values-in_default.ensures n l
+    c.in_ok-values-in_default.ensures n l
     ∙ word_here (searched_tree c.args.game.now c.args.variations) c.args.word (value (searched_tree c.args.game.now c.args.variations) [] c.args.names.now (filter_tree c.args.part.now)) n (shown c.in_ok-column-in_default.column n) other.not-Find other.not-FindUp other.not-Child other.not-Parent
     (c.in_ok-column-in_default.ensures.value n l)
 
@@ -117,14 +119,14 @@ pub evaluate-returns-in_ok-truths-in-Square-clause-value : goal.evaluate-returns
 evaluate-returns-in_ok-truths-in-Square-clause-value g t c = λ n l.
     let f = c.args.f.now in
     let every = c.in-Square.every in
-    let text = c.as_slice.result.now in
+    let text = c.as_slice-in-Square.result.now in
     let a = c.deref-in-Square.result.now in
     let b = c.deref-in-Square-2.result.now in
     c.in_ok-truths-in-Square.ensures.value n l
     ∙ ap (λ x. square_of every x (λ s. holds (value (searched_tree c.args.game.now c.args.variations) [] ((text, s) ∷ c.args.names.now) (filter_tree b) n))) (c.in_ok-squares-in-Square.ensures.value n l)
     ∙ square_form (searched_tree c.args.game.now c.args.variations) c.args.names.now (filter_tree f) (filter_tree a) (filter_tree b) f.at every text
     (ap (λ form. filter_at f.at (form_tree form)) c.in-Square.is
-    ∙ ap (λ x. filter_at f.at (square every x (filter_tree c.in-Square.squares.value) (filter_tree c.in-Square.asked.value))) (sym c.as_slice.ensures)
+    ∙ ap (λ x. filter_at f.at (square every x (filter_tree c.in-Square.squares.value) (filter_tree c.in-Square.asked.value))) (sym c.as_slice-in-Square.ensures)
     ∙ ap₂ (λ p q. filter_at f.at (square every text (filter_tree p) (filter_tree q))) (sym c.deref-in-Square.ensures) (sym c.deref-in-Square-2.ensures)) n
 
 pub evaluate-returns-in_ok-truths-in-If-clause-value : goal.evaluate-returns-in_ok-truths-in-If-clause-value
@@ -139,7 +141,7 @@ evaluate-returns-in_ok-truths-in-If-clause-value g t c = λ n l.
     c.deref-in-If-3.ensures.value c.deref-in-If-5.ensures.value c.in_ok-first-in-If.ensures.value c.in_ok-held-in-If.ensures.narrowed c.in_ok-failed-in-If.ensures.narrowed c.in_ok-second-in-If.ensures.value c.in_ok-third-in-If.ensures.value n l
     ∙ if_form (searched_tree c.args.game.now c.args.variations) c.args.names.now (filter_tree f) (filter_tree x) (filter_tree y) (filter_tree z) f.at
     (ap (λ form. filter_at f.at (form_tree form)) c.in-If.is
-    ∙ ap (λ p. filter_at f.at (if_ (filter_tree p) (filter_tree c.in-If.yes.value) (filter_tree c.in-If.no.value))) (sym c.deref-in-If.ensures)
+    ∙ ap (λ p. filter_at f.at (if_ (filter_tree p) (filter_tree c.in-If.then.value) (filter_tree c.in-If.otherwise.value))) (sym c.deref-in-If.ensures)
     ∙ ap₂ (λ p q. filter_at f.at (if_ (filter_tree x) (filter_tree p) (filter_tree q))) (sym c.deref-in-If-2.ensures) (sym c.deref-in-If-4.ensures)) n
 
 pub chains::all_hold-returns-in_err-column-clause-cost : goal.chains::all_hold-returns-in_err-column-clause-cost
@@ -219,36 +221,32 @@ chains::terms_of-returns-in_err-column-clause-cost g t c =
     c.evaluate.ensures.cost c.as_slice-term-items.ensures.tree
 
 pub chains::all_hold-evaluate-requires : goal.chains::all_hold-evaluate-requires
-chains::all_hold-evaluate-requires g t c = (
-  search rules,
-  (c.requires.tree, search rules,
-  filter_flat c.as_slice-filter-items.result.now c.loop-filter.filter-index c.filter-item.result (filters_tree c.args.filters.now)
-  c.loop-filter-test.true c.filter-item.is c.as_slice-filter-items.ensures.tree c.requires.flat),
-)
+chains::all_hold-evaluate-requires g t c =
+    let here : IsFlat (filter_tree c.filter-item.result) =
+        filter_flat c.as_slice-filter-items.result.now c.loop-filter.filter-index c.filter-item.result (filters_tree c.args.filters.now)
+        c.loop-filter-test.true c.filter-item.is c.as_slice-filter-items.ensures.tree c.requires.flat in
+    search (rules, here)
 
 pub chains::none_holds-evaluate-requires : goal.chains::none_holds-evaluate-requires
-chains::none_holds-evaluate-requires g t c = (
-  search rules,
-  (c.requires.tree, search rules,
-  filter_flat c.as_slice-filter-items.result.now c.loop-filter.filter-index c.filter-item.result (filters_tree c.args.filters.now)
-  c.loop-filter-test.true c.filter-item.is c.as_slice-filter-items.ensures.tree c.requires.flat),
-)
+chains::none_holds-evaluate-requires g t c =
+    let here : IsFlat (filter_tree c.filter-item.result) =
+        filter_flat c.as_slice-filter-items.result.now c.loop-filter.filter-index c.filter-item.result (filters_tree c.args.filters.now)
+        c.loop-filter-test.true c.filter-item.is c.as_slice-filter-items.ensures.tree c.requires.flat in
+    search (rules, here)
 
 pub chains::columns_of-evaluate-requires : goal.chains::columns_of-evaluate-requires
-chains::columns_of-evaluate-requires g t c = (
-  search rules,
-  (c.requires.tree, search rules,
-  filter_flat c.as_slice-filter-items.result.now c.loop-filter.filter-index c.filter-item.result (filters_tree c.args.filters.now)
-  c.loop-filter-test.true c.filter-item.is c.as_slice-filter-items.ensures.tree c.requires.flat),
-)
+chains::columns_of-evaluate-requires g t c =
+    let here : IsFlat (filter_tree c.filter-item.result) =
+        filter_flat c.as_slice-filter-items.result.now c.loop-filter.filter-index c.filter-item.result (filters_tree c.args.filters.now)
+        c.loop-filter-test.true c.filter-item.is c.as_slice-filter-items.ensures.tree c.requires.flat in
+    search (rules, here)
 
 pub chains::terms_of-evaluate-requires : goal.chains::terms_of-evaluate-requires
-chains::terms_of-evaluate-requires g t c = (
-  search rules,
-  (c.requires.tree, c.requires.asked,
-  term_flat c.as_slice-term-items.result.now c.loop-term.term-index c.term-item.result (terms_tree c.args.terms.now)
-  c.loop-term-test.true c.term-item.is c.as_slice-term-items.ensures.tree c.requires.flat),
-)
+chains::terms_of-evaluate-requires g t c =
+    let here : IsFlat (filter_tree c.term-item.result.filter) =
+        term_flat c.as_slice-term-items.result.now c.loop-term.term-index c.term-item.result (terms_tree c.args.terms.now)
+        c.loop-term-test.true c.term-item.is c.as_slice-term-items.ensures.tree c.requires.flat in
+    search (rules, here)
 
 -- lines
 
@@ -268,21 +266,6 @@ lines::put_parts-loop-part-preserved g t c = record {
       c.put_body.new.steps c.loop-part-test.true c.part-item.is c.loop-part.invariant.cost c.put_body.ensures.cost;
   rises = omega (arith, c.loop-part.invariant.rises, c.put_body.ensures.rises);
 }
-
-pub lines::put_parts-put_body-requires : goal.lines::put_parts-put_body-requires
-lines::put_parts-put_body-requires g t c =
-    let left = atoms_left c.as_slice-part-items.result.now c.loop-part.part-index c.part-item.result c.loop-part-test.true c.part-item.is in
-    let same = ap parts_atoms c.as_slice-part-items.ensures.tree in
-    let filled = c.loop-part.invariant.table.filled in (
-      search rules,
-      (c.requires.tree, c.requires.all,
-      part_flat c.as_slice-part-items.result.now c.loop-part.part-index c.part-item.result (parts_tree c.args.parts.now)
-      c.loop-part-test.true c.part-item.is c.as_slice-part-items.ensures.tree c.requires.flat,
-      omega (arith, left, same, c.loop-part.invariant.table.count, c.requires.few),
-      omega (arith, left, same, c.loop-part.invariant.table.count, c.requires.atoms, filled.atoms),
-      filled.nodes ∙ c.requires.nodes,
-      still_clear _ c.loop-part.table c.args.first c.loop-part.at c.loop-part.invariant.table.beyond c.requires.clear filled),
-    )
 
 pub lines::put_parts-returns-clause-next : goal.lines::put_parts-returns-clause-next
 lines::put_parts-returns-clause-next g t c =
@@ -309,10 +292,10 @@ pub lines::put_body-put_column-requires-clause-atom : goal.lines::put_body-put_c
 lines::put_body-put_column-requires-clause-atom g t c =
     let form : body_tree c.args.body.now ≡ atom (filter_tree c.deref.result.now) =
         ap body_tree c.in-Atom.is ∙ ap (λ p. atom (filter_tree p)) (sym c.deref.ensures) in
-    omega (arith, c.requires.atoms, ap body_atoms form)
+    omega (arith, c.requires.room.atoms, ap body_atoms form)
 
 pub lines::put_body-put_column-requires-clause-clear : goal.lines::put_body-put_column-requires-clause-clear
-lines::put_body-put_column-requires-clause-clear g t c = λ n. c.requires.clear c.args.first n (omega arith)
+lines::put_body-put_column-requires-clause-clear g t c = λ n. c.requires.room.clear c.args.first n (omega arith)
 
 pub lines::put_body-returns-in_ok-column-in-Atom-clause-value : goal.lines::put_body-returns-in_ok-column-in-Atom-clause-value
 lines::put_body-returns-in_ok-column-in-Atom-clause-value g t c =
@@ -326,26 +309,16 @@ pub lines::line_numbers-parts_pattern-requires : goal.lines::line_numbers-parts_
 lines::line_numbers-parts_pattern-requires g t c = omega (arith, few_atoms _ (line_flat c.args.line.now c.requires.flat).0)
 
 pub lines::line_numbers-build-requires : goal.lines::line_numbers-build-requires
-lines::line_numbers-build-requires g t c =
-    few_places (parts_tree (out-Line c.args.line.now).parts) (pattern_tree c.in_ok-pattern.pattern) c.in_ok-pattern.ensures.pattern
-    (line_flat c.args.line.now c.requires.flat).0
+lines::line_numbers-build-requires g t c = record {
+  places = few_places (parts_tree (out-Line c.args.line.now).parts) (pattern_tree c.in_ok-pattern.pattern) c.in_ok-pattern.ensures.pattern
+      (line_flat c.args.line.now c.requires.flat).0;
+}
 
 pub lines::line_numbers-new-requires-clause-atoms : goal.lines::line_numbers-new-requires-clause-atoms
 lines::line_numbers-new-requires-clause-atoms g t c = omega (arith, few_atoms _ (line_flat c.args.line.now c.requires.flat).0, c.in_ok-pattern.ensures.next)
 
 pub lines::line_numbers-new-requires-clause-nodes : goal.lines::line_numbers-new-requires-clause-nodes
 lines::line_numbers-new-requires-clause-nodes g t c = omega (arith, c.requires.tree.few, c.len.ensures.len)
-
-pub lines::line_numbers-put_parts-requires : goal.lines::line_numbers-put_parts-requires
-lines::line_numbers-put_parts-requires g t c =
-    let few = few_atoms (parts_tree (out-Line c.args.line.now).parts) (line_flat c.args.line.now c.requires.flat).0 in (
-      search rules,
-      (c.requires.tree, search rules, (line_flat c.args.line.now c.requires.flat).1,
-      omega (arith, few),
-      omega (arith, c.in_ok-table.ensures.atoms, c.in_ok-pattern.ensures.next),
-      (let bits = ap length c.in_ok-table.ensures.bits in omega (arith, bits, length-replicate c.len.result 0, c.len.ensures.len)),
-      table_clear c.in_ok-table.table c.len.result c.in_ok-table.ensures.bits),
-    )
 
 pub lines::line_numbers-line_values-requires-clause-atoms : goal.lines::line_numbers-line_values-requires-clause-atoms
 lines::line_numbers-line_values-requires-clause-atoms g t c =
@@ -355,9 +328,9 @@ lines::line_numbers-line_values-requires-clause-atoms g t c =
 
 pub lines::line_numbers-line_values-requires-clause-nodes : goal.lines::line_numbers-line_values-requires-clause-nodes
 lines::line_numbers-line_values-requires-clause-nodes g t c =
-    let bits = ap length c.in_ok-table.ensures.bits in
+    let nodes = table_nodes c.in_ok-table.table c.len.result (length c.args.game.now.nodes) c.in_ok-table.ensures.bits c.len.ensures.len in
     let spots = ap length c.in_ok-shape.ensures.spots in
-    omega (arith, bits, length-replicate c.len.result 0, c.len.ensures.len, c.in_ok-put_parts.ensures.others.nodes, spots,
+    omega (arith, nodes, c.in_ok-put_parts.ensures.others.nodes, spots,
     length-map-range_with_len (spot_at (searched_tree c.args.game.now c.args.variations)) 0 (length c.args.game.now.nodes))
 
 pub lines::line_numbers-returns-clause-value : goal.lines::line_numbers-returns-clause-value
@@ -368,7 +341,7 @@ lines::line_numbers-returns-clause-value g t c = λ n l.
     numbers_are (searched_tree c.args.game.now c.args.variations) c.requires.tree c.args.names.now c.args.line.now (spots_of c.in_ok-shape.shape) _ _ _ c.in_ok-shape.ensures.spots
     c.in_ok-shape.ensures.way.0 c.in_ok-shape.ensures.way.1 c.in_ok-shape.ensures.way.2 c.put_parts.new.table
     (pattern_tree c.in_ok-pattern.pattern) c.in_ok-pattern.ensures.pattern c.in_ok-put_parts.ensures.value c.in_ok-numbers.numbers.items
-    c.in_ok-values.values.items c.in_ok-numbers.ensures n (c.requires.asked.searched n l, low)
+    c.in_ok-values.values.items (c.in_ok-numbers.ensures ∙ ap (map (option_map pos)) c.as_slice.ensures.value) n (c.requires.asked.searched n l, low)
     (c.in_ok-values.ensures.values (pattern_tree c.in_ok-pattern.pattern) c.in_ok-automaton.ensures.automaton n
     (omega (arith, low, spots, length-map-range_with_len (spot_at (searched_tree c.args.game.now c.args.variations)) 0 (length c.args.game.now.nodes))))
 
@@ -431,3 +404,184 @@ unary_column-returns-in_ok-found-in-Parent-clause-value g t c = rw c.in-Parent.i
     c.in_ok-wide-in-Parent.ensures c.deref-in-Parent.ensures.value c.deref-in-Parent-2.ensures.value c.deref-in-Parent-3.ensures.value
     c.in_ok-column-in-Parent.ensures.value c.in_ok-set-in-Parent.ensures c.in_ok-found-in-Parent.ensures n
     (omega (arith, live_below c.args.live.now n l, c.requires.asked.count)) l)
+
+-- the parts of a flat filter are flat
+
+pub evaluate-unary_column-requires : goal.evaluate-unary_column-requires
+unfolding IsFlat
+evaluate-unary_column-requires g t c =
+    let flat = form_flat c.args.f.now _ c.in-Unary.is c.requires.flat in
+    let here : IsFlat (filter_tree c.deref.result.now) = part_is_flat c.deref.result.now c.in-Unary.part.value c.deref.ensures flat in
+    search (rules, here)
+
+pub evaluate-evaluate-requires : goal.evaluate-evaluate-requires
+unfolding IsFlat
+evaluate-evaluate-requires g t c =
+    let flat = form_flat c.args.f.now _ c.in-Steps.is c.requires.flat in
+    let here : IsFlat (filter_tree c.deref-in-Steps.result.now) = part_is_flat c.deref-in-Steps.result.now c.in-Steps.part.value c.deref-in-Steps.ensures flat in
+    search (rules, here)
+
+pub evaluate-chain_column-requires : goal.evaluate-chain_column-requires
+unfolding IsFlat
+evaluate-chain_column-requires g t c =
+    let flat = form_flat c.args.f.now _ c.in-Chain.is c.requires.flat in
+    let here : AreFlat (filters_tree c.in-Chain.parts) = flat in
+    search (rules, here)
+
+pub evaluate-terms_of-requires : goal.evaluate-terms_of-requires
+unfolding IsFlat
+evaluate-terms_of-requires g t c =
+    let flat = form_flat c.args.f.now _ c.in-Sum.is c.requires.flat in
+    let here : AreFlatTerms (terms_tree c.in-Sum.terms) = flat in
+    search (rules, here)
+
+pub evaluate-evaluate-requires-in-Pair : goal.evaluate-evaluate-requires-in-Pair
+unfolding IsFlat
+evaluate-evaluate-requires-in-Pair g t c =
+    let flat = form_flat c.args.f.now _ c.in-Pair.is c.requires.flat in
+    let here : IsFlat (filter_tree c.deref-in-Pair.result.now) = part_is_flat c.deref-in-Pair.result.now c.in-Pair.first.value c.deref-in-Pair.ensures flat.0 in
+    search (rules, here)
+
+pub evaluate-evaluate-requires-in-Pair-2 : goal.evaluate-evaluate-requires-in-Pair-2
+unfolding IsFlat
+evaluate-evaluate-requires-in-Pair-2 g t c =
+    let flat = form_flat c.args.f.now _ c.in-Pair.is c.requires.flat in
+    let here : IsFlat (filter_tree c.deref-in-Pair-2.result.now) = part_is_flat c.deref-in-Pair-2.result.now c.in-Pair.second.value c.deref-in-Pair-2.ensures flat.1 in
+    search (rules, here)
+
+pub evaluate-evaluate-requires-in-If : goal.evaluate-evaluate-requires-in-If
+unfolding IsFlat
+evaluate-evaluate-requires-in-If g t c =
+    let flat = form_flat c.args.f.now _ c.in-If.is c.requires.flat in
+    let here : IsFlat (filter_tree c.deref-in-If.result.now) = part_is_flat c.deref-in-If.result.now c.in-If.condition.value c.deref-in-If.ensures flat.0 in
+    search (rules, here)
+
+pub evaluate-evaluate-requires-in-If-2 : goal.evaluate-evaluate-requires-in-If-2
+unfolding IsFlat
+evaluate-evaluate-requires-in-If-2 g t c =
+    let flat = form_flat c.args.f.now _ c.in-If.is c.requires.flat in
+    let here : IsFlat (filter_tree c.deref-in-If-2.result.now) = part_is_flat c.deref-in-If-2.result.now c.in-If.then.value c.deref-in-If-2.ensures flat.1.0 in
+    search (rules, here)
+
+pub evaluate-evaluate-requires-in-If-3 : goal.evaluate-evaluate-requires-in-If-3
+unfolding IsFlat
+evaluate-evaluate-requires-in-If-3 g t c =
+    let flat = form_flat c.args.f.now _ c.in-If.is c.requires.flat in
+    let here : IsFlat (filter_tree c.deref-in-If-4.result.now) = part_is_flat c.deref-in-If-4.result.now c.in-If.otherwise.value c.deref-in-If-4.ensures flat.1.1 in
+    search (rules, here)
+
+pub evaluate-evaluate-requires-in-Square : goal.evaluate-evaluate-requires-in-Square
+unfolding IsFlat
+evaluate-evaluate-requires-in-Square g t c =
+    let flat = form_flat c.args.f.now _ c.in-Square.is c.requires.flat in
+    let here : IsFlat (filter_tree c.deref-in-Square.result.now) = part_is_flat c.deref-in-Square.result.now c.in-Square.squares.value c.deref-in-Square.ensures flat.0 in
+    search (rules, here)
+
+pub evaluate-square_truths-requires : goal.evaluate-square_truths-requires
+unfolding IsFlat
+evaluate-square_truths-requires g t c =
+    let flat = form_flat c.args.f.now _ c.in-Square.is c.requires.flat in
+    let here : IsFlat (filter_tree c.deref-in-Square-2.result.now) = part_is_flat c.deref-in-Square-2.result.now c.in-Square.asked.value c.deref-in-Square-2.ensures flat.1 in
+    search (rules, here)
+
+pub evaluate-played_truths-requires : goal.evaluate-played_truths-requires
+unfolding IsFlat
+evaluate-played_truths-requires g t c =
+    let flat = form_flat c.args.f.now _ c.in-Played.is c.requires.flat in
+    let here : IsFlatMove (played_tree c.in-Played.played) = flat in
+    search (rules, here)
+
+pub evaluate-evaluate-requires-in-Sort : goal.evaluate-evaluate-requires-in-Sort
+unfolding IsFlat
+evaluate-evaluate-requires-in-Sort g t c =
+    let flat = form_flat c.args.f.now _ c.in-Sort.is c.requires.flat in
+    let here : IsFlat (filter_tree c.deref-in-Sort.result.now) = part_is_flat c.deref-in-Sort.result.now c.in-Sort.part.value c.deref-in-Sort.ensures flat in
+    search (rules, here)
+
+pub evaluate-any_column-requires : goal.evaluate-any_column-requires
+unfolding IsFlat
+evaluate-any_column-requires g t c =
+    let flat = form_flat c.args.f.now _ c.in-Any.is c.requires.flat in
+    let here : AreFlat (filters_tree c.in-Any.parts) = flat in
+    search (rules, here)
+
+pub evaluate-line_numbers-requires : goal.evaluate-line_numbers-requires
+unfolding IsFlat
+evaluate-line_numbers-requires g t c =
+    let flat = form_flat c.args.f.now _ c.in-Line.is c.requires.flat in
+    let here : IsFlatLine (line_tree c.in-Line.line) = flat in
+    search (rules, here)
+
+-- chains, and any of a kind
+
+pub evaluate-returns-in-Chain-clause-value : goal.evaluate-returns-in-Chain-clause-value
+evaluate-returns-in-Chain-clause-value g t c =
+    let f = c.args.f.now in
+    subst (λ v. IfOk c.chain_column.result (λ x. IsColumn x c.args.live.now v))
+    (chain_form (searched_tree c.args.game.now c.args.variations) c.args.names.now (filter_tree f) f.at c.in-Chain.chain (filters_tree c.in-Chain.parts)
+    (ap (λ form. filter_at f.at (form_tree form)) c.in-Chain.is))
+    c.chain_column.ensures.value
+
+pub evaluate-returns-in-Any-clause-value : goal.evaluate-returns-in-Any-clause-value
+evaluate-returns-in-Any-clause-value g t c =
+    let f = c.args.f.now in
+    subst (λ v. IfOk c.any_column.result (λ x. IsColumn x c.args.live.now v))
+    (any_form (searched_tree c.args.game.now c.args.variations) c.args.names.now (filter_tree f) f.at c.in-Any.kind (filters_tree c.in-Any.parts)
+    (ap (λ form. filter_at f.at (form_tree form)) c.in-Any.is))
+    c.any_column.ensures.value
+
+-- the move filter
+
+pub played::played_truths-written_column-requires : goal.played::played_truths-written_column-requires
+played::played_truths-written_column-requires g t c =
+    let here : IsFlatPart (origin_of c.args.played.now) = (move_flat c.args.played.now c.requires.flat).0 in
+    search (rules, here)
+
+pub played::played_truths-written_column-requires-2 : goal.played::played_truths-written_column-requires-2
+played::played_truths-written_column-requires-2 g t c =
+    let here : IsFlatPart (goal_of c.args.played.now) = (move_flat c.args.played.now c.requires.flat).1.0 in
+    search (rules, here)
+
+pub played::played_truths-written_column-requires-3 : goal.played::played_truths-written_column-requires-3
+played::played_truths-written_column-requires-3 g t c =
+    let here : IsFlatPart (taken_of c.args.played.now) = (move_flat c.args.played.now c.requires.flat).1.1.0 in
+    search (rules, here)
+
+pub played::played_truths-written_column-requires-4 : goal.played::played_truths-written_column-requires-4
+played::played_truths-written_column-requires-4 g t c =
+    let here : IsFlatPart (promoted_of c.args.played.now) = (move_flat c.args.played.now c.requires.flat).1.1.1 in
+    search (rules, here)
+
+pub played::played_truths-returns-clause-value : goal.played::played_truths-returns-clause-value
+played::played_truths-returns-clause-value g t c = λ n l.
+    c.in_ok-truths.ensures n l
+    ∙ move_is (searched_tree c.args.game.now c.args.variations) c.args.names.now c.args.played.now c.args.live.now c.in_ok-wide.wide.items c.deref.result.now c.deref-2.result.now
+    c.in_ok-origin.origin c.in_ok-goal.goal c.in_ok-taken.taken c.in_ok-promoted.promoted c.in_ok-wide.ensures c.deref.ensures.value c.deref-2.ensures.value
+    c.in_ok-origin.ensures.value c.in_ok-goal.ensures.value c.in_ok-taken.ensures.value c.in_ok-promoted.ensures.value n l
+
+pub played::written_column-evaluate-requires : goal.played::written_column-evaluate-requires
+played::written_column-evaluate-requires g t c =
+    let here : IsFlat (filter_tree c.deref.result.now) =
+        written_flat c.args.written.now c.in-Some.filter c.deref.result.now c.in-Some.is c.deref.ensures c.requires.flat in
+    search (rules, here)
+
+pub played::written_column-returns-in_ok-column-in-Some-clause-value : goal.played::written_column-returns-in_ok-column-in-Some-clause-value
+played::written_column-returns-in_ok-column-in-Some-clause-value g t c =
+    part_is (searched_tree c.args.game.now c.args.variations) c.args.names.now c.args.live.now c.args.written.now c.in-Some.filter c.deref.result.now c.in_ok-column-in-Some.column
+    c.in-Some.is c.deref.ensures c.in_ok-column-in-Some.ensures.value
+
+pub played::written_column-returns-in-None-clause-value : goal.played::written_column-returns-in-None-clause-value
+played::written_column-returns-in-None-clause-value g t c =
+    no_part_is (searched_tree c.args.game.now c.args.variations) c.args.names.now c.args.live.now c.args.written.now c.in-None.is
+
+pub chains::columns_of-returns-in_err-push-clause-cost : goal.chains::columns_of-returns-in_err-push-clause-cost
+chains::columns_of-returns-in_err-push-clause-cost g t c =
+    cost_within (length c.args.game.now.nodes) c.as_slice-filter-items.result.now c.loop-filter.filter-index c.filter-item.result _ c.loop-filter.steps
+    c.evaluate.new.steps (filters_tree c.args.filters.now) c.loop-filter-test.true c.filter-item.is c.loop-filter.invariant.cost
+    c.evaluate.ensures.cost c.as_slice-filter-items.ensures.tree
+
+pub chains::terms_of-returns-in_err-push-clause-cost : goal.chains::terms_of-returns-in_err-push-clause-cost
+chains::terms_of-returns-in_err-push-clause-cost g t c =
+    terms_cost_within (length c.args.game.now.nodes) c.as_slice-term-items.result.now c.loop-term.term-index c.term-item.result _ c.loop-term.steps
+    c.evaluate.new.steps (terms_tree c.args.terms.now) c.loop-term-test.true c.term-item.is c.loop-term.invariant.cost
+    c.evaluate.ensures.cost c.as_slice-term-items.ensures.tree

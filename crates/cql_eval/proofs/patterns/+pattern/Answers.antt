@@ -1,9 +1,8 @@
-use Rattle.std.proofs.Common.{rules, ◌∙◌, ap, arith}
+use Rattle.std.proofs.Common.{◌∙◌, arith}
 use Rattle.cql_lines.specs.PatternTrees.{patterns_in}
 use Rattle.cql_lines.proofs.Lists.{sequence_tree}
 use Rattle.cql_syntax.specs.TreeOf.{parts_tree}
-use Rattle.cql_eval.specs.Costs.{parts_atoms}
-use Rattle.cql_eval.proofs.LinesLaw.{pattern_begun, pattern_more, pattern_all, next_all, atoms_left}
+use Rattle.cql_eval.proofs.LinesLaw.{pattern_begun, pattern_more, pattern_all, next_all}
 use Rattle.cql_eval.proofs.patterns.+pattern.Goals as goal
 
 pub parts_pattern-loop-part-init : goal.parts_pattern-loop-part-init
@@ -14,13 +13,6 @@ parts_pattern-loop-part-preserved t c =
     pattern_more _ c.as_slice-part-items.result.now c.loop-part.part-index c.part-item.result c.loop-part.next c.body_pattern.new.next
     (patterns_in c.loop-part.patterns) (patterns_in c.push.new.self) c.in_ok-pattern.pattern c.in_ok-body.body c.loop-part-test.true c.part-item.is
     c.in_ok-body.ensures.pattern c.in_ok-pattern.ensures c.in_ok-body.ensures.next c.in_ok-push.ensures.more c.loop-part.invariant
-
-pub parts_pattern-body_pattern-requires : goal.parts_pattern-body_pattern-requires
-parts_pattern-body_pattern-requires t c = (
-  search rules,
-  (let left = atoms_left c.as_slice-part-items.result.now c.loop-part.part-index c.part-item.result c.loop-part-test.true c.part-item.is in
-  omega (arith, left, c.loop-part.invariant.count, c.requires, ap parts_atoms c.as_slice-part-items.ensures.tree)),
-)
 
 pub parts_pattern-returns-clause-pattern : goal.parts_pattern-returns-clause-pattern
 parts_pattern-returns-clause-pattern t c =

@@ -1,4 +1,4 @@
-use Rattle.std.proofs.Common.{◌∷◌, [], ◌++◌, ◌∙◌, ap, arith, map}
+use Rattle.std.proofs.Common.{◌∙◌, ap, arith, map}
 use Rattle.std.specs.Prelude.{option_map, pos}
 use Rattle.cql_eval.proofs.Chains.{take_whole}
 use Rattle.cql_eval.proofs.LinesLaw.{wide_more}
@@ -6,9 +6,8 @@ use Rattle.cql_eval.proofs.patterns.wide_numbers.Goals as goal
 
 pub loop-number-preserved : goal.loop-number-preserved
 loop-number-preserved c =
-    wide_more c.args.numbers.now c.loop-number.number-index c.number-item.result c.loop-number.wide.items c.push.new.self.items
-    c.loop-number-test.true c.number-item.is
-    (c.in_ok-push.ensures.items ∙ ap (λ v. c.loop-number.wide.items ++ v ∷ []) c.wide_number.ensures) c.loop-number.invariant
+    wide_more c.args.numbers.now c.loop-number.number-index _ c.wide_number.result c.loop-number.wide.items c.push.new.self.items
+    c.loop-number-test.true c.wide_number.ensures c.in_ok-push.ensures.items c.loop-number.invariant
 
 pub returns : goal.returns
 returns c =

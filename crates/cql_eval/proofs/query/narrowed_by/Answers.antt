@@ -1,10 +1,10 @@
 use Rattle.std.proofs.Common.{[], ◌∙◌, ap, sym, subst}
 use Rattle.cql_syntax.specs.Meaning.{value}
 use Rattle.cql_syntax.specs.TreeOf.{filter_tree, form_tree}
-use Rattle.cql_syntax.specs.Trees.{filter_at, sort}
+use Rattle.cql_syntax.specs.Trees.{filter_at}
 use Rattle.cql_values.specs.Trees.{searched_tree}
 use Rattle.cql_eval.specs.Columns.{IsColumn}
-use Rattle.cql_eval.proofs.HitsLaw.{item_each, row_is, sort_asked, sort_each, sort_keys}
+use Rattle.cql_eval.proofs.HitsLaw.{item_each, row_is, sort_asked, sort_form, sort_each, sort_keys}
 use Rattle.cql_eval.proofs.query.narrowed_by.Goals as goal
 
 pub returns-in_ok-later-in-Sort-clause-asked : goal.returns-in_ok-later-in-Sort-clause-asked
@@ -15,8 +15,7 @@ pub returns-in_ok-later-in-Sort-clause-each : goal.returns-in_ok-later-in-Sort-c
 returns-in_ok-later-in-Sort-clause-each g c =
     sort_each (searched_tree c.args.game.now c.args.variations) c.args.asked.now c.args.left.now c.in_ok-later-in-Sort.later.items c.in_ok-column-in-Sort.column (filter_tree c.args.item.now)
     (filter_tree c.deref.result.now) c.args.item.now.at _ _
-    (ap (λ form. filter_at c.args.item.now.at (form_tree form)) c.in-Sort.is
-    ∙ ap (λ p. filter_at c.args.item.now.at (sort _ _ (filter_tree p))) (sym c.deref.ensures))
+    (ap (filter_at c.args.item.now.at) (sort_form _ _ _ _ _ (ap form_tree c.in-Sort.is) (ap filter_tree (sym c.deref.ensures))))
     c.requires.within
     (subst (λ e. IsColumn c.in_ok-column-in-Sort.column c.args.asked.now (value (searched_tree c.args.game.now c.args.variations) [] e (filter_tree c.deref.result.now))) c.requires.names
     c.in_ok-column-in-Sort.ensures.value)
@@ -26,8 +25,7 @@ pub returns-in_ok-later-in-Sort-clause-keys : goal.returns-in_ok-later-in-Sort-c
 returns-in_ok-later-in-Sort-clause-keys g c =
     sort_keys (λ row. row.items) (searched_tree c.args.game.now c.args.variations) c.args.asked.now _ _ c.in_ok-row-in-Sort.row (filter_tree c.args.item.now) (filter_tree c.deref.result.now)
     c.args.item.now.at _ _
-    (ap (λ form. filter_at c.args.item.now.at (form_tree form)) c.in-Sort.is
-    ∙ ap (λ p. filter_at c.args.item.now.at (sort _ _ (filter_tree p))) (sym c.deref.ensures))
+    (ap (filter_at c.args.item.now.at) (sort_form _ _ _ _ _ (ap form_tree c.in-Sort.is) (ap filter_tree (sym c.deref.ensures))))
     c.in_ok-push-in-Sort.ensures.items
     (c.in_ok-row-in-Sort.ensures
     ∙ row_is (searched_tree c.args.game.now c.args.variations) c.args.asked.now c.in_ok-column-in-Sort.column (filter_tree c.deref.result.now) c.requires.asked

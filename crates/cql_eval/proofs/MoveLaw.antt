@@ -1,0 +1,94 @@
+-- What is asked of a move, part by part.
+use Rattle.std.proofs.Common.{◌≡◌, ℕ, ◌+◌, ◌≤◌, Bool, true, List, [], length, get_or, Option, Some, None, option_map, refl, sym, ap, ap₂, ◌∙◌, subst, arith}
+use Rattle.std.specs.declared.alloc.Global.{Global}
+use Rattle.std.specs.declared.boxed.Box.{Box}
+use Rattle.cq_position.specs.Led.{led_to}
+use Rattle.cq_position.specs.Search.{SearchedTree}
+use Rattle.cql_syntax.specs.Meaning.{Names, value, meets_all, before, played_value, written_value}
+use Rattle.cql_syntax.specs.TreeOf.{filter_tree, played_tree, held_tree, written_tree}
+use Rattle.cql_syntax.specs.Trees.{WrittenTree, move_of}
+use Rattle.cql_syntax.specs.Values.{as_truth}
+use Rattle.cql_syntax.specs.declared.tree.Filter.{Filter}
+use Rattle.cql_syntax.specs.declared.tree.Played.{Played, Played', out-Played, outs-Played', Held-Played-origin, view-Played-origin, None', Some'}
+use Rattle.cql_eval.specs.Columns.{is_live, shown, IsColumn, Where}
+use Rattle.cql_eval.specs.Costs.{filter_cost, played_cost, written_cost}
+use Rattle.cql_eval.specs.FlatTrees.{IsFlat, IsFlatMove, IsFlatPart}
+use Rattle.cql_eval.specs.Trees.{AreBeforeLive}
+use Rattle.cql_eval.specs.declared.filter_column.FilterColumn.{FilterColumn}
+
+held_is : (held : Held-Played-origin) → written_tree (view-Played-origin held) ≡ held_tree held
+held_is None' = refl
+held_is (Some' p i f) = refl
+
+-- the parts of a move as they are written
+abbrev pub origin_of : Played → WrittenTree
+origin_of p = written_tree (out-Played p).origin
+
+abbrev pub goal_of : Played → WrittenTree
+goal_of p = written_tree (out-Played p).goal
+
+abbrev pub taken_of : Played → WrittenTree
+taken_of p = written_tree (out-Played p).taken
+
+abbrev pub promoted_of : Played → WrittenTree
+promoted_of p = written_tree (out-Played p).promoted
+
+parts_are : (p : Played) → played_tree p ≡ move_of (origin_of p) (goal_of p) (taken_of p) (promoted_of p)
+parts_are (Played' o g t p) =
+    sym (ap (λ y. move_of (written_tree y.origin) (written_tree y.goal) (written_tree y.taken) (written_tree y.promoted)) (outs-Played' o g t p)
+    ∙ ap₂ (λ x y. move_of x y (written_tree (view-Played-origin t)) (written_tree (view-Played-origin p))) (held_is o) (held_is g)
+    ∙ ap₂ (λ x y. move_of (held_tree o) (held_tree g) x y) (held_is t) (held_is p))
+
+pub move_flat : (p : Played) → IsFlatMove (played_tree p) → IsFlatPart (origin_of p) × IsFlatPart (goal_of p) × IsFlatPart (taken_of p) × IsFlatPart (promoted_of p)
+unfolding IsFlat
+move_flat p flat = subst IsFlatMove (parts_are p) flat
+
+pub move_costs : (nodes : ℕ) (p : Played) → played_cost nodes (played_tree p)
+    ≡ written_cost nodes (origin_of p) + written_cost nodes (goal_of p) + written_cost nodes (taken_of p) + written_cost nodes (promoted_of p)
+unfolding filter_cost
+move_costs nodes p = ap (played_cost nodes) (parts_are p)
+
+move_value : (tree : SearchedTree) (e : Names) (p : Played) (n : ℕ) → played_value tree [] e (played_tree p) n
+    ≡ meets_all (led_to tree.game.nodes n) (written_value tree [] e (origin_of p) (before tree n)) (written_value tree [] e (goal_of p) n)
+    (written_value tree [] e (taken_of p) (before tree n)) (written_value tree [] e (promoted_of p) n)
+unfolding value
+move_value tree e p n = ap (λ m. played_value tree [] e m n) (parts_are p)
+
+-- a part's column, where it is written
+abbrev pub IsPartColumn : SearchedTree → Names → List Bool → Option FilterColumn → WrittenTree → Type 0
+IsPartColumn tree e live c w = Where live (λ n. option_map (λ x. shown x n) c ≡ written_value tree [] e w n)
+
+pub move_is : (tree : SearchedTree) (e : Names) (p : Played) (live wide first third : List Bool) (origin goal taken promoted : Option FilterColumn) → AreBeforeLive tree live wide
+    → first ≡ wide → third ≡ wide → IsPartColumn tree e first origin (origin_of p) → IsPartColumn tree e live goal (goal_of p)
+    → IsPartColumn tree e third taken (taken_of p) → IsPartColumn tree e live promoted (promoted_of p) → (n : ℕ) → is_live live n ≡ true
+    → as_truth (meets_all (led_to tree.game.nodes n) (option_map (λ x. shown x (before tree n)) origin) (option_map (λ x. shown x n) goal)
+    (option_map (λ x. shown x (before tree n)) taken) (option_map (λ x. shown x n) promoted)) ≡ as_truth (played_value tree [] e (played_tree p) n)
+move_is tree e p live wide first third origin goal taken promoted covers is is_too a b c d n l =
+    let there = covers.covers n l in
+    let led = led_to tree.game.nodes n in
+    ap as_truth (ap₂ (λ x y. meets_all led x y (option_map (λ z. shown z (before tree n)) taken) (option_map (λ z. shown z n) promoted))
+    (a (before tree n) (ap (λ s. is_live s (before tree n)) is ∙ there)) (b n l)
+    ∙ ap₂ (λ x y. meets_all led (written_value tree [] e (origin_of p) (before tree n)) (written_value tree [] e (goal_of p) n) x y)
+    (c (before tree n) (ap (λ s. is_live s (before tree n)) is_too ∙ there)) (d n l)
+    ∙ sym (move_value tree e p n))
+
+-- a part that is written
+
+pub part_is : (tree : SearchedTree) (e : Names) (live : List Bool) (w : Option (Box Filter Global)) (boxed : Box Filter Global) (f : Filter) (c : FilterColumn) → w ≡ Some boxed → f ≡ boxed.value
+    → IsColumn c live (value tree [] e (filter_tree f)) → IsPartColumn tree e live (Some c) (written_tree w)
+unfolding value
+part_is tree e live w boxed f c is same column = λ n l.
+    ap Some (column n l ∙ ap (λ x. value tree [] e (filter_tree x) n) same) ∙ sym (ap (λ x. written_value tree [] e (written_tree x) n) is)
+
+pub no_part_is : (tree : SearchedTree) (e : Names) (live : List Bool) (w : Option (Box Filter Global)) → w ≡ None → IsPartColumn tree e live None (written_tree w)
+unfolding value
+no_part_is tree e live w is = λ n l. sym (ap (λ x. written_value tree [] e (written_tree x) n) is)
+
+pub part_flat : (w : Option (Box Filter Global)) (boxed : Box Filter Global) (f : Filter) → w ≡ Some boxed → f ≡ boxed.value → IsFlatPart (written_tree w) → IsFlat (filter_tree f)
+unfolding IsFlat
+part_flat w boxed f is same flat = subst (λ x. IsFlat (filter_tree x)) (sym same) (subst (λ x. IsFlatPart (written_tree x)) is flat)
+
+pub part_costs : (nodes : ℕ) (w : Option (Box Filter Global)) (boxed : Box Filter Global) (f : Filter) → w ≡ Some boxed → f ≡ boxed.value
+    → written_cost nodes (written_tree w) ≡ filter_cost nodes (filter_tree f)
+unfolding filter_cost
+part_costs nodes w boxed f is same = ap (λ x. written_cost nodes (written_tree x)) is ∙ ap (λ x. filter_cost nodes (filter_tree x)) (sym same)
