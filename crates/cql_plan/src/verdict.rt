@@ -1,5 +1,5 @@
 //! What a query finds in a game.
-ghost use Rattle.std.specs.Prelude.{◌≡◌, ◌≢◌, ◌+◌, ◌<◌, ◌≤◌, [], false, length, map, Some, All, AllPairs, IfOk};
+ghost use Rattle.std.specs.Prelude.{◌≡◌, ◌≢◌, ◌+◌, ◌<◌, ◌≤◌, [], true, false, length, map, Some, All, AllPairs, IfOk, OnOk};
 ghost use Rattle.cq_position.specs.Search.{nodes_in};
 ghost use Rattle.cql_eval.specs.Costs.{filters_cost};
 ghost use Rattle.cql_syntax.specs.Hits.{hits_in, all_keys};
@@ -59,6 +59,8 @@ pub(crate) fn find<L: Ledger>(
         → IfOk result (λ v. v.nodes.items ≡ []) }
     ensures no_steps { all_pass (searched_tree game.now query.now.variations) (filters_tree query.now.items) ≡ false
         → steps.new ≡ steps.old }
+    ensures least { all_pass (searched_tree game.now query.now.variations) (filters_tree query.now.items) ≡ true
+        → OnOk result (steps.old + length (nodes_in (searched_tree game.now query.now.variations)) ≤ steps.new) }
     ensures most { steps.new ≤ steps.old + length (nodes_in (searched_tree game.now query.now.variations))
         + filters_cost (length game.now.nodes) (filters_tree query.now.items) }
 {

@@ -1,5 +1,5 @@
 //! How a plan is made, and the match of one game.
-ghost use Rattle.std.specs.Prelude.{◌≡◌, ◌≢◌, ◌+◌, ◌<◌, ◌≤◌, [], true, false, length, map, Some, All, AllPairs, IfOk};
+ghost use Rattle.std.specs.Prelude.{◌≡◌, ◌≢◌, ◌+◌, ◌<◌, ◌≤◌, [], true, false, length, map, Some, All, AllPairs, IfOk, OnOk};
 ghost use Rattle.cq_position.specs.Search.{nodes_in};
 ghost use Rattle.cql_eval.specs.Costs.{filters_cost};
 ghost use Rattle.cql_syntax.specs.Flat.{flat_query};
@@ -51,7 +51,7 @@ pub fn may_hold(plan: &Plan, game: &Game) -> bool
 /// The hits of the plan's query in a game, and its keys.
 ///
 /// A game that hasn't what the query needs is turned away by [`may_hold`], and takes no step. Else each searched node is a step, and so
-/// is each look at the atoms of a line.
+/// is each look at the atoms of a line: at most those that the flat items cost, where what is asked of a square counts 64 times.
 pub fn match_game<L: Ledger>(
     alloc: Global,
     plan: &Plan,
@@ -66,6 +66,8 @@ pub fn match_game<L: Ledger>(
     ensures turned_away { query_passes (query_tree (query_of plan.now).query) game.now ≡ false
         → IfOk result (λ v. nodes_of v ≡ []) }
     ensures no_steps { query_passes (query_tree (query_of plan.now).query) game.now ≡ false → steps.new ≡ steps.old }
+    ensures least { query_passes (query_tree (query_of plan.now).query) game.now ≡ true
+        → OnOk result (steps.old + length (nodes_in (searched_tree game.now (query_of plan.now).query.variations)) ≤ steps.new) }
     ensures most { steps.new ≤ steps.old + length (nodes_in (searched_tree game.now (query_of plan.now).query.variations))
         + filters_cost (length game.now.nodes) (flat_query (query_tree (query_of plan.now).query)).items }
 {

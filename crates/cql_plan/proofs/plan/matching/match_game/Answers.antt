@@ -29,6 +29,13 @@ returns-clause-no_steps g c = λ away.
     c.find.ensures.no_steps
     (passes_is (query_tree plan.query.query) c.args.game.now plan.flat.variations (filters_tree plan.flat.items) plan.items plan.variations ∙ away)
 
+pub returns-clause-least : goal.returns-clause-least
+returns-clause-least g c = λ passes.
+    let plan = c.args.plan.now in
+    let found = c.find.ensures.least
+        (passes_is (query_tree plan.query.query) c.args.game.now plan.flat.variations (filters_tree plan.flat.items) plan.items plan.variations ∙ passes) in
+    rw plan.variations at found
+
 pub returns-clause-most : goal.returns-clause-most
 returns-clause-most g c =
     let plan = c.args.plan.now in
