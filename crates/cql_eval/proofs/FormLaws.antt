@@ -1,23 +1,12 @@
--- What a form of filter gives by its parts, and that the parts of a flat one are flat.
-use Rattle.std.proofs.Common.{◌≡◌, ℕ, List, [], sym, ap, subst}
+-- What a form of filter gives by its parts.
+use Rattle.std.proofs.Common.{◌≡◌, ℕ, List, [], sym, ap}
 use Rattle.std.proofs.Math.Path.{fun_ext}
 use Rattle.cq_position.specs.Search.{SearchedTree}
 use Rattle.cql_syntax.specs.Meaning.{Names, value, values}
-use Rattle.cql_syntax.specs.TreeOf.{filter_tree, form_tree}
 use Rattle.cql_syntax.specs.Trees.{FilterTree, filter_at, chain, any, FilterTrees}
 use Rattle.cql_syntax.specs.Values.{Value, chain_of, any_of}
 use Rattle.cql_syntax.specs.declared.leaves.Chain.{Chain}
 use Rattle.cql_syntax.specs.declared.leaves.Kind.{Kind}
-use Rattle.cql_syntax.specs.declared.tree.Filter.{Filter}
-use Rattle.cql_syntax.specs.declared.tree.Form.{Form}
-use Rattle.cql_eval.specs.FlatTrees.{IsFlat, IsFlatForm}
-
-pub form_flat : (f : Filter) (form : Form) → f.form ≡ form → IsFlat (filter_tree f) → IsFlatForm (form_tree form)
-unfolding IsFlat
-form_flat f form is flat = subst (λ x. IsFlatForm (form_tree x)) is flat
-
-pub part_is_flat : (x y : Filter) → x ≡ y → IsFlat (filter_tree y) → IsFlat (filter_tree x)
-part_is_flat x y is flat = subst (λ z. IsFlat (filter_tree z)) (sym is) flat
 
 pub chain_form : (tree : SearchedTree) (e : Names) (f : FilterTree) (at : ℕ) (c : Chain) (fs : FilterTrees) → f ≡ filter_at at (chain c fs)
     → ◌≡◌ {A = ℕ → Value} (λ n. chain_of c (values tree [] e fs n)) (value tree [] e f)

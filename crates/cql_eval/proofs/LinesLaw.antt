@@ -45,7 +45,7 @@ use Rattle.cql_syntax.specs.declared.tree.Constituent.{Constituent}
 use Rattle.cql_syntax.specs.declared.tree.Line.{Line as OneLine, Line', out-Line}
 use Rattle.cql_eval.specs.Columns.{is_live, shown, IsColumn}
 use Rattle.cql_eval.specs.Costs.{filter_cost, line_cost, parts_atoms, body_atoms, parts_cost, body_cost}
-use Rattle.cql_eval.specs.FlatTrees.{IsFlatLine, AreFlatParts, IsFlatBody, IsFlat}
+use Rattle.cql_eval.specs.FlatTrees.{unflat, unflat_body, unflat_parts, IsFlatLine, AreFlatParts, IsFlatBody, IsFlat}
 use Rattle.cql_eval.specs.LineAtoms.{AreAllAsked, parts_numbered, body_numbered, limits_in, spot_at, AreClearFrom, HasRoom, IsPut, IsFilledIn, AreTabled}
 use Rattle.cql_eval.specs.declared.filter_column.FilterColumn.{FilterColumn}
 use Rattle.cql_eval.proofs.Filling.{split_last, live_below}
@@ -147,15 +147,23 @@ drop_all [] (suc i) h = refl
 drop_all (x ∷ xs) zero h = absurd (omega (arith, h))
 drop_all (x ∷ xs) (suc i) h = drop_all xs i (omega (arith, h))
 
+left_flat : (y : Constituent) (ys : List Constituent) → AreFlatParts (part_trees (y ∷ ys)) → IsFlatBody (body_tree y.body)
+unfolding unflat
+left_flat y ys h = omega (arith, h)
+
+rest_flat : (y : Constituent) (ys : List Constituent) → AreFlatParts (part_trees (y ∷ ys)) → AreFlatParts (part_trees ys)
+unfolding unflat
+rest_flat y ys h = omega (arith, h)
+
 pub part_flat : (xs : List Constituent) (i : ℕ) (c : Constituent) (cs : PartTrees) → i < length xs → c ≡ get_or xs i c → part_trees xs ≡ cs → AreFlatParts cs → IsFlatBody (body_tree c.body)
-unfolding IsFlat
+unfolding unflat
 part_flat xs i c cs below is same flat = at xs i c below is (subst AreFlatParts (sym same) flat)
   where
     at : (ys : List Constituent) (k : ℕ) (g : Constituent) → k < length ys → g ≡ get_or ys k g → AreFlatParts (part_trees ys) → IsFlatBody (body_tree g.body)
     at [] zero g h e all = absurd (omega (arith, h))
     at [] (suc k) g h e all = absurd (omega (arith, h))
-    at (y ∷ ys) zero g h e all = subst (λ (x : Constituent). IsFlatBody (body_tree x.body)) (sym e) all.0
-    at (y ∷ ys) (suc k) g h e all = at ys k g (omega (arith, h)) e all.1
+    at (y ∷ ys) zero g h e all = subst (λ (x : Constituent). IsFlatBody (body_tree x.body)) (sym e) (left_flat y ys all)
+    at (y ∷ ys) (suc k) g h e all = at ys k g (omega (arith, h)) e (rest_flat y ys all)
 
 -- the atoms that are left after some parts
 pub atoms_left : (xs : List Constituent) (i : ℕ) (c : Constituent) → i < length xs → c ≡ get_or xs i c
@@ -458,8 +466,8 @@ parts_cost_within nodes xs i c before now later cs below is had new same = omega
 -- a line as its fields
 
 pub line_flat : (l : OneLine) → IsFlatLine (line_tree l) → (parts_places (parts_tree (out-Line l).parts) ≤ 64) × AreFlatParts (parts_tree (out-Line l).parts)
-unfolding IsFlat out-Line Carrier.out
-line_flat (Line' back primary extent cs) h = h
+unfolding unflat out-Line Carrier.out
+line_flat (Line' back primary extent cs) h = (omega (arith, h), omega (arith, h))
 
 pub line_parts_flat : (l : OneLine) → IsFlatLine (line_tree l) → AreFlatParts (parts_tree (out-Line l).parts)
 line_parts_flat l h = (line_flat l h).1

@@ -12,7 +12,7 @@ use Rattle.cql_syntax.specs.declared.tree.Filter.{Filter}
 use Rattle.cql_syntax.specs.declared.tree.Played.{Played, Played', out-Played, outs-Played', Held-Played-origin, view-Played-origin, None', Some'}
 use Rattle.cql_eval.specs.Columns.{is_live, shown, IsColumn, Where}
 use Rattle.cql_eval.specs.Costs.{filter_cost, played_cost, written_cost}
-use Rattle.cql_eval.specs.FlatTrees.{IsFlat, IsFlatMove, IsFlatPart}
+use Rattle.cql_eval.specs.FlatTrees.{unflat, IsFlat, IsFlatMove, IsFlatPart}
 use Rattle.cql_eval.specs.Trees.{AreBeforeLive}
 use Rattle.cql_eval.specs.declared.filter_column.FilterColumn.{FilterColumn}
 
@@ -38,10 +38,6 @@ parts_are (Played' o g t p) =
     sym (ap (λ y. move_of (written_tree y.origin) (written_tree y.goal) (written_tree y.taken) (written_tree y.promoted)) (outs-Played' o g t p)
     ∙ ap₂ (λ x y. move_of x y (written_tree (view-Played-origin t)) (written_tree (view-Played-origin p))) (held_is o) (held_is g)
     ∙ ap₂ (λ x y. move_of (held_tree o) (held_tree g) x y) (held_is t) (held_is p))
-
-pub move_flat : (p : Played) → IsFlatMove (played_tree p) → IsFlatPart (origin_of p) × IsFlatPart (goal_of p) × IsFlatPart (taken_of p) × IsFlatPart (promoted_of p)
-unfolding IsFlat
-move_flat p flat = subst IsFlatMove (parts_are p) flat
 
 pub move_costs : (nodes : ℕ) (p : Played) → played_cost nodes (played_tree p)
     ≡ written_cost nodes (origin_of p) + written_cost nodes (goal_of p) + written_cost nodes (taken_of p) + written_cost nodes (promoted_of p)
@@ -85,7 +81,7 @@ unfolding value
 no_part_is tree e live w is = λ n l. sym (ap (λ x. written_value tree [] e (written_tree x) n) is)
 
 pub part_flat : (w : Option (Box Filter Global)) (boxed : Box Filter Global) (f : Filter) → w ≡ Some boxed → f ≡ boxed.value → IsFlatPart (written_tree w) → IsFlat (filter_tree f)
-unfolding IsFlat
+unfolding unflat
 part_flat w boxed f is same flat = subst (λ x. IsFlat (filter_tree x)) (sym same) (subst (λ x. IsFlatPart (written_tree x)) is flat)
 
 pub part_costs : (nodes : ℕ) (w : Option (Box Filter Global)) (boxed : Box Filter Global) (f : Filter) → w ≡ Some boxed → f ≡ boxed.value

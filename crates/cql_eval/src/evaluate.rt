@@ -43,7 +43,7 @@ use std::sync::ledger::Ledger;
 
 /// What a filter gives at each node that is asked for, with squares bound to names. Where no node is asked for nothing is looked at.
 #[cycle(evaluate)]
-#[tactic(auto, unfolding(cql_syntax::specs::Meaning::value, cql_syntax::specs::Contexts::designator_image, crate::specs::Costs::filter_cost, crate::specs::FlatTrees::IsFlat))]
+#[tactic(auto, unfolding(cql_syntax::specs::Meaning::value, cql_syntax::specs::Contexts::designator_image, crate::specs::Costs::filter_cost, crate::specs::FlatTrees::unflat))]
 pub(crate) fn evaluate<L: Ledger>(
     alloc: Global,
     f: &Filter,

@@ -93,7 +93,7 @@ pub fn hit_columns<L: Ledger>(
 }
 
 // The nodes that are left at which an item holds; the values of a sort item at the nodes that are asked for are added.
-#[tactic(auto, unfolding(cql_syntax::specs::Meaning::value, crate::specs::Costs::filter_cost, crate::specs::FlatTrees::IsFlat))]
+#[tactic(auto, unfolding(cql_syntax::specs::Meaning::value, crate::specs::Costs::filter_cost, crate::specs::FlatTrees::unflat))]
 fn narrowed_by<L: Ledger>(
     alloc: Global,
     item: &Filter,

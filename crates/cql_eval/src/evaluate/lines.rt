@@ -99,7 +99,7 @@ fn put_parts<L: Ledger>(
 }
 
 #[cycle(evaluate)]
-#[tactic(auto, unfolding(cql_syntax::specs::Meaning::value, crate::specs::Costs::filter_cost, crate::specs::FlatTrees::IsFlat))]
+#[tactic(auto, unfolding(cql_syntax::specs::Meaning::value, crate::specs::Costs::filter_cost, crate::specs::FlatTrees::unflat))]
 fn put_body<L: Ledger>(
     alloc: Global,
     body: &Body,

@@ -23,7 +23,7 @@ use std::sync::ledger::Ledger;
 /// Whether the move that led to a node is as it is asked for: where it came from and what it took is asked at the node before, its goal and
 /// what it became at the node itself.
 #[cycle(evaluate)]
-#[tactic(auto, unfolding(cql_syntax::specs::Meaning::value, crate::specs::Costs::filter_cost, crate::specs::FlatTrees::IsFlat))]
+#[tactic(auto, unfolding(cql_syntax::specs::Meaning::value, crate::specs::Costs::filter_cost, crate::specs::FlatTrees::unflat))]
 pub(super) fn played_truths<L: Ledger>(
     alloc: Global,
     played: &Played,
@@ -54,7 +54,7 @@ pub(super) fn played_truths<L: Ledger>(
 
 // The column of a part that is written.
 #[cycle(evaluate)]
-#[tactic(auto, unfolding(cql_syntax::specs::Meaning::value, crate::specs::Costs::filter_cost, crate::specs::FlatTrees::IsFlat))]
+#[tactic(auto, unfolding(cql_syntax::specs::Meaning::value, crate::specs::Costs::filter_cost, crate::specs::FlatTrees::unflat))]
 fn written_column<L: Ledger>(
     alloc: Global,
     written: &Option<Box<Filter>>,

@@ -24,13 +24,12 @@ use Rattle.cql_eval.proofs.FindLaw.{find_is}
 use Rattle.cql_eval.proofs.FlatLaw.{filter_flat, term_flat, no_family}
 use Rattle.cql_eval.proofs.LinesLaw.{few_atoms, few_places, atoms_below, table_begun, table_more, table_all, filled_all, at_all, atom_tabled, atom_form, table_nodes, line_flat, numbers_are, parts_cost_more, parts_cost_within, atoms_within, looks_in}
 use Rattle.cql_eval.proofs.UnaryLaws.{find_up_is, child_holds_is, parent_holds_is}
-use Rattle.cql_eval.proofs.FormLaws.{form_flat, part_is_flat, chain_form, any_form}
-use Rattle.cql_eval.proofs.MoveLaw.{origin_of, goal_of, taken_of, promoted_of, move_is, move_flat, part_is, no_part_is, part_flat as written_flat}
-use Rattle.cql_eval.specs.FlatTrees.{IsFlat, AreFlat, AreFlatTerms, IsFlatLine, IsFlatMove, IsFlatPart}
+use Rattle.cql_eval.proofs.FormLaws.{chain_form, any_form}
+use Rattle.cql_eval.proofs.MoveLaw.{move_is, part_is, no_part_is}
 use Rattle.cql_eval.proofs.evaluate.+evaluate.Goals as goal
 
 pub chains::all_hold-loop-filter-init : goal.chains::all_hold-loop-filter-init
-chains::all_hold-loop-filter-init g t c = record { left = left_begun (searched_tree c.args.game.now c.args.variations) c.args.live.now _ c.in_ok-left.left.items c.requires.asked c.in_ok-left.ensures (λ n. all_begun (searched_tree c.args.game.now c.args.variations) [] c.args.names.now n c.as_slice-filter-items.result.now); cost = omega arith; rises = omega arith }
+chains::all_hold-loop-filter-init g t c = record { left = left_begun (searched_tree c.args.game.now c.args.variations) c.args.live.now _ c.in_ok-left.left.items c.requires.asked c.in_ok-left.ensures (λ n. all_begun (searched_tree c.args.game.now c.args.variations) [] c.args.names.now n c.as_slice-filter-items.result.now); cost = omega arith; rises = omega arith; flat = λ i f h e. filter_flat c.as_slice-filter-items.result.now i f (filters_tree c.args.filters.now) h e c.as_slice-filter-items.ensures.tree c.requires.flat; }
 
 pub chains::all_hold-loop-filter-preserved : goal.chains::all_hold-loop-filter-preserved
 chains::all_hold-loop-filter-preserved g t c =
@@ -39,8 +38,7 @@ chains::all_hold-loop-filter-preserved g t c =
     (value (searched_tree c.args.game.now c.args.variations) [] c.args.names.now (filter_tree c.filter-item.result)) true c.loop-filter.invariant.left c.deref.ensures.value c.deref-in-loop-filter.ensures.value c.in_ok-column.ensures.value c.in_ok-left-2.ensures
     (λ n. all_more (searched_tree c.args.game.now c.args.variations) [] c.args.names.now n c.as_slice-filter-items.result.now c.loop-filter.filter-index c.filter-item.result c.loop-filter-test.true c.filter-item.is);
   cost = cost_more (length c.args.game.now.nodes) c.as_slice-filter-items.result.now c.loop-filter.filter-index c.filter-item.result _ c.loop-filter.steps c.evaluate.new.steps c.loop-filter-test.true c.filter-item.is c.loop-filter.invariant.cost c.evaluate.ensures.cost;
-  rises = omega (arith, c.loop-filter.invariant.rises, c.evaluate.ensures.rises);
-}
+  rises = omega (arith, c.loop-filter.invariant.rises, c.evaluate.ensures.rises); flat = c.loop-filter.invariant.flat; }
 
 pub chains::all_hold-returns-clause-value : goal.chains::all_hold-returns-clause-value
 chains::all_hold-returns-clause-value g t c =
@@ -48,7 +46,7 @@ chains::all_hold-returns-clause-value g t c =
     (omega (arith, c.loop-filter-test.false)) c.as_slice-filter-items.ensures.tree c.loop-filter.invariant.left
 
 pub chains::none_holds-loop-filter-init : goal.chains::none_holds-loop-filter-init
-chains::none_holds-loop-filter-init g t c = record { left = left_begun (searched_tree c.args.game.now c.args.variations) c.args.live.now _ c.in_ok-left.left.items c.requires.asked c.in_ok-left.ensures (λ n. none_begun (searched_tree c.args.game.now c.args.variations) [] c.args.names.now n c.as_slice-filter-items.result.now); cost = omega arith; rises = omega arith }
+chains::none_holds-loop-filter-init g t c = record { left = left_begun (searched_tree c.args.game.now c.args.variations) c.args.live.now _ c.in_ok-left.left.items c.requires.asked c.in_ok-left.ensures (λ n. none_begun (searched_tree c.args.game.now c.args.variations) [] c.args.names.now n c.as_slice-filter-items.result.now); cost = omega arith; rises = omega arith; flat = λ i f h e. filter_flat c.as_slice-filter-items.result.now i f (filters_tree c.args.filters.now) h e c.as_slice-filter-items.ensures.tree c.requires.flat; }
 
 pub chains::none_holds-loop-filter-preserved : goal.chains::none_holds-loop-filter-preserved
 chains::none_holds-loop-filter-preserved g t c =
@@ -57,8 +55,7 @@ chains::none_holds-loop-filter-preserved g t c =
     (value (searched_tree c.args.game.now c.args.variations) [] c.args.names.now (filter_tree c.filter-item.result)) false c.loop-filter.invariant.left c.deref.ensures.value c.deref-in-loop-filter.ensures.value c.in_ok-column.ensures.value c.in_ok-left-2.ensures
     (λ n. none_more (searched_tree c.args.game.now c.args.variations) [] c.args.names.now n c.as_slice-filter-items.result.now c.loop-filter.filter-index c.filter-item.result c.loop-filter-test.true c.filter-item.is);
   cost = cost_more (length c.args.game.now.nodes) c.as_slice-filter-items.result.now c.loop-filter.filter-index c.filter-item.result _ c.loop-filter.steps c.evaluate.new.steps c.loop-filter-test.true c.filter-item.is c.loop-filter.invariant.cost c.evaluate.ensures.cost;
-  rises = omega (arith, c.loop-filter.invariant.rises, c.evaluate.ensures.rises);
-}
+  rises = omega (arith, c.loop-filter.invariant.rises, c.evaluate.ensures.rises); flat = c.loop-filter.invariant.flat; }
 
 pub chains::none_holds-returns-clause-value : goal.chains::none_holds-returns-clause-value
 chains::none_holds-returns-clause-value g t c =
@@ -168,8 +165,7 @@ pub chains::columns_of-loop-filter-init : goal.chains::columns_of-loop-filter-in
 chains::columns_of-loop-filter-init g t c = record {
   left = columns_begun (searched_tree c.args.game.now c.args.variations) c.args.names.now c.args.live.now c.as_slice-filter-items.result.now c.new-columns.result.items c.new-columns.ensures.items;
   cost = omega arith;
-  rises = omega arith;
-}
+  rises = omega arith; flat = λ i f h e. filter_flat c.as_slice-filter-items.result.now i f (filters_tree c.args.filters.now) h e c.as_slice-filter-items.ensures.tree c.requires.flat; }
 
 pub chains::columns_of-loop-filter-preserved : goal.chains::columns_of-loop-filter-preserved
 chains::columns_of-loop-filter-preserved g t c = record {
@@ -178,8 +174,7 @@ chains::columns_of-loop-filter-preserved g t c = record {
       c.in_ok-column.ensures.value c.in_ok-push.ensures.items;
   cost = cost_more (length c.args.game.now.nodes) c.as_slice-filter-items.result.now c.loop-filter.filter-index c.filter-item.result _ c.loop-filter.steps
       c.evaluate.new.steps c.loop-filter-test.true c.filter-item.is c.loop-filter.invariant.cost c.evaluate.ensures.cost;
-  rises = omega (arith, c.loop-filter.invariant.rises, c.evaluate.ensures.rises);
-}
+  rises = omega (arith, c.loop-filter.invariant.rises, c.evaluate.ensures.rises); flat = c.loop-filter.invariant.flat; }
 
 pub chains::columns_of-returns-clause-value : goal.chains::columns_of-returns-clause-value
 chains::columns_of-returns-clause-value g t c =
@@ -196,8 +191,7 @@ pub chains::terms_of-loop-term-init : goal.chains::terms_of-loop-term-init
 chains::terms_of-loop-term-init g t c = record {
   left = terms_begun (searched_tree c.args.game.now c.args.variations) c.args.names.now c.args.live.now c.as_slice-term-items.result.now c.new-columns.result.items c.new-columns.ensures.items;
   cost = omega arith;
-  rises = omega arith;
-}
+  rises = omega arith; flat = λ i f h e. term_flat c.as_slice-term-items.result.now i f (terms_tree c.args.terms.now) h e c.as_slice-term-items.ensures.tree c.requires.flat; }
 
 pub chains::terms_of-loop-term-preserved : goal.chains::terms_of-loop-term-preserved
 chains::terms_of-loop-term-preserved g t c = record {
@@ -206,8 +200,7 @@ chains::terms_of-loop-term-preserved g t c = record {
       c.in_ok-column.ensures.value c.in_ok-push.ensures.items;
   cost = terms_cost_more (length c.args.game.now.nodes) c.as_slice-term-items.result.now c.loop-term.term-index c.term-item.result _ c.loop-term.steps
       c.evaluate.new.steps c.loop-term-test.true c.term-item.is c.loop-term.invariant.cost c.evaluate.ensures.cost;
-  rises = omega (arith, c.loop-term.invariant.rises, c.evaluate.ensures.rises);
-}
+  rises = omega (arith, c.loop-term.invariant.rises, c.evaluate.ensures.rises); flat = c.loop-term.invariant.flat; }
 
 pub chains::terms_of-returns-clause-value : goal.chains::terms_of-returns-clause-value
 chains::terms_of-returns-clause-value g t c =
@@ -219,34 +212,6 @@ chains::terms_of-returns-in_err-column-clause-cost g t c =
     terms_cost_within (length c.args.game.now.nodes) c.as_slice-term-items.result.now c.loop-term.term-index c.term-item.result _ c.loop-term.steps
     c.evaluate.new.steps (terms_tree c.args.terms.now) c.loop-term-test.true c.term-item.is c.loop-term.invariant.cost
     c.evaluate.ensures.cost c.as_slice-term-items.ensures.tree
-
-pub chains::all_hold-evaluate-requires : goal.chains::all_hold-evaluate-requires
-chains::all_hold-evaluate-requires g t c =
-    let here : IsFlat (filter_tree c.filter-item.result) =
-        filter_flat c.as_slice-filter-items.result.now c.loop-filter.filter-index c.filter-item.result (filters_tree c.args.filters.now)
-        c.loop-filter-test.true c.filter-item.is c.as_slice-filter-items.ensures.tree c.requires.flat in
-    search (rules, here)
-
-pub chains::none_holds-evaluate-requires : goal.chains::none_holds-evaluate-requires
-chains::none_holds-evaluate-requires g t c =
-    let here : IsFlat (filter_tree c.filter-item.result) =
-        filter_flat c.as_slice-filter-items.result.now c.loop-filter.filter-index c.filter-item.result (filters_tree c.args.filters.now)
-        c.loop-filter-test.true c.filter-item.is c.as_slice-filter-items.ensures.tree c.requires.flat in
-    search (rules, here)
-
-pub chains::columns_of-evaluate-requires : goal.chains::columns_of-evaluate-requires
-chains::columns_of-evaluate-requires g t c =
-    let here : IsFlat (filter_tree c.filter-item.result) =
-        filter_flat c.as_slice-filter-items.result.now c.loop-filter.filter-index c.filter-item.result (filters_tree c.args.filters.now)
-        c.loop-filter-test.true c.filter-item.is c.as_slice-filter-items.ensures.tree c.requires.flat in
-    search (rules, here)
-
-pub chains::terms_of-evaluate-requires : goal.chains::terms_of-evaluate-requires
-chains::terms_of-evaluate-requires g t c =
-    let here : IsFlat (filter_tree c.term-item.result.filter) =
-        term_flat c.as_slice-term-items.result.now c.loop-term.term-index c.term-item.result (terms_tree c.args.terms.now)
-        c.loop-term-test.true c.term-item.is c.as_slice-term-items.ensures.tree c.requires.flat in
-    search (rules, here)
 
 -- lines
 
@@ -405,113 +370,6 @@ unary_column-returns-in_ok-found-in-Parent-clause-value g t c = rw c.in-Parent.i
     c.in_ok-column-in-Parent.ensures.value c.in_ok-set-in-Parent.ensures c.in_ok-found-in-Parent.ensures n
     (omega (arith, live_below c.args.live.now n l, c.requires.asked.count)) l)
 
--- the parts of a flat filter are flat
-
-pub evaluate-unary_column-requires : goal.evaluate-unary_column-requires
-unfolding IsFlat
-evaluate-unary_column-requires g t c =
-    let flat = form_flat c.args.f.now _ c.in-Unary.is c.requires.flat in
-    let here : IsFlat (filter_tree c.deref.result.now) = part_is_flat c.deref.result.now c.in-Unary.part.value c.deref.ensures flat in
-    search (rules, here)
-
-pub evaluate-evaluate-requires : goal.evaluate-evaluate-requires
-unfolding IsFlat
-evaluate-evaluate-requires g t c =
-    let flat = form_flat c.args.f.now _ c.in-Steps.is c.requires.flat in
-    let here : IsFlat (filter_tree c.deref-in-Steps.result.now) = part_is_flat c.deref-in-Steps.result.now c.in-Steps.part.value c.deref-in-Steps.ensures flat in
-    search (rules, here)
-
-pub evaluate-chain_column-requires : goal.evaluate-chain_column-requires
-unfolding IsFlat
-evaluate-chain_column-requires g t c =
-    let flat = form_flat c.args.f.now _ c.in-Chain.is c.requires.flat in
-    let here : AreFlat (filters_tree c.in-Chain.parts) = flat in
-    search (rules, here)
-
-pub evaluate-terms_of-requires : goal.evaluate-terms_of-requires
-unfolding IsFlat
-evaluate-terms_of-requires g t c =
-    let flat = form_flat c.args.f.now _ c.in-Sum.is c.requires.flat in
-    let here : AreFlatTerms (terms_tree c.in-Sum.terms) = flat in
-    search (rules, here)
-
-pub evaluate-evaluate-requires-in-Pair : goal.evaluate-evaluate-requires-in-Pair
-unfolding IsFlat
-evaluate-evaluate-requires-in-Pair g t c =
-    let flat = form_flat c.args.f.now _ c.in-Pair.is c.requires.flat in
-    let here : IsFlat (filter_tree c.deref-in-Pair.result.now) = part_is_flat c.deref-in-Pair.result.now c.in-Pair.first.value c.deref-in-Pair.ensures flat.0 in
-    search (rules, here)
-
-pub evaluate-evaluate-requires-in-Pair-2 : goal.evaluate-evaluate-requires-in-Pair-2
-unfolding IsFlat
-evaluate-evaluate-requires-in-Pair-2 g t c =
-    let flat = form_flat c.args.f.now _ c.in-Pair.is c.requires.flat in
-    let here : IsFlat (filter_tree c.deref-in-Pair-2.result.now) = part_is_flat c.deref-in-Pair-2.result.now c.in-Pair.second.value c.deref-in-Pair-2.ensures flat.1 in
-    search (rules, here)
-
-pub evaluate-evaluate-requires-in-If : goal.evaluate-evaluate-requires-in-If
-unfolding IsFlat
-evaluate-evaluate-requires-in-If g t c =
-    let flat = form_flat c.args.f.now _ c.in-If.is c.requires.flat in
-    let here : IsFlat (filter_tree c.deref-in-If.result.now) = part_is_flat c.deref-in-If.result.now c.in-If.condition.value c.deref-in-If.ensures flat.0 in
-    search (rules, here)
-
-pub evaluate-evaluate-requires-in-If-2 : goal.evaluate-evaluate-requires-in-If-2
-unfolding IsFlat
-evaluate-evaluate-requires-in-If-2 g t c =
-    let flat = form_flat c.args.f.now _ c.in-If.is c.requires.flat in
-    let here : IsFlat (filter_tree c.deref-in-If-2.result.now) = part_is_flat c.deref-in-If-2.result.now c.in-If.then.value c.deref-in-If-2.ensures flat.1.0 in
-    search (rules, here)
-
-pub evaluate-evaluate-requires-in-If-3 : goal.evaluate-evaluate-requires-in-If-3
-unfolding IsFlat
-evaluate-evaluate-requires-in-If-3 g t c =
-    let flat = form_flat c.args.f.now _ c.in-If.is c.requires.flat in
-    let here : IsFlat (filter_tree c.deref-in-If-4.result.now) = part_is_flat c.deref-in-If-4.result.now c.in-If.otherwise.value c.deref-in-If-4.ensures flat.1.1 in
-    search (rules, here)
-
-pub evaluate-evaluate-requires-in-Square : goal.evaluate-evaluate-requires-in-Square
-unfolding IsFlat
-evaluate-evaluate-requires-in-Square g t c =
-    let flat = form_flat c.args.f.now _ c.in-Square.is c.requires.flat in
-    let here : IsFlat (filter_tree c.deref-in-Square.result.now) = part_is_flat c.deref-in-Square.result.now c.in-Square.squares.value c.deref-in-Square.ensures flat.0 in
-    search (rules, here)
-
-pub evaluate-square_truths-requires : goal.evaluate-square_truths-requires
-unfolding IsFlat
-evaluate-square_truths-requires g t c =
-    let flat = form_flat c.args.f.now _ c.in-Square.is c.requires.flat in
-    let here : IsFlat (filter_tree c.deref-in-Square-2.result.now) = part_is_flat c.deref-in-Square-2.result.now c.in-Square.asked.value c.deref-in-Square-2.ensures flat.1 in
-    search (rules, here)
-
-pub evaluate-played_truths-requires : goal.evaluate-played_truths-requires
-unfolding IsFlat
-evaluate-played_truths-requires g t c =
-    let flat = form_flat c.args.f.now _ c.in-Played.is c.requires.flat in
-    let here : IsFlatMove (played_tree c.in-Played.played) = flat in
-    search (rules, here)
-
-pub evaluate-evaluate-requires-in-Sort : goal.evaluate-evaluate-requires-in-Sort
-unfolding IsFlat
-evaluate-evaluate-requires-in-Sort g t c =
-    let flat = form_flat c.args.f.now _ c.in-Sort.is c.requires.flat in
-    let here : IsFlat (filter_tree c.deref-in-Sort.result.now) = part_is_flat c.deref-in-Sort.result.now c.in-Sort.part.value c.deref-in-Sort.ensures flat in
-    search (rules, here)
-
-pub evaluate-any_column-requires : goal.evaluate-any_column-requires
-unfolding IsFlat
-evaluate-any_column-requires g t c =
-    let flat = form_flat c.args.f.now _ c.in-Any.is c.requires.flat in
-    let here : AreFlat (filters_tree c.in-Any.parts) = flat in
-    search (rules, here)
-
-pub evaluate-line_numbers-requires : goal.evaluate-line_numbers-requires
-unfolding IsFlat
-evaluate-line_numbers-requires g t c =
-    let flat = form_flat c.args.f.now _ c.in-Line.is c.requires.flat in
-    let here : IsFlatLine (line_tree c.in-Line.line) = flat in
-    search (rules, here)
-
 -- chains, and any of a kind
 
 pub evaluate-returns-in-Chain-clause-value : goal.evaluate-returns-in-Chain-clause-value
@@ -532,38 +390,12 @@ evaluate-returns-in-Any-clause-value g t c =
 
 -- the move filter
 
-pub played::played_truths-written_column-requires : goal.played::played_truths-written_column-requires
-played::played_truths-written_column-requires g t c =
-    let here : IsFlatPart (origin_of c.args.played.now) = (move_flat c.args.played.now c.requires.flat).0 in
-    search (rules, here)
-
-pub played::played_truths-written_column-requires-2 : goal.played::played_truths-written_column-requires-2
-played::played_truths-written_column-requires-2 g t c =
-    let here : IsFlatPart (goal_of c.args.played.now) = (move_flat c.args.played.now c.requires.flat).1.0 in
-    search (rules, here)
-
-pub played::played_truths-written_column-requires-3 : goal.played::played_truths-written_column-requires-3
-played::played_truths-written_column-requires-3 g t c =
-    let here : IsFlatPart (taken_of c.args.played.now) = (move_flat c.args.played.now c.requires.flat).1.1.0 in
-    search (rules, here)
-
-pub played::played_truths-written_column-requires-4 : goal.played::played_truths-written_column-requires-4
-played::played_truths-written_column-requires-4 g t c =
-    let here : IsFlatPart (promoted_of c.args.played.now) = (move_flat c.args.played.now c.requires.flat).1.1.1 in
-    search (rules, here)
-
 pub played::played_truths-returns-clause-value : goal.played::played_truths-returns-clause-value
 played::played_truths-returns-clause-value g t c = λ n l.
     c.in_ok-truths.ensures n l
     ∙ move_is (searched_tree c.args.game.now c.args.variations) c.args.names.now c.args.played.now c.args.live.now c.in_ok-wide.wide.items c.deref.result.now c.deref-2.result.now
     c.in_ok-origin.origin c.in_ok-goal.goal c.in_ok-taken.taken c.in_ok-promoted.promoted c.in_ok-wide.ensures c.deref.ensures.value c.deref-2.ensures.value
     c.in_ok-origin.ensures.value c.in_ok-goal.ensures.value c.in_ok-taken.ensures.value c.in_ok-promoted.ensures.value n l
-
-pub played::written_column-evaluate-requires : goal.played::written_column-evaluate-requires
-played::written_column-evaluate-requires g t c =
-    let here : IsFlat (filter_tree c.deref.result.now) =
-        written_flat c.args.written.now c.in-Some.filter c.deref.result.now c.in-Some.is c.deref.ensures c.requires.flat in
-    search (rules, here)
 
 pub played::written_column-returns-in_ok-column-in-Some-clause-value : goal.played::written_column-returns-in_ok-column-in-Some-clause-value
 played::written_column-returns-in_ok-column-in-Some-clause-value g t c =

@@ -1,4 +1,4 @@
-use Rattle.std.specs.Prelude.{◌≡◌, [], ◌∷◌, take, drop, not, length, ◌+◌, ◌-◌, ◌*◌, ◌≤◌}
+use Rattle.std.specs.Prelude.{◌≡◌, ℕ, ◌<◌, get_or, [], ◌∷◌, take, drop, not, length, ◌+◌, ◌-◌, ◌*◌, ◌≤◌}
 use Rattle.std.specs.List.{list_all, list_any}
 use Rattle.cql_syntax.specs.Meaning.{value, values, term_values}
 use Rattle.cql_syntax.specs.TreeOf.{filter_tree, filter_trees, term_trees, part_trees}
@@ -6,6 +6,9 @@ use Rattle.cql_syntax.specs.Values.{holds}
 use Rattle.cql_values.specs.Trees.{searched_tree}
 use Rattle.cql_eval.specs.Columns.{Where, shown, all_shown, terms_shown}
 use Rattle.cql_eval.specs.Costs.{filter_cost, filters_cost, terms_cost, parts_cost}
+use Rattle.cql_eval.specs.FlatTrees.{IsFlat}
+use Rattle.cql_syntax.specs.declared.tree.Filter.{Filter}
+use Rattle.cql_syntax.specs.declared.tree.Term.{Term}
 use Rattle.cql_eval.proofs.Chains.{LeftOf, unsettled_by}
 use Rattle.cql_eval.proofs.LinesLaw.{TableSoFar}
 use Rattle.cql_eval.proofs.evaluate.+evaluate.Given as goal
@@ -17,6 +20,7 @@ invariant-chains::all_hold-loop-filter g l = record {
   cost : l.steps + filters_cost (length l.game.nodes) (filter_trees (drop l.filter-index l.filter-items))
     ≤ l.fn.steps + filters_cost (length l.game.nodes) (filter_trees l.filter-items);
   rises : l.fn.steps ≤ l.steps;
+  flat : (i : ℕ) (f : Filter) → i < length l.filter-items → f ≡ get_or l.filter-items i f → IsFlat (filter_tree f);
 }
 
 abbrev pub invariant-chains::none_holds-loop-filter : goal.invariant-chains::none_holds-loop-filter
@@ -26,6 +30,7 @@ invariant-chains::none_holds-loop-filter g l = record {
   cost : l.steps + filters_cost (length l.game.nodes) (filter_trees (drop l.filter-index l.filter-items))
     ≤ l.fn.steps + filters_cost (length l.game.nodes) (filter_trees l.filter-items);
   rises : l.fn.steps ≤ l.steps;
+  flat : (i : ℕ) (f : Filter) → i < length l.filter-items → f ≡ get_or l.filter-items i f → IsFlat (filter_tree f);
 }
 
 abbrev pub invariant-chains::columns_of-loop-filter : goal.invariant-chains::columns_of-loop-filter
@@ -35,6 +40,7 @@ invariant-chains::columns_of-loop-filter g l = record {
   cost : l.steps + filters_cost (length l.game.nodes) (filter_trees (drop l.filter-index l.filter-items))
     ≤ l.fn.steps + filters_cost (length l.game.nodes) (filter_trees l.filter-items);
   rises : l.fn.steps ≤ l.steps;
+  flat : (i : ℕ) (f : Filter) → i < length l.filter-items → f ≡ get_or l.filter-items i f → IsFlat (filter_tree f);
 }
 
 abbrev pub invariant-chains::terms_of-loop-term : goal.invariant-chains::terms_of-loop-term
@@ -44,6 +50,7 @@ invariant-chains::terms_of-loop-term g l = record {
   cost : l.steps + terms_cost (length l.game.nodes) (term_trees (drop l.term-index l.term-items))
     ≤ l.fn.steps + terms_cost (length l.game.nodes) (term_trees l.term-items);
   rises : l.fn.steps ≤ l.steps;
+  flat : (i : ℕ) (t : Term) → i < length l.term-items → t ≡ get_or l.term-items i t → IsFlat (filter_tree t.filter);
 }
 
 abbrev pub invariant-squares::square_truths-loop-number : goal.invariant-squares::square_truths-loop-number
