@@ -22,7 +22,7 @@ use Rattle.cql_eval.proofs.Filling.{narrowed_asked, live_below}
 use Rattle.cql_eval.proofs.Lives.{none_live}
 use Rattle.cql_eval.proofs.FindLaw.{find_is}
 use Rattle.cql_eval.proofs.FlatLaw.{filter_flat, term_flat, no_family}
-use Rattle.cql_eval.proofs.LinesLaw.{few_atoms, few_places, atoms_below, table_begun, table_more, table_all, filled_all, at_all, atom_tabled, atom_form, table_nodes, line_flat, numbers_are, parts_cost_more, parts_cost_within, atoms_within, looks_in}
+use Rattle.cql_eval.proofs.LinesLaw.{few_atoms, few_places, atoms_below, table_begun, table_more, table_all, filled_all, at_all, atom_tabled, atom_form, line_flat, numbers_are, parts_cost_more, parts_cost_within, atoms_within, looks_in}
 use Rattle.cql_eval.proofs.UnaryLaws.{find_up_is, child_holds_is, parent_holds_is}
 use Rattle.cql_eval.proofs.evaluate.+evaluate.Goals as goal
 
@@ -315,11 +315,9 @@ lines::line_numbers-build-requires g t c = record {
       (line_flat c.args.line.now c.requires.flat).0;
 }
 
-pub lines::line_numbers-new-requires-clause-atoms : goal.lines::line_numbers-new-requires-clause-atoms
-lines::line_numbers-new-requires-clause-atoms g t c = omega (arith, few_atoms _ (line_flat c.args.line.now c.requires.flat).0, c.in_ok-pattern.ensures.next)
-
-pub lines::line_numbers-new-requires-clause-nodes : goal.lines::line_numbers-new-requires-clause-nodes
-lines::line_numbers-new-requires-clause-nodes g t c = omega (arith, c.requires.tree.few, c.len.ensures.len)
+pub lines::line_numbers-empty_table-requires-clause-few : goal.lines::line_numbers-empty_table-requires-clause-few
+lines::line_numbers-empty_table-requires-clause-few g t c =
+    omega (arith, few_atoms _ (line_flat c.args.line.now c.requires.flat).0, c.in_ok-pattern.ensures.next)
 
 pub lines::line_numbers-line_values-requires-clause-atoms : goal.lines::line_numbers-line_values-requires-clause-atoms
 lines::line_numbers-line_values-requires-clause-atoms g t c =
@@ -329,9 +327,8 @@ lines::line_numbers-line_values-requires-clause-atoms g t c =
 
 pub lines::line_numbers-line_values-requires-clause-nodes : goal.lines::line_numbers-line_values-requires-clause-nodes
 lines::line_numbers-line_values-requires-clause-nodes g t c =
-    let nodes = table_nodes c.in_ok-table.table c.len.result (length c.args.game.now.nodes) c.in_ok-table.ensures.bits c.len.ensures.len in
     let spots = ap length c.in_ok-shape.ensures.spots in
-    omega (arith, nodes, c.in_ok-put_parts.ensures.others.nodes, spots,
+    omega (arith, c.in_ok-table.ensures.room.nodes, c.in_ok-put_parts.ensures.others.nodes, spots,
     length-map-range_with_len (spot_at (searched_tree c.args.game.now c.args.variations)) 0 (length c.args.game.now.nodes))
 
 pub lines::line_numbers-returns-clause-value : goal.lines::line_numbers-returns-clause-value
