@@ -24,6 +24,8 @@ use Rattle.cql_eval.proofs.FindLaw.{find_is}
 use Rattle.cql_eval.proofs.FlatLaw.{filter_flat, term_flat, no_family}
 use Rattle.cql_eval.proofs.LinesLaw.{few_atoms, few_places, atoms_below, table_begun, table_more, table_all, filled_all, at_all, atom_tabled, atom_form, line_flat, numbers_are, parts_cost_more, parts_cost_within, atoms_within, looks_in}
 use Rattle.cql_eval.proofs.UnaryLaws.{find_up_is, child_holds_is, parent_holds_is}
+use borrow.Author.Sizes.{sizes}
+use Rattle.cql_eval.proofs.LinesLaw.{part_flat, part_room, room_same}
 use Rattle.cql_eval.proofs.evaluate.+evaluate.Goals as goal
 
 pub chains::all_hold-loop-filter-init : goal.chains::all_hold-loop-filter-init
@@ -366,6 +368,23 @@ lines::line_numbers-returns-in_err-shape-clause-cost g t c = atoms_within (lengt
 
 pub lines::line_numbers-returns-in_err-put_parts-clause-cost : goal.lines::line_numbers-returns-in_err-put_parts-clause-cost
 lines::line_numbers-returns-in_err-put_parts-clause-cost g t c = atoms_within (length c.args.game.now.nodes) c.args.line.now _ c.put_parts.new.steps c.put_parts.ensures.cost
+
+pub lines::put_parts-put_body-requires : goal.lines::put_parts-put_body-requires
+lines::put_parts-put_body-requires g t c κs o = (
+  search (rules, sizes),
+  (o, (c.requires.tree, (c.requires.all, (part_flat c.as_slice-part-items.result.now c.loop-part.part-index c.part-item.result (parts_tree c.args.parts.now) c.loop-part-test.true c.part-item.is
+        c.as_slice-part-items.ensures.tree c.requires.flat,
+    part_room (searched_tree c.args.game.now c.args.variations) c.args.names.now c.args.first c.as_slice-part-items.result.now c.loop-part.part-index c.part-item.result
+        c.loop-part.at (length c.args.game.now.nodes) _ c.loop-part.table (parts_tree c.args.parts.now) c.loop-part.invariant.table c.loop-part-test.true c.part-item.is
+        c.as_slice-part-items.ensures.tree c.requires.room)))),
+)
+
+pub lines::line_numbers-put_parts-requires : goal.lines::line_numbers-put_parts-requires
+lines::line_numbers-put_parts-requires g t c κs o = (
+  search (rules, sizes),
+  (o, (c.requires.tree, (search rules, ((line_flat c.args.line.now c.requires.flat).1,
+    room_same (length c.args.game.now.nodes) 0 _ _ c.in_ok-table.table c.in_ok-table.ensures.room c.in_ok-pattern.ensures.next)))),
+)
 
 -- where no node is asked for
 
