@@ -12,7 +12,7 @@ ghost use Rattle.cql_values.specs.Trees.{searched_tree};
 ghost use Rattle.cql_eval.specs.Columns.{is_live, shown};
 ghost use Rattle.cql_eval.specs.Costs as costs;
 ghost use Rattle.cql_eval.specs.LineAtoms as spec;
-ghost use Rattle.cql_eval.specs.LineAtoms.{IsPut, IsFilledIn, limits_in, spot_at};
+ghost use Rattle.cql_eval.specs.LineAtoms.{HasRoom, IsPut, IsFilledIn, limits_in, spot_at};
 
 use crate::filter_column::FilterColumn;
 use cq_outside::NoMemory;
@@ -119,6 +119,17 @@ fn push_node(shape: &mut Shape, game: &Game, variations: bool, k: u32) -> Result
     let first = is_first_child(game, k);
     shape.push(game.parent(k), searched, first)?;
     Ok(())
+}
+
+/// A table of so many atoms at the nodes of a game, none of which holds anywhere.
+pub(crate) fn empty_table(alloc: Global, atoms: u32, game: &Game) -> Result<AtomTable, NoMemory>
+    requires tree { IsTree game.now.nodes }
+    requires few { atoms ≤ 64 }
+    ensures atoms { IfOk result (λ table. atoms_of table ≡ atoms) }
+    ensures room { IfOk result (λ table. HasRoom (length game.now.nodes) 0 atoms table) }
+{
+    let table = AtomTable::new(alloc, atoms, game.len())?;
+    Ok(table)
 }
 
 /// The atom of a number holds from now on where a column does, at the nodes of a set.

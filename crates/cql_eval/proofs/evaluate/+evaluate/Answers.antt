@@ -22,10 +22,12 @@ use Rattle.cql_eval.proofs.Filling.{narrowed_asked, live_below}
 use Rattle.cql_eval.proofs.Lives.{none_live}
 use Rattle.cql_eval.proofs.FindLaw.{find_is}
 use Rattle.cql_eval.proofs.FlatLaw.{filter_flat, term_flat, no_family}
-use Rattle.cql_eval.proofs.LinesLaw.{few_atoms, few_places, atoms_below, table_begun, table_more, table_all, filled_all, at_all, atom_tabled, atom_form, table_nodes, line_flat, numbers_are, parts_cost_more, parts_cost_within, atoms_within, looks_in}
+use Rattle.cql_eval.proofs.LinesLaw.{few_atoms, few_places, atoms_below, table_begun, table_more, table_all, filled_all, at_all, atom_tabled, atom_form, line_flat, numbers_are, parts_cost_more, parts_cost_within, atoms_within, looks_in}
 use Rattle.cql_eval.proofs.UnaryLaws.{find_up_is, child_holds_is, parent_holds_is}
 use Rattle.cql_eval.proofs.FormLaws.{chain_form, any_form}
 use Rattle.cql_eval.proofs.MoveLaw.{move_is, part_is, no_part_is}
+use borrow.Author.Sizes.{sizes}
+use Rattle.cql_eval.proofs.LinesLaw.{part_flat, part_room, room_same}
 use Rattle.cql_eval.proofs.evaluate.+evaluate.Goals as goal
 
 pub chains::all_hold-loop-filter-init : goal.chains::all_hold-loop-filter-init
@@ -279,11 +281,9 @@ lines::line_numbers-build-requires g t c = record {
       (line_flat c.args.line.now c.requires.flat).0;
 }
 
-pub lines::line_numbers-new-requires-clause-atoms : goal.lines::line_numbers-new-requires-clause-atoms
-lines::line_numbers-new-requires-clause-atoms g t c = omega (arith, few_atoms _ (line_flat c.args.line.now c.requires.flat).0, c.in_ok-pattern.ensures.next)
-
-pub lines::line_numbers-new-requires-clause-nodes : goal.lines::line_numbers-new-requires-clause-nodes
-lines::line_numbers-new-requires-clause-nodes g t c = omega (arith, c.requires.tree.few, c.len.ensures.len)
+pub lines::line_numbers-empty_table-requires-clause-few : goal.lines::line_numbers-empty_table-requires-clause-few
+lines::line_numbers-empty_table-requires-clause-few g t c =
+    omega (arith, few_atoms _ (line_flat c.args.line.now c.requires.flat).0, c.in_ok-pattern.ensures.next)
 
 pub lines::line_numbers-line_values-requires-clause-atoms : goal.lines::line_numbers-line_values-requires-clause-atoms
 lines::line_numbers-line_values-requires-clause-atoms g t c =
@@ -293,9 +293,8 @@ lines::line_numbers-line_values-requires-clause-atoms g t c =
 
 pub lines::line_numbers-line_values-requires-clause-nodes : goal.lines::line_numbers-line_values-requires-clause-nodes
 lines::line_numbers-line_values-requires-clause-nodes g t c =
-    let nodes = table_nodes c.in_ok-table.table c.len.result (length c.args.game.now.nodes) c.in_ok-table.ensures.bits c.len.ensures.len in
     let spots = ap length c.in_ok-shape.ensures.spots in
-    omega (arith, nodes, c.in_ok-put_parts.ensures.others.nodes, spots,
+    omega (arith, c.in_ok-table.ensures.room.nodes, c.in_ok-put_parts.ensures.others.nodes, spots,
     length-map-range_with_len (spot_at (searched_tree c.args.game.now c.args.variations)) 0 (length c.args.game.now.nodes))
 
 pub lines::line_numbers-returns-clause-value : goal.lines::line_numbers-returns-clause-value
@@ -333,6 +332,23 @@ lines::line_numbers-returns-in_err-shape-clause-cost g t c = atoms_within (lengt
 
 pub lines::line_numbers-returns-in_err-put_parts-clause-cost : goal.lines::line_numbers-returns-in_err-put_parts-clause-cost
 lines::line_numbers-returns-in_err-put_parts-clause-cost g t c = atoms_within (length c.args.game.now.nodes) c.args.line.now _ c.put_parts.new.steps c.put_parts.ensures.cost
+
+pub lines::put_parts-put_body-requires : goal.lines::put_parts-put_body-requires
+lines::put_parts-put_body-requires g t c κs o = (
+  search (rules, sizes),
+  (o, (c.requires.tree, (c.requires.all, (part_flat c.as_slice-part-items.result.now c.loop-part.part-index c.part-item.result (parts_tree c.args.parts.now) c.loop-part-test.true c.part-item.is
+        c.as_slice-part-items.ensures.tree c.requires.flat,
+    part_room (searched_tree c.args.game.now c.args.variations) c.args.names.now c.args.first c.as_slice-part-items.result.now c.loop-part.part-index c.part-item.result
+        c.loop-part.at (length c.args.game.now.nodes) _ c.loop-part.table (parts_tree c.args.parts.now) c.loop-part.invariant.table c.loop-part-test.true c.part-item.is
+        c.as_slice-part-items.ensures.tree c.requires.room)))),
+)
+
+pub lines::line_numbers-put_parts-requires : goal.lines::line_numbers-put_parts-requires
+lines::line_numbers-put_parts-requires g t c κs o = (
+  search (rules, sizes),
+  (o, (c.requires.tree, (search rules, ((line_flat c.args.line.now c.requires.flat).1,
+    room_same (length c.args.game.now.nodes) 0 _ _ c.in_ok-table.table c.in_ok-table.ensures.room c.in_ok-pattern.ensures.next)))),
+)
 
 -- where no node is asked for
 
