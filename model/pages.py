@@ -22,7 +22,7 @@ import subprocess
 import sys
 import tempfile
 
-from cases import EXAMPLES, TOP, all_cases
+from cases import EXAMPLES, TOP, all_cases, read
 
 OPTIONAL = ["pgn-extract", "pv", "jq", "zstd", "zstdcat", "inotifywait"]
 PATH = os.environ["PATH"] + ":/usr/games"
@@ -90,7 +90,7 @@ def codes(cell):
 
 
 def queries(cell):
-    return [text if text.startswith("cql(") else "cql() " + text for text in codes(cell)]
+    return [text if text.lower().startswith("cql") else "cql() " + text for text in codes(cell)]
 
 
 def tables_of(text):
@@ -111,6 +111,26 @@ def found_row(page, row):
     text, wanted = codes(row[1])[0], row[2].split("; ")
     found = [events_of(case.wanted()[1]) for case in CASES if case.query.strip() == text.encode()]
     compare("%s: a case that finds what is said of %s" % (page, text), wanted in found, True)
+
+
+def answer_over(text, *names):
+    """what the program answers to a query over sample archives, one after the other"""
+    archive = b"".join(read(EXAMPLES, name) for name in names)
+    return subprocess.run([BINARY, "eval", text], input=archive, capture_output=True, timeout=60)
+
+
+def count_row(page, row):
+    """what is sought, a query, how many games of three archives are found"""
+    text = codes(row[1])[0]
+    found = re.findall(rb"matched (\d+)", answer_over(text, "famous.pgn", "games.pgn", "themes.pgn").stderr)
+    compare("%s: how many games are found by %s" % (page, text), found, [row[2].encode()])
+
+
+def slip_row(page, row):
+    """a query, its positions in famous.pgn, what it asks, the query that was meant, its positions"""
+    for text, wanted in ((queries(row[0])[0], row[1]), (queries(row[3])[0], row[4])):
+        found = answer_over(text, "famous.pgn").stdout.count(b"{CQL}")
+        compare("%s: how many positions are found by %s" % (page, text), str(found), wanted)
 
 
 def query_fault_row(page, row):
@@ -148,26 +168,22 @@ def refused_row(page, row):
         is_query(page, text)
 
 
-def query_cells(*numbers):
-    """a check of rows in which the texts of these cells are queries without a fault"""
-
-    def check(page, row):
-        for number in numbers:
-            for text in queries(row[number]):
-                is_query(page, text)
-
-    return check
+def word_row(page, row):
+    """a word of the language, what it means, an example that begins with a query"""
+    for text in queries(row[2])[:1]:
+        is_query(page, text)
 
 
 TABLES = {
     ("What is sought", "Query", "Found"): found_row,
+    ("What is sought", "Query", "Games"): count_row,
     ("Reason", "Where", "Example"): query_fault_row,
     ("Reason", "Where it stands"): game_fault_row,
     ("Status", "Means", "What to do"): status_row,
-    ("Written", "What is said", "Meant"): refused_row,
-    ("Written", "What it asks", "Meant"): query_cells(0, 2),
-    ("Word", "Means", "Example"): lambda page, row: query_cells(2)(page, row[:2] + [re.sub(r"[^`]*$", "", row[2])]),
-    ("In CQL 6", "Here", ""): None,
+    ("Written", "What is said", "Meant", "Why"): refused_row,
+    ("Written", "Finds", "What it asks", "Meant", "Finds"): slip_row,
+    ("Word", "Means", "Example"): word_row,
+    ("Word", "Holds where", "Example"): word_row,
 }
 
 
