@@ -49,7 +49,7 @@ class Case:
 
     def wanted(self):
         status = read(self.folder, "status")
-        return (int(status) if status else None, read(self.folder, "out"), read(self.folder, "err"))
+        return (int(status) if status else None, read(self.folder, "out") or b"", read(self.folder, "err") or b"")
 
     def by_program(self, binary):
         """the answer of the process; a stream that goes to the full device counts as empty"""

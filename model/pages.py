@@ -134,15 +134,15 @@ def slip_row(page, row):
 
 
 def query_fault_row(page, row):
-    """a reason, where it stands, an example with its byte: a case has it"""
-    reason = re.match(r"[a-z ]*[a-z]", row[0]).group()
-    byte = re.findall(r" at ([0-9]+)", row[2])[-1]
-    texts = codes(row[2])
-    simple = len(texts) == 1 and row[2].startswith("`")
+    """a step, a reason, where it stands, an example with its byte: a case has it"""
+    reason = re.match(r"[a-z ]*[a-z]", row[1]).group()
+    byte = re.findall(r" at ([0-9]+)", row[3])[-1]
+    texts = codes(row[3])
+    simple = len(texts) == 1 and row[3].startswith("`")
     found = [
         case.name
         for case in CASES
-        if (case.wanted()[2] or b"").startswith(b"query byte %s: %s" % (byte.encode(), reason.encode()))
+        if case.wanted()[2].startswith(b"query byte %s: %s" % (byte.encode(), reason.encode()))
         and (not simple or case.query.decode("latin1").strip("\n") == texts[0])
     ]
     compare("%s: a case of %s at %s" % (page, reason, byte), bool(found), True)
@@ -150,7 +150,7 @@ def query_fault_row(page, row):
 
 def game_fault_row(page, row):
     """reasons, where they stand: each has a case"""
-    lines = b"\n".join(case.wanted()[2] or b"" for case in CASES).split(b"\n")
+    lines = b"\n".join(case.wanted()[2] for case in CASES).split(b"\n")
     for reason in row[0].split(", "):
         has_case = any(re.fullmatch(rb"game \d+ byte \d+: %s" % reason.encode(), line) for line in lines)
         compare("%s: a case of %s" % (page, reason), has_case, True)
@@ -168,6 +168,11 @@ def refused_row(page, row):
         is_query(page, text)
 
 
+def fault_row(page, row):
+    """a query and what is said of it"""
+    compare("%s: what is said of %s" % (page, row[0]), said_of(codes(row[0])[0]), codes(row[1])[0])
+
+
 def word_row(page, row):
     """a word of the language, what it means, an example that begins with a query"""
     for text in queries(row[2])[:1]:
@@ -177,7 +182,8 @@ def word_row(page, row):
 TABLES = {
     ("What is sought", "Query", "Found"): found_row,
     ("What is sought", "Query", "Games"): count_row,
-    ("Reason", "Where", "Example"): query_fault_row,
+    ("Step", "Reason", "Where", "Example"): query_fault_row,
+    ("Query", "Its fault"): fault_row,
     ("Reason", "Where it stands"): game_fault_row,
     ("Status", "Means", "What to do"): status_row,
     ("Written", "What is said", "Meant", "Why"): refused_row,
