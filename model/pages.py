@@ -24,7 +24,7 @@ import tempfile
 
 from cases import EXAMPLES, TOP, all_cases, read
 
-OPTIONAL = ["pgn-extract", "pv", "jq", "zstd", "zstdcat", "inotifywait"]
+OPTIONAL = ["pgn-extract", "pv", "zstd"]
 PATH = os.environ["PATH"] + ":/usr/games"
 passed, failed = 0, 0
 
