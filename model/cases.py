@@ -7,6 +7,7 @@
 `model` in place of BINARY asks the model alone. CONTRIBUTING.md says what the folder of a case holds.
 """
 
+import difflib
 import gzip
 import os
 import resource
@@ -83,6 +84,15 @@ class Case:
                 f.write(text)
 
 
+def show_difference(got, wanted):
+    """the lines of the status and both streams in which an answer differs from what is wanted, forty at most"""
+    print("  status %s, wanted %s" % (got[0], wanted[0]))
+    for name, *streams in zip(("out", "err"), wanted[1:], got[1:]):
+        was, now = [stream.decode("utf-8", "backslashreplace").splitlines() for stream in streams]
+        for line in list(difflib.unified_diff(was, now, name + " wanted", name, lineterm=""))[:40]:
+            print("  " + line)
+
+
 def all_cases():
     return [Case(name) for name in sorted(os.listdir(CASES))]
 
@@ -101,7 +111,8 @@ def main(binary, names, is_writing):
                 passed += 1
             else:
                 failed += 1
-                print("DIFFERS case", case.name, "by the", side, "\n got ", answer, "\n want", case.wanted())
+                print("DIFFERS case", case.name, "by the", side)
+                show_difference(answer, case.wanted())
     print("cases: %d passed, %d failed" % (passed, failed))
     return 1 if failed else 0
 

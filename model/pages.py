@@ -35,7 +35,7 @@ def compare(name, got, want):
         passed += 1
     else:
         failed += 1
-        print("DIFFERS", name, "\n got ", got, "\n want", want)
+        print("DIFFERS", name, "\n got ", repr(got), "\n want", repr(want))
 
 
 def blocks_of(text):
@@ -66,7 +66,9 @@ def try_blocks(page, text, room):
             continue
         for command, wanted in commands:
             where = dict(os.environ, PATH=os.path.join(room, "bin") + ":" + PATH, LC_ALL="C.UTF-8")
-            done = subprocess.run(["bash", "-c", command], cwd=room, env=where, stdin=subprocess.DEVNULL, capture_output=True, timeout=60)
+            done = subprocess.run(
+                ["bash", "-c", command], cwd=room, env=where, stdin=subprocess.DEVNULL, capture_output=True, timeout=60
+            )
             got = (done.stdout + done.stderr).decode("utf-8", "replace").strip("\n")
             compare("%s: %s" % (page, command), got, wanted)
         for line in block:
@@ -193,6 +195,9 @@ TABLES = {
 }
 
 
+met = set()
+
+
 def try_page(page):
     with open(os.path.join(TOP, page), encoding="utf-8") as f:
         text = f.read()
@@ -204,6 +209,7 @@ def try_page(page):
         try_blocks(page, text, room)
     for head, rows in tables_of(text):
         check = TABLES.get(head)
+        met.add(head)
         for row in rows if check else []:
             check(page, row)
 
@@ -213,8 +219,17 @@ if __name__ == "__main__":
         sys.exit(__doc__)
     BINARY = os.path.abspath(sys.argv[1])
     CASES = all_cases()
-    pages = sys.argv[2:] or ["README.md", "CONTRIBUTING.md"] + sorted("docs/" + os.path.basename(p) for p in glob.glob(os.path.join(TOP, "docs/*.md")))
+    pages = sys.argv[2:] or ["README.md", "CONTRIBUTING.md"] + sorted(
+        "docs/" + os.path.basename(p) for p in glob.glob(os.path.join(TOP, "docs/*.md"))
+    )
     for page in pages:
         try_page(page)
+    if not sys.argv[2:]:
+        compare("tables that no page has", sorted(set(TABLES) - met), [])
+        shown = read(TOP, "README.md").replace(b"\\|", b"|")
+        cookbook = [case for case in CASES if case.name.startswith("cookbook-")]
+        compare(
+            "the cookbook's cases that README has not", [c.name for c in cookbook if c.query.strip() not in shown], []
+        )
     print("pages: %d passed, %d failed" % (passed, failed))
     sys.exit(1 if failed else 0)

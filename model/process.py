@@ -87,18 +87,33 @@ def done_and_refused(folder):
     compare("a faulty query file opens no archive", process(["run", "bad.cql", "none.pgn"], folder=folder), bad)
     compare("a faulty query file is checked", process(["check", "bad.cql"], folder=folder), bad)
     usage = (3, b"", program.USAGE)
-    for words in ([], ["eval"], ["eval", QUERY, "--workers", "0"], ["check", "q.cql", "a.pgn"], ["eval", b"cql() \xff"]):
+    for words in (
+        [],
+        ["eval"],
+        ["eval", QUERY, "--workers", "0"],
+        ["check", "q.cql", "a.pgn"],
+        ["eval", b"cql() \xff"],
+    ):
         compare("refused words %r" % words, process(words, folder=folder), usage)
 
 
 def failures(folder):
     """statuses 4 to 8"""
-    for words in (["run", "none.cql", "a.pgn"], ["eval", QUERY, "none.pgn"], ["check", "none.cql"], ["explain", "none.cql"]):
+    for words in (
+        ["run", "none.cql", "a.pgn"],
+        ["eval", QUERY, "none.pgn"],
+        ["check", "none.cql"],
+        ["explain", "none.cql"],
+    ):
         compare("no such file: %r" % words, process(words, folder=folder), (4, b"", b""))
     for words in (["eval", QUERY, "."], ["run", "q.cql", "."], ["run", ".", "a.pgn"], ["check", "."]):
         compare("a folder: %r" % words, process(words, folder=folder), (5, b"", b""))
     with open("/dev/full", "wb") as full:
-        compare("a full device takes no export", process(["eval", QUERY, "a.pgn"], folder=folder, stdout=full), (6, b"", b""))
+        compare(
+            "a full device takes no export",
+            process(["eval", QUERY, "a.pgn"], folder=folder, stdout=full),
+            (6, b"", b""),
+        )
         took = process(["eval", b"cql() initial", "one.pgn"], folder=folder, stderr=full)
         compare("a full device takes no report", took, (6, program.run_eval(b"cql() initial", b"1. e4 *\n")[1], b""))
         compare("a full device takes no ok", process(["check", "q.cql"], folder=folder, stdout=full), (6, b"", b""))
