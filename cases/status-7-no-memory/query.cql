@@ -1,1 +1,1 @@
-cql() shift shift {Pa2 Nb1} shift shift {Pa2 Nb1} 
+cql() check
