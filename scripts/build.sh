@@ -22,7 +22,7 @@ below() {
     done
 }
 
-all=($(below cqlpgn))
+mapfile -t all < <(below cqlpgn)
 echo "${#all[@]} crates, up to an hour the first time on four processors"
 number=0
 for crate in "${all[@]}"; do
