@@ -30,6 +30,7 @@ test:
 
 # The cases, recipes and pages alone, over the program that is built.
 cases:
+	@test -x $(PROGRAM) || { echo "make build comes first"; exit 1; }
 	python3 model/process.py $(PROGRAM)
 
 # Removes what checks and builds have kept; the next ones take as long as the first.
