@@ -3,17 +3,15 @@ PREFIX ?= /usr/local
 PROGRAM = crates/cqlpgn/out/cqlpgn
 SHARE = $(DESTDIR)$(PREFIX)/share
 
-.PHONY: demo build install uninstall test clean
+.PHONY: demo build install uninstall test cases clean
 
-# The games of the sample archive with a white queen on f7. The program is compiled without its proofs, so that it answers
-# soon; one of the games is faulty, so the program ends with status 1, and the line of that game comes last.
+# The games of the sample archive with a white queen on f7, by a program that is compiled without its proofs.
 demo:
-	cd crates/cqlpgn && rt try -- eval 'cql() Qf7' < ../../examples/games.pgn || test $$? -eq 1
+	@bash scripts/demo.sh
 
-# Proves the program and all below it, and builds it. Words that the program refuses end it with status 3.
+# Proves the program and all below it, crate by crate, and builds it.
 build:
-	cd crates/cqlpgn && rt run > /dev/null 2>&1 || test $$? -eq 3
-	test -x $(PROGRAM)
+	@bash scripts/build.sh
 
 # Installs what `make build` has built.
 install:
@@ -29,6 +27,11 @@ uninstall:
 
 test:
 	bash .ci/run
+
+# The cases, recipes and pages alone, over the program that is built.
+cases:
+	@test -x $(PROGRAM) || { echo "make build comes first"; exit 1; }
+	python3 model/process.py $(PROGRAM)
 
 # Removes what checks and builds have kept; the next ones take as long as the first.
 clean:

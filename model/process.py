@@ -3,8 +3,8 @@
 
     python3 process.py BINARY
 
-First the worked examples (worked.py), then README's cookbook, then every exit status that a process can be brought to,
-with archives from files, from pipes and from `-`. The last line counts all: 'N passed, M failed'.
+First the worked examples (worked.py), the cases (cases.py) and what the pages show (pages.py), then every exit status that a
+process can be brought to, with archives from files, from pipes and from `-`. The last line counts all: 'N passed, M failed'.
 """
 
 import os
@@ -18,7 +18,6 @@ import program
 
 HERE = os.path.dirname(os.path.abspath(__file__))
 BINARY = os.path.abspath(sys.argv[1])
-EXAMPLES = os.path.join(HERE, "..", "examples")
 ARCHIVE = b"1. e4 e5 2. Nf3 *\n1. f3 e5 2. g4 Qh4# 0-1\n1. d4 *\n"
 FAULTY = b"1. e4 *\n1. e4 e5 2. Ke3 *\n"
 QUERY = b"cql() check"
@@ -47,32 +46,17 @@ def process(words, data=b"", folder=None, limit_memory=None, **streams):
     return p.returncode, out or b"", err or b""
 
 
-def worked_examples():
-    """the examples of worked.py, through the model and the program"""
+def part(script):
+    """another script of the model with the program: its report is shown, and its last line counts"""
     global passed, failed
-    p = subprocess.run([sys.executable, os.path.join(HERE, "worked.py"), BINARY], capture_output=True, text=True)
-    counts = re.findall(r"^(model|program) (\d+) examples, (\d+) differ$", p.stdout, re.M)
+    p = subprocess.run([sys.executable, os.path.join(HERE, script), BINARY], capture_output=True, text=True)
     print(p.stdout, p.stderr, sep="", end="")
-    if [side for side, _, _ in counts] != ["model", "program"]:
+    counts = re.findall(r"(\d+) passed, (\d+) failed$", p.stdout.strip())
+    if not counts:
         failed += 1
-    for _, number, differing in counts:
-        passed += int(number) - int(differing)
-        failed += int(differing)
-
-
-def cookbook():
-    """README's queries, each over its archive"""
-    with open(os.path.join(HERE, "..", "README.md"), encoding="utf-8") as f:
-        text = f.read()
-    rows = re.findall(r"^\| [^|]+ \| `(cql\((?:\\\||[^`|])*)`", text, re.M)
-    compare("the cookbook has its queries", len(rows) > 20, True)
-    for row in rows:
-        asked = row.replace("\\|", "|").encode()
-        for name in ("games.pgn", "themes.pgn"):
-            with open(os.path.join(EXAMPLES, name), "rb") as f:
-                archive = f.read()
-            want = program.run_eval(asked, archive)
-            compare("cookbook %r over %s" % (asked, name), process(["eval", asked, name], folder=EXAMPLES), want)
+    for number_passed, number_failed in counts:
+        passed += int(number_passed)
+        failed += int(number_failed)
 
 
 def ways_in(folder):
@@ -103,18 +87,33 @@ def done_and_refused(folder):
     compare("a faulty query file opens no archive", process(["run", "bad.cql", "none.pgn"], folder=folder), bad)
     compare("a faulty query file is checked", process(["check", "bad.cql"], folder=folder), bad)
     usage = (3, b"", program.USAGE)
-    for words in ([], ["eval"], ["eval", QUERY, "--workers", "0"], ["check", "q.cql", "a.pgn"], ["eval", b"cql() \xff"]):
+    for words in (
+        [],
+        ["eval"],
+        ["eval", QUERY, "--workers", "0"],
+        ["check", "q.cql", "a.pgn"],
+        ["eval", b"cql() \xff"],
+    ):
         compare("refused words %r" % words, process(words, folder=folder), usage)
 
 
 def failures(folder):
     """statuses 4 to 8"""
-    for words in (["run", "none.cql", "a.pgn"], ["eval", QUERY, "none.pgn"], ["check", "none.cql"], ["explain", "none.cql"]):
+    for words in (
+        ["run", "none.cql", "a.pgn"],
+        ["eval", QUERY, "none.pgn"],
+        ["check", "none.cql"],
+        ["explain", "none.cql"],
+    ):
         compare("no such file: %r" % words, process(words, folder=folder), (4, b"", b""))
     for words in (["eval", QUERY, "."], ["run", "q.cql", "."], ["run", ".", "a.pgn"], ["check", "."]):
         compare("a folder: %r" % words, process(words, folder=folder), (5, b"", b""))
     with open("/dev/full", "wb") as full:
-        compare("a full device takes no export", process(["eval", QUERY, "a.pgn"], folder=folder, stdout=full), (6, b"", b""))
+        compare(
+            "a full device takes no export",
+            process(["eval", QUERY, "a.pgn"], folder=folder, stdout=full),
+            (6, b"", b""),
+        )
         took = process(["eval", b"cql() initial", "one.pgn"], folder=folder, stderr=full)
         compare("a full device takes no report", took, (6, program.run_eval(b"cql() initial", b"1. e4 *\n")[1], b""))
         compare("a full device takes no ok", process(["check", "q.cql"], folder=folder, stdout=full), (6, b"", b""))
@@ -132,8 +131,8 @@ def failures(folder):
     compare("no memory for a game", hungry, (7, b"", b""))
 
 
-worked_examples()
-cookbook()
+for script in ("worked.py", "cases.py", "pages.py"):
+    part(script)
 with tempfile.TemporaryDirectory() as room:
     files = {"a.pgn": ARCHIVE, "one.pgn": b"1. e4 *\n", "faulty.pgn": FAULTY, "q.cql": QUERY, "bad.cql": b"cql() echo"}
     for name, text in files.items():

@@ -425,29 +425,9 @@ if binary:
     for seed, games in ((1, 0), (1, 100), (7, 20)):
         words = ["selfrun", "cql() check", "--seed", str(seed), "--games", str(games)]
         through_program("made archive", words, b"", program.run_selfrun(b"cql() check", seed, games))
-# the queries that composers ask for, each of which finds the game of its name in examples/themes.pgn and no other
-THEMES = {
-    "Smothered mate": "cql() flipcolor { mate N attacks k not (anydirection 1 k & ~a) }",
-    "Back-rank mate": "cql() flipcolor { mate [RQ]a-h8 attacks ka-h8 not ((southwest 1 k | down 1 k | southeast 1 k) & ~p) }",
-    "Underpromotion": "cql() flipcolor move promote [RBN]",
-    "Double check": "cql() flipcolor { btm #(A attacks k) >= 2 }",
-    "Zwickmuehle": "cql() flipcolor line --> ({btm B attacks k move from R} --> wtm --> {btm R attacks k} --> wtm){2,10}",
-    "Castling both ways": "cql() initial find move from Ke1 to g1 find move from ke8 to c8",
-    "From home to promotion": "cql() flipcolor line --> {move from Pa-h2} --> wtm --> ({btm move from P} --> wtm){3,4}"
-    " --> {move promote A}",
-    "Four corners": "cql() initial not rotate90 not find Ka1",
-    "Switchback": "cql() initial square x in B { find { not (x & B) find (x & B) } }",
-    "En passant": "cql() flipcolor move from Pa-h5 to a-h6 capture pa-h5",
-}
-with open(os.path.join(os.path.dirname(os.path.abspath(__file__)), "..", "examples", "themes.pgn"), "rb") as f:
-    archive = f.read()
-for name, text in THEMES.items():
-    answer = program.run_eval(text.encode(), archive)
-    found = [line[8:-2].decode() for line in answer[1].split(b"\n") if line.startswith(b'[Event "')]
-    equal("theme: " + name, found, [name])
-    if binary:
-        through_program("theme: " + name, ["eval", text], archive, program.run_eval(text.encode(), archive))
 
 for side in (MODEL, PROGRAM):
     print(side, counts[side], "examples,", differing[side], "differ")
-sys.exit(1 if any(differing.values()) else 0)
+number, number_failed = sum(counts.values()), sum(differing.values())
+print("worked examples: %d passed, %d failed" % (number - number_failed, number_failed))
+sys.exit(1 if number_failed else 0)

@@ -1,0 +1,3 @@
+cql()
+check
+maet

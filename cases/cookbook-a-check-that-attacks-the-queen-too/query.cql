@@ -1,0 +1,1 @@
+cql() flipcolor { btm check N attacks q }

@@ -1,0 +1,1 @@
+cql() flipcolor { Ng1 parent not Ng1 }

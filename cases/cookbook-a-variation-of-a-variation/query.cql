@@ -1,0 +1,1 @@
+cql(variations) depth >= 2

@@ -1,0 +1,1 @@
+cql() flipcolor move from Pa-h5 to a-h6 capture pa-h5

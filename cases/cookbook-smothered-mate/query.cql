@@ -1,0 +1,1 @@
+cql() flipcolor { mate N attacks k not (anydirection 1 k & ~a) }

@@ -1,0 +1,1 @@
+cql() power A - power a >= 9 sort "lead" power A - power a

@@ -1,0 +1,1 @@
+cql() flipcolor line --> { btm check } --> wtm --> { btm check } --> wtm --> { btm check }

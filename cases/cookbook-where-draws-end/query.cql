@@ -1,0 +1,1 @@
+cql() result 1/2-1/2 terminal

@@ -1,0 +1,1 @@
+cql() flip { Ka1 wtm } sort "men" #A

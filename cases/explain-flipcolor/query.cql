@@ -1,0 +1,1 @@
+cql() flipcolor Ka1 check

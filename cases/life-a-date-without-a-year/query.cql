@@ -1,0 +1,1 @@
+cql() initial not year > 0

@@ -1,0 +1,1 @@
+cql() move from Ke1 to g1

@@ -1,0 +1,1 @@
+cql(matchstring "") mate comment "mate" comment "the end"

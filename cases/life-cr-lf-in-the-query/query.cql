@@ -1,0 +1,2 @@
+cql() // every mate
+check mate

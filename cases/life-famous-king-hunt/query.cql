@@ -1,0 +1,1 @@
+cql() flipcolor (line --> ({btm check} --> wtm){1,20}) >= 8

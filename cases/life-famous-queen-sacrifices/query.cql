@@ -1,0 +1,1 @@
+cql() flipcolor { move from a capture Q find mate }

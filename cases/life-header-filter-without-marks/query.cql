@@ -1,0 +1,1 @@
+cql(matchstring "") initial player "anna"

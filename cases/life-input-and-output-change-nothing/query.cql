@@ -1,0 +1,1 @@
+cql(input games.pgn output "found it.pgn" matchstring "a" matchstring "b") mate

@@ -1,0 +1,1 @@
+cql() (line <-- check <-- wtm <-- check) == 3

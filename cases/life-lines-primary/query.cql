@@ -1,0 +1,1 @@
+cql(variations) (line primary --> Pe4*) >= 4

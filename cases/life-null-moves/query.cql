@@ -1,0 +1,1 @@
+cql(variations) move from A not wtm

@@ -1,0 +1,1 @@
+cql() initial sort min "men" #(A | a)

@@ -1,0 +1,1 @@
+cql() initial wtm (line --> .* --> mate) == 4

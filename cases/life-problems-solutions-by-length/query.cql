@@ -1,0 +1,1 @@
+cql() terminal sort min "moves" ply comment "end"

@@ -1,0 +1,1 @@
+cql(variations) move promote R or stalemate

@@ -1,0 +1,1 @@
+cql() elo >= 1800 terminal

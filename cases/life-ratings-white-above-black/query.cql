@@ -1,0 +1,1 @@
+cql() elo white > elo black initial

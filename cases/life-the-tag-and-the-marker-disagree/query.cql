@@ -1,0 +1,1 @@
+cql() terminal result 1-0

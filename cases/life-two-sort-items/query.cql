@@ -1,0 +1,1 @@
+cql() mate sort "rating" elo sort min "length" ply

@@ -1,0 +1,1 @@
+cql() not sort "n" ply

@@ -1,0 +1,1 @@
+cql() flip flip flip flip flip flip check

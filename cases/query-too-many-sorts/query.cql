@@ -1,0 +1,1 @@
+cql() sort "a" ply sort "b" ply sort "c" ply sort "d" ply sort "e" ply

@@ -1,0 +1,1 @@
+cql() square v in A square w in A square x in A square y in A square z in A check

@@ -1,0 +1,1 @@
+cql() line 0 3 --> check

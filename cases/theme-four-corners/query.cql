@@ -1,0 +1,1 @@
+cql() initial not rotate90 not find Ka1

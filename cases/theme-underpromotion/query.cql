@@ -1,0 +1,1 @@
+cql() flipcolor move promote [RBN]
