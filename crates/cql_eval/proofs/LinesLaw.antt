@@ -293,10 +293,6 @@ pub still_clear : (old table : AtomTable) (first at : ℕ) → first ≤ at → 
 still_clear old table first at beyond clear filled a n h = filled.after a n h ∙ clear a n (omega (arith, h, beyond))
 
 -- the next part is flat, and has room too
-pub next_flat : (tree : SearchedTree) (e : Names) (first : ℕ) (xs : List Constituent) (i : ℕ) (c : Constituent) (at : ℕ) (old table : AtomTable) (cs : PartTrees) → TableSoFar tree e first xs i at old table
-    → i < length xs → c ≡ get_or xs i c → part_trees xs ≡ cs → AreFlatParts cs → IsFlatBody (body_tree c.body)
-next_flat tree e first xs i c at old table cs had below is same flat = part_flat xs i c cs below is same flat
-
 pub part_room : (tree : SearchedTree) (e : Names) (first : ℕ) (xs : List Constituent) (i : ℕ) (c : Constituent) (at count : ℕ) (old table : AtomTable) (cs : PartTrees) → TableSoFar tree e first xs i at old table
     → i < length xs → c ≡ get_or xs i c → part_trees xs ≡ cs → HasRoom count first (first + parts_atoms cs) old → HasRoom count at (at + body_atoms (body_tree c.body)) table
 part_room tree e first xs i c at count old table cs had below is same room =
@@ -515,9 +511,6 @@ table_clear table k is a n h = ap (λ ws. holds ws a n) is ∙ ap (λ w. bit_at 
 
 pub table_nodes : (table : AtomTable) (k n : ℕ) → words_of table ≡ replicate k 0 → k ≡ n → nodes_of table ≡ n
 table_nodes table k n is same = ap length is ∙ count_words 0 k ∙ same
-
-pub room_same : (count first past other : ℕ) (table : AtomTable) → HasRoom count first past table → past ≡ other → HasRoom count first other table
-room_same count first past other table room same = subst (λ p. HasRoom count first p table) same room
 
 pub atom_form : (tree : SearchedTree) (e : Names) (table : AtomTable) (first : ℕ) (b : BodyTree) (f : FilterTree) → b ≡ atom f → AreTabled tree table (first + 1) (one first) (one (value tree [] e f))
     → AreTabled tree table (first + body_atoms b) (body_numbered first b) (body_pattern tree [] e b)

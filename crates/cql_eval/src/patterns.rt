@@ -121,12 +121,18 @@ fn push_node(shape: &mut Shape, game: &Game, variations: bool, k: u32) -> Result
     Ok(())
 }
 
-/// A table of so many atoms at the nodes of a game, none of which holds anywhere.
-pub(crate) fn empty_table(alloc: Global, atoms: u32, game: &Game) -> Result<AtomTable, NoMemory>
+/// A table for the atoms of parts in a row, which are so many, at the nodes of a game; none of them holds anywhere.
+pub(crate) fn empty_table(
+    alloc: Global,
+    _parts: &Constituents,
+    atoms: u32,
+    game: &Game,
+) -> Result<AtomTable, NoMemory>
     requires tree { IsTree game.now.nodes }
     requires few { atoms ≤ 64 }
+    requires count { atoms ≡ costs.parts_atoms (parts_tree _parts.now) }
     ensures atoms { IfOk result (λ table. atoms_of table ≡ atoms) }
-    ensures room { IfOk result (λ table. HasRoom (length game.now.nodes) 0 atoms table) }
+    ensures room { IfOk result (λ table. HasRoom (length game.now.nodes) 0 (0 + costs.parts_atoms (parts_tree _parts.now)) table) }
 {
     let table = AtomTable::new(alloc, atoms, game.len())?;
     Ok(table)

@@ -25,7 +25,7 @@ use std::sync::ledger::Ledger;
 /// The greatest length of a path from each node that a line's pattern spells: its atoms are asked for at all searched nodes, and the
 /// automaton of its pattern then answers all nodes at once.
 #[cycle(evaluate)]
-#[tactic(auto, using(crate::proofs::LinesLaw::line_parts_flat, crate::proofs::LinesLaw::room_same))]
+#[tactic(auto, using(crate::proofs::LinesLaw::line_parts_flat))]
 pub(super) fn line_numbers<L: Ledger>(
     alloc: Global,
     line: &Line,
@@ -48,7 +48,7 @@ pub(super) fn line_numbers<L: Ledger>(
     let mut atoms = 0;
     let pattern = parts_pattern(alloc, parts, &mut atoms)?;
     let automaton = Automaton::build(alloc, &pattern)?;
-    let mut table = empty_table(alloc, atoms, game)?;
+    let mut table = empty_table(alloc, parts, atoms, game)?;
     put_parts(
         alloc, parts, 0, &mut table, game, variations, names, &all, steps,
     )?;
@@ -67,7 +67,7 @@ pub(super) fn line_numbers<L: Ledger>(
 
 // Puts the atoms of parts in a row into a table, with the numbers from the first on, and answers the number after them.
 #[cycle(evaluate)]
-#[tactic(auto, using(crate::proofs::LinesLaw::next_flat, crate::proofs::LinesLaw::part_room), unfolding(crate::specs::Costs::filter_cost))]
+#[tactic(auto, unfolding(crate::specs::Costs::filter_cost))]
 fn put_parts<L: Ledger>(
     alloc: Global,
     parts: &Constituents,

@@ -26,8 +26,7 @@ use Rattle.cql_eval.proofs.LinesLaw.{few_atoms, few_places, atoms_below, table_b
 use Rattle.cql_eval.proofs.UnaryLaws.{find_up_is, child_holds_is, parent_holds_is}
 use Rattle.cql_eval.proofs.FormLaws.{chain_form, any_form}
 use Rattle.cql_eval.proofs.MoveLaw.{move_is, part_is, no_part_is}
-use borrow.Author.Sizes.{sizes}
-use Rattle.cql_eval.proofs.LinesLaw.{part_flat, part_room, room_same}
+use Rattle.cql_eval.proofs.LinesLaw.{part_flat, part_room}
 use Rattle.cql_eval.proofs.evaluate.+evaluate.Goals as goal
 
 pub chains::all_hold-loop-filter-init : goal.chains::all_hold-loop-filter-init
@@ -222,17 +221,26 @@ lines::put_parts-loop-part-init g t c = record {
   table = table_begun (searched_tree c.args.game.now c.args.variations) c.args.names.now c.args.first c.as_slice-part-items.result.now _;
   cost = omega arith;
   rises = omega arith;
+  flat = λ i k h e. part_flat c.as_slice-part-items.result.now i k (parts_tree c.args.parts.now) h e c.as_slice-part-items.ensures.tree c.requires.flat;
+  room = λ k h e. part_room (searched_tree c.args.game.now c.args.variations) c.args.names.now c.args.first c.as_slice-part-items.result.now 0 k c.args.first
+      (length c.args.game.now.nodes) _ _ (parts_tree c.args.parts.now)
+      (table_begun (searched_tree c.args.game.now c.args.variations) c.args.names.now c.args.first c.as_slice-part-items.result.now _) h e c.as_slice-part-items.ensures.tree c.requires.room;
 }
 
 pub lines::put_parts-loop-part-preserved : goal.lines::put_parts-loop-part-preserved
-lines::put_parts-loop-part-preserved g t c = record {
-  table = table_more (searched_tree c.args.game.now c.args.variations) c.args.names.now c.args.first c.as_slice-part-items.result.now c.loop-part.part-index c.part-item.result
-      c.loop-part.at c.in_ok-at.at _ c.loop-part.table c.put_body.new.table c.loop-part-test.true c.part-item.is
-      c.in_ok-at.ensures.next c.in_ok-at.ensures.value c.in_ok-at.ensures.others c.loop-part.invariant.table;
-  cost = parts_cost_more (length c.args.game.now.nodes) c.as_slice-part-items.result.now c.loop-part.part-index c.part-item.result _ c.loop-part.steps
-      c.put_body.new.steps c.loop-part-test.true c.part-item.is c.loop-part.invariant.cost c.put_body.ensures.cost;
-  rises = omega (arith, c.loop-part.invariant.rises, c.put_body.ensures.rises);
-}
+lines::put_parts-loop-part-preserved g t c =
+    let more = table_more (searched_tree c.args.game.now c.args.variations) c.args.names.now c.args.first c.as_slice-part-items.result.now c.loop-part.part-index c.part-item.result
+        c.loop-part.at c.in_ok-at.at _ c.loop-part.table c.put_body.new.table c.loop-part-test.true c.part-item.is
+        c.in_ok-at.ensures.next c.in_ok-at.ensures.value c.in_ok-at.ensures.others c.loop-part.invariant.table in
+    record {
+      table = more;
+      cost = parts_cost_more (length c.args.game.now.nodes) c.as_slice-part-items.result.now c.loop-part.part-index c.part-item.result _ c.loop-part.steps
+          c.put_body.new.steps c.loop-part-test.true c.part-item.is c.loop-part.invariant.cost c.put_body.ensures.cost;
+      rises = omega (arith, c.loop-part.invariant.rises, c.put_body.ensures.rises);
+      flat = c.loop-part.invariant.flat;
+      room = λ k h e. part_room (searched_tree c.args.game.now c.args.variations) c.args.names.now c.args.first c.as_slice-part-items.result.now (c.loop-part.part-index + 1) k
+          c.in_ok-at.at (length c.args.game.now.nodes) _ c.put_body.new.table (parts_tree c.args.parts.now) more h e c.as_slice-part-items.ensures.tree c.requires.room;
+    }
 
 pub lines::put_parts-returns-clause-next : goal.lines::put_parts-returns-clause-next
 lines::put_parts-returns-clause-next g t c =
@@ -332,23 +340,6 @@ lines::line_numbers-returns-in_err-shape-clause-cost g t c = atoms_within (lengt
 
 pub lines::line_numbers-returns-in_err-put_parts-clause-cost : goal.lines::line_numbers-returns-in_err-put_parts-clause-cost
 lines::line_numbers-returns-in_err-put_parts-clause-cost g t c = atoms_within (length c.args.game.now.nodes) c.args.line.now _ c.put_parts.new.steps c.put_parts.ensures.cost
-
-pub lines::put_parts-put_body-requires : goal.lines::put_parts-put_body-requires
-lines::put_parts-put_body-requires g t c κs o = (
-  search (rules, sizes),
-  (o, (c.requires.tree, (c.requires.all, (part_flat c.as_slice-part-items.result.now c.loop-part.part-index c.part-item.result (parts_tree c.args.parts.now) c.loop-part-test.true c.part-item.is
-        c.as_slice-part-items.ensures.tree c.requires.flat,
-    part_room (searched_tree c.args.game.now c.args.variations) c.args.names.now c.args.first c.as_slice-part-items.result.now c.loop-part.part-index c.part-item.result
-        c.loop-part.at (length c.args.game.now.nodes) _ c.loop-part.table (parts_tree c.args.parts.now) c.loop-part.invariant.table c.loop-part-test.true c.part-item.is
-        c.as_slice-part-items.ensures.tree c.requires.room)))),
-)
-
-pub lines::line_numbers-put_parts-requires : goal.lines::line_numbers-put_parts-requires
-lines::line_numbers-put_parts-requires g t c κs o = (
-  search (rules, sizes),
-  (o, (c.requires.tree, (search rules, ((line_flat c.args.line.now c.requires.flat).1,
-    room_same (length c.args.game.now.nodes) 0 _ _ c.in_ok-table.table c.in_ok-table.ensures.room c.in_ok-pattern.ensures.next)))),
-)
 
 -- where no node is asked for
 

@@ -1,12 +1,14 @@
 use Rattle.std.specs.Prelude.{◌≡◌, ℕ, ◌<◌, get_or, [], ◌∷◌, take, drop, not, length, ◌+◌, ◌-◌, ◌*◌, ◌≤◌}
 use Rattle.std.specs.List.{list_all, list_any}
 use Rattle.cql_syntax.specs.Meaning.{value, values, term_values}
-use Rattle.cql_syntax.specs.TreeOf.{filter_tree, filter_trees, term_trees, part_trees}
+use Rattle.cql_syntax.specs.TreeOf.{filter_tree, filter_trees, term_trees, part_trees, body_tree}
 use Rattle.cql_syntax.specs.Values.{holds}
 use Rattle.cql_values.specs.Trees.{searched_tree}
 use Rattle.cql_eval.specs.Columns.{Where, shown, all_shown, terms_shown}
-use Rattle.cql_eval.specs.Costs.{filter_cost, filters_cost, terms_cost, parts_cost}
-use Rattle.cql_eval.specs.FlatTrees.{IsFlat}
+use Rattle.cql_eval.specs.Costs.{filter_cost, filters_cost, terms_cost, parts_cost, body_atoms}
+use Rattle.cql_eval.specs.FlatTrees.{IsFlat, IsFlatBody}
+use Rattle.cql_eval.specs.LineAtoms.{HasRoom}
+use Rattle.cql_syntax.specs.declared.tree.Constituent.{Constituent}
 use Rattle.cql_syntax.specs.declared.tree.Filter.{Filter}
 use Rattle.cql_syntax.specs.declared.tree.Term.{Term}
 use Rattle.cql_eval.proofs.Chains.{LeftOf, unsettled_by}
@@ -69,4 +71,7 @@ invariant-lines::put_parts-loop-part g l = record {
   cost : l.steps + parts_cost (length l.game.nodes) (part_trees (drop l.part-index l.part-items))
     ≤ l.fn.steps + parts_cost (length l.game.nodes) (part_trees l.part-items);
   rises : l.fn.steps ≤ l.steps;
+  flat : (i : ℕ) (c : Constituent) → i < length l.part-items → c ≡ get_or l.part-items i c → IsFlatBody (body_tree c.body);
+  room : (c : Constituent) → l.part-index < length l.part-items → c ≡ get_or l.part-items l.part-index c
+    → HasRoom (length l.game.nodes) l.at (l.at + body_atoms (body_tree c.body)) l.table;
 }
