@@ -111,7 +111,9 @@ def packed():
             file.writestr("read me.txt", "no games")
             file.writestr("b/two.PGN", TWO)
         status, out, lines = asked(QUERY, "both.zip")
-        compare("zip", (status, out, lines[:2]), (1, found(ONE, TWO), ["both.zip:a [1].pgn: " + COUNTS_ONE, "both.zip:b/two.PGN: " + FAULT_TWO]))
+        compare(
+            "zip", (status, out, lines[:2]), (1, found(ONE, TWO), ["both.zip:a [1].pgn: " + COUNTS_ONE, "both.zip:b/two.PGN: " + FAULT_TWO])
+        )
         with open("no.zip", "wb") as file:
             file.write(b"no games")
         compare("no zip", asked(QUERY, "no.zip")[0], 5)

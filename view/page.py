@@ -34,7 +34,7 @@ class Writer:
         side = "White to move" if node.position.white else "Black to move"
         self.figures.append(
             '<figure id="%s" data-fen="%s"%s><div></div><figcaption><strong>%s</strong> <small>%s</small> '
-            "<button title=\"copies the position's FEN\">FEN</button></figcaption></figure>\n"
+            '<button title="copies the position\'s FEN">FEN</button></figcaption></figure>\n'
             % (number, node.position.fen(), move, escape(caption), side)
         )
         return number

@@ -6,6 +6,7 @@ from replay import name
 
 ON = 12  # so many moves of both sides, at most, are printed of what came after
 SIGNS = {"\\": r"\textbackslash{}", "~": r"\textasciitilde{}", "^": r"\textasciicircum{}", "–": "--", "—": "---", "…": r"\dots{}"}
+SIGNS |= {"“": "``", "”": "''", "‘": "`", "’": "'"}
 SUFFIXES = {1: "!", 2: "?", 3: "!!", 4: "??", 5: "!?", 6: "?!"}
 HEAD = r"""\documentclass[a4paper,10pt]{article}
 \usepackage[T1]{fontenc}
