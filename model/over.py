@@ -141,6 +141,9 @@ def faults():
     compare("nothing is asked after it", asked("-o", "/dev/full", QUERY, "one.pgn", "two.pgn")[0], 6)
     compare("a file that can't be made", asked("-o", "none/out.pgn", QUERY, "one.pgn")[0], 6)
     compare("over the limit", asked("--limit", "20", QUERY, "one.pgn"), (8, b"", ["one.pgn: has more bytes than --limit allows"]))
+    compare(
+        "a tool that is missing", asked(QUERY, "one.zst", PATH=os.getcwd()), (5, b"", ["one.zst: zstd, which unpacks it, is not installed"])
+    )
     compare("no program", asked(QUERY, "one.pgn", CQLPGN="none")[1], b"")
 
 
@@ -169,7 +172,7 @@ def replayed(node):
 
 with tempfile.TemporaryDirectory() as room:
     os.chdir(room)
-    for file_name, content in {"one.pgn": ONE, "two.pgn": TWO, "-odd.pgn": ONE, "q.cql": QUERY.encode()}.items():
+    for file_name, content in {"one.pgn": ONE, "two.pgn": TWO, "-odd.pgn": ONE, "one.zst": ONE, "q.cql": QUERY.encode()}.items():
         with open(file_name, "wb") as made:
             made.write(content)
     several()
