@@ -1,5 +1,6 @@
 #!/usr/bin/env python3
-"""contrib/cqlpgn-over as a process: what it writes, what it says and its exit status; and the boards of view/diagrams.
+"""contrib/cqlpgn-over as a process: what it writes, what it says and its exit status; then the boards of view/, and what contrib/ has of
+the language.
 
     python3 over.py BINARY
 
@@ -20,6 +21,7 @@ import zipfile
 import chess
 import pgn
 import program
+import query
 
 TOP = os.path.join(os.path.dirname(os.path.abspath(__file__)), "..")
 OVER = os.path.join(TOP, "contrib", "cqlpgn-over")
@@ -52,8 +54,8 @@ def asked(*words, data=b"", **environment):
     return done.returncode, done.stdout, done.stderr.decode().splitlines()
 
 
-def found(*archives, query=QUERY):
-    return b"".join(program.run_eval(query.encode(), archive)[1] for archive in archives)
+def found(*archives, asking=QUERY):
+    return b"".join(program.run_eval(asking.encode(), archive)[1] for archive in archives)
 
 
 def several():
@@ -78,11 +80,11 @@ def several():
 
 def marks():
     """without marks, whatever the query says of them"""
-    want = found(ONE, query='cql(matchstring "") check')
-    for query in (QUERY, 'cql(matchstring "here") check', '// matchstring "x"\ncql ( matchstring // a "\n "b"variations) check'):
-        compare("-p of " + query, asked("-p", query, "one.pgn")[:2], (0, want))
+    want = found(ONE, asking='cql(matchstring "") check')
+    for text in (QUERY, 'cql(matchstring "here") check', '// matchstring "x"\ncql ( matchstring // a "\n "b"variations) check'):
+        compare("-p of " + text, asked("-p", text, "one.pgn")[:2], (0, want))
     kept = 'cql(matchstring "a") check comment "matchstring"'
-    compare("comments stay", asked("-p", kept, "one.pgn")[1], found(ONE, query=kept.replace('"a"', '""')))
+    compare("comments stay", asked("-p", kept, "one.pgn")[1], found(ONE, asking=kept.replace('"a"', '""')))
 
 
 def packed():
@@ -162,6 +164,17 @@ def boards():
     compare("a page with one board", (page.returncode, page.stdout.count(b"<figure id"), page.stderr), (0, 1, b""))
 
 
+def words():
+    """vim's syntax file has the words of the language, and the manual page is made of docs/LANGUAGE.md"""
+    with open(os.path.join(TOP, "contrib", "vim", "syntax", "cql.vim"), encoding="ascii") as file:
+        rows = [row.split()[2:] for row in file if row.startswith("syn keyword")]
+    compare("vim's words", {word for kind, *some in rows if kind != "cqlKept" for word in some}, query.WORDS)
+    compare("vim's names that are kept back", {word for kind, *some in rows if kind == "cqlKept" for word in some}, query.RESERVED)
+    maker, source = os.path.join(TOP, "contrib", "manual"), os.path.join(TOP, "docs", "LANGUAGE.md")
+    page = subprocess.run([sys.executable, maker, source], capture_output=True, check=False)
+    compare("no mark of Markdown is left in cql.7", (page.returncode, [m for m in (b"`", b"**", b"|--") if m in page.stdout]), (0, []))
+
+
 def board(node):
     return chess.fen_text(node.pos).split()[:4], node.nags, len(node.comments), [board(child) for child in node.children]
 
@@ -180,6 +193,7 @@ with tempfile.TemporaryDirectory() as room:
     packed()
     faults()
     boards()
+    words()
     os.chdir(TOP)
 print("%d passed, %d failed" % (passed, failed))
 sys.exit(1 if failed else 0)
