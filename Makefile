@@ -70,4 +70,4 @@ test:
 
 # Removes what checks and builds have kept; the next ones take as long as the first.
 clean:
-	rm -rf crates/*/out
+	rm -rf crates/*/out out
