@@ -17,7 +17,7 @@ def signed(move):
     """the move's squares as the page's script reads them"""
     if move.squares is None:
         return "!!"
-    promoted = "=" + move.san.partition("=")[2][:1] if "=" in move.san else ""
+    promoted = "=" + escape(move.san.partition("=")[2][:1]) if "=" in move.san else ""
     return SQUARES[move.squares[0]] + SQUARES[move.squares[1]] + promoted
 
 

@@ -57,6 +57,8 @@ class Position:
 
     @classmethod
     def of_fen(cls, fen):
+        if not re.fullmatch(r" *[KQRBNPkqrbnp1-8/]+ +[wb] +[KQkq-]+ +(-|[a-h][36])( +\d+ +\d+)? *", fen):
+            raise ValueError("%s is no FEN" % fen)
         men, side, rights, passed, *rest = fen.split()
         rows = re.sub(r"\d", lambda d: "." * int(d.group()), men).split("/")
         return cls(list("".join(reversed(rows))), side == "w", rights, passed, max(1, int(rest[1]) if len(rest) > 1 else 1))
