@@ -1,9 +1,11 @@
-# The demo, the proved program, its installation, and the tests. PREFIX is where `make install` puts the program.
+# The demo, the proved program, its installation, its package, and the tests. PREFIX is where `make install` puts the program.
 PREFIX ?= /usr/local
-PROGRAM = crates/cqlpgn/out/cqlpgn
+PROGRAM ?= crates/cqlpgn/out/cqlpgn
+BIN = $(DESTDIR)$(PREFIX)/bin
 SHARE = $(DESTDIR)$(PREFIX)/share
+ZSH ?= site-functions
 
-.PHONY: demo build install uninstall test cases clean
+.PHONY: demo build install uninstall deb test cases clean
 
 # The games of the sample archive with a white queen on f7, by a program that is compiled without its proofs.
 demo:
@@ -13,17 +15,53 @@ demo:
 build:
 	@bash scripts/build.sh
 
-# Installs what `make build` has built.
+# Installs what `make build` has built, with manual pages, completion for bash, zsh and fish, a syntax file for vim, the page of boards
+# and the wrapper for several archives.
 install:
 	@test -x $(PROGRAM) || { echo "make build comes first"; exit 1; }
-	install -D $(PROGRAM) $(DESTDIR)$(PREFIX)/bin/cqlpgn
+	install -D $(PROGRAM) $(BIN)/cqlpgn
+	install -D contrib/cqlpgn-over $(BIN)/cqlpgn-over
+	install -D view/diagrams $(SHARE)/cqlpgn/view/diagrams
+	install -m 644 view/*.py view/page.html $(SHARE)/cqlpgn/view
+	ln -sf ../share/cqlpgn/view/diagrams $(BIN)/cqlpgn-diagrams
 	install -D -m 644 docs/cqlpgn.1 $(SHARE)/man/man1/cqlpgn.1
-	install -D -m 644 LICENSE-MIT $(SHARE)/doc/cqlpgn/LICENSE-MIT
-	install -D -m 644 LICENSE-APACHE $(SHARE)/doc/cqlpgn/LICENSE-APACHE
+	for name in cqlpgn-over cqlpgn-diagrams; do \
+	  echo '.so man1/cqlpgn.1' > $(SHARE)/man/man1/$$name.1; \
+	  mkdir -p $(SHARE)/bash-completion/completions $(SHARE)/fish/vendor_completions.d; \
+	  ln -sf cqlpgn $(SHARE)/bash-completion/completions/$$name; \
+	  ln -sf cqlpgn.fish $(SHARE)/fish/vendor_completions.d/$$name.fish; \
+	done
+	install -d $(SHARE)/man/man7
+	contrib/manual docs/LANGUAGE.md > $(SHARE)/man/man7/cql.7
+	install -D -m 644 contrib/completion/cqlpgn.bash $(SHARE)/bash-completion/completions/cqlpgn
+	install -D -m 644 contrib/completion/_cqlpgn $(SHARE)/zsh/$(ZSH)/_cqlpgn
+	install -D -m 644 contrib/completion/cqlpgn.fish $(SHARE)/fish/vendor_completions.d/cqlpgn.fish
+	install -D -m 644 contrib/vim/syntax/cql.vim $(SHARE)/vim/vimfiles/syntax/cql.vim
+	install -D -m 644 contrib/vim/ftdetect/cql.vim $(SHARE)/vim/vimfiles/ftdetect/cql.vim
+	install -d $(SHARE)/doc/cqlpgn/docs $(SHARE)/doc/cqlpgn/examples
+	install -m 644 README.md LICENSE-MIT LICENSE-APACHE $(SHARE)/doc/cqlpgn
+	install -m 644 docs/*.md $(SHARE)/doc/cqlpgn/docs
+	install -m 644 examples/* $(SHARE)/doc/cqlpgn/examples
 
 uninstall:
-	rm -f $(DESTDIR)$(PREFIX)/bin/cqlpgn $(SHARE)/man/man1/cqlpgn.1
-	rm -rf $(SHARE)/doc/cqlpgn
+	rm -f $(BIN)/cqlpgn $(BIN)/cqlpgn-over $(BIN)/cqlpgn-diagrams
+	rm -f $(SHARE)/man/man1/cqlpgn.1 $(SHARE)/man/man1/cqlpgn-over.1 $(SHARE)/man/man1/cqlpgn-diagrams.1 $(SHARE)/man/man7/cql.7
+	for name in cqlpgn cqlpgn-over cqlpgn-diagrams; do \
+	  rm -f $(SHARE)/bash-completion/completions/$$name $(SHARE)/fish/vendor_completions.d/$$name.fish; \
+	done
+	rm -f $(SHARE)/zsh/$(ZSH)/_cqlpgn $(SHARE)/vim/vimfiles/syntax/cql.vim $(SHARE)/vim/vimfiles/ftdetect/cql.vim
+	rm -rf $(SHARE)/cqlpgn $(SHARE)/doc/cqlpgn
+
+# A Debian package of what `make build` has built, in out/. It needs debhelper and dpkg-dev.
+deb:
+	@test -x $(PROGRAM) || { echo "make build comes first"; exit 1; }
+	rm -rf out/deb
+	mkdir -p out/deb/cqlpgn/crates/cqlpgn/out
+	cp -r Makefile README.md LICENSE-MIT LICENSE-APACHE debian docs examples view contrib out/deb/cqlpgn
+	cp $(PROGRAM) out/deb/cqlpgn/crates/cqlpgn/out/cqlpgn
+	cd out/deb/cqlpgn && env -u PROGRAM dpkg-buildpackage -us -uc -b
+	mv out/deb/cqlpgn_*.deb out/
+	rm -rf out/deb
 
 test:
 	bash .ci/run
@@ -35,4 +73,4 @@ cases:
 
 # Removes what checks and builds have kept; the next ones take as long as the first.
 clean:
-	rm -rf crates/*/out
+	rm -rf crates/*/out out

@@ -1,0 +1,55 @@
+# Completion of cqlpgn, cqlpgn-over and cqlpgn-diagrams for bash: `source contrib/completion/cqlpgn.bash` in ~/.bashrc, where
+# `make install` or the package has not put it where bash-completion finds it.
+
+_cqlpgn_files() {
+    # files whose names end so, and folders
+    local IFS=$'\n'
+    mapfile -t -O "${#COMPREPLY[@]}" COMPREPLY < <(compgen -d -- "$2"; compgen -f -- "$2" | grep -iE "\.($1)\$")
+}
+
+_cqlpgn() {
+    local word=${COMP_WORDS[COMP_CWORD]} before=${COMP_WORDS[COMP_CWORD - 1]} mode=${COMP_WORDS[1]:-}
+    COMPREPLY=()
+    if [ "$COMP_CWORD" = 1 ]; then
+        mapfile -t COMPREPLY < <(compgen -W 'run eval check explain selfrun' -- "$word")
+        return
+    fi
+    case $before in
+        --workers) mapfile -t COMPREPLY < <(compgen -W '1 2 4 8 16 32 64' -- "$word"); return ;;
+        --limit | --seed | --games) return ;;
+    esac
+    case $mode:$word in
+        selfrun:-*) mapfile -t COMPREPLY < <(compgen -W '--workers --seed --games' -- "$word") ;;
+        run:-* | eval:-*) mapfile -t COMPREPLY < <(compgen -W '--workers --limit' -- "$word") ;;
+        run:* | check:* | explain:*)
+            if [ "$COMP_CWORD" = 2 ]; then _cqlpgn_files 'cql|txt' "$word"; elif [ "$mode" = run ]; then _cqlpgn_files pgn "$word"; fi ;;
+        eval:*) [ "$COMP_CWORD" = 2 ] || _cqlpgn_files pgn "$word" ;;
+    esac
+}
+
+_cqlpgn_over() {
+    local word=${COMP_WORDS[COMP_CWORD]} before=${COMP_WORDS[COMP_CWORD - 1]}
+    COMPREPLY=()
+    case $before in
+        -o) _cqlpgn_files pgn "$word"; return ;;
+        --workers | --limit) return ;;
+    esac
+    case $word in
+        -*) mapfile -t COMPREPLY < <(compgen -W '-o -c -p --workers --limit --help' -- "$word") ;;
+        *) _cqlpgn_files 'cql|pgn|gz|bz2|xz|zst|zip' "$word" ;;
+    esac
+}
+
+_cqlpgn_diagrams() {
+    local word=${COMP_WORDS[COMP_CWORD]} before=${COMP_WORDS[COMP_CWORD - 1]}
+    COMPREPLY=()
+    case $before in --mark | --title) return ;; esac
+    case $word in
+        -*) mapfile -t COMPREPLY < <(compgen -W '--tex --mark --title --help' -- "$word") ;;
+        *) _cqlpgn_files pgn "$word" ;;
+    esac
+}
+
+complete -o filenames -F _cqlpgn cqlpgn
+complete -o filenames -F _cqlpgn_over cqlpgn-over
+complete -o filenames -F _cqlpgn_diagrams cqlpgn-diagrams
