@@ -27,7 +27,6 @@ use crate::tree::{
     above, below, children, lowered, none, of_parents, parents, raised, with_parents,
 };
 use chains::{all_hold, columns_of, none_holds, terms_of};
-use lines::line_numbers;
 use cq_outside::{NoMemory, Steps};
 use cql_syntax::{Chain, Filter, Filters, Form, Kind, Unary};
 use cql_values::headers::{has_text, is_result, rating};
@@ -35,6 +34,7 @@ use cql_values::names::Names;
 use cql_values::numbers::counted;
 use cql_values::value::Value;
 use cql_values::words::directions;
+use lines::line_numbers;
 use pgn_tree::Game;
 use played::played_truths;
 use squares::square_truths;

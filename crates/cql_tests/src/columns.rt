@@ -46,7 +46,8 @@ const GAME: &[u8] = b"[White \"A\"]\n[WhiteElo \"2300\"]\n\n\
 8. Nb3 Qxd1 9. Rxd1 Bg4 10. f3 Be6 11. Nc3 Bd6 12. Be3 b6 13. a4 O-O-O (13... Kf7 14. Rxd6) 14. a5 Kb7 15. e5 Be7 \
 16. Rxd8 Bxd8 17. Ne4 Bxb3 18. cxb3 f5 19. Nd6+ cxd6 1-0\n";
 
-const PAWN: &[u8] = b"[FEN \"4k3/P6p/8/8/8/8/8/4K3 w - - 0 1\"]\n\n1. a8=Q+ Kd7 (1... Kf7 2. Qb7+ Kg6 3. Qe4+ (3. -- h5)) \
+const PAWN: &[u8] =
+    b"[FEN \"4k3/P6p/8/8/8/8/8/4K3 w - - 0 1\"]\n\n1. a8=Q+ Kd7 (1... Kf7 2. Qb7+ Kg6 3. Qe4+ (3. -- h5)) \
 2. Qb7+ Kd6 3. Qb6+ Ke5 *\n";
 
 static QUERIES: [&'static [u8]; 34] = [
@@ -87,12 +88,7 @@ static QUERIES: [&'static [u8]; 34] = [
 ];
 
 // Whether all items hold at a node by the plain evaluator.
-fn holds_plainly(
-    alloc: Global,
-    query: &FlatQuery,
-    game: &Game,
-    node: u32,
-) -> Result<bool, NoMemory>
+fn holds_plainly(alloc: Global, query: &FlatQuery, game: &Game, node: u32) -> Result<bool, NoMemory>
     requires { node < length game.now.nodes }
 {
     if !query.variations && !game.is_main(node) {

@@ -45,7 +45,15 @@ pub(super) fn played_truths<L: Ledger>(
     let origin = written_column(alloc, &played.origin, game, variations, names, &wide, steps)?;
     let goal = written_column(alloc, &played.goal, game, variations, names, live, steps)?;
     let taken = written_column(alloc, &played.taken, game, variations, names, &wide, steps)?;
-    let promoted = written_column(alloc, &played.promoted, game, variations, names, live, steps)?;
+    let promoted = written_column(
+        alloc,
+        &played.promoted,
+        game,
+        variations,
+        names,
+        live,
+        steps,
+    )?;
     let truths = moves_met(
         alloc, game, variations, &origin, &goal, &taken, &promoted, live,
     )?;

@@ -30,16 +30,18 @@ use Rattle.cql_eval.proofs.LinesLaw.{part_flat, part_room}
 use Rattle.cql_eval.proofs.evaluate.+evaluate.Goals as goal
 
 pub chains::all_hold-loop-filter-init : goal.chains::all_hold-loop-filter-init
-chains::all_hold-loop-filter-init g t c = record { left = left_begun (searched_tree c.args.game.now c.args.variations) c.args.live.now _ c.in_ok-left.left.items c.requires.asked c.in_ok-left.ensures (λ n. all_begun (searched_tree c.args.game.now c.args.variations) [] c.args.names.now n c.as_slice-filter-items.result.now); cost = omega arith; rises = omega arith; flat = λ i f h e. filter_flat c.as_slice-filter-items.result.now i f (filters_tree c.args.filters.now) h e c.as_slice-filter-items.ensures.tree c.requires.flat; }
+chains::all_hold-loop-filter-init g t c = record { left = left_begun (searched_tree c.args.game.now c.args.variations) c.args.live.now _ c.in_ok-left.left.items c.requires.asked c.in_ok-left.ensures (λ n. all_begun (searched_tree c.args.game.now c.args.variations) [] c.args.names.now n c.as_slice-filter-items.result.now); cost = omega arith; rises = omega arith; flat = λ i f h e. filter_flat c.as_slice-filter-items.result.now i f (filters_tree c.args.filters.now) h e c.as_slice-filter-items.ensures.tree c.requires.flat }
 
 pub chains::all_hold-loop-filter-preserved : goal.chains::all_hold-loop-filter-preserved
 chains::all_hold-loop-filter-preserved g t c =
     record {
-  left = left_more (searched_tree c.args.game.now c.args.variations) c.args.live.now _ _ c.loop-filter.left.items c.deref.result.now c.deref-in-loop-filter.result.now c.in_ok-left-2.left.items c.in_ok-column.column
-    (value (searched_tree c.args.game.now c.args.variations) [] c.args.names.now (filter_tree c.filter-item.result)) true c.loop-filter.invariant.left c.deref.ensures.value c.deref-in-loop-filter.ensures.value c.in_ok-column.ensures.value c.in_ok-left-2.ensures
-    (λ n. all_more (searched_tree c.args.game.now c.args.variations) [] c.args.names.now n c.as_slice-filter-items.result.now c.loop-filter.filter-index c.filter-item.result c.loop-filter-test.true c.filter-item.is);
-  cost = cost_more (length c.args.game.now.nodes) c.as_slice-filter-items.result.now c.loop-filter.filter-index c.filter-item.result _ c.loop-filter.steps c.evaluate.new.steps c.loop-filter-test.true c.filter-item.is c.loop-filter.invariant.cost c.evaluate.ensures.cost;
-  rises = omega (arith, c.loop-filter.invariant.rises, c.evaluate.ensures.rises); flat = c.loop-filter.invariant.flat; }
+      left = left_more (searched_tree c.args.game.now c.args.variations) c.args.live.now _ _ c.loop-filter.left.items c.deref.result.now c.deref-in-loop-filter.result.now c.in_ok-left-2.left.items c.in_ok-column.column
+          (value (searched_tree c.args.game.now c.args.variations) [] c.args.names.now (filter_tree c.filter-item.result)) true c.loop-filter.invariant.left c.deref.ensures.value c.deref-in-loop-filter.ensures.value c.in_ok-column.ensures.value c.in_ok-left-2.ensures
+          (λ n. all_more (searched_tree c.args.game.now c.args.variations) [] c.args.names.now n c.as_slice-filter-items.result.now c.loop-filter.filter-index c.filter-item.result c.loop-filter-test.true c.filter-item.is);
+      cost = cost_more (length c.args.game.now.nodes) c.as_slice-filter-items.result.now c.loop-filter.filter-index c.filter-item.result _ c.loop-filter.steps c.evaluate.new.steps c.loop-filter-test.true c.filter-item.is c.loop-filter.invariant.cost c.evaluate.ensures.cost;
+      rises = omega (arith, c.loop-filter.invariant.rises, c.evaluate.ensures.rises);
+      flat = c.loop-filter.invariant.flat;
+    }
 
 pub chains::all_hold-returns-clause-value : goal.chains::all_hold-returns-clause-value
 chains::all_hold-returns-clause-value g t c =
@@ -47,16 +49,18 @@ chains::all_hold-returns-clause-value g t c =
     (omega (arith, c.loop-filter-test.false)) c.as_slice-filter-items.ensures.tree c.loop-filter.invariant.left
 
 pub chains::none_holds-loop-filter-init : goal.chains::none_holds-loop-filter-init
-chains::none_holds-loop-filter-init g t c = record { left = left_begun (searched_tree c.args.game.now c.args.variations) c.args.live.now _ c.in_ok-left.left.items c.requires.asked c.in_ok-left.ensures (λ n. none_begun (searched_tree c.args.game.now c.args.variations) [] c.args.names.now n c.as_slice-filter-items.result.now); cost = omega arith; rises = omega arith; flat = λ i f h e. filter_flat c.as_slice-filter-items.result.now i f (filters_tree c.args.filters.now) h e c.as_slice-filter-items.ensures.tree c.requires.flat; }
+chains::none_holds-loop-filter-init g t c = record { left = left_begun (searched_tree c.args.game.now c.args.variations) c.args.live.now _ c.in_ok-left.left.items c.requires.asked c.in_ok-left.ensures (λ n. none_begun (searched_tree c.args.game.now c.args.variations) [] c.args.names.now n c.as_slice-filter-items.result.now); cost = omega arith; rises = omega arith; flat = λ i f h e. filter_flat c.as_slice-filter-items.result.now i f (filters_tree c.args.filters.now) h e c.as_slice-filter-items.ensures.tree c.requires.flat }
 
 pub chains::none_holds-loop-filter-preserved : goal.chains::none_holds-loop-filter-preserved
 chains::none_holds-loop-filter-preserved g t c =
     record {
-  left = left_more (searched_tree c.args.game.now c.args.variations) c.args.live.now _ _ c.loop-filter.left.items c.deref.result.now c.deref-in-loop-filter.result.now c.in_ok-left-2.left.items c.in_ok-column.column
-    (value (searched_tree c.args.game.now c.args.variations) [] c.args.names.now (filter_tree c.filter-item.result)) false c.loop-filter.invariant.left c.deref.ensures.value c.deref-in-loop-filter.ensures.value c.in_ok-column.ensures.value c.in_ok-left-2.ensures
-    (λ n. none_more (searched_tree c.args.game.now c.args.variations) [] c.args.names.now n c.as_slice-filter-items.result.now c.loop-filter.filter-index c.filter-item.result c.loop-filter-test.true c.filter-item.is);
-  cost = cost_more (length c.args.game.now.nodes) c.as_slice-filter-items.result.now c.loop-filter.filter-index c.filter-item.result _ c.loop-filter.steps c.evaluate.new.steps c.loop-filter-test.true c.filter-item.is c.loop-filter.invariant.cost c.evaluate.ensures.cost;
-  rises = omega (arith, c.loop-filter.invariant.rises, c.evaluate.ensures.rises); flat = c.loop-filter.invariant.flat; }
+      left = left_more (searched_tree c.args.game.now c.args.variations) c.args.live.now _ _ c.loop-filter.left.items c.deref.result.now c.deref-in-loop-filter.result.now c.in_ok-left-2.left.items c.in_ok-column.column
+          (value (searched_tree c.args.game.now c.args.variations) [] c.args.names.now (filter_tree c.filter-item.result)) false c.loop-filter.invariant.left c.deref.ensures.value c.deref-in-loop-filter.ensures.value c.in_ok-column.ensures.value c.in_ok-left-2.ensures
+          (λ n. none_more (searched_tree c.args.game.now c.args.variations) [] c.args.names.now n c.as_slice-filter-items.result.now c.loop-filter.filter-index c.filter-item.result c.loop-filter-test.true c.filter-item.is);
+      cost = cost_more (length c.args.game.now.nodes) c.as_slice-filter-items.result.now c.loop-filter.filter-index c.filter-item.result _ c.loop-filter.steps c.evaluate.new.steps c.loop-filter-test.true c.filter-item.is c.loop-filter.invariant.cost c.evaluate.ensures.cost;
+      rises = omega (arith, c.loop-filter.invariant.rises, c.evaluate.ensures.rises);
+      flat = c.loop-filter.invariant.flat;
+    }
 
 pub chains::none_holds-returns-clause-value : goal.chains::none_holds-returns-clause-value
 chains::none_holds-returns-clause-value g t c =
@@ -69,11 +73,11 @@ squares::square_truths-loop-number-init g t c = record { left = left_begun (sear
 pub squares::square_truths-loop-number-preserved : goal.squares::square_truths-loop-number-preserved
 squares::square_truths-loop-number-preserved g t c =
     record {
-  left = square_more (searched_tree c.args.game.now c.args.variations) c.args.live.now c.args.every (shown c.args.squares.now) (λ n s. holds (value (searched_tree c.args.game.now c.args.variations) [] ((c.args.name.now, s) ∷ c.args.names.now) (filter_tree c.args.asked.now) n))
-    c.loop-number.number c.new-square.result c.loop-number.left.items c.in_ok-left-2.left.items c.new-square.ensures c.loop-number.invariant.left c.in_ok-left-2.ensures.value;
-  cost = square_cost (filter_cost (length c.args.game.now.nodes) (filter_tree c.args.asked.now)) c.loop-number.number _ c.loop-number.steps c.square_turn.new.steps c.loop-number-test.true c.loop-number.invariant.cost c.square_turn.ensures.cost;
-  rises = omega (arith, c.loop-number.invariant.rises, c.square_turn.ensures.rises);
-}
+      left = square_more (searched_tree c.args.game.now c.args.variations) c.args.live.now c.args.every (shown c.args.squares.now) (λ n s. holds (value (searched_tree c.args.game.now c.args.variations) [] ((c.args.name.now, s) ∷ c.args.names.now) (filter_tree c.args.asked.now) n))
+          c.loop-number.number c.new-square.result c.loop-number.left.items c.in_ok-left-2.left.items c.new-square.ensures c.loop-number.invariant.left c.in_ok-left-2.ensures.value;
+      cost = square_cost (filter_cost (length c.args.game.now.nodes) (filter_tree c.args.asked.now)) c.loop-number.number _ c.loop-number.steps c.square_turn.new.steps c.loop-number-test.true c.loop-number.invariant.cost c.square_turn.ensures.cost;
+      rises = omega (arith, c.loop-number.invariant.rises, c.square_turn.ensures.rises);
+    }
 
 pub squares::square_truths-returns-clause-value : goal.squares::square_truths-returns-clause-value
 squares::square_truths-returns-clause-value g t c = λ n l.
@@ -166,7 +170,9 @@ pub chains::columns_of-loop-filter-init : goal.chains::columns_of-loop-filter-in
 chains::columns_of-loop-filter-init g t c = record {
   left = columns_begun (searched_tree c.args.game.now c.args.variations) c.args.names.now c.args.live.now c.as_slice-filter-items.result.now c.new-columns.result.items c.new-columns.ensures.items;
   cost = omega arith;
-  rises = omega arith; flat = λ i f h e. filter_flat c.as_slice-filter-items.result.now i f (filters_tree c.args.filters.now) h e c.as_slice-filter-items.ensures.tree c.requires.flat; }
+  rises = omega arith;
+  flat = λ i f h e. filter_flat c.as_slice-filter-items.result.now i f (filters_tree c.args.filters.now) h e c.as_slice-filter-items.ensures.tree c.requires.flat;
+}
 
 pub chains::columns_of-loop-filter-preserved : goal.chains::columns_of-loop-filter-preserved
 chains::columns_of-loop-filter-preserved g t c = record {
@@ -175,7 +181,9 @@ chains::columns_of-loop-filter-preserved g t c = record {
       c.in_ok-column.ensures.value c.in_ok-push.ensures.items;
   cost = cost_more (length c.args.game.now.nodes) c.as_slice-filter-items.result.now c.loop-filter.filter-index c.filter-item.result _ c.loop-filter.steps
       c.evaluate.new.steps c.loop-filter-test.true c.filter-item.is c.loop-filter.invariant.cost c.evaluate.ensures.cost;
-  rises = omega (arith, c.loop-filter.invariant.rises, c.evaluate.ensures.rises); flat = c.loop-filter.invariant.flat; }
+  rises = omega (arith, c.loop-filter.invariant.rises, c.evaluate.ensures.rises);
+  flat = c.loop-filter.invariant.flat;
+}
 
 pub chains::columns_of-returns-clause-value : goal.chains::columns_of-returns-clause-value
 chains::columns_of-returns-clause-value g t c =
@@ -192,7 +200,9 @@ pub chains::terms_of-loop-term-init : goal.chains::terms_of-loop-term-init
 chains::terms_of-loop-term-init g t c = record {
   left = terms_begun (searched_tree c.args.game.now c.args.variations) c.args.names.now c.args.live.now c.as_slice-term-items.result.now c.new-columns.result.items c.new-columns.ensures.items;
   cost = omega arith;
-  rises = omega arith; flat = λ i f h e. term_flat c.as_slice-term-items.result.now i f (terms_tree c.args.terms.now) h e c.as_slice-term-items.ensures.tree c.requires.flat; }
+  rises = omega arith;
+  flat = λ i f h e. term_flat c.as_slice-term-items.result.now i f (terms_tree c.args.terms.now) h e c.as_slice-term-items.ensures.tree c.requires.flat;
+}
 
 pub chains::terms_of-loop-term-preserved : goal.chains::terms_of-loop-term-preserved
 chains::terms_of-loop-term-preserved g t c = record {
@@ -201,7 +211,9 @@ chains::terms_of-loop-term-preserved g t c = record {
       c.in_ok-column.ensures.value c.in_ok-push.ensures.items;
   cost = terms_cost_more (length c.args.game.now.nodes) c.as_slice-term-items.result.now c.loop-term.term-index c.term-item.result _ c.loop-term.steps
       c.evaluate.new.steps c.loop-term-test.true c.term-item.is c.loop-term.invariant.cost c.evaluate.ensures.cost;
-  rises = omega (arith, c.loop-term.invariant.rises, c.evaluate.ensures.rises); flat = c.loop-term.invariant.flat; }
+  rises = omega (arith, c.loop-term.invariant.rises, c.evaluate.ensures.rises);
+  flat = c.loop-term.invariant.flat;
+}
 
 pub chains::terms_of-returns-clause-value : goal.chains::terms_of-returns-clause-value
 chains::terms_of-returns-clause-value g t c =
@@ -230,8 +242,8 @@ lines::put_parts-loop-part-init g t c = record {
 pub lines::put_parts-loop-part-preserved : goal.lines::put_parts-loop-part-preserved
 lines::put_parts-loop-part-preserved g t c =
     let more = table_more (searched_tree c.args.game.now c.args.variations) c.args.names.now c.args.first c.as_slice-part-items.result.now c.loop-part.part-index c.part-item.result
-        c.loop-part.at c.in_ok-at.at _ c.loop-part.table c.put_body.new.table c.loop-part-test.true c.part-item.is
-        c.in_ok-at.ensures.next c.in_ok-at.ensures.value c.in_ok-at.ensures.others c.loop-part.invariant.table in
+    c.loop-part.at c.in_ok-at.at _ c.loop-part.table c.put_body.new.table c.loop-part-test.true c.part-item.is
+    c.in_ok-at.ensures.next c.in_ok-at.ensures.value c.in_ok-at.ensures.others c.loop-part.invariant.table in
     record {
       table = more;
       cost = parts_cost_more (length c.args.game.now.nodes) c.as_slice-part-items.result.now c.loop-part.part-index c.part-item.result _ c.loop-part.steps
@@ -266,7 +278,7 @@ lines::put_parts-returns-in_err-at-clause-cost g t c =
 pub lines::put_body-put_column-requires-clause-atom : goal.lines::put_body-put_column-requires-clause-atom
 lines::put_body-put_column-requires-clause-atom g t c =
     let form : body_tree c.args.body.now ≡ atom (filter_tree c.deref.result.now) =
-        ap body_tree c.in-Atom.is ∙ ap (λ p. atom (filter_tree p)) (sym c.deref.ensures) in
+    ap body_tree c.in-Atom.is ∙ ap (λ p. atom (filter_tree p)) (sym c.deref.ensures) in
     omega (arith, c.requires.room.atoms, ap body_atoms form)
 
 pub lines::put_body-put_column-requires-clause-clear : goal.lines::put_body-put_column-requires-clause-clear
@@ -302,8 +314,13 @@ lines::line_numbers-line_values-requires-clause-atoms g t c =
 pub lines::line_numbers-line_values-requires-clause-nodes : goal.lines::line_numbers-line_values-requires-clause-nodes
 lines::line_numbers-line_values-requires-clause-nodes g t c =
     let spots = ap length c.in_ok-shape.ensures.spots in
-    omega (arith, c.in_ok-table.ensures.room.nodes, c.in_ok-put_parts.ensures.others.nodes, spots,
-    length-map-range_with_len (spot_at (searched_tree c.args.game.now c.args.variations)) 0 (length c.args.game.now.nodes))
+    omega (
+      arith,
+      c.in_ok-table.ensures.room.nodes,
+      c.in_ok-put_parts.ensures.others.nodes,
+      spots,
+      length-map-range_with_len (spot_at (searched_tree c.args.game.now c.args.variations)) 0 (length c.args.game.now.nodes),
+    )
 
 pub lines::line_numbers-returns-clause-value : goal.lines::line_numbers-returns-clause-value
 lines::line_numbers-returns-clause-value g t c = λ n l.

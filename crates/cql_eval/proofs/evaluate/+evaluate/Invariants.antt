@@ -18,9 +18,9 @@ use Rattle.cql_eval.proofs.evaluate.+evaluate.Given as goal
 abbrev pub invariant-chains::all_hold-loop-filter : goal.invariant-chains::all_hold-loop-filter
 invariant-chains::all_hold-loop-filter g l = record {
   left : LeftOf (searched_tree l.game l.variations) l.live
-    (λ n. list_all holds (values (searched_tree l.game l.variations) [] l.names (filter_trees (take l.filter-index l.filter-items)) n)) l.left.items;
+      (λ n. list_all holds (values (searched_tree l.game l.variations) [] l.names (filter_trees (take l.filter-index l.filter-items)) n)) l.left.items;
   cost : l.steps + filters_cost (length l.game.nodes) (filter_trees (drop l.filter-index l.filter-items))
-    ≤ l.fn.steps + filters_cost (length l.game.nodes) (filter_trees l.filter-items);
+      ≤ l.fn.steps + filters_cost (length l.game.nodes) (filter_trees l.filter-items);
   rises : l.fn.steps ≤ l.steps;
   flat : (i : ℕ) (f : Filter) → i < length l.filter-items → f ≡ get_or l.filter-items i f → IsFlat (filter_tree f);
 }
@@ -28,9 +28,9 @@ invariant-chains::all_hold-loop-filter g l = record {
 abbrev pub invariant-chains::none_holds-loop-filter : goal.invariant-chains::none_holds-loop-filter
 invariant-chains::none_holds-loop-filter g l = record {
   left : LeftOf (searched_tree l.game l.variations) l.live
-    (λ n. not (list_any holds (values (searched_tree l.game l.variations) [] l.names (filter_trees (take l.filter-index l.filter-items)) n))) l.left.items;
+      (λ n. not (list_any holds (values (searched_tree l.game l.variations) [] l.names (filter_trees (take l.filter-index l.filter-items)) n))) l.left.items;
   cost : l.steps + filters_cost (length l.game.nodes) (filter_trees (drop l.filter-index l.filter-items))
-    ≤ l.fn.steps + filters_cost (length l.game.nodes) (filter_trees l.filter-items);
+      ≤ l.fn.steps + filters_cost (length l.game.nodes) (filter_trees l.filter-items);
   rises : l.fn.steps ≤ l.steps;
   flat : (i : ℕ) (f : Filter) → i < length l.filter-items → f ≡ get_or l.filter-items i f → IsFlat (filter_tree f);
 }
@@ -38,9 +38,9 @@ invariant-chains::none_holds-loop-filter g l = record {
 abbrev pub invariant-chains::columns_of-loop-filter : goal.invariant-chains::columns_of-loop-filter
 invariant-chains::columns_of-loop-filter g l = record {
   left : Where l.live (λ n. all_shown l.columns.items n
-    ≡ values (searched_tree l.game l.variations) [] l.names (filter_trees (take l.filter-index l.filter-items)) n);
+      ≡ values (searched_tree l.game l.variations) [] l.names (filter_trees (take l.filter-index l.filter-items)) n);
   cost : l.steps + filters_cost (length l.game.nodes) (filter_trees (drop l.filter-index l.filter-items))
-    ≤ l.fn.steps + filters_cost (length l.game.nodes) (filter_trees l.filter-items);
+      ≤ l.fn.steps + filters_cost (length l.game.nodes) (filter_trees l.filter-items);
   rises : l.fn.steps ≤ l.steps;
   flat : (i : ℕ) (f : Filter) → i < length l.filter-items → f ≡ get_or l.filter-items i f → IsFlat (filter_tree f);
 }
@@ -48,9 +48,9 @@ invariant-chains::columns_of-loop-filter g l = record {
 abbrev pub invariant-chains::terms_of-loop-term : goal.invariant-chains::terms_of-loop-term
 invariant-chains::terms_of-loop-term g l = record {
   left : Where l.live (λ n. terms_shown l.columns.items n
-    ≡ term_values (searched_tree l.game l.variations) [] l.names (term_trees (take l.term-index l.term-items)) n);
+      ≡ term_values (searched_tree l.game l.variations) [] l.names (term_trees (take l.term-index l.term-items)) n);
   cost : l.steps + terms_cost (length l.game.nodes) (term_trees (drop l.term-index l.term-items))
-    ≤ l.fn.steps + terms_cost (length l.game.nodes) (term_trees l.term-items);
+      ≤ l.fn.steps + terms_cost (length l.game.nodes) (term_trees l.term-items);
   rises : l.fn.steps ≤ l.steps;
   flat : (i : ℕ) (t : Term) → i < length l.term-items → t ≡ get_or l.term-items i t → IsFlat (filter_tree t.filter);
 }
@@ -58,10 +58,10 @@ invariant-chains::terms_of-loop-term g l = record {
 abbrev pub invariant-squares::square_truths-loop-number : goal.invariant-squares::square_truths-loop-number
 invariant-squares::square_truths-loop-number g l = record {
   left : LeftOf (searched_tree l.game l.variations) l.live
-    (unsettled_by l.every (shown l.squares)
-    (λ n s. holds (value (searched_tree l.game l.variations) [] ((l.name, s) ∷ l.names) (filter_tree l.asked) n)) l.number) l.left.items;
+      (unsettled_by l.every (shown l.squares)
+      (λ n s. holds (value (searched_tree l.game l.variations) [] ((l.name, s) ∷ l.names) (filter_tree l.asked) n)) l.number) l.left.items;
   cost : l.steps + (64 - l.number) * filter_cost (length l.game.nodes) (filter_tree l.asked)
-    ≤ l.fn.steps + 64 * filter_cost (length l.game.nodes) (filter_tree l.asked);
+      ≤ l.fn.steps + 64 * filter_cost (length l.game.nodes) (filter_tree l.asked);
   rises : l.fn.steps ≤ l.steps;
 }
 
@@ -69,9 +69,9 @@ abbrev pub invariant-lines::put_parts-loop-part : goal.invariant-lines::put_part
 invariant-lines::put_parts-loop-part g l = record {
   table : TableSoFar (searched_tree l.game l.variations) l.names l.first l.part-items l.part-index l.at l.fn.table l.table;
   cost : l.steps + parts_cost (length l.game.nodes) (part_trees (drop l.part-index l.part-items))
-    ≤ l.fn.steps + parts_cost (length l.game.nodes) (part_trees l.part-items);
+      ≤ l.fn.steps + parts_cost (length l.game.nodes) (part_trees l.part-items);
   rises : l.fn.steps ≤ l.steps;
   flat : (i : ℕ) (c : Constituent) → i < length l.part-items → c ≡ get_or l.part-items i c → IsFlatBody (body_tree c.body);
   room : (c : Constituent) → l.part-index < length l.part-items → c ≡ get_or l.part-items l.part-index c
-    → HasRoom (length l.game.nodes) l.at (l.at + body_atoms (body_tree c.body)) l.table;
+      → HasRoom (length l.game.nodes) l.at (l.at + body_atoms (body_tree c.body)) l.table;
 }

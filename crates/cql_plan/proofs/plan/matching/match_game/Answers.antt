@@ -33,7 +33,7 @@ pub returns-clause-least : goal.returns-clause-least
 returns-clause-least g c = λ passes.
     let plan = c.args.plan.now in
     let found = c.find.ensures.least
-        (passes_is (query_tree plan.query.query) c.args.game.now plan.flat.variations (filters_tree plan.flat.items) plan.items plan.variations ∙ passes) in
+    (passes_is (query_tree plan.query.query) c.args.game.now plan.flat.variations (filters_tree plan.flat.items) plan.items plan.variations ∙ passes) in
     rw plan.variations at found
 
 pub returns-clause-most : goal.returns-clause-most
