@@ -121,19 +121,20 @@ fn push_node(shape: &mut Shape, game: &Game, variations: bool, k: u32) -> Result
     Ok(())
 }
 
-/// A table for the atoms of parts in a row, which are so many, at the nodes of a game; none of them holds anywhere.
+/// A table for the atoms of parts in a row at the nodes of a game; none of them holds anywhere.
 pub(crate) fn empty_table(
     alloc: Global,
-    _parts: &Constituents,
-    atoms: u32,
+    parts: &Constituents,
     game: &Game,
 ) -> Result<AtomTable, NoMemory>
     requires tree { IsTree game.now.nodes }
-    requires few { atoms ≤ 64 }
-    requires count { atoms ≡ costs.parts_atoms (parts_tree _parts.now) }
-    ensures atoms { IfOk result (λ table. atoms_of table ≡ atoms) }
-    ensures room { IfOk result (λ table. HasRoom (length game.now.nodes) 0 (0 + costs.parts_atoms (parts_tree _parts.now)) table) }
+    requires few { costs.parts_atoms (parts_tree parts.now) ≤ 64 }
+    ensures atoms { IfOk result (λ table. atoms_of table ≡ costs.parts_atoms (parts_tree parts.now)) }
+    ensures room { IfOk result (λ table. HasRoom (length game.now.nodes) 0 (0 + costs.parts_atoms (parts_tree parts.now)) table) }
 {
+    let mut atoms = 0;
+    // The pattern numbers the atoms, and so counts them.
+    let _pattern = parts_pattern(alloc, parts, &mut atoms)?;
     let table = AtomTable::new(alloc, atoms, game.len())?;
     Ok(table)
 }

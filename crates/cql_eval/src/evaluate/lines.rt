@@ -45,13 +45,13 @@ pub(super) fn line_numbers<L: Ledger>(
 {
     let all = all_nodes(alloc, game, variations)?;
     let parts = &line.parts;
-    let mut atoms = 0;
-    let pattern = parts_pattern(alloc, parts, &mut atoms)?;
-    let automaton = Automaton::build(alloc, &pattern)?;
-    let mut table = empty_table(alloc, parts, atoms, game)?;
+    let mut table = empty_table(alloc, parts, game)?;
     put_parts(
         alloc, parts, 0, &mut table, game, variations, names, &all, steps,
     )?;
+    let mut atoms = 0;
+    let pattern = parts_pattern(alloc, parts, &mut atoms)?;
+    let automaton = Automaton::build(alloc, &pattern)?;
     let shape = shape_of(
         alloc,
         game,

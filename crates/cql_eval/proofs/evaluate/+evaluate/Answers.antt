@@ -1,4 +1,4 @@
-use Rattle.std.proofs.Common.{rules, map, ◌≡◌, [], ◌∷◌, ◌∙◌, ap, ap₂, sym, subst, arith, refl, length, not, true, false}
+use Rattle.std.proofs.Common.{◌+◌, rules, map, ◌≡◌, [], ◌∷◌, ◌∙◌, ap, ap₂, sym, subst, arith, refl, length, not, true, false}
 use Rattle.std.specs.Prelude.{option_map, pos, IfOk, ◌<◌}
 use Rattle.std.specs.List.{list_all, list_any}
 use Rattle.cql_syntax.specs.Meaning.{value, values, unary_of}
@@ -292,6 +292,9 @@ lines::put_body-returns-in_ok-column-in-Atom-clause-value g t c =
     (value (searched_tree c.args.game.now c.args.variations) [] c.args.names.now (filter_tree c.deref.result.now)) c.args.all.now c.args.all.now c.requires.all refl
     c.in_ok-column-in-Atom.ensures.value c.put_column.ensures.put)
 
+pub lines::line_numbers-empty_table-requires-clause-few : goal.lines::line_numbers-empty_table-requires-clause-few
+lines::line_numbers-empty_table-requires-clause-few g t c = omega (arith, few_atoms _ (line_flat c.args.line.now c.requires.flat).0)
+
 pub lines::line_numbers-parts_pattern-requires : goal.lines::line_numbers-parts_pattern-requires
 lines::line_numbers-parts_pattern-requires g t c = omega (arith, few_atoms _ (line_flat c.args.line.now c.requires.flat).0)
 
@@ -354,6 +357,12 @@ lines::line_numbers-returns-in_err-values-clause-cost g t c =
 
 pub lines::line_numbers-returns-in_err-shape-clause-cost : goal.lines::line_numbers-returns-in_err-shape-clause-cost
 lines::line_numbers-returns-in_err-shape-clause-cost g t c = atoms_within (length c.args.game.now.nodes) c.args.line.now _ c.put_parts.new.steps c.put_parts.ensures.cost
+
+pub lines::line_numbers-returns-in_err-pattern-clause-cost : goal.lines::line_numbers-returns-in_err-pattern-clause-cost
+lines::line_numbers-returns-in_err-pattern-clause-cost g t c = atoms_within (length c.args.game.now.nodes) c.args.line.now _ c.put_parts.new.steps c.put_parts.ensures.cost
+
+pub lines::line_numbers-returns-in_err-automaton-clause-cost : goal.lines::line_numbers-returns-in_err-automaton-clause-cost
+lines::line_numbers-returns-in_err-automaton-clause-cost g t c = atoms_within (length c.args.game.now.nodes) c.args.line.now _ c.put_parts.new.steps c.put_parts.ensures.cost
 
 pub lines::line_numbers-returns-in_err-put_parts-clause-cost : goal.lines::line_numbers-returns-in_err-put_parts-clause-cost
 lines::line_numbers-returns-in_err-put_parts-clause-cost g t c = atoms_within (length c.args.game.now.nodes) c.args.line.now _ c.put_parts.new.steps c.put_parts.ensures.cost
