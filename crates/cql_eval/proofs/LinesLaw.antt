@@ -472,6 +472,9 @@ line_flat (Line' back primary extent cs) h = (omega (arith, h), omega (arith, h)
 pub line_parts_flat : (l : OneLine) → IsFlatLine (line_tree l) → AreFlatParts (parts_tree (out-Line l).parts)
 line_parts_flat l h = (line_flat l h).1
 
+pub line_few : (l : OneLine) → IsFlatLine (line_tree l) → parts_atoms (parts_tree (out-Line l).parts) ≤ 64
+line_few l h = omega (arith, few_atoms (parts_tree (out-Line l).parts) (line_flat l h).0)
+
 line_costs : (nodes : ℕ) (l : OneLine) → line_cost nodes (line_tree l) ≡ parts_atoms (parts_tree (out-Line l).parts) * nodes + parts_cost nodes (parts_tree (out-Line l).parts)
 unfolding filter_cost out-Line Carrier.out
 line_costs nodes (Line' back primary extent cs) = refl

@@ -8,6 +8,7 @@ ghost use Rattle.cql_values.specs.Trees.{searched_tree};
 ghost use Rattle.cql_eval.specs.Columns.{AreAsked, Where};
 ghost use Rattle.cql_eval.specs.Costs.{line_cost, parts_cost, body_cost, parts_atoms, body_atoms};
 ghost use Rattle.cql_eval.specs.FlatTrees.{IsFlatLine, AreFlatParts, IsFlatBody};
+ghost use Rattle.cql_lines.specs.Tables.{atoms_of, nodes_of};
 ghost use Rattle.cql_eval.specs.LineAtoms as spec;
 ghost use Rattle.cql_eval.specs.LineAtoms.{AreAllAsked, AreTabled, HasRoom, IsFilledIn};
 
@@ -25,7 +26,7 @@ use std::sync::ledger::Ledger;
 /// The greatest length of a path from each node that a line's pattern spells: its atoms are asked for at all searched nodes, and the
 /// automaton of its pattern then answers all nodes at once.
 #[cycle(evaluate)]
-#[tactic(auto, using(crate::proofs::LinesLaw::line_parts_flat))]
+#[tactic(auto, using(crate::proofs::LinesLaw::line_parts_flat, crate::proofs::LinesLaw::line_few))]
 pub(super) fn line_numbers<L: Ledger>(
     alloc: Global,
     line: &Line,
@@ -43,12 +44,8 @@ pub(super) fn line_numbers<L: Ledger>(
     ensures cost { steps.new ≤ steps.old + line_cost (length game.now.nodes) (line_tree line.now) }
     ensures rises { steps.old ≤ steps.new }
 {
-    let all = all_nodes(alloc, game, variations)?;
     let parts = &line.parts;
-    let mut table = empty_table(alloc, parts, game)?;
-    put_parts(
-        alloc, parts, 0, &mut table, game, variations, names, &all, steps,
-    )?;
+    let table = filled_table(alloc, parts, game, variations, names, steps)?;
     let mut atoms = 0;
     let pattern = parts_pattern(alloc, parts, &mut atoms)?;
     let automaton = Automaton::build(alloc, &pattern)?;
@@ -63,6 +60,35 @@ pub(super) fn line_numbers<L: Ledger>(
     let values = line_values(alloc, &automaton, &table, &shape, steps)?;
     let numbers = wide_numbers(alloc, values.as_slice())?;
     Ok(numbers)
+}
+
+// The table of the atoms of parts in a row, each of which is asked for at all searched nodes.
+#[cycle(evaluate)]
+fn filled_table<L: Ledger>(
+    alloc: Global,
+    parts: &Constituents,
+    game: &Game,
+    variations: bool,
+    names: &Names,
+    steps: &mut Steps<L>,
+) -> Result<AtomTable, NoMemory>
+    requires tree { IsTree game.now.nodes }
+    requires flat { AreFlatParts (parts_tree parts.now) }
+    requires few { parts_atoms (parts_tree parts.now) ≤ 64 }
+    ensures value { IfOk result (λ table. AreTabled (searched_tree game.now variations) table (0 + parts_atoms (parts_tree parts.now))
+        (spec.parts_numbered 0 (parts_tree parts.now))
+        (meaning.pattern (searched_tree game.now variations) [] names.now (parts_tree parts.now))) }
+    ensures atoms { IfOk result (λ table. atoms_of table ≡ parts_atoms (parts_tree parts.now)) }
+    ensures nodes { IfOk result (λ table. nodes_of table ≡ length game.now.nodes) }
+    ensures cost { steps.new ≤ steps.old + parts_cost (length game.now.nodes) (parts_tree parts.now) }
+    ensures rises { steps.old ≤ steps.new }
+{
+    let all = all_nodes(alloc, game, variations)?;
+    let mut table = empty_table(alloc, parts, game)?;
+    put_parts(
+        alloc, parts, 0, &mut table, game, variations, names, &all, steps,
+    )?;
+    Ok(table)
 }
 
 // Puts the atoms of parts in a row into a table, with the numbers from the first on, and answers the number after them.

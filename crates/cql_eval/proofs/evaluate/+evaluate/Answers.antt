@@ -292,9 +292,6 @@ lines::put_body-returns-in_ok-column-in-Atom-clause-value g t c =
     (value (searched_tree c.args.game.now c.args.variations) [] c.args.names.now (filter_tree c.deref.result.now)) c.args.all.now c.args.all.now c.requires.all refl
     c.in_ok-column-in-Atom.ensures.value c.put_column.ensures.put)
 
-pub lines::line_numbers-empty_table-requires-clause-few : goal.lines::line_numbers-empty_table-requires-clause-few
-lines::line_numbers-empty_table-requires-clause-few g t c = omega (arith, few_atoms _ (line_flat c.args.line.now c.requires.flat).0)
-
 pub lines::line_numbers-parts_pattern-requires : goal.lines::line_numbers-parts_pattern-requires
 lines::line_numbers-parts_pattern-requires g t c = omega (arith, few_atoms _ (line_flat c.args.line.now c.requires.flat).0)
 
@@ -304,23 +301,18 @@ lines::line_numbers-build-requires g t c = record {
       (line_flat c.args.line.now c.requires.flat).0;
 }
 
-pub lines::line_numbers-empty_table-requires-clause-few : goal.lines::line_numbers-empty_table-requires-clause-few
-lines::line_numbers-empty_table-requires-clause-few g t c =
-    omega (arith, few_atoms _ (line_flat c.args.line.now c.requires.flat).0, c.in_ok-pattern.ensures.next)
-
 pub lines::line_numbers-line_values-requires-clause-atoms : goal.lines::line_numbers-line_values-requires-clause-atoms
 lines::line_numbers-line_values-requires-clause-atoms g t c =
-    c.in_ok-automaton.ensures.atoms (atoms_of c.put_parts.new.table)
-    (atoms_below (parts_tree (out-Line c.args.line.now).parts) (pattern_tree c.in_ok-pattern.pattern) (atoms_of c.put_parts.new.table) c.in_ok-pattern.ensures.pattern
-    (omega (arith, c.in_ok-table.ensures.atoms, c.in_ok-pattern.ensures.next, c.in_ok-put_parts.ensures.others.atoms)))
+    c.in_ok-automaton.ensures.atoms (atoms_of c.in_ok-table.table)
+    (atoms_below (parts_tree (out-Line c.args.line.now).parts) (pattern_tree c.in_ok-pattern.pattern) (atoms_of c.in_ok-table.table) c.in_ok-pattern.ensures.pattern
+    (omega (arith, c.in_ok-table.ensures.atoms, c.in_ok-pattern.ensures.next)))
 
 pub lines::line_numbers-line_values-requires-clause-nodes : goal.lines::line_numbers-line_values-requires-clause-nodes
 lines::line_numbers-line_values-requires-clause-nodes g t c =
     let spots = ap length c.in_ok-shape.ensures.spots in
     omega (
       arith,
-      c.in_ok-table.ensures.room.nodes,
-      c.in_ok-put_parts.ensures.others.nodes,
+      c.in_ok-table.ensures.nodes,
       spots,
       length-map-range_with_len (spot_at (searched_tree c.args.game.now c.args.variations)) 0 (length c.args.game.now.nodes),
     )
@@ -331,41 +323,41 @@ lines::line_numbers-returns-clause-value g t c = λ n l.
     let low : n < length c.args.game.now.nodes = omega (arith, inside, c.requires.asked.count) in
     let spots = ap length c.in_ok-shape.ensures.spots in
     numbers_are (searched_tree c.args.game.now c.args.variations) c.requires.tree c.args.names.now c.args.line.now (spots_of c.in_ok-shape.shape) _ _ _ c.in_ok-shape.ensures.spots
-    c.in_ok-shape.ensures.way.0 c.in_ok-shape.ensures.way.1 c.in_ok-shape.ensures.way.2 c.put_parts.new.table
-    (pattern_tree c.in_ok-pattern.pattern) c.in_ok-pattern.ensures.pattern c.in_ok-put_parts.ensures.value c.in_ok-numbers.numbers.items
+    c.in_ok-shape.ensures.way.0 c.in_ok-shape.ensures.way.1 c.in_ok-shape.ensures.way.2 c.in_ok-table.table
+    (pattern_tree c.in_ok-pattern.pattern) c.in_ok-pattern.ensures.pattern c.in_ok-table.ensures.value c.in_ok-numbers.numbers.items
     c.in_ok-values.values.items (c.in_ok-numbers.ensures ∙ ap (map (option_map pos)) c.as_slice.ensures.value) n (c.requires.asked.searched n l, low)
     (c.in_ok-values.ensures.values (pattern_tree c.in_ok-pattern.pattern) c.in_ok-automaton.ensures.automaton n
     (omega (arith, low, spots, length-map-range_with_len (spot_at (searched_tree c.args.game.now c.args.variations)) 0 (length c.args.game.now.nodes))))
 
 pub lines::line_numbers-returns-clause-cost : goal.lines::line_numbers-returns-clause-cost
 lines::line_numbers-returns-clause-cost g t c =
-    looks_in (searched_tree c.args.game.now c.args.variations) c.args.line.now _ c.put_parts.new.steps c.line_values.new.steps (atoms_of c.put_parts.new.table) (spots_of c.in_ok-shape.shape)
-    c.in_ok-shape.ensures.spots (omega (arith, c.in_ok-table.ensures.atoms, c.in_ok-pattern.ensures.next, c.in_ok-put_parts.ensures.others.atoms))
-    c.put_parts.ensures.cost c.line_values.ensures.cost
+    looks_in (searched_tree c.args.game.now c.args.variations) c.args.line.now _ c.filled_table.new.steps c.line_values.new.steps (atoms_of c.in_ok-table.table) (spots_of c.in_ok-shape.shape)
+    c.in_ok-shape.ensures.spots (omega (arith, c.in_ok-table.ensures.atoms, c.in_ok-pattern.ensures.next))
+    c.filled_table.ensures.cost c.line_values.ensures.cost
 
 pub lines::line_numbers-returns-in_err-numbers-clause-cost : goal.lines::line_numbers-returns-in_err-numbers-clause-cost
 lines::line_numbers-returns-in_err-numbers-clause-cost g t c =
-    looks_in (searched_tree c.args.game.now c.args.variations) c.args.line.now _ c.put_parts.new.steps c.line_values.new.steps (atoms_of c.put_parts.new.table) (spots_of c.in_ok-shape.shape)
-    c.in_ok-shape.ensures.spots (omega (arith, c.in_ok-table.ensures.atoms, c.in_ok-pattern.ensures.next, c.in_ok-put_parts.ensures.others.atoms))
-    c.put_parts.ensures.cost c.line_values.ensures.cost
+    looks_in (searched_tree c.args.game.now c.args.variations) c.args.line.now _ c.filled_table.new.steps c.line_values.new.steps (atoms_of c.in_ok-table.table) (spots_of c.in_ok-shape.shape)
+    c.in_ok-shape.ensures.spots (omega (arith, c.in_ok-table.ensures.atoms, c.in_ok-pattern.ensures.next))
+    c.filled_table.ensures.cost c.line_values.ensures.cost
 
 pub lines::line_numbers-returns-in_err-values-clause-cost : goal.lines::line_numbers-returns-in_err-values-clause-cost
 lines::line_numbers-returns-in_err-values-clause-cost g t c =
-    looks_in (searched_tree c.args.game.now c.args.variations) c.args.line.now _ c.put_parts.new.steps c.line_values.new.steps (atoms_of c.put_parts.new.table) (spots_of c.in_ok-shape.shape)
-    c.in_ok-shape.ensures.spots (omega (arith, c.in_ok-table.ensures.atoms, c.in_ok-pattern.ensures.next, c.in_ok-put_parts.ensures.others.atoms))
-    c.put_parts.ensures.cost c.line_values.ensures.cost
+    looks_in (searched_tree c.args.game.now c.args.variations) c.args.line.now _ c.filled_table.new.steps c.line_values.new.steps (atoms_of c.in_ok-table.table) (spots_of c.in_ok-shape.shape)
+    c.in_ok-shape.ensures.spots (omega (arith, c.in_ok-table.ensures.atoms, c.in_ok-pattern.ensures.next))
+    c.filled_table.ensures.cost c.line_values.ensures.cost
 
 pub lines::line_numbers-returns-in_err-shape-clause-cost : goal.lines::line_numbers-returns-in_err-shape-clause-cost
-lines::line_numbers-returns-in_err-shape-clause-cost g t c = atoms_within (length c.args.game.now.nodes) c.args.line.now _ c.put_parts.new.steps c.put_parts.ensures.cost
+lines::line_numbers-returns-in_err-shape-clause-cost g t c = atoms_within (length c.args.game.now.nodes) c.args.line.now _ c.filled_table.new.steps c.filled_table.ensures.cost
 
 pub lines::line_numbers-returns-in_err-pattern-clause-cost : goal.lines::line_numbers-returns-in_err-pattern-clause-cost
-lines::line_numbers-returns-in_err-pattern-clause-cost g t c = atoms_within (length c.args.game.now.nodes) c.args.line.now _ c.put_parts.new.steps c.put_parts.ensures.cost
+lines::line_numbers-returns-in_err-pattern-clause-cost g t c = atoms_within (length c.args.game.now.nodes) c.args.line.now _ c.filled_table.new.steps c.filled_table.ensures.cost
 
 pub lines::line_numbers-returns-in_err-automaton-clause-cost : goal.lines::line_numbers-returns-in_err-automaton-clause-cost
-lines::line_numbers-returns-in_err-automaton-clause-cost g t c = atoms_within (length c.args.game.now.nodes) c.args.line.now _ c.put_parts.new.steps c.put_parts.ensures.cost
+lines::line_numbers-returns-in_err-automaton-clause-cost g t c = atoms_within (length c.args.game.now.nodes) c.args.line.now _ c.filled_table.new.steps c.filled_table.ensures.cost
 
-pub lines::line_numbers-returns-in_err-put_parts-clause-cost : goal.lines::line_numbers-returns-in_err-put_parts-clause-cost
-lines::line_numbers-returns-in_err-put_parts-clause-cost g t c = atoms_within (length c.args.game.now.nodes) c.args.line.now _ c.put_parts.new.steps c.put_parts.ensures.cost
+pub lines::line_numbers-returns-in_err-table-clause-cost : goal.lines::line_numbers-returns-in_err-table-clause-cost
+lines::line_numbers-returns-in_err-table-clause-cost g t c = atoms_within (length c.args.game.now.nodes) c.args.line.now _ c.filled_table.new.steps c.filled_table.ensures.cost
 
 -- where no node is asked for
 
