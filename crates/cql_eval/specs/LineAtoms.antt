@@ -11,6 +11,8 @@ use Rattle.cql_syntax.specs.Meaning.{marked}
 use Rattle.cql_syntax.specs.TabledLines.{Tabled, IsAsked}
 use Rattle.cql_syntax.specs.Trees.{PartTrees, no_parts, more_parts, BodyTree, atom, group}
 use Rattle.cql_syntax.specs.Values.{Value}
+use Rattle.cql_syntax.specs.TreeOf.{parts_tree}
+use Rattle.cql_syntax.specs.declared.tree.Line.{Line as OneLine, out-Line}
 use Rattle.cql_syntax.specs.declared.extents.Extent.{Extent}
 use Rattle.cql_syntax.specs.declared.extents.Extent.TheVariants.{Any, Within}
 use Rattle.cql_eval.specs.Columns.{is_live, AreAsked}
@@ -20,6 +22,10 @@ use Rattle.cql_eval.specs.Costs.{body_atoms}
 pub record AreAllAsked (tree : SearchedTree) (all : List Bool) : Type 0 where
   pub asked : AreAsked tree all
   pub covers : (n : ℕ) → IsAsked tree n → is_live all n ≡ true
+
+-- the parts of a line
+abbrev pub parts_within : OneLine → PartTrees
+parts_within l = parts_tree (out-Line l).parts
 
 -- the pattern whose atoms have the numbers from k on, from left to right
 abbrev mutual

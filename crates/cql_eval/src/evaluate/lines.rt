@@ -1,5 +1,5 @@
 //! The numbers of a line.
-ghost use Rattle.std.specs.Prelude.{◌≡◌, ◌+◌, ◌≤◌, [], length, get_or, None, IfOk, OnOk};
+ghost use Rattle.std.specs.Prelude.{◌≡◌, ◌+◌, ◌≤◌, [], length, get_or, None, IfOk, OnOk, true};
 ghost use Rattle.cq_position.specs.Games.{IsTree};
 ghost use Rattle.cql_syntax.specs.Meaning as meaning;
 ghost use Rattle.cql_syntax.specs.TreeOf.{body_tree, filter_tree, line_tree, parts_tree};
@@ -26,7 +26,6 @@ use std::sync::ledger::Ledger;
 /// The greatest length of a path from each node that a line's pattern spells: its atoms are asked for at all searched nodes, and the
 /// automaton of its pattern then answers all nodes at once.
 #[cycle(evaluate)]
-#[tactic(auto, using(crate::proofs::LinesLaw::line_parts_flat, crate::proofs::LinesLaw::line_few))]
 pub(super) fn line_numbers<L: Ledger>(
     alloc: Global,
     line: &Line,
@@ -44,6 +43,7 @@ pub(super) fn line_numbers<L: Ledger>(
     ensures cost { steps.new ≤ steps.old + line_cost (length game.now.nodes) (line_tree line.now) }
     ensures rises { steps.old ≤ steps.new }
 {
+    prove!(has_flat_parts(line));
     let parts = &line.parts;
     let table = filled_table(alloc, parts, game, variations, names, steps)?;
     let mut atoms = 0;
@@ -60,6 +60,17 @@ pub(super) fn line_numbers<L: Ledger>(
     let values = line_values(alloc, &automaton, &table, &shape, steps)?;
     let numbers = wide_numbers(alloc, values.as_slice())?;
     Ok(numbers)
+}
+
+// Whether a flat line has flat parts with few atoms: it always does.
+#[tactic(auto, using(crate::proofs::LinesLaw::line_parts_flat, crate::proofs::LinesLaw::line_few))]
+fn has_flat_parts(line: &Line) -> bool
+    requires { IsFlatLine (line_tree line.now) }
+    ensures value { result ≡ true }
+    ensures flat { AreFlatParts (spec.parts_within line.now) }
+    ensures few { parts_atoms (spec.parts_within line.now) ≤ 64 }
+{
+    true
 }
 
 // The table of the atoms of parts in a row, each of which is asked for at all searched nodes.
