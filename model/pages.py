@@ -206,6 +206,8 @@ def try_page(page):
         os.symlink(".", os.path.join(room, "examples"))
         os.mkdir(os.path.join(room, "bin"))
         os.symlink(BINARY, os.path.join(room, "bin", "cqlpgn"))
+        os.symlink(os.path.join(TOP, "contrib", "cqlpgn-over"), os.path.join(room, "bin", "cqlpgn-over"))
+        os.symlink(os.path.join(TOP, "view", "diagrams"), os.path.join(room, "bin", "cqlpgn-diagrams"))
         try_blocks(page, text, room)
     for head, rows in tables_of(text):
         check = TABLES.get(head)

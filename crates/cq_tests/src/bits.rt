@@ -41,7 +41,7 @@ fn attacks_of_sets_are_those_of_their_squares(rt: HostRuntime) -> Result<(), Fai
 #[test]
 fn attackers_of_squares_are_those_that_attack_them(rt: HostRuntime) -> Result<(), Fail> {
     // The queen on e2 and the pawn on d4 attack e5, the knight on c3 attacks d5; the rook stands behind the queen.
-    let position = read_fen(b"4k3/8/8/8/3P4/2N5/4Q3/4R1K1 w - - 0 1")?;
+    let position = read_fen(b"4k3/8/8/8/3P4/2N5/4Q3/4R1K1 b - - 0 1")?;
     assert_eq!(rt; attackers(&position, 1 << 36), 1 << 27 | 1 << 12);
     assert_eq!(rt;
         attackers(&position, 1 << 36 | 1 << 35),
