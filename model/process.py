@@ -4,15 +4,18 @@
     python3 process.py BINARY
 
 First the worked examples (worked.py), the cases (cases.py) and what the pages show (pages.py), then every exit status that a
-process can be brought to, with archives from files, from pipes and from `-`. The last line counts all: 'N passed, M failed'.
+process can be brought to, with archives from files, from pipes and from `-`; then archives of one batch and more, in pieces, by 1 to 64 workers: one text, which is
+written batch by batch as the archive comes. The last line counts all: 'N passed, M failed'.
 """
 
 import os
 import re
 import resource
+import select
 import subprocess
 import sys
 import tempfile
+import threading
 
 import program
 
@@ -131,6 +134,72 @@ def failures(folder):
     compare("no memory for a game", hungry, (7, b"", b""))
 
 
+def in_pieces(words, data, piece):
+    """the same as process, with the input written in pieces"""
+    with subprocess.Popen([BINARY] + words, stdin=subprocess.PIPE, stdout=subprocess.PIPE, stderr=subprocess.PIPE) as p:
+
+        def write():
+            try:
+                for start in range(0, len(data), piece):
+                    p.stdin.write(data[start : start + piece])
+                    p.stdin.flush()
+            except BrokenPipeError:
+                pass
+            p.stdin.close()
+
+        writer = threading.Thread(target=write)
+        writer.start()
+        err = []
+        reader = threading.Thread(target=lambda: err.append(p.stderr.read()))
+        reader.start()
+        out = p.stdout.read()
+        writer.join()
+        reader.join()
+        p.wait(timeout=120)
+    return p.returncode, out, err[0]
+
+
+def batches():
+    """archives of about one batch and two, in pieces, by any number of workers: one text"""
+    query = "cql() initial"
+    one = program.run_eval(query.encode(), b"*\n")[1]
+    for games in (1023, 1024, 1025, 2048, 2049):
+        want = (0, one * games, b"games %d matched %d refused 0\n" % (games, games))
+        for piece in (7, 4096, 65536):
+            for workers in ("1", "2", "3", "4", "64"):
+                got = in_pieces(["eval", query, "--workers", workers], b"*\n" * games, piece)
+                compare("%d games in pieces of %d by %s workers" % (games, piece, workers), got == want, True)
+    long = b"{" + b"x" * 2**24 + b"} *\n"
+    archive = b"1. e4 *\n" + long + b"1. d4 *\n"
+    texts = {in_pieces(["eval", query, "--workers", workers], archive, 65536) for workers in ("1", "4")}
+    compare("a game that fills a batch by its bytes", len(texts), 1)
+    limited = in_pieces(["eval", query, "--limit", "2048"], b"*\n" * 1025, 4096)
+    compare("a batch within the limit", (limited[0], len(limited[1]), limited[2]), (8, 104448, b""))
+
+
+def as_it_is_read():
+    """the games of a batch are written while the writer of the archive waits"""
+    one = program.run_eval(b"cql() initial", b"*\n")[1]
+    with subprocess.Popen([BINARY, "eval", "cql() initial"], stdin=subprocess.PIPE, stdout=subprocess.PIPE, stderr=subprocess.PIPE) as p:
+        for games in (1024, 2048):
+            p.stdin.write(b"*\n" * 1024 + (b"*" if games == 1024 else b""))
+            p.stdin.flush()
+            out = b""
+            while len(out) < 1024 * len(one) and select.select([p.stdout], [], [], 30)[0]:
+                out += os.read(p.stdout.fileno(), 1024 * len(one) - len(out))
+            compare("the exports of a batch while %d games were sent" % games, out == one * 1024, True)
+        out, err = p.communicate(timeout=120)
+    compare("the rest at the end", (p.returncode, out, err), (0, one, b"games 2049 matched 2049 refused 0\n"))
+
+
+def many_runs():
+    """two hundred runs by 64 workers"""
+    archive = b"".join(b"1. e4 e5 2. Qh5 Nc6 3. Bc4 Nf6 4. Qxf7# 1-0\n" if i % 7 else b"1. e4 e5 2. Ke3 *\n" for i in range(3000))
+    words = ["eval", "cql() mate", "--workers"]
+    want = process(words + ["1"], archive)
+    compare("200 runs by 64 workers", {process(words + ["64"], archive) for _ in range(200)} == {want}, True)
+
+
 for script in ("worked.py", "cases.py", "pages.py"):
     part(script)
 with tempfile.TemporaryDirectory() as room:
@@ -141,5 +210,8 @@ with tempfile.TemporaryDirectory() as room:
     ways_in(room)
     done_and_refused(room)
     failures(room)
+batches()
+as_it_is_read()
+many_runs()
 print("%d passed, %d failed" % (passed, failed))
 sys.exit(1 if failed else 0)
