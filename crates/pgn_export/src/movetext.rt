@@ -133,14 +133,7 @@ fn write_move(
     let Some(m) = game.move_to(k) else {
         return Ok(());
     };
-    write_san(
-        page,
-        mark,
-        game.position(parent),
-        m,
-        game.position(k),
-        due,
-    )?;
+    write_san(page, mark, game.position(parent), m, game.position(k), due)?;
     write_nags(page, game.nags(k))?;
     write_comments(page, game, k)
 }
