@@ -103,8 +103,8 @@ lone_bit mask bit s within h other empty =
 
 -- so no other square is an origin
 pub none_elsewhere : (p : Board) (parts : PieceMove) (mask there bit from : ℕ) → parts.goal < 64 → bit < 64
-    → IsBitboard mask (may_come p.side parts.piece (is_occupied p.men) parts.goal) → IsBitboard there (λ s. stands p.men s (man_of p.side parts.piece))
-    → bit ≡ from → cleared (bit_and mask there) bit ≡ 0 → (s : ℕ) → s < 64 → (s == from) ≡ false → is_origin p parts s ≡ false
+    → IsBitboard mask (may_come p.side parts.piece (is_occupied p.men) parts.goal)
+    → IsBitboard there (λ s. stands p.men s (man_of p.side parts.piece)) → bit ≡ from → cleared (bit_and mask there) bit ≡ 0 → (s : ℕ) → s < 64 → (s == from) ≡ false → is_origin p parts s ≡ false
 none_elsewhere p parts mask there bit from low within m n same empty s h other =
     origin_comes p parts mask there low m n s h
     (lone_bit (bit_and mask there) bit s within h (λ e. eqb-false s from other (e ∙ same)) empty)
@@ -115,7 +115,9 @@ none_kept v t [] h = refl
 none_kept v t (x ∷ xs) h =
     let rest = none_kept v t xs (All-tail (λ s. v s ≡ true → t s ≡ false) x xs h) in
     elim (cases_Bool (t x)) [
-      | inl e ↦ rw (e, rest, false_from_ne_true (v x) (λ set. false≢true (sym (All-head (λ s. v s ≡ true → t s ≡ false) x xs h set) ∙ e))) refl
+      | inl e ↦
+          let fails = false_from_ne_true (v x) (λ set. false≢true (sym (All-head (λ s. v s ≡ true → t s ≡ false) x xs h set) ∙ e)) in
+          rw (e, rest, fails) refl
       | inr e ↦ rw (e, rest) refl
     ]
 

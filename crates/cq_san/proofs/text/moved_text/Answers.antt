@@ -7,7 +7,8 @@ pub push-requires : goal.push-requires
 push-requires c =
     let parts = parts_room c.args.position.now c.args.m.now c.is_capture.result (c.args.after.now, inl c.requires.legal) c.requires.null in
     let sign = sign_one c.args.after.now in
-    let wrote : length c.write_parts.new.text.bytes ≤ 7 = subst (λ n. n ≤ 7) (sym (ap length (c.write_parts.ensures ∙ ap (writing.parts_text c.is_capture.result) c.san_parts.ensures))) parts in
+    let written = c.write_parts.ensures ∙ ap (writing.parts_text c.is_capture.result) c.san_parts.ensures in
+    let wrote : length c.write_parts.new.text.bytes ≤ 7 = subst (λ n. n ≤ 7) (sym (ap length written)) parts in
     let signed : length c.sign_of.result.now ≤ 1 = subst (λ n. n ≤ 1) (sym (ap length c.sign_of.ensures)) sign in
     omega arith
 
@@ -18,4 +19,5 @@ write_parts-requires-clause-written c =
 
 pub write_parts-requires-clause-room : goal.write_parts-requires-clause-room
 write_parts-requires-clause-room c =
-    subst (λ parts. length (writing.parts_text c.is_capture.result parts) ≤ 7) (sym c.san_parts.ensures) (parts_room c.args.position.now c.args.m.now c.is_capture.result (c.args.after.now, inl c.requires.legal) c.requires.null)
+    subst (λ parts. length (writing.parts_text c.is_capture.result parts) ≤ 7) (sym c.san_parts.ensures)
+    (parts_room c.args.position.now c.args.m.now c.is_capture.result (c.args.after.now, inl c.requires.legal) c.requires.null)

@@ -43,7 +43,8 @@ returns-then-comes_alone-clause-on_file c =
     let m = c.args.m.now in
     let none = subst (λ (parts : PieceMove). (s : ℕ) → s < 64 → (s == m.from) ≡ false → is_origin p parts s ≡ false) c.unplaced-parts.ensures
     (c.comes_alone.ensures c.if-comes_alone.true) in
-    sym (none_other p (unplaced p m) m.from (is_elsewhere_on_file m.from) (λ s e. not-true (s == m.from) (and_parts (not (s == m.from)) (file_of m.from == file_of s) e).0) none)
+    sym (none_other p (unplaced p m) m.from (is_elsewhere_on_file m.from)
+    (λ s e. not-true (s == m.from) (and_parts (not (s == m.from)) (file_of m.from == file_of s) e).0) none)
     ∙ file_by_squares p m c.is_position.ensures.kept c.requires.legal.0 c.requires.legal.1 c.requires.piece c.requires.plain
 
 pub returns-then-comes_alone-clause-on_rank : goal.returns-then-comes_alone-clause-on_rank
@@ -52,5 +53,6 @@ returns-then-comes_alone-clause-on_rank c =
     let m = c.args.m.now in
     let none = subst (λ (parts : PieceMove). (s : ℕ) → s < 64 → (s == m.from) ≡ false → is_origin p parts s ≡ false) c.unplaced-parts.ensures
     (c.comes_alone.ensures c.if-comes_alone.true) in
-    sym (none_other p (unplaced p m) m.from (is_elsewhere_on_rank m.from) (λ s e. not-true (s == m.from) (and_parts (not (s == m.from)) (rank_of m.from == rank_of s) e).0) none)
+    sym (none_other p (unplaced p m) m.from (is_elsewhere_on_rank m.from)
+    (λ s e. not-true (s == m.from) (and_parts (not (s == m.from)) (rank_of m.from == rank_of s) e).0) none)
     ∙ rank_by_squares p m c.is_position.ensures.kept c.requires.legal.0 c.requires.legal.1 c.requires.piece c.requires.plain
