@@ -107,10 +107,12 @@ pub no_first_part : (p new : Page) (a b : List ℕ) → (length a == 0) ≡ true
 no_first_part p new [] b none e = e
 no_first_part p new (x ∷ xs) b none e = absurd (omega (arith, eqb-true (length (x ∷ xs)) 0 none))
 
-pub third_part : (p first new : Page) (a b c : List ℕ) → first ≡ with_word p (a ++ b) → new ≡ with_longer_word first c → new ≡ with_word p (a ++ (b ++ c))
+pub third_part : (p first new : Page) (a b c : List ℕ) → first ≡ with_word p (a ++ b) → new ≡ with_longer_word first c
+    → new ≡ with_word p (a ++ (b ++ c))
 third_part p first new a b c e f =
     f ∙ ap (λ q. with_longer_word q c) e ∙ longer_word p (a ++ b) c ∙ ap (with_word p) (append_assoc a b c)
 
-pub no_third_part : (p new : Page) (a b c : List ℕ) → (length c == 0) ≡ true → new ≡ with_word p (a ++ b) → new ≡ with_word p (a ++ (b ++ c))
+pub no_third_part : (p new : Page) (a b c : List ℕ) → (length c == 0) ≡ true → new ≡ with_word p (a ++ b)
+    → new ≡ with_word p (a ++ (b ++ c))
 no_third_part p new a b [] none e = e ∙ ap (λ l. with_word p (a ++ l)) (sym (append-nil b))
 no_third_part p new a b (x ∷ xs) none e = absurd (omega (arith, eqb-true (length (x ∷ xs)) 0 none))
