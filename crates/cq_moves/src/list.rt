@@ -24,8 +24,8 @@ pub fn legal_moves(position: &Position) -> ArrayVec<Move, 512>
     ensures order { AllPairs Precedes result.items }
     ensures members { (m : MoveValue) → Contains result.items m ↔ ((q : Board) × Legal position.now m q) }
 {
-    let mover = mover_of(position);
     let mut moves = ArrayVec::new();
+    let mover = mover_of(position);
     let mut left = position.men().squares_of_side(position.side());
     while left != 0 {
         let from = lowest_square(left);

@@ -142,7 +142,7 @@ pub(crate) fn promotion_is_right(position: &Position, m: &Move) -> bool
 pub(crate) fn promotes(position: &Position, from: Square, to: Square) -> bool
     ensures { result ≡ list.promotes position.now from to }
 {
-    is_pawn(position.at(from)) && rank(to) == last_rank(position.side())
+    rank(to) == last_rank(position.side()) && is_pawn(position.at(from))
 }
 
 #[inline]
