@@ -6,10 +6,10 @@ ghost use Rattle.cq_position.specs.Board.{Board};
 ghost use Rattle.cq_position.specs.Legal.{Legal};
 ghost use Rattle.cq_position.specs.Legal as legal;
 ghost use Rattle.cq_moves.specs.LegalMoves.{legal_list, legal_from, legal_between, if_legal, pieces, Precedes};
-ghost use Rattle.cq_moves.specs.Mover.{IsMover, IsOrigin};
+ghost use Rattle.cq_moves.specs.Mover.{IsMover, IsOrigin, IsPlain};
 
 use crate::going::goals_from;
-use crate::mover::{Mover, Origin, is_legal_there, mover_of, origin_of};
+use crate::mover::{Mover, Origin, is_legal_there, is_plain, mover_of, origin_of};
 use crate::reach::promotes;
 use arrayvec::ArrayVec;
 use cq_geometry::Square;
@@ -42,11 +42,56 @@ fn add_moves_from(position: &Position, mover: &Mover, from: Square, moves: &mut 
     ensures { moves.new.items ≡ moves.old.items ++ legal_from position.now from }
 {
     let origin = origin_of(position, mover, from);
-    let mut left = goals_from(position, mover, &origin);
+    if is_plain(position, &origin) {
+        add_plain_moves(position, mover, &origin, moves);
+    } else {
+        add_judged_moves(position, mover, &origin, moves);
+    }
+}
+
+// Adds the moves of a man of whose moves each is legal, with no promotion: that to each square to which it goes.
+fn add_plain_moves(
+    position: &Position,
+    mover: &Mover,
+    origin: &Origin,
+    moves: &mut ArrayVec<Move, 512>,
+)
+    requires mover { IsMover position.now mover.now }
+    requires origin { IsOrigin position.now origin.now }
+    requires plain { IsPlain position.now origin.now.from }
+    requires room { length moves.old.items + length (legal_from position.now origin.now.from) ≤ 512 }
+    ensures { moves.new.items ≡ moves.old.items ++ legal_from position.now origin.now.from }
+{
+    let mut left = goals_from(position, mover, origin);
     while left != 0 {
         let to = lowest_square(left);
         left &= !(1 << to.number());
-        add_moves_between(position, mover, &origin, to, moves);
+        moves.push(Move {
+            from: origin.from,
+            to,
+            promotion: Promotion::None,
+            null: false,
+        });
+    }
+}
+
+// Adds the legal moves from a square, each of which is judged.
+fn add_judged_moves(
+    position: &Position,
+    mover: &Mover,
+    origin: &Origin,
+    moves: &mut ArrayVec<Move, 512>,
+)
+    requires mover { IsMover position.now mover.now }
+    requires origin { IsOrigin position.now origin.now }
+    requires room { length moves.old.items + length (legal_from position.now origin.now.from) ≤ 512 }
+    ensures { moves.new.items ≡ moves.old.items ++ legal_from position.now origin.now.from }
+{
+    let mut left = goals_from(position, mover, origin);
+    while left != 0 {
+        let to = lowest_square(left);
+        left &= !(1 << to.number());
+        add_moves_between(position, mover, origin, to, moves);
     }
 }
 

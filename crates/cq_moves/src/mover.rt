@@ -8,7 +8,7 @@ ghost use Rattle.cq_position.specs.Legal as legal;
 ghost use Rattle.cq_position.specs.Legal.{is_pseudo_legal};
 ghost use Rattle.cq_position.specs.Legality as legality;
 ghost use Rattle.cq_position.specs.Men as men_spec;
-ghost use Rattle.cq_moves.specs.Mover.{IsMover, IsOrigin, IsUnexposed};
+ghost use Rattle.cq_moves.specs.Mover.{IsMover, IsOrigin, IsPlain, IsUnexposed};
 
 use crate::after::is_en_passant_capture;
 use crate::going::free_squares;
@@ -17,6 +17,7 @@ use crate::reach::promotion_is_right;
 use cq_geometry::Square;
 use cq_position::attacks::{is_attacked, queen_squares};
 use cq_position::king::king_square;
+use cq_position::position::is_pawn;
 use cq_position::{Man, Move, Position, attacks_from, opponent};
 
 /// What is found once of the side that moves: the square of its king, the squares that hold no man of its own and no king, and a set of
@@ -83,6 +84,16 @@ fn may_expose(position: &Position, mover: &Mover, from: Square) -> bool
     from == mover.king
         || mover.shields >> from.number() & 1 == 1
             && is_attacked_without(position, from, mover.king)
+}
+
+/// Whether all the moves of a man are known to be legal, with no promotion: those of a man that doesn't expose its king and is no pawn.
+#[tactic(auto, using(crate::proofs::Parts::plain_moves))]
+#[inline]
+pub(crate) fn is_plain(position: &Position, origin: &Origin) -> bool
+    requires { IsOrigin position.now origin.now }
+    ensures { result ≡ true → IsPlain position.now origin.now.from }
+{
+    !origin.exposed && !is_pawn(position.at(origin.from))
 }
 
 // Whether the opponent would attack the king's square if the square `from` were empty.
