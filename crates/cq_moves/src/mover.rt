@@ -14,6 +14,7 @@ use crate::after::is_en_passant_capture;
 use crate::going::free_squares;
 use crate::legality::is_safe;
 use crate::reach::promotion_is_right;
+use crate::sliders::has_slider_in_line;
 use cq_geometry::Square;
 use cq_position::attacks::{is_attacked, queen_squares};
 use cq_position::king::king_square;
@@ -41,16 +42,21 @@ pub(crate) fn mover_of(position: &Position) -> Mover
     }
 }
 
-// All squares where the king is attacked, else those that it sees along the lines of a queen.
+// All squares where the king is attacked, else those that it sees along the lines of a queen, where an opponent's man may come to
+// attack along one of them.
 fn shields_of(position: &Position, king: Square) -> u64
     requires { IsKingSquare position.now.men position.now.side king }
     ensures { (square : ℕ) → square < 64 → bit_at result square ≡ 0 →
         attack.is_attacked (slice_set position.now.men square Empty) (men_spec.opponent position.now.side) king ≡ false }
 {
-    if is_attacked(position.men(), opponent(position.side()), king) {
+    let men = position.men();
+    let by = opponent(position.side());
+    if is_attacked(men, by, king) {
         u64::MAX
+    } else if has_slider_in_line(men, by, king) {
+        queen_squares(men, king)
     } else {
-        queen_squares(position.men(), king)
+        0
     }
 }
 
