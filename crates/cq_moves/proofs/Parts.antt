@@ -122,16 +122,34 @@ one_choice_more part choices n d old before after h e f =
 no_pawn_promotes : (last pawn : Bool) → pawn ≡ false → (pawn && last) ≡ false
 no_pawn_promotes last pawn e = ap (λ b. b && last) e
 
+no_last_rank : (last pawn : Bool) → last ≡ false → (pawn && last) ≡ false
+no_last_rank last true e = e
+no_last_rank last false e = refl
+
+not_passant : (pawn beside passant : Bool) → passant ≡ false → (pawn && beside && passant) ≡ false
+not_passant true true passant e = e
+not_passant true false passant e = refl
+not_passant false beside passant e = refl
+
+one_legal_move : (p : Board) (a b : ℕ) → b < 64 → reaches p a b ≡ true → promotes p a b ≡ false → IsUnexposed p a
+    → is_en_passant_capture p (move_of a b NoPromotion) ≡ false → legal_between p a b ≡ move_of a b NoPromotion ∷ []
+one_legal_move p a b below open_ plain safe none =
+    let m = move_of a b NoPromotion in
+    let right : promotion_is_right p m ≡ true = right_promotion p a b NoPromotion false plain in
+    let stays : is_safe p m ≡ true = safe.safe m refl (pseudo_legal_by_parts p m refl below open_ right) none in
+    let legal : legal_test p m ≡ true = reached_move p m refl below open_ ∙ ap₂ (λ s t. s && t) right stays in
+    one_move p a b below plain ∙ ap (λ t. cond t (m ∷ []) []) legal
+
+pub ordinary_move : (p : Board) (a b : ℕ) → b < 64 → reaches p a b ≡ true → IsUnexposed p a → (rank_of b == last_rank p.side) ≡ false
+    → is_goal p.passant b ≡ false → legal_between p a b ≡ move_of a b NoPromotion ∷ []
+ordinary_move p a b below open_ safe inside off =
+    one_legal_move p a b below open_ (no_last_rank (rank_of b == last_rank p.side) (is_pawn (man_at p.men a)) inside) safe
+    (not_passant (is_pawn (man_at p.men a)) (files_apart a b == 1) (is_goal p.passant b) off)
+
 pub plain_moves : (p : Board) (a : ℕ) → is_pawn (man_at p.men a) ≡ false → IsUnexposed p a → IsPlain p a
 plain_moves p a other safe = record { only = only }
   where
     only : (b : ℕ) → b < 64 → reaches p a b ≡ true → legal_between p a b ≡ move_of a b NoPromotion ∷ []
     only b below open_ =
-        let m = move_of a b NoPromotion in
-        let plain : promotes p a b ≡ false = no_pawn_promotes (rank_of b == last_rank p.side) (is_pawn (man_at p.men a)) other in
-        let right : promotion_is_right p m ≡ true = right_promotion p a b NoPromotion false plain in
-        let none : is_en_passant_capture p m ≡ false
-        = ap (λ t. t && (files_apart a b == 1) && is_goal p.passant b) other in
-        let stays : is_safe p m ≡ true = safe.safe m refl (pseudo_legal_by_parts p m refl below open_ right) none in
-        let legal : legal_test p m ≡ true = reached_move p m refl below open_ ∙ ap₂ (λ s t. s && t) right stays in
-        one_move p a b below plain ∙ ap (λ t. cond t (m ∷ []) []) legal
+        one_legal_move p a b below open_ (no_pawn_promotes (rank_of b == last_rank p.side) (is_pawn (man_at p.men a)) other) safe
+        (ap (λ t. t && (files_apart a b == 1) && is_goal p.passant b) other)

@@ -9,7 +9,7 @@ ghost use Rattle.cq_moves.specs.LegalMoves.{legal_list, legal_from, legal_betwee
 ghost use Rattle.cq_moves.specs.Mover.{IsMover, IsOrigin, IsPlain};
 
 use crate::going::goals_from;
-use crate::mover::{Mover, Origin, is_legal_there, is_plain, mover_of, origin_of};
+use crate::mover::{Mover, Origin, is_legal_there, is_ordinary, is_plain, mover_of, origin_of};
 use crate::reach::promotes;
 use arrayvec::ArrayVec;
 use cq_geometry::Square;
@@ -111,7 +111,14 @@ fn add_moves_between(
     requires room { length moves.old.items + length (legal_between position.now origin.now.from to) ≤ 512 }
     ensures { moves.new.items ≡ moves.old.items ++ legal_between position.now origin.now.from to }
 {
-    if promotes(position, origin.from, to) {
+    if is_ordinary(position, origin, to) {
+        moves.push(Move {
+            from: origin.from,
+            to,
+            promotion: Promotion::None,
+            null: false,
+        });
+    } else if promotes(position, origin.from, to) {
         add_promotions(position, mover, origin, to, moves);
     } else {
         add_move(position, mover, origin, to, Promotion::None, moves);

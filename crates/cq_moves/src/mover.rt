@@ -1,5 +1,5 @@
 //! The side that moves: where its king stands, and which of its men may shield it.
-ghost use Rattle.std.specs.Prelude.{◌≡◌, ◌<◌, ℕ, false, true, slice_set};
+ghost use Rattle.std.specs.Prelude.{◌≡◌, ◌<◌, ℕ, false, true, slice_set, [], ◌∷◌};
 ghost use Rattle.std.specs.Int.{bit_at};
 ghost use Rattle.cq_position.specs.declared.men.Man.TheVariants.{Empty};
 ghost use Rattle.cq_position.specs.Attacks as attack;
@@ -8,14 +8,16 @@ ghost use Rattle.cq_position.specs.Legal as legal;
 ghost use Rattle.cq_position.specs.Legal.{is_pseudo_legal};
 ghost use Rattle.cq_position.specs.Legality as legality;
 ghost use Rattle.cq_position.specs.Men as men_spec;
+ghost use Rattle.cq_position.specs.declared.men.Promotion.TheVariants.{None as NoPromotion};
+ghost use Rattle.cq_moves.specs.LegalMoves.{legal_between, move_of};
 ghost use Rattle.cq_moves.specs.Mover.{IsMover, IsOrigin, IsPlain, IsUnexposed};
 
 use crate::after::is_en_passant_capture;
 use crate::going::free_squares;
 use crate::legality::is_safe;
-use crate::reach::promotion_is_right;
+use crate::reach::{last_rank, promotion_is_right};
 use crate::sliders::has_slider_in_line;
-use cq_geometry::Square;
+use cq_geometry::{Square, rank};
 use cq_position::attacks::{is_attacked, queen_squares};
 use cq_position::king::king_square;
 use cq_position::position::is_pawn;
@@ -100,6 +102,21 @@ pub(crate) fn is_plain(position: &Position, origin: &Origin) -> bool
     ensures { result ≡ true → IsPlain position.now origin.now.from }
 {
     !origin.exposed && !is_pawn(position.at(origin.from))
+}
+
+/// Whether a man's move to a square where it goes is known to be legal with no promotion, and with no other: the man doesn't expose its
+/// king, and neither promotes nor captures on the en passant square.
+#[tactic(auto, using(crate::proofs::Parts::ordinary_move))]
+#[inline]
+pub(crate) fn is_ordinary(position: &Position, origin: &Origin, to: Square) -> bool
+    requires origin { IsOrigin position.now origin.now }
+    requires reaches { legal.reaches position.now origin.now.from to ≡ true }
+    requires board { to < 64 }
+    ensures { result ≡ true → legal_between position.now origin.now.from to ≡ move_of origin.now.from to NoPromotion ∷ [] }
+{
+    !origin.exposed
+        && rank(to) != last_rank(position.side())
+        && position.passant() != Some(to)
 }
 
 // Whether the opponent would attack the king's square if the square `from` were empty.
