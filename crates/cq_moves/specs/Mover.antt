@@ -35,8 +35,9 @@ pub record IsUnexposed (p : Board) (from : ℕ) : Type 0 where
   pub safe : (m : Move) → m.from ≡ from → is_pseudo_legal p m ≡ true → is_en_passant_capture p m ≡ false
       → is_safe p m ≡ true
 
--- the squares that the man on a square attacks, and a flag that is false only where each of its moves leaves its king safe
+-- the man on a square, the squares that it attacks, and a flag that is false only where each of its moves leaves its king safe
 pub record IsOrigin (p : Board) (origin : Origin) : Type 0 where
+  pub man : origin.man ≡ man_at p.men origin.from
   pub attacked : IsBitboard origin.attacked (attacks p.men origin.from)
   pub exposed : origin.exposed ≡ false → IsUnexposed p origin.from
 

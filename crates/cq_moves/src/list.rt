@@ -9,10 +9,11 @@ ghost use Rattle.cq_moves.specs.LegalMoves.{legal_list, legal_from, legal_betwee
 ghost use Rattle.cq_moves.specs.Mover.{IsMover, IsOrigin, IsPlain};
 
 use crate::going::goals_from;
-use crate::mover::{Mover, Origin, is_legal_there, is_ordinary, is_plain, mover_of, origin_of};
+use crate::mover::{Mover, Origin, is_legal_there, is_ordinary, mover_of, origin_of};
 use crate::reach::promotes;
 use arrayvec::ArrayVec;
 use cq_geometry::Square;
+use cq_position::position::is_pawn;
 use cq_position::{Move, Position, Promotion};
 use cq_sets::lowest_square;
 
@@ -35,14 +36,15 @@ pub fn legal_moves(position: &Position) -> ArrayVec<Move, 512>
     moves
 }
 
-// Adds the legal moves from a square.
+// Adds the legal moves from a square. A man that doesn't expose its king and is no pawn has no move that must be judged.
+#[tactic(auto, using(crate::proofs::Parts::plain_moves))]
 fn add_moves_from(position: &Position, mover: &Mover, from: Square, moves: &mut ArrayVec<Move, 512>)
     requires mover { IsMover position.now mover.now }
     requires room { length moves.old.items + length (legal_from position.now from) ≤ 512 }
     ensures { moves.new.items ≡ moves.old.items ++ legal_from position.now from }
 {
     let origin = origin_of(position, mover, from);
-    if is_plain(position, &origin) {
+    if !origin.exposed && !is_pawn(origin.man) {
         add_plain_moves(position, mover, &origin, moves);
     } else {
         add_judged_moves(position, mover, &origin, moves);

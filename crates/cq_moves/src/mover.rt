@@ -3,6 +3,8 @@ ghost use Rattle.std.specs.Prelude.{◌≡◌, ◌<◌, ℕ, false, true, slice_
 ghost use Rattle.std.specs.Int.{bit_at};
 ghost use Rattle.cq_position.specs.declared.men.Man.TheVariants.{Empty};
 ghost use Rattle.cq_position.specs.Attacks as attack;
+ghost use Rattle.cq_position.specs.Bitboards.{IsBitboard};
+ghost use Rattle.cq_position.specs.Board.{man_at};
 ghost use Rattle.cq_position.specs.King.{IsKingSquare};
 ghost use Rattle.cq_position.specs.Legal as legal;
 ghost use Rattle.cq_position.specs.Legal.{is_pseudo_legal};
@@ -10,7 +12,7 @@ ghost use Rattle.cq_position.specs.Legality as legality;
 ghost use Rattle.cq_position.specs.Men as men_spec;
 ghost use Rattle.cq_position.specs.declared.men.Promotion.TheVariants.{None as NoPromotion};
 ghost use Rattle.cq_moves.specs.LegalMoves.{legal_between, move_of};
-ghost use Rattle.cq_moves.specs.Mover.{IsMover, IsOrigin, IsPlain, IsUnexposed};
+ghost use Rattle.cq_moves.specs.Mover.{IsMover, IsOrigin, IsUnexposed};
 
 use crate::after::is_en_passant_capture;
 use crate::going::free_squares;
@@ -18,10 +20,9 @@ use crate::legality::is_safe;
 use crate::reach::{last_rank, promotion_is_right};
 use crate::sliders::has_slider_in_line;
 use cq_geometry::{Square, rank};
-use cq_position::attacks::{is_attacked, queen_squares};
+use cq_position::attacks::{is_attacked, queen_squares, squares_attacked};
 use cq_position::king::king_square;
-use cq_position::position::is_pawn;
-use cq_position::{Man, Move, Position, attacks_from, opponent};
+use cq_position::{Man, Move, Position, opponent};
 
 /// What is found once of the side that moves: the square of its king, the squares that hold no man of its own and no king, and a set of
 /// squares beside which each of its men leaves the king safe wherever it goes, captures on the en passant square aside. Bit k is square k.
@@ -62,11 +63,12 @@ fn shields_of(position: &Position, king: Square) -> u64
     }
 }
 
-/// What is found once of a man that moves: its square, the squares that it attacks, and whether it may expose its king. `exposed` is false
+/// What is found once of a man that moves: its square, what it is, the squares that it attacks, and whether it may expose its king. `exposed` is false
 /// only where each of its moves leaves the king safe, captures on the en passant square aside.
 #[derive(Clone, Copy)]
 pub(crate) struct Origin {
     pub from: Square,
+    pub man: Man,
     pub attacked: u64,
     pub exposed: bool,
 }
@@ -77,11 +79,23 @@ pub(crate) fn origin_of(position: &Position, mover: &Mover, from: Square) -> Ori
     ensures from { result.from ≡ from }
     ensures known { IsOrigin position.now result }
 {
+    let man = position.at(from);
     Origin {
         from,
-        attacked: attacks_from(position, from),
+        man,
+        attacked: attacked_by(position, man, from),
         exposed: may_expose(position, mover, from),
     }
+}
+
+// The squares that the man on a square attacks.
+#[tactic(auto, unfolding(cq_position::specs::Attacks::attacks))]
+#[inline]
+fn attacked_by(position: &Position, man: Man, from: Square) -> u64
+    requires { man ≡ man_at position.now.men from }
+    ensures { IsBitboard result (attack.attacks position.now.men from) }
+{
+    squares_attacked(man, position.men(), from)
 }
 
 // Whether the man on a square may expose its king.
@@ -94,16 +108,6 @@ fn may_expose(position: &Position, mover: &Mover, from: Square) -> bool
             && is_attacked_without(position, from, mover.king)
 }
 
-/// Whether all the moves of a man are known to be legal, with no promotion: those of a man that doesn't expose its king and is no pawn.
-#[tactic(auto, using(crate::proofs::Parts::plain_moves))]
-#[inline]
-pub(crate) fn is_plain(position: &Position, origin: &Origin) -> bool
-    requires { IsOrigin position.now origin.now }
-    ensures { result ≡ true → IsPlain position.now origin.now.from }
-{
-    !origin.exposed && !is_pawn(position.at(origin.from))
-}
-
 /// Whether a man's move to a square where it goes is known to be legal with no promotion, and with no other: the man doesn't expose its
 /// king, and neither promotes nor captures on the en passant square.
 #[tactic(auto, using(crate::proofs::Parts::ordinary_move))]
@@ -114,9 +118,7 @@ pub(crate) fn is_ordinary(position: &Position, origin: &Origin, to: Square) -> b
     requires board { to < 64 }
     ensures { result ≡ true → legal_between position.now origin.now.from to ≡ move_of origin.now.from to NoPromotion ∷ [] }
 {
-    !origin.exposed
-        && rank(to) != last_rank(position.side())
-        && position.passant() != Some(to)
+    !origin.exposed && rank(to) != last_rank(position.side()) && position.passant() != Some(to)
 }
 
 // Whether the opponent would attack the king's square if the square `from` were empty.

@@ -23,8 +23,12 @@ push-requires c =
     let room : length whole ≤ 512 = omega (arith, length-append c.args.moves.now.items (legal_from p from), c.requires.room) in
     let left = walk_room (legal_between p from) whole c.loop-left.moves.items c.loop-left.left c.lowest_square-to.result some fits
     c.lowest_square-to.ensures.value c.loop-left.invariant.partly room in
-    omega (arith, left, ap length (only_there p from c.loop-left.left c.lowest_square-to.result some fits
-    c.lowest_square-to.ensures.value c.requires.plain c.loop-left.invariant.goes))
+    omega (
+      arith,
+      left,
+      ap length (only_there p from c.loop-left.left c.lowest_square-to.result some fits
+          c.lowest_square-to.ensures.value c.requires.plain c.loop-left.invariant.goes),
+    )
 
 pub loop-left-smaller : goal.loop-left-smaller
 loop-left-smaller c =
