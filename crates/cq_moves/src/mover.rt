@@ -63,8 +63,8 @@ fn shields_of(position: &Position, king: Square) -> u64
     }
 }
 
-/// What is found once of a man that moves: its square, what it is, the squares that it attacks, and whether it may expose its king. `exposed` is false
-/// only where each of its moves leaves the king safe, captures on the en passant square aside.
+/// What is found once of a man that moves: its square, what it is, the squares that it attacks, and whether it may expose its king.
+/// `exposed` is false only where each of its moves leaves the king safe, captures on the en passant square aside.
 #[derive(Clone, Copy)]
 pub(crate) struct Origin {
     pub from: Square,
