@@ -142,11 +142,12 @@ pub(crate) fn promotion_is_right(position: &Position, m: &Move) -> bool
 pub(crate) fn promotes(position: &Position, from: Square, to: Square) -> bool
     ensures { result ≡ list.promotes position.now from to }
 {
-    is_pawn(position.at(from)) && rank(to) == last_rank(position.side())
+    rank(to) == last_rank(position.side()) && is_pawn(position.at(from))
 }
 
+/// The rank furthest from where a side's pawns start, 7 or 0.
 #[inline]
-fn last_rank(side: Side) -> u8
+pub(crate) fn last_rank(side: Side) -> u8
     ensures { result ≡ legal.last_rank side }
 {
     match side {
