@@ -46,6 +46,7 @@ pub(crate) fn attacks(position: &Position, attacked: u64, from: Square, to: Squa
 
 /// A set that has each square from which a man of the side to move, being such a piece, goes to the goal. Bit k of the answer is square k.
 #[tactic(auto, using(cq_sets::proofs::Marked::marks_or))]
+#[inline]
 pub fn origins_to(position: &Position, piece: Piece, goal: Square) -> u64
     ensures mask { IsBitboard result (may_come position.now.side piece (attack.is_occupied position.now.men) goal) }
     ensures kept { IsPosition position.now }
