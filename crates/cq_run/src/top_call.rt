@@ -1,5 +1,5 @@
 //! The top call.
-ghost use Rattle.std.specs.Prelude.{map, ◌≤◌, ◌^◌};
+ghost use Rattle.std.specs.Prelude.{map, ◌≡◌, ◌≤◌, ◌^◌};
 ghost use Rattle.std.specs.String.{string_bytes};
 ghost use Rattle.cq_words.specs.Jobs.{IsInRange};
 ghost use Rattle.cql_syntax.specs.TreeOf.{query_tree};
@@ -36,8 +36,9 @@ const USAGE: &[u8] =
 ///   R written W`, where B is the length of the archive and W that of the exports, and no file is opened.
 ///
 /// `run`, `eval` and `selfrun` take `--workers N`, from 1 to 64, the number of workers that answer the games of a batch, in threads of
-/// `rt`; each tells `gate` as it enters and leaves a game. `run` and `eval` take `--limit B`, from 1 to 2^40: more than so many bytes
-/// of an archive are refused. Of a query's file at most 65,537 bytes are taken. A query with a fault is refused by a line on `err`,
+/// `rt`, by default 4; each tells `gate` as it enters and leaves a game. `run` and `eval` take `--limit B`, from 1 to 2^40: more than so
+/// many bytes of an archive are refused, of which one more is taken at most. An archive is read in pieces of at most 65,536 bytes, batch
+/// by batch. Of a query's file at most 65,537 bytes are taken. A query with a fault is refused by a line on `err`,
 /// `query byte B: REASON`, before the archive is opened, and other words by the usage line.
 ///
 /// Answers:
@@ -109,10 +110,7 @@ fn do_job<R: Threads + Sync, D: Desk, O: Sink, E: Sink, G: Gate + Sync>(
             workers,
             limit,
         } => {
-            let settings = Settings {
-                workers: *workers,
-                limit: *limit,
-            };
+            let settings = settings_of(*workers, *limit);
             let (query, archive) = (query.as_slice(), archive.as_slice());
             answer_query_file(rt, alloc, query, archive, settings, desk, out, err, gate)
         }
@@ -122,10 +120,7 @@ fn do_job<R: Threads + Sync, D: Desk, O: Sink, E: Sink, G: Gate + Sync>(
             workers,
             limit,
         } => {
-            let settings = Settings {
-                workers: *workers,
-                limit: *limit,
-            };
+            let settings = settings_of(*workers, *limit);
             let (text, archive) = (text.as_slice(), archive.as_slice());
             answer_text(rt, alloc, text, archive, settings, desk, out, err, gate)
         }
@@ -141,6 +136,13 @@ fn do_job<R: Threads + Sync, D: Desk, O: Sink, E: Sink, G: Gate + Sync>(
             answer_text_over_made(rt, alloc, text, *seed, *games, *workers, out, err, gate)
         }
     }
+}
+
+// So many workers, and a limit.
+fn settings_of(workers: u32, limit: u64) -> Settings
+    ensures { result ≡ record { workers = workers; limit = limit } }
+{
+    Settings { workers, limit }
 }
 
 // Answers the query in a file over the archive in another.
