@@ -1,5 +1,5 @@
 //! The top call.
-ghost use Rattle.std.specs.Prelude.{map, ◌≡◌, ◌≤◌, ◌^◌};
+ghost use Rattle.std.specs.Prelude.{map, ◌≤◌, ◌^◌};
 ghost use Rattle.std.specs.String.{string_bytes};
 ghost use Rattle.cq_words.specs.Jobs.{IsInRange};
 ghost use Rattle.cql_syntax.specs.TreeOf.{query_tree};
@@ -110,7 +110,8 @@ fn do_job<R: Threads + Sync, D: Desk, O: Sink, E: Sink, G: Gate + Sync>(
             workers,
             limit,
         } => {
-            let settings = settings_of(*workers, *limit);
+            let (workers, limit) = (*workers, *limit);
+            let settings = Settings { workers, limit };
             let (query, archive) = (query.as_slice(), archive.as_slice());
             answer_query_file(rt, alloc, query, archive, settings, desk, out, err, gate)
         }
@@ -120,7 +121,8 @@ fn do_job<R: Threads + Sync, D: Desk, O: Sink, E: Sink, G: Gate + Sync>(
             workers,
             limit,
         } => {
-            let settings = settings_of(*workers, *limit);
+            let (workers, limit) = (*workers, *limit);
+            let settings = Settings { workers, limit };
             let (text, archive) = (text.as_slice(), archive.as_slice());
             answer_text(rt, alloc, text, archive, settings, desk, out, err, gate)
         }
@@ -136,13 +138,6 @@ fn do_job<R: Threads + Sync, D: Desk, O: Sink, E: Sink, G: Gate + Sync>(
             answer_text_over_made(rt, alloc, text, *seed, *games, *workers, out, err, gate)
         }
     }
-}
-
-// So many workers, and a limit.
-fn settings_of(workers: u32, limit: u64) -> Settings
-    ensures { result ≡ record { workers = workers; limit = limit } }
-{
-    Settings { workers, limit }
 }
 
 // Answers the query in a file over the archive in another.
