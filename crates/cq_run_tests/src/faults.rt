@@ -3,7 +3,7 @@ use crate::query_rows::repeated;
 use crate::rows::{texts_of, written};
 use cq_outside::{Bytes, Calls, MemDesk, MemSink, NoMemory, OpenGate};
 use cq_run::{Status, run};
-use std::alloc::Global;
+use std::alloc::{AllocError, Global};
 use std::process::Abort;
 use std::test::Fail;
 use std::thread::Threads;
@@ -222,6 +222,17 @@ fn part_of_exports(alloc: Global, count: usize) -> Result<Bytes, NoMemory> {
     Bytes::from_slice(alloc, &all[..count.min(all.len())])
 }
 
+// The words of a mode: the query's file or its text, standard input, and so many workers.
+fn words_of<'a>(
+    alloc: Global,
+    mode: &'a str,
+    query: &'a str,
+    workers: &'a str,
+) -> Result<Vec<String>, AllocError> {
+    let asked = if mode == "run" { "q.cql" } else { query };
+    texts_of(alloc, &[mode, asked, "-", "--workers", workers])
+}
+
 // Asks that a row comes out as it should, by so many workers.
 fn expect_row<R: Threads + Sync + Abort>(
     rt: &R,
@@ -235,12 +246,7 @@ fn expect_row<R: Threads + Sync + Abort>(
     let mut desk = desk_with(alloc, query.as_str(), archive.as_str(), fails)?;
     let mut out = MemSink::new(alloc, 4096, 1, Calls::of(alloc, fails.2)?)?;
     let mut err = MemSink::new(alloc, 4096, 1, Calls::of(alloc, fails.3)?)?;
-    let asked = if mode == "run" {
-        "q.cql"
-    } else {
-        query.as_str()
-    };
-    let words = texts_of(alloc, &[mode, asked, "-", "--workers", workers])?;
+    let words = words_of(alloc, mode, query.as_str(), workers)?;
     let words = words.as_slice();
     let status = run(rt, alloc, words, &mut desk, &mut out, &mut err, &OpenGate);
     let text = part_of_exports(alloc, want.1)?;

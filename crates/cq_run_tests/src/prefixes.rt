@@ -301,7 +301,7 @@ fn each_write_of_one_game_fails(rt: HostRuntime) -> Result<(), Fail> {
 /// little it gives, and a run over three batches answers some thousand games, so of many calls a part fails.
 type Part = (usize, u64);
 
-const READS_OF_ONE: [Part; 3] = [(1, 7), (7, 0), (4096, 0)];
+const READS_OF_ONE: [Part; 3] = [(1, 31), (7, 3), (4096, 0)];
 
 #[test]
 fn reads_of_one_game_fail(rt: HostRuntime) -> Result<(), Fail> {
@@ -326,10 +326,10 @@ fn writes_of_three_batches_fail(rt: HostRuntime) -> Result<(), Fail> {
     Ok(())
 }
 
-const READS_OF_THREE: [Part; 3] = [(1, 1023), (7, 15), (4096, 0)];
+const READS_OF_THREE: [Part; 3] = [(1, 2047), (7, 31), (4096, 0)];
 
-/// Reads of one byte that fail just before a batch is full and just after, and how many bytes were read before.
-const AT_FULL: [(u64, usize); 4] = [(2125, 2124), (2126, 2125), (4214, 4213), (4215, 4214)];
+/// How many bytes the first read gives, after which a batch is just not full yet, or is.
+const AT_FULL: [usize; 4] = [2124, 2125, 4213, 4214];
 
 #[test]
 fn reads_of_three_batches_fail(rt: HostRuntime) -> Result<(), Fail> {
@@ -338,8 +338,8 @@ fn reads_of_three_batches_fail(rt: HostRuntime) -> Result<(), Fail> {
     for (piece, passed) in READS_OF_THREE {
         fail_reads(&rt, alloc, &case, piece, passed)?;
     }
-    for (number, read) in AT_FULL {
-        expect_batches(&rt, alloc, &case, 1, number, read)?;
+    for piece in AT_FULL {
+        expect_batches(&rt, alloc, &case, piece, 2, piece)?;
     }
     Ok(())
 }
