@@ -110,8 +110,10 @@ fn do_job<R: Threads + Sync, D: Desk, O: Sink, E: Sink, G: Gate + Sync>(
             workers,
             limit,
         } => {
-            let (workers, limit) = (*workers, *limit);
-            let settings = Settings { workers, limit };
+            let settings = Settings {
+                workers: *workers,
+                limit: *limit,
+            };
             let (query, archive) = (query.as_slice(), archive.as_slice());
             answer_query_file(rt, alloc, query, archive, settings, desk, out, err, gate)
         }
@@ -121,8 +123,10 @@ fn do_job<R: Threads + Sync, D: Desk, O: Sink, E: Sink, G: Gate + Sync>(
             workers,
             limit,
         } => {
-            let (workers, limit) = (*workers, *limit);
-            let settings = Settings { workers, limit };
+            let settings = Settings {
+                workers: *workers,
+                limit: *limit,
+            };
             let (text, archive) = (text.as_slice(), archive.as_slice());
             answer_text(rt, alloc, text, archive, settings, desk, out, err, gate)
         }
