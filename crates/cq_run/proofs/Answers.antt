@@ -1,6 +1,6 @@
 -- Answering game by game.
-use Rattle.std.proofs.Common.{◌≡◌, ℕ, ◌+◌, ℤ, Bool, true, false, List, [], ◌∷◌, ◌++◌, map, Some, length, length-append, take, drop, get_or, ◌<◌, ◌≤◌, ◌==◌, inl, inr, arith, refl, ap, sym, ◌∙◌, append_assoc, append-nil, cond, subst, Ok, Err, Option}
-use Rattle.std.specs.Prelude.{count_by, Result, if◌then◌else◌}
+use Rattle.std.proofs.Common.{◌≡◌, ℕ, ◌+◌, ℤ, Bool, true, false, List, [], ◌∷◌, ◌++◌, length, length-append, take, ◌<◌, inl, inr, arith, refl, ap, sym, ◌∙◌, append_assoc, append-nil, cond, subst, Ok, Err, Option}
+use Rattle.std.specs.Prelude.{count_by, Result}
 use Rattle.std.specs.List.{flat_map}
 use Rattle.std.proofs.lemmas.Grind.{flat_map-append}
 use Rattle.std.proofs.lemmas.List.Sums.{fold-append}
@@ -11,7 +11,6 @@ use Rattle.cq_outside.specs.declared.faults.Refusal.{Refusal}
 use Rattle.cq_outside.specs.declared.faults.Refusal.TheVariants.{Fault, NoMemory as IsNoMemory}
 use Rattle.cq_position.specs.Games.{Game}
 use Rattle.pgn_export.specs.Export.{export_text}
-use Rattle.pgn_cut.specs.declared.span.Span.{Span}
 use Rattle.pgn_reader.specs.declared.fault.GameFault.{GameFault}
 use Rattle.cq_run.specs.Sorts.{have_sort}
 use Rattle.cq_report.specs.Games.{fault_line}
@@ -24,15 +23,14 @@ use Rattle.cq_run.specs.declared.tally.Tally.{Tally}
 use Rattle.cq_run.specs.Asking.{AreAnswers, texts_of, texts_so_far, written}
 use Rattle.cq_shards.specs.Answers.{found_in, answer_of, answers_from}
 use Rattle.cq_shards.specs.Outcomes.{Outcome}
-use Rattle.cq_run.specs.Outcomes.{AreRead}
 use Rattle.cql_syntax.specs.Hits.{marked, keys}
 use Rattle.cql_syntax.specs.Trees.{QueryTree}
 use Rattle.cq_shards.specs.Answers.{has_match}
 use Rattle.cq_run.specs.Answer.{tally_of, report_of, export_if, fault_if, fault_lines, is_match, is_refused, summary_of}
 use Rattle.cq_run.specs.Exports.{AreExports, exports_of, match_if, matches_from}
 use Rattle.cq_shards.specs.Order.{values_in}
-use Rattle.cq_run.specs.Promise.{SinkView, Sinks, Texts, Writes, WritesPrefix, WritesSome, WritesAll, WritesPart, Unfinished, IsUnwritten, NoWriteFailed, OneSinkFailed, sinks_of}
-use Rattle.cq_run.specs.Writing.{WritesText, WritesFault, WritesKept, InOrder, AnswersGame, AnswersSome, FoundSoFar, WritesAnswer, WritesSummary, Stand, stand_of, onward, tallied, kept_if, kept_from, texts_of_game}
+use Rattle.cq_run.specs.Promise.{SinkView, Sinks, Texts, Writes, WritesPrefix, WritesAll, WritesPart, Unfinished, IsUnwritten, NoWriteFailed, OneSinkFailed, sinks_of}
+use Rattle.cq_run.specs.Writing.{WritesText, WritesFault, WritesKept, InOrder, AnswersGame, FoundSoFar, WritesAnswer, WritesSummary, Stand, stand_of, onward, tallied, kept_if, kept_from, texts_of_game}
 use Rattle.cq_run.proofs.Exports.{matches_more, written_none, unsorted_exports, sorted_exports, none_ordered}
 use Rattle.cq_run.proofs.Sinks.{unwritten, wrote_none, grew_on, Took, took_count, took_on, took_front, prefix_of, fails_after, none_after}
 

@@ -8,7 +8,7 @@ use Rattle.std.proofs.lemmas.List.Sorted.{sum_by-IsPermutation}
 use Rattle.cq_outside.specs.Faults.{Rose}
 use Rattle.cq_outside.specs.declared.faults.Refusal.TheVariants.{Fault}
 use Rattle.cq_shards.specs.Answers.{AnswersBatch, answers_from, found_in, games_of, number_of, text_of}
-use Rattle.cq_shards.specs.Nexts.{GivesBatch, GivesNoMore, GivesNone, HasBatchCause, Moves, SaysNext}
+use Rattle.cq_shards.specs.Nexts.{GivesBatch, HasGivenAll, HasGivenFull, HasBatchCause, Moves, SaysNext}
 use Rattle.cq_shards.specs.Outcomes.{AreKeptRead, Outcome}
 use Rattle.cq_shards.specs.Streams.{Stands}
 use Rattle.cq_shards.specs.declared.answers.Answer.TheVariants.{Match, Miss, Refused}
@@ -193,9 +193,9 @@ turn_counted query archive limit b left totals new batch answers t turn answered
 
 -- all games were counted
 pub all_counted : Laws → (query : QueryTree) (archive : List ℕ) (limit : ℕ) (was now : Batches) (left after : List ℕ) (totals : Totals)
-    → CountedSoFar query archive limit was left totals → Moves was now (Some left) (Some after) (GivesNoMore now) → AreTotals query archive totals
+    → CountedSoFar query archive limit was left totals → Moves was now (Some left) (Some after) (HasGivenAll now) → AreTotals query archive totals
 all_counted laws query archive limit was now left after totals so moves =
-    let at = moved laws limit was now (sure archive) (sure left) (sure after) so.front so.m (GivesNoMore now) so.stands so.reached moves in
+    let at = moved laws limit was now (sure archive) (sure left) (sure after) so.front so.m (HasGivenAll now) so.stands so.reached moves in
     let front = so.front ++ moves.bytes in
     let all = all_read laws limit now (sure archive) (sure after) front so.m so.outcomes at.reached refl
     (subst (λ gs. AreKeptRead gs so.outcomes) (sym at.same) so.are_read) (moves.given so.front so.m so.stands) in
@@ -218,9 +218,9 @@ taken_few : (archive front rest : List ℕ) → archive ≡ front ++ rest → le
 taken_few archive front rest is = let l = length-append front rest in let e : length archive ≡ length (front ++ rest) = ap length is in omega (arith, l, e)
 
 pub none_too_long : Laws → (query : QueryTree) (archive : List ℕ) (limit : ℕ) (was now : Batches) (left after : List ℕ) (totals : Totals)
-    → CountedSoFar query archive limit was left totals → Moves was now (Some left) (Some after) (GivesNone was (λ n. was.limit < n)) → length archive ≤ limit → ⊥
+    → CountedSoFar query archive limit was left totals → Moves was now (Some left) (Some after) (HasGivenFull was (λ n. was.limit < n)) → length archive ≤ limit → ⊥
 none_too_long laws query archive limit was now left after totals so moves low =
-    let at = moved laws limit was now (sure archive) (sure left) (sure after) so.front so.m (GivesNone was (λ n. was.limit < n)) so.stands so.reached moves in
+    let at = moved laws limit was now (sure archive) (sure left) (sure after) so.front so.m (HasGivenFull was (λ n. was.limit < n)) so.stands so.reached moves in
     let long = (moves.given so.front so.m so.stands).taken in
     let few = taken_few archive (so.front ++ moves.bytes) after at.reached.takes in
     let same = so.reached.limit_ in

@@ -15,7 +15,7 @@ use Rattle.cq_shards.specs.Queues.{IsNextBatch, IsBatchAt}
 use Rattle.cq_shards.specs.Streams.{Stands}
 use Rattle.cq_shards.specs.Whole.{closed_games, cut_games}
 use Rattle.cq_shards.specs.Kept.{kept}
-use Rattle.cq_shards.specs.Nexts.{Moves, GivesBatch, GivesNoMore}
+use Rattle.cq_shards.specs.Nexts.{Moves, GivesBatch, HasGivenAll}
 use Rattle.cq_shards.specs.Outcomes.{Outcome, AreKeptRead}
 use Rattle.cq_run.specs.ByBatches.{Laws}
 use Rattle.cq_run.specs.Outcomes.{HasGames}
@@ -149,7 +149,7 @@ pub record ReadsAll (limit : ℕ) (source now : SourceView) (archive : List ℕ)
   pub are_read : HasGames archive rs
 
 pub all_read : Laws → (limit : ℕ) (b : Batches) (source now : SourceView) (front : List ℕ) (m : ℕ) (rs : List Outcome) → Reached limit b source now front m → now.faults ≡ source.faults
-    → AreKeptRead (given front m) rs → GivesNoMore b front m → ReadsAll limit source now front rs
+    → AreKeptRead (given front m) rs → HasGivenAll b front m → ReadsAll limit source now front rs
 all_read laws limit b source now front m rs r counts read none =
     let bs = batches (cut_games front) in
     let games : given front m ≡ cut_games front = ap flat (take_all m bs (let a = none.all in omega (arith, a))) ∙ all_batches laws (cut_games front) in

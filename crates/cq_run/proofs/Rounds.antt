@@ -16,7 +16,7 @@ use Rattle.cq_run.specs.declared.status.Status.{Status}
 use Rattle.cq_run.specs.declared.status.Status.TheVariants.{Done, DoneWithRefusals, QueryRefused, WordsRefused, OpenFault, ReadFault, WriteFault, NoMemory, ArchiveTooLong}
 use Rattle.cq_run.specs.Asking.{texts_of, texts_so_far}
 use Rattle.cq_shards.specs.Answers.{AnswersBatch, answers_from, games_of, number_of}
-use Rattle.cq_shards.specs.Nexts.{Moves, GivesBatch, GivesNoMore, GivesNone}
+use Rattle.cq_shards.specs.Nexts.{Moves, GivesBatch, HasGivenAll, HasGivenFull}
 use Rattle.cq_shards.specs.Outcomes.{Outcome, AreKeptRead}
 use Rattle.cq_run.specs.ByBatches.{Laws}
 use Rattle.cq_run.specs.Promise.{SourceView, SinkView, Sinks, FindsAll, Stops, Breaks, WritesPrefix, SaysOfAnswer, Suffices, AnswersAll, AnswerPromise, NoWriteFailed, OneSinkFailed, IsOneOf, sinks_of}
@@ -283,28 +283,28 @@ round_starves laws sorted query limit was now source mid after sinks stand Given
     (subst (λ gs. AreKeptRead gs so.outcomes) (sym at.same) so.are_read) (as_prefix sinks (texts_so_far sorted query so.outcomes) so.found.writes) so.found.unfailed
 
 pub round_unread : Laws → (sorted : Bool) (query : QueryTree) (limit : ℕ) (was now : Batches) (source mid after : SourceView) (sinks : Sinks) (stand : Stand)
-    → have_sort query.items ≡ sorted → Rounds sorted query limit was source mid sinks stand → Moves was now mid.left after.left (GivesNone was (λ n. n ≤ was.limit))
+    → have_sort query.items ≡ sorted → Rounds sorted query limit was source mid sinks stand → Moves was now mid.left after.left (HasGivenFull was (λ n. n ≤ was.limit))
     → Rose mid.faults after.faults → AnswerPromise (texts_of query) ReadFault (asked limit source after sinks)
 round_unread laws sorted query limit was now source mid after sinks stand sorts so moves rose =
-    let at = moved laws limit was now source mid after so.front so.m (GivesNone was (λ n. n ≤ was.limit)) so.stands so.reached moves in
+    let at = moved laws limit was now source mid after so.front so.m (HasGivenFull was (λ n. n ≤ was.limit)) so.stands so.reached moves in
     let none = moves.given so.front so.m so.stands in
     unread laws sorted query limit now source after (so.front ++ moves.bytes) so.m so.outcomes sinks stand sorts at.reached (subst (λ n. Rose n after.faults) so.counts rose)
     (subst (λ gs. AreKeptRead gs so.outcomes) (sym at.same) so.are_read) so.found none.all (subst (λ k. length (so.front ++ moves.bytes) ≤ k) so.reached.limit_ none.taken)
 
 pub round_too_long : Laws → (sorted : Bool) (query : QueryTree) (limit : ℕ) (was now : Batches) (source mid after : SourceView) (sinks : Sinks) (stand : Stand)
-    → have_sort query.items ≡ sorted → Rounds sorted query limit was source mid sinks stand → Moves was now mid.left after.left (GivesNone was (λ n. was.limit < n))
+    → have_sort query.items ≡ sorted → Rounds sorted query limit was source mid sinks stand → Moves was now mid.left after.left (HasGivenFull was (λ n. was.limit < n))
     → after.faults ≡ mid.faults → AnswerPromise (texts_of query) ArchiveTooLong (asked limit source after sinks)
 round_too_long laws sorted query limit was now source mid after sinks stand sorts so moves counts =
-    let at = moved laws limit was now source mid after so.front so.m (GivesNone was (λ n. was.limit < n)) so.stands so.reached moves in
+    let at = moved laws limit was now source mid after so.front so.m (HasGivenFull was (λ n. was.limit < n)) so.stands so.reached moves in
     let none = moves.given so.front so.m so.stands in
     too_long laws sorted query limit now source after (so.front ++ moves.bytes) so.m so.outcomes sinks stand sorts at.reached (counts ∙ so.counts)
     (subst (λ gs. AreKeptRead gs so.outcomes) (sym at.same) so.are_read) so.found none.all (subst (λ k. k < length (so.front ++ moves.bytes)) so.reached.limit_ none.taken)
 
 pub round_ends : Laws → (sorted : Bool) (query : QueryTree) (limit : ℕ) (was now : Batches) (source mid after : SourceView) (sinks : Sinks) (stand : Stand)
-    → (so : Rounds sorted query limit was source mid sinks stand) → (moves : Moves was now mid.left after.left (GivesNoMore now)) → after.faults ≡ mid.faults
+    → (so : Rounds sorted query limit was source mid sinks stand) → (moves : Moves was now mid.left after.left (HasGivenAll now)) → after.faults ≡ mid.faults
     → ReadsAll limit source after (so.front ++ moves.bytes) so.outcomes
 round_ends laws sorted query limit was now source mid after sinks stand so moves counts =
-    let at = moved laws limit was now source mid after so.front so.m (GivesNoMore now) so.stands so.reached moves in
+    let at = moved laws limit was now source mid after so.front so.m (HasGivenAll now) so.stands so.reached moves in
     all_read laws limit now source after (so.front ++ moves.bytes) so.m so.outcomes at.reached (counts ∙ so.counts)
     (subst (λ gs. AreKeptRead gs so.outcomes) (sym at.same) so.are_read) (moves.given so.front so.m so.stands)
 

@@ -1,5 +1,5 @@
 //! Answering a query over an archive that is open.
-ghost use Rattle.std.specs.Prelude.{◌≤◌, ◌≡◌, ◌^◌};
+ghost use Rattle.std.specs.Prelude.{◌≤◌, ◌^◌};
 ghost use Rattle.cql_syntax.specs.TreeOf.{query_tree};
 ghost use Rattle.cq_run.specs.Asking.{texts_of};
 ghost use Rattle.cq_run.specs.Promise.{AnswerPromise, source_view, sink_view, sinks_of};
@@ -14,9 +14,22 @@ use pgn_reader::games_have_outcomes;
 use std::alloc::Global;
 use std::thread::Threads;
 
-/// Answers a query over the archive that `source` has left: batch by batch, the games of each by 1 to 64 workers in threads of `rt`.
-/// Without a sort item the exports and fault lines of a batch are written before the next one is asked for; with one the games that
-/// match are kept until all are answered. `AnswerPromise` says what each status means, and what the sinks have taken then.
+/// Answers a query over the archive that `source` has left: batch by batch, the games of each by `settings.workers` workers, from 1 to 64,
+/// in threads of `rt`, of the first `settings.limit` bytes, from 1 to 2^40. Both ranges are conditions. A batch has 1,024 games, or
+/// fewer of which 2^24 bytes are kept, or those that are left at the end.
+///
+/// The source is read in pieces of at most 65,536 bytes, none while a full batch waits, and at most one byte over the limit in all.
+/// Without a sort item the exports and fault lines of a batch are written before the next one is asked for; with one the fault lines
+/// are, and the games that match are kept until all are answered. Nothing is written after a fault.
+///
+/// Answers:
+/// - `Done` or `DoneWithRefusals`: both sinks have taken all, and no game, or some, is faulty.
+/// - `ReadFault`: a read failed, and no other count rose. Of the games of the batches that were full by then all that is due is written.
+/// - `ArchiveTooLong`: one byte more than the limit was read, and no count rose. Written is as much as after a failed read.
+/// - `WriteFault`: a write to one sink failed, and no other count rose. Each sink has taken a prefix of its text.
+/// - `NoMemory`: no memory was found, and no count rose. Each sink has taken a prefix of its text.
+///
+/// The clause `AnswerPromise` says each of these exactly; no other status is given.
 pub fn answer<R: Threads + Sync, S: Source, O: Sink, E: Sink, G: Gate + Sync>(
     rt: &R,
     alloc: Global,

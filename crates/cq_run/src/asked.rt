@@ -1,5 +1,4 @@
 //! Reading a query, and saying what is wrong with one.
-ghost use Rattle.std.specs.Prelude.{◌≡◌};
 ghost use Rattle.cq_run.specs.Asked.{ReadsQuery, ReadsFile, TellsWhy};
 ghost use Rattle.cq_run.specs.Promise.{SinkView, desk_view, sink_view, sinks_of};
 ghost use Rattle.cq_run.specs.Run.{AcceptsQuery, RefusesQuery};

@@ -6,7 +6,8 @@ ghost use Rattle.cq_shards.specs.Answers.{answer_of, answers_from, query_in};
 ghost use Rattle.cq_shards.specs.Outcomes.{Outcome};
 ghost use Rattle.cq_run.specs.Sorts.{have_sort as some_sort};
 ghost use Rattle.cq_run.specs.Promise.{SinkView, sink_view, sinks_of};
-ghost use Rattle.cq_run.specs.Writing.{AnswersGame, AnswersSome, FoundSoFar, stand_of, WritesAnswer, WritesFault, WritesKept, WritesSummary, WritesText};
+ghost use Rattle.cq_run.specs.Writing.{AnswersGame, AnswersSome, FoundSoFar, stand_of, WritesAnswer};
+ghost use Rattle.cq_run.specs.Writing.{WritesFault, WritesKept, WritesSummary, WritesText};
 
 use crate::sorts::have_sort;
 use crate::status::Status;

@@ -1,5 +1,5 @@
 //! Answering batch by batch.
-ghost use Rattle.std.specs.Prelude.{◌≤◌, ◌≡◌, ◌^◌, IfOk};
+ghost use Rattle.std.specs.Prelude.{◌≤◌, ◌^◌, IfOk};
 ghost use Rattle.cq_shards.specs.Answers.{AnswersBatch, query_in};
 ghost use Rattle.cq_run.specs.Asking.{texts_of};
 ghost use Rattle.cq_run.specs.Promise.{AnswerPromise, source_view, sink_view, sinks_of};

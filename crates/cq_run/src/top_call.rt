@@ -36,8 +36,9 @@ const USAGE: &[u8] =
 ///   R written W`, where B is the length of the archive and W that of the exports, and no file is opened.
 ///
 /// `run`, `eval` and `selfrun` take `--workers N`, from 1 to 64, the number of workers that answer the games of a batch, in threads of
-/// `rt`; each tells `gate` as it enters and leaves a game. `run` and `eval` take `--limit B`, from 1 to 2^40: more than so many bytes
-/// of an archive are refused. Of a query's file at most 65,537 bytes are taken. A query with a fault is refused by a line on `err`,
+/// `rt`, by default 4; each tells `gate` as it enters and leaves a game. `run` and `eval` take `--limit B`, from 1 to 2^40: more than so
+/// many bytes of an archive are refused, of which one more is taken at most. An archive is read in pieces of at most 65,536 bytes, batch
+/// by batch. Of a query's file at most 65,537 bytes are taken. A query with a fault is refused by a line on `err`,
 /// `query byte B: REASON`, before the archive is opened, and other words by the usage line.
 ///
 /// Answers:

@@ -169,8 +169,14 @@ fn queries_are_accepted_or_refused_at_their_byte(rt: HostRuntime) -> Result<(), 
     Ok(())
 }
 
-// A text that is so many times written after `cql()`, and then another.
-fn repeated(alloc: Global, start: &str, text: &str, times: u32, end: &str) -> Result<String, Fail> {
+/// A text, another that is so many times written after it, and then a last one.
+pub(crate) fn repeated(
+    alloc: Global,
+    start: &str,
+    text: &str,
+    times: u32,
+    end: &str,
+) -> Result<String, Fail> {
     let mut query = String::from_str(alloc, start)?;
     for _ in 0..times {
         query.push_str(text)?;

@@ -1,9 +1,8 @@
 -- Batches of lists that grow.
-use Rattle.std.proofs.Common.{◌≡◌, ℕ, ◌+◌, List, [], ◌∷◌, ◌++◌, length, Bool, true, false, cond, refl, sym, ap, ◌∙◌, if◌then◌else◌}
+use Rattle.std.proofs.Common.{◌≡◌, ◌+◌, List, [], ◌∷◌, ◌++◌, Bool, true, false, refl, sym, ap, ◌∙◌, if◌then◌else◌}
 use Rattle.std.proofs.lemmas.List.{append-nil, append_assoc}
-use Rattle.std.specs.List.{flat_map}
 use Rattle.cq_shards.specs.declared.kept.KeptGame.{KeptGame}
-use Rattle.cq_shards.specs.Batching.{is_full, full_at, size_of, full_from, left_from, full_batches, left_over, flat}
+use Rattle.cq_shards.specs.Batching.{is_full, full_at, full_from, left_from, full_batches, left_over, flat}
 use Rattle.cq_shards.specs.Kept.{KeptGames}
 
 splits_if : (b : Bool) (x : KeptGames) (full1 full2 more1 more2 : List KeptGames) (left1 left2 : KeptGames) (after : KeptGames → List KeptGames)

@@ -1,5 +1,5 @@
 -- The meaning of a query gives a game one key for each sort item.
-use Rattle.std.proofs.Common.{◌≡◌, ℕ, ◌+◌, List, length, refl, sym, ap, ap₂, ◌∙◌}
+use Rattle.std.proofs.Common.{◌≡◌, ℕ, ◌+◌, List, length, refl, sym, ap₂, ◌∙◌}
 use Rattle.std.proofs.lemmas.List.{length-append}
 use Rattle.cq_position.specs.Games.{Game}
 use Rattle.cq_position.specs.Search.{SearchedTree}

@@ -1,19 +1,19 @@
 -- Workers as they draw, and what is gathered of them.
-use Rattle.std.proofs.Common.{Some, length-append, ◌-◌, ◌==◌, ◌≡◌, ◌≢◌, ℕ, ◌+◌, ◌<◌, ◌≤◌, List, [], ◌∷◌, ◌++◌, length, refl, sym, ap, ◌∙◌, subst, arith, All, cond, eq-eqb, Bool, true, false, if◌then◌else◌}
-use Rattle.std.specs.Prelude.{sum_by, count_by, nat_lt, nat_eq}
+use Rattle.std.proofs.Common.{Some, length-append, ◌-◌, ◌==◌, ◌≡◌, ℕ, ◌+◌, ◌<◌, ◌≤◌, List, [], ◌∷◌, ◌++◌, length, refl, sym, ap, ◌∙◌, subst, arith, All, cond, eq-eqb, Bool, true, false}
+use Rattle.std.specs.Prelude.{sum_by, nat_eq}
 use Rattle.std.proofs.lemmas.List.{map-append}
 use Rattle.std.proofs.lemmas.List.Elements.{All-pop, All-push, All-nil, All-append}
 use Rattle.std.proofs.lemmas.List.Sums.{sum_by-append, sum_by_push}
 use Rattle.cq_board.specs.declared.seat.Board.{Board}
 use Rattle.cq_board.specs.declared.seat.ClaimSeat.{ClaimSeat}
 use Rattle.cq_board.specs.Draws.{times, times_in, once_below, IsDrawnOnce}
-use Rattle.cq_board.specs.Seats.{numbers_of, seats_of, IsSeatOf, drawn, all_drawn, HasEnded}
+use Rattle.cq_board.specs.Seats.{seats_of, IsSeatOf, drawn, all_drawn, HasEnded}
 use Rattle.cq_shards.specs.declared.batch.Batch.{Batch}
 use Rattle.cq_shards.specs.declared.answers.GameAnswer.{GameAnswer}
 use Rattle.cq_shards.specs.declared.workers.Worker.{Worker}
 use Rattle.cql_syntax.specs.Trees.{QueryTree}
 use Rattle.cq_shards.specs.Answers.{AreAnswersOf, IsAnswerAmong, IsAnswerAt, answers_at, games_of, number_of}
-use Rattle.cq_shards.specs.Work.{HasAnswered, IsFresh, IsPast, IsThrough, size}
+use Rattle.cq_shards.specs.Work.{HasAnswered, IsFresh, IsThrough, size}
 
 abbrev IsAnswerIn : QueryTree → Batch → GameAnswer → Type 0
 IsAnswerIn query b a = IsAnswerAmong query (number_of b) (games_of b) a

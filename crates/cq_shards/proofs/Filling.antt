@@ -1,18 +1,15 @@
 -- Reading until a full batch is there.
-use Rattle.std.proofs.Common.{◌≡◌, ◌⊎◌, inl, inr, ℕ, ◌+◌, ◌-◌, ◌<◌, ◌≤◌, List, [], ◌∷◌, ◌++◌, length, take, drop, Option, Some, None, refl, sym, subst, ap, ap₂, ◌∙◌, arith, Bool, true, false, Result, Ok, Err, OnOk}
+use Rattle.std.proofs.Common.{◌≡◌, ◌⊎◌, inl, inr, ℕ, ◌+◌, ◌-◌, ◌<◌, ◌≤◌, List, [], ◌∷◌, ◌++◌, length, take, drop, Option, Some, None, refl, sym, subst, ap, ◌∙◌, arith, Bool, true, false, Result, Ok, Err, OnOk}
 use Rattle.std.specs.Io.KnownBytes.{Consumes, IsAtEnd, Keeps}
-use Rattle.std.proofs.lemmas.List.{append-nil, append_assoc, length-append, take-append-le, take-append-drop, length-take}
+use Rattle.std.proofs.lemmas.List.{append-nil, append_assoc, length-append, take-append-le, take-append-drop}
 use Rattle.cq_shards.specs.declared.batch.Batch.{Batch}
-use Rattle.cq_shards.specs.declared.state.Queue.{Queue}
 use Rattle.cq_shards.specs.declared.state.Batches.{Batches}
-use Rattle.cq_shards.specs.Batching.{full_batches, flat}
+use Rattle.cq_shards.specs.Batching.{full_batches}
 use Rattle.cq_shards.specs.Kept.{KeptGames}
-use Rattle.cq_shards.specs.Queues.{Fills, AreBatches, IsDone, IsNextBatch, IsBatchAt, GivesLast}
+use Rattle.cq_shards.specs.Queues.{Fills, IsDone, IsNextBatch, GivesLast}
 use Rattle.cq_shards.specs.Streams.{Stands}
-use Rattle.cq_shards.specs.Filling.{Took, HasRead, HasReadLost, HasFilled, HasLost, IsNeeded}
-use Rattle.cq_shards.specs.Nexts.{Moves, GivesBatch, GivesNoMore, GivesNone, SaysNext}
-use Rattle.cq_outside.specs.declared.faults.Refusal.TheVariants.{Fault, NoMemory}
-use Rattle.cq_shards.specs.declared.state.BatchFault.TheVariants.{ReadFault, ArchiveTooLong}
+use Rattle.cq_shards.specs.Filling.{most_read, Took, HasRead, HasReadLost, HasFilled, HasLost}
+use Rattle.cq_shards.specs.Nexts.{Moves, GivesBatch, HasGivenAll, HasGivenFull, SaysNext}
 use Rattle.cq_shards.specs.Whole.{closed_games, cut_games}
 use Rattle.cq_shards.proofs.Batching.{full_grow}
 use Rattle.cq_shards.proofs.Queues.{all_given, full_is_batch}
@@ -32,10 +29,10 @@ fewer grows front more =
     let e : length (full_batches (closed_games (front ++ more))) ≡ length (full_batches (closed_games front) ++ f.0) = ap (λ (gs : KeptGames). length (full_batches gs)) g.1 ∙ ap length f.1 in
     let l = length-append (full_batches (closed_games front)) f.0 in omega arith
 
-needed_prefix : Grows → (f piece : List ℕ) (m : ℕ) → length piece ≤ 65536 → length (full_batches (closed_games f)) ≡ m
-    → length (full_batches (closed_games (take (length (f ++ piece) - 65536) (f ++ piece)))) ≤ m
+needed_prefix : Grows → (f piece : List ℕ) (m : ℕ) → length piece ≤ most_read → length (full_batches (closed_games f)) ≡ m
+    → length (full_batches (closed_games (take (length (f ++ piece) - most_read) (f ++ piece)))) ≤ m
 needed_prefix grows f piece m short all =
-    let k : ℕ = length (f ++ piece) - 65536 in
+    let k : ℕ = length (f ++ piece) - most_read in
     let l = length-append f piece in
     let e : take k (f ++ piece) ≡ take k f = take-append-le k f piece (omega arith) in
     let low = fewer grows (take k f) (drop k f) in
@@ -73,7 +70,7 @@ fills_more grows was now next left mid after so none reads read = record {
       let e = append_assoc front so.bytes read.piece in
       let all = all_given now.queue (closed_games (front ++ so.bytes)) m (s.open_ reads) none in (
         subst (λ (f : List ℕ). Stands next f m) e (read.stands (front ++ so.bytes) m s),
-        λ some. subst (λ (f : List ℕ). length (full_batches (closed_games (take (length f - 65536) f))) ≤ m) e (needed_prefix grows (front ++ so.bytes) read.piece m read.short all),
+        λ some. subst (λ (f : List ℕ). length (full_batches (closed_games (take (length f - most_read) f))) ≤ m) e (needed_prefix grows (front ++ so.bytes) read.piece m read.short all),
       );
 }
 
@@ -102,7 +99,7 @@ lost_more grows was now next left mid after so none reads lost = record {
       let k = so.limit in
       let same : length (front ++ (so.bytes ++ lost.piece)) ≡ length ((front ++ so.bytes) ++ lost.piece) = ap length (sym e) in (
         omega arith,
-        λ some. subst (λ (f : List ℕ). length (full_batches (closed_games (take (length f - 65536) f))) ≤ m) e (needed_prefix grows (front ++ so.bytes) lost.piece m lost.short all),
+        λ some. subst (λ (f : List ℕ). length (full_batches (closed_games (take (length f - most_read) f))) ≤ m) e (needed_prefix grows (front ++ so.bytes) lost.piece m lost.short all),
       );
 }
 
@@ -217,7 +214,7 @@ given_full was mid now left left_after batch rest so same gives first =
 pub given_last : (r : Option Batch) (was mid now : Batches) (left left_after : Option (List ℕ)) → HasFilled was mid left left_after → IsSame mid now → mid.ended ≡ true
     → ((games : KeptGames) (m : ℕ) → Fills mid.queue games m ⊎ IsDone mid.queue games m → GivesLast games m r now.queue) → SaysNext was now left left_after (Ok r)
 given_last None was mid now left left_after so same over gives =
-    moves_of was mid now left left_after (GivesNoMore now) so same
+    moves_of was mid now left left_after (HasGivenAll now) so same
     (λ front m s.
     let g = gives (cut_games front) m (s.at_end over) in
     record { all = g.all; ended = same.ended ∙ over; stands = stands_same mid now front m m same s (λ o. absurd (let e = same.ended in grind arith)) (λ o. inr g) })
@@ -247,9 +244,9 @@ fills_no_more was now left mid after so nothing reads = record {
 -- no full batch is there
 pub given_none : (was mid now : Batches) (left left_after : Option (List ℕ)) (AreTaken : ℕ → Type 0) → HasFilled was mid left left_after → IsSame mid now → mid.queue.full.items ≡ []
     → mid.ended ≡ false
-    → ((n : ℕ) → mid.taken ≡ n → AreTaken n) → Moves was now left left_after (GivesNone was AreTaken)
+    → ((n : ℕ) → mid.taken ≡ n → AreTaken n) → Moves was now left left_after (HasGivenFull was AreTaken)
 given_none was mid now left left_after AreTaken so same none reads taken =
-    moves_of was mid now left left_after (GivesNone was AreTaken) so same
+    moves_of was mid now left left_after (HasGivenFull was AreTaken) so same
     (λ front m s. record { all = all_given mid.queue (closed_games front) m (s.open_ reads) none; reads = before_open was mid left left_after so reads; taken = taken (length front) s.taken })
 
 pub lost : (was now : Batches) (left left_after : Option (List ℕ)) → HasLost was now left left_after → Moves was now left left_after (λ front m. Unit {0})

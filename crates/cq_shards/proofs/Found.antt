@@ -1,5 +1,5 @@
 -- What a query finds in a game that was read.
-use Rattle.std.proofs.Common.{◌≡◌, ℕ, ◌+◌, ◌<◌, ◌==◌, not, Bool, true, false, ℤ, List, [], ◌∷◌, length, get_or, map, Some, Ok, Err, refl, ap, sym, ◌∙◌, cond}
+use Rattle.std.proofs.Common.{◌≡◌, ℕ, ◌+◌, ◌<◌, ◌==◌, true, false, ℤ, List, [], ◌∷◌, length, get_or, map, Some, Ok, Err, refl, ap, sym, ◌∙◌, cond}
 use Rattle.std.specs.Prelude.{Result, IfOk}
 use Rattle.std.proofs.lemmas.Option.{slice_get-get_or}
 use Rattle.cq_position.specs.Games.{Game}

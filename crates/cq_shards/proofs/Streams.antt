@@ -1,8 +1,8 @@
 -- `Batches` before and after a piece.
-use Rattle.std.proofs.Common.{◌≡◌, ◌⊎◌, ℕ, ◌+◌, ◌-◌, ◌<◌, ◌≤◌, ◌^◌, List, [], ◌∷◌, ◌++◌, length, map, take, drop, get_or, refl, sym, subst, ap, ap₂, ◌∙◌, All, arith, true, false, inl, inr, Option, None, Some, min, Result, Ok, Err, OnOk}
+use Rattle.std.proofs.Common.{◌≡◌, ◌⊎◌, ℕ, ◌+◌, ◌-◌, ◌<◌, ◌≤◌, ◌^◌, List, [], ◌∷◌, ◌++◌, length, map, drop, get_or, refl, sym, subst, ap, ap₂, ◌∙◌, All, arith, true, false, inl, inr, Option, None, Some, min, Result, Ok, Err, OnOk}
 use Rattle.std.specs.Option.{unwrap_or}
 use Rattle.std.proofs.lemmas.Bool.{cases_lt}
-use Rattle.std.proofs.lemmas.List.{map-append, append_assoc, append-nil, length-append, length-map, length-take, drop-drop, take_all}
+use Rattle.std.proofs.lemmas.List.{map-append, append_assoc, append-nil, length-append, length-map, drop-drop}
 use Rattle.std.proofs.Math.Seq.{drop-append_seam}
 use Rattle.std.proofs.lemmas.List.Elements.{All-nil, All-cons, All-head, All-drop}
 use Rattle.pgn_cut.specs.Cut.{cut, closed}

@@ -1,8 +1,7 @@
 -- What a window and the piece after it have of a game is what is kept of it.
-use Rattle.std.proofs.Common.{◌≡◌, ◌⊎◌, inl, inr, ℕ, ◌+◌, ◌-◌, ◌<◌, ◌≤◌, ◌^◌, zero, suc, List, [], ◌∷◌, ◌++◌, length, map, take, drop, get_or, min, refl, sym, subst, ap, ap₂, ◌∙◌, All, arith, Bool, true, false, Result, Ok, Err, OnOk}
-use Rattle.std.specs.Prelude.{slice_range, nat_le, slice_index_or}
-use Rattle.std.proofs.lemmas.List.{length-append, drop-append-le, take-take, drop-drop, length-map, length-take, length-drop, take_all, take_more, drop_all, append_assoc, map-append}
-use Rattle.std.proofs.lemmas.Bool.{cases_lt}
+use Rattle.std.proofs.Common.{◌≡◌, ◌⊎◌, inl, inr, ℕ, ◌+◌, ◌-◌, ◌<◌, ◌≤◌, ◌^◌, zero, suc, List, [], ◌∷◌, ◌++◌, length, map, take, drop, get_or, min, refl, sym, subst, ap, ap₂, ◌∙◌, All, arith, Bool, true, false}
+use Rattle.std.specs.Prelude.{slice_range, nat_le}
+use Rattle.std.proofs.lemmas.List.{length-append, drop-append-le, take-take, length-map, length-take, length-drop, take_more, drop_all, append_assoc, map-append}
 use Rattle.std.proofs.Math.Seq.{drop-append_seam}
 use Rattle.std.proofs.lemmas.List.Elements.{All-cons, All-drop, All-head, All-nil}
 use Rattle.pgn_cut.specs.Spans.{EndsBy}

@@ -1,18 +1,16 @@
 -- What a call for the next batch does.
-use Rattle.std.specs.Prelude.{◌≡◌, ◌⊎◌, ℕ, ◌+◌, ◌-◌, ◌<◌, ◌≤◌, Bool, true, false, List, [], ◌∷◌, ◌++◌, length, take, Option, Some, None, Result, Ok, Err, slice_get}
+use Rattle.std.specs.Prelude.{◌≡◌, ◌⊎◌, ℕ, ◌+◌, ◌-◌, ◌<◌, ◌≤◌, true, false, List, [], ◌++◌, length, take, Option, Result, Ok, Err}
 use Rattle.std.specs.Io.KnownBytes.{Consumes, IsAtEnd}
-use Rattle.cq_outside.specs.declared.faults.Failed.{Failed}
 use Rattle.cq_outside.specs.declared.faults.Refusal.{Refusal}
 use Rattle.cq_outside.specs.declared.faults.Refusal.TheVariants.{Fault, NoMemory as IsNoMemory}
-use Rattle.cq_shards.specs.declared.batch.Batch.{Batch}
 use Rattle.cq_shards.specs.declared.state.Batches.{Batches}
-use Rattle.cq_shards.specs.declared.state.BatchFault.{BatchFault}
-use Rattle.cq_shards.specs.declared.state.BatchFault.TheVariants.{ReadFault, ArchiveTooLong}
-use Rattle.cq_shards.specs.Batching.{batches, full_batches, flat}
-use Rattle.cq_shards.specs.Kept.{KeptGames}
-use Rattle.cq_shards.specs.Queues.{IsNextBatch, IsBatchAt}
+use Rattle.cq_shards.specs.Batching.{batches, full_batches}
 use Rattle.cq_shards.specs.Streams.{Stands}
-use Rattle.cq_shards.specs.Whole.{closed_games, cut_games}
+use Rattle.cq_shards.specs.Whole.{closed_games}
+
+-- how many bytes a read takes at most
+abbrev pub most_read : ℕ
+most_read = 65536
 
 -- a piece was taken, an empty one at the end
 pub record Took (was now : Batches) (piece : List ℕ) : Type 0 where
@@ -27,7 +25,7 @@ pub record Took (was now : Batches) (piece : List ℕ) : Type 0 where
 pub record HasRead (was now : Batches) (left left_after : Option (List ℕ)) : Type 0 where
   pub piece : List ℕ
   pub takes : Consumes left left_after piece
-  pub short : length piece ≤ 65536
+  pub short : length piece ≤ most_read
   pub stands : (front : List ℕ) (m : ℕ) → Stands was front m → Stands now (front ++ piece) m
   pub at_end : now.ended ≡ true → IsAtEnd left_after
   pub some : now.ended ≡ false → 0 < length piece
@@ -38,7 +36,7 @@ pub record HasRead (was now : Batches) (left left_after : Option (List ℕ)) : T
 -- where bytes were taken, the batches given were all that the bytes before the last read fill
 abbrev pub IsNeeded : List ℕ → List ℕ → ℕ → Type 0
 IsNeeded front bytes m = 0 < length bytes
-    → length (full_batches (closed_games (take (length (front ++ bytes) - 65536) (front ++ bytes)))) ≤ m
+    → length (full_batches (closed_games (take (length (front ++ bytes) - most_read) (front ++ bytes)))) ≤ m
 
 -- some reads were made, each where no full batch was there
 pub record HasFilled (was now : Batches) (left left_after : Option (List ℕ)) : Type 0 where
@@ -54,7 +52,7 @@ pub record HasFilled (was now : Batches) (left left_after : Option (List ℕ)) :
 pub record HasReadLost (was now : Batches) (left left_after : Option (List ℕ)) : Type 0 where
   pub piece : List ℕ
   pub takes : Consumes left left_after piece
-  pub short : length piece ≤ 65536
+  pub short : length piece ≤ most_read
   pub room : was.taken + length piece ≤ was.limit + 1
   pub limit : now.limit ≡ was.limit
   pub reads : now.ended ≡ false
@@ -67,12 +65,6 @@ pub record HasLost (was now : Batches) (left left_after : Option (List ℕ)) : T
   pub reads : now.ended ≡ false
   pub before : was.ended ≡ false
   pub stands : (front : List ℕ) (m : ℕ) → Stands was front m → (length (front ++ bytes) ≤ was.limit + 1) × IsNeeded front bytes m
-
--- the full batch with number `m` of the games that are closed, or, at the end, that of all games; or all were given
-abbrev pub IsGiven : List ℕ → ℕ → Batches → Option (List ℕ) → Option Batch → Type 0
-IsGiven front m b left (Some batch) =
-    (IsNextBatch (closed_games front) m batch ⊎ (IsBatchAt (cut_games front) m batch × IsAtEnd left)) × Stands b front (m + 1)
-IsGiven front m b left None = (length (batches (cut_games front)) ≡ m) × IsAtEnd left × Stands b front m
 
 -- a call that was refused by the source, or out of memory
 abbrev pub OnFault : {A F : Type 0} → Result A (Refusal F) → Type 0 → Type 0

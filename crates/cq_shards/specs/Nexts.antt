@@ -1,5 +1,5 @@
 -- What a call for the next batch promises.
-use Rattle.std.specs.Prelude.{◌≡◌, ◌⊎◌, ℕ, ◌+◌, ◌<◌, ◌≤◌, Bool, true, false, List, [], ◌++◌, length, Option, Some, None, Result, Ok, Err}
+use Rattle.std.specs.Prelude.{◌≡◌, ◌⊎◌, ℕ, ◌+◌, ◌<◌, ◌≤◌, true, false, List, [], ◌++◌, length, Option, Some, None, Result, Ok, Err}
 use Rattle.std.specs.Io.KnownBytes.{Consumes, IsAtEnd}
 use Rattle.cq_outside.specs.Faults.{Rose}
 use Rattle.cq_outside.specs.declared.faults.Refusal.{Refusal}
@@ -31,22 +31,22 @@ pub record GivesBatch (now : Batches) (batch : Batch) (front : List ℕ) (m : �
   pub is : IsNextBatch (closed_games front) m batch ⊎ (IsBatchAt (cut_games front) m batch × (now.ended ≡ true))
   pub stands : Stands now front (m + 1)
 
-pub record GivesNoMore (now : Batches) (front : List ℕ) (m : ℕ) : Type 0 where
+pub record HasGivenAll (now : Batches) (front : List ℕ) (m : ℕ) : Type 0 where
   pub all : length (batches (cut_games front)) ≡ m
   pub ended : now.ended ≡ true
   pub stands : Stands now front m
 
 -- all full batches of the bytes taken were given
-pub record GivesNone (was : Batches) (AreTaken : ℕ → Type 0) (front : List ℕ) (m : ℕ) : Type 0 where
+pub record HasGivenFull (was : Batches) (AreTaken : ℕ → Type 0) (front : List ℕ) (m : ℕ) : Type 0 where
   pub all : length (full_batches (closed_games front)) ≡ m
   pub reads : was.ended ≡ false
   pub taken : AreTaken (length front)
 
 abbrev pub SaysNext : Batches → Batches → Option (List ℕ) → Option (List ℕ) → Result (Option Batch) (Refusal BatchFault) → Type 0
 SaysNext was now left left_after (Ok (Some batch)) = Moves was now left left_after (GivesBatch now batch)
-SaysNext was now left left_after (Ok None) = Moves was now left left_after (GivesNoMore now)
-SaysNext was now left left_after (Err (Fault ReadFault)) = Moves was now left left_after (GivesNone was (λ n. n ≤ was.limit))
-SaysNext was now left left_after (Err (Fault ArchiveTooLong)) = Moves was now left left_after (GivesNone was (λ n. was.limit < n))
+SaysNext was now left left_after (Ok None) = Moves was now left left_after (HasGivenAll now)
+SaysNext was now left left_after (Err (Fault ReadFault)) = Moves was now left left_after (HasGivenFull was (λ n. n ≤ was.limit))
+SaysNext was now left left_after (Err (Fault ArchiveTooLong)) = Moves was now left left_after (HasGivenFull was (λ n. was.limit < n))
 SaysNext was now left left_after (Err IsNoMemory) = Moves was now left left_after (λ front m. Unit {0})
 
 -- the count of the source's faults around a call: it rose where a read failed, and stands still otherwise

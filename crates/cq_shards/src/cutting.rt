@@ -35,7 +35,8 @@ fn keep_all(
 }
 
 impl Batches {
-    /// Batches of which none was given, of a source that was not read. At most `limit` bytes are taken of it, and one more.
+    /// Batches of which none was given, of a source that was not read. At most `limit` bytes are taken of it, and one more. The limit is
+    /// from 1 to 2^40, which is a condition.
     pub fn new(alloc: Global, limit: u64) -> Batches
         requires { (1 ≤ limit) × (limit ≤ 2 ^ 40) }
         ensures stands { Stands result [] 0 }

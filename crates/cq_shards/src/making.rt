@@ -13,7 +13,11 @@ use pgn_cut::{Span, games_stand_apart};
 use std::alloc::Global;
 
 impl Batch {
-    /// The batch of games of an archive that follow one another; the first has the number `index`.
+    /// The batch of games that follow one another in the archive `bytes`; the first has the number `index` there, counted from 0. Of a game
+    /// longer than 2^24 bytes the first 2^24 + 1 are kept. Refused for want of memory alone.
+    ///
+    /// Conditions: the spans are of games that the archive is cut into, as they follow one another, fewer than 2^32; the archive has fewer
+    /// than 2^62 bytes, and numbers stay below 2^62.
     pub fn of(alloc: Global, bytes: &[u8], spans: &[Span], index: u64) -> Result<Batch, NoMemory>
         requires size { length bytes.now < 2 ^ 62 }
         requires spans { (before after : List ASpan) × (cut bytes.now ≡ before ++ (spans.now ++ after)) }

@@ -1,5 +1,5 @@
 //! Reading until a full batch is there.
-ghost use Rattle.std.specs.Prelude.{◌≡◌, ◌⊎◌, ◌+◌, ◌++◌, [], ◌<◌, ◌≤◌, ◌^◌, ℕ, List, length, OnOk, IfErr, IfOk, OnErr, true, false};
+ghost use Rattle.std.specs.Prelude.{◌≡◌, ◌+◌, [], ◌<◌, ◌≤◌, ℕ, List, length, OnOk, IfOk, OnErr, true, false};
 ghost use Rattle.std.specs.Io.KnownBytes.{Consumes, IsAtEnd};
 ghost use Rattle.cq_shards.specs.Streams.{Stands};
 ghost use Rattle.cq_shards.specs.Filling.{HasRead, HasReadLost, HasFilled, HasLost, Took, OnFault, OnMemory};
@@ -104,7 +104,18 @@ impl Batches {
         Ok(())
     }
 
-    /// The next batch.
+    /// The next batch: games that follow those of the batches before, 1,024 of them, or fewer of which 2^24 bytes are kept, or at the end
+    /// of the archive all that are left. `None` means that the archive has ended and all its games were given.
+    ///
+    /// Nothing is read where a full batch waits, or once the end was read. Else pieces of at most 65,536 bytes are read until a batch is
+    /// full, the archive ends, or one byte more than the limit was taken. More is never taken.
+    ///
+    /// Refusals, after which no batch may be asked for:
+    /// - `ReadFault`: a read failed, and the count of the source's faults rose. All full batches of the bytes taken were given.
+    /// - `ArchiveTooLong`: more bytes than the limit were taken, and all full batches of them were given. No read failed.
+    /// - `NoMemory`: no memory was found, for a piece, for a game or for a batch. No read failed.
+    ///
+    /// Conditions: no batch was refused before, and a source whose end was read is still at its end.
     pub fn next<S: Source>(&mut self, source: &mut S) -> Result<Option<Batch>, Refusal<BatchFault>>
         requires stands { (front : List ℕ) × (m : ℕ) × Stands self.old front m }
         requires at_end { self.old.ended ≡ true → IsAtEnd (S.left source.old) }

@@ -25,9 +25,10 @@ pub(crate) struct Worker {
     pub(crate) starved: bool,
 }
 
-/// The answers of the games of a batch, in any order. So many workers, from 1 to 64, draw the games one by one: each is entered and left
-/// at the gate by the worker that drew it, with what it found there. A thread that can't be started is no refusal: its worker's games
-/// are drawn by the others.
+/// The answers of the games of a batch, each game's once, in any order. So many workers, from 1 to 64, which is a condition, draw the games
+/// one by one: a game is entered at the gate by the worker that drew it, before it is read, and left with its export once it is answered.
+/// A thread that can't be started is no refusal: its worker's games are drawn by the others. `NoMemory` means that a worker, or the
+/// call itself, found no memory; no answer is given then.
 pub fn run_batch<R: Threads + Sync, G: Gate + Sync>(
     rt: &R,
     alloc: Global,

@@ -1,6 +1,5 @@
-use Rattle.std.proofs.Common.{◌≡◌, ap, sym, subst, ◌∙◌}
 use Rattle.cql_syntax.specs.TreeOf.{query_tree}
-use Rattle.cq_run.specs.Promise.{AnswerPromise, source_view, sink_view, sinks_of}
+use Rattle.cq_run.specs.Promise.{source_view, sink_view}
 use Rattle.cq_run.proofs.Answered.{none_answered}
 use Rattle.cq_run.proofs.answering.answer.Goals as goal
 

@@ -1,6 +1,6 @@
-use Rattle.std.proofs.Common.{◌≡◌, ap, sym, subst, ◌∙◌, Err}
+use Rattle.std.proofs.Common.{ap, ◌∙◌, Err}
 use Rattle.cq_shards.specs.Answers.{query_in}
-use Rattle.cq_run.specs.Promise.{sink_view, sinks_of}
+use Rattle.cq_run.specs.Promise.{sink_view}
 use Rattle.cq_run.specs.Writing.{stand_of}
 use Rattle.cq_run.proofs.Answers.{unordered, unkept, ordered_all, ended}
 use Rattle.cq_run.proofs.games.finish.Goals as goal

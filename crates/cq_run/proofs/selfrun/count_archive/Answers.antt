@@ -1,5 +1,4 @@
-use Rattle.std.proofs.Common.{◌≡◌, ◌+◌, ◌*◌, ◌≤◌, ◌<◌, ◌^◌, List, [], length, Ok, Err, Some, None, ap, sym, ◌∙◌, refl, subst, arith, rules}
-use Rattle.cq_outside.specs.declared.faults.Refusal.TheVariants.{Fault}
+use Rattle.std.proofs.Common.{◌+◌, ◌*◌, ◌≤◌, ◌^◌, [], Ok, Err, ap, sym, ◌∙◌, subst, arith, rules}
 use Rattle.cq_shards.specs.Answers.{query_in}
 use Rattle.cq_run.specs.SelfRun.{totals_of}
 use Rattle.cq_run.specs.declared.totals.Totals.{Totals}

@@ -1,4 +1,4 @@
-use Rattle.std.proofs.Common.{◌≡◌, ◌∙◌, ap, arith, length, subst}
+use Rattle.std.proofs.Common.{ap, arith, length, subst}
 use Rattle.std.specs.Prelude.{IfOk}
 use Rattle.cq_maker.specs.Made.{made}
 use Rattle.cq_shards.specs.Answers.{query_in}

@@ -1,4 +1,4 @@
-use Rattle.std.proofs.Common.{◌≡◌, ◌<◌, get_or, length, Some, rules}
+use Rattle.std.proofs.Common.{rules}
 use Rattle.cq_shards.specs.Answers.{query_in}
 use Rattle.cq_shards.proofs.Found.{found_at}
 use Rattle.cq_shards.proofs.answering.answer_at.Goals as goal

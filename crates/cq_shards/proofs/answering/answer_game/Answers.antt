@@ -1,4 +1,4 @@
-use Rattle.std.proofs.Common.{◌+◌, map, Some, ◌≡◌, Ok, ◌<◌, ◌==◌, not, length, All, AllPairs, ap, sym, ◌∙◌, refl, subst}
+use Rattle.std.proofs.Common.{map, Some, ◌<◌, ◌==◌, not, length, All, AllPairs, ap, sym, ◌∙◌, subst}
 use Rattle.pgn_export.specs.Export.{export_text}
 use Rattle.cq_shards.specs.Answers.{query_in}
 use Rattle.cql_plan.specs.Plans.{nodes_of}

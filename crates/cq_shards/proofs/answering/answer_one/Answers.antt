@@ -1,7 +1,6 @@
-use Rattle.std.proofs.Common.{◌≡◌, Ok, Err, ap, subst, ◌∙◌, refl}
+use Rattle.std.proofs.Common.{Ok, Err, ap, subst, ◌∙◌}
 use Rattle.cq_shards.specs.Answers.{query_in}
 use Rattle.cq_shards.specs.declared.answers.Answer.TheVariants.{Refused}
-use Rattle.cq_shards.specs.declared.answers.GameAnswer.{GameAnswer}
 use Rattle.pgn_reader.specs.declared.fault.GameFault.{GameFault}
 use Rattle.pgn_reader.specs.Verdict.{IsRead}
 use Rattle.cq_shards.proofs.Found.{read_one}

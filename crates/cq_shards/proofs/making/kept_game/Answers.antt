@@ -1,5 +1,4 @@
 use Rattle.std.proofs.Common.{◌≡◌, ◌+◌, ◌^◌, List, ℕ, min, sym, ap, ◌∙◌, rules}
-use Rattle.cq_shards.specs.declared.kept.KeptGame.{KeptGame}
 use Rattle.cq_shards.proofs.Windows.{kept_out, most_is}
 use Rattle.cq_shards.proofs.making.kept_game.Goals as goal
 

@@ -1,4 +1,4 @@
-use Rattle.std.proofs.Common.{◌≡◌, ℕ, ◌≤◌, refl, rules, arith}
+use Rattle.std.proofs.Common.{refl, rules, arith}
 use Rattle.cq_shards.specs.Answers.{query_in}
 use Rattle.cq_shards.proofs.Drains.{goes_on, ends}
 use Rattle.cq_shards.proofs.workers.draw_all.Goals as goal

@@ -1,4 +1,4 @@
-use Rattle.std.proofs.Common.{◌≡◌, ℕ, ◌<◌, arith, rules}
+use Rattle.std.proofs.Common.{arith, rules}
 use Rattle.cq_shards.specs.Answers.{query_in}
 use Rattle.cq_shards.proofs.Drains.{gathers, gathers_one, gathered}
 use Rattle.cq_shards.proofs.workers.gathered.Goals as goal

@@ -1,4 +1,4 @@
-use Rattle.std.proofs.Common.{◌≡◌, ℕ, List, [], ◌+◌, ◌≤◌, ◌<◌, ◌++◌, length, take, refl, sym, subst, ap, ap₂, ◌∙◌, arith, rules, Err}
+use Rattle.std.proofs.Common.{length, refl, ap, ◌∙◌, rules, Err}
 use Rattle.cq_shards.proofs.Filling.{fills_none, fills_more, consumes_none, nearer, fills_failed, lost_more}
 use Rattle.cq_shards.proofs.state.Batches.fill.Goals as goal
 

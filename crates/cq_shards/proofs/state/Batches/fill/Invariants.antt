@@ -1,4 +1,4 @@
-use Rattle.std.proofs.Common.{◌≡◌, ℕ, ◌-◌, ◌+◌}
+use Rattle.std.proofs.Common.{◌≡◌, ◌-◌, ◌+◌}
 use Rattle.cq_shards.specs.Filling.{HasFilled}
 use Rattle.cq_shards.proofs.Filling.{one_if}
 use Rattle.cq_shards.proofs.state.Batches.fill.Given as goal

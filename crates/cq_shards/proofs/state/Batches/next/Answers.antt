@@ -1,4 +1,4 @@
-use Rattle.std.proofs.Common.{◌≡◌, ◌⊎◌, ℕ, ◌∙◌, refl, sym, subst, ap, rules, arith, Err, ◌<◌, ◌≤◌, false}
+use Rattle.std.proofs.Common.{◌≡◌, ◌∙◌, refl, ap, rules, arith, Err, ◌<◌, ◌≤◌, false}
 use Rattle.cq_shards.proofs.Filling.{given_full, given_last, given_none, lost, same_as}
 use Rattle.cq_shards.proofs.state.Batches.next.Goals as goal
 

@@ -1,4 +1,4 @@
-use Rattle.std.proofs.Common.{◌≡◌, ℕ, ◌<◌, length, rules, arith}
+use Rattle.std.proofs.Common.{rules, arith}
 use Rattle.cq_shards.proofs.Filling.{took_none, took_some}
 use Rattle.cq_shards.proofs.state.Batches.take.Goals as goal
 

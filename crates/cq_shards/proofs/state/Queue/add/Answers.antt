@@ -1,4 +1,4 @@
-use Rattle.std.proofs.Common.{◌≡◌, ℕ, ◌+◌, ◌<◌, ◌++◌, [], ◌∷◌, length, refl, sym, ap, subst, ◌∙◌, rules, arith, true, false}
+use Rattle.std.proofs.Common.{◌≡◌, ℕ, ◌+◌, ◌<◌, ◌++◌, [], ◌∷◌, length, refl, sym, ap, subst, ◌∙◌, rules, true, false}
 use Rattle.cq_shards.proofs.Queues.{filled, grown, tested, small, few, few_low, few_push, numbers_push, starts_push}
 use Rattle.cq_shards.proofs.state.Queue.add.Goals as goal
 

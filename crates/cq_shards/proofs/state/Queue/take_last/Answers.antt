@@ -1,4 +1,4 @@
-use Rattle.std.proofs.Common.{◌≡◌, ◌∙◌, refl, sym, ap, rules, arith, length}
+use Rattle.std.proofs.Common.{◌∙◌, refl, ap, rules}
 use Rattle.cq_shards.proofs.Queues.{last_none, last_some, none_of}
 use Rattle.cq_shards.proofs.state.Queue.take_last.Goals as goal
 

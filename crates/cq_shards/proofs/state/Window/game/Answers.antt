@@ -1,6 +1,5 @@
-use Rattle.std.proofs.Common.{◌≡◌, ◌+◌, ◌-◌, ◌^◌, ◌++◌, List, ℕ, length, min, take, sym, ap, ap₂, ◌∙◌, rules, refl}
+use Rattle.std.proofs.Common.{◌≡◌, ◌+◌, ◌-◌, ◌^◌, ◌++◌, List, ℕ, length, min, sym, ap, ap₂, ◌∙◌, rules}
 use Rattle.std.specs.Prelude.{slice_range}
-use Rattle.cq_shards.specs.declared.kept.KeptGame.{KeptGame}
 use Rattle.cq_shards.proofs.Windows.{cut_out, most_is}
 use Rattle.cq_shards.proofs.state.Window.game.Goals as goal
 
