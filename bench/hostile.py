@@ -1,12 +1,15 @@
 #!/usr/bin/env python3
 """Inputs that are made to hurt: archives without end, and games and queries of one kind of token.
 
-    bench/hostile.py BINARY endless [GIB]     memory over an archive of GIB (4) on a pipe: it must not grow after the first GiB
-    bench/hostile.py BINARY sizes             seconds for inputs of one size and of twice the size: at most 2.2 times as many
+    bench/hostile.py BINARY endless [GIB]     memory over an archive of GIB (4) on a pipe: it must not grow after the first quarter
+    bench/hostile.py BINARY sizes             processor seconds for inputs of one size and of twice the size: at most 2.2 times as many
+    bench/hostile.py BINARY steps             the same in millions of instructions, of smaller inputs, which no other work on the machine
+                                              changes: valgrind counts them
 
 Nothing is kept on disk but queries. Outside the gate."""
 
 import os
+import re
 import resource
 import subprocess
 import sys
@@ -27,7 +30,7 @@ def resident(pid):
 
 
 def endless(binary, total):
-    """the greatest resident size over the first GiB, and over the rest"""
+    """the greatest resident size over the first quarter, and over the rest"""
     chunk = b"".join(GAME % i for i in range(1000))
     command = [binary, "eval", "cql() mate", "--workers", "4", "--limit", str(1 << 40)]
     with subprocess.Popen(command, stdin=subprocess.PIPE, stdout=subprocess.PIPE, stderr=subprocess.PIPE) as p:
@@ -43,7 +46,7 @@ def endless(binary, total):
             p.stdin.write(chunk)
             sent += len(chunk)
             size = resident(p.pid)
-            if sent <= GIB:
+            if sent <= total / 4:
                 first = max(first, size)
             else:
                 rest = max(rest, size)
@@ -51,7 +54,7 @@ def endless(binary, total):
         reader.join()
         report = p.stderr.read().decode()
     print("%d bytes, status %d, %s" % (sent, p.returncode, report.strip()))
-    print("resident: %.1f MB over the first GiB, %.1f MB over the rest" % (first / 1e6, rest / 1e6))
+    print("resident: %.1f MB over the first quarter, %.1f MB over the rest" % (first / 1e6, rest / 1e6))
     return p.returncode == 0 and rest <= first * 1.01
 
 
@@ -61,6 +64,13 @@ def seconds(words, data, folder):
     p = subprocess.run(words, input=data, stdout=subprocess.DEVNULL, stderr=subprocess.DEVNULL, cwd=folder)
     after = resource.getrusage(resource.RUSAGE_CHILDREN)
     return after.ru_utime + after.ru_stime - before.ru_utime - before.ru_stime, p.returncode
+
+
+def steps(words, data, folder):
+    """the millions of instructions of a run by one worker, and its status"""
+    valgrind = ["valgrind", "--tool=callgrind", "--callgrind-out-file=/dev/null", *words, "--workers", "1"]
+    p = subprocess.run(valgrind, input=data, stdout=subprocess.DEVNULL, stderr=subprocess.PIPE, cwd=folder)
+    return int(re.search(rb"Collected : (\d+)", p.stderr).group(1)) / 1e6, p.returncode
 
 
 def repeated(token, size):
@@ -88,18 +98,18 @@ QUERIES = {
     "flip": b"flip ",
     "names": b"x ",
     "numbers": b"1 ",
-    "designators": b"[Ra1,Kb2] ",
+    "designators": b"[RQ]h1 ",
     "texts": b'"a" ',
     "sum": b"1+",
     "and": b"check and ",
     "comment": b"//\n",
-    "line": b"--> check ",
+    "lines": b"line --> check ",
     "check": b"check ",
 }
 
 
-def sizes(binary):
-    """each input of one size and of twice the size"""
+def sizes(binary, measure, size):
+    """each input of one size and of half the size"""
     ok = True
     with tempfile.TemporaryDirectory() as folder:
 
@@ -107,24 +117,27 @@ def sizes(binary):
             nonlocal ok
             ratio = whole[0] / max(half[0], 0.01)
             ok = ok and ratio <= 2.2 and 0 <= whole[1] <= 8
-            print("%-8s %-14s %7.3f s %7.3f s %6.2f  status %d" % (kind, name, half[0], whole[0], ratio, whole[1]))
+            print("%-8s %-14s %10.3f %10.3f %6.2f  status %d" % (kind, name, half[0], whole[0], ratio, whole[1]), flush=True)
 
         for name, token in ARCHIVES.items():
-            runs = [seconds([binary, "eval", "cql() mate"], repeated(token, size), folder) for size in (1 << 24, 1 << 23)]
+            runs = [measure([binary, "eval", "cql() mate"], repeated(token, n), folder) for n in (size, size // 2)]
             line("archive", name, *runs)
         for name, token in QUERIES.items():
             runs = []
-            for size in (65000, 32500):
+            for n in (65000, 32500):
                 with open(os.path.join(folder, "q.cql"), "wb") as f:
-                    f.write(b"cql() " + repeated(token, size))
-                runs.append(seconds([binary, "run", "q.cql"], b"1. e4 *", folder))
+                    f.write(b"cql() " + repeated(token, n))
+                runs.append(measure([binary, "run", "q.cql"], b"1. e4 *", folder))
             line("query", name, *runs)
     return ok
 
 
 def main():
     binary, part = os.path.abspath(sys.argv[1]), sys.argv[2]
-    ok = sizes(binary) if part == "sizes" else endless(binary, int(sys.argv[3] if len(sys.argv) > 3 else 4) * GIB)
+    if part == "endless":
+        ok = endless(binary, int(float(sys.argv[3] if len(sys.argv) > 3 else 4) * GIB))
+    else:
+        ok = sizes(binary, *{"sizes": (seconds, 1 << 24), "steps": (steps, 1 << 20)}[part])
     print("as it should be" if ok else "NOT as it should be")
     return 0 if ok else 1
 

@@ -5,13 +5,14 @@
 
 Each case takes some games of an ARCHIVE and a query of README, and changes, drops, doubles and joins bytes, tokens and whole games. Small
 cases are compared with the model. Of large ones the program alone is asked: it ends with a status from 0 to 8 and by no signal, within a
-second a megabyte, and reads what it wrote again without a fault. What differs lands in the folder out/ beside this file. pypy3 is faster."""
+second of processor time a megabyte, and reads what it wrote again without a fault. What differs lands in the folder out/ beside this
+file. pypy3 is faster."""
 
 import os
 import re
+import resource
 import sys
 import tempfile
-import time
 
 import fuzz
 import program
@@ -20,8 +21,8 @@ HERE = os.path.dirname(os.path.abspath(__file__))
 RANDOM = fuzz.RANDOM
 # the model takes some 20 ms a kilobyte
 SMALL = 4000
-# a start of the program, on a machine that has other work
-START_SECONDS = 2
+# a start of the program
+START_SECONDS = 1
 
 
 def games_of(path):
@@ -82,15 +83,21 @@ def case(archives, texts):
     return fuzz.mutate_query(text) if RANDOM.random() < 0.3 else text, mutated(games[first : first + count])
 
 
+def used():
+    """the processor seconds of the programs that have ended"""
+    all_of_them = resource.getrusage(resource.RUSAGE_CHILDREN)
+    return all_of_them.ru_utime + all_of_them.ru_stime
+
+
 def failing(binary, text, archive, folder):
     """what is wrong with the program's answer, asked of it alone; None if nothing is"""
-    start = time.monotonic()
-    status, out, err = fuzz.run(binary, ["eval", text], archive, folder)
-    seconds = time.monotonic() - start
+    before = used()
+    status, out, _ = fuzz.run(binary, ["eval", text], archive, folder)
+    seconds = used() - before
     if not 0 <= status <= 8:
         return "status %d" % status
     if seconds > START_SECONDS + len(archive) / 1e6:
-        return "%.1f seconds for %d bytes" % (seconds, len(archive))
+        return "%.1f seconds of processor time for %d bytes" % (seconds, len(archive))
     again, _, report = fuzz.run(binary, ["eval", "cql() initial"], out, folder)
     if status < 2 and (again != 0 or b" refused 0\n" not in report):
         return "its output is read with %r" % report
