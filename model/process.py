@@ -173,8 +173,16 @@ def batches():
     archive = b"1. e4 *\n" + long + b"1. d4 *\n"
     texts = {in_pieces(["eval", query, "--workers", workers], archive, 65536) for workers in ("1", "4")}
     compare("a game that fills a batch by its bytes", len(texts), 1)
+    by_bytes = in_pieces(["eval", query], b"*\n" * 1025, 1)
+    compare("1025 games byte by byte", by_bytes == (0, one * 1025, b"games 1025 matched 1025 refused 0\n"), True)
     limited = in_pieces(["eval", query, "--limit", "2048"], b"*\n" * 1025, 4096)
     compare("a batch within the limit", (limited[0], len(limited[1]), limited[2]), (8, 104448, b""))
+    archive = b"*\n" * 1024 + b"1. e4 e5 *\n"
+    for limit in range(2048, len(archive)):
+        limited = in_pieces(["eval", query, "--limit", str(limit)], archive, 65536)
+        compare("a limit of %d bytes" % limit, limited, (8, one * 1024, b""))
+    whole = in_pieces(["eval", query, "--limit", str(len(archive))], archive, 65536)
+    compare("a limit that is met", whole[::2], (0, b"games 1025 matched 1025 refused 0\n"))
 
 
 def as_it_is_read():
