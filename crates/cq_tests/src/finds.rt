@@ -1,5 +1,5 @@
 //! Numbers that are found in turn, and by many threads.
-ghost use Rattle.std.specs.Prelude.{◌≡◌, ◌+◌, ◌≤◌, ◌×◌, All, length};
+ghost use Rattle.std.specs.Prelude.{◌≡◌, ◌≤◌, All, length};
 ghost use Rattle.cq_first.specs.Seats.{IsSeatOf, numbers_of};
 
 use cq_first::{FirstBoard, FirstSeat};
