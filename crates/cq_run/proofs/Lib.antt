@@ -11,5 +11,7 @@ mod OneOutcome
 mod Reached
 mod Rounds
 mod Sorted
+mod FirstGames
+mod FirstRounds
 mod Doing
 pub mod EveryText
