@@ -12,7 +12,7 @@ use std::test::Fail;
 use std::thread::Threads;
 
 const USAGE: &str =
-    "usage: cqlpgn MODE QUERY [ARCHIVE] [--workers N] [--seed S] [--games G] [--limit B]\n";
+    "usage: cqlpgn MODE QUERY [ARCHIVE] [--workers N] [--seed S] [--games G] [--limit B] [--first]\n";
 
 /// A game as it is written: its FEN text or none, its result and its movetext.
 pub(crate) type Written<'a> = (&'a str, &'a str, &'a str);
