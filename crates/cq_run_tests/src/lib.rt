@@ -6,6 +6,8 @@ mod cookbook;
 #[cfg(test)]
 mod failing;
 #[cfg(test)]
+mod first_rows;
+#[cfg(test)]
 mod meaning_rows;
 #[cfg(test)]
 mod query_rows;
