@@ -1,5 +1,5 @@
 -- Answering batch by batch up to the first match.
-use Rattle.std.proofs.Common.{◌≡◌, ◌⊎◌, ℕ, ◌+◌, ◌-◌, ◌^◌, ◌≤◌, ◌<◌, Bool, true, false, List, [], ◌∷◌, ◌++◌, length, length-append, append_assoc, append-nil, take, drop, Option, Some, None, refl, ap, sym, ◌∙◌, arith, subst, inl, inr}
+use Rattle.std.proofs.Common.{◌≡◌, ◌⊎◌, ℕ, ◌+◌, ◌-◌, ◌^◌, ◌≤◌, ◌<◌, Bool, true, false, List, [], ◌∷◌, ◌++◌, length, length-append, append_assoc, append-nil, take, drop, Option, Some, None, refl, ap, ap₂, sym, ◌∙◌, arith, subst, inl, inr}
 use Rattle.std.specs.Prelude.{count_by}
 use Rattle.std.specs.List.{flat_map}
 use Rattle.std.specs.Io.KnownBytes.{Consumes}
@@ -28,10 +28,10 @@ use Rattle.cq_shards.specs.declared.state.Batches.{Batches}
 use Rattle.cq_run.specs.Answer.{export_if, fault_lines, is_match, summary_of, tally_of}
 use Rattle.cq_run.specs.Asking.{texts_of, texts_so_far}
 use Rattle.cq_run.specs.ByBatches.{HaveOneOutcome, Laws}
-use Rattle.cq_run.specs.FirstGame.{first_export, first_texts, some_match, up_to_first, wanted}
+use Rattle.cq_run.specs.FirstGame.{AreFirst, first_export, first_texts, some_match, up_to_first, wanted}
 use Rattle.cq_run.specs.Outcomes.{AreRead}
 use Rattle.cq_run.specs.Promise.{Answering, SourceView, SinkView, Sinks, Texts, Finds, Stops, Breaks, Suffices, AnswersAll, AnswerPromise, ReadsNoMore, SaysOfAnswer, most_read}
-use Rattle.cq_run.specs.Promise.{EndsEarly, IsOneOf, Writes, WritesPrefix, WritesAll, NoWriteFailed, OneSinkFailed, sinks_of}
+use Rattle.cq_run.specs.Promise.{EndsEarly, IsOneOf, Unfinished, Writes, WritesPrefix, WritesAll, WritesPart, NoWriteFailed, OneSinkFailed, sinks_of}
 use Rattle.cq_run.specs.Writing.{FoundSoFar, Stand, WritesSummary, stand_of}
 use Rattle.cq_run.specs.declared.status.Status.{Status}
 use Rattle.cq_run.specs.declared.status.Status.TheVariants.{Done, DoneWithRefusals, QueryRefused, WordsRefused, OpenFault, ReadFault, WriteFault, NoMemory, ArchiveTooLong}
@@ -84,14 +84,14 @@ kept_split (g ∷ gs) hs (r ∷ rs) read =
     record { front = r ∷ rest.front; back = rest.back; is = ap (λ l. r ∷ l) rest.is; read = (read.0, rest.read) }
 
 -- games are read in one way
-one_read : HaveOneOutcome → (archive : List ℕ) (spans : List Span) (as bs : List Outcome) → AreRead archive spans as → AreRead archive spans bs → as ≡ bs
-one_read one archive [] [] [] a b = refl
-one_read one archive [] [] (r ∷ rs) a b = absurd b
-one_read one archive [] (r ∷ rs) bs a b = absurd a
-one_read one archive (s ∷ ss) [] bs a b = absurd a
-one_read one archive (s ∷ ss) (r ∷ rs) [] a b = absurd b
-one_read one archive (s ∷ ss) (q ∷ qs) (r ∷ rs) a b =
-    let e : q ≡ r = one s.start s.first (game_bytes archive s) q r a.0 b.0 in let es : qs ≡ rs = one_read one archive ss qs rs a.1 b.1 in cc
+one_read : HaveOneOutcome → (archive : List ℕ) (spans : List Span) (xs ys : List Outcome) → AreRead archive spans xs → AreRead archive spans ys → xs ≡ ys
+one_read one archive [] [] [] x y = refl
+one_read one archive [] [] (r ∷ rs) x y = absurd y
+one_read one archive [] (r ∷ rs) ys x y = absurd x
+one_read one archive (s ∷ ss) [] ys x y = absurd x
+one_read one archive (s ∷ ss) (r ∷ rs) [] x y = absurd y
+one_read one archive (s ∷ ss) (q ∷ qs) (r ∷ rs) x y =
+    ap₂ (λ o os. o ∷ os) (one s.start s.first (game_bytes archive s) q r x.0 y.0) (one_read one archive ss qs rs x.1 y.1)
 
 none_of_both : (query : QueryTree) (rs front back : List Outcome) → rs ≡ front ++ back → some_match query rs ≡ false → some_match query front ≡ true → ⊥
 none_of_both query rs front back is none some = let e : true ≡ false = sym (some_grows query front back some) ∙ ap (some_match query) (sym is) ∙ none in cc
@@ -269,6 +269,17 @@ on_closed laws front m rs low read =
 
 -- ---- all was read
 
+all_taken : (query : QueryTree) (rs : List Outcome) (sinks : Sinks) (AreRefused : ℕ → Type 0) → AreRefused (refused_of query rs) → Writes sinks (first_texts_of query rs)
+    → WritesAll (AreFirst query rs) AreRefused sinks
+all_taken query rs sinks AreRefused refused writes = record {
+  refused = refused_of query rs;
+  is = refused;
+  writes = record { texts = first_texts_of query rs; are = are_first query rs; writes = writes };
+}
+
+part_taken : (query : QueryTree) (rs : List Outcome) (sinks : Sinks) → WritesPrefix sinks (first_texts_of query rs) → WritesPart (Unfinished (first_texts query) rs) sinks
+part_taken query rs sinks writes = record { texts = first_texts_of query rs; are = inr (refused_of query rs, are_first query rs); writes = writes }
+
 first_promised : Laws → (status : Status) (query : QueryTree) (limit : ℕ) (source now : SourceView) (sinks : Sinks) (archive : List ℕ) (rs : List Outcome) → ReadsAll limit source now archive rs
     → Before query source now → SaysOfAnswer status (first_texts query) (asked limit source now sinks)
     → (AnswersAll (first_texts query) (asked limit source now sinks) → IsOneOf status (Done ∷ DoneWithRefusals ∷ NoMemory ∷ []))
@@ -285,20 +296,20 @@ first_read : Laws → (status : Status) (query : QueryTree) (limit : ℕ) (sourc
     → Before query source now → FirstWritten (refused_of query rs) (first_texts_of query rs) sinks status → AnswerPromise (first_texts query) status (asked limit source now sinks)
 first_read laws Done query limit source now sinks archive rs all before writes =
     first_promised laws Done query limit source now sinks archive rs all before
-    (inl (finds_all query limit source now sinks archive rs _ all (record { refused = refused_of query rs; is = writes.0; writes = record { texts = first_texts_of query rs; are = are_first query rs; writes = writes.1 } })),
+    (inl (finds_all query limit source now sinks archive rs _ all (all_taken query rs sinks (λ n. n ≡ 0) writes.0 writes.1)),
     record { source = all.counts; sinks = writes.2 }) (λ _. inl refl)
 first_read laws DoneWithRefusals query limit source now sinks archive rs all before writes =
     first_promised laws DoneWithRefusals query limit source now sinks archive rs all before
-    (inl (finds_all query limit source now sinks archive rs _ all (record { refused = refused_of query rs; is = writes.0; writes = record { texts = first_texts_of query rs; are = are_first query rs; writes = writes.1 } })),
+    (inl (finds_all query limit source now sinks archive rs _ all (all_taken query rs sinks (λ n. 0 < n) writes.0 writes.1)),
     record { source = all.counts; sinks = writes.2 }) (λ _. inr (inl refl))
 first_read laws WriteFault query limit source now sinks archive rs all before writes =
     first_promised laws WriteFault query limit source now sinks archive rs all before
     (writes.1, all.counts,
-    inr (finds_all query limit source now sinks archive rs _ all (record { texts = first_texts_of query rs; are = inr (refused_of query rs, are_first query rs); writes = writes.0 })))
+    inr (finds_all query limit source now sinks archive rs _ all (part_taken query rs sinks writes.0)))
     (λ every. absurd (every.no_write (some_failed sinks writes.1)))
 first_read laws NoMemory query limit source now sinks archive rs all before writes =
     first_promised laws NoMemory query limit source now sinks archive rs all before
-    (inr (finds_all query limit source now sinks archive rs _ all (record { texts = first_texts_of query rs; are = inr (refused_of query rs, are_first query rs); writes = writes.0 })),
+    (inr (finds_all query limit source now sinks archive rs _ all (part_taken query rs sinks writes.0)),
     record { source = all.counts; sinks = writes.1 }) (λ _. inr (inr (inl refl)))
 first_read laws QueryRefused query limit source now sinks archive rs all before writes = absurd writes
 first_read laws WordsRefused query limit source now sinks archive rs all before writes = absurd writes
@@ -312,33 +323,33 @@ first_read laws ArchiveTooLong query limit source now sinks archive rs all befor
 stops_open : Laws → (query : QueryTree) (limit : ℕ) (b : Batches) (source now : SourceView) (front : List ℕ) (m : ℕ) (rs : List Outcome) (sinks : Sinks) → Reached limit b source now front m
     → AreKeptRead (given front m) rs → ((more : List Outcome) → WritesPrefix sinks (first_texts_of query (rs ++ more))) → b.ended ≡ false → Stops (first_texts query) (asked limit source now sinks)
 stops_open laws query limit b source now front m rs sinks r read writes reads =
-    let on : ReadOn front (closed front) rs = on_closed laws front m rs (r.open_ reads) read in
+    let rest : ReadOn front (closed front) rs = on_closed laws front m rs (r.open_ reads) read in
     inl (record {
       front = front;
-      outcomes = rs ++ on.more;
+      outcomes = rs ++ rest.more;
       takes = r.takes;
       few = r.few;
-      are_read = on.are_read;
+      are_read = rest.are_read;
       holds = record {
-        texts = first_texts_of query (rs ++ on.more);
-        are = (refused_of query (rs ++ on.more), are_first query (rs ++ on.more));
-        writes = writes on.more;
+        texts = first_texts_of query (rs ++ rest.more);
+        are = (refused_of query (rs ++ rest.more), are_first query (rs ++ rest.more));
+        writes = writes rest.more;
       };
     })
 
 stops_ended : Laws → (query : QueryTree) (limit : ℕ) (b : Batches) (source now : SourceView) (front : List ℕ) (m : ℕ) (rs : List Outcome) (sinks : Sinks) → Reached limit b source now front m
     → AreKeptRead (given front m) rs → ((more : List Outcome) → WritesPrefix sinks (first_texts_of query (rs ++ more))) → b.ended ≡ true → Stops (first_texts query) (asked limit source now sinks)
 stops_ended laws query limit b source now front m rs sinks r read writes over =
-    let on : ReadOn front (cut front) rs = on_cut laws front m rs read in
+    let rest : ReadOn front (cut front) rs = on_cut laws front m rs read in
     inr (record {
       archive = front;
-      outcomes = rs ++ on.more;
+      outcomes = rs ++ rest.more;
       reads = record { is = may_be source.left now.left front r.takes (r.at_end over); within = r.within over; at_end = r.at_end over };
-      are_read = on.are_read;
+      are_read = rest.are_read;
       holds = record {
-        texts = first_texts_of query (rs ++ on.more);
-        are = inr (refused_of query (rs ++ on.more), are_first query (rs ++ on.more));
-        writes = writes on.more;
+        texts = first_texts_of query (rs ++ rest.more);
+        are = inr (refused_of query (rs ++ rest.more), are_first query (rs ++ rest.more));
+        writes = writes rest.more;
       };
     })
 
@@ -439,13 +450,13 @@ found_by : Laws → (status : Status) (query : QueryTree) (limit : ℕ) (b : Bat
     → Reached limit b source now front m → now.faults ≡ source.faults → AreKeptRead (given front m) rs → some_match query rs ≡ true → Before query source now
     → FirstWritten (refused_of query rs) (first_texts_of query rs) sinks status → (b.ended ≡ true) ⊎ (b.ended ≡ false) → AnswerPromise (first_texts query) status (asked limit source now sinks)
 found_by laws status query limit b source now front m rs sinks r counts read some before writes (inl over) =
-    let on : ReadOn front (cut front) rs = on_cut laws front m rs read in
-    first_read laws status query limit source now sinks front (rs ++ on.more)
-    (record { takes = r.takes; within = r.within over; at_end = r.at_end over; counts = counts; are_read = on.are_read }) before (written_more status query rs on.more sinks some writes)
+    let rest : ReadOn front (cut front) rs = on_cut laws front m rs read in
+    first_read laws status query limit source now sinks front (rs ++ rest.more)
+    (record { takes = r.takes; within = r.within over; at_end = r.at_end over; counts = counts; are_read = rest.are_read }) before (written_more status query rs rest.more sinks some writes)
 found_by laws status query limit b source now front m rs sinks r counts read some before writes (inr reads) =
-    let on : ReadOn front (whole_spans front) rs = on_whole laws front m rs (r.open_ reads) read in
-    found_open laws status query limit b source now front m rs (rs ++ on.more) sinks r counts read some before
-    (record { takes = r.takes; are_read = on.are_read; some = some_grows query rs on.more some }) writes (written_more status query rs on.more sinks some writes)
+    let rest : ReadOn front (whole_spans front) rs = on_whole laws front m rs (r.open_ reads) read in
+    found_open laws status query limit b source now front m rs (rs ++ rest.more) sinks r counts read some before
+    (record { takes = r.takes; are_read = rest.are_read; some = some_grows query rs rest.more some }) writes (written_more status query rs rest.more sinks some writes)
 
 -- ---- after a fault of reading
 
