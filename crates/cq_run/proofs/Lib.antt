@@ -12,6 +12,8 @@ mod Reached
 mod Rounds
 mod Sorted
 mod FirstGames
+mod FirstTexts
+mod FirstStops
 mod FirstRounds
 mod Doing
 pub mod EveryText
