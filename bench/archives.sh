@@ -11,7 +11,7 @@ rounds=${2:-3}
 top=$(cd "$(dirname "$0")/.." && pwd)
 program=${CQLPGN:-$top/crates/cqlpgn/out/cqlpgn}
 other=$(PATH=$PATH:/usr/games command -v pgn-extract) || { echo "pgn-extract is missing: apt-get install pgn-extract" >&2; exit 1; }
-[ -x "$program" ] || { echo "$program is missing: make install builds it" >&2; exit 1; }
+[ -x "$program" ] || { echo "$program is missing: make build builds it" >&2; exit 1; }
 bytes=$(stat -c %s "$archive")
 
 . "$top/bench/seconds.sh"

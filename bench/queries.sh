@@ -13,7 +13,7 @@ top=$(cd "$(dirname "$0")/.." && pwd)
 program=${CQLPGN:-$top/crates/cqlpgn/out/cqlpgn}
 base=${BASE:-$program}
 other=$(PATH=$PATH:/usr/games command -v pgn-extract) || other=
-[ -x "$program" ] || { echo "$program is missing: make install builds it" >&2; exit 1; }
+[ -x "$program" ] || { echo "$program is missing: make build builds it" >&2; exit 1; }
 . "$top/bench/seconds.sh"
 
 # no white pawn ever stands on a8, so every game is read and none is written

@@ -24,7 +24,7 @@ import tempfile
 
 from cases import EXAMPLES, TOP, all_cases, read
 
-OPTIONAL = ["pgn-extract", "pv", "zstd"]
+OPTIONAL = ["iconv", "pgn-extract", "pv"]
 PATH = os.environ["PATH"] + ":/usr/games"
 passed, failed = 0, 0
 

@@ -16,3 +16,4 @@ pub mod Safety
 pub mod Walk
 pub mod Origins
 pub mod Targets
+pub mod Uncovered

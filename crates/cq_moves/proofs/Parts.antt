@@ -9,11 +9,14 @@ use Rattle.cq_position.specs.declared.men.Promotion.{Promotion}
 use Rattle.cq_position.specs.declared.men.Promotion.TheVariants.{None as NoPromotion, Q as ToQueen, R as ToRook, B as ToBishop, N as ToKnight}
 use Rattle.cq_position.specs.declared.moves.Move.{Move}
 use Rattle.cq_position.specs.Board.{Board, man_at, is_pawn}
-use Rattle.cq_position.specs.Legal.{reaches, promotion_is_right, is_none, last_rank}
+use Rattle.cq_position.specs.Legal.{reaches, promotion_is_right, is_none, last_rank, is_en_passant_capture}
+use Rattle.cq_position.specs.Attacks.{is_goal}
+use Rattle.cq_geometry.specs.Steps.{files_apart}
+use Rattle.cq_moves.specs.Mover.{IsUnexposed, IsPlain}
 use Rattle.cq_position.specs.Legality.{is_safe, legal_test}
 use Rattle.cq_moves.specs.LegalMoves.{promotions, move_of, moves_between, moves_from, all_moves, legal_list, legal_from, legal_between, if_legal, pieces, promotes}
 use Rattle.cq_moves.proofs.Lists.{filter-flat_map, filter-map, filter-none, flat_map-take_more, list_any-flat_map}
-use Rattle.cq_moves.proofs.Law.{passes_in_parts}
+use Rattle.cq_moves.proofs.Law.{passes_in_parts, pseudo_legal_by_parts}
 
 pub legal_list_parts : (p : Board) → legal_list p ≡ flat_map (legal_from p) squares
 unfolding legal_list all_moves legal_from
@@ -114,3 +117,39 @@ one_choice_more part choices n d old before after h e f =
     ∙ ap (λ xs. xs ++ part (get_or choices n d)) e
     ∙ append_assoc old (flat_map part (take n choices)) (part (get_or choices n d))
     ∙ ap (λ xs. old ++ xs) (sym (flat_map-take_more part choices n d h))
+
+-- a man that is no pawn and doesn't expose its king has one move to each square to which it goes
+no_pawn_promotes : (last pawn : Bool) → pawn ≡ false → (pawn && last) ≡ false
+no_pawn_promotes last pawn e = ap (λ b. b && last) e
+
+no_last_rank : (last pawn : Bool) → last ≡ false → (pawn && last) ≡ false
+no_last_rank last true e = e
+no_last_rank last false e = refl
+
+not_passant : (pawn beside passant : Bool) → passant ≡ false → (pawn && beside && passant) ≡ false
+not_passant true true passant e = e
+not_passant true false passant e = refl
+not_passant false beside passant e = refl
+
+one_legal_move : (p : Board) (a b : ℕ) → b < 64 → reaches p a b ≡ true → promotes p a b ≡ false → IsUnexposed p a
+    → is_en_passant_capture p (move_of a b NoPromotion) ≡ false → legal_between p a b ≡ move_of a b NoPromotion ∷ []
+one_legal_move p a b below open_ plain safe none =
+    let m = move_of a b NoPromotion in
+    let right : promotion_is_right p m ≡ true = right_promotion p a b NoPromotion false plain in
+    let stays : is_safe p m ≡ true = safe.safe m refl (pseudo_legal_by_parts p m refl below open_ right) none in
+    let legal : legal_test p m ≡ true = reached_move p m refl below open_ ∙ ap₂ (λ s t. s && t) right stays in
+    one_move p a b below plain ∙ ap (λ t. cond t (m ∷ []) []) legal
+
+pub ordinary_move : (p : Board) (a b : ℕ) → b < 64 → reaches p a b ≡ true → IsUnexposed p a → (rank_of b == last_rank p.side) ≡ false
+    → is_goal p.passant b ≡ false → legal_between p a b ≡ move_of a b NoPromotion ∷ []
+ordinary_move p a b below open_ safe inside off =
+    one_legal_move p a b below open_ (no_last_rank (rank_of b == last_rank p.side) (is_pawn (man_at p.men a)) inside) safe
+    (not_passant (is_pawn (man_at p.men a)) (files_apart a b == 1) (is_goal p.passant b) off)
+
+pub plain_moves : (p : Board) (a : ℕ) → is_pawn (man_at p.men a) ≡ false → IsUnexposed p a → IsPlain p a
+plain_moves p a other safe = record { only = only }
+  where
+    only : (b : ℕ) → b < 64 → reaches p a b ≡ true → legal_between p a b ≡ move_of a b NoPromotion ∷ []
+    only b below open_ =
+        one_legal_move p a b below open_ (no_pawn_promotes (rank_of b == last_rank p.side) (is_pawn (man_at p.men a)) other) safe
+        (ap (λ t. t && (files_apart a b == 1) && is_goal p.passant b) other)

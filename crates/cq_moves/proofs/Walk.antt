@@ -1,5 +1,5 @@
 -- The candidates of a man have all its legal moves.
-use Rattle.std.proofs.Common.{◌≡◌, ℕ, ◌*◌, ◌%◌, ◌^◌, ◌<◌, Bool, true, false, ◌==◌, refl, List, [], ◌++◌, sym, ap, ◌∙◌}
+use Rattle.std.proofs.Common.{◌≡◌, ℕ, ◌*◌, ◌%◌, ◌^◌, ◌<◌, Bool, true, false, ◌==◌, refl, List, [], ◌∷◌, ◌++◌, sym, ap, ◌∙◌, arith}
 use Rattle.std.specs.List.{list_any}
 use Rattle.std.specs.Int.{bit_at, bit_not, trailing_zeros, w64}
 use Rattle.std.proofs.lemmas.Nat.Bits.{bit_at-trailing_zeros}
@@ -7,6 +7,7 @@ use Rattle.std.proofs.lemmas.Bool.{eq-eqb}
 use Rattle.std.proofs.lemmas.List.Elements.{All-weaker}
 use Rattle.cq_geometry.specs.Squares.{squares}
 use Rattle.cq_geometry.proofs.Board.{squares_board}
+use Rattle.cq_position.specs.declared.men.Promotion.TheVariants.{None as NoPromotion}
 use Rattle.cq_position.specs.declared.moves.Move.{Move}
 use Rattle.cq_position.specs.Board.{Board, man_at}
 use Rattle.cq_position.specs.Men.{is_of_side}
@@ -14,8 +15,9 @@ use Rattle.cq_sets.specs.Bitboards.{IsBitboard, bit_of}
 use Rattle.cq_sets.proofs.Bits.{in_both}
 use Rattle.cq_position.specs.Legal.{reaches}
 use Rattle.cq_position.specs.Legality.{legal_test}
-use Rattle.cq_moves.specs.LegalMoves.{all_moves, moves_from, moves_between, legal_list, legal_from, legal_between}
-use Rattle.cq_moves.proofs.Bits.{has_bit, cleared, set_squares, IsPartly, parts_of_set, any_of_set}
+use Rattle.cq_moves.specs.LegalMoves.{move_of, all_moves, moves_from, moves_between, legal_list, legal_from, legal_between}
+use Rattle.cq_moves.specs.Mover.{IsPlain}
+use Rattle.cq_moves.proofs.Bits.{lowest_below, has_bit, cleared, set_squares, IsPartly, parts_of_set, any_of_set}
 use Rattle.cq_moves.proofs.Room.{none_from_other, other_has_none}
 use Rattle.cq_moves.proofs.Parts.{legal_list_parts, any_parts, legal_from_parts, none_between_unreached, any_from_parts, unreached_has_none}
 
@@ -61,6 +63,13 @@ pub reached_first : (p : Board) (a mask square : ℕ) → 0 < mask → mask < 2 
 reached_first p a mask square some fits e r =
     let found = bit_at-trailing_zeros w64 mask some fits in
     ap (reaches p a) e ∙ r.each (trailing_zeros w64 mask) found.0 found.1
+
+-- the one move to the lowest square that is left, of a man each of whose moves is legal
+pub only_there : (p : Board) (a mask square : ℕ) → 0 < mask → mask < 2 ^ 64 → square ≡ trailing_zeros w64 mask → IsPlain p a
+    → AreReached p a mask → legal_between p a square ≡ move_of a square NoPromotion ∷ []
+only_there p a mask square some fits e plain r =
+    let below : square < 64 = omega (arith, e, lowest_below mask some fits) in
+    plain.only square below (reached_first p a mask square some fits e r)
 
 -- a walk over the squares to which a man goes
 pub record IsWalk (p : Board) (a : ℕ) (whole found : List Move) (mask : ℕ) : Type 0 where

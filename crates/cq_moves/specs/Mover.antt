@@ -1,5 +1,5 @@
 -- What is known of the side that moves before its moves are looked at.
-use Rattle.std.specs.Prelude.{◌≡◌, ℕ, ◌<◌, Bool, true, false, ◌&&◌, not, slice_set, if◌then◌else◌, ◌==◌}
+use Rattle.std.specs.Prelude.{◌≡◌, ℕ, ◌<◌, Bool, true, false, ◌&&◌, not, slice_set, if◌then◌else◌, ◌==◌, [], ◌∷◌}
 use Rattle.std.specs.Int.{bit_at}
 use Rattle.cq_position.specs.declared.men.Man.TheVariants.{Empty}
 use Rattle.cq_position.specs.declared.moves.Move.{Move}
@@ -8,10 +8,12 @@ use Rattle.cq_position.specs.Board.{Board, man_at, stands}
 use Rattle.cq_position.specs.Position.{IsPosition}
 use Rattle.cq_position.specs.Attacks.{is_attacked}
 use Rattle.cq_position.specs.King.{IsKingSquare}
-use Rattle.cq_position.specs.Legal.{is_pseudo_legal, is_en_passant_capture}
+use Rattle.cq_position.specs.Legal.{reaches, is_pseudo_legal, is_en_passant_capture}
 use Rattle.cq_position.specs.Legality.{is_safe}
 use Rattle.cq_position.specs.Attacks.{attacks}
 use Rattle.cq_position.specs.Bitboards.{IsBitboard}
+use Rattle.cq_position.specs.declared.men.Promotion.TheVariants.{None as NoPromotion}
+use Rattle.cq_moves.specs.LegalMoves.{move_of, legal_between}
 use Rattle.cq_moves.specs.declared.mover.Mover.{Mover}
 use Rattle.cq_moves.specs.declared.mover.Origin.{Origin}
 
@@ -33,10 +35,15 @@ pub record IsUnexposed (p : Board) (from : ℕ) : Type 0 where
   pub safe : (m : Move) → m.from ≡ from → is_pseudo_legal p m ≡ true → is_en_passant_capture p m ≡ false
       → is_safe p m ≡ true
 
--- the squares that the man on a square attacks, and a flag that is false only where each of its moves leaves its king safe
+-- the man on a square, the squares that it attacks, and a flag that is false only where each of its moves leaves its king safe
 pub record IsOrigin (p : Board) (origin : Origin) : Type 0 where
+  pub man : origin.man ≡ man_at p.men origin.from
   pub attacked : IsBitboard origin.attacked (attacks p.men origin.from)
   pub exposed : origin.exposed ≡ false → IsUnexposed p origin.from
+
+-- each move of the man on a square to where it goes is legal with no promotion, and with no other
+pub record IsPlain (p : Board) (from : ℕ) : Type 0 where
+  pub only : (to : ℕ) → to < 64 → reaches p from to ≡ true → legal_between p from to ≡ move_of from to NoPromotion ∷ []
 
 -- where the king stands after a move: it may be the man that moves
 abbrev pub king_after : ℕ → Move → ℕ

@@ -55,9 +55,9 @@ fn promoted(side: Side, promotion: Promotion, man: Man) -> Man
 pub fn is_en_passant_capture(position: &Position, m: &Move) -> bool
     ensures { result ≡ legal.is_en_passant_capture position.now m.now }
 {
-    is_pawn(position.at(m.from))
+    position.passant() == Some(m.to)
         && files_apart(m.from, m.to) == 1
-        && position.passant() == Some(m.to)
+        && is_pawn(position.at(m.from))
 }
 
 /// The square in the middle between two, as the one that a pawn's double step passes: of the two numbers the half of the sum.

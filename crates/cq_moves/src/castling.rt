@@ -14,7 +14,7 @@ use cq_position::{Man, Men, Move, Position, Side, king_of, opponent, rook_of};
 pub fn is_castling(position: &Position, m: &Move) -> bool
     ensures { result ≡ legal.is_castling position.now m.now }
 {
-    position.at(m.from) == king_of(position.side()) && files_apart(m.from, m.to) == 2
+    files_apart(m.from, m.to) == 2 && position.at(m.from) == king_of(position.side())
 }
 
 /// Whether the king castles so.

@@ -23,9 +23,8 @@ pub(crate) fn goals_from(position: &Position, mover: &Mover, origin: &Origin) ->
     requires origin { IsOrigin position.now origin.now }
     ensures { IsBitboard result (legal.reaches position.now origin.now.from) }
 {
-    let man = position.at(origin.from);
-    if is_of_side(man, position.side()) {
-        goals_of(man, position, origin) & mover.free
+    if is_of_side(origin.man, position.side()) {
+        goals_of(origin.man, position, origin) & mover.free
     } else {
         0
     }

@@ -11,6 +11,7 @@ mod next_position;
 mod outcome;
 mod passing;
 mod reach;
+mod sliders;
 
 pub use after::is_en_passant_capture;
 pub use castling::is_castling;

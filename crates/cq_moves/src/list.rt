@@ -6,13 +6,14 @@ ghost use Rattle.cq_position.specs.Board.{Board};
 ghost use Rattle.cq_position.specs.Legal.{Legal};
 ghost use Rattle.cq_position.specs.Legal as legal;
 ghost use Rattle.cq_moves.specs.LegalMoves.{legal_list, legal_from, legal_between, if_legal, pieces, Precedes};
-ghost use Rattle.cq_moves.specs.Mover.{IsMover, IsOrigin};
+ghost use Rattle.cq_moves.specs.Mover.{IsMover, IsOrigin, IsPlain};
 
 use crate::going::goals_from;
-use crate::mover::{Mover, Origin, is_legal_there, mover_of, origin_of};
+use crate::mover::{Mover, Origin, is_legal_there, is_ordinary, mover_of, origin_of};
 use crate::reach::promotes;
 use arrayvec::ArrayVec;
 use cq_geometry::Square;
+use cq_position::position::is_pawn;
 use cq_position::{Move, Position, Promotion};
 use cq_sets::lowest_square;
 
@@ -24,8 +25,8 @@ pub fn legal_moves(position: &Position) -> ArrayVec<Move, 512>
     ensures order { AllPairs Precedes result.items }
     ensures members { (m : MoveValue) → Contains result.items m ↔ ((q : Board) × Legal position.now m q) }
 {
-    let mover = mover_of(position);
     let mut moves = ArrayVec::new();
+    let mover = mover_of(position);
     let mut left = position.men().squares_of_side(position.side());
     while left != 0 {
         let from = lowest_square(left);
@@ -35,18 +36,64 @@ pub fn legal_moves(position: &Position) -> ArrayVec<Move, 512>
     moves
 }
 
-// Adds the legal moves from a square.
+// Adds the legal moves from a square. A man that doesn't expose its king and is no pawn has no move that must be judged.
+#[tactic(auto, using(crate::proofs::Parts::plain_moves))]
 fn add_moves_from(position: &Position, mover: &Mover, from: Square, moves: &mut ArrayVec<Move, 512>)
     requires mover { IsMover position.now mover.now }
     requires room { length moves.old.items + length (legal_from position.now from) ≤ 512 }
     ensures { moves.new.items ≡ moves.old.items ++ legal_from position.now from }
 {
     let origin = origin_of(position, mover, from);
-    let mut left = goals_from(position, mover, &origin);
+    if !origin.exposed && !is_pawn(origin.man) {
+        add_plain_moves(position, mover, &origin, moves);
+    } else {
+        add_judged_moves(position, mover, &origin, moves);
+    }
+}
+
+// Adds the moves of a man of whose moves each is legal, with no promotion: that to each square to which it goes.
+fn add_plain_moves(
+    position: &Position,
+    mover: &Mover,
+    origin: &Origin,
+    moves: &mut ArrayVec<Move, 512>,
+)
+    requires mover { IsMover position.now mover.now }
+    requires origin { IsOrigin position.now origin.now }
+    requires plain { IsPlain position.now origin.now.from }
+    requires room { length moves.old.items + length (legal_from position.now origin.now.from) ≤ 512 }
+    ensures { moves.new.items ≡ moves.old.items ++ legal_from position.now origin.now.from }
+{
+    let mut left = goals_from(position, mover, origin);
     while left != 0 {
         let to = lowest_square(left);
         left &= !(1 << to.number());
-        add_moves_between(position, mover, &origin, to, moves);
+        moves.push(Move {
+            from: origin.from,
+            to,
+            promotion: Promotion::None,
+            null: false,
+        });
+    }
+}
+
+// Adds the legal moves from a square, each of which is judged.
+fn add_judged_moves(
+    position: &Position,
+    mover: &Mover,
+    origin: &Origin,
+    moves: &mut ArrayVec<Move, 512>,
+)
+    requires mover { IsMover position.now mover.now }
+    requires origin { IsOrigin position.now origin.now }
+    requires room { length moves.old.items + length (legal_from position.now origin.now.from) ≤ 512 }
+    ensures { moves.new.items ≡ moves.old.items ++ legal_from position.now origin.now.from }
+{
+    let mut left = goals_from(position, mover, origin);
+    while left != 0 {
+        let to = lowest_square(left);
+        left &= !(1 << to.number());
+        add_moves_between(position, mover, origin, to, moves);
     }
 }
 
@@ -66,7 +113,14 @@ fn add_moves_between(
     requires room { length moves.old.items + length (legal_between position.now origin.now.from to) ≤ 512 }
     ensures { moves.new.items ≡ moves.old.items ++ legal_between position.now origin.now.from to }
 {
-    if promotes(position, origin.from, to) {
+    if is_ordinary(position, origin, to) {
+        moves.push(Move {
+            from: origin.from,
+            to,
+            promotion: Promotion::None,
+            null: false,
+        });
+    } else if promotes(position, origin.from, to) {
         add_promotions(position, mover, origin, to, moves);
     } else {
         add_move(position, mover, origin, to, Promotion::None, moves);

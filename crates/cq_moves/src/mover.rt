@@ -1,23 +1,28 @@
 //! The side that moves: where its king stands, and which of its men may shield it.
-ghost use Rattle.std.specs.Prelude.{◌≡◌, ◌<◌, ℕ, false, true, slice_set};
+ghost use Rattle.std.specs.Prelude.{◌≡◌, ◌<◌, ℕ, false, true, slice_set, [], ◌∷◌};
 ghost use Rattle.std.specs.Int.{bit_at};
 ghost use Rattle.cq_position.specs.declared.men.Man.TheVariants.{Empty};
 ghost use Rattle.cq_position.specs.Attacks as attack;
+ghost use Rattle.cq_position.specs.Bitboards.{IsBitboard};
+ghost use Rattle.cq_position.specs.Board.{man_at};
 ghost use Rattle.cq_position.specs.King.{IsKingSquare};
 ghost use Rattle.cq_position.specs.Legal as legal;
 ghost use Rattle.cq_position.specs.Legal.{is_pseudo_legal};
 ghost use Rattle.cq_position.specs.Legality as legality;
 ghost use Rattle.cq_position.specs.Men as men_spec;
+ghost use Rattle.cq_position.specs.declared.men.Promotion.TheVariants.{None as NoPromotion};
+ghost use Rattle.cq_moves.specs.LegalMoves.{legal_between, move_of};
 ghost use Rattle.cq_moves.specs.Mover.{IsMover, IsOrigin, IsUnexposed};
 
 use crate::after::is_en_passant_capture;
 use crate::going::free_squares;
 use crate::legality::is_safe;
-use crate::reach::promotion_is_right;
-use cq_geometry::Square;
-use cq_position::attacks::{is_attacked, queen_squares};
+use crate::reach::{last_rank, promotion_is_right};
+use crate::sliders::has_slider_in_line;
+use cq_geometry::{Square, rank};
+use cq_position::attacks::{is_attacked, queen_squares, squares_attacked};
 use cq_position::king::king_square;
-use cq_position::{Man, Move, Position, attacks_from, opponent};
+use cq_position::{Man, Move, Position, opponent};
 
 /// What is found once of the side that moves: the square of its king, the squares that hold no man of its own and no king, and a set of
 /// squares beside which each of its men leaves the king safe wherever it goes, captures on the en passant square aside. Bit k is square k.
@@ -40,24 +45,30 @@ pub(crate) fn mover_of(position: &Position) -> Mover
     }
 }
 
-// All squares where the king is attacked, else those that it sees along the lines of a queen.
+// All squares where the king is attacked, else those that it sees along the lines of a queen, where an opponent's man may come to
+// attack along one of them.
 fn shields_of(position: &Position, king: Square) -> u64
     requires { IsKingSquare position.now.men position.now.side king }
     ensures { (square : ℕ) → square < 64 → bit_at result square ≡ 0 →
         attack.is_attacked (slice_set position.now.men square Empty) (men_spec.opponent position.now.side) king ≡ false }
 {
-    if is_attacked(position.men(), opponent(position.side()), king) {
+    let men = position.men();
+    let by = opponent(position.side());
+    if is_attacked(men, by, king) {
         u64::MAX
+    } else if has_slider_in_line(men, by, king) {
+        queen_squares(men, king)
     } else {
-        queen_squares(position.men(), king)
+        0
     }
 }
 
-/// What is found once of a man that moves: its square, the squares that it attacks, and whether it may expose its king. `exposed` is false
-/// only where each of its moves leaves the king safe, captures on the en passant square aside.
+/// What is found once of a man that moves: its square, what it is, the squares that it attacks, and whether it may expose its king.
+/// `exposed` is false only where each of its moves leaves the king safe, captures on the en passant square aside.
 #[derive(Clone, Copy)]
 pub(crate) struct Origin {
     pub from: Square,
+    pub man: Man,
     pub attacked: u64,
     pub exposed: bool,
 }
@@ -68,11 +79,23 @@ pub(crate) fn origin_of(position: &Position, mover: &Mover, from: Square) -> Ori
     ensures from { result.from ≡ from }
     ensures known { IsOrigin position.now result }
 {
+    let man = position.at(from);
     Origin {
         from,
-        attacked: attacks_from(position, from),
+        man,
+        attacked: attacked_by(position, man, from),
         exposed: may_expose(position, mover, from),
     }
+}
+
+// The squares that the man on a square attacks.
+#[tactic(auto, unfolding(cq_position::specs::Attacks::attacks))]
+#[inline]
+fn attacked_by(position: &Position, man: Man, from: Square) -> u64
+    requires { man ≡ man_at position.now.men from }
+    ensures { IsBitboard result (attack.attacks position.now.men from) }
+{
+    squares_attacked(man, position.men(), from)
 }
 
 // Whether the man on a square may expose its king.
@@ -83,6 +106,19 @@ fn may_expose(position: &Position, mover: &Mover, from: Square) -> bool
     from == mover.king
         || mover.shields >> from.number() & 1 == 1
             && is_attacked_without(position, from, mover.king)
+}
+
+/// Whether a man's move to a square where it goes is known to be legal with no promotion, and with no other: the man doesn't expose its
+/// king, and neither promotes nor captures on the en passant square.
+#[tactic(auto, using(crate::proofs::Parts::ordinary_move))]
+#[inline]
+pub(crate) fn is_ordinary(position: &Position, origin: &Origin, to: Square) -> bool
+    requires origin { IsOrigin position.now origin.now }
+    requires reaches { legal.reaches position.now origin.now.from to ≡ true }
+    requires board { to < 64 }
+    ensures { result ≡ true → legal_between position.now origin.now.from to ≡ move_of origin.now.from to NoPromotion ∷ [] }
+{
+    !origin.exposed && rank(to) != last_rank(position.side()) && position.passant() != Some(to)
 }
 
 // Whether the opponent would attack the king's square if the square `from` were empty.

@@ -46,6 +46,7 @@ pub(crate) fn attacks(position: &Position, attacked: u64, from: Square, to: Squa
 
 /// A set that has each square from which a man of the side to move, being such a piece, goes to the goal. Bit k of the answer is square k.
 #[tactic(auto, using(cq_sets::proofs::Marked::marks_or))]
+#[inline]
 pub fn origins_to(position: &Position, piece: Piece, goal: Square) -> u64
     ensures mask { IsBitboard result (may_come position.now.side piece (attack.is_occupied position.now.men) goal) }
     ensures kept { IsPosition position.now }
@@ -142,11 +143,12 @@ pub(crate) fn promotion_is_right(position: &Position, m: &Move) -> bool
 pub(crate) fn promotes(position: &Position, from: Square, to: Square) -> bool
     ensures { result ≡ list.promotes position.now from to }
 {
-    is_pawn(position.at(from)) && rank(to) == last_rank(position.side())
+    rank(to) == last_rank(position.side()) && is_pawn(position.at(from))
 }
 
+/// The rank furthest from where a side's pawns start, 7 or 0.
 #[inline]
-fn last_rank(side: Side) -> u8
+pub(crate) fn last_rank(side: Side) -> u8
     ensures { result ≡ legal.last_rank side }
 {
     match side {

@@ -1,8 +1,8 @@
 -- The origins among the squares of a set that are still to be looked at.
-use Rattle.std.proofs.Common.{◌≡◌, ℕ, ◌^◌, ◌<◌, Bool, true, false, not, ◌&&◌, cond, List, [], ◌∷◌, ◌++◌, length, refl, sym, ap, ◌∙◌, arith, inl, inr}
-use Rattle.std.specs.List.{All, filter}
+use Rattle.std.proofs.Common.{◌≡◌, ◌≢◌, ℕ, ◌^◌, ◌<◌, Bool, true, false, not, ◌&&◌, cond, List, [], ◌∷◌, ◌++◌, length, refl, sym, ap, ◌∙◌, arith, inl, inr}
+use Rattle.std.specs.List.{All, filter, list_any}
 use Rattle.std.specs.Int.{bit_at, trailing_zeros, w64}
-use Rattle.std.proofs.lemmas.Bool.{cases_Bool, and_parts, and_from, false_from_ne_true, eq-eqb}
+use Rattle.std.proofs.lemmas.Bool.{cases_Bool, and_parts, and_from, false_from_ne_true, eq-eqb, eqb-false, false≢true}
 use Rattle.std.proofs.lemmas.List.{append_assoc, append-nil, length-append}
 use Rattle.std.proofs.lemmas.List.Elements.{All-head, All-tail, All-weaker}
 use Rattle.cq_geometry.specs.Squares.{squares}
@@ -12,7 +12,8 @@ use Rattle.cq_sets.specs.Bitboards.{IsBitboard, bit_of}
 use Rattle.cq_sets.proofs.Marked.{marks_and}
 use Rattle.cq_position.specs.Attacks.{is_occupied}
 use Rattle.cq_position.specs.Men.{man_of}
-use Rattle.std.specs.Prelude.{bit_and, nat_lt}
+use Rattle.std.proofs.lemmas.Nat.Bits.{bit_at_clear_other, bit_at-zero}
+use Rattle.std.specs.Prelude.{bit_and, nat_lt, ◌==◌}
 use Rattle.cq_position.specs.Legal.{reaches, is_castling, is_pseudo_legal, promotion_is_right}
 use Rattle.cq_position.specs.Legality.{legal_test, is_safe}
 use Rattle.cq_moves.specs.Candidates.{may_come}
@@ -20,7 +21,7 @@ use Rattle.cq_moves.proofs.Bits.{set_squares, has_bit, cleared, first_square, no
 use Rattle.cq_moves.proofs.Origins.{reached_comes}
 use Rattle.cq_san.specs.declared.parts.PieceMove.{PieceMove}
 use Rattle.cq_san.specs.Fits.{agrees_in_parts}
-use Rattle.cq_san.specs.Origins.{move_from, is_origin}
+use Rattle.cq_san.specs.Origins.{move_from, is_origin, origins}
 use Rattle.cq_san.proofs.Candidates.{so_far-room, so_far-end}
 
 kept_of_rest : (test : ℕ → Bool) (mask : ℕ) (xs : List ℕ) → All (λ s. has_bit mask s ≡ false → test s ≡ false) xs
@@ -94,3 +95,36 @@ origin_comes p parts mask there low m n s h clear =
     let set : bit_at (bit_and mask there) s ≡ 1 = (marks_and mask there _ _ m n).bit s h ∙ ap bit_of (and_from _ _ comes stood) in
     let bad : false ≡ true = sym clear ∙ eq-eqb (bit_at (bit_and mask there) s) 1 set in
     cc)
+
+-- where no bit but one is set, no other square is in the set
+lone_bit : (mask bit s : ℕ) → bit < 64 → s < 64 → s ≢ bit → cleared mask bit ≡ 0 → has_bit mask s ≡ false
+lone_bit mask bit s within h other empty =
+    ap (λ n. n == 1) (sym (bit_at_clear_other w64 mask bit within s h other) ∙ ap (λ n. bit_at n s) empty ∙ bit_at-zero s)
+
+-- so no other square is an origin
+pub none_elsewhere : (p : Board) (parts : PieceMove) (mask there bit from : ℕ) → parts.goal < 64 → bit < 64
+    → IsBitboard mask (may_come p.side parts.piece (is_occupied p.men) parts.goal)
+    → IsBitboard there (λ s. stands p.men s (man_of p.side parts.piece)) → bit ≡ from → cleared (bit_and mask there) bit ≡ 0 → (s : ℕ) → s < 64 → (s == from) ≡ false → is_origin p parts s ≡ false
+none_elsewhere p parts mask there bit from low within m n same empty s h other =
+    origin_comes p parts mask there low m n s h
+    (lone_bit (bit_and mask there) bit s within h (λ e. eqb-false s from other (e ∙ same)) empty)
+
+-- a test of the origins that fails where they may be
+pub none_kept : (v t : ℕ → Bool) (xs : List ℕ) → All (λ s. v s ≡ true → t s ≡ false) xs → list_any v (filter t xs) ≡ false
+none_kept v t [] h = refl
+none_kept v t (x ∷ xs) h =
+    let rest = none_kept v t xs (All-tail (λ s. v s ≡ true → t s ≡ false) x xs h) in
+    elim (cases_Bool (t x)) [
+      | inl e ↦
+          let fails = false_from_ne_true (v x) (λ set. false≢true (sym (All-head (λ s. v s ≡ true → t s ≡ false) x xs h set) ∙ e)) in
+          rw (e, rest, fails) refl
+      | inr e ↦ rw (e, rest) refl
+    ]
+
+-- a test of other squares than one passes at no origin where no other square is one
+pub none_other : (p : Board) (parts : PieceMove) (from : ℕ) (v : ℕ → Bool) → ((s : ℕ) → v s ≡ true → (s == from) ≡ false)
+    → ((s : ℕ) → s < 64 → (s == from) ≡ false → is_origin p parts s ≡ false) → list_any v (origins p parts) ≡ false
+unfolding origins
+none_other p parts from v elsewhere none =
+    none_kept v (is_origin p parts) squares
+    (All-weaker (λ s. s < 64) (λ s. v s ≡ true → is_origin p parts s ≡ false) (λ s h e. none s h (elsewhere s e)) squares squares_board)

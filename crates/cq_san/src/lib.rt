@@ -16,4 +16,4 @@ pub use fault::SanFault;
 pub use laws::{san_means, signs_mean, written_is_read};
 pub use parts::{Parts, PieceMove, parts_of};
 pub use reading::read_san;
-pub use text::san_text;
+pub use text::{san_text, san_text_to};

@@ -1,5 +1,5 @@
 //! The squares from which a move comes that agrees with the parts of a text.
-ghost use Rattle.std.specs.Prelude.{◌≡◌, ◌&&◌, not, true, false};
+ghost use Rattle.std.specs.Prelude.{◌≡◌, ◌<◌, ◌==◌, ◌&&◌, not, ℕ, true, false};
 ghost use Rattle.cq_position.specs.Attacks.{is_occupied};
 ghost use Rattle.cq_sets.specs.Bitboards.{IsBitboard};
 ghost use Rattle.cq_moves.specs.Candidates.{may_come};
@@ -35,6 +35,17 @@ pub(crate) fn origins(position: &Position, parts: &PieceMove) -> ArrayVec<Square
         }
     }
     found
+}
+
+/// Whether no man of the kind may come to the goal from another square than this one: then no other square is an origin.
+pub(crate) fn comes_alone(position: &Position, parts: &PieceMove, from: Square) -> bool
+    ensures { result ≡ true → (s : ℕ) → s < 64 → (s == from) ≡ false → origin.is_origin position.now parts.now s ≡ false }
+{
+    let there = position
+        .men()
+        .squares_of(man_of(position.side(), parts.piece));
+    let seen = origins_to(position, parts.piece, parts.goal);
+    seen & there & !(1 << from.number()) == 0
 }
 
 // The parts are asked before the laws of chess, which take longer. `seen` has the squares from which the piece may come.

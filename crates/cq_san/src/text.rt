@@ -1,5 +1,5 @@
 //! Writing a move in Standard Algebraic Notation.
-ghost use Rattle.std.specs.Prelude.{◌≡◌, Ok, ◌++◌, ◌+◌, ◌≤◌, ◌<◌, ◌&&◌, ◌||◌, not, [], length, ℕ, if◌then◌else◌, Some, None, true, false, IfSome};
+ghost use Rattle.std.specs.Prelude.{◌≡◌, Ok, ◌++◌, ◌+◌, ◌≤◌, ◌<◌, ◌&&◌, ◌||◌, not, [], length, ℕ, if◌then◌else◌, Some, None, true, false, IfSome, codes};
 ghost use Rattle.std.specs.List.{list_any};
 ghost use Rattle.cq_position.specs.Board.{Board};
 ghost use Rattle.cq_position.specs.Attacks as attack;
@@ -16,7 +16,7 @@ ghost use Rattle.cq_san.specs.Spelling.{Spells};
 ghost use Rattle.cq_san.specs.Reading.{IsMeant};
 
 use crate::fit::goes_right;
-use crate::origins::origins;
+use crate::origins::{comes_alone, origins};
 use crate::parts::{Parts, PieceMove};
 use arrayvec::ArrayString;
 use cq_geometry::{Square, file, rank};
@@ -87,7 +87,15 @@ fn rivals_of(position: &Position, m: &Move) -> Rivals
     ensures on_rank { result.on_rank ≡ list_any (rival.on_rank position.now m.now) (legal_list position.now) }
 {
     prove!(position.is_position());
-    let origins = origins(position, &unplaced(position, m));
+    let parts = unplaced(position, m);
+    if comes_alone(position, &parts, m.from) {
+        return Rivals {
+            any: false,
+            on_file: false,
+            on_rank: false,
+        };
+    }
+    let origins = origins(position, &parts);
     Rivals {
         any: is_any_elsewhere(&origins, m.from),
         on_file: is_any_on_file(&origins, m.from),
@@ -277,22 +285,62 @@ pub fn san_text(position: &Position, m: Move) -> ArrayString<8>
     text_of(position, m)
 }
 
+/// The same text of a move of which the position after it is known, so that the move isn't played again.
+pub fn san_text_to(position: &Position, m: Move, after: &Position) -> ArrayString<8>
+    requires { Leads position.now m after.now }
+    ensures text { result.bytes ≡ writing.san_text position.now m }
+    ensures spelled { Spells result.bytes (writing.san_parts position.now m) }
+    ensures alone { IsMeant position.now (writing.san_parts position.now m) m }
+    ensures read { san position.now result.bytes ≡ Ok m }
+{
+    prove!(position.is_position());
+    text_to(position, &m, after)
+}
+
 #[tactic(auto, unfolding(crate::specs::Writing::san_text))]
 fn text_of(position: &Position, m: Move) -> ArrayString<8>
     requires { (q : Board) × Leads position.now m q }
     ensures { result.bytes ≡ writing.san_text position.now m }
 {
-    let mut text = ArrayString::new();
     if m.null {
-        push(&mut text, "--");
-        return text;
+        null_text()
+    } else {
+        let after = play(position, m);
+        moved_text(position, &m, &after)
     }
-    write_parts(
-        &mut text,
-        is_capture(position, &m),
-        &san_parts(position, &m),
-    );
-    push(&mut text, sign_of(&play(position, m)));
+}
+
+#[tactic(auto, unfolding(crate::specs::Writing::san_text))]
+fn text_to(position: &Position, m: &Move, after: &Position) -> ArrayString<8>
+    requires { Leads position.now m.now after.now }
+    ensures { result.bytes ≡ writing.san_text position.now m.now }
+{
+    if m.null {
+        null_text()
+    } else {
+        moved_text(position, m, after)
+    }
+}
+
+fn null_text() -> ArrayString<8>
+    ensures { result.bytes ≡ codes "--" }
+{
+    let mut text = ArrayString::new();
+    push(&mut text, "--");
+    text
+}
+
+// The text of a legal move, with the sign of the position after it.
+#[tactic(auto, unfolding(crate::specs::Writing::san_text))]
+fn moved_text(position: &Position, m: &Move, after: &Position) -> ArrayString<8>
+    requires legal { Legal position.now m.now after.now }
+    requires null { m.now.null ≡ false }
+    ensures { result.bytes ≡ writing.san_text position.now m.now }
+{
+    prove!(position.is_position());
+    let mut text = ArrayString::new();
+    write_parts(&mut text, is_capture(position, m), &san_parts(position, m));
+    push(&mut text, sign_of(after));
     text
 }
 

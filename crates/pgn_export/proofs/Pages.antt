@@ -1,6 +1,6 @@
 -- Pages that grow by words.
-use Rattle.std.proofs.Common.{◌≡◌, ℕ, ◌+◌, ◌-◌, ◌<◌, ◌≤◌, Bool, true, false, cond, List, [], ◌∷◌, ◌++◌, length, refl, sym, ap, ◌∙◌, arith, append_assoc, append-nil, length-append}
-use Rattle.std.specs.Prelude.{nat_le, slice_set, codes}
+use Rattle.std.proofs.Common.{◌≡◌, ℕ, ◌+◌, ◌-◌, ◌<◌, ◌≤◌, Bool, true, false, cond, List, [], ◌∷◌, ◌++◌, length, refl, sym, ap, ◌∙◌, arith, append_assoc, append-nil, length-append, eqb-true}
+use Rattle.std.specs.Prelude.{◌==◌, nat_le, slice_set, codes}
 use Rattle.std.proofs.lemmas.Bool.{leb-true, leb-false}
 use Rattle.std.proofs.lemmas.List.Sums.{fold-append}
 use Rattle.std.proofs.Math.Seq.{set-append_seam}
@@ -99,9 +99,20 @@ lines_written before ws p new is end =
     ∙ ap (λ q. (q.text ++ 10 ∷ []) ++ 10 ∷ []) is
     ∙ ap (λ l. l ++ 10 ∷ []) (written (after_lines before) ws ∙ ap (λ l. before ++ l) (after_empty ws) ∙ sym (append_assoc before (10 ∷ []) (lines ws)))
 
--- a word of three parts
-pub three_parts : (p first second new : Page) (a b c : List ℕ) → first ≡ with_word p a → second ≡ with_longer_word first b → new ≡ with_longer_word second c
+-- a word of two parts, and of three
+pub second_part : (p first new : Page) (a b : List ℕ) → first ≡ with_word p a → new ≡ with_longer_word first b → new ≡ with_word p (a ++ b)
+second_part p first new a b e f = f ∙ ap (λ q. with_longer_word q b) e ∙ longer_word p a b
+
+pub no_first_part : (p new : Page) (a b : List ℕ) → (length a == 0) ≡ true → new ≡ with_word p b → new ≡ with_word p (a ++ b)
+no_first_part p new [] b none e = e
+no_first_part p new (x ∷ xs) b none e = absurd (omega (arith, eqb-true (length (x ∷ xs)) 0 none))
+
+pub third_part : (p first new : Page) (a b c : List ℕ) → first ≡ with_word p (a ++ b) → new ≡ with_longer_word first c
     → new ≡ with_word p (a ++ (b ++ c))
-three_parts p first second new a b c e f g =
-    g ∙ ap (λ q. with_longer_word q c) (f ∙ ap (λ q. with_longer_word q b) e ∙ longer_word p a b)
-    ∙ longer_word p (a ++ b) c ∙ ap (with_word p) (append_assoc a b c)
+third_part p first new a b c e f =
+    f ∙ ap (λ q. with_longer_word q c) e ∙ longer_word p (a ++ b) c ∙ ap (with_word p) (append_assoc a b c)
+
+pub no_third_part : (p new : Page) (a b c : List ℕ) → (length c == 0) ≡ true → new ≡ with_word p (a ++ b)
+    → new ≡ with_word p (a ++ (b ++ c))
+no_third_part p new a b [] none e = e ∙ ap (λ l. with_word p (a ++ l)) (sym (append-nil b))
+no_third_part p new a b (x ∷ xs) none e = absurd (omega (arith, eqb-true (length (x ∷ xs)) 0 none))

@@ -3,7 +3,6 @@ ghost use Rattle.std.specs.Prelude.{◌≡◌, ◌≢◌, ◌<◌, ◌≤◌, �
 ghost use Rattle.std.specs.List.{flat_map};
 ghost use Rattle.std.specs.Option.{is_some};
 ghost use Rattle.cq_position.specs.declared.moves.Move.{Move as MoveValue};
-ghost use Rattle.cq_position.specs.Board.{Board};
 ghost use Rattle.cq_position.specs.Comments.{words as words_of};
 ghost use Rattle.cq_position.specs.Games.{node_at, first_child, next_sibling};
 ghost use Rattle.cq_position.specs.Legal.{Leads};
@@ -16,7 +15,7 @@ ghost use Rattle.pgn_export.specs.Words.{opened, closed, comment_words};
 use crate::page::Page;
 use cq_outside::NoMemory;
 use cq_position::{GameResult, Move, Position, Side};
-use cq_san::san_text;
+use cq_san::san_text_to;
 use itoa::Buffer;
 use pgn_tree::{Game, first_word};
 
@@ -134,7 +133,7 @@ fn write_move(
     let Some(m) = game.move_to(k) else {
         return Ok(());
     };
-    write_san(page, mark, game.position(parent), m, due)?;
+    write_san(page, mark, game.position(parent), m, game.position(k), due)?;
     write_nags(page, game.nags(k))?;
     write_comments(page, game, k)
 }
@@ -145,13 +144,14 @@ fn write_san(
     mark: &[u8],
     position: &Position,
     m: Move,
+    after: &Position,
     due: bool,
 ) -> Result<(), NoMemory>
-    requires { (q : Board) × Leads position.now m q }
+    requires { Leads position.now m after.now }
     ensures { OnOk result (page.new ≡ with_words page.old
         (opened mark.now (movetext.number_words position.now.side due position.now.number ++ san_text position.now m ∷ []))) }
 {
-    let san = san_text(position, m);
+    let san = san_text_to(position, m, after);
     let number = position.number();
     match (position.side(), due) {
         (Side::White, _) => write_numbered(page, mark, number, b".", san.as_bytes()),

@@ -68,7 +68,7 @@ impl Page {
     }
 
     /// Adds a word of three parts.
-    #[tactic(auto, using(crate::proofs::Pages::three_parts))]
+    #[tactic(auto, using(crate::proofs::Pages::third_part, crate::proofs::Pages::no_third_part))]
     pub(crate) fn push_joined(
         &mut self,
         first: &[u8],
@@ -77,9 +77,23 @@ impl Page {
     ) -> Result<(), NoMemory>
         ensures { OnOk result (self.new ≡ with_word self.old (first.now ++ (second.now ++ third.now))) }
     {
-        self.push(first)?;
-        self.extend_last(second)?;
+        self.push_pair(first, second)?;
+        if third.is_empty() {
+            return Ok(());
+        }
         self.extend_last(third)
+    }
+
+    // Adds a word of two parts. Most words have no first part.
+    #[tactic(auto, using(crate::proofs::Pages::second_part, crate::proofs::Pages::no_first_part))]
+    fn push_pair(&mut self, first: &[u8], second: &[u8]) -> Result<(), NoMemory>
+        ensures { OnOk result (self.new ≡ with_word self.old (first.now ++ second.now)) }
+    {
+        if first.is_empty() {
+            return self.push(second);
+        }
+        self.push(first)?;
+        self.extend_last(second)
     }
 
     /// Adds bytes at the end of the last word.

@@ -112,12 +112,14 @@ impl Reader {
     pub fn new(alloc: Global) -> Reader
         ensures { shown result ≡ first }
     {
+        let preface = Preface::new(alloc);
+        let start = *preface.start();
         Reader {
-            preface: Preface::new(alloc),
+            preface,
             name: Bytes::new(alloc),
             heading: true,
             moves: 0,
-            line: Line::of_game(alloc, Position::start()),
+            line: Line::of_game(alloc, start),
             around: Vec::new(alloc),
             phase: Phase::Movetext,
         }

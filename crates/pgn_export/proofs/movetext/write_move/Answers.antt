@@ -11,4 +11,5 @@ pub write_san-requires : goal.write_san-requires
 write_san-requires c =
     let nodes = c.args.game.now.nodes in
     let led = led_from nodes c.is_tree.ensures.tree c.args.parent c.args.k c.in-Some.m c.requires.node c.requires.parent (search rules) in
-    ((node_at nodes c.args.k).position, subst (λ p. Leads p c.in-Some.m (node_at nodes c.args.k).position) (sym c.position.ensures) led.leads)
+    subst (λ q. Leads c.position.result.now c.in-Some.m q) (sym c.position-2.ensures)
+    (subst (λ p. Leads p c.in-Some.m (node_at nodes c.args.k).position) (sym c.position.ensures) led.leads)

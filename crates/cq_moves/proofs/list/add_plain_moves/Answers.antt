@@ -1,36 +1,34 @@
-use Rattle.std.proofs.Common.{◌<◌, ◌≤◌, ◌^◌, ◌++◌, length, ap, ◌∙◌, arith, rules}
+use Rattle.std.proofs.Common.{◌<◌, ◌≤◌, ◌^◌, ◌++◌, length, sym, ap, ◌∙◌, arith, rules}
 use Rattle.std.proofs.lemmas.List.{length-append}
 use Rattle.cq_moves.specs.LegalMoves.{legal_from, legal_between}
 use Rattle.cq_moves.proofs.Bits.{walk_on, walk_room, walk_shorter, walk_ends}
-use Rattle.cq_moves.proofs.Walk.{walk_begins, reached_begins, reached_on, reached_first}
-use Rattle.cq_moves.proofs.list.add_moves_from.Goals as goal
+use Rattle.cq_moves.proofs.Walk.{walk_begins, reached_begins, reached_on, only_there}
+use Rattle.cq_moves.proofs.list.add_plain_moves.Goals as goal
 
 pub loop-left-init : goal.loop-left-init
 loop-left-init c =
     let p = c.args.position.now in
-    let from = c.origin_of-origin.result.from in record {
+    let from = c.args.origin.now.from in record {
       partly = walk_begins p c.goals_from-left.result from c.args.moves.now.items c.goals_from-left.ensures;
       goes = reached_begins p c.goals_from-left.result from c.goals_from-left.ensures;
     }
 
-pub add_moves_between-requires-clause-reaches : goal.add_moves_between-requires-clause-reaches
-add_moves_between-requires-clause-reaches c =
-    let some : 0 < c.loop-left.left = omega arith in
-    let fits : c.loop-left.left < 2 ^ 64 = search rules in
-    reached_first c.args.position.now c.origin_of-origin.result.from c.loop-left.left c.lowest_square-to.result some fits
-    c.lowest_square-to.ensures.value c.loop-left.invariant.goes
-
-pub add_moves_between-requires-clause-room : goal.add_moves_between-requires-clause-room
-add_moves_between-requires-clause-room c =
+pub push-requires : goal.push-requires
+push-requires c =
     let p = c.args.position.now in
-    let from = c.origin_of-origin.result.from in
+    let from = c.args.origin.now.from in
     let some : 0 < c.loop-left.left = omega arith in
     let fits : c.loop-left.left < 2 ^ 64 = search rules in
     let whole = c.args.moves.now.items ++ legal_from p from in
-    let same = ap (λ a. length (legal_from p a)) c.origin_of-origin.ensures.from in
-    let room : length whole ≤ 512 = omega (arith, length-append c.args.moves.now.items (legal_from p from), same, c.requires.room) in
-    walk_room (legal_between p from) whole c.loop-left.moves.items c.loop-left.left c.lowest_square-to.result some fits
-    c.lowest_square-to.ensures.value c.loop-left.invariant.partly room
+    let room : length whole ≤ 512 = omega (arith, length-append c.args.moves.now.items (legal_from p from), c.requires.room) in
+    let left = walk_room (legal_between p from) whole c.loop-left.moves.items c.loop-left.left c.lowest_square-to.result some fits
+    c.lowest_square-to.ensures.value c.loop-left.invariant.partly room in
+    omega (
+      arith,
+      left,
+      ap length (only_there p from c.loop-left.left c.lowest_square-to.result some fits
+          c.lowest_square-to.ensures.value c.requires.plain c.loop-left.invariant.goes),
+    )
 
 pub loop-left-smaller : goal.loop-left-smaller
 loop-left-smaller c =
@@ -41,21 +39,21 @@ loop-left-smaller c =
 pub loop-left-preserved : goal.loop-left-preserved
 loop-left-preserved c =
     let p = c.args.position.now in
-    let from = c.origin_of-origin.result.from in
+    let from = c.args.origin.now.from in
     let some : 0 < c.loop-left.left = omega arith in
     let fits : c.loop-left.left < 2 ^ 64 = search rules in
     record {
       partly = walk_on (legal_between p from) (c.args.moves.now.items ++ legal_from p from)
-          c.loop-left.moves.items c.add_moves_between.new.moves.items
+          c.loop-left.moves.items c.push.new.self.items
           c.loop-left.left c.lowest_square-to.result c.number.result some fits c.lowest_square-to.ensures.value c.number.ensures.value
-          c.add_moves_between.ensures c.loop-left.invariant.partly;
+          (c.push.ensures.items ∙ ap (λ xs. c.loop-left.moves.items ++ xs) (sym (only_there p from c.loop-left.left c.lowest_square-to.result some fits
+          c.lowest_square-to.ensures.value c.requires.plain c.loop-left.invariant.goes))) c.loop-left.invariant.partly;
       goes = reached_on p from c.loop-left.left c.number.result c.loop-left.invariant.goes;
     }
 
 pub returns : goal.returns
 returns c =
     let p = c.args.position.now in
-    let from = c.origin_of-origin.result.from in
+    let from = c.args.origin.now.from in
     walk_ends (legal_between p from) (c.args.moves.now.items ++ legal_from p from) c.loop-left.moves.items c.loop-left.left
     c.loop-left-test.false c.loop-left.invariant.partly
-    ∙ ap (λ a. c.args.moves.now.items ++ legal_from p a) c.origin_of-origin.ensures.from

@@ -2,7 +2,7 @@ use Rattle.std.proofs.Common.{◌++◌, length}
 use Rattle.cq_moves.specs.LegalMoves.{legal_from}
 use Rattle.cq_moves.proofs.Bits.{set_squares}
 use Rattle.cq_moves.proofs.Walk.{IsWalk}
-use Rattle.cq_moves.proofs.list.add_moves_from.Given as goal
+use Rattle.cq_moves.proofs.list.add_plain_moves.Given as goal
 
 abbrev pub invariant-loop-left : goal.invariant-loop-left
 invariant-loop-left l =

@@ -1,0 +1,1 @@
+cql() flipcolor { stalemate btm power A - power a >= 5 }

@@ -1,0 +1,1 @@
+cql() player "Müller" check

@@ -1,0 +1,1 @@
+cql() line --> ({check btm} --> wtm){2,40}

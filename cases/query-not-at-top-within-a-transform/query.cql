@@ -1,0 +1,1 @@
+cql() flipcolor sort "pawns" #P

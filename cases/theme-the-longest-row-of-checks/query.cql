@@ -1,0 +1,1 @@
+cql() sort "checks" flipcolor line --> {btm check} --> (wtm --> {btm check})+
