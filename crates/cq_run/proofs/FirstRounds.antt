@@ -287,15 +287,15 @@ turn_found laws status query limit b source now sinks out out' err err' err'' st
 -- or none
 pub turn_done : (query : QueryTree) (limit : ℕ) (b : Batches) (source now : SourceView) (sinks new_sinks : Sinks) (stand : Stand) (tally : Tally) (ks : List GameAnswer) (batch : Batch)
     (answers : List GameAnswer) (t : ℕ) → (at : FirstTurn query limit b source now sinks stand batch t) → (answered : BatchUpTo query batch answers)
-    → FoundSoFar false query (at.turn.outcomes ++ up_to_first query answered.outcomes) new_sinks (stand_of tally ks) → tally.matched ≡ 0
+    → FoundSoFar false query (at.turn.outcomes ++ up_to_first query answered.outcomes) new_sinks (stand_of tally ks) → tally.matched ≤ 0
     → (r : FirstRounds query limit b source now new_sinks (stand_of tally ks)) × (t + 1 ≤ r.so.m)
-turn_done query limit b source now sinks new_sinks stand tally ks batch answers t at answered found zero_matched =
+turn_done query limit b source now sinks new_sinks stand tally ks batch answers t at answered found none_matched =
     let turn = at.turn in
     let all = turn.outcomes ++ answered.outcomes in
     let both : Joined query turn.front turn.m turn.outcomes answered.outcomes = joined query limit b source now sinks stand batch answers t at answered in
     let first : FoundFirst query all new_sinks (stand_of tally ks) = subst (λ l. FoundSoFar false query l new_sinks (stand_of tally ks)) both.up found in
     let count : tally.matched ≡ count_by (is_match query) (up_to_first query all) = ap (λ (s : Stand). s.tally.matched) first.is in
-    let none : some_match query all ≡ false = sym (some_of_first query all) ∙ none_counted query (up_to_first query all) (sym count ∙ zero_matched) in (
+    let none : some_match query all ≡ false = sym (some_of_first query all) ∙ none_counted query (up_to_first query all) (omega (arith, count, none_matched)) in (
       record {
         so = record {
           front = turn.front;

@@ -1,4 +1,4 @@
--- Finders that look for the first match, as they draw.
+-- Workers that look for the first match, as they draw.
 use Rattle.std.proofs.Common.{length-append, ◌==◌, ◌&&◌, ◌≡◌, ◌≢◌, ◌⊎◌, inl, inr, ⊎_elim, ℕ, ◌+◌, ◌<◌, ◌≤◌, List, [], ◌∷◌, ◌++◌, length, refl, sym, ap, ◌∙◌, subst, arith, All, Bool, true, false}
 use Rattle.std.proofs.lemmas.List.Elements.{All-push, All-nil}
 use Rattle.cq_board.specs.declared.seat.Board.{Board}
@@ -57,11 +57,11 @@ has_told query batch w now number numbers more was drew within told = record {
   each = subst (All (IsAnswerIn query batch)) (sym told.more) (All-push (IsAnswerIn query batch) w.answers.items told.answer was.each (number, told.is));
   drawn_ = λ x less.
       let a = answers_more (number_of batch + x) w.answers.items now.answers.items told.answer told.more in
-      let e = ap one_if (same_bool number_of batch number x told.answer.index (ap (λ (b : GameAnswer). b.index) told.is.is)) in let b = was.drawn_ x less in
+      let e = ap one_if (same_bool (number_of batch) number x told.answer.index (ap (λ (b : GameAnswer). b.index) told.is.is)) in let b = was.drawn_ x less in
       let t = times_more x numbers more number drew in let s = ap (times x) told.skips in omega arith;
   found_ = λ x less.
       let a = matches_more (number_of batch + x) w.answers.items now.answers.items told.answer told.more in
-      let e = ap (λ p. one_if (p && is_match told.answer)) (same_bool number_of batch number x told.answer.index (ap (λ (b : GameAnswer). b.index) told.is.is)) in let b = was.found_ x less in
+      let e = ap (λ p. one_if (p && is_match told.answer)) (same_bool (number_of batch) number x told.answer.index (ap (λ (b : GameAnswer). b.index) told.is.is)) in let b = was.found_ x less in
       let t = times_added (is_match told.answer) x number (found w.mark) (found now.mark) told.founds in omega arith;
 }
 

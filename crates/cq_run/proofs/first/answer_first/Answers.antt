@@ -139,6 +139,25 @@ pub returns-in-Err-NoMemory-write_answers-clause-next : goal.returns-in-Err-NoMe
 returns-in-Err-NoMemory-write_answers-clause-next g c =
     g.met.S.Source.follows_on c.args.source.now c.loop-turn.source c.next.new.source c.loop-turn.invariant.1 c.next.ensures.next
 
+pub returns-then-tally-gt0-clause-answers : goal.returns-then-tally-gt0-clause-answers
+returns-then-tally-gt0-clause-answers g c =
+    let after = source_view g.S.Source.left g.S.Source.faults c.next.new.source in
+    let out = sink_view g.O.Sink.taken g.O.Sink.faults c.args.out.now in
+    let err = sink_view g.E.Sink.taken g.E.Sink.faults c.args.err.now in
+    let is = c.in-Ok-Some.is ∙ ap Ok c.in-Ok-Some.field-0-is in
+    let says = rw is at c.next.ensures.says in
+    let counts = rw is at c.next.ensures.cause in
+    let laws = c.archives_come_in_batches.ensures in
+    let turn = first_turns laws _ _ _ _ _ _ after _ _ _ c.loop-turn._turn c.loop-turn.invariant.0 c.loop-turn.invariant.2 says counts in
+    let answered = batch_up_to laws _ _ _ c.in-Ok.ensures in
+    let are = answers_are _ _ _ _ _ _ _ _ _ _ turn answered in
+    let does = c.write_answers.ensures _ turn.turn.outcomes (up_to_first _ answered.outcomes) out err are turn.turn.found in
+    turn_found laws _ _ _ _ _ _ _ _ _ _ _ _ _ _ _ _ _ _ turn answered (rw c.in-Ok-write_answers.is at does) (search rules) (search rules)
+
+pub returns-then-tally-gt0-clause-next : goal.returns-then-tally-gt0-clause-next
+returns-then-tally-gt0-clause-next g c =
+    g.met.S.Source.follows_on c.args.source.now c.loop-turn.source c.next.new.source c.loop-turn.invariant.1 c.next.ensures.next
+
 pub loop-turn-preserved : goal.loop-turn-preserved
 loop-turn-preserved g c =
     let after = source_view g.S.Source.left g.S.Source.faults c.next.new.source in
