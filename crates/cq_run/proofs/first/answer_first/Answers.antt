@@ -171,7 +171,7 @@ loop-turn-preserved g c =
     let answered = batch_up_to laws _ _ _ c.in-Ok.ensures in
     let are = answers_are _ _ _ _ _ _ _ _ _ _ turn answered in
     let does = c.write_answers.ensures _ turn.turn.outcomes (up_to_first _ answered.outcomes) out err are turn.turn.found in
-    let next = turn_done _ _ _ _ _ _ _ _ _ _ _ _ turn answered (rw c.in-Ok-write_answers.is at does) (search rules) in
+    let next = turn_done _ _ _ _ _ _ _ _ _ _ _ _ _ turn answered (rw c.in-Ok-write_answers.is at does) (search rules) in
     (next.0, g.met.S.Source.follows_on c.args.source.now c.loop-turn.source c.next.new.source c.loop-turn.invariant.1 c.next.ensures.next, next.1)
 
 pub unreachable-requires : goal.unreachable-requires
