@@ -10,7 +10,7 @@ use Rattle.cq_shards.specs.Answers.{answers_from, games_of, number_of}
 use Rattle.cq_shards.specs.Batching.{batches}
 use Rattle.cq_shards.specs.FirstMatch.{AnswersUpToFirst}
 use Rattle.cq_shards.specs.Kept.{kept}
-use Rattle.cq_shards.specs.Nexts.{Moves, GivesBatch, GivesNoMore, GivesNone}
+use Rattle.cq_shards.specs.Nexts.{Moves, GivesBatch, HasGivenAll, HasGivenFull}
 use Rattle.cq_shards.specs.Outcomes.{Outcome, AreKeptRead}
 use Rattle.cq_shards.specs.Streams.{Stands}
 use Rattle.cq_shards.specs.Whole.{closed_games}
@@ -119,32 +119,32 @@ call_starves laws query limit was now source mid after sinks stand Given r moves
     (so_far_prefix query r.so.outcomes sinks stand r.none r.so.found) r.so.found.unfailed at.before
 
 pub call_unread : Laws → (query : QueryTree) (limit : ℕ) (was now : Batches) (source mid after : SourceView) (sinks : Sinks) (stand : Stand)
-    → FirstRounds query limit was source mid sinks stand → Moves was now mid.left after.left (GivesNone was (λ n. n ≤ was.limit)) → Rose mid.faults after.faults
+    → FirstRounds query limit was source mid sinks stand → Moves was now mid.left after.left (HasGivenFull was (λ n. n ≤ was.limit)) → Rose mid.faults after.faults
     → AnswerPromise (first_texts query) ReadFault (asked limit source after sinks)
 call_unread laws query limit was now source mid after sinks stand r moves rose =
     let at : Called query limit now source after (r.so.front ++ moves.bytes) r.so.m r.so.outcomes =
-    called laws query limit was now source mid after sinks stand (GivesNone was (λ n. n ≤ was.limit)) r moves in
+    called laws query limit was now source mid after sinks stand (HasGivenFull was (λ n. n ≤ was.limit)) r moves in
     let none = moves.given r.so.front r.so.m r.so.stands in
     unread laws query limit now source after (r.so.front ++ moves.bytes) r.so.m r.so.outcomes sinks stand at.reached (subst (λ n. Rose n after.faults) r.so.counts rose) at.are_read r.none r.so.found
     none.all (subst (λ k. length (r.so.front ++ moves.bytes) ≤ k) r.so.reached.limit_ none.taken) at.before
 
 pub call_too_long : Laws → (query : QueryTree) (limit : ℕ) (was now : Batches) (source mid after : SourceView) (sinks : Sinks) (stand : Stand)
-    → FirstRounds query limit was source mid sinks stand → Moves was now mid.left after.left (GivesNone was (λ n. was.limit < n)) → after.faults ≡ mid.faults
+    → FirstRounds query limit was source mid sinks stand → Moves was now mid.left after.left (HasGivenFull was (λ n. was.limit < n)) → after.faults ≡ mid.faults
     → AnswerPromise (first_texts query) ArchiveTooLong (asked limit source after sinks)
 call_too_long laws query limit was now source mid after sinks stand r moves counts =
     let at : Called query limit now source after (r.so.front ++ moves.bytes) r.so.m r.so.outcomes =
-    called laws query limit was now source mid after sinks stand (GivesNone was (λ n. was.limit < n)) r moves in
+    called laws query limit was now source mid after sinks stand (HasGivenFull was (λ n. was.limit < n)) r moves in
     let none = moves.given r.so.front r.so.m r.so.stands in
     too_long laws query limit now source after (r.so.front ++ moves.bytes) r.so.m r.so.outcomes sinks stand at.reached (counts ∙ r.so.counts) at.are_read r.none r.so.found
     none.all (subst (λ k. k < length (r.so.front ++ moves.bytes)) r.so.reached.limit_ none.taken) at.before
 
 -- there are no more batches, and the last line is written
 pub call_ends : Laws → (status : Status) (query : QueryTree) (limit : ℕ) (was now : Batches) (source mid after : SourceView) (out out' err err' err'' : SinkView) (tally : Tally) (ks : List GameAnswer)
-    → FirstRounds query limit was source mid (sinks_of out out' err err') (stand_of tally ks) → Moves was now mid.left after.left (GivesNoMore now) → after.faults ≡ mid.faults
+    → FirstRounds query limit was source mid (sinks_of out out' err err') (stand_of tally ks) → Moves was now mid.left after.left (HasGivenAll now) → after.faults ≡ mid.faults
     → WritesSummary tally err' err'' status → AnswerPromise (first_texts query) status (asked limit source after (sinks_of out out' err err''))
 call_ends laws status query limit was now source mid after out out' err err' err'' tally ks r moves counts writes =
     let sinks = sinks_of out out' err err' in
-    let at : Called query limit now source after (r.so.front ++ moves.bytes) r.so.m r.so.outcomes = called laws query limit was now source mid after sinks (stand_of tally ks) (GivesNoMore now) r moves in
+    let at : Called query limit now source after (r.so.front ++ moves.bytes) r.so.m r.so.outcomes = called laws query limit was now source mid after sinks (stand_of tally ks) (HasGivenAll now) r moves in
     first_read laws status query limit source after (sinks_of out out' err err'') (r.so.front ++ moves.bytes) r.so.outcomes
     (all_read laws limit now source after (r.so.front ++ moves.bytes) r.so.m r.so.outcomes at.reached (counts ∙ r.so.counts) at.are_read (moves.given r.so.front r.so.m r.so.stands)) at.before
     (first_written status query r.so.outcomes out out' err err' err'' tally ks (subst (λ l. FoundSoFar false query l sinks (stand_of tally ks)) (sym (all_up query r.so.outcomes r.none)) r.so.found) writes)

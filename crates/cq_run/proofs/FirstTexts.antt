@@ -11,7 +11,7 @@ use Rattle.pgn_cut.specs.Cut.{cut, closed}
 use Rattle.pgn_cut.specs.Joined.{game_bytes}
 use Rattle.pgn_cut.specs.declared.span.Span.{Span}
 use Rattle.cq_shards.specs.Batching.{batches, full_batches, left_over, flat}
-use Rattle.cq_shards.specs.Filling.{IsNeeded}
+use Rattle.cq_shards.specs.Filling.{IsNeeded, most_read}
 use Rattle.cq_shards.specs.Kept.{KeptGames, kept}
 use Rattle.cq_shards.specs.Outcomes.{Outcome, AreKeptRead}
 use Rattle.cq_shards.specs.Whole.{closed_games, cut_games, whole, whole_spans}
@@ -21,7 +21,7 @@ use Rattle.cq_run.specs.Asking.{texts_so_far}
 use Rattle.cq_run.specs.ByBatches.{HaveOneOutcome, Laws}
 use Rattle.cq_run.specs.FirstGame.{first_export, first_texts, some_match, up_to_first}
 use Rattle.cq_run.specs.Outcomes.{AreRead}
-use Rattle.cq_run.specs.Promise.{SourceView, SinkView, Sinks, Texts, Suffices, ReadsNoMore, most_read, Writes, WritesPrefix, NoWriteFailed, OneSinkFailed, sinks_of}
+use Rattle.cq_run.specs.Promise.{SourceView, SinkView, Sinks, Texts, Suffices, ReadsNoMore, Writes, WritesPrefix, NoWriteFailed, OneSinkFailed, sinks_of}
 use Rattle.cq_run.specs.Writing.{FoundSoFar, Stand, WritesSummary, stand_of}
 use Rattle.cq_run.specs.declared.status.Status.{Status}
 use Rattle.cq_run.specs.declared.status.Status.TheVariants.{Done, DoneWithRefusals, QueryRefused, WordsRefused, OpenFault, ReadFault, WriteFault, NoMemory, ArchiveTooLong}

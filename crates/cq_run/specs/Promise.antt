@@ -10,6 +10,7 @@ use Rattle.cq_shards.specs.Outcomes.{Outcome}
 use Rattle.cq_run.specs.Outcomes.{AreRead, HasGames}
 use Rattle.pgn_cut.specs.Cut.{closed}
 use Rattle.pgn_cut.specs.declared.span.Span.{Span}
+use Rattle.cq_shards.specs.Filling.{most_read}
 use Rattle.cq_shards.specs.Whole.{whole_spans}
 
 -- a source at one moment: the bytes that are left, where it tells them, and its count of faults
@@ -197,10 +198,6 @@ SaysOfAnswer WriteFault wanted call =
 SaysOfAnswer NoMemory wanted call = Stops wanted call × NothingFails call
 SaysOfAnswer ArchiveTooLong wanted call = Breaks wanted call (λ taken. call.limit < taken) × NothingFails call
 SaysOfAnswer _ wanted call = ⊥
-
--- how many bytes one read takes at most
-abbrev pub most_read : ℕ
-most_read = 65536
 
 -- the games of the whole batches of some bytes suffice
 pub record Suffices (wanted : Wanted) (front : List ℕ) : Type 0 where
