@@ -57,22 +57,27 @@ first_promised laws status query limit source now sinks archive rs all before sa
 pub first_read : Laws → (status : Status) (query : QueryTree) (limit : ℕ) (source now : SourceView) (sinks : Sinks) (archive : List ℕ) (rs : List Outcome) → ReadsAll limit source now archive rs
     → Before query source now → FirstWritten (refused_of query rs) (first_texts_of query rs) sinks status → AnswerPromise (first_texts query) status (asked limit source now sinks)
 first_read laws Done query limit source now sinks archive rs all before writes =
-    first_promised laws Done query limit source now sinks archive rs all before
-    (inl (finds_all query limit source now sinks archive rs _ all (all_taken query rs sinks (λ n. n ≡ 0) writes.0 writes.1)),
-    record { source = all.counts; sinks = writes.2 }) (λ _. inl refl)
+    first_promised laws Done query limit source now sinks archive rs all before (
+      inl (finds_all query limit source now sinks archive rs _ all (all_taken query rs sinks (λ n. n ≡ 0) writes.0 writes.1)),
+      record { source = all.counts; sinks = writes.2 },
+    ) (λ _. inl refl)
 first_read laws DoneWithRefusals query limit source now sinks archive rs all before writes =
-    first_promised laws DoneWithRefusals query limit source now sinks archive rs all before
-    (inl (finds_all query limit source now sinks archive rs _ all (all_taken query rs sinks (λ n. 0 < n) writes.0 writes.1)),
-    record { source = all.counts; sinks = writes.2 }) (λ _. inr (inl refl))
+    first_promised laws DoneWithRefusals query limit source now sinks archive rs all before (
+      inl (finds_all query limit source now sinks archive rs _ all (all_taken query rs sinks (λ n. 0 < n) writes.0 writes.1)),
+      record { source = all.counts; sinks = writes.2 },
+    ) (λ _. inr (inl refl))
 first_read laws WriteFault query limit source now sinks archive rs all before writes =
-    first_promised laws WriteFault query limit source now sinks archive rs all before
-    (writes.1, all.counts,
-    inr (finds_all query limit source now sinks archive rs _ all (part_taken query rs sinks writes.0)))
+    first_promised laws WriteFault query limit source now sinks archive rs all before (
+      writes.1,
+      all.counts,
+      inr (finds_all query limit source now sinks archive rs _ all (part_taken query rs sinks writes.0)),
+    )
     (λ every. absurd (every.no_write (some_failed sinks writes.1)))
 first_read laws NoMemory query limit source now sinks archive rs all before writes =
-    first_promised laws NoMemory query limit source now sinks archive rs all before
-    (inr (finds_all query limit source now sinks archive rs _ all (part_taken query rs sinks writes.0)),
-    record { source = all.counts; sinks = writes.1 }) (λ _. inr (inr (inl refl)))
+    first_promised laws NoMemory query limit source now sinks archive rs all before (
+      inr (finds_all query limit source now sinks archive rs _ all (part_taken query rs sinks writes.0)),
+      record { source = all.counts; sinks = writes.1 },
+    ) (λ _. inr (inr (inl refl)))
 first_read laws QueryRefused query limit source now sinks archive rs all before writes = absurd writes
 first_read laws WordsRefused query limit source now sinks archive rs all before writes = absurd writes
 first_read laws OpenFault query limit source now sinks archive rs all before writes = absurd writes

@@ -44,14 +44,70 @@ type Row<'a> = (u64, u64, u64, bool, Status, bool, &'a str);
 const MOST: u64 = 1_099_511_627_776;
 
 static ROWS: [Row<'static>; 9] = [
-    (4, 3, MOST, false, Status::DoneWithRefusals, true, "games 3 matched 1 refused 1\n"),
-    (4, 1, MOST, false, Status::Done, true, "games 1 matched 1 refused 0\n"),
-    (4, 0, MOST, false, Status::DoneWithRefusals, false, "games 4 matched 0 refused 1\n"),
-    (1025, 1024, MOST, true, Status::DoneWithRefusals, true, "games 1024 matched 1 refused 1\n"),
-    (2048, 1025, MOST, false, Status::DoneWithRefusals, true, "games 1025 matched 1 refused 1\n"),
+    (
+        4,
+        3,
+        MOST,
+        false,
+        Status::DoneWithRefusals,
+        true,
+        "games 3 matched 1 refused 1\n",
+    ),
+    (
+        4,
+        1,
+        MOST,
+        false,
+        Status::Done,
+        true,
+        "games 1 matched 1 refused 0\n",
+    ),
+    (
+        4,
+        0,
+        MOST,
+        false,
+        Status::DoneWithRefusals,
+        false,
+        "games 4 matched 0 refused 1\n",
+    ),
+    (
+        1025,
+        1024,
+        MOST,
+        true,
+        Status::DoneWithRefusals,
+        true,
+        "games 1024 matched 1 refused 1\n",
+    ),
+    (
+        2048,
+        1025,
+        MOST,
+        false,
+        Status::DoneWithRefusals,
+        true,
+        "games 1025 matched 1 refused 1\n",
+    ),
     (2048, 1025, MOST, true, Status::ReadFault, false, ""),
-    (2048, 3, 8192, false, Status::DoneWithRefusals, true, "games 3 matched 1 refused 1\n"),
-    (2048, 3, 8191, false, Status::DoneWithRefusals, true, "games 3 matched 1 refused 1\n"),
+    (
+        2048,
+        3,
+        8192,
+        false,
+        Status::DoneWithRefusals,
+        true,
+        "games 3 matched 1 refused 1\n",
+    ),
+    (
+        2048,
+        3,
+        8191,
+        false,
+        Status::DoneWithRefusals,
+        true,
+        "games 3 matched 1 refused 1\n",
+    ),
     (2048, 2000, 8192, false, Status::ArchiveTooLong, false, ""),
 ];
 
@@ -71,14 +127,31 @@ fn expect<R: Threads + Sync + Abort>(
     let mut source = MemSource::new(alloc, archive.as_slice(), BATCH, failing)?;
     let mut out = SureSink::new(alloc, 4096)?;
     let mut err = SureSink::new(alloc, 4096)?;
-    let settings = Settings { workers, limit, first: true };
-    let found = answer(rt, alloc, &query, settings, &mut source, &mut out, &mut err, &OpenGate);
+    let settings = Settings {
+        workers,
+        limit,
+        first: true,
+    };
+    let found = answer(
+        rt,
+        alloc,
+        &query,
+        settings,
+        &mut source,
+        &mut out,
+        &mut err,
+        &OpenGate,
+    );
     let mut report = Bytes::new(alloc);
     if first != 1 {
         report.push_all(b"game 2 byte 11: illegal move\n")?;
     }
     report.push_all(last.as_bytes())?;
-    let export = if writes { written(alloc, ("", "*", "1. d4 {CQL} *"))? } else { Bytes::new(alloc) };
+    let export = if writes {
+        written(alloc, ("", "*", "1. d4 {CQL} *"))?
+    } else {
+        Bytes::new(alloc)
+    };
     let answered = (found, out.taken(), err.taken());
     let wanted = (status, Some(export.as_slice()), Some(report.as_slice()));
     assert_eq!(rt; answered, wanted, "{row:?} by {workers} workers");
@@ -107,8 +180,21 @@ fn the_rest_is_left_in_the_source(rt: HostRuntime) -> Result<(), Fail> {
     let mut source = MemSource::new(alloc, archive.as_slice(), GAME, &[])?;
     let mut out = SureSink::new(alloc, 4096)?;
     let mut err = SureSink::new(alloc, 4096)?;
-    let settings = Settings { workers: 4, limit: MOST, first: true };
-    let status = answer(&rt, alloc, &query, settings, &mut source, &mut out, &mut err, &OpenGate);
+    let settings = Settings {
+        workers: 4,
+        limit: MOST,
+        first: true,
+    };
+    let status = answer(
+        &rt,
+        alloc,
+        &query,
+        settings,
+        &mut source,
+        &mut out,
+        &mut err,
+        &OpenGate,
+    );
     let report = b"games 1 matched 1 refused 0\n".as_slice();
     assert_eq!(rt; (status, err.taken()), (Status::Done, Some(report)));
     let left = read_up_to(&mut source, alloc, 65_536)?;

@@ -32,9 +32,21 @@ static RUNS: [(&str, &str, u32, u64, bool); 7] = [
     ("run q a.pgn", "a.pgn", 4, MOST, false),
     ("run q --workers 64 a.pgn --limit 1", "a.pgn", 64, 1, false),
     ("run q --limit 8", "-", 4, 8, false),
-    ("--workers=1 run q --limit=1099511627776", "-", 1, MOST, false),
+    (
+        "--workers=1 run q --limit=1099511627776",
+        "-",
+        1,
+        MOST,
+        false,
+    ),
     ("run q --first", "-", 4, MOST, true),
-    ("--first run q --workers 2 a.pgn --limit 9", "a.pgn", 2, 9, true),
+    (
+        "--first run q --workers 2 a.pgn --limit 9",
+        "a.pgn",
+        2,
+        9,
+        true,
+    ),
 ];
 
 #[test]

@@ -51,7 +51,11 @@ fn expect<R: Threads + Sync + Abort>(
         assert_eq!(rt; answer.index, 1000 + number);
         number += 1;
         let is_match = matches!(answer.what, Answer::Match { .. });
-        assert_eq!(rt; is_match, has_match && number == count as u64, "game {number}");
+        assert_eq!(rt;
+            is_match,
+            has_match && number == count as u64,
+            "game {number}"
+        );
     }
     Ok(())
 }
@@ -70,7 +74,15 @@ fn a_batch_ends_with_its_first_match(rt: HostRuntime) -> Result<(), Fail> {
     for (matches, count) in rows {
         let batch = batch_of(&rt, alloc, matches)?;
         for workers in [1, 2, 3, 4, 64] {
-            expect(&rt, alloc, &plan, &batch, workers, count, !matches.is_empty())?;
+            expect(
+                &rt,
+                alloc,
+                &plan,
+                &batch,
+                workers,
+                count,
+                !matches.is_empty(),
+            )?;
         }
     }
     Ok(())
@@ -104,7 +116,10 @@ fn a_skipped_game_is_not_read(rt: HostRuntime) -> Result<(), Fail> {
         leaves: AtomicU32::new(0),
     };
     let answers = run_first(&rt, alloc, &plan, &batch, 1, &gate)?;
-    let calls = (gate.enters.load(Ordering::Relaxed), gate.leaves.load(Ordering::Relaxed));
+    let calls = (
+        gate.enters.load(Ordering::Relaxed),
+        gate.leaves.load(Ordering::Relaxed),
+    );
     assert_eq!(rt; (answers.len(), calls), (41, (41, 41)));
     Ok(())
 }
