@@ -13,4 +13,5 @@ pub mod MoveLaw
 pub mod Parents
 pub mod Raising
 pub mod UnaryLaws
+pub mod Wanting
 pub mod Widening

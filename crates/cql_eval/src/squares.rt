@@ -1,8 +1,9 @@
 //! What is left of a set of nodes while squares are tried one by one.
 ghost use Rattle.std.specs.Prelude.{◌≡◌, ℕ, ◌<◌, ◌&&◌, length, get_or, true, false, not, IfOk, if◌then◌else◌};
+ghost use Rattle.cq_symmetry.specs.Images.{is_in};
 ghost use Rattle.cql_syntax.specs.Values as spec;
 ghost use Rattle.cql_values.specs.Shown.{meant};
-ghost use Rattle.cql_eval.specs.Asked.{AreHaving, AreLeft};
+ghost use Rattle.cql_eval.specs.Asked.{AreHaving, AreLeft, AreWanted};
 ghost use Rattle.cql_eval.specs.Columns.{shown};
 
 use crate::filter_column::{FilterColumn, truth_at};
@@ -11,6 +12,23 @@ use cq_outside::NoMemory;
 use cql_values::sets::has_square;
 use cql_values::value::Value;
 use std::alloc::Global;
+
+/// Squares among which are those that a column has at the nodes of a set.
+pub(crate) fn wanted_squares(live: &[bool], squares: &FilterColumn) -> u64
+    ensures { AreWanted (shown squares.now) live.now result }
+{
+    let mut wanted = 0;
+    for n in 0..live.len() {
+        wanted |= wanted_at(live[n], squares, n);
+    }
+    wanted
+}
+
+fn wanted_at(asked: bool, squares: &FilterColumn, n: usize) -> u64
+    ensures { asked ≡ true → spec.has (shown squares.now n) ≡ is_in result }
+{
+    if asked { squares.at(n).squares() } else { 0 }
+}
 
 /// The nodes of a set at which this square is of the column's.
 pub(crate) fn having(

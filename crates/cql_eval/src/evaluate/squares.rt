@@ -5,7 +5,7 @@ ghost use Rattle.cql_syntax.specs.Meaning as meaning;
 ghost use Rattle.cql_syntax.specs.TreeOf.{filter_tree};
 ghost use Rattle.cql_syntax.specs.Values as spec;
 ghost use Rattle.cql_values.specs.Trees.{searched_tree};
-ghost use Rattle.cql_eval.specs.Asked.{AreUnsettled};
+ghost use Rattle.cql_eval.specs.Asked.{AreUnsettled, AreWanted};
 ghost use Rattle.cql_eval.specs.Columns.{AreAsked, AreTruths, shown};
 ghost use Rattle.cql_eval.specs.Costs.{filter_cost};
 ghost use Rattle.cql_eval.specs.FlatTrees.{IsFlat};
@@ -13,11 +13,12 @@ ghost use Rattle.cql_eval.specs.FlatTrees.{IsFlat};
 use super::evaluate;
 use crate::filter_column::FilterColumn;
 use crate::nodes::{any_live, same};
-use crate::squares::{decided, having, unsettled};
+use crate::squares::{decided, having, unsettled, wanted_squares};
 use cq_geometry::Square;
 use cq_outside::{NoMemory, Steps};
 use cql_syntax::Filter;
 use cql_values::names::Names;
+use cql_values::sets::has_square;
 use pgn_tree::Game;
 use std::alloc::Global;
 use std::sync::ledger::Ledger;
@@ -46,10 +47,12 @@ pub(super) fn square_truths<L: Ledger>(
     ensures rises { steps.old ≤ steps.new }
 {
     let mut left = same(alloc, live)?;
+    let wanted = wanted_squares(live, squares);
     for number in 0..64 {
         let square = Square::new(number);
         left = square_turn(
-            alloc, every, name, square, squares, asked, game, variations, names, left, steps,
+            alloc, every, name, square, wanted, squares, asked, game, variations, names, left,
+            steps,
         )?;
     }
     let truths = decided(alloc, every, left)?;
@@ -63,6 +66,7 @@ fn square_turn<L: Ledger>(
     every: bool,
     name: &[u8],
     square: Square,
+    wanted: u64,
     squares: &FilterColumn,
     asked: &Filter,
     game: &Game,
@@ -73,6 +77,7 @@ fn square_turn<L: Ledger>(
 ) -> Result<Vec<bool>, NoMemory>
     requires tree { IsTree game.now.nodes }
     requires asked { AreAsked (searched_tree game.now variations) left.items }
+    requires wanted { AreWanted (shown squares.now) left.items wanted }
     requires flat { IsFlat (filter_tree asked.now) }
     ensures value { IfOk result (λ later. AreUnsettled every (shown squares.now)
         (λ n. spec.holds (meaning.value (searched_tree game.now variations) []
@@ -80,6 +85,9 @@ fn square_turn<L: Ledger>(
     ensures cost { steps.new ≤ steps.old + filter_cost (length game.now.nodes) (filter_tree asked.now) }
     ensures rises { steps.old ≤ steps.new }
 {
+    if !has_square(wanted, square) {
+        return Ok(left);
+    }
     let there = having(alloc, &left, squares, square)?;
     if !any_live(&there) {
         return Ok(left);

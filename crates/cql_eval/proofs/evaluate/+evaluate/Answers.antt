@@ -20,6 +20,7 @@ use Rattle.cql_eval.proofs.Costing.{cost_more, cost_within, terms_cost_more, ter
 use Rattle.cql_eval.proofs.Gathering.{columns_begun, columns_more, columns_all, terms_begun, terms_more, terms_all}
 use Rattle.cql_eval.proofs.Filling.{narrowed_asked, live_below}
 use Rattle.cql_eval.proofs.Lives.{none_live}
+use Rattle.cql_eval.proofs.Wanting.{wanted_same, wanted_kept, turn_skip}
 use Rattle.cql_eval.proofs.FindLaw.{find_is}
 use Rattle.cql_eval.proofs.FlatLaw.{filter_flat, term_flat, no_family}
 use Rattle.cql_eval.proofs.LinesLaw.{few_atoms, few_places, atoms_below, table_begun, table_more, table_all, filled_all, at_all, atom_tabled, atom_form, line_flat, numbers_are, parts_cost_more, parts_cost_within, atoms_within, looks_in}
@@ -68,13 +69,14 @@ chains::none_holds-returns-clause-value g t c =
     (omega (arith, c.loop-filter-test.false)) c.as_slice-filter-items.ensures.tree c.loop-filter.invariant.left
 
 pub squares::square_truths-loop-number-init : goal.squares::square_truths-loop-number-init
-squares::square_truths-loop-number-init g t c = record { left = left_begun (searched_tree c.args.game.now c.args.variations) c.args.live.now _ c.in_ok-left.left.items c.requires.asked c.in_ok-left.ensures (λ n. refl); cost = omega arith; rises = omega arith }
+squares::square_truths-loop-number-init g t c = record { left = left_begun (searched_tree c.args.game.now c.args.variations) c.args.live.now _ c.in_ok-left.left.items c.requires.asked c.in_ok-left.ensures (λ n. refl); wanted = wanted_same (shown c.args.squares.now) c.args.live.now c.in_ok-left.left.items c.wanted_squares-wanted.result c.in_ok-left.ensures c.wanted_squares-wanted.ensures; cost = omega arith; rises = omega arith }
 
 pub squares::square_truths-loop-number-preserved : goal.squares::square_truths-loop-number-preserved
 squares::square_truths-loop-number-preserved g t c =
     record {
       left = square_more (searched_tree c.args.game.now c.args.variations) c.args.live.now c.args.every (shown c.args.squares.now) (λ n s. holds (value (searched_tree c.args.game.now c.args.variations) [] ((c.args.name.now, s) ∷ c.args.names.now) (filter_tree c.args.asked.now) n))
           c.loop-number.number c.new-square.result c.loop-number.left.items c.in_ok-left-2.left.items c.new-square.ensures c.loop-number.invariant.left c.in_ok-left-2.ensures.value;
+      wanted = wanted_kept c.args.every (shown c.args.squares.now) _ c.new-square.result c.loop-number.left.items c.in_ok-left-2.left.items c.loop-number.wanted c.loop-number.invariant.wanted c.in_ok-left-2.ensures.value;
       cost = square_cost (filter_cost (length c.args.game.now.nodes) (filter_tree c.args.asked.now)) c.loop-number.number _ c.loop-number.steps c.square_turn.new.steps c.loop-number-test.true c.loop-number.invariant.cost c.square_turn.ensures.cost;
       rises = omega (arith, c.loop-number.invariant.rises, c.square_turn.ensures.rises);
     }
@@ -95,6 +97,10 @@ pub squares::square_turn-returns-then-not-any_live-clause-value : goal.squares::
 squares::square_turn-returns-then-not-any_live-clause-value g t c =
     turn_stop c.args.every (shown c.args.squares.now) _ c.args.square c.args.left.items c.in_ok-there.there.items c.deref.result.now c.deref-2.result.now c.deref.ensures.value c.deref-2.ensures.value c.in_ok-there.ensures
     (sym c.any_live.ensures ∙ c.if-not-any_live.true)
+
+pub squares::square_turn-returns-then-not-has_square-clause-value : goal.squares::square_turn-returns-then-not-has_square-clause-value
+squares::square_turn-returns-then-not-has_square-clause-value g t c =
+    turn_skip c.args.every (shown c.args.squares.now) _ c.args.square c.args.left.items c.args.wanted c.requires.wanted (sym c.has_square.ensures ∙ c.if-not-has_square.true)
 
 pub unary_column-returns-in_ok-set-in-Find-clause-value : goal.unary_column-returns-in_ok-set-in-Find-clause-value
 unary_column-returns-in_ok-set-in-Find-clause-value g t c = rw c.in-Find.is (λ n l.

@@ -4,6 +4,7 @@ use Rattle.cql_syntax.specs.Meaning.{value, values, term_values}
 use Rattle.cql_syntax.specs.TreeOf.{filter_tree, filter_trees, term_trees, part_trees, body_tree}
 use Rattle.cql_syntax.specs.Values.{holds}
 use Rattle.cql_values.specs.Trees.{searched_tree}
+use Rattle.cql_eval.specs.Asked.{AreWanted}
 use Rattle.cql_eval.specs.Columns.{Where, shown, all_shown, terms_shown}
 use Rattle.cql_eval.specs.Costs.{filter_cost, filters_cost, terms_cost, parts_cost, body_atoms}
 use Rattle.cql_eval.specs.FlatTrees.{IsFlat, IsFlatBody}
@@ -60,6 +61,7 @@ invariant-squares::square_truths-loop-number g l = record {
   left : LeftOf (searched_tree l.game l.variations) l.live
       (unsettled_by l.every (shown l.squares)
       (λ n s. holds (value (searched_tree l.game l.variations) [] ((l.name, s) ∷ l.names) (filter_tree l.asked) n)) l.number) l.left.items;
+  wanted : AreWanted (shown l.squares) l.left.items l.wanted;
   cost : l.steps + (64 - l.number) * filter_cost (length l.game.nodes) (filter_tree l.asked)
       ≤ l.fn.steps + 64 * filter_cost (length l.game.nodes) (filter_tree l.asked);
   rises : l.fn.steps ≤ l.steps;
