@@ -26,7 +26,7 @@ pub(crate) fn negated(
 ) -> Result<Vec<bool>, NoMemory>
     ensures { IfOk result (λ truths. AreTruths truths.items live.now (λ n. spec.as_truth (not (spec.holds (shown column.now n))))) }
 {
-    let mut truths = Vec::new(alloc);
+    let mut truths = Vec::with_capacity(alloc, live.len())?;
     for n in 0..live.len() {
         let fails = live[n] && !column.at(n).holds();
         truths.push(fails)?;
@@ -42,7 +42,7 @@ pub(crate) fn numbered(
 ) -> Result<Vec<bool>, NoMemory>
     ensures { IfOk result (λ left. IsNumbered live.now column.now left.items) }
 {
-    let mut left = Vec::new(alloc);
+    let mut left = Vec::with_capacity(alloc, live.len())?;
     for n in 0..live.len() {
         let there = live[n] && column.at(n).number().is_some();
         left.push(there)?;
@@ -61,7 +61,7 @@ pub(crate) fn chosen(
     ensures { IfOk result (λ truths. AreTruths truths.items live.now
         (λ n. spec.if_of (shown first.now n) (shown second.now n) (shown third.now n))) }
 {
-    let mut truths = Vec::new(alloc);
+    let mut truths = Vec::with_capacity(alloc, live.len())?;
     for n in 0..live.len() {
         let truth = is_chosen(first, second, third, n);
         truths.push(truth)?;
@@ -88,7 +88,7 @@ pub(crate) fn unary_values(
     ensures { IfOk result (λ values. AreValues values.items live.now
         (λ n. of_value (node_at game.now.nodes n).position.men word (shown column.now n))) }
 {
-    let mut values = Vec::new(alloc);
+    let mut values = Vec::with_capacity(alloc, game.len() as usize)?;
     for n in 0..game.len() {
         let value = unary_value(live[n as usize], word, game, column, n);
         values.push(value)?;
@@ -119,7 +119,7 @@ pub(crate) fn reached_values(
     ensures { IfOk result (λ values. AreValues values.items live.now
         (λ n. spec.reached_of directions.now least most (shown column.now n))) }
 {
-    let mut values = Vec::new(alloc);
+    let mut values = Vec::with_capacity(alloc, live.len())?;
     for n in 0..live.len() {
         let value = reached_value(live[n], directions, least, most, column.at(n));
         values.push(value)?;
@@ -151,7 +151,7 @@ pub(crate) fn pair_values(
     ensures { IfOk result (λ values. AreValues values.items live.now
         (λ n. spec.pair_of (node_at game.now.nodes n).position.men pair (shown first.now n) (shown second.now n))) }
 {
-    let mut values = Vec::new(alloc);
+    let mut values = Vec::with_capacity(alloc, game.len() as usize)?;
     for n in 0..game.len() {
         let value = pair_value(live[n as usize], pair, game, first, second, n);
         values.push(value)?;
@@ -192,7 +192,7 @@ pub(crate) fn chain_values(
 ) -> Result<Vec<Value>, NoMemory>
     ensures { IfOk result (λ values. AreValues values.items live.now (λ n. spec.chain_of chain (all_shown columns.now n))) }
 {
-    let mut values = Vec::new(alloc);
+    let mut values = Vec::with_capacity(alloc, live.len())?;
     for n in 0..live.len() {
         let value = chain_value(alloc, live[n], chain, columns, n)?;
         values.push(value)?;
@@ -225,7 +225,7 @@ pub(crate) fn any_values(
 ) -> Result<Vec<Value>, NoMemory>
     ensures { IfOk result (λ values. AreValues values.items live.now (λ n. spec.any_of kind (all_shown columns.now n))) }
 {
-    let mut values = Vec::new(alloc);
+    let mut values = Vec::with_capacity(alloc, live.len())?;
     for n in 0..live.len() {
         let value = any_value(alloc, live[n], kind, columns, n)?;
         values.push(value)?;
@@ -268,7 +268,7 @@ pub(crate) fn sum_values(
 ) -> Result<Vec<Value>, NoMemory>
     ensures { IfOk result (λ values. AreValues values.items live.now (λ n. spec.total_of (terms_shown terms.now n))) }
 {
-    let mut values = Vec::new(alloc);
+    let mut values = Vec::with_capacity(alloc, live.len())?;
     for n in 0..live.len() {
         let value = sum_value(alloc, live[n], terms, n)?;
         values.push(value)?;

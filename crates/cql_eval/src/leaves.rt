@@ -28,7 +28,7 @@ pub(crate) fn standing_sets(
     ensures { IfOk result (λ sets. AreSets sets.items live.now
         (λ n. meaning.standing_of (node_at game.now.nodes n).position.men (Some d.now))) }
 {
-    let mut sets = Vec::new(alloc);
+    let mut sets = Vec::with_capacity(alloc, game.len() as usize)?;
     for n in 0..game.len() {
         let set = standing_set(live[n as usize], d, game, n);
         sets.push(set)?;
@@ -60,7 +60,7 @@ pub(crate) fn word_values(
     requires asked { AreAsked (searched_tree game.now variations) live.now }
     ensures { IfOk result (λ values. AreValues values.items live.now (meaning.word_of (searched_tree game.now variations) word)) }
 {
-    let mut values = Vec::new(alloc);
+    let mut values = Vec::with_capacity(alloc, game.len() as usize)?;
     for n in 0..game.len() {
         let value = word_value(alloc, live[n as usize], word, game, variations, n)?;
         values.push(value)?;

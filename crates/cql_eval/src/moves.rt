@@ -35,7 +35,7 @@ pub(crate) fn moves_met(
         (option_map (λ c. shown c (meaning.before (searched_tree game.now variations) n)) taken.now)
         (option_map (λ c. shown c n) promoted.now)))) }
 {
-    let mut truths = Vec::new(alloc);
+    let mut truths = Vec::with_capacity(alloc, game.len() as usize)?;
     for n in 0..game.len() {
         let met = is_met(
             live[n as usize],

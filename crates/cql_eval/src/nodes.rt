@@ -27,7 +27,7 @@ pub(crate) fn searched_nodes<L: Ledger>(
     ensures most { steps.new ≤ steps.old + length (nodes_in (searched_tree game.now variations)) }
     ensures rises { steps.old ≤ steps.new }
 {
-    let mut all = Vec::new(alloc);
+    let mut all = Vec::with_capacity(alloc, game.len() as usize)?;
     for k in 0..game.len() {
         let there = is_searched(game, variations, k);
         all.push(there)?;
@@ -40,7 +40,7 @@ pub(crate) fn searched_nodes<L: Ledger>(
 pub(crate) fn all_nodes(alloc: Global, game: &Game, variations: bool) -> Result<Vec<bool>, NoMemory>
     ensures { IfOk result (λ all. AreAllAsked (searched_tree game.now variations) all.items) }
 {
-    let mut all = Vec::new(alloc);
+    let mut all = Vec::with_capacity(alloc, game.len() as usize)?;
     for k in 0..game.len() {
         let there = is_searched(game, variations, k);
         all.push(there)?;
@@ -81,7 +81,7 @@ pub(crate) fn narrowed(
 ) -> Result<Vec<bool>, NoMemory>
     ensures { IfOk result (λ left. IsNarrowed live.now column.now want left.items) }
 {
-    let mut left = Vec::new(alloc);
+    let mut left = Vec::with_capacity(alloc, live.len())?;
     for n in 0..live.len() {
         let there = is_there(live[n], column, n, want);
         left.push(there)?;

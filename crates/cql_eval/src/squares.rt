@@ -39,7 +39,7 @@ pub(crate) fn having(
 ) -> Result<Vec<bool>, NoMemory>
     ensures { IfOk result (λ there. AreHaving (shown squares.now) square left.now there.items) }
 {
-    let mut there = Vec::new(alloc);
+    let mut there = Vec::with_capacity(alloc, left.len())?;
     for n in 0..left.len() {
         let has = has_there(left[n], squares, square, n);
         there.push(has)?;
@@ -69,7 +69,7 @@ pub(crate) fn unsettled(
 ) -> Result<Vec<bool>, NoMemory>
     ensures { IfOk result (λ later. AreLeft every (λ n. spec.holds (shown column.now n)) left.now there.now later.items) }
 {
-    let mut later = Vec::new(alloc);
+    let mut later = Vec::with_capacity(alloc, left.len())?;
     for n in 0..left.len() {
         let kept = keeps(every, left[n], truth_at(there, n), column, n);
         later.push(kept)?;
@@ -89,7 +89,7 @@ pub(crate) fn decided(alloc: Global, every: bool, left: Vec<bool>) -> Result<Vec
     ensures { IfOk result (λ truths. (n : ℕ) → n < length left.items
         → get_or truths.items n false ≡ (if get_or left.items n false then every else not every)) }
 {
-    let mut truths = Vec::new(alloc);
+    let mut truths = Vec::with_capacity(alloc, left.len())?;
     for n in 0..left.len() {
         let truth = left[n] == every;
         truths.push(truth)?;

@@ -3,7 +3,7 @@ use Rattle.cql_eval.proofs.Filling.{told_none, told_more, narrowed_all}
 use Rattle.cql_eval.proofs.nodes.narrowed.Goals as goal
 
 pub loop-n-init : goal.loop-n-init
-loop-n-init c = told_none _ c.new-left.result.items c.new-left.ensures.items
+loop-n-init c = told_none _ c.in_ok-left.left.items c.in_ok-left.ensures.items
 
 pub loop-n-preserved : goal.loop-n-preserved
 loop-n-preserved c =

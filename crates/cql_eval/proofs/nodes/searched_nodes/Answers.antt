@@ -8,7 +8,7 @@ use Rattle.cql_eval.proofs.nodes.searched_nodes.Goals as goal
 
 pub loop-k-init : goal.loop-k-init
 loop-k-init g c = record {
-  nodes = c.new-all.ensures.items;
+  nodes = c.in_ok-all.ensures.items;
   left = all_left (searched_tree c.args.game.now c.args.variations) _;
   rises = omega arith;
 }
