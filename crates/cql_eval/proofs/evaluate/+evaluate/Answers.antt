@@ -76,7 +76,7 @@ squares::square_truths-loop-number-preserved g t c =
     record {
       left = square_more (searched_tree c.args.game.now c.args.variations) c.args.live.now c.args.every (shown c.args.squares.now) (λ n s. holds (value (searched_tree c.args.game.now c.args.variations) [] ((c.args.name.now, s) ∷ c.args.names.now) (filter_tree c.args.asked.now) n))
           c.loop-number.number c.new-square.result c.loop-number.left.items c.in_ok-left-2.left.items c.new-square.ensures c.loop-number.invariant.left c.in_ok-left-2.ensures.value;
-      wanted = wanted_kept c.args.every (shown c.args.squares.now) _ c.new-square.result c.loop-number.left.items c.in_ok-left-2.left.items c.loop-number.wanted c.loop-number.invariant.wanted c.in_ok-left-2.ensures.value;
+      wanted = wanted_kept c.args.every (shown c.args.squares.now) _ c.new-square.result c.loop-number.left.items c.in_ok-left-2.left.items c.wanted_squares-wanted.result c.loop-number.invariant.wanted c.in_ok-left-2.ensures.value;
       cost = square_cost (filter_cost (length c.args.game.now.nodes) (filter_tree c.args.asked.now)) c.loop-number.number _ c.loop-number.steps c.square_turn.new.steps c.loop-number-test.true c.loop-number.invariant.cost c.square_turn.ensures.cost;
       rises = omega (arith, c.loop-number.invariant.rises, c.square_turn.ensures.rises);
     }
