@@ -16,3 +16,4 @@ pub mod SeamsOfCut
 pub mod Streams
 pub mod WordRuns
 pub mod Settled
+pub mod PairRuns

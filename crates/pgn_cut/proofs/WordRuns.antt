@@ -16,7 +16,7 @@ use Rattle.pgn_cut.specs.Cut.{is_result, is_marker, nest, depth, opens_pair, ope
 use Rattle.pgn_cut.specs.Progress.{progress_of}
 use Rattle.pgn_cut.specs.States.{IsOpen, results_from, results_after, begun, is_in_mark}
 use Rattle.pgn_cut.specs.Streams.{IsBetween, IsInText, Stands, StandsWith}
-use Rattle.pgn_cut.specs.WordRuns.{is_plain, ends_in_symbol, AreWords, passes_words, IsQuietRun}
+use Rattle.pgn_cut.specs.WordRuns.{is_plain, ends_in_symbol, AreWords, passes_words}
 use Rattle.pgn_cut.specs.declared.words.TheConstants.{IS_PLAIN}
 use Rattle.pgn_cut.specs.declared.cutter.Cutter.{Cutter}
 use Rattle.pgn_cut.specs.declared.game.OpenGame.{OpenGame}
@@ -69,7 +69,7 @@ pub record IsQuiet (l : Lexeme) : Type 0 where
   pub opens_ : opens l.kind ≡ false
   pub marker : is_marker l ≡ false
 
-start_stays : (kept : List Lexeme) (was : OpenGame) → was ≡ progress_of kept → was.has_more ≡ true → (s : Start) → was.start ≡ Some (unwrap_or was.start s)
+pub start_stays : (kept : List Lexeme) (was : OpenGame) → was ≡ progress_of kept → was.has_more ≡ true → (s : Start) → was.start ≡ Some (unwrap_or was.start s)
 unfolding progress_of
 start_stays [] was is more s = absurd (false≢true (sym (ap (λ w. w.has_more) is) ∙ more))
 start_stays (x ∷ xs) was is more s = let e = ap (λ w. w.start) is in e ∙ sym (ap (λ o. Some (unwrap_or o s)) e)
@@ -80,7 +80,7 @@ movetext_stays false true true some = refl
 movetext_stays false true false some = refl
 movetext_stays false false m some = absurd (false≢true some)
 
-more_stays : (h p : Bool) → h ≡ true → h ≡ (h || p)
+pub more_stays : (h p : Bool) → h ≡ true → h ≡ (h || p)
 more_stays true p some = refl
 more_stays false p some = absurd (false≢true some)
 
@@ -93,15 +93,18 @@ pub quiet_all : (kept some : List Lexeme) → AllByRecursion IsQuiet some → (w
 quiet_all kept [] all was is passes = is ∙ ap progress_of (sym (append-nil kept))
 quiet_all kept (l ∷ ls) all was is passes = quiet_all (kept ++ l ∷ []) ls all.1 was (quiet_push kept l all.0 was is passes) passes ∙ ap progress_of (append_assoc kept (l ∷ []) ls)
 
-pub quiet_cut : (place : ℕ) (kept some rest : List Lexeme) → AllByRecursion IsQuiet some → cut_from place kept (some ++ rest) ≡ cut_from place (kept ++ some) rest
+-- a lexeme before which and with which no game ends
+pub cut_on : (place : ℕ) (kept : List Lexeme) (l : Lexeme) (on : List Lexeme) → ends_before kept l ≡ false → ends_after kept l ≡ false
+    → cut_from place kept (l ∷ on) ≡ cut_from place (kept ++ l ∷ []) on
 unfolding cut_from
-quiet_cut place kept [] rest all = ap (λ g. cut_from place g rest) (sym (append-nil kept))
-quiet_cut place kept (l ∷ ls) rest all =
-    let before : ends_before kept l ≡ false = ap (λ o. o && l.first && has_movetext kept) all.0.opens_ in
-    let after : ends_after kept l ≡ false = ap (λ m. m && depth kept == 0) all.0.marker in
-    let on : List Lexeme = ls ++ rest in
+cut_on place kept l on before after =
     ap (λ b. cond b (span_to l.at kept ++ cut_from place (l ∷ []) on) (cond (ends_after kept l) (span_to (end l) (kept ++ l ∷ []) ++ cut_from place [] on) (cut_from place (kept ++ l ∷ []) on))) before
     ∙ ap (λ b. cond b (span_to (end l) (kept ++ l ∷ []) ++ cut_from place [] on) (cut_from place (kept ++ l ∷ []) on)) after
+
+pub quiet_cut : (place : ℕ) (kept some rest : List Lexeme) → AllByRecursion IsQuiet some → cut_from place kept (some ++ rest) ≡ cut_from place (kept ++ some) rest
+quiet_cut place kept [] rest all = ap (λ g. cut_from place g rest) (sym (append-nil kept))
+quiet_cut place kept (l ∷ ls) rest all =
+    cut_on place kept l (ls ++ rest) (ap (λ o. o && l.first && has_movetext kept) all.0.opens_) (ap (λ m. m && depth kept == 0) all.0.marker)
     ∙ quiet_cut place (kept ++ l ∷ []) ls rest all.1
     ∙ ap (λ g. cut_from place g rest) (append_assoc kept (l ∷ []) ls)
 
@@ -155,7 +158,7 @@ column_cons first b [] = refl
 column_cons first b (c ∷ cs) = refl
 
 -- white space
-white_read : WhiteIsPassed → (run : List ℕ) → AllByRecursion (λ b. is_white b ≡ true) run → (at : ℕ) (first : Bool) (more : List ℕ)
+pub white_read : WhiteIsPassed → (run : List ℕ) → AllByRecursion (λ b. is_white b ≡ true) run → (at : ℕ) (first : Bool) (more : List ℕ)
     → lexemes at first (run ++ more) ≡ lexemes (at + length run) (first_at first run (length run)) more
 white_read white [] all at first more = let place : at ≡ at + 0 = omega arith in ap (λ n. lexemes n first more) place
 white_read white (b ∷ bs) all at first more =
@@ -163,10 +166,10 @@ white_read white (b ∷ bs) all at first more =
     white at first b (bs ++ more) all.0 ∙ white_read white bs all.1 (at + 1) (ends_line b) more ∙ ap₂ (λ n f. lexemes n f more) place (column_cons first b bs)
 
 -- bytes from a place on, after those of the open symbol, are read as quiet lexemes
-record Reads (at : ℕ) (first : Bool) (open_ run : List ℕ) : Type 0 where
-  some : List Lexeme
-  quiet : AllByRecursion IsQuiet some
-  reads : (more : List ℕ) → lexemes at first (open_ ++ (run ++ more))
+pub record Reads (at : ℕ) (first : Bool) (open_ run : List ℕ) : Type 0 where
+  pub some : List Lexeme
+  pub quiet : AllByRecursion IsQuiet some
+  pub reads : (more : List ℕ) → lexemes at first (open_ ++ (run ++ more))
       ≡ some ++ lexemes (at + length open_ + length run) (first_at (first_at first open_ (length open_)) run (length run)) more
 
 module _ (ends : LexemesEnd) (alone : StandAlone) (white : WhiteIsPassed) where
@@ -268,12 +271,16 @@ module _ (ends : LexemesEnd) (alone : StandAlone) (white : WhiteIsPassed) where
             (cases_Bool (continues_symbol b)),
       )
 
--- A cutter between lexemes passes bytes that are read as lexemes which leave what is kept.
+  pub words_between : (run : List ℕ) → AreWords run → (at : ℕ) (first : Bool) → Reads at first [] run
+  words_between run words at first = (words_read run words.0).0 at first words.1
+
+-- A cutter between lexemes passes bytes that are read as lexemes which leave what is kept and end no game.
 module _ (closes : Closes) (c : Cutter) (run fed : List ℕ) (between : c.state ≡ Between) (some : 0 < length run) (now : Cutter) (game : now.game ≡ c.game)
     (rest : IsBetween now (c.place + length run) (get_or run (length run - 1) 0 == 10)) where
-  passed_in : (t : IsInText c fed) (more_kept : List Lexeme) → AllByRecursion IsQuiet more_kept → c.game ≡ progress_of (t.kept ++ more_kept)
+  pub passed_in : (t : IsInText c fed) (more_kept : List Lexeme)
+      → ((place : ℕ) (on : List Lexeme) → cut_from place t.kept (more_kept ++ on) ≡ cut_from place (t.kept ++ more_kept) on) → c.game ≡ progress_of (t.kept ++ more_kept)
       → ((more : List ℕ) → lexemes c.at c.first (run ++ more) ≡ more_kept ++ lexemes (c.at + length run) (first_at c.first run (length run)) more) → StandsWith now (fed ++ run) (closed fed)
-  passed_in t ls quiet same reads =
+  passed_in t ls cuts same reads =
       let none : t.bytes ≡ [] = subst (λ s. IsOpen c.first s t.bytes) between t.opened in
       let len = ap length none in
       let here = t.here in
@@ -294,20 +301,6 @@ module _ (closes : Closes) (c : Cutter) (run fed : List ℕ) (between : c.state 
       ap cut (append_assoc fed run more) ∙ t.cuts (run ++ more)
       ∙ ap₂ (λ m l. closed fed ++ cut_from m t.kept (lexemes c.at c.first (l ++ (run ++ more)))) total none
       ∙ ap (λ xs. closed fed ++ cut_from n t.kept xs) (reads more)
-      ∙ ap (λ g. closed fed ++ g) (quiet_cut n t.kept ls (lexemes (c.at + length run) (first_at c.first run (length run)) more) quiet)
+      ∙ ap (λ g. closed fed ++ g) (cuts n (lexemes (c.at + length run) (first_at c.first run (length run)) more))
       ∙ ap₂ (λ a f. closed fed ++ cut_from n (t.kept ++ ls) (lexemes a f more)) now_at col) in
       (inr text.0, text.1)
-
-  pub quiet_passed : LexemesEnd → StandAlone → WhiteIsPassed → IsQuietRun c.game run → Stands c fed → StandsWith now (fed ++ run) (closed fed)
-  quiet_passed ends alone white quiet stands =
-      ⊎_elim
-      (λ mark. absurd (true≢false (sym (in_mark c fed mark) ∙ ap is_in_mark between)))
-      (λ t.
-      ⊎_elim
-      (λ all. passed_in t [] tt (t.game ∙ ap progress_of (sym (append-nil t.kept))) (white_read white run all c.at c.first))
-      (λ words.
-      let w = (words_read ends alone white run words.1.0).0 c.at c.first words.1.1 in
-      let place : c.at + 0 + length run ≡ c.at + length run = omega arith in
-      passed_in t w.some w.quiet (quiet_all t.kept w.some w.quiet c.game t.game words.0) (λ more. w.reads more ∙ ap (λ n. w.some ++ lexemes n (first_at c.first run (length run)) more) place))
-      quiet)
-      stands

@@ -1,5 +1,5 @@
 -- Words: symbols that mark no result, and periods, with white space between them. An open game with movetext passes them many at once.
-use Rattle.std.specs.Prelude.{◌≡◌, ℕ, Bool, true, false, ◌==◌, ◌||◌, ◌&&◌, ◌⊎◌, List, [], ◌∷◌, codes, if◌then◌else◌}
+use Rattle.std.specs.Prelude.{◌≡◌, ℕ, Bool, true, false, ◌==◌, ◌||◌, ◌&&◌, List, [], ◌∷◌, codes, if◌then◌else◌}
 use Rattle.std.specs.Char.{is_ascii_alphanumeric}
 use Rattle.std.specs.List.{AllByRecursion, list_any}
 use Rattle.cq_outside.specs.Text.{is_white}
@@ -22,7 +22,3 @@ AreWords run = AllByRecursion (λ b. is_plain b ≡ true) run × (ends_in_symbol
 -- whether words leave what is kept of a game as it is: it has movetext, or a tag pair is open
 abbrev pub passes_words : OpenGame → Bool
 passes_words game = game.has_more && (game.has_movetext || game.in_pair)
-
--- white space, or words that leave what is kept of a game as it is
-abbrev pub IsQuietRun : OpenGame → List ℕ → Type 0
-IsQuietRun game run = AllByRecursion (λ b. is_white b ≡ true) run ⊎ ((passes_words game ≡ true) × AreWords run)

@@ -9,7 +9,7 @@ ghost use Rattle.pgn_cut.specs.Cut.{cut, closed};
 ghost use Rattle.pgn_cut.specs.OpenGames.{IsOpenAt, open_place};
 ghost use Rattle.pgn_cut.specs.Progress.{begins_at, progress_of, IsStepOfCut, Shows};
 ghost use Rattle.pgn_cut.specs.States.{takes, is_in_mark, Stays};
-ghost use Rattle.pgn_cut.specs.WordRuns.{IsQuietRun};
+ghost use Rattle.pgn_cut.specs.PairRuns.{IsQuietRun};
 ghost use Rattle.pgn_cut.specs.Settled.{IsFound};
 ghost use Rattle.pgn_cut.specs.Streams.{IsBetween, IsSound, IsInMark, IsInText, Stands, IsEnded, IsReady, HasTaken, StandsWith, HasGained};
 ghost use Rattle.pgn_cut.specs.declared.span.Span.{Span as ASpan};
@@ -19,6 +19,7 @@ ghost use Rattle.pgn_cut.specs.declared.state.State.TheVariants.{Between};
 use crate::found::{Found, settled_lexeme};
 use crate::game::{Look, OpenGame};
 use crate::laws::open_lexemes_settle;
+use crate::pairs::pair_len;
 use crate::span::Span;
 use crate::state::State;
 use crate::words::words_len;
@@ -293,7 +294,7 @@ impl Cutter {
         self.first = self.column;
     }
 
-    // How many bytes at the start of some change nothing of what is kept of the open game: white space, or words.
+    // How many bytes at the start of some change nothing of what is kept of the open game: white space, words, or a tag pair.
     fn quiet_len(&self, rest: &[u8]) -> usize
         requires { 0 < length rest.now }
         ensures within { result ≤ length rest.now }
@@ -301,6 +302,9 @@ impl Cutter {
     {
         if self.game.passes_words() {
             return words_len(rest);
+        }
+        if rest[0] == b'[' && self.game.passes_pairs() {
+            return pair_len(rest).unwrap_or(0);
         }
         usize::from(is_white(rest[0]))
     }

@@ -3,6 +3,7 @@ ghost use Rattle.std.specs.Prelude.{◌≡◌, ◌+◌, ◌<◌, ◌≤◌, ◌^
 ghost use Rattle.std.specs.Option.{option_to_list};
 ghost use Rattle.pgn_lexer.specs.Lexemes.{Lexeme as ALexeme};
 ghost use Rattle.pgn_cut.specs.Cut.{is_result, marks, nest, opens_pair, is_movetext, is_passed_over, opens, cut_from};
+ghost use Rattle.pgn_cut.specs.PairRuns.{passes_pairs};
 ghost use Rattle.pgn_cut.specs.WordRuns.{passes_words};
 ghost use Rattle.pgn_cut.specs.Progress.{begins_at, progress_of, span_from, IsStepOfCut, Shows};
 
@@ -136,6 +137,13 @@ impl OpenGame {
         ensures { result ≡ passes_words self }
     {
         self.has_more && (self.has_movetext || self.in_pair)
+    }
+
+    /// Whether a tag pair changes nothing that is kept: there is more before it, no movetext, and none is open.
+    pub(crate) fn passes_pairs(self) -> bool
+        ensures { result ≡ passes_pairs self }
+    {
+        self.has_more && !(self.has_movetext || self.in_pair)
     }
 
     // Whether the game has movetext, a further lexeme included.

@@ -10,6 +10,7 @@ mod cutter;
 mod found;
 mod game;
 mod laws;
+mod pairs;
 mod shared;
 mod span;
 mod state;

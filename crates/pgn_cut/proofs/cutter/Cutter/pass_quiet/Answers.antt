@@ -1,4 +1,4 @@
-use Rattle.pgn_cut.proofs.WordRuns.{quiet_passed}
+use Rattle.pgn_cut.proofs.PairRuns.{quiet_passed}
 use Rattle.pgn_cut.proofs.cutter.Cutter.pass_quiet.Goals as goal
 
 pub returns : goal.returns
