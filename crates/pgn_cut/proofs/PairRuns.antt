@@ -1,16 +1,14 @@
 -- Tag pairs: what is read of them, and what an open game keeps.
-use Rattle.std.proofs.Common.{◌≡◌, ℕ, zero, suc, ◌+◌, ◌-◌, ◌<◌, ◌≤◌, Bool, true, false, cond, List, [], ◌∷◌, ◌++◌, length, get_or, take, drop, None, Some, refl, sym, ap, ap₂, ◌∙◌, subst, inl, inr, ⊎_elim, arith, true≢false}
+use Rattle.std.proofs.Common.{◌≡◌, ℕ, ◌+◌, ◌-◌, ◌<◌, ◌≤◌, Bool, true, false, List, [], ◌∷◌, ◌++◌, length, get_or, take, drop, refl, sym, ap, ap₂, ◌∙◌, subst, ⊎_elim, arith, true≢false}
 use Rattle.std.specs.Prelude.{not, ◌&&◌, ◌||◌, ◌==◌}
 use Rattle.std.specs.List.{AllByRecursion}
 use Rattle.std.proofs.lemmas.Bool.{or_parts, and_parts}
 use Rattle.std.proofs.lemmas.List.{append_assoc, append-nil, length-append, length-take-le, length-drop, get_or-take, get_or-drop, take-take, take-append-drop, drop-take, drop-drop}
-use Rattle.cq_outside.specs.Text.{is_white}
 use Rattle.pgn_lexer.specs.Lexemes.{Lexeme, lexemes, first_at}
 use Rattle.pgn_lexer.specs.Readings.{reading, single}
-use Rattle.pgn_lexer.specs.declared.token.LexemeKind.{LexemeKind}
 use Rattle.pgn_lexer.specs.declared.token.LexemeKind.TheVariants.{Token}
 use Rattle.pgn_lexer.specs.declared.token.TokenKind.TheVariants.{Close, Text}
-use Rattle.pgn_cut.specs.Cut.{marks, is_marker, nest, depth, opens_pair, opens, is_movetext, has_movetext, ends_before, ends_after, cut_from, closed}
+use Rattle.pgn_cut.specs.Cut.{marks, is_marker, nest, depth, opens_pair, opens, is_movetext, has_movetext, ends_after, cut_from, closed}
 use Rattle.pgn_cut.specs.Progress.{progress_of}
 use Rattle.pgn_cut.specs.States.{is_in_mark}
 use Rattle.pgn_cut.specs.Streams.{IsBetween, IsInText, Stands, StandsWith}
@@ -98,8 +96,7 @@ module _ (ends : LexemesEnd) (alone : StandAlone) (white : WhiteIsPassed) (at : 
   pair_opens : (l : Lexeme) × IsBracket true l × ((more : List ℕ) → lexemes at first (91 ∷ more) ≡ l ∷ lexemes (at + 1) false more)
   unfolding reading single
   pair_opens =
-      let one = alone first 91 refl refl in
-      (
+      let one = alone first 91 refl refl in (
         record { at = at; first = first; text = 91 ∷ []; kind = one.read },
         record {
           nests = λ d. sym (one.alike.nests d);

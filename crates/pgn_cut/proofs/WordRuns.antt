@@ -14,8 +14,8 @@ use Rattle.pgn_lexer.specs.Lexemes.{Lexeme, end, lexemes, first_at}
 use Rattle.pgn_lexer.specs.Readings.{reading, single}
 use Rattle.pgn_cut.specs.Cut.{is_result, is_marker, nest, depth, opens_pair, opens, has_movetext, ends_before, ends_after, span_to, cut_from, cut, closed}
 use Rattle.pgn_cut.specs.Progress.{progress_of}
-use Rattle.pgn_cut.specs.States.{IsOpen, results_from, results_after, begun, is_in_mark}
-use Rattle.pgn_cut.specs.Streams.{IsBetween, IsInText, Stands, StandsWith}
+use Rattle.pgn_cut.specs.States.{IsOpen, results_from, results_after, begun}
+use Rattle.pgn_cut.specs.Streams.{IsBetween, IsInText, StandsWith}
 use Rattle.pgn_cut.specs.WordRuns.{is_plain, ends_in_symbol, AreWords, passes_words}
 use Rattle.pgn_cut.specs.declared.words.TheConstants.{IS_PLAIN}
 use Rattle.pgn_cut.specs.declared.cutter.Cutter.{Cutter}
@@ -24,7 +24,7 @@ use Rattle.pgn_cut.specs.declared.game.Start.{Start}
 use Rattle.pgn_cut.specs.declared.state.Results.{Results}
 use Rattle.pgn_cut.specs.declared.state.State.{State}
 use Rattle.pgn_cut.specs.declared.state.State.TheVariants.{Between, InSymbol}
-use Rattle.pgn_cut.proofs.Marks.{StandAlone, in_mark}
+use Rattle.pgn_cut.proofs.Marks.{StandAlone}
 use Rattle.pgn_cut.proofs.OpenGames.{LexemesEnd}
 use Rattle.pgn_cut.proofs.OpenLexemes.{marker_is, all_push, goes_on, opens_lexeme}
 use Rattle.pgn_cut.proofs.Pushes.{progress_push}

@@ -1,5 +1,5 @@
 -- Tag pairs: a bracket, words, a string and a bracket. An open game that has more before it, and no movetext, passes one at once.
-use Rattle.std.specs.Prelude.{◌≡◌, ℕ, ◌<◌, ◌&&◌, ◌||◌, ◌⊎◌, not, Bool, true, false, List, [], ◌∷◌, ◌++◌, length}
+use Rattle.std.specs.Prelude.{◌≡◌, ℕ, ◌<◌, ◌&&◌, ◌||◌, ◌⊎◌, not, Bool, true, false, List, ◌∷◌, ◌++◌, length}
 use Rattle.std.specs.List.{AllByRecursion}
 use Rattle.cq_outside.specs.Text.{is_white}
 use Rattle.pgn_lexer.specs.Lexemes.{first_at}
