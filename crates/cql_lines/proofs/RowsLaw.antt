@@ -1,7 +1,9 @@
 -- Rows as their cells.
 use Rattle.std.proofs.Common.{◌≡◌, ℕ, zero, suc, ◌<◌, Bool, List, [], ◌∷◌, ◌++◌, length, map, get_or, slice_set, refl, sym, ap, ◌∙◌, Some, inl, inr, arith, slice_get, ◌≤◌, ◌+◌}
-use Rattle.std.specs.Prelude.{replicate}
-use Rattle.std.proofs.lemmas.Bool.{cases_eq}
+use Rattle.std.specs.Prelude.{replicate, max, bit_or}
+use Rattle.std.proofs.Math.Nat.{max-zero}
+use Rattle.std.specs.Int.Bits.{or_zero_r}
+use Rattle.std.proofs.lemmas.Bool.{cases_eq, cases_lt}
 use Rattle.std.proofs.lemmas.Option.{get_or_from_slice_get}
 use Rattle.std.proofs.lemmas.List.{get_or-map, get_or-set_same, get_or-set_other, length-map, length-set, map-set}
 use Rattle.cql_lines.specs.declared.automaton.Rule.{Rule}
@@ -27,6 +29,22 @@ here_more rules own n v value d size low is before i r less e = elim (cases_eq i
 
 pub past_more : (own : List ℕ) (n v : ℕ) → ((i : ℕ) → n ≤ i → at own i ≡ 0) → (i : ℕ) → n + 1 ≤ i → at (slice_set own n v) i ≡ 0
 past_more own n v before i more = get_or-set_other own n i v 0 (omega arith) ∙ before i (omega arith)
+
+-- the first places joined with others that have nothing past them
+joined_all : (join : ℕ → ℕ → ℕ) → ((m : ℕ) → join m 0 ≡ m) → (count : ℕ) (row old own : List ℕ) → ((i : ℕ) → i < count → at row i ≡ join (at old i) (at own i))
+    → ((i : ℕ) → count ≤ i → at row i ≡ at old i) → ((i : ℕ) → count ≤ i → at own i ≡ 0) → (j : ℕ) → at row j ≡ join (at old j) (at own j)
+joined_all join none count row old own first kept past j = elim (cases_lt j count) [
+  | inl low ↦ first j low
+  | inr high ↦ kept j high ∙ sym (none (at old j)) ∙ ap (join (at old j)) (sym (past j high))
+]
+
+pub raised_all : (count : ℕ) (row old own : List ℕ) → ((i : ℕ) → i < count → at row i ≡ max (at old i) (at own i))
+    → ((i : ℕ) → count ≤ i → at row i ≡ at old i) → ((i : ℕ) → count ≤ i → at own i ≡ 0) → (j : ℕ) → at row j ≡ max (at old j) (at own j)
+raised_all = joined_all max max-zero
+
+pub united_all : (count : ℕ) (row old own : List ℕ) → ((i : ℕ) → i < count → at row i ≡ bit_or (at old i) (at own i))
+    → ((i : ℕ) → count ≤ i → at row i ≡ at old i) → ((i : ℕ) → count ≤ i → at own i ≡ 0) → (j : ℕ) → at row j ≡ bit_or (at old j) (at own j)
+united_all = joined_all bit_or or_zero_r
 
 module _ {Row : Type 0} (cells : Row → ℕ → ℕ) where
   pub cell_of : (rows : List Row) (n : ℕ) (other : Row) → n < length rows → cell (map cells rows) n ≡ cells (get_or rows n other)

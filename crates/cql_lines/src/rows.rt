@@ -26,8 +26,10 @@ pub trait Row: Copy {
             → cells result i ≡ place_cell sets r held (cells self.now) (length rules.now) }
         ensures past { (i : ℕ) → length rules.now ≤ i → cells result i ≡ 0 };
 
-    /// The other lengths too.
-    fn unite(&mut self, own: &Self)
+    /// The other lengths too, which the first places alone have.
+    fn unite(&mut self, own: &Self, count: usize)
+        requires count { count ≤ 64 }
+        requires past { (j : ℕ) → count ≤ j → cells own.now j ≡ 0 }
         ensures { (j : ℕ) → cells self.new j ≡ both_kinds sets (cells self.old j) (cells own.now j) };
 
     /// The greatest length of the first places that are in the mask, of those that count.

@@ -91,11 +91,14 @@ fn own_sets(rules: &[Rule], held: u64, below: &[u128; 64]) -> [u128; 64]
     own
 }
 
-// The other lengths too.
-fn unite(row: &mut [u128; 64], own: &[u128; 64])
+// The other lengths too, which the first places alone have.
+#[tactic(auto, using(crate::proofs::RowsLaw::united_all))]
+fn unite(row: &mut [u128; 64], own: &[u128; 64], count: usize)
+    requires count { count ≤ 64 }
+    requires past { (j : ℕ) → count ≤ j → at own.now j ≡ 0 }
     ensures { (j : ℕ) → at row.new j ≡ bit_or (at row.old j) (at own.now j) }
 {
-    for j in 0..64 {
+    for j in 0..count {
         row[j] |= own[j];
     }
 }
@@ -113,8 +116,8 @@ impl Row for [u128; 64] {
         own_sets(rules, held, self)
     }
 
-    fn unite(&mut self, own: &Self) {
-        unite(self, own)
+    fn unite(&mut self, own: &Self, count: usize) {
+        unite(self, own, count)
     }
 
     fn answer(&self, mask: u64, count: usize, extent: Option<Limits>) -> Option<u32> {

@@ -48,6 +48,19 @@ fn length_at(rule: Rule, held: u64, below: &[u32; 64], count: usize) -> u32
     rule.after.ends as u32
 }
 
+// How many of the first places there are before the last that has a length. Most nodes have none.
+fn used_len(row: &[u32; 64], count: usize) -> usize
+    requires { count ≤ 64 }
+    ensures within { result ≤ count }
+    ensures past { (j : ℕ) → result ≤ j → j < count → at row.now j ≡ 0 }
+{
+    let mut used = count;
+    while used > 0 && row[used - 1] == 0 {
+        used -= 1;
+    }
+    used
+}
+
 // The greatest lengths that the places read from a node, by the row of those below it.
 fn own_lengths(rules: &[Rule], held: u64, below: &[u32; 64]) -> [u32; 64]
     requires count { length rules.now ≤ 64 }
@@ -57,18 +70,22 @@ fn own_lengths(rules: &[Rule], held: u64, below: &[u32; 64]) -> [u32; 64]
         → at result i ≡ place_value r held (at below.now) (length rules.now) }
     ensures past { (i : ℕ) → length rules.now ≤ i → at result i ≡ 0 }
 {
+    let used = used_len(below, rules.len());
     let mut own = [0; 64];
     for i in 0..rules.len() {
-        own[i] = length_at(rules[i], held, below, rules.len());
+        own[i] = length_at(rules[i], held, below, used);
     }
     own
 }
 
-// Each length is at least the other's.
-fn raise(row: &mut [u32; 64], own: &[u32; 64])
+// Each length is at least the other's, of which the first alone are more than 0.
+#[tactic(auto, using(crate::proofs::RowsLaw::raised_all))]
+fn raise(row: &mut [u32; 64], own: &[u32; 64], count: usize)
+    requires count { count ≤ 64 }
+    requires past { (j : ℕ) → count ≤ j → at own.now j ≡ 0 }
     ensures { (j : ℕ) → at row.new j ≡ max (at row.old j) (at own.now j) }
 {
-    for j in 0..64 {
+    for j in 0..count {
         row[j] = larger(row[j], own[j]);
     }
 }
@@ -101,8 +118,8 @@ impl Row for [u32; 64] {
         own_lengths(rules, held, self)
     }
 
-    fn unite(&mut self, own: &Self) {
-        raise(self, own)
+    fn unite(&mut self, own: &Self, count: usize) {
+        raise(self, own, count)
     }
 
     fn answer(&self, mask: u64, count: usize, _extent: Option<Limits>) -> Option<u32> {

@@ -18,7 +18,9 @@ use std::alloc::{AllocError, Global};
 use std::sync::ledger::Ledger;
 
 // What a node's lengths give to those of the node above.
-fn pass_up<R: Row>(shape: &Shape, node: usize, rows: &mut [R], own: &R)
+fn pass_up<R: Row>(shape: &Shape, node: usize, rows: &mut [R], own: &R, count: usize)
+    requires count { count ≤ 64 }
+    requires past { (j : ℕ) → count ≤ j → R.cells own.now j ≡ 0 }
     requires node { node < length shape.now.spots.items }
     requires rows { length rows.old ≡ length shape.now.spots.items }
     ensures { Passed (both_kinds R.sets) shape.now.primary shape.now.spots.items node
@@ -27,7 +29,7 @@ fn pass_up<R: Row>(shape: &Shape, node: usize, rows: &mut [R], own: &R)
     let Some(above) = shape.joined_to(node) else {
         return;
     };
-    rows[above as usize].unite(own);
+    rows[above as usize].unite(own, count);
 }
 
 // The greatest allowed length at one node, and what its lengths give to the row of the node above.
@@ -59,7 +61,7 @@ fn visit_down<L: Ledger, R: Row>(
     }
     let held = table.held(node, steps);
     let own = rows[node].own(rules, held);
-    pass_up(shape, node, rows, &own);
+    pass_up(shape, node, rows, &own, rules.len());
     own.answer(first, rules.len(), shape.extent)
 }
 
@@ -68,7 +70,7 @@ fn blank_rows<R: Row>(alloc: Global, nodes: usize) -> Result<Vec<R>, AllocError>
     ensures count { IfOk result (λ rows. length rows.items ≡ nodes) }
     ensures blank { IfOk result (λ rows. (n j : ℕ) → cell (map R.cells rows.items) n j ≡ 0) }
 {
-    let mut rows = vec![in alloc]?;
+    let mut rows = Vec::with_capacity(alloc, nodes)?;
     for _turn in 0..nodes {
         rows.push(R::blank())?;
     }
