@@ -5,8 +5,9 @@
 
 Each case takes some games of an ARCHIVE and a query of the pages, and changes, drops, doubles and joins bytes, tokens and whole games.
 Small cases, nearly all of them, are compared with the model. Of large ones the program alone is asked: it ends with a status from 0 to 8,
-by no signal and within its time, and reads what it wrote again without a fault. Its time is a second of processor time a megabyte and one
-for its start, in every case. What differs lands in the folder out/ beside this file. pypy3 is faster.
+by no signal and within its time, and reads what it wrote again without a fault. Its time is in every case a second of processor time a
+megabyte, more for a query of more than 50 members, and one for its start. What differs lands in the folder out/ beside this file. pypy3
+is faster.
 
 The games of a seed are drawn first, and the model keeps each move that it has read: mutants of one game have most of their moves in
 common. The program is started by posix_spawn over files in memory: a fork of this process, which is large, takes longer than the run."""
@@ -22,13 +23,14 @@ import tempfile
 import fuzz
 import pgn
 import program
+import query
 
 HERE = os.path.dirname(os.path.abspath(__file__))
 RANDOM = fuzz.RANDOM
 PAGES = ("README.md", "docs/RECIPES.md")
-# the games of a seed, the greatest case that is compared, the moves that are kept
-POOL, SMALL, MOST_KEPT = 150, 4000, 40000
-START_SECONDS, MOST_SECONDS = 1, 120
+# the games of a seed, the bytes of the greatest case that is compared, the same by a query of many members, the moves that are kept
+POOL, SMALL, HEAVY, MOST_KEPT = 150, 4000, 200000, 40000
+START_SECONDS, MOST_SECONDS, MEMBERS = 1, 120, 50
 
 
 # What a case is made of.
@@ -144,12 +146,20 @@ class Runner:
         return (os.waitstatus_to_exitcode(status), *map(read, self.names[1:])), used.ru_utime + used.ru_stime
 
 
+def heft(text):
+    """how many times as long as a plain query one may take"""
+    try:
+        return max(1, sum(map(query.weight, query.read_query(text.encode())["items"])) / MEMBERS)
+    except query.QueryFault:
+        return 1
+
+
 def failing(runner, text, archive, want):
     """what is wrong with the program's answer, None if nothing is, and the answer; want is the model's, or None"""
     got, seconds = runner.run(text.encode(), archive)
     if not 0 <= got[0] <= 8:
         return "status %d" % got[0], got
-    if seconds > START_SECONDS + len(archive) / 1e6:
+    if seconds > START_SECONDS and seconds > START_SECONDS + len(archive) / 1e6 * heft(text):
         return "%.1f seconds of processor time for %d bytes" % (seconds, len(archive)), got
     if want is not None:
         return None if got == want else "the model differs", got
@@ -169,7 +179,7 @@ def tried(runner, seed, count, archives, out):
     for i in range(count):
         RANDOM.seed(seed * 1000003 + i)
         text, archive = case(archives, pool, texts)
-        small = len(archive) <= SMALL
+        small = len(archive) <= SMALL and len(archive) * heft(text) <= HEAVY
         compared += small
         want = program.run_eval(text.encode(), archive) if small else None
         wrong, got = failing(runner, text, archive, want)
