@@ -8,6 +8,7 @@
 
 Nothing is kept on disk but queries. Outside the gate."""
 
+import functools
 import os
 import re
 import resource
@@ -95,41 +96,47 @@ ARCHIVES = {
 }
 # the moves of a game that has nearly as many positions as a game may have
 MOVES = 65532 * 4
+# one kind of token: what stands before, what is repeated, what stands behind
 QUERIES = {
-    "not": b"not ",
-    "(": b"(",
-    "{": b"{",
-    "flip": b"flip ",
-    "names": b"x ",
-    "numbers": b"1 ",
-    "designators": b"[RQ]h1 ",
-    "texts": b'"a" ',
-    "sum": b"1+",
-    "and": b"check and ",
-    "comment": b"//\n",
-    "lines": b"line --> check ",
-    "check": b"check ",
-    "unions": b"A|",
-    "attacks": b"A attacks ",
-    "outcomes": b"result 1-0 ",
-    "reserved": b"echo ",
-    "file names": b"input a.pgn ",
-    "bad bytes": b"!",
+    "not": (b"cql() ", b"not ", b"check"),
+    "(": (b"cql() ", b"(", b""),
+    "{": (b"cql() ", b"{", b""),
+    "flip": (b"cql() ", b"flip ", b"A"),
+    "names": (b"cql() square x in A {", b"x ", b"}"),
+    "unknown names": (b"cql() ", b"x ", b""),
+    "numbers": (b"cql() ", b"1 ", b""),
+    "designators": (b"cql() ", b"[RQ]h1 ", b""),
+    "unions": (b"cql() ", b"A|", b"A"),
+    "attacks": (b"cql() ", b"A attacks ", b"a"),
+    "texts": (b"cql() ", b'"a" ', b""),
+    "players": (b"cql() ", b'player "a" ', b""),
+    "sum": (b"cql() ", b"1+", b"1"),
+    "product": (b"cql() ", b"1*", b"1"),
+    "and": (b"cql() ", b"check and ", b"check"),
+    "outcomes": (b"cql() ", b"result 1-0 ", b""),
+    "comment": (b"cql() ", b"//\n", b"check"),
+    "lines": (b"cql() ", b"line --> check ", b""),
+    "check": (b"cql() ", b"check ", b""),
+    "reserved": (b"cql() ", b"echo ", b""),
+    "file names": (b"cql(", b"input a.pgn ", b") check"),
+    "bad bytes": (b"cql() ", b"!", b""),
 }
 
 
+def other_tags(size):
+    """a game of tags of which each has a name of its own, in no order"""
+    return b"".join(b'[A%07d "b"]\n' % (i * 7919 % 10000019) for i in range((size - 1) // 15)) + b"*"
+
+
 def archives():
-    """name, query, token, and the greater size"""
+    """name, query, the bytes of a size, and the greater size"""
     for name, token in ARCHIVES.items():
-        yield name, "cql() mate", token, 1 << 24
-    yield "65,532 moves", "cql() mate", ARCHIVES["moves"], MOVES
-    yield "all marked", "cql() wtm or btm", ARCHIVES["moves"], MOVES
-
-
-def query(token, size):
-    """the text of a query of that size, all of one kind of token"""
-    head = b"cql(" if token.startswith(b"input") else b"cql() "
-    return head + repeated(token, size - len(head))
+        yield name, "cql() mate", functools.partial(repeated, token), 1 << 24
+    yield "other tags", "cql() mate", other_tags, 1 << 24
+    yield "their export", "cql() initial", other_tags, 1 << 24
+    moves = functools.partial(repeated, ARCHIVES["moves"])
+    yield "65,532 moves", "cql() mate", moves, MOVES
+    yield "all marked", "cql() wtm or btm", moves, MOVES
 
 
 def sizes(binary, measure):
@@ -143,13 +150,13 @@ def sizes(binary, measure):
             ok = ok and ratio <= 2.2 and 0 <= whole[1] <= 8
             print("%-8s %-14s %10.3f %10.3f %6.2f  status %d" % (kind, name, half[0], whole[0], ratio, whole[1]), flush=True)
 
-        for name, text, token, size in archives():
-            line("archive", name, *(measure([binary, "eval", text], repeated(token, n), folder) for n in (size // 2, size)))
-        for name, token in QUERIES.items():
+        for name, text, made, size in archives():
+            line("archive", name, *(measure([binary, "eval", text], made(n), folder) for n in (size // 2, size)))
+        for name, (head, token, tail) in QUERIES.items():
             runs = []
             for n in (1 << 15, 1 << 16):
                 with open(os.path.join(folder, "q.cql"), "wb") as f:
-                    f.write(query(token, n))
+                    f.write(head + repeated(token, n - len(head + tail)) + tail)
                 runs.append(measure([binary, "run", "q.cql"], b"1. e4 *", folder))
             line("query", name, *runs)
     return ok
