@@ -43,14 +43,20 @@ install:
 	install -m 644 docs/*.md $(SHARE)/doc/cqlpgn/docs
 	install -m 644 examples/* $(SHARE)/doc/cqlpgn/examples
 
+# Takes away what install has put, wherever the completion for zsh went, and the folders of others that it leaves empty.
 uninstall:
 	rm -f $(BIN)/cqlpgn $(BIN)/cqlpgn-over $(BIN)/cqlpgn-diagrams
 	rm -f $(SHARE)/man/man1/cqlpgn.1 $(SHARE)/man/man1/cqlpgn-over.1 $(SHARE)/man/man1/cqlpgn-diagrams.1 $(SHARE)/man/man7/cql.7
 	for name in cqlpgn cqlpgn-over cqlpgn-diagrams; do \
 	  rm -f $(SHARE)/bash-completion/completions/$$name $(SHARE)/fish/vendor_completions.d/$$name.fish; \
 	done
+	rm -f $(SHARE)/zsh/site-functions/_cqlpgn $(SHARE)/zsh/vendor-completions/_cqlpgn
 	rm -f $(SHARE)/zsh/$(ZSH)/_cqlpgn $(SHARE)/vim/vimfiles/syntax/cql.vim $(SHARE)/vim/vimfiles/ftdetect/cql.vim
 	rm -rf $(SHARE)/cqlpgn $(SHARE)/doc/cqlpgn
+	for folder in bash-completion/completions fish/vendor_completions.d zsh/site-functions zsh/vendor-completions \
+	  vim/vimfiles/syntax vim/vimfiles/ftdetect; do \
+	  [ ! -d $(SHARE)/$$folder ] || (cd $(SHARE) && rmdir -p --ignore-fail-on-non-empty $$folder); \
+	done
 
 # A Debian package of what `make build` has built, in out/. It needs debhelper and dpkg-dev.
 deb:

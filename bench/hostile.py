@@ -3,11 +3,12 @@
 
     bench/hostile.py BINARY endless [GIB]     memory over an archive of GIB (4) on a pipe: it must not grow after the first quarter
     bench/hostile.py BINARY sizes             processor seconds for inputs of one size and of twice the size: at most 2.2 times as many
-    bench/hostile.py BINARY steps             the same in millions of instructions, of smaller inputs, which no other work on the machine
-                                              changes: valgrind counts them
+    bench/hostile.py BINARY steps             the same in millions of instructions, which no other work on the machine changes: valgrind
+                                              counts them
 
 Nothing is kept on disk but queries. Outside the gate."""
 
+import functools
 import os
 import re
 import resource
@@ -17,45 +18,47 @@ import tempfile
 import threading
 
 GIB = 1 << 30
-GAME = b'[Event "%d"]\n[Result "1-0"]\n\n1. e4 e5 2. Bc4 {a plan} Nc6 (2... Nf6 3. d3) 3. Qh5 Nf6 4. Qxf7# 1-0\n\n'
+# of ten games one has a mate, one a fault and four a long comment
+SHORT = b'[Event "%d"]\n[Result "1-0"]\n\n1. e4 e5 2. Bc4 {a plan} Nc6 (2... Nf6 3. d3) 3. Qh5 Nf6 4. Nf3 1-0\n\n'
+GAMES = [SHORT.replace(b"Nf3", b"Qxf7#"), SHORT.replace(b"Nf3", b"Ke3"), *[SHORT] * 4, *[SHORT.replace(b"a plan", b"a long plan " * 40)] * 4]
 
 
-def resident(pid):
-    """the resident bytes of a process"""
+def peak(pid):
+    """the greatest resident size of a process since this was asked last"""
     with open("/proc/%d/status" % pid) as f:
-        for line in f:
-            if line.startswith("VmRSS"):
-                return int(line.split()[1]) * 1024
-    return 0
+        size = int(re.search(r"VmHWM:\s*(\d+)", f.read()).group(1)) * 1024
+    with open("/proc/%d/clear_refs" % pid, "w") as f:
+        f.write("5")
+    return size
+
+
+def drain(stream, last):
+    """reads a stream to its end and keeps its last bytes"""
+    while piece := os.read(stream.fileno(), 1 << 20):
+        last[0] = (last[0] + piece)[-100:]
 
 
 def endless(binary, total):
-    """the greatest resident size over the first quarter, and over the rest"""
-    chunk = b"".join(GAME % i for i in range(1000))
+    """the greatest resident size over the first quarter, and over the rest; one block of games is written again and again"""
+    block = b"".join(GAMES[i % len(GAMES)] % i for i in range(2000))
     command = [binary, "eval", "cql() mate", "--workers", "4", "--limit", str(1 << 40)]
+    out, err = [b""], [b""]
     with subprocess.Popen(command, stdin=subprocess.PIPE, stdout=subprocess.PIPE, stderr=subprocess.PIPE) as p:
-
-        def drain():
-            while p.stdout.read(1 << 20):
-                pass
-
-        reader = threading.Thread(target=drain)
-        reader.start()
-        sent, first, rest = 0, 0, 0
-        while sent < total:
-            p.stdin.write(chunk)
-            sent += len(chunk)
-            size = resident(p.pid)
-            if sent <= total / 4:
-                first = max(first, size)
-            else:
-                rest = max(rest, size)
+        readers = [threading.Thread(target=drain, args=pair) for pair in ((p.stdout, out), (p.stderr, err))]
+        for reader in readers:
+            reader.start()
+        sent, sizes = 0, []
+        for part in (total / 4, total):
+            while sent < part:
+                p.stdin.write(block)
+                sent += len(block)
+            sizes.append(peak(p.pid))
         p.stdin.close()
-        reader.join()
-        report = p.stderr.read().decode()
-    print("%d bytes, status %d, %s" % (sent, p.returncode, report.strip()))
-    print("resident: %.1f MB over the first quarter, %.1f MB over the rest" % (first / 1e6, rest / 1e6))
-    return p.returncode == 0 and rest <= first * 1.01
+        for reader in readers:
+            reader.join()
+    print("%d bytes, status %d, %s" % (sent, p.returncode, err[0].decode().splitlines()[-1]))
+    print("resident: %.1f MB over the first quarter, %.1f MB over the rest" % tuple(size / 1e6 for size in sizes))
+    return p.returncode == 1 and sizes[1] <= sizes[0] * 1.01
 
 
 def seconds(words, data, folder):
@@ -68,9 +71,9 @@ def seconds(words, data, folder):
 
 def steps(words, data, folder):
     """the millions of instructions of a run by one worker, and its status"""
-    valgrind = ["valgrind", "--tool=callgrind", "--callgrind-out-file=/dev/null", *words, "--workers", "1"]
+    valgrind = ["valgrind", "--tool=cachegrind", "--cache-sim=no", "--cachegrind-out-file=/dev/null", *words, "--workers", "1"]
     p = subprocess.run(valgrind, input=data, stdout=subprocess.DEVNULL, stderr=subprocess.PIPE, cwd=folder)
-    return int(re.search(rb"Collected : (\d+)", p.stderr).group(1)) / 1e6, p.returncode
+    return int(re.search(rb"I +refs: +([0-9,]+)", p.stderr).group(1).replace(b",", b"")) / 1e6, p.returncode
 
 
 def repeated(token, size):
@@ -91,42 +94,69 @@ ARCHIVES = {
     "glyphs": b"$1 ",
     "escape lines": b"%\n",
 }
+# the moves of a game that has nearly as many positions as a game may have
+MOVES = 65532 * 4
+# one kind of token: what stands before, what is repeated, what stands behind
 QUERIES = {
-    "not": b"not ",
-    "(": b"(",
-    "{": b"{",
-    "flip": b"flip ",
-    "names": b"x ",
-    "numbers": b"1 ",
-    "designators": b"[RQ]h1 ",
-    "texts": b'"a" ',
-    "sum": b"1+",
-    "and": b"check and ",
-    "comment": b"//\n",
-    "lines": b"line --> check ",
-    "check": b"check ",
+    "not": (b"cql() ", b"not ", b"check"),
+    "(": (b"cql() ", b"(", b""),
+    "{": (b"cql() ", b"{", b""),
+    "flip": (b"cql() ", b"flip ", b"A"),
+    "names": (b"cql() square x in A {", b"x ", b"}"),
+    "unknown names": (b"cql() ", b"x ", b""),
+    "numbers": (b"cql() ", b"1 ", b""),
+    "designators": (b"cql() ", b"[RQ]h1 ", b""),
+    "unions": (b"cql() ", b"A|", b"A"),
+    "attacks": (b"cql() ", b"A attacks ", b"a"),
+    "texts": (b"cql() ", b'"a" ', b""),
+    "players": (b"cql() ", b'player "a" ', b""),
+    "sum": (b"cql() ", b"1+", b"1"),
+    "product": (b"cql() ", b"1*", b"1"),
+    "and": (b"cql() ", b"check and ", b"check"),
+    "outcomes": (b"cql() ", b"result 1-0 ", b""),
+    "comment": (b"cql() ", b"//\n", b"check"),
+    "lines": (b"cql() ", b"line --> check ", b""),
+    "check": (b"cql() ", b"check ", b""),
+    "reserved": (b"cql() ", b"echo ", b""),
+    "file names": (b"cql(", b"input a.pgn ", b") check"),
+    "bad bytes": (b"cql() ", b"!", b""),
 }
 
 
-def sizes(binary, measure, size):
+def other_tags(size):
+    """a game of tags of which each has a name of its own, in no order"""
+    return b"".join(b'[A%07d "b"]\n' % (i * 7919 % 10000019) for i in range((size - 1) // 15)) + b"*"
+
+
+def archives():
+    """name, query, the bytes of a size, and the greater size"""
+    for name, token in ARCHIVES.items():
+        yield name, "cql() mate", functools.partial(repeated, token), 1 << 24
+    yield "other tags", "cql() mate", other_tags, 1 << 24
+    yield "their export", "cql() initial", other_tags, 1 << 24
+    moves = functools.partial(repeated, ARCHIVES["moves"])
+    yield "65,532 moves", "cql() mate", moves, MOVES
+    yield "all marked", "cql() wtm or btm", moves, MOVES
+
+
+def sizes(binary, measure):
     """each input of one size and of half the size"""
     ok = True
     with tempfile.TemporaryDirectory() as folder:
 
-        def line(kind, name, whole, half):
+        def line(kind, name, half, whole):
             nonlocal ok
             ratio = whole[0] / max(half[0], 0.01)
             ok = ok and ratio <= 2.2 and 0 <= whole[1] <= 8
             print("%-8s %-14s %10.3f %10.3f %6.2f  status %d" % (kind, name, half[0], whole[0], ratio, whole[1]), flush=True)
 
-        for name, token in ARCHIVES.items():
-            runs = [measure([binary, "eval", "cql() mate"], repeated(token, n), folder) for n in (size, size // 2)]
-            line("archive", name, *runs)
-        for name, token in QUERIES.items():
+        for name, text, made, size in archives():
+            line("archive", name, *(measure([binary, "eval", text], made(n), folder) for n in (size // 2, size)))
+        for name, (head, token, tail) in QUERIES.items():
             runs = []
-            for n in (65000, 32500):
+            for n in (1 << 15, 1 << 16):
                 with open(os.path.join(folder, "q.cql"), "wb") as f:
-                    f.write(b"cql() " + repeated(token, n))
+                    f.write(head + repeated(token, n - len(head + tail)) + tail)
                 runs.append(measure([binary, "run", "q.cql"], b"1. e4 *", folder))
             line("query", name, *runs)
     return ok
@@ -137,7 +167,7 @@ def main():
     if part == "endless":
         ok = endless(binary, int(float(sys.argv[3] if len(sys.argv) > 3 else 4) * GIB))
     else:
-        ok = sizes(binary, *{"sizes": (seconds, 1 << 24), "steps": (steps, 1 << 20)}[part])
+        ok = sizes(binary, {"sizes": seconds, "steps": steps}[part])
     print("as it should be" if ok else "NOT as it should be")
     return 0 if ok else 1
 
