@@ -12,7 +12,7 @@ use std::test::Fail;
 use std::thread::Threads;
 
 const USAGE: &str =
-    "usage: cqlpgn MODE QUERY [ARCHIVE] [--workers N] [--seed S] [--games G] [--limit B]\n";
+    "usage: cqlpgn MODE QUERY [ARCHIVE] [--workers N] [--seed S] [--games G] [--limit B] [--first]\n";
 
 /// A game as it is written: its FEN text or none, its result and its movetext.
 pub(crate) type Written<'a> = (&'a str, &'a str, &'a str);
@@ -389,7 +389,8 @@ fn made_archives_are_answered(rt: HostRuntime) -> Result<(), Fail> {
     Ok(())
 }
 
-fn read_query(alloc: Global, text: &[u8]) -> Result<TypedQuery, Refusal<QueryFault>> {
+/// The query that a text is.
+pub(crate) fn read_query(alloc: Global, text: &[u8]) -> Result<TypedQuery, Refusal<QueryFault>> {
     tokens_of_a_text_are_ended();
     spelled_queries_have_no_any();
     let tokens = query_tokens(alloc, text)?;
@@ -410,6 +411,7 @@ fn expect_marked_after_e4<R: Threads + Sync + Abort>(
     let settings = Settings {
         workers: 1,
         limit: 10,
+        first: false,
     };
     let status = answer(
         rt,
