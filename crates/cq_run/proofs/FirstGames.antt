@@ -76,28 +76,34 @@ some_grows query (r ∷ rs) qs some = some_if (is_match query r) (some_match que
 count_cons : (query : QueryTree) (r : Outcome) (rs : List Outcome) → count_by (is_match query) (r ∷ rs) ≡ cond (is_match query r) 1 0 + count_by (is_match query) rs
 count_cons query r rs = sum_by-cons (λ q. cond (is_match query q) 1 0) r rs
 
+counted_if : (query : QueryTree) (r : Outcome) (rs : List Outcome) → 0 < count_by (is_match query) (r ∷ rs)
+    → (0 < count_by (is_match query) rs → some_match query rs ≡ true) → (is_match query r ≡ true) ⊎ (is_match query r ≡ false)
+    → some_match query (r ∷ rs) ≡ true
+counted_if query r rs some later (inl is) = ap (λ b. if b then true else some_match query rs) is
+counted_if query r rs some later (inr is) =
+    let c = count_cons query r rs in
+    let z : ◌≡◌ {A = ℕ} (cond (is_match query r) 1 0) 0 = ap (λ b. cond b 1 0) is in
+    ap (λ b. if b then true else some_match query rs) is ∙ later (omega (arith, some, c, z))
+
 pub some_counted : (query : QueryTree) (rs : List Outcome) → 0 < count_by (is_match query) rs → some_match query rs ≡ true
 some_counted query [] some = absurd (omega (arith, some))
-some_counted query (r ∷ rs) some = by_match (cases_Bool (is_match query r))
-  where
-    by_match : (is_match query r ≡ true) ⊎ (is_match query r ≡ false) → some_match query (r ∷ rs) ≡ true
-    by_match (inl is) = ap (λ b. if b then true else some_match query rs) is
-    by_match (inr is) =
-        let c = count_cons query r rs in let z : cond (is_match query r) 1 0 ≡ 0 = ap (λ b. cond b 1 0) is in
-        ap (λ b. if b then true else some_match query rs) is ∙ some_counted query rs (omega (arith, some, c, z))
+some_counted query (r ∷ rs) some = counted_if query r rs some (some_counted query rs) (cases_Bool (is_match query r))
+
+uncounted_if : (query : QueryTree) (r : Outcome) (rs : List Outcome) → count_by (is_match query) (r ∷ rs) ≡ 0
+    → (count_by (is_match query) rs ≡ 0 → some_match query rs ≡ false) → (is_match query r ≡ true) ⊎ (is_match query r ≡ false)
+    → some_match query (r ∷ rs) ≡ false
+uncounted_if query r rs none later (inl is) =
+    let c = count_cons query r rs in
+    let z : ◌≡◌ {A = ℕ} (cond (is_match query r) 1 0) 1 = ap (λ b. cond b 1 0) is in
+    absurd (omega (arith, none, c, z))
+uncounted_if query r rs none later (inr is) =
+    let c = count_cons query r rs in
+    let z : ◌≡◌ {A = ℕ} (cond (is_match query r) 1 0) 0 = ap (λ b. cond b 1 0) is in
+    ap (λ b. if b then true else some_match query rs) is ∙ later (omega (arith, none, c, z))
 
 pub none_counted : (query : QueryTree) (rs : List Outcome) → count_by (is_match query) rs ≡ 0 → some_match query rs ≡ false
 none_counted query [] none = refl
-none_counted query (r ∷ rs) none = by_match (cases_Bool (is_match query r))
-  where
-    c : count_by (is_match query) (r ∷ rs) ≡ cond (is_match query r) 1 0 + count_by (is_match query) rs
-    c = count_cons query r rs
-
-    by_match : (is_match query r ≡ true) ⊎ (is_match query r ≡ false) → some_match query (r ∷ rs) ≡ false
-    by_match (inl is) = absurd (let z : cond (is_match query r) 1 0 ≡ 1 = ap (λ b. cond b 1 0) is in omega (arith, none, c, z))
-    by_match (inr is) =
-        let z : cond (is_match query r) 1 0 ≡ 0 = ap (λ b. cond b 1 0) is in
-        ap (λ b. if b then true else some_match query rs) is ∙ none_counted query rs (omega (arith, none, c, z))
+none_counted query (r ∷ rs) none = uncounted_if query r rs none (none_counted query rs) (cases_Bool (is_match query r))
 
 -- a match among the games up to the first is one among all
 pub some_of_first : (query : QueryTree) (rs : List Outcome) → some_match query (up_to_first query rs) ≡ some_match query rs

@@ -97,7 +97,7 @@ write_answers-requires-clause-games g c =
     let counts = rw is at c.next.ensures.cause in
     let laws = c.archives_come_in_batches.ensures in
     let turn = first_turns laws _ _ _ _ _ _ after _ _ _ c.loop-turn._turn c.loop-turn.invariant.0 c.loop-turn.invariant.2 says counts in
-    let few = turn_few laws _ _ _ _ _ _ _ _ _ _ c.requires.limit.1 turn (batch_up_to laws _ _ _ c.in-Ok.ensures) in
+    let few = turn_few laws _ _ _ _ _ _ _ _ _ _ c.requires.limit.1 turn (batch_up_to laws (query_in c.args.plan.now) c.in-Ok-Some.batch _ c.in-Ok.ensures) in
     omega (arith, few)
 
 pub returns-in-Err-Fault-clause-answers : goal.returns-in-Err-Fault-clause-answers
@@ -110,7 +110,7 @@ returns-in-Err-Fault-clause-answers g c =
     let counts = rw is at c.next.ensures.cause in
     let laws = c.archives_come_in_batches.ensures in
     let turn = first_turns laws _ _ _ _ _ _ after _ _ _ c.loop-turn._turn c.loop-turn.invariant.0 c.loop-turn.invariant.2 says counts in
-    let answered = batch_up_to laws _ _ _ c.in-Ok.ensures in
+    let answered = batch_up_to laws (query_in c.args.plan.now) c.in-Ok-Some.batch _ c.in-Ok.ensures in
     let are = answers_are _ _ _ _ _ _ _ _ _ _ turn answered in
     let does = c.write_answers.ensures _ turn.turn.outcomes (up_to_first _ answered.outcomes) out err are turn.turn.found in
     turn_fails laws _ _ _ _ _ _ _ _ _ _ _ turn answered (rw (c.in-Err-Fault.is ∙ ap Err c.in-Err-Fault.field-0-is) at does)
@@ -129,7 +129,7 @@ returns-in-Err-NoMemory-write_answers-clause-answers g c =
     let counts = rw is at c.next.ensures.cause in
     let laws = c.archives_come_in_batches.ensures in
     let turn = first_turns laws _ _ _ _ _ _ after _ _ _ c.loop-turn._turn c.loop-turn.invariant.0 c.loop-turn.invariant.2 says counts in
-    let answered = batch_up_to laws _ _ _ c.in-Ok.ensures in
+    let answered = batch_up_to laws (query_in c.args.plan.now) c.in-Ok-Some.batch _ c.in-Ok.ensures in
     let are = answers_are _ _ _ _ _ _ _ _ _ _ turn answered in
     let does = c.write_answers.ensures _ turn.turn.outcomes (up_to_first _ answered.outcomes) out err are turn.turn.found in
     turn_wants laws _ _ _ _ _ _ _ _ _ _ _ turn answered
@@ -149,7 +149,7 @@ returns-then-tally-gt0-clause-answers g c =
     let counts = rw is at c.next.ensures.cause in
     let laws = c.archives_come_in_batches.ensures in
     let turn = first_turns laws _ _ _ _ _ _ after _ _ _ c.loop-turn._turn c.loop-turn.invariant.0 c.loop-turn.invariant.2 says counts in
-    let answered = batch_up_to laws _ _ _ c.in-Ok.ensures in
+    let answered = batch_up_to laws (query_in c.args.plan.now) c.in-Ok-Some.batch _ c.in-Ok.ensures in
     let are = answers_are _ _ _ _ _ _ _ _ _ _ turn answered in
     let does = c.write_answers.ensures _ turn.turn.outcomes (up_to_first _ answered.outcomes) out err are turn.turn.found in
     turn_found laws _ _ _ _ _ _ _ _ _ _ _ _ _ _ _ _ _ _ turn answered (rw c.in-Ok-write_answers.is at does) (search rules) (search rules)
@@ -168,7 +168,7 @@ loop-turn-preserved g c =
     let counts = rw is at c.next.ensures.cause in
     let laws = c.archives_come_in_batches.ensures in
     let turn = first_turns laws _ _ _ _ _ _ after _ _ _ c.loop-turn._turn c.loop-turn.invariant.0 c.loop-turn.invariant.2 says counts in
-    let answered = batch_up_to laws _ _ _ c.in-Ok.ensures in
+    let answered = batch_up_to laws (query_in c.args.plan.now) c.in-Ok-Some.batch _ c.in-Ok.ensures in
     let are = answers_are _ _ _ _ _ _ _ _ _ _ turn answered in
     let does = c.write_answers.ensures _ turn.turn.outcomes (up_to_first _ answered.outcomes) out err are turn.turn.found in
     let next = turn_done _ _ _ _ _ _ _ _ _ _ _ _ _ turn answered (rw c.in-Ok-write_answers.is at does) (search rules) in
