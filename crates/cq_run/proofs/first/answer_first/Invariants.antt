@@ -1,4 +1,4 @@
-use Rattle.std.proofs.Common.{ℕ, ◌≤◌}
+use Rattle.std.proofs.Common.{◌≤◌}
 use Rattle.cq_shards.specs.Answers.{query_in}
 use Rattle.cq_run.specs.Promise.{source_view, sink_view, sinks_of}
 use Rattle.cq_run.specs.Writing.{stand_of}
