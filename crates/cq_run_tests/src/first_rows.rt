@@ -123,7 +123,7 @@ fn expect<R: Threads + Sync + Abort>(
     assert!(rt; (1..=MOST).contains(&limit));
     let query = read_query(alloc, b"cql() Pd4")?;
     let archive = archive_of(alloc, games, first)?;
-    let failing: &[u64] = if fails { &[1] } else { &[] };
+    let failing: &[u64] = if fails { &[2] } else { &[] };
     let mut source = MemSource::new(alloc, archive.as_slice(), BATCH, failing)?;
     let mut out = SureSink::new(alloc, 4096)?;
     let mut err = SureSink::new(alloc, 4096)?;

@@ -438,14 +438,18 @@ fn a_query_is_answered_over_a_source(rt: HostRuntime) -> Result<(), Fail> {
 }
 
 /// Words that are refused.
-static REFUSED: [&[&str]; 16] = [
+static REFUSED: [&[&str]; 20] = [
     &[],
     &["eval"],
     &["eval", "cql() check", "--workers", "0"],
     &["eval", "cql() check", "--workers", "65"],
     &["eval", "cql() check", "--limit", "0"],
     &["eval", "cql() check", "--limit", "1099511627777"],
-    &["eval", "cql() check", "--first"],
+    &["eval", "cql() check", "--last"],
+    &["eval", "cql() check", "--first", "--first"],
+    &["check", "q.cql", "--first"],
+    &["explain", "q.cql", "--first"],
+    &["selfrun", "cql() check", "--first"],
     &["eval", "cql() check", "--seed", "1"],
     &["--help"],
     &["check", "q.cql", "-"],
