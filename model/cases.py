@@ -72,6 +72,8 @@ class Case:
             return None
         if self.words == ["run", "query.cql", "archive.pgn"]:
             return program.run_eval(self.query, self.archive)
+        if self.words == ["run", "query.cql", "archive.pgn", "--first"]:
+            return program.run_eval(self.query, self.archive, first=True)
         if self.words == ["check", "query.cql"]:
             return program.run_check(self.query)
         if self.words == ["explain", "query.cql"]:

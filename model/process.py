@@ -200,6 +200,42 @@ def as_it_is_read():
     compare("the rest at the end", (p.returncode, out, err), (0, one, b"games 2049 matched 2049 refused 0\n"))
 
 
+def first_matches():
+    """the first match in a batch's last game, the next batch's first, a last batch, behind faulty games; by any number of workers"""
+    mate, miss, bad = b"1. f3 e5 2. g4 Qh4# 0-1\n", b"1. e4 *\n", b"1. e4 e5 2. Ke3 *\n"
+    one = program.run_eval(b"cql() mate", mate)[1]
+    rows = [(1023, miss * 1023), (1024, miss * 1024), (1100, miss * 1100), (3000, bad * 3000), (0, b"")]
+    for games, before in rows:
+        want = program.run_eval(b"cql() mate", before + mate + miss + mate, first=True)
+        compare("the model on a match behind %d games" % games, want[1:2] + (want[2].splitlines()[-1].split()[1],), (one, b"%d" % (games + 1)))
+        for workers in ("1", "2", "4", "64"):
+            got = in_pieces(["eval", "cql() mate", "--first", "--workers", workers], before + mate + miss + mate, 4096)
+            compare("a first match behind %d games by %s workers" % (games, workers), got, want)
+    archive = b"".join(mate if number in (5, 700, 1023) else miss for number in range(1, 1025))
+    want = program.run_eval(b"cql() mate", archive, first=True)
+    for workers in ("1", "2", "4", "64"):
+        found = {process(["eval", "cql() mate", "--first", "--workers", workers], archive) for _ in range(200)}
+        compare("200 runs with three matches by %s workers" % workers, found == {want}, True)
+    sorted_ones = program.run_eval(b'cql() sort "ply" ply mate', archive, first=True)
+    compare("a sort item orders nothing", process(["eval", 'cql() sort "ply" ply mate', "--first"], archive), sorted_ones)
+    for words in (["check", "q.cql", "--first"], ["selfrun", "cql() mate", "--first"], ["eval", "cql() mate", "--first", "--first"]):
+        compare("refused words %r" % words, process(words), (3, b"", program.USAGE))
+    limited = process(["eval", "cql() mate", "--first", "--limit", "10000"], mate + miss * 4000)
+    compare("a first match within the limit", limited, (0, one, b"games 1 matched 1 refused 0\n"))
+
+
+def ends_before_its_writer():
+    """the program ends with the first match while the writer of the archive waits"""
+    with subprocess.Popen(
+        [BINARY, "eval", "cql() initial", "--first"], stdin=subprocess.PIPE, stdout=subprocess.PIPE, stderr=subprocess.PIPE
+    ) as p:
+        p.stdin.write(b"*\n" * 1025)
+        p.stdin.flush()
+        got = (p.wait(timeout=30), p.stdout.read(), p.stderr.read())
+        p.stdin.close()
+    compare("a pipe that stays open", got, program.run_eval(b"cql() initial", b"*\n" * 1025, first=True))
+
+
 def many_runs():
     """two hundred runs by 64 workers"""
     archive = b"".join(b"1. e4 e5 2. Qh5 Nc6 3. Bc4 Nf6 4. Qxf7# 1-0\n" if i % 7 else b"1. e4 e5 2. Ke3 *\n" for i in range(3000))
@@ -220,6 +256,8 @@ with tempfile.TemporaryDirectory() as room:
     failures(room)
 batches()
 as_it_is_read()
+first_matches()
+ends_before_its_writer()
 many_runs()
 print("%d passed, %d failed" % (passed, failed))
 sys.exit(1 if failed else 0)

@@ -17,8 +17,8 @@ def games_of(b):
     return _games[b]
 
 
-def answer(q, b):
-    """(status, out, err)"""
+def answer(q, b, first=False):
+    """(status, out, err), of all games or up to the first that matches"""
     outs = []
     err = bytearray()
     gs = games_of(b)
@@ -34,21 +34,24 @@ def answer(q, b):
             ks = keys(q, hs, s)
             ks = [k if f.args[0] else -k for k, f in zip(ks, [f for f in q["items"] if f.form == "sort"])]
             outs.append((ks, i, export(g, {n.no: texts for n in hs})))
+            if first:
+                gs = gs[: i + 1]
+                break
     outs.sort(key=lambda x: (x[0], x[1]))
     err += b"games %d matched %d refused %d\n" % (len(gs), len(outs), refused)
     return (1 if refused else 0, b"".join(x[2] for x in outs), bytes(err))
 
 
-USAGE = b"usage: cqlpgn MODE QUERY [ARCHIVE] [--workers N] [--seed S] [--games G] [--limit B]\n"
+USAGE = b"usage: cqlpgn MODE QUERY [ARCHIVE] [--workers N] [--seed S] [--games G] [--limit B] [--first]\n"
 
 
-def run_eval(text, b):
+def run_eval(text, b, first=False):
     """(status, out, err)"""
     try:
         q = read_query(text)
     except QueryFault as f:
         return (2, b"", fault_line(f))
-    return answer(q, b)
+    return answer(q, b, first)
 
 
 def run_check(text):

@@ -20,7 +20,7 @@ _cqlpgn() {
     esac
     case $mode:$word in
         selfrun:-*) mapfile -t COMPREPLY < <(compgen -W '--workers --seed --games' -- "$word") ;;
-        run:-* | eval:-*) mapfile -t COMPREPLY < <(compgen -W '--workers --limit' -- "$word") ;;
+        run:-* | eval:-*) mapfile -t COMPREPLY < <(compgen -W '--workers --limit --first' -- "$word") ;;
         run:* | check:* | explain:*)
             if [ "$COMP_CWORD" = 2 ]; then _cqlpgn_files 'cql|txt' "$word"; elif [ "$mode" = run ]; then _cqlpgn_files pgn "$word"; fi ;;
         eval:*) [ "$COMP_CWORD" = 2 ] || _cqlpgn_files pgn "$word" ;;

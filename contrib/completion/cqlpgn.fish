@@ -20,6 +20,7 @@ complete -c cqlpgn -n '__cqlpgn_mode run check explain; and __cqlpgn_place 2' -a
 complete -c cqlpgn -n '__cqlpgn_mode run eval; and __cqlpgn_place 3' -a '(__fish_complete_suffix .pgn)' -d archive
 complete -c cqlpgn -n '__cqlpgn_mode run eval selfrun' -l workers -x -a '1 2 4 8 16 32 64' -d '1 to 64 workers'
 complete -c cqlpgn -n '__cqlpgn_mode run eval' -l limit -x -d 'refuses an archive of more bytes'
+complete -c cqlpgn -n '__cqlpgn_mode run eval' -l first -d 'the first game that matches alone'
 complete -c cqlpgn -n '__cqlpgn_mode selfrun' -l seed -x -d 'the seed of the games'
 complete -c cqlpgn -n '__cqlpgn_mode selfrun' -l games -x -d 'how many games'
 

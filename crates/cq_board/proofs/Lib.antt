@@ -1,5 +1,5 @@
 pub mod Drawing
 pub mod Increasing
-mod Totals
+pub mod Totals
 pub mod Steps
 pub mod Dealing

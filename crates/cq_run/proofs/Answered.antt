@@ -12,12 +12,12 @@ use Rattle.cq_run.specs.Asking.{texts_of, texts_so_far}
 use Rattle.cq_shards.specs.Outcomes.{Outcome}
 use Rattle.cq_run.specs.ByBatches.{HaveOutcomes}
 use Rattle.cq_run.specs.Outcomes.{AreRead}
-use Rattle.cq_run.specs.Promise.{SourceView, SinkView, Sinks, Answering, MayBe, TakesTooMuch, Overruns, AnswerPromise, sinks_of}
+use Rattle.cq_run.specs.Promise.{SourceView, SinkView, Sinks, Answering, MayBe, TakesTooMuch, Overruns, AnswerPromise, ReadsNoMore, sinks_of}
 use Rattle.cq_run.specs.Sorts.{have_sort}
 use Rattle.cq_run.proofs.Answers.{none_found, as_prefix, prefix_grows}
 
 -- the games of some spans have outcomes
-outcomes_of : HaveOutcomes → (archive : List ℕ) (spans : List Span) → (outcomes : List Outcome) × AreRead archive spans outcomes
+pub outcomes_of : HaveOutcomes → (archive : List ℕ) (spans : List Span) → (outcomes : List Outcome) × AreRead archive spans outcomes
 outcomes_of have archive [] = ([], tt)
 outcomes_of have archive (s ∷ ss) =
     let one = have s.start s.first (game_bytes archive s) in
@@ -59,7 +59,15 @@ not_too_long limit source after told tells few much =
 abbrev pub asked : ℕ → SourceView → SourceView → Sinks → Answering
 asked limit source after sinks = record { limit = limit; source = source; source_after = after; sinks = sinks }
 
+-- all games of an archive are asked for, so no fewer suffice
+pub needs_all : (query : QueryTree) (limit : ℕ) (source after : SourceView) (sinks : Sinks) → TakesAtMost (limit + 1) source.left after.left
+    → ReadsNoMore (texts_of query) (asked limit source after sinks)
+needs_all query limit source after sinks some = record { front = some.bytes; takes = some.takes; needed = λ enough. enough.early }
+
 -- no memory before anything was read
+pub none_taken : (limit : ℕ) (source : SourceView) → TakesAtMost (limit + 1) source.left source.left
+none_taken limit source = record { bytes = []; takes = consumes_none source.left; few = omega arith }
+
 pub none_answered : HaveOutcomes → (q : QueryTree) (limit : ℕ) (source : SourceView) (out err : SinkView)
     → AnswerPromise (texts_of q) NoMemory (asked limit source source (sinks_of out out err err))
 none_answered have q limit source out err =
@@ -82,7 +90,8 @@ none_answered have q limit source out err =
         }),
         record { source = refl; sinks = record { out = refl; err = refl } },
       );
-      takes = record { bytes = []; takes = consumes_none source.left; few = omega arith };
+      takes = none_taken limit source;
+      reads_no_more = needs_all q limit source source sinks (none_taken limit source);
       too_long_always = λ _. inl (inr (inr (inl refl)));
       complete = λ _. inr (inr (inl refl));
     }

@@ -34,7 +34,7 @@ use Rattle.cq_run.specs.Writing.{WritesText, WritesFault, WritesKept, InOrder, A
 use Rattle.cq_run.proofs.Exports.{matches_more, written_none, unsorted_exports, sorted_exports, none_ordered}
 use Rattle.cq_run.proofs.Sinks.{unwritten, wrote_none, grew_on, Took, took_count, took_on, took_front, prefix_of, fails_after, none_after}
 
-fault_lines_on : (n : ℕ) (rs ss : List Outcome) → fault_lines n (rs ++ ss) ≡ fault_lines n rs ++ fault_lines (n + length rs) ss
+pub fault_lines_on : (n : ℕ) (rs ss : List Outcome) → fault_lines n (rs ++ ss) ≡ fault_lines n rs ++ fault_lines (n + length rs) ss
 unfolding fault_lines
 fault_lines_on n [] ss = let e : n ≡ n + 0 = omega arith in ap (λ k. fault_lines k ss) e
 fault_lines_on n (q ∷ qs) ss =
@@ -286,7 +286,7 @@ both_prefix sinks texts took = record {
 }
 
 -- a prefix, of a text that goes on
-took_more : (a b : Option (List ℕ)) (xs more : List ℕ) → Took a b xs → Took a b (xs ++ more)
+pub took_more : (a b : Option (List ℕ)) (xs more : List ℕ) → Took a b xs → Took a b (xs ++ more)
 took_more a b xs more t = record { part = t.part; rest = t.rest ++ more; is = ap (λ l. l ++ more) t.is ∙ append_assoc t.part t.rest more; grew = t.grew }
 
 pub prefix_grows : (sorted : Bool) (query : QueryTree) (rs qs : List Outcome) (sinks : Sinks) → WritesPrefix sinks (texts_so_far sorted query rs)
@@ -302,7 +302,7 @@ prefix_grows sorted query rs qs sinks writes =
     })
 
 -- all that was written of the games before, and a part of what is written of the next
-part_more : (a b c : Option (List ℕ)) (xs ys : List ℕ) (count : ℕ) → Grew a b xs → Grew b c (take count ys) → Took a c (xs ++ ys)
+pub part_more : (a b c : Option (List ℕ)) (xs ys : List ℕ) (count : ℕ) → Grew a b xs → Grew b c (take count ys) → Took a c (xs ++ ys)
 part_more a b c xs ys count f g = subst (λ l. Took a c (xs ++ l)) (append-nil ys) (took_on a b c xs ys [] f (took_count b c ys count g))
 
 pub stopped_at : (sorted : Bool) (query : QueryTree) (rs : List Outcome) (r : Outcome) (out out' out'' err err' err'' : SinkView) (stand : Stand)

@@ -1,5 +1,5 @@
 -- What is done for words, and the promise of `run` from it.
-use Rattle.std.proofs.Common.{◌≡◌, ◌⊎◌, ℕ, ◌+◌, ◌≤◌, ◌<◌, true, List, [], ◌∷◌, ◌++◌, length, take, append-nil, Option, Some, None, Ok, Err, refl, ap, sym, ◌∙◌, arith, subst, inl, inr}
+use Rattle.std.proofs.Common.{◌≡◌, ◌⊎◌, ℕ, Bool, ◌+◌, ◌≤◌, ◌<◌, true, List, [], ◌∷◌, ◌++◌, length, take, append-nil, Option, Some, None, Ok, Err, refl, ap, sym, ◌∙◌, arith, subst, inl, inr}
 use Rattle.std.specs.Prelude.{Result}
 use Rattle.std.proofs.Math.Seq.{take-append_seam}
 use Rattle.std.proofs.lemmas.Bool.{cases_lt}
@@ -27,7 +27,7 @@ use Rattle.cq_run.specs.declared.status.Status.{Status}
 use Rattle.cq_run.specs.declared.status.Status.TheVariants.{Done, DoneWithRefusals, QueryRefused, WordsRefused, OpenFault, ReadFault, WriteFault, NoMemory, ArchiveTooLong}
 use Rattle.cq_run.specs.Queries.{IsQuery, IsQueryFault}
 use Rattle.cq_run.specs.Promise.{SourceView, DeskView, Sinks, Wanted, SaysOfAnswer, IsOneOf, IsUnwritten, NoWriteFailed}
-use Rattle.cq_run.specs.Asking.{texts_of}
+use Rattle.cq_run.specs.FirstGame.{wanted}
 use Rattle.cq_run.specs.Run.{Call, from_desk, IsUnmoved, with_open, Opened, FailsToOpen, TakesQuery, LacksMemory, no_memory_to_open, no_memory_to_read, WritesUsage, RefusesQuery, AcceptsQuery, WritesFlat, AnswersFile, archive_answered, archive_unopened, archive_out_of_memory, OverText, text_accepted, text_refused, text_out_of_memory, OverFile, file_accepted, file_refused, file_unopened, file_unread, file_out_of_memory, SaysAccepted, Explains, RunsMade, DoesJob, job_done, words_refused, words_out_of_memory, Asks, AnswersItsFault, IsInFile, HasText, NothingRose, IsShort, IsWithin, good_answers, Promise}
 use Rattle.cq_run.specs.SelfRun.{WritesTotals, WritesMade, totals_written, made_out_of_memory}
 use Rattle.cq_run.specs.declared.totals.Totals.{Totals}
@@ -130,17 +130,17 @@ made_faults : (archive : List ℕ) (q : QueryTree) (status : Status) (call : Cal
 made_faults archive q status call input (totals_written totals are does) = totals_faults totals status call input does
 made_faults archive q status call input (made_out_of_memory is same) = at_none status call input (wrote_none call.sinks same)
 
-answer_faults : (name : List ℕ) (limit : ℕ) (wanted : Wanted) (file : SourceView) (status : Status) (call : Call) → Opened name call.desk call.desk_after file
-    → SaysOfAnswer status wanted (record { limit = limit; source = file; source_after = call.desk_after.file; sinks = call.sinks }) → AnswersItsFault status call
-answer_faults name limit wanted file Done call opened says = at_none Done call (opened_counts name call.desk call.desk_after file opened says.1.source) says.1.sinks
-answer_faults name limit wanted file DoneWithRefusals call opened says = at_none DoneWithRefusals call (opened_counts name call.desk call.desk_after file opened says.1.source) says.1.sinks
-answer_faults name limit wanted file ReadFault call opened says = at_read call opened.opens says.1
-answer_faults name limit wanted file WriteFault call opened says = at_write call (opened_counts name call.desk call.desk_after file opened says.1)
-answer_faults name limit wanted file NoMemory call opened says = at_none NoMemory call (opened_counts name call.desk call.desk_after file opened says.1.source) says.1.sinks
-answer_faults name limit wanted file ArchiveTooLong call opened says = at_none ArchiveTooLong call (opened_counts name call.desk call.desk_after file opened says.1.source) says.1.sinks
-answer_faults name limit wanted file QueryRefused call opened says = absurd says
-answer_faults name limit wanted file WordsRefused call opened says = absurd says
-answer_faults name limit wanted file OpenFault call opened says = absurd says
+answer_faults : (name : List ℕ) (limit : ℕ) (asks : Wanted) (file : SourceView) (status : Status) (call : Call) → Opened name call.desk call.desk_after file
+    → SaysOfAnswer status asks (record { limit = limit; source = file; source_after = call.desk_after.file; sinks = call.sinks }) → AnswersItsFault status call
+answer_faults name limit asks file Done call opened says = at_none Done call (opened_counts name call.desk call.desk_after file opened says.1.source) says.1.sinks
+answer_faults name limit asks file DoneWithRefusals call opened says = at_none DoneWithRefusals call (opened_counts name call.desk call.desk_after file opened says.1.source) says.1.sinks
+answer_faults name limit asks file ReadFault call opened says = at_read call opened.opens says.1
+answer_faults name limit asks file WriteFault call opened says = at_write call (opened_counts name call.desk call.desk_after file opened says.1)
+answer_faults name limit asks file NoMemory call opened says = at_none NoMemory call (opened_counts name call.desk call.desk_after file opened says.1.source) says.1.sinks
+answer_faults name limit asks file ArchiveTooLong call opened says = at_none ArchiveTooLong call (opened_counts name call.desk call.desk_after file opened says.1.source) says.1.sinks
+answer_faults name limit asks file QueryRefused call opened says = absurd says
+answer_faults name limit asks file WordsRefused call opened says = absurd says
+answer_faults name limit asks file OpenFault call opened says = absurd says
 
 unmoved_faults : (status : Status) (call : Call) → IsUnmoved call → AnswersItsFault status call
 unmoved_faults status call same = at_none status call (same_counts call.desk call.desk_after same.desk) (wrote_none call.sinks same.sinks)
@@ -149,10 +149,10 @@ unopened_faults : (status : Status) (call : Call) → status ≡ OpenFault → F
 unopened_faults status call is fails same =
     subst (λ s. AnswersItsFault s call) (sym is) (at_open call (ap (λ (s : SourceView). s.faults) fails.file) (wrote_none call.sinks same))
 
-archive_faults : (archive : List ℕ) (limit : ℕ) (q : QueryTree) (status : Status) (call : Call) → AnswersFile archive limit q status call → AnswersItsFault status call
-archive_faults archive limit q status call (archive_answered file opened answers) = answer_faults archive limit (texts_of q) file status call opened answers.says
-archive_faults archive limit q status call (archive_unopened is fails same) = unopened_faults status call is fails same
-archive_faults archive limit q status call (archive_out_of_memory is same) = unmoved_faults status call same
+archive_faults : (archive : List ℕ) (limit : ℕ) (first : Bool) (q : QueryTree) (status : Status) (call : Call) → AnswersFile archive limit first q status call → AnswersItsFault status call
+archive_faults archive limit first q status call (archive_answered file opened answers) = answer_faults archive limit (wanted first q) file status call opened answers.says
+archive_faults archive limit first q status call (archive_unopened is fails same) = unopened_faults status call is fails same
+archive_faults archive limit first q status call (archive_out_of_memory is same) = unmoved_faults status call same
 
 -- counts that stood still up to a desk in between
 later_faults : (mid : DeskView) (status : Status) (call : Call) → NoInputFailed call.desk mid → AnswersItsFault status (from_desk mid call) → AnswersItsFault status call
@@ -193,10 +193,10 @@ file_faults name Accepted status call accepted (file_out_of_memory is lacks same
     at_none status call (lacking_counts name call.desk call.desk_after lacks) (wrote_none call.sinks same)
 
 job_faults : (job : Job) (status : Status) (call : Call) → DoesJob job status call → AnswersItsFault status call
-job_faults (Run query archive workers limit) status call does =
-    file_faults query (AnswersFile archive limit) status call (λ q mid a. archive_faults archive limit q status (from_desk mid call) a) does
-job_faults (Eval text archive workers limit) status call does =
-    text_faults text (AnswersFile archive limit) status call (λ q a. archive_faults archive limit q status call a) does
+job_faults (Run query archive workers limit first) status call does =
+    file_faults query (AnswersFile archive limit first) status call (λ q mid a. archive_faults archive limit first q status (from_desk mid call) a) does
+job_faults (Eval text archive workers limit first) status call does =
+    text_faults text (AnswersFile archive limit first) status call (λ q a. archive_faults archive limit first q status call a) does
 job_faults (Check query) status call does =
     file_faults query SaysAccepted status call (λ q mid a. acceptance_faults status (from_desk mid call) (same_counts mid call.desk_after a.1) a.0) does
 job_faults (Explain query) status call does =
@@ -220,11 +220,11 @@ usage_faults ArchiveTooLong call same does = absurd does
 not_twice : (status s : Status) → status ≡ s → status ≡ WordsRefused → s ≡ WordsRefused
 not_twice status s is e = sym is ∙ e
 
-archive_not_words : (archive : List ℕ) (limit : ℕ) (q : QueryTree) (status : Status) (call : Call) → AnswersFile archive limit q status call → status ≡ WordsRefused → ⊥
-archive_not_words archive limit q status call (archive_answered file opened answers) e =
-    subst (λ s. SaysOfAnswer s (texts_of q) (record { limit = limit; source = file; source_after = call.desk_after.file; sinks = call.sinks })) e answers.says
-archive_not_words archive limit q status call (archive_unopened is fails same) e = let f = not_twice status OpenFault is e in cc
-archive_not_words archive limit q status call (archive_out_of_memory is same) e = let f = not_twice status NoMemory is e in cc
+archive_not_words : (archive : List ℕ) (limit : ℕ) (first : Bool) (q : QueryTree) (status : Status) (call : Call) → AnswersFile archive limit first q status call → status ≡ WordsRefused → ⊥
+archive_not_words archive limit first q status call (archive_answered file opened answers) e =
+    subst (λ s. SaysOfAnswer s (wanted first q) (record { limit = limit; source = file; source_after = call.desk_after.file; sinks = call.sinks })) e answers.says
+archive_not_words archive limit first q status call (archive_unopened is fails same) e = let f = not_twice status OpenFault is e in cc
+archive_not_words archive limit first q status call (archive_out_of_memory is same) e = let f = not_twice status NoMemory is e in cc
 
 refusal_not_words : (fault : QueryFault) (status : Status) (sinks : Sinks) → RefusesQuery fault status sinks → status ≡ WordsRefused → ⊥
 refusal_not_words fault status sinks does e = subst (λ s. RefusesQuery fault s sinks) e does
@@ -249,10 +249,10 @@ made_not_words archive q status sinks (totals_written totals are does) e = subst
 made_not_words archive q status sinks (made_out_of_memory is same) e = let f = not_twice status NoMemory is e in cc
 
 job_not_words : (job : Job) (status : Status) (call : Call) → DoesJob job status call → status ≡ WordsRefused → ⊥
-job_not_words (Run query archive workers limit) status call does e =
-    file_not_words query (AnswersFile archive limit) status call (λ q mid a f. archive_not_words archive limit q status (from_desk mid call) a f) does e
-job_not_words (Eval text archive workers limit) status call does e =
-    text_not_words text (AnswersFile archive limit) status call (λ q a f. archive_not_words archive limit q status call a f) does e
+job_not_words (Run query archive workers limit first) status call does e =
+    file_not_words query (AnswersFile archive limit first) status call (λ q mid a f. archive_not_words archive limit first q status (from_desk mid call) a f) does e
+job_not_words (Eval text archive workers limit first) status call does e =
+    text_not_words text (AnswersFile archive limit first) status call (λ q a f. archive_not_words archive limit first q status call a f) does e
 job_not_words (Check query) status call does e =
     file_not_words query SaysAccepted status call (λ q mid a f. subst (λ s. AcceptsQuery s call.sinks) f a.0) does e
 job_not_words (Explain query) status call does e =
@@ -312,10 +312,10 @@ file_refused_always one none name text fault Accepted status call asks faulty (f
 
 job_refused_always : SpellOne → SpellNone → (job : Job) (text : List ℕ) (fault : QueryFault) (status : Status) (call : Call) → HasText call job text → IsQueryFault text fault
     → DoesJob job status call → IsOneOf status (QueryRefused ∷ WriteFault ∷ NoMemory ∷ [])
-job_refused_always one none (Run query archive workers limit) text fault status call has faulty does =
-    file_refused_always one none query text fault (AnswersFile archive limit) status call has faulty does
-job_refused_always one none (Eval word archive workers limit) text fault status call has faulty does =
-    text_refused_always one none text fault (AnswersFile archive limit) status call faulty (subst (λ t. OverText t (AnswersFile archive limit) status call) has does)
+job_refused_always one none (Run query archive workers limit first) text fault status call has faulty does =
+    file_refused_always one none query text fault (AnswersFile archive limit first) status call has faulty does
+job_refused_always one none (Eval word archive workers limit first) text fault status call has faulty does =
+    text_refused_always one none text fault (AnswersFile archive limit first) status call faulty (subst (λ t. OverText t (AnswersFile archive limit first) status call) has does)
 job_refused_always one none (Check query) text fault status call has faulty does = file_refused_always one none query text fault SaysAccepted status call has faulty does
 job_refused_always one none (Explain query) text fault status call has faulty does = file_refused_always one none query text fault Explains status call has faulty does
 job_refused_always one none (SelfRun word seed games workers) text fault status call has faulty does =
@@ -323,18 +323,18 @@ job_refused_always one none (SelfRun word seed games workers) text fault status 
 
 -- an accepted query is answered
 
-archive_complete : (archive : List ℕ) (limit : ℕ) (q : QueryTree) (status : Status) (call : Call) → (short : IsShort call archive limit) → (none : NothingRose call)
-    → AnswersFile archive limit q status call → IsOneOf status (Done ∷ DoneWithRefusals ∷ NoMemory ∷ [])
-archive_complete archive limit q status call short none (archive_answered file opened answers) =
+archive_complete : (archive : List ℕ) (limit : ℕ) (first : Bool) (q : QueryTree) (status : Status) (call : Call) → (short : IsShort call archive limit (wanted first q)) → (none : NothingRose call)
+    → AnswersFile archive limit first q status call → IsOneOf status (Done ∷ DoneWithRefusals ∷ NoMemory ∷ [])
+archive_complete archive limit first q status call short none (archive_answered file opened answers) =
     answers.complete (record {
       archive = bytes_of short.told.files archive;
       tells = opened.bytes short.told short.tells;
-      within = inl short.within;
+      within = short.within;
       no_read = λ rose. none.reads (subst (λ n. Rose n call.desk_after.file.faults) opened.faults rose);
       no_write = none.writes;
     })
-archive_complete archive limit q status call short none (archive_unopened is fails same) = absurd (none.opens fails.rose)
-archive_complete archive limit q status call short none (archive_out_of_memory is same) = inr (inr (inl is))
+archive_complete archive limit first q status call short none (archive_unopened is fails same) = absurd (none.opens fails.rose)
+archive_complete archive limit first q status call short none (archive_out_of_memory is same) = inr (inr (inl is))
 
 text_complete : SpellOne → SpellNone → (text : List ℕ) (query : QueryTree) (Accepted : QueryTree → Status → Call → Type 0) (good : List Status) (status : Status) (call : Call)
     → IsQuery text query → IsOneOf NoMemory good → (Accepted query status call → IsOneOf status good) → OverText text Accepted status call → IsOneOf status good
@@ -359,9 +359,9 @@ file_complete one none name text query Accepted good status call asks accepted m
 
 -- the same for the archive, from a desk in between on
 
-short_later : (name archive : List ℕ) (limit : ℕ) (mid : DeskView) (text : List ℕ) (call : Call) → TakesQuery name call.desk mid text → IsShort call archive limit
-    → IsShort (from_desk mid call) archive limit
-short_later name archive limit mid text call takes short = record {
+short_later : (name archive : List ℕ) (limit : ℕ) (asks : Wanted) (mid : DeskView) (text : List ℕ) (call : Call) → TakesQuery name call.desk mid text → IsShort call archive limit asks
+    → IsShort (from_desk mid call) archive limit asks
+short_later name archive limit asks mid text call takes short = record {
   told = with_open name short.told;
   tells = takes.opened.told ∙ ap (option_map (with_open name)) short.tells;
   within = short.within;
@@ -416,14 +416,14 @@ made_is_one archive q status call none (totals_written totals are does) = totals
 made_is_one archive q status call none (made_out_of_memory is same) = inr (inr (inl is))
 
 job_complete : SpellOne → SpellNone → (job : Job) (text : List ℕ) (query : QueryTree) (status : Status) (call : Call) → HasText call job text → IsQuery text query
-    → IsWithin call job → NothingRose call → DoesJob job status call → IsOneOf status (good_answers job)
-job_complete one never (Run name archive workers limit) text query status call has is short none does =
-    file_complete one never name text query (AnswersFile archive limit) (Done ∷ DoneWithRefusals ∷ NoMemory ∷ []) status call has is (inr (inr (inl refl)))
-    (λ mid found takes a. archive_complete archive limit query status (from_desk mid call) (short_later name archive limit mid found call takes short) (none_later name mid found call takes none) a)
+    → IsWithin call job query → NothingRose call → DoesJob job status call → IsOneOf status (good_answers job)
+job_complete one never (Run name archive workers limit first) text query status call has is short none does =
+    file_complete one never name text query (AnswersFile archive limit first) (Done ∷ DoneWithRefusals ∷ NoMemory ∷ []) status call has is (inr (inr (inl refl)))
+    (λ mid found takes a. archive_complete archive limit first query status (from_desk mid call) (short_later name archive limit (wanted first query) mid found call takes short) (none_later name mid found call takes none) a)
     does
-job_complete one never (Eval word archive workers limit) text query status call has is short none does =
-    text_complete one never text query (AnswersFile archive limit) (Done ∷ DoneWithRefusals ∷ NoMemory ∷ []) status call is (inr (inr (inl refl)))
-    (λ a. archive_complete archive limit query status call short none a) (subst (λ t. OverText t (AnswersFile archive limit) status call) has does)
+job_complete one never (Eval word archive workers limit first) text query status call has is short none does =
+    text_complete one never text query (AnswersFile archive limit first) (Done ∷ DoneWithRefusals ∷ NoMemory ∷ []) status call is (inr (inr (inl refl)))
+    (λ a. archive_complete archive limit first query status call short none a) (subst (λ t. OverText t (AnswersFile archive limit first) status call) has does)
 job_complete one never (Check name) text query status call has is short none does =
     file_complete one never name text query SaysAccepted (Done ∷ NoMemory ∷ []) status call has is (inr (inl refl))
     (λ mid found takes a. acceptance_is_one status call none a.0) does
@@ -436,17 +436,17 @@ job_complete one never (SelfRun word seed games workers) text query status call 
 
 -- a job that was done
 
-pub run_done : (job : Job) (query archive name file : List ℕ) (workers limit : ℕ) (status : Status) (call : Call) → job ≡ Run query archive workers limit → name ≡ query → file ≡ archive
-    → OverFile name (AnswersFile file limit) status call → DoesJob job status call
-run_done job query archive name file workers limit status call is names files does =
-    subst (λ j. DoesJob j status call) (sym is) (subst (λ n. OverFile n (AnswersFile archive limit) status call) names
-    (subst (λ f. OverFile name (AnswersFile f limit) status call) files does))
+pub run_done : (job : Job) (query archive name file : List ℕ) (workers limit : ℕ) (first : Bool) (status : Status) (call : Call) → job ≡ Run query archive workers limit first → name ≡ query → file ≡ archive
+    → OverFile name (AnswersFile file limit first) status call → DoesJob job status call
+run_done job query archive name file workers limit first status call is names files does =
+    subst (λ j. DoesJob j status call) (sym is) (subst (λ n. OverFile n (AnswersFile archive limit first) status call) names
+    (subst (λ f. OverFile name (AnswersFile f limit first) status call) files does))
 
-pub eval_done : (job : Job) (word archive text file : List ℕ) (workers limit : ℕ) (status : Status) (call : Call) → job ≡ Eval word archive workers limit → text ≡ word → file ≡ archive
-    → OverText text (AnswersFile file limit) status call → DoesJob job status call
-eval_done job word archive text file workers limit status call is texts files does =
-    subst (λ j. DoesJob j status call) (sym is) (subst (λ t. OverText t (AnswersFile archive limit) status call) texts
-    (subst (λ f. OverText text (AnswersFile f limit) status call) files does))
+pub eval_done : (job : Job) (word archive text file : List ℕ) (workers limit : ℕ) (first : Bool) (status : Status) (call : Call) → job ≡ Eval word archive workers limit first → text ≡ word → file ≡ archive
+    → OverText text (AnswersFile file limit first) status call → DoesJob job status call
+eval_done job word archive text file workers limit first status call is texts files does =
+    subst (λ j. DoesJob j status call) (sym is) (subst (λ t. OverText t (AnswersFile archive limit first) status call) texts
+    (subst (λ f. OverText text (AnswersFile f limit first) status call) files does))
 
 pub check_done : (job : Job) (query name : List ℕ) (status : Status) (call : Call) → job ≡ Check query → name ≡ query → OverFile name SaysAccepted status call → DoesJob job status call
 check_done job query name status call is names does = subst (λ j. DoesJob j status call) (sym is) (subst (λ n. OverFile n SaysAccepted status call) names does)
@@ -511,8 +511,8 @@ refusal_promised words status desk sinks refused value taken does = record {
 }
 
 memory_is_good : (job : Job) → IsOneOf NoMemory (good_answers job)
-memory_is_good (Run query archive workers limit) = inr (inr (inl refl))
-memory_is_good (Eval text archive workers limit) = inr (inr (inl refl))
+memory_is_good (Run query archive workers limit first) = inr (inr (inl refl))
+memory_is_good (Eval text archive workers limit first) = inr (inr (inl refl))
 memory_is_good (Check query) = inr (inl refl)
 memory_is_good (Explain query) = inr (inl refl)
 memory_is_good (SelfRun text seed games workers) = inr (inr (inl refl))

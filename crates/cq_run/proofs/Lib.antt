@@ -11,5 +11,9 @@ mod OneOutcome
 mod Reached
 mod Rounds
 mod Sorted
+mod FirstGames
+mod FirstTexts
+mod FirstStops
+mod FirstRounds
 mod Doing
 pub mod EveryText

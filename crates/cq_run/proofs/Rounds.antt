@@ -4,6 +4,7 @@ use Rattle.std.proofs.lemmas.Bool.{cases_Bool}
 use Rattle.std.proofs.lemmas.Grind.{flat_map-append}
 use Rattle.std.proofs.lemmas.List.{take-append-drop, take_all}
 use Rattle.cq_outside.specs.Faults.{Rose}
+use Rattle.cq_outside.specs.Flow.{TakesAtMost}
 use Rattle.cql_syntax.specs.Trees.{QueryTree}
 use Rattle.pgn_cut.specs.Cut.{cut, closed}
 use Rattle.cq_shards.specs.declared.batch.Batch.{Batch}
@@ -23,7 +24,7 @@ use Rattle.cq_run.specs.Promise.{SourceView, SinkView, Sinks, FindsAll, Stops, B
 use Rattle.cq_run.specs.Sorts.{have_sort}
 use Rattle.cq_run.specs.Writing.{FoundSoFar, WritesAnswer, Stand, stand_of}
 use Rattle.cq_shards.specs.declared.answers.GameAnswer.{GameAnswer}
-use Rattle.cq_run.proofs.Answered.{asked, may_be, not_overrun, not_too_long}
+use Rattle.cq_run.proofs.Answered.{asked, may_be, needs_all, not_overrun, not_too_long}
 use Rattle.cq_run.proofs.Answers.{none_found, as_prefix, prefix_grows, tally_with, answers_count}
 use Rattle.cq_run.proofs.Sinks.{some_failed}
 use Rattle.cq_run.proofs.Given.{Rest, all_batches, count_read, given, given_few, given_full, kept_read_on, reads_archive, rest_of, whole_are}
@@ -105,6 +106,7 @@ pub starves : Laws → (sorted : Bool) (query : QueryTree) (limit : ℕ) (b : Ba
 starves laws sorted query limit b source now front m rs sinks sorts r counts read writes unfailed = record {
   says = (stops_by laws sorted query limit b source now front m rs sinks sorts r read writes (cases_Bool b.ended), record { source = counts; sinks = unfailed });
   takes = takes_some limit b source now front m r;
+  reads_no_more = needs_all query limit source now sinks (takes_some limit b source now front m r);
   too_long_always = λ _. inl (inr (inr (inl refl)));
   complete = λ _. inr (inr (inl refl));
 }
@@ -116,6 +118,7 @@ pub breaks_off : Laws → (sorted : Bool) (query : QueryTree) (limit : ℕ) (b :
 breaks_off laws sorted query limit b source now front m rs sinks sorts r counts read writes failed = record {
   says = (failed, counts, stops_by laws sorted query limit b source now front m rs sinks sorts r read writes (cases_Bool b.ended));
   takes = takes_some limit b source now front m r;
+  reads_no_more = needs_all query limit source now sinks (takes_some limit b source now front m r);
   too_long_always = λ _. inl (inr (inl refl));
   complete = λ all. absurd (all.no_write (some_failed sinks failed));
 }
@@ -156,6 +159,7 @@ pub unread : Laws → (sorted : Bool) (query : QueryTree) (limit : ℕ) (b : Bat
 unread laws sorted query limit b source now front m rs sinks stand sorts r rose read found all few = record {
   says = (rose, found.unfailed, breaks laws sorted query limit b source now front m rs sinks stand (λ n. Unit {0}) sorts r read found all tt);
   takes = takes_some limit b source now front m r;
+  reads_no_more = needs_all query limit source now sinks (takes_some limit b source now front m r);
   too_long_always = λ much. absurd (not_overrun limit source now (record { bytes = front; takes = r.takes; few = few }) much);
   complete = λ all. absurd (all.no_read rose);
 }
@@ -169,6 +173,7 @@ too_long laws sorted query limit b source now front m rs sinks stand sorts r cou
     record { source = counts; sinks = found.unfailed },
   );
   takes = takes_some limit b source now front m r;
+  reads_no_more = needs_all query limit source now sinks (takes_some limit b source now front m r);
   too_long_always = λ _. inl (inl refl);
   complete = λ every. absurd (not_too_long limit source now every.archive every.tells (none_suffices query front limit source now sinks every)
       (record { bytes = front; takes = r.takes; long = long }));
@@ -176,7 +181,7 @@ too_long laws sorted query limit b source now front m rs sinks stand sorts r cou
 
 -- ---- all games were answered
 
-finds_all : (query : QueryTree) (limit : ℕ) (source now : SourceView) (sinks : Sinks) (archive : List ℕ) (rs : List Outcome) (Holds : List Outcome → Type 0)
+pub finds_all : (query : QueryTree) (limit : ℕ) (source now : SourceView) (sinks : Sinks) (archive : List ℕ) (rs : List Outcome) (Holds : List Outcome → Type 0)
     → ReadsAll limit source now archive rs → Holds rs → FindsAll (asked limit source now sinks) Holds
 finds_all query limit source now sinks archive rs Holds all holds = record {
   archive = archive;
@@ -186,12 +191,16 @@ finds_all query limit source now sinks archive rs Holds all holds = record {
   holds = holds;
 }
 
+pub takes_all : (limit : ℕ) (source now : SourceView) (archive : List ℕ) (rs : List Outcome) → ReadsAll limit source now archive rs → TakesAtMost (limit + 1) source.left now.left
+takes_all limit source now archive rs all = record { bytes = archive; takes = all.takes; few = let w = all.within in omega (arith, w) }
+
 promised : (status : Status) (query : QueryTree) (limit : ℕ) (source now : SourceView) (sinks : Sinks) (archive : List ℕ) (rs : List Outcome) → ReadsAll limit source now archive rs
     → SaysOfAnswer status (texts_of query) (asked limit source now sinks) → (AnswersAll (texts_of query) (asked limit source now sinks) → IsOneOf status (Done ∷ DoneWithRefusals ∷ NoMemory ∷ []))
     → AnswerPromise (texts_of query) status (asked limit source now sinks)
 promised status query limit source now sinks archive rs all says complete = record {
   says = says;
-  takes = record { bytes = archive; takes = all.takes; few = let w = all.within in omega (arith, w) };
+  takes = takes_all limit source now archive rs all;
+  reads_no_more = needs_all query limit source now sinks (takes_all limit source now archive rs all);
   too_long_always = λ much. absurd (not_overrun limit source now (record { bytes = archive; takes = all.takes; few = all.within }) much);
   complete = complete;
 }

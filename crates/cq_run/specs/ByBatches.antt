@@ -14,6 +14,10 @@ use Rattle.cq_shards.specs.Whole.{closed_games}
 abbrev pub HaveOutcomes : Type 0
 HaveOutcomes = (start : ℕ) (first : Bool) (bytes : List ℕ) → (outcome : Outcome) × IsRead start first bytes outcome
 
+-- and one each
+abbrev pub HaveOneOutcome : Type 0
+HaveOneOutcome = (start : ℕ) (first : Bool) (bytes : List ℕ) (a b : Outcome) → IsRead start first bytes a → IsRead start first bytes b → a ≡ b
+
 -- the games of a cut follow one another
 abbrev pub InOrder : Type 0
 InOrder = (archive : List ℕ) → AreInOrder 0 (length archive) (cut archive)
@@ -25,5 +29,6 @@ pub record Laws : Type 0 where
   pub cuts : (front : List ℕ) → (last : List Span) × (cut front ≡ closed front ++ last) × FinishesAt (length front) last
   pub order : InOrder
   pub have : HaveOutcomes
+  pub one : HaveOneOutcome
   pub decide : (start : ℕ) (first : Bool) (bytes : List ℕ) (outcome : Outcome) → IsRead start first (take (longest + 1) bytes) outcome
       ↔ IsRead start first bytes outcome

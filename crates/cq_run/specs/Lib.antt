@@ -7,6 +7,7 @@ pub mod Exports
 pub mod ByBatches
 pub mod Promise
 pub mod Asking
+pub mod FirstGame
 pub mod Writing
 pub mod SelfRun
 pub mod Run

@@ -1,5 +1,5 @@
 -- What `answer` promises: what it answers, what out and err have taken then, and when each answer comes.
-use Rattle.std.specs.Prelude.{◌≡◌, ◌⊎◌, ℕ, ◌+◌, ◌≤◌, ◌<◌, List, [], ◌∷◌, length, take, Option, None, Some}
+use Rattle.std.specs.Prelude.{◌≡◌, ◌⊎◌, ℕ, ◌+◌, ◌-◌, ◌≤◌, ◌<◌, List, [], ◌∷◌, length, take, Option, None, Some}
 use Rattle.std.specs.Io.KnownBytes.{Consumes, IsAtEnd}
 use Rattle.cq_outside.specs.Faults.{Rose}
 use Rattle.cq_outside.specs.Flow.{Grew, TakesAtMost}
@@ -10,6 +10,7 @@ use Rattle.cq_shards.specs.Outcomes.{Outcome}
 use Rattle.cq_run.specs.Outcomes.{AreRead, HasGames}
 use Rattle.pgn_cut.specs.Cut.{closed}
 use Rattle.pgn_cut.specs.declared.span.Span.{Span}
+use Rattle.cq_shards.specs.Filling.{most_read}
 use Rattle.cq_shards.specs.Whole.{whole_spans}
 
 -- a source at one moment: the bytes that are left, where it tells them, and its count of faults
@@ -218,10 +219,17 @@ pub record AnswersAll (wanted : Wanted) (call : Answering) : Type 0 where
   pub no_read : Rose call.source.faults call.source_after.faults → ⊥
   pub no_write : SinkFailed call.sinks → ⊥
 
+-- Less did not suffice: the games of the whole batches of the bytes taken, less the last piece of them, do not.
+pub record ReadsNoMore (wanted : Wanted) (call : Answering) : Type 0 where
+  pub front : List ℕ
+  pub takes : Consumes call.source.left call.source_after.left front
+  pub needed : Suffices wanted (take (length front - most_read) front) → ⊥
+
 -- what `answer` promises of its status
 pub record AnswerPromise (wanted : Wanted) (status : Status) (call : Answering) : Type 0 where
   pub says : SaysOfAnswer status wanted call
   pub takes : TakesAtMost (call.limit + 1) call.source.left call.source_after.left
+  pub reads_no_more : ReadsNoMore wanted call
   pub too_long_always : Overruns call.limit call.source call.source_after
       → IsOneOf status (ArchiveTooLong ∷ WriteFault ∷ NoMemory ∷ []) ⊎ EndsEarly wanted call
   pub complete : AnswersAll wanted call → IsOneOf status (Done ∷ DoneWithRefusals ∷ NoMemory ∷ [])

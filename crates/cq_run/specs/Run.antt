@@ -1,5 +1,5 @@
 -- What `run` promises: what it does for its words, what out and err have taken then, and when each answer comes.
-use Rattle.std.specs.Prelude.{◌≡◌, ◌⊎◌, ℕ, ◌+◌, ◌≤◌, ◌<◌, true, List, [], ◌∷◌, ◌++◌, length, take, Option, None, Some, codes}
+use Rattle.std.specs.Prelude.{◌≡◌, ◌⊎◌, ℕ, ◌+◌, ◌≤◌, ◌<◌, Bool, true, List, [], ◌∷◌, ◌++◌, length, take, Option, None, Some, codes}
 use Rattle.std.specs.Option.{option_map}
 use Rattle.std.specs.Io.KnownBytes.{Consumes, IsAtEnd}
 use Rattle.clap.specs.Takes.{takes}
@@ -23,9 +23,9 @@ use Rattle.cq_run.specs.declared.status.Status.TheVariants.{Done, DoneWithRefusa
 use Rattle.cq_run.specs.declared.status.Status.TheVariants.{OpenFault, ReadFault, WriteFault, NoMemory}
 use Rattle.cq_run.specs.Queries.{IsQuery, IsQueryFault}
 use Rattle.cq_run.specs.SelfRun.{WritesMade}
-use Rattle.cq_run.specs.Asking.{texts_of}
+use Rattle.cq_run.specs.FirstGame.{wanted}
 use Rattle.cq_run.specs.Promise.{SourceView, DeskView, Sinks, Texts, Writes, WritesPrefix, IsUnwritten, NoWriteFailed}
-use Rattle.cq_run.specs.Promise.{OutFailed, ErrFailed, SinkFailed, IsOneOf, AnswerPromise}
+use Rattle.cq_run.specs.Promise.{OutFailed, ErrFailed, SinkFailed, IsOneOf, AnswerPromise, Suffices, Wanted}
 
 -- what a call of `run` was lent, as it began and as it ended
 pub record Call : Type 0 where
@@ -94,7 +94,7 @@ text_for_out text = record { out = text; err = [] }
 
 -- the line that answers words that are refused
 abbrev pub usage_line : List ℕ
-usage_line = codes "usage: cqlpgn MODE QUERY [ARCHIVE] [--workers N] [--seed S] [--games G] [--limit B]\n"
+usage_line = codes "usage: cqlpgn MODE QUERY [ARCHIVE] [--workers N] [--seed S] [--games G] [--limit B] [--first]\n"
 
 -- words that are refused: the usage line is written
 abbrev pub WritesUsage : Status → Sinks → Type 0
@@ -130,19 +130,20 @@ WritesFlat query _ sinks = ⊥
 
 -- ---- jobs
 
--- A query that is accepted is answered over the archive in a file, of which so many bytes are the limit.
-pub data AnswersFile (archive : List ℕ) (limit : ℕ) (query : QueryTree) (status : Status) (call : Call) : Type 0 where
+-- A query that is accepted is answered over the archive in a file, of which so many bytes are the limit, up to its first match or of all
+-- its games.
+pub data AnswersFile (archive : List ℕ) (limit : ℕ) (first : Bool) (query : QueryTree) (status : Status) (call : Call) : Type 0 where
   archive_answered : (file : SourceView) → Opened archive call.desk call.desk_after file
-      → AnswerPromise (texts_of query) status (record {
+      → AnswerPromise (wanted first query) status (record {
         limit = limit;
         source = file;
         source_after = call.desk_after.file;
         sinks = call.sinks;
       })
-      → AnswersFile archive limit query status call
+      → AnswersFile archive limit first query status call
   archive_unopened : status ≡ OpenFault → FailsToOpen call.desk call.desk_after → IsUnwritten call.sinks
-      → AnswersFile archive limit query status call
-  archive_out_of_memory : status ≡ NoMemory → IsUnmoved call → AnswersFile archive limit query status call
+      → AnswersFile archive limit first query status call
+  archive_out_of_memory : status ≡ NoMemory → IsUnmoved call → AnswersFile archive limit first query status call
 
 -- A query that a word is: it is refused for its fault, or accepted, and then this is done.
 pub data OverText (text : List ℕ) (Accepted : QueryTree → Status → Call → Type 0) (status : Status) (call : Call) : Type 0 where
@@ -178,8 +179,8 @@ RunsMade seed games query status call = WritesMade (made seed games) query statu
 
 -- what is done for a job
 abbrev pub DoesJob : Job → Status → Call → Type 0
-DoesJob (Run query archive workers limit) = OverFile query (AnswersFile archive limit)
-DoesJob (Eval text archive workers limit) = OverText text (AnswersFile archive limit)
+DoesJob (Run query archive workers limit first) = OverFile query (AnswersFile archive limit first)
+DoesJob (Eval text archive workers limit first) = OverText text (AnswersFile archive limit first)
 DoesJob (Check query) = OverFile query SaysAccepted
 DoesJob (Explain query) = OverFile query Explains
 DoesJob (SelfRun text seed games workers) = OverText text (RunsMade seed games)
@@ -215,8 +216,8 @@ pub record IsInFile (call : Call) (name text : List ℕ) : Type 0 where
 
 -- the text of a job's query
 abbrev pub HasText : Call → Job → List ℕ → Type 0
-HasText call (Run query archive workers limit) text = IsInFile call query text
-HasText call (Eval word archive workers limit) text = word ≡ text
+HasText call (Run query archive workers limit first) text = IsInFile call query text
+HasText call (Eval word archive workers limit first) text = word ≡ text
 HasText call (Check query) text = IsInFile call query text
 HasText call (Explain query) text = IsInFile call query text
 HasText call (SelfRun word seed games workers) text = word ≡ text
@@ -227,24 +228,25 @@ pub record NothingRose (call : Call) : Type 0 where
   pub reads : Rose call.desk.file.faults call.desk_after.file.faults → ⊥
   pub writes : SinkFailed call.sinks → ⊥
 
--- the desk tells its files, and this one is within the limit
-pub record IsShort (call : Call) (archive : List ℕ) (limit : ℕ) : Type 0 where
+-- the desk tells its files, and this one is within the limit, or so many of its bytes suffice
+pub record IsShort (call : Call) (archive : List ℕ) (limit : ℕ) (asked_of : Wanted) : Type 0 where
   pub told : Told
   pub tells : call.desk.told ≡ Some told
-  pub within : length (bytes_of told.files archive) ≤ limit
+  pub within : (length (bytes_of told.files archive) ≤ limit) ⊎ Suffices asked_of (take limit (bytes_of told.files archive))
 
--- the archive of a job, where it reads one, is within the limit
-abbrev pub IsWithin : Call → Job → Type 0
-IsWithin call (Run query archive workers limit) = IsShort call archive limit
-IsWithin call (Eval text archive workers limit) = IsShort call archive limit
-IsWithin call (Check query) = Unit {0}
-IsWithin call (Explain query) = Unit {0}
-IsWithin call (SelfRun text seed games workers) = Unit {0}
+-- The archive of a job, where it reads one, is within the limit. Up to the first match it is enough that a game matches in the whole
+-- batches of that many bytes.
+abbrev pub IsWithin : Call → Job → QueryTree → Type 0
+IsWithin call (Run name archive workers limit first) query = IsShort call archive limit (wanted first query)
+IsWithin call (Eval text archive workers limit first) query = IsShort call archive limit (wanted first query)
+IsWithin call (Check name) query = Unit {0}
+IsWithin call (Explain name) query = Unit {0}
+IsWithin call (SelfRun text seed games workers) query = Unit {0}
 
 -- the answers of a job whose query is accepted, where nothing fails
 abbrev pub good_answers : Job → List Status
-good_answers (Run query archive workers limit) = Done ∷ DoneWithRefusals ∷ NoMemory ∷ []
-good_answers (Eval text archive workers limit) = Done ∷ DoneWithRefusals ∷ NoMemory ∷ []
+good_answers (Run query archive workers limit first) = Done ∷ DoneWithRefusals ∷ NoMemory ∷ []
+good_answers (Eval text archive workers limit first) = Done ∷ DoneWithRefusals ∷ NoMemory ∷ []
 good_answers (Check query) = Done ∷ NoMemory ∷ []
 good_answers (Explain query) = Done ∷ NoMemory ∷ []
 good_answers (SelfRun text seed games workers) = Done ∷ DoneWithRefusals ∷ NoMemory ∷ []
@@ -259,4 +261,4 @@ pub record Promise (words : List (List ℕ)) (status : Status) (call : Call) : T
   pub query_always_refused : (job : Job) (text : List ℕ) (fault : QueryFault) → Asks words (Some job) → HasText call job text
       → IsQueryFault text fault → IsOneOf status (QueryRefused ∷ WriteFault ∷ NoMemory ∷ [])
   pub complete : (job : Job) (text : List ℕ) (query : QueryTree) → Asks words (Some job) → HasText call job text
-      → IsQuery text query → IsWithin call job → NothingRose call → IsOneOf status (good_answers job)
+      → IsQuery text query → IsWithin call job query → NothingRose call → IsOneOf status (good_answers job)

@@ -1,16 +1,17 @@
 //! Answering a query over an archive that is open.
 ghost use Rattle.std.specs.Prelude.{◌≤◌, ◌^◌};
 ghost use Rattle.cql_syntax.specs.TreeOf.{query_tree};
-ghost use Rattle.cq_run.specs.Asking.{texts_of};
+ghost use Rattle.cq_run.specs.FirstGame.{wanted};
 ghost use Rattle.cq_run.specs.Promise.{AnswerPromise, source_view, sink_view, sinks_of};
 
+use crate::first::answer_first;
+use crate::laws::archives_come_in_batches;
 use crate::status::Status;
 use crate::streaming::answer_all;
 use cq_outside::{Gate, Sink, Source};
 use cq_words::Settings;
 use cql_plan::Plan;
 use cql_syntax::TypedQuery;
-use pgn_reader::games_have_outcomes;
 use std::alloc::Global;
 use std::thread::Threads;
 
@@ -20,7 +21,8 @@ use std::thread::Threads;
 ///
 /// The source is read in pieces of at most 65,536 bytes, none while a full batch waits, and at most one byte over the limit in all.
 /// Without a sort item the exports and fault lines of a batch are written before the next one is asked for; with one the fault lines
-/// are, and the games that match are kept until all are answered. Nothing is written after a fault.
+/// are, and the games that match are kept until all are answered. With `settings.first` no more is written than the game that matches first
+/// and the report up to it, whatever the sort items, and no more is read after its batch. Nothing is written after a fault.
 ///
 /// Answers:
 /// - `Done` or `DoneWithRefusals`: both sinks have taken all, and no game, or some, is faulty.
@@ -42,7 +44,7 @@ pub fn answer<R: Threads + Sync, S: Source, O: Sink, E: Sink, G: Gate + Sync>(
 ) -> Status
     requires workers { (1 ≤ settings.workers) × (settings.workers ≤ 64) }
     requires limit { (1 ≤ settings.limit) × (settings.limit ≤ 2 ^ 40) }
-    ensures answers { AnswerPromise (texts_of (query_tree query.now.query)) result (record {
+    ensures answers { AnswerPromise (wanted settings.first (query_tree query.now.query)) result (record {
       limit = settings.limit;
       source = source_view S.left S.faults source.old;
       source_after = source_view S.left S.faults source.new;
@@ -51,9 +53,12 @@ pub fn answer<R: Threads + Sync, S: Source, O: Sink, E: Sink, G: Gate + Sync>(
     }) }
     ensures next { S.follows source.old source.new }
 {
-    games_have_outcomes();
+    archives_come_in_batches();
     let Ok(plan) = Plan::make(alloc, query) else {
         return Status::NoMemory;
     };
+    if settings.first {
+        return answer_first(rt, alloc, &plan, settings, source, out, err, gate);
+    }
     answer_all(rt, alloc, &plan, settings, source, out, err, gate)
 }

@@ -69,8 +69,8 @@ fn write_kept<O: Sink>(
     Ok(())
 }
 
-// Writes the last line of the report.
-fn write_summary<E: Sink>(alloc: Global, tally: Tally, err: &mut E) -> Status
+/// Writes the last line of the report.
+pub fn write_summary<E: Sink>(alloc: Global, tally: Tally, err: &mut E) -> Status
     ensures { WritesSummary tally (sink_view E.taken E.faults err.old) (sink_view E.taken E.faults err.new) result }
 {
     let Ok(line) = summary_line(alloc, tally.games, tally.matched, tally.refused) else {

@@ -11,7 +11,7 @@ use cql_parser::{
     tokens_have_at_most_one_fault, tokens_spell_at_most_one_query,
 };
 use pgn_cut::{closed_games_stay, games_stand_apart};
-use pgn_reader::{first_bytes_decide, games_have_outcomes};
+use pgn_reader::{first_bytes_decide, games_have_one_outcome, games_have_outcomes};
 
 /// A law: every text is a query or has a fault, and not both.
 pub fn every_text_is_a_query_or_has_a_fault()
@@ -38,6 +38,7 @@ pub(crate) fn archives_come_in_batches()
     ensures { Laws }
 {
     games_have_outcomes();
+    games_have_one_outcome();
     first_bytes_decide();
     closed_games_stay();
     games_stand_apart();

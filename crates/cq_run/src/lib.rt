@@ -5,6 +5,7 @@ mod answering;
 mod asked;
 mod command;
 mod explaining;
+mod first;
 mod games;
 mod laws;
 mod selfrun;

@@ -21,7 +21,7 @@ use std::thread::Threads;
 
 /// The line that answers words that are refused.
 const USAGE: &[u8] =
-    b"usage: cqlpgn MODE QUERY [ARCHIVE] [--workers N] [--seed S] [--games G] [--limit B]\n";
+    b"usage: cqlpgn MODE QUERY [ARCHIVE] [--workers N] [--seed S] [--games G] [--limit B] [--first]\n";
 
 /// Answers the words of a command, those after the program's name.
 ///
@@ -38,11 +38,13 @@ const USAGE: &[u8] =
 /// `run`, `eval` and `selfrun` take `--workers N`, from 1 to 64, the number of workers that answer the games of a batch, in threads of
 /// `rt`, by default 4; each tells `gate` as it enters and leaves a game. `run` and `eval` take `--limit B`, from 1 to 2^40: more than so
 /// many bytes of an archive are refused, of which one more is taken at most. An archive is read in pieces of at most 65,536 bytes, batch
-/// by batch. Of a query's file at most 65,537 bytes are taken. A query with a fault is refused by a line on `err`,
+/// by batch. They also take `--first`: the first game that matches is written alone, whatever the query's sort items, the report ends with
+/// it, and no more is read after its batch. Of a query's file at most 65,537 bytes are taken. A query with a fault is refused by a line on `err`,
 /// `query byte B: REASON`, before the archive is opened, and other words by the usage line.
 ///
 /// Answers:
-/// - `Done` or `DoneWithRefusals`: both sinks have taken all, and no game, or some, is faulty. `check` and `explain` answer `Done`.
+/// - `Done` or `DoneWithRefusals`: both sinks have taken all, and no game of the report, or some, is faulty. `check` and `explain` answer
+///   `Done`.
 /// - `QueryRefused` or `WordsRefused`: the query has a fault, or the words are refused; the line is written.
 /// - `OpenFault`: that count of the desk rose, and no other; nothing is written.
 /// - `ReadFault`: that count of the desk rose, and no other. Of the games of the whole batches that were read the lines of the faulty
@@ -109,10 +111,12 @@ fn do_job<R: Threads + Sync, D: Desk, O: Sink, E: Sink, G: Gate + Sync>(
             archive,
             workers,
             limit,
+            first,
         } => {
             let settings = Settings {
                 workers: *workers,
                 limit: *limit,
+                first: *first,
             };
             let (query, archive) = (query.as_slice(), archive.as_slice());
             answer_query_file(rt, alloc, query, archive, settings, desk, out, err, gate)
@@ -122,10 +126,12 @@ fn do_job<R: Threads + Sync, D: Desk, O: Sink, E: Sink, G: Gate + Sync>(
             archive,
             workers,
             limit,
+            first,
         } => {
             let settings = Settings {
                 workers: *workers,
                 limit: *limit,
+                first: *first,
             };
             let (text, archive) = (text.as_slice(), archive.as_slice());
             answer_text(rt, alloc, text, archive, settings, desk, out, err, gate)
@@ -158,7 +164,7 @@ fn answer_query_file<R: Threads + Sync, D: Desk, O: Sink, E: Sink, G: Gate + Syn
 ) -> Status
     requires workers { (1 ≤ settings.workers) × (settings.workers ≤ 64) }
     requires limit { (1 ≤ settings.limit) × (settings.limit ≤ 2 ^ 40) }
-    ensures { OverFile name.now (AnswersFile archive.now settings.limit) result (call_of
+    ensures { OverFile name.now (AnswersFile archive.now settings.limit settings.first) result (call_of
         (desk_view D.told D.left D.faults D.open_faults desk.old) (desk_view D.told D.left D.faults D.open_faults desk.new)
         (sinks_of (sink_view O.taken O.faults out.old) (sink_view O.taken O.faults out.new)
         (sink_view E.taken E.faults err.old) (sink_view E.taken E.faults err.new))) }
@@ -183,7 +189,7 @@ fn answer_text<R: Threads + Sync, D: Desk, O: Sink, E: Sink, G: Gate + Sync>(
 ) -> Status
     requires workers { (1 ≤ settings.workers) × (settings.workers ≤ 64) }
     requires limit { (1 ≤ settings.limit) × (settings.limit ≤ 2 ^ 40) }
-    ensures { OverText text.now (AnswersFile archive.now settings.limit) result (call_of
+    ensures { OverText text.now (AnswersFile archive.now settings.limit settings.first) result (call_of
         (desk_view D.told D.left D.faults D.open_faults desk.old) (desk_view D.told D.left D.faults D.open_faults desk.new)
         (sinks_of (sink_view O.taken O.faults out.old) (sink_view O.taken O.faults out.new)
         (sink_view E.taken E.faults err.old) (sink_view E.taken E.faults err.new))) }
@@ -210,7 +216,7 @@ fn answer_file<R: Threads + Sync, D: Desk, O: Sink, E: Sink, G: Gate + Sync>(
 ) -> Status
     requires workers { (1 ≤ settings.workers) × (settings.workers ≤ 64) }
     requires limit { (1 ≤ settings.limit) × (settings.limit ≤ 2 ^ 40) }
-    ensures { AnswersFile archive.now settings.limit (query_tree query.now.query) result (call_of
+    ensures { AnswersFile archive.now settings.limit settings.first (query_tree query.now.query) result (call_of
         (desk_view D.told D.left D.faults D.open_faults desk.old) (desk_view D.told D.left D.faults D.open_faults desk.new)
         (sinks_of (sink_view O.taken O.faults out.old) (sink_view O.taken O.faults out.new)
         (sink_view E.taken E.faults err.old) (sink_view E.taken E.faults err.new))) }

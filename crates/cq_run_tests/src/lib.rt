@@ -6,6 +6,8 @@ mod failing;
 #[cfg(test)]
 mod faults;
 #[cfg(test)]
+mod first_rows;
+#[cfg(test)]
 mod meaning_rows;
 #[cfg(test)]
 mod prefixes;

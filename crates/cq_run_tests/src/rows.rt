@@ -12,7 +12,7 @@ use std::test::Fail;
 use std::thread::Threads;
 
 const USAGE: &str =
-    "usage: cqlpgn MODE QUERY [ARCHIVE] [--workers N] [--seed S] [--games G] [--limit B]\n";
+    "usage: cqlpgn MODE QUERY [ARCHIVE] [--workers N] [--seed S] [--games G] [--limit B] [--first]\n";
 
 /// A game as it is written: its FEN text or none, its result and its movetext.
 pub(crate) type Written<'a> = (&'a str, &'a str, &'a str);
@@ -389,7 +389,8 @@ fn made_archives_are_answered(rt: HostRuntime) -> Result<(), Fail> {
     Ok(())
 }
 
-fn read_query(alloc: Global, text: &[u8]) -> Result<TypedQuery, Refusal<QueryFault>> {
+/// The query that a text is.
+pub(crate) fn read_query(alloc: Global, text: &[u8]) -> Result<TypedQuery, Refusal<QueryFault>> {
     tokens_of_a_text_are_ended();
     spelled_queries_have_no_any();
     let tokens = query_tokens(alloc, text)?;
@@ -410,6 +411,7 @@ fn expect_marked_after_e4<R: Threads + Sync + Abort>(
     let settings = Settings {
         workers: 1,
         limit: 10,
+        first: false,
     };
     let status = answer(
         rt,
@@ -436,14 +438,18 @@ fn a_query_is_answered_over_a_source(rt: HostRuntime) -> Result<(), Fail> {
 }
 
 /// Words that are refused.
-static REFUSED: [&[&str]; 16] = [
+static REFUSED: [&[&str]; 20] = [
     &[],
     &["eval"],
     &["eval", "cql() check", "--workers", "0"],
     &["eval", "cql() check", "--workers", "65"],
     &["eval", "cql() check", "--limit", "0"],
     &["eval", "cql() check", "--limit", "1099511627777"],
-    &["eval", "cql() check", "--first"],
+    &["eval", "cql() check", "--last"],
+    &["eval", "cql() check", "--first", "--first"],
+    &["check", "q.cql", "--first"],
+    &["explain", "q.cql", "--first"],
+    &["selfrun", "cql() check", "--first"],
     &["eval", "cql() check", "--seed", "1"],
     &["--help"],
     &["check", "q.cql", "-"],

@@ -49,7 +49,7 @@ none_before x (a ∷ ys) later =
 differs : (x y : ℕ) → one_if (y == x) ≡ 0 → y ≡ x → ⊥
 differs x y none is = let s = same x y is in omega (arith, none, s)
 
-none_counted : (x : ℕ) (ys : List GameAnswer) → answers_at x ys ≡ 0 → All (λ a. a.index ≡ x → ⊥) ys
+pub none_counted : (x : ℕ) (ys : List GameAnswer) → answers_at x ys ≡ 0 → All (λ a. a.index ≡ x → ⊥) ys
 none_counted x [] none = All-nil (λ (a : GameAnswer). a.index ≡ x → ⊥)
 none_counted x (a ∷ ys) none =
     let sum = answers_at_first x a ys in
@@ -58,17 +58,17 @@ none_counted x (a ∷ ys) none =
 abbrev pub NotLater : GameAnswer → GameAnswer → Type 0
 NotLater a b = a.index ≤ b.index
 
-later_pairs : (a : GameAnswer) (ys : List GameAnswer) → AllPairs NotLater (a ∷ ys) → AllPairs NotLater ys
+pub later_pairs : (a : GameAnswer) (ys : List GameAnswer) → AllPairs NotLater (a ∷ ys) → AllPairs NotLater ys
 later_pairs a ys pairs = λ i j d before below. pairs (suc i) (suc j) d (omega (arith, before)) (omega (arith, below))
 
-first_least : (a : GameAnswer) (ys : List GameAnswer) → AllPairs NotLater (a ∷ ys) → All (NotLater a) ys
+pub first_least : (a : GameAnswer) (ys : List GameAnswer) → AllPairs NotLater (a ∷ ys) → All (NotLater a) ys
 first_least a ys pairs = λ j d below. pairs zero (suc j) d (omega arith) (omega (arith, below))
 
-index_of : (query : QueryTree) (n : ℕ) (games : KeptGames) (a : GameAnswer) → (at : IsAnswerAmong query n games a) → a.index ≡ n + at.0
+pub index_of : (query : QueryTree) (n : ℕ) (games : KeptGames) (a : GameAnswer) → (at : IsAnswerAmong query n games a) → a.index ≡ n + at.0
 index_of query n games a at = ap (λ (b : GameAnswer). b.index) at.1.is
 
 -- the first answer is of the first game
-first_number : (query : QueryTree) (n : ℕ) (games : KeptGames) (a : GameAnswer) (ys : List GameAnswer) → (at : IsAnswerAmong query n games a) → AllPairs NotLater (a ∷ ys)
+pub first_number : (query : QueryTree) (n : ℕ) (games : KeptGames) (a : GameAnswer) (ys : List GameAnswer) → (at : IsAnswerAmong query n games a) → AllPairs NotLater (a ∷ ys)
     → answers_at n (a ∷ ys) ≡ 1 → (0 < at.0) ⊎ (at.0 ≤ 0) → at.0 ≡ 0
 first_number query n games a ys at pairs once (inr few) = omega (arith, few)
 first_number query n games a ys at pairs once (inl some) =
@@ -93,10 +93,10 @@ later_if query n g gs a (suc j) game r got at is same_game same_outcome apart = 
   },
 )
 
-later_answer : (query : QueryTree) (n : ℕ) (g : KeptGame) (gs : KeptGames) (a : GameAnswer) → IsAnswerAmong query n (g ∷ gs) a → (a.index ≡ n → ⊥) → IsAnswerAmong query (n + 1) gs a
+pub later_answer : (query : QueryTree) (n : ℕ) (g : KeptGame) (gs : KeptGames) (a : GameAnswer) → IsAnswerAmong query n (g ∷ gs) a → (a.index ≡ n → ⊥) → IsAnswerAmong query (n + 1) gs a
 later_answer query n g gs a at apart = later_if query n g gs a at.0 at.1.game at.1.outcome at.1.at at refl refl refl apart
 
-first_game : (query : QueryTree) (n : ℕ) (g : KeptGame) (gs : KeptGames) (a : GameAnswer) → (at : IsAnswerAmong query n (g ∷ gs) a) → at.0 ≡ 0 → g ≡ at.1.game
+pub first_game : (query : QueryTree) (n : ℕ) (g : KeptGame) (gs : KeptGames) (a : GameAnswer) → (at : IsAnswerAmong query n (g ∷ gs) a) → at.0 ≡ 0 → g ≡ at.1.game
 first_game query n g gs a at is = let e : slice_get (g ∷ gs) 0 ≡ Some at.1.game = ap (slice_get (g ∷ gs)) (sym is) ∙ at.1.at in cc
 
 joined : (query : QueryTree) (n : ℕ) (g : KeptGame) (gs : KeptGames) (a : GameAnswer) (ys : List GameAnswer) → (at : IsAnswerAmong query n (g ∷ gs) a) → at.0 ≡ 0
@@ -167,7 +167,7 @@ apart query n games answers each once = λ i j d before below same_index.
     let two = two_counted (n + at.0) answers i j d before below (same_index ∙ index) index in
     omega (arith, two, once at.0 inside)
 
-not_later : (xs : List GameAnswer) → AllPairs IsEarlier xs → AllPairs NotLater xs
+pub not_later : (xs : List GameAnswer) → AllPairs IsEarlier xs → AllPairs NotLater xs
 not_later xs pairs = λ i j d before below. let p = pairs i j d before below in omega (arith, p)
 
 -- the answers of a batch, once they are in order

@@ -16,3 +16,7 @@ pub mod Braces
 pub mod Found
 pub mod Drains
 pub mod Beside
+pub mod Counting
+pub mod FinderDraws
+pub mod FinderAnswers
+pub mod UpToFirst

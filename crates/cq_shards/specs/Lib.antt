@@ -12,3 +12,5 @@ pub mod Comparing
 pub mod OrderRows
 pub mod Answers
 pub mod Work
+pub mod FirstMatch
+pub mod Finders

@@ -6,6 +6,7 @@ mod answers;
 mod batch;
 mod cutting;
 mod finding;
+mod first;
 mod kept;
 pub mod laws;
 mod making;
@@ -19,6 +20,7 @@ mod workers;
 
 pub use answers::{Answer, GameAnswer, Keys};
 pub use batch::Batch;
+pub use first::run_first;
 pub use kept::KeptGame;
 pub use order::{by_keys, in_order};
 pub use state::{BatchFault, Batches};

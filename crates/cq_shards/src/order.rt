@@ -45,7 +45,8 @@ pub fn by_keys(
     Ok(matches)
 }
 
-fn is_match(answer: &GameAnswer) -> bool
+/// Whether an answer is a match.
+pub(crate) fn is_match(answer: &GameAnswer) -> bool
     ensures { result ≡ is_matching answer.now }
 {
     matches!(answer.what, Answer::Match { .. })

@@ -14,6 +14,8 @@ mod export;
 #[cfg(test)]
 mod fen;
 #[cfg(test)]
+mod finds;
+#[cfg(test)]
 mod geometry;
 #[cfg(test)]
 mod lexer;

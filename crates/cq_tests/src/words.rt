@@ -26,24 +26,39 @@ fn expect<R: Abort>(
     Ok(())
 }
 
-/// Words of `run`, and the archive, the workers and the limit that they ask.
-static RUNS: [(&str, &str, u32, u64); 5] = [
-    ("run q", "-", 4, MOST),
-    ("run q a.pgn", "a.pgn", 4, MOST),
-    ("run q --workers 64 a.pgn --limit 1", "a.pgn", 64, 1),
-    ("run q --limit 8", "-", 4, 8),
-    ("--workers=1 run q --limit=1099511627776", "-", 1, MOST),
+/// Words of `run`, and the archive, the workers, the limit and whether the first match that they ask.
+static RUNS: [(&str, &str, u32, u64, bool); 7] = [
+    ("run q", "-", 4, MOST, false),
+    ("run q a.pgn", "a.pgn", 4, MOST, false),
+    ("run q --workers 64 a.pgn --limit 1", "a.pgn", 64, 1, false),
+    ("run q --limit 8", "-", 4, 8, false),
+    (
+        "--workers=1 run q --limit=1099511627776",
+        "-",
+        1,
+        MOST,
+        false,
+    ),
+    ("run q --first", "-", 4, MOST, true),
+    (
+        "--first run q --workers 2 a.pgn --limit 9",
+        "a.pgn",
+        2,
+        9,
+        true,
+    ),
 ];
 
 #[test]
 fn runs(rt: HostRuntime) -> Result<(), Fail> {
     let alloc = rt.alloc();
-    for (line, archive, workers, limit) in RUNS.iter() {
+    for (line, archive, workers, limit, first) in RUNS.iter() {
         let job = Job::Run {
             query: bytes(alloc, "q")?,
             archive: bytes(alloc, archive)?,
             workers: *workers,
             limit: *limit,
+            first: *first,
         };
         expect(&rt, alloc, line, Ok(job))?;
     }
@@ -85,6 +100,7 @@ fn other_modes(rt: HostRuntime) -> Result<(), Fail> {
         archive: bytes(alloc, "-")?,
         workers: 4,
         limit: MOST,
+        first: false,
     };
     expect(&rt, alloc, "eval mate", Ok(eval))?;
     let query = bytes(alloc, "q")?;
@@ -94,7 +110,7 @@ fn other_modes(rt: HostRuntime) -> Result<(), Fail> {
 }
 
 /// Words that are refused.
-static REFUSED: [&str; 22] = [
+static REFUSED: [&str; 25] = [
     "eval",
     "--help",
     "-h",
@@ -108,7 +124,10 @@ static REFUSED: [&str; 22] = [
     "eval q --limit 1099511627777",
     "selfrun q --seed 4294967296",
     "selfrun q --games 100001",
-    "eval q --first",
+    "eval q --first --first",
+    "eval q --first=true",
+    "check q --first",
+    "selfrun q --first",
     "eval q a.pgn b",
     "check q a.pgn",
     "explain q --workers 2",

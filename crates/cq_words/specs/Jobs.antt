@@ -1,5 +1,5 @@
 -- What the command words ask.
-use Rattle.std.specs.Prelude.{◌≡◌, ◌≤◌, ◌||◌, ℕ, Bool, List, Option, Some, None, Result, Ok, Err, codes, is_some, if◌then◌else◌}
+use Rattle.std.specs.Prelude.{◌≡◌, ◌≤◌, ◌||◌, ℕ, Bool, false, List, Option, Some, None, Result, Ok, Err, codes, is_some, if◌then◌else◌}
 use Rattle.std.specs.Prelude.{option_map, option_and_then, unwrap_or}
 use Rattle.std.specs.Str.{bytes_eq}
 use Rattle.std.specs.Str.Parse.{digits_value, without_leading_plus}
@@ -33,6 +33,14 @@ mode_of word =
 abbrev pub is_given : List Row → Text → Bool
 is_given rows id = is_some (first_of id rows)
 
+-- whether an option without a value is given
+abbrev pub is_set_by : Option Text → Bool
+is_set_by None = false
+is_set_by (Some text) = bytes_eq text (codes "true")
+
+abbrev pub is_set : List Row → Text → Bool
+is_set rows id = is_set_by (first_of id rows)
+
 -- the name of the archive, which is standard input where no word gives one
 abbrev pub archive_in : List Row → Text
 archive_in rows = unwrap_or (first_of (codes "archive") rows) (codes "-")
@@ -60,27 +68,27 @@ limit_in rows = number_or 1099511627776 1 1099511627776 (first_of (codes "limit"
 
 -- ---- what a mode allows
 
--- `run` and `eval` take `--workers` and `--limit`
+-- `run` and `eval` take `--workers`, `--limit` and `--first`
 abbrev pub settings_in : List Row → Option Settings
 settings_in rows =
     if is_given rows (codes "seed") || is_given rows (codes "games") then None
-    else option_and_then (λ workers. option_map (λ limit. record { workers = workers; limit = limit }) (limit_in rows)) (workers_in rows)
+    else option_and_then (λ workers. option_map (λ limit. record { workers = workers; limit = limit; first = is_set rows (codes "first") }) (limit_in rows)) (workers_in rows)
 
 -- `selfrun` takes `--workers`, `--seed` and `--games`, and no archive
 abbrev pub self_run_settings_in : List Row → Option SelfRunSettings
 self_run_settings_in rows =
-    if is_given rows (codes "archive") || is_given rows (codes "limit") then None
+    if is_given rows (codes "archive") || (is_given rows (codes "limit") || is_set rows (codes "first")) then None
     else option_and_then (λ workers. option_and_then (λ seed.
     option_map (λ games. record { seed = seed; games = games; workers = workers }) (games_in rows)) (seed_in rows)) (workers_in rows)
 
 -- `check` and `explain` take neither an archive nor an option
 abbrev pub has_more : List Row → Bool
 has_more rows = is_given rows (codes "archive") || (is_given rows (codes "workers") || (is_given rows (codes "seed")
-    || (is_given rows (codes "games") || is_given rows (codes "limit"))))
+    || (is_given rows (codes "games") || (is_given rows (codes "limit") || is_set rows (codes "first")))))
 
 abbrev pub job_by : Mode → Text → List Row → Option Job
-job_by mode.Run query rows = option_map (λ s. job.Run query (archive_in rows) s.workers s.limit) (settings_in rows)
-job_by mode.Eval query rows = option_map (λ s. job.Eval query (archive_in rows) s.workers s.limit) (settings_in rows)
+job_by mode.Run query rows = option_map (λ s. job.Run query (archive_in rows) s.workers s.limit s.first) (settings_in rows)
+job_by mode.Eval query rows = option_map (λ s. job.Eval query (archive_in rows) s.workers s.limit s.first) (settings_in rows)
 job_by mode.Check query rows = if has_more rows then None else Some (job.Check query)
 job_by mode.Explain query rows = if has_more rows then None else Some (job.Explain query)
 job_by mode.SelfRun query rows = option_map (λ m. job.SelfRun query m.seed m.games m.workers) (self_run_settings_in rows)
@@ -105,8 +113,8 @@ Answers asked (Err NoMemory) = Unit {0}
 
 -- each number of a job lies in its range
 abbrev pub IsInRange : Job → Type 0
-IsInRange (job.Run query archive workers limit) = (1 ≤ workers) × (workers ≤ 64) × (1 ≤ limit) × (limit ≤ 1099511627776)
-IsInRange (job.Eval text archive workers limit) = (1 ≤ workers) × (workers ≤ 64) × (1 ≤ limit) × (limit ≤ 1099511627776)
+IsInRange (job.Run query archive workers limit first) = (1 ≤ workers) × (workers ≤ 64) × (1 ≤ limit) × (limit ≤ 1099511627776)
+IsInRange (job.Eval text archive workers limit first) = (1 ≤ workers) × (workers ≤ 64) × (1 ≤ limit) × (limit ≤ 1099511627776)
 IsInRange (job.Check query) = Unit {0}
 IsInRange (job.Explain query) = Unit {0}
 IsInRange (job.SelfRun text seed games workers) = (seed ≤ 4294967295) × (games ≤ 100000) × (1 ≤ workers) × (workers ≤ 64)

@@ -22,6 +22,7 @@ pub enum Job {
         archive: Bytes,
         workers: u32,
         limit: u64,
+        first: bool,
     },
     /// To answer the query `text` over the archive in the file `archive`.
     Eval {
@@ -29,6 +30,7 @@ pub enum Job {
         archive: Bytes,
         workers: u32,
         limit: u64,
+        first: bool,
     },
     /// To say whether the query in the file `query` is accepted.
     Check {
@@ -47,13 +49,15 @@ pub enum Job {
     },
 }
 
-/// How an archive is answered: by how many workers, and up to how many bytes of it.
+/// How an archive is answered: by how many workers, up to how many bytes of it, and whether up to the first match alone.
 #[derive(Clone, Copy, Debug, PartialEq, Eq)]
 pub struct Settings {
     /// From 1 to 64.
     pub workers: u32,
     /// From 1 to 2^40.
     pub limit: u64,
+    /// Whether the first game that matches is written alone, and no more is read after its batch.
+    pub first: bool,
 }
 
 // The settings of `selfrun`: how its archive is made, and by how many workers it is answered.

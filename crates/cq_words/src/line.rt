@@ -1,11 +1,11 @@
 //! The command line, for `clap`.
 ghost use Rattle.std.specs.Prelude.{◌≡◌, IfOk, false};
 ghost use Rattle.clap.specs.Words.{app_of, rule_of};
-ghost use Rattle.cq_words.specs.Line.{line, number_option, required_word, words_line};
+ghost use Rattle.cq_words.specs.Line.{flag, line, number_option, required_word, words_line};
 
 use crate::job::{BYTES_LIMIT, GAMES_LIMIT, SEED_LIMIT, WORKERS_LIMIT};
 use clap::builder::ValueParser;
-use clap::{Arg, Command};
+use clap::{Arg, ArgAction, Command};
 use cq_outside::NoMemory;
 use std::alloc::Global;
 
@@ -25,6 +25,14 @@ fn number_option<'a>(alloc: Global, id: &'a str, least: u64, most: u64) -> Arg<'
     Arg::new(alloc, id)
         .long(id)
         .value_parser(ValueParser::Unsigned(least, most))
+}
+
+// An option without a value.
+fn flag<'a>(alloc: Global, id: &'a str) -> Arg<'a>
+    ensures rule { rule_of result ≡ flag id.now }
+    ensures local { result.global ≡ false }
+{
+    Arg::new(alloc, id).long(id).action(ArgAction::SetTrue)
 }
 
 // The command line with its words by place.
@@ -49,6 +57,7 @@ pub(crate) fn line<'a>(alloc: Global) -> Result<Command<'a>, NoMemory>
         .arg(number_option(alloc, "workers", 1, WORKERS_LIMIT))?
         .arg(number_option(alloc, "seed", 0, SEED_LIMIT))?
         .arg(number_option(alloc, "games", 0, GAMES_LIMIT))?
-        .arg(number_option(alloc, "limit", 1, BYTES_LIMIT))?;
+        .arg(number_option(alloc, "limit", 1, BYTES_LIMIT))?
+        .arg(flag(alloc, "first"))?;
     Ok(command)
 }

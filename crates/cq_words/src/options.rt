@@ -1,7 +1,7 @@
 //! What the matches give of each argument.
 ghost use Rattle.std.specs.Prelude.{◌≡◌, ◌≤◌, IfSome, IfOk, option_map};
 ghost use Rattle.clap.specs.Words.{first_of, found_of, rows_of};
-ghost use Rattle.cq_words.specs.Jobs.{archive_in, has_more, is_given, number_of, number_or, self_run_settings_in, settings_in, workers_in};
+ghost use Rattle.cq_words.specs.Jobs.{archive_in, has_more, is_given, is_set, number_of, number_or, self_run_settings_in, settings_in, workers_in};
 
 use crate::job::{BYTES_LIMIT, GAMES_LIMIT, SEED_LIMIT, SelfRunSettings, Settings, WORKERS_LIMIT};
 use clap::ArgMatches;
@@ -20,6 +20,16 @@ fn is_given(matches: &ArgMatches<'_>, id: &str) -> bool
     ensures { result ≡ is_given (rows_of (found_of matches.now)) id.now }
 {
     text_of(matches, id).is_some()
+}
+
+// Whether an option without a value is given.
+fn is_set(matches: &ArgMatches<'_>, id: &str) -> bool
+    ensures { result ≡ is_set (rows_of (found_of matches.now)) id.now }
+{
+    match text_of(matches, id) {
+        Some(text) => text == "true",
+        None => false,
+    }
 }
 
 // The number that a text writes; none where it writes no number from `least` to `most`.
@@ -63,7 +73,12 @@ pub(crate) fn settings_in(matches: &ArgMatches<'_>) -> Option<Settings>
     }
     let workers = workers_in(matches)?;
     let limit = number_in(matches, "limit", 1, BYTES_LIMIT, BYTES_LIMIT)?;
-    Some(Settings { workers, limit })
+    let first = is_set(matches, "first");
+    Some(Settings {
+        workers,
+        limit,
+        first,
+    })
 }
 
 // The settings of `selfrun`; none where an archive is given, or an option that it doesn't take.
@@ -71,7 +86,7 @@ pub(crate) fn self_run_settings_in(matches: &ArgMatches<'_>) -> Option<SelfRunSe
     ensures value { result ≡ self_run_settings_in (rows_of (found_of matches.now)) }
     ensures bounds { IfSome result (λ m. (m.seed ≤ 4294967295) × (m.games ≤ 100000) × (1 ≤ m.workers) × (m.workers ≤ 64)) }
 {
-    if is_given(matches, "archive") || is_given(matches, "limit") {
+    if is_given(matches, "archive") || is_given(matches, "limit") || is_set(matches, "first") {
         return None;
     }
     let workers = workers_in(matches)?;
@@ -93,6 +108,7 @@ pub(crate) fn has_more(matches: &ArgMatches<'_>) -> bool
         || is_given(matches, "seed")
         || is_given(matches, "games")
         || is_given(matches, "limit")
+        || is_set(matches, "first")
 }
 
 // The name of the archive, which is standard input where no word gives one.

@@ -44,6 +44,7 @@ fn run_job(
         archive: archive_in(alloc, matches)?,
         workers: settings.workers,
         limit: settings.limit,
+        first: settings.first,
     })
 }
 
@@ -64,6 +65,7 @@ fn eval_job(
         archive: archive_in(alloc, matches)?,
         workers: settings.workers,
         limit: settings.limit,
+        first: settings.first,
     })
 }
 

@@ -1,9 +1,9 @@
-use Rattle.std.proofs.Common.{◌+◌, ap, sym, subst, ◌∙◌, true, refl}
+use Rattle.std.proofs.Common.{◌+◌, ap, sym, subst, ◌∙◌, refl}
 use Rattle.cq_run.specs.Promise.{sink_view, sinks_of}
 use Rattle.cq_run.specs.Writing.{stand_of, AnswersGame, WritesText}
 use Rattle.cq_shards.specs.declared.answers.GameAnswer.{GameAnswer}
 use Rattle.cq_run.specs.declared.tally.Tally.{Tally}
-use Rattle.cq_run.proofs.Answers.{matched, refused}
+use Rattle.cq_run.proofs.Answers.{matched}
 use Rattle.cq_run.proofs.games.write_answer.Goals as goal
 
 pub returns-then-not-sorted-clause-answers : goal.returns-then-not-sorted-clause-answers

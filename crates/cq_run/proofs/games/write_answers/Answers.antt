@@ -1,4 +1,4 @@
-use Rattle.std.proofs.Common.{◌+◌, ◌++◌, ◌∷◌, [], length, length-append, append-nil, append_assoc, ap, sym, subst, ◌∙◌, Err, rules, arith}
+use Rattle.std.proofs.Common.{◌++◌, ◌∷◌, [], length, length-append, append-nil, append_assoc, ap, sym, subst, ◌∙◌, Err, rules, arith}
 use Rattle.cq_run.specs.Promise.{sink_view, sinks_of}
 use Rattle.cq_run.specs.Writing.{stand_of, FoundSoFar}
 use Rattle.cq_run.proofs.Answers.{one_more, one_stopped, one_starved, all_of_batch, no_items}

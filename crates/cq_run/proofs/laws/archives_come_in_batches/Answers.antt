@@ -8,5 +8,6 @@ returns c = record {
   cuts = c.closed_games_stay.ensures.whole;
   order = c.games_stand_apart.ensures.order;
   have = c.games_have_outcomes.ensures;
+  one = c.games_have_one_outcome.ensures;
   decide = c.first_bytes_decide.ensures;
 }

@@ -7,11 +7,11 @@ use Rattle.cq_run.proofs.top_call.answer_query_file.Goals as goal
 pub returns-in-Ok : goal.returns-in-Ok
 returns-in-Ok g c =
     let view = desk_view g.D.Desk.told g.D.Source.left g.D.Source.faults g.D.Desk.open_faults in
-    file_answered c.args.name.now (AnswersFile c.args.archive.now c.args.settings.limit) (query_tree c.in-Ok.query.query) c.answer_file.result (view c.args.desk.now)
+    file_answered c.args.name.now (AnswersFile c.args.archive.now c.args.settings.limit c.args.settings.first) (query_tree c.in-Ok.query.query) c.answer_file.result (view c.args.desk.now)
     (view c.query_in_file.new.desk) (view c.answer_file.new.desk) _ c.in-Ok.ensures c.answer_file.ensures
 
 pub returns-in-Err : goal.returns-in-Err
 returns-in-Err g c =
     let view = desk_view g.D.Desk.told g.D.Source.left g.D.Source.faults g.D.Desk.open_faults in
-    told_why c.args.name.now (AnswersFile c.args.archive.now c.args.settings.limit) c.in-Err.why c.tell_why.result (view c.args.desk.now) (view c.query_in_file.new.desk) _
+    told_why c.args.name.now (AnswersFile c.args.archive.now c.args.settings.limit c.args.settings.first) c.in-Err.why c.tell_why.result (view c.args.desk.now) (view c.query_in_file.new.desk) _
     c.in-Err.ensures (c.tell_why.ensures (sink_view g.O.Sink.taken g.O.Sink.faults c.args.out.now))

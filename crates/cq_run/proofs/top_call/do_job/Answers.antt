@@ -3,10 +3,10 @@ use Rattle.cq_run.proofs.Doing.{run_done, eval_done, check_done, explain_done, s
 use Rattle.cq_run.proofs.top_call.do_job.Goals as goal
 
 pub returns-in-Run : goal.returns-in-Run
-returns-in-Run g c = run_done c.args.job.now _ _ _ _ _ _ _ _ c.in-Run.is c.as_slice-query.ensures c.as_slice-archive.ensures c.answer_query_file.ensures
+returns-in-Run g c = run_done c.args.job.now _ _ _ _ _ _ _ _ _ c.in-Run.is c.as_slice-query.ensures c.as_slice-archive.ensures c.answer_query_file.ensures
 
 pub returns-in-Eval : goal.returns-in-Eval
-returns-in-Eval g c = eval_done c.args.job.now _ _ _ _ _ _ _ _ c.in-Eval.is c.as_slice-text.ensures c.as_slice-archive-in-Eval.ensures c.answer_text.ensures
+returns-in-Eval g c = eval_done c.args.job.now _ _ _ _ _ _ _ _ _ c.in-Eval.is c.as_slice-text.ensures c.as_slice-archive-in-Eval.ensures c.answer_text.ensures
 
 pub returns-in-Check : goal.returns-in-Check
 returns-in-Check g c = check_done c.args.job.now _ _ _ _ c.in-Check.is c.as_slice.ensures c.check_file.ensures

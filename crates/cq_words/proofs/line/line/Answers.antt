@@ -4,9 +4,10 @@ use Rattle.cq_words.proofs.line.line.Goals as goal
 
 pub returns : goal.returns
 returns c =
-    c.in_ok-command.ensures.shape c.number_option-4.ensures.local
+    c.in_ok-command.ensures.shape c.flag.ensures.local
+    ∙ ap₂ with_rule (c.in_ok-arg-4.ensures.shape c.number_option-4.ensures.local
     ∙ ap₂ with_rule (c.in_ok-arg-3.ensures.shape c.number_option-3.ensures.local
     ∙ ap₂ with_rule (c.in_ok-arg-2.ensures.shape c.number_option-2.ensures.local
     ∙ ap₂ with_rule (c.in_ok-arg.ensures.shape c.number_option.ensures.local
     ∙ ap₂ with_rule c.in_ok-words.ensures c.number_option.ensures.rule)
-    c.number_option-2.ensures.rule) c.number_option-3.ensures.rule) c.number_option-4.ensures.rule
+    c.number_option-2.ensures.rule) c.number_option-3.ensures.rule) c.number_option-4.ensures.rule) c.flag.ensures.rule

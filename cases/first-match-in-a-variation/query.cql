@@ -1,0 +1,1 @@
+cql(variations matchstring "here") Pc4

@@ -1,0 +1,1 @@
+cql() sort "ply" ply check

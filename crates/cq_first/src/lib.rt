@@ -1,0 +1,10 @@
+//! A board on which workers keep the least number that one of them found, whatever the order of their steps.
+#![tactic(auto)]
+
+mod board;
+mod looking;
+mod seat;
+mod shared;
+mod view;
+
+pub use seat::{FirstBoard, FirstSeat};

@@ -1,0 +1,8 @@
+//! What threads share, or hand over.
+
+use crate::seat::{FirstBoard, FirstSeat};
+use cq_outside::Shared;
+
+impl Shared for FirstBoard {}
+
+impl Shared for FirstSeat {}

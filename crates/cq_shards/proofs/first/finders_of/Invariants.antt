@@ -1,0 +1,15 @@
+use Rattle.std.proofs.Common.{◌≡◌, ◌+◌, length, All, [], ℕ}
+use Rattle.cq_board.specs.Seats.{IsSeatOf, drawn, HasEnded}
+use Rattle.cq_shards.specs.Finders.{IsFreshFinder, IsUnusedMark}
+use Rattle.cq_shards.proofs.first.finders_of.Given as goal
+
+abbrev pub invariant-loop-seat : goal.invariant-loop-seat
+invariant-loop-seat l =
+    All (λ s. IsSeatOf l.board s × (drawn s ≡ []) × (HasEnded s → ⊥)) l.seats.items
+    × All (IsUnusedMark l.first) l.marks.items
+    × All (IsFreshFinder l.board l.first) l.slots.items
+    × (length l.slots.items + length l.seats.items ≡ length l.fn.seats.items)
+    × (length l.marks.items ≡ length l.seats.items)
+
+abbrev pub decreases-loop-seat : goal.decreases-loop-seat
+decreases-loop-seat l = length l.seats.items

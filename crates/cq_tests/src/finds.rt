@@ -1,0 +1,79 @@
+//! Numbers that are found in turn, and by many threads.
+ghost use Rattle.std.specs.Prelude.{◌≡◌, ◌≤◌, All, length};
+ghost use Rattle.cq_first.specs.Seats.{IsSeatOf, numbers_of};
+
+use cq_first::{FirstBoard, FirstSeat};
+use cq_outside::NoMemory;
+use std::thread;
+use std::thread::Threads;
+
+/// How many numbers the board has that threads share, and how many of them each thread looks for.
+const NUMBERS: u64 = 40_000;
+
+const EACH: u64 = 10_000;
+
+fn is_shared<T: Send + Sync>() {}
+
+fn is_sent<T: Send>() {}
+
+#[test]
+fn two_seats_look_and_lower_in_turn(rt: HostRuntime) -> Result<(), NoMemory> {
+    is_shared::<FirstBoard>();
+    is_sent::<FirstSeat>();
+    let (board, mut seats) = FirstBoard::make(rt.alloc(), 5, 2)?;
+    let mut second = seats.pop().unwrap();
+    let mut first = seats.pop().unwrap();
+    assert_eq!(rt; board.look(&mut first, 4), false);
+    board.lower(&mut second, 3);
+    assert_eq!(rt; board.look(&mut first, 3), false);
+    assert_eq!(rt; board.look(&mut first, 4), true);
+    board.lower(&mut first, 1);
+    board.lower(&mut second, 2);
+    seats.push(first)?;
+    seats.push(second)?;
+    assert_eq!(rt; board.close(seats), Ok(1));
+    Ok(())
+}
+
+#[test]
+fn nothing_is_found(rt: HostRuntime) -> Result<(), NoMemory> {
+    let (board, mut seats) = FirstBoard::make(rt.alloc(), 1, 1)?;
+    let mut seat = seats.pop().unwrap();
+    assert_eq!(rt; board.look(&mut seat, 0), false);
+    seats.push(seat)?;
+    assert_eq!(rt; board.close(seats), Ok(1));
+    Ok(())
+}
+
+// Looks for every fourth number from the last one down, and finds those that are 7 from a multiple of 1000.
+fn find_all(board: &FirstBoard, seat: &mut FirstSeat, from: u64)
+    requires seat { IsSeatOf board.now seat.old }
+    requires numbers { (from ≤ 3) × (numbers_of board.now ≡ 40000) }
+    ensures { IsSeatOf board.now seat.new }
+{
+    for turn in 0..EACH {
+        let number = NUMBERS - 1 - (4 * turn + from);
+        if !board.look(seat, number) && number % 1000 == 7 {
+            board.lower(seat, number);
+        }
+    }
+}
+
+fn find_by_threads<R: Threads + Sync>(rt: &R, board: &FirstBoard, seats: &mut [FirstSeat])
+    requires seats { All (IsSeatOf board.now) seats.old }
+    requires numbers { numbers_of board.now ≡ 40000 }
+    ensures seats { All (IsSeatOf board.now) seats.new }
+    ensures count { length seats.new ≡ length seats.old }
+{
+    thread::for_each_mut(rt, seats, 4, &|i, seat| find_all(board, seat, i as u64 & 3));
+}
+
+#[test]
+fn four_threads_find_the_least_number(rt: HostRuntime) -> Result<(), NoMemory> {
+    for _turn in 0..20 {
+        let (board, mut seats) = FirstBoard::make(rt.alloc(), NUMBERS, 4)?;
+        find_by_threads(&rt, &board, seats.as_mut_slice());
+        assert_eq!(rt; board.close(seats), Ok(7));
+    }
+    Ok(())
+}

@@ -1,0 +1,125 @@
+//! Batches up to their first match, by one and by many workers.
+use crate::plans::plan_of;
+use cq_outside::{Bytes, Gate, NoMemory, OpenGate};
+use cq_shards::{Answer, Batch, run_first};
+use cql_plan::Plan;
+use pgn_cut::cut_whole;
+use std::alloc::Global;
+use std::process::Abort;
+use std::sync::atomic::{AtomicU32, Ordering};
+use std::test::Fail;
+use std::thread::Threads;
+
+/// How many games a batch has.
+const GAMES: u32 = 300;
+
+// A batch of games, numbered from 1,000 on, of which those whose number in the batch is among some match, and every tenth is faulty.
+fn batch_of<R: Abort>(rt: &R, alloc: Global, matches: &[u32]) -> Result<Batch, NoMemory> {
+    let mut archive = Bytes::new(alloc);
+    for number in 0..GAMES {
+        let game = if matches.contains(&number) {
+            b"1. f3 e5 2. g4 Qh4# 0-1\n".as_slice()
+        } else if number % 10 == 3 {
+            b"1. e4 e5 2. Ke3 *\n".as_slice()
+        } else {
+            b"1. e4 *\n".as_slice()
+        };
+        archive.push_all(game)?;
+    }
+    assert!(rt; archive.len() < 1 << 20);
+    let spans = cut_whole(alloc, archive.as_slice())?;
+    assert!(rt; spans.len() <= 300);
+    Batch::of(alloc, archive.as_slice(), spans.as_slice(), 1000)
+}
+
+// Asks for the answers of the first `count` games in order, the last of them a match where some game is one.
+fn expect<R: Threads + Sync + Abort>(
+    rt: &R,
+    alloc: Global,
+    plan: &Plan,
+    batch: &Batch,
+    workers: u32,
+    count: usize,
+    has_match: bool,
+) -> Result<(), Fail> {
+    assert!(rt; workers >= 1);
+    assert!(rt; workers <= 64);
+    let answers = run_first(rt, alloc, plan, batch, workers, &OpenGate)?;
+    assert_eq!(rt; answers.len(), count, "{workers} workers");
+    let mut number = 0;
+    for answer in answers.iter() {
+        assert_eq!(rt; answer.index, 1000 + number);
+        number += 1;
+        let is_match = matches!(answer.what, Answer::Match { .. });
+        assert_eq!(rt;
+            is_match,
+            has_match && number == count as u64,
+            "game {number}"
+        );
+    }
+    Ok(())
+}
+
+#[test]
+fn a_batch_ends_with_its_first_match(rt: HostRuntime) -> Result<(), Fail> {
+    let alloc = rt.alloc();
+    let plan = plan_of(alloc, b"cql() mate")?;
+    let rows: [(&[u32], usize); 5] = [
+        (&[0, 1, 2], 1),
+        (&[77, 78, 200], 78),
+        (&[250, 299], 251),
+        (&[299], 300),
+        (&[], 300),
+    ];
+    for (matches, count) in rows {
+        let batch = batch_of(&rt, alloc, matches)?;
+        for workers in [1, 2, 3, 4, 64] {
+            expect(
+                &rt,
+                alloc,
+                &plan,
+                &batch,
+                workers,
+                count,
+                !matches.is_empty(),
+            )?;
+        }
+    }
+    Ok(())
+}
+
+/// A gate that counts its calls.
+#[derive(Drop)]
+struct Counts {
+    enters: AtomicU32,
+    leaves: AtomicU32,
+}
+
+impl Gate for Counts {
+    fn enter(&self, _worker: u64, _shard: u64) {
+        self.enters.fetch_add(1, Ordering::Relaxed);
+    }
+
+    fn leave(&self, _worker: u64, _shard: u64, _text: &[u8]) {
+        self.leaves.fetch_add(1, Ordering::Relaxed);
+    }
+}
+
+// One worker draws in order, so it skips every game behind the match.
+#[test]
+fn a_skipped_game_is_not_read(rt: HostRuntime) -> Result<(), Fail> {
+    let alloc = rt.alloc();
+    let plan = plan_of(alloc, b"cql() mate")?;
+    let batch = batch_of(&rt, alloc, &[40])?;
+    let gate = Counts {
+        enters: AtomicU32::new(0),
+        leaves: AtomicU32::new(0),
+    };
+    let answers = run_first(&rt, alloc, &plan, &batch, 1, &gate)?;
+    let calls = (
+        gate.enters.load(Ordering::Relaxed),
+        gate.leaves.load(Ordering::Relaxed),
+    );
+    assert_eq!(rt; (answers.len(), calls), (41, (41, 41)));
+    Ok(())
+}
