@@ -1,5 +1,5 @@
 //! Numbers that are found in turn, and by many threads.
-ghost use Rattle.std.specs.Prelude.{◌≡◌, ◌≤◌, All, length};
+ghost use Rattle.std.specs.Prelude.{◌≡◌, ◌<◌, ◌≤◌, All, length};
 ghost use Rattle.cq_first.specs.Seats.{IsSeatOf, numbers_of};
 
 use cq_first::{FirstBoard, FirstSeat};
@@ -45,17 +45,28 @@ fn nothing_is_found(rt: HostRuntime) -> Result<(), NoMemory> {
     Ok(())
 }
 
-// Looks for every fourth number from the last one down, and finds those that are 7 from a multiple of 1000.
+// Looks for a number, and finds it where it is 7 from a multiple of 1000.
+fn find(board: &FirstBoard, seat: &mut FirstSeat, number: u64)
+    requires seat { IsSeatOf board.now seat.old }
+    requires number { number < numbers_of board.now }
+    ensures { IsSeatOf board.now seat.new }
+{
+    if board.look(seat, number) {
+        return;
+    }
+    if number % 1000 == 7 {
+        board.lower(seat, number);
+    }
+}
+
+// Looks for every fourth number from the last one down.
 fn find_all(board: &FirstBoard, seat: &mut FirstSeat, from: u64)
     requires seat { IsSeatOf board.now seat.old }
     requires numbers { (from ≤ 3) × (numbers_of board.now ≡ 40000) }
     ensures { IsSeatOf board.now seat.new }
 {
     for turn in 0..EACH {
-        let number = NUMBERS - 1 - (4 * turn + from);
-        if !board.look(seat, number) && number % 1000 == 7 {
-            board.lower(seat, number);
-        }
+        find(board, seat, NUMBERS - 1 - (4 * turn + from));
     }
 }
 
@@ -65,7 +76,7 @@ fn find_by_threads<R: Threads + Sync>(rt: &R, board: &FirstBoard, seats: &mut [F
     ensures seats { All (IsSeatOf board.now) seats.new }
     ensures count { length seats.new ≡ length seats.old }
 {
-    thread::for_each_mut(rt, seats, 4, &|i, seat| find_all(board, seat, i as u64 & 3));
+    thread::for_each_mut(rt, seats, 4, &|i, seat| find_all(board, seat, i as u64 % 4));
 }
 
 #[test]

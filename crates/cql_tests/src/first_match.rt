@@ -13,8 +13,8 @@ use std::thread::Threads;
 /// How many games a batch has.
 const GAMES: u32 = 300;
 
-// A batch of games, numbered from 1,000 on, of which those whose number in the batch is among some match, and every tenth is faulty.
-fn batch_of<R: Abort>(rt: &R, alloc: Global, matches: &[u32]) -> Result<Batch, NoMemory> {
+// An archive, of which those games whose number is among some match, and every tenth is faulty.
+fn archive_of(alloc: Global, matches: &[u32]) -> Result<Bytes, NoMemory> {
     let mut archive = Bytes::new(alloc);
     for number in 0..GAMES {
         let game = if matches.contains(&number) {
@@ -26,10 +26,15 @@ fn batch_of<R: Abort>(rt: &R, alloc: Global, matches: &[u32]) -> Result<Batch, N
         };
         archive.push_all(game)?;
     }
+    Ok(archive)
+}
+
+// The batch of all games of an archive, which are numbered from 1,000 on.
+fn batch_of<R: Abort>(rt: &R, alloc: Global, archive: &[u8]) -> Result<Batch, NoMemory> {
     assert!(rt; archive.len() < 1 << 20);
-    let spans = cut_whole(alloc, archive.as_slice())?;
+    let spans = cut_whole(alloc, archive)?;
     assert!(rt; spans.len() <= 300);
-    Batch::of(alloc, archive.as_slice(), spans.as_slice(), 1000)
+    Batch::of(alloc, archive, spans.as_slice(), 1000)
 }
 
 // Asks for the answers of the first `count` games in order, the last of them a match where some game is one.
@@ -46,15 +51,12 @@ fn expect<R: Threads + Sync + Abort>(
     assert!(rt; workers <= 64);
     let answers = run_first(rt, alloc, plan, batch, workers, &OpenGate)?;
     assert_eq!(rt; answers.len(), count, "{workers} workers");
-    let mut number = 0;
-    for answer in answers.iter() {
-        assert_eq!(rt; answer.index, 1000 + number);
-        number += 1;
+    for (number, answer) in answers.iter().enumerate() {
         let is_match = matches!(answer.what, Answer::Match { .. });
+        let is_last = number + 1 == count;
         assert_eq!(rt;
-            is_match,
-            has_match && number == count as u64,
-            "game {number}"
+            (answer.index, is_match),
+            (1000 + number as u64, has_match && is_last)
         );
     }
     Ok(())
@@ -72,7 +74,8 @@ fn a_batch_ends_with_its_first_match(rt: HostRuntime) -> Result<(), Fail> {
         (&[], 300),
     ];
     for (matches, count) in rows {
-        let batch = batch_of(&rt, alloc, matches)?;
+        let archive = archive_of(alloc, matches)?;
+        let batch = batch_of(&rt, alloc, archive.as_slice())?;
         for workers in [1, 2, 3, 4, 64] {
             expect(
                 &rt,
@@ -110,7 +113,8 @@ impl Gate for Counts {
 fn a_skipped_game_is_not_read(rt: HostRuntime) -> Result<(), Fail> {
     let alloc = rt.alloc();
     let plan = plan_of(alloc, b"cql() mate")?;
-    let batch = batch_of(&rt, alloc, &[40])?;
+    let archive = archive_of(alloc, &[40])?;
+    let batch = batch_of(&rt, alloc, archive.as_slice())?;
     let gate = Counts {
         enters: AtomicU32::new(0),
         leaves: AtomicU32::new(0),
