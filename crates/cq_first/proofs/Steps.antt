@@ -1,8 +1,8 @@
 -- Each kind of step keeps the rule, from any state that meets it.
 use Rattle.std.proofs.lemmas.Bool.Decides.{eqb_tells}
-use Rattle.std.proofs.Common.{ltb-true, ltb-false, eq-eqb, ◌≡◌, ◌≢◌, ◌⊎◌, inl, inr, ⊎_elim, ℕ, zero, suc, ◌+◌, ◌-◌, ◌<◌, ◌≤◌, List, [], ◌∷◌, ◌++◌, length, set, get_or, Bool, true, false, ◌==◌, min, refl, sym, ap, ◌∙◌, subst, arith}
+use Rattle.std.proofs.Common.{cond, ltb-true, ltb-false, eq-eqb, ◌≡◌, ◌≢◌, ◌⊎◌, inl, inr, ⊎_elim, ℕ, zero, suc, ◌+◌, ◌-◌, ◌<◌, ◌≤◌, List, [], ◌∷◌, ◌++◌, length, set, get_or, Bool, true, false, ◌==◌, min, refl, sym, ap, ◌∙◌, subst, arith}
 use Rattle.std.proofs.Math.Nat.{min-eq_left, min-eq_right}
-use Rattle.std.specs.Prelude.{nat_lt, sum_by}
+use Rattle.std.specs.Prelude.{nat_lt, nat_le, sum_by}
 use Rattle.std.proofs.lemmas.List.Sums.{sum_by_push, sum_by-append}
 use mathlib.Core.Option.{some, some-injective, some-ne-none}
 use lib.ListN.{get_elem?}
@@ -22,12 +22,10 @@ set_word (w ∷ []) n one = refl
 set_word (w ∷ v ∷ words) n one = absurd (omega arith)
 
 -- a change of one view keeps what is said of each
-each_set : (P : View → Type 0) (views : List View) (id : ℕ) (w : View) → ((j : ℕ) (v : View) → get_elem? views j ≡ some v → P v) → P w
-    → (j : ℕ) (v : View) → get_elem? (set views id w) j ≡ some v → P v
+each_set : (P : View → Type 0) (views : List View) (id : ℕ) (w : View) → ((j : ℕ) (v : View) → get_elem? views j ≡ some v → P v) → P w → (j : ℕ) (v : View) → get_elem? (set views id w) j ≡ some v → P v
 each_set P views id w all new j v at = ⊎_elim (λ here. subst P here.1 new) (λ there. all j v there.1) (at_set views id j w v at)
 
-each_snoc : (P : View → Type 0) (views : List View) (w : View) → ((j : ℕ) (v : View) → get_elem? views j ≡ some v → P v) → P w
-    → (j : ℕ) (v : View) → get_elem? (views ++ w ∷ []) j ≡ some v → P v
+each_snoc : (P : View → Type 0) (views : List View) (w : View) → ((j : ℕ) (v : View) → get_elem? views j ≡ some v → P v) → P w → (j : ℕ) (v : View) → get_elem? (views ++ w ∷ []) j ≡ some v → P v
 each_snoc P views w all new j v at = ⊎_elim (λ there. all j v there) (λ here. subst P here new) (at_snoc views w v j at)
 
 abbrev IsSpentOrInPlay : Terms → View → Type 0
@@ -38,8 +36,7 @@ in_play : (terms : Terms) (v : View) → IsSpentOrInPlay terms v → 0 < v.share
 in_play terms v (inl e) part = let p = ap (λ (u : View). u.shares) e in absurd (omega arith)
 in_play terms v (inr h) part = (h.numbers, h.seats)
 
-own_part : (terms : Terms) (words : List ℕ) (views : List View) (id : ℕ) (v : View) → IsKept terms words views
-    → get_elem? views id ≡ some v → 0 < v.shares
+own_part : (terms : Terms) (words : List ℕ) (views : List View) (id : ℕ) (v : View) → IsKept terms words views → get_elem? views id ≡ some v → 0 < v.shares
     → (v.numbers ≡ terms.numbers) × (v.seats ≡ terms.seats)
 own_part terms words views id v kept at part = in_play terms v (kept.alike id v at) part
 
@@ -65,8 +62,7 @@ min_case a b = by_order (nat_lt b a) refl
     by_order false e = let l = ltb-false b a e in inl (omega arith, min-eq_left (omega arith))
 
 -- the word is lowered to k, which now stands among the numbers found
-lowered_least : (n w k : ℕ) (was now : ℕ → ℕ) → ((x : ℕ) → now x ≡ was x + one_if (k == x)) → (w ≡ n) ⊎ (0 < was w)
-    → (min w k ≡ n) ⊎ (0 < now (min w k))
+lowered_least : (n w k : ℕ) (was now : ℕ → ℕ) → ((x : ℕ) → now x ≡ was x + one_if (k == x)) → (w ≡ n) ⊎ (0 < was w) → (min w k ≡ n) ⊎ (0 < now (min w k))
 lowered_least n w k was now more least = ⊎_elim stays lowers (min_case w k)
   where
     stays : (w ≤ k) × (min w k ≡ w) → (min w k ≡ n) ⊎ (0 < now (min w k))
@@ -76,11 +72,9 @@ lowered_least n w k was now more least = ⊎_elim stays lowers (min_case w k)
     lowers h = inr (let e : now (min w k) ≡ now k = ap now h.1 in let m = more k in let o = ap one_if (eq-eqb k k refl) in omega arith)
 
 min_below : (w k : ℕ) → (min w k ≤ w) × (min w k ≤ k)
-min_below w k = ⊎_elim (λ h. let l = h.0 in let e = h.1 in (omega arith, omega arith)) (λ h. let l = h.0 in let e = h.1 in
-    (omega arith, omega arith)) (min_case w k)
+min_below w k = ⊎_elim (λ h. let l = h.0 in let e = h.1 in (omega arith, omega arith)) (λ h. let l = h.0 in let e = h.1 in (omega arith, omega arith)) (min_case w k)
 
-lower_keeps : (terms : Terms) (words : List ℕ) (views : List View) (id : ℕ) (v : View) (k : ℕ) → 0 < v.shares → IsKept terms words views
-    → get_elem? views id ≡ some v
+lower_keeps : (terms : Terms) (words : List ℕ) (views : List View) (id : ℕ) (v : View) (k : ℕ) → 0 < v.shares → IsKept terms words views → get_elem? views id ≡ some v
     → IsKept terms (min (get_or words 0 0) k ∷ []) (set views id (lowering k v))
 lower_keeps terms words views id v k part kept at = record {
   word = refl;
@@ -90,8 +84,7 @@ lower_keeps terms words views id v k part kept at = record {
   founds = λ x there.
       stands x k (found_in x views) (min w k ≤ x) (subst (λ (n : ℕ). 0 < n) (more x) there)
       (λ here. let b = below.1 in omega arith) (λ some_there. let b = below.0 in let f = kept.founds x some_there in omega arith);
-  skips = λ x there. let c = sum_set (λ (u : View). times x u.skipped) views id v (lowering k v) at in
-      let f = kept.skips x (omega arith) in let b = below.0 in omega arith;
+  skips = λ x there. let c = sum_set (λ (u : View). times x u.skipped) views id v (lowering k v) at in let f = kept.skips x (omega arith) in let b = below.0 in omega arith;
   shares = let s = sum_set (λ (u : View). u.shares) views id v (lowering k v) at in let k = kept.shares in omega arith;
 }
   where
@@ -108,36 +101,30 @@ lower_keeps terms words views id v k part kept at = record {
     more x = let c = sum_set (λ (u : View). times x u.found) views id v (lowering k v) at in let p = times_push x v.found k in omega arith
 
 pub lowers : (terms : Terms) (slots id k : ℕ) (me : Me (Unit {0}) View) → 0 < me.0.shares
-    → Allows (λ (s : State (Unit {0}) View). IsKept terms s.words s.views) slots id me 0 (λ n. min n k)
-        (λ found after. after ≡ (lowering k me.0, me.1))
+    → Allows (λ (s : State (Unit {0}) View). IsKept terms s.words s.views) slots id me 0 (λ n. min n k) (λ found after. after ≡ (lowering k me.0, me.1))
 lowers terms slots id k me part s kept homes at fits = (
   lowering k me.0,
   keeps,
   tt,
-  subst (λ (ws : List ℕ). IsKept terms ws (set s.views id (lowering k me.0)))
-      (sym (set_word s.words (min (get_or s.words 0 0) k) kept.word)) (lower_keeps terms s.words s.views id me.0 k part kept at),
+  subst (λ (ws : List ℕ). IsKept terms ws (set s.views id (lowering k me.0))) (sym (set_word s.words (min (get_or s.words 0 0) k) kept.word)) (lower_keeps terms s.words s.views id me.0 k part kept at),
   refl,
 )
 
 -- k is skipped where it is above the word
-skip_above : (b : Bool) (w k x n : ℕ) (xs : List ℕ) → nat_lt w k ≡ b → 0 < n + times x (skipping b xs k) → (k ≡ x → w < k → w < x)
-    → (0 < n + times x xs → w < x) → w < x
+skip_above : (b : Bool) (w k x n : ℕ) (xs : List ℕ) → nat_lt w k ≡ b → 0 < n + times x (skipping b xs k) → (k ≡ x → w < k → w < x) → (0 < n + times x xs → w < x) → w < x
 skip_above true w k x n xs e there here before =
     let p = times_push x xs k in stands x k (n + times x xs) (w < x) (omega arith) (λ same. here same (ltb-true w k e)) before
 skip_above false w k x n xs e there here before = before there
 
-look_keeps : (terms : Terms) (words : List ℕ) (views : List View) (id : ℕ) (v : View) (k : ℕ) → 0 < v.shares → IsKept terms words views
-    → get_elem? views id ≡ some v
+look_keeps : (terms : Terms) (words : List ℕ) (views : List View) (id : ℕ) (v : View) (k : ℕ) → 0 < v.shares → IsKept terms words views → get_elem? views id ≡ some v
     → IsKept terms (get_or words 0 0 ∷ []) (set views id (looking k v (get_or words 0 0)))
 look_keeps terms words views id v k part kept at = record {
   word = refl;
   high = kept.high;
   alike = each_set (IsSpentOrInPlay terms) views id new kept.alike (inr record { numbers = own.0; seats = own.1; part = part });
-  least = ⊎_elim (λ e. inl e) (λ some_there. inr (let c = sum_set (λ (u : View). times w u.found) views id v new at in omega arith))
-      kept.least;
+  least = ⊎_elim (λ e. inl e) (λ some_there. inr (let c = sum_set (λ (u : View). times w u.found) views id v new at in omega arith)) kept.least;
   founds = λ x there. let c = sum_set (λ (u : View). times x u.found) views id v new at in kept.founds x (omega arith);
-  skips = λ x there. by_parts x there (sum_set (λ (u : View). times x u.skipped) views id v new at)
-      (one_of_sum (λ (u : View). times x u.skipped) views id v at);
+  skips = λ x there. by_parts x there (sum_set (λ (u : View). times x u.skipped) views id v new at) (one_of_sum (λ (u : View). times x u.skipped) views id v at);
   shares = let s = sum_set (λ (u : View). u.shares) views id v new at in let k = kept.shares in omega arith;
 }
   where
@@ -150,31 +137,24 @@ look_keeps terms words views id v k part kept at = record {
     own : (v.numbers ≡ terms.numbers) × (v.seats ≡ terms.seats)
     own = own_part terms words views id v kept at part
 
-    by_parts : (x : ℕ) → 0 < skipped_in x (set views id new)
-        → skipped_in x (set views id new) + times x v.skipped ≡ skipped_in x views + times x (skipping (nat_lt w k) v.skipped k)
-        → times x v.skipped ≤ skipped_in x views → w < x
+    by_parts : (x : ℕ) → 0 < skipped_in x (set views id new) → skipped_in x (set views id new) + times x v.skipped ≡ skipped_in x views + times x (skipping (nat_lt w k) v.skipped k) → times x v.skipped ≤ skipped_in x views → w < x
     by_parts x there total own_skips =
         let rest : ℕ = skipped_in x views - times x v.skipped in
-        skip_above (nat_lt w k) w k x rest v.skipped refl (omega arith) (λ same above. omega arith)
-            (λ some_there. kept.skips x (omega arith))
+        skip_above (nat_lt w k) w k x rest v.skipped refl (omega arith) (λ same above. omega arith) (λ some_there. kept.skips x (omega arith))
 
 pub looks : (terms : Terms) (slots id k : ℕ) (me : Me (Unit {0}) View) → 0 < me.0.shares
-    → Allows (λ (s : State (Unit {0}) View). IsKept terms s.words s.views) slots id me 0 (λ n. n)
-        (λ found after. after ≡ (looking k me.0 found, me.1))
+    → Allows (λ (s : State (Unit {0}) View). IsKept terms s.words s.views) slots id me 0 (λ n. n) (λ found after. after ≡ (looking k me.0 found, me.1))
 looks terms slots id k me part s kept homes at fits = (
   looking k me.0 (get_or s.words 0 0),
   keeps,
   tt,
-  subst (λ (ws : List ℕ). IsKept terms ws (set s.views id (looking k me.0 (get_or s.words 0 0))))
-      (sym (set_word s.words (get_or s.words 0 0) kept.word)) (look_keeps terms s.words s.views id me.0 k part kept at),
+  subst (λ (ws : List ℕ). IsKept terms ws (set s.views id (looking k me.0 (get_or s.words 0 0)))) (sym (set_word s.words (get_or s.words 0 0) kept.word)) (look_keeps terms s.words s.views id me.0 k part kept at),
   refl,
 )
 
 -- other views with the same totals
-same_totals : (terms : Terms) (words : List ℕ) (views others : List View) → IsKept terms words views
-    → ((id : ℕ) (v : View) → get_elem? others id ≡ some v → IsSpentOrInPlay terms v)
-    → ((x : ℕ) → found_in x others ≡ found_in x views) → ((x : ℕ) → skipped_in x others ≡ skipped_in x views)
-        → sum_by (λ (v : View). v.shares) others ≡ sum_by (λ (v : View). v.shares) views
+same_totals : (terms : Terms) (words : List ℕ) (views others : List View) → IsKept terms words views → ((id : ℕ) (v : View) → get_elem? others id ≡ some v → IsSpentOrInPlay terms v)
+    → ((x : ℕ) → found_in x others ≡ found_in x views) → ((x : ℕ) → skipped_in x others ≡ skipped_in x views) → sum_by (λ (v : View). v.shares) others ≡ sum_by (λ (v : View). v.shares) views
     → IsKept terms words others
 same_totals terms words views others kept alike founds skips shares = record {
   word = kept.word;
@@ -186,18 +166,14 @@ same_totals terms words views others kept alike founds skips shares = record {
   shares = shares ∙ kept.shares;
 }
 
-split_total : (f : View → ℕ) (views : List View) (id : ℕ) (v left right : View) → get_elem? views id ≡ some v → f left + f right ≡ f v
-    → sum_by f (set views id left ++ right ∷ []) ≡ sum_by f views
-split_total f views id v left right at parts = let c = sum_set f views id v left at in let d = sum_by_push f (set views id left) right in
-    omega arith
+split_total : (f : View → ℕ) (views : List View) (id : ℕ) (v left right : View) → get_elem? views id ≡ some v → f left + f right ≡ f v → sum_by f (set views id left ++ right ∷ []) ≡ sum_by f views
+split_total f views id v left right at parts = let c = sum_set f views id v left at in let d = sum_by_push f (set views id left) right in omega arith
 
-pub splits : (terms : Terms) (id : ℕ) (v : View) → 1 < v.shares
-    → Splits (λ (s : State (Unit {0}) View). IsKept terms s.words s.views) id v (one_share_less v) (one_share v)
+pub splits : (terms : Terms) (id : ℕ) (v : View) → 1 < v.shares → Splits (λ (s : State (Unit {0}) View). IsKept terms s.words s.views) id v (one_share_less v) (one_share v)
 splits terms id v shares s kept at =
     same_totals terms s.words s.views (set s.views id (one_share_less v) ++ one_share v ∷ []) kept
     (each_snoc (IsSpentOrInPlay terms) (set s.views id (one_share_less v)) (one_share v)
-    (each_set (IsSpentOrInPlay terms) s.views id (one_share_less v) kept.alike
-        (inr record { numbers = own.0; seats = own.1; part = omega arith }))
+    (each_set (IsSpentOrInPlay terms) s.views id (one_share_less v) kept.alike (inr record { numbers = own.0; seats = own.1; part = omega arith }))
     (inr record { numbers = own.0; seats = own.1; part = omega arith }))
     (λ x. split_total (λ (u : View). times x u.found) s.views id v (one_share_less v) (one_share v) at (omega arith))
     (λ x. split_total (λ (u : View). times x u.skipped) s.views id v (one_share_less v) (one_share v) at (omega arith))
@@ -206,19 +182,16 @@ splits terms id v shares s kept at =
     own : (v.numbers ≡ terms.numbers) × (v.seats ≡ terms.seats)
     own = own_part terms s.words s.views id v kept at (omega arith)
 
-join_total : (f : View → ℕ) (views : List View) (id other : ℕ) (v w both : View) → get_elem? views id ≡ some v
-    → get_elem? (set views id both) other ≡ some w → f both ≡ f v + f w → f spent ≡ 0
+join_total : (f : View → ℕ) (views : List View) (id other : ℕ) (v w both : View) → get_elem? views id ≡ some v → get_elem? (set views id both) other ≡ some w → f both ≡ f v + f w → f spent ≡ 0
     → sum_by f (set (set views id both) other spent) ≡ sum_by f views
-join_total f views id other v w both at there parts none = let c = sum_set f views id v both at in
-    let d = sum_set f (set views id both) other w spent there in omega arith
+join_total f views id other v w both at there parts none = let c = sum_set f views id v both at in let d = sum_set f (set views id both) other w spent there in omega arith
 
 pub joins : (terms : Terms) (id : ℕ) (v : View) (other : ℕ) (w : View) → 0 < v.shares
     → Joins (λ (s : State (Unit {0}) View). IsKept terms s.words s.views) id v other w (joined v w) spent
 joins terms id v other w part s kept at apart there =
     same_totals terms s.words s.views (set (set s.views id (joined v w)) other spent) kept
     (each_set (IsSpentOrInPlay terms) (set s.views id (joined v w)) other spent
-    (each_set (IsSpentOrInPlay terms) s.views id (joined v w) kept.alike
-        (inr record { numbers = own.0; seats = own.1; part = omega arith }))
+    (each_set (IsSpentOrInPlay terms) s.views id (joined v w) kept.alike (inr record { numbers = own.0; seats = own.1; part = omega arith }))
     (inl refl))
     (λ x. join_total (λ (u : View). times x u.found) s.views id other v w (joined v w) at there (times_both x v.found w.found) refl)
     (λ x. join_total (λ (u : View). times x u.skipped) s.views id other v w (joined v w) at there (times_both x v.skipped w.skipped) refl)
@@ -244,8 +217,7 @@ opens terms some_seats = record {
     one (suc id) v at = absurd (some-ne-none v (sym at))
 
 -- a view with the share of all seats has all that is counted
-pub has_whole : (terms : Terms) (words : List ℕ) (views : List View) (id : ℕ) (v : View) (f : View → ℕ) → IsKept terms words views
-    → get_elem? views id ≡ some v → v.shares ≡ terms.seats
+pub has_whole : (terms : Terms) (words : List ℕ) (views : List View) (id : ℕ) (v : View) (f : View → ℕ) → IsKept terms words views → get_elem? views id ≡ some v → v.shares ≡ terms.seats
     → f spent ≡ 0 → sum_by f views ≡ f v
 has_whole terms words views id v f kept at all none = has_all f (λ (u : View). u.shares) views id v at follows (kept.shares ∙ sym all)
   where
