@@ -90,14 +90,6 @@ part_asked tree live left test asked count each = record {
   searched = λ n e. asked.searched n (both_left (get_or live n false) (test n) (sym (each n) ∙ e));
 }
 
-pub narrowed_all : (live : List Bool) (c : FilterColumn) (want : Bool) (k : ℕ) (items : List Bool) → length live ≡ k
-    → Told (λ n. get_or live n false && is_so want (holds (shown c n))) k items → IsNarrowed live c want items
-narrowed_all live c want k items end had = record {
-  count = had.count ∙ sym end;
-  each = told_live live (λ n. is_so want (holds (shown c n))) k items end had;
-  asked = λ tree a. part_asked tree live items (λ n. is_so want (holds (shown c n))) a (had.count ∙ sym end) (told_live live (λ n. is_so want (holds (shown c n))) k items end had);
-}
-
 pub numbered_all : (live : List Bool) (c : FilterColumn) (k : ℕ) (items : List Bool) → length live ≡ k
     → Told (λ n. get_or live n false && is_some (amount (shown c n))) k items → IsNumbered live c items
 numbered_all live c k items end had = record {

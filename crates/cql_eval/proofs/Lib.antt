@@ -6,6 +6,7 @@ pub mod FlatLaw
 pub mod FormLaws
 pub mod Gathering
 pub mod HitsLaw
+pub mod Keeping
 pub mod LinesLaw
 pub mod Lives
 pub mod Lowering

@@ -57,6 +57,11 @@ AreValues values live v = Where live (λ n. meant (get_or values n (Truth false)
 abbrev pub is_so : Bool → Bool → Bool
 is_so want b = if want then b else not b
 
+-- of the nodes of a set those that pass a test
+pub record AreKept (test : ℕ → Bool) (live left : List Bool) : Type 0 where
+  pub count : length left ≡ length live
+  pub each : (n : ℕ) → is_live left n ≡ (is_live live n && test n)
+
 -- of the nodes of a set those at which a column holds, or doesn't
 pub record IsNarrowed (live : List Bool) (c : FilterColumn) (want : Bool) (left : List Bool) : Type 0 where
   pub count : length left ≡ length live

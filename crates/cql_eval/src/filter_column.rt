@@ -40,19 +40,19 @@ pub fn truth_at(truths: &[bool], n: usize) -> bool
     if n < truths.len() { truths[n] } else { false }
 }
 
-fn set_at(sets: &[u64], n: usize) -> u64
+pub(crate) fn set_at(sets: &[u64], n: usize) -> u64
     ensures { result ≡ get_or sets.now n 0 }
 {
     if n < sets.len() { sets[n] } else { 0 }
 }
 
-fn number_at(numbers: &[Option<i64>], n: usize) -> Option<i64>
+pub(crate) fn number_at(numbers: &[Option<i64>], n: usize) -> Option<i64>
     ensures { result ≡ get_or numbers.now n None }
 {
     if n < numbers.len() { numbers[n] } else { None }
 }
 
-fn value_at(values: &[Value], n: usize) -> Value
+pub(crate) fn value_at(values: &[Value], n: usize) -> Value
     ensures { result ≡ get_or values.now n (Truth false) }
 {
     if n < values.len() {

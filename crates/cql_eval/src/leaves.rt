@@ -4,15 +4,17 @@ ghost use Rattle.cq_position.specs.Games.{IsTree, node_at};
 ghost use Rattle.cq_symmetry.specs.Images.{is_in};
 ghost use Rattle.cql_syntax.specs.Meaning as meaning;
 ghost use Rattle.cql_syntax.specs.Values.{as_squares};
+ghost use Rattle.cql_values.specs.Asked.{AreTheMen};
 ghost use Rattle.cql_values.specs.Shown.{meant};
 ghost use Rattle.cql_values.specs.Trees.{searched_tree};
 ghost use Rattle.cql_eval.specs.Columns.{AreAsked, AreSets, AreValues};
 
 use cq_outside::NoMemory;
+use cq_position::Man;
 use cql_syntax::{Designator, Plain};
 use cql_values::names::Names;
 use cql_values::value::Value;
-use cql_values::words::{standing_on, word_at};
+use cql_values::words::{listed_men, standing_of, word_at};
 use pgn_tree::Game;
 use std::alloc::Global;
 
@@ -28,21 +30,23 @@ pub(crate) fn standing_sets(
     ensures { IfOk result (λ sets. AreSets sets.items live.now
         (λ n. meaning.standing_of (node_at game.now.nodes n).position.men (Some d.now))) }
 {
+    let men = listed_men(alloc, d.men)?;
     let mut sets = Vec::with_capacity(alloc, game.len() as usize)?;
     for n in 0..game.len() {
-        let set = standing_set(live[n as usize], d, game, n);
+        let set = standing_set(live[n as usize], d, &men, game, n);
         sets.push(set)?;
     }
     Ok(sets)
 }
 
-fn standing_set(asked: bool, d: &Designator, game: &Game, n: u32) -> u64
-    requires { n < length game.now.nodes }
+fn standing_set(asked: bool, d: &Designator, men: &[Man], game: &Game, n: u32) -> u64
+    requires men { AreTheMen d.now.men men.now }
+    requires node { n < length game.now.nodes }
     ensures { asked ≡ true → as_squares (is_in result)
         ≡ meaning.standing_of (node_at game.now.nodes n).position.men (Some d.now) }
 {
     if asked {
-        standing_on(game.position(n), d)
+        standing_of(game.position(n), d, men)
     } else {
         0
     }

@@ -10,6 +10,7 @@ mod evaluate;
 pub mod filter_column;
 mod leaves;
 mod moves;
+mod narrow;
 mod nodes;
 mod patterns;
 mod query;

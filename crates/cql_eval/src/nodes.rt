@@ -1,14 +1,14 @@
 //! Sets of nodes: a truth for each node of a game.
-ghost use Rattle.std.specs.Prelude.{◌≡◌, ℕ, ◌+◌, ◌≤◌, ◌&&◌, not, length, map, get_or, true, false, IfOk, OnOk, if◌then◌else◌};
+ghost use Rattle.std.specs.Prelude.{◌≡◌, ℕ, ◌+◌, ◌≤◌, length, map, IfOk, OnOk, if◌then◌else◌};
 ghost use Rattle.std.specs.List.{list_any};
 ghost use Rattle.cq_position.specs.Games.{is_searched as is_searched_in, numbers};
 ghost use Rattle.cq_position.specs.Search.{nodes_in};
-ghost use Rattle.cql_syntax.specs.Values.{holds};
 ghost use Rattle.cql_values.specs.Trees.{searched_tree};
-ghost use Rattle.cql_eval.specs.Columns.{shown, is_live, is_so, IsNarrowed, AreAsked, IsPart};
+ghost use Rattle.cql_eval.specs.Columns.{IsNarrowed, AreAsked, IsPart};
 ghost use Rattle.cql_eval.specs.LineAtoms.{AreAllAsked};
 
 use crate::filter_column::FilterColumn;
+use crate::narrow::narrow;
 use cq_outside::{NoMemory, Steps};
 use cql_values::walks::is_searched;
 use pgn_tree::Game;
@@ -81,11 +81,8 @@ pub(crate) fn narrowed(
 ) -> Result<Vec<bool>, NoMemory>
     ensures { IfOk result (λ left. IsNarrowed live.now column.now want left.items) }
 {
-    let mut left = Vec::with_capacity(alloc, live.len())?;
-    for n in 0..live.len() {
-        let there = is_there(live[n], column, n, want);
-        left.push(there)?;
-    }
+    let mut left = same(alloc, live)?;
+    narrow(&mut left, column, want);
     Ok(left)
 }
 
@@ -103,10 +100,4 @@ pub(crate) fn part_of(
 {
     let left = narrowed(alloc, live, column, want)?;
     Ok(left)
-}
-
-fn is_there(asked: bool, column: &FilterColumn, n: usize, want: bool) -> bool
-    ensures { result ≡ (asked && is_so want (holds (shown column.now n))) }
-{
-    asked && column.at(n).holds() == want
 }

@@ -40,7 +40,7 @@ impl Verdict {
     }
 }
 
-/// What a flat query finds in a game. A game that hasn't what it needs is looked at once, and takes no step.
+/// What a flat query finds in a game. A game that hasn't what it needs takes no step.
 pub(crate) fn find<L: Ledger>(
     alloc: Global,
     query: &FlatQuery,

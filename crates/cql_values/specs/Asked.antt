@@ -1,6 +1,9 @@
 -- What is asked of one square, and what a word makes of one value, as the private functions give it.
-use Rattle.std.specs.Prelude.{ℕ, Bool, ◌&&◌, not, List, if◌then◌else◌}
+use Rattle.std.specs.Prelude.{◌≡◌, ℕ, Bool, ◌&&◌, not, List, if◌then◌else◌}
+use Rattle.std.specs.List.{list_any}
+use Rattle.cq_position.specs.Men.{man_number, same_man}
 use Rattle.cq_position.specs.declared.men.Man.{Man}
+use Rattle.cq_symmetry.specs.Images.{is_in}
 use Rattle.cql_syntax.specs.Values.{Value, as_truth, holds, complement_of, size_of, power_of, light_of, dark_of}
 use Rattle.cql_syntax.specs.declared.leaves.Unary.{Unary}
 use Rattle.cql_syntax.specs.declared.leaves.Unary.TheVariants.{Complement, Count, Power, Light, Dark}
@@ -17,3 +20,7 @@ of_value men Power x = power_of men x
 of_value men Light x = light_of x
 of_value men Dark x = dark_of x
 of_value men word x = as_truth (not (holds x))
+
+-- the men of a set
+abbrev pub AreTheMen : ℕ → List Man → Type 0
+AreTheMen wanted listed = (m : Man) → list_any (same_man m) listed ≡ is_in wanted (man_number m)

@@ -1,5 +1,6 @@
 //! Filters of one leaf.
-ghost use Rattle.std.specs.Prelude.{◌≡◌, ◌<◌, ◌&&◌, not, length, Some, IfOk};
+ghost use Rattle.std.specs.Prelude.{◌≡◌, ◌<◌, ◌&&◌, ◌++◌, ◌∷◌, [], not, length, Some, IfOk, OnOk, if◌then◌else◌};
+ghost use Rattle.std.specs.List.{list_any};
 ghost use Rattle.cq_position.specs.Games.{IsTree};
 ghost use Rattle.cq_position.specs.Legality.{has_legal_move};
 ghost use Rattle.cq_position.specs.Bitboards.{IsBitboard};
@@ -7,6 +8,7 @@ ghost use Rattle.cq_position.specs.Board.{man_at, stands};
 ghost use Rattle.cq_position.specs.Men.{man_number};
 ghost use Rattle.cq_symmetry.specs.Images.{is_in};
 ghost use Rattle.cql_syntax.specs.Meaning as meaning;
+ghost use Rattle.cql_values.specs.Asked.{AreTheMen};
 ghost use Rattle.cql_values.specs.Shown.{meant};
 ghost use Rattle.cql_values.specs.Trees.{searched_tree};
 
@@ -49,6 +51,45 @@ fn squares_if(men: &Men, wanted: u16, man: Man) -> u64
     } else {
         0
     }
+}
+
+/// The men of a set: bit k is man k.
+pub fn listed_men(alloc: Global, wanted: u16) -> Result<Vec<Man>, NoMemory>
+    ensures { IfOk result (λ listed. AreTheMen wanted listed.items) }
+{
+    let mut listed = Vec::new(alloc);
+    for man in &MEN {
+        let there = has_man(wanted, *man);
+        list_if(&mut listed, there, *man)?;
+    }
+    Ok(listed)
+}
+
+fn list_if(listed: &mut Vec<Man>, there: bool, man: Man) -> Result<(), NoMemory>
+    ensures { OnOk result (listed.new.items ≡ listed.old.items ++ (if there then man ∷ [] else [])) }
+{
+    if there {
+        listed.push(man)?;
+    }
+    Ok(())
+}
+
+/// The squares of a designator on which one of its men stands, where its men are listed.
+pub fn standing_of(position: &Position, d: &Designator, listed: &[Man]) -> u64
+    requires { AreTheMen d.now.men listed.now }
+    ensures { IsBitboard result (meaning.stands_on position.now.men (Some d.now)) }
+{
+    d.part.squares & squares_of_all(position.men(), listed)
+}
+
+fn squares_of_all(men: &Men, listed: &[Man]) -> u64
+    ensures { IsBitboard result (λ s. list_any (stands men.now s) listed.now) }
+{
+    let mut mask = 0;
+    for man in listed {
+        mask |= men.squares_of(*man);
+    }
+    mask
 }
 
 fn has_man(men: u16, man: Man) -> bool

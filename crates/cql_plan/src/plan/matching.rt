@@ -39,8 +39,8 @@ impl Plan {
     }
 }
 
-/// Whether a game has what the query needs; where it hasn't, there is no hit. The game's tags and men are looked at once, and no memory
-/// is taken.
+/// Whether a game has what the query needs; where it hasn't, there is no hit. Its positions are looked at only where men are needed, for
+/// each man up to the first in which it stands, and no memory is taken.
 pub fn may_hold(plan: &Plan, game: &Game) -> bool
     ensures value { result ≡ query_passes (query_tree (query_of plan.now).query) game.now }
     ensures hit { hits (query_tree (query_of plan.now).query) game.now ≢ [] → result ≡ true }

@@ -7,5 +7,5 @@ use Rattle.cql_values.proofs.Masks.{is_mask}
 use Rattle.cql_eval.proofs.leaves.standing_set.Goals as goal
 
 pub returns-then-asked : goal.returns-then-asked
-returns-then-asked c = λ e. ap as_squares (is_mask c.standing_on.result (stands_on (node_at c.args.game.now.nodes c.args.n).position.men (Some c.args.d.now)) (omega arith)
-    (subst (λ p. IsBitboard c.standing_on.result (stands_on p.men (Some c.args.d.now))) c.position.ensures c.standing_on.ensures))
+returns-then-asked c = λ e. ap as_squares (is_mask c.standing_of.result (stands_on (node_at c.args.game.now.nodes c.args.n).position.men (Some c.args.d.now)) (omega arith)
+    (subst (λ p. IsBitboard c.standing_of.result (stands_on p.men (Some c.args.d.now))) c.position.ensures c.standing_of.ensures))

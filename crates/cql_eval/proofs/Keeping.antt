@@ -1,0 +1,82 @@
+-- Nodes that are taken out of a set one by one.
+use Rattle.std.proofs.Common.{◌≡◌, ℕ, zero, suc, ◌+◌, ◌<◌, ◌≤◌, Bool, true, false, ◌&&◌, List, ◌++◌, length, take, drop, get_or, refl, sym, ap, ap₂, ◌∙◌, subst, arith, ⊎_elim}
+use Rattle.std.specs.Prelude.{slice_set, not, if◌then◌else◌, replicate}
+use Rattle.std.proofs.Math.Seq.{take-append_seam}
+use Rattle.std.proofs.lemmas.List.{get_or-set_same, get_or-set_other, length-set, length-replicate}
+use Rattle.cq_position.specs.Search.{SearchedTree}
+use Rattle.cql_syntax.specs.Values.{holds}
+use Rattle.cql_eval.specs.Columns.{is_live, is_so, shown, AreKept, IsNarrowed}
+use Rattle.cql_eval.specs.declared.filter_column.FilterColumn.{FilterColumn}
+use Rattle.cql_eval.proofs.Filling.{split_last, split_at, past, part_asked, any_default, equal_or}
+
+-- the first k nodes are tried
+pub record KeptTo (test : ℕ → Bool) (live : List Bool) (k : ℕ) (left : List Bool) : Type 0 where
+  pub count : length left ≡ length live
+  pub tried : (n : ℕ) → n < k → is_live left n ≡ (is_live live n && test n)
+  pub rest : (n : ℕ) → k ≤ n → is_live left n ≡ is_live live n
+
+pub kept_none : (test : ℕ → Bool) (live : List Bool) → KeptTo test live 0 live
+kept_none test live = record { count = refl; tried = λ n h. absurd (omega (arith, h)); rest = λ n h. refl }
+
+pub kept_more : (test : ℕ → Bool) (live left later : List Bool) (k : ℕ) (d b : Bool) → k < length left → later ≡ slice_set left k b → b ≡ (get_or left k d && test k)
+    → KeptTo test live k left → KeptTo test live (k + 1) later
+kept_more test live left later k d b low is new had = record {
+  count = ap length is ∙ length-set left k b ∙ had.count;
+  tried = λ n h. ⊎_elim
+      (λ less. other n (λ e. omega (arith, less, e)) ∙ had.tried n less)
+      (λ same. subst (λ i. is_live later i ≡ (is_live live i && test i)) (sym same) here)
+      (split_last n k h);
+  rest = λ n h. other n (λ e. omega (arith, h, e)) ∙ had.rest n (omega (arith, h));
+}
+  where
+    other : (n : ℕ) → (n ≡ k → ⊥) → is_live later n ≡ is_live left n
+    other n away = ap (λ l. get_or l n false) is ∙ get_or-set_other left k n b false away
+
+    here : is_live later k ≡ (is_live live k && test k)
+    here = ap (λ l. get_or l k false) is ∙ get_or-set_same left k b false low ∙ new
+        ∙ ap (λ a. a && test k) (any_default left k d false low ∙ had.rest k (omega arith))
+
+pub kept_all : (test : ℕ → Bool) (live left : List Bool) (k : ℕ) → length left ≤ k → KeptTo test live k left → AreKept test live left
+kept_all test live left k end had = record {
+  count = had.count;
+  each = λ n. ⊎_elim (had.tried n)
+      (λ far. past left n (omega (arith, far, end)) ∙ sym (ap (λ b. b && test n) (past live n (omega (arith, far, end, had.count)))))
+      (split_at n k);
+}
+
+pub narrowed_by_kept : (live left : List Bool) (c : FilterColumn) (want : Bool) → AreKept (λ n. is_so want (holds (shown c n))) live left → IsNarrowed live c want left
+narrowed_by_kept live left c want kept = record {
+  count = kept.count;
+  each = kept.each;
+  asked = λ tree a. part_asked tree live left (λ n. is_so want (holds (shown c n))) a kept.count kept.each;
+}
+
+kept_same : (live : List Bool) → AreKept (λ n. true) live live
+kept_same live = record { count = refl; each = λ n. and_true (is_live live n) }
+  where
+    and_true : (b : Bool) → b ≡ (b && true)
+    and_true true = refl
+    and_true false = refl
+
+pub kept_all_if : (all : Bool) (live : List Bool) → all ≡ true → AreKept (λ n. all) live live
+kept_all_if all live e = subst (λ b. AreKept (λ n. b) live live) (sym e) (kept_same live)
+
+nowhere : (count n : ℕ) → get_or (replicate count false) n false ≡ false
+nowhere zero zero = refl
+nowhere zero (suc n) = refl
+nowhere (suc count) zero = refl
+nowhere (suc count) (suc n) = nowhere count n
+
+pub kept_none_if : (all : Bool) (live left : List Bool) → all ≡ false → left ≡ replicate (length live) false → AreKept (λ n. all) live left
+kept_none_if all live left e is = record {
+  count = ap length is ∙ length-replicate (length live) false;
+  each = λ n. ap (λ l. get_or l n false) is ∙ nowhere (length live) n ∙ never (is_live live n) all e;
+}
+  where
+    never : (a b : Bool) → b ≡ false → false ≡ (a && b)
+    never true b e = sym e
+    never false b e = refl
+
+-- a list that is changed in place, and is as long as it was
+pub written : (len : ℕ) (new old : List Bool) → len ≡ length new → take len (new ++ drop (length new) old) ≡ new
+written len new old e = ap (λ i. take i (new ++ drop (length new) old)) e ∙ take-append_seam new (drop (length new) old)
