@@ -89,7 +89,6 @@ ARCHIVES = {
     "tags": b'[A "b"]\n',
     "moves": b"Nf3 Nf6 Ng1 Ng8 ",
     "variations": b"e4 (d4) ",
-    "markers": b"* ",
     "spaces": b" ",
     "glyphs": b"$1 ",
     "escape lines": b"%\n",
@@ -125,13 +124,14 @@ QUERIES = {
 
 def other_tags(size):
     """a game of tags of which each has a name of its own, in no order"""
-    return b"".join(b'[A%07d "b"]\n' % (i * 7919 % 10000019) for i in range((size - 1) // 15)) + b"*"
+    return b"".join(b'[A%07d "b"]\n' % (i * 7919 % 9999991) for i in range((size - 1) // 15)) + b"*"
 
 
 def archives():
     """name, query, the bytes of a size, and the greater size"""
     for name, token in ARCHIVES.items():
         yield name, "cql() mate", functools.partial(repeated, token), 1 << 24
+    yield "empty games", "cql() mate", functools.partial(repeated, b"* "), 1 << 21
     yield "other tags", "cql() mate", other_tags, 1 << 24
     yield "their export", "cql() initial", other_tags, 1 << 24
     moves = functools.partial(repeated, ARCHIVES["moves"])
