@@ -16,6 +16,8 @@ mod lines;
 mod played;
 mod squares;
 
+pub(crate) use chains::left_by;
+
 use crate::combine::{
     any_values, chain_values, chosen, negated, numbered, pair_values, reached_values, sum_values,
     unary_values,
