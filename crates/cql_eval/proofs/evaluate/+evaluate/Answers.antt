@@ -79,8 +79,13 @@ chains::left_by-returns-clause-cost g t c =
 
 pub chains::left_by-returns-in_err-ask_class-clause-cost : goal.chains::left_by-returns-in_err-ask_class-clause-cost
 chains::left_by-returns-in_err-ask_class-clause-cost g t c =
-    omega (arith, c.loop-class.invariant.cost, c.ask_class.ensures.cost, cost_next (length c.args.game.now.nodes) c.loop-class.class (filters_tree c.args.filters.now),
-    cost_later (length c.args.game.now.nodes) (c.loop-class.class + 1) c.args.past (filters_tree c.args.filters.now) (omega (arith, c.loop-class-test.true)))
+    omega (
+      arith,
+      c.loop-class.invariant.cost,
+      c.ask_class.ensures.cost,
+      cost_next (length c.args.game.now.nodes) c.loop-class.class (filters_tree c.args.filters.now),
+      cost_later (length c.args.game.now.nodes) (c.loop-class.class + 1) c.args.past (filters_tree c.args.filters.now) (omega (arith, c.loop-class-test.true)),
+    )
 
 pub chains::ask_class-loop-filter-init : goal.chains::ask_class-loop-filter-init
 chains::ask_class-loop-filter-init g t c = record {

@@ -42,8 +42,8 @@ sort_by-requires-clause-flat g c =
 pub returns-in_err-sort_by-clause-most : goal.returns-in_err-sort_by-clause-most
 returns-in_err-sort_by-clause-most g c =
     let within = class_cost_within (is_of 5) (length c.args.game.now.nodes) c.as_slice-item-items.result.now c.loop-item.item-index c.item-item.result _ c.loop-item.steps
-        c.sort_by.new.steps (filters_tree c.args.query.now.items) c.loop-item-test.true c.item-item.is c.loop-item.invariant.most
-        c.sort_by.ensures.cost c.as_slice-item-items.ensures.tree in
+    c.sort_by.new.steps (filters_tree c.args.query.now.items) c.loop-item-test.true c.item-item.is c.loop-item.invariant.most
+    c.sort_by.ensures.cost c.as_slice-item-items.ensures.tree in
     omega (arith, within, sorted_cost (length c.args.game.now.nodes) c.as_slice-item-items.result.now (filters_tree c.args.query.now.items) c.as_slice-item-items.ensures.tree, ap (cost_of (is_of 5) (length c.args.game.now.nodes)) c.as_slice-item-items.ensures.tree)
 
 pub returns-clause-hits : goal.returns-clause-hits
