@@ -166,14 +166,14 @@ rows_begun tree xs left rows none = record {
   entries = λ n l. made_begun (number_at tree n) (map (λ row. get_or row n None) rows) xs (ap (map (λ row. get_or row n None)) none);
 }
 
-pub rows_more : (tree : SearchedTree) (xs : List Filter) (i : ℕ) (f : Filter) (left given again later : List Bool) (rows new : List (List (Option ℤ))) → i < length xs → f ≡ get_or xs i f → given ≡ left → again ≡ left → AreAsked tree left
-    → ((n : ℕ) → is_live later n ≡ (is_live again n && holds (value tree [] [] (filter_tree f) n))) → new ≡ rows ++ map (key_row_of tree given) (item_numbers (filter_tree f))
+pub rows_more : (tree : SearchedTree) (xs : List Filter) (i : ℕ) (f : Filter) (left given later : List Bool) (rows new : List (List (Option ℤ))) → i < length xs → f ≡ get_or xs i f → given ≡ left → AreAsked tree left
+    → ((n : ℕ) → is_live later n ≡ true → is_live left n ≡ true) → new ≡ rows ++ map (key_row_of tree given) (item_numbers (filter_tree f))
     → RowsSoFar tree xs i left rows → RowsSoFar tree xs (i + 1) later new
-rows_more tree xs i f left given again later rows new below is same same_too asked each more had = record {
+rows_more tree xs i f left given later rows new below is same asked within more had = record {
   lengths = made_more (λ g. length tree.game.nodes) (map length rows) (map length new) xs i f below is
       (ap (map length) more ∙ map_append length rows (map (key_row_of tree given) (item_numbers (filter_tree f))) ∙ ap (λ l. map length rows ++ l) (map_map length (key_row_of tree given) (item_numbers (filter_tree f)) ∙ ap (λ h. map h (item_numbers (filter_tree f))) (fun_ext (λ g. row_length tree given g)))) had.lengths;
   entries = λ n l.
-      let live = both_left (is_live left n) (holds (value tree [] [] (filter_tree f) n)) (ap (λ x. is_live x n && holds (value tree [] [] (filter_tree f) n)) (sym same_too) ∙ sym (each n) ∙ l) in
+      let live = within n l in
       let low : n < length tree.game.nodes = (let b = live_below left n live in omega (arith, b, asked.count)) in
       made_more (number_at tree n) (map (λ row. get_or row n None) rows) (map (λ row. get_or row n None) new) xs i f below is
       (ap (map (λ row. get_or row n None)) more ∙ map_append (λ row. get_or row n None) rows (map (key_row_of tree given) (item_numbers (filter_tree f)))

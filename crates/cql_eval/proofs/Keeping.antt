@@ -1,13 +1,12 @@
 -- Nodes that are taken out of a set one by one.
-use Rattle.std.proofs.Common.{◌≡◌, ℕ, zero, suc, ◌+◌, ◌<◌, ◌≤◌, Bool, true, false, ◌&&◌, List, ◌++◌, length, take, drop, get_or, refl, sym, ap, ap₂, ◌∙◌, subst, arith, ⊎_elim}
-use Rattle.std.specs.Prelude.{slice_set, not, if◌then◌else◌, replicate}
+use Rattle.std.proofs.Common.{◌≡◌, ℕ, ◌+◌, ◌<◌, ◌≤◌, Bool, true, false, ◌&&◌, List, ◌++◌, length, take, drop, get_or, refl, sym, ap, ◌∙◌, subst, arith, ⊎_elim}
+use Rattle.std.specs.Prelude.{slice_set, is_some}
 use Rattle.std.proofs.Math.Seq.{take-append_seam}
-use Rattle.std.proofs.lemmas.List.{get_or-set_same, get_or-set_other, length-set, length-replicate}
-use Rattle.cq_position.specs.Search.{SearchedTree}
-use Rattle.cql_syntax.specs.Values.{holds}
-use Rattle.cql_eval.specs.Columns.{is_live, is_so, shown, AreKept, IsNarrowed}
+use Rattle.std.proofs.lemmas.List.{get_or-set_same, get_or-set_other, length-set}
+use Rattle.cql_eval.specs.Columns.{is_live, shown, AreKept, IsNumbered}
 use Rattle.cql_eval.specs.declared.filter_column.FilterColumn.{FilterColumn}
-use Rattle.cql_eval.proofs.Filling.{split_last, split_at, past, part_asked, any_default, equal_or}
+use Rattle.cql_syntax.specs.Values.{amount}
+use Rattle.cql_eval.proofs.Filling.{split_last, split_at, past, any_default}
 
 -- the first k nodes are tried
 pub record KeptTo (test : ℕ → Bool) (live : List Bool) (k : ℕ) (left : List Bool) : Type 0 where
@@ -44,38 +43,10 @@ kept_all test live left k end had = record {
       (split_at n k);
 }
 
-pub narrowed_by_kept : (live left : List Bool) (c : FilterColumn) (want : Bool) → AreKept (λ n. is_so want (holds (shown c n))) live left → IsNarrowed live c want left
-narrowed_by_kept live left c want kept = record {
-  count = kept.count;
-  each = kept.each;
-  asked = λ tree a. part_asked tree live left (λ n. is_so want (holds (shown c n))) a kept.count kept.each;
-}
-
-kept_same : (live : List Bool) → AreKept (λ n. true) live live
-kept_same live = record { count = refl; each = λ n. and_true (is_live live n) }
-  where
-    and_true : (b : Bool) → b ≡ (b && true)
-    and_true true = refl
-    and_true false = refl
-
-pub kept_all_if : (all : Bool) (live : List Bool) → all ≡ true → AreKept (λ n. all) live live
-kept_all_if all live e = subst (λ b. AreKept (λ n. b) live live) (sym e) (kept_same live)
-
-nowhere : (count n : ℕ) → get_or (replicate count false) n false ≡ false
-nowhere zero zero = refl
-nowhere zero (suc n) = refl
-nowhere (suc count) zero = refl
-nowhere (suc count) (suc n) = nowhere count n
-
-pub kept_none_if : (all : Bool) (live left : List Bool) → all ≡ false → left ≡ replicate (length live) false → AreKept (λ n. all) live left
-kept_none_if all live left e is = record {
-  count = ap length is ∙ length-replicate (length live) false;
-  each = λ n. ap (λ l. get_or l n false) is ∙ nowhere (length live) n ∙ never (is_live live n) all e;
-}
-  where
-    never : (a b : Bool) → b ≡ false → false ≡ (a && b)
-    never true b e = sym e
-    never false b e = refl
+pub numbered_by_kept : (live left : List Bool) (c : FilterColumn) (k : ℕ) → length left ≤ k → KeptTo (λ n. is_some (amount (shown c n))) live k left → IsNumbered live c left
+numbered_by_kept live left c k end had =
+    let kept = kept_all (λ n. is_some (amount (shown c n))) live left k end had in
+    record { count = kept.count; each = kept.each }
 
 -- a list that is changed in place, and is as long as it was
 pub written : (len : ℕ) (new old : List Bool) → len ≡ length new → take len (new ++ drop (length new) old) ≡ new

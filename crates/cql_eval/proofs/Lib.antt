@@ -1,4 +1,5 @@
 pub mod Chains
+pub mod ClassLaw
 pub mod Costing
 pub mod Filling
 pub mod FindLaw
@@ -13,6 +14,7 @@ pub mod Lowering
 pub mod MoveLaw
 pub mod Parents
 pub mod Raising
+pub mod SortsLaw
 pub mod UnaryLaws
 pub mod Wanting
 pub mod Widening

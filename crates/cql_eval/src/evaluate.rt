@@ -26,6 +26,7 @@ use crate::nodes::{any_live, narrowed, part_of};
 use crate::tree::{
     above, below, children, lowered, none, of_parents, parents, raised, with_parents,
 };
+pub(crate) use chains::left_by;
 use chains::{all_hold, columns_of, none_holds, terms_of};
 use cq_outside::{NoMemory, Steps};
 use cql_syntax::{Chain, Filter, Filters, Form, Kind, Unary};

@@ -12,6 +12,7 @@ mod leaves;
 mod moves;
 mod narrow;
 mod nodes;
+mod order;
 mod patterns;
 mod query;
 mod squares;

@@ -1,9 +1,9 @@
 //! Nodes that are taken out of a set by a column, in place.
-ghost use Rattle.std.specs.Prelude.{◌≡◌, ◌&&◌, get_or, length, false, None};
-ghost use Rattle.cql_syntax.specs.Values.{holds};
+ghost use Rattle.std.specs.Prelude.{◌≡◌, ◌&&◌, get_or, length, false, None, is_some};
+ghost use Rattle.cql_syntax.specs.Values.{holds, amount};
 ghost use Rattle.cql_values.specs.Shown.{meant};
 ghost use Rattle.cql_values.specs.declared.value.Value.TheVariants.{Truth, Set, Number};
-ghost use Rattle.cql_eval.specs.Columns.{is_so, AreKept, IsNarrowed};
+ghost use Rattle.cql_eval.specs.Columns.{is_so, shown, AreKept, IsNarrowed, IsNumbered};
 
 use crate::filter_column::{FilterColumn, number_at, set_at, truth_at, value_at};
 use cql_values::value::Value;
@@ -76,6 +76,22 @@ fn kept_by_values(asked: bool, values: &[Value], n: usize, want: bool) -> bool
     ensures { result ≡ (asked && is_so want (holds (meant (get_or values.now n (Truth false))))) }
 {
     asked && value_at(values, n).holds() == want
+}
+
+/// Leaves those nodes of a set at which a column has a number.
+pub(crate) fn keep_numbered(left: &mut [bool], column: &FilterColumn)
+    ensures len { length left.new ≡ length left.old }
+    ensures nodes { IsNumbered left.old column.now left.new }
+{
+    for n in 0..left.len() {
+        left[n] = has_number(left[n], column, n);
+    }
+}
+
+fn has_number(asked: bool, column: &FilterColumn, n: usize) -> bool
+    ensures { result ≡ (asked && is_some (amount (shown column.now n))) }
+{
+    asked && column.at(n).number().is_some()
 }
 
 // All nodes of the set, or none.

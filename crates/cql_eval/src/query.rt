@@ -7,6 +7,7 @@ ghost use Rattle.cql_syntax.specs.Meaning.{value};
 ghost use Rattle.cql_syntax.specs.TreeOf.{filter_tree, filters_tree};
 ghost use Rattle.cql_syntax.specs.Values.{holds, amount};
 ghost use Rattle.cql_values.specs.Trees.{searched_tree};
+ghost use Rattle.cql_eval.specs.Classes.{is_of, is_so_if, cost_if, IsLeft};
 ghost use Rattle.cql_eval.specs.Columns.{AreAsked, is_live, shown};
 ghost use Rattle.cql_eval.specs.Costs.{filter_cost, filters_cost};
 ghost use Rattle.cql_eval.specs.FlatTrees.{IsFlat};
@@ -14,9 +15,11 @@ ghost use Rattle.cql_eval.specs.Hits.{hits_of, keys_of, hit_column, key_columns,
 
 use crate::column::Column;
 use crate::combine::numbered;
-use crate::evaluate::evaluate;
+use crate::evaluate::{evaluate, left_by};
 use crate::filter_column::FilterColumn;
+use crate::narrow::keep_numbered;
 use crate::nodes::{narrowed, same, searched_nodes};
+use crate::order::SORTS;
 use cq_outside::{NoMemory, Steps};
 use cql_syntax::{Filter, FlatQuery, Form};
 use cql_values::names::Names;
@@ -58,8 +61,8 @@ pub fn columns<L: Ledger>(
     Ok(Column { hits: left, keys })
 }
 
-/// Where all items of a query hold in a game, and the values of its sort items there alone: a sort item is asked for where all items
-/// before it hold.
+/// Where all items of a query hold in a game, and the values of its sort items there alone: those that cost least are asked first, each
+/// where those before it hold, and the sort items last.
 ///
 /// Each searched node is a step, and so is each look at the atoms of a line.
 pub fn hit_columns<L: Ledger>(
@@ -82,14 +85,54 @@ pub fn hit_columns<L: Ledger>(
     let names = Names::new(alloc);
     let variations = query.variations;
     let all = searched_nodes(alloc, game, variations, steps)?;
-    let mut left = same(alloc, &all)?;
+    let items = &query.items;
+    let mut left = left_by(
+        alloc, SORTS, true, items, game, variations, &names, &all, steps,
+    )?;
     let mut keys = Vec::new(alloc);
-    for item in query.items.as_slice() {
-        left = narrowed_by(
-            alloc, item, game, variations, &names, &left, &left, &mut keys, steps,
+    for item in items.as_slice() {
+        sort_by(
+            alloc, item, game, variations, &names, &mut left, &mut keys, steps,
         )?;
     }
     Ok(Column { hits: left, keys })
+}
+
+// Takes the nodes out of a set at which a sort item has no value, and adds its values at the nodes of the set. Nothing is done for another
+// item.
+#[tactic(auto, unfolding(cql_syntax::specs::Meaning::value, crate::specs::Costs::filter_cost, crate::specs::FlatTrees::unflat, crate::specs::Classes::form_class))]
+fn sort_by<L: Ledger>(
+    alloc: Global,
+    item: &Filter,
+    game: &Game,
+    variations: bool,
+    names: &Names,
+    left: &mut [bool],
+    keys: &mut Vec<Vec<Option<i64>>>,
+    steps: &mut Steps<L>,
+) -> Result<(), NoMemory>
+    requires tree { IsTree game.now.nodes }
+    requires names { names.now ≡ [] }
+    requires asked { AreAsked (searched_tree game.now variations) left.old }
+    requires flat { IsFlat (filter_tree item.now) }
+    ensures len { length left.new ≡ length left.old }
+    ensures left { OnOk result (IsLeft (searched_tree game.now variations) left.old
+        (is_so_if (is_of 5) (searched_tree game.now variations) [] true (filter_tree item.now)) left.new) }
+    ensures keys { OnOk result (map (λ row. row.items) keys.new.items ≡ map (λ row. row.items) keys.old.items
+        ++ map (key_row_of (searched_tree game.now variations) left.old) (item_numbers (filter_tree item.now))) }
+    ensures cost { steps.new ≤ steps.old + cost_if (is_of 5) (length game.now.nodes) (filter_tree item.now) }
+    ensures rises { steps.old ≤ steps.new }
+{
+    match &item.form {
+        Form::Sort(.., number) => {
+            let column = evaluate(alloc, number, game, variations, names, left, steps)?;
+            let row = key_row(alloc, &column, left)?;
+            keys.push(row)?;
+            keep_numbered(left, &column);
+            Ok(())
+        }
+        _ => Ok(()),
+    }
 }
 
 // The nodes that are left at which an item holds; the values of a sort item at the nodes that are asked for are added.

@@ -1,28 +1,30 @@
 //! The columns of the parts of a filter.
-ghost use Rattle.std.specs.Prelude.{◌≡◌, ℕ, ◌≤◌, ◌+◌, [], length, true, get_or, not, IfOk};
+ghost use Rattle.std.specs.Prelude.{◌≡◌, ℕ, ◌≤◌, ◌+◌, [], length, true, get_or, not, IfOk, OnOk};
 ghost use Rattle.std.specs.List.{list_any};
 ghost use Rattle.cq_position.specs.Games.{IsTree};
 ghost use Rattle.cql_syntax.specs.Meaning as meaning;
 ghost use Rattle.cql_syntax.specs.TreeOf.{filter_tree, filters_tree, terms_tree};
 ghost use Rattle.cql_syntax.specs.Values as spec;
 ghost use Rattle.cql_values.specs.Trees.{searched_tree};
+ghost use Rattle.cql_eval.specs.Classes.{is_of, is_before, is_so_if, are_so, cost_if, cost_of, IsLeft};
 ghost use Rattle.cql_eval.specs.Columns.{AreAsked, AreTruths, Where, all_shown, terms_shown};
 ghost use Rattle.cql_eval.specs.Costs.{filters_cost, terms_cost};
-ghost use Rattle.cql_eval.specs.FlatTrees.{AreFlat, AreFlatTerms};
+ghost use Rattle.cql_eval.specs.FlatTrees.{IsFlat, AreFlat, AreFlatTerms};
 
 use super::evaluate;
 use crate::filter_column::FilterColumn;
-use crate::nodes::{narrowed, same};
+use crate::narrow::narrow;
+use crate::nodes::same;
+use crate::order::{CLASSES, is_of_class};
 use cq_outside::{NoMemory, Steps};
-use cql_syntax::{Filters, Terms};
+use cql_syntax::{Filter, Filters, Terms};
 use cql_values::names::Names;
 use pgn_tree::Game;
 use std::alloc::Global;
 use std::sync::ledger::Ledger;
 
-/// Whether all of some filters hold; each is asked for where all before it hold.
+/// Whether all of some filters hold.
 #[cycle(evaluate)]
-#[tactic(auto, unfolding(cql_syntax::specs::Meaning::value))]
 pub(super) fn all_hold<L: Ledger>(
     alloc: Global,
     filters: &Filters,
@@ -40,17 +42,14 @@ pub(super) fn all_hold<L: Ledger>(
     ensures cost { steps.new ≤ steps.old + filters_cost (length game.now.nodes) (filters_tree filters.now) }
     ensures rises { steps.old ≤ steps.new }
 {
-    let mut left = same(alloc, live)?;
-    for filter in filters.as_slice() {
-        let column = evaluate(alloc, filter, game, variations, names, &left, steps)?;
-        left = narrowed(alloc, &left, &column, true)?;
-    }
+    let left = left_by(
+        alloc, CLASSES, true, filters, game, variations, names, live, steps,
+    )?;
     Ok(left)
 }
 
-/// Whether none of some filters holds; each is asked for where none before it holds.
+/// Whether none of some filters holds.
 #[cycle(evaluate)]
-#[tactic(auto, unfolding(cql_syntax::specs::Meaning::value))]
 pub(super) fn none_holds<L: Ledger>(
     alloc: Global,
     filters: &Filters,
@@ -68,12 +67,101 @@ pub(super) fn none_holds<L: Ledger>(
     ensures cost { steps.new ≤ steps.old + filters_cost (length game.now.nodes) (filters_tree filters.now) }
     ensures rises { steps.old ≤ steps.new }
 {
+    let left = left_by(
+        alloc, CLASSES, false, filters, game, variations, names, live, steps,
+    )?;
+    Ok(left)
+}
+
+/// Of the nodes of a set those at which each filter of a class before `past` holds, or each doesn't: class by class, those that cost
+/// least first, each filter where those before it leave something open.
+#[cycle(evaluate)]
+pub(crate) fn left_by<L: Ledger>(
+    alloc: Global,
+    past: u32,
+    want: bool,
+    filters: &Filters,
+    game: &Game,
+    variations: bool,
+    names: &Names,
+    live: &[bool],
+    steps: &mut Steps<L>,
+) -> Result<Vec<bool>, NoMemory>
+    requires tree { IsTree game.now.nodes }
+    requires asked { AreAsked (searched_tree game.now variations) live.now }
+    requires flat { AreFlat (filters_tree filters.now) }
+    ensures left { IfOk result (λ left. IsLeft (searched_tree game.now variations) live.now
+        (are_so (is_before past) (searched_tree game.now variations) names.now want (filters_tree filters.now)) left.items) }
+    ensures cost { steps.new ≤ steps.old + cost_of (is_before past) (length game.now.nodes) (filters_tree filters.now) }
+    ensures rises { steps.old ≤ steps.new }
+{
     let mut left = same(alloc, live)?;
-    for filter in filters.as_slice() {
-        let column = evaluate(alloc, filter, game, variations, names, &left, steps)?;
-        left = narrowed(alloc, &left, &column, false)?;
+    for class in 0..past {
+        ask_class(
+            alloc, class, want, filters, game, variations, names, &mut left, steps,
+        )?;
     }
     Ok(left)
+}
+
+// Takes the nodes out of a set at which a filter of a class isn't as it is wanted.
+#[cycle(evaluate)]
+fn ask_class<L: Ledger>(
+    alloc: Global,
+    class: u32,
+    want: bool,
+    filters: &Filters,
+    game: &Game,
+    variations: bool,
+    names: &Names,
+    left: &mut [bool],
+    steps: &mut Steps<L>,
+) -> Result<(), NoMemory>
+    requires tree { IsTree game.now.nodes }
+    requires asked { AreAsked (searched_tree game.now variations) left.old }
+    requires flat { AreFlat (filters_tree filters.now) }
+    ensures len { length left.new ≡ length left.old }
+    ensures left { OnOk result (IsLeft (searched_tree game.now variations) left.old
+        (are_so (is_of class) (searched_tree game.now variations) names.now want (filters_tree filters.now)) left.new) }
+    ensures cost { steps.new ≤ steps.old + cost_of (is_of class) (length game.now.nodes) (filters_tree filters.now) }
+    ensures rises { steps.old ≤ steps.new }
+{
+    for filter in filters.as_slice() {
+        ask_if(
+            alloc, class, want, filter, game, variations, names, left, steps,
+        )?;
+    }
+    Ok(())
+}
+
+// The same for one filter, if it is of the class.
+#[cycle(evaluate)]
+fn ask_if<L: Ledger>(
+    alloc: Global,
+    class: u32,
+    want: bool,
+    filter: &Filter,
+    game: &Game,
+    variations: bool,
+    names: &Names,
+    left: &mut [bool],
+    steps: &mut Steps<L>,
+) -> Result<(), NoMemory>
+    requires tree { IsTree game.now.nodes }
+    requires asked { AreAsked (searched_tree game.now variations) left.old }
+    requires flat { IsFlat (filter_tree filter.now) }
+    ensures len { length left.new ≡ length left.old }
+    ensures left { OnOk result (IsLeft (searched_tree game.now variations) left.old
+        (is_so_if (is_of class) (searched_tree game.now variations) names.now want (filter_tree filter.now)) left.new) }
+    ensures cost { steps.new ≤ steps.old + cost_if (is_of class) (length game.now.nodes) (filter_tree filter.now) }
+    ensures rises { steps.old ≤ steps.new }
+{
+    if !is_of_class(filter, class) {
+        return Ok(());
+    }
+    let column = evaluate(alloc, filter, game, variations, names, left, steps)?;
+    narrow(left, &column, want);
+    Ok(())
 }
 
 /// The column of each of some filters.

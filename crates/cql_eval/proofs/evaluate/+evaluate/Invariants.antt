@@ -1,10 +1,10 @@
-use Rattle.std.specs.Prelude.{◌≡◌, ℕ, ◌<◌, get_or, [], ◌∷◌, take, drop, not, length, ◌+◌, ◌-◌, ◌*◌, ◌≤◌}
-use Rattle.std.specs.List.{list_all, list_any}
+use Rattle.std.specs.Prelude.{◌≡◌, ℕ, ◌<◌, get_or, [], ◌∷◌, take, drop, length, ◌+◌, ◌-◌, ◌*◌, ◌≤◌}
 use Rattle.cql_syntax.specs.Meaning.{value, values, term_values}
-use Rattle.cql_syntax.specs.TreeOf.{filter_tree, filter_trees, term_trees, part_trees, body_tree}
+use Rattle.cql_syntax.specs.TreeOf.{filter_tree, filter_trees, filters_tree, term_trees, part_trees, body_tree}
 use Rattle.cql_syntax.specs.Values.{holds}
 use Rattle.cql_values.specs.Trees.{searched_tree}
 use Rattle.cql_eval.specs.Asked.{AreWanted}
+use Rattle.cql_eval.specs.Classes.{is_of, is_before, are_so, cost_of, IsLeft}
 use Rattle.cql_eval.specs.Columns.{Where, shown, all_shown, terms_shown}
 use Rattle.cql_eval.specs.Costs.{filter_cost, filters_cost, terms_cost, parts_cost, body_atoms}
 use Rattle.cql_eval.specs.FlatTrees.{IsFlat, IsFlatBody}
@@ -16,22 +16,20 @@ use Rattle.cql_eval.proofs.Chains.{LeftOf, unsettled_by}
 use Rattle.cql_eval.proofs.LinesLaw.{TableSoFar}
 use Rattle.cql_eval.proofs.evaluate.+evaluate.Given as goal
 
-abbrev pub invariant-chains::all_hold-loop-filter : goal.invariant-chains::all_hold-loop-filter
-invariant-chains::all_hold-loop-filter g l = record {
-  left : LeftOf (searched_tree l.game l.variations) l.live
-      (λ n. list_all holds (values (searched_tree l.game l.variations) [] l.names (filter_trees (take l.filter-index l.filter-items)) n)) l.left.items;
-  cost : l.steps + filters_cost (length l.game.nodes) (filter_trees (drop l.filter-index l.filter-items))
-      ≤ l.fn.steps + filters_cost (length l.game.nodes) (filter_trees l.filter-items);
+abbrev pub invariant-chains::left_by-loop-class : goal.invariant-chains::left_by-loop-class
+invariant-chains::left_by-loop-class g l = record {
+  left : IsLeft (searched_tree l.game l.variations) l.live (are_so (is_before l.class) (searched_tree l.game l.variations) l.names l.want (filters_tree l.filters)) l.left.items;
+  cost : l.steps ≤ l.fn.steps + cost_of (is_before l.class) (length l.game.nodes) (filters_tree l.filters);
   rises : l.fn.steps ≤ l.steps;
-  flat : (i : ℕ) (f : Filter) → i < length l.filter-items → f ≡ get_or l.filter-items i f → IsFlat (filter_tree f);
 }
 
-abbrev pub invariant-chains::none_holds-loop-filter : goal.invariant-chains::none_holds-loop-filter
-invariant-chains::none_holds-loop-filter g l = record {
-  left : LeftOf (searched_tree l.game l.variations) l.live
-      (λ n. not (list_any holds (values (searched_tree l.game l.variations) [] l.names (filter_trees (take l.filter-index l.filter-items)) n))) l.left.items;
-  cost : l.steps + filters_cost (length l.game.nodes) (filter_trees (drop l.filter-index l.filter-items))
-      ≤ l.fn.steps + filters_cost (length l.game.nodes) (filter_trees l.filter-items);
+abbrev pub invariant-chains::ask_class-loop-filter : goal.invariant-chains::ask_class-loop-filter
+invariant-chains::ask_class-loop-filter g l = record {
+  len : length l.left ≡ length l.fn.left;
+  left : IsLeft (searched_tree l.game l.variations) l.fn.left
+      (are_so (is_of l.class) (searched_tree l.game l.variations) l.names l.want (filter_trees (take l.filter-index l.filter-items))) l.left;
+  cost : l.steps + cost_of (is_of l.class) (length l.game.nodes) (filter_trees (drop l.filter-index l.filter-items))
+      ≤ l.fn.steps + cost_of (is_of l.class) (length l.game.nodes) (filter_trees l.filter-items);
   rises : l.fn.steps ≤ l.steps;
   flat : (i : ℕ) (f : Filter) → i < length l.filter-items → f ≡ get_or l.filter-items i f → IsFlat (filter_tree f);
 }

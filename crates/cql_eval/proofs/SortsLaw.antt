@@ -1,0 +1,83 @@
+-- The sort items of a query, which are asked after all others.
+use Rattle.std.proofs.Common.{◌≡◌, ℕ, ◌+◌, ◌<◌, ◌≤◌, ◌&&◌, Bool, true, false, List, [], ◌++◌, length, take, drop, get_or, refl, sym, ap, ap₂, ◌∙◌, subst, arith}
+use Rattle.std.specs.List.{list_all}
+use Rattle.std.specs.Prelude.{is_some, if◌then◌else◌}
+use Rattle.cq_position.specs.Search.{SearchedTree}
+use Rattle.cql_syntax.specs.Meaning.{Names, value, values}
+use Rattle.cql_syntax.specs.Trees.{FilterTree, filter_at, FilterTrees, sort}
+use Rattle.cql_syntax.specs.TreeOf.{filter_tree, filter_trees}
+use Rattle.cql_syntax.specs.Values.{Value, holds, amount}
+use Rattle.cql_syntax.specs.declared.tree.Filter.{Filter}
+use Rattle.cql_eval.specs.Classes.{form_class, is_of, is_before, is_so_if, are_so, cost_of, IsLeft}
+use Rattle.cql_eval.specs.Columns.{is_live, shown, AreAsked, IsColumn, IsNumbered}
+use Rattle.cql_eval.specs.Costs.{filters_cost}
+use Rattle.cql_eval.specs.declared.filter_column.FilterColumn.{FilterColumn}
+use Rattle.cql_eval.proofs.ClassLaw.{is_left_then, is_left_same, so_begun, so_more, so_whole, so_next, so_all, cost_next, cost_all}
+use Rattle.cql_eval.proofs.Filling.{both_left, part_asked}
+use Rattle.cql_eval.proofs.HitsLaw.{ItemsSoFar}
+use Rattle.cql_eval.proofs.Keeping.{written}
+
+and_true : (b : Bool) → b ≡ (b && true)
+and_true true = refl
+and_true false = refl
+
+and_assoc : (a b c : Bool) → ((a && b) && c) ≡ (a && (b && c))
+and_assoc true b c = refl
+and_assoc false b c = refl
+
+-- all other items hold, and the sort items among the first ones
+abbrev pub sorted_so : SearchedTree → FilterTrees → List Filter → ℕ → ℕ → Bool
+sorted_so tree fs xs i n = are_so (is_before 5) tree [] true fs n && are_so (is_of 5) tree [] true (filter_trees (take i xs)) n
+
+pub sorted_begun : (tree : SearchedTree) (all given left : List Bool) (e : Names) (fs : FilterTrees) (xs : List Filter) → given ≡ all → e ≡ []
+    → IsLeft tree given (are_so (is_before 5) tree e true fs) left → IsLeft tree all (sorted_so tree fs xs 0) left
+sorted_begun tree all given left e fs xs is none had =
+    is_left_same tree all left (are_so (is_before 5) tree [] true fs) (sorted_so tree fs xs 0)
+    (λ n. and_true (are_so (is_before 5) tree [] true fs n) ∙ ap (λ b. are_so (is_before 5) tree [] true fs n && b) (sym (so_begun (is_of 5) tree [] true xs n)))
+    (subst (λ l. IsLeft tree l (are_so (is_before 5) tree [] true fs) left) is (subst (λ names. IsLeft tree given (are_so (is_before 5) tree names true fs) left) none had))
+
+pub sorted_more : (tree : SearchedTree) (all left given new : List Bool) (fs : FilterTrees) (xs : List Filter) (i : ℕ) (f : Filter) (len : ℕ) → i < length xs → f ≡ get_or xs i f
+    → len ≡ length new → given ≡ left → IsLeft tree all (sorted_so tree fs xs i) left → IsLeft tree given (is_so_if (is_of 5) tree [] true (filter_tree f)) new
+    → IsLeft tree all (sorted_so tree fs xs (i + 1)) (take len (new ++ drop (length new) left))
+sorted_more tree all left given new fs xs i f len below at count is had asked =
+    let one = is_so_if (is_of 5) tree [] true (filter_tree f) in
+    subst (IsLeft tree all (sorted_so tree fs xs (i + 1))) (sym (written len new left count))
+    (is_left_then tree all left new (sorted_so tree fs xs i) one (sorted_so tree fs xs (i + 1)) had (subst (λ l. IsLeft tree l one new) is asked)
+    (λ n. ap (λ b. are_so (is_before 5) tree [] true fs n && b) (so_more (is_of 5) tree [] true xs i f n below at)
+    ∙ sym (and_assoc (are_so (is_before 5) tree [] true fs n) (are_so (is_of 5) tree [] true (filter_trees (take i xs)) n) (one n))))
+
+-- the nodes that are left were there
+pub sorted_within : (tree : SearchedTree) (left given new : List Bool) (test : ℕ → Bool) (len : ℕ) → len ≡ length new → given ≡ left → IsLeft tree given test new
+    → (n : ℕ) → is_live (take len (new ++ drop (length new) left)) n ≡ true → is_live left n ≡ true
+sorted_within tree left given new test len count is asked n l =
+    ap (λ x. is_live x n) (sym is)
+    ∙ both_left (is_live given n) (test n) (sym (asked.each n) ∙ ap (λ x. is_live x n) (sym (written len new left count)) ∙ l)
+
+pub sorted_items : (tree : SearchedTree) (all left : List Bool) (fs : FilterTrees) (xs : List Filter) (i : ℕ) → length xs ≤ i → filter_trees xs ≡ fs
+    → IsLeft tree all (sorted_so tree fs xs i) left → ItemsSoFar tree all xs i left
+sorted_items tree all left fs xs i end is had = record {
+  asked = had.asked;
+  each = λ n. had.each n ∙ ap (λ b. is_live all n && b)
+      (ap (λ b. b && are_so (is_of 5) tree [] true (filter_trees (take i xs)) n) (sym (so_whole (is_before 5) tree [] true xs i fs n end is))
+      ∙ sym (so_next tree [] true 5 (filter_trees (take i xs)) n) ∙ so_all tree [] true (filter_trees (take i xs)) n);
+}
+
+-- the costs of the sort items and of all others
+pub sorted_cost : (nodes : ℕ) (xs : List Filter) (fs : FilterTrees) → filter_trees xs ≡ fs
+    → cost_of (is_before 5) nodes fs + cost_of (is_of 5) nodes (filter_trees xs) ≡ filters_cost nodes fs
+sorted_cost nodes xs fs is =
+    ap (λ gs. cost_of (is_before 5) nodes fs + cost_of (is_of 5) nodes gs) is ∙ sym (cost_next nodes 5 fs) ∙ cost_all nodes fs
+
+-- one sort item
+pub sorted_one : (tree : SearchedTree) (live left : List Bool) (c : FilterColumn) (f part : FilterTree) (at : ℕ) (least : Bool) (text : List ℕ) → f ≡ filter_at at (sort least text part)
+    → AreAsked tree live → IsColumn c live (value tree [] [] part) → IsNumbered live c left → IsLeft tree live (is_so_if (is_of 5) tree [] true f) left
+unfolding value form_class
+sorted_one tree live left c f part at least text is asked column numbered = record {
+  asked = part_asked tree live left (λ n. is_some (amount (shown c n))) asked numbered.count numbered.each;
+  each = λ n. numbered.each n ∙ by (is_live live n) (shown c n) (value tree [] [] part n) (λ l. column n l)
+      ∙ ap (λ g. is_live live n && is_so_if (is_of 5) tree [] true g n) (sym is);
+}
+  where
+    by : (b : Bool) (x y : Value) → (b ≡ true → x ≡ y) → (b && is_some (amount x)) ≡ (b && is_some (amount y))
+    by true x y e = ap (λ z. is_some (amount z)) (e refl)
+    by false x y e = refl

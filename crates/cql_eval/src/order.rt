@@ -1,0 +1,37 @@
+//! In what order filters are asked.
+ghost use Rattle.std.specs.Prelude.{◌≡◌};
+ghost use Rattle.cql_syntax.specs.TreeOf.{filter_tree};
+ghost use Rattle.cql_eval.specs.Classes.{filter_class, is_of};
+
+use cql_syntax::{Filter, Form};
+
+/// How many classes of filters there are.
+pub(crate) const CLASSES: u32 = 6;
+
+/// The class of the sort items, the last.
+pub(crate) const SORTS: u32 = 5;
+
+/// The class of a filter, by what it costs to ask: the lowest least. What is the same at all nodes, words and designators, what has
+/// parts, lines, squares that are tried one by one, sort items.
+#[tactic(auto, unfolding(crate::specs::Classes::form_class))]
+pub(crate) fn class_of(filter: &Filter) -> u32
+    ensures { result ≡ filter_class (filter_tree filter.now) }
+{
+    match &filter.form {
+        Form::Number(_) | Form::Name(_) | Form::Tagged(..) | Form::Outcome(_) | Form::Elo(_) => 0,
+        Form::Comment(_) => 0,
+        Form::Squares(_) | Form::Plain(_) => 1,
+        Form::Unary(..) | Form::Steps(..) | Form::Chain(..) | Form::Sum(_) | Form::Pair(..) => 2,
+        Form::If(..) | Form::Played(_) | Form::Transform(..) | Form::Any(..) => 2,
+        Form::Line(_) => 3,
+        Form::Square(..) => 4,
+        Form::Sort(..) => SORTS,
+    }
+}
+
+/// Whether a filter is of a class.
+pub(crate) fn is_of_class(filter: &Filter, class: u32) -> bool
+    ensures { result ≡ is_of class (filter_tree filter.now) }
+{
+    class_of(filter) == class
+}
