@@ -91,8 +91,7 @@ so_whole taken tree e want xs i fs n end is =
 
 -- class by class
 not_below : (x : ℕ) → nat_lt x 0 ≡ false
-not_below zero = refl
-not_below (suc x) = refl
+not_below x = grind (arith, nat_tests)
 
 pub so_none : (tree : SearchedTree) (e : Names) (want : Bool) (fs : FilterTrees) (n : ℕ) → are_so (is_before 0) tree e want fs n ≡ true
 unfolding are_so

@@ -34,6 +34,12 @@ loop-item-preserved g c = record {
   least = omega (arith, c.loop-item.invariant.least, c.sort_by.ensures.rises);
 }
 
+pub left_by-requires-clause-asked : goal.left_by-requires-clause-asked
+left_by-requires-clause-asked g c = search (rules, all_asked (searched_tree c.args.game.now c.args.query.now.variations) c.in_ok-all.all.items c.in_ok-all.ensures.nodes)
+
+pub left_by-requires-clause-flat : goal.left_by-requires-clause-flat
+left_by-requires-clause-flat g c = items_flat (filters_tree c.args.query.now.items) c.args.query.now.flat c.args.query.now.accepted
+
 pub sort_by-requires-clause-flat : goal.sort_by-requires-clause-flat
 sort_by-requires-clause-flat g c =
     filter_flat c.as_slice-item-items.result.now c.loop-item.item-index c.item-item.result (filters_tree c.args.query.now.items) c.loop-item-test.true c.item-item.is
