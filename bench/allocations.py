@@ -40,6 +40,7 @@ def runs(folder):
     composite = 'cql(matchstring "mate") mate year == 2023 elo white > 1800'
     yield ["eval", composite], COMPOSITE
     yield ["eval", composite, "--workers", "2"], COMPOSITE
+    yield ["eval", composite, "--workers", "2", "--first"], COMPOSITE
     for query in QUERIES:
         yield ["eval", "cql(variations) " + query], GAMES
     for words in (["run", "q.cql"], ["run", "q.cql", "--workers", "2"], ["run", "faulty.cql"]):
