@@ -2,8 +2,6 @@
 #![tactic(auto)]
 
 #[cfg(test)]
-mod beside;
-#[cfg(test)]
 mod first_match;
 #[cfg(test)]
 mod kinds;
