@@ -50,8 +50,8 @@ IsFileOf opened name Input = name ≡ codes "-"
 IsFileOf opened name (File left) = opened name left
 
 -- A name could be opened, or the system refused the file of this name; a name that is no text names no file.
-abbrev pub IsOpenedBy : (List ℕ → Option (List ℕ) → Type 0) → (List ℕ → Type 0) → List ℕ → RealDesk → Result (Unit {0}) OpenFault
-    → Type 0
+abbrev pub IsOpenedBy : (List ℕ → Option (List ℕ) → Type 0) → (List ℕ → Type 0) → List ℕ → RealDesk
+    → Result (Unit {0}) OpenFault → Type 0
 IsOpenedBy opened refused name desk (Ok _) = IsFileOf opened name desk.current
 IsOpenedBy opened refused name desk (Err _) = IsUtf8 name → refused name
 

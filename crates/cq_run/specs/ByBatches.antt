@@ -16,7 +16,8 @@ HaveOutcomes = (start : ℕ) (first : Bool) (bytes : List ℕ) → (outcome : Ou
 
 -- and one each
 abbrev pub HaveOneOutcome : Type 0
-HaveOneOutcome = (start : ℕ) (first : Bool) (bytes : List ℕ) (a b : Outcome) → IsRead start first bytes a → IsRead start first bytes b → a ≡ b
+HaveOneOutcome = (start : ℕ) (first : Bool) (bytes : List ℕ) (a b : Outcome)
+    → IsRead start first bytes a → IsRead start first bytes b → a ≡ b
 
 -- the games of a cut follow one another
 abbrev pub InOrder : Type 0

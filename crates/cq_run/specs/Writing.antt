@@ -84,7 +84,8 @@ onward sorted query stand outcome = record {
 }
 
 -- one game is answered: it is counted and written or kept, or a write fails, or out of memory nothing of it is written
-abbrev pub AnswersGame : (sorted : Bool) → QueryTree → Outcome → Stand → Stand → Sinks → Result (Unit {0}) (Refusal Failed) → Type 0
+abbrev pub AnswersGame : (sorted : Bool) → QueryTree → Outcome → Stand → Stand → Sinks
+    → Result (Unit {0}) (Refusal Failed) → Type 0
 AnswersGame sorted query outcome before after sinks (Ok _) =
     (after ≡ onward sorted query before outcome)
     × Writes sinks (texts_of_game sorted query before.tally.games outcome) × NoWriteFailed sinks
@@ -99,7 +100,8 @@ pub record FoundSoFar (sorted : Bool) (query : QueryTree) (outcomes : List Outco
   pub unfailed : NoWriteFailed sinks
 
 -- the same after a call that may be refused
-abbrev pub AnswersSome : (sorted : Bool) → QueryTree → List Outcome → Sinks → Stand → Result (Unit {0}) (Refusal Failed) → Type 0
+abbrev pub AnswersSome : (sorted : Bool) → QueryTree → List Outcome → Sinks → Stand
+    → Result (Unit {0}) (Refusal Failed) → Type 0
 AnswersSome sorted query outcomes sinks stand (Ok _) = FoundSoFar sorted query outcomes sinks stand
 AnswersSome sorted query outcomes sinks stand (Err (Fault _)) =
     WritesPrefix sinks (texts_so_far sorted query outcomes) × OneSinkFailed sinks

@@ -189,7 +189,7 @@ fn gathered(
     Ok((word, answers))
 }
 
-// The answers in order, without those behind the first match, which has this number.
+// The answers in order, without those after the first match, which has this number.
 fn cut_off(
     alloc: Global,
     plan: &Plan,

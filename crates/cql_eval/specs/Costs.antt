@@ -51,7 +51,8 @@ unfoldable mutual
   line_cost nodes (path back primary extent cs) = parts_atoms cs * nodes + parts_cost nodes cs
 
   pub played_cost : ℕ → PlayedTree → ℕ
-  played_cost nodes (move_of origin goal taken promoted) = written_cost nodes origin + written_cost nodes goal + written_cost nodes taken + written_cost nodes promoted
+  played_cost nodes (move_of origin goal taken promoted) =
+    written_cost nodes origin + written_cost nodes goal + written_cost nodes taken + written_cost nodes promoted
 
   pub written_cost : ℕ → WrittenTree → ℕ
   written_cost nodes left_out = 0

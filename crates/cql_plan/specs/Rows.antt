@@ -18,4 +18,5 @@ pub record IsRowOf (tree : SearchedTree) (nodes : List ℕ) (row : List (Option 
 -- from a row on, the rows of some numbers in order
 abbrev pub AreRowsFrom : SearchedTree → List ℕ → List (List (Option ℤ)) → ℕ → List FilterTree → Type 0
 AreRowsFrom tree nodes rows k [] = Unit {0}
-AreRowsFrom tree nodes rows k (f ∷ fs) = (k < length rows) × IsRowOf tree nodes (get_or rows k []) f × AreRowsFrom tree nodes rows (k + 1) fs
+AreRowsFrom tree nodes rows k (f ∷ fs) =
+    (k < length rows) × IsRowOf tree nodes (get_or rows k []) f × AreRowsFrom tree nodes rows (k + 1) fs

@@ -1,5 +1,5 @@
 -- The meaning of a query: what each of its filters gives at each node of a game.
-use Rattle.std.specs.Prelude.{ℕ, Bool, true, false, ◌&&◌, not, ◌==◌, nat_le, List, [], ◌∷◌, map, length, Option, Some, None, is_some, option_map, option_to_list, unwrap_or, max, pos, if◌then◌else◌}
+use Rattle.std.specs.Prelude.{ℕ, Bool, true, false, ◌&&◌, not, ◌==◌, List, [], ◌∷◌, map, length, Option, Some, None, is_some, option_map, option_to_list, unwrap_or, pos, if◌then◌else◌}
 use Rattle.std.specs.List.{list_any, filter}
 use Rattle.std.specs.Str.{bytes_eq}
 use Rattle.cq_geometry.specs.Lines.{orthogonals, diagonals}

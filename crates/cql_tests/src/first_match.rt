@@ -108,7 +108,7 @@ impl Gate for Counts {
     }
 }
 
-// One worker draws in order, so it skips every game behind the match.
+// One worker draws in order, so it skips every game after the match.
 #[test]
 fn a_skipped_game_is_not_read(rt: HostRuntime) -> Result<(), Fail> {
     let alloc = rt.alloc();

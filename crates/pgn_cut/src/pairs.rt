@@ -10,7 +10,7 @@ use crate::found::{Found, settled_lexeme};
 use crate::words::words_len;
 use pgn_lexer::{LexemeKind, TokenKind};
 
-// The lexeme at a place of some bytes behind their first, where it ends there whatever follows.
+// The lexeme at a place of some bytes after their first, where it ends there whatever follows.
 fn lexeme_at(bytes: &[u8], at: usize) -> Option<Found>
     requires { (0 < at) × (at ≤ length bytes.now) }
     ensures some { IfSome result (λ f. (0 < f.taken) × (at + f.taken ≤ length bytes.now)) }
