@@ -1,6 +1,6 @@
 -- Each kind of step keeps the rule, from any state that meets it.
 use Rattle.std.proofs.lemmas.Bool.Decides.{eqb_tells}
-use Rattle.std.proofs.Common.{cond, ltb-true, ltb-false, eq-eqb, ◌≡◌, ◌≢◌, ◌⊎◌, inl, inr, ⊎_elim, ℕ, zero, suc, ◌+◌, ◌-◌, ◌<◌, ◌≤◌, List, [], ◌∷◌, ◌++◌, length, set, get_or, Bool, true, false, ◌==◌, min, refl, sym, ap, ◌∙◌, subst, arith}
+use Rattle.std.proofs.Common.{cond, slice_index, ltb-true, ltb-false, eq-eqb, ◌≡◌, ◌≢◌, ◌⊎◌, inl, inr, ⊎_elim, ℕ, zero, suc, ◌+◌, ◌-◌, ◌<◌, ◌≤◌, List, [], ◌∷◌, ◌++◌, length, set, get_or, Bool, true, false, ◌==◌, min, refl, sym, ap, ◌∙◌, subst, arith}
 use Rattle.std.proofs.Math.Nat.{min-eq_left, min-eq_right}
 use Rattle.std.specs.Prelude.{nat_lt, nat_le, sum_by}
 use Rattle.std.proofs.lemmas.List.Sums.{sum_by_push, sum_by-append}
@@ -14,7 +14,7 @@ use Rattle.cq_board.proofs.Increasing.{one_if}
 use Rattle.cq_board.proofs.Totals.{sum_set, one_of_sum, has_all}
 use Rattle.cq_first.specs.declared.view.View.{View}
 use Rattle.cq_first.specs.declared.view.Terms.{Terms}
-use Rattle.cq_first.specs.Views.{spent, first_view, found_in, skipped_in, IsInPlay, IsKept, lowering, skipping, looking, one_share_less, one_share, joined}
+use Rattle.cq_first.specs.Views.{spent, first_view, found_in, skipped_in, IsInPlay, IsKept, IsSeen, lowering, skipping, looking, one_share_less, one_share, joined}
 
 set_word : (words : List ℕ) (n : ℕ) → length words ≡ 1 → set words 0 n ≡ n ∷ []
 set_word [] n one = absurd (omega arith)
@@ -39,6 +39,13 @@ in_play terms v (inr h) part = (h.numbers, h.seats)
 own_part : (terms : Terms) (words : List ℕ) (views : List View) (id : ℕ) (v : View) → IsKept terms words views → get_elem? views id ≡ some v → 0 < v.shares
     → (v.numbers ≡ terms.numbers) × (v.seats ≡ terms.seats)
 own_part terms words views id v kept at part = in_play terms v (kept.alike id v at) part
+
+-- no more than the word at the last look stands there, or the view is spent
+abbrev HasSeen : ℕ → View → Type 0
+HasSeen w v = (v ≡ spent) ⊎ (w ≤ v.last)
+
+own_last : (terms : Terms) (words : List ℕ) (views : List View) (id : ℕ) (v : View) → IsKept terms words views → get_elem? views id ≡ some v → 0 < v.shares → slice_index words 0 ≤ v.last
+own_last terms words views id v kept at part = ⊎_elim (λ e. let p = ap (λ (u : View). u.shares) e in absurd (omega arith)) (λ l. l) (kept.looks id v at)
 
 times_push : (y : ℕ) (xs : List ℕ) (x : ℕ) → times y (xs ++ x ∷ []) ≡ times y xs + one_if (x == y)
 times_push y xs x = sum_by_push (λ z. one_if (z == y)) xs x
@@ -85,6 +92,7 @@ lower_keeps terms words views id v k part kept at = record {
       stands x k (found_in x views) (min w k ≤ x) (subst (λ (n : ℕ). 0 < n) (more x) there)
       (λ here. let b = below.1 in omega arith) (λ some_there. let b = below.0 in let f = kept.founds x some_there in omega arith);
   skips = λ x there. let c = sum_set (λ (u : View). times x u.skipped) views id v (lowering k v) at in let f = kept.skips x (omega arith) in let b = below.0 in omega arith;
+  looks = each_set (HasSeen (min w k)) views id (lowering k v) (λ j u there. lower_seen u (kept.looks j u there)) (lower_seen (lowering k v) (inr (own_last terms words views id v kept at part)));
   shares = let s = sum_set (λ (u : View). u.shares) views id v (lowering k v) at in let k = kept.shares in omega arith;
 }
   where
@@ -93,6 +101,9 @@ lower_keeps terms words views id v k part kept at = record {
 
     below : (min w k ≤ w) × (min w k ≤ k)
     below = min_below w k
+
+    lower_seen : (u : View) → HasSeen w u → HasSeen (min w k) u
+    lower_seen u seen = ⊎_elim (λ e. inl e) (λ l. inr (let b = below.0 in omega arith)) seen
 
     own : (v.numbers ≡ terms.numbers) × (v.seats ≡ terms.seats)
     own = own_part terms words views id v kept at part
@@ -125,6 +136,7 @@ look_keeps terms words views id v k part kept at = record {
   least = ⊎_elim (λ e. inl e) (λ some_there. inr (let c = sum_set (λ (u : View). times w u.found) views id v new at in omega arith)) kept.least;
   founds = λ x there. let c = sum_set (λ (u : View). times x u.found) views id v new at in kept.founds x (omega arith);
   skips = λ x there. by_parts x there (sum_set (λ (u : View). times x u.skipped) views id v new at) (one_of_sum (λ (u : View). times x u.skipped) views id v at);
+  looks = each_set (HasSeen w) views id new kept.looks (inr (omega arith));
   shares = let s = sum_set (λ (u : View). u.shares) views id v new at in let k = kept.shares in omega arith;
 }
   where
@@ -143,26 +155,34 @@ look_keeps terms words views id v k part kept at = record {
         skip_above (nat_lt w k) w k x rest v.skipped refl (omega arith) (λ same above. omega arith) (λ some_there. kept.skips x (omega arith))
 
 pub looks : (terms : Terms) (slots id k : ℕ) (me : Me (Unit {0}) View) → 0 < me.0.shares
-    → Allows (λ (s : State (Unit {0}) View). IsKept terms s.words s.views) slots id me 0 (λ n. n) (λ found after. after ≡ (looking k me.0 found, me.1))
+    → Allows (λ (s : State (Unit {0}) View). IsKept terms s.words s.views) slots id me 0 (λ n. n) (λ found after. (after ≡ (looking k me.0 found, me.1)) × IsSeen me.0 found)
 looks terms slots id k me part s kept homes at fits = (
   looking k me.0 (get_or s.words 0 0),
   keeps,
   tt,
   subst (λ (ws : List ℕ). IsKept terms ws (set s.views id (looking k me.0 (get_or s.words 0 0)))) (sym (set_word s.words (get_or s.words 0 0) kept.word)) (look_keeps terms s.words s.views id me.0 k part kept at),
-  refl,
+  (
+    refl,
+    record {
+      later = own_last terms s.words s.views id me.0 kept at part;
+      own = λ x there. let o = one_of_sum (λ (u : View). times x u.found) s.views id me.0 at in kept.founds x (omega arith);
+    },
+  ),
 )
 
 -- other views with the same totals
 same_totals : (terms : Terms) (words : List ℕ) (views others : List View) → IsKept terms words views → ((id : ℕ) (v : View) → get_elem? others id ≡ some v → IsSpentOrInPlay terms v)
+    → ((id : ℕ) (v : View) → get_elem? others id ≡ some v → HasSeen (slice_index words 0) v)
     → ((x : ℕ) → found_in x others ≡ found_in x views) → ((x : ℕ) → skipped_in x others ≡ skipped_in x views) → sum_by (λ (v : View). v.shares) others ≡ sum_by (λ (v : View). v.shares) views
     → IsKept terms words others
-same_totals terms words views others kept alike founds skips shares = record {
+same_totals terms words views others kept alike seen founds skips shares = record {
   word = kept.word;
   high = kept.high;
   alike = alike;
   least = ⊎_elim (λ e. inl e) (λ some_there. inr (let f = founds (get_or words 0 0) in omega arith)) kept.least;
   founds = λ x there. let f = founds x in kept.founds x (omega arith);
   skips = λ x there. let f = skips x in kept.skips x (omega arith);
+  looks = seen;
   shares = shares ∙ kept.shares;
 }
 
@@ -175,6 +195,9 @@ splits terms id v shares s kept at =
     (each_snoc (IsSpentOrInPlay terms) (set s.views id (one_share_less v)) (one_share v)
     (each_set (IsSpentOrInPlay terms) s.views id (one_share_less v) kept.alike (inr record { numbers = own.0; seats = own.1; part = omega arith }))
     (inr record { numbers = own.0; seats = own.1; part = omega arith }))
+    (each_snoc (HasSeen (slice_index s.words 0)) (set s.views id (one_share_less v)) (one_share v)
+    (each_set (HasSeen (slice_index s.words 0)) s.views id (one_share_less v) kept.looks (inr (own_last terms s.words s.views id v kept at (omega arith))))
+    (inr (let h = kept.high in let n = own.0 in omega arith)))
     (λ x. split_total (λ (u : View). times x u.found) s.views id v (one_share_less v) (one_share v) at (omega arith))
     (λ x. split_total (λ (u : View). times x u.skipped) s.views id v (one_share_less v) (one_share v) at (omega arith))
     (split_total (λ (u : View). u.shares) s.views id v (one_share_less v) (one_share v) at (omega arith))
@@ -193,6 +216,9 @@ joins terms id v other w part s kept at apart there =
     (each_set (IsSpentOrInPlay terms) (set s.views id (joined v w)) other spent
     (each_set (IsSpentOrInPlay terms) s.views id (joined v w) kept.alike (inr record { numbers = own.0; seats = own.1; part = omega arith }))
     (inl refl))
+    (each_set (HasSeen (slice_index s.words 0)) (set s.views id (joined v w)) other spent
+    (each_set (HasSeen (slice_index s.words 0)) s.views id (joined v w) kept.looks (inr (own_last terms s.words s.views id v kept at part)))
+    (inl refl))
     (λ x. join_total (λ (u : View). times x u.found) s.views id other v w (joined v w) at there (times_both x v.found w.found) refl)
     (λ x. join_total (λ (u : View). times x u.skipped) s.views id other v w (joined v w) at there (times_both x v.skipped w.skipped) refl)
     (join_total (λ (u : View). u.shares) s.views id other v w (joined v w) at there refl refl)
@@ -209,9 +235,14 @@ opens terms some_seats = record {
   least = inl refl;
   founds = λ x there. absurd (omega arith);
   skips = λ x there. absurd (omega arith);
+  looks = own_look;
   shares = omega arith;
 }
   where
+    own_look : (id : ℕ) (v : View) → get_elem? (first_view terms ∷ []) id ≡ some v → HasSeen terms.numbers v
+    own_look zero v at = subst (HasSeen terms.numbers) (some-injective _ _ at) (inr (omega arith))
+    own_look (suc id) v at = absurd (some-ne-none v (sym at))
+
     one : (id : ℕ) (v : View) → get_elem? (first_view terms ∷ []) id ≡ some v → IsSpentOrInPlay terms v
     one zero v at = subst (IsSpentOrInPlay terms) (some-injective _ _ at) (inr record { numbers = refl; seats = refl; part = omega arith })
     one (suc id) v at = absurd (some-ne-none v (sym at))

@@ -1,4 +1,4 @@
--- What one query asks to be written, of all games or up to the first match.
+-- What one query asks to be written, of all games.
 use Rattle.std.specs.Prelude.{◌≡◌, ℕ, List, [], Bool, if◌then◌else◌}
 use Rattle.std.specs.List.{flat_map}
 use Rattle.cql_syntax.specs.Trees.{QueryTree}

@@ -25,7 +25,7 @@ use std::thread::Threads;
 /// and the report up to it, whatever the sort items, and no more is read after its batch. Nothing is written after a fault.
 ///
 /// Answers:
-/// - `Done` or `DoneWithRefusals`: both sinks have taken all, and no game, or some, is faulty.
+/// - `Done` or `DoneWithRefusals`: both sinks have taken all, and no game of the report, or some, is faulty.
 /// - `ReadFault`: a read failed, and no other count rose. Of the games of the batches that were full by then all that is due is written.
 /// - `ArchiveTooLong`: one byte more than the limit was read, and no count rose. Written is as much as after a failed read.
 /// - `WriteFault`: a write to one sink failed, and no other count rose. Each sink has taken a prefix of its text.

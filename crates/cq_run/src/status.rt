@@ -5,9 +5,9 @@ ghost use Rattle.cq_run.specs.Status.{exit_code};
 /// How a call ended. The program's exit status is the place in this list, from 0.
 #[derive(Clone, Copy, Debug, PartialEq, Eq)]
 pub enum Status {
-    /// All games are answered, and none is refused.
+    /// All games that were asked for are answered, and none is refused. With `--first` they are those up to the first match.
     Done,
-    /// All games are answered, and some are refused.
+    /// All games that were asked for are answered, and some are refused.
     DoneWithRefusals,
     /// The query is faulty.
     QueryRefused,

@@ -30,8 +30,9 @@ pub(crate) struct Finder {
 }
 
 /// In order, the answer of each game of a batch up to and with its first match, or of all games where none matches. So many workers,
-/// from 1 to 64, draw the games one by one; a worker that draws a game after a match skips it, and such a game is neither entered nor
-/// left at the gate. A thread that can't be started is no refusal: its worker's games are drawn by the others.
+/// from 1 to 64, draw the games one by one. A worker that finds on the board a match before the game that it drew skips this game, which
+/// is then neither entered nor left at the gate; when it finds one is not promised. A thread that can't be started is no refusal: its
+/// worker's games are drawn by the others.
 pub fn run_first<R: Threads + Sync, G: Gate + Sync>(
     rt: &R,
     alloc: Global,
