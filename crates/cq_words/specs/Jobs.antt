@@ -73,9 +73,9 @@ abbrev pub settings_in : List Row → Option Settings
 settings_in rows =
     if is_given rows (codes "seed") || is_given rows (codes "games") then None
     else option_and_then
-      (λ workers. option_map
-        (λ limit. record { workers = workers; limit = limit; first = is_set rows (codes "first") }) (limit_in rows))
-      (workers_in rows)
+    (λ workers. option_map
+    (λ limit. record { workers = workers; limit = limit; first = is_set rows (codes "first") }) (limit_in rows))
+    (workers_in rows)
 
 -- `selfrun` takes `--workers`, `--seed` and `--games`, and no archive
 abbrev pub self_run_settings_in : List Row → Option SelfRunSettings

@@ -52,7 +52,7 @@ unfoldable mutual
 
   pub played_cost : ℕ → PlayedTree → ℕ
   played_cost nodes (move_of origin goal taken promoted) =
-    written_cost nodes origin + written_cost nodes goal + written_cost nodes taken + written_cost nodes promoted
+      written_cost nodes origin + written_cost nodes goal + written_cost nodes taken + written_cost nodes promoted
 
   pub written_cost : ℕ → WrittenTree → ℕ
   written_cost nodes left_out = 0
