@@ -1,0 +1,121 @@
+//! Columns beside the plain evaluator, node by node.
+ghost use Rattle.std.specs.Prelude.{◌≡◌, ◌<◌, ◌≤◌, length, IfOk};
+ghost use Rattle.cql_eval.specs.Hits.{hits_of};
+
+use crate::drawn::DRAWN;
+use crate::games::GAMES;
+use crate::queries::{FORMS, PAGES};
+use cq_outside::{NoMemory, Refusal, Steps};
+use cql_eval::{Column, columns};
+use cql_kinds::check;
+use cql_lexer::query_tokens;
+use cql_parser::{parse, spelled_queries_have_no_any, tokens_of_a_text_are_ended};
+use cql_plain::holds_at;
+use cql_rewrite::expand;
+use cql_syntax::{FlatQuery, QueryFault};
+use cql_values::Names;
+use pgn_reader::read_game;
+use pgn_tree::Game;
+use std::alloc::Global;
+use std::marker::Brand;
+use std::process::Abort;
+use std::sync::ledger::{Blank, Ledger};
+use std::test::Fail;
+
+// The flat form of the query that a text is.
+fn flat_query(alloc: Global, text: &[u8]) -> Result<FlatQuery, Refusal<QueryFault>> {
+    tokens_of_a_text_are_ended();
+    spelled_queries_have_no_any();
+    let tokens = query_tokens(alloc, text)?;
+    let query = parse(alloc, tokens.as_slice())?;
+    Ok(expand(alloc, &check(&query)?)?)
+}
+
+fn counted<L: Ledger>(
+    alloc: Global,
+    query: &FlatQuery,
+    game: &Game,
+    blank: Blank,
+) -> Result<Column, NoMemory>
+    requires { (blank.name ≡ L.name) × (blank.parts ≡ L.parts) × (0 < blank.parts) }
+    ensures { IfOk result (λ column. length (hits_of column) ≡ length game.now.nodes) }
+{
+    let mut steps = Steps::<L>::new(blank);
+    columns(alloc, query, game, &mut steps)
+}
+
+const GAME: &[u8] = b"[White \"A\"]\n[WhiteElo \"2300\"]\n\n\
+1. e4 e5 (1... c5 2. Nf3 d6 (2... Nc6 3. Bb5 a6) 3. d4 cxd4) 2. Nf3 Nc6 3. Bb5 a6 {why} 4. Bxc6 dxc6 5. O-O f6 6. d4 exd4 7. Nxd4 c5 \
+8. Nb3 Qxd1 9. Rxd1 Bg4 10. f3 Be6 11. Nc3 Bd6 12. Be3 b6 13. a4 O-O-O (13... Kf7 14. Rxd6) 14. a5 Kb7 15. e5 Be7 \
+16. Rxd8 Bxd8 17. Ne4 Bxb3 18. cxb3 f5 19. Nd6+ cxd6 1-0\n";
+
+const PAWN: &[u8] =
+    b"[FEN \"4k3/P6p/8/8/8/8/8/4K3 w - - 0 1\"]\n\n1. a8=Q+ Kd7 (1... Kf7 2. Qb7+ Kg6 3. Qe4+ (3. -- h5)) \
+2. Qb7+ Kd6 3. Qb6+ Ke5 *\n";
+
+// Whether all items hold at a node by the plain evaluator.
+fn holds_plainly(alloc: Global, query: &FlatQuery, game: &Game, node: u32) -> Result<bool, NoMemory>
+    requires { node < length game.now.nodes }
+{
+    if !query.variations && !game.is_main(node) {
+        return Ok(false);
+    }
+    let names = Names::new(alloc);
+    for item in query.items.as_slice() {
+        if !holds_at(alloc, item, game, query.variations, node, &[], &names)? {
+            return Ok(false);
+        }
+    }
+    Ok(true)
+}
+
+fn found(alloc: Global, query: &FlatQuery, game: &Game) -> Result<Column, NoMemory>
+    ensures { IfOk result (λ column. length (hits_of column) ≡ length game.now.nodes) }
+{
+    counted::<Brand>(alloc, query, game, Blank::new(1))
+}
+
+// Compares the column of a query with the plain evaluator at each node of a game.
+fn compare<R: Abort>(rt: &R, alloc: Global, text: &[u8], game: &[u8]) -> Result<(), Fail> {
+    let query = flat_query(alloc, text)?;
+    let game = read_game(alloc, game, 0, true)?;
+    let column = found(alloc, &query, &game)?;
+    for node in 0..game.len() {
+        let expected = holds_plainly(alloc, &query, &game, node)?;
+        assert_eq!(rt; column.hit(node), expected, "{text:?} at {node}");
+    }
+    Ok(())
+}
+
+fn over_games<R: Abort>(rt: &R, alloc: Global, query: &[u8]) -> Result<(), Fail> {
+    for game in GAMES.iter() {
+        compare(rt, alloc, query, game)?;
+    }
+    Ok(())
+}
+
+#[test]
+fn columns_are_as_the_plain_evaluator(rt: HostRuntime) -> Result<(), Fail> {
+    for query in FORMS.lines() {
+        compare(&rt, rt.alloc(), query.as_bytes(), GAME)?;
+        compare(&rt, rt.alloc(), query.as_bytes(), PAWN)?;
+    }
+    Ok(())
+}
+
+#[test]
+fn columns_of_the_pages_are_as_the_plain_evaluator(rt: HostRuntime) -> Result<(), Fail> {
+    for query in PAGES.lines() {
+        over_games(&rt, rt.alloc(), query.as_bytes())?;
+    }
+    Ok(())
+}
+
+#[test]
+fn drawn_columns_are_as_the_plain_evaluator(rt: HostRuntime) -> Result<(), Fail> {
+    for query in DRAWN.lines() {
+        compare(&rt, rt.alloc(), query.as_bytes(), PAWN)?;
+        compare(&rt, rt.alloc(), query.as_bytes(), GAME)?;
+    }
+    Ok(())
+}

@@ -1,0 +1,11 @@
+//! Tests of the columns of queries beside the plain evaluator.
+#![tactic(auto)]
+
+#[cfg(test)]
+mod beside;
+#[cfg(test)]
+mod drawn;
+#[cfg(test)]
+mod games;
+#[cfg(test)]
+mod queries;
