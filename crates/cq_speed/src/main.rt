@@ -11,6 +11,7 @@ use fault::SpeedFault;
 use std::alloc::Global;
 use std::env;
 use std::io::Read;
+use std::process::ExitCode;
 use std::rt::Env;
 
 /// What is measured.
@@ -44,12 +45,22 @@ fn input_of(alloc: Global, input: &mut impl Read) -> Result<Vec<u8>, SpeedFault>
     Ok(bytes)
 }
 
-fn main(rt: HostRuntime) -> Result<(), SpeedFault> {
-    let job = job_asked(&rt)?;
+fn measure(rt: &HostRuntime) -> Result<(), SpeedFault> {
+    let job = job_asked(rt)?;
     let mut input = rt.stdin();
     let bytes = input_of(rt.alloc(), &mut input)?;
     match job {
-        Job::Moves(rounds) => moves::measure(&rt, rt.alloc(), bytes.as_slice(), rounds),
-        Job::Games => games::measure(&rt, rt.alloc(), bytes.as_slice()),
+        Job::Moves(rounds) => moves::measure(rt, rt.alloc(), bytes.as_slice(), rounds),
+        Job::Games => games::measure(rt, rt.alloc(), bytes.as_slice()),
+    }
+}
+
+fn main(rt: HostRuntime) -> ExitCode {
+    match measure(&rt) {
+        Ok(()) => ExitCode::SUCCESS,
+        Err(fault) => {
+            let _ = eprintln!(rt; "cq_speed: {fault}");
+            ExitCode::FAILURE
+        }
     }
 }

@@ -122,8 +122,11 @@ pub(crate) fn measure(
     measure_lists(rt, positions.as_slice(), rounds)?;
     measure_reading(rt, &texts, rounds / 10)?;
     measure_writing(rt, positions.as_slice(), rounds / 10)?;
+    if rounds == 0 {
+        return Ok(());
+    }
     for (position, depth) in positions.as_slice().iter().zip([5, 4]) {
-        measure_perft(rt, position, depth.min(rounds))?;
+        measure_perft(rt, position, depth)?;
     }
     Ok(())
 }
