@@ -1,0 +1,55 @@
+//! Cutting an archive and reading its games.
+use crate::fault::SpeedFault;
+use crate::rate::{a_second, nanos_each};
+use pgn_cut::{Span, cut_whole};
+use pgn_reader::read_game;
+use std::alloc::Global;
+use std::io;
+use std::io::{ErrorKind, Print};
+use std::time::CpuClock;
+
+/// Measures how many bytes a second are cut, and how long each position of a game takes to be read.
+pub(crate) fn measure(
+    rt: &(impl CpuClock + Print),
+    alloc: Global,
+    archive: &[u8],
+) -> Result<(), SpeedFault> {
+    let start = rt.process_cpu_time()?;
+    let Ok(spans) = cut_whole(alloc, archive) else {
+        return Err(SpeedFault::Outside(io::Error::from(ErrorKind::OutOfMemory)));
+    };
+    let cut = rt.process_cpu_time()?.saturating_sub(start);
+    let start = rt.process_cpu_time()?;
+    let positions = read_all(alloc, archive, spans.as_slice());
+    let read = rt.process_cpu_time()?.saturating_sub(start);
+    println!(rt; "games: {}, positions: {positions}", spans.len())?;
+    println!(rt;
+        "bytes cut a second: {}",
+        a_second(archive.len() as u64, cut)
+    )?;
+    println!(rt;
+        "nanoseconds to read a position: {}",
+        nanos_each(positions, read)
+    )?;
+    Ok(())
+}
+
+// How many positions the games have; a faulty game has none.
+fn read_all(alloc: Global, archive: &[u8], spans: &[Span]) -> u64 {
+    let mut positions = 0u64;
+    for span in spans {
+        positions = positions.saturating_add(positions_of(alloc, archive, span));
+    }
+    positions
+}
+
+fn positions_of(alloc: Global, archive: &[u8], span: &Span) -> u64 {
+    let (start, end) = (span.start as usize, span.end as usize);
+    match archive.get(start..end) {
+        Some(bytes) => match read_game(alloc, bytes, span.start, span.first) {
+            Ok(game) => u64::from(game.len()),
+            Err(_) => 0,
+        },
+        None => 0,
+    }
+}

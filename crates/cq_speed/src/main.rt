@@ -1,0 +1,66 @@
+//! Measures by processor time how fast positions list, read and write moves, and how fast games are cut and read. What takes no time here
+//! is proved of the libraries; of this program it is proved that it ends and does nothing undefined.
+#![tactic(auto)]
+
+mod fault;
+mod games;
+mod moves;
+mod rate;
+
+use fault::SpeedFault;
+use std::alloc::Global;
+use std::env;
+use std::io::Read;
+use std::process::ExitCode;
+use std::rt::Env;
+
+/// What is measured.
+#[derive(Clone, Copy)]
+enum Job {
+    /// Lists of moves, texts of moves and perft, of positions, so many times.
+    Moves(u32),
+    /// Cutting and reading an archive.
+    Games,
+}
+
+// The words `moves ROUNDS` or `games`, after the program's name.
+fn job_asked(rt: &(impl Env + AllocGlobal)) -> Result<Job, SpeedFault> {
+    let mut args = env::args(rt)?.skip(1);
+    let Some(word) = args.next() else {
+        return Err(SpeedFault::Words);
+    };
+    match (word.as_str(), args.next()) {
+        ("games", None) => Ok(Job::Games),
+        ("moves", Some(rounds)) => match rounds.as_str().parse::<u32>() {
+            Ok(rounds) => Ok(Job::Moves(rounds)),
+            Err(_) => Err(SpeedFault::Words),
+        },
+        _ => Err(SpeedFault::Words),
+    }
+}
+
+fn input_of(alloc: Global, input: &mut impl Read) -> Result<Vec<u8>, SpeedFault> {
+    let mut bytes = Vec::new(alloc);
+    input.read_to_end(&mut bytes)?;
+    Ok(bytes)
+}
+
+fn measure(rt: &HostRuntime) -> Result<(), SpeedFault> {
+    let job = job_asked(rt)?;
+    let mut input = rt.stdin();
+    let bytes = input_of(rt.alloc(), &mut input)?;
+    match job {
+        Job::Moves(rounds) => moves::measure(rt, rt.alloc(), bytes.as_slice(), rounds),
+        Job::Games => games::measure(rt, rt.alloc(), bytes.as_slice()),
+    }
+}
+
+fn main(rt: HostRuntime) -> ExitCode {
+    match measure(&rt) {
+        Ok(()) => ExitCode::SUCCESS,
+        Err(fault) => {
+            let _ = eprintln!(rt; "cq_speed: {fault}");
+            ExitCode::FAILURE
+        }
+    }
+}
