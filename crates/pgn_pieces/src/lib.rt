@@ -10,5 +10,4 @@ mod pieces;
 mod state;
 mod table;
 
-pub use piece::{Piece, Place};
 pub use state::Pieces;

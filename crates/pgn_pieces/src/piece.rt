@@ -3,26 +3,26 @@ ghost use Rattle.std.specs.Prelude.{◌≡◌, ◌≤◌, ◌<◌, ◌^◌};
 ghost use Rattle.pgn_pieces.specs.Pieces.{start, piece_to, after};
 
 /// A piece of an archive. Numbers count from 1, bytes from the archive's first one, at 0.
-#[derive(Clone, Copy, Debug, PartialEq, Eq)]
-pub struct Piece {
+#[derive(Clone, Copy)]
+pub(crate) struct Piece {
     /// Its number.
-    pub number: u64,
+    pub(crate) number: u64,
     /// The place of its first byte.
-    pub offset: u64,
+    pub(crate) offset: u64,
     /// How many bytes it has.
-    pub length: u64,
+    pub(crate) length: u64,
     /// The number of its first game, or of the next one where it has no game.
-    pub first: u64,
+    pub(crate) first: u64,
     /// How many games it has.
-    pub games: u64,
+    pub(crate) games: u64,
 }
 
 /// Where a piece begins: its number, the place of its first byte, and the number of its first game.
-#[derive(Clone, Copy, Debug, PartialEq, Eq)]
-pub struct Place {
-    pub number: u64,
-    pub from: u64,
-    pub first: u64,
+#[derive(Clone, Copy)]
+pub(crate) struct Place {
+    pub(crate) number: u64,
+    pub(crate) from: u64,
+    pub(crate) first: u64,
 }
 
 impl Place {

@@ -1,10 +1,7 @@
 //! The pieces of an archive that comes bit by bit.
-ghost use Rattle.std.specs.Prelude.{◌≡◌, ◌+◌, ◌++◌, ◌<◌, ◌≤◌, ◌^◌, [], ◌∷◌, ℕ, List, length, OnOk, IfOk};
+ghost use Rattle.std.specs.Prelude.{◌≡◌, ◌+◌, ◌<◌, ◌≤◌, ◌^◌, [], ◌∷◌, ℕ, List, length, OnOk, IfOk};
 ghost use Rattle.pgn_cut.specs.Spans.{AreInOrder};
-ghost use Rattle.pgn_cut.specs.declared.span.Span.{Span as ASpan};
-ghost use Rattle.pgn_pieces.specs.Pieces.{ArePieces};
-ghost use Rattle.pgn_pieces.specs.State.{Shows, Stands};
-ghost use Rattle.pgn_pieces.specs.Table.{table};
+ghost use Rattle.pgn_pieces.specs.State.{Shows, Stands, AddsGames, TakesBytes, ComesToEnd};
 ghost use Rattle.pgn_pieces.specs.declared.piece.Piece.{Piece as APiece};
 
 use crate::piece::Place;
@@ -30,8 +27,7 @@ impl OpenPiece {
     // One game more, and the line of the piece where it is long enough with it.
     fn with(self, game: Span, least: u64, text: &mut Bytes) -> Result<OpenPiece, NoMemory>
         requires order { (self.end < game.end) × (game.end < 2 ^ 62) }
-        ensures shows { IfOk result (λ now. (games : List ASpan) (pieces : List APiece) → Shows least self games pieces
-            → (more : List APiece) × Shows least now (games ++ game ∷ []) (pieces ++ more) × (text.new ≡ text.old ++ table more)) }
+        ensures adds { IfOk result (λ now. AddsGames least self now (game ∷ []) text.old text.new) }
         ensures end { IfOk result (λ now. now.end ≡ game.end) }
     {
         let games = self.games + 1;
@@ -55,8 +51,7 @@ impl OpenPiece {
 // The open piece after more games, and the lines of the pieces that are long enough with them.
 fn add_all(open_piece: OpenPiece, games: &[Span], least: u64, text: &mut Bytes) -> Result<OpenPiece, NoMemory>
     requires order { (to : ℕ) × (to < 2 ^ 62) × AreInOrder open_piece.end to games.now }
-    ensures { IfOk result (λ now. (before : List ASpan) (pieces : List APiece) → Shows least open_piece before pieces
-        → (more : List APiece) × Shows least now (before ++ games.now) (pieces ++ more) × (text.new ≡ text.old ++ table more)) }
+    ensures { IfOk result (λ now. AddsGames least open_piece now games.now text.old text.new) }
 {
     let mut now = open_piece;
     for game in games {
@@ -86,8 +81,7 @@ impl Pieces {
     /// memory. All bytes together are fewer than 2^62.
     pub fn feed(&mut self, bytes: &[u8], text: &mut Bytes) -> Result<(), NoMemory>
         requires { (front : List ℕ) × (pieces : List APiece) × Stands self.old front pieces × (length front + length bytes.now < 2 ^ 62) }
-        ensures stands { OnOk result ((front : List ℕ) (pieces : List APiece) → Stands self.old front pieces
-            → (more : List APiece) × Stands self.new (front ++ bytes.now) (pieces ++ more) × (text.new ≡ text.old ++ table more)) }
+        ensures takes { OnOk result (TakesBytes self.old self.new bytes.now text.old text.new) }
         ensures least { self.new.least ≡ self.old.least }
     {
         closed_games_stay();
@@ -102,8 +96,7 @@ impl Pieces {
     /// Adds the lines of the last pieces, at the archive's end. Fails only when out of memory.
     pub fn finish(mut self, text: &mut Bytes) -> Result<(), NoMemory>
         requires { (front : List ℕ) × (pieces : List APiece) × Stands self front pieces × (length front < 2 ^ 62) }
-        ensures { OnOk result ((front : List ℕ) (pieces : List APiece) → Stands self front pieces
-            → (more : List APiece) × ArePieces self.least front (pieces ++ more) × (text.new ≡ text.old ++ table more)) }
+        ensures { OnOk result (ComesToEnd self text.old text.new) }
     {
         closed_games_stay();
         games_stand_apart();
