@@ -1,6 +1,6 @@
 -- One game more, and the pieces that are full with it.
 use Rattle.std.proofs.Common.{◌≡◌, ℕ, ◌+◌, ◌-◌, ◌<◌, ◌≤◌, List, [], ◌∷◌, ◌++◌, length, take, get_or, zero, suc, refl, sym, subst, ap, ap₂, ◌∙◌, arith, append_assoc}
-use Rattle.std.proofs.lemmas.List.{append-nil, length-append}
+use Rattle.std.proofs.lemmas.List.{append-nil, length-append, take_more}
 use Rattle.std.proofs.lemmas.List.Concat.{flat_map-append}
 use Rattle.std.proofs.lemmas.List.Sums.{fold-append}
 use Rattle.pgn_cut.specs.Spans.{AreInOrder}
@@ -144,6 +144,17 @@ adds_both least was mid now xs ys text longer longest one two = record {
       (subst (λ (ps : List Piece). Shows least now ((before ++ xs) ++ ys) ps) (append_assoc pieces one.more two.more)
       (two.shows (before ++ xs) (pieces ++ one.more) (one.shows before pieces shows)));
 }
+
+-- the next of some games
+pub adds_next : (least : ℕ) (was mid now : OpenPiece) (games : List Span) (i : ℕ) (d : Span) (text longer longest : List ℕ) → i < length games
+    → AddsGames least was mid (take i games) text longer → AddsGames least mid now (get_or games i d ∷ []) longer longest
+    → AddsGames least was now (take (i + 1) games) text longest
+adds_next least was mid now games i d text longer longest less one two =
+    subst (λ (gs : List Span). AddsGames least was now gs text longest) (sym (take_more games i d less))
+    (adds_both least was mid now (take i games) (get_or games i d ∷ []) text longer longest one two)
+
+pub end_next : (from : ℕ) (games : List Span) (i : ℕ) (d : Span) → i < length games → (get_or games i d).end ≡ end_of from (take (i + 1) games)
+end_next from games i d less = sym (ap (end_of from) (take_more games i d less) ∙ end_append from (take i games) (get_or games i d ∷ []))
 
 -- ---- games in order
 

@@ -1,6 +1,8 @@
 //! The pieces of an archive that comes bit by bit.
-ghost use Rattle.std.specs.Prelude.{◌≡◌, ◌+◌, ◌<◌, ◌≤◌, ◌^◌, [], ◌∷◌, ℕ, List, length, OnOk, IfOk};
+ghost use Rattle.std.specs.Prelude.{◌≡◌, ◌+◌, ◌++◌, ◌<◌, ◌≤◌, ◌^◌, [], ◌∷◌, ℕ, List, length, OnOk, IfOk};
 ghost use Rattle.pgn_cut.specs.Spans.{AreInOrder};
+ghost use Rattle.pgn_pieces.specs.Pieces.{last_piece};
+ghost use Rattle.pgn_pieces.specs.Table.{table};
 ghost use Rattle.pgn_pieces.specs.State.{Shows, Stands, AddsGames, TakesBytes, ComesToEnd};
 ghost use Rattle.pgn_pieces.specs.declared.piece.Piece.{Piece as APiece};
 
@@ -46,6 +48,16 @@ impl OpenPiece {
             end: game.end,
         })
     }
+
+    // Adds the line of what is left of an archive of so many bytes, where something is left.
+    fn push_last(self, total: u64, text: &mut Bytes) -> Result<(), NoMemory>
+        ensures { OnOk result (text.new ≡ text.old ++ table (last_piece self.here total self.games)) }
+    {
+        if total <= self.here.from {
+            return Ok(());
+        }
+        push_line(text, self.here.piece_to(total, self.games))
+    }
 }
 
 // The open piece after more games, and the lines of the pieces that are long enough with them.
@@ -68,6 +80,7 @@ impl Pieces {
         ensures least { result.least ≡ least }
     {
         closed_games_stay();
+        games_stand_apart();
         Pieces {
             alloc,
             cutter: Cutter::new(),
@@ -103,9 +116,6 @@ impl Pieces {
         let mut games = Vec::new(self.alloc);
         self.cutter.finish(&mut games)?;
         let last = add_all(self.open_piece, games.as_slice(), self.least, text)?;
-        if last.here.from < self.taken {
-            push_line(text, last.here.piece_to(self.taken, last.games))?;
-        }
-        Ok(())
+        last.push_last(self.taken, text)
     }
 }
