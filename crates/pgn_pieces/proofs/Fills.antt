@@ -5,7 +5,7 @@ use Rattle.std.proofs.lemmas.List.Concat.{flat_map-append}
 use Rattle.std.proofs.lemmas.List.Sums.{fold-append}
 use Rattle.pgn_cut.specs.Spans.{AreInOrder}
 use Rattle.pgn_cut.specs.declared.span.Span.{Span}
-use Rattle.pgn_pieces.specs.Pieces.{end_of, IsLongEnough, piece_to, after, start, AreFull, Fill}
+use Rattle.pgn_pieces.specs.Pieces.{end_of, IsLongEnough, piece_to, after, start, AreFull}
 use Rattle.pgn_pieces.specs.State.{Shows, AddsGames}
 use Rattle.pgn_pieces.specs.Table.{line, table}
 use Rattle.pgn_pieces.specs.declared.piece.Piece.{Piece}

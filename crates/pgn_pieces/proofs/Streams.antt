@@ -1,5 +1,5 @@
 -- The pieces before and after some bytes of the archive.
-use Rattle.std.proofs.Common.{◌≡◌, ℕ, ◌+◌, ◌<◌, ◌≤◌, List, [], ◌∷◌, ◌++◌, length, drop, refl, sym, subst, ap, ap₂, ◌∙◌, arith, append_assoc, Ok, Err}
+use Rattle.std.proofs.Common.{◌≡◌, ℕ, ◌+◌, List, [], ◌∷◌, ◌++◌, length, drop, refl, sym, subst, ap, ap₂, ◌∙◌, arith, append_assoc, Ok, Err}
 use Rattle.std.specs.Prelude.{Result, OnOk}
 use Rattle.std.proofs.Math.Seq.{drop-append_seam}
 use Rattle.std.proofs.lemmas.List.{append-nil, length-append}
@@ -8,7 +8,7 @@ use Rattle.pgn_cut.specs.Cut.{cut, closed}
 use Rattle.pgn_cut.specs.Spans.{AreInOrder, FinishesAt}
 use Rattle.pgn_cut.specs.Streams.{Stands as CutterStands}
 use Rattle.pgn_cut.specs.declared.span.Span.{Span}
-use Rattle.pgn_pieces.specs.Pieces.{end_of, start, last_piece, ArePieces}
+use Rattle.pgn_pieces.specs.Pieces.{end_of, start, last_piece}
 use Rattle.pgn_pieces.specs.State.{Shows, Stands, AddsGames, TakesBytes, ComesToEnd}
 use Rattle.pgn_pieces.specs.Table.{line, table}
 use Rattle.pgn_pieces.specs.declared.piece.Piece.{Piece}

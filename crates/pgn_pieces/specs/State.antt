@@ -1,5 +1,5 @@
 -- What is kept while an archive is cut into pieces.
-use Rattle.std.specs.Prelude.{◌≡◌, ℕ, ◌+◌, ◌≤◌, ◌<◌, List, [], ◌∷◌, ◌++◌, length}
+use Rattle.std.specs.Prelude.{◌≡◌, ℕ, List, ◌++◌, length}
 use Rattle.pgn_cut.specs.Cut.{closed}
 use Rattle.pgn_cut.specs.Streams.{Stands as CutterStands}
 use Rattle.pgn_cut.specs.declared.span.Span.{Span}

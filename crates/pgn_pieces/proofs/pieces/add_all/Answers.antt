@@ -1,4 +1,4 @@
-use Rattle.std.proofs.Common.{◌<◌, ◌≤◌, ◌^◌, length, get_or, false, refl, ◌∙◌, arith, rules}
+use Rattle.std.proofs.Common.{◌<◌, length, false, refl, ◌∙◌, arith, rules}
 use Rattle.pgn_cut.specs.declared.span.Span.{Span}
 use Rattle.pgn_pieces.proofs.Fills.{adds_none, adds_next, end_next, ends_later}
 use Rattle.pgn_pieces.proofs.pieces.add_all.Goals as goal

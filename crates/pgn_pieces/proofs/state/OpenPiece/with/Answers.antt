@@ -1,6 +1,4 @@
-use Rattle.std.proofs.Common.{refl, ap, ◌∙◌, ◌++◌, arith}
-use Rattle.pgn_pieces.specs.Pieces.{piece_to}
-use Rattle.pgn_pieces.specs.Table.{line}
+use Rattle.std.proofs.Common.{refl, arith}
 use Rattle.pgn_pieces.proofs.Fills.{adds_to_open, adds_full}
 use Rattle.pgn_pieces.proofs.state.OpenPiece.with.Goals as goal
 

@@ -1,4 +1,4 @@
-use Rattle.std.proofs.Common.{◌≡◌, ◌<◌, ◌^◌, List, ◌++◌, length, drop, refl, ap, ◌∙◌, ℕ, arith}
+use Rattle.std.proofs.Common.{◌≡◌, List, ◌++◌, length, drop, refl, ap, ◌∙◌, arith}
 use Rattle.std.proofs.lemmas.List.{length-append}
 use Rattle.pgn_cut.specs.Cut.{closed}
 use Rattle.pgn_cut.specs.declared.span.Span.{Span}
@@ -26,4 +26,4 @@ returns-clause-takes c =
     (λ front stands. (c.in_ok-feed.ensures.stands front stands,
         fed c.closed_games_stay.ensures.grow front c.args.bytes.now c.as_slice.result.now (c.as_slice.ensures.value ∙ c.in_ok-feed.ensures.games front stands
         ∙ ap (λ (l : List Span). l ++ drop (length (closed front)) (closed (front ++ c.args.bytes.now))) c.new-games.ensures.items)))
-    c.in_ok-add_all.ensures
+    c.in_ok-self.ensures

@@ -1,8 +1,6 @@
-use Rattle.std.proofs.Common.{◌≡◌, ◌<◌, ◌^◌, List, ◌++◌, length, drop, ap, ◌∙◌, ℕ}
-use Rattle.std.specs.Prelude.{OnOk}
+use Rattle.std.proofs.Common.{◌≡◌, List, ◌++◌, length, drop, ap, ◌∙◌}
 use Rattle.pgn_cut.specs.Cut.{cut, closed}
 use Rattle.pgn_cut.specs.declared.span.Span.{Span}
-use Rattle.pgn_pieces.specs.State.{ComesToEnd}
 use Rattle.pgn_pieces.proofs.Streams.{comes_to_end, ended, ended_in_order, on_ok}
 use Rattle.pgn_pieces.proofs.state.Pieces.finish.Goals as goal
 
