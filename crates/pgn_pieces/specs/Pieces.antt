@@ -1,6 +1,6 @@
 -- How an archive is cut into pieces, each of which ends with a game.
 use Rattle.std.specs.Prelude.{◌≡◌, ℕ, ◌+◌, ◌-◌, ◌≤◌, ◌<◌, List, [], ◌∷◌, ◌++◌, length, fold, nat_lt, if◌then◌else◌}
-use Rattle.pgn_cut.specs.Cut.{cut}
+use Rattle.pgn_cut.specs.Cut.{cut, closed}
 use Rattle.pgn_cut.specs.declared.span.Span.{Span}
 use Rattle.pgn_pieces.specs.declared.piece.Piece.{Piece}
 use Rattle.pgn_pieces.specs.declared.piece.Place.{Place}
@@ -42,6 +42,11 @@ pub record Fill (least : ℕ) (games : List Span) (pieces : List Piece) (stop : 
   pub are : games ≡ taken ++ rest
   pub full : AreFull least start taken pieces stop
   pub short : end_of stop.from rest < stop.from + least
+
+-- These pieces are full by the games that the first bytes of an archive close, so that they are its first ones, whatever follows.
+pub record AreFirst (least : ℕ) (front : List ℕ) (pieces : List Piece) : Type 0 where
+  pub stop : Place
+  pub fill : Fill least (closed front) pieces stop
 
 -- What is left of an archive of so many bytes is one piece more, where it has a byte.
 abbrev pub last_piece : Place → (total games : ℕ) → List Piece

@@ -10,4 +10,5 @@ mod pieces;
 mod state;
 mod table;
 
+pub use piece::Piece;
 pub use state::Pieces;

@@ -3,18 +3,18 @@ ghost use Rattle.std.specs.Prelude.{◌≡◌, ◌≤◌, ◌<◌, ◌^◌};
 ghost use Rattle.pgn_pieces.specs.Pieces.{start, piece_to, after};
 
 /// A piece of an archive. Numbers count from 1, bytes from the archive's first one, at 0.
-#[derive(Clone, Copy)]
-pub(crate) struct Piece {
+#[derive(Clone, Copy, Debug, PartialEq, Eq)]
+pub struct Piece {
     /// Its number.
-    pub(crate) number: u64,
+    pub number: u64,
     /// The place of its first byte.
-    pub(crate) offset: u64,
+    pub offset: u64,
     /// How many bytes it has.
-    pub(crate) length: u64,
+    pub length: u64,
     /// The number of its first game, or of the next one where it has no game.
-    pub(crate) first: u64,
+    pub first: u64,
     /// How many games it has.
-    pub(crate) games: u64,
+    pub games: u64,
 }
 
 /// Where a piece begins: its number, the place of its first byte, and the number of its first game.
