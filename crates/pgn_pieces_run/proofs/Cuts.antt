@@ -12,7 +12,7 @@ use Rattle.pgn_pieces.specs.Table.{line, table}
 use Rattle.pgn_pieces.specs.declared.piece.Piece.{Piece}
 use Rattle.pgn_pieces.specs.declared.state.Pieces.{Pieces}
 use Rattle.pgn_pieces_run.specs.Cutting.{Pipe, Moves, NoReadFailed, NoWriteFailed, HasCut, WritesTable, WritesFirst, WritesPart, Says}
-use Rattle.pgn_pieces_run.specs.declared.status.Status.TheVariants.{Done, ReadFault, WriteFault, NoMemory}
+use Rattle.pgn_pieces_run.specs.declared.status.Status.TheVariants.{Done, ReadFault, WriteFault, NoMemory, ArchiveTooLong}
 
 -- ---- reads and writes one after another
 
@@ -73,7 +73,7 @@ starts least was p stands is = record {
   writes = refl;
 }
 
-pub writes_first : (least count : ℕ) (was now : Pipe) (p : Pieces) (cut : HasCut least count was now p) → WritesFirst least was now cut.front
+writes_first : (least count : ℕ) (was now : Pipe) (p : Pieces) (cut : HasCut least count was now p) → WritesFirst least was now cut.front
 writes_first least count was now p cut = record { pieces = cut.pieces; are = first_of least p cut.front cut.pieces cut.least_is cut.stands; moves = cut.moves }
 
 pub read_failed : (least count : ℕ) (was mid now : Pipe) (p : Pieces) → HasCut least count was mid p → Keeps mid.left now.left → Rose mid.read_faults now.read_faults
@@ -194,3 +194,6 @@ table_failed least count was mid now p text at_end cut left reads ends part rose
   reads ∙ cut.reads,
   rose_on was.write_faults mid.write_faults now.write_faults cut.writes rose,
 )
+
+pub too_long : (least count : ℕ) (was now : Pipe) (p : Pieces) → HasCut least count was now p → 2 ^ 40 < count → Says ArchiveTooLong least was now
+too_long least count was now p cut over = ((cut.front, omega (arith, over, cut.count_is), writes_first least count was now p cut), cut.reads, cut.writes)

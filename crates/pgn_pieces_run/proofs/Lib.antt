@@ -1,3 +1,4 @@
 pub mod Cuts
 pub mod Numbers
-pub mod Words
+pub mod Opening
+pub mod Refusals

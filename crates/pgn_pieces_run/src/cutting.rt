@@ -81,11 +81,11 @@ pub(crate) fn cut<S: Source, O: Sink>(alloc: Global, source: &mut S, out: &mut O
         (pipe S.left S.faults O.taken O.faults source.new out.new) }
     ensures next { S.follows source.old source.new }
 {
+    let mut pieces = Pieces::new(alloc, least);
     let mut buffer = match vec![in alloc; 0u8; ROOM] {
         Ok(buffer) => buffer,
         Err(_) => return Status::NoMemory,
     };
-    let mut pieces = Pieces::new(alloc, least);
     let mut count = 0;
     while count <= BYTES_LIMIT {
         match turn(alloc, source, buffer.as_mut_slice(), &mut pieces, out) {

@@ -1,8 +1,8 @@
 //! The top call.
 ghost use Rattle.std.specs.Prelude.{ℕ, Option, map, MatchResult};
 ghost use Rattle.std.specs.String.{string_bytes};
-ghost use Rattle.pgn_pieces_run.specs.Cutting.{Pipe, pipe};
 ghost use Rattle.cq_outside.specs.Told.{Told};
+ghost use Rattle.pgn_pieces_run.specs.Cutting.{Pipe, pipe};
 ghost use Rattle.pgn_pieces_run.specs.Promise.{EndsWithoutWords, EndsWords, Promise, RefusesWords, lent};
 
 use crate::cutting::cut;
@@ -82,9 +82,8 @@ pub fn answer_command<D: Desk, O: Sink, E: Sink>(
         let now = lent D.told D.open_faults (pipe D.left D.faults O.taken O.faults desk.new out.new) E.taken E.faults desk.new err.new in
         MatchResult words (λ given. EndsWords (map string_bytes given.items) result was now) (λ _. EndsWithoutWords result was now) }
 {
-    let status = match words {
-        Ok(words) => run(alloc, words.as_slice(), desk, out, err),
-        Err(NoMemory) => Status::NoMemory,
-    };
-    status.exit_code()
+    match words {
+        Ok(words) => run(alloc, words.as_slice(), desk, out, err).exit_code(),
+        Err(NoMemory) => Status::NoMemory.exit_code(),
+    }
 }

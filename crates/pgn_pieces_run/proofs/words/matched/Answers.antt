@@ -1,8 +1,8 @@
 use Rattle.std.proofs.Common.{rules, map}
 use Rattle.std.specs.String.{string_bytes}
 use Rattle.clap.specs.Words.{app_of}
-use Rattle.pgn_pieces_run.proofs.Words.{has_matches}
-use Rattle.pgn_pieces_run.proofs.Words.{refused_words}
+use Rattle.pgn_pieces_run.proofs.Refusals.{has_matches}
+use Rattle.pgn_pieces_run.proofs.Refusals.{refused_words}
 use Rattle.pgn_pieces_run.proofs.words.matched.Goals as goal
 
 pub returns : goal.returns
