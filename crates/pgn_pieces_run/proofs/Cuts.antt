@@ -1,5 +1,5 @@
 -- One read more, and what it comes to.
-use Rattle.std.proofs.Common.{◌≡◌, ◌⊎◌, ℕ, ◌+◌, ◌<◌, ◌≤◌, ◌^◌, List, [], ◌∷◌, ◌++◌, length, take, drop, Option, None, Some, refl, sym, subst, ap, ◌∙◌, arith, append_assoc, inl, inr}
+use Rattle.std.proofs.Common.{◌≡◌, ℕ, ◌+◌, ◌<◌, ◌^◌, List, [], ◌++◌, length, take, drop, Option, None, Some, refl, sym, subst, ap, ◌∙◌, arith, append_assoc, inl, inr}
 use Rattle.std.proofs.Math.Seq.{take-add, drop-append_seam}
 use Rattle.std.proofs.lemmas.List.{append-nil, length-append, take_all, take_at}
 use Rattle.std.proofs.lemmas.List.Concat.{flat_map-append}
@@ -11,7 +11,7 @@ use Rattle.pgn_pieces.specs.State.{Stands, TakesBytes, ComesToEnd}
 use Rattle.pgn_pieces.specs.Table.{line, table}
 use Rattle.pgn_pieces.specs.declared.piece.Piece.{Piece}
 use Rattle.pgn_pieces.specs.declared.state.Pieces.{Pieces}
-use Rattle.pgn_pieces_run.specs.Cutting.{Pipe, Moves, NoReadFailed, NoWriteFailed, HasCut, WritesTable, WritesFirst, WritesPart, Says}
+use Rattle.pgn_pieces_run.specs.Cutting.{Pipe, HasCut, WritesFirst, Says}
 use Rattle.pgn_pieces_run.specs.declared.status.Status.TheVariants.{Done, ReadFault, WriteFault, NoMemory, ArchiveTooLong}
 
 -- ---- reads and writes one after another

@@ -1,11 +1,11 @@
 -- What a desk tells of an archive that was opened, or could not be.
-use Rattle.std.proofs.Common.{◌≡◌, ℕ, List, [], ◌∷◌, ◌++◌, Option, Some, None, refl, sym, ap, ◌∙◌}
+use Rattle.std.proofs.Common.{◌≡◌, ℕ, List, Option, Some, None, refl, ap, ◌∙◌}
 use Rattle.std.specs.Option.{option_map}
 use Rattle.cq_outside.specs.Faults.{Rose}
 use Rattle.cq_outside.specs.Told.{Told, Opens, bytes_of}
 use Rattle.pgn_pieces_run.specs.Cutting.{Pipe, Says}
 use Rattle.pgn_pieces_run.specs.Jobs.{asked}
-use Rattle.pgn_pieces_run.specs.Promise.{Lent, with_open, Opened, FailsToOpen, Promise, archive_cut, archive_unopened}
+use Rattle.pgn_pieces_run.specs.Promise.{Lent, with_open, Promise, archive_cut, archive_unopened}
 use Rattle.pgn_pieces_run.specs.declared.job.Job.{Job}
 use Rattle.pgn_pieces_run.specs.declared.status.Status.{Status}
 use Rattle.pgn_pieces_run.specs.declared.status.Status.TheVariants.{OpenFault}

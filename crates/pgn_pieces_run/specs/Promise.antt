@@ -4,7 +4,7 @@ use Rattle.std.specs.Option.{option_map}
 use Rattle.cq_outside.specs.Faults.{Rose}
 use Rattle.cq_outside.specs.Flow.{Grew}
 use Rattle.cq_outside.specs.Told.{Told, bytes_of}
-use Rattle.pgn_pieces_run.specs.Cutting.{Pipe, pipe, Says}
+use Rattle.pgn_pieces_run.specs.Cutting.{Pipe, Says}
 use Rattle.pgn_pieces_run.specs.Jobs.{asked}
 use Rattle.pgn_pieces_run.specs.Status.{exit_code}
 use Rattle.pgn_pieces_run.specs.declared.job.Job.{Job}

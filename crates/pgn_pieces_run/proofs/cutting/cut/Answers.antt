@@ -1,4 +1,4 @@
-use Rattle.std.proofs.Common.{◌≡◌, ◌+◌, ◌<◌, length, [], refl, arith, rules}
+use Rattle.std.proofs.Common.{◌+◌, ◌<◌, length, [], refl, arith, rules}
 use Rattle.pgn_pieces_run.specs.Cutting.{pipe}
 use Rattle.pgn_pieces_run.proofs.Cuts.{consumes_none, read_lost, starts, too_long}
 use Rattle.pgn_pieces_run.proofs.cutting.cut.Goals as goal

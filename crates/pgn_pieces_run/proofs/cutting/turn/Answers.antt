@@ -1,4 +1,4 @@
-use Rattle.std.proofs.Common.{ℕ, List, refl, subst, take, length, length-take, arith}
+use Rattle.std.proofs.Common.{ℕ, List, refl, subst, take, length-take, arith}
 use Rattle.cq_outside.specs.Flow.{Grew}
 use Rattle.pgn_pieces.specs.State.{TakesBytes}
 use Rattle.pgn_pieces_run.specs.Cutting.{pipe}

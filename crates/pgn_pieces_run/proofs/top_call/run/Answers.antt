@@ -1,5 +1,4 @@
-use Rattle.std.proofs.Common.{◌≡◌, Err, List, ℕ, map, refl, subst, ap, ◌∙◌}
-use Rattle.std.specs.Prelude.{IsErrOf}
+use Rattle.std.proofs.Common.{Err, List, ℕ, map, refl, subst, ap, ◌∙◌}
 use Rattle.std.specs.String.{string_bytes}
 use Rattle.cq_outside.specs.Told.{Opens}
 use Rattle.pgn_pieces_run.proofs.Opening.{opened_and_cut, unopened}
