@@ -70,11 +70,11 @@ ended_in_order order p pieces front news stands is =
 
 -- no bytes have no game, and close none
 
-no_games : (games : List Span) → AreInOrder 0 0 games → games ≡ []
+pub no_games : (games : List Span) → AreInOrder 0 0 games → games ≡ []
 no_games [] order = refl
 no_games (g ∷ gs) order = let e = order.1 in absurd (omega (arith, e.0, e.1))
 
-both_none : (xs ys : List Span) → [] ≡ xs ++ ys → xs ≡ []
+pub both_none : (xs ys : List Span) → [] ≡ xs ++ ys → xs ≡ []
 both_none [] ys are = refl
 both_none (x ∷ xs) ys are = cc
 

@@ -1,5 +1,5 @@
 -- How an archive is cut into pieces, each of which ends with a game.
-use Rattle.std.specs.Prelude.{◌≡◌, ℕ, ◌+◌, ◌-◌, ◌≤◌, ◌<◌, List, [], ◌∷◌, ◌++◌, length, fold, nat_lt, if◌then◌else◌}
+use Rattle.std.specs.Prelude.{◌≡◌, ℕ, ◌+◌, ◌-◌, ◌≤◌, ◌<◌, List, [], ◌∷◌, ◌++◌, length, take, drop, fold, nat_lt, if◌then◌else◌}
 use Rattle.pgn_cut.specs.Cut.{cut, closed}
 use Rattle.pgn_cut.specs.declared.span.Span.{Span}
 use Rattle.pgn_pieces.specs.declared.piece.Piece.{Piece}
@@ -20,6 +20,10 @@ pub record IsLongEnough (least from : ℕ) (games : List Span) : Type 0 where
 -- the piece that begins at a place, ends at another and has so many games
 abbrev pub piece_to : Place → (to games : ℕ) → Piece
 piece_to here to games = record { number = here.number; offset = here.from; length = to - here.from; first = here.first; games = games }
+
+-- the bytes of a piece
+abbrev pub piece_bytes : List ℕ → Piece → List ℕ
+piece_bytes archive p = take p.length (drop p.offset archive)
 
 -- where the piece after a piece begins
 abbrev pub after : Piece → Place

@@ -5,10 +5,12 @@
 //! it, behind one space.
 #![tactic(auto)]
 
+mod laws;
 mod piece;
 mod pieces;
 mod state;
 mod table;
 
+pub use laws::pieces_cover_their_archive;
 pub use piece::Piece;
 pub use state::Pieces;
