@@ -61,7 +61,12 @@ impl OpenPiece {
 }
 
 // The open piece after more games, and the lines of the pieces that are long enough with them.
-fn add_all(open_piece: OpenPiece, games: &[Span], least: u64, text: &mut Bytes) -> Result<OpenPiece, NoMemory>
+fn add_all(
+    open_piece: OpenPiece,
+    games: &[Span],
+    least: u64,
+    text: &mut Bytes,
+) -> Result<OpenPiece, NoMemory>
     requires order { (to : ℕ) × (to < 2 ^ 62) × AreInOrder open_piece.end to games.now }
     ensures { IfOk result (λ now. AddsGames least open_piece now games.now text.old text.new) }
 {

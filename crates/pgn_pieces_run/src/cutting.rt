@@ -75,7 +75,12 @@ fn end<O: Sink>(alloc: Global, pieces: Pieces, out: &mut O) -> Status
 /// - `WriteFault`: a write failed, and no read. A front of the table is written.
 /// - `NoMemory`: no memory was found, and nothing failed. A front of the table is written.
 /// - `ArchiveTooLong`: more than 2^40 bytes were read, and nothing failed. The lines of the pieces that are long enough are written.
-pub(crate) fn cut<S: Source, O: Sink>(alloc: Global, source: &mut S, out: &mut O, least: u64) -> Status
+pub(crate) fn cut<S: Source, O: Sink>(
+    alloc: Global,
+    source: &mut S,
+    out: &mut O,
+    least: u64,
+) -> Status
     requires { (1 ≤ least) × (least ≤ 2 ^ 40) }
     ensures says { Says result least (pipe S.left S.faults O.taken O.faults source.old out.old)
         (pipe S.left S.faults O.taken O.faults source.new out.new) }

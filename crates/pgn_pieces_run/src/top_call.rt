@@ -77,8 +77,7 @@ pub fn answer_command<D: Desk, O: Sink, E: Sink>(
     out: &mut O,
     err: &mut E,
 ) -> u8
-    ensures {
-        let was = lent D.told D.open_faults (pipe D.left D.faults O.taken O.faults desk.old out.old) E.taken E.faults desk.old err.old in
+    ensures { let was = lent D.told D.open_faults (pipe D.left D.faults O.taken O.faults desk.old out.old) E.taken E.faults desk.old err.old in
         let now = lent D.told D.open_faults (pipe D.left D.faults O.taken O.faults desk.new out.new) E.taken E.faults desk.new err.new in
         MatchResult words (λ given. EndsWords (map string_bytes given.items) result was now) (λ _. EndsWithoutWords result was now) }
 {

@@ -44,7 +44,11 @@ fn expect<R: Abort>(
     let status = run(alloc, texts.as_slice(), &mut desk, &mut out, &mut err);
     let answered = (status, out.taken(), err.taken());
     let wanted = (want.0, Some(want.1.as_bytes()), Some(want.2.as_bytes()));
-    assert_eq!(rt; answered, wanted, "{words:?} over {archive:?}, where {fails:?} fail");
+    assert_eq!(rt;
+        answered,
+        wanted,
+        "{words:?} over {archive:?}, where {fails:?} fail"
+    );
     Ok(())
 }
 
@@ -62,7 +66,11 @@ static TABLES: [(&[u8], &str, &str); 10] = [
     ),
     (b"1. e4 *1. d4 *", "7", "1 0 7 1 1\n2 7 7 2 1\n"),
     (b"* 1. d4 d5 2. c4 * *", "3", "1 0 18 1 2\n2 18 2 3 1\n"),
-    (b"*\n*\n; the end\n% and no more", "2", "1 0 3 1 2\n2 3 24 3 0\n"),
+    (
+        b"*\n*\n; the end\n% and no more",
+        "2",
+        "1 0 3 1 2\n2 3 24 3 0\n",
+    ),
     (b"* 1. e4", "1", "1 0 1 1 1\n2 1 6 2 1\n"),
 ];
 
@@ -80,7 +88,11 @@ fn archives_have_their_table(rt: HostRuntime) -> Result<(), Fail> {
 static FAILURES: [(Failing<'static>, Status, &str); 5] = [
     ((&[1], &[], &[]), Status::OpenFault, ""),
     ((&[], &[1], &[]), Status::ReadFault, ""),
-    ((&[], &[2], &[]), Status::ReadFault, "1 0 1 1 1\n2 1 2 2 1\n"),
+    (
+        (&[], &[2], &[]),
+        Status::ReadFault,
+        "1 0 1 1 1\n2 1 2 2 1\n",
+    ),
     ((&[], &[], &[1]), Status::WriteFault, ""),
     ((&[], &[], &[12]), Status::WriteFault, "1 0 1 1 1\n2"),
 ];

@@ -23,7 +23,9 @@ add_all-requires c =
 pub returns-clause-takes : goal.returns-clause-takes
 returns-clause-takes c =
     takes_bytes c.args.self.now _ c.args.bytes.now c.args.text.now c.add_all.new.text c.as_slice.result.now refl refl
-    (λ front stands. (c.in_ok-feed.ensures.stands front stands,
-        fed c.closed_games_stay.ensures.grow front c.args.bytes.now c.as_slice.result.now (c.as_slice.ensures.value ∙ c.in_ok-feed.ensures.games front stands
-        ∙ ap (λ (l : List Span). l ++ drop (length (closed front)) (closed (front ++ c.args.bytes.now))) c.new-games.ensures.items)))
+    (λ front stands. (
+      c.in_ok-feed.ensures.stands front stands,
+      fed c.closed_games_stay.ensures.grow front c.args.bytes.now c.as_slice.result.now (c.as_slice.ensures.value ∙ c.in_ok-feed.ensures.games front stands
+          ∙ ap (λ (l : List Span). l ++ drop (length (closed front)) (closed (front ++ c.args.bytes.now))) c.new-games.ensures.items),
+    ))
     c.in_ok-self.ensures
