@@ -1,0 +1,3 @@
+pub mod Fills
+pub mod Streams
+pub mod Covers

@@ -1,0 +1,16 @@
+//! Laws of the pieces, for the crates above. Each is proved for all archives; to call one costs nothing.
+ghost use Rattle.std.specs.Prelude.{◌≡◌, ℕ, List, []};
+ghost use Rattle.std.specs.List.{flat_map};
+ghost use Rattle.pgn_pieces.specs.Pieces.{ArePieces, piece_bytes};
+ghost use Rattle.pgn_pieces.specs.declared.piece.Piece.{Piece as APiece};
+
+use pgn_cut::games_stand_apart;
+
+/// The pieces of an archive, one after the other, are the archive. One without a byte has no piece.
+pub fn pieces_cover_their_archive()
+    ensures covers { (least : ℕ) (archive : List ℕ) (pieces : List APiece) → ArePieces least archive pieces →
+        flat_map (piece_bytes archive) pieces ≡ archive }
+    ensures none { (least : ℕ) (pieces : List APiece) → ArePieces least [] pieces → pieces ≡ [] }
+{
+    games_stand_apart();
+}

@@ -1,0 +1,126 @@
+//! The pieces of an archive that comes bit by bit.
+ghost use Rattle.std.specs.Prelude.{◌≡◌, ◌+◌, ◌++◌, ◌<◌, ◌≤◌, ◌^◌, [], ◌∷◌, ℕ, List, length, OnOk, IfOk};
+ghost use Rattle.pgn_cut.specs.Spans.{AreInOrder};
+ghost use Rattle.pgn_pieces.specs.Pieces.{last_piece};
+ghost use Rattle.pgn_pieces.specs.Table.{table};
+ghost use Rattle.pgn_pieces.specs.State.{Shows, Stands, AddsGames, TakesBytes, ComesToEnd};
+ghost use Rattle.pgn_pieces.specs.declared.piece.Piece.{Piece as APiece};
+
+use crate::piece::Place;
+use crate::state::{OpenPiece, Pieces};
+use crate::table::push_line;
+use cq_outside::{Bytes, NoMemory};
+use pgn_cut::{Cutter, Span, closed_games_stay, games_stand_apart};
+use std::alloc::Global;
+
+impl OpenPiece {
+    // Nothing of an archive was taken.
+    fn new() -> OpenPiece
+        ensures shows { (least : ℕ) → 0 < least → Shows least result [] [] }
+        ensures end { result.end ≡ 0 }
+    {
+        OpenPiece {
+            here: Place::start(),
+            games: 0,
+            end: 0,
+        }
+    }
+
+    // One game more, and the line of the piece where it is long enough with it.
+    fn with(self, game: Span, least: u64, text: &mut Bytes) -> Result<OpenPiece, NoMemory>
+        requires order { (self.end < game.end) × (game.end < 2 ^ 62) }
+        ensures adds { IfOk result (λ now. AddsGames least self now (game ∷ []) text.old text.new) }
+        ensures end { IfOk result (λ now. now.end ≡ game.end) }
+    {
+        let games = self.games + 1;
+        if game.end - self.here.from < least {
+            return Ok(OpenPiece {
+                here: self.here,
+                games,
+                end: game.end,
+            });
+        }
+        let piece = self.here.piece_to(game.end, games);
+        push_line(text, piece)?;
+        Ok(OpenPiece {
+            here: piece.after(),
+            games: 0,
+            end: game.end,
+        })
+    }
+
+    // Adds the line of what is left of an archive of so many bytes, where something is left.
+    fn push_last(self, total: u64, text: &mut Bytes) -> Result<(), NoMemory>
+        ensures { OnOk result (text.new ≡ text.old ++ table (last_piece self.here total self.games)) }
+    {
+        if total <= self.here.from {
+            return Ok(());
+        }
+        push_line(text, self.here.piece_to(total, self.games))
+    }
+}
+
+// The open piece after more games, and the lines of the pieces that are long enough with them.
+fn add_all(
+    open_piece: OpenPiece,
+    games: &[Span],
+    least: u64,
+    text: &mut Bytes,
+) -> Result<OpenPiece, NoMemory>
+    requires order { (to : ℕ) × (to < 2 ^ 62) × AreInOrder open_piece.end to games.now }
+    ensures { IfOk result (λ now. AddsGames least open_piece now games.now text.old text.new) }
+{
+    let mut now = open_piece;
+    for game in games {
+        now = now.with(*game, least, text)?;
+    }
+    Ok(now)
+}
+
+impl Pieces {
+    /// Nothing was taken of an archive whose pieces have at least `least` bytes, from 1 to 2^40.
+    pub fn new(alloc: Global, least: u64) -> Pieces
+        requires { (1 ≤ least) × (least ≤ 2 ^ 40) }
+        ensures stands { Stands result [] [] }
+        ensures least { result.least ≡ least }
+    {
+        closed_games_stay();
+        games_stand_apart();
+        Pieces {
+            alloc,
+            cutter: Cutter::new(),
+            open_piece: OpenPiece::new(),
+            taken: 0,
+            least,
+        }
+    }
+
+    /// Takes the next bytes of the archive, and adds the lines of the pieces that are long enough with them. Fails only when out of
+    /// memory. All bytes together are fewer than 2^62.
+    pub fn feed(&mut self, bytes: &[u8], text: &mut Bytes) -> Result<(), NoMemory>
+        requires { (front : List ℕ) × (pieces : List APiece) × Stands self.old front pieces × (length front + length bytes.now < 2 ^ 62) }
+        ensures takes { OnOk result (TakesBytes self.old self.new bytes.now text.old text.new) }
+        ensures least { self.new.least ≡ self.old.least }
+    {
+        closed_games_stay();
+        games_stand_apart();
+        let mut games = Vec::new(self.alloc);
+        self.cutter.feed(bytes, &mut games)?;
+        self.open_piece = add_all(self.open_piece, games.as_slice(), self.least, text)?;
+        self.taken += bytes.len() as u64;
+        Ok(())
+    }
+
+    /// Adds the lines of the last pieces, at the archive's end. Fails only when out of memory.
+    pub fn finish(mut self, text: &mut Bytes) -> Result<(), NoMemory>
+        requires { (front : List ℕ) × (pieces : List APiece) × Stands self front pieces × (length front < 2 ^ 62) }
+        ensures { OnOk result (ComesToEnd self text.old text.new) }
+    {
+        closed_games_stay();
+        games_stand_apart();
+        let mut games = Vec::new(self.alloc);
+        self.cutter.finish(&mut games)?;
+        let last = add_all(self.open_piece, games.as_slice(), self.least, text)?;
+        last.push_last(self.taken, text)
+    }
+}
