@@ -1,6 +1,7 @@
 # The demo, the proved program, its installation, its package, and the tests. PREFIX is where `make install` puts the program.
 PREFIX ?= /usr/local
 PROGRAM ?= crates/cqlpgn/out/cqlpgn
+PIECES ?= crates/pgnpieces/out/pgnpieces
 BIN = $(DESTDIR)$(PREFIX)/bin
 SHARE = $(DESTDIR)$(PREFIX)/share
 ZSH ?= site-functions
@@ -11,20 +12,22 @@ ZSH ?= site-functions
 demo:
 	@bash scripts/demo.sh
 
-# Proves the program and all below it, crate by crate, and builds it.
+# Proves the two programs and all below them, crate by crate, and builds them.
 build:
 	@bash scripts/build.sh
 
 # Installs what `make build` has built, with manual pages, completion for bash, zsh and fish, a syntax file for vim, the page of boards
 # and the wrapper for several archives.
 install:
-	@test -x $(PROGRAM) || { echo "make build comes first"; exit 1; }
+	@test -x $(PROGRAM) -a -x $(PIECES) || { echo "make build comes first"; exit 1; }
 	install -D $(PROGRAM) $(BIN)/cqlpgn
+	install -D $(PIECES) $(BIN)/pgnpieces
 	install -D contrib/cqlpgn-over $(BIN)/cqlpgn-over
 	install -D view/diagrams $(SHARE)/cqlpgn/view/diagrams
 	install -m 644 view/*.py view/page.html $(SHARE)/cqlpgn/view
 	ln -sf ../share/cqlpgn/view/diagrams $(BIN)/cqlpgn-diagrams
 	install -D -m 644 docs/cqlpgn.1 $(SHARE)/man/man1/cqlpgn.1
+	install -m 644 docs/pgnpieces.1 $(SHARE)/man/man1/pgnpieces.1
 	for name in cqlpgn-over cqlpgn-diagrams; do \
 	  echo '.so man1/cqlpgn.1' > $(SHARE)/man/man1/$$name.1; \
 	  mkdir -p $(SHARE)/bash-completion/completions $(SHARE)/fish/vendor_completions.d; \
@@ -45,8 +48,8 @@ install:
 
 # Takes away what install has put, wherever the completion for zsh went, and the folders of others that it leaves empty.
 uninstall:
-	rm -f $(BIN)/cqlpgn $(BIN)/cqlpgn-over $(BIN)/cqlpgn-diagrams
-	rm -f $(SHARE)/man/man1/cqlpgn.1 $(SHARE)/man/man1/cqlpgn-over.1 $(SHARE)/man/man1/cqlpgn-diagrams.1 $(SHARE)/man/man7/cql.7
+	rm -f $(BIN)/cqlpgn $(BIN)/cqlpgn-over $(BIN)/cqlpgn-diagrams $(BIN)/pgnpieces
+	rm -f $(SHARE)/man/man1/cqlpgn.1 $(SHARE)/man/man1/cqlpgn-over.1 $(SHARE)/man/man1/cqlpgn-diagrams.1 $(SHARE)/man/man1/pgnpieces.1 $(SHARE)/man/man7/cql.7
 	for name in cqlpgn cqlpgn-over cqlpgn-diagrams; do \
 	  rm -f $(SHARE)/bash-completion/completions/$$name $(SHARE)/fish/vendor_completions.d/$$name.fish; \
 	done
@@ -60,12 +63,13 @@ uninstall:
 
 # A Debian package of what `make build` has built, in out/. It needs debhelper and dpkg-dev.
 deb:
-	@test -x $(PROGRAM) || { echo "make build comes first"; exit 1; }
+	@test -x $(PROGRAM) -a -x $(PIECES) || { echo "make build comes first"; exit 1; }
 	rm -rf out/deb
-	mkdir -p out/deb/cqlpgn/crates/cqlpgn/out
+	mkdir -p out/deb/cqlpgn/crates/cqlpgn/out out/deb/cqlpgn/crates/pgnpieces/out
 	cp -r Makefile README.md LICENSE-MIT LICENSE-APACHE debian docs examples view contrib out/deb/cqlpgn
 	cp $(PROGRAM) out/deb/cqlpgn/crates/cqlpgn/out/cqlpgn
-	cd out/deb/cqlpgn && env -u PROGRAM dpkg-buildpackage -us -uc -b
+	cp $(PIECES) out/deb/cqlpgn/crates/pgnpieces/out/pgnpieces
+	cd out/deb/cqlpgn && env -u PROGRAM -u PIECES dpkg-buildpackage -us -uc -b
 	mv out/deb/cqlpgn_*.deb out/
 	rm -rf out/deb
 

@@ -1,5 +1,5 @@
 #!/usr/bin/env bash
-# Proves the program and all crates below it, lowest first, and builds it: `make build`.
+# Proves the programs and all crates below them, lowest first, and builds them: `make build`.
 #
 # A line tells of each crate when it is begun, and how long it took. What a crate said stands in its out/build.log, which is shown where the
 # crate fails. A run that was broken off goes on where it stood.
@@ -22,7 +22,7 @@ below() {
     done
 }
 
-mapfile -t all < <(below cqlpgn)
+mapfile -t all < <({ below cqlpgn; below pgnpieces; } | awk '!seen[$0]++')
 echo "${#all[@]} crates, up to an hour the first time on four processors"
 number=0
 for crate in "${all[@]}"; do
@@ -30,8 +30,8 @@ for crate in "${all[@]}"; do
     printf '%2d of %d  %-14s' "$number" "${#all[@]}" "$crate"
     from=$SECONDS
     mkdir -p "crates/$crate/out"
-    # the program is run once it is built: without words it writes its usage, and ends with status 3
-    if [ "$crate" = cqlpgn ]; then verb=run good=3; else verb=lib good=0; fi
+    # a program is run once it is built: without words it writes its usage, and ends with status 3
+    case $crate in cqlpgn | pgnpieces) verb=run good=3 ;; *) verb=lib good=0 ;; esac
     (cd "crates/$crate" && rt "$verb" > out/build.log 2>&1 < /dev/null)
     status=$?
     if [ "$status" -ne "$good" ]; then
@@ -41,4 +41,4 @@ for crate in "${all[@]}"; do
     fi
     echo " $((SECONDS - from)) s"
 done
-ls -l crates/cqlpgn/out/cqlpgn
+ls -l crates/cqlpgn/out/cqlpgn crates/pgnpieces/out/pgnpieces

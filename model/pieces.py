@@ -1,0 +1,89 @@
+#!/usr/bin/env python3
+"""pgnpieces as a process: its tables beside those made of the model's cut, and each exit status.
+
+    python3 pieces.py BINARY
+
+BINARY is the built program. The last line counts the cases: 'N passed, M failed'. It takes some seconds.
+"""
+
+import os
+import random
+import subprocess
+import sys
+import tempfile
+
+import pgn
+
+TOP = os.path.join(os.path.dirname(os.path.abspath(__file__)), "..")
+BINARY = os.path.abspath(sys.argv[1])
+USAGE = b"usage: pgnpieces ARCHIVE BYTES\n"
+passed, failed = 0, 0
+
+
+def compare(name, got, want):
+    global passed, failed
+    if got == want:
+        passed += 1
+    else:
+        failed += 1
+        print("DIFFERS", name, "\n got ", got, "\n want", want)
+
+
+def asked(*words, data=b"", **options):
+    """(status, out, err) of the program"""
+    done = subprocess.run([BINARY, *words], input=data, capture_output=True, check=False, timeout=60, **options)
+    return done.returncode, done.stdout, done.stderr
+
+
+def table(archive, least):
+    """the lines of the pieces of an archive, from the model's list of all its games"""
+    lines, begin, first, games = [], 0, 1, 0
+    for span in pgn.cut(archive):
+        games += 1
+        if span[1] - begin >= least:
+            lines.append((begin, span[1] - begin, first, games))
+            begin, first, games = span[1], first + games, 0
+    if begin < len(archive):
+        lines.append((begin, len(archive) - begin, first, games))
+    return b"".join(b"%d %d %d %d %d\n" % (n, *line) for n, line in enumerate(lines, 1))
+
+
+def compare_table(name, archive, least):
+    compare(f"{name} by {least}", asked("-", str(least), data=archive), (0, table(archive, least), b""))
+
+
+def tables():
+    for name in sorted(os.listdir(os.path.join(TOP, "examples"))):
+        if name.endswith(".pgn"):
+            with open(os.path.join(TOP, "examples", name), "rb") as file:
+                archive = file.read()
+            for least in (1, 100, 2000, len(archive), 1 << 40):
+                compare_table(name, archive, least)
+    for archive in (b"", b" ", b"*", b"* ", b"*%\n*", b"{no game}", b"1. e4 * {and} 1. d4 *\n\n;end"):
+        for least in (1, 2, 5, 100):
+            compare_table(repr(archive), archive, least)
+    draw = random.Random(1)
+    parts = [b"*", b" * ", b"\n", b"%", b"\n%*\n", b"[A \"*\"]\n", b"1. e4 ", b"(", b")", b"{*}", b";*\n", b"1-0\n", b"\xef\xbb\xbf", b"\"", b"\r\n"]
+    for _turn in range(200):
+        compare_table("drawn", b"".join(draw.choice(parts) for _part in range(draw.randrange(40))), draw.randrange(1, 60))
+
+
+def statuses():
+    with tempfile.TemporaryDirectory() as folder:
+        name = os.path.join(folder, "a.pgn")
+        with open(name, "wb") as file:
+            file.write(b"1. e4 *\n1. d4 *\n")
+        compare("a file", asked(name, "1"), (0, b"1 0 7 1 1\n2 7 8 2 1\n3 15 1 3 0\n", b""))
+        for words in ((), (name,), (name, "0"), (name, "x"), (name, "1099511627777"), (name, "1", "2"), ("--help",)):
+            compare(f"the words {words}", asked(*words), (3, b"", USAGE))
+        compare("no such file", asked(os.path.join(folder, "b.pgn"), "1"), (4, b"", b""))
+        compare("a folder", asked(folder, "1"), (5, b"", b""))
+    with open("/dev/full", "wb") as full:
+        done = subprocess.run([BINARY, "-", "1"], input=b"*", stdout=full, stderr=subprocess.PIPE, check=False, timeout=60)
+    compare("a full device", (done.returncode, done.stderr), (6, b""))
+
+
+tables()
+statuses()
+print(f"{passed} passed, {failed} failed")
+sys.exit(failed > 0)
