@@ -11,6 +11,8 @@ pub enum SpeedFault {
     Words,
     #[error("a line of the positions is not a position, a bar and texts of moves")]
     Position,
+    #[error("the archive has 2^40 bytes or more")]
+    TooLong,
     #[error("no memory")]
     NoMemory,
     #[error("the input, the output or the clock failed")]

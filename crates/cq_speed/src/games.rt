@@ -7,12 +7,18 @@ use std::alloc::Global;
 use std::io::Print;
 use std::time::CpuClock;
 
+/// An archive has fewer bytes.
+const LIMIT: usize = 1 << 40;
+
 /// Measures how many bytes a second are cut, and how long each position of a game takes to be read.
 pub(crate) fn measure(
     rt: &(impl CpuClock + Print),
     alloc: Global,
     archive: &[u8],
 ) -> Result<(), SpeedFault> {
+    if archive.len() >= LIMIT {
+        return Err(SpeedFault::TooLong);
+    }
     let start = rt.process_cpu_time()?;
     let spans = cut_whole(alloc, archive)?;
     let cut = rt.process_cpu_time()?.saturating_sub(start);
