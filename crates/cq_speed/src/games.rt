@@ -4,9 +4,11 @@ use crate::rate::{a_second, nanos_each};
 use pgn_cut::{Span, cut_whole};
 use pgn_reader::read_game;
 use std::alloc::Global;
-use std::io;
-use std::io::{ErrorKind, Print};
+use std::io::Print;
 use std::time::CpuClock;
+
+/// An archive has fewer bytes.
+const LIMIT: usize = 1 << 40;
 
 /// Measures how many bytes a second are cut, and how long each position of a game takes to be read.
 pub(crate) fn measure(
@@ -14,10 +16,11 @@ pub(crate) fn measure(
     alloc: Global,
     archive: &[u8],
 ) -> Result<(), SpeedFault> {
+    if archive.len() >= LIMIT {
+        return Err(SpeedFault::TooLong);
+    }
     let start = rt.process_cpu_time()?;
-    let Ok(spans) = cut_whole(alloc, archive) else {
-        return Err(SpeedFault::Outside(io::Error::from(ErrorKind::OutOfMemory)));
-    };
+    let spans = cut_whole(alloc, archive)?;
     let cut = rt.process_cpu_time()?.saturating_sub(start);
     let start = rt.process_cpu_time()?;
     let positions = read_all(alloc, archive, spans.as_slice());
@@ -46,7 +49,7 @@ fn read_all(alloc: Global, archive: &[u8], spans: &[Span]) -> u64 {
 fn positions_of(alloc: Global, archive: &[u8], span: &Span) -> u64 {
     let (start, end) = (span.start as usize, span.end as usize);
     match archive.get(start..end) {
-        Some(bytes) => match read_game(alloc, bytes, span.start, span.first) {
+        Some(bytes) => match read_game(alloc, bytes, 0, span.first) {
             Ok(game) => u64::from(game.len()),
             Err(_) => 0,
         },

@@ -59,13 +59,17 @@ fn write_all(position: &Position, rounds: u32) -> u64 {
     texts
 }
 
-// A line of the positions: the position, a bar, and the texts of its legal moves, a space between two.
-fn parts_of(line: &str) -> Result<(Position, &str), SpeedFault> {
-    let Some((fen, moves)) = line.split_once("|") else {
-        return Err(SpeedFault::Position);
-    };
+// A line of the positions is a position, a bar and the texts of its legal moves, a space between two.
+fn parts_of(line: &str) -> Result<(&str, &str), SpeedFault> {
+    match line.split_once("|") {
+        Some(parts) => Ok(parts),
+        None => Err(SpeedFault::Position),
+    }
+}
+
+fn position_of(fen: &str) -> Result<Position, SpeedFault> {
     match read_fen(fen.as_bytes()) {
-        Ok(position) => Ok((position, moves)),
+        Ok(position) => Ok(position),
         Err(_) => Err(SpeedFault::Position),
     }
 }
@@ -74,8 +78,8 @@ fn parts_of(line: &str) -> Result<(Position, &str), SpeedFault> {
 fn positions_of(alloc: Global, text: &str) -> Result<Vec<Position>, SpeedFault> {
     let mut positions = Vec::new(alloc);
     for line in text.lines() {
-        let (position, _moves) = parts_of(line)?;
-        positions.push(position)?;
+        let (fen, _moves) = parts_of(line)?;
+        positions.push(position_of(fen)?)?;
     }
     Ok(positions)
 }
@@ -99,9 +103,9 @@ fn texts_of<'a>(alloc: Global, text: &'a str) -> Result<Texts<'a>, SpeedFault> {
 }
 
 fn add_texts<'a>(line: &'a str, found: &mut Texts<'a>) -> Result<(), SpeedFault> {
-    let (position, moves) = parts_of(line)?;
+    let (fen, moves) = parts_of(line)?;
     for san in moves.split(" ") {
-        found.owners.push(position)?;
+        found.owners.push(position_of(fen)?)?;
         found.texts.push(san)?;
     }
     Ok(())
