@@ -25,7 +25,8 @@ pub record Stands (p : Pieces) (front : List ℕ) (pieces : List Piece) : Type 0
 pub record AddsGames (least : ℕ) (was now : OpenPiece) (games : List Span) (text longer : List ℕ) : Type 0 where
   pub more : List Piece
   pub lines : longer ≡ text ++ table more
-  pub shows : (before : List Span) (pieces : List Piece) → Shows least was before pieces → Shows least now (before ++ games) (pieces ++ more)
+  pub shows : (before : List Span) (pieces : List Piece) → Shows least was before pieces
+      → Shows least now (before ++ games) (pieces ++ more)
 
 -- the same of more bytes of the archive
 pub record TakesBytes (was now : Pieces) (bytes text longer : List ℕ) : Type 0 where

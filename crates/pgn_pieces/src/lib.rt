@@ -1,8 +1,8 @@
 //! The pieces of an archive: it is cut at ends of games, so that each piece can be answered by itself.
 //!
 //! A piece begins where the one before ends, and ends with the first game with which it has at least the bytes that are asked for; the
-//! last one has what is left. `pgn_cut` has the law that says why the pieces fit: the games after a seam are those of the bytes after
-//! it, behind one space.
+//! last one has what is left. The law says that the pieces, one after the other, are the archive. `pgn_cut` has the law that says why
+//! they fit: the games after a seam are those of the bytes after it, behind one space.
 #![tactic(auto)]
 
 mod laws;

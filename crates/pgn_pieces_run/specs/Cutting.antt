@@ -73,7 +73,8 @@ pub record WritesPart (least : ℕ) (was now : Pipe) : Type 0 where
 -- what each status says
 abbrev pub Says : Status → ℕ → Pipe → Pipe → Type 0
 Says Done least was now = WritesTable least was now × NoReadFailed was now × NoWriteFailed was now
-Says ReadFault least was now = ((front : List ℕ) × WritesFirst least was now front) × Rose was.read_faults now.read_faults × NoWriteFailed was now
+Says ReadFault least was now =
+    ((front : List ℕ) × WritesFirst least was now front) × Rose was.read_faults now.read_faults × NoWriteFailed was now
 Says WriteFault least was now = WritesPart least was now × NoReadFailed was now × Rose was.write_faults now.write_faults
 Says NoMemory least was now = WritesPart least was now × NoReadFailed was now × NoWriteFailed was now
 Says ArchiveTooLong least was now =

@@ -69,8 +69,8 @@ RefusesWords _ was now = ⊥
 -- What `run` promises of its status: the words ask for a table, and the archive is opened and cut, or can't be opened; or they are
 -- refused; or no memory was found, and nothing changed.
 pub data Promise (words : List (List ℕ)) (status : Status) (was now : Lent) : Type 0 where
-  archive_cut : (job : Job) → asked words ≡ Some job → (file : Pipe) → Opened job.archive was now file → Says status job.least file now.pipe_
-      → IsErrUnwritten was now → Promise words status was now
+  archive_cut : (job : Job) → asked words ≡ Some job → (file : Pipe) → Opened job.archive was now file
+      → Says status job.least file now.pipe_ → IsErrUnwritten was now → Promise words status was now
   archive_unopened : (job : Job) → asked words ≡ Some job → status ≡ OpenFault → FailsToOpen was now → Promise words status was now
   words_refused : asked words ≡ None → RefusesWords status was now → Promise words status was now
   out_of_memory : status ≡ NoMemory → now ≡ was → Promise words status was now

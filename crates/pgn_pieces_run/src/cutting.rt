@@ -52,7 +52,8 @@ fn turn<S: Source, O: Sink>(
 fn end<O: Sink>(alloc: Global, pieces: Pieces, out: &mut O) -> Status
     requires { (front : List ℕ) × (before : List APiece) × Stands pieces front before × (length front < 2 ^ 62) }
     ensures { (least count faults : ℕ) (left : Option (List ℕ)) (was : Pipe) → IsAtEnd left
-        → HasCut least count was (record { left = left; read_faults = faults; taken = O.taken out.old; write_faults = O.faults out.old }) pieces
+        → HasCut least count was
+        (record { left = left; read_faults = faults; taken = O.taken out.old; write_faults = O.faults out.old }) pieces
         → Says result least was (record { left = left; read_faults = faults; taken = O.taken out.new; write_faults = O.faults out.new }) }
 {
     let mut text = Bytes::new(alloc);

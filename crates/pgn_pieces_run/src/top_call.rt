@@ -77,8 +77,10 @@ pub fn answer_command<D: Desk, O: Sink, E: Sink>(
     out: &mut O,
     err: &mut E,
 ) -> u8
-    ensures { let was = lent D.told D.open_faults (pipe D.left D.faults O.taken O.faults desk.old out.old) E.taken E.faults desk.old err.old in
-        let now = lent D.told D.open_faults (pipe D.left D.faults O.taken O.faults desk.new out.new) E.taken E.faults desk.new err.new in
+    ensures { let before = pipe D.left D.faults O.taken O.faults desk.old out.old in
+        let after = pipe D.left D.faults O.taken O.faults desk.new out.new in
+        let was = lent D.told D.open_faults before E.taken E.faults desk.old err.old in
+        let now = lent D.told D.open_faults after E.taken E.faults desk.new err.new in
         MatchResult words (λ given. EndsWords (map string_bytes given.items) result was now) (λ _. EndsWithoutWords result was now) }
 {
     match words {

@@ -1,5 +1,6 @@
 //! Worked rows through the top call.
 use cq_outside::{Calls, MemDesk, MemSink, NoMemory};
+use pgn_pieces::pieces_cover_their_archive;
 use pgn_pieces_run::{Status, answer_command, run};
 use std::alloc::{AllocError, Global};
 use std::process::Abort;
@@ -76,6 +77,7 @@ static TABLES: [(&[u8], &str, &str); 10] = [
 
 #[test]
 fn archives_have_their_table(rt: HostRuntime) -> Result<(), Fail> {
+    pieces_cover_their_archive();
     let alloc = rt.alloc();
     for (archive, least, table) in TABLES.iter() {
         let want = (Status::Done, *table, "");
