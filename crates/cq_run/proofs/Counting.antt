@@ -30,8 +30,8 @@ use Rattle.cq_run.specs.Outcomes.{HasGames}
 use Rattle.cq_run.specs.Promise.{SourceView}
 use Rattle.cq_run.specs.SelfRun.{AreTotals, totals_of}
 use Rattle.cq_run.specs.Writing.{counted}
-use Rattle.cq_run.proofs.Answered.{may_be}
-use Rattle.cq_run.proofs.Answers.{IsFound, answers_count, is_faulty, is_found, is_no_match, next_of, same_tally, tallied_more, tally_with}
+use Rattle.cq_run.proofs.AnswerPromise.{may_be}
+use Rattle.cq_run.proofs.GameByGame.{IsFound, answers_count, is_faulty, is_found, is_no_match, next_of, same_tally, tallied_more, tally_with}
 use Rattle.cq_run.proofs.Exports.{texts_same}
 use Rattle.cq_run.proofs.Given.{count_read, given, given_few, kept_read_on}
 use Rattle.cq_run.proofs.Reached.{Reached, all_read, moved, no_reads, rounds_few, turned}

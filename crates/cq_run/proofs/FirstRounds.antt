@@ -18,18 +18,18 @@ use Rattle.cq_shards.specs.declared.answers.GameAnswer.{GameAnswer}
 use Rattle.cq_shards.specs.declared.batch.Batch.{Batch}
 use Rattle.cq_shards.specs.declared.state.Batches.{Batches}
 use Rattle.cq_run.specs.Answer.{is_match}
-use Rattle.cq_run.specs.Asking.{texts_of, texts_so_far}
+use Rattle.cq_run.specs.AllGames.{texts_of, texts_so_far}
 use Rattle.cq_run.specs.ByBatches.{Laws}
 use Rattle.cq_run.specs.FirstGame.{first_texts, some_match, up_to_first, wanted}
-use Rattle.cq_run.specs.Promise.{Answering, SourceView, SinkView, Sinks, AnswerPromise, Writes, WritesPrefix, NoWriteFailed, OneSinkFailed, sinks_of}
+use Rattle.cq_run.specs.Promise.{SourceView, SinkView, Sinks, AnswerPromise, Writes, WritesPrefix, NoWriteFailed, OneSinkFailed, sinks_of}
 use Rattle.cq_run.specs.Writing.{FoundSoFar, Stand, WritesSummary, stand_of}
 use Rattle.cq_run.specs.declared.status.Status.{Status}
 use Rattle.cq_run.specs.declared.status.Status.TheVariants.{ReadFault, WriteFault, NoMemory, ArchiveTooLong}
 use Rattle.cq_run.specs.declared.tally.Tally.{Tally}
 use Rattle.cq_shards.proofs.Filling.{consumes_none}
 use Rattle.cq_shards.proofs.Streams.{count_within}
-use Rattle.cq_run.proofs.Answered.{asked, none_answered as all_unanswered, none_taken, outcomes_of}
-use Rattle.cq_run.proofs.Answers.{answers_count, as_prefix, none_found, tally_with}
+use Rattle.cq_run.proofs.AnswerPromise.{answer_call, none_answered as all_unanswered, none_taken, outcomes_of}
+use Rattle.cq_run.proofs.GameByGame.{answers_count, as_prefix, none_found, tally_with}
 use Rattle.cq_run.proofs.FirstGames.{UpTo, all_up, are_first, first_texts_of, none_counted, some_counted, some_of_first, up_few, up_on, up_to}
 use Rattle.cq_run.proofs.Given.{count_read, full_each, given, given_few, kept_read_on}
 use Rattle.cq_run.proofs.Reached.{Reached, all_read, moved, no_reads, rounds_few, turned}
@@ -112,7 +112,7 @@ so_far_prefix query rs sinks stand none found = λ more.
     (subst (λ l. Writes sinks (texts_so_far false query l)) (sym (all_up query rs none)) found.writes))
 
 pub call_starves : Laws → (query : QueryTree) (limit : ℕ) (was now : Batches) (source mid after : SourceView) (sinks : Sinks) (stand : Stand) (Given : List ℕ → ℕ → Type 0)
-    → FirstRounds query limit was source mid sinks stand → Moves was now mid.left after.left Given → after.faults ≡ mid.faults → AnswerPromise (first_texts query) NoMemory (asked limit source after sinks)
+    → FirstRounds query limit was source mid sinks stand → Moves was now mid.left after.left Given → after.faults ≡ mid.faults → AnswerPromise (first_texts query) NoMemory (answer_call limit source after sinks)
 call_starves laws query limit was now source mid after sinks stand Given r moves counts =
     let at : Called query limit now source after (r.so.front ++ moves.bytes) r.so.m r.so.outcomes = called laws query limit was now source mid after sinks stand Given r moves in
     starves laws query limit now source after (r.so.front ++ moves.bytes) r.so.m r.so.outcomes sinks at.reached (counts ∙ r.so.counts) at.are_read
@@ -120,7 +120,7 @@ call_starves laws query limit was now source mid after sinks stand Given r moves
 
 pub call_unread : Laws → (query : QueryTree) (limit : ℕ) (was now : Batches) (source mid after : SourceView) (sinks : Sinks) (stand : Stand)
     → FirstRounds query limit was source mid sinks stand → Moves was now mid.left after.left (HasGivenFull was (λ n. n ≤ was.limit)) → Rose mid.faults after.faults
-    → AnswerPromise (first_texts query) ReadFault (asked limit source after sinks)
+    → AnswerPromise (first_texts query) ReadFault (answer_call limit source after sinks)
 call_unread laws query limit was now source mid after sinks stand r moves rose =
     let at : Called query limit now source after (r.so.front ++ moves.bytes) r.so.m r.so.outcomes =
     called laws query limit was now source mid after sinks stand (HasGivenFull was (λ n. n ≤ was.limit)) r moves in
@@ -130,7 +130,7 @@ call_unread laws query limit was now source mid after sinks stand r moves rose =
 
 pub call_too_long : Laws → (query : QueryTree) (limit : ℕ) (was now : Batches) (source mid after : SourceView) (sinks : Sinks) (stand : Stand)
     → FirstRounds query limit was source mid sinks stand → Moves was now mid.left after.left (HasGivenFull was (λ n. was.limit < n)) → after.faults ≡ mid.faults
-    → AnswerPromise (first_texts query) ArchiveTooLong (asked limit source after sinks)
+    → AnswerPromise (first_texts query) ArchiveTooLong (answer_call limit source after sinks)
 call_too_long laws query limit was now source mid after sinks stand r moves counts =
     let at : Called query limit now source after (r.so.front ++ moves.bytes) r.so.m r.so.outcomes =
     called laws query limit was now source mid after sinks stand (HasGivenFull was (λ n. was.limit < n)) r moves in
@@ -141,7 +141,7 @@ call_too_long laws query limit was now source mid after sinks stand r moves coun
 -- there are no more batches, and the last line is written
 pub call_ends : Laws → (status : Status) (query : QueryTree) (limit : ℕ) (was now : Batches) (source mid after : SourceView) (out out' err err' err'' : SinkView) (tally : Tally) (ks : List GameAnswer)
     → FirstRounds query limit was source mid (sinks_of out out' err err') (stand_of tally ks) → Moves was now mid.left after.left (HasGivenAll now) → after.faults ≡ mid.faults
-    → WritesSummary tally err' err'' status → AnswerPromise (first_texts query) status (asked limit source after (sinks_of out out' err err''))
+    → WritesSummary tally err' err'' status → AnswerPromise (first_texts query) status (answer_call limit source after (sinks_of out out' err err''))
 call_ends laws status query limit was now source mid after out out' err err' err'' tally ks r moves counts writes =
     let sinks = sinks_of out out' err err' in
     let at : Called query limit now source after (r.so.front ++ moves.bytes) r.so.m r.so.outcomes = called laws query limit was now source mid after sinks (stand_of tally ks) (HasGivenAll now) r moves in
@@ -195,7 +195,7 @@ before_turn query limit b source now sinks stand batch t at = record {
 }
 
 pub turn_starves : Laws → (query : QueryTree) (limit : ℕ) (b : Batches) (source now : SourceView) (sinks : Sinks) (stand : Stand) (batch : Batch) (t : ℕ)
-    → FirstTurn query limit b source now sinks stand batch t → AnswerPromise (first_texts query) NoMemory (asked limit source now sinks)
+    → FirstTurn query limit b source now sinks stand batch t → AnswerPromise (first_texts query) NoMemory (answer_call limit source now sinks)
 turn_starves laws query limit b source now sinks stand batch t at =
     let turn = at.turn in
     starves laws query limit b source now turn.front turn.m turn.outcomes sinks turn.turned.before turn.counts turn.are_read
@@ -248,7 +248,7 @@ joined query limit b source now sinks stand batch answers t at answered =
 pub turn_fails : Laws → (query : QueryTree) (limit : ℕ) (b : Batches) (source now : SourceView) (sinks new_sinks : Sinks) (stand : Stand) (batch : Batch) (answers : List GameAnswer) (t : ℕ)
     → (at : FirstTurn query limit b source now sinks stand batch t) → (answered : BatchUpTo query batch answers)
     → WritesPrefix new_sinks (texts_so_far false query (at.turn.outcomes ++ up_to_first query answered.outcomes)) × OneSinkFailed new_sinks
-    → AnswerPromise (first_texts query) WriteFault (asked limit source now new_sinks)
+    → AnswerPromise (first_texts query) WriteFault (answer_call limit source now new_sinks)
 turn_fails laws query limit b source now sinks new_sinks stand batch answers t at answered (writes, failed) =
     let turn = at.turn in
     let all = turn.outcomes ++ answered.outcomes in
@@ -260,7 +260,7 @@ turn_fails laws query limit b source now sinks new_sinks stand batch answers t a
 pub turn_wants : Laws → (query : QueryTree) (limit : ℕ) (b : Batches) (source now : SourceView) (sinks new_sinks : Sinks) (stand : Stand) (batch : Batch) (answers : List GameAnswer) (t : ℕ)
     → (at : FirstTurn query limit b source now sinks stand batch t) → (answered : BatchUpTo query batch answers)
     → WritesPrefix new_sinks (texts_so_far false query (at.turn.outcomes ++ up_to_first query answered.outcomes)) × NoWriteFailed new_sinks
-    → AnswerPromise (first_texts query) NoMemory (asked limit source now new_sinks)
+    → AnswerPromise (first_texts query) NoMemory (answer_call limit source now new_sinks)
 turn_wants laws query limit b source now sinks new_sinks stand batch answers t at answered (writes, unfailed) =
     let turn = at.turn in
     let all = turn.outcomes ++ answered.outcomes in
@@ -273,7 +273,7 @@ turn_wants laws query limit b source now sinks new_sinks stand batch answers t a
 pub turn_found : Laws → (status : Status) (query : QueryTree) (limit : ℕ) (b : Batches) (source now : SourceView) (sinks : Sinks) (out out' err err' err'' : SinkView) (stand : Stand) (tally : Tally)
     (ks : List GameAnswer) (batch : Batch) (answers : List GameAnswer) (t : ℕ) → (at : FirstTurn query limit b source now sinks stand batch t) → (answered : BatchUpTo query batch answers)
     → FoundSoFar false query (at.turn.outcomes ++ up_to_first query answered.outcomes) (sinks_of out out' err err') (stand_of tally ks) → 0 < tally.matched
-    → WritesSummary tally err' err'' status → AnswerPromise (first_texts query) status (asked limit source now (sinks_of out out' err err''))
+    → WritesSummary tally err' err'' status → AnswerPromise (first_texts query) status (answer_call limit source now (sinks_of out out' err err''))
 turn_found laws status query limit b source now sinks out out' err err' err'' stand tally ks batch answers t at answered found some writes =
     let turn = at.turn in
     let all = turn.outcomes ++ answered.outcomes in
@@ -315,7 +315,7 @@ turn_done query limit b source now sinks new_sinks stand tally ks batch answers 
 
 -- no memory before anything was read
 pub none_answered : Laws → (query : QueryTree) (limit : ℕ) (source : SourceView) (out err : SinkView)
-    → AnswerPromise (first_texts query) NoMemory (asked limit source source (sinks_of out out err err))
+    → AnswerPromise (first_texts query) NoMemory (answer_call limit source source (sinks_of out out err err))
 none_answered laws query limit source out err =
     let sinks = sinks_of out out err err in
     let rest = outcomes_of laws.have [] (closed []) in
@@ -349,19 +349,9 @@ none_answered laws query limit source out err =
       complete = λ _. inr (inr (inl refl));
     }
 
--- ---- either run
+-- ---- no memory before anything was read, in either run
 
-pub none_asked : Laws → (first : Bool) (query : QueryTree) (limit : ℕ) (source : SourceView) (out err : SinkView)
-    → AnswerPromise (wanted first query) NoMemory (asked limit source source (sinks_of out out err err))
-none_asked laws true query limit source out err = none_answered laws query limit source out err
-none_asked laws false query limit source out err = all_unanswered laws.have query limit source out err
-
-pub first_asked : (first : Bool) (query held : QueryTree) (status : Status) (call : Answering) → first ≡ true → held ≡ query → AnswerPromise (first_texts held) status call
-    → AnswerPromise (wanted first query) status call
-first_asked first query held status call is same does =
-    subst (λ b. AnswerPromise (wanted b query) status call) (sym is) (subst (λ q. AnswerPromise (first_texts q) status call) same does)
-
-pub all_asked : (first : Bool) (query held : QueryTree) (status : Status) (call : Answering) → first ≡ false → held ≡ query → AnswerPromise (texts_of held) status call
-    → AnswerPromise (wanted first query) status call
-all_asked first query held status call is same does =
-    subst (λ b. AnswerPromise (wanted b query) status call) (sym is) (subst (λ q. AnswerPromise (texts_of q) status call) same does)
+pub unanswered : Laws → (first : Bool) (query : QueryTree) (limit : ℕ) (source : SourceView) (out err : SinkView)
+    → AnswerPromise (wanted first query) NoMemory (answer_call limit source source (sinks_of out out err err))
+unanswered laws true query limit source out err = none_answered laws query limit source out err
+unanswered laws false query limit source out err = all_unanswered laws.have query limit source out err

@@ -21,7 +21,7 @@ use Rattle.cq_run.specs.Promise.{SaysOfAnswer, EndsEarly, IsOneOf, Unfinished, W
 use Rattle.cq_run.specs.Writing.{FoundSoFar, Stand}
 use Rattle.cq_run.specs.declared.status.Status.{Status}
 use Rattle.cq_run.specs.declared.status.Status.TheVariants.{Done, DoneWithRefusals, QueryRefused, WordsRefused, OpenFault, ReadFault, WriteFault, NoMemory, ArchiveTooLong}
-use Rattle.cq_run.proofs.Answered.{asked, may_be, not_overrun, not_too_long}
+use Rattle.cq_run.proofs.AnswerPromise.{answer_call, may_be, not_overrun, not_too_long}
 use Rattle.cq_run.proofs.FirstGames.{all_up, are_first, first_is, first_texts_of, some_grows, texts_same, no_first}
 use Rattle.cq_run.proofs.Given.{full_rises, given, given_full, reads_archive, whole_are}
 use Rattle.cq_run.proofs.Reached.{Reached, ReadsAll, takes_some}
@@ -43,9 +43,9 @@ pub part_taken : (query : QueryTree) (rs : List Outcome) (sinks : Sinks) → Wri
 part_taken query rs sinks writes = record { texts = first_texts_of query rs; are = inr (refused_of query rs, are_first query rs); writes = writes }
 
 pub first_promised : Laws → (status : Status) (query : QueryTree) (limit : ℕ) (source now : SourceView) (sinks : Sinks) (archive : List ℕ) (rs : List Outcome) → ReadsAll limit source now archive rs
-    → Before query source now → SaysOfAnswer status (first_texts query) (asked limit source now sinks)
-    → (AnswersAll (first_texts query) (asked limit source now sinks) → IsOneOf status (Done ∷ DoneWithRefusals ∷ NoMemory ∷ []))
-    → AnswerPromise (first_texts query) status (asked limit source now sinks)
+    → Before query source now → SaysOfAnswer status (first_texts query) (answer_call limit source now sinks)
+    → (AnswersAll (first_texts query) (answer_call limit source now sinks) → IsOneOf status (Done ∷ DoneWithRefusals ∷ NoMemory ∷ []))
+    → AnswerPromise (first_texts query) status (answer_call limit source now sinks)
 first_promised laws status query limit source now sinks archive rs all before says complete = record {
   says = says;
   takes = takes_all limit source now archive rs all;
@@ -55,7 +55,7 @@ first_promised laws status query limit source now sinks archive rs all before sa
 }
 
 pub first_read : Laws → (status : Status) (query : QueryTree) (limit : ℕ) (source now : SourceView) (sinks : Sinks) (archive : List ℕ) (rs : List Outcome) → ReadsAll limit source now archive rs
-    → Before query source now → FirstWritten (refused_of query rs) (first_texts_of query rs) sinks status → AnswerPromise (first_texts query) status (asked limit source now sinks)
+    → Before query source now → FirstWritten (refused_of query rs) (first_texts_of query rs) sinks status → AnswerPromise (first_texts query) status (answer_call limit source now sinks)
 first_read laws Done query limit source now sinks archive rs all before writes =
     first_promised laws Done query limit source now sinks archive rs all before (
       inl (finds_all query limit source now sinks archive rs _ all (all_taken query rs sinks (λ n. n ≡ 0) writes.0 writes.1)),
@@ -88,7 +88,7 @@ first_read laws ArchiveTooLong query limit source now sinks archive rs all befor
 
 -- a prefix was written of what the games give, as the archive is read, or once it was read
 pub stops_open : Laws → (query : QueryTree) (limit : ℕ) (b : Batches) (source now : SourceView) (front : List ℕ) (m : ℕ) (rs : List Outcome) (sinks : Sinks) → Reached limit b source now front m
-    → AreKeptRead (given front m) rs → ((more : List Outcome) → WritesPrefix sinks (first_texts_of query (rs ++ more))) → b.ended ≡ false → Stops (first_texts query) (asked limit source now sinks)
+    → AreKeptRead (given front m) rs → ((more : List Outcome) → WritesPrefix sinks (first_texts_of query (rs ++ more))) → b.ended ≡ false → Stops (first_texts query) (answer_call limit source now sinks)
 stops_open laws query limit b source now front m rs sinks r read writes reads =
     let rest : ReadOn front (closed front) rs = on_closed laws front m rs (r.open_ reads) read in
     inl (record {
@@ -105,7 +105,7 @@ stops_open laws query limit b source now front m rs sinks r read writes reads =
     })
 
 pub stops_ended : Laws → (query : QueryTree) (limit : ℕ) (b : Batches) (source now : SourceView) (front : List ℕ) (m : ℕ) (rs : List Outcome) (sinks : Sinks) → Reached limit b source now front m
-    → AreKeptRead (given front m) rs → ((more : List Outcome) → WritesPrefix sinks (first_texts_of query (rs ++ more))) → b.ended ≡ true → Stops (first_texts query) (asked limit source now sinks)
+    → AreKeptRead (given front m) rs → ((more : List Outcome) → WritesPrefix sinks (first_texts_of query (rs ++ more))) → b.ended ≡ true → Stops (first_texts query) (answer_call limit source now sinks)
 stops_ended laws query limit b source now front m rs sinks r read writes over =
     let rest : ReadOn front (cut front) rs = on_cut laws front m rs read in
     inr (record {
@@ -122,14 +122,14 @@ stops_ended laws query limit b source now front m rs sinks r read writes over =
 
 pub stops_by : Laws → (query : QueryTree) (limit : ℕ) (b : Batches) (source now : SourceView) (front : List ℕ) (m : ℕ) (rs : List Outcome) (sinks : Sinks) → Reached limit b source now front m
     → AreKeptRead (given front m) rs → ((more : List Outcome) → WritesPrefix sinks (first_texts_of query (rs ++ more))) → (b.ended ≡ true) ⊎ (b.ended ≡ false)
-    → Stops (first_texts query) (asked limit source now sinks)
+    → Stops (first_texts query) (answer_call limit source now sinks)
 stops_by laws query limit b source now front m rs sinks r read writes (inl over) = stops_ended laws query limit b source now front m rs sinks r read writes over
 stops_by laws query limit b source now front m rs sinks r read writes (inr reads) = stops_open laws query limit b source now front m rs sinks r read writes reads
 
 -- no memory
 pub starves : Laws → (query : QueryTree) (limit : ℕ) (b : Batches) (source now : SourceView) (front : List ℕ) (m : ℕ) (rs : List Outcome) (sinks : Sinks) → Reached limit b source now front m
     → now.faults ≡ source.faults → AreKeptRead (given front m) rs → ((more : List Outcome) → WritesPrefix sinks (first_texts_of query (rs ++ more))) → NoWriteFailed sinks → Before query source now
-    → AnswerPromise (first_texts query) NoMemory (asked limit source now sinks)
+    → AnswerPromise (first_texts query) NoMemory (answer_call limit source now sinks)
 starves laws query limit b source now front m rs sinks r counts read writes unfailed before = record {
   says = (stops_by laws query limit b source now front m rs sinks r read writes (cases_Bool b.ended), record { source = counts; sinks = unfailed });
   takes = takes_some limit b source now front m r;
@@ -141,7 +141,7 @@ starves laws query limit b source now front m rs sinks r counts read writes unfa
 -- a write that failed
 pub breaks_off : Laws → (query : QueryTree) (limit : ℕ) (b : Batches) (source now : SourceView) (front : List ℕ) (m : ℕ) (rs : List Outcome) (sinks : Sinks) → Reached limit b source now front m
     → now.faults ≡ source.faults → AreKeptRead (given front m) rs → ((more : List Outcome) → WritesPrefix sinks (first_texts_of query (rs ++ more))) → OneSinkFailed sinks → Before query source now
-    → AnswerPromise (first_texts query) WriteFault (asked limit source now sinks)
+    → AnswerPromise (first_texts query) WriteFault (answer_call limit source now sinks)
 breaks_off laws query limit b source now front m rs sinks r counts read writes failed before = record {
   says = (failed, counts, stops_by laws query limit b source now front m rs sinks r read writes (cases_Bool b.ended));
   takes = takes_some limit b source now front m r;
@@ -160,7 +160,7 @@ pub record HasFirst (query : QueryTree) (source now : SourceView) (front : List 
 
 pub early_found : (query : QueryTree) (limit : ℕ) (source now : SourceView) (front : List ℕ) (rs : List Outcome) (sinks : Sinks) (AreRefused : ℕ → Type 0) → HasFirst query source now front rs
     → length front ≤ limit + 1 → AreRefused (refused_of query rs) → Writes sinks (first_texts_of query rs)
-    → Finds (asked limit source now sinks) whole_spans (λ front outcomes. WritesAll ((first_texts query).early outcomes) AreRefused sinks)
+    → Finds (answer_call limit source now sinks) whole_spans (λ front outcomes. WritesAll ((first_texts query).early outcomes) AreRefused sinks)
 early_found query limit source now front rs sinks AreRefused has few refused writes = record {
   front = front;
   outcomes = rs;
@@ -171,7 +171,7 @@ early_found query limit source now front rs sinks AreRefused has few refused wri
 }
 
 pub ends_early : (query : QueryTree) (limit : ℕ) (source now : SourceView) (front : List ℕ) (rs : List Outcome) (sinks : Sinks) → HasFirst query source now front rs
-    → EndsEarly (first_texts query) (asked limit source now sinks)
+    → EndsEarly (first_texts query) (answer_call limit source now sinks)
 ends_early query limit source now front rs sinks has = (
   front,
   has.takes,
@@ -179,8 +179,8 @@ ends_early query limit source now front rs sinks has = (
 )
 
 pub early_promised : Laws → (status : Status) (query : QueryTree) (limit : ℕ) (b : Batches) (source now : SourceView) (front : List ℕ) (m : ℕ) (rs : List Outcome) (sinks : Sinks)
-    → Reached limit b source now front m → Before query source now → HasFirst query source now front rs → SaysOfAnswer status (first_texts query) (asked limit source now sinks)
-    → IsOneOf status (Done ∷ DoneWithRefusals ∷ NoMemory ∷ []) → AnswerPromise (first_texts query) status (asked limit source now sinks)
+    → Reached limit b source now front m → Before query source now → HasFirst query source now front rs → SaysOfAnswer status (first_texts query) (answer_call limit source now sinks)
+    → IsOneOf status (Done ∷ DoneWithRefusals ∷ NoMemory ∷ []) → AnswerPromise (first_texts query) status (answer_call limit source now sinks)
 early_promised laws status query limit b source now front m rs sinks r before has says good = record {
   says = says;
   takes = takes_some limit b source now front m r;
@@ -196,7 +196,7 @@ same_prefix query rs more sinks some writes = subst (λ (t : Texts). WritesPrefi
 pub found_open : Laws → (status : Status) (query : QueryTree) (limit : ℕ) (b : Batches) (source now : SourceView) (front : List ℕ) (m : ℕ) (rs qs : List Outcome) (sinks : Sinks)
     → Reached limit b source now front m → now.faults ≡ source.faults → AreKeptRead (given front m) rs → some_match query rs ≡ true → Before query source now
     → HasFirst query source now front qs → FirstWritten (refused_of query rs) (first_texts_of query rs) sinks status → FirstWritten (refused_of query qs) (first_texts_of query qs) sinks status
-    → AnswerPromise (first_texts query) status (asked limit source now sinks)
+    → AnswerPromise (first_texts query) status (answer_call limit source now sinks)
 found_open laws Done query limit b source now front m rs qs sinks r counts read some before has writes all =
     early_promised laws Done query limit b source now front m qs sinks r before has
     (inr (early_found query limit source now front qs sinks (λ n. n ≡ 0) has r.few all.0 all.1), record { source = counts; sinks = all.2 }) (inl refl)
@@ -215,7 +215,7 @@ found_open laws ArchiveTooLong query limit b source now front m rs qs sinks r co
 
 pub found_by : Laws → (status : Status) (query : QueryTree) (limit : ℕ) (b : Batches) (source now : SourceView) (front : List ℕ) (m : ℕ) (rs : List Outcome) (sinks : Sinks)
     → Reached limit b source now front m → now.faults ≡ source.faults → AreKeptRead (given front m) rs → some_match query rs ≡ true → Before query source now
-    → FirstWritten (refused_of query rs) (first_texts_of query rs) sinks status → (b.ended ≡ true) ⊎ (b.ended ≡ false) → AnswerPromise (first_texts query) status (asked limit source now sinks)
+    → FirstWritten (refused_of query rs) (first_texts_of query rs) sinks status → (b.ended ≡ true) ⊎ (b.ended ≡ false) → AnswerPromise (first_texts query) status (answer_call limit source now sinks)
 found_by laws status query limit b source now front m rs sinks r counts read some before writes (inl over) =
     let rest : ReadOn front (cut front) rs = on_cut laws front m rs read in
     first_read laws status query limit source now sinks front (rs ++ rest.more)
@@ -229,7 +229,7 @@ found_by laws status query limit b source now front m rs sinks r counts read som
 
 pub breaks : Laws → (query : QueryTree) (limit : ℕ) (b : Batches) (source now : SourceView) (front : List ℕ) (m : ℕ) (rs : List Outcome) (sinks : Sinks) (stand : Stand) (AreTaken : ℕ → Type 0)
     → Reached limit b source now front m → AreKeptRead (given front m) rs → some_match query rs ≡ false → FoundSoFar false query rs sinks stand
-    → length (full_batches (closed_games front)) ≡ m → AreTaken (length front) → Breaks (first_texts query) (asked limit source now sinks) AreTaken
+    → length (full_batches (closed_games front)) ≡ m → AreTaken (length front) → Breaks (first_texts query) (answer_call limit source now sinks) AreTaken
 breaks laws query limit b source now front m rs sinks stand AreTaken r read none found all taken =
     let full = full_batches (closed_games front) in
     let games : given front m ≡ whole front = ap flat (given_full laws front m (omega (arith, all)) ∙ take_all m full (omega (arith, all))) in
@@ -252,7 +252,7 @@ breaks laws query limit b source now front m rs sinks stand AreTaken r read none
 
 pub unread : Laws → (query : QueryTree) (limit : ℕ) (b : Batches) (source now : SourceView) (front : List ℕ) (m : ℕ) (rs : List Outcome) (sinks : Sinks) (stand : Stand)
     → Reached limit b source now front m → Rose source.faults now.faults → AreKeptRead (given front m) rs → some_match query rs ≡ false → FoundSoFar false query rs sinks stand
-    → length (full_batches (closed_games front)) ≡ m → length front ≤ limit → Before query source now → AnswerPromise (first_texts query) ReadFault (asked limit source now sinks)
+    → length (full_batches (closed_games front)) ≡ m → length front ≤ limit → Before query source now → AnswerPromise (first_texts query) ReadFault (answer_call limit source now sinks)
 unread laws query limit b source now front m rs sinks stand r rose read none found all few before = record {
   says = (rose, found.unfailed, breaks laws query limit b source now front m rs sinks stand (λ n. Unit {0}) r read none found all tt);
   takes = takes_some limit b source now front m r;
@@ -279,7 +279,7 @@ too_long_never laws query limit source now front m rs archive tells takes read n
 
 pub too_long : Laws → (query : QueryTree) (limit : ℕ) (b : Batches) (source now : SourceView) (front : List ℕ) (m : ℕ) (rs : List Outcome) (sinks : Sinks) (stand : Stand)
     → Reached limit b source now front m → now.faults ≡ source.faults → AreKeptRead (given front m) rs → some_match query rs ≡ false → FoundSoFar false query rs sinks stand
-    → length (full_batches (closed_games front)) ≡ m → limit < length front → Before query source now → AnswerPromise (first_texts query) ArchiveTooLong (asked limit source now sinks)
+    → length (full_batches (closed_games front)) ≡ m → limit < length front → Before query source now → AnswerPromise (first_texts query) ArchiveTooLong (answer_call limit source now sinks)
 too_long laws query limit b source now front m rs sinks stand r counts read none found all long before = record {
   says = (
     breaks laws query limit b source now front m rs sinks stand (λ n. limit < n) r read none found all long,

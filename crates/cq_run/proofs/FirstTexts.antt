@@ -17,7 +17,7 @@ use Rattle.cq_shards.specs.Outcomes.{Outcome, AreKeptRead}
 use Rattle.cq_shards.specs.Whole.{closed_games, cut_games, whole, whole_spans}
 use Rattle.cq_shards.specs.declared.answers.GameAnswer.{GameAnswer}
 use Rattle.cq_run.specs.Answer.{export_if, fault_lines, summary_of, tally_of}
-use Rattle.cq_run.specs.Asking.{texts_so_far}
+use Rattle.cq_run.specs.AllGames.{texts_so_far}
 use Rattle.cq_run.specs.ByBatches.{HaveOneOutcome, Laws}
 use Rattle.cq_run.specs.FirstGame.{first_export, first_texts, some_match, up_to_first}
 use Rattle.cq_run.specs.Outcomes.{AreRead}
@@ -26,8 +26,8 @@ use Rattle.cq_run.specs.Writing.{FoundSoFar, Stand, WritesSummary, stand_of}
 use Rattle.cq_run.specs.declared.status.Status.{Status}
 use Rattle.cq_run.specs.declared.status.Status.TheVariants.{Done, DoneWithRefusals, QueryRefused, WordsRefused, OpenFault, ReadFault, WriteFault, NoMemory, ArchiveTooLong}
 use Rattle.cq_run.specs.declared.tally.Tally.{Tally}
-use Rattle.cq_run.proofs.Answered.{asked}
-use Rattle.cq_run.proofs.Answers.{both_prefix, fault_lines_on, part_more, took_more}
+use Rattle.cq_run.proofs.AnswerPromise.{answer_call}
+use Rattle.cq_run.proofs.GameByGame.{both_prefix, fault_lines_on, part_more, took_more}
 use Rattle.cq_run.proofs.FirstGames.{first_is, first_texts_of, some_grows, texts_same, up_grows, up_same}
 use Rattle.cq_run.proofs.Given.{Rest, all_batches, full_first, full_grows, given, given_full, kept_read_on, reads_archive, rest_of, whole_are}
 use Rattle.cq_run.proofs.Sinks.{Took, fails_after, grew_on, took_count, took_front, unwritten}
@@ -102,7 +102,7 @@ pub record Before (query : QueryTree) (source now : SourceView) : Type 0 where
   pub none : some_match query outcomes ≡ false
   pub needed : Needed front m
 
-pub no_more : Laws → (query : QueryTree) (limit : ℕ) (source now : SourceView) (sinks : Sinks) → Before query source now → ReadsNoMore (first_texts query) (asked limit source now sinks)
+pub no_more : Laws → (query : QueryTree) (limit : ℕ) (source now : SourceView) (sinks : Sinks) → Before query source now → ReadsNoMore (first_texts query) (answer_call limit source now sinks)
 no_more laws query limit source now sinks so = record {
   front = so.front;
   takes = so.takes;

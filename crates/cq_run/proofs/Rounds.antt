@@ -15,7 +15,7 @@ use Rattle.cq_shards.specs.Streams.{Stands}
 use Rattle.cq_shards.specs.Whole.{closed_games, cut_games, whole, whole_spans}
 use Rattle.cq_run.specs.declared.status.Status.{Status}
 use Rattle.cq_run.specs.declared.status.Status.TheVariants.{Done, DoneWithRefusals, QueryRefused, WordsRefused, OpenFault, ReadFault, WriteFault, NoMemory, ArchiveTooLong}
-use Rattle.cq_run.specs.Asking.{texts_of, texts_so_far}
+use Rattle.cq_run.specs.AllGames.{texts_of, texts_so_far}
 use Rattle.cq_shards.specs.Answers.{AnswersBatch, answers_from, games_of, number_of}
 use Rattle.cq_shards.specs.Nexts.{Moves, GivesBatch, HasGivenAll, HasGivenFull}
 use Rattle.cq_shards.specs.Outcomes.{Outcome, AreKeptRead}
@@ -24,8 +24,8 @@ use Rattle.cq_run.specs.Promise.{SourceView, SinkView, Sinks, FindsAll, Stops, B
 use Rattle.cq_run.specs.Sorts.{have_sort}
 use Rattle.cq_run.specs.Writing.{FoundSoFar, WritesAnswer, Stand, stand_of}
 use Rattle.cq_shards.specs.declared.answers.GameAnswer.{GameAnswer}
-use Rattle.cq_run.proofs.Answered.{asked, may_be, needs_all, not_overrun, not_too_long}
-use Rattle.cq_run.proofs.Answers.{none_found, as_prefix, prefix_grows, tally_with, answers_count}
+use Rattle.cq_run.proofs.AnswerPromise.{answer_call, may_be, needs_all, not_overrun, not_too_long}
+use Rattle.cq_run.proofs.GameByGame.{none_found, as_prefix, prefix_grows, tally_with, answers_count}
 use Rattle.cq_run.proofs.Sinks.{some_failed}
 use Rattle.cq_run.proofs.Given.{Rest, all_batches, count_read, given, given_few, given_full, kept_read_on, reads_archive, rest_of, whole_are}
 use Rattle.cq_run.proofs.Reached.{Reached, ReadsAll, Turned, all_read, moved, no_reads, rounds_few, takes_some, turned}
@@ -47,7 +47,7 @@ pub record Rounds (sorted : Bool) (query : QueryTree) (limit : ℕ) (b : Batches
 -- a prefix was written of what the games given give, as the archive is read
 stops_open : Laws → (sorted : Bool) (query : QueryTree) (limit : ℕ) (b : Batches) (source now : SourceView) (front : List ℕ) (m : ℕ) (rs : List Outcome) (sinks : Sinks)
     → have_sort query.items ≡ sorted → Reached limit b source now front m → AreKeptRead (given front m) rs → WritesPrefix sinks (texts_so_far sorted query rs) → b.ended ≡ false
-    → Stops (texts_of query) (asked limit source now sinks)
+    → Stops (texts_of query) (answer_call limit source now sinks)
 stops_open laws sorted query limit b source now front m rs sinks sorts r read writes reads =
     let full = full_batches (closed_games front) in
     let more = flat (drop m full) ++ left_over (closed_games front) in
@@ -73,7 +73,7 @@ stops_open laws sorted query limit b source now front m rs sinks sorts r read wr
 -- or once it was read
 stops_ended : Laws → (sorted : Bool) (query : QueryTree) (limit : ℕ) (b : Batches) (source now : SourceView) (front : List ℕ) (m : ℕ) (rs : List Outcome) (sinks : Sinks)
     → have_sort query.items ≡ sorted → Reached limit b source now front m → AreKeptRead (given front m) rs → WritesPrefix sinks (texts_so_far sorted query rs) → b.ended ≡ true
-    → Stops (texts_of query) (asked limit source now sinks)
+    → Stops (texts_of query) (answer_call limit source now sinks)
 stops_ended laws sorted query limit b source now front m rs sinks sorts r read writes over =
     let bs = batches (cut_games front) in
     let more = flat (drop m bs) in
@@ -95,14 +95,14 @@ stops_ended laws sorted query limit b source now front m rs sinks sorts r read w
 
 stops_by : Laws → (sorted : Bool) (query : QueryTree) (limit : ℕ) (b : Batches) (source now : SourceView) (front : List ℕ) (m : ℕ) (rs : List Outcome) (sinks : Sinks)
     → have_sort query.items ≡ sorted → Reached limit b source now front m → AreKeptRead (given front m) rs → WritesPrefix sinks (texts_so_far sorted query rs)
-    → (b.ended ≡ true) ⊎ (b.ended ≡ false) → Stops (texts_of query) (asked limit source now sinks)
+    → (b.ended ≡ true) ⊎ (b.ended ≡ false) → Stops (texts_of query) (answer_call limit source now sinks)
 stops_by laws sorted query limit b source now front m rs sinks sorts r read writes (inl over) = stops_ended laws sorted query limit b source now front m rs sinks sorts r read writes over
 stops_by laws sorted query limit b source now front m rs sinks sorts r read writes (inr reads) = stops_open laws sorted query limit b source now front m rs sinks sorts r read writes reads
 
 -- no memory
 pub starves : Laws → (sorted : Bool) (query : QueryTree) (limit : ℕ) (b : Batches) (source now : SourceView) (front : List ℕ) (m : ℕ) (rs : List Outcome) (sinks : Sinks)
     → have_sort query.items ≡ sorted → Reached limit b source now front m → now.faults ≡ source.faults → AreKeptRead (given front m) rs
-    → WritesPrefix sinks (texts_so_far sorted query rs) → NoWriteFailed sinks → AnswerPromise (texts_of query) NoMemory (asked limit source now sinks)
+    → WritesPrefix sinks (texts_so_far sorted query rs) → NoWriteFailed sinks → AnswerPromise (texts_of query) NoMemory (answer_call limit source now sinks)
 starves laws sorted query limit b source now front m rs sinks sorts r counts read writes unfailed = record {
   says = (stops_by laws sorted query limit b source now front m rs sinks sorts r read writes (cases_Bool b.ended), record { source = counts; sinks = unfailed });
   takes = takes_some limit b source now front m r;
@@ -114,7 +114,7 @@ starves laws sorted query limit b source now front m rs sinks sorts r counts rea
 -- a write that failed
 pub breaks_off : Laws → (sorted : Bool) (query : QueryTree) (limit : ℕ) (b : Batches) (source now : SourceView) (front : List ℕ) (m : ℕ) (rs : List Outcome) (sinks : Sinks)
     → have_sort query.items ≡ sorted → Reached limit b source now front m → now.faults ≡ source.faults → AreKeptRead (given front m) rs
-    → WritesPrefix sinks (texts_so_far sorted query rs) → OneSinkFailed sinks → AnswerPromise (texts_of query) WriteFault (asked limit source now sinks)
+    → WritesPrefix sinks (texts_so_far sorted query rs) → OneSinkFailed sinks → AnswerPromise (texts_of query) WriteFault (answer_call limit source now sinks)
 breaks_off laws sorted query limit b source now front m rs sinks sorts r counts read writes failed = record {
   says = (failed, counts, stops_by laws sorted query limit b source now front m rs sinks sorts r read writes (cases_Bool b.ended));
   takes = takes_some limit b source now front m r;
@@ -127,7 +127,7 @@ breaks_off laws sorted query limit b source now front m rs sinks sorts r counts 
 
 breaks : Laws → (sorted : Bool) (query : QueryTree) (limit : ℕ) (b : Batches) (source now : SourceView) (front : List ℕ) (m : ℕ) (rs : List Outcome) (sinks : Sinks) (stand : Stand)
     (AreTaken : ℕ → Type 0) → have_sort query.items ≡ sorted → Reached limit b source now front m → AreKeptRead (given front m) rs → FoundSoFar sorted query rs sinks stand
-    → length (full_batches (closed_games front)) ≡ m → AreTaken (length front) → Breaks (texts_of query) (asked limit source now sinks) AreTaken
+    → length (full_batches (closed_games front)) ≡ m → AreTaken (length front) → Breaks (texts_of query) (answer_call limit source now sinks) AreTaken
 breaks laws sorted query limit b source now front m rs sinks stand AreTaken sorts r read found all taken =
     let full = full_batches (closed_games front) in
     let games : given front m ≡ whole front = ap flat (given_full laws front m (omega (arith, all)) ∙ take_all m full (omega (arith, all))) in
@@ -143,19 +143,19 @@ breaks laws sorted query limit b source now front m rs sinks stand AreTaken sort
       );
     }
 
-within_of : (query : QueryTree) (limit : ℕ) (source after : SourceView) (sinks : Sinks) → (all : AnswersAll (texts_of query) (asked limit source after sinks))
+within_of : (query : QueryTree) (limit : ℕ) (source after : SourceView) (sinks : Sinks) → (all : AnswersAll (texts_of query) (answer_call limit source after sinks))
     → (length all.archive ≤ limit) ⊎ Suffices (texts_of query) (take limit all.archive) → length all.archive ≤ limit
 within_of query limit source after sinks all (inl few) = few
 within_of query limit source after sinks all (inr enough) = absurd enough.early
 
 -- nothing suffices of one query
 none_suffices : (query : QueryTree) (front : List ℕ) (limit : ℕ) (source after : SourceView) (sinks : Sinks)
-    → (all : AnswersAll (texts_of query) (asked limit source after sinks)) → length all.archive ≤ limit
+    → (all : AnswersAll (texts_of query) (answer_call limit source after sinks)) → length all.archive ≤ limit
 none_suffices query front limit source after sinks all = within_of query limit source after sinks all all.within
 
 pub unread : Laws → (sorted : Bool) (query : QueryTree) (limit : ℕ) (b : Batches) (source now : SourceView) (front : List ℕ) (m : ℕ) (rs : List Outcome) (sinks : Sinks) (stand : Stand)
     → have_sort query.items ≡ sorted → Reached limit b source now front m → Rose source.faults now.faults → AreKeptRead (given front m) rs → FoundSoFar sorted query rs sinks stand
-    → length (full_batches (closed_games front)) ≡ m → length front ≤ limit → AnswerPromise (texts_of query) ReadFault (asked limit source now sinks)
+    → length (full_batches (closed_games front)) ≡ m → length front ≤ limit → AnswerPromise (texts_of query) ReadFault (answer_call limit source now sinks)
 unread laws sorted query limit b source now front m rs sinks stand sorts r rose read found all few = record {
   says = (rose, found.unfailed, breaks laws sorted query limit b source now front m rs sinks stand (λ n. Unit {0}) sorts r read found all tt);
   takes = takes_some limit b source now front m r;
@@ -166,7 +166,7 @@ unread laws sorted query limit b source now front m rs sinks stand sorts r rose 
 
 pub too_long : Laws → (sorted : Bool) (query : QueryTree) (limit : ℕ) (b : Batches) (source now : SourceView) (front : List ℕ) (m : ℕ) (rs : List Outcome) (sinks : Sinks) (stand : Stand)
     → have_sort query.items ≡ sorted → Reached limit b source now front m → now.faults ≡ source.faults → AreKeptRead (given front m) rs → FoundSoFar sorted query rs sinks stand
-    → length (full_batches (closed_games front)) ≡ m → limit < length front → AnswerPromise (texts_of query) ArchiveTooLong (asked limit source now sinks)
+    → length (full_batches (closed_games front)) ≡ m → limit < length front → AnswerPromise (texts_of query) ArchiveTooLong (answer_call limit source now sinks)
 too_long laws sorted query limit b source now front m rs sinks stand sorts r counts read found all long = record {
   says = (
     breaks laws sorted query limit b source now front m rs sinks stand (λ n. limit < n) sorts r read found all long,
@@ -182,7 +182,7 @@ too_long laws sorted query limit b source now front m rs sinks stand sorts r cou
 -- ---- all games were answered
 
 pub finds_all : (query : QueryTree) (limit : ℕ) (source now : SourceView) (sinks : Sinks) (archive : List ℕ) (rs : List Outcome) (Holds : List Outcome → Type 0)
-    → ReadsAll limit source now archive rs → Holds rs → FindsAll (asked limit source now sinks) Holds
+    → ReadsAll limit source now archive rs → Holds rs → FindsAll (answer_call limit source now sinks) Holds
 finds_all query limit source now sinks archive rs Holds all holds = record {
   archive = archive;
   outcomes = rs;
@@ -195,8 +195,8 @@ pub takes_all : (limit : ℕ) (source now : SourceView) (archive : List ℕ) (rs
 takes_all limit source now archive rs all = record { bytes = archive; takes = all.takes; few = let w = all.within in omega (arith, w) }
 
 promised : (status : Status) (query : QueryTree) (limit : ℕ) (source now : SourceView) (sinks : Sinks) (archive : List ℕ) (rs : List Outcome) → ReadsAll limit source now archive rs
-    → SaysOfAnswer status (texts_of query) (asked limit source now sinks) → (AnswersAll (texts_of query) (asked limit source now sinks) → IsOneOf status (Done ∷ DoneWithRefusals ∷ NoMemory ∷ []))
-    → AnswerPromise (texts_of query) status (asked limit source now sinks)
+    → SaysOfAnswer status (texts_of query) (answer_call limit source now sinks) → (AnswersAll (texts_of query) (answer_call limit source now sinks) → IsOneOf status (Done ∷ DoneWithRefusals ∷ NoMemory ∷ []))
+    → AnswerPromise (texts_of query) status (answer_call limit source now sinks)
 promised status query limit source now sinks archive rs all says complete = record {
   says = says;
   takes = takes_all limit source now archive rs all;
@@ -206,7 +206,7 @@ promised status query limit source now sinks archive rs all says complete = reco
 }
 
 pub finished_all : (status : Status) (query : QueryTree) (limit : ℕ) (source now : SourceView) (sinks : Sinks) (archive : List ℕ) (rs : List Outcome) → ReadsAll limit source now archive rs
-    → WritesAnswer query rs sinks status → AnswerPromise (texts_of query) status (asked limit source now sinks)
+    → WritesAnswer query rs sinks status → AnswerPromise (texts_of query) status (answer_call limit source now sinks)
 finished_all Done query limit source now sinks archive rs all writes =
     promised Done query limit source now sinks archive rs all
     (inl (finds_all query limit source now sinks archive rs _ all writes.0), record { source = all.counts; sinks = writes.1 }) (λ _. inl refl)
@@ -285,7 +285,7 @@ round_turns laws sorted query limit was now source mid after sinks stand batch t
 
 pub round_starves : Laws → (sorted : Bool) (query : QueryTree) (limit : ℕ) (was now : Batches) (source mid after : SourceView) (sinks : Sinks) (stand : Stand) (Given : List ℕ → ℕ → Type 0)
     → have_sort query.items ≡ sorted → Rounds sorted query limit was source mid sinks stand → Moves was now mid.left after.left Given → after.faults ≡ mid.faults
-    → AnswerPromise (texts_of query) NoMemory (asked limit source after sinks)
+    → AnswerPromise (texts_of query) NoMemory (answer_call limit source after sinks)
 round_starves laws sorted query limit was now source mid after sinks stand Given sorts so moves counts =
     let at = moved laws limit was now source mid after so.front so.m Given so.stands so.reached moves in
     starves laws sorted query limit now source after (so.front ++ moves.bytes) so.m so.outcomes sinks sorts at.reached (counts ∙ so.counts)
@@ -293,7 +293,7 @@ round_starves laws sorted query limit was now source mid after sinks stand Given
 
 pub round_unread : Laws → (sorted : Bool) (query : QueryTree) (limit : ℕ) (was now : Batches) (source mid after : SourceView) (sinks : Sinks) (stand : Stand)
     → have_sort query.items ≡ sorted → Rounds sorted query limit was source mid sinks stand → Moves was now mid.left after.left (HasGivenFull was (λ n. n ≤ was.limit))
-    → Rose mid.faults after.faults → AnswerPromise (texts_of query) ReadFault (asked limit source after sinks)
+    → Rose mid.faults after.faults → AnswerPromise (texts_of query) ReadFault (answer_call limit source after sinks)
 round_unread laws sorted query limit was now source mid after sinks stand sorts so moves rose =
     let at = moved laws limit was now source mid after so.front so.m (HasGivenFull was (λ n. n ≤ was.limit)) so.stands so.reached moves in
     let none = moves.given so.front so.m so.stands in
@@ -302,7 +302,7 @@ round_unread laws sorted query limit was now source mid after sinks stand sorts 
 
 pub round_too_long : Laws → (sorted : Bool) (query : QueryTree) (limit : ℕ) (was now : Batches) (source mid after : SourceView) (sinks : Sinks) (stand : Stand)
     → have_sort query.items ≡ sorted → Rounds sorted query limit was source mid sinks stand → Moves was now mid.left after.left (HasGivenFull was (λ n. was.limit < n))
-    → after.faults ≡ mid.faults → AnswerPromise (texts_of query) ArchiveTooLong (asked limit source after sinks)
+    → after.faults ≡ mid.faults → AnswerPromise (texts_of query) ArchiveTooLong (answer_call limit source after sinks)
 round_too_long laws sorted query limit was now source mid after sinks stand sorts so moves counts =
     let at = moved laws limit was now source mid after so.front so.m (HasGivenFull was (λ n. was.limit < n)) so.stands so.reached moves in
     let none = moves.given so.front so.m so.stands in
@@ -318,7 +318,7 @@ round_ends laws sorted query limit was now source mid after sinks stand so moves
     (subst (λ gs. AreKeptRead gs so.outcomes) (sym at.same) so.are_read) (moves.given so.front so.m so.stands)
 
 pub turn_starves : Laws → (sorted : Bool) (query : QueryTree) (limit : ℕ) (b : Batches) (source now : SourceView) (sinks : Sinks) (stand : Stand) (batch : Batch) (t : ℕ)
-    → have_sort query.items ≡ sorted → Turn sorted query limit b source now sinks stand batch t → AnswerPromise (texts_of query) NoMemory (asked limit source now sinks)
+    → have_sort query.items ≡ sorted → Turn sorted query limit b source now sinks stand batch t → AnswerPromise (texts_of query) NoMemory (answer_call limit source now sinks)
 turn_starves laws sorted query limit b source now sinks stand batch t sorts turn =
     starves laws sorted query limit b source now turn.front turn.m turn.outcomes sinks sorts turn.turned.before turn.counts turn.are_read
     (as_prefix sinks (texts_so_far sorted query turn.outcomes) turn.found.writes) turn.found.unfailed
@@ -372,7 +372,7 @@ pub turn_fails : Laws → (sorted : Bool) (query : QueryTree) (limit : ℕ) (b :
     (answers : List GameAnswer) (t : ℕ)
     → have_sort query.items ≡ sorted → (turn : Turn sorted query limit b source now sinks stand batch t) → (answered : AnswersBatch query batch answers)
     → WritesPrefix new_sinks (texts_so_far sorted query (turn.outcomes ++ answered.outcomes)) × OneSinkFailed new_sinks
-    → AnswerPromise (texts_of query) WriteFault (asked limit source now new_sinks)
+    → AnswerPromise (texts_of query) WriteFault (answer_call limit source now new_sinks)
 turn_fails laws sorted query limit b source now sinks new_sinks stand batch answers t sorts turn answered (writes, failed) =
     breaks_off laws sorted query limit b source now turn.front (turn.m + 1) (turn.outcomes ++ answered.outcomes) new_sinks sorts turn.turned.reached turn.counts
     (all_of_turn sorted query limit b source now sinks stand batch answers t turn answered) writes failed
@@ -381,7 +381,7 @@ pub turn_wants : Laws → (sorted : Bool) (query : QueryTree) (limit : ℕ) (b :
     (answers : List GameAnswer) (t : ℕ)
     → have_sort query.items ≡ sorted → (turn : Turn sorted query limit b source now sinks stand batch t) → (answered : AnswersBatch query batch answers)
     → WritesPrefix new_sinks (texts_so_far sorted query (turn.outcomes ++ answered.outcomes)) × NoWriteFailed new_sinks
-    → AnswerPromise (texts_of query) NoMemory (asked limit source now new_sinks)
+    → AnswerPromise (texts_of query) NoMemory (answer_call limit source now new_sinks)
 turn_wants laws sorted query limit b source now sinks new_sinks stand batch answers t sorts turn answered (writes, unfailed) =
     starves laws sorted query limit b source now turn.front (turn.m + 1) (turn.outcomes ++ answered.outcomes) new_sinks sorts turn.turned.reached turn.counts
     (all_of_turn sorted query limit b source now sinks stand batch answers t turn answered) writes unfailed

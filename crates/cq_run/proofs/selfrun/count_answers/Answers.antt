@@ -1,6 +1,6 @@
 use Rattle.std.proofs.Common.{◌++◌, ◌∷◌, [], length, length-append, append-nil, append_assoc, ap, sym, ◌∙◌, arith, rules}
 use Rattle.cq_run.specs.SelfRun.{totals_of}
-use Rattle.cq_run.proofs.Answers.{all_of_batch, no_items}
+use Rattle.cq_run.proofs.GameByGame.{all_of_batch, no_items}
 use Rattle.cq_run.proofs.Counting.{count_more}
 use Rattle.cq_run.proofs.selfrun.count_answers.Goals as goal
 

@@ -1,5 +1,5 @@
 use Rattle.cq_run.specs.Promise.{desk_view}
-use Rattle.cq_run.proofs.Doing.{run_done, eval_done, check_done, explain_done, selfrun_done}
+use Rattle.cq_run.proofs.RunPromise.{run_done, eval_done, check_done, explain_done, selfrun_done}
 use Rattle.cq_run.proofs.top_call.do_job.Goals as goal
 
 pub returns-in-Run : goal.returns-in-Run
