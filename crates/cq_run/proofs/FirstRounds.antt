@@ -18,7 +18,7 @@ use Rattle.cq_shards.specs.declared.answers.GameAnswer.{GameAnswer}
 use Rattle.cq_shards.specs.declared.batch.Batch.{Batch}
 use Rattle.cq_shards.specs.declared.state.Batches.{Batches}
 use Rattle.cq_run.specs.Answer.{is_match}
-use Rattle.cq_run.specs.AllGames.{texts_of, texts_so_far}
+use Rattle.cq_run.specs.AllGames.{texts_so_far}
 use Rattle.cq_run.specs.ByBatches.{Laws}
 use Rattle.cq_run.specs.FirstGame.{first_texts, some_match, up_to_first, wanted}
 use Rattle.cq_run.specs.Promise.{SourceView, SinkView, Sinks, AnswerPromise, Writes, WritesPrefix, NoWriteFailed, OneSinkFailed, sinks_of}
@@ -34,6 +34,7 @@ use Rattle.cq_run.proofs.FirstGames.{UpTo, all_up, are_first, first_texts_of, no
 use Rattle.cq_run.proofs.Given.{count_read, full_each, given, given_few, kept_read_on}
 use Rattle.cq_run.proofs.Reached.{Reached, all_read, moved, no_reads, rounds_few, turned}
 use Rattle.cq_run.proofs.Rounds.{Rounds, Turn}
+use Rattle.cq_run.proofs.Sinks.{with_err}
 use Rattle.cq_run.proofs.FirstTexts.{Needed, needed_on, Before, no_more, first_prefix, refused_of, FoundFirst, first_written}
 use Rattle.cq_run.proofs.FirstStops.{first_read, starves, breaks_off, found_by, unread, too_long}
 
@@ -112,7 +113,8 @@ so_far_prefix query rs sinks stand none found = λ more.
     (subst (λ l. Writes sinks (texts_so_far false query l)) (sym (all_up query rs none)) found.writes))
 
 pub call_starves : Laws → (query : QueryTree) (limit : ℕ) (was now : Batches) (source mid after : SourceView) (sinks : Sinks) (stand : Stand) (Given : List ℕ → ℕ → Type 0)
-    → FirstRounds query limit was source mid sinks stand → Moves was now mid.left after.left Given → after.faults ≡ mid.faults → AnswerPromise (first_texts query) NoMemory (answer_call limit source after sinks)
+    → FirstRounds query limit was source mid sinks stand → Moves was now mid.left after.left Given → after.faults ≡ mid.faults
+    → AnswerPromise (first_texts query) NoMemory (answer_call limit source after sinks)
 call_starves laws query limit was now source mid after sinks stand Given r moves counts =
     let at : Called query limit now source after (r.so.front ++ moves.bytes) r.so.m r.so.outcomes = called laws query limit was now source mid after sinks stand Given r moves in
     starves laws query limit now source after (r.so.front ++ moves.bytes) r.so.m r.so.outcomes sinks at.reached (counts ∙ r.so.counts) at.are_read
@@ -139,15 +141,18 @@ call_too_long laws query limit was now source mid after sinks stand r moves coun
     none.all (subst (λ k. k < length (r.so.front ++ moves.bytes)) r.so.reached.limit_ none.taken) at.before
 
 -- there are no more batches, and the last line is written
-pub call_ends : Laws → (status : Status) (query : QueryTree) (limit : ℕ) (was now : Batches) (source mid after : SourceView) (out out' err err' err'' : SinkView) (tally : Tally) (ks : List GameAnswer)
-    → FirstRounds query limit was source mid (sinks_of out out' err err') (stand_of tally ks) → Moves was now mid.left after.left (HasGivenAll now) → after.faults ≡ mid.faults
-    → WritesSummary tally err' err'' status → AnswerPromise (first_texts query) status (answer_call limit source after (sinks_of out out' err err''))
-call_ends laws status query limit was now source mid after out out' err err' err'' tally ks r moves counts writes =
-    let sinks = sinks_of out out' err err' in
-    let at : Called query limit now source after (r.so.front ++ moves.bytes) r.so.m r.so.outcomes = called laws query limit was now source mid after sinks (stand_of tally ks) (HasGivenAll now) r moves in
-    first_read laws status query limit source after (sinks_of out out' err err'') (r.so.front ++ moves.bytes) r.so.outcomes
-    (all_read laws limit now source after (r.so.front ++ moves.bytes) r.so.m r.so.outcomes at.reached (counts ∙ r.so.counts) at.are_read (moves.given r.so.front r.so.m r.so.stands)) at.before
-    (first_written status query r.so.outcomes out out' err err' err'' tally ks (subst (λ l. FoundSoFar false query l sinks (stand_of tally ks)) (sym (all_up query r.so.outcomes r.none)) r.so.found) writes)
+pub call_ends : Laws → (status : Status) (query : QueryTree) (limit : ℕ) (was now : Batches) (source mid after : SourceView) (sinks : Sinks) (err : SinkView)
+    (stand : Stand) → FirstRounds query limit was source mid sinks stand → Moves was now mid.left after.left (HasGivenAll now) → after.faults ≡ mid.faults
+    → WritesSummary stand.tally sinks.err_after err status → AnswerPromise (first_texts query) status (answer_call limit source after (with_err sinks err))
+call_ends laws status query limit was now source mid after sinks err stand r moves counts writes =
+    let front = r.so.front ++ moves.bytes in
+    let at : Called query limit now source after front r.so.m r.so.outcomes =
+    called laws query limit was now source mid after sinks stand (HasGivenAll now) r moves in
+    let first : FoundFirst query r.so.outcomes sinks stand =
+    subst (λ l. FoundSoFar false query l sinks stand) (sym (all_up query r.so.outcomes r.none)) r.so.found in
+    first_read laws status query limit source after (with_err sinks err) front r.so.outcomes
+    (all_read laws limit now source after front r.so.m r.so.outcomes at.reached (counts ∙ r.so.counts) at.are_read (moves.given r.so.front r.so.m r.so.stands))
+    at.before (first_written status query r.so.outcomes sinks err stand.tally stand.kept first writes)
 
 -- ---- a batch was given
 
@@ -270,19 +275,21 @@ turn_wants laws query limit b source now sinks new_sinks stand batch answers t a
     (before_turn query limit b source now sinks stand batch t at)
 
 -- the batch has a match, and the last line is written
-pub turn_found : Laws → (status : Status) (query : QueryTree) (limit : ℕ) (b : Batches) (source now : SourceView) (sinks : Sinks) (out out' err err' err'' : SinkView) (stand : Stand) (tally : Tally)
-    (ks : List GameAnswer) (batch : Batch) (answers : List GameAnswer) (t : ℕ) → (at : FirstTurn query limit b source now sinks stand batch t) → (answered : BatchUpTo query batch answers)
-    → FoundSoFar false query (at.turn.outcomes ++ up_to_first query answered.outcomes) (sinks_of out out' err err') (stand_of tally ks) → 0 < tally.matched
-    → WritesSummary tally err' err'' status → AnswerPromise (first_texts query) status (answer_call limit source now (sinks_of out out' err err''))
-turn_found laws status query limit b source now sinks out out' err err' err'' stand tally ks batch answers t at answered found some writes =
+pub turn_found : Laws → (status : Status) (query : QueryTree) (limit : ℕ) (b : Batches) (source now : SourceView) (sinks new_sinks : Sinks) (err : SinkView)
+    (stand new : Stand) (batch : Batch) (answers : List GameAnswer) (t : ℕ) → (at : FirstTurn query limit b source now sinks stand batch t)
+    → (answered : BatchUpTo query batch answers) → FoundSoFar false query (at.turn.outcomes ++ up_to_first query answered.outcomes) new_sinks new
+    → 0 < new.tally.matched → WritesSummary new.tally new_sinks.err_after err status
+    → AnswerPromise (first_texts query) status (answer_call limit source now (with_err new_sinks err))
+turn_found laws status query limit b source now sinks new_sinks err stand new batch answers t at answered found some writes =
     let turn = at.turn in
     let all = turn.outcomes ++ answered.outcomes in
     let both : Joined query turn.front turn.m turn.outcomes answered.outcomes = joined query limit b source now sinks stand batch answers t at answered in
-    let first : FoundFirst query all (sinks_of out out' err err') (stand_of tally ks) = subst (λ l. FoundSoFar false query l (sinks_of out out' err err') (stand_of tally ks)) both.up found in
-    let count : tally.matched ≡ count_by (is_match query) (up_to_first query all) = ap (λ (s : Stand). s.tally.matched) first.is in
-    found_by laws status query limit b source now turn.front (turn.m + 1) all (sinks_of out out' err err'') turn.turned.reached turn.counts both.are_read
-    (sym (some_of_first query all) ∙ some_counted query (up_to_first query all) (omega (arith, some, count))) (before_turn query limit b source now sinks stand batch t at)
-    (first_written status query all out out' err err' err'' tally ks first writes) (cases_Bool b.ended)
+    let first : FoundFirst query all new_sinks new = subst (λ l. FoundSoFar false query l new_sinks new) both.up found in
+    let count : new.tally.matched ≡ count_by (is_match query) (up_to_first query all) = ap (λ (s : Stand). s.tally.matched) first.is in
+    found_by laws status query limit b source now turn.front (turn.m + 1) all (with_err new_sinks err) turn.turned.reached turn.counts both.are_read
+    (sym (some_of_first query all) ∙ some_counted query (up_to_first query all) (omega (arith, some, count)))
+    (before_turn query limit b source now sinks stand batch t at) (first_written status query all new_sinks err new.tally new.kept first writes)
+    (cases_Bool b.ended)
 
 -- or none
 pub turn_done : (query : QueryTree) (limit : ℕ) (b : Batches) (source now : SourceView) (sinks new_sinks : Sinks) (stand : Stand) (tally : Tally) (ks : List GameAnswer) (batch : Batch)

@@ -88,7 +88,8 @@ first_read laws ArchiveTooLong query limit source now sinks archive rs all befor
 
 -- a prefix was written of what the games give, as the archive is read, or once it was read
 pub stops_open : Laws → (query : QueryTree) (limit : ℕ) (b : Batches) (source now : SourceView) (front : List ℕ) (m : ℕ) (rs : List Outcome) (sinks : Sinks) → Reached limit b source now front m
-    → AreKeptRead (given front m) rs → ((more : List Outcome) → WritesPrefix sinks (first_texts_of query (rs ++ more))) → b.ended ≡ false → Stops (first_texts query) (answer_call limit source now sinks)
+    → AreKeptRead (given front m) rs → ((more : List Outcome) → WritesPrefix sinks (first_texts_of query (rs ++ more))) → b.ended ≡ false
+    → Stops (first_texts query) (answer_call limit source now sinks)
 stops_open laws query limit b source now front m rs sinks r read writes reads =
     let rest : ReadOn front (closed front) rs = on_closed laws front m rs (r.open_ reads) read in
     inl (record {
@@ -105,7 +106,8 @@ stops_open laws query limit b source now front m rs sinks r read writes reads =
     })
 
 pub stops_ended : Laws → (query : QueryTree) (limit : ℕ) (b : Batches) (source now : SourceView) (front : List ℕ) (m : ℕ) (rs : List Outcome) (sinks : Sinks) → Reached limit b source now front m
-    → AreKeptRead (given front m) rs → ((more : List Outcome) → WritesPrefix sinks (first_texts_of query (rs ++ more))) → b.ended ≡ true → Stops (first_texts query) (answer_call limit source now sinks)
+    → AreKeptRead (given front m) rs → ((more : List Outcome) → WritesPrefix sinks (first_texts_of query (rs ++ more))) → b.ended ≡ true
+    → Stops (first_texts query) (answer_call limit source now sinks)
 stops_ended laws query limit b source now front m rs sinks r read writes over =
     let rest : ReadOn front (cut front) rs = on_cut laws front m rs read in
     inr (record {
@@ -190,7 +192,8 @@ early_promised laws status query limit b source now front m rs sinks r before ha
 }
 
 -- the texts of a match do not change with more games
-pub same_prefix : (query : QueryTree) (rs more : List Outcome) (sinks : Sinks) → some_match query rs ≡ true → WritesPrefix sinks (first_texts_of query rs) → WritesPrefix sinks (first_texts_of query (rs ++ more))
+pub same_prefix : (query : QueryTree) (rs more : List Outcome) (sinks : Sinks) → some_match query rs ≡ true → WritesPrefix sinks (first_texts_of query rs)
+    → WritesPrefix sinks (first_texts_of query (rs ++ more))
 same_prefix query rs more sinks some writes = subst (λ (t : Texts). WritesPrefix sinks t) (sym (texts_same query rs more some)) writes
 
 pub found_open : Laws → (status : Status) (query : QueryTree) (limit : ℕ) (b : Batches) (source now : SourceView) (front : List ℕ) (m : ℕ) (rs qs : List Outcome) (sinks : Sinks)

@@ -32,7 +32,7 @@ use Rattle.cq_shards.specs.Order.{values_in}
 use Rattle.cq_run.specs.Promise.{SinkView, Sinks, Texts, Writes, WritesPrefix, WritesAll, WritesPart, Unfinished, IsUnwritten, NoWriteFailed, OneSinkFailed, sinks_of}
 use Rattle.cq_run.specs.Writing.{WritesText, WritesFault, WritesKept, InOrder, AnswersGame, FoundSoFar, WritesAnswer, WritesSummary, Stand, stand_of, onward, tallied, kept_if, kept_from, texts_of_game}
 use Rattle.cq_run.proofs.Exports.{matches_more, written_none, unsorted_exports, sorted_exports, none_ordered}
-use Rattle.cq_run.proofs.Sinks.{unwritten, wrote_none, grew_on, Took, took_count, took_on, took_front, prefix_of, fails_after, none_after}
+use Rattle.cq_run.proofs.Sinks.{unwritten, wrote_none, grew_on, Took, took_count, took_on, took_front, prefix_of, Moments, until_now, from_now, in_all, with_out, with_err, then_out, then_err, fails_after, none_after}
 
 pub fault_lines_on : (n : ℕ) (rs ss : List Outcome) → fault_lines n (rs ++ ss) ≡ fault_lines n rs ++ fault_lines (n + length rs) ss
 unfolding fault_lines
@@ -254,18 +254,20 @@ none_found sorted query out err = record {
 }
 
 -- one more game
-pub found_more : (sorted : Bool) (query : QueryTree) (rs : List Outcome) (r : Outcome) (out out' out'' err err' err'' : SinkView) (stand new : Stand)
-    → FoundSoFar sorted query rs (sinks_of out out' err err') stand → AnswersGame sorted query r stand new (sinks_of out' out'' err' err'') (Ok tt)
-    → FoundSoFar sorted query (rs ++ r ∷ []) (sinks_of out out'' err err'') new
-found_more sorted query rs r out out' out'' err err' err'' stand new so_far (counts, writes, unfailed) =
+pub found_more : (sorted : Bool) (query : QueryTree) (rs : List Outcome) (r : Outcome) (at : Moments) (stand new : Stand)
+    → FoundSoFar sorted query rs (until_now at) stand → AnswersGame sorted query r stand new (from_now at) (Ok tt)
+    → FoundSoFar sorted query (rs ++ r ∷ []) (in_all at) new
+found_more sorted query rs r at stand new so_far (counts, writes, unfailed) =
     let games : stand.tally.games ≡ length rs = ap (λ (t : Stand). t.tally.games) so_far.is in
     record {
       is = counts ∙ ap (λ t. onward sorted query t r) so_far.is ∙ same_stand _ _ _ _ (sym (tallied_more query rs r)) (kept_on sorted query rs r);
       writes = record {
-        out = subst (Grew out.taken out''.taken) (exports_more sorted query rs r) (grew_on out.taken out'.taken out''.taken _ _ so_far.writes.out writes.out);
-        err = subst (Grew err.taken err''.taken) (lines_more rs r stand.tally.games (sym games)) (grew_on err.taken err'.taken err''.taken _ _ so_far.writes.err writes.err);
+        out = subst (Grew at.out.taken at.new_out.taken) (exports_more sorted query rs r)
+            (grew_on at.out.taken at.now_out.taken at.new_out.taken _ _ so_far.writes.out writes.out);
+        err = subst (Grew at.err.taken at.new_err.taken) (lines_more rs r stand.tally.games (sym games))
+            (grew_on at.err.taken at.now_err.taken at.new_err.taken _ _ so_far.writes.err writes.err);
       };
-      unfailed = none_after out out' out'' err err' err'' so_far.unfailed unfailed;
+      unfailed = none_after at so_far.unfailed unfailed;
     }
 
 -- ---- what is written is a prefix of what is written of more games
@@ -305,16 +307,18 @@ prefix_grows sorted query rs qs sinks writes =
 pub part_more : (a b c : Option (List ℕ)) (xs ys : List ℕ) (count : ℕ) → Grew a b xs → Grew b c (take count ys) → Took a c (xs ++ ys)
 part_more a b c xs ys count f g = subst (λ l. Took a c (xs ++ l)) (append-nil ys) (took_on a b c xs ys [] f (took_count b c ys count g))
 
-pub stopped_at : (sorted : Bool) (query : QueryTree) (rs : List Outcome) (r : Outcome) (out out' out'' err err' err'' : SinkView) (stand : Stand)
-    → FoundSoFar sorted query rs (sinks_of out out' err err') stand → WritesPrefix (sinks_of out' out'' err' err'') (texts_of_game sorted query stand.tally.games r)
-    → WritesPrefix (sinks_of out out'' err err'') (texts_so_far sorted query (rs ++ r ∷ []))
-stopped_at sorted query rs r out out' out'' err err' err'' stand so_far writes =
+pub stopped_at : (sorted : Bool) (query : QueryTree) (rs : List Outcome) (r : Outcome) (at : Moments) (stand : Stand)
+    → FoundSoFar sorted query rs (until_now at) stand → WritesPrefix (from_now at) (texts_of_game sorted query stand.tally.games r)
+    → WritesPrefix (in_all at) (texts_so_far sorted query (rs ++ r ∷ []))
+stopped_at sorted query rs r at stand so_far writes =
     let games : stand.tally.games ≡ length rs = ap (λ (t : Stand). t.tally.games) so_far.is in
-    both_prefix (sinks_of out out'' err err'') (texts_so_far sorted query (rs ++ r ∷ [])) (record {
-      out = subst (Took out.taken out''.taken) (exports_more sorted query rs r)
-          (part_more out.taken out'.taken out''.taken (flat_map (written sorted query) rs) (written sorted query r) writes.out_count so_far.writes.out writes.out);
-      err = subst (Took err.taken err''.taken) (lines_more rs r stand.tally.games (sym games))
-          (part_more err.taken err'.taken err''.taken (fault_lines 1 rs) (fault_if (stand.tally.games + 1) r) writes.err_count so_far.writes.err writes.err);
+    both_prefix (in_all at) (texts_so_far sorted query (rs ++ r ∷ [])) (record {
+      out = subst (Took at.out.taken at.new_out.taken) (exports_more sorted query rs r)
+          (part_more at.out.taken at.now_out.taken at.new_out.taken (flat_map (written sorted query) rs) (written sorted query r)
+          writes.out_count so_far.writes.out writes.out);
+      err = subst (Took at.err.taken at.new_err.taken) (lines_more rs r stand.tally.games (sym games))
+          (part_more at.err.taken at.now_err.taken at.new_err.taken (fault_lines 1 rs) (fault_if (stand.tally.games + 1) r)
+          writes.err_count so_far.writes.err writes.err);
     })
 
 -- what was written of all games so far is a prefix of itself
@@ -324,11 +328,10 @@ as_prefix sinks texts writes = both_prefix sinks texts (record {
   err = subst (Took sinks.err.taken sinks.err_after.taken) (append-nil texts.err) (took_front sinks.err.taken sinks.err_after.taken texts.err [] writes.err);
 })
 
-pub unwritten_since : (out out' out'' err err' err'' : SinkView) (texts : Texts) → Writes (sinks_of out out' err err') texts → IsUnwritten (sinks_of out' out'' err' err'')
-    → Writes (sinks_of out out'' err err'') texts
-unwritten_since out out' out'' err err' err'' texts writes same = record {
-  out = subst (λ (s : SinkView). Grew out.taken s.taken texts.out) (sym same.out) writes.out;
-  err = subst (λ (s : SinkView). Grew err.taken s.taken texts.err) (sym same.err) writes.err;
+pub unwritten_since : (at : Moments) (texts : Texts) → Writes (until_now at) texts → IsUnwritten (from_now at) → Writes (in_all at) texts
+unwritten_since at texts writes same = record {
+  out = subst (λ (s : SinkView). Grew at.out.taken s.taken texts.out) (sym same.out) writes.out;
+  err = subst (λ (s : SinkView). Grew at.err.taken s.taken texts.err) (sym same.err) writes.err;
 }
 
 -- ---- the answers of a batch, one by one
@@ -382,68 +385,74 @@ all_of_batch query n ys rest items outcomes e none is =
     ap length (sym (append-nil ys) ∙ ap (λ l. ys ++ l) (sym none) ∙ sym e ∙ is) ∙ answers_count query n outcomes in
     take_all (length ys) outcomes (let l = all in omega arith)
 
--- the next game's number
-numbered : (query : QueryTree) (sorted : Bool) (before outcomes : List Outcome) (ys : List GameAnswer) (sinks : Sinks) (stand : Stand) (r : Outcome) (more : List Outcome)
-    → outcomes ≡ take (length ys) outcomes ++ r ∷ more → FoundSoFar sorted query (before ++ take (length ys) outcomes) sinks stand → length before + length ys ≡ stand.tally.games
-numbered query sorted before outcomes ys sinks stand r more is so_far =
-    let games : stand.tally.games ≡ length (before ++ take (length ys) outcomes) = ap (λ (t : Stand). t.tally.games) so_far.is in
-    let a = length-append before (take (length ys) outcomes) in
-    let b = length-take (length ys) outcomes in
-    let c : length outcomes ≡ length (take (length ys) outcomes ++ r ∷ more) = ap length is in
-    let d = length-append (take (length ys) outcomes) (r ∷ more) in
-    omega (arith, games, a, b, c, d)
+-- an answer in a batch, after those of `ys`: what the games before the batch and those in it were read as
+pub record InBatch (query : QueryTree) (a : GameAnswer) : Type 0 where
+  pub before : List Outcome
+  pub outcomes : List Outcome
+  pub ys : List GameAnswer
+  pub more : List GameAnswer
+  pub are : ys ++ a ∷ more ≡ answers_from query (length before) outcomes
+
+next_in : (query : QueryTree) (a : GameAnswer) (batch : InBatch query a) → IsNext query (length batch.before) batch.ys batch.outcomes a
+next_in query a batch = next_of query (length batch.before) batch.ys a batch.more batch.outcomes batch.are
+
+-- the answer, by the number of games before it
+answer_in : (query : QueryTree) (sorted : Bool) (a : GameAnswer) (batch : InBatch query a) (sinks : Sinks) (stand : Stand)
+    → FoundSoFar sorted query (batch.before ++ take (length batch.ys) batch.outcomes) sinks stand
+    → a ≡ answer_of query stand.tally.games (next_in query a batch).r
+answer_in query sorted a batch sinks stand so_far =
+    let next = next_in query a batch in
+    let front = take (length batch.ys) batch.outcomes in
+    let games : stand.tally.games ≡ length (batch.before ++ front) = ap (λ (t : Stand). t.tally.games) so_far.is in
+    let a = length-append batch.before front in
+    let b = length-take (length batch.ys) batch.outcomes in
+    let c : length batch.outcomes ≡ length (front ++ next.r ∷ next.more) = ap length next.is in
+    let d = length-append front (next.r ∷ next.more) in
+    let number : length batch.before + length batch.ys ≡ stand.tally.games = omega (arith, games, a, b, c, d) in
+    next.answer ∙ ap (λ j. answer_of query j next.r) number
 
 -- one answer more
-pub one_more : (sorted : Bool) (query : QueryTree) (before outcomes : List Outcome) (ys rest more items : List GameAnswer) (a : GameAnswer)
-    (out out' out'' err err' err'' : SinkView) (stand new : Stand)
-    → items ≡ ys ++ rest → rest ≡ a ∷ more → items ≡ answers_from query (length before) outcomes
-    → FoundSoFar sorted query (before ++ take (length ys) outcomes) (sinks_of out out' err err') stand
-    → ((r : Outcome) → a ≡ answer_of query stand.tally.games r → AnswersGame sorted query r stand new (sinks_of out' out'' err' err'') (Ok tt))
-    → FoundSoFar sorted query (before ++ take (length (ys ++ a ∷ [])) outcomes) (sinks_of out out'' err err'') new
-one_more sorted query before outcomes ys rest more items a out out' out'' err err' err'' stand new splits first are so_far does =
-    let next = next_of query (length before) ys a more outcomes (ap (λ l. ys ++ l) (sym first) ∙ sym splits ∙ are) in
-    let number = numbered query sorted before outcomes ys (sinks_of out out' err err') stand next.r next.more next.is so_far in
-    subst (λ rs. FoundSoFar sorted query rs (sinks_of out out'' err err'') new)
-    (append_assoc before (take (length ys) outcomes) (next.r ∷ []) ∙ ap (λ l. before ++ l) (sym next.step))
-    (found_more sorted query (before ++ take (length ys) outcomes) next.r out out' out'' err err' err'' stand new so_far (does next.r (next.answer ∙ ap (λ j. answer_of query j next.r) number)))
+pub one_more : (sorted : Bool) (query : QueryTree) (a : GameAnswer) (batch : InBatch query a) (at : Moments) (stand new : Stand)
+    → FoundSoFar sorted query (batch.before ++ take (length batch.ys) batch.outcomes) (until_now at) stand
+    → ((r : Outcome) → a ≡ answer_of query stand.tally.games r → AnswersGame sorted query r stand new (from_now at) (Ok tt))
+    → FoundSoFar sorted query (batch.before ++ take (length (batch.ys ++ a ∷ [])) batch.outcomes) (in_all at) new
+one_more sorted query a batch at stand new so_far does =
+    let next = next_in query a batch in
+    let front = take (length batch.ys) batch.outcomes in
+    subst (λ rs. FoundSoFar sorted query rs (in_all at) new) (append_assoc batch.before front (next.r ∷ []) ∙ ap (λ l. batch.before ++ l) (sym next.step))
+    (found_more sorted query (batch.before ++ front) next.r at stand new so_far (does next.r (answer_in query sorted a batch (until_now at) stand so_far)))
 
 -- a write of it failed
-pub one_stopped : (sorted : Bool) (query : QueryTree) (before outcomes : List Outcome) (ys rest more items : List GameAnswer) (a : GameAnswer)
-    (out out' out'' err err' err'' : SinkView) (stand new : Stand) (failed : Failed)
-    → items ≡ ys ++ rest → rest ≡ a ∷ more → items ≡ answers_from query (length before) outcomes
-    → FoundSoFar sorted query (before ++ take (length ys) outcomes) (sinks_of out out' err err') stand
-    → ((r : Outcome) → a ≡ answer_of query stand.tally.games r → AnswersGame sorted query r stand new (sinks_of out' out'' err' err'') (Err (Fault failed)))
-    → WritesPrefix (sinks_of out out'' err err'') (texts_so_far sorted query (before ++ outcomes)) × OneSinkFailed (sinks_of out out'' err err'')
-one_stopped sorted query before outcomes ys rest more items a out out' out'' err err' err'' stand new failed splits first are so_far does =
-    let next = next_of query (length before) ys a more outcomes (ap (λ l. ys ++ l) (sym first) ∙ sym splits ∙ are) in
-    let number = numbered query sorted before outcomes ys (sinks_of out out' err err') stand next.r next.more next.is so_far in
-    let done = does next.r (next.answer ∙ ap (λ j. answer_of query j next.r) number) in
-    let rs = before ++ take (length ys) outcomes in (
-      subst (λ l. WritesPrefix (sinks_of out out'' err err'') (texts_so_far sorted query l))
-          (append_assoc rs (next.r ∷ []) next.more ∙ append_assoc before (take (length ys) outcomes) (next.r ∷ next.more) ∙ ap (λ l. before ++ l) (sym next.is))
-          (prefix_grows sorted query (rs ++ next.r ∷ []) next.more (sinks_of out out'' err err'')
-          (stopped_at sorted query rs next.r out out' out'' err err' err'' stand so_far done.0)),
-      fails_after out out' out'' err err' err'' so_far.unfailed done.1,
+pub one_stopped : (sorted : Bool) (query : QueryTree) (a : GameAnswer) (batch : InBatch query a) (at : Moments) (stand new : Stand) (failed : Failed)
+    → FoundSoFar sorted query (batch.before ++ take (length batch.ys) batch.outcomes) (until_now at) stand
+    → ((r : Outcome) → a ≡ answer_of query stand.tally.games r → AnswersGame sorted query r stand new (from_now at) (Err (Fault failed)))
+    → WritesPrefix (in_all at) (texts_so_far sorted query (batch.before ++ batch.outcomes)) × OneSinkFailed (in_all at)
+one_stopped sorted query a batch at stand new failed so_far does =
+    let next = next_in query a batch in
+    let front = take (length batch.ys) batch.outcomes in
+    let done = does next.r (answer_in query sorted a batch (until_now at) stand so_far) in
+    let rs = batch.before ++ front in (
+      subst (λ l. WritesPrefix (in_all at) (texts_so_far sorted query l))
+          (append_assoc rs (next.r ∷ []) next.more ∙ append_assoc batch.before front (next.r ∷ next.more) ∙ ap (λ l. batch.before ++ l) (sym next.is))
+          (prefix_grows sorted query (rs ++ next.r ∷ []) next.more (in_all at) (stopped_at sorted query rs next.r at stand so_far done.0)),
+      fails_after at so_far.unfailed done.1,
     )
 
 -- no memory for it
-pub one_starved : (sorted : Bool) (query : QueryTree) (before outcomes : List Outcome) (ys rest more items : List GameAnswer) (a : GameAnswer)
-    (out out' out'' err err' err'' : SinkView) (stand new : Stand)
-    → items ≡ ys ++ rest → rest ≡ a ∷ more → items ≡ answers_from query (length before) outcomes
-    → FoundSoFar sorted query (before ++ take (length ys) outcomes) (sinks_of out out' err err') stand
-    → ((r : Outcome) → a ≡ answer_of query stand.tally.games r → AnswersGame sorted query r stand new (sinks_of out' out'' err' err'') (Err IsNoMemory))
-    → WritesPrefix (sinks_of out out'' err err'') (texts_so_far sorted query (before ++ outcomes)) × NoWriteFailed (sinks_of out out'' err err'')
-one_starved sorted query before outcomes ys rest more items a out out' out'' err err' err'' stand new splits first are so_far does =
-    let next = next_of query (length before) ys a more outcomes (ap (λ l. ys ++ l) (sym first) ∙ sym splits ∙ are) in
-    let number = numbered query sorted before outcomes ys (sinks_of out out' err err') stand next.r next.more next.is so_far in
-    let same = does next.r (next.answer ∙ ap (λ j. answer_of query j next.r) number) in
-    let rs = before ++ take (length ys) outcomes in
-    let sinks = sinks_of out out'' err err'' in (
-      subst (λ l. WritesPrefix sinks (texts_so_far sorted query l))
-          (append_assoc before (take (length ys) outcomes) (next.r ∷ next.more) ∙ ap (λ l. before ++ l) (sym next.is))
-          (prefix_grows sorted query rs (next.r ∷ next.more) sinks
-          (as_prefix sinks (texts_so_far sorted query rs) (unwritten_since out out' out'' err err' err'' (texts_so_far sorted query rs) so_far.writes same))),
-      none_after out out' out'' err err' err'' so_far.unfailed (wrote_none (sinks_of out' out'' err' err'') same),
+pub one_starved : (sorted : Bool) (query : QueryTree) (a : GameAnswer) (batch : InBatch query a) (at : Moments) (stand new : Stand)
+    → FoundSoFar sorted query (batch.before ++ take (length batch.ys) batch.outcomes) (until_now at) stand
+    → ((r : Outcome) → a ≡ answer_of query stand.tally.games r → AnswersGame sorted query r stand new (from_now at) (Err IsNoMemory))
+    → WritesPrefix (in_all at) (texts_so_far sorted query (batch.before ++ batch.outcomes)) × NoWriteFailed (in_all at)
+one_starved sorted query a batch at stand new so_far does =
+    let next = next_in query a batch in
+    let front = take (length batch.ys) batch.outcomes in
+    let same = does next.r (answer_in query sorted a batch (until_now at) stand so_far) in
+    let rs = batch.before ++ front in (
+      subst (λ l. WritesPrefix (in_all at) (texts_so_far sorted query l))
+          (append_assoc batch.before front (next.r ∷ next.more) ∙ ap (λ l. batch.before ++ l) (sym next.is))
+          (prefix_grows sorted query rs (next.r ∷ next.more) (in_all at)
+          (as_prefix (in_all at) (texts_so_far sorted query rs) (unwritten_since at (texts_so_far sorted query rs) so_far.writes same))),
+      none_after at so_far.unfailed (wrote_none (from_now at) same),
     )
 
 -- ---- the end
@@ -462,38 +471,40 @@ exports_whole false query outcomes answers ordered sorts are order =
     (unsorted_exports query outcomes sorts)
 
 -- no memory to put the games in order, or a write of them that failed
-pub unordered : (sorted : Bool) (query : QueryTree) (rs : List Outcome) (out out' out'' err err' : SinkView) (stand : Stand)
-    → have_sort query.items ≡ sorted → FoundSoFar sorted query rs (sinks_of out out' err err') stand → out'' ≡ out'
-    → WritesAnswer query rs (sinks_of out out'' err err') NoMemory
-unordered sorted query rs out out' out'' err err' stand sorts found same =
-    let unmoved : IsUnwritten (sinks_of out' out'' err' err') = record { out = same; err = refl } in (
+pub unordered : (sorted : Bool) (query : QueryTree) (rs : List Outcome) (sinks : Sinks) (out : SinkView) (stand : Stand) → have_sort query.items ≡ sorted
+    → FoundSoFar sorted query rs sinks stand → out ≡ sinks.out_after → WritesAnswer query rs (with_out sinks out) NoMemory
+unordered sorted query rs sinks out stand sorts found same =
+    let at = then_out sinks out in
+    let unmoved : IsUnwritten (from_now at) = record { out = same; err = refl } in (
       record {
         texts = texts_so_far sorted query rs;
         are = inl (ap (λ b. texts_so_far b query rs) (sym sorts));
-        writes = as_prefix (sinks_of out out'' err err') (texts_so_far sorted query rs) (unwritten_since out out' out'' err err' err' (texts_so_far sorted query rs) found.writes unmoved);
+        writes = as_prefix (with_out sinks out) (texts_so_far sorted query rs) (unwritten_since at (texts_so_far sorted query rs) found.writes unmoved);
       },
-      none_after out out' out'' err err' err' found.unfailed (wrote_none (sinks_of out' out'' err' err') unmoved),
+      none_after at found.unfailed (wrote_none (from_now at) unmoved),
     )
 
 pub are_answers : (query : QueryTree) (rs : List Outcome) (exports : List ℕ) → AreExports query rs exports
     → AreAnswers query rs (tally_of query rs).refused (record { out = exports; err = report_of query rs })
 are_answers query rs exports are = record { exports = are; report = refl; count = refl }
 
-pub unkept : (sorted : Bool) (query : QueryTree) (rs : List Outcome) (out out' out'' err err' : SinkView) (stand : Stand) (failed : Failed)
-    → have_sort query.items ≡ sorted → FoundSoFar sorted query rs (sinks_of out out' err err') stand
-    → WritesKept query stand.kept out' out'' (Err (Fault failed)) → WritesAnswer query rs (sinks_of out out'' err err') WriteFault
-unkept sorted query rs out out' out'' err err' stand failed sorts found (ordered, order, part, rose) =
+pub unkept : (sorted : Bool) (query : QueryTree) (rs : List Outcome) (sinks : Sinks) (out : SinkView) (stand : Stand) (failed : Failed)
+    → have_sort query.items ≡ sorted → FoundSoFar sorted query rs sinks stand
+    → WritesKept query stand.kept sinks.out_after out (Err (Fault failed)) → WritesAnswer query rs (with_out sinks out) WriteFault
+unkept sorted query rs sinks out stand failed sorts found (ordered, order, part, rose) =
     let exports = flat_map (written sorted query) rs ++ exports_of ordered in
-    let texts : Texts = record { out = exports; err = report_of query rs } in (
+    let texts : Texts = record { out = exports; err = report_of query rs } in
+    let are = exports_whole sorted query rs stand.kept ordered sorts (ap (λ (t : Stand). t.kept) found.is) order in (
       record {
         texts = texts;
-        are = inr ((tally_of query rs).refused, are_answers query rs exports (exports_whole sorted query rs stand.kept ordered sorts (ap (λ (t : Stand). t.kept) found.is) order));
-        writes = both_prefix (sinks_of out out'' err err') texts (record {
-          out = part_more out.taken out'.taken out''.taken (flat_map (written sorted query) rs) (exports_of ordered) part.0 found.writes.out part.1;
-          err = took_front err.taken err'.taken (fault_lines 1 rs) (summary_of (tally_of query rs)) found.writes.err;
+        are = inr ((tally_of query rs).refused, are_answers query rs exports are);
+        writes = both_prefix (with_out sinks out) texts (record {
+          out = part_more sinks.out.taken sinks.out_after.taken out.taken (flat_map (written sorted query) rs) (exports_of ordered)
+              part.0 found.writes.out part.1;
+          err = took_front sinks.err.taken sinks.err_after.taken (fault_lines 1 rs) (summary_of (tally_of query rs)) found.writes.err;
         });
       },
-      fails_after out out' out'' err err' err' found.unfailed (inl (rose, refl)),
+      fails_after (then_out sinks out) found.unfailed (inl (rose, refl)),
     )
 
 -- all exports were written
@@ -505,22 +516,23 @@ pub record FoundAll (query : QueryTree) (outcomes : List Outcome) (sinks : Sinks
   pub err : Grew sinks.err.taken sinks.err_after.taken (fault_lines 1 outcomes)
   pub unfailed : NoWriteFailed sinks
 
-pub ordered_all : (sorted : Bool) (query : QueryTree) (rs : List Outcome) (out out' out'' err err' : SinkView) (stand : Stand)
-    → have_sort query.items ≡ sorted → FoundSoFar sorted query rs (sinks_of out out' err err') stand
-    → WritesKept query stand.kept out' out'' (Ok tt) → FoundAll query rs (sinks_of out out'' err err') stand.tally
-ordered_all sorted query rs out out' out'' err err' stand sorts found (ordered, order, grew, same) = record {
+pub ordered_all : (sorted : Bool) (query : QueryTree) (rs : List Outcome) (sinks : Sinks) (out : SinkView) (stand : Stand) → have_sort query.items ≡ sorted
+    → FoundSoFar sorted query rs sinks stand → WritesKept query stand.kept sinks.out_after out (Ok tt)
+    → FoundAll query rs (with_out sinks out) stand.tally
+ordered_all sorted query rs sinks out stand sorts found (ordered, order, grew, same) = record {
   is = ap (λ (t : Stand). t.tally) found.is;
   exports = flat_map (written sorted query) rs ++ exports_of ordered;
   are = exports_whole sorted query rs stand.kept ordered sorts (ap (λ (t : Stand). t.kept) found.is) order;
-  out = grew_on out.taken out'.taken out''.taken (flat_map (written sorted query) rs) (exports_of ordered) found.writes.out grew;
+  out = grew_on sinks.out.taken sinks.out_after.taken out.taken (flat_map (written sorted query) rs) (exports_of ordered) found.writes.out grew;
   err = found.writes.err;
   unfailed = record { out = same ∙ found.unfailed.out; err = found.unfailed.err };
 }
 
 -- the last line was written
-finished : (query : QueryTree) (rs : List Outcome) (out out' err err' err'' : SinkView) (tally : Tally) (AreRefused : ℕ → Type 0) → (found : FoundAll query rs (sinks_of out out' err err') tally)
-    → AreRefused tally.refused → Grew err'.taken err''.taken (summary_of tally) → WritesAll (AreAnswers query rs) AreRefused (sinks_of out out' err err'')
-finished query rs out out' err err' err'' tally AreRefused found refused_ grew = record {
+finished : (query : QueryTree) (rs : List Outcome) (sinks : Sinks) (err : SinkView) (tally : Tally) (AreRefused : ℕ → Type 0)
+    → (found : FoundAll query rs sinks tally) → AreRefused tally.refused → Grew sinks.err_after.taken err.taken (summary_of tally)
+    → WritesAll (AreAnswers query rs) AreRefused (with_err sinks err)
+finished query rs sinks err tally AreRefused found refused_ grew = record {
   refused = (tally_of query rs).refused;
   is = subst (λ (t : Tally). AreRefused t.refused) found.is refused_;
   writes = record {
@@ -528,49 +540,52 @@ finished query rs out out' err err' err'' tally AreRefused found refused_ grew =
     are = are_answers query rs found.exports found.are;
     writes = record {
       out = found.out;
-      err = subst (λ t. Grew err.taken err''.taken (fault_lines 1 rs ++ summary_of t)) found.is
-          (grew_on err.taken err'.taken err''.taken (fault_lines 1 rs) (summary_of tally) found.err grew);
+      err = subst (λ t. Grew sinks.err.taken err.taken (fault_lines 1 rs ++ summary_of t)) found.is
+          (grew_on sinks.err.taken sinks.err_after.taken err.taken (fault_lines 1 rs) (summary_of tally) found.err grew);
     };
   };
 }
 
 -- the last line could not be written, or only a part of it
-unfinished : (query : QueryTree) (rs : List Outcome) (out out' err err' err'' : SinkView) (tally : Tally) (count : ℕ) → (found : FoundAll query rs (sinks_of out out' err err') tally)
-    → Grew err'.taken err''.taken (take count (summary_of tally)) → WritesPart (Unfinished (texts_of query) rs) (sinks_of out out' err err'')
-unfinished query rs out out' err err' err'' tally count found grew =
+unfinished : (query : QueryTree) (rs : List Outcome) (sinks : Sinks) (err : SinkView) (tally : Tally) (count : ℕ) → (found : FoundAll query rs sinks tally)
+    → Grew sinks.err_after.taken err.taken (take count (summary_of tally)) → WritesPart (Unfinished (texts_of query) rs) (with_err sinks err)
+unfinished query rs sinks err tally count found grew =
     let last = summary_of (tally_of query rs) in
-    let part : Grew err'.taken err''.taken (take count last) = subst (λ t. Grew err'.taken err''.taken (take count (summary_of t))) found.is grew in
+    let part : Grew sinks.err_after.taken err.taken (take count last) =
+    subst (λ t. Grew sinks.err_after.taken err.taken (take count (summary_of t))) found.is grew in
     let texts : Texts = record { out = found.exports; err = report_of query rs } in
     record {
       texts = texts;
       are = inr ((tally_of query rs).refused, are_answers query rs found.exports found.are);
-      writes = both_prefix (sinks_of out out' err err'') texts (record {
-        out = subst (Took out.taken out'.taken) (append-nil found.exports) (took_front out.taken out'.taken found.exports [] found.out);
-        err = part_more err.taken err'.taken err''.taken (fault_lines 1 rs) last count found.err part;
+      writes = both_prefix (with_err sinks err) texts (record {
+        out = subst (Took sinks.out.taken sinks.out_after.taken) (append-nil found.exports)
+            (took_front sinks.out.taken sinks.out_after.taken found.exports [] found.out);
+        err = part_more sinks.err.taken sinks.err_after.taken err.taken (fault_lines 1 rs) last count found.err part;
       });
     }
 
 -- all exports were written, and the last line was written or could not be
-pub ended : (status : Status) (query : QueryTree) (rs : List Outcome) (out out' err err' err'' : SinkView) (tally : Tally) → FoundAll query rs (sinks_of out out' err err') tally
-    → WritesSummary tally err' err'' status → WritesAnswer query rs (sinks_of out out' err err'') status
-ended Done query rs out out' err err' err'' tally found writes = (
-  finished query rs out out' err err' err'' tally (λ n. n ≡ 0) found writes.0 writes.1,
+pub ended : (status : Status) (query : QueryTree) (rs : List Outcome) (sinks : Sinks) (err : SinkView) (tally : Tally) → FoundAll query rs sinks tally
+    → WritesSummary tally sinks.err_after err status → WritesAnswer query rs (with_err sinks err) status
+ended Done query rs sinks err tally found writes = (
+  finished query rs sinks err tally (λ n. n ≡ 0) found writes.0 writes.1,
   record { out = found.unfailed.out; err = writes.2 ∙ found.unfailed.err },
 )
-ended DoneWithRefusals query rs out out' err err' err'' tally found writes = (
-  finished query rs out out' err err' err'' tally (λ n. 0 < n) found writes.0 writes.1,
+ended DoneWithRefusals query rs sinks err tally found writes = (
+  finished query rs sinks err tally (λ n. 0 < n) found writes.0 writes.1,
   record { out = found.unfailed.out; err = writes.2 ∙ found.unfailed.err },
 )
-ended WriteFault query rs out out' err err' err'' tally found writes = (
-  unfinished query rs out out' err err' err'' tally writes.0.0 found writes.0.1,
-  fails_after out out' out' err err' err'' found.unfailed (inr (writes.1, refl)),
+ended WriteFault query rs sinks err tally found writes = (
+  unfinished query rs sinks err tally writes.0.0 found writes.0.1,
+  fails_after (then_err sinks err) found.unfailed (inr (writes.1, refl)),
 )
-ended NoMemory query rs out out' err err' err'' tally found writes = (
-  unfinished query rs out out' err err' err'' tally 0 found (subst (λ (s : SinkView). Grew err'.taken s.taken []) (sym writes) (unwritten err'.taken)),
+ended NoMemory query rs sinks err tally found writes = (
+  unfinished query rs sinks err tally 0 found
+      (subst (λ (s : SinkView). Grew sinks.err_after.taken s.taken []) (sym writes) (unwritten sinks.err_after.taken)),
   record { out = found.unfailed.out; err = ap (λ (s : SinkView). s.faults) writes ∙ found.unfailed.err },
 )
-ended QueryRefused query rs out out' err err' err'' tally found writes = absurd writes
-ended WordsRefused query rs out out' err err' err'' tally found writes = absurd writes
-ended OpenFault query rs out out' err err' err'' tally found writes = absurd writes
-ended ReadFault query rs out out' err err' err'' tally found writes = absurd writes
-ended ArchiveTooLong query rs out out' err err' err'' tally found writes = absurd writes
+ended QueryRefused query rs sinks err tally found writes = absurd writes
+ended WordsRefused query rs sinks err tally found writes = absurd writes
+ended OpenFault query rs sinks err tally found writes = absurd writes
+ended ReadFault query rs sinks err tally found writes = absurd writes
+ended ArchiveTooLong query rs sinks err tally found writes = absurd writes

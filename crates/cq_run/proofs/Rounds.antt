@@ -195,7 +195,8 @@ pub takes_all : (limit : ℕ) (source now : SourceView) (archive : List ℕ) (rs
 takes_all limit source now archive rs all = record { bytes = archive; takes = all.takes; few = let w = all.within in omega (arith, w) }
 
 promised : (status : Status) (query : QueryTree) (limit : ℕ) (source now : SourceView) (sinks : Sinks) (archive : List ℕ) (rs : List Outcome) → ReadsAll limit source now archive rs
-    → SaysOfAnswer status (texts_of query) (answer_call limit source now sinks) → (AnswersAll (texts_of query) (answer_call limit source now sinks) → IsOneOf status (Done ∷ DoneWithRefusals ∷ NoMemory ∷ []))
+    → SaysOfAnswer status (texts_of query) (answer_call limit source now sinks)
+    → (AnswersAll (texts_of query) (answer_call limit source now sinks) → IsOneOf status (Done ∷ DoneWithRefusals ∷ NoMemory ∷ []))
     → AnswerPromise (texts_of query) status (answer_call limit source now sinks)
 promised status query limit source now sinks archive rs all says complete = record {
   says = says;

@@ -294,32 +294,41 @@ read_text call name text found mid asks takes =
     taken_text most_bytes (bytes_of asks.told.files name) found mid.file.left
     (subst (λ l. Consumes l mid.file.left found) (takes.opened.bytes asks.told asks.tells) takes.takes) takes.few takes.whole ∙ sym asks.taken
 
-text_refused_always : SpellOne → SpellNone → (text : List ℕ) (fault : QueryFault) (Accepted : QueryTree → Status → Call → Type 0) (status : Status) (call : Call)
-    → IsQueryFault text fault → OverText text Accepted status call → IsOneOf status (QueryRefused ∷ WriteFault ∷ NoMemory ∷ [])
-text_refused_always one none text fault Accepted status call faulty (text_accepted query is does) = absurd (no_fault one none text query fault is faulty)
-text_refused_always one none text fault Accepted status call faulty (text_refused found is does same) = refusal_is_one found status call.sinks does
-text_refused_always one none text fault Accepted status call faulty (text_out_of_memory is same) = inr (inr (inl is))
+-- a text with a fault: it spells at most one query, and none
+record IsFaulty (text : List ℕ) (fault : QueryFault) : Type 0 where
+  one : SpellOne
+  never : SpellNone
+  is : IsQueryFault text fault
 
-file_refused_always : SpellOne → SpellNone → (name text : List ℕ) (fault : QueryFault) (Accepted : QueryTree → Status → Call → Type 0) (status : Status) (call : Call)
-    → (asks : IsInFile call name text) → IsQueryFault text fault → OverFile name Accepted status call → IsOneOf status (QueryRefused ∷ WriteFault ∷ NoMemory ∷ [])
-file_refused_always one none name text fault Accepted status call asks faulty (file_accepted found query mid takes is does) =
-    absurd (no_fault one none text query fault (subst (λ t. IsQuery t query) (read_text call name text found mid asks takes) is) faulty)
-file_refused_always one none name text fault Accepted status call asks faulty (file_refused found other takes is does) = refusal_is_one other status call.sinks does
-file_refused_always one none name text fault Accepted status call asks faulty (file_unopened is fails same) = absurd (asks.opens fails.rose)
-file_refused_always one none name text fault Accepted status call asks faulty (file_unread is fails same) =
+text_refused_always : (text : List ℕ) (fault : QueryFault) (Accepted : QueryTree → Status → Call → Type 0) (status : Status) (call : Call)
+    → IsFaulty text fault → OverText text Accepted status call → IsOneOf status (QueryRefused ∷ WriteFault ∷ NoMemory ∷ [])
+text_refused_always text fault Accepted status call faulty (text_accepted query is does) =
+    absurd (no_fault faulty.one faulty.never text query fault is faulty.is)
+text_refused_always text fault Accepted status call faulty (text_refused found is does same) = refusal_is_one found status call.sinks does
+text_refused_always text fault Accepted status call faulty (text_out_of_memory is same) = inr (inr (inl is))
+
+file_refused_always : (name text : List ℕ) (fault : QueryFault) (Accepted : QueryTree → Status → Call → Type 0) (status : Status) (call : Call)
+    → (asks : IsInFile call name text) → IsFaulty text fault → OverFile name Accepted status call
+    → IsOneOf status (QueryRefused ∷ WriteFault ∷ NoMemory ∷ [])
+file_refused_always name text fault Accepted status call asks faulty (file_accepted found query mid takes is does) =
+    absurd (no_fault faulty.one faulty.never text query fault (subst (λ t. IsQuery t query) (read_text call name text found mid asks takes) is) faulty.is)
+file_refused_always name text fault Accepted status call asks faulty (file_refused found other takes is does) = refusal_is_one other status call.sinks does
+file_refused_always name text fault Accepted status call asks faulty (file_unopened is fails same) = absurd (asks.opens fails.rose)
+file_refused_always name text fault Accepted status call asks faulty (file_unread is fails same) =
     absurd (asks.reads (subst (λ n. Rose n call.desk_after.file.faults) fails.opened.faults fails.rose))
-file_refused_always one none name text fault Accepted status call asks faulty (file_out_of_memory is lacks same) = inr (inr (inl is))
+file_refused_always name text fault Accepted status call asks faulty (file_out_of_memory is lacks same) = inr (inr (inl is))
 
-job_refused_always : SpellOne → SpellNone → (job : Job) (text : List ℕ) (fault : QueryFault) (status : Status) (call : Call) → HasText call job text → IsQueryFault text fault
+job_refused_always : (job : Job) (text : List ℕ) (fault : QueryFault) (status : Status) (call : Call) → HasText call job text → IsFaulty text fault
     → DoesJob job status call → IsOneOf status (QueryRefused ∷ WriteFault ∷ NoMemory ∷ [])
-job_refused_always one none (Run query archive workers limit first) text fault status call has faulty does =
-    file_refused_always one none query text fault (AnswersFile archive limit first) status call has faulty does
-job_refused_always one none (Eval word archive workers limit first) text fault status call has faulty does =
-    text_refused_always one none text fault (AnswersFile archive limit first) status call faulty (subst (λ t. OverText t (AnswersFile archive limit first) status call) has does)
-job_refused_always one none (Check query) text fault status call has faulty does = file_refused_always one none query text fault SaysAccepted status call has faulty does
-job_refused_always one none (Explain query) text fault status call has faulty does = file_refused_always one none query text fault Explains status call has faulty does
-job_refused_always one none (SelfRun word seed games workers) text fault status call has faulty does =
-    text_refused_always one none text fault (RunsMade seed games) status call faulty (subst (λ t. OverText t (RunsMade seed games) status call) has does)
+job_refused_always (Run query archive workers limit first) text fault status call has faulty does =
+    file_refused_always query text fault (AnswersFile archive limit first) status call has faulty does
+job_refused_always (Eval word archive workers limit first) text fault status call has faulty does =
+    text_refused_always text fault (AnswersFile archive limit first) status call faulty
+    (subst (λ t. OverText t (AnswersFile archive limit first) status call) has does)
+job_refused_always (Check query) text fault status call has faulty does = file_refused_always query text fault SaysAccepted status call has faulty does
+job_refused_always (Explain query) text fault status call has faulty does = file_refused_always query text fault Explains status call has faulty does
+job_refused_always (SelfRun word seed games workers) text fault status call has faulty does =
+    text_refused_always text fault (RunsMade seed games) status call faulty (subst (λ t. OverText t (RunsMade seed games) status call) has does)
 
 -- an accepted query is answered
 
@@ -336,26 +345,47 @@ archive_complete archive limit first q status call short none (archive_answered 
 archive_complete archive limit first q status call short none (archive_unopened is fails same) = absurd (none.opens fails.rose)
 archive_complete archive limit first q status call short none (archive_out_of_memory is same) = inr (inr (inl is))
 
-text_complete : SpellOne → SpellNone → (text : List ℕ) (query : QueryTree) (Accepted : QueryTree → Status → Call → Type 0) (good : List Status) (status : Status) (call : Call)
-    → IsQuery text query → IsOneOf NoMemory good → (Accepted query status call → IsOneOf status good) → OverText text Accepted status call → IsOneOf status good
-text_complete one none text query Accepted good status call accepted memory answers (text_accepted q is does) =
-    answers (subst (λ q. Accepted q status call) (one_query one text q query is accepted) does)
-text_complete one none text query Accepted good status call accepted memory answers (text_refused fault faulty does same) = absurd (no_fault one none text query fault accepted faulty)
-text_complete one none text query Accepted good status call accepted memory answers (text_out_of_memory is same) = subst (λ s. IsOneOf s good) (sym is) memory
+-- a text that is this query: it spells no other, and has no fault
+record IsOnly (text : List ℕ) (query : QueryTree) : Type 0 where
+  one : SpellOne
+  never : SpellNone
+  is : IsQuery text query
 
-file_complete : SpellOne → SpellNone → (name text : List ℕ) (query : QueryTree) (Accepted : QueryTree → Status → Call → Type 0) (good : List Status) (status : Status) (call : Call)
-    → (asks : IsInFile call name text) → IsQuery text query → IsOneOf NoMemory good
-    → ((mid : DeskView) (found : List ℕ) → TakesQuery name call.desk mid found → Accepted query status (from_desk mid call) → IsOneOf status good)
-    → OverFile name Accepted status call → IsOneOf status good
-file_complete one none name text query Accepted good status call asks accepted memory answers (file_accepted found q mid takes is does) =
+-- the good answers, of which one is that there is no memory
+record Good : Type 0 where
+  statuses : List Status
+  memory : IsOneOf NoMemory statuses
+
+abbrev counted_or_refused : Good
+counted_or_refused = record { statuses = Done ∷ DoneWithRefusals ∷ NoMemory ∷ []; memory = inr (inr (inl refl)) }
+
+abbrev done_alone : Good
+done_alone = record { statuses = Done ∷ NoMemory ∷ []; memory = inr (inl refl) }
+
+text_complete : (text : List ℕ) (query : QueryTree) (Accepted : QueryTree → Status → Call → Type 0) (good : Good) (status : Status) (call : Call)
+    → IsOnly text query → (Accepted query status call → IsOneOf status good.statuses) → OverText text Accepted status call → IsOneOf status good.statuses
+text_complete text query Accepted good status call only answers (text_accepted q is does) =
+    answers (subst (λ q. Accepted q status call) (one_query only.one text q query is only.is) does)
+text_complete text query Accepted good status call only answers (text_refused fault faulty does same) =
+    absurd (no_fault only.one only.never text query fault only.is faulty)
+text_complete text query Accepted good status call only answers (text_out_of_memory is same) = subst (λ s. IsOneOf s good.statuses) (sym is) good.memory
+
+file_complete : (name text : List ℕ) (query : QueryTree) (Accepted : QueryTree → Status → Call → Type 0) (good : Good) (status : Status) (call : Call)
+    → (asks : IsInFile call name text) → IsOnly text query
+    → ((mid : DeskView) (found : List ℕ) → TakesQuery name call.desk mid found → Accepted query status (from_desk mid call) → IsOneOf status good.statuses)
+    → OverFile name Accepted status call → IsOneOf status good.statuses
+file_complete name text query Accepted good status call asks only answers (file_accepted found q mid takes is does) =
     let same = read_text call name text found mid asks takes in
-    answers mid found takes (subst (λ q. Accepted q status (from_desk mid call)) (one_query one text q query (subst (λ t. IsQuery t q) same is) accepted) does)
-file_complete one none name text query Accepted good status call asks accepted memory answers (file_refused found fault takes faulty does) =
-    absurd (no_fault one none text query fault accepted (subst (λ t. IsQueryFault t fault) (read_text call name text found call.desk_after asks takes) faulty))
-file_complete one none name text query Accepted good status call asks accepted memory answers (file_unopened is fails same) = absurd (asks.opens fails.rose)
-file_complete one none name text query Accepted good status call asks accepted memory answers (file_unread is fails same) =
+    let is_query : q ≡ query = one_query only.one text q query (subst (λ t. IsQuery t q) same is) only.is in
+    answers mid found takes (subst (λ q. Accepted q status (from_desk mid call)) is_query does)
+file_complete name text query Accepted good status call asks only answers (file_refused found fault takes faulty does) =
+    let same = read_text call name text found call.desk_after asks takes in
+    absurd (no_fault only.one only.never text query fault only.is (subst (λ t. IsQueryFault t fault) same faulty))
+file_complete name text query Accepted good status call asks only answers (file_unopened is fails same) = absurd (asks.opens fails.rose)
+file_complete name text query Accepted good status call asks only answers (file_unread is fails same) =
     absurd (asks.reads (subst (λ n. Rose n call.desk_after.file.faults) fails.opened.faults fails.rose))
-file_complete one none name text query Accepted good status call asks accepted memory answers (file_out_of_memory is lacks same) = subst (λ s. IsOneOf s good) (sym is) memory
+file_complete name text query Accepted good status call asks only answers (file_out_of_memory is lacks same) =
+    subst (λ s. IsOneOf s good.statuses) (sym is) good.memory
 
 -- the same for the archive, from a desk in between on
 
@@ -415,49 +445,47 @@ made_is_one : (archive : List ℕ) (q : QueryTree) (status : Status) (call : Cal
 made_is_one archive q status call none (totals_written totals are does) = totals_is_one totals status call none does
 made_is_one archive q status call none (made_out_of_memory is same) = inr (inr (inl is))
 
-job_complete : SpellOne → SpellNone → (job : Job) (text : List ℕ) (query : QueryTree) (status : Status) (call : Call) → HasText call job text → IsQuery text query
+job_complete : (job : Job) (text : List ℕ) (query : QueryTree) (status : Status) (call : Call) → HasText call job text → IsOnly text query
     → IsWithin call job query → NothingRose call → DoesJob job status call → IsOneOf status (good_answers job)
-job_complete one never (Run name archive workers limit first) text query status call has is short none does =
-    file_complete one never name text query (AnswersFile archive limit first) (Done ∷ DoneWithRefusals ∷ NoMemory ∷ []) status call has is (inr (inr (inl refl)))
-    (λ mid found takes a. archive_complete archive limit first query status (from_desk mid call) (short_later name archive limit (wanted first query) mid found call takes short) (none_later name mid found call takes none) a)
+job_complete (Run name archive workers limit first) text query status call has only short none does =
+    file_complete name text query (AnswersFile archive limit first) counted_or_refused status call has only
+    (λ mid found takes a.
+    archive_complete archive limit first query status (from_desk mid call)
+    (short_later name archive limit (wanted first query) mid found call takes short) (none_later name mid found call takes none) a)
     does
-job_complete one never (Eval word archive workers limit first) text query status call has is short none does =
-    text_complete one never text query (AnswersFile archive limit first) (Done ∷ DoneWithRefusals ∷ NoMemory ∷ []) status call is (inr (inr (inl refl)))
-    (λ a. archive_complete archive limit first query status call short none a) (subst (λ t. OverText t (AnswersFile archive limit first) status call) has does)
-job_complete one never (Check name) text query status call has is short none does =
-    file_complete one never name text query SaysAccepted (Done ∷ NoMemory ∷ []) status call has is (inr (inl refl))
-    (λ mid found takes a. acceptance_is_one status call none a.0) does
-job_complete one never (Explain name) text query status call has is short none does =
-    file_complete one never name text query Explains (Done ∷ NoMemory ∷ []) status call has is (inr (inl refl))
-    (λ mid found takes a. explanation_is_one query status call none a.0) does
-job_complete one never (SelfRun word seed games workers) text query status call has is short none does =
-    text_complete one never text query (RunsMade seed games) (Done ∷ DoneWithRefusals ∷ NoMemory ∷ []) status call is (inr (inr (inl refl)))
+job_complete (Eval word archive workers limit first) text query status call has only short none does =
+    text_complete text query (AnswersFile archive limit first) counted_or_refused status call only
+    (λ a. archive_complete archive limit first query status call short none a)
+    (subst (λ t. OverText t (AnswersFile archive limit first) status call) has does)
+job_complete (Check name) text query status call has only short none does =
+    file_complete name text query SaysAccepted done_alone status call has only (λ mid found takes a. acceptance_is_one status call none a.0) does
+job_complete (Explain name) text query status call has only short none does =
+    file_complete name text query Explains done_alone status call has only (λ mid found takes a. explanation_is_one query status call none a.0) does
+job_complete (SelfRun word seed games workers) text query status call has only short none does =
+    text_complete text query (RunsMade seed games) counted_or_refused status call only
     (λ a. made_is_one (made seed games) query status call none a.0) (subst (λ t. OverText t (RunsMade seed games) status call) has does)
 
 -- a job that was done
 
-pub run_done : (job : Job) (query archive name file : List ℕ) (workers limit : ℕ) (first : Bool) (status : Status) (call : Call) → job ≡ Run query archive workers limit first → name ≡ query → file ≡ archive
-    → OverFile name (AnswersFile file limit first) status call → DoesJob job status call
-run_done job query archive name file workers limit first status call is names files does =
-    subst (λ j. DoesJob j status call) (sym is) (subst (λ n. OverFile n (AnswersFile archive limit first) status call) names
-    (subst (λ f. OverFile name (AnswersFile f limit first) status call) files does))
+pub job_is : (job other : Job) (status : Status) (call : Call) → job ≡ other → DoesJob other status call → DoesJob job status call
+job_is job other status call is does = subst (λ j. DoesJob j status call) (sym is) does
 
-pub eval_done : (job : Job) (word archive text file : List ℕ) (workers limit : ℕ) (first : Bool) (status : Status) (call : Call) → job ≡ Eval word archive workers limit first → text ≡ word → file ≡ archive
-    → OverText text (AnswersFile file limit first) status call → DoesJob job status call
-eval_done job word archive text file workers limit first status call is texts files does =
-    subst (λ j. DoesJob j status call) (sym is) (subst (λ t. OverText t (AnswersFile archive limit first) status call) texts
-    (subst (λ f. OverText text (AnswersFile f limit first) status call) files does))
+-- the same of the words that are its own
+pub of_file : (name query : List ℕ) (Accepted : QueryTree → Status → Call → Type 0) (status : Status) (call : Call) → name ≡ query
+    → OverFile name Accepted status call → OverFile query Accepted status call
+of_file name query Accepted status call names does = subst (λ n. OverFile n Accepted status call) names does
 
-pub check_done : (job : Job) (query name : List ℕ) (status : Status) (call : Call) → job ≡ Check query → name ≡ query → OverFile name SaysAccepted status call → DoesJob job status call
-check_done job query name status call is names does = subst (λ j. DoesJob j status call) (sym is) (subst (λ n. OverFile n SaysAccepted status call) names does)
+pub of_text : (text word : List ℕ) (Accepted : QueryTree → Status → Call → Type 0) (status : Status) (call : Call) → text ≡ word
+    → OverText text Accepted status call → OverText word Accepted status call
+of_text text word Accepted status call texts does = subst (λ t. OverText t Accepted status call) texts does
 
-pub explain_done : (job : Job) (query name : List ℕ) (status : Status) (call : Call) → job ≡ Explain query → name ≡ query → OverFile name Explains status call → DoesJob job status call
-explain_done job query name status call is names does = subst (λ j. DoesJob j status call) (sym is) (subst (λ n. OverFile n Explains status call) names does)
+pub file_over : (name file archive : List ℕ) (limit : ℕ) (first : Bool) (status : Status) (call : Call) → file ≡ archive
+    → OverFile name (AnswersFile file limit first) status call → OverFile name (AnswersFile archive limit first) status call
+file_over name file archive limit first status call files does = subst (λ f. OverFile name (AnswersFile f limit first) status call) files does
 
-pub selfrun_done : (job : Job) (word text : List ℕ) (seed games workers : ℕ) (status : Status) (call : Call) → job ≡ SelfRun word seed games workers → text ≡ word
-    → OverText text (RunsMade seed games) status call → DoesJob job status call
-selfrun_done job word text seed games workers status call is texts does =
-    subst (λ j. DoesJob j status call) (sym is) (subst (λ t. OverText t (RunsMade seed games) status call) texts does)
+pub text_over : (text file archive : List ℕ) (limit : ℕ) (first : Bool) (status : Status) (call : Call) → file ≡ archive
+    → OverText text (AnswersFile file limit first) status call → OverText text (AnswersFile archive limit first) status call
+text_over text file archive limit first status call files does = subst (λ f. OverText text (AnswersFile f limit first) status call) files does
 
 -- the words
 
@@ -478,10 +506,11 @@ job_promised one never words status call job value taken does = record {
   words_always_refused = λ asks. absurd (let e = asks_answered words (Ok job) value taken None asks in cc);
   query_always_refused = λ other text fault asks has faulty.
       let same : job ≡ other = same_job other job (asks_answered words (Ok job) value taken (Some other) asks) in
-      job_refused_always one never other text fault status call has faulty (subst (λ j. DoesJob j status call) same does);
+      job_refused_always other text fault status call has (record { one = one; never = never; is = faulty }) (subst (λ j. DoesJob j status call) same does);
   complete = λ other text query asks has is short none.
       let same : job ≡ other = same_job other job (asks_answered words (Ok job) value taken (Some other) asks) in
-      job_complete one never other text query status call has is short none (subst (λ j. DoesJob j status call) same does);
+      job_complete other text query status call has (record { one = one; never = never; is = is }) short none
+      (subst (λ j. DoesJob j status call) same does);
 }
 
 usage_is_one : (status : Status) (sinks : Sinks) → WritesUsage status sinks → IsOneOf status (WordsRefused ∷ WriteFault ∷ NoMemory ∷ [])

@@ -27,13 +27,17 @@ loop-turn-init g c =
 pub returns-in-Ok-None-clause-answers : goal.returns-in-Ok-None-clause-answers
 returns-in-Ok-None-clause-answers g c =
     let after = source_view g.S.Source.left g.S.Source.faults c.next.new.source in
-    let out = sink_view g.O.Sink.taken g.O.Sink.faults c.args.out.now in
-    let err = sink_view g.E.Sink.taken g.E.Sink.faults c.args.err.now in
+    let out_view = sink_view g.O.Sink.taken g.O.Sink.faults in
+    let err_view = sink_view g.E.Sink.taken g.E.Sink.faults in
+    let out = out_view c.args.out.now in
+    let err = err_view c.args.err.now in
     let was = c.loop-turn.invariant.0 in
     let is = c.in-Ok-None.is ∙ ap Ok c.in-Ok-None.field-0-is in
     let says = rw is at c.next.ensures.says in
     let counts = rw is at c.next.ensures.cause in
-    call_ends c.archives_come_in_batches.ensures c.write_summary.result _ _ _ _ _ _ after out _ err _ _ c.loop-turn.tally _ was says counts c.write_summary.ensures
+    call_ends c.archives_come_in_batches.ensures c.write_summary.result _ _ _ _ _ _ after
+    (sinks_of out (out_view c.loop-turn.out) err (err_view c.loop-turn.err)) (err_view c.write_summary.new.err)
+    (stand_of c.loop-turn.tally c.loop-turn.kept.items) was says counts c.write_summary.ensures
 
 pub returns-in-Ok-None-clause-next : goal.returns-in-Ok-None-clause-next
 returns-in-Ok-None-clause-next g c =
@@ -142,8 +146,10 @@ returns-in-Err-NoMemory-write_answers-clause-next g c =
 pub returns-then-tally-gt0-clause-answers : goal.returns-then-tally-gt0-clause-answers
 returns-then-tally-gt0-clause-answers g c =
     let after = source_view g.S.Source.left g.S.Source.faults c.next.new.source in
-    let out = sink_view g.O.Sink.taken g.O.Sink.faults c.args.out.now in
-    let err = sink_view g.E.Sink.taken g.E.Sink.faults c.args.err.now in
+    let out_view = sink_view g.O.Sink.taken g.O.Sink.faults in
+    let err_view = sink_view g.E.Sink.taken g.E.Sink.faults in
+    let out = out_view c.args.out.now in
+    let err = err_view c.args.err.now in
     let is = c.in-Ok-Some.is ∙ ap Ok c.in-Ok-Some.field-0-is in
     let says = rw is at c.next.ensures.says in
     let counts = rw is at c.next.ensures.cause in
@@ -152,7 +158,10 @@ returns-then-tally-gt0-clause-answers g c =
     let answered = batch_up_to laws (query_in c.args.plan.now) c.in-Ok-Some.batch _ c.in-Ok.ensures in
     let are = answers_are _ _ _ _ _ _ _ _ _ _ turn answered in
     let does = c.write_answers.ensures _ turn.turn.outcomes (up_to_first _ answered.outcomes) out err are turn.turn.found in
-    turn_found laws _ _ _ _ _ _ _ _ _ _ _ _ _ _ _ _ _ _ turn answered (rw c.in-Ok-write_answers.is at does) (search rules) (search rules)
+    let new_sinks = sinks_of out (out_view c.write_answers.new.out) err (err_view c.write_answers.new.err) in
+    let new = stand_of c.write_answers.new.tally c.write_answers.new.kept.items in
+    turn_found laws _ _ _ _ _ _ _ new_sinks _ _ new _ _ _ turn answered
+    (rw c.in-Ok-write_answers.is at does) (search rules) (search rules)
 
 pub returns-then-tally-gt0-clause-next : goal.returns-then-tally-gt0-clause-next
 returns-then-tally-gt0-clause-next g c =
