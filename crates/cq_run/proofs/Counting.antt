@@ -31,10 +31,10 @@ use Rattle.cq_run.specs.Promise.{SourceView}
 use Rattle.cq_run.specs.SelfRun.{AreTotals, totals_of}
 use Rattle.cq_run.specs.Writing.{counted}
 use Rattle.cq_run.proofs.AnswerPromise.{may_be}
-use Rattle.cq_run.proofs.GameByGame.{IsFound, answers_count, is_faulty, is_found, is_no_match, next_of, same_tally, tallied_more, tally_with}
+use Rattle.cq_run.proofs.GameByGame.{InBatch, IsFound, answers_count, is_faulty, is_found, is_no_match, next_in, same_tally, tallied_more, tally_with}
 use Rattle.cq_run.proofs.Exports.{texts_same}
 use Rattle.cq_run.proofs.Given.{count_read, given, given_few, kept_read_on}
-use Rattle.cq_run.proofs.Reached.{Reached, all_read, moved, no_reads, rounds_few, turned}
+use Rattle.cq_run.proofs.Reached.{Known, Reached, all_read, moved, no_reads, place_of, rounds_few, turned}
 
 -- ---- one game
 
@@ -81,14 +81,16 @@ totals_more : (query : QueryTree) (bytes : ℕ) (rs : List Outcome) (r : Outcome
 totals_more query bytes rs r = same_totals bytes _ _ _ _ (sym (tallied_more query rs r)) (lengths_more query rs r)
 
 -- one answer more
-pub count_more : (query : QueryTree) (bytes : ℕ) (rs qs : List Outcome) (ys rest more items : List GameAnswer) (a : GameAnswer) (totals new : Totals)
-    → items ≡ ys ++ rest → rest ≡ a ∷ more → items ≡ answers_from query (length rs) qs → totals ≡ totals_of query bytes (rs ++ take (length ys) qs)
+pub count_more : (query : QueryTree) (bytes : ℕ) (a : GameAnswer) (batch : InBatch query a) (totals new : Totals)
+    → totals ≡ totals_of query bytes (batch.before ++ take (length batch.ys) batch.outcomes)
     → ((r : Outcome) (n : ℕ) → a ≡ record { index = n; what = found_in query r } → new ≡ counted query totals r)
-    → new ≡ totals_of query bytes (rs ++ take (length (ys ++ a ∷ [])) qs)
-count_more query bytes rs qs ys rest more items a totals new splits first are so_far does =
-    let next = next_of query (length rs) ys a more qs (ap (λ l. ys ++ l) (sym first) ∙ sym splits ∙ are) in
-    does next.r (length rs + length ys) next.answer ∙ ap (λ t. counted query t next.r) so_far ∙ totals_more query bytes (rs ++ take (length ys) qs) next.r
-    ∙ ap (totals_of query bytes) (append_assoc rs (take (length ys) qs) (next.r ∷ []) ∙ ap (λ l. rs ++ l) (sym next.step))
+    → new ≡ totals_of query bytes (batch.before ++ take (length (batch.ys ++ a ∷ [])) batch.outcomes)
+count_more query bytes a batch totals new so_far does =
+    let next = next_in query a batch in
+    let front = take (length batch.ys) batch.outcomes in
+    does next.r (length batch.before + length batch.ys) next.answer ∙ ap (λ t. counted query t next.r) so_far
+    ∙ totals_more query bytes (batch.before ++ front) next.r
+    ∙ ap (totals_of query bytes) (append_assoc batch.before front (next.r ∷ []) ∙ ap (λ l. batch.before ++ l) (sym next.step))
 
 -- ---- all batches
 
@@ -110,7 +112,7 @@ pub record CountedSoFar (query : QueryTree) (archive : List ℕ) (limit : ℕ) (
   pub m : ℕ
   pub outcomes : List Outcome
   pub stands : Stands b front m
-  pub reached : Reached limit b (sure archive) (sure left) front m
+  pub reached : Reached (place_of limit b (sure archive) (sure left)) front m
   pub are_read : AreKeptRead (given front m) outcomes
   pub totals_ : totals ≡ totals_of query (length archive) outcomes
 
@@ -133,7 +135,7 @@ pub record CountsTurn (query : QueryTree) (archive : List ℕ) (limit : ℕ) (b 
   pub turns : t ≤ m
   pub outcomes : List Outcome
   pub stands : Stands b front (m + 1)
-  pub reached : Reached limit b (sure archive) (sure left) front (m + 1)
+  pub reached : Reached (place_of limit b (sure archive) (sure left)) front (m + 1)
   pub games : given front (m + 1) ≡ given front m ++ games_of batch
   pub are_read : AreKeptRead (given front m) outcomes
   pub index : number_of batch ≡ length outcomes
@@ -143,9 +145,9 @@ pub counts_turn : Laws → (query : QueryTree) (archive : List ℕ) (limit : ℕ
     → (so : CountedSoFar query archive limit was left totals) → t ≤ so.m → Moves was now (Some left) (Some after) (GivesBatch now batch)
     → CountsTurn query archive limit now after totals batch t
 counts_turn laws query archive limit was now left after totals batch t so turns moves =
-    let at = moved laws limit was now (sure archive) (sure left) (sure after) so.front so.m (GivesBatch now batch) so.stands so.reached moves in
+    let at = moved laws (place_of limit was (sure archive) (sure left)) now (sure after) so.front so.m (GivesBatch now batch) so.stands so.reached moves in
     let gives = moves.given so.front so.m so.stands in
-    let turn = turned laws limit now (sure archive) (sure after) (so.front ++ moves.bytes) so.m batch at.reached gives in
+    let turn = turned laws (place_of limit now (sure archive) (sure after)) (so.front ++ moves.bytes) so.m batch at.reached gives in
     let read : AreKeptRead (given (so.front ++ moves.bytes) so.m) so.outcomes = subst (λ gs. AreKeptRead gs so.outcomes) (sym at.same) so.are_read in
     record {
       front = so.front ++ moves.bytes;
@@ -195,10 +197,16 @@ turn_counted query archive limit b left totals new batch answers t turn answered
 pub all_counted : Laws → (query : QueryTree) (archive : List ℕ) (limit : ℕ) (was now : Batches) (left after : List ℕ) (totals : Totals)
     → CountedSoFar query archive limit was left totals → Moves was now (Some left) (Some after) (HasGivenAll now) → AreTotals query archive totals
 all_counted laws query archive limit was now left after totals so moves =
-    let at = moved laws limit was now (sure archive) (sure left) (sure after) so.front so.m (HasGivenAll now) so.stands so.reached moves in
+    let at = moved laws (place_of limit was (sure archive) (sure left)) now (sure after) so.front so.m (HasGivenAll now) so.stands so.reached moves in
     let front = so.front ++ moves.bytes in
-    let all = all_read laws limit now (sure archive) (sure after) front so.m so.outcomes at.reached refl
-    (subst (λ gs. AreKeptRead gs so.outcomes) (sym at.same) so.are_read) (moves.given so.front so.m so.stands) in
+    let known : Known (place_of limit now (sure archive) (sure after)) = record {
+      front = front;
+      m = so.m;
+      outcomes = so.outcomes;
+      reached = at.reached;
+      are_read = subst (λ gs. AreKeptRead gs so.outcomes) (sym at.same) so.are_read;
+    } in
+    let all = all_read laws (place_of limit now (sure archive) (sure after)) known refl (moves.given so.front so.m so.stands) in
     let same : archive ≡ front = may_be (Some archive) (Some after) front all.takes all.at_end in
     record {
       outcomes = so.outcomes;
@@ -220,7 +228,7 @@ taken_few archive front rest is = let l = length-append front rest in let e : le
 pub none_too_long : Laws → (query : QueryTree) (archive : List ℕ) (limit : ℕ) (was now : Batches) (left after : List ℕ) (totals : Totals)
     → CountedSoFar query archive limit was left totals → Moves was now (Some left) (Some after) (HasGivenFull was (λ n. was.limit < n)) → length archive ≤ limit → ⊥
 none_too_long laws query archive limit was now left after totals so moves low =
-    let at = moved laws limit was now (sure archive) (sure left) (sure after) so.front so.m (HasGivenFull was (λ n. was.limit < n)) so.stands so.reached moves in
+    let at = moved laws (place_of limit was (sure archive) (sure left)) now (sure after) so.front so.m (HasGivenFull was (λ n. was.limit < n)) so.stands so.reached moves in
     let long = (moves.given so.front so.m so.stands).taken in
     let few = taken_few archive (so.front ++ moves.bytes) after at.reached.takes in
     let same = so.reached.limit_ in
@@ -233,7 +241,7 @@ never_faults laws query archive limit was now left after totals ArchiveTooLong s
 
 pub few_counts : Laws → (query : QueryTree) (archive : List ℕ) (limit : ℕ) (b : Batches) (left : List ℕ) (totals : Totals) → (so : CountedSoFar query archive limit b left totals)
     → so.m < limit + 3
-few_counts laws query archive limit b left totals so = rounds_few laws limit b (sure archive) (sure left) so.front so.m so.reached
+few_counts laws query archive limit b left totals so = rounds_few laws (place_of limit b (sure archive) (sure left)) so.front so.m so.reached
 
 pub matched_few : (query : QueryTree) (archive : List ℕ) (limit : ℕ) (b : Batches) (left : List ℕ) (totals : Totals) → CountedSoFar query archive limit b left totals
     → totals.tally.matched ≤ totals.tally.games

@@ -14,7 +14,6 @@ use Rattle.pgn_export.specs.Export.{export_text}
 use Rattle.pgn_reader.specs.declared.fault.GameFault.{GameFault}
 use Rattle.cq_run.specs.Sorts.{have_sort}
 use Rattle.cq_report.specs.Games.{fault_line}
-use Rattle.cq_shards.specs.declared.answers.Answer.{Answer}
 use Rattle.cq_shards.specs.declared.answers.Answer.TheVariants.{Refused, Miss, Match}
 use Rattle.cq_shards.specs.declared.answers.GameAnswer.{GameAnswer}
 use Rattle.cq_run.specs.declared.status.Status.{Status}
@@ -393,7 +392,7 @@ pub record InBatch (query : QueryTree) (a : GameAnswer) : Type 0 where
   pub more : List GameAnswer
   pub are : ys ++ a ∷ more ≡ answers_from query (length before) outcomes
 
-next_in : (query : QueryTree) (a : GameAnswer) (batch : InBatch query a) → IsNext query (length batch.before) batch.ys batch.outcomes a
+pub next_in : (query : QueryTree) (a : GameAnswer) (batch : InBatch query a) → IsNext query (length batch.before) batch.ys batch.outcomes a
 next_in query a batch = next_of query (length batch.before) batch.ys a batch.more batch.outcomes batch.are
 
 -- the answer, by the number of games before it
