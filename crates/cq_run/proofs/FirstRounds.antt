@@ -109,8 +109,8 @@ call_unread laws loop now after r moves rose =
     let Given = HasGivenFull loop.place.b (λ n. n ≤ loop.place.b.limit) in
     let none = moves.given r.so.known.front r.so.known.m r.so.stands in
     unread laws loop.query (moved_to loop.place now after) (known_moved laws loop.place now after r.so.known Given r.so.stands moves) loop.sinks loop.stand
-    (subst (λ n. Rose n after.faults) r.so.counts rose) r.none r.so.found none.all
-    (subst (λ k. length (r.so.known.front ++ moves.bytes) ≤ k) r.so.known.reached.limit_ none.taken) (before_call laws loop now after Given r moves)
+    (subst (λ n. Rose n after.faults) r.so.counts rose) r.none r.so.found
+    (none.all, subst (λ k. length (r.so.known.front ++ moves.bytes) ≤ k) r.so.known.reached.limit_ none.taken) (before_call laws loop now after Given r moves)
 
 pub call_too_long : Laws → (loop : Loop) (now : Batches) (after : SourceView) → FirstRounds loop
     → Moves loop.place.b now loop.place.now.left after.left (HasGivenFull loop.place.b (λ n. loop.place.b.limit < n)) → after.faults ≡ loop.place.now.faults
@@ -119,8 +119,8 @@ call_too_long laws loop now after r moves counts =
     let Given = HasGivenFull loop.place.b (λ n. loop.place.b.limit < n) in
     let none = moves.given r.so.known.front r.so.known.m r.so.stands in
     too_long laws loop.query (moved_to loop.place now after) (known_moved laws loop.place now after r.so.known Given r.so.stands moves) loop.sinks loop.stand
-    (counts ∙ r.so.counts) r.none r.so.found none.all
-    (subst (λ k. k < length (r.so.known.front ++ moves.bytes)) r.so.known.reached.limit_ none.taken) (before_call laws loop now after Given r moves)
+    (counts ∙ r.so.counts) r.none r.so.found
+    (none.all, subst (λ k. k < length (r.so.known.front ++ moves.bytes)) r.so.known.reached.limit_ none.taken) (before_call laws loop now after Given r moves)
 
 -- there are no more batches, and the last line is written
 pub call_ends : Laws → (status : Status) (loop : Loop) (now : Batches) (after : SourceView) (err : SinkView) → FirstRounds loop
@@ -254,9 +254,9 @@ turn_wants laws loop sinks batch answers t at answered (writes, unfailed) =
 pub turn_found : Laws → (status : Status) (loop new : Loop) (err : SinkView) (batch : Batch) (answers : List GameAnswer) (t : ℕ) → (at : FirstTurn loop batch t)
     → (answered : BatchUpTo loop.query batch answers)
     → FoundSoFar false loop.query (at.turn.known.outcomes ++ up_to_first loop.query answered.outcomes) new.sinks new.stand
-    → (0 < new.stand.tally.matched) × WritesSummary new.stand.tally new.sinks.err_after err status
+    × (0 < new.stand.tally.matched) × WritesSummary new.stand.tally new.sinks.err_after err status
     → AnswerPromise (first_texts loop.query) status (call_in loop (with_err new.sinks err))
-turn_found laws status loop new err batch answers t at answered found (some, writes) =
+turn_found laws status loop new err batch answers t at answered (found, some, writes) =
     let query = loop.query in
     let all = at.turn.known.outcomes ++ answered.outcomes in
     let first : FoundFirst query all new.sinks new.stand =

@@ -302,9 +302,9 @@ breaks laws query place known sinks stand AreTaken none found all taken =
 
 pub unread : Laws → (query : QueryTree) (place : Place) (known : Known place) (sinks : Sinks) (stand : Stand)
     → Rose place.source.faults place.now.faults → some_match query known.outcomes ≡ false → FoundSoFar false query known.outcomes sinks stand
-    → length (full_batches (closed_games known.front)) ≡ known.m → length known.front ≤ place.limit → Before query place.source place.now
+    → (length (full_batches (closed_games known.front)) ≡ known.m) × (length known.front ≤ place.limit) → Before query place.source place.now
     → AnswerPromise (first_texts query) ReadFault (answer_call place.limit place.source place.now sinks)
-unread laws query place known sinks stand rose none found all few before = record {
+unread laws query place known sinks stand rose none found (all, few) before = record {
   says = (rose, found.unfailed, breaks laws query place known sinks stand (λ n. Unit {0}) none found all tt);
   takes = takes_some place known.front known.m known.reached;
   reads_no_more = no_more laws query place.limit place.source place.now sinks before;
@@ -332,9 +332,9 @@ too_long_never laws query place known archive tells none all long (inr enough) =
 
 pub too_long : Laws → (query : QueryTree) (place : Place) (known : Known place) (sinks : Sinks) (stand : Stand)
     → place.now.faults ≡ place.source.faults → some_match query known.outcomes ≡ false → FoundSoFar false query known.outcomes sinks stand
-    → length (full_batches (closed_games known.front)) ≡ known.m → place.limit < length known.front → Before query place.source place.now
+    → (length (full_batches (closed_games known.front)) ≡ known.m) × (place.limit < length known.front) → Before query place.source place.now
     → AnswerPromise (first_texts query) ArchiveTooLong (answer_call place.limit place.source place.now sinks)
-too_long laws query place known sinks stand counts none found all long before = record {
+too_long laws query place known sinks stand counts none found (all, long) before = record {
   says = (
     breaks laws query place known sinks stand (λ n. place.limit < n) none found all long,
     record { source = counts; sinks = found.unfailed },

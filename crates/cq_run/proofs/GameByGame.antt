@@ -13,7 +13,6 @@ use Rattle.cq_position.specs.Games.{Game}
 use Rattle.pgn_export.specs.Export.{export_text}
 use Rattle.pgn_reader.specs.declared.fault.GameFault.{GameFault}
 use Rattle.cq_run.specs.Sorts.{have_sort}
-use Rattle.cq_report.specs.Games.{fault_line}
 use Rattle.cq_shards.specs.declared.answers.Answer.TheVariants.{Refused, Miss, Match}
 use Rattle.cq_shards.specs.declared.answers.GameAnswer.{GameAnswer}
 use Rattle.cq_run.specs.declared.status.Status.{Status}
@@ -29,7 +28,7 @@ use Rattle.cq_run.specs.Answer.{tally_of, report_of, export_if, fault_if, fault_
 use Rattle.cq_run.specs.Exports.{AreExports, exports_of, match_if, matches_from}
 use Rattle.cq_shards.specs.Order.{values_in}
 use Rattle.cq_run.specs.Promise.{SinkView, Sinks, Texts, Writes, WritesPrefix, WritesAll, WritesPart, Unfinished, IsUnwritten, NoWriteFailed, OneSinkFailed, sinks_of}
-use Rattle.cq_run.specs.Writing.{WritesText, WritesFault, WritesKept, InOrder, AnswersGame, FoundSoFar, WritesAnswer, WritesSummary, Stand, stand_of, onward, tallied, kept_if, kept_from, texts_of_game}
+use Rattle.cq_run.specs.Writing.{WritesText, WritesKept, InOrder, AnswersGame, FoundSoFar, WritesAnswer, WritesSummary, Stand, stand_of, onward, tallied, kept_if, kept_from, texts_of_game}
 use Rattle.cq_run.proofs.Exports.{matches_more, written_none, unsorted_exports, sorted_exports, none_ordered}
 use Rattle.cq_run.proofs.Sinks.{unwritten, wrote_none, grew_on, Took, took_count, took_on, took_front, prefix_of, Moments, until_now, from_now, in_all, with_out, with_err, then_out, then_err, fails_after, none_after}
 
@@ -61,22 +60,8 @@ same_tally games games' matched matched' refused refused' g m r = cc
 same_stand : (t u : Tally) (ks ls : List GameAnswer) → t ≡ u → ks ≡ ls → stand_of t ks ≡ stand_of u ls
 same_stand t u ks ls e f = cc
 
-nothing_written : (sorted : Bool) (query : QueryTree) (game : Game) → has_match query game ≡ false → written sorted query (Ok game) ≡ []
-nothing_written true query game none = refl
-nothing_written false query game none = ap (λ b. cond b (export_text (marked query game)) []) none
-
-abbrev match_of : QueryTree → ℕ → Game → GameAnswer
-match_of query number game = record { index = number; what = Match (export_text (marked query game)) (values_in (keys query game)) }
-
-nothing_kept : (sorted : Bool) (query : QueryTree) (number : ℕ) (game : Game) → has_match query game ≡ false → kept_if sorted query number (Ok game) ≡ []
-nothing_kept false query number game none = refl
-nothing_kept true query number game none = ap (λ b. cond b (match_of query number game ∷ []) []) none
-
 all_written : (query : QueryTree) (game : Game) → has_match query game ≡ true → written false query (Ok game) ≡ export_text (marked query game)
 all_written query game some = ap (λ b. cond b (export_text (marked query game)) []) some
-
-all_kept : (query : QueryTree) (number : ℕ) (game : Game) → has_match query game ≡ true → kept_if true query number (Ok game) ≡ match_of query number game ∷ []
-all_kept query number game some = ap (λ b. cond b (match_of query number game ∷ []) []) some
 
 pub matched_tally : (query : QueryTree) (game : Game) (before : Tally) → has_match query game ≡ true
     → tally_with (before.games + 1) (before.matched + 1) before.refused ≡ tallied query before (Ok game)
@@ -91,20 +76,6 @@ no_match false text values e = refl
 pub is_no_match : (query : QueryTree) (r : Outcome) → Miss ≡ found_in query r → is_match query r ≡ false
 is_no_match query (Ok game) e = no_match (has_match query game) (export_text (marked query game)) (values_in (keys query game)) (sym e)
 is_no_match query (Err fault) e = refl
-
--- a game that is missed is counted, and nothing is written or kept
-pub missed : (sorted : Bool) (query : QueryTree) (r : Outcome) (before after : Tally) (ks : List GameAnswer) (out err : SinkView) → Miss ≡ found_in query r
-    → after ≡ tally_with (before.games + 1) before.matched before.refused
-    → AnswersGame sorted query r (stand_of before ks) (stand_of after ks) (sinks_of out out err err) (Ok tt)
-missed sorted query (Ok game) before after ks out err is e =
-    let none = is_no_match query (Ok game) is in (
-      same_stand _ _ _ _
-          (e ∙ same_tally _ _ _ _ _ _ refl (let m : before.matched ≡ before.matched + 0 = omega arith in m ∙ ap (λ b. before.matched + cond b 1 0) (sym none)) (omega arith))
-          (sym (append-nil ks) ∙ ap (λ more. ks ++ more) (sym (nothing_kept sorted query before.games game none))),
-      record { out = subst (Grew out.taken out.taken) (sym (nothing_written sorted query game none)) (unwritten out.taken); err = unwritten err.taken },
-      record { out = refl; err = refl },
-    )
-missed sorted query (Err fault) before after ks out err is e = absurd cc
 
 pub record IsFound (query : QueryTree) (r : Outcome) (text : List ℕ) : Type 0 where
   pub game : Game
@@ -121,15 +92,19 @@ pub is_found : (query : QueryTree) (r : Outcome) (text : List ℕ) (values : Lis
 is_found query (Ok game) text values e = found_if query game (has_match query game) text values refl e
 is_found query (Err fault) text values e = absurd cc
 
-matched_game : (query : QueryTree) (game : Game) (before after : Tally) (ks : List GameAnswer) (out out' err : SinkView) (text : List ℕ) (result : Result (Unit {0}) (Refusal Failed))
-    → has_match query game ≡ true → after ≡ tally_with (before.games + 1) (before.matched + 1) before.refused → text ≡ export_text (marked query game)
-    → WritesText text out out' result → AnswersGame false query (Ok game) (stand_of before ks) (stand_of after ks) (sinks_of out out' err err) result
-matched_game query game before after ks out out' err text (Ok _) some e is wrote = (
-  same_stand _ _ _ _ (e ∙ matched_tally query game before some) (sym (append-nil ks)),
+-- one match more was counted
+abbrev pub one_match_more : Stand → Stand
+one_match_more stand = stand_of (tally_with (stand.tally.games + 1) (stand.tally.matched + 1) stand.tally.refused) stand.kept
+
+matched_game : (query : QueryTree) (game : Game) (stand : Stand) (out out' err : SinkView) (text : List ℕ) (result : Result (Unit {0}) (Refusal Failed))
+    → has_match query game ≡ true → text ≡ export_text (marked query game) → WritesText text out out' result
+    → AnswersGame false query (Ok game) stand (one_match_more stand) (sinks_of out out' err err) result
+matched_game query game stand out out' err text (Ok _) some is wrote = (
+  same_stand _ _ _ _ (matched_tally query game stand.tally some) (sym (append-nil stand.kept)),
   record { out = subst (Grew out.taken out'.taken) (is ∙ sym (all_written query game some)) wrote.0; err = unwritten err.taken },
   record { out = wrote.1; err = refl },
 )
-matched_game query game before after ks out out' err text (Err (Fault _)) some e is wrote = (
+matched_game query game stand out out' err text (Err (Fault _)) some is wrote = (
   record {
     out_count = wrote.0.0;
     err_count = 0;
@@ -138,64 +113,16 @@ matched_game query game before after ks out out' err text (Err (Fault _)) some e
   },
   inl (wrote.1, refl),
 )
-matched_game query game before after ks out out' err text (Err IsNoMemory) some e is wrote = absurd wrote
+matched_game query game stand out out' err text (Err IsNoMemory) some is wrote = absurd wrote
 
 -- a game that matches is counted, and its export is written
-pub matched : (query : QueryTree) (r : Outcome) (before after : Tally) (ks : List GameAnswer) (out out' err : SinkView) (text : List ℕ) (values : List ℤ)
-    (result : Result (Unit {0}) (Refusal Failed)) → Match text values ≡ found_in query r → after ≡ tally_with (before.games + 1) (before.matched + 1) before.refused
-    → WritesText text out out' result → AnswersGame false query r (stand_of before ks) (stand_of after ks) (sinks_of out out' err err) result
-matched query r before after ks out out' err text values result is e wrote =
+pub matched : (query : QueryTree) (r : Outcome) (stand : Stand) (out out' err : SinkView) (text : List ℕ) (values : List ℤ) (result : Result (Unit {0}) (Refusal Failed))
+    → Match text values ≡ found_in query r → WritesText text out out' result
+    → AnswersGame false query r stand (one_match_more stand) (sinks_of out out' err err) result
+matched query r stand out out' err text values result is wrote =
     let found = is_found query r text values is in
-    subst (λ (q : Outcome). AnswersGame false query q (stand_of before ks) (stand_of after ks) (sinks_of out out' err err) result) (sym found.is)
-    (matched_game query found.game before after ks out out' err text result found.some e found.text_is wrote)
-
--- or it is kept
-kept_game : (query : QueryTree) (game : Game) (before after : Tally) (ks ls : List GameAnswer) (out err : SinkView) (a : GameAnswer)
-    → has_match query game ≡ true → after ≡ tally_with (before.games + 1) (before.matched + 1) before.refused → a ≡ answer_of query before.games (Ok game) → ls ≡ ks ++ a ∷ []
-    → AnswersGame true query (Ok game) (stand_of before ks) (stand_of after ls) (sinks_of out out err err) (Ok tt)
-kept_game query game before after ks ls out err a some e is grown =
-    let what : found_in query (Ok game) ≡ Match (export_text (marked query game)) (values_in (keys query game)) =
-    ap (λ b. cond b (Match (export_text (marked query game)) (values_in (keys query game))) Miss) some in
-    let one : a ≡ match_of query before.games game = is ∙ ap (λ w. record { index = before.games; what = w }) what in (
-      same_stand _ _ _ _ (e ∙ matched_tally query game before some)
-          (grown ∙ ap (λ x. ks ++ x ∷ []) one ∙ ap (λ more. ks ++ more) (sym (all_kept query before.games game some))),
-      record { out = unwritten out.taken; err = unwritten err.taken },
-      record { out = refl; err = refl },
-    )
-
-pub kept_back : (query : QueryTree) (r : Outcome) (before after : Tally) (ks ls : List GameAnswer) (out err : SinkView) (a : GameAnswer) (text : List ℕ) (values : List ℤ)
-    → a.what ≡ Match text values → a ≡ answer_of query before.games r → after ≡ tally_with (before.games + 1) (before.matched + 1) before.refused → ls ≡ ks ++ a ∷ []
-    → AnswersGame true query r (stand_of before ks) (stand_of after ls) (sinks_of out out err err) (Ok tt)
-kept_back query r before after ks ls out err a text values what is e grown =
-    let found = is_found query r text values (sym what ∙ ap (λ (x : GameAnswer). x.what) is) in
-    subst (λ (q : Outcome). AnswersGame true query q (stand_of before ks) (stand_of after ls) (sinks_of out out err err) (Ok tt)) (sym found.is)
-    (kept_game query found.game before after ks ls out err a found.some e (is ∙ ap (answer_of query before.games) found.is) grown)
-
-none_written : (sorted : Bool) (query : QueryTree) (fault : GameFault) → written sorted query (Err fault) ≡ []
-none_written true query fault = refl
-none_written false query fault = refl
-
-none_kept : (sorted : Bool) (query : QueryTree) (number : ℕ) (fault : GameFault) → kept_if sorted query number (Err fault) ≡ []
-none_kept true query number fault = refl
-none_kept false query number fault = refl
-
-refused_game : (sorted : Bool) (query : QueryTree) (fault : GameFault) (before after : Tally) (ks : List GameAnswer) (out err err' : SinkView) (number : ℕ)
-    (result : Result (Unit {0}) (Refusal Failed)) → after ≡ tally_with (before.games + 1) before.matched (before.refused + 1) → number ≡ before.games + 1
-    → WritesFault number fault err err' result
-    → AnswersGame sorted query (Err fault) (stand_of before ks) (stand_of after ks) (sinks_of out out err err') result
-refused_game sorted query fault before after ks out err err' number (Ok _) e is wrote = (
-  same_stand _ _ _ _ (e ∙ same_tally _ _ _ _ _ _ refl (omega arith) refl) (sym (append-nil ks) ∙ ap (λ more. ks ++ more) (sym (none_kept sorted query before.games fault))),
-  record {
-    out = subst (Grew out.taken out.taken) (sym (none_written sorted query fault)) (unwritten out.taken);
-    err = subst (λ n. Grew err.taken err'.taken (fault_line n fault)) is wrote.0;
-  },
-  record { out = refl; err = wrote.1 },
-)
-refused_game sorted query fault before after ks out err err' number (Err (Fault _)) e is wrote = (
-  record { out_count = 0; err_count = wrote.0.0; out = unwritten out.taken; err = subst (λ n. Grew err.taken err'.taken (take wrote.0.0 (fault_line n fault))) is wrote.0.1 },
-  inr (wrote.1, refl),
-)
-refused_game sorted query fault before after ks out err err' number (Err IsNoMemory) e is wrote = record { out = refl; err = wrote }
+    subst (λ (q : Outcome). AnswersGame false query q stand (one_match_more stand) (sinks_of out out' err err) result) (sym found.is)
+    (matched_game query found.game stand out out' err text result found.some found.text_is wrote)
 
 faulty_if : (b : Bool) (fault : GameFault) (text : List ℕ) (values : List ℤ) → Refused fault ≡ cond b (Match text values) Miss → ⊥
 faulty_if true fault text values e = cc
@@ -204,15 +131,6 @@ faulty_if false fault text values e = cc
 pub is_faulty : (query : QueryTree) (r : Outcome) (fault : GameFault) → Refused fault ≡ found_in query r → r ≡ Err fault
 is_faulty query (Ok game) fault e = absurd (faulty_if (has_match query game) fault (export_text (marked query game)) (values_in (keys query game)) e)
 is_faulty query (Err other) fault e = cc
-
--- a faulty game is counted, and its line is written
-pub refused : (sorted : Bool) (query : QueryTree) (r : Outcome) (fault : GameFault) (before after : Tally) (ks : List GameAnswer) (out err err' : SinkView) (number : ℕ)
-    (result : Result (Unit {0}) (Refusal Failed)) → Refused fault ≡ found_in query r → after ≡ tally_with (before.games + 1) before.matched (before.refused + 1)
-    → number ≡ before.games + 1 → WritesFault number fault err err' result
-    → AnswersGame sorted query r (stand_of before ks) (stand_of after ks) (sinks_of out out err err') result
-refused sorted query r fault before after ks out err err' number result is e count wrote =
-    subst (λ (q : Outcome). AnswersGame sorted query q (stand_of before ks) (stand_of after ks) (sinks_of out out err err') result) (sym (is_faulty query r fault is))
-    (refused_game sorted query fault before after ks out err err' number result e count wrote)
 
 -- ---- the answers of games
 

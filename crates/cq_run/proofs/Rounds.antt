@@ -151,8 +151,8 @@ breaks_off laws sorted query place known sinks sorts counts writes failed = reco
 
 breaks : Laws → (sorted : Bool) (query : QueryTree) (place : Place) (known : Known place) (sinks : Sinks) (stand : Stand)
     (AreTaken : ℕ → Type 0) → have_sort query.items ≡ sorted → FoundSoFar sorted query known.outcomes sinks stand
-    → length (full_batches (closed_games known.front)) ≡ known.m → AreTaken (length known.front) → Breaks (texts_of query) (answer_call place.limit place.source place.now sinks) AreTaken
-breaks laws sorted query place known sinks stand AreTaken sorts found all taken =
+    → (length (full_batches (closed_games known.front)) ≡ known.m) × AreTaken (length known.front) → Breaks (texts_of query) (answer_call place.limit place.source place.now sinks) AreTaken
+breaks laws sorted query place known sinks stand AreTaken sorts found (all, taken) =
     let full = full_batches (closed_games known.front) in
     let games : given known.front known.m ≡ whole known.front = ap flat (given_full laws known.front known.m (omega (arith, all)) ∙ take_all known.m full (omega (arith, all))) in
     record {
@@ -180,10 +180,10 @@ none_suffices query front limit source after sinks all = within_of query limit s
 
 pub unread : Laws → (sorted : Bool) (query : QueryTree) (place : Place) (known : Known place) (sinks : Sinks) (stand : Stand)
     → have_sort query.items ≡ sorted → Rose place.source.faults place.now.faults → FoundSoFar sorted query known.outcomes sinks stand
-    → length (full_batches (closed_games known.front)) ≡ known.m → length known.front ≤ place.limit
+    → (length (full_batches (closed_games known.front)) ≡ known.m) × (length known.front ≤ place.limit)
     → AnswerPromise (texts_of query) ReadFault (answer_call place.limit place.source place.now sinks)
-unread laws sorted query place known sinks stand sorts rose found all few = record {
-  says = (rose, found.unfailed, breaks laws sorted query place known sinks stand (λ n. Unit {0}) sorts found all tt);
+unread laws sorted query place known sinks stand sorts rose found (all, few) = record {
+  says = (rose, found.unfailed, breaks laws sorted query place known sinks stand (λ n. Unit {0}) sorts found (all, tt));
   takes = takes_some place known.front known.m known.reached;
   reads_no_more = needs_all query place.limit place.source place.now sinks (takes_some place known.front known.m known.reached);
   too_long_always = λ much. absurd (not_overrun place.limit place.source place.now (record { bytes = known.front; takes = known.reached.takes; few = few }) much);
@@ -192,11 +192,11 @@ unread laws sorted query place known sinks stand sorts rose found all few = reco
 
 pub too_long : Laws → (sorted : Bool) (query : QueryTree) (place : Place) (known : Known place) (sinks : Sinks) (stand : Stand)
     → have_sort query.items ≡ sorted → place.now.faults ≡ place.source.faults → FoundSoFar sorted query known.outcomes sinks stand
-    → length (full_batches (closed_games known.front)) ≡ known.m → place.limit < length known.front
+    → (length (full_batches (closed_games known.front)) ≡ known.m) × (place.limit < length known.front)
     → AnswerPromise (texts_of query) ArchiveTooLong (answer_call place.limit place.source place.now sinks)
-too_long laws sorted query place known sinks stand sorts counts found all long = record {
+too_long laws sorted query place known sinks stand sorts counts found (all, long) = record {
   says = (
-    breaks laws sorted query place known sinks stand (λ n. place.limit < n) sorts found all long,
+    breaks laws sorted query place known sinks stand (λ n. place.limit < n) sorts found (all, long),
     record { source = counts; sinks = found.unfailed },
   );
   takes = takes_some place known.front known.m known.reached;
@@ -315,8 +315,8 @@ round_unread laws sorted loop now after sorts so moves rose =
     let Given = HasGivenFull loop.place.b (λ n. n ≤ loop.place.b.limit) in
     let none = moves.given so.known.front so.known.m so.stands in
     unread laws sorted loop.query (moved_to loop.place now after) (known_moved laws loop.place now after so.known Given so.stands moves) loop.sinks loop.stand sorts
-    (subst (λ n. Rose n after.faults) so.counts rose) so.found none.all
-    (subst (λ k. length (so.known.front ++ moves.bytes) ≤ k) so.known.reached.limit_ none.taken)
+    (subst (λ n. Rose n after.faults) so.counts rose) so.found
+    (none.all, subst (λ k. length (so.known.front ++ moves.bytes) ≤ k) so.known.reached.limit_ none.taken)
 
 pub round_too_long : Laws → (sorted : Bool) (loop : Loop) (now : Batches) (after : SourceView) → have_sort loop.query.items ≡ sorted → Rounds sorted loop
     → Moves loop.place.b now loop.place.now.left after.left (HasGivenFull loop.place.b (λ n. loop.place.b.limit < n)) → after.faults ≡ loop.place.now.faults
@@ -325,8 +325,8 @@ round_too_long laws sorted loop now after sorts so moves counts =
     let Given = HasGivenFull loop.place.b (λ n. loop.place.b.limit < n) in
     let none = moves.given so.known.front so.known.m so.stands in
     too_long laws sorted loop.query (moved_to loop.place now after) (known_moved laws loop.place now after so.known Given so.stands moves) loop.sinks loop.stand sorts
-    (counts ∙ so.counts) so.found none.all
-    (subst (λ k. k < length (so.known.front ++ moves.bytes)) so.known.reached.limit_ none.taken)
+    (counts ∙ so.counts) so.found
+    (none.all, subst (λ k. k < length (so.known.front ++ moves.bytes)) so.known.reached.limit_ none.taken)
 
 pub round_ends : Laws → (sorted : Bool) (loop : Loop) (now : Batches) (after : SourceView) → (so : Rounds sorted loop)
     → (moves : Moves loop.place.b now loop.place.now.left after.left (HasGivenAll now)) → after.faults ≡ loop.place.now.faults

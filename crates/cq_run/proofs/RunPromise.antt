@@ -586,13 +586,15 @@ pub unopened_of : (desk after : DeskView) → Rose desk.open_faults after.open_f
     → after.file.faults ≡ desk.file.faults → FailsToOpen desk after
 unopened_of desk after rose told left reads = record { rose = rose; told = told; file = same_source after.file.left desk.file.left after.file.faults desk.file.faults left reads }
 
-same_desk : (t u : Option Told) (l m : Option (List ℕ)) (f g o p : ℕ) → t ≡ u → l ≡ m → f ≡ g → o ≡ p
-    → ◌≡◌ {A = DeskView} (record { told = t; file = record { left = l; faults = f }; open_faults = o }) (record { told = u; file = record { left = m; faults = g }; open_faults = p })
-same_desk t u l m f g o p e h i j = cc
+same_desk : (t u : Option Told) (x y : SourceView) (o p : ℕ) → t ≡ u → x ≡ y → o ≡ p
+    → ◌≡◌ {A = DeskView} (record { told = t; file = x; open_faults = o }) (record { told = u; file = y; open_faults = p })
+same_desk t u x y o p e h i = cc
 
 pub unmoved_of : (desk after : DeskView) → after.open_faults ≡ desk.open_faults → after.told ≡ desk.told → after.file.left ≡ desk.file.left
     → after.file.faults ≡ desk.file.faults → after ≡ desk
-unmoved_of desk after opens told left reads = same_desk after.told desk.told after.file.left desk.file.left after.file.faults desk.file.faults after.open_faults desk.open_faults told left reads opens
+unmoved_of desk after opens told left reads =
+    same_desk after.told desk.told after.file desk.file after.open_faults desk.open_faults told
+    (same_source after.file.left desk.file.left after.file.faults desk.file.faults left reads) opens
 
 -- what was said of the query in a file
 pub told_why : (name : List ℕ) (Accepted : QueryTree → Status → Call → Type 0) (why : QueryRefusal) (status : Status) (desk after : DeskView) (sinks : Sinks)

@@ -215,8 +215,8 @@ returns-then-tally-gt0-clause-answers g c =
     let does = c.write_answers.ensures _ turn.turn.known.outcomes (up_to_first _ answered.outcomes) out err are turn.turn.found in
     let new_sinks = sinks_of out (out_view c.write_answers.new.out) err (err_view c.write_answers.new.err) in
     let new = stand_of c.write_answers.new.tally c.write_answers.new.kept.items in
-    turn_found laws _ (loop_on loop c.next.new.self after) (loop_with loop new_sinks new) _ _ _ _ turn answered (rw c.in-Ok-write_answers.is at does)
-    (search rules, search rules)
+    turn_found laws _ (loop_on loop c.next.new.self after) (loop_with loop new_sinks new) _ _ _ _ turn answered
+    (rw c.in-Ok-write_answers.is at does, search rules, search rules)
 
 pub returns-then-tally-gt0-clause-next : goal.returns-then-tally-gt0-clause-next
 returns-then-tally-gt0-clause-next g c =

@@ -14,8 +14,8 @@ pub loop-i-preserved : goal.loop-i-preserved
 loop-i-preserved g c =
     let taken = g.O.Sink.taken in
     let inside : c.loop-i.i < length c.in_ok-ordered.ordered.items = search rules in (
-      more_written c.in_ok-ordered.ordered.items c.loop-i.i c.index.result.now (taken c.args.out.now) (taken c.loop-i.out) (taken c.write_all_of.new.sink) c.text.result.now inside
-          c.index.ensures c.text.ensures c.loop-i.invariant.0 c.in-Ok.ensures.ok,
+      more_written c.in_ok-ordered.ordered.items c.loop-i.i c.index.result.now (taken c.args.out.now) (taken c.loop-i.out) (taken c.write_all_of.new.sink) c.text.result.now
+          (record { inside = inside; is = c.index.ensures; texts = c.text.ensures }) c.loop-i.invariant.0 c.in-Ok.ensures.ok,
       c.in-Ok.ensures.cause.same ∙ c.loop-i.invariant.1,
     )
 
@@ -26,7 +26,7 @@ returns-in-Err g c =
       c.in_ok-ordered.ordered.items,
       in_order c.args.kept.items c.in_ok-ordered.ordered.items c.query.result.now c.args.plan.now.query c.query.ensures c.in_ok-ordered.ensures.same c.in_ok-ordered.ensures.order,
       part_written c.in_ok-ordered.ordered.items c.loop-i.i c.index.result.now (taken c.args.out.now) (taken c.loop-i.out) (taken c.write_all_of.new.sink) c.text.result.now
-          c.in-Err.ensures.err.0 inside c.index.ensures c.text.ensures c.loop-i.invariant.0 c.in-Err.ensures.err.1,
+          c.in-Err.ensures.err.0 (record { inside = inside; is = c.index.ensures; texts = c.text.ensures }) c.loop-i.invariant.0 c.in-Err.ensures.err.1,
       subst (λ n. Rose n (g.O.Sink.faults c.write_all_of.new.sink)) c.loop-i.invariant.1 c.in-Err.ensures.cause.failed,
     )
 
