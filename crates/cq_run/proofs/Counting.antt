@@ -30,11 +30,11 @@ use Rattle.cq_run.specs.Outcomes.{HasGames}
 use Rattle.cq_run.specs.Promise.{SourceView}
 use Rattle.cq_run.specs.SelfRun.{AreTotals, totals_of}
 use Rattle.cq_run.specs.Writing.{counted}
-use Rattle.cq_run.proofs.Answered.{may_be}
-use Rattle.cq_run.proofs.Answers.{IsFound, answers_count, is_faulty, is_found, is_no_match, next_of, same_tally, tallied_more, tally_with}
+use Rattle.cq_run.proofs.AnswerPromise.{may_be}
+use Rattle.cq_run.proofs.GameByGame.{InBatch, IsFound, answers_count, is_faulty, is_found, is_no_match, next_in, same_tally, tallied_more, tally_with}
 use Rattle.cq_run.proofs.Exports.{texts_same}
 use Rattle.cq_run.proofs.Given.{count_read, given, given_few, kept_read_on}
-use Rattle.cq_run.proofs.Reached.{Reached, all_read, moved, no_reads, rounds_few, turned}
+use Rattle.cq_run.proofs.Reached.{Known, Place, Reached, all_read, moved, no_reads, place_of, rounds_few, turned}
 
 -- ---- one game
 
@@ -81,14 +81,16 @@ totals_more : (query : QueryTree) (bytes : ℕ) (rs : List Outcome) (r : Outcome
 totals_more query bytes rs r = same_totals bytes _ _ _ _ (sym (tallied_more query rs r)) (lengths_more query rs r)
 
 -- one answer more
-pub count_more : (query : QueryTree) (bytes : ℕ) (rs qs : List Outcome) (ys rest more items : List GameAnswer) (a : GameAnswer) (totals new : Totals)
-    → items ≡ ys ++ rest → rest ≡ a ∷ more → items ≡ answers_from query (length rs) qs → totals ≡ totals_of query bytes (rs ++ take (length ys) qs)
+pub count_more : (query : QueryTree) (bytes : ℕ) (a : GameAnswer) (batch : InBatch query a) (totals new : Totals)
+    → totals ≡ totals_of query bytes (batch.before ++ take (length batch.ys) batch.outcomes)
     → ((r : Outcome) (n : ℕ) → a ≡ record { index = n; what = found_in query r } → new ≡ counted query totals r)
-    → new ≡ totals_of query bytes (rs ++ take (length (ys ++ a ∷ [])) qs)
-count_more query bytes rs qs ys rest more items a totals new splits first are so_far does =
-    let next = next_of query (length rs) ys a more qs (ap (λ l. ys ++ l) (sym first) ∙ sym splits ∙ are) in
-    does next.r (length rs + length ys) next.answer ∙ ap (λ t. counted query t next.r) so_far ∙ totals_more query bytes (rs ++ take (length ys) qs) next.r
-    ∙ ap (totals_of query bytes) (append_assoc rs (take (length ys) qs) (next.r ∷ []) ∙ ap (λ l. rs ++ l) (sym next.step))
+    → new ≡ totals_of query bytes (batch.before ++ take (length (batch.ys ++ a ∷ [])) batch.outcomes)
+count_more query bytes a batch totals new so_far does =
+    let next = next_in query a batch in
+    let front = take (length batch.ys) batch.outcomes in
+    does next.r (length batch.before + length batch.ys) next.answer ∙ ap (λ t. counted query t next.r) so_far
+    ∙ totals_more query bytes (batch.before ++ front) next.r
+    ∙ ap (totals_of query bytes) (append_assoc batch.before front (next.r ∷ []) ∙ ap (λ l. batch.before ++ l) (sym next.step))
 
 -- ---- all batches
 
@@ -104,18 +106,37 @@ same_length query outcomes exports are =
 abbrev pub sure : List ℕ → SourceView
 sure bytes = record { left = Some bytes; faults = 0 }
 
+-- a count over an archive in memory: the query, how far it has read, and what it has found
+pub record Count : Type 0 where
+  pub query : QueryTree
+  pub archive : List ℕ
+  pub limit : ℕ
+  pub b : Batches
+  pub left : List ℕ
+  pub totals : Totals
+
+abbrev pub count_of : QueryTree → List ℕ → ℕ → Batches → List ℕ → Totals → Count
+count_of query archive limit b left totals = record { query = query; archive = archive; limit = limit; b = b; left = left; totals = totals }
+
+abbrev pub place_in : Count → Place
+place_in count = place_of count.limit count.b (sure count.archive) (sure count.left)
+
+-- after a call for the next batch
+abbrev pub count_on : Count → Batches → List ℕ → Count
+count_on count now after = count_of count.query count.archive count.limit now after count.totals
+
 -- the games of the batches given are counted
-pub record CountedSoFar (query : QueryTree) (archive : List ℕ) (limit : ℕ) (b : Batches) (left : List ℕ) (totals : Totals) : Type 0 where
+pub record CountedSoFar (count : Count) : Type 0 where
   pub front : List ℕ
   pub m : ℕ
   pub outcomes : List Outcome
-  pub stands : Stands b front m
-  pub reached : Reached limit b (sure archive) (sure left) front m
+  pub stands : Stands count.b front m
+  pub reached : Reached (place_in count) front m
   pub are_read : AreKeptRead (given front m) outcomes
-  pub totals_ : totals ≡ totals_of query (length archive) outcomes
+  pub totals_ : count.totals ≡ totals_of count.query (length count.archive) outcomes
 
 pub none_counted : (query : QueryTree) (archive : List ℕ) (limit : ℕ) (b : Batches) (totals : Totals) → Stands b [] 0 → b.limit ≡ limit → b.ended ≡ false
-    → totals ≡ totals_of query (length archive) [] → CountedSoFar query archive limit b archive totals
+    → totals ≡ totals_of query (length archive) [] → CountedSoFar (count_of query archive limit b archive totals)
 none_counted query archive limit b totals stands same reads none = record {
   front = [];
   m = 0;
@@ -127,25 +148,24 @@ none_counted query archive limit b totals stands same reads none = record {
 }
 
 -- a batch more was given
-pub record CountsTurn (query : QueryTree) (archive : List ℕ) (limit : ℕ) (b : Batches) (left : List ℕ) (totals : Totals) (batch : Batch) (t : ℕ) : Type 0 where
+pub record CountsTurn (count : Count) (batch : Batch) (t : ℕ) : Type 0 where
   pub front : List ℕ
   pub m : ℕ
   pub turns : t ≤ m
   pub outcomes : List Outcome
-  pub stands : Stands b front (m + 1)
-  pub reached : Reached limit b (sure archive) (sure left) front (m + 1)
+  pub stands : Stands count.b front (m + 1)
+  pub reached : Reached (place_in count) front (m + 1)
   pub games : given front (m + 1) ≡ given front m ++ games_of batch
   pub are_read : AreKeptRead (given front m) outcomes
   pub index : number_of batch ≡ length outcomes
-  pub totals_ : totals ≡ totals_of query (length archive) outcomes
+  pub totals_ : count.totals ≡ totals_of count.query (length count.archive) outcomes
 
-pub counts_turn : Laws → (query : QueryTree) (archive : List ℕ) (limit : ℕ) (was now : Batches) (left after : List ℕ) (totals : Totals) (batch : Batch) (t : ℕ)
-    → (so : CountedSoFar query archive limit was left totals) → t ≤ so.m → Moves was now (Some left) (Some after) (GivesBatch now batch)
-    → CountsTurn query archive limit now after totals batch t
-counts_turn laws query archive limit was now left after totals batch t so turns moves =
-    let at = moved laws limit was now (sure archive) (sure left) (sure after) so.front so.m (GivesBatch now batch) so.stands so.reached moves in
+pub counts_turn : Laws → (count : Count) (now : Batches) (after : List ℕ) (batch : Batch) (t : ℕ) → (so : CountedSoFar count) → t ≤ so.m
+    → Moves count.b now (Some count.left) (Some after) (GivesBatch now batch) → CountsTurn (count_on count now after) batch t
+counts_turn laws count now after batch t so turns moves =
+    let at = moved laws (place_in count) now (sure after) so.front so.m (GivesBatch now batch) so.stands so.reached moves in
     let gives = moves.given so.front so.m so.stands in
-    let turn = turned laws limit now (sure archive) (sure after) (so.front ++ moves.bytes) so.m batch at.reached gives in
+    let turn = turned laws (place_in (count_on count now after)) (so.front ++ moves.bytes) so.m batch at.reached gives in
     let read : AreKeptRead (given (so.front ++ moves.bytes) so.m) so.outcomes = subst (λ gs. AreKeptRead gs so.outcomes) (sym at.same) so.are_read in
     record {
       front = so.front ++ moves.bytes;
@@ -160,24 +180,25 @@ counts_turn laws query archive limit was now left after totals batch t so turns 
       totals_ = so.totals_;
     }
 
-pub turn_few : Laws → (query : QueryTree) (archive : List ℕ) (limit : ℕ) (b : Batches) (left : List ℕ) (totals : Totals) (batch : Batch) (answers : List GameAnswer) (t : ℕ)
-    → limit ≤ 2 ^ 40 → CountsTurn query archive limit b left totals batch t → AnswersBatch query batch answers → totals.tally.games + length answers < 2 ^ 62
-turn_few laws query archive limit b left totals batch answers t low turn answered =
-    let games : totals.tally.games ≡ length turn.outcomes = ap (λ (t : Totals). t.tally.games) turn.totals_ in
+pub turn_few : Laws → (count : Count) (batch : Batch) (answers : List GameAnswer) (t : ℕ) → count.limit ≤ 2 ^ 40 → CountsTurn count batch t
+    → AnswersBatch count.query batch answers → count.totals.tally.games + length answers < 2 ^ 62
+turn_few laws count batch answers t low turn answered =
+    let games : count.totals.tally.games ≡ length turn.outcomes = ap (λ (t : Totals). t.tally.games) turn.totals_ in
     let before = count_read (given turn.front turn.m) turn.outcomes turn.are_read in
-    let count : length answers ≡ length answered.outcomes = ap length answered.are ∙ answers_count query (number_of batch) answered.outcomes in
+    let long : length answers ≡ length answered.outcomes = ap length answered.are ∙ answers_count count.query (number_of batch) answered.outcomes in
     let read = count_read (games_of batch) answered.outcomes answered.are_read in
     let more : length (given turn.front (turn.m + 1)) ≡ length (given turn.front turn.m ++ (games_of batch)) = ap length turn.games in
     let parts = length-append (given turn.front turn.m) (games_of batch) in
     let most = given_few laws turn.front (turn.m + 1) in
     let few = turn.reached.few in
-    omega (arith, games, before, count, read, more, parts, most, few, low)
+    omega (arith, games, before, long, read, more, parts, most, few, low)
 
-pub turn_counted : (query : QueryTree) (archive : List ℕ) (limit : ℕ) (b : Batches) (left : List ℕ) (totals new : Totals) (batch : Batch) (answers : List GameAnswer) (t : ℕ)
-    → (turn : CountsTurn query archive limit b left totals batch t) → (answered : AnswersBatch query batch answers)
-    → ((bytes : ℕ) (rs qs : List Outcome) → answers ≡ answers_from query (length rs) qs → totals ≡ totals_of query bytes rs → new ≡ totals_of query bytes (rs ++ qs))
-    → (so : CountedSoFar query archive limit b left new) × (t + 1 ≤ so.m)
-turn_counted query archive limit b left totals new batch answers t turn answered counts = (
+pub turn_counted : (count : Count) (new : Totals) (batch : Batch) (answers : List GameAnswer) (t : ℕ) → (turn : CountsTurn count batch t)
+    → (answered : AnswersBatch count.query batch answers)
+    → ((bytes : ℕ) (rs qs : List Outcome) → answers ≡ answers_from count.query (length rs) qs → count.totals ≡ totals_of count.query bytes rs
+    → new ≡ totals_of count.query bytes (rs ++ qs))
+    → (so : CountedSoFar (count_of count.query count.archive count.limit count.b count.left new)) × (t + 1 ≤ so.m)
+turn_counted count new batch answers t turn answered counts = (
   record {
     front = turn.front;
     m = turn.m + 1;
@@ -186,19 +207,26 @@ turn_counted query archive limit b left totals new batch answers t turn answered
     reached = turn.reached;
     are_read = subst (λ gs. AreKeptRead gs (turn.outcomes ++ answered.outcomes)) (sym turn.games)
         (kept_read_on (given turn.front turn.m) (games_of batch) turn.outcomes answered.outcomes turn.are_read answered.are_read);
-    totals_ = counts (length archive) turn.outcomes answered.outcomes (answered.are ∙ ap (λ n. answers_from query n answered.outcomes) turn.index) turn.totals_;
+    totals_ = counts (length count.archive) turn.outcomes answered.outcomes
+        (answered.are ∙ ap (λ n. answers_from count.query n answered.outcomes) turn.index) turn.totals_;
   },
   let a = turn.turns in omega (arith, a),
 )
 
 -- all games were counted
 pub all_counted : Laws → (query : QueryTree) (archive : List ℕ) (limit : ℕ) (was now : Batches) (left after : List ℕ) (totals : Totals)
-    → CountedSoFar query archive limit was left totals → Moves was now (Some left) (Some after) (HasGivenAll now) → AreTotals query archive totals
+    → CountedSoFar (count_of query archive limit was left totals) → Moves was now (Some left) (Some after) (HasGivenAll now) → AreTotals query archive totals
 all_counted laws query archive limit was now left after totals so moves =
-    let at = moved laws limit was now (sure archive) (sure left) (sure after) so.front so.m (HasGivenAll now) so.stands so.reached moves in
+    let at = moved laws (place_of limit was (sure archive) (sure left)) now (sure after) so.front so.m (HasGivenAll now) so.stands so.reached moves in
     let front = so.front ++ moves.bytes in
-    let all = all_read laws limit now (sure archive) (sure after) front so.m so.outcomes at.reached refl
-    (subst (λ gs. AreKeptRead gs so.outcomes) (sym at.same) so.are_read) (moves.given so.front so.m so.stands) in
+    let known : Known (place_of limit now (sure archive) (sure after)) = record {
+      front = front;
+      m = so.m;
+      outcomes = so.outcomes;
+      reached = at.reached;
+      are_read = subst (λ gs. AreKeptRead gs so.outcomes) (sym at.same) so.are_read;
+    } in
+    let all = all_read laws (place_of limit now (sure archive) (sure after)) known refl (moves.given so.front so.m so.stands) in
     let same : archive ≡ front = may_be (Some archive) (Some after) front all.takes all.at_end in
     record {
       outcomes = so.outcomes;
@@ -217,28 +245,28 @@ none_rose (inr last) = omega (arith, last)
 taken_few : (archive front rest : List ℕ) → archive ≡ front ++ rest → length front ≤ length archive
 taken_few archive front rest is = let l = length-append front rest in let e : length archive ≡ length (front ++ rest) = ap length is in omega (arith, l, e)
 
-pub none_too_long : Laws → (query : QueryTree) (archive : List ℕ) (limit : ℕ) (was now : Batches) (left after : List ℕ) (totals : Totals)
-    → CountedSoFar query archive limit was left totals → Moves was now (Some left) (Some after) (HasGivenFull was (λ n. was.limit < n)) → length archive ≤ limit → ⊥
-none_too_long laws query archive limit was now left after totals so moves low =
-    let at = moved laws limit was now (sure archive) (sure left) (sure after) so.front so.m (HasGivenFull was (λ n. was.limit < n)) so.stands so.reached moves in
+pub none_too_long : Laws → (count : Count) (now : Batches) (after : List ℕ) → CountedSoFar count
+    → Moves count.b now (Some count.left) (Some after) (HasGivenFull count.b (λ n. count.b.limit < n)) → length count.archive ≤ count.limit → ⊥
+none_too_long laws count now after so moves low =
+    let at = moved laws (place_in count) now (sure after) so.front so.m (HasGivenFull count.b (λ n. count.b.limit < n)) so.stands so.reached moves in
     let long = (moves.given so.front so.m so.stands).taken in
-    let few = taken_few archive (so.front ++ moves.bytes) after at.reached.takes in
+    let few = taken_few count.archive (so.front ++ moves.bytes) after at.reached.takes in
     let same = so.reached.limit_ in
     omega (arith, long, few, same, low)
 
-pub never_faults : Laws → (query : QueryTree) (archive : List ℕ) (limit : ℕ) (was now : Batches) (left after : List ℕ) (totals : Totals) (fault : BatchFault)
-    → CountedSoFar query archive limit was left totals → length archive ≤ limit → SaysNext was now (Some left) (Some after) (Err (Fault fault)) → HasBatchCause 0 0 (Err (Fault fault)) → ⊥
-never_faults laws query archive limit was now left after totals ReadFault so low says cause = none_rose cause.1
-never_faults laws query archive limit was now left after totals ArchiveTooLong so low says cause = none_too_long laws query archive limit was now left after totals so says low
+pub never_faults : Laws → (count : Count) (now : Batches) (after : List ℕ) (fault : BatchFault) → CountedSoFar count → length count.archive ≤ count.limit
+    → SaysNext count.b now (Some count.left) (Some after) (Err (Fault fault)) → HasBatchCause 0 0 (Err (Fault fault)) → ⊥
+never_faults laws count now after ReadFault so low says cause = none_rose cause.1
+never_faults laws count now after ArchiveTooLong so low says cause = none_too_long laws count now after so says low
 
-pub few_counts : Laws → (query : QueryTree) (archive : List ℕ) (limit : ℕ) (b : Batches) (left : List ℕ) (totals : Totals) → (so : CountedSoFar query archive limit b left totals)
+pub few_counts : Laws → (query : QueryTree) (archive : List ℕ) (limit : ℕ) (b : Batches) (left : List ℕ) (totals : Totals) → (so : CountedSoFar (count_of query archive limit b left totals))
     → so.m < limit + 3
-few_counts laws query archive limit b left totals so = rounds_few laws limit b (sure archive) (sure left) so.front so.m so.reached
+few_counts laws query archive limit b left totals so = rounds_few laws (place_of limit b (sure archive) (sure left)) so.front so.m so.reached
 
-pub matched_few : (query : QueryTree) (archive : List ℕ) (limit : ℕ) (b : Batches) (left : List ℕ) (totals : Totals) → CountedSoFar query archive limit b left totals
+pub matched_few : (query : QueryTree) (archive : List ℕ) (limit : ℕ) (b : Batches) (left : List ℕ) (totals : Totals) → CountedSoFar (count_of query archive limit b left totals)
     → totals.tally.matched ≤ totals.tally.games
 matched_few query archive limit b left totals so = subst (λ (t : Totals). t.tally.matched ≤ t.tally.games) (sym so.totals_) (count_by-le-length (is_match query) so.outcomes)
 
-pub refused_few : (query : QueryTree) (archive : List ℕ) (limit : ℕ) (b : Batches) (left : List ℕ) (totals : Totals) → CountedSoFar query archive limit b left totals
+pub refused_few : (query : QueryTree) (archive : List ℕ) (limit : ℕ) (b : Batches) (left : List ℕ) (totals : Totals) → CountedSoFar (count_of query archive limit b left totals)
     → totals.tally.refused ≤ totals.tally.games
 refused_few query archive limit b left totals so = subst (λ (t : Totals). t.tally.refused ≤ t.tally.games) (sym so.totals_) (count_by-le-length is_refused so.outcomes)

@@ -23,7 +23,7 @@ use Rattle.cq_run.specs.Exports.{AreExports, exports_of, match_if, matches_from}
 use Rattle.cq_shards.specs.Answers.{text_of}
 use Rattle.cq_shards.specs.Outcomes.{Outcome}
 use Rattle.cq_run.specs.Writing.{InOrder}
-use Rattle.cq_run.specs.Asking.{written}
+use Rattle.cq_run.specs.AllGames.{written}
 
 pub only_values : (values : List ℤ) → values_in (map Some values) ≡ values
 only_values [] = refl

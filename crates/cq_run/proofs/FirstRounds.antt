@@ -18,32 +18,32 @@ use Rattle.cq_shards.specs.declared.answers.GameAnswer.{GameAnswer}
 use Rattle.cq_shards.specs.declared.batch.Batch.{Batch}
 use Rattle.cq_shards.specs.declared.state.Batches.{Batches}
 use Rattle.cq_run.specs.Answer.{is_match}
-use Rattle.cq_run.specs.Asking.{texts_of, texts_so_far}
+use Rattle.cq_run.specs.AllGames.{texts_so_far}
 use Rattle.cq_run.specs.ByBatches.{Laws}
 use Rattle.cq_run.specs.FirstGame.{first_texts, some_match, up_to_first, wanted}
-use Rattle.cq_run.specs.Promise.{Answering, SourceView, SinkView, Sinks, AnswerPromise, Writes, WritesPrefix, NoWriteFailed, OneSinkFailed, sinks_of}
+use Rattle.cq_run.specs.Promise.{SourceView, SinkView, Sinks, AnswerPromise, Writes, WritesPrefix, NoWriteFailed, OneSinkFailed, sinks_of}
 use Rattle.cq_run.specs.Writing.{FoundSoFar, Stand, WritesSummary, stand_of}
 use Rattle.cq_run.specs.declared.status.Status.{Status}
 use Rattle.cq_run.specs.declared.status.Status.TheVariants.{ReadFault, WriteFault, NoMemory, ArchiveTooLong}
-use Rattle.cq_run.specs.declared.tally.Tally.{Tally}
 use Rattle.cq_shards.proofs.Filling.{consumes_none}
 use Rattle.cq_shards.proofs.Streams.{count_within}
-use Rattle.cq_run.proofs.Answered.{asked, none_answered as all_unanswered, none_taken, outcomes_of}
-use Rattle.cq_run.proofs.Answers.{answers_count, as_prefix, none_found, tally_with}
+use Rattle.cq_run.proofs.AnswerPromise.{answer_call, none_answered as all_unanswered, none_taken, outcomes_of}
+use Rattle.cq_run.proofs.GameByGame.{answers_count, as_prefix, none_found, tally_with}
 use Rattle.cq_run.proofs.FirstGames.{UpTo, all_up, are_first, first_texts_of, none_counted, some_counted, some_of_first, up_few, up_on, up_to}
 use Rattle.cq_run.proofs.Given.{count_read, full_each, given, given_few, kept_read_on}
-use Rattle.cq_run.proofs.Reached.{Reached, all_read, moved, no_reads, rounds_few, turned}
-use Rattle.cq_run.proofs.Rounds.{Rounds, Turn}
+use Rattle.cq_run.proofs.Reached.{Known, known_moved, moved_to, no_reads, place_of, rounds_few, turned}
+use Rattle.cq_run.proofs.Rounds.{Loop, Rounds, Turn, call_in, loop_of, loop_on, loop_with, round_ends}
+use Rattle.cq_run.proofs.Sinks.{with_err}
 use Rattle.cq_run.proofs.FirstTexts.{Needed, needed_on, Before, no_more, first_prefix, refused_of, FoundFirst, first_written}
 use Rattle.cq_run.proofs.FirstStops.{first_read, starves, breaks_off, found_by, unread, too_long}
 
 -- ---- the loop
 
 -- how far the archive was read and its batches were given, none of which has a match
-pub record FirstRounds (query : QueryTree) (limit : ℕ) (b : Batches) (source now : SourceView) (sinks : Sinks) (stand : Stand) : Type 0 where
-  pub so : Rounds false query limit b source now sinks stand
-  pub none : some_match query so.outcomes ≡ false
-  pub needed : Needed so.front so.m
+pub record FirstRounds (loop : Loop) : Type 0 where
+  pub so : Rounds false loop
+  pub none : some_match loop.query so.known.outcomes ≡ false
+  pub needed : Needed so.known.front so.known.m
 
 -- nothing was read, and no batch is full
 no_batches : Laws → Needed [] 0
@@ -57,51 +57,34 @@ no_batches laws =
     omega (arith, e, parts, count, same, full)
 
 pub first_rounds : Laws → (query : QueryTree) (limit : ℕ) (b : Batches) (source : SourceView) (out err : SinkView) → Stands b [] 0 → b.limit ≡ limit → b.ended ≡ false
-    → FirstRounds query limit b source source (sinks_of out out err err) (stand_of (tally_with 0 0 0) [])
+    → FirstRounds (loop_of query (place_of limit b source source) (sinks_of out out err err) (stand_of (tally_with 0 0 0) []))
 first_rounds laws query limit b source out err stands same reads = record {
   so = record {
-    front = [];
-    m = 0;
-    outcomes = [];
+    known = record { front = []; m = 0; outcomes = []; reached = no_reads limit b source same reads; are_read = tt };
     stands = stands;
-    reached = no_reads limit b source same reads;
     counts = refl;
-    are_read = tt;
     found = none_found false query out err;
   };
   none = refl;
   needed = no_batches laws;
 }
 
-pub few_first_rounds : Laws → (query : QueryTree) (limit : ℕ) (b : Batches) (source now : SourceView) (sinks : Sinks) (stand : Stand)
-    → (r : FirstRounds query limit b source now sinks stand) → r.so.m < limit + 3
-few_first_rounds laws query limit b source now sinks stand r = rounds_few laws limit b source now r.so.front r.so.m r.so.reached
+pub few_first_rounds : Laws → (loop : Loop) → (r : FirstRounds loop) → r.so.known.m < loop.place.limit + 3
+few_first_rounds laws loop r = rounds_few laws loop.place r.so.known.front r.so.known.m r.so.known.reached
 
 -- after a call for the next batch
-record Called (query : QueryTree) (limit : ℕ) (b : Batches) (source now : SourceView) (front : List ℕ) (m : ℕ) (rs : List Outcome) : Type 0 where
-  reached : Reached limit b source now front m
-  are_read : AreKeptRead (given front m) rs
-  before : Before query source now
-
-called : Laws → (query : QueryTree) (limit : ℕ) (was now : Batches) (source mid after : SourceView) (sinks : Sinks) (stand : Stand) (Given : List ℕ → ℕ → Type 0)
-    → (r : FirstRounds query limit was source mid sinks stand) → (moves : Moves was now mid.left after.left Given)
-    → Called query limit now source after (r.so.front ++ moves.bytes) r.so.m r.so.outcomes
-called laws query limit was now source mid after sinks stand Given r moves =
-    let so = r.so in
-    let at = moved laws limit was now source mid after so.front so.m Given so.stands so.reached moves in
-    let read : AreKeptRead (given (so.front ++ moves.bytes) so.m) so.outcomes = subst (λ gs. AreKeptRead gs so.outcomes) (sym at.same) so.are_read in
+before_call : Laws → (loop : Loop) (now : Batches) (after : SourceView) (Given : List ℕ → ℕ → Type 0) → FirstRounds loop
+    → Moves loop.place.b now loop.place.now.left after.left Given → Before loop.query loop.place.source after
+before_call laws loop now after Given r moves =
+    let known : Known (moved_to loop.place now after) = known_moved laws loop.place now after r.so.known Given r.so.stands moves in
     record {
-      reached = at.reached;
-      are_read = read;
-      before = record {
-        front = so.front ++ moves.bytes;
-        m = so.m;
-        outcomes = so.outcomes;
-        takes = at.reached.takes;
-        are_read = read;
-        none = r.none;
-        needed = needed_on so.front moves.bytes so.m r.needed (moves.needed so.front so.m so.stands);
-      };
+      front = r.so.known.front ++ moves.bytes;
+      m = r.so.known.m;
+      outcomes = r.so.known.outcomes;
+      takes = known.reached.takes;
+      are_read = known.are_read;
+      none = r.none;
+      needed = needed_on r.so.known.front moves.bytes r.so.known.m r.needed (moves.needed r.so.known.front r.so.known.m r.so.stands);
     }
 
 -- what was written of games without a match is a prefix of what is written of more
@@ -111,95 +94,94 @@ so_far_prefix query rs sinks stand none found = λ more.
     first_prefix query rs more sinks (as_prefix sinks (texts_so_far false query (up_to_first query rs))
     (subst (λ l. Writes sinks (texts_so_far false query l)) (sym (all_up query rs none)) found.writes))
 
-pub call_starves : Laws → (query : QueryTree) (limit : ℕ) (was now : Batches) (source mid after : SourceView) (sinks : Sinks) (stand : Stand) (Given : List ℕ → ℕ → Type 0)
-    → FirstRounds query limit was source mid sinks stand → Moves was now mid.left after.left Given → after.faults ≡ mid.faults → AnswerPromise (first_texts query) NoMemory (asked limit source after sinks)
-call_starves laws query limit was now source mid after sinks stand Given r moves counts =
-    let at : Called query limit now source after (r.so.front ++ moves.bytes) r.so.m r.so.outcomes = called laws query limit was now source mid after sinks stand Given r moves in
-    starves laws query limit now source after (r.so.front ++ moves.bytes) r.so.m r.so.outcomes sinks at.reached (counts ∙ r.so.counts) at.are_read
-    (so_far_prefix query r.so.outcomes sinks stand r.none r.so.found) r.so.found.unfailed at.before
+pub call_starves : Laws → (loop : Loop) (now : Batches) (after : SourceView) (Given : List ℕ → ℕ → Type 0) → FirstRounds loop
+    → Moves loop.place.b now loop.place.now.left after.left Given → after.faults ≡ loop.place.now.faults
+    → AnswerPromise (first_texts loop.query) NoMemory (answer_call loop.place.limit loop.place.source after loop.sinks)
+call_starves laws loop now after Given r moves counts =
+    starves laws loop.query (moved_to loop.place now after) (known_moved laws loop.place now after r.so.known Given r.so.stands moves) loop.sinks
+    (counts ∙ r.so.counts) (so_far_prefix loop.query r.so.known.outcomes loop.sinks loop.stand r.none r.so.found) r.so.found.unfailed
+    (before_call laws loop now after Given r moves)
 
-pub call_unread : Laws → (query : QueryTree) (limit : ℕ) (was now : Batches) (source mid after : SourceView) (sinks : Sinks) (stand : Stand)
-    → FirstRounds query limit was source mid sinks stand → Moves was now mid.left after.left (HasGivenFull was (λ n. n ≤ was.limit)) → Rose mid.faults after.faults
-    → AnswerPromise (first_texts query) ReadFault (asked limit source after sinks)
-call_unread laws query limit was now source mid after sinks stand r moves rose =
-    let at : Called query limit now source after (r.so.front ++ moves.bytes) r.so.m r.so.outcomes =
-    called laws query limit was now source mid after sinks stand (HasGivenFull was (λ n. n ≤ was.limit)) r moves in
-    let none = moves.given r.so.front r.so.m r.so.stands in
-    unread laws query limit now source after (r.so.front ++ moves.bytes) r.so.m r.so.outcomes sinks stand at.reached (subst (λ n. Rose n after.faults) r.so.counts rose) at.are_read r.none r.so.found
-    none.all (subst (λ k. length (r.so.front ++ moves.bytes) ≤ k) r.so.reached.limit_ none.taken) at.before
+pub call_unread : Laws → (loop : Loop) (now : Batches) (after : SourceView) → FirstRounds loop
+    → Moves loop.place.b now loop.place.now.left after.left (HasGivenFull loop.place.b (λ n. n ≤ loop.place.b.limit)) → Rose loop.place.now.faults after.faults
+    → AnswerPromise (first_texts loop.query) ReadFault (answer_call loop.place.limit loop.place.source after loop.sinks)
+call_unread laws loop now after r moves rose =
+    let Given = HasGivenFull loop.place.b (λ n. n ≤ loop.place.b.limit) in
+    let none = moves.given r.so.known.front r.so.known.m r.so.stands in
+    unread laws loop.query (moved_to loop.place now after) (known_moved laws loop.place now after r.so.known Given r.so.stands moves) loop.sinks loop.stand
+    (subst (λ n. Rose n after.faults) r.so.counts rose) r.none r.so.found
+    (none.all, subst (λ k. length (r.so.known.front ++ moves.bytes) ≤ k) r.so.known.reached.limit_ none.taken) (before_call laws loop now after Given r moves)
 
-pub call_too_long : Laws → (query : QueryTree) (limit : ℕ) (was now : Batches) (source mid after : SourceView) (sinks : Sinks) (stand : Stand)
-    → FirstRounds query limit was source mid sinks stand → Moves was now mid.left after.left (HasGivenFull was (λ n. was.limit < n)) → after.faults ≡ mid.faults
-    → AnswerPromise (first_texts query) ArchiveTooLong (asked limit source after sinks)
-call_too_long laws query limit was now source mid after sinks stand r moves counts =
-    let at : Called query limit now source after (r.so.front ++ moves.bytes) r.so.m r.so.outcomes =
-    called laws query limit was now source mid after sinks stand (HasGivenFull was (λ n. was.limit < n)) r moves in
-    let none = moves.given r.so.front r.so.m r.so.stands in
-    too_long laws query limit now source after (r.so.front ++ moves.bytes) r.so.m r.so.outcomes sinks stand at.reached (counts ∙ r.so.counts) at.are_read r.none r.so.found
-    none.all (subst (λ k. k < length (r.so.front ++ moves.bytes)) r.so.reached.limit_ none.taken) at.before
+pub call_too_long : Laws → (loop : Loop) (now : Batches) (after : SourceView) → FirstRounds loop
+    → Moves loop.place.b now loop.place.now.left after.left (HasGivenFull loop.place.b (λ n. loop.place.b.limit < n)) → after.faults ≡ loop.place.now.faults
+    → AnswerPromise (first_texts loop.query) ArchiveTooLong (answer_call loop.place.limit loop.place.source after loop.sinks)
+call_too_long laws loop now after r moves counts =
+    let Given = HasGivenFull loop.place.b (λ n. loop.place.b.limit < n) in
+    let none = moves.given r.so.known.front r.so.known.m r.so.stands in
+    too_long laws loop.query (moved_to loop.place now after) (known_moved laws loop.place now after r.so.known Given r.so.stands moves) loop.sinks loop.stand
+    (counts ∙ r.so.counts) r.none r.so.found
+    (none.all, subst (λ k. k < length (r.so.known.front ++ moves.bytes)) r.so.known.reached.limit_ none.taken) (before_call laws loop now after Given r moves)
 
 -- there are no more batches, and the last line is written
-pub call_ends : Laws → (status : Status) (query : QueryTree) (limit : ℕ) (was now : Batches) (source mid after : SourceView) (out out' err err' err'' : SinkView) (tally : Tally) (ks : List GameAnswer)
-    → FirstRounds query limit was source mid (sinks_of out out' err err') (stand_of tally ks) → Moves was now mid.left after.left (HasGivenAll now) → after.faults ≡ mid.faults
-    → WritesSummary tally err' err'' status → AnswerPromise (first_texts query) status (asked limit source after (sinks_of out out' err err''))
-call_ends laws status query limit was now source mid after out out' err err' err'' tally ks r moves counts writes =
-    let sinks = sinks_of out out' err err' in
-    let at : Called query limit now source after (r.so.front ++ moves.bytes) r.so.m r.so.outcomes = called laws query limit was now source mid after sinks (stand_of tally ks) (HasGivenAll now) r moves in
-    first_read laws status query limit source after (sinks_of out out' err err'') (r.so.front ++ moves.bytes) r.so.outcomes
-    (all_read laws limit now source after (r.so.front ++ moves.bytes) r.so.m r.so.outcomes at.reached (counts ∙ r.so.counts) at.are_read (moves.given r.so.front r.so.m r.so.stands)) at.before
-    (first_written status query r.so.outcomes out out' err err' err'' tally ks (subst (λ l. FoundSoFar false query l sinks (stand_of tally ks)) (sym (all_up query r.so.outcomes r.none)) r.so.found) writes)
+pub call_ends : Laws → (status : Status) (loop : Loop) (now : Batches) (after : SourceView) (err : SinkView) → FirstRounds loop
+    → Moves loop.place.b now loop.place.now.left after.left (HasGivenAll now) → after.faults ≡ loop.place.now.faults
+    → WritesSummary loop.stand.tally loop.sinks.err_after err status
+    → AnswerPromise (first_texts loop.query) status (answer_call loop.place.limit loop.place.source after (with_err loop.sinks err))
+call_ends laws status loop now after err r moves counts writes =
+    let rs = r.so.known.outcomes in
+    let front = r.so.known.front ++ moves.bytes in
+    let first : FoundFirst loop.query rs loop.sinks loop.stand =
+    subst (λ l. FoundSoFar false loop.query l loop.sinks loop.stand) (sym (all_up loop.query rs r.none)) r.so.found in
+    first_read laws status loop.query (answer_call loop.place.limit loop.place.source after (with_err loop.sinks err)) front rs
+    (round_ends laws false loop now after r.so moves counts) (before_call laws loop now after (HasGivenAll now) r moves)
+    (first_written status loop.query rs loop.sinks err loop.stand.tally loop.stand.kept first writes)
 
 -- ---- a batch was given
 
-pub record FirstTurn (query : QueryTree) (limit : ℕ) (b : Batches) (source now : SourceView) (sinks : Sinks) (stand : Stand) (batch : Batch) (t : ℕ) : Type 0 where
-  pub turn : Turn false query limit b source now sinks stand batch t
-  pub none : some_match query turn.outcomes ≡ false
-  pub needed : Needed turn.front turn.m
+pub record FirstTurn (loop : Loop) (batch : Batch) (t : ℕ) : Type 0 where
+  pub turn : Turn false loop batch t
+  pub none : some_match loop.query turn.known.outcomes ≡ false
+  pub needed : Needed turn.known.front turn.known.m
 
-pub first_turns : Laws → (query : QueryTree) (limit : ℕ) (was now : Batches) (source mid after : SourceView) (sinks : Sinks) (stand : Stand) (batch : Batch) (t : ℕ)
-    → (r : FirstRounds query limit was source mid sinks stand) → t ≤ r.so.m → Moves was now mid.left after.left (GivesBatch now batch) → after.faults ≡ mid.faults
-    → FirstTurn query limit now source after sinks stand batch t
-first_turns laws query limit was now source mid after sinks stand batch t r turns moves counts =
+pub first_turns : Laws → (loop : Loop) (now : Batches) (after : SourceView) (batch : Batch) (t : ℕ) → (r : FirstRounds loop) → t ≤ r.so.known.m
+    → Moves loop.place.b now loop.place.now.left after.left (GivesBatch now batch) → after.faults ≡ loop.place.now.faults
+    → FirstTurn (loop_on loop now after) batch t
+first_turns laws loop now after batch t r turns moves counts =
     let so = r.so in
-    let at = moved laws limit was now source mid after so.front so.m (GivesBatch now batch) so.stands so.reached moves in
-    let gives = moves.given so.front so.m so.stands in
-    let turned_ = turned laws limit now source after (so.front ++ moves.bytes) so.m batch at.reached gives in
-    let read : AreKeptRead (given (so.front ++ moves.bytes) so.m) so.outcomes = subst (λ gs. AreKeptRead gs so.outcomes) (sym at.same) so.are_read in
+    let known : Known (moved_to loop.place now after) = known_moved laws loop.place now after so.known (GivesBatch now batch) so.stands moves in
+    let gives = moves.given so.known.front so.known.m so.stands in
+    let turned_ = turned laws (moved_to loop.place now after) (so.known.front ++ moves.bytes) so.known.m batch known.reached gives in
     record {
       turn = record {
-        front = so.front ++ moves.bytes;
-        m = so.m;
+        known = known;
         turns = turns;
-        outcomes = so.outcomes;
         stands = gives.stands;
         turned = turned_;
         counts = counts ∙ so.counts;
-        are_read = read;
-        index = turned_.index ∙ count_read (given (so.front ++ moves.bytes) so.m) so.outcomes read;
+        index = turned_.index ∙ count_read (given (so.known.front ++ moves.bytes) so.known.m) so.known.outcomes known.are_read;
         found = so.found;
       };
       none = r.none;
-      needed = needed_on so.front moves.bytes so.m r.needed (moves.needed so.front so.m so.stands);
+      needed = needed_on so.known.front moves.bytes so.known.m r.needed (moves.needed so.known.front so.known.m so.stands);
     }
 
-before_turn : (query : QueryTree) (limit : ℕ) (b : Batches) (source now : SourceView) (sinks : Sinks) (stand : Stand) (batch : Batch) (t : ℕ)
-    → FirstTurn query limit b source now sinks stand batch t → Before query source now
-before_turn query limit b source now sinks stand batch t at = record {
-  front = at.turn.front;
-  m = at.turn.m;
-  outcomes = at.turn.outcomes;
+before_turn : (loop : Loop) (batch : Batch) (t : ℕ) → FirstTurn loop batch t → Before loop.query loop.place.source loop.place.now
+before_turn loop batch t at = record {
+  front = at.turn.known.front;
+  m = at.turn.known.m;
+  outcomes = at.turn.known.outcomes;
   takes = at.turn.turned.before.takes;
-  are_read = at.turn.are_read;
+  are_read = at.turn.known.are_read;
   none = at.none;
   needed = at.needed;
 }
 
-pub turn_starves : Laws → (query : QueryTree) (limit : ℕ) (b : Batches) (source now : SourceView) (sinks : Sinks) (stand : Stand) (batch : Batch) (t : ℕ)
-    → FirstTurn query limit b source now sinks stand batch t → AnswerPromise (first_texts query) NoMemory (asked limit source now sinks)
-turn_starves laws query limit b source now sinks stand batch t at =
+pub turn_starves : Laws → (loop : Loop) (batch : Batch) (t : ℕ) → FirstTurn loop batch t
+    → AnswerPromise (first_texts loop.query) NoMemory (call_in loop loop.sinks)
+turn_starves laws loop batch t at =
     let turn = at.turn in
-    starves laws query limit b source now turn.front turn.m turn.outcomes sinks turn.turned.before turn.counts turn.are_read
-    (so_far_prefix query turn.outcomes sinks stand at.none turn.found) turn.found.unfailed (before_turn query limit b source now sinks stand batch t at)
+    starves laws loop.query loop.place turn.known loop.sinks turn.counts (so_far_prefix loop.query turn.known.outcomes loop.sinks loop.stand at.none turn.found)
+    turn.found.unfailed (before_turn loop batch t at)
 
 -- the answers of the batch up to its first match
 
@@ -209,113 +191,113 @@ BatchUpTo query batch answers = UpTo query (number_of batch) (games_of batch) an
 pub batch_up_to : Laws → (query : QueryTree) (batch : Batch) (answers : List GameAnswer) → AnswersUpToFirst query batch answers → BatchUpTo query batch answers
 batch_up_to laws query batch answers are = up_to laws.have query (number_of batch) (games_of batch) answers are
 
-pub turn_few : Laws → (query : QueryTree) (limit : ℕ) (b : Batches) (source now : SourceView) (sinks : Sinks) (stand : Stand) (batch : Batch) (answers : List GameAnswer) (t : ℕ) → limit ≤ 2 ^ 40
-    → FirstTurn query limit b source now sinks stand batch t → BatchUpTo query batch answers → stand.tally.games + length answers < 2 ^ 62
-turn_few laws query limit b source now sinks stand batch answers t low at answered =
-    let turn = at.turn in
-    let games : stand.tally.games ≡ length turn.outcomes = ap (λ (t : Stand). t.tally.games) turn.found.is in
-    let before = count_read (given turn.front turn.m) turn.outcomes turn.are_read in
-    let count : length answers ≡ length (up_to_first query answered.outcomes) = ap length answered.are ∙ answers_count query (number_of batch) (up_to_first query answered.outcomes) in
-    let fewer = up_few query answered.outcomes in
+pub turn_few : Laws → (loop : Loop) (batch : Batch) (answers : List GameAnswer) (t : ℕ) → loop.place.limit ≤ 2 ^ 40 → FirstTurn loop batch t
+    → BatchUpTo loop.query batch answers → loop.stand.tally.games + length answers < 2 ^ 62
+turn_few laws loop batch answers t low at answered =
+    let known = at.turn.known in
+    let games : loop.stand.tally.games ≡ length known.outcomes = ap (λ (t : Stand). t.tally.games) at.turn.found.is in
+    let before = count_read (given known.front known.m) known.outcomes known.are_read in
+    let count : length answers ≡ length (up_to_first loop.query answered.outcomes) =
+    ap length answered.are ∙ answers_count loop.query (number_of batch) (up_to_first loop.query answered.outcomes) in
+    let fewer = up_few loop.query answered.outcomes in
     let read = count_read (games_of batch) answered.outcomes answered.are_read in
-    let more : length (given turn.front (turn.m + 1)) ≡ length (given turn.front turn.m ++ (games_of batch)) = ap length turn.turned.games in
-    let parts = length-append (given turn.front turn.m) (games_of batch) in
-    let most = given_few laws turn.front (turn.m + 1) in
-    let few = turn.turned.reached.few in
+    let more : length (given known.front (known.m + 1)) ≡ length (given known.front known.m ++ (games_of batch)) = ap length at.turn.turned.games in
+    let parts = length-append (given known.front known.m) (games_of batch) in
+    let most = given_few laws known.front (known.m + 1) in
+    let few = at.turn.turned.reached.few in
     omega (arith, games, before, count, fewer, read, more, parts, most, few, low)
 
-pub answers_are : (query : QueryTree) (limit : ℕ) (b : Batches) (source now : SourceView) (sinks : Sinks) (stand : Stand) (batch : Batch) (answers : List GameAnswer) (t : ℕ)
-    → (at : FirstTurn query limit b source now sinks stand batch t) → (answered : BatchUpTo query batch answers)
-    → answers ≡ answers_from query (length at.turn.outcomes) (up_to_first query answered.outcomes)
-answers_are query limit b source now sinks stand batch answers t at answered =
-    answered.are ∙ ap (λ n. answers_from query n (up_to_first query answered.outcomes)) at.turn.index
+pub answers_are : (loop : Loop) (batch : Batch) (answers : List GameAnswer) (t : ℕ) → (at : FirstTurn loop batch t) → (answered : BatchUpTo loop.query batch answers)
+    → answers ≡ answers_from loop.query (length at.turn.known.outcomes) (up_to_first loop.query answered.outcomes)
+answers_are loop batch answers t at answered = answered.are ∙ ap (λ n. answers_from loop.query n (up_to_first loop.query answered.outcomes)) at.turn.index
 
 -- all games of the batches, and what is found up to the first match
-record Joined (query : QueryTree) (front : List ℕ) (m : ℕ) (before outs : List Outcome) : Type 0 where
-  are_read : AreKeptRead (given front (m + 1)) (before ++ outs)
-  up : before ++ up_to_first query outs ≡ up_to_first query (before ++ outs)
+abbrev known_with : (loop : Loop) (batch : Batch) (answers : List GameAnswer) (t : ℕ) → (at : FirstTurn loop batch t) → BatchUpTo loop.query batch answers
+    → Known loop.place
+known_with loop batch answers t at answered = record {
+  front = at.turn.known.front;
+  m = at.turn.known.m + 1;
+  outcomes = at.turn.known.outcomes ++ answered.outcomes;
+  reached = at.turn.turned.reached;
+  are_read = subst (λ gs. AreKeptRead gs (at.turn.known.outcomes ++ answered.outcomes)) (sym at.turn.turned.games)
+      (kept_read_on (given at.turn.known.front at.turn.known.m) (games_of batch) at.turn.known.outcomes answered.outcomes at.turn.known.are_read answered.are_read);
+}
 
-joined : (query : QueryTree) (limit : ℕ) (b : Batches) (source now : SourceView) (sinks : Sinks) (stand : Stand) (batch : Batch) (answers : List GameAnswer) (t : ℕ)
-    → (at : FirstTurn query limit b source now sinks stand batch t) → (answered : BatchUpTo query batch answers) → Joined query at.turn.front at.turn.m at.turn.outcomes answered.outcomes
-joined query limit b source now sinks stand batch answers t at answered =
-    let turn = at.turn in
-    record {
-      are_read = subst (λ gs. AreKeptRead gs (turn.outcomes ++ answered.outcomes)) (sym turn.turned.games)
-          (kept_read_on (given turn.front turn.m) (games_of batch) turn.outcomes answered.outcomes turn.are_read answered.are_read);
-      up = sym (up_on query turn.outcomes answered.outcomes at.none);
-    }
+up_with : (loop : Loop) (batch : Batch) (answers : List GameAnswer) (t : ℕ) → (at : FirstTurn loop batch t) → (answered : BatchUpTo loop.query batch answers)
+    → at.turn.known.outcomes ++ up_to_first loop.query answered.outcomes ≡ up_to_first loop.query (at.turn.known.outcomes ++ answered.outcomes)
+up_with loop batch answers t at answered = sym (up_on loop.query at.turn.known.outcomes answered.outcomes at.none)
 
-pub turn_fails : Laws → (query : QueryTree) (limit : ℕ) (b : Batches) (source now : SourceView) (sinks new_sinks : Sinks) (stand : Stand) (batch : Batch) (answers : List GameAnswer) (t : ℕ)
-    → (at : FirstTurn query limit b source now sinks stand batch t) → (answered : BatchUpTo query batch answers)
-    → WritesPrefix new_sinks (texts_so_far false query (at.turn.outcomes ++ up_to_first query answered.outcomes)) × OneSinkFailed new_sinks
-    → AnswerPromise (first_texts query) WriteFault (asked limit source now new_sinks)
-turn_fails laws query limit b source now sinks new_sinks stand batch answers t at answered (writes, failed) =
-    let turn = at.turn in
-    let all = turn.outcomes ++ answered.outcomes in
-    let both : Joined query turn.front turn.m turn.outcomes answered.outcomes = joined query limit b source now sinks stand batch answers t at answered in
-    breaks_off laws query limit b source now turn.front (turn.m + 1) all new_sinks turn.turned.reached turn.counts both.are_read
-    (λ more. first_prefix query all more new_sinks (subst (λ l. WritesPrefix new_sinks (texts_so_far false query l)) both.up writes)) failed
-    (before_turn query limit b source now sinks stand batch t at)
+-- what was written is a prefix of what is written of more games
+up_prefix : (query : QueryTree) (before outs : List Outcome) (sinks : Sinks) → before ++ up_to_first query outs ≡ up_to_first query (before ++ outs)
+    → WritesPrefix sinks (texts_so_far false query (before ++ up_to_first query outs)) → (more : List Outcome)
+    → WritesPrefix sinks (first_texts_of query ((before ++ outs) ++ more))
+up_prefix query before outs sinks up writes more =
+    first_prefix query (before ++ outs) more sinks (subst (λ l. WritesPrefix sinks (texts_so_far false query l)) up writes)
 
-pub turn_wants : Laws → (query : QueryTree) (limit : ℕ) (b : Batches) (source now : SourceView) (sinks new_sinks : Sinks) (stand : Stand) (batch : Batch) (answers : List GameAnswer) (t : ℕ)
-    → (at : FirstTurn query limit b source now sinks stand batch t) → (answered : BatchUpTo query batch answers)
-    → WritesPrefix new_sinks (texts_so_far false query (at.turn.outcomes ++ up_to_first query answered.outcomes)) × NoWriteFailed new_sinks
-    → AnswerPromise (first_texts query) NoMemory (asked limit source now new_sinks)
-turn_wants laws query limit b source now sinks new_sinks stand batch answers t at answered (writes, unfailed) =
-    let turn = at.turn in
-    let all = turn.outcomes ++ answered.outcomes in
-    let both : Joined query turn.front turn.m turn.outcomes answered.outcomes = joined query limit b source now sinks stand batch answers t at answered in
-    starves laws query limit b source now turn.front (turn.m + 1) all new_sinks turn.turned.reached turn.counts both.are_read
-    (λ more. first_prefix query all more new_sinks (subst (λ l. WritesPrefix new_sinks (texts_so_far false query l)) both.up writes)) unfailed
-    (before_turn query limit b source now sinks stand batch t at)
+pub turn_fails : Laws → (loop : Loop) (sinks : Sinks) (batch : Batch) (answers : List GameAnswer) (t : ℕ) → (at : FirstTurn loop batch t)
+    → (answered : BatchUpTo loop.query batch answers)
+    → WritesPrefix sinks (texts_so_far false loop.query (at.turn.known.outcomes ++ up_to_first loop.query answered.outcomes)) × OneSinkFailed sinks
+    → AnswerPromise (first_texts loop.query) WriteFault (call_in loop sinks)
+turn_fails laws loop sinks batch answers t at answered (writes, failed) =
+    breaks_off laws loop.query loop.place (known_with loop batch answers t at answered) sinks at.turn.counts
+    (up_prefix loop.query at.turn.known.outcomes answered.outcomes sinks (up_with loop batch answers t at answered) writes) failed (before_turn loop batch t at)
+
+pub turn_wants : Laws → (loop : Loop) (sinks : Sinks) (batch : Batch) (answers : List GameAnswer) (t : ℕ) → (at : FirstTurn loop batch t)
+    → (answered : BatchUpTo loop.query batch answers)
+    → WritesPrefix sinks (texts_so_far false loop.query (at.turn.known.outcomes ++ up_to_first loop.query answered.outcomes)) × NoWriteFailed sinks
+    → AnswerPromise (first_texts loop.query) NoMemory (call_in loop sinks)
+turn_wants laws loop sinks batch answers t at answered (writes, unfailed) =
+    starves laws loop.query loop.place (known_with loop batch answers t at answered) sinks at.turn.counts
+    (up_prefix loop.query at.turn.known.outcomes answered.outcomes sinks (up_with loop batch answers t at answered) writes) unfailed (before_turn loop batch t at)
 
 -- the batch has a match, and the last line is written
-pub turn_found : Laws → (status : Status) (query : QueryTree) (limit : ℕ) (b : Batches) (source now : SourceView) (sinks : Sinks) (out out' err err' err'' : SinkView) (stand : Stand) (tally : Tally)
-    (ks : List GameAnswer) (batch : Batch) (answers : List GameAnswer) (t : ℕ) → (at : FirstTurn query limit b source now sinks stand batch t) → (answered : BatchUpTo query batch answers)
-    → FoundSoFar false query (at.turn.outcomes ++ up_to_first query answered.outcomes) (sinks_of out out' err err') (stand_of tally ks) → 0 < tally.matched
-    → WritesSummary tally err' err'' status → AnswerPromise (first_texts query) status (asked limit source now (sinks_of out out' err err''))
-turn_found laws status query limit b source now sinks out out' err err' err'' stand tally ks batch answers t at answered found some writes =
-    let turn = at.turn in
-    let all = turn.outcomes ++ answered.outcomes in
-    let both : Joined query turn.front turn.m turn.outcomes answered.outcomes = joined query limit b source now sinks stand batch answers t at answered in
-    let first : FoundFirst query all (sinks_of out out' err err') (stand_of tally ks) = subst (λ l. FoundSoFar false query l (sinks_of out out' err err') (stand_of tally ks)) both.up found in
-    let count : tally.matched ≡ count_by (is_match query) (up_to_first query all) = ap (λ (s : Stand). s.tally.matched) first.is in
-    found_by laws status query limit b source now turn.front (turn.m + 1) all (sinks_of out out' err err'') turn.turned.reached turn.counts both.are_read
-    (sym (some_of_first query all) ∙ some_counted query (up_to_first query all) (omega (arith, some, count))) (before_turn query limit b source now sinks stand batch t at)
-    (first_written status query all out out' err err' err'' tally ks first writes) (cases_Bool b.ended)
+pub turn_found : Laws → (status : Status) (loop new : Loop) (err : SinkView) (batch : Batch) (answers : List GameAnswer) (t : ℕ) → (at : FirstTurn loop batch t)
+    → (answered : BatchUpTo loop.query batch answers)
+    → FoundSoFar false loop.query (at.turn.known.outcomes ++ up_to_first loop.query answered.outcomes) new.sinks new.stand
+    × (0 < new.stand.tally.matched) × WritesSummary new.stand.tally new.sinks.err_after err status
+    → AnswerPromise (first_texts loop.query) status (call_in loop (with_err new.sinks err))
+turn_found laws status loop new err batch answers t at answered (found, some, writes) =
+    let query = loop.query in
+    let all = at.turn.known.outcomes ++ answered.outcomes in
+    let first : FoundFirst query all new.sinks new.stand =
+    subst (λ l. FoundSoFar false query l new.sinks new.stand) (up_with loop batch answers t at answered) found in
+    let count : new.stand.tally.matched ≡ count_by (is_match query) (up_to_first query all) = ap (λ (s : Stand). s.tally.matched) first.is in
+    found_by laws status query loop.place (known_with loop batch answers t at answered) (with_err new.sinks err) (record {
+      counts = at.turn.counts;
+      some = sym (some_of_first query all) ∙ some_counted query (up_to_first query all) (omega (arith, some, count));
+      before = before_turn loop batch t at;
+      writes = first_written status query all new.sinks err new.stand.tally new.stand.kept first writes;
+    }) (cases_Bool loop.place.b.ended)
 
 -- or none
-pub turn_done : (query : QueryTree) (limit : ℕ) (b : Batches) (source now : SourceView) (sinks new_sinks : Sinks) (stand : Stand) (tally : Tally) (ks : List GameAnswer) (batch : Batch)
-    (answers : List GameAnswer) (t : ℕ) → (at : FirstTurn query limit b source now sinks stand batch t) → (answered : BatchUpTo query batch answers)
-    → FoundSoFar false query (at.turn.outcomes ++ up_to_first query answered.outcomes) new_sinks (stand_of tally ks) → tally.matched ≤ 0
-    → (r : FirstRounds query limit b source now new_sinks (stand_of tally ks)) × (t + 1 ≤ r.so.m)
-turn_done query limit b source now sinks new_sinks stand tally ks batch answers t at answered found none_matched =
-    let turn = at.turn in
-    let all = turn.outcomes ++ answered.outcomes in
-    let both : Joined query turn.front turn.m turn.outcomes answered.outcomes = joined query limit b source now sinks stand batch answers t at answered in
-    let first : FoundFirst query all new_sinks (stand_of tally ks) = subst (λ l. FoundSoFar false query l new_sinks (stand_of tally ks)) both.up found in
-    let count : tally.matched ≡ count_by (is_match query) (up_to_first query all) = ap (λ (s : Stand). s.tally.matched) first.is in
-    let none : some_match query all ≡ false = sym (some_of_first query all) ∙ none_counted query (up_to_first query all) (omega (arith, count, none_matched)) in (
+pub turn_done : (loop : Loop) (sinks : Sinks) (stand : Stand) (batch : Batch) (answers : List GameAnswer) (t : ℕ) → (at : FirstTurn loop batch t)
+    → (answered : BatchUpTo loop.query batch answers)
+    → FoundSoFar false loop.query (at.turn.known.outcomes ++ up_to_first loop.query answered.outcomes) sinks stand → stand.tally.matched ≤ 0
+    → (r : FirstRounds (loop_with loop sinks stand)) × (t + 1 ≤ r.so.known.m)
+turn_done loop sinks stand batch answers t at answered found none_matched =
+    let query = loop.query in
+    let all = at.turn.known.outcomes ++ answered.outcomes in
+    let first : FoundFirst query all sinks stand =
+    subst (λ l. FoundSoFar false query l sinks stand) (up_with loop batch answers t at answered) found in
+    let count : stand.tally.matched ≡ count_by (is_match query) (up_to_first query all) = ap (λ (s : Stand). s.tally.matched) first.is in
+    let none : some_match query all ≡ false =
+    sym (some_of_first query all) ∙ none_counted query (up_to_first query all) (omega (arith, count, none_matched)) in (
       record {
         so = record {
-          front = turn.front;
-          m = turn.m + 1;
-          outcomes = all;
-          stands = turn.stands;
-          reached = turn.turned.reached;
-          counts = turn.counts;
-          are_read = both.are_read;
-          found = subst (λ l. FoundSoFar false query l new_sinks (stand_of tally ks)) (all_up query all none) first;
+          known = known_with loop batch answers t at answered;
+          stands = at.turn.stands;
+          counts = at.turn.counts;
+          found = subst (λ l. FoundSoFar false query l sinks stand) (all_up query all none) first;
         };
         none = none;
         needed = let n = at.needed in omega (arith, n);
       },
-      let a = turn.turns in omega (arith, a),
+      let a = at.turn.turns in omega (arith, a),
     )
 
 -- no memory before anything was read
 pub none_answered : Laws → (query : QueryTree) (limit : ℕ) (source : SourceView) (out err : SinkView)
-    → AnswerPromise (first_texts query) NoMemory (asked limit source source (sinks_of out out err err))
+    → AnswerPromise (first_texts query) NoMemory (answer_call limit source source (sinks_of out out err err))
 none_answered laws query limit source out err =
     let sinks = sinks_of out out err err in
     let rest = outcomes_of laws.have [] (closed []) in
@@ -349,19 +331,9 @@ none_answered laws query limit source out err =
       complete = λ _. inr (inr (inl refl));
     }
 
--- ---- either run
+-- ---- no memory before anything was read, in either run
 
-pub none_asked : Laws → (first : Bool) (query : QueryTree) (limit : ℕ) (source : SourceView) (out err : SinkView)
-    → AnswerPromise (wanted first query) NoMemory (asked limit source source (sinks_of out out err err))
-none_asked laws true query limit source out err = none_answered laws query limit source out err
-none_asked laws false query limit source out err = all_unanswered laws.have query limit source out err
-
-pub first_asked : (first : Bool) (query held : QueryTree) (status : Status) (call : Answering) → first ≡ true → held ≡ query → AnswerPromise (first_texts held) status call
-    → AnswerPromise (wanted first query) status call
-first_asked first query held status call is same does =
-    subst (λ b. AnswerPromise (wanted b query) status call) (sym is) (subst (λ q. AnswerPromise (first_texts q) status call) same does)
-
-pub all_asked : (first : Bool) (query held : QueryTree) (status : Status) (call : Answering) → first ≡ false → held ≡ query → AnswerPromise (texts_of held) status call
-    → AnswerPromise (wanted first query) status call
-all_asked first query held status call is same does =
-    subst (λ b. AnswerPromise (wanted b query) status call) (sym is) (subst (λ q. AnswerPromise (texts_of q) status call) same does)
+pub unanswered : Laws → (first : Bool) (query : QueryTree) (limit : ℕ) (source : SourceView) (out err : SinkView)
+    → AnswerPromise (wanted first query) NoMemory (answer_call limit source source (sinks_of out out err err))
+unanswered laws true query limit source out err = none_answered laws query limit source out err
+unanswered laws false query limit source out err = all_unanswered laws.have query limit source out err

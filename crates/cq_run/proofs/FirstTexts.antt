@@ -17,20 +17,20 @@ use Rattle.cq_shards.specs.Outcomes.{Outcome, AreKeptRead}
 use Rattle.cq_shards.specs.Whole.{closed_games, cut_games, whole, whole_spans}
 use Rattle.cq_shards.specs.declared.answers.GameAnswer.{GameAnswer}
 use Rattle.cq_run.specs.Answer.{export_if, fault_lines, summary_of, tally_of}
-use Rattle.cq_run.specs.Asking.{texts_so_far}
+use Rattle.cq_run.specs.AllGames.{texts_so_far}
 use Rattle.cq_run.specs.ByBatches.{HaveOneOutcome, Laws}
 use Rattle.cq_run.specs.FirstGame.{first_export, first_texts, some_match, up_to_first}
 use Rattle.cq_run.specs.Outcomes.{AreRead}
-use Rattle.cq_run.specs.Promise.{SourceView, SinkView, Sinks, Texts, Suffices, ReadsNoMore, Writes, WritesPrefix, NoWriteFailed, OneSinkFailed, sinks_of}
+use Rattle.cq_run.specs.Promise.{SourceView, SinkView, Sinks, Texts, Suffices, ReadsNoMore, Writes, WritesPrefix, NoWriteFailed, OneSinkFailed}
 use Rattle.cq_run.specs.Writing.{FoundSoFar, Stand, WritesSummary, stand_of}
 use Rattle.cq_run.specs.declared.status.Status.{Status}
 use Rattle.cq_run.specs.declared.status.Status.TheVariants.{Done, DoneWithRefusals, QueryRefused, WordsRefused, OpenFault, ReadFault, WriteFault, NoMemory, ArchiveTooLong}
 use Rattle.cq_run.specs.declared.tally.Tally.{Tally}
-use Rattle.cq_run.proofs.Answered.{asked}
-use Rattle.cq_run.proofs.Answers.{both_prefix, fault_lines_on, part_more, took_more}
+use Rattle.cq_run.proofs.AnswerPromise.{answer_call}
+use Rattle.cq_run.proofs.GameByGame.{both_prefix, fault_lines_on, part_more, took_more}
 use Rattle.cq_run.proofs.FirstGames.{first_is, first_texts_of, some_grows, texts_same, up_grows, up_same}
 use Rattle.cq_run.proofs.Given.{Rest, all_batches, full_first, full_grows, given, given_full, kept_read_on, reads_archive, rest_of, whole_are}
-use Rattle.cq_run.proofs.Sinks.{Took, fails_after, grew_on, took_count, took_front, unwritten}
+use Rattle.cq_run.proofs.Sinks.{Took, with_err, then_err, fails_after, grew_on, took_count, took_front, unwritten}
 
 -- ---- no game of the batches before was a match
 
@@ -102,7 +102,7 @@ pub record Before (query : QueryTree) (source now : SourceView) : Type 0 where
   pub none : some_match query outcomes ≡ false
   pub needed : Needed front m
 
-pub no_more : Laws → (query : QueryTree) (limit : ℕ) (source now : SourceView) (sinks : Sinks) → Before query source now → ReadsNoMore (first_texts query) (asked limit source now sinks)
+pub no_more : Laws → (query : QueryTree) (limit : ℕ) (source now : SourceView) (sinks : Sinks) → Before query source now → ReadsNoMore (first_texts query) (answer_call limit source now sinks)
 no_more laws query limit source now sinks so = record {
   front = so.front;
   takes = so.takes;
@@ -145,59 +145,63 @@ FirstWritten refused texts sinks _ = ⊥
 abbrev pub FoundFirst : QueryTree → List Outcome → Sinks → Stand → Type 0
 FoundFirst query rs sinks stand = FoundSoFar false query (up_to_first query rs) sinks stand
 
-pub tally_is : (query : QueryTree) (rs : List Outcome) (sinks : Sinks) (tally : Tally) (ks : List GameAnswer) → FoundFirst query rs sinks (stand_of tally ks) → tally ≡ tally_of query (up_to_first query rs)
+pub tally_is : (query : QueryTree) (rs : List Outcome) (sinks : Sinks) (tally : Tally) (ks : List GameAnswer) → FoundFirst query rs sinks (stand_of tally ks)
+    → tally ≡ tally_of query (up_to_first query rs)
 tally_is query rs sinks tally ks found = ap (λ (t : Stand). t.tally) found.is
 
-pub all_written : (query : QueryTree) (rs : List Outcome) (out out' err err' err'' : SinkView) (tally : Tally) (ks : List GameAnswer)
-    → FoundFirst query rs (sinks_of out out' err err') (stand_of tally ks) → Grew err'.taken err''.taken (summary_of tally) → Writes (sinks_of out out' err err'') (first_texts_of query rs)
-all_written query rs out out' err err' err'' tally ks found grew =
+pub all_written : (query : QueryTree) (rs : List Outcome) (sinks : Sinks) (err : SinkView) (tally : Tally) (ks : List GameAnswer)
+    → FoundFirst query rs sinks (stand_of tally ks) → Grew sinks.err_after.taken err.taken (summary_of tally)
+    → Writes (with_err sinks err) (first_texts_of query rs)
+all_written query rs sinks err tally ks found grew =
     let lines = fault_lines 1 (up_to_first query rs) in
     record {
-      out = subst (Grew out.taken out'.taken) (first_is query rs) found.writes.out;
-      err = subst (λ t. Grew err.taken err''.taken (lines ++ summary_of t)) (tally_is query rs (sinks_of out out' err err') tally ks found)
-          (grew_on err.taken err'.taken err''.taken lines (summary_of tally) found.writes.err grew);
+      out = subst (Grew sinks.out.taken sinks.out_after.taken) (first_is query rs) found.writes.out;
+      err = subst (λ t. Grew sinks.err.taken err.taken (lines ++ summary_of t)) (tally_is query rs sinks tally ks found)
+          (grew_on sinks.err.taken sinks.err_after.taken err.taken lines (summary_of tally) found.writes.err grew);
     }
 
-pub part_written : (query : QueryTree) (rs : List Outcome) (out out' err err' err'' : SinkView) (tally : Tally) (ks : List GameAnswer) (count : ℕ)
-    → FoundFirst query rs (sinks_of out out' err err') (stand_of tally ks) → Grew err'.taken err''.taken (take count (summary_of tally))
-    → WritesPrefix (sinks_of out out' err err'') (first_texts_of query rs)
-part_written query rs out out' err err' err'' tally ks count found grew =
+pub part_written : (query : QueryTree) (rs : List Outcome) (sinks : Sinks) (err : SinkView) (tally : Tally) (ks : List GameAnswer) (count : ℕ)
+    → FoundFirst query rs sinks (stand_of tally ks) → Grew sinks.err_after.taken err.taken (take count (summary_of tally))
+    → WritesPrefix (with_err sinks err) (first_texts_of query rs)
+part_written query rs sinks err tally ks count found grew =
     let lines = fault_lines 1 (up_to_first query rs) in
     let last = summary_of (tally_of query (up_to_first query rs)) in
-    let part : Grew err'.taken err''.taken (take count last) =
-    subst (λ t. Grew err'.taken err''.taken (take count (summary_of t))) (tally_is query rs (sinks_of out out' err err') tally ks found) grew in
-    both_prefix (sinks_of out out' err err'') (first_texts_of query rs) (record {
-      out = subst (Took out.taken out'.taken) (append-nil (first_export query rs))
-          (took_front out.taken out'.taken (first_export query rs) [] (subst (Grew out.taken out'.taken) (first_is query rs) found.writes.out));
-      err = part_more err.taken err'.taken err''.taken lines last count found.writes.err part;
+    let part : Grew sinks.err_after.taken err.taken (take count last) =
+    subst (λ t. Grew sinks.err_after.taken err.taken (take count (summary_of t))) (tally_is query rs sinks tally ks found) grew in
+    both_prefix (with_err sinks err) (first_texts_of query rs) (record {
+      out = subst (Took sinks.out.taken sinks.out_after.taken) (append-nil (first_export query rs))
+          (took_front sinks.out.taken sinks.out_after.taken (first_export query rs) []
+          (subst (Grew sinks.out.taken sinks.out_after.taken) (first_is query rs) found.writes.out));
+      err = part_more sinks.err.taken sinks.err_after.taken err.taken lines last count found.writes.err part;
     })
 
-pub first_written : (status : Status) (query : QueryTree) (rs : List Outcome) (out out' err err' err'' : SinkView) (tally : Tally) (ks : List GameAnswer)
-    → FoundFirst query rs (sinks_of out out' err err') (stand_of tally ks) → WritesSummary tally err' err'' status
-    → FirstWritten (refused_of query rs) (first_texts_of query rs) (sinks_of out out' err err'') status
-first_written Done query rs out out' err err' err'' tally ks found writes = (
-  subst (λ (t : Tally). t.refused ≡ 0) (tally_is query rs (sinks_of out out' err err') tally ks found) writes.0,
-  all_written query rs out out' err err' err'' tally ks found writes.1,
+pub first_written : (status : Status) (query : QueryTree) (rs : List Outcome) (sinks : Sinks) (err : SinkView) (tally : Tally) (ks : List GameAnswer)
+    → FoundFirst query rs sinks (stand_of tally ks) → WritesSummary tally sinks.err_after err status
+    → FirstWritten (refused_of query rs) (first_texts_of query rs) (with_err sinks err) status
+first_written Done query rs sinks err tally ks found writes = (
+  subst (λ (t : Tally). t.refused ≡ 0) (tally_is query rs sinks tally ks found) writes.0,
+  all_written query rs sinks err tally ks found writes.1,
   record { out = found.unfailed.out; err = writes.2 ∙ found.unfailed.err },
 )
-first_written DoneWithRefusals query rs out out' err err' err'' tally ks found writes = (
-  subst (λ (t : Tally). 0 < t.refused) (tally_is query rs (sinks_of out out' err err') tally ks found) writes.0,
-  all_written query rs out out' err err' err'' tally ks found writes.1,
+first_written DoneWithRefusals query rs sinks err tally ks found writes = (
+  subst (λ (t : Tally). 0 < t.refused) (tally_is query rs sinks tally ks found) writes.0,
+  all_written query rs sinks err tally ks found writes.1,
   record { out = found.unfailed.out; err = writes.2 ∙ found.unfailed.err },
 )
-first_written WriteFault query rs out out' err err' err'' tally ks found writes = (
-  part_written query rs out out' err err' err'' tally ks writes.0.0 found writes.0.1,
-  fails_after out out' out' err err' err'' found.unfailed (inr (writes.1, refl)),
+first_written WriteFault query rs sinks err tally ks found writes = (
+  part_written query rs sinks err tally ks writes.0.0 found writes.0.1,
+  fails_after (then_err sinks err) found.unfailed (inr (writes.1, refl)),
 )
-first_written NoMemory query rs out out' err err' err'' tally ks found writes = (
-  part_written query rs out out' err err' err'' tally ks 0 found (subst (λ (s : SinkView). Grew err'.taken s.taken []) (sym writes) (unwritten err'.taken)),
+first_written NoMemory query rs sinks err tally ks found writes = (
+  part_written query rs sinks err tally ks 0 found
+      (subst (λ (s : SinkView). Grew sinks.err_after.taken s.taken []) (sym writes) (unwritten sinks.err_after.taken)),
   record { out = found.unfailed.out; err = ap (λ (s : SinkView). s.faults) writes ∙ found.unfailed.err },
 )
-first_written QueryRefused query rs out out' err err' err'' tally ks found writes = absurd writes
-first_written WordsRefused query rs out out' err err' err'' tally ks found writes = absurd writes
-first_written OpenFault query rs out out' err err' err'' tally ks found writes = absurd writes
-first_written ReadFault query rs out out' err err' err'' tally ks found writes = absurd writes
-first_written ArchiveTooLong query rs out out' err err' err'' tally ks found writes = absurd writes
+first_written QueryRefused query rs sinks err tally ks found writes = absurd writes
+first_written WordsRefused query rs sinks err tally ks found writes = absurd writes
+first_written OpenFault query rs sinks err tally ks found writes = absurd writes
+first_written ReadFault query rs sinks err tally ks found writes = absurd writes
+first_written ArchiveTooLong query rs sinks err tally ks found writes = absurd writes
 
 -- games behind the match change nothing
 pub written_more : (status : Status) (query : QueryTree) (rs qs : List Outcome) (sinks : Sinks) → some_match query rs ≡ true

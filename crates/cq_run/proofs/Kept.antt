@@ -27,11 +27,18 @@ pub in_order : (answers ordered : List GameAnswer) (given held : TypedQuery) →
     → AllPairs (ComesBefore (directions (query_tree given.query).items)) ordered) → InOrder (query_tree held.query) answers ordered
 in_order answers ordered given held e same order = subst (λ (t : TypedQuery). InOrder (query_tree t.query) answers ordered) e (record { same = same; order = order })
 
+-- a kept game at its place, and its export
+pub record IsAt (xs : List GameAnswer) (i : ℕ) (a : GameAnswer) (text : List ℕ) : Type 0 where
+  pub inside : i < length xs
+  pub is : a ≡ get_or xs i a
+  pub texts : text ≡ text_of a.what
+
 -- one export more
-pub more_written : (xs : List GameAnswer) (i : ℕ) (a : GameAnswer) (old now new : Option (List ℕ)) (text : List ℕ) → i < length xs → a ≡ get_or xs i a → text ≡ text_of a.what
+pub more_written : (xs : List GameAnswer) (i : ℕ) (a : GameAnswer) (old now new : Option (List ℕ)) (text : List ℕ) → IsAt xs i a text
     → Grew old now (exports_of (take i xs)) → Grew now new text → Grew old new (exports_of (take (i + 1) xs))
-more_written xs i a old now new text inside is texts before grew =
-    subst (Grew old new) (ap (λ l. exports_of (take i xs) ++ l) texts ∙ sym (exports_more xs i a inside is)) (grew_on old now new (exports_of (take i xs)) text before grew)
+more_written xs i a old now new text at before grew =
+    subst (Grew old new) (ap (λ l. exports_of (take i xs) ++ l) at.texts ∙ sym (exports_more xs i a at.inside at.is))
+    (grew_on old now new (exports_of (take i xs)) text before grew)
 
 -- the rest from an export on
 rest_of : (xs : List GameAnswer) (i : ℕ) (a : GameAnswer) → i < length xs → a ≡ get_or xs i a
@@ -42,10 +49,10 @@ rest_of xs i a inside is =
     ∙ ap (λ l. exports_of (take i xs ++ l)) (sym (drop_more xs i a inside)) ∙ ap exports_of (take-append-drop i xs)
 
 -- a part of an export
-pub part_written : (xs : List GameAnswer) (i : ℕ) (a : GameAnswer) (old now new : Option (List ℕ)) (text : List ℕ) (count : ℕ) → i < length xs → a ≡ get_or xs i a → text ≡ text_of a.what
+pub part_written : (xs : List GameAnswer) (i : ℕ) (a : GameAnswer) (old now new : Option (List ℕ)) (text : List ℕ) (count : ℕ) → IsAt xs i a text
     → Grew old now (exports_of (take i xs)) → Grew now new (take count text) → (k : ℕ) × Grew old new (take k (exports_of xs))
-part_written xs i a old now new text count inside is texts before grew =
-    let part : Took now new (text_of a.what) = took_count now new (text_of a.what) count (subst (λ l. Grew now new (take count l)) texts grew) in
+part_written xs i a old now new text count at before grew =
+    let part : Took now new (text_of a.what) = took_count now new (text_of a.what) count (subst (λ l. Grew now new (take count l)) at.texts grew) in
     let took : Took old new (exports_of xs) =
-    subst (Took old new) (rest_of xs i a inside is) (took_on old now new (exports_of (take i xs)) (text_of a.what) (exports_of (drop (i + 1) xs)) before part) in
+    subst (Took old new) (rest_of xs i a at.inside at.is) (took_on old now new (exports_of (take i xs)) (text_of a.what) (exports_of (drop (i + 1) xs)) before part) in
     (length took.part, prefix_of old new (exports_of xs) took)

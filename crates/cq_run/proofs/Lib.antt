@@ -2,11 +2,11 @@ mod Sinks
 mod Texts
 mod SortItems
 mod Exports
-mod Answers
+mod GameByGame
 mod Counting
 mod Kept
 mod Given
-mod Answered
+mod AnswerPromise
 mod OneOutcome
 mod Reached
 mod Rounds
@@ -15,5 +15,5 @@ mod FirstGames
 mod FirstTexts
 mod FirstStops
 mod FirstRounds
-mod Doing
+mod RunPromise
 pub mod EveryText

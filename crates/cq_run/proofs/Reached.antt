@@ -24,13 +24,27 @@ use Rattle.cq_shards.proofs.Streams.{count_within}
 use Rattle.cq_shards.proofs.Filling.{consumes_none, consumes_on}
 use Rattle.cq_run.proofs.Given.{all_batches, flat_next, full_each, full_first, full_low, full_rises, given, given_full, given_stays, last_one, reads_archive, within_first}
 
-pub record Reached (limit : ℕ) (b : Batches) (source now : SourceView) (front : List ℕ) (m : ℕ) : Type 0 where
-  pub limit_ : b.limit ≡ limit
-  pub takes : Consumes source.left now.left front
-  pub few : length front ≤ limit + 1
-  pub at_end : b.ended ≡ true → IsAtEnd now.left
-  pub within : b.ended ≡ true → length front ≤ limit
-  pub open_ : b.ended ≡ false → m ≤ length (full_batches (closed_games front))
+-- how far an archive is read: the limit on its bytes, the batches, and the source as the reading began and as it is
+pub record Place : Type 0 where
+  pub limit : ℕ
+  pub b : Batches
+  pub source : SourceView
+  pub now : SourceView
+
+abbrev pub place_of : ℕ → Batches → SourceView → SourceView → Place
+place_of limit b source now = record { limit = limit; b = b; source = source; now = now }
+
+-- the place after some more was read
+abbrev pub moved_to : Place → Batches → SourceView → Place
+moved_to place b now = place_of place.limit b place.source now
+
+pub record Reached (place : Place) (front : List ℕ) (m : ℕ) : Type 0 where
+  pub limit_ : place.b.limit ≡ place.limit
+  pub takes : Consumes place.source.left place.now.left front
+  pub few : length front ≤ place.limit + 1
+  pub at_end : place.b.ended ≡ true → IsAtEnd place.now.left
+  pub within : place.b.ended ≡ true → length front ≤ place.limit
+  pub open_ : place.b.ended ≡ false → m ≤ length (full_batches (closed_games front))
   pub all : m ≤ length (batches (cut_games front))
 
 pub true_not_false : (b : Bool) → b ≡ true → b ≡ false → ⊥
@@ -41,14 +55,14 @@ within_open limit was front same reads (inl over) = absurd (true_not_false was.e
 within_open limit was front same reads (inr few) = subst (λ k. length front ≤ k) same few
 
 -- some bytes more: the batches given are the same
-pub record Moved (limit : ℕ) (now : Batches) (source after : SourceView) (front more : List ℕ) (m : ℕ) : Type 0 where
-  pub reached : Reached limit now source after (front ++ more) m
+pub record Moved (place : Place) (front more : List ℕ) (m : ℕ) : Type 0 where
+  pub reached : Reached place (front ++ more) m
   pub same : given (front ++ more) m ≡ given front m
 
-moved_open : Laws → (limit : ℕ) (was now : Batches) (source mid after : SourceView) (front : List ℕ) (m : ℕ) (Given : List ℕ → ℕ → Type 0)
-    → Stands was front m → Reached limit was source mid front m → (moves : Moves was now mid.left after.left Given) → was.ended ≡ false
-    → Moved limit now source after front moves.bytes m
-moved_open laws limit was now source mid after front m Given stood r moves reads =
+moved_open : Laws → (place : Place) (now : Batches) (after : SourceView) (front : List ℕ) (m : ℕ) (Given : List ℕ → ℕ → Type 0)
+    → Stands place.b front m → Reached place front m → (moves : Moves place.b now place.now.left after.left Given) → place.b.ended ≡ false
+    → Moved (moved_to place now after) front moves.bytes m
+moved_open laws place now after front m Given stood r moves reads =
     let more = moves.bytes in
     let low = r.open_ reads in
     let rises = full_rises laws front more in
@@ -56,49 +70,69 @@ moved_open laws limit was now source mid after front m Given stood r moves reads
     record {
       reached = record {
         limit_ = moves.limit ∙ r.limit_;
-        takes = consumes_on source.left mid.left after.left front more r.takes moves.takes;
+        takes = consumes_on place.source.left place.now.left after.left front more r.takes moves.takes;
         few = subst (λ k. length (front ++ more) ≤ k + 1) r.limit_ (moves.few front m stood);
         at_end = moves.at_end;
-        within = λ ends. within_open limit was (front ++ more) r.limit_ reads (moves.within front m stood ends);
+        within = λ ends. within_open place.limit place.b (front ++ more) r.limit_ reads (moves.within front m stood ends);
         open_ = λ _. omega (arith, low, rises);
         all = omega (arith, low, rises, all);
       };
       same = given_stays laws front more m low;
     }
 
-moved_ended : (limit : ℕ) (was now : Batches) (source mid after : SourceView) (front : List ℕ) (m : ℕ) (Given : List ℕ → ℕ → Type 0)
-    → Stands was front m → Reached limit was source mid front m → (moves : Moves was now mid.left after.left Given) → was.ended ≡ true
-    → Moved limit now source after front moves.bytes m
-moved_ended limit was now source mid after front m Given stood r moves over =
+moved_ended : (place : Place) (now : Batches) (after : SourceView) (front : List ℕ) (m : ℕ) (Given : List ℕ → ℕ → Type 0)
+    → Stands place.b front m → Reached place front m → (moves : Moves place.b now place.now.left after.left Given) → place.b.ended ≡ true
+    → Moved (moved_to place now after) front moves.bytes m
+moved_ended place now after front m Given stood r moves over =
     let more = moves.bytes in
     let stays = moves.stays over in
     let same : front ++ more ≡ front = ap (λ l. front ++ l) stays.0 ∙ append-nil front in
     record {
       reached = record {
         limit_ = moves.limit ∙ r.limit_;
-        takes = consumes_on source.left mid.left after.left front more r.takes moves.takes;
-        few = subst (λ f. length f ≤ limit + 1) (sym same) r.few;
+        takes = consumes_on place.source.left place.now.left after.left front more r.takes moves.takes;
+        few = subst (λ f. length f ≤ place.limit + 1) (sym same) r.few;
         at_end = moves.at_end;
-        within = λ _. subst (λ f. length f ≤ limit) (sym same) (r.within over);
+        within = λ _. subst (λ f. length f ≤ place.limit) (sym same) (r.within over);
         open_ = λ reads. absurd (true_not_false now.ended stays.1 reads);
         all = subst (λ f. m ≤ length (batches (cut_games f))) (sym same) r.all;
       };
       same = ap (λ f. given f m) same;
     }
 
-moved_by : Laws → (limit : ℕ) (was now : Batches) (source mid after : SourceView) (front : List ℕ) (m : ℕ) (Given : List ℕ → ℕ → Type 0)
-    → Stands was front m → Reached limit was source mid front m → (moves : Moves was now mid.left after.left Given) → (was.ended ≡ true) ⊎ (was.ended ≡ false)
-    → Moved limit now source after front moves.bytes m
-moved_by laws limit was now source mid after front m Given stood r moves (inl over) = moved_ended limit was now source mid after front m Given stood r moves over
-moved_by laws limit was now source mid after front m Given stood r moves (inr reads) = moved_open laws limit was now source mid after front m Given stood r moves reads
+moved_by : Laws → (place : Place) (now : Batches) (after : SourceView) (front : List ℕ) (m : ℕ) (Given : List ℕ → ℕ → Type 0)
+    → Stands place.b front m → Reached place front m → (moves : Moves place.b now place.now.left after.left Given) → (place.b.ended ≡ true) ⊎ (place.b.ended ≡ false)
+    → Moved (moved_to place now after) front moves.bytes m
+moved_by laws place now after front m Given stood r moves (inl over) = moved_ended place now after front m Given stood r moves over
+moved_by laws place now after front m Given stood r moves (inr reads) = moved_open laws place now after front m Given stood r moves reads
 
-pub moved : Laws → (limit : ℕ) (was now : Batches) (source mid after : SourceView) (front : List ℕ) (m : ℕ) (Given : List ℕ → ℕ → Type 0)
-    → Stands was front m → Reached limit was source mid front m → (moves : Moves was now mid.left after.left Given) → Moved limit now source after front moves.bytes m
-moved laws limit was now source mid after front m Given stood r moves = moved_by laws limit was now source mid after front m Given stood r moves (cases_Bool was.ended)
+pub moved : Laws → (place : Place) (now : Batches) (after : SourceView) (front : List ℕ) (m : ℕ) (Given : List ℕ → ℕ → Type 0)
+    → Stands place.b front m → Reached place front m → (moves : Moves place.b now place.now.left after.left Given) → Moved (moved_to place now after) front moves.bytes m
+moved laws place now after front m Given stood r moves = moved_by laws place now after front m Given stood r moves (cases_Bool place.b.ended)
 
-pub record Turned (limit : ℕ) (b : Batches) (source now : SourceView) (front : List ℕ) (m : ℕ) (batch : Batch) : Type 0 where
-  pub before : Reached limit b source now front m
-  pub reached : Reached limit b source now front (m + 1)
+-- the bytes that were read, how many batches of them were given, and what their games are read as
+pub record Known (place : Place) : Type 0 where
+  pub front : List ℕ
+  pub m : ℕ
+  pub outcomes : List Outcome
+  pub reached : Reached place front m
+  pub are_read : AreKeptRead (given front m) outcomes
+
+-- the same after a call for the next batch
+abbrev pub known_moved : Laws → (place : Place) (now : Batches) (after : SourceView) (known : Known place) (Given : List ℕ → ℕ → Type 0)
+    → Stands place.b known.front known.m → Moves place.b now place.now.left after.left Given → Known (moved_to place now after)
+known_moved laws place now after known Given stood moves = record {
+  front = known.front ++ moves.bytes;
+  m = known.m;
+  outcomes = known.outcomes;
+  reached = (moved laws place now after known.front known.m Given stood known.reached moves).reached;
+  are_read = subst (λ gs. AreKeptRead gs known.outcomes)
+      (sym (moved laws place now after known.front known.m Given stood known.reached moves).same) known.are_read;
+}
+
+pub record Turned (place : Place) (front : List ℕ) (m : ℕ) (batch : Batch) : Type 0 where
+  pub before : Reached place front m
+  pub reached : Reached place front (m + 1)
   pub games : given front (m + 1) ≡ given front m ++ games_of batch
   pub index : number_of batch ≡ length (given front m)
 
@@ -118,10 +152,10 @@ batch_is : Laws → (b : Batches) (batch : Batch) (front : List ℕ) (m : ℕ) �
     → (slice_get (batches (cut_games front)) m ≡ Some (games_of batch)) × (number_of batch ≡ length (given front m)) × (b.ended ≡ false → m + 1 ≤ length (full_batches (closed_games front)))
 batch_is laws b batch front m gives = batch_cases laws b batch front m gives.is
 
-pub turned : Laws → (limit : ℕ) (b : Batches) (source now : SourceView) (front : List ℕ) (m : ℕ) (batch : Batch) → Reached limit b source now front m → GivesBatch b batch front m
-    → Turned limit b source now front m batch
-turned laws limit b source now front m batch r gives =
-    let is = batch_is laws b batch front m gives in
+pub turned : Laws → (place : Place) (front : List ℕ) (m : ℕ) (batch : Batch) → Reached place front m → GivesBatch place.b batch front m
+    → Turned place front m batch
+turned laws place front m batch r gives =
+    let is = batch_is laws place.b batch front m gives in
     let less = slice_get_within (batches (cut_games front)) m (games_of batch) is.0 in
     record {
       before = r;
@@ -138,8 +172,8 @@ turned laws limit b source now front m batch r gives =
       index = is.1;
     }
 
-pub takes_some : (limit : ℕ) (b : Batches) (source now : SourceView) (front : List ℕ) (m : ℕ) → Reached limit b source now front m → TakesAtMost (limit + 1) source.left now.left
-takes_some limit b source now front m r = record { bytes = front; takes = r.takes; few = r.few }
+pub takes_some : (place : Place) (front : List ℕ) (m : ℕ) → Reached place front m → TakesAtMost (place.limit + 1) place.source.left place.now.left
+takes_some place front m r = record { bytes = front; takes = r.takes; few = r.few }
 
 pub record ReadsAll (limit : ℕ) (source now : SourceView) (archive : List ℕ) (rs : List Outcome) : Type 0 where
   pub takes : Consumes source.left now.left archive
@@ -148,21 +182,21 @@ pub record ReadsAll (limit : ℕ) (source now : SourceView) (archive : List ℕ)
   pub counts : now.faults ≡ source.faults
   pub are_read : HasGames archive rs
 
-pub all_read : Laws → (limit : ℕ) (b : Batches) (source now : SourceView) (front : List ℕ) (m : ℕ) (rs : List Outcome) → Reached limit b source now front m → now.faults ≡ source.faults
-    → AreKeptRead (given front m) rs → HasGivenAll b front m → ReadsAll limit source now front rs
-all_read laws limit b source now front m rs r counts read none =
-    let bs = batches (cut_games front) in
-    let games : given front m ≡ cut_games front = ap flat (take_all m bs (let a = none.all in omega (arith, a))) ∙ all_batches laws (cut_games front) in
+pub all_read : Laws → (place : Place) (known : Known place) → place.now.faults ≡ place.source.faults
+    → HasGivenAll place.b known.front known.m → ReadsAll place.limit place.source place.now known.front known.outcomes
+all_read laws place known counts none =
+    let bs = batches (cut_games known.front) in
+    let games : given known.front known.m ≡ cut_games known.front = ap flat (take_all known.m bs (let a = none.all in omega (arith, a))) ∙ all_batches laws (cut_games known.front) in
     record {
-      takes = r.takes;
-      within = r.within none.ended;
-      at_end = r.at_end none.ended;
+      takes = known.reached.takes;
+      within = known.reached.within none.ended;
+      at_end = known.reached.at_end none.ended;
       counts = counts;
-      are_read = reads_archive laws front (cut front) rs (subst (λ gs. AreKeptRead gs rs) games read);
+      are_read = reads_archive laws known.front (cut known.front) known.outcomes (subst (λ gs. AreKeptRead gs known.outcomes) games known.are_read);
     }
 
 -- before the first read
-pub no_reads : (limit : ℕ) (b : Batches) (source : SourceView) → b.limit ≡ limit → b.ended ≡ false → Reached limit b source source [] 0
+pub no_reads : (limit : ℕ) (b : Batches) (source : SourceView) → b.limit ≡ limit → b.ended ≡ false → Reached (place_of limit b source source) [] 0
 no_reads limit b source same reads = record {
   limit_ = same;
   takes = consumes_none source.left;
@@ -174,8 +208,8 @@ no_reads limit b source same reads = record {
 }
 
 -- there are no more batches than bytes
-pub rounds_few : Laws → (limit : ℕ) (b : Batches) (source now : SourceView) (front : List ℕ) (m : ℕ) → Reached limit b source now front m → m < limit + 3
-rounds_few laws limit b source now front m reached =
+pub rounds_few : Laws → (place : Place) (front : List ℕ) (m : ℕ) → Reached place front m → m < place.limit + 3
+rounds_few laws place front m reached =
     let games = cut_games front in
     let most = reached.all in
     let parts = length-append (full_batches games) (as_last (left_over games)) in

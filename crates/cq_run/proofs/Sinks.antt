@@ -54,15 +54,58 @@ took_front a b xs more f = record { part = xs; rest = more; is = refl; grew = f 
 pub prefix_of : (a b : Option (List ℕ)) (text : List ℕ) → (t : Took a b text) → Grew a b (take (length t.part) text)
 prefix_of a b text t = subst (λ l. Grew a b (take (length t.part) l)) (sym t.is) (grew_part a b t.part t.rest t.grew)
 
--- where no write had failed, the one that failed after that is the only one
-pub fails_after : (out mid_out new_out err mid_err new_err : SinkView) → NoWriteFailed (sinks_of out mid_out err mid_err) → OneSinkFailed (sinks_of mid_out new_out mid_err new_err)
-    → OneSinkFailed (sinks_of out new_out err new_err)
-fails_after out mid_out new_out err mid_err new_err none (inl (rose, same)) = inl (subst (λ n. Rose n new_out.faults) none.out rose, same ∙ none.err)
-fails_after out mid_out new_out err mid_err new_err none (inr (rose, same)) = inr (subst (λ n. Rose n new_err.faults) none.err rose, same ∙ none.out)
+-- the two sinks at three moments: as a call began, now, and once more is written
+pub record Moments : Type 0 where
+  pub out : SinkView
+  pub now_out : SinkView
+  pub new_out : SinkView
+  pub err : SinkView
+  pub now_err : SinkView
+  pub new_err : SinkView
 
-pub none_after : (out mid_out new_out err mid_err new_err : SinkView) → NoWriteFailed (sinks_of out mid_out err mid_err) → NoWriteFailed (sinks_of mid_out new_out mid_err new_err)
-    → NoWriteFailed (sinks_of out new_out err new_err)
-none_after out mid_out new_out err mid_err new_err none later = record { out = later.out ∙ none.out; err = later.err ∙ none.err }
+abbrev pub until_now : Moments → Sinks
+until_now at = sinks_of at.out at.now_out at.err at.now_err
+
+abbrev pub from_now : Moments → Sinks
+from_now at = sinks_of at.now_out at.new_out at.now_err at.new_err
+
+abbrev pub in_all : Moments → Sinks
+in_all at = sinks_of at.out at.new_out at.err at.new_err
+
+-- the same, where one sink alone is written to once more
+abbrev pub with_out : Sinks → SinkView → Sinks
+with_out sinks out = sinks_of sinks.out out sinks.err sinks.err_after
+
+abbrev pub with_err : Sinks → SinkView → Sinks
+with_err sinks err = sinks_of sinks.out sinks.out_after sinks.err err
+
+abbrev pub then_out : Sinks → SinkView → Moments
+then_out sinks out = record {
+  out = sinks.out;
+  now_out = sinks.out_after;
+  new_out = out;
+  err = sinks.err;
+  now_err = sinks.err_after;
+  new_err = sinks.err_after;
+}
+
+abbrev pub then_err : Sinks → SinkView → Moments
+then_err sinks err = record {
+  out = sinks.out;
+  now_out = sinks.out_after;
+  new_out = sinks.out_after;
+  err = sinks.err;
+  now_err = sinks.err_after;
+  new_err = err;
+}
+
+-- where no write had failed, the one that failed after that is the only one
+pub fails_after : (at : Moments) → NoWriteFailed (until_now at) → OneSinkFailed (from_now at) → OneSinkFailed (in_all at)
+fails_after at none (inl (rose, same)) = inl (subst (λ n. Rose n at.new_out.faults) none.out rose, same ∙ none.err)
+fails_after at none (inr (rose, same)) = inr (subst (λ n. Rose n at.new_err.faults) none.err rose, same ∙ none.out)
+
+pub none_after : (at : Moments) → NoWriteFailed (until_now at) → NoWriteFailed (from_now at) → NoWriteFailed (in_all at)
+none_after at none later = record { out = later.out ∙ none.out; err = later.err ∙ none.err }
 
 pub some_failed : (sinks : Sinks) → OneSinkFailed sinks → SinkFailed sinks
 some_failed sinks (inl (rose, same)) = inl rose

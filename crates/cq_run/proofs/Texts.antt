@@ -14,7 +14,7 @@ use Rattle.cql_syntax.specs.declared.typed.TypedQuery.{TypedQuery}
 use Rattle.cql_lexer.specs.Tokens.{tokens_of}
 use Rattle.cql_parser.specs.Drafts.{Spells}
 use Rattle.cql_parser.specs.Faults.{IsFault}
-use Rattle.cq_run.specs.Asked.{ReadsQuery}
+use Rattle.cq_run.specs.QueryReading.{ReadsQuery}
 
 pub untokened : (text : List ℕ) (refusal : Refusal QueryFault) → Refuses refusal (tokens_of text) → ReadsQuery text (Err refusal)
 untokened text (Fault fault) e = inl e

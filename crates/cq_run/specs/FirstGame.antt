@@ -3,7 +3,7 @@ use Rattle.std.specs.Prelude.{◌≡◌, ℕ, Bool, true, false, List, [], ◌�
 use Rattle.cql_syntax.specs.Trees.{QueryTree}
 use Rattle.cq_shards.specs.Outcomes.{Outcome}
 use Rattle.cq_run.specs.Answer.{export_if, fault_lines, is_match, report_of, tally_of}
-use Rattle.cq_run.specs.Asking.{texts_of}
+use Rattle.cq_run.specs.AllGames.{texts_of}
 use Rattle.cq_run.specs.Promise.{Texts, Wanted}
 
 -- whether one of some games matches

@@ -6,10 +6,10 @@ pub mod Sorts
 pub mod Exports
 pub mod ByBatches
 pub mod Promise
-pub mod Asking
+pub mod AllGames
 pub mod FirstGame
 pub mod Writing
 pub mod SelfRun
 pub mod Run
-pub mod Asked
+pub mod QueryReading
 pub mod Command

@@ -18,7 +18,7 @@ use Rattle.cq_shards.specs.declared.answers.GameAnswer.{GameAnswer}
 use Rattle.cq_shards.specs.Outcomes.{Outcome}
 use Rattle.cq_run.specs.Answer.{export_if, fault_if, is_match, is_refused, summary_of, tally_of}
 use Rattle.cq_run.specs.Exports.{exports_of, match_if, matches_from}
-use Rattle.cq_run.specs.Asking.{AreAnswers, texts_of, texts_so_far, written}
+use Rattle.cq_run.specs.AllGames.{AreAnswers, texts_of, texts_so_far, written}
 use Rattle.cq_run.specs.Promise.{SinkView, Sinks, Texts, Writes, WritesPrefix, WritesAll, WritesPart, Unfinished, IsUnwritten}
 use Rattle.cq_run.specs.Promise.{OneSinkFailed, NoWriteFailed}
 

@@ -1,7 +1,7 @@
 //! The program, but for the real things that it is handed.
 ghost use Rattle.std.specs.Prelude.{map, MatchResult};
 ghost use Rattle.std.specs.String.{string_bytes};
-ghost use Rattle.cq_run.specs.Asked.{call_of};
+ghost use Rattle.cq_run.specs.QueryReading.{call_of};
 ghost use Rattle.cq_run.specs.Command.{EndsWords, EndsWithoutWords};
 ghost use Rattle.cq_run.specs.Promise.{desk_view, sink_view, sinks_of};
 

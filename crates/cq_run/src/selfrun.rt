@@ -5,16 +5,16 @@ ghost use Rattle.cql_syntax.specs.Trees.{QueryTree};
 ghost use Rattle.cq_maker.specs.Made.{made};
 ghost use Rattle.cq_shards.specs.Answers.{answer_of, answers_from, query_in};
 ghost use Rattle.cq_shards.specs.Outcomes.{Outcome};
-ghost use Rattle.cq_run.specs.Asked.{call_of};
+ghost use Rattle.cq_run.specs.QueryReading.{call_of};
 ghost use Rattle.cq_run.specs.Promise.{DeskView, SinkView, sink_view, sinks_of};
 ghost use Rattle.cq_run.specs.Run.{OverText, RunsMade};
 ghost use Rattle.cq_run.specs.SelfRun.{AreTotals, WritesMade, WritesTotals, totals_of};
 ghost use Rattle.cq_run.specs.Writing.{counted};
 
-use crate::asked::{read_query, refuse};
+use crate::all_games::batch_answers;
 use crate::laws::archives_come_in_batches;
+use crate::queries::{read_query, refuse_query};
 use crate::status::Status;
-use crate::streaming::batch_answers;
 use crate::tally::Tally;
 use crate::totals::Totals;
 use cq_maker::laws::archives_are_short;
@@ -50,7 +50,7 @@ pub fn answer_text_over_made<R: Threads + Sync, O: Sink, E: Sink, G: Gate + Sync
 {
     let query = match read_query(alloc, text) {
         Ok(query) => query,
-        Err(Refusal::Fault(fault)) => return refuse(alloc, &fault, err),
+        Err(Refusal::Fault(fault)) => return refuse_query(alloc, &fault, err),
         Err(Refusal::NoMemory) => return Status::NoMemory,
     };
     answer_made(rt, alloc, &query, seed, games, workers, out, gate)

@@ -10,11 +10,11 @@ use cql_syntax::{Filter, Filters, Form};
 pub fn have_sort(filters: &Filters) -> bool
     ensures { result ≡ some_sort (filters_tree filters.now) }
 {
-    any_in(filters.as_slice())
+    any_is_sort(filters.as_slice())
 }
 
 // The same of the filters in a row.
-fn any_in(filters: &[Filter]) -> bool
+fn any_is_sort(filters: &[Filter]) -> bool
     ensures { result ≡ list_any (λ f. is_sort (filter_tree f)) filters.now }
 {
     filters.iter().any(|filter| is_sort(filter))

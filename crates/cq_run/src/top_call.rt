@@ -3,13 +3,13 @@ ghost use Rattle.std.specs.Prelude.{map, ◌≤◌, ◌^◌};
 ghost use Rattle.std.specs.String.{string_bytes};
 ghost use Rattle.cq_words.specs.Jobs.{IsInRange};
 ghost use Rattle.cql_syntax.specs.TreeOf.{query_tree};
-ghost use Rattle.cq_run.specs.Asked.{call_of};
+ghost use Rattle.cq_run.specs.QueryReading.{call_of};
 ghost use Rattle.cq_run.specs.Promise.{SinkView, desk_view, sink_view, sinks_of};
 ghost use Rattle.cq_run.specs.Run.{Promise, AnswersFile, OverText, OverFile, SaysAccepted, Explains, DoesJob, WritesUsage};
 
-use crate::answering::answer;
-use crate::asked::{accept, query_in_file, read_query, refuse, tell_why};
-use crate::explaining::explain;
+use crate::archives::answer;
+use crate::flat_form::explain;
+use crate::queries::{accept_query, query_in_file, read_query, refuse_query, report_refusal};
 use crate::selfrun::answer_text_over_made;
 use crate::status::Status;
 use cq_outside::{Desk, Gate, OpenFault, Refusal, Sink, write_all_of};
@@ -171,7 +171,7 @@ fn answer_query_file<R: Threads + Sync, D: Desk, O: Sink, E: Sink, G: Gate + Syn
 {
     match query_in_file(alloc, name, desk) {
         Ok(query) => answer_file(rt, alloc, &query, archive, settings, desk, out, err, gate),
-        Err(why) => tell_why(alloc, &why, err),
+        Err(why) => report_refusal(alloc, &why, err),
     }
 }
 
@@ -196,7 +196,7 @@ fn answer_text<R: Threads + Sync, D: Desk, O: Sink, E: Sink, G: Gate + Sync>(
 {
     let query = match read_query(alloc, text) {
         Ok(query) => query,
-        Err(Refusal::Fault(fault)) => return refuse(alloc, &fault, err),
+        Err(Refusal::Fault(fault)) => return refuse_query(alloc, &fault, err),
         Err(Refusal::NoMemory) => return Status::NoMemory,
     };
     answer_file(rt, alloc, &query, archive, settings, desk, out, err, gate)
@@ -242,8 +242,8 @@ fn check_file<D: Desk, O: Sink, E: Sink>(
         (sink_view E.taken E.faults err.old) (sink_view E.taken E.faults err.new))) }
 {
     match query_in_file(alloc, name, desk) {
-        Ok(_) => accept(out),
-        Err(why) => tell_why(alloc, &why, err),
+        Ok(_) => accept_query(out),
+        Err(why) => report_refusal(alloc, &why, err),
     }
 }
 
@@ -262,6 +262,6 @@ fn explain_file<D: Desk, O: Sink, E: Sink>(
 {
     match query_in_file(alloc, name, desk) {
         Ok(query) => explain(alloc, &query, out),
-        Err(why) => tell_why(alloc, &why, err),
+        Err(why) => report_refusal(alloc, &why, err),
     }
 }

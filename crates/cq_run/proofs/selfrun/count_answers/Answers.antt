@@ -1,6 +1,6 @@
 use Rattle.std.proofs.Common.{◌++◌, ◌∷◌, [], length, length-append, append-nil, append_assoc, ap, sym, ◌∙◌, arith, rules}
 use Rattle.cq_run.specs.SelfRun.{totals_of}
-use Rattle.cq_run.proofs.Answers.{all_of_batch, no_items}
+use Rattle.cq_run.proofs.GameByGame.{InBatch, all_of_batch, no_items}
 use Rattle.cq_run.proofs.Counting.{count_more}
 use Rattle.cq_run.proofs.selfrun.count_answers.Goals as goal
 
@@ -24,7 +24,14 @@ loop-answer-preserved c =
       c.count_answer-after.ensures.refused,
       c.count_answer-after.ensures.written,
       λ query bytes rs qs are is.
-          count_more query bytes rs qs ys _ _ _ c.in-Some.answer c.loop-answer.totals c.count_answer-after.result was.0 c.in-Some.ensures.steps.0 are (was.5 query bytes rs qs are is)
+          let batch : InBatch query c.in-Some.answer = record {
+            before = rs;
+            outcomes = qs;
+            ys = ys;
+            more = c.next.new.self.rest.items;
+            are = ap (λ l. ys ++ l) (sym c.in-Some.ensures.steps.0) ∙ sym was.0 ∙ are;
+          } in
+          count_more query bytes c.in-Some.answer batch c.loop-answer.totals c.count_answer-after.result (was.5 query bytes rs qs are is)
           (λ r n same. c.count_answer-after.ensures.counts query r n same),
     )
 
@@ -38,7 +45,14 @@ loop-answer-preserved-in-Some c =
       c.count_answer-after.ensures.refused,
       c.count_answer-after.ensures.written,
       λ query bytes rs qs are is.
-          count_more query bytes rs qs ys _ _ _ c.in-Some.answer c.loop-answer.totals c.count_answer-after.result was.0 c.in-Some.ensures.steps.0 are (was.5 query bytes rs qs are is)
+          let batch : InBatch query c.in-Some.answer = record {
+            before = rs;
+            outcomes = qs;
+            ys = ys;
+            more = c.next.new.self.rest.items;
+            are = ap (λ l. ys ++ l) (sym c.in-Some.ensures.steps.0) ∙ sym was.0 ∙ are;
+          } in
+          count_more query bytes c.in-Some.answer batch c.loop-answer.totals c.count_answer-after.result (was.5 query bytes rs qs are is)
           (λ r n same. c.count_answer-after.ensures.counts query r n same),
     )
 

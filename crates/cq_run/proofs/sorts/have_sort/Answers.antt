@@ -4,4 +4,4 @@ use Rattle.cq_run.proofs.SortItems.{sort_in}
 use Rattle.cq_run.proofs.sorts.have_sort.Goals as goal
 
 pub returns : goal.returns
-returns c = c.any_in.ensures ∙ sym (sort_in c.as_slice.result.now) ∙ ap have_sort c.as_slice.ensures.tree
+returns c = c.any_is_sort.ensures ∙ sym (sort_in c.as_slice.result.now) ∙ ap have_sort c.as_slice.ensures.tree

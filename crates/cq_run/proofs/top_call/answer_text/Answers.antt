@@ -15,4 +15,4 @@ returns-in-Err-Fault g c =
     let is = c.in-Err-Fault.is ∙ ap Err c.in-Err-Fault.field-0-is in
     let faulty = rw is at c.read_query.ensures in
     text_refused c.in-Err-Fault.fault faulty
-    (subst (λ (f : QueryFault). RefusesQuery f c.refuse.result (sinks_of out out (err c.args.err.now) (err c.refuse.new.err))) c.in-Err-Fault.fault-is (c.refuse.ensures out)) refl
+    (subst (λ (f : QueryFault). RefusesQuery f c.refuse_query.result (sinks_of out out (err c.args.err.now) (err c.refuse_query.new.err))) c.in-Err-Fault.fault-is (c.refuse_query.ensures out)) refl

@@ -2,7 +2,7 @@ use Rattle.std.proofs.Common.{refl}
 use Rattle.cql_syntax.specs.TreeOf.{query_tree}
 use Rattle.cq_run.specs.Promise.{desk_view, sink_view}
 use Rattle.cq_run.specs.Run.{Explains}
-use Rattle.cq_run.proofs.Doing.{file_answered, told_why}
+use Rattle.cq_run.proofs.RunPromise.{file_answered, told_why}
 use Rattle.cq_run.proofs.top_call.explain_file.Goals as goal
 
 pub returns-in-Ok : goal.returns-in-Ok
@@ -14,5 +14,5 @@ returns-in-Ok g c =
 pub returns-in-Err : goal.returns-in-Err
 returns-in-Err g c =
     let view = desk_view g.D.Desk.told g.D.Source.left g.D.Source.faults g.D.Desk.open_faults in
-    told_why c.args.name.now Explains c.in-Err.why c.tell_why.result (view c.args.desk.now) (view c.query_in_file.new.desk) _
-    c.in-Err.ensures (c.tell_why.ensures (sink_view g.O.Sink.taken g.O.Sink.faults c.args.out.now))
+    told_why c.args.name.now Explains c.in-Err.why c.report_refusal.result (view c.args.desk.now) (view c.query_in_file.new.desk) _
+    c.in-Err.ensures (c.report_refusal.ensures (sink_view g.O.Sink.taken g.O.Sink.faults c.args.out.now))

@@ -1,6 +1,6 @@
 use Rattle.std.proofs.Common.{Err, ap, ◌∙◌, refl}
 use Rattle.cq_run.specs.Promise.{sink_view, desk_view}
-use Rattle.cq_run.proofs.Doing.{job_promised, refusal_promised, memory_refusal_promised}
+use Rattle.cq_run.proofs.RunPromise.{job_promised, refusal_promised, memory_refusal_promised}
 use Rattle.cq_run.proofs.top_call.run.Goals as goal
 
 pub returns-in-Ok : goal.returns-in-Ok

@@ -1,0 +1,105 @@
+//! Reading a query, and saying what is wrong with one.
+ghost use Rattle.cq_run.specs.QueryReading.{ReadsQuery, ReadsFile, TellsWhy};
+ghost use Rattle.cq_run.specs.Promise.{SinkView, desk_view, sink_view, sinks_of};
+ghost use Rattle.cq_run.specs.Run.{AcceptsQuery, RefusesQuery};
+
+use crate::status::Status;
+use cq_outside::{Desk, OpenFault, Refusal, Sink, read_up_to, write_all_of};
+use cq_report::query_line;
+use cql_kinds::check;
+use cql_lexer::{QUERY_LIMIT, query_tokens};
+use cql_parser::{parse, spelled_queries_have_no_any, tokens_of_a_text_are_ended};
+use cql_syntax::{QueryFault, TypedQuery};
+use std::alloc::Global;
+
+/// The line that answers a query that is accepted.
+const ACCEPTED: &[u8] = b"ok\n";
+
+/// Why the query in a file is not answered.
+#[derive(Drop)]
+pub enum QueryRefusal {
+    /// The query has a fault.
+    Faulty(QueryFault),
+    /// The file could not be opened.
+    Unopened,
+    /// The file could not be read.
+    Unread,
+    /// No memory was found.
+    OutOfMemory,
+}
+
+/// The query that a text is, or its fault.
+#[tactic(auto, using(crate::proofs::Texts::untokened, crate::proofs::Texts::unparsed))]
+pub fn read_query(alloc: Global, text: &[u8]) -> Result<TypedQuery, Refusal<QueryFault>>
+    ensures { ReadsQuery text.now result }
+{
+    tokens_of_a_text_are_ended();
+    spelled_queries_have_no_any();
+    let tokens = query_tokens(alloc, text)?;
+    let query = parse(alloc, tokens.as_slice())?;
+    check(&query)
+}
+
+/// The query in a file, of which at most 65,537 bytes are taken, or why there is none.
+pub fn query_in_file<D: Desk>(
+    alloc: Global,
+    name: &[u8],
+    desk: &mut D,
+) -> Result<TypedQuery, QueryRefusal>
+    ensures { ReadsFile name.now (desk_view D.told D.left D.faults D.open_faults desk.old)
+        (desk_view D.told D.left D.faults D.open_faults desk.new) result }
+{
+    match desk.open(alloc, name) {
+        Ok(()) => {}
+        Err(OpenFault::Failed) => return Err(QueryRefusal::Unopened),
+        Err(OpenFault::NoMemory) => return Err(QueryRefusal::OutOfMemory),
+    }
+    let text = match read_up_to(desk, alloc, QUERY_LIMIT) {
+        Ok(text) => text,
+        Err(Refusal::Fault(_)) => return Err(QueryRefusal::Unread),
+        Err(Refusal::NoMemory) => return Err(QueryRefusal::OutOfMemory),
+    };
+    match read_query(alloc, text.as_slice()) {
+        Ok(query) => Ok(query),
+        Err(Refusal::Fault(fault)) => Err(QueryRefusal::Faulty(fault)),
+        Err(Refusal::NoMemory) => Err(QueryRefusal::OutOfMemory),
+    }
+}
+
+/// Says why the query in a file is not answered.
+pub fn report_refusal<E: Sink>(alloc: Global, why: &QueryRefusal, err: &mut E) -> Status
+    ensures { (out : SinkView) → TellsWhy why.now result
+        (sinks_of out out (sink_view E.taken E.faults err.old) (sink_view E.taken E.faults err.new)) }
+{
+    match why {
+        QueryRefusal::Faulty(fault) => refuse_query(alloc, fault, err),
+        QueryRefusal::Unopened => Status::OpenFault,
+        QueryRefusal::Unread => Status::ReadFault,
+        QueryRefusal::OutOfMemory => Status::NoMemory,
+    }
+}
+
+/// Writes the line of a query that is refused.
+pub fn refuse_query<E: Sink>(alloc: Global, fault: &QueryFault, err: &mut E) -> Status
+    ensures { (out : SinkView) → RefusesQuery fault.now result
+        (sinks_of out out (sink_view E.taken E.faults err.old) (sink_view E.taken E.faults err.new)) }
+{
+    let Ok(line) = query_line(alloc, fault) else {
+        return Status::NoMemory;
+    };
+    match write_all_of(err, line.as_slice()) {
+        Ok(()) => Status::QueryRefused,
+        Err(_) => Status::WriteFault,
+    }
+}
+
+/// Writes the line of a query that is accepted.
+pub fn accept_query<O: Sink>(out: &mut O) -> Status
+    ensures { (err : SinkView) → AcceptsQuery result
+        (sinks_of (sink_view O.taken O.faults out.old) (sink_view O.taken O.faults out.new) err err) }
+{
+    match write_all_of(out, ACCEPTED) {
+        Ok(()) => Status::Done,
+        Err(_) => Status::WriteFault,
+    }
+}
