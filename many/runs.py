@@ -134,8 +134,6 @@ def answer(folder, number):
         with open(out, "wb") as to, open(err, "wb") as report:
             words = [job["program"], "run", os.path.join(folder, "ask.cql"), "-", *job["words"]]
             status, taken = ask(words, job["archive"], piece, to, report)
-            os.fsync(to.fileno())
-            os.fsync(report.fileno())
         if status not in (0, 1):
             ended = "status %d" % status if status > 0 else "signal %d" % -status
             raise NoAnswer("piece %d: the program ended with %s" % (number, ended), status if status > 0 else 9)
@@ -145,8 +143,6 @@ def answer(folder, number):
             raise NoAnswer("piece %d: the program did not take all bytes" % number)
         with open(last, "wb") as file:
             file.write(b"%d %d %d\n" % (status, os.path.getsize(out), os.path.getsize(err)))
-            file.flush()
-            os.fsync(file.fileno())
         if match:
             write(b"", folder, "%d.match" % number)
         for name in (out, err, last):
