@@ -122,6 +122,23 @@ def ask(words, archive, piece, out, err):
         return program.wait(), taken
 
 
+def moved(report, piece, first):
+    """The lines of a piece's report with games and bytes as they are counted in the archive, and its counts: games, matched, refused. It has
+    as many games as the table says, or fewer where the first match ended the run."""
+    lines = report.splitlines(keepends=True)
+    counts = COUNTS.fullmatch(lines[-1]) if lines else None
+    faults = [FAULT.fullmatch(line) for line in lines[:-1]]
+    if not counts or None in faults:
+        raise NoAnswer("piece %d: its report can't be read" % piece.number)
+    games, matched, refused = map(int, counts.groups())
+    if games > piece.games or games < piece.games and not (first and matched):
+        raise NoAnswer("piece %d has %d games, by the table %d" % (piece.number, games, piece.games))
+    # the space before all pieces but the first is no byte of the archive
+    game, byte = piece.first - 1, piece.offset - (piece.offset > 0)
+    text = b"".join(b"game %d byte %d: %s\n" % (int(fault[1]) + game, int(fault[2]) + byte, fault[3]) for fault in faults)
+    return text, (games, matched, refused)
+
+
 def answer(folder, number):
     """Lays the answer of a piece into the folder, if it is wanted and not there. Whatever fails, no part of an answer has its name."""
     if not wanted(folder, [number]):
@@ -137,8 +154,8 @@ def answer(folder, number):
         if status not in (0, 1):
             ended = "status %d" % status if status > 0 else "signal %d" % -status
             raise NoAnswer("piece %d: the program ended with %s" % (number, ended), status if status > 0 else 9)
-        counts = COUNTS.search(read(err))
-        match = job["first"] and counts and counts[2] == b"1"
+        _, counts = moved(read(err), piece, job["first"])
+        match = job["first"] and counts[1] > 0
         if not taken and not match:
             raise NoAnswer("piece %d: the program did not take all bytes" % number)
         with open(last, "wb") as file:
@@ -170,19 +187,6 @@ def is_whole(folder, number):
     return len(words) == 3 and words[1:] == sizes
 
 
-def moved(report, piece):
-    """the lines of a piece's report with games and bytes as they are counted in the archive, and its counts"""
-    lines = report.splitlines(keepends=True)
-    counts = COUNTS.fullmatch(lines[-1]) if lines else None
-    faults = [FAULT.fullmatch(line) for line in lines[:-1]]
-    if not counts or None in faults:
-        raise NoAnswer("piece %d: its report can't be read" % piece.number)
-    # the space before all pieces but the first is no byte of the archive
-    game, byte = piece.first - 1, piece.offset - (piece.offset > 0)
-    text = b"".join(b"game %d byte %d: %s\n" % (int(fault[1]) + game, int(fault[2]) + byte, fault[3]) for fault in faults)
-    return text, [int(count) for count in counts.groups()]
-
-
 def join(folder):
     """The answer of the whole, but for its games: the pieces whose exports follow one another, the report, its counts, and the status."""
     job, sums, texts, joined = read_job(folder), [0, 0, 0], [], []
@@ -191,14 +195,11 @@ def join(folder):
             raise NoAnswer("piece %d has no answer" % piece.number)
         if not is_whole(folder, piece.number):
             raise NoAnswer("piece %d: its answer has other sizes than its status says" % piece.number)
-        text, counts = moved(read(folder, "%d.err" % piece.number), piece)
-        ends_here = job["first"] and counts[1] > 0
-        if counts[0] > piece.games or not ends_here and counts[0] < piece.games:
-            raise NoAnswer("piece %d has %d games, by the table %d" % (piece.number, counts[0], piece.games))
+        text, counts = moved(read(folder, "%d.err" % piece.number), piece, job["first"])
         sums = [a + b for a, b in zip(sums, counts)]
         texts.append(text)
         joined.append(piece)
-        if ends_here:
+        if job["first"] and counts[1]:
             break
     texts.append(b"games %d matched %d refused %d\n" % tuple(sums))
     return joined, b"".join(texts), sums, 1 if sums[2] else 0
