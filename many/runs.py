@@ -16,6 +16,7 @@ import os
 import re
 import shutil
 import subprocess
+import sys
 import tempfile
 from collections import namedtuple
 
@@ -210,3 +211,18 @@ def copy_games(folder, joined, to):
     for piece in joined:
         with open(os.path.join(folder, "%d.out" % piece.number), "rb") as exports:
             shutil.copyfileobj(exports, to, BLOCK)
+
+
+def write_answer(copy, report, status):
+    """writes games to standard output and the report to standard error; answers the status, or that of a failed write"""
+    try:
+        copy(sys.stdout.buffer)
+        sys.stdout.flush()
+        sys.stderr.buffer.write(report)
+        sys.stderr.flush()
+    except OSError:
+        # what is still kept for a stream that takes nothing goes nowhere
+        for stream in (1, 2):
+            os.dup2(os.open(os.devnull, os.O_WRONLY), stream)
+        return 6
+    return status
