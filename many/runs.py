@@ -109,12 +109,16 @@ def feed(archive, piece, to):
 
 def ask(words, archive, piece, out, err):
     """the exit status of the program after a piece, and whether it took all bytes"""
-    with subprocess.Popen(words, stdin=subprocess.PIPE, stdout=out, stderr=err, bufsize=0) as program:
+    try:
+        program = subprocess.Popen(words, stdin=subprocess.PIPE, stdout=out, stderr=err, bufsize=0)
+    except OSError as fault:
+        raise NoAnswer("piece %d: %s: %s" % (piece.number, words[0], fault.strerror), 4) from fault
+    with program:
         try:
             taken = feed(archive, piece, program.stdin)
         except OSError as fault:
             program.kill()
-            raise NoAnswer("piece %d: %s: %s" % (piece.number, archive, fault.strerror), 5) from fault
+            raise NoAnswer("piece %d: %s: %s" % (piece.number, archive, fault.strerror), 4 if fault.filename else 5) from fault
         except BaseException:
             # what the program would say of a part is not wanted
             program.kill()
