@@ -128,8 +128,8 @@ def ask(words, archive, piece, out, err):
 
 
 def moved(report, piece, first):
-    """The lines of a piece's report with games and bytes as they are counted in the archive, and its counts: games, matched, refused. It has
-    as many games as the table says, or fewer where the first match ended the run."""
+    """The lines of a piece's report with games and bytes as they are counted in the archive, and its counts: games, matched, refused.
+    It has as many games as the table says, or fewer where the first match ended the run."""
     lines = report.splitlines(keepends=True)
     counts = COUNTS.fullmatch(lines[-1]) if lines else None
     faults = [FAULT.fullmatch(line) for line in lines[:-1]]
