@@ -79,7 +79,7 @@ def wanted(folder, numbers):
     """those of the pieces that have no answer yet, and before which no piece has a match where the first match alone is wanted"""
     names = set(os.listdir(folder))
     match = min((int(name[:-6]) for name in names if re.fullmatch(r"\d+\.match", name)), default=None)
-    return [number for number in numbers if "%d.status" % number not in names and (match is None or number < match)]
+    return [number for number in numbers if "%d.status" % number not in names and (match is None or number <= match)]
 
 
 def feed(archive, piece, to):
