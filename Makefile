@@ -16,8 +16,8 @@ demo:
 build:
 	@bash scripts/build.sh
 
-# Installs what `make build` has built, with manual pages, completion for bash, zsh and fish, a syntax file for vim, the page of boards
-# and the wrapper for several archives.
+# Installs what `make build` has built, with manual pages, completion for bash, zsh and fish, a syntax file for vim, the page of boards,
+# the wrapper for several archives and the scripts for many machines.
 install:
 	@test -x $(PROGRAM) -a -x $(PIECES) || { echo "make build comes first"; exit 1; }
 	install -D $(PROGRAM) $(BIN)/cqlpgn
@@ -25,6 +25,9 @@ install:
 	install -D contrib/cqlpgn-over $(BIN)/cqlpgn-over
 	install -D view/diagrams $(SHARE)/cqlpgn/view/diagrams
 	install -m 644 view/*.py view/page.html $(SHARE)/cqlpgn/view
+	install -d $(SHARE)/cqlpgn/many
+	install $(filter-out %.py,$(wildcard many/*)) $(SHARE)/cqlpgn/many
+	install -m 644 many/*.py $(SHARE)/cqlpgn/many
 	ln -sf ../share/cqlpgn/view/diagrams $(BIN)/cqlpgn-diagrams
 	install -D -m 644 docs/cqlpgn.1 $(SHARE)/man/man1/cqlpgn.1
 	install -m 644 docs/pgnpieces.1 $(SHARE)/man/man1/pgnpieces.1
@@ -66,7 +69,7 @@ deb:
 	@test -x $(PROGRAM) -a -x $(PIECES) || { echo "make build comes first"; exit 1; }
 	rm -rf out/deb
 	mkdir -p out/deb/cqlpgn/crates/cqlpgn/out out/deb/cqlpgn/crates/pgnpieces/out
-	cp -r Makefile README.md LICENSE-MIT LICENSE-APACHE debian docs examples view contrib out/deb/cqlpgn
+	cp -r Makefile README.md LICENSE-MIT LICENSE-APACHE debian docs examples view contrib many out/deb/cqlpgn
 	cp $(PROGRAM) out/deb/cqlpgn/crates/cqlpgn/out/cqlpgn
 	cp $(PIECES) out/deb/cqlpgn/crates/pgnpieces/out/pgnpieces
 	cd out/deb/cqlpgn && env -u PROGRAM -u PIECES dpkg-buildpackage -us -uc -b
