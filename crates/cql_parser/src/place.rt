@@ -1,5 +1,6 @@
 //! The places in the rules of the grammar.
 ghost use Rattle.std.specs.Prelude.{◌≡◌, ◌≤◌};
+ghost use Rattle.cql_parser.specs.declared.place.Place.TheVariants.{Bare, Counted, UpEnd};
 ghost use Rattle.cql_parser.specs.Places.{heads, unary_place, begin, opens, arrow_place, part_goes, goes, context, least, next, whole, level_of, depth_of};
 
 use crate::role::Role;
@@ -273,164 +274,100 @@ fn part_goes(group: bool, back: bool, role: Role) -> Option<Place>
     }
 }
 
+// The place to which a token goes on after a part of a line that has no mark yet.
+#[tactic(auto, unfolding(crate::specs::Places::goes))]
+fn bare_goes(group: bool, back: bool, role: Role) -> Option<Place>
+    ensures { result ≡ goes (Bare group back) role }
+{
+    match role {
+        Role::Sign(Sign::Star) | Role::Sign(Sign::Plus) | Role::Sign(Sign::Question) => Some(
+            Place::Marked(group, back),
+        ),
+        Role::Sign(Sign::OpenBrace) => Some(Place::Count(group, back)),
+        _ => part_goes(group, back, role),
+    }
+}
+
+// The place to which a token goes on after the first number of a mark.
+#[tactic(auto, unfolding(crate::specs::Places::goes))]
+fn counted_goes(group: bool, back: bool, role: Role) -> Option<Place>
+    ensures { result ≡ goes (Counted group back) role }
+{
+    match role {
+        Role::Sign(Sign::CloseBrace) => Some(Place::Marked(group, back)),
+        Role::Sign(Sign::Comma) => Some(Place::UpTo(group, back)),
+        _ => None,
+    }
+}
+
+// The place to which a token goes on after the second number of a mark.
+#[tactic(auto, unfolding(crate::specs::Places::goes))]
+fn counted_up_goes(group: bool, back: bool, role: Role) -> Option<Place>
+    ensures { result ≡ goes (UpEnd group back) role }
+{
+    match role {
+        Role::Sign(Sign::CloseBrace) => Some(Place::Marked(group, back)),
+        _ => None,
+    }
+}
+
 /// The place to which a token goes on.
 #[tactic(auto, unfolding(crate::specs::Places::goes))]
 pub fn goes(place: Place, role: Role) -> Option<Place>
     ensures { result ≡ goes place role }
 {
-    match place {
-        Place::ResultDue => match role {
-            Role::Outcome => Some(Place::Leaf),
-            _ => None,
-        },
-        Place::PlayerDue => match role {
-            Role::Word(Word::White) | Role::Word(Word::Black) => Some(Place::TextDue),
-            Role::Text => Some(Place::Leaf),
-            _ => None,
-        },
-        Place::TextDue => match role {
-            Role::Text => Some(Place::Leaf),
-            _ => None,
-        },
-        Place::EloDue => match role {
-            Role::Word(Word::White) | Role::Word(Word::Black) => Some(Place::Leaf),
-            _ => None,
-        },
-        Place::FindDue => match role {
-            Role::Sign(Sign::BackArrow) => Some(Place::Pre),
-            _ => None,
-        },
-        Place::ThenDue => match role {
-            Role::Word(Word::Then) => Some(Place::Consequence),
-            _ => None,
-        },
-        Place::ElseDue => match role {
-            Role::Word(Word::Else) => Some(Place::Pre),
-            _ => None,
-        },
-        Place::AllDue => match role {
-            Role::Word(Word::All) => Some(Place::NameDue),
-            Role::Name => Some(Place::InDue),
-            _ => None,
-        },
-        Place::NameDue => match role {
-            Role::Name => Some(Place::InDue),
-            _ => None,
-        },
-        Place::InDue => match role {
-            Role::Word(Word::In) => Some(Place::SquaresDue),
-            _ => None,
-        },
-        Place::MinDue => match role {
-            Role::Word(Word::Min) => Some(Place::SortText),
-            Role::Text => Some(Place::Pre),
-            _ => None,
-        },
-        Place::SortText => match role {
-            Role::Text => Some(Place::Pre),
-            _ => None,
-        },
-        Place::Direction => match role {
-            Role::Number(_) => Some(Place::OneNumber),
-            _ => None,
-        },
-        Place::OneNumber => match role {
-            Role::Number(_) => Some(Place::TwoNumbers),
-            _ => None,
-        },
-        Place::BetweenOpen => match role {
-            Role::Sign(Sign::Open) => Some(Place::BetweenFirst),
-            _ => None,
-        },
-        Place::BetweenClose => match role {
-            Role::Sign(Sign::Close) => Some(Place::Closed),
-            _ => None,
-        },
-        Place::ListOpen => match role {
-            Role::Sign(Sign::Open) => Some(Place::ListFirst),
-            _ => None,
-        },
-        Place::ListMore => match role {
-            Role::Sign(Sign::Close) => Some(Place::Closed),
-            _ => None,
-        },
-        Place::ParensClose => match role {
-            Role::Sign(Sign::Close) => Some(Place::Closed),
-            _ => None,
-        },
-        Place::BracesMore => match role {
-            Role::Sign(Sign::CloseBrace) => Some(Place::Closed),
-            _ => None,
-        },
-        Place::LineStart => match role {
-            Role::Word(Word::Primary) => Some(Place::LineExtent),
-            Role::Number(true) => Some(Place::LineMost),
-            Role::Sign(Sign::Arrow) => Some(Place::Part(false, false)),
-            Role::Sign(Sign::BackArrow) => Some(Place::Part(false, true)),
-            _ => None,
-        },
-        Place::LineExtent => match role {
-            Role::Number(true) => Some(Place::LineMost),
-            Role::Sign(Sign::Arrow) => Some(Place::Part(false, false)),
-            Role::Sign(Sign::BackArrow) => Some(Place::Part(false, true)),
-            _ => None,
-        },
-        Place::LineMost => match role {
-            Role::Number(true) => Some(Place::LineArrow),
-            _ => None,
-        },
-        Place::LineArrow => match role {
-            Role::Sign(Sign::Arrow) => Some(Place::Part(false, false)),
-            Role::Sign(Sign::BackArrow) => Some(Place::Part(false, true)),
-            _ => None,
-        },
-        Place::Move => match role {
-            Role::Word(Word::From) => Some(Place::Origin),
-            Role::Word(Word::To) => Some(Place::Goal),
-            Role::Word(Word::Capture) => Some(Place::Taken),
-            Role::Word(Word::Promote) => Some(Place::Promoted),
-            _ => None,
-        },
-        Place::MovedFrom => match role {
-            Role::Word(Word::To) => Some(Place::Goal),
-            Role::Word(Word::Capture) => Some(Place::Taken),
-            Role::Word(Word::Promote) => Some(Place::Promoted),
-            _ => None,
-        },
-        Place::MovedTo => match role {
-            Role::Word(Word::Capture) => Some(Place::Taken),
-            Role::Word(Word::Promote) => Some(Place::Promoted),
-            _ => None,
-        },
-        Place::MovedTaking => match role {
-            Role::Word(Word::Promote) => Some(Place::Promoted),
-            _ => None,
-        },
-        Place::Bare(group, back) => match role {
-            Role::Sign(Sign::Star) | Role::Sign(Sign::Plus) | Role::Sign(Sign::Question) => Some(
-                Place::Marked(group, back),
-            ),
-            Role::Sign(Sign::OpenBrace) => Some(Place::Count(group, back)),
-            _ => part_goes(group, back, role),
-        },
-        Place::Count(group, back) => match role {
-            Role::Number(_) => Some(Place::Counted(group, back)),
-            _ => None,
-        },
-        Place::Counted(group, back) => match role {
-            Role::Sign(Sign::CloseBrace) => Some(Place::Marked(group, back)),
-            Role::Sign(Sign::Comma) => Some(Place::UpTo(group, back)),
-            _ => None,
-        },
-        Place::UpTo(group, back) => match role {
-            Role::Number(_) => Some(Place::UpEnd(group, back)),
-            _ => None,
-        },
-        Place::UpEnd(group, back) => match role {
-            Role::Sign(Sign::CloseBrace) => Some(Place::Marked(group, back)),
-            _ => None,
-        },
-        Place::Marked(group, back) => part_goes(group, back, role),
+    match (place, role) {
+        (Place::ResultDue, Role::Outcome) => Some(Place::Leaf),
+        (Place::PlayerDue, Role::Word(Word::White)) => Some(Place::TextDue),
+        (Place::PlayerDue, Role::Word(Word::Black)) => Some(Place::TextDue),
+        (Place::PlayerDue, Role::Text) => Some(Place::Leaf),
+        (Place::TextDue, Role::Text) => Some(Place::Leaf),
+        (Place::EloDue, Role::Word(Word::White)) => Some(Place::Leaf),
+        (Place::EloDue, Role::Word(Word::Black)) => Some(Place::Leaf),
+        (Place::FindDue, Role::Sign(Sign::BackArrow)) => Some(Place::Pre),
+        (Place::ThenDue, Role::Word(Word::Then)) => Some(Place::Consequence),
+        (Place::ElseDue, Role::Word(Word::Else)) => Some(Place::Pre),
+        (Place::AllDue, Role::Word(Word::All)) => Some(Place::NameDue),
+        (Place::AllDue, Role::Name) => Some(Place::InDue),
+        (Place::NameDue, Role::Name) => Some(Place::InDue),
+        (Place::InDue, Role::Word(Word::In)) => Some(Place::SquaresDue),
+        (Place::MinDue, Role::Word(Word::Min)) => Some(Place::SortText),
+        (Place::MinDue, Role::Text) => Some(Place::Pre),
+        (Place::SortText, Role::Text) => Some(Place::Pre),
+        (Place::Direction, Role::Number(_)) => Some(Place::OneNumber),
+        (Place::OneNumber, Role::Number(_)) => Some(Place::TwoNumbers),
+        (Place::BetweenOpen, Role::Sign(Sign::Open)) => Some(Place::BetweenFirst),
+        (Place::BetweenClose, Role::Sign(Sign::Close)) => Some(Place::Closed),
+        (Place::ListOpen, Role::Sign(Sign::Open)) => Some(Place::ListFirst),
+        (Place::ListMore, Role::Sign(Sign::Close)) => Some(Place::Closed),
+        (Place::ParensClose, Role::Sign(Sign::Close)) => Some(Place::Closed),
+        (Place::BracesMore, Role::Sign(Sign::CloseBrace)) => Some(Place::Closed),
+        (Place::LineStart, Role::Word(Word::Primary)) => Some(Place::LineExtent),
+        (Place::LineStart, Role::Number(true)) => Some(Place::LineMost),
+        (Place::LineStart, Role::Sign(Sign::Arrow)) => Some(Place::Part(false, false)),
+        (Place::LineStart, Role::Sign(Sign::BackArrow)) => Some(Place::Part(false, true)),
+        (Place::LineExtent, Role::Number(true)) => Some(Place::LineMost),
+        (Place::LineExtent, Role::Sign(Sign::Arrow)) => Some(Place::Part(false, false)),
+        (Place::LineExtent, Role::Sign(Sign::BackArrow)) => Some(Place::Part(false, true)),
+        (Place::LineMost, Role::Number(true)) => Some(Place::LineArrow),
+        (Place::LineArrow, Role::Sign(Sign::Arrow)) => Some(Place::Part(false, false)),
+        (Place::LineArrow, Role::Sign(Sign::BackArrow)) => Some(Place::Part(false, true)),
+        (Place::Move, Role::Word(Word::From)) => Some(Place::Origin),
+        (Place::Move, Role::Word(Word::To)) => Some(Place::Goal),
+        (Place::Move, Role::Word(Word::Capture)) => Some(Place::Taken),
+        (Place::Move, Role::Word(Word::Promote)) => Some(Place::Promoted),
+        (Place::MovedFrom, Role::Word(Word::To)) => Some(Place::Goal),
+        (Place::MovedFrom, Role::Word(Word::Capture)) => Some(Place::Taken),
+        (Place::MovedFrom, Role::Word(Word::Promote)) => Some(Place::Promoted),
+        (Place::MovedTo, Role::Word(Word::Capture)) => Some(Place::Taken),
+        (Place::MovedTo, Role::Word(Word::Promote)) => Some(Place::Promoted),
+        (Place::MovedTaking, Role::Word(Word::Promote)) => Some(Place::Promoted),
+        (Place::Bare(group, back), _) => bare_goes(group, back, role),
+        (Place::Count(group, back), Role::Number(_)) => Some(Place::Counted(group, back)),
+        (Place::Counted(group, back), _) => counted_goes(group, back, role),
+        (Place::UpTo(group, back), Role::Number(_)) => Some(Place::UpEnd(group, back)),
+        (Place::UpEnd(group, back), _) => counted_up_goes(group, back, role),
+        (Place::Marked(group, back), _) => part_goes(group, back, role),
         _ => None,
     }
 }

@@ -2,6 +2,7 @@ pub mod Evaluated
 pub mod Lengths
 pub mod LineLaw
 pub mod LineValue
+pub mod Looked
 pub mod PartEnds
 pub mod PathsDown
 pub mod PathsUp

@@ -9,6 +9,7 @@ ghost use Rattle.cql_values.specs.Shown.{meant};
 ghost use Rattle.cql_values.specs.Trees.{searched_tree};
 
 use crate::evaluate::evaluate;
+use crate::scope::Scope;
 use cq_outside::NoMemory;
 use cq_symmetry::Mapping;
 use cql_syntax::Filter;
@@ -32,7 +33,13 @@ pub fn value_at(
 {
     // A game's nodes are a tree.
     prove!(game.is_tree());
-    evaluate(alloc, f, game, variations, node, context, names)
+    let scope = Scope {
+        game,
+        variations,
+        context,
+        names,
+    };
+    evaluate(alloc, f, &scope, node)
 }
 
 /// Whether a filter holds at a node of a game, of which the variations are searched or the main line alone: a set holds where it has a
@@ -54,7 +61,13 @@ pub fn holds_at(
 {
     // A game's nodes are a tree.
     prove!(game.is_tree());
-    let value = evaluate(alloc, f, game, variations, node, context, names)?;
+    let scope = Scope {
+        game,
+        variations,
+        context,
+        names,
+    };
+    let value = evaluate(alloc, f, &scope, node)?;
     Ok(value.holds())
 }
 
@@ -74,7 +87,13 @@ pub fn set_at(
 {
     // A game's nodes are a tree.
     prove!(game.is_tree());
-    let value = evaluate(alloc, f, game, variations, node, context, names)?;
+    let scope = Scope {
+        game,
+        variations,
+        context,
+        names,
+    };
+    let value = evaluate(alloc, f, &scope, node)?;
     Ok(value.squares())
 }
 
@@ -93,6 +112,12 @@ pub fn number_at(
 {
     // A game's nodes are a tree.
     prove!(game.is_tree());
-    let value = evaluate(alloc, f, game, variations, node, context, names)?;
+    let scope = Scope {
+        game,
+        variations,
+        context,
+        names,
+    };
+    let value = evaluate(alloc, f, &scope, node)?;
     Ok(value.number())
 }

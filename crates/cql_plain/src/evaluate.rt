@@ -3,6 +3,8 @@ ghost use Rattle.std.specs.Prelude.{◌≡◌, ◌<◌, ◌∷◌, length, map, 
 ghost use Rattle.cq_position.specs.Games.{IsTree};
 ghost use Rattle.cq_symmetry.specs.Images.{is_in};
 ghost use Rattle.cq_symmetry.specs.Families.{members};
+ghost use Rattle.cql_syntax.specs.Contexts as contexts;
+ghost use Rattle.cql_syntax.specs.Headers as headers;
 ghost use Rattle.cql_syntax.specs.Kinds.{filter_kind};
 ghost use Rattle.cql_syntax.specs.Meaning as meaning;
 ghost use Rattle.cql_syntax.specs.TreeOf.{filter_tree, filters_tree, terms_tree};
@@ -10,11 +12,12 @@ ghost use Rattle.cql_syntax.specs.Values as spec;
 ghost use Rattle.cql_values.specs.Asked.{settles};
 ghost use Rattle.cql_plain.specs.Members.{value_in_member, values_in_members};
 ghost use Rattle.cql_values.specs.Shown.{meant, terms_meant};
-ghost use Rattle.cql_values.specs.Trees.{searched_tree};
+ghost use Rattle.cql_plain.specs.Scopes.{tree_in, value_in, looked_at};
 
 mod lines;
 mod played;
 
+use crate::scope::Scope;
 use crate::standing::standing;
 use cq_geometry::Square;
 use cq_outside::NoMemory;
@@ -23,108 +26,94 @@ use cql_rewrite::contexts::{
     field_image, inside, of_image, outcome_image, unary_image, way_image, word_image,
 };
 use cql_rewrite::fits::fits;
-use cql_syntax::{Filter, Filters, Form, Terms, Unary, kind_of};
+use cql_syntax::{Chain, Field, Filter, Filters, Form, Kind, Outcome, Terms, Unary, kind_of};
 use cql_values::combine::{any_of, chain_of, if_of, pair_of, unary_here};
 use cql_values::headers::{has_text, is_result, rating};
-use cql_values::names::Names;
 use cql_values::numbers::{counted, total};
 use cql_values::sets::{has_square, reached};
 use cql_values::value::Value;
 use cql_values::walks::{below, children, parents, way_up};
 use cql_values::words::{directions, word_at};
 use lines::line_at;
-use pgn_tree::Game;
 use played::played_at;
 use std::alloc::Global;
 
-/// What a filter gives at a node, in a context and with squares bound to names.
+/// What a filter gives at a node.
 #[cycle(evaluate)]
 #[tactic(auto, unfolding(cql_syntax::specs::Meaning::value))]
 pub(crate) fn evaluate(
     alloc: Global,
     f: &Filter,
-    game: &Game,
-    variations: bool,
+    scope: &Scope,
     node: u32,
-    context: &[Mapping],
-    names: &Names,
 ) -> Result<Value, NoMemory>
-    requires tree { IsTree game.now.nodes }
-    requires node { node < length game.now.nodes }
-    ensures { IfOk result (λ v. meant v
-        ≡ meaning.value (searched_tree game.now variations) context.now names.now (filter_tree f.now) node) }
+    requires tree { IsTree scope.now.game.now.nodes }
+    requires node { node < length scope.now.game.now.nodes }
+    ensures { IfOk result (λ v. meant v ≡ value_in scope.now (filter_tree f.now) node) }
 {
     match &f.form {
-        Form::Squares(d) => Ok(standing(game.position(node), context, d)),
+        Form::Squares(d) => Ok(standing(scope.game.position(node), scope.context, d)),
         Form::Number(number) => Ok(counted(*number)),
-        Form::Name(name) => Ok(names.squares_of(name.as_slice())),
-        Form::Plain(word) => word_at(alloc, word_image(context, *word), game, variations, node),
-        Form::Tagged(field, text) => {
-            let field = field_image(context, *field);
-            Ok(Value::Truth(has_text(game, field, text.as_slice())))
+        Form::Name(name) => Ok(scope.names.squares_of(name.as_slice())),
+        Form::Plain(word) => {
+            let word = word_image(scope.context, *word);
+            word_at(alloc, word, scope.game, scope.variations, node)
         }
-        Form::Outcome(outcome) => {
-            let outcome = outcome_image(context, *outcome);
-            Ok(Value::Truth(is_result(outcome, game.result())))
-        }
-        Form::Elo(of) => Ok(Value::Number(rating(game, of_image(context, *of)))),
+        Form::Tagged(field, text) => Ok(tagged(*field, text.as_slice(), scope)),
+        Form::Outcome(outcome) => Ok(ended(*outcome, scope)),
+        Form::Elo(of) => Ok(Value::Number(rating(scope.game, of_image(scope.context, *of)))),
         Form::Unary(word, part) => {
-            let word = unary_image(context, *word);
-            unary_at(alloc, word, part, game, variations, node, context, names)
+            unary_at(alloc, unary_image(scope.context, *word), part, scope, node)
         }
         Form::Steps(way, m, n, part) => {
-            let value = evaluate(alloc, part, game, variations, node, context, names)?;
-            Ok(reached(directions(way_image(context, *way)), *m, *n, value))
+            let value = evaluate(alloc, part, scope, node)?;
+            Ok(reached(directions(way_image(scope.context, *way)), *m, *n, value))
         }
-        Form::Chain(chain, parts) => {
-            let values = values_at(alloc, parts, game, variations, node, context, names)?;
-            Ok(chain_of(*chain, values.as_slice()))
-        }
-        Form::Sum(terms) => {
-            let values = terms_at(alloc, terms, game, variations, node, context, names)?;
-            Ok(total(values.as_slice()))
-        }
+        Form::Chain(chain, parts) => chain_at(alloc, *chain, parts, scope, node),
+        Form::Sum(terms) => sum_at(alloc, terms, scope, node),
         Form::Pair(pair, first, second) => {
-            let first = evaluate(alloc, first, game, variations, node, context, names)?;
-            let second = evaluate(alloc, second, game, variations, node, context, names)?;
-            Ok(pair_of(game.position(node), *pair, first, second))
+            let first = evaluate(alloc, first, scope, node)?;
+            let second = evaluate(alloc, second, scope, node)?;
+            Ok(pair_of(scope.game.position(node), *pair, first, second))
         }
         Form::If(condition, then, otherwise) => {
-            let condition = evaluate(alloc, condition, game, variations, node, context, names)?;
-            let then = evaluate(alloc, then, game, variations, node, context, names)?;
-            let otherwise = evaluate(alloc, otherwise, game, variations, node, context, names)?;
+            let condition = evaluate(alloc, condition, scope, node)?;
+            let then = evaluate(alloc, then, scope, node)?;
+            let otherwise = evaluate(alloc, otherwise, scope, node)?;
             Ok(if_of(condition, then, otherwise))
         }
         Form::Square(every, name, squares, asked) => {
-            let squares = evaluate(alloc, squares, game, variations, node, context, names)?;
-            square_at(
-                alloc,
-                *every,
-                name.as_slice(),
-                squares,
-                asked,
-                game,
-                variations,
-                node,
-                context,
-                names,
-            )
+            let squares = evaluate(alloc, squares, scope, node)?;
+            square_at(alloc, *every, name.as_slice(), squares, asked, scope, node)
         }
-        Form::Line(line) => line_at(alloc, line, game, variations, node, context, names),
-        Form::Played(played) => played_at(alloc, played, game, variations, node, context, names),
-        Form::Transform(family, part) => {
-            family_value(alloc, *family, part, game, variations, node, context, names)
-        }
+        Form::Line(line) => line_at(alloc, line, scope, node),
+        Form::Played(played) => played_at(alloc, played, scope, node),
+        Form::Transform(family, part) => family_value(alloc, *family, part, scope, node),
         Form::Sort(.., part) => {
-            let value = evaluate(alloc, part, game, variations, node, context, names)?;
+            let value = evaluate(alloc, part, scope, node)?;
             Ok(Value::Truth(value.number().is_some()))
         }
         Form::Comment(_) => Ok(Value::Truth(true)),
-        Form::Any(kind, parts) => {
-            let values = values_at(alloc, parts, game, variations, node, context, names)?;
-            Ok(any_of(*kind, values.as_slice()))
-        }
+        Form::Any(kind, parts) => any_at(alloc, *kind, parts, scope, node),
     }
+}
+
+// Whether a tag is as it is asked for.
+fn tagged(field: Field, text: &[u8], scope: &Scope) -> Value
+    ensures { meant result ≡ spec.as_truth
+        (headers.has_text scope.now.game.now (contexts.field_image scope.now.context.now field) text.now) }
+{
+    let field = field_image(scope.context, field);
+    Value::Truth(has_text(scope.game, field, text))
+}
+
+// Whether the result is the one that is asked for.
+fn ended(outcome: Outcome, scope: &Scope) -> Value
+    ensures { meant result ≡ spec.as_truth
+        (headers.is_result (contexts.outcome_image scope.now.context.now outcome) scope.now.game.now.result) }
+{
+    let outcome = outcome_image(scope.context, outcome);
+    Value::Truth(is_result(outcome, scope.game.result()))
 }
 
 // What a word or mark before a part gives.
@@ -133,96 +122,104 @@ fn unary_at(
     alloc: Global,
     word: Unary,
     part: &Filter,
-    game: &Game,
-    variations: bool,
+    scope: &Scope,
     node: u32,
-    context: &[Mapping],
-    names: &Names,
 ) -> Result<Value, NoMemory>
-    requires tree { IsTree game.now.nodes }
-    requires node { node < length game.now.nodes }
-    ensures { IfOk result (λ v. meant v ≡ meaning.unary_of (searched_tree game.now variations) word
-        (meaning.value (searched_tree game.now variations) context.now names.now (filter_tree part.now)) node) }
+    requires tree { IsTree scope.now.game.now.nodes }
+    requires node { node < length scope.now.game.now.nodes }
+    ensures { IfOk result (λ v. meant v ≡ meaning.unary_of (tree_in scope.now) word (value_in scope.now (filter_tree part.now)) node) }
+{
+    match looked_at(alloc, word, scope, node)? {
+        Some(nodes) => some_node(alloc, part, scope, nodes.as_slice()),
+        None => {
+            let value = evaluate(alloc, part, scope, node)?;
+            Ok(unary_here(word, scope.game.position(node), value))
+        }
+    }
+}
+
+// The nodes among which a word looks for one, where it looks for one.
+fn looked_at(
+    alloc: Global,
+    word: Unary,
+    scope: &Scope,
+    node: u32,
+) -> Result<Option<Vec<u32>>, NoMemory>
+    requires tree { IsTree scope.now.game.now.nodes }
+    requires node { node < length scope.now.game.now.nodes }
+    ensures { IfOk result (λ nodes. option_map (λ found. found.items) nodes ≡ looked_at (tree_in scope.now) word node) }
 {
     match word {
-        Unary::Find => {
-            let nodes = below(alloc, game, variations, node)?;
-            some_node(
-                alloc,
-                part,
-                game,
-                variations,
-                nodes.as_slice(),
-                context,
-                names,
-            )
-        }
-        Unary::FindUp => {
-            let nodes = way_up(alloc, game, node)?;
-            some_node(
-                alloc,
-                part,
-                game,
-                variations,
-                nodes.as_slice(),
-                context,
-                names,
-            )
-        }
-        Unary::Child => {
-            let nodes = children(alloc, game, variations, node)?;
-            some_node(
-                alloc,
-                part,
-                game,
-                variations,
-                nodes.as_slice(),
-                context,
-                names,
-            )
-        }
-        Unary::Parent => {
-            let nodes = parents(alloc, game, node)?;
-            some_node(
-                alloc,
-                part,
-                game,
-                variations,
-                nodes.as_slice(),
-                context,
-                names,
-            )
-        }
-        _ => {
-            let value = evaluate(alloc, part, game, variations, node, context, names)?;
-            Ok(unary_here(word, game.position(node), value))
-        }
+        Unary::Find => Ok(Some(below(alloc, scope.game, scope.variations, node)?)),
+        Unary::FindUp => Ok(Some(way_up(alloc, scope.game, node)?)),
+        Unary::Child => Ok(Some(children(alloc, scope.game, scope.variations, node)?)),
+        Unary::Parent => Ok(Some(parents(alloc, scope.game, node)?)),
+        _ => Ok(None),
     }
 }
 
 // Whether a filter holds at one of some nodes.
 #[cycle(evaluate)]
-fn some_node(
-    alloc: Global,
-    part: &Filter,
-    game: &Game,
-    variations: bool,
-    nodes: &[u32],
-    context: &[Mapping],
-    names: &Names,
-) -> Result<Value, NoMemory>
-    requires tree { IsTree game.now.nodes }
-    requires nodes { All (λ n. n < length game.now.nodes) nodes.now }
-    ensures { IfOk result (λ v. meant v
-        ≡ meaning.some_node (meaning.value (searched_tree game.now variations) context.now names.now (filter_tree part.now)) nodes.now) }
+fn some_node(alloc: Global, part: &Filter, scope: &Scope, nodes: &[u32]) -> Result<Value, NoMemory>
+    requires tree { IsTree scope.now.game.now.nodes }
+    requires nodes { All (λ n. n < length scope.now.game.now.nodes) nodes.now }
+    ensures { IfOk result (λ v. meant v ≡ meaning.some_node (value_in scope.now (filter_tree part.now)) nodes.now) }
 {
     for k in 0..nodes.len() {
-        let value = evaluate(alloc, part, game, variations, nodes[k], context, names)?;
+        let value = evaluate(alloc, part, scope, nodes[k])?;
         if value.holds() {
             return Ok(Value::Truth(true));
         }
     }
     Ok(Value::Truth(false))
+}
+
+// What a chain gives.
+#[cycle(evaluate)]
+fn chain_at(
+    alloc: Global,
+    chain: Chain,
+    parts: &Filters,
+    scope: &Scope,
+    node: u32,
+) -> Result<Value, NoMemory>
+    requires tree { IsTree scope.now.game.now.nodes }
+    requires node { node < length scope.now.game.now.nodes }
+    ensures { IfOk result (λ v. meant v ≡ spec.chain_of chain
+        (meaning.values (tree_in scope.now) scope.now.context.now scope.now.names.now (filters_tree parts.now) node)) }
+{
+    let values = values_at(alloc, parts, scope, node)?;
+    Ok(chain_of(chain, values.as_slice()))
+}
+
+// What one of some filters of a kind gives, or all of them together.
+#[cycle(evaluate)]
+fn any_at(
+    alloc: Global,
+    kind: Kind,
+    parts: &Filters,
+    scope: &Scope,
+    node: u32,
+) -> Result<Value, NoMemory>
+    requires tree { IsTree scope.now.game.now.nodes }
+    requires node { node < length scope.now.game.now.nodes }
+    ensures { IfOk result (λ v. meant v ≡ spec.any_of kind
+        (meaning.values (tree_in scope.now) scope.now.context.now scope.now.names.now (filters_tree parts.now) node)) }
+{
+    let values = values_at(alloc, parts, scope, node)?;
+    Ok(any_of(kind, values.as_slice()))
+}
+
+// What a sum gives.
+#[cycle(evaluate)]
+fn sum_at(alloc: Global, terms: &Terms, scope: &Scope, node: u32) -> Result<Value, NoMemory>
+    requires tree { IsTree scope.now.game.now.nodes }
+    requires node { node < length scope.now.game.now.nodes }
+    ensures { IfOk result (λ v. meant v ≡ spec.total_of
+        (meaning.term_values (tree_in scope.now) scope.now.context.now scope.now.names.now (terms_tree terms.now) node)) }
+{
+    let values = terms_at(alloc, terms, scope, node)?;
+    Ok(total(values.as_slice()))
 }
 
 // The value of each of some filters.
@@ -231,20 +228,17 @@ fn some_node(
 fn values_at(
     alloc: Global,
     filters: &Filters,
-    game: &Game,
-    variations: bool,
+    scope: &Scope,
     node: u32,
-    context: &[Mapping],
-    names: &Names,
 ) -> Result<Vec<Value>, NoMemory>
-    requires tree { IsTree game.now.nodes }
-    requires node { node < length game.now.nodes }
+    requires tree { IsTree scope.now.game.now.nodes }
+    requires node { node < length scope.now.game.now.nodes }
     ensures { IfOk result (λ vs. map meant vs.items
-        ≡ meaning.values (searched_tree game.now variations) context.now names.now (filters_tree filters.now) node) }
+        ≡ meaning.values (tree_in scope.now) scope.now.context.now scope.now.names.now (filters_tree filters.now) node) }
 {
     let mut values = Vec::new(alloc);
     for filter in filters.as_slice() {
-        let value = evaluate(alloc, filter, game, variations, node, context, names)?;
+        let value = evaluate(alloc, filter, scope, node)?;
         values.push(value)?;
     }
     Ok(values)
@@ -256,20 +250,17 @@ fn values_at(
 fn terms_at(
     alloc: Global,
     terms: &Terms,
-    game: &Game,
-    variations: bool,
+    scope: &Scope,
     node: u32,
-    context: &[Mapping],
-    names: &Names,
 ) -> Result<Vec<(bool, Value)>, NoMemory>
-    requires tree { IsTree game.now.nodes }
-    requires node { node < length game.now.nodes }
+    requires tree { IsTree scope.now.game.now.nodes }
+    requires node { node < length scope.now.game.now.nodes }
     ensures { IfOk result (λ ts. terms_meant ts.items
-        ≡ meaning.term_values (searched_tree game.now variations) context.now names.now (terms_tree terms.now) node) }
+        ≡ meaning.term_values (tree_in scope.now) scope.now.context.now scope.now.names.now (terms_tree terms.now) node) }
 {
     let mut values = Vec::new(alloc);
     for term in terms.as_slice() {
-        let value = evaluate(alloc, &term.filter, game, variations, node, context, names)?;
+        let value = evaluate(alloc, &term.filter, scope, node)?;
         values.push((term.minus, value))?;
     }
     Ok(values)
@@ -283,24 +274,19 @@ fn square_at(
     name: &[u8],
     squares: Value,
     asked: &Filter,
-    game: &Game,
-    variations: bool,
+    scope: &Scope,
     node: u32,
-    context: &[Mapping],
-    names: &Names,
 ) -> Result<Value, NoMemory>
-    requires tree { IsTree game.now.nodes }
-    requires node { node < length game.now.nodes }
+    requires tree { IsTree scope.now.game.now.nodes }
+    requires node { node < length scope.now.game.now.nodes }
     ensures { IfOk result (λ v. meant v ≡ spec.square_of every (meant squares)
-        (λ s. spec.holds (meaning.value (searched_tree game.now variations) context.now
-        ((name.now, s) ∷ names.now) (filter_tree asked.now) node))) }
+        (λ s. spec.holds (meaning.value (tree_in scope.now) scope.now.context.now
+        ((name.now, s) ∷ scope.now.names.now) (filter_tree asked.now) node))) }
 {
     let set = squares.squares();
     for number in 0..64 {
         let square = Square::new(number);
-        if decides(
-            alloc, every, name, set, square, asked, game, variations, node, context, names,
-        )? {
+        if decides(alloc, every, name, set, square, asked, scope, node)? {
             return Ok(Value::Truth(!every));
         }
     }
@@ -316,23 +302,24 @@ fn decides(
     set: u64,
     square: Square,
     asked: &Filter,
-    game: &Game,
-    variations: bool,
+    scope: &Scope,
     node: u32,
-    context: &[Mapping],
-    names: &Names,
 ) -> Result<bool, NoMemory>
-    requires tree { IsTree game.now.nodes }
-    requires node { node < length game.now.nodes }
+    requires tree { IsTree scope.now.game.now.nodes }
+    requires node { node < length scope.now.game.now.nodes }
     ensures { IfOk result (λ b. b ≡ settles every (is_in set)
-        (λ s. spec.holds (meaning.value (searched_tree game.now variations) context.now
-        ((name.now, s) ∷ names.now) (filter_tree asked.now) node)) square) }
+        (λ s. spec.holds (meaning.value (tree_in scope.now) scope.now.context.now
+        ((name.now, s) ∷ scope.now.names.now) (filter_tree asked.now) node)) square) }
 {
     if !has_square(set, square) {
         return Ok(false);
     }
-    let inner = names.with(alloc, name, square)?;
-    let value = evaluate(alloc, asked, game, variations, node, context, &inner)?;
+    let names = scope.names.with(alloc, name, square)?;
+    let inner = Scope {
+        names: &names,
+        ..*scope
+    };
+    let value = evaluate(alloc, asked, &inner, node)?;
     Ok(value.holds() != every)
 }
 
@@ -342,30 +329,23 @@ fn member_value(
     alloc: Global,
     first: Mapping,
     part: &Filter,
-    game: &Game,
-    variations: bool,
+    scope: &Scope,
     node: u32,
-    context: &[Mapping],
-    names: &Names,
 ) -> Result<Option<Value>, NoMemory>
-    requires tree { IsTree game.now.nodes }
-    requires node { node < length game.now.nodes }
+    requires tree { IsTree scope.now.game.now.nodes }
+    requires node { node < length scope.now.game.now.nodes }
     ensures { IfOk result (λ v. option_map meant v
-        ≡ value_in_member (searched_tree game.now variations) context.now names.now first (filter_tree part.now) node) }
+        ≡ value_in_member (tree_in scope.now) scope.now.context.now scope.now.names.now first (filter_tree part.now) node) }
 {
-    let longer = inside(alloc, first, context)?;
+    let longer = inside(alloc, first, scope.context)?;
     if !fits(alloc, part, longer.as_slice())? {
         return Ok(None);
     }
-    let value = evaluate(
-        alloc,
-        part,
-        game,
-        variations,
-        node,
-        longer.as_slice(),
-        names,
-    )?;
+    let inner = Scope {
+        context: longer.as_slice(),
+        ..*scope
+    };
+    let value = evaluate(alloc, part, &inner, node)?;
     Ok(Some(value))
 }
 
@@ -375,29 +355,17 @@ fn member_values(
     alloc: Global,
     family: Family,
     part: &Filter,
-    game: &Game,
-    variations: bool,
+    scope: &Scope,
     node: u32,
-    context: &[Mapping],
-    names: &Names,
 ) -> Result<Vec<Value>, NoMemory>
-    requires tree { IsTree game.now.nodes }
-    requires node { node < length game.now.nodes }
+    requires tree { IsTree scope.now.game.now.nodes }
+    requires node { node < length scope.now.game.now.nodes }
     ensures { IfOk result (λ vs. map meant vs.items
-        ≡ values_in_members (searched_tree game.now variations) context.now names.now (members family) (filter_tree part.now) node) }
+        ≡ values_in_members (tree_in scope.now) scope.now.context.now scope.now.names.now (members family) (filter_tree part.now) node) }
 {
     let mut values = Vec::new(alloc);
     for k in 0..family_size(family) {
-        let value = member_value(
-            alloc,
-            member(family, k),
-            part,
-            game,
-            variations,
-            node,
-            context,
-            names,
-        )?;
+        let value = member_value(alloc, member(family, k), part, scope, node)?;
         push_if_some(&mut values, value)?;
     }
     Ok(values)
@@ -409,18 +377,15 @@ fn family_value(
     alloc: Global,
     family: Family,
     part: &Filter,
-    game: &Game,
-    variations: bool,
+    scope: &Scope,
     node: u32,
-    context: &[Mapping],
-    names: &Names,
 ) -> Result<Value, NoMemory>
-    requires tree { IsTree game.now.nodes }
-    requires node { node < length game.now.nodes }
+    requires tree { IsTree scope.now.game.now.nodes }
+    requires node { node < length scope.now.game.now.nodes }
     ensures { IfOk result (λ v. meant v ≡ spec.any_of (filter_kind (filter_tree part.now))
-        (values_in_members (searched_tree game.now variations) context.now names.now (members family) (filter_tree part.now) node)) }
+        (values_in_members (tree_in scope.now) scope.now.context.now scope.now.names.now (members family) (filter_tree part.now) node)) }
 {
-    let values = member_values(alloc, family, part, game, variations, node, context, names)?;
+    let values = member_values(alloc, family, part, scope, node)?;
     Ok(any_of(kind_of(part), values.as_slice()))
 }
 

@@ -8,6 +8,7 @@ mod at;
 mod evaluate;
 mod paths;
 mod places;
+mod scope;
 mod standing;
 
 pub use at::{holds_at, number_at, set_at, value_at};

@@ -7,18 +7,16 @@ ghost use Rattle.cql_syntax.specs.TreeOf.{body_tree, filter_tree, line_tree, par
 ghost use Rattle.cql_syntax.specs.Values as spec;
 ghost use Rattle.cql_plain.specs.Lines.{EndsOf, least_times, most_times};
 ghost use Rattle.cql_plain.specs.Paths.{AreSteps, comes_from as goes_from};
+ghost use Rattle.cql_plain.specs.Scopes.{tree_in, value_in};
 ghost use Rattle.cql_values.specs.Shown.{meant};
-ghost use Rattle.cql_values.specs.Trees.{searched_tree};
 
 use super::evaluate;
 use crate::paths::{Reached, longest, number_of, paths_from};
 use crate::places::{comes_from, fresh, has_some, only_first, where_counted, with_next};
+use crate::scope::Scope;
 use cq_outside::NoMemory;
-use cq_symmetry::Mapping;
 use cql_syntax::{Body, Constituents, Filter, Line, Mark};
-use cql_values::names::Names;
 use cql_values::value::Value;
-use pgn_tree::Game;
 use std::alloc::Global;
 
 /// The greatest length of a path from a node that a line's pattern spells.
@@ -27,30 +25,25 @@ use std::alloc::Global;
 pub(super) fn line_at(
     alloc: Global,
     line: &Line,
-    game: &Game,
-    variations: bool,
+    scope: &Scope,
     node: u32,
-    context: &[Mapping],
-    names: &Names,
 ) -> Result<Value, NoMemory>
-    requires tree { IsTree game.now.nodes }
-    requires node { node < length game.now.nodes }
+    requires tree { IsTree scope.now.game.now.nodes }
+    requires node { node < length scope.now.game.now.nodes }
     ensures { IfOk result (λ v. meant v ≡ meaning.line_value
-        (searched_tree game.now variations) context.now names.now (line_tree line.now) node) }
+        (tree_in scope.now) scope.now.context.now scope.now.names.now (line_tree line.now) node) }
 {
-    let steps = paths_from(alloc, game, variations, line.back, line.primary, node)?;
-    let starts = only_first(alloc, game.len() as usize)?;
-    let parts = &line.parts;
-    let ends = parts_ends(
+    let steps = paths_from(
         alloc,
-        parts,
-        steps.as_slice(),
-        starts.as_slice(),
-        game,
-        variations,
-        context,
-        names,
+        scope.game,
+        scope.variations,
+        line.back,
+        line.primary,
+        node,
     )?;
+    let starts = only_first(alloc, scope.game.len() as usize)?;
+    let parts = &line.parts;
+    let ends = parts_ends(alloc, parts, steps.as_slice(), starts.as_slice(), scope)?;
     Ok(number_of(longest(steps.as_slice(), ends.as_slice(), &line.extent)))
 }
 
@@ -62,17 +55,14 @@ fn parts_ends(
     parts: &Constituents,
     steps: &[Option<Reached>],
     starts: &[bool],
-    game: &Game,
-    variations: bool,
-    context: &[Mapping],
-    names: &Names,
+    scope: &Scope,
 ) -> Result<Vec<bool>, NoMemory>
-    requires tree { IsTree game.now.nodes }
-    requires nodes { length steps.now ≡ length game.now.nodes }
+    requires tree { IsTree scope.now.game.now.nodes }
+    requires nodes { length steps.now ≡ length scope.now.game.now.nodes }
     requires steps { AreSteps steps.now }
     requires starts { length starts.now ≡ length steps.now + 1 }
     ensures { IfOk result (λ ends. EndsOf steps.now
-        (meaning.pattern (searched_tree game.now variations) context.now names.now (parts_tree parts.now)) starts.now ends.items) }
+        (meaning.pattern (tree_in scope.now) scope.now.context.now scope.now.names.now (parts_tree parts.now)) starts.now ends.items) }
 {
     let mut places = where_counted(alloc, true, starts)?;
     for part in parts.as_slice() {
@@ -85,10 +75,7 @@ fn parts_ends(
             most,
             steps,
             places.as_slice(),
-            game,
-            variations,
-            context,
-            names,
+            scope,
         )?;
     }
     Ok(places)
@@ -125,17 +112,14 @@ fn repeat(
     most: u32,
     steps: &[Option<Reached>],
     starts: &[bool],
-    game: &Game,
-    variations: bool,
-    context: &[Mapping],
-    names: &Names,
+    scope: &Scope,
 ) -> Result<Vec<bool>, NoMemory>
-    requires tree { IsTree game.now.nodes }
-    requires nodes { length steps.now ≡ length game.now.nodes }
+    requires tree { IsTree scope.now.game.now.nodes }
+    requires nodes { length steps.now ≡ length scope.now.game.now.nodes }
     requires steps { AreSteps steps.now }
     requires starts { length starts.now ≡ length steps.now + 1 }
     ensures { IfOk result (λ ends. EndsOf steps.now (repeated least (Some most)
-        (meaning.body_pattern (searched_tree game.now variations) context.now names.now (body_tree body.now))) starts.now ends.items) }
+        (meaning.body_pattern (tree_in scope.now) scope.now.context.now scope.now.names.now (body_tree body.now))) starts.now ends.items) }
 {
     let mut here = where_counted(alloc, true, starts)?;
     let mut ends = where_counted(alloc, least == 0, starts)?;
@@ -143,7 +127,7 @@ fn repeat(
         if !has_some(&here) {
             return Ok(ends);
         }
-        let next = body_ends(alloc, body, steps, &here, game, variations, context, names)?;
+        let next = body_ends(alloc, body, steps, &here, scope)?;
         here = fresh(alloc, least <= times + 1, &next, &ends)?;
         ends = with_next(alloc, least <= times + 1, &next, &ends)?;
     }
@@ -158,29 +142,18 @@ fn body_ends(
     body: &Body,
     steps: &[Option<Reached>],
     starts: &[bool],
-    game: &Game,
-    variations: bool,
-    context: &[Mapping],
-    names: &Names,
+    scope: &Scope,
 ) -> Result<Vec<bool>, NoMemory>
-    requires tree { IsTree game.now.nodes }
-    requires nodes { length steps.now ≡ length game.now.nodes }
+    requires tree { IsTree scope.now.game.now.nodes }
+    requires nodes { length steps.now ≡ length scope.now.game.now.nodes }
     requires steps { AreSteps steps.now }
     requires starts { length starts.now ≡ length steps.now + 1 }
     ensures { IfOk result (λ ends. EndsOf steps.now
-        (meaning.body_pattern (searched_tree game.now variations) context.now names.now (body_tree body.now)) starts.now ends.items) }
+        (meaning.body_pattern (tree_in scope.now) scope.now.context.now scope.now.names.now (body_tree body.now)) starts.now ends.items) }
 {
     match body {
-        Body::Atom(filter) => {
-            atom_ends(
-                alloc, filter, steps, starts, game, variations, context, names,
-            )
-        }
-        Body::Group(parts) => {
-            parts_ends(
-                alloc, parts, steps, starts, game, variations, context, names,
-            )
-        }
+        Body::Atom(filter) => { atom_ends(alloc, filter, steps, starts, scope) }
+        Body::Group(parts) => { parts_ends(alloc, parts, steps, starts, scope) }
     }
 }
 
@@ -191,24 +164,19 @@ fn atom_ends(
     filter: &Filter,
     steps: &[Option<Reached>],
     starts: &[bool],
-    game: &Game,
-    variations: bool,
-    context: &[Mapping],
-    names: &Names,
+    scope: &Scope,
 ) -> Result<Vec<bool>, NoMemory>
-    requires tree { IsTree game.now.nodes }
-    requires nodes { length steps.now ≡ length game.now.nodes }
+    requires tree { IsTree scope.now.game.now.nodes }
+    requires nodes { length steps.now ≡ length scope.now.game.now.nodes }
     requires steps { AreSteps steps.now }
     requires starts { length starts.now ≡ length steps.now + 1 }
     ensures { IfOk result (λ ends. EndsOf steps.now
-        (one (meaning.value (searched_tree game.now variations) context.now names.now (filter_tree filter.now))) starts.now ends.items) }
+        (one (value_in scope.now (filter_tree filter.now))) starts.now ends.items) }
 {
     let mut ends = Vec::new(alloc);
     ends.push(false)?;
-    for k in 0..game.len() {
-        let passes = passes(
-            alloc, filter, steps, starts, k, game, variations, context, names,
-        )?;
+    for k in 0..scope.game.len() {
+        let passes = passes(alloc, filter, steps, starts, k, scope)?;
         ends.push(passes)?;
     }
     Ok(ends)
@@ -222,22 +190,19 @@ fn passes(
     steps: &[Option<Reached>],
     starts: &[bool],
     k: u32,
-    game: &Game,
-    variations: bool,
-    context: &[Mapping],
-    names: &Names,
+    scope: &Scope,
 ) -> Result<bool, NoMemory>
-    requires tree { IsTree game.now.nodes }
-    requires node { k < length game.now.nodes }
-    requires nodes { length steps.now ≡ length game.now.nodes }
+    requires tree { IsTree scope.now.game.now.nodes }
+    requires node { k < length scope.now.game.now.nodes }
+    requires nodes { length steps.now ≡ length scope.now.game.now.nodes }
     requires steps { AreSteps steps.now }
     requires starts { length starts.now ≡ length steps.now + 1 }
     ensures { IfOk result (λ b. b ≡ (goes_from starts.now (get_or steps.now k None)
-        && spec.holds (meaning.value (searched_tree game.now variations) context.now names.now (filter_tree filter.now) k))) }
+        && spec.holds (value_in scope.now (filter_tree filter.now) k))) }
 {
     if !comes_from(starts, steps, k) {
         return Ok(false);
     }
-    let value = evaluate(alloc, filter, game, variations, k, context, names)?;
+    let value = evaluate(alloc, filter, scope, k)?;
     Ok(value.holds())
 }

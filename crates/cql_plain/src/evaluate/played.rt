@@ -4,17 +4,15 @@ ghost use Rattle.cq_position.specs.Games.{IsTree};
 ghost use Rattle.cql_syntax.specs.Meaning as meaning;
 ghost use Rattle.cql_syntax.specs.TreeOf.{played_tree, written_tree};
 ghost use Rattle.cql_syntax.specs.Values.{as_truth};
+ghost use Rattle.cql_plain.specs.Scopes.{tree_in};
 ghost use Rattle.cql_values.specs.Shown.{meant};
-ghost use Rattle.cql_values.specs.Trees.{searched_tree};
 
 use super::evaluate;
+use crate::scope::Scope;
 use cq_outside::NoMemory;
-use cq_symmetry::Mapping;
 use cql_syntax::{Filter, Played};
 use cql_values::led::{before, led_to, meets_all};
-use cql_values::names::Names;
 use cql_values::value::Value;
-use pgn_tree::Game;
 use std::alloc::Global;
 
 /// Whether the move that led to a node is as it is asked for: where it came from and what it took is asked at the node before, its goal and
@@ -24,47 +22,20 @@ use std::alloc::Global;
 pub(super) fn played_at(
     alloc: Global,
     played: &Played,
-    game: &Game,
-    variations: bool,
+    scope: &Scope,
     node: u32,
-    context: &[Mapping],
-    names: &Names,
 ) -> Result<Value, NoMemory>
-    requires tree { IsTree game.now.nodes }
-    requires node { node < length game.now.nodes }
+    requires tree { IsTree scope.now.game.now.nodes }
+    requires node { node < length scope.now.game.now.nodes }
     ensures { IfOk result (λ v. meant v ≡ as_truth (meaning.played_value
-        (searched_tree game.now variations) context.now names.now (played_tree played.now) node)) }
+        (tree_in scope.now) scope.now.context.now scope.now.names.now (played_tree played.now) node)) }
 {
-    let before = before(game, variations, node);
-    let origin = written_at(
-        alloc,
-        &played.origin,
-        game,
-        variations,
-        before,
-        context,
-        names,
-    )?;
-    let goal = written_at(alloc, &played.goal, game, variations, node, context, names)?;
-    let taken = written_at(
-        alloc,
-        &played.taken,
-        game,
-        variations,
-        before,
-        context,
-        names,
-    )?;
-    let promoted = written_at(
-        alloc,
-        &played.promoted,
-        game,
-        variations,
-        node,
-        context,
-        names,
-    )?;
-    Ok(Value::Truth(meets_all(led_to(game, node), origin, goal, taken, promoted)))
+    let before = before(scope.game, scope.variations, node);
+    let origin = written_at(alloc, &played.origin, scope, before)?;
+    let goal = written_at(alloc, &played.goal, scope, node)?;
+    let taken = written_at(alloc, &played.taken, scope, before)?;
+    let promoted = written_at(alloc, &played.promoted, scope, node)?;
+    Ok(Value::Truth(meets_all(led_to(scope.game, node), origin, goal, taken, promoted)))
 }
 
 // The value of a part that is written.
@@ -73,20 +44,17 @@ pub(super) fn played_at(
 fn written_at(
     alloc: Global,
     written: &Option<Box<Filter>>,
-    game: &Game,
-    variations: bool,
+    scope: &Scope,
     node: u32,
-    context: &[Mapping],
-    names: &Names,
 ) -> Result<Option<Value>, NoMemory>
-    requires tree { IsTree game.now.nodes }
-    requires node { node < length game.now.nodes }
+    requires tree { IsTree scope.now.game.now.nodes }
+    requires node { node < length scope.now.game.now.nodes }
     ensures { IfOk result (λ v. option_map meant v ≡ meaning.written_value
-        (searched_tree game.now variations) context.now names.now (written_tree written.now) node) }
+        (tree_in scope.now) scope.now.context.now scope.now.names.now (written_tree written.now) node) }
 {
     match written {
         Some(filter) => {
-            let value = evaluate(alloc, filter, game, variations, node, context, names)?;
+            let value = evaluate(alloc, filter, scope, node)?;
             Ok(Some(value))
         }
         None => Ok(None),
