@@ -1,0 +1,9 @@
+pub mod Adding
+pub mod Gaining
+pub mod Makings
+pub mod PartsHold
+pub mod SameText
+pub mod Seeking
+pub mod Singling
+pub mod StandAlone
+pub mod Tables
