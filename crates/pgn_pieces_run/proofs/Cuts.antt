@@ -1,5 +1,5 @@
 -- One read more, and what it comes to.
-use Rattle.std.proofs.Common.{◌≡◌, ℕ, ◌+◌, ◌<◌, ◌^◌, List, [], ◌++◌, length, take, drop, Option, None, Some, refl, sym, subst, ap, ◌∙◌, arith, append_assoc, inl, inr}
+use Rattle.std.proofs.Common.{◌≡◌, ℕ, ◌+◌, ◌<◌, ◌≤◌, ◌^◌, List, [], ◌++◌, length, take, drop, Option, None, Some, refl, sym, subst, ap, ◌∙◌, arith, append_assoc, inl, inr}
 use Rattle.std.proofs.Math.Seq.{take-add, drop-append_seam}
 use Rattle.std.proofs.lemmas.List.{append-nil, length-append, take_all, take_at}
 use Rattle.std.proofs.lemmas.List.Concat.{flat_map-append}
@@ -88,21 +88,24 @@ read_failed least count was mid now p cut keeps rose same writes =
     )
 
 -- no memory for what was read
-pub read_lost : (least count : ℕ) (was mid now : Pipe) (p : Pieces) (bytes : List ℕ) → HasCut least count was mid p → Consumes mid.left now.left bytes
+pub read_lost : (least count : ℕ) (was mid now : Pipe) (p : Pieces) (bytes : List ℕ) → length bytes ≤ 65536 → HasCut least count was mid p → Consumes mid.left now.left bytes
     → now.read_faults ≡ mid.read_faults → now.taken ≡ mid.taken → now.write_faults ≡ mid.write_faults → Says NoMemory least was now
-read_lost least count was mid now p bytes cut takes reads same writes = (
-  record {
-    front = cut.front;
-    later = bytes;
-    pieces = cut.pieces;
-    are = inl (first_of least p cut.front cut.pieces cut.least_is cut.stands);
-    count = length (table cut.pieces);
-    moves = record {
-      reads = consumed_on was.left mid.left now.left cut.front bytes cut.moves.reads takes;
-      writes = subst (λ (t : Option (List ℕ)). Grew was.taken t (take (length (table cut.pieces)) (table cut.pieces))) (sym same)
-          (subst (Grew was.taken mid.taken) (sym (take_all (length (table cut.pieces)) (table cut.pieces) (omega arith))) cut.moves.writes);
-    };
-  },
+read_lost least count was mid now p bytes few cut takes reads same writes = (
+  (
+    bytes,
+    few,
+    record {
+      front = cut.front;
+      pieces = cut.pieces;
+      are = inl (first_of least p cut.front cut.pieces cut.least_is cut.stands);
+      count = length (table cut.pieces);
+      moves = record {
+        reads = consumed_on was.left mid.left now.left cut.front bytes cut.moves.reads takes;
+        writes = subst (λ (t : Option (List ℕ)). Grew was.taken t (take (length (table cut.pieces)) (table cut.pieces))) (sym same)
+            (subst (Grew was.taken mid.taken) (sym (take_all (length (table cut.pieces)) (table cut.pieces) (omega arith))) cut.moves.writes);
+      };
+    },
+  ),
   reads ∙ cut.reads,
   writes ∙ cut.writes,
 )
@@ -138,7 +141,6 @@ pub write_failed : (least count : ℕ) (was mid now : Pipe) (p q : Pieces) (byte
 write_failed least count was mid now p q bytes text cut takes reads fed least_ part rose = (
   record {
     front = cut.front ++ bytes;
-    later = [];
     pieces = cut.pieces ++ fed.more;
     are = inl (first_of least q (cut.front ++ bytes) (cut.pieces ++ fed.more) (least_ ∙ cut.least_is) (fed.stands cut.front cut.pieces cut.stands));
     count = length (table cut.pieces) + part.0;
@@ -157,11 +159,13 @@ are_all : (least : ℕ) (p : Pieces) (front text : List ℕ) (pieces : List Piec
     → ArePieces least front (pieces ++ ends.more)
 are_all least p front text pieces is stands ends = subst (λ (k : ℕ). ArePieces k front (pieces ++ ends.more)) is (ends.are front pieces stands)
 
-pub table_written : (least count : ℕ) (was mid now : Pipe) (p : Pieces) (text : List ℕ) → IsAtEnd now.left → HasCut least count was mid p → now.left ≡ mid.left
-    → now.read_faults ≡ mid.read_faults → ComesToEnd p [] text → Grew mid.taken now.taken text → now.write_faults ≡ mid.write_faults → Says Done least was now
-table_written least count was mid now p text at_end cut left reads ends writes faults = (
+pub table_written : (least count : ℕ) (was mid now : Pipe) (p : Pieces) (text : List ℕ) → IsAtEnd now.left → count ≤ 2 ^ 40 → HasCut least count was mid p
+    → now.left ≡ mid.left → now.read_faults ≡ mid.read_faults → ComesToEnd p [] text → Grew mid.taken now.taken text → now.write_faults ≡ mid.write_faults
+    → Says Done least was now
+table_written least count was mid now p text at_end within cut left reads ends writes faults = (
   record {
     archive = cut.front;
+    within = omega (arith, within, cut.count_is);
     pieces = cut.pieces ++ ends.more;
     are = are_all least p cut.front text cut.pieces cut.least_is cut.stands ends;
     moves = record {
@@ -181,7 +185,6 @@ pub table_failed : (least count : ℕ) (was mid now : Pipe) (p : Pieces) (text :
 table_failed least count was mid now p text at_end cut left reads ends part rose = (
   record {
     front = cut.front;
-    later = [];
     pieces = cut.pieces ++ ends.more;
     are = inr (are_all least p cut.front text cut.pieces cut.least_is cut.stands ends, refl, at_end);
     count = length (table cut.pieces) + part.0;
@@ -195,5 +198,7 @@ table_failed least count was mid now p text at_end cut left reads ends part rose
   rose_on was.write_faults mid.write_faults now.write_faults cut.writes rose,
 )
 
-pub too_long : (least count : ℕ) (was now : Pipe) (p : Pieces) → HasCut least count was now p → 2 ^ 40 < count → Says ArchiveTooLong least was now
-too_long least count was now p cut over = ((cut.front, omega (arith, over, cut.count_is), writes_first least count was now p cut), cut.reads, cut.writes)
+pub too_long : (least count : ℕ) (was now : Pipe) (p : Pieces) → HasCut least count was now p → 2 ^ 40 < count → count ≤ 2 ^ 40 + 65536
+    → Says ArchiveTooLong least was now
+too_long least count was now p cut over most =
+    ((cut.front, omega (arith, over, cut.count_is), omega (arith, most, cut.count_is), writes_first least count was now p cut), cut.reads, cut.writes)

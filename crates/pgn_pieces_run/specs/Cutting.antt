@@ -1,5 +1,5 @@
 -- What is read of an archive, and what is written of its pieces.
-use Rattle.std.specs.Prelude.{◌≡◌, ◌⊎◌, ℕ, ◌<◌, List, [], ◌++◌, length, take, Option, ◌^◌}
+use Rattle.std.specs.Prelude.{◌≡◌, ◌⊎◌, ℕ, ◌<◌, ◌≤◌, ◌+◌, List, [], ◌++◌, length, take, Option, ◌^◌}
 use Rattle.std.specs.Io.KnownBytes.{Consumes, IsAtEnd}
 use Rattle.cq_outside.specs.Faults.{Rose}
 use Rattle.cq_outside.specs.Flow.{Grew}
@@ -49,6 +49,7 @@ pub record HasCut (least count : ℕ) (was now : Pipe) (p : Pieces) : Type 0 whe
 -- The archive was read to its end, and the lines of its pieces were written.
 pub record WritesTable (least : ℕ) (was now : Pipe) : Type 0 where
   pub archive : List ℕ
+  pub within : length archive ≤ 2 ^ 40
   pub pieces : List Piece
   pub are : ArePieces least archive pieces
   pub moves : Moves was now archive (table pieces)
@@ -60,11 +61,10 @@ pub record WritesFirst (least : ℕ) (was now : Pipe) (front : List ℕ) : Type 
   pub are : AreFirst least front pieces
   pub moves : Moves was now front (table pieces)
 
--- Some first bytes were read, and then perhaps more; a front of the lines of the pieces that are full with the first ones was written, or
--- of all the lines of an archive that was read to its end.
-pub record WritesPart (least : ℕ) (was now : Pipe) : Type 0 where
+-- Some first bytes were read, and then these; a front of the lines of the pieces that are full with the first ones was written, or of all
+-- the lines of an archive that was read to its end.
+pub record WritesPart (least : ℕ) (was now : Pipe) (later : List ℕ) : Type 0 where
   pub front : List ℕ
-  pub later : List ℕ
   pub pieces : List Piece
   pub are : AreFirst least front pieces ⊎ (ArePieces least front pieces × (later ≡ []) × IsAtEnd now.left)
   pub count : ℕ
@@ -75,8 +75,9 @@ abbrev pub Says : Status → ℕ → Pipe → Pipe → Type 0
 Says Done least was now = WritesTable least was now × NoReadFailed was now × NoWriteFailed was now
 Says ReadFault least was now =
     ((front : List ℕ) × WritesFirst least was now front) × Rose was.read_faults now.read_faults × NoWriteFailed was now
-Says WriteFault least was now = WritesPart least was now × NoReadFailed was now × Rose was.write_faults now.write_faults
-Says NoMemory least was now = WritesPart least was now × NoReadFailed was now × NoWriteFailed was now
+Says WriteFault least was now = WritesPart least was now [] × NoReadFailed was now × Rose was.write_faults now.write_faults
+Says NoMemory least was now =
+    ((later : List ℕ) × (length later ≤ 65536) × WritesPart least was now later) × NoReadFailed was now × NoWriteFailed was now
 Says ArchiveTooLong least was now =
-    ((front : List ℕ) × (2 ^ 40 < length front) × WritesFirst least was now front) × NoReadFailed was now × NoWriteFailed was now
+    ((front : List ℕ) × (2 ^ 40 < length front) × (length front ≤ 2 ^ 40 + 65536) × WritesFirst least was now front) × NoReadFailed was now × NoWriteFailed was now
 Says _ least was now = ⊥

@@ -30,9 +30,9 @@ const USAGE: &[u8] = b"usage: pgnpieces ARCHIVE BYTES\n";
 /// - `ReadFault`: that count of the desk rose, and no other. The lines of the pieces that are long enough by then are written.
 /// - `WriteFault`: the count of one sink rose, and no other. It has taken a front of its text.
 /// - `NoMemory`: no memory was found, and no count rose; `out` has taken a front of the table.
-/// - `ArchiveTooLong`: the archive has more than 2^40 bytes; written is as much as after a failed read.
+/// - `ArchiveTooLong`: more than 2^40 bytes were read, and at most 65,536 more; written is as much as after a failed read.
 ///
-/// The clause `Promise` says each of these exactly.
+/// The clause `Promise` says of each what was read and written, and which count rose.
 pub fn run<D: Desk, O: Sink, E: Sink>(
     alloc: Global,
     words: &[String],

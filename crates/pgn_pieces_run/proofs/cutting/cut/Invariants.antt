@@ -1,4 +1,4 @@
-use Rattle.std.proofs.Common.{◌≡◌, ◌-◌, ◌+◌, vec_len}
+use Rattle.std.proofs.Common.{◌≡◌, ◌≤◌, ◌-◌, ◌+◌, vec_len}
 use Rattle.pgn_pieces_run.specs.Cutting.{HasCut, pipe}
 use Rattle.pgn_pieces_run.proofs.cutting.cut.Given as goal
 
@@ -11,6 +11,7 @@ invariant-loop-count g l =
       room : vec_len l.buffer ≡ 65536;
       cut : HasCut l.least l.count (pipe source.left source.faults sink.taken sink.faults l.fn.source l.fn.out)
           (pipe source.left source.faults sink.taken sink.faults l.source l.out) l.pieces;
+      most : l.count ≤ 1099511627776 + 65536;
       next : source.follows l.fn.source l.source;
     }
 

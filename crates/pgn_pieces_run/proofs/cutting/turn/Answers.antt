@@ -9,7 +9,8 @@ pub returns-in-Err-clause-stops : goal.returns-in-Err-clause-stops
 returns-in-Err-clause-stops g c = λ least count was cut. read_failed least count was _ _ c.args.pieces.now cut c.in-Err.ensures.bytes c.in-Err.ensures.cause.failed refl refl
 
 pub returns-in-Err-feed-clause-stops : goal.returns-in-Err-feed-clause-stops
-returns-in-Err-feed-clause-stops g c = λ least count was cut. read_lost least count was _ _ c.args.pieces.now _ cut c.in-Ok.ensures.bytes.0 c.in-Ok.ensures.cause.same refl refl
+returns-in-Err-feed-clause-stops g c = λ least count was cut. read_lost least count was _ _ c.args.pieces.now (take c.in-Ok.n c.read_piece.new.buf)
+    (omega (arith, length-take c.in-Ok.n c.read_piece.new.buf, c.in-Ok.ensures.bound, c.read_piece.auto.buf, c.requires.room)) cut c.in-Ok.ensures.bytes.0 c.in-Ok.ensures.cause.same refl refl
 
 pub returns-in-Ok-write_all_of-clause-goes_on : goal.returns-in-Ok-write_all_of-clause-goes_on
 returns-in-Ok-write_all_of-clause-goes_on g c = λ least count was cut.
