@@ -1,0 +1,9 @@
+pub mod Alone
+pub mod Askers
+pub mod Known
+pub mod Matching
+pub mod Parts
+pub mod Places
+pub mod Plans
+pub mod Singles
+pub mod Verdicts

@@ -1,0 +1,19 @@
+-- Plans of several queries as their callers see them.
+use Rattle.std.specs.Prelude.{List, map}
+use Rattle.cql_plan.specs.Plans.{query_of}
+use Rattle.cql_syntax.specs.TreeOf.{query_tree}
+use Rattle.cql_syntax.specs.Trees.{QueryTree}
+use Rattle.cql_syntax.specs.declared.typed.TypedQuery.{TypedQuery}
+use Rattle.cq_shared.specs.Parts.{PartTree, parts_in_all, different}
+use Rattle.cq_shared.specs.declared.plan.SharedPlan.{SharedPlan}
+
+-- the queries that a plan was made from
+abbrev pub queries_of : SharedPlan → List TypedQuery
+queries_of plan = map (λ a. query_of a.plan) plan.askers.items
+
+abbrev pub trees_of : List TypedQuery → List QueryTree
+trees_of queries = map (λ q. query_tree q.query) queries
+
+-- their different parts
+abbrev pub plan_parts : List TypedQuery → List PartTree
+plan_parts queries = different (parts_in_all (trees_of queries))

@@ -1,0 +1,22 @@
+//! Several queries over one game: a plan has their different parts, each once, and each is asked of a game once for all queries that have
+//! it.
+//!
+//! `specs/Parts` has the parts of a query, and when two are the same.
+#![tactic(auto)]
+
+mod asking;
+mod class;
+mod finding;
+mod known;
+mod laws;
+mod matching;
+mod narrowing;
+mod nodes;
+mod part;
+mod plan;
+mod single;
+mod table;
+mod verdicts;
+
+pub use plan::SharedPlan;
+pub use verdicts::Verdicts;

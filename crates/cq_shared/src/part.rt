@@ -1,0 +1,25 @@
+//! A part of queries, and what a query knows of its own parts.
+ghost use Rattle.std.specs.Prelude.{◌≡◌};
+ghost use Rattle.cql_eval.specs.Classes.{filter_class};
+ghost use Rattle.cql_syntax.specs.TreeOf.{filters_tree};
+ghost use Rattle.cq_shared.specs.Parts.{first_of};
+
+use crate::single::Single;
+use cql_plan::Plan;
+
+/// A part, its class by what it costs to ask, and the numbers of the queries that have it.
+#[derive(Drop)]
+pub(crate) struct Part {
+    pub(crate) single: Single,
+    pub(crate) class: u32,
+    pub(crate) askers: Vec<u32>,
+    ghost class_is: { class ≡ filter_class (first_of (filters_tree single.query.items)) },
+}
+
+/// A query, with the numbers of its parts in their order, and how many of them stand before its sort items.
+#[derive(Drop)]
+pub(crate) struct Asker {
+    pub(crate) plan: Plan,
+    pub(crate) numbers: Vec<usize>,
+    pub(crate) sorts: usize,
+}

@@ -1,0 +1,116 @@
+//! How a plan of several queries is made, and what it has.
+ghost use Rattle.std.specs.Prelude.{◌≡◌, ℕ, ◌+◌, ◌<◌, ◌≤◌, ◌==◌, ◌&&◌, ◌||◌, false, length, get_or, IfOk, OnOk};
+ghost use Rattle.cql_syntax.specs.TreeOf.{query_tree};
+ghost use Rattle.cq_shared.specs.Askers.{asked_query, IsAsker};
+ghost use Rattle.cq_shared.specs.Known.{all_shown, is_asked};
+ghost use Rattle.cq_shared.specs.Parts.{parts_in, with_parts, Keeps};
+ghost use Rattle.cq_shared.specs.Places.{IsTable, is_among};
+ghost use Rattle.cq_shared.specs.Plans.{queries_of, trees_of, plan_parts};
+
+use crate::finding::{add_sorts, add_top, count_top};
+use crate::known::add_all;
+use crate::part::{Asker, Part};
+use crate::plan::SharedPlan;
+use crate::table::{Place, empty_places};
+use cq_outside::NoMemory;
+use cql_plan::Plan;
+use cql_rewrite::expand;
+use cql_syntax::TypedQuery;
+use std::alloc::Global;
+
+impl SharedPlan {
+    /// The plan of 1 to 16 queries.
+    ///
+    /// Each part has a place in a table by its text, and is compared with the parts alone that have the same place. So the work stays
+    /// within a small multiple of the weights of the queries.
+    pub fn make(alloc: Global, queries: &[TypedQuery]) -> Result<SharedPlan, NoMemory>
+        requires some { 0 < length queries.now }
+        requires few { length queries.now ≤ 16 }
+        ensures { IfOk result (λ plan. trees_of (queries_of plan) ≡ trees_of queries.now) }
+    {
+        let mut places = empty_places(alloc, count_all(queries))?;
+        let mut parts = Vec::new(alloc);
+        let mut askers = Vec::new(alloc);
+        for q in 0..queries.len() {
+            let asker = asker_of(alloc, &queries[q], q as u32, &mut parts, &mut places)?;
+            askers.push(asker)?;
+        }
+        if parts.len() > u32::MAX as usize {
+            return Err(NoMemory);
+        }
+        Ok(SharedPlan { askers, parts })
+    }
+
+    /// How many queries it was made from.
+    pub fn len(&self) -> u32
+        ensures { result ≡ length (queries_of self.now) }
+    {
+        self.askers.len() as u32
+    }
+
+    /// The query of a number, of those that it was made from.
+    pub fn query(&self, query: u32) -> &TypedQuery
+        requires { query < length (queries_of self.now) }
+        ensures { result.now ≡ get_or (queries_of self.now) query result.now }
+    {
+        self.askers[query as usize].plan.query()
+    }
+
+    /// How many different parts the queries have.
+    pub fn parts(&self) -> u32
+        ensures { result ≡ length (plan_parts (queries_of self.now)) }
+    {
+        self.parts.len() as u32
+    }
+}
+
+// How many parts the queries have, and one more.
+fn count_all(queries: &[TypedQuery]) -> usize
+    ensures { 0 < result }
+{
+    let mut count = 1;
+    for query in queries {
+        count = count_top(&query.query.items, count);
+    }
+    count
+}
+
+// A query, whose parts are added to those of the queries before it.
+fn asker_of(
+    alloc: Global,
+    query: &TypedQuery,
+    number: u32,
+    parts: &mut Vec<Part>,
+    places: &mut Vec<Place>,
+) -> Result<Asker, NoMemory>
+    requires table { IsTable places.old.items (all_shown parts.old.items) }
+    requires fresh { (k : ℕ) → is_asked parts.old.items k number ≡ false }
+    ensures table { OnOk result (IsTable places.new.items (all_shown parts.new.items)) }
+    ensures parts { OnOk result (all_shown parts.new.items
+        ≡ with_parts (all_shown parts.old.items) (parts_in (query_tree query.now.query))) }
+    ensures kept { OnOk result (Keeps (all_shown parts.old.items) (all_shown parts.new.items)) }
+    ensures query { IfOk result (λ a. asked_query a ≡ query_tree query.now.query) }
+    ensures asker { IfOk result (λ a. IsAsker parts.new.items number a) }
+    ensures asked { IfOk result (λ a. (k q : ℕ) → is_asked parts.new.items k q
+        ≡ (is_asked parts.old.items k q || (is_among k a.numbers.items && (number == q)))) }
+{
+    let plan = Plan::make(alloc, query)?;
+    let flat = expand(alloc, query)?;
+    let mut filters = Vec::new(alloc);
+    add_top(alloc, &flat.items, &mut filters)?;
+    let sorts = filters.len();
+    add_sorts(alloc, &flat.items, &mut filters)?;
+    let numbers = add_all(
+        alloc,
+        filters.as_slice(),
+        flat.variations,
+        number,
+        parts,
+        places,
+    )?;
+    Ok(Asker {
+        plan,
+        numbers,
+        sorts,
+    })
+}
