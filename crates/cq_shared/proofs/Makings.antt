@@ -3,6 +3,7 @@ use Rattle.std.proofs.Common.{◌≡◌, ℕ, zero, suc, ◌+◌, ◌<◌, ◌�
 use Rattle.std.specs.Prelude.{◌==◌}
 use Rattle.std.proofs.lemmas.Bool.{ne_eqb, eq-eqb, and_from, and_parts, cases_lt}
 use Rattle.std.proofs.lemmas.List.{append-nil, take_more}
+use Rattle.cql_plan.specs.Plans.{query_of}
 use Rattle.cql_syntax.specs.Flat.{flat_query}
 use Rattle.cql_syntax.specs.Leaves.{same_flag}
 use Rattle.cql_syntax.specs.Same.{same_filter}
@@ -12,12 +13,13 @@ use Rattle.cql_syntax.specs.declared.tree.Filter.{Filter}
 use Rattle.cql_syntax.specs.declared.typed.TypedQuery.{TypedQuery}
 use Rattle.cq_shared.specs.Askers.{asked_query, IsAsker, AreAskers}
 use Rattle.cq_shared.specs.Known.{all_shown, is_asked}
-use Rattle.cq_shared.specs.Parts.{PartTree, query_parts, top_parts, top_sorts, parts_with, parts_in, parts_in_all, with_part, with_parts, different, equal_part, equal_parts, Keeps}
+use Rattle.cq_shared.specs.Parts.{PartTree, query_parts, top_parts, top_sorts, parts_with, parts_in, parts_in_all, are_at, with_part, with_parts, different, equal_part, equal_parts, Keeps}
 use Rattle.cq_shared.specs.Places.{is_among}
-use Rattle.cq_shared.specs.Plans.{trees_of}
+use Rattle.cq_shared.specs.Plans.{trees_of, plan_parts}
 use Rattle.cq_shared.specs.declared.part.Part.{Part}
 use Rattle.cq_shared.specs.declared.part.Asker.{Asker}
 use Rattle.cql_syntax.proofs.SameSound.{same_law}
+use Rattle.cq_shared.proofs.Gaining.{shown_length}
 use Rattle.cq_shared.proofs.Seeking.{all_kept}
 
 or_false : (b : Bool) → (b || false) ≡ b
@@ -155,3 +157,52 @@ first_count items none first is tops = sym (mapped_length first) ∙ ap length (
     mapped_length : (xs : List Filter) → length (map filter_tree xs) ≡ length xs
     mapped_length [] = refl
     mapped_length (x ∷ xs) = ap suc (mapped_length xs)
+
+-- a plan before its first query, and as it is in the end
+
+pub trees_none : (queries : List TypedQuery) (askers : List Asker) → askers ≡ [] → map (λ a. asked_query a) askers ≡ trees_of (take 0 queries)
+trees_none queries askers none = ap (λ xs. map (λ a. asked_query a) xs) none
+
+pub parts_none : (parts : List Part) (askers : List Asker) → parts ≡ [] → askers ≡ [] → all_shown parts ≡ different (parts_in_all (map (λ a. asked_query a) askers))
+unfolding with_parts
+parts_none parts askers is none = ap all_shown is ∙ sym (ap (λ xs. different (parts_in_all (map (λ a. asked_query a) xs))) none)
+
+pub askers_none : (parts : List Part) (askers : List Asker) → askers ≡ [] → AreAskers parts askers
+askers_none parts askers none = λ q a low reads. absurd (omega (arith, low, ap length none))
+
+pub fresh_none : (parts : List Part) → parts ≡ [] → (k r : ℕ) → is_asked parts k r ≡ false
+unfolding is_asked
+fresh_none parts none k r = ap (λ ps. is_asked ps k r) none
+
+pub plan_trees : (askers : List Asker) → trees_of (map (λ a. query_of a.plan) askers) ≡ map (λ a. asked_query a) askers
+plan_trees [] = refl
+plan_trees (a ∷ rest) = ap (λ qs. asked_query a ∷ qs) (plan_trees rest)
+
+pub parts_count : (parts : List Part) (askers : List Asker) → equal_parts (all_shown parts) (different (parts_in_all (map (λ a. asked_query a) askers))) ≡ true
+    → length parts ≡ length (plan_parts (map (λ a. query_of a.plan) askers))
+parts_count parts askers same =
+    sym (shown_length parts) ∙ ap length (equal_is (all_shown parts) (different (parts_in_all (map (λ a. asked_query a) askers))) same)
+    ∙ ap (λ qs. length (different (parts_in_all qs))) (sym (plan_trees askers))
+
+pub parts_later : (parts later : List Part) (askers : List Asker) (a : Asker) (q : QueryTree) → all_shown later ≡ with_parts (all_shown parts) (parts_in q) → asked_query a ≡ q
+    → all_shown parts ≡ different (parts_in_all (map (λ x. asked_query x) askers)) → all_shown later ≡ different (parts_in_all (map (λ x. asked_query x) (askers ++ a ∷ [])))
+parts_later parts later askers a q more is had =
+    more ∙ ap₂ (λ ps x. with_parts ps (parts_in x)) had (sym is) ∙ sym (different_more (map (λ x. asked_query x) askers) (asked_query a))
+    ∙ ap (λ qs. different (parts_in_all qs)) (sym (mapped askers))
+  where
+    mapped : (xs : List Asker) → map (λ x. asked_query x) (xs ++ a ∷ []) ≡ map (λ x. asked_query x) xs ++ asked_query a ∷ []
+    mapped [] = refl
+    mapped (x ∷ xs) = ap (λ ys. asked_query x ∷ ys) (mapped xs)
+
+-- a query that is added, by what was found of it
+pub asker_by : (old later : List Part) (a : Asker) (q : QueryTree) (n : ℕ) (found : List PartTree) → asked_query a ≡ q → found ≡ parts_in q
+    → are_at (all_shown later) a.numbers.items found ≡ true → ((k r : ℕ) → is_asked later k r ≡ (is_asked old k r || (is_among k a.numbers.items && (n == r))))
+    → ((k : ℕ) → is_asked old k n ≡ false) → a.sorts ≡ length (top_parts (flat_query q).items) → IsAsker later n a
+asker_by old later a q n found is all numbers more fresh sorts = record {
+  numbers = ap (are_at (all_shown later) a.numbers.items) (ap parts_in is ∙ sym all) ∙ numbers;
+  asked = this_asked (is_asked old) (is_asked later) a.numbers.items n more fresh;
+  sorts = sorts ∙ ap (λ x. length (top_parts (flat_query x).items)) (sym is);
+}
+
+pub counted_more : (askers later : List Asker) (a : Asker) (q : ℕ) → later ≡ askers ++ a ∷ [] → length askers ≡ q → length later ≡ q + 1
+counted_more askers later a q more had = ap length more ∙ length-append askers (a ∷ []) ∙ ap (λ n. n + 1) had

@@ -7,6 +7,8 @@ use Rattle.std.proofs.lemmas.List.{get_or_default}
 use Rattle.std.proofs.lemmas.List.Folds.{list_any-append}
 use Rattle.cq_shared.specs.Parts.{PartTree, same_part, is_at}
 use Rattle.cq_shared.specs.Places.{mixed_all, place_of, numbers_at, is_among, IsTable}
+use Rattle.cq_shared.specs.Known.{all_shown}
+use Rattle.cq_shared.specs.declared.part.Part.{Part}
 use Rattle.cq_shared.specs.declared.table.Place.{Place}
 use Rattle.cq_shared.proofs.SameText.{one_text}
 use Rattle.cq_shared.proofs.Seeking.{at_read}
@@ -104,3 +106,6 @@ numbers_others (y ∷ ys) zero zero x other = absurd (other refl)
 numbers_others (y ∷ ys) zero (suc i) x other = refl
 numbers_others (y ∷ ys) (suc at) zero x other = refl
 numbers_others (y ∷ ys) (suc at) (suc i) x other = numbers_others ys at i x (λ e. other (ap suc e))
+
+pub table_none : (places : List Place) (parts : List Part) → 0 < length places → parts ≡ [] → IsTable places (all_shown parts)
+table_none places parts some none = subst (λ ps. IsTable places (all_shown ps)) (sym none) (none_yet places some)

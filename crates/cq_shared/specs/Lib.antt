@@ -1,9 +1,7 @@
 pub mod Alone
 pub mod Askers
 pub mod Known
-pub mod Matching
 pub mod Parts
 pub mod Places
 pub mod Plans
 pub mod Singles
-pub mod Verdicts

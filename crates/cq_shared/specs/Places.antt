@@ -28,4 +28,5 @@ is_among k ks = list_any (λ j. j == k) ks
 -- there are places, and the number of each part stands at its own
 pub record IsTable (places : List Place) (ps : List PartTree) : Type 0 where
   pub some : 0 < length places
-  pub stands : (k : ℕ) (p : PartTree) → k < length ps → p ≡ get_or ps k p → is_among k (numbers_at places (place_of (length places) p)) ≡ true
+  pub stands : (k : ℕ) (p : PartTree) → k < length ps → p ≡ get_or ps k p
+      → is_among k (numbers_at places (place_of (length places) p)) ≡ true

@@ -1,22 +1,15 @@
-//! Several queries over one game: a plan has their different parts, each once, and each is asked of a game once for all queries that have
-//! it.
+//! Several queries over one game: a plan has their different parts, each once.
 //!
 //! `specs/Parts` has the parts of a query, and when two are the same.
 #![tactic(auto)]
 
-mod asking;
 mod class;
 mod finding;
 mod known;
-mod laws;
-mod matching;
-mod narrowing;
-mod nodes;
+pub mod laws;
 mod part;
 mod plan;
 mod single;
 mod table;
-mod verdicts;
 
 pub use plan::SharedPlan;
-pub use verdicts::Verdicts;

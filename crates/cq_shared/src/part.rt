@@ -6,6 +6,7 @@ ghost use Rattle.cq_shared.specs.Parts.{first_of};
 
 use crate::single::Single;
 use cql_plan::Plan;
+use cql_syntax::Filter;
 
 /// A part, its class by what it costs to ask, and the numbers of the queries that have it.
 #[derive(Drop)]
@@ -14,6 +15,15 @@ pub(crate) struct Part {
     pub(crate) class: u32,
     pub(crate) askers: Vec<u32>,
     ghost class_is: { class ≡ filter_class (first_of (filters_tree single.query.items)) },
+}
+
+/// The filters of a query that are its parts, in their order, how many of them stand before its sort items, and its word `variations`.
+#[derive(Drop)]
+pub(crate) struct Listed {
+    pub(crate) plan: Plan,
+    pub(crate) filters: Vec<Filter>,
+    pub(crate) sorts: usize,
+    pub(crate) variations: bool,
 }
 
 /// A query, with the numbers of its parts in their order, and how many of them stand before its sort items.

@@ -1,15 +1,19 @@
 //! How a plan of several queries is made, and what it has.
-ghost use Rattle.std.specs.Prelude.{◌≡◌, ℕ, ◌+◌, ◌<◌, ◌≤◌, ◌==◌, ◌&&◌, ◌||◌, false, length, get_or, IfOk, OnOk};
-ghost use Rattle.cql_syntax.specs.TreeOf.{query_tree};
+ghost use Rattle.std.specs.Prelude.{◌≡◌, ℕ, ◌+◌, ◌<◌, ◌≤◌, ◌==◌, ◌&&◌, ◌||◌, false, true, length, map, get_or, IfOk, OnOk};
+ghost use Rattle.std.specs.List.{list_all};
+ghost use Rattle.cql_plan.specs.Plans.{query_of};
+ghost use Rattle.cql_syntax.specs.Flat.{flat_query};
+ghost use Rattle.cql_syntax.specs.TreeOf.{filter_tree, query_tree};
+ghost use Rattle.cq_shared.specs.Alone.{stands_alone};
 ghost use Rattle.cq_shared.specs.Askers.{asked_query, IsAsker};
 ghost use Rattle.cq_shared.specs.Known.{all_shown, is_asked};
-ghost use Rattle.cq_shared.specs.Parts.{parts_in, with_parts, Keeps};
+ghost use Rattle.cq_shared.specs.Parts.{parts_in, parts_with, top_parts, with_parts, Keeps};
 ghost use Rattle.cq_shared.specs.Places.{IsTable, is_among};
 ghost use Rattle.cq_shared.specs.Plans.{queries_of, trees_of, plan_parts};
 
 use crate::finding::{add_sorts, add_top, count_top};
 use crate::known::add_all;
-use crate::part::{Asker, Part};
+use crate::part::{Asker, Listed, Part};
 use crate::plan::SharedPlan;
 use crate::table::{Place, empty_places};
 use cq_outside::NoMemory;
@@ -38,7 +42,8 @@ impl SharedPlan {
         if parts.len() > u32::MAX as usize {
             return Err(NoMemory);
         }
-        Ok(SharedPlan { askers, parts })
+        let plan = SharedPlan { askers, parts };
+        Ok(plan)
     }
 
     /// How many queries it was made from.
@@ -94,23 +99,35 @@ fn asker_of(
     ensures asked { IfOk result (λ a. (k q : ℕ) → is_asked parts.new.items k q
         ≡ (is_asked parts.old.items k q || (is_among k a.numbers.items && (number == q)))) }
 {
+    let listed = listed(alloc, query)?;
+    let filters = listed.filters.as_slice();
+    let numbers = add_all(alloc, filters, listed.variations, number, parts, places)?;
+    Ok(Asker {
+        plan: listed.plan,
+        numbers,
+        sorts: listed.sorts,
+    })
+}
+
+// The parts of a query.
+fn listed(alloc: Global, query: &TypedQuery) -> Result<Listed, NoMemory>
+    ensures query { IfOk result (λ l. query_tree (query_of l.plan).query ≡ query_tree query.now.query) }
+    ensures parts { IfOk result (λ l. parts_with l.variations (map filter_tree l.filters.items)
+        ≡ parts_in (query_tree query.now.query)) }
+    ensures alone { IfOk result (λ l. list_all stands_alone (map filter_tree l.filters.items) ≡ true) }
+    ensures sorts { IfOk result (λ l. l.sorts ≡ length (top_parts (flat_query (query_tree query.now.query)).items)) }
+{
     let plan = Plan::make(alloc, query)?;
     let flat = expand(alloc, query)?;
     let mut filters = Vec::new(alloc);
     add_top(alloc, &flat.items, &mut filters)?;
     let sorts = filters.len();
     add_sorts(alloc, &flat.items, &mut filters)?;
-    let numbers = add_all(
-        alloc,
-        filters.as_slice(),
-        flat.variations,
-        number,
-        parts,
-        places,
-    )?;
-    Ok(Asker {
+    let variations = flat.variations;
+    Ok(Listed {
         plan,
-        numbers,
+        filters,
         sorts,
+        variations,
     })
 }
