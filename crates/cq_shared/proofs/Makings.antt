@@ -120,10 +120,10 @@ pub askers_more : (parts later : List Part) (askers : List Asker) (a : Asker) (n
     → AreAskers later (askers ++ a ∷ [])
 askers_more parts later askers a n last keeps more are is = λ q b low reads. ⊎_elim
     (λ before. asker_kept parts later q b keeps (λ k. others_asked (is_asked parts) (is_asked later) a.numbers.items n more k q (λ e. omega (arith, e, last, before)))
-        (are q b before (read_before askers a q b before reads)))
+    (are q b before (read_before askers a q b before reads)))
     (λ past. let e : q ≡ length askers = omega (arith, past, low, length-append askers (a ∷ [])) in
-        let here : b ≡ a = reads ∙ ap (λ j. get_or (askers ++ a ∷ []) j b) e ∙ read_end askers a b in
-        subst (λ x. IsAsker later q x) (sym here) (subst (λ m. IsAsker later m a) (last ∙ sym e) is))
+    let here : b ≡ a = reads ∙ ap (λ j. get_or (askers ++ a ∷ []) j b) e ∙ read_end askers a b in
+    subst (λ x. IsAsker later q x) (sym here) (subst (λ m. IsAsker later m a) (last ∙ sym e) is))
     (cases_lt q (length askers))
 
 pub fresh_more : (parts later : List Part) (ks : List ℕ) (n : ℕ) → ((k q : ℕ) → is_asked later k q ≡ (is_asked parts k q || (is_among k ks && (n == q))))

@@ -33,6 +33,7 @@ here tree n f = holds (value tree [] [] f n)
 
 mutual
   unfolding parts_of value
+
   part_hold : (tree : SearchedTree) (n : ℕ) (f : FilterTree) → list_all (here tree n) (parts_of f) ≡ holds (value tree [] [] f n)
   part_hold tree n (filter_at at f) = form_hold tree n at f
 

@@ -78,7 +78,7 @@ rules_same i at f e =
     let names : List QueryReason = unbound_name [] f in
     let brace : List QueryReason = brace_in_comment f in
     let rest : is_empty (names ++ brace) ≡ true =
-        empty_second past (names ++ brace) (empty_second below (past ++ (names ++ brace)) (empty_second kind (below ++ (past ++ (names ++ brace))) e)) in
+    empty_second past (names ++ brace) (empty_second below (past ++ (names ++ brace)) (empty_second kind (below ++ (past ++ (names ++ brace))) e)) in
     empty_both kind (below_top (Some 0) f ++ (past_four_sorts (Some 0) f ++ (names ++ brace))) (empty_first kind (below ++ (past ++ (names ++ brace))) e)
     (ap₂ (λ a b. is_empty (a ++ (b ++ (names ++ brace)))) (below_none f) (past_none f) ∙ rest)
 

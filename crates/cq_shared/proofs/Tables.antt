@@ -37,7 +37,7 @@ sought places ps r at numbers table place there none k low = false_from_ne_true 
     let reads : p ≡ get_or ps k p = get_or_default ps k r p low in
     let same : same_part p r ≡ true = sym (at_read ps k p r low reads) ∙ here in
     let among : is_among k numbers ≡ true =
-        ap (is_among k) (there ∙ ap (numbers_at places) (place ∙ sym (same_place (length places) p r same))) ∙ table.stands k p low reads in
+    ap (is_among k) (there ∙ ap (numbers_at places) (place ∙ sym (same_place (length places) p r same))) ∙ table.stands k p low reads in
     no_true (among_false (λ j. is_at ps j r) k numbers among none) here)
 
 -- a number that is put at a place

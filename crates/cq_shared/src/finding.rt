@@ -8,11 +8,7 @@ use cql_syntax::{Chain, Filter, Filters, Form};
 use std::alloc::Global;
 
 /// Adds copies of the parts of the top items that are no sort items.
-pub(crate) fn add_top(
-    alloc: Global,
-    items: &Filters,
-    to: &mut Vec<Filter>,
-) -> Result<(), NoMemory>
+pub(crate) fn add_top(alloc: Global, items: &Filters, to: &mut Vec<Filter>) -> Result<(), NoMemory>
     ensures { OnOk result (map filter_tree to.new.items ≡ map filter_tree to.old.items ++ top_parts (filters_tree items.now)) }
 {
     for item in items.as_slice() {

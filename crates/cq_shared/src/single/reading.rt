@@ -42,8 +42,7 @@ pub(crate) fn filter_of(single: &Single) -> &Filter
 pub(crate) fn same_single(a: &Single, b: &Single) -> bool
     ensures { result ≡ same_part (shown a.now) (shown b.now) }
 {
-    same_flag(a.query.variations, b.query.variations)
-        && same_unplaced(filter_of(a), filter_of(b))
+    same_flag(a.query.variations, b.query.variations) && same_unplaced(filter_of(a), filter_of(b))
 }
 
 fn same_flag(a: bool, b: bool) -> bool

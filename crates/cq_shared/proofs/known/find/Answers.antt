@@ -19,8 +19,8 @@ loop-number-preserved c =
     let ps = all_shown c.args.parts.now in
     let r = shown c.args.single.now in
     let numbers : c.as_slice-number-items.result.now ≡ numbers_at c.args.places.now c.args.at =
-        c.as_slice-number-items.ensures.value ∙ numbers_read c.args.places.now c.args.at (get_or c.args.places.now c.args.at c.index-places-at.result) c.requires.below
-        (ap (get_or c.args.places.now c.args.at) c.index-places-at.is) in
+    c.as_slice-number-items.ensures.value ∙ numbers_read c.args.places.now c.args.at (get_or c.args.places.now c.args.at c.index-places-at.result) c.requires.below
+    (ap (get_or c.args.places.now c.args.at) c.index-places-at.is) in
     below_more (λ i. is_at ps (get_or (numbers_at c.args.places.now c.args.at) i 0) r ≡ false) c.loop-number.number-index c.loop-number.invariant
     (ap (λ ns. is_at ps (get_or ns c.loop-number.number-index 0) r) (sym numbers) ∙ sym c.is_same.ensures ∙ c.if-is_same.false)
 
@@ -29,8 +29,8 @@ returns c =
     let ps = all_shown c.args.parts.now in
     let r = shown c.args.single.now in
     let numbers : c.as_slice-number-items.result.now ≡ numbers_at c.args.places.now c.args.at =
-        c.as_slice-number-items.ensures.value ∙ numbers_read c.args.places.now c.args.at (get_or c.args.places.now c.args.at c.index-places-at.result) c.requires.below
-        (ap (get_or c.args.places.now c.args.at) c.index-places-at.is) in
+    c.as_slice-number-items.ensures.value ∙ numbers_read c.args.places.now c.args.at (get_or c.args.places.now c.args.at c.index-places-at.result) c.requires.below
+    (ap (get_or c.args.places.now c.args.at) c.index-places-at.is) in
     none_same ps r
     (sought c.args.places.now ps r c.args.at (numbers_at c.args.places.now c.args.at) c.requires.table c.requires.at refl
     (λ i low. c.loop-number.invariant i (omega (arith, low, c.loop-number-test.false, ap length numbers))))
