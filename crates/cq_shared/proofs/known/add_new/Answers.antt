@@ -1,11 +1,10 @@
-use Rattle.std.proofs.Common.{◌≡◌, ◌&&◌, ◌||◌, ◌∙◌, ◌++◌, ◌∷◌, [], true, length, sym, ap, subst, arith}
+use Rattle.std.proofs.Common.{◌≡◌, ◌&&◌, ◌||◌, ◌∙◌, ◌++◌, ◌∷◌, [], length, sym, ap, arith}
 use Rattle.std.specs.Prelude.{◌==◌}
 use Rattle.cq_shared.specs.Known.{all_shown, is_asked}
 use Rattle.cq_shared.specs.Parts.{is_at}
 use Rattle.cq_shared.specs.Singles.{shown}
 use Rattle.cq_shared.proofs.Gaining.{asked_new, shown_new, shown_length}
 use Rattle.cq_shared.proofs.Seeking.{at_end, same_itself}
-use Rattle.cq_shared.proofs.Tables.{put_more}
 use Rattle.cq_shared.proofs.known.add_new.Goals as goal
 
 pub returns-clause-number : goal.returns-clause-number

@@ -1,4 +1,4 @@
-use Rattle.std.proofs.Common.{◌≡◌, ◌∙◌, ap, true, arith, map, length}
+use Rattle.std.proofs.Common.{◌≡◌, ◌∙◌, ap, arith, map, length}
 use Rattle.std.specs.List.{list_all}
 use Rattle.cql_syntax.specs.TreeOf.{filter_tree, filters_tree, query_tree}
 use Rattle.cq_shared.specs.Alone.{stands_alone}
