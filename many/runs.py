@@ -83,7 +83,7 @@ def wanted(folder, numbers):
 
 
 def feed(archive, piece, to):
-    """Hands a piece's bytes on, behind one space if it is not the archive's first piece: so its first byte is in no first column, and no
+    """Hands a piece's bytes on, after one space if it is not the archive's first piece: so its first byte is in no first column, and no
     byte order mark begins it. Answers whether the reader took all of them; an archive that ends before the piece is an error."""
 
     def hand_on(block):
