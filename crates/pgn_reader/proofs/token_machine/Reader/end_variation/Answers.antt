@@ -2,7 +2,7 @@ use Rattle.std.proofs.Common.{refl, sym, ap, ap₂, ◌∙◌}
 use Rattle.std.specs.Option.{is_some}
 use Rattle.pgn_reader.specs.Frame.{with_variation}
 use Rattle.pgn_reader.proofs.Ends.{end_step}
-use Rattle.pgn_reader.proofs.reader.Reader.end_variation.Goals as goal
+use Rattle.pgn_reader.proofs.token_machine.Reader.end_variation.Goals as goal
 
 pub returns-in_ok-add_variation-in-Some : goal.returns-in_ok-add_variation-in-Some
 returns-in_ok-add_variation-in-Some c =

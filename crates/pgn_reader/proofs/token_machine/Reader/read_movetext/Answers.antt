@@ -1,7 +1,7 @@
 use Rattle.std.proofs.Common.{sym, ap, ◌∙◌, subst}
 use Rattle.pgn_reader.specs.Words.{remarks, without_braces, body_of, line_body_of, sense_of}
 use Rattle.pgn_reader.specs.Shown.{IsSenseStep}
-use Rattle.pgn_reader.proofs.reader.Reader.read_movetext.Goals as goal
+use Rattle.pgn_reader.proofs.token_machine.Reader.read_movetext.Goals as goal
 
 pub returns-in-Null : goal.returns-in-Null
 returns-in-Null c =
@@ -17,11 +17,13 @@ returns-in-Star c =
 
 pub returns-in-LeftParen : goal.returns-in-LeftParen
 returns-in-LeftParen c =
-    subst (λ s. IsSenseStep c.args.self.now c.args.kind s c.open_variation.new.self c.open_variation.result) (ap (λ k. sense_of k c.args.text.now) (sym c.in-LeftParen.is)) (c.open_variation.ensures c.args.kind)
+    subst (λ s. IsSenseStep c.args.self.now c.args.kind s c.open_variation.new.self c.open_variation.result)
+    (ap (λ k. sense_of k c.args.text.now) (sym c.in-LeftParen.is)) (c.open_variation.ensures c.args.kind)
 
 pub returns-in-RightParen : goal.returns-in-RightParen
 returns-in-RightParen c =
-    subst (λ s. IsSenseStep c.args.self.now c.args.kind s c.end_variation.new.self c.end_variation.result) (ap (λ k. sense_of k c.args.text.now) (sym c.in-RightParen.is)) (c.end_variation.ensures c.args.kind)
+    subst (λ s. IsSenseStep c.args.self.now c.args.kind s c.end_variation.new.self c.end_variation.result)
+    (ap (λ k. sense_of k c.args.text.now) (sym c.in-RightParen.is)) (c.end_variation.ensures c.args.kind)
 
 pub returns-in-Comment : goal.returns-in-Comment
 unfolding body_of

@@ -1,6 +1,6 @@
 use Rattle.std.proofs.Common.{arith}
 use Rattle.pgn_reader.proofs.Slices.{nothing_after, text_is_rest, text_is_part}
-use Rattle.pgn_reader.proofs.reading.text_of.Goals as goal
+use Rattle.pgn_reader.proofs.all_tokens.text_of.Goals as goal
 
 pub returns-then-from-bytes : goal.returns-then-from-bytes
 returns-then-from-bytes c =

@@ -8,11 +8,11 @@ ghost use Rattle.pgn_reader.specs.declared.fault.Reason.TheVariants.{GameTooLong
 ghost use Rattle.pgn_reader.specs.Limits.{longest};
 ghost use Rattle.pgn_reader.specs.Verdict.{place_or, IsVerdict};
 
+use crate::all_tokens::read_tokens;
 use crate::build::game_of_rows;
 use crate::fault::{GameFault, Reason};
-use crate::reader::{Phase, Reader};
-use crate::reading::read_tokens;
 use crate::text::result_of_text;
+use crate::token_machine::{Phase, Reader};
 use cq_outside::{NoMemory, Refusal};
 use cq_position::GameResult;
 use pgn_lexer::{Token, tokens};

@@ -1,7 +1,7 @@
 use Rattle.std.proofs.Common.{sym, ap, ◌∙◌}
 use Rattle.std.specs.Option.{unwrap_or}
 use Rattle.pgn_reader.proofs.Moves.{other_is_legal, passed_to, led_by_other}
-use Rattle.pgn_reader.proofs.reader.position_after.Goals as goal
+use Rattle.pgn_reader.proofs.token_machine.position_after.Goals as goal
 
 pub play-requires : goal.play-requires
 play-requires c = (c.requires.0, other_is_legal c.args.position.now c.requires.0 c.args.step.now c.if-step.false c.requires.1)

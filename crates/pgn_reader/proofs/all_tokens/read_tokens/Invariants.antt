@@ -2,7 +2,7 @@ use Rattle.std.proofs.Common.{◌≡◌, ◌≤◌, take, map}
 use Rattle.pgn_reader.specs.Words.{word_of}
 use Rattle.pgn_reader.specs.Machine.{run, first}
 use Rattle.pgn_reader.specs.Shown.{shown, moves_in}
-use Rattle.pgn_reader.proofs.reading.read_tokens.Given as goal
+use Rattle.pgn_reader.proofs.all_tokens.read_tokens.Given as goal
 
 abbrev pub invariant-loop-index : goal.invariant-loop-index
 invariant-loop-index l = record {

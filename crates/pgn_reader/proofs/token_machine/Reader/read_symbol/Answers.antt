@@ -2,7 +2,7 @@ use Rattle.std.proofs.Common.{sym, ◌∙◌, subst, Some, None}
 use Rattle.pgn_lexer.specs.declared.token.TokenKind.TheVariants.{Symbol}
 use Rattle.pgn_reader.specs.Shown.{IsSenseStep}
 use Rattle.pgn_reader.proofs.Symbols.{symbol_digits, symbol_other}
-use Rattle.pgn_reader.proofs.reader.Reader.read_symbol.Goals as goal
+use Rattle.pgn_reader.proofs.token_machine.Reader.read_symbol.Goals as goal
 
 pub returns-then-are_digits : goal.returns-then-are_digits
 returns-then-are_digits c =

@@ -1,6 +1,6 @@
 use Rattle.std.proofs.Common.{refl, sym, ◌∙◌, subst}
 use Rattle.cq_position.specs.Legal.{Leads}
-use Rattle.pgn_reader.proofs.reader.Reader.read_move.Goals as goal
+use Rattle.pgn_reader.proofs.token_machine.Reader.read_move.Goals as goal
 
 pub position_after-position-requires : goal.position_after-position-requires
 position_after-position-requires c =

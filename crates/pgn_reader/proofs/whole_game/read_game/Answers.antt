@@ -3,7 +3,7 @@ use Rattle.pgn_reader.specs.Words.{Word, word_of}
 use Rattle.pgn_reader.specs.Reading.{IsReading}
 use Rattle.pgn_reader.specs.Verdict.{IsOnlyGame}
 use Rattle.pgn_reader.proofs.Tokens.{only_game}
-use Rattle.pgn_reader.proofs.game.read_game.Goals as goal
+use Rattle.pgn_reader.proofs.whole_game.read_game.Goals as goal
 
 pub returns-in-Ok : goal.returns-in-Ok
 returns-in-Ok c =

@@ -7,7 +7,7 @@ ghost use Rattle.pgn_reader.specs.Shown.{shown};
 ghost use Rattle.pgn_reader.specs.Reading.{IsReading};
 
 use crate::fault::Reason;
-use crate::reader::{Phase, Reader};
+use crate::token_machine::{Phase, Reader};
 use cq_outside::{NoMemory, Refusal};
 use pgn_lexer::Token;
 use std::alloc::Global;

@@ -6,7 +6,7 @@ use Rattle.pgn_reader.specs.Faults.{IsFault}
 use Rattle.pgn_reader.specs.Machine.{feed}
 use Rattle.pgn_reader.specs.Shown.{shown}
 use Rattle.pgn_reader.proofs.Tokens.{low_here, run_on, fault_step, end_in_loop, whole_in_loop}
-use Rattle.pgn_reader.proofs.reading.read_tokens.Goals as goal
+use Rattle.pgn_reader.proofs.all_tokens.read_tokens.Goals as goal
 
 abbrev nothing_there : Token
 nothing_there = record { at = 0; len = 0; kind = Open }
