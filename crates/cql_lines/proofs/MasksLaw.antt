@@ -49,7 +49,8 @@ skips_greatest mask values j off = rw off refl
 pub greatest_before : (mask : ℕ) (values : ℕ → ℕ) (n : ℕ) → ((j : ℕ) → j < n → is_set mask j ≡ false) → 0 ≡ greatest_in mask values n
 greatest_before mask values n off = sym (before_first mask (greatest_in mask values) (skips_greatest mask values) n off)
 
-pub greatest_past : (mask : ℕ) (values : ℕ → ℕ) (end count : ℕ) → end ≤ count → ((j : ℕ) → end ≤ j → j < count → is_set mask j ≡ false) → greatest_in mask values end ≡ greatest_in mask values count
+pub greatest_past : (mask : ℕ) (values : ℕ → ℕ) (end count : ℕ) → end ≤ count → ((j : ℕ) → end ≤ j → j < count → is_set mask j ≡ false)
+    → greatest_in mask values end ≡ greatest_in mask values count
 greatest_past mask values = past_last mask (greatest_in mask values) (skips_greatest mask values)
 
 skips_union : (mask : ℕ) (values : ℕ → ℕ) (j : ℕ) → is_set mask j ≡ false → union_in mask values (suc j) ≡ union_in mask values j
@@ -58,5 +59,6 @@ skips_union mask values j off = rw off refl
 pub union_before : (mask : ℕ) (values : ℕ → ℕ) (n : ℕ) → ((j : ℕ) → j < n → is_set mask j ≡ false) → 0 ≡ union_in mask values n
 union_before mask values n off = sym (before_first mask (union_in mask values) (skips_union mask values) n off)
 
-pub union_past : (mask : ℕ) (values : ℕ → ℕ) (end count : ℕ) → end ≤ count → ((j : ℕ) → end ≤ j → j < count → is_set mask j ≡ false) → union_in mask values end ≡ union_in mask values count
+pub union_past : (mask : ℕ) (values : ℕ → ℕ) (end count : ℕ) → end ≤ count → ((j : ℕ) → end ≤ j → j < count → is_set mask j ≡ false)
+    → union_in mask values end ≡ union_in mask values count
 union_past mask values = past_last mask (union_in mask values) (skips_union mask values)
