@@ -1,0 +1,21 @@
+use Rattle.std.proofs.Common.{arith}
+use Rattle.cq_shared.proofs.Readings.{found_by}
+use Rattle.cq_shared.proofs.Whole.{found_none, found_more, found_all}
+use Rattle.cq_shared.proofs.found.found_all.Goals as goal
+
+pub loop-q-init : goal.loop-q-init
+loop-q-init c = found_none c.args.game.now c.args.askers.now c.new-found.result.items c.new-found.ensures.items
+
+pub found_of-one-requires : goal.found_of-one-requires
+found_of-one-requires c =
+    found_by c.args.game.now c.args.parts.now c.args.askers.now c.args.sorted.now.left.items c.args.sorted.now.rows.items c.loop-q.q ? ? c.requires.askers c.requires.found
+    c.requires.rows c.loop-q-test.true ? ?
+
+pub loop-q-preserved : goal.loop-q-preserved
+loop-q-preserved c =
+    found_more c.args.game.now c.args.askers.now c.loop-q.q ? c.loop-q.found.items c.push.new.self.items c.in_ok-one.one c.loop-q-test.true ? c.in_ok-push.ensures.items
+    c.in_ok-one.ensures.nodes c.in_ok-one.ensures.keys c.loop-q.invariant
+
+pub returns : goal.returns
+returns c = let all = found_all c.args.game.now c.args.askers.now c.loop-q.q c.loop-q.found.items (omega (arith, c.loop-q-test.false)) c.loop-q.invariant in
+    record { nodes = all.nodes; keys = all.keys }
