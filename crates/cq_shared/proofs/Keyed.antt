@@ -10,7 +10,7 @@ use Rattle.cq_position.specs.Search.{SearchedTree}
 use Rattle.cql_eval.specs.Classes.{form_class, filter_class}
 use Rattle.cql_eval.specs.Hits.{number_at}
 use Rattle.cql_plan.specs.Rows.{key_in}
-use Rattle.cql_syntax.specs.Hits.{all_keys, item_keys, key_of, chosen}
+use Rattle.cql_syntax.specs.Hits.{all_keys, item_keys, chosen}
 use Rattle.cql_syntax.specs.Meaning.{value}
 use Rattle.cql_syntax.specs.Trees.{FilterTree, filter_at, FormTree, designator, number, name, plain, tagged, outcome, elo, unary, direction, chain, sum_of, pair, if_, square, line, played, transform, sort, comment, any, FilterTrees, no_filters, more_filters}
 use Rattle.cql_syntax.specs.Leaves.{same_flag}
@@ -60,19 +60,19 @@ key_all least row nodes k key end had = had ∙ ap (key_in least row) (take_all 
 
 -- keys one by one
 
-pub keys_none : (key_of : ℕ → Option ℤ) (ks : List ℕ) (old : List ℤ) → old ≡ [] → map Some old ++ map key_of ks ≡ map key_of ks
-keys_none key_of ks old none = ap (λ xs. map Some xs ++ map key_of ks) none
+pub keys_none : (row_of : ℕ → Option ℤ) (ks : List ℕ) (old : List ℤ) → old ≡ [] → map Some old ++ map row_of ks ≡ map row_of ks
+keys_none row_of ks old none = ap (λ xs. map Some xs ++ map row_of ks) none
 
-pub keys_more : (key_of : ℕ → Option ℤ) (ks : List ℕ) (i k : ℕ) (old new : List ℤ) (key : ℤ) (all : List (Option ℤ)) → i < length ks → k ≡ get_or ks i k → new ≡ old ++ key ∷ []
-    → Some key ≡ key_of k → map Some old ++ map key_of (drop i ks) ≡ all → map Some new ++ map key_of (drop (i + 1) ks) ≡ all
-keys_more key_of ks i k old new key all low at more is had =
-    let rest = map key_of (drop (i + 1) ks) in
+pub keys_more : (row_of : ℕ → Option ℤ) (ks : List ℕ) (i k : ℕ) (old new : List ℤ) (key : ℤ) (all : List (Option ℤ)) → i < length ks → k ≡ get_or ks i k → new ≡ old ++ key ∷ []
+    → Some key ≡ row_of k → map Some old ++ map row_of (drop i ks) ≡ all → map Some new ++ map row_of (drop (i + 1) ks) ≡ all
+keys_more row_of ks i k old new key all low at more is had =
+    let rest = map row_of (drop (i + 1) ks) in
     ap (λ xs. map Some xs ++ rest) more ∙ ap (λ o. o ++ rest) (map_snoc Some old key) ∙ append_assoc (map Some old) (Some key ∷ []) rest
-    ∙ ap (λ o. map Some old ++ (o ∷ rest)) (is ∙ ap key_of at)
-    ∙ ap (λ l. map Some old ++ map key_of l) (sym (drop_more ks i k low)) ∙ had
+    ∙ ap (λ o. map Some old ++ (o ∷ rest)) (is ∙ ap row_of at)
+    ∙ ap (λ l. map Some old ++ map row_of l) (sym (drop_more ks i k low)) ∙ had
 
-pub keys_all : (key_of : ℕ → Option ℤ) (ks : List ℕ) (i : ℕ) (old : List ℤ) (all : List (Option ℤ)) → length ks ≤ i → map Some old ++ map key_of (drop i ks) ≡ all → map Some old ≡ all
-keys_all key_of ks i old all past had = sym (append-nil (map Some old)) ∙ ap (λ l. map Some old ++ map key_of l) (sym (drop_all i ks past)) ∙ had
+pub keys_all : (row_of : ℕ → Option ℤ) (ks : List ℕ) (i : ℕ) (old : List ℤ) (all : List (Option ℤ)) → length ks ≤ i → map Some old ++ map row_of (drop i ks) ≡ all → map Some old ≡ all
+keys_all row_of ks i old all past had = sym (append-nil (map Some old)) ∙ ap (λ l. map Some old ++ map row_of l) (sym (drop_all i ks past)) ∙ had
 
 -- a key depends on the numbers alone
 
@@ -137,9 +137,9 @@ both_alike : (tree : SearchedTree) (i j : ℕ) (low high : Bool) (a b : List ℕ
     → Alike tree (filter_at i (sort low a f)) (filter_at j (sort high b g))
 unfolding with_places same_filter sort_number is_least
 both_alike tree i j low high a b f g same =
-    let one = and_parts (same_flag low high) (bytes_eq a b && same_filter (unplaced f) (unplaced g)) same in
-    let two = and_parts (bytes_eq a b) (same_filter (unplaced f) (unplaced g)) one.1 in
-    record { least = flag_is low high one.0; number = λ n. ap amount (same_value f g two.1 tree [] [] n) }
+    let one = and_parts (same_flag low high && bytes_eq a b) (same_filter (unplaced f) (unplaced g)) same in
+    let two = and_parts (same_flag low high) (bytes_eq a b) one.0 in
+    record { least = flag_is low high two.0; number = λ n. ap amount (same_value f g one.1 tree [] [] n) }
 
 forms_alike : (tree : SearchedTree) (i j : ℕ) (f g : FormTree) → SortForm f → SortForm g → same_unplaced (filter_at i f) (filter_at j g) ≡ true → Alike tree (filter_at i f) (filter_at j g)
 forms_alike tree i j f g s t same =

@@ -7,17 +7,13 @@ use Rattle.std.proofs.lemmas.Bool.Decides.{nat_tests}
 use Rattle.std.proofs.lemmas.List.{get_or_default}
 use Rattle.cq_position.specs.Games.{Game, is_searched}
 use Rattle.cq_position.specs.Search.{SearchedTree}
-use Rattle.cql_plan.proofs.Items.{found_below, found_more, all_found}
-use Rattle.cql_plan.proofs.Needed.{none_where_refused}
-use Rattle.cql_plan.specs.Needs.{query_passes, all_pass}
 use Rattle.cql_syntax.specs.Flat.{flat_query}
-use Rattle.cql_syntax.specs.Hits.{is_hit, hits, hits_in, tree_of}
+use Rattle.cql_syntax.specs.Hits.{is_hit, tree_of}
 use Rattle.cql_syntax.specs.Trees.{FilterTree, QueryTree}
 use Rattle.cql_syntax.specs.Values.{holds}
 use Rattle.cql_syntax.specs.Meaning.{value}
 use Rattle.cql_syntax.specs.Leaves.{same_flag}
 use Rattle.cql_syntax.specs.Unplaced.{same_unplaced}
-use Rattle.cql_syntax.proofs.FlatHits.{hits_same}
 use Rattle.cql_syntax.proofs.UnplacedSame.{same_value}
 use Rattle.cql_values.specs.Trees.{searched_tree}
 use Rattle.cq_shared.specs.Askers.{asked_query, IsAsker, AreAskers}
@@ -171,40 +167,3 @@ pub met_before : (game : Game) (parts : List Part) (q n : ℕ) → ((k : ℕ) (p
 met_before game [] q n low = refl
 met_before game (p ∷ ps) q n low =
     ap₂ (λ a b. (not a || meets game q n p) && b) (lt-ltb p.class 6 (low 0 p (omega arith) refl)) (met_before game ps q n (λ k r inside at. low (suc k) r (omega (arith, inside)) at))
-
--- nodes that are found one by one
-
-pub same_found : (there searched hit : ℕ → Bool) (k : ℕ) → ((n : ℕ) → n < k → there n ≡ (searched n && hit n)) → found_below there (λ n. true) k ≡ found_below searched hit k
-same_found there searched hit zero same = refl
-same_found there searched hit (suc k) same =
-    let e : suc k ≡ k + 1 = omega arith in
-    ap (found_below there (λ n. true)) e ∙ found_more there (λ n. true) k (there k) (and_true (there k))
-    ∙ ap₂ (λ ns b. ns ++ cond b (k ∷ []) []) (same_found there searched hit k (λ n low. same n (omega (arith, low)))) (same k (omega arith))
-    ∙ sym (found_more searched hit k (searched k && hit k) refl) ∙ ap (found_below searched hit) (sym e)
-  where
-    and_true : (b : Bool) → (b && true) ≡ b
-    and_true true = refl
-    and_true false = refl
-
-none_found : (there : ℕ → Bool) (k : ℕ) → ((n : ℕ) → n < k → there n ≡ false) → found_below there (λ n. true) k ≡ []
-none_found there zero none = refl
-none_found there (suc k) none =
-    let e : suc k ≡ k + 1 = omega arith in
-    ap (found_below there (λ n. true)) e ∙ found_more there (λ n. true) k false (ap (λ b. b && true) (none k (omega arith)))
-    ∙ ap (λ ns. ns ++ []) (none_found there k (λ n low. none n (omega (arith, low))))
-
--- a query's hits are what is left of the nodes with which it began
-pub left_hits : (game : Game) (q : QueryTree) (there : ℕ → Bool)
-    → ((n : ℕ) → n < length game.nodes → there n ≡ ((query_passes q game && is_searched q.variations game.nodes n) && is_hit (tree_of q game) (flat_query q).items n))
-    → found_below there (λ n. true) (length game.nodes) ≡ hits q game
-unfolding hits
-left_hits game q there same = by (query_passes q game) refl ∙ hits_same q game
-  where
-    by : (b : Bool) → query_passes q game ≡ b → found_below there (λ n. true) (length game.nodes) ≡ hits_in (tree_of q game) (flat_query q).items
-    by true passes =
-        same_found there (is_searched q.variations game.nodes) (is_hit (tree_of q game) (flat_query q).items) (length game.nodes)
-        (λ n low. same n low ∙ ap (λ b. (b && is_searched q.variations game.nodes n) && is_hit (tree_of q game) (flat_query q).items n) passes)
-        ∙ all_found (tree_of q game) (flat_query q).items
-    by false passes =
-        none_found there (length game.nodes) (λ n low. same n low ∙ ap (λ b. (b && is_searched q.variations game.nodes n) && is_hit (tree_of q game) (flat_query q).items n) passes)
-        ∙ sym (none_where_refused (tree_of q game) (flat_query q).items passes)

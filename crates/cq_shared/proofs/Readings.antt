@@ -27,7 +27,7 @@ use Rattle.cq_shared.specs.Matching.{is_left, is_of, holds_at, sort_number, tree
 use Rattle.cq_shared.specs.Parts.{PartTree, parts_in, parts_with, top_parts, top_sorts, query_parts, same_part, is_at, are_at}
 use Rattle.cq_shared.specs.Places.{is_among}
 use Rattle.cq_shared.specs.Reading.{nodes_there, is_found, is_least, row_key, row_keys, AreFound, HasNumbers, HaveNumbers, IsFoundBy}
-use Rattle.cq_shared.specs.Singles.{shown}
+use Rattle.cq_shared.specs.Singles.{part_tree, shown}
 use Rattle.cq_shared.specs.Verdicts.{IsKeyed}
 use Rattle.cq_shared.specs.declared.nodes.Nodes.{Nodes}
 use Rattle.cq_shared.specs.declared.nodes.Row.{Row}
@@ -144,7 +144,7 @@ found_by game parts askers left rows q a x are found had low reads here =
 
 both_with : (v : Bool) (fs gs : List FilterTree) → parts_with v (fs ++ gs) ≡ parts_with v fs ++ parts_with v gs
 both_with v [] gs = refl
-both_with v (f ∷ fs) gs = ap (λ ps. record { variations = v; filter = f } ∷ ps) (both_with v fs gs)
+both_with v (f ∷ fs) gs = ap (λ ps. part_tree v f ∷ ps) (both_with v fs gs)
 
 count_with : (v : Bool) (fs : List FilterTree) → length (parts_with v fs) ≡ length fs
 count_with v [] = refl
@@ -203,19 +203,19 @@ row_at (x ∷ xs) zero low = record { row = x; reads = refl }
 row_at (x ∷ xs) (suc k) low = let e = row_at xs k (omega (arith, low)) in record { row = e.row; reads = e.reads }
 
 module _ (game : Game) (parts : List Part) (a : Asker) (x : Nodes) (rows : List Row) (is : IsFoundBy game parts a x rows) where
-  query : QueryTree
+  abbrev query : QueryTree
   query = asked_query a
 
-  items : FilterTrees
+  abbrev items : FilterTrees
   items = (flat_query query).items
 
-  tree : SearchedTree
+  abbrev tree : SearchedTree
   tree = searched_tree game query.variations
 
-  nodes : List ℕ
+  abbrev nodes : List ℕ
   nodes = nodes_there game x.there.items
 
-  ks : List ℕ
+  abbrev ks : List ℕ
   ks = drop a.sorts a.numbers.items
 
   live : All (λ n. is_live x.there.items n ≡ true) nodes
@@ -276,15 +276,15 @@ module _ (game : Game) (parts : List Part) (a : Asker) (x : Nodes) (rows : List 
             ∙ all_at (λ r. holds_at game r n) (parts_with query.variations (top_sorts items)) found.number found.part (sorts_hold n there) found.low found.reads;
       }
 
-  one_keyed : (k : ℕ) (f : FilterTree) → is_at (all_shown parts) k (record { variations = query.variations; filter = f }) ≡ true → is_sort f ≡ true → is_among k a.numbers.items ≡ true
+  one_keyed : (k : ℕ) (f : FilterTree) → is_at (all_shown parts) k (part_tree query.variations f) ≡ true → is_sort f ≡ true → is_among k a.numbers.items ≡ true
       → row_key parts rows nodes k ∷ [] ≡ item_keys tree nodes f
   one_keyed k f at sort among =
-      let s = same_at k (record { variations = query.variations; filter = f }) at in
+      let s = same_at k (part_tree query.variations f) at in
       let p = s.part in
       let g = (shown p.single).filter in
       let below : k < length rows = omega (arith, s.low, is.count) in
       let r = row_at rows k below in
-      let both = alike (shown p.single) (record { variations = query.variations; filter = f }) s.same in
+      let both = alike (shown p.single) (part_tree query.variations f) s.same in
       let sorts : filter_class f ≡ 5 = eqb-true (filter_class f) 5 sort in
       let class : filter_class g ≡ 5 = class_same g f both.1 ∙ sorts in
       let like = sorts_alike tree g f class sorts both.1 in
@@ -301,7 +301,7 @@ module _ (game : Game) (parts : List Part) (a : Asker) (x : Nodes) (rows : List 
   rows_keyed [] (f ∷ fs) all sorts among = cc
   rows_keyed (j ∷ js) [] all sorts among = cc
   rows_keyed (j ∷ js) (f ∷ fs) all sorts among =
-      let r : PartTree = record { variations = query.variations; filter = f } in
+      let r = part_tree query.variations f in
       let here = and_parts (is_at (all_shown parts) j r) (are_at (all_shown parts) js (parts_with query.variations fs)) all in
       let sort = and_parts (is_sort f) (list_all is_sort fs) sorts in
       ap₂ (λ a b. a ++ b) (one_keyed j f here.0 sort.0 (among j (or_left (j == j) (is_among j js) (eq-eqb j j refl))))

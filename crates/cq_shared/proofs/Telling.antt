@@ -3,13 +3,13 @@ use Rattle.std.proofs.Common.{◌≡◌, ℕ, zero, suc, ◌+◌, ◌<◌, ◌�
 use Rattle.std.specs.Prelude.{is_some, cond, if◌then◌else◌}
 use Rattle.std.specs.List.{list_any}
 use Rattle.std.proofs.lemmas.Bool.{cases_Bool, both_ways}
+use Rattle.std.proofs.lemmas.List.FromFn.{get_or-map-range_with_len}
 use Rattle.cq_position.specs.Games.{Game, is_searched}
 use Rattle.cq_position.specs.Search.{SearchedTree, nodes_in}
 use Rattle.cql_eval.specs.Classes.{form_class, filter_class}
 use Rattle.cql_eval.specs.Columns.{is_live, AreAsked}
 use Rattle.cql_eval.specs.Costs.{filter_cost, filters_cost}
 use Rattle.cql_eval.specs.Hits.{hit_column, number_at, sort_numbers, AreKeysAtHits}
-use Rattle.cql_plan.proofs.RowsLaw.{column_hit}
 use Rattle.cql_syntax.specs.Hits.{is_hit}
 use Rattle.cql_syntax.specs.Meaning.{value, values}
 use Rattle.cql_syntax.specs.TreeOf.{filters_tree}
@@ -66,6 +66,13 @@ hit_alone tree (more_filters f no_filters) n e = and_true (holds (value tree [] 
     and_true true = refl
     and_true false = refl
 hit_alone tree (more_filters f (more_filters g fs)) n e = cc
+
+-- whether a node is a hit
+column_hit : (tree : SearchedTree) (items : FilterTrees) (hits : List Bool) (k : ℕ) → hits ≡ hit_column tree items → k < length tree.game.nodes
+    → get_or hits k false ≡ (is_searched tree.variations tree.game.nodes k && is_hit tree items k)
+column_hit tree items hits k is low =
+    ap (λ l. get_or l k false) is
+    ∙ get_or-map-range_with_len (λ n. is_searched tree.variations tree.game.nodes n && is_hit tree items n) 0 (length tree.game.nodes) k k false low (omega arith)
 
 hit_there : (game : Game) (p : Part) (live hits : List Bool) (n : ℕ) → AreAsked (tree_for game p) live → is_single (filters_tree p.single.query.items) ≡ true
     → hits ≡ hit_column (tree_for game p) (filters_tree p.single.query.items) → is_live live n ≡ true → get_or hits n false ≡ part_holds game p n

@@ -30,6 +30,7 @@ pub(crate) fn found_all(
     requires rows { HaveRows game.now sorted.now.left.items parts.now sorted.now.rows.items }
     ensures nodes { IfOk result (λ v. nodes_of v ≡ map (λ a. hits_of (asked_query a) game.now) askers.now) }
     ensures keys { IfOk result (λ v. HaveKeys game.now (map (λ a. asked_query a) askers.now) (nodes_of v) (keys_of v)) }
+    ensures count { IfOk result (λ v. length (keys_of v) ≡ length (nodes_of v)) }
 {
     let rows = sorted.rows.as_slice();
     let mut found = Vec::new(alloc);

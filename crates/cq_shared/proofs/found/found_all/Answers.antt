@@ -1,6 +1,6 @@
 use Rattle.std.proofs.Common.{arith}
 use Rattle.cq_shared.proofs.Readings.{found_by}
-use Rattle.cq_shared.proofs.Whole.{found_none, found_more, found_all}
+use Rattle.cq_shared.proofs.Whole.{found_none, found_more, found_all, keys_count}
 use Rattle.cq_shared.proofs.found.found_all.Goals as goal
 
 pub loop-q-init : goal.loop-q-init
@@ -18,4 +18,4 @@ loop-q-preserved c =
 
 pub returns : goal.returns
 returns c = let all = found_all c.args.game.now c.args.askers.now c.loop-q.q c.loop-q.found.items (omega (arith, c.loop-q-test.false)) c.loop-q.invariant in
-    record { nodes = all.nodes; keys = all.keys }
+    record { nodes = all.nodes; keys = all.keys; count = keys_count c.loop-q.found.items }
