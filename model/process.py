@@ -3,9 +3,9 @@
 
     python3 process.py BINARY
 
-First the worked examples (worked.py), the cases (cases.py) and what the pages show (pages.py), then every exit status that a
-process can be brought to, with archives from files, from pipes and from `-`; then archives of one batch and more, in pieces, by 1 to 64 workers: one text, which is
-written batch by batch as the archive comes. The last line counts all: 'N passed, M failed'.
+First the worked rows and examples (rows.py, worked.py), the cases (cases.py) and what the pages show (pages.py), then every exit status
+that a process can be brought to, with archives from files, from pipes and from `-`; then archives of one batch and more, in pieces, by 1 to
+64 workers: one text, which is written batch by batch as the archive comes. The last line counts all: 'N passed, M failed'.
 """
 
 import os
@@ -244,7 +244,7 @@ def many_runs():
     compare("200 runs by 64 workers", {process(words + ["64"], archive) for _ in range(200)} == {want}, True)
 
 
-for script in ("worked.py", "cases.py", "pages.py"):
+for script in ("rows.py", "worked.py", "cases.py", "pages.py"):
     part(script)
 with tempfile.TemporaryDirectory() as room:
     files = {"a.pgn": ARCHIVE, "one.pgn": b"1. e4 *\n", "faulty.pgn": FAULTY, "q.cql": QUERY, "bad.cql": b"cql() echo"}

@@ -1,5 +1,5 @@
 #!/usr/bin/env python3
-"""Worked examples with the answers a reader expects, checked on the model.
+"""Worked examples with the answers a reader expects, checked on the model: what its own functions give, and archives beyond rows.py.
 
     python3 worked.py [BINARY]
 
@@ -12,11 +12,11 @@ import sys
 import tempfile
 
 import chess
-import pgn
-import query
 import meaning
+import pgn
 import program
-import explain
+import query
+from rows import exported
 
 MODEL, PROGRAM = "model", "program"
 counts = {MODEL: 0, PROGRAM: 0}
@@ -53,67 +53,17 @@ def example(name, text, archive, out, err=None, status=None):
         through_program(name, ["eval", text], archive_bytes, program.run_eval(text_bytes, archive_bytes))
 
 
-def refused(name, archive, line):
-    """the archive's only game is faulty"""
-    example(name, "cql() initial", archive, "", line + "\ngames 1 matched 0 refused 1\n", 1)
-
-
-def exported(movetext, fen=None):
-    """the export text of a game with no tags but its FEN"""
-    tags = ['Event "?"', 'Site "?"', 'Date "????.??.??"', 'Round "?"', 'White "?"', 'Black "?"']
-    tags.append('Result "%s"' % movetext.split()[-1])
-    if fen:
-        tags += ['FEN "%s"' % fen, 'SetUp "1"']
-    return "".join("[%s]\n" % tag for tag in tags) + "\n" + movetext + "\n\n"
-
-
 def game(movetext, fen=None):
     return ('[FEN "%s"]\n' % fen if fen else "") + movetext + "\n"
 
 
-CORNER = "8/8/8/8/8/8/8/K1k5 w - - 0 1"
-example(
-    "a man on a square", "cql() Ka1", game("*", CORNER), exported("{CQL} *", CORNER), "games 1 matched 1 refused 0\n", 0
-)
 example("an archive without games", "cql() check", "", "", "games 0 matched 0 refused 0\n", 0)
 SHORT_GAME = game("1. e4 e5 2. Nf3 *")
-example("a position after a move", "cql() Nf3", SHORT_GAME, exported("1. e4 e5 2. Nf3 {CQL} *"))
-MATE_GAME = game("1. e4 e5 2. Bc4 Nc6 3. Qh5 Nf6 4. Qxf7 1-0")
-example("mate", "cql() mate", MATE_GAME, exported("1. e4 e5 2. Bc4 Nc6 3. Qh5 Nf6 4. Qxf7# {CQL} 1-0"))
-VARIATION_GAME = game("1. e4 (1. d4) e5 *")
-example("a variation is not searched", "cql() Pd4", VARIATION_GAME, "", "games 1 matched 0 refused 0\n")
-example("a variation is searched", "cql(variations) Pd4", VARIATION_GAME, exported("1. e4 (1. d4 {CQL}) 1... e5 *"))
-example(
-    "the value of a line",
-    "cql() (line --> Pe4* --> Pe4) >= 2",
-    SHORT_GAME,
-    exported("1. e4 {CQL} 1... e5 {CQL} 2. Nf3 *"),
-)
 g = program.games_of(SHORT_GAME.encode())[0]
 s = meaning.Search(g, False)
 q = query.read_query(b"cql() (line --> Pe4* --> Pe4) >= 2")
 equal(
     "the values of a line at each node", [s.number(q["items"][0].args[0], (), x, ()) for x in s.nodes], [None, 3, 2, 1]
-)
-example(
-    "colours exchanged",
-    "cql() flipcolor Qh5",
-    game("1. f3 e5 2. g4 Qh4# 0-1"),
-    exported("1. f3 e5 2. g4 Qh4# {CQL} 0-1"),
-)
-SHIFTED = ["4k3/8/8/8/7P/8/8/4K3 w - - 0 1", "4k3/8/8/8/2P5/8/8/4K3 w - - 0 1"]
-example(
-    "shifted together",
-    "cql() shift { Pa2 not Pb3 }",
-    "".join(game("*", f) for f in SHIFTED),
-    exported("{CQL} *", SHIFTED[1]),
-)
-MIRRORED = ["4k3/8/8/8/8/8/7K/8 w - - 0 1", "4k3/8/8/8/8/8/8/7K w - - 0 1"]
-example(
-    "a light square mirrored",
-    "cql() fliphorizontal { light Ka1-8 }",
-    "".join(game("*", f) for f in MIRRORED),
-    exported("{CQL} *", MIRRORED[0]),
 )
 example(
     "a faulty game among others",
@@ -130,36 +80,6 @@ example(
     "",
     "game 1 byte 23: ambiguous move\ngames 1 matched 0 refused 1\n",
     1,
-)
-PINNED = "4r2k/8/8/8/4N3/8/8/1N2K3 w - - 0 1"
-example(
-    "a pinned man makes no move ambiguous",
-    "cql() initial",
-    game("1. Nd2 *", PINNED),
-    exported("{CQL} 1. Nd2 *", PINNED),
-)
-example("a word outside the profile", "cql() echo", "", "", "query byte 6: outside profile echo\n", 2)
-example(
-    "a position where a set is wanted",
-    "cql() #check",
-    "",
-    "",
-    "query byte 7: kind mismatch, wanted set, found position\n",
-    2,
-)
-MEN = ["4k3/8/8/8/8/8/P7/4K3 w - - 0 1", "4k3/8/8/8/8/8/8/R3K3 w - - 0 1", "4k3/8/8/8/8/7P/8/4K3 w - - 0 1"]
-MEN_GAMES = "".join(game("*", f) for f in MEN)
-example(
-    "sorted, greatest first",
-    'cql() sort "p" power A',
-    MEN_GAMES,
-    "".join(exported("{CQL} *", MEN[i]) for i in (1, 0, 2)),
-)
-example(
-    "sorted, least first",
-    'cql() sort min "p" power A',
-    MEN_GAMES,
-    "".join(exported("{CQL} *", MEN[i]) for i in (0, 2, 1)),
 )
 equal("many small games", len(program.run_eval(b"cql() initial", b"*\n" * 2048)[1]), 208896)
 SERVER_GAME = (
@@ -182,7 +102,6 @@ example(
     SERVER_GAME,
     SERVER_EXPORT,
 )
-example("a null move", "cql() initial", "1. e4 (1. --) e5 *\n", exported("{CQL} 1. e4 (1. --) 1... e5 *"))
 example(
     "a null move in check",
     "cql() initial",
@@ -197,27 +116,6 @@ example(
     "",
     "game 1 byte 6: unclosed comment\ngames 1 matched 0 refused 1\n",
 )
-equal("a line of 64 places", program.run_check(b"cql() line --> check{64}"), (0, b"ok\n", b""))
-equal("a line of 65 places", program.run_check(b"cql() line --> check{65}")[2], b"query byte 6: line too long\n")
-equal("as many members as fit", program.run_check(b"cql()" + b" flip flip flip flip flip check" * 7 + b" check")[0], 0)
-equal(
-    "one member too many",
-    program.run_check(b"cql()" + b" flip flip flip flip flip check" * 7 + b" check check")[2],
-    b"query byte 6: too many members\n",
-)
-
-
-def opened(text):
-    return explain.explain(query.read_query(text.encode())).decode()
-
-
-equal("the members of flipcolor", opened("cql() flipcolor Ka1"), "(union [K]:0000000000000001 [k]:0100000000000000)\n")
-example(
-    "the squares between",
-    "cql() R attacks k #between(R k) == 3",
-    game("*", "R3k3/8/8/8/8/8/8/4K3 b - - 0 1"),
-    exported("{CQL} *", "R3k3/8/8/8/8/8/8/4K3 b - - 0 1"),
-)
 example(
     "the side not to move in check",
     "cql() initial",
@@ -226,9 +124,6 @@ example(
     "game 1 byte 5: bad FEN\ngames 1 matched 0 refused 1\n",
 )
 equal("the start as FEN", chess.fen_text(chess.START), "rnbqkbnr/pppppppp/8/8/8/8/PPPPPPPP/RNBQKBNR w KQkq - 0 1")
-PROMOTION = "7k/P7/8/8/8/8/8/K7 w - - 0 1"
-PROMOTION_GAME = game("1. a8Q *", PROMOTION)
-example("a promotion", "cql() Qa8", PROMOTION_GAME, exported("1. a8=Q+ {CQL} *", PROMOTION))
 example(
     "a result with a letter after it",
     "cql() initial",
@@ -242,9 +137,6 @@ example(
     '[Event "x',
     "",
     "game 1 byte 7: unclosed string\ngames 1 matched 0 refused 1\n",
-)
-example(
-    "a mate below", "cql() initial find mate", MATE_GAME, exported("{CQL} 1. e4 e5 2. Bc4 Nc6 3. Qh5 Nf6 4. Qxf7# 1-0")
 )
 MOVES = chess.legal_moves(chess.START)
 equal(
@@ -292,71 +184,11 @@ example(
     "game 1 byte 7: variation without move\ngames 1 matched 0 refused 1\n",
 )
 example(
-    "a queen after her capture", "cql() Qf7", MATE_GAME, exported("1. e4 e5 2. Bc4 Nc6 3. Qh5 Nf6 4. Qxf7# {CQL} 1-0")
-)
-example("two men at once", "cql() Ka1 Kb1", game("*", CORNER), "", "games 1 matched 0 refused 0\n")
-example(
-    "all squares of a set",
-    'cql() square all x in K { x attacks _a2 } comment "corner"',
-    game("*", CORNER),
-    exported("{CQL} {corner} *", CORNER),
-)
-example("a product out of range", "cql() 999999999 * 999999999 * 999999999", "*\n", "", "games 1 matched 0 refused 0\n")
-equal(
-    "the members of flip",
-    opened("cql() flip Ka1"),
-    "(union [K]:0000000000000001 [K]:0000000000000080 [K]:0100000000000000 [K]:8000000000000000)\n",
-)
-equal(
-    "the members of rotate90",
-    opened("cql() rotate90 Ka1"),
-    "(union [K]:0000000000000001 [K]:0100000000000000 [K]:8000000000000000 [K]:0000000000000080)\n",
-)
-example(
     "a man that is not there",
     "cql() not Qa8",
     game("*", "4k3/8/8/8/8/8/8/4K3 w - - 0 1"),
     exported("{CQL} *", "4k3/8/8/8/8/8/8/4K3 w - - 0 1"),
 )
-example("a line to the root", "cql() (line <-- Nf3 <-- Pe4+) == 3", SHORT_GAME, exported("1. e4 e5 2. Nf3 {CQL} *"))
-example(
-    "a line to the end", "cql() (line --> wtm --> btm --> wtm) == 3", SHORT_GAME, exported("{CQL} 1. e4 e5 2. Nf3 *")
-)
-example("a part no times", "cql() line --> check{0}", SHORT_GAME, "", "games 1 matched 0 refused 0\n")
-example("an extent", "cql() (line 2 2 --> Pe4*) == 2", SHORT_GAME, exported("1. e4 {CQL} 1... e5 {CQL} 2. Nf3 *"))
-example("an extent of none", "cql() line 0 3 --> check", "", "", "query byte 11: unexpected token\n", 2)
-example("an extent above the limit", "cql() line 1 128 --> check", "", "", "query byte 13: unexpected token\n", 2)
-example("half an extent", "cql() line 2 --> check", "", "", "query byte 13: unexpected token\n", 2)
-example("an extent that nothing has", "cql() line 3 2 --> wtm", SHORT_GAME, "", "games 1 matched 0 refused 0\n")
-equal("an extent is kept", opened("cql() line 2 3 --> wtm"), "(line 2 3 --> wtm)\n")
-example("a move from and to", "cql() move from N to f3", SHORT_GAME, exported("1. e4 e5 2. Nf3 {CQL} *"))
-example(
-    "a capture in passing",
-    "cql() move capture pd5",
-    "1. e4 a6 2. e5 d5 3. exd6 *\n",
-    exported("1. e4 a6 2. e5 d5 3. exd6 {CQL} *"),
-)
-example(
-    "a promotion with colours exchanged",
-    "cql() flipcolor move promote q",
-    PROMOTION_GAME,
-    exported("1. a8=Q+ {CQL} *", PROMOTION),
-)
-example("a promotion of the other side", "cql() move promote q", PROMOTION_GAME, "")
-
-
-refused("an empty variation", "1. e4 ()", "game 1 byte 7: empty variation")
-refused("an unopened variation", "1. e4 )", "game 1 byte 6: unopened variation")
-refused("an unclosed variation", "1. e4 (1. d4", "game 1 byte 12: unclosed variation")
-refused("a glyph out of range", "1. e4 $256 *", "game 1 byte 6: NAG out of range")
-refused("an unclosed tag", '[Event "x"\n*', "game 1 byte 11: bad tag")
-refused("a tag that was not opened", "]", "game 1 byte 0: bad tag")
-refused("a bad byte", "1. e4 \x01 *", "game 1 byte 6: bad byte")
-refused("the 101st level", "1. e4 " + "(1. d4 " * 101, "game 1 byte 706: too deep")
-refused("a game too long", "{" + "x" * (1 << 24), "game 1 byte 16777216: game too long")
-example("an empty query", "", "", "", "query byte 0: unexpected end\n", 2)
-example("a query too long", " " * 65537, "", "", "query byte 65536: query too long\n", 2)
-example("the 65th open parenthesis", "cql() " + "(" * 65, "", "", "query byte 70: too deep\n", 2)
 example(
     "several games",
     "cql() Pd4",
@@ -376,15 +208,13 @@ equal(
     ([(0, 4), (5, 9)], [(4, "bad tag"), (5, "bad tag")]),
 )
 equal("a tag before any movetext ends no game", cut_at(b']\n[Event "x"]\n*'), [(0, 15)])
-refused("an unclosed variation at the end of a line", "1. e4 (1. d4\n", "game 1 byte 13: unclosed variation")
-refused("a tag after a glyph", '$1 [a "b"]', "game 1 byte 3: bad tag")
-equal(
-    "parentheses count as open constructs",
-    (
-        program.run_check(b"cql() " + b"not " * 64 + b"A (B)")[0],
-        program.run_check(b"cql() " + b"not " * 64 + b"A attacks ~B")[2],
-    ),
-    (0, b"query byte %d: too deep\n" % (6 + 256 + 10)),
+example(
+    "a tag after a glyph",
+    "cql() initial",
+    '$1 [a "b"]',
+    "",
+    "game 1 byte 3: bad tag\ngames 1 matched 0 refused 1\n",
+    1,
 )
 equal(
     "the longest designator",

@@ -90,7 +90,8 @@ game_of tags ending nodes = record { tags = tags; result = ending; nodes = nodes
 same_game : (t u : List (List ℕ × List ℕ)) (r s : GameResult) (m n : List Node) → t ≡ u → r ≡ s → m ≡ n → game_of t r m ≡ game_of u s n
 same_game t u r s m n e f g = cc
 
-pub none_left : (old now : Game) (n : ℕ) (left whole : Node → Node) → n < length old.nodes → ((x : Node) → left x ≡ x) → IsLeft old now n left whole → now ≡ record old { nodes = with_node old.nodes n whole }
+pub none_left : (old now : Game) (n : ℕ) (left whole : Node → Node) → n < length old.nodes → ((x : Node) → left x ≡ x) → IsLeft old now n left whole
+    → now ≡ record old { nodes = with_node old.nodes n whole }
 none_left old now n left whole h is so_far =
     let inside : n < length now.nodes = omega (arith, h, so_far.count) in
     let nodes : now.nodes ≡ with_node old.nodes n whole = sym (same_change now.nodes n left (λ x. x) is ∙ unchanged now.nodes n inside) ∙ so_far.nodes in
@@ -155,7 +156,8 @@ marked_more texts nodes old i n rise h is inside =
       | inl same ↦
           ap (node_at (with_node so_far.nodes n (with_marks texts))) same
           ∙ get_or-set_same so_far.nodes n (with_marks texts (node_at so_far.nodes n)) no_node (omega (arith, inside, len))
-          ∙ ap (with_marks texts) (at_i n inside ∙ old_or (list_any (λ k. k == n) (take i nodes)) texts (node_at old.nodes n) (not_yet nodes i n rise h is (list_any (λ k. k == n) (take i nodes)) refl))
+          ∙ ap (with_marks texts) (at_i n inside ∙ old_or (list_any (λ k. k == n) (take i nodes)) texts (node_at old.nodes n)
+          (not_yet nodes i n rise h is (list_any (λ k. k == n) (take i nodes)) refl))
           ∙ sym (ap (node_at next.nodes) same ∙ at_next n inside ∙ new_or (list_any (λ k. k == n) (take (i + 1) nodes)) texts (node_at old.nodes n)
           (asked n ∙ ap (λ b. list_any (λ k. k == n) (take i nodes) || b) (eq-eqb n n refl) ∙ or_true (list_any (λ k. k == n) (take i nodes))))
       | inr other ↦
@@ -171,14 +173,16 @@ marked_next texts nodes old now new i n rise h is inside so_far step =
 
 pub none_marked : (texts : List (List ℕ)) (old : Game) → old ≡ game_marked texts (take 0 []) old
 none_marked texts old =
-    ap (λ l. record old { nodes = l }) (ext_get_or no_node old.nodes (map (node_marked texts [] old) (numbers old.nodes)) (sym (length-map-range_with_len (node_marked texts [] old) 0 (length old.nodes)))
+    ap (λ l. record old { nodes = l }) (ext_get_or no_node old.nodes (map (node_marked texts [] old) (numbers old.nodes))
+    (sym (length-map-range_with_len (node_marked texts [] old) 0 (length old.nodes)))
     (λ m less. sym (get_or-map-range_with_len (node_marked texts [] old) 0 (length old.nodes) m m no_node less (omega arith))))
 
 pub as_many : (texts : List (List ℕ)) (nodes : List ℕ) (old now : Game) → now ≡ game_marked texts nodes old → length now.nodes ≡ length old.nodes
 as_many texts nodes old now is = ap (λ g. length g.nodes) is ∙ length-map-range_with_len (node_marked texts nodes old) 0 (length old.nodes)
 
 -- one change of a game and then another
-pub two_changes : (old mid new : Game) (n : ℕ) (f g h : Node → Node) → n < length old.nodes → mid ≡ record old { nodes = with_node old.nodes n f } → new ≡ record mid { nodes = with_node mid.nodes n g }
+pub two_changes : (old mid new : Game) (n : ℕ) (f g h : Node → Node) → n < length old.nodes → mid ≡ record old { nodes = with_node old.nodes n f }
+    → new ≡ record mid { nodes = with_node mid.nodes n g }
     → ((x : Node) → g (f x) ≡ h x) → new ≡ record old { nodes = with_node old.nodes n h }
 two_changes old mid new n f g h inside first second both =
     second ∙ ap (λ (m : Game). record m { nodes = with_node m.nodes n g }) first

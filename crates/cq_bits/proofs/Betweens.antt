@@ -80,7 +80,8 @@ on_board false = at_square (contains (reverse squares)) (λ s. true) refl
 
 pub between_has : (a b s : ℕ) → s < 64 → contains (between_squares a b) s ≡ lies_between a b s
 unfolding between_squares
-between_has a b s low = in_filter (lies_between a b) (if nat_lt a b then squares else reverse squares) s ∙ (ap (λ t. lies_between a b s && t) (on_board (nat_lt a b) s low) ∙ and_true (lies_between a b s))
+between_has a b s low = in_filter (lies_between a b) (if nat_lt a b then squares else reverse squares) s
+    ∙ (ap (λ t. lies_between a b s && t) (on_board (nat_lt a b) s low) ∙ and_true (lies_between a b s))
   where
     and_true : (t : Bool) → (t && true) ≡ t
     and_true true = refl

@@ -131,12 +131,14 @@ module _ (men : List Man) (from empty : ℕ) (free : IsSetOf empty (IsChosen is_
   diagonal_attack s t low below goes e = diagonal_attacks (man_at men s) (is_occupied men) s t goes (sym (sees_diagonals (is_occupied men) s t low below) ∙ e)
 
   attack_by : (s t : ℕ) → s < 64 → t < 64 → attacks men s t ≡ true
-      → ((goes_straight (man_at men s) ≡ true) × (sees orthogonals (is_occupied men) s t ≡ true)) ⊎ ((goes_diagonally (man_at men s) ≡ true) × (sees diagonals (is_occupied men) s t ≡ true)) ⊎ (slides (man_at men s) ≡ false)
+      → ((goes_straight (man_at men s) ≡ true) × (sees orthogonals (is_occupied men) s t ≡ true))
+      ⊎ ((goes_diagonally (man_at men s) ≡ true) × (sees diagonals (is_occupied men) s t ≡ true)) ⊎ (slides (man_at men s) ≡ false)
   unfolding attacks
   attack_by s t low below e = by_way (how_it_attacks (man_at men s) (is_occupied men) s t e)
     where
       by_way : Straight (man_at men s) (is_occupied men) s t ⊎ Diagonal (man_at men s) (is_occupied men) s t ⊎ (slides (man_at men s) ≡ false)
-          → ((goes_straight (man_at men s) ≡ true) × (sees orthogonals (is_occupied men) s t ≡ true)) ⊎ ((goes_diagonally (man_at men s) ≡ true) × (sees diagonals (is_occupied men) s t ≡ true)) ⊎ (slides (man_at men s) ≡ false)
+          → ((goes_straight (man_at men s) ≡ true) × (sees orthogonals (is_occupied men) s t ≡ true))
+          ⊎ ((goes_diagonally (man_at men s) ≡ true) × (sees diagonals (is_occupied men) s t ≡ true)) ⊎ (slides (man_at men s) ≡ false)
       by_way (inl h) = inl (h.0, sees_orthogonals (is_occupied men) s t low below ∙ h.1)
       by_way (inr (inl h)) = inr (inl (h.0, sees_diagonals (is_occupied men) s t low below ∙ h.1))
       by_way (inr (inr h)) = inr (inr h)
@@ -209,9 +211,12 @@ abbrev pub union_of_eight : ℕ → ℕ → ℕ → ℕ → ℕ → ℕ → ℕ 
 union_of_eight n s w e ne nw se sw = bit_or (bit_or (bit_or (bit_or (bit_or (bit_or (bit_or n s) w) e) ne) nw) se) sw
 
 module _ (n s w e ne nw se sw t : ℕ) where
-  in_some : (A : Type 0) → (Has n t → A) → (Has s t → A) → (Has w t → A) → (Has e t → A) → (Has ne t → A) → (Has nw t → A) → (Has se t → A) → (Has sw t → A) → Has (union_of_eight n s w e ne nw se sw) t → A
+  in_some : (A : Type 0) → (Has n t → A) → (Has s t → A) → (Has w t → A) → (Has e t → A) → (Has ne t → A) → (Has nw t → A) → (Has se t → A)
+      → (Has sw t → A) → Has (union_of_eight n s w e ne nw se sw) t → A
   in_some A an as_ aw ae ane anw ase asw h =
-      ⊎_elim (λ h7. ⊎_elim (λ h6. ⊎_elim (λ h5. ⊎_elim (λ h4. ⊎_elim (λ h3. ⊎_elim (λ h2. ⊎_elim an as_ (in_either n s t h2)) aw (in_either _ w t h3)) ae (in_either _ e t h4)) ane (in_either _ ne t h5)) anw (in_either _ nw t h6)) ase (in_either _ se t h7)) asw
+      ⊎_elim (λ h7. ⊎_elim (λ h6. ⊎_elim (λ h5. ⊎_elim (λ h4. ⊎_elim
+      (λ h3. ⊎_elim (λ h2. ⊎_elim an as_ (in_either n s t h2)) aw (in_either _ w t h3)) ae (in_either _ e t h4)) ane (in_either _ ne t h5)) anw
+      (in_either _ nw t h6)) ase (in_either _ se t h7)) asw
       (in_either _ sw t h)
 
 pub all_attacks : (men : List Man) (from empty straight diagonal n s w e ne nw se sw leaps : ℕ) → IsSetOf empty (IsChosen is_nothing men (2 ^ 64 - 1))
@@ -226,21 +231,29 @@ all_attacks men from empty straight diagonal n s w e ne nw se sw leaps free rook
     there h = ⊎_elim
         (in_some n s w e ne nw se sw t (IsAttacked men from t)
         (straight_way men from empty free straight diagonal t below rooks bishops (pos 0) (pos 1) n all.up
-        (λ q i. is_first (reaches (pos 0) (pos 1) (is_occupied men) q t) (reaches (pos 0) (negsuc 0) (is_occupied men) q t) (reaches (negsuc 0) (pos 0) (is_occupied men) q t) (reaches (pos 1) (pos 0) (is_occupied men) q t) i))
+        (λ q i. is_first (reaches (pos 0) (pos 1) (is_occupied men) q t) (reaches (pos 0) (negsuc 0) (is_occupied men) q t)
+        (reaches (negsuc 0) (pos 0) (is_occupied men) q t) (reaches (pos 1) (pos 0) (is_occupied men) q t) i))
         (straight_way men from empty free straight diagonal t below rooks bishops (pos 0) (negsuc 0) s all.down
-        (λ q i. is_second (reaches (pos 0) (pos 1) (is_occupied men) q t) (reaches (pos 0) (negsuc 0) (is_occupied men) q t) (reaches (negsuc 0) (pos 0) (is_occupied men) q t) (reaches (pos 1) (pos 0) (is_occupied men) q t) i))
+        (λ q i. is_second (reaches (pos 0) (pos 1) (is_occupied men) q t) (reaches (pos 0) (negsuc 0) (is_occupied men) q t)
+        (reaches (negsuc 0) (pos 0) (is_occupied men) q t) (reaches (pos 1) (pos 0) (is_occupied men) q t) i))
         (straight_way men from empty free straight diagonal t below rooks bishops (negsuc 0) (pos 0) w all.left
-        (λ q i. is_third (reaches (pos 0) (pos 1) (is_occupied men) q t) (reaches (pos 0) (negsuc 0) (is_occupied men) q t) (reaches (negsuc 0) (pos 0) (is_occupied men) q t) (reaches (pos 1) (pos 0) (is_occupied men) q t) i))
+        (λ q i. is_third (reaches (pos 0) (pos 1) (is_occupied men) q t) (reaches (pos 0) (negsuc 0) (is_occupied men) q t)
+        (reaches (negsuc 0) (pos 0) (is_occupied men) q t) (reaches (pos 1) (pos 0) (is_occupied men) q t) i))
         (straight_way men from empty free straight diagonal t below rooks bishops (pos 1) (pos 0) e all.right
-        (λ q i. is_fourth (reaches (pos 0) (pos 1) (is_occupied men) q t) (reaches (pos 0) (negsuc 0) (is_occupied men) q t) (reaches (negsuc 0) (pos 0) (is_occupied men) q t) (reaches (pos 1) (pos 0) (is_occupied men) q t) i))
+        (λ q i. is_fourth (reaches (pos 0) (pos 1) (is_occupied men) q t) (reaches (pos 0) (negsuc 0) (is_occupied men) q t)
+        (reaches (negsuc 0) (pos 0) (is_occupied men) q t) (reaches (pos 1) (pos 0) (is_occupied men) q t) i))
         (diagonal_way men from empty free straight diagonal t below rooks bishops (pos 1) (pos 1) ne all.northeast
-        (λ q i. is_first (reaches (pos 1) (pos 1) (is_occupied men) q t) (reaches (negsuc 0) (pos 1) (is_occupied men) q t) (reaches (pos 1) (negsuc 0) (is_occupied men) q t) (reaches (negsuc 0) (negsuc 0) (is_occupied men) q t) i))
+        (λ q i. is_first (reaches (pos 1) (pos 1) (is_occupied men) q t) (reaches (negsuc 0) (pos 1) (is_occupied men) q t)
+        (reaches (pos 1) (negsuc 0) (is_occupied men) q t) (reaches (negsuc 0) (negsuc 0) (is_occupied men) q t) i))
         (diagonal_way men from empty free straight diagonal t below rooks bishops (negsuc 0) (pos 1) nw all.northwest
-        (λ q i. is_second (reaches (pos 1) (pos 1) (is_occupied men) q t) (reaches (negsuc 0) (pos 1) (is_occupied men) q t) (reaches (pos 1) (negsuc 0) (is_occupied men) q t) (reaches (negsuc 0) (negsuc 0) (is_occupied men) q t) i))
+        (λ q i. is_second (reaches (pos 1) (pos 1) (is_occupied men) q t) (reaches (negsuc 0) (pos 1) (is_occupied men) q t)
+        (reaches (pos 1) (negsuc 0) (is_occupied men) q t) (reaches (negsuc 0) (negsuc 0) (is_occupied men) q t) i))
         (diagonal_way men from empty free straight diagonal t below rooks bishops (pos 1) (negsuc 0) se all.southeast
-        (λ q i. is_third (reaches (pos 1) (pos 1) (is_occupied men) q t) (reaches (negsuc 0) (pos 1) (is_occupied men) q t) (reaches (pos 1) (negsuc 0) (is_occupied men) q t) (reaches (negsuc 0) (negsuc 0) (is_occupied men) q t) i))
+        (λ q i. is_third (reaches (pos 1) (pos 1) (is_occupied men) q t) (reaches (negsuc 0) (pos 1) (is_occupied men) q t)
+        (reaches (pos 1) (negsuc 0) (is_occupied men) q t) (reaches (negsuc 0) (negsuc 0) (is_occupied men) q t) i))
         (diagonal_way men from empty free straight diagonal t below rooks bishops (negsuc 0) (negsuc 0) sw all.southwest
-        (λ q i. is_fourth (reaches (pos 1) (pos 1) (is_occupied men) q t) (reaches (negsuc 0) (pos 1) (is_occupied men) q t) (reaches (pos 1) (negsuc 0) (is_occupied men) q t) (reaches (negsuc 0) (negsuc 0) (is_occupied men) q t) i)))
+        (λ q i. is_fourth (reaches (pos 1) (pos 1) (is_occupied men) q t) (reaches (negsuc 0) (pos 1) (is_occupied men) q t)
+        (reaches (pos 1) (negsuc 0) (is_occupied men) q t) (reaches (negsuc 0) (negsuc 0) (is_occupied men) q t) i)))
         (λ leap. let p = (others t below).0 leap in (p.0, p.1, p.2.0, p.2.2)) (in_either (union_of_eight n s w e ne nw se sw) leaps t h)
 
     in_union : Has (union_of_eight n s w e ne nw se sw) t → Has (bit_or (union_of_eight n s w e ne nw se sw) leaps) t
@@ -249,21 +262,38 @@ all_attacks men from empty straight diagonal n s w e ne nw se sw leaps free rook
     back : IsAttacked men from t → Has (bit_or (union_of_eight n s w e ne nw se sw) leaps) t
     back p = by_way (attack_by men from empty free p.0 t p.1 below p.3)
       where
-        by_four : (reaches (pos 0) (pos 1) (is_occupied men) p.0 t ≡ true) ⊎ (reaches (pos 0) (negsuc 0) (is_occupied men) p.0 t ≡ true) ⊎ (reaches (negsuc 0) (pos 0) (is_occupied men) p.0 t ≡ true) ⊎ (reaches (pos 1) (pos 0) (is_occupied men) p.0 t ≡ true)
+        by_four : (reaches (pos 0) (pos 1) (is_occupied men) p.0 t ≡ true) ⊎ (reaches (pos 0) (negsuc 0) (is_occupied men) p.0 t ≡ true)
+            ⊎ (reaches (negsuc 0) (pos 0) (is_occupied men) p.0 t ≡ true) ⊎ (reaches (pos 1) (pos 0) (is_occupied men) p.0 t ≡ true)
             → goes_straight (man_at men p.0) ≡ true → Has (union_of_eight n s w e ne nw se sw) t
-        by_four (inl i) goes = from_first _ sw t (from_first _ se t (from_first _ nw t (from_first _ ne t (from_first _ e t (from_first _ w t (from_first n s t (straight_back men from empty free straight diagonal t below rooks bishops (pos 0) (pos 1) n p.0 all.up p.1 p.2 goes i)))))))
-        by_four (inr (inl i)) goes = from_first _ sw t (from_first _ se t (from_first _ nw t (from_first _ ne t (from_first _ e t (from_first _ w t (from_second n s t (straight_back men from empty free straight diagonal t below rooks bishops (pos 0) (negsuc 0) s p.0 all.down p.1 p.2 goes i)))))))
-        by_four (inr (inr (inl i))) goes = from_first _ sw t (from_first _ se t (from_first _ nw t (from_first _ ne t (from_first _ e t (from_second _ w t (straight_back men from empty free straight diagonal t below rooks bishops (negsuc 0) (pos 0) w p.0 all.left p.1 p.2 goes i))))))
-        by_four (inr (inr (inr i))) goes = from_first _ sw t (from_first _ se t (from_first _ nw t (from_first _ ne t (from_second _ e t (straight_back men from empty free straight diagonal t below rooks bishops (pos 1) (pos 0) e p.0 all.right p.1 p.2 goes i)))))
+        by_four (inl i) goes = from_first _ sw t (from_first _ se t
+            (from_first _ nw t (from_first _ ne t (from_first _ e t
+            (from_first _ w t (from_first n s t (straight_back men from empty free straight diagonal t below rooks bishops (pos 0)
+            (pos 1) n p.0 all.up p.1 p.2 goes i)))))))
+        by_four (inr (inl i)) goes = from_first _ sw t (from_first _ se t
+            (from_first _ nw t (from_first _ ne t (from_first _ e t
+            (from_first _ w t (from_second n s t (straight_back men from empty free straight diagonal t below rooks bishops (pos 0)
+            (negsuc 0) s p.0 all.down p.1 p.2 goes i)))))))
+        by_four (inr (inr (inl i))) goes = from_first _ sw t (from_first _ se t
+            (from_first _ nw t (from_first _ ne t (from_first _ e t
+            (from_second _ w t (straight_back men from empty free straight diagonal t below rooks bishops (negsuc 0) (pos 0) w p.0 all.left p.1 p.2 goes i))))))
+        by_four (inr (inr (inr i))) goes = from_first _ sw t (from_first _ se t
+            (from_first _ nw t (from_first _ ne t (from_second _ e t
+            (straight_back men from empty free straight diagonal t below rooks bishops (pos 1) (pos 0) e p.0 all.right p.1 p.2 goes i)))))
 
-        by_diagonal : (reaches (pos 1) (pos 1) (is_occupied men) p.0 t ≡ true) ⊎ (reaches (negsuc 0) (pos 1) (is_occupied men) p.0 t ≡ true) ⊎ (reaches (pos 1) (negsuc 0) (is_occupied men) p.0 t ≡ true) ⊎ (reaches (negsuc 0) (negsuc 0) (is_occupied men) p.0 t ≡ true)
+        by_diagonal : (reaches (pos 1) (pos 1) (is_occupied men) p.0 t ≡ true) ⊎ (reaches (negsuc 0) (pos 1) (is_occupied men) p.0 t ≡ true)
+            ⊎ (reaches (pos 1) (negsuc 0) (is_occupied men) p.0 t ≡ true) ⊎ (reaches (negsuc 0) (negsuc 0) (is_occupied men) p.0 t ≡ true)
             → goes_diagonally (man_at men p.0) ≡ true → Has (union_of_eight n s w e ne nw se sw) t
-        by_diagonal (inl i) goes = from_first _ sw t (from_first _ se t (from_first _ nw t (from_second _ ne t (diagonal_back men from empty free straight diagonal t below rooks bishops (pos 1) (pos 1) ne p.0 all.northeast p.1 p.2 goes i))))
-        by_diagonal (inr (inl i)) goes = from_first _ sw t (from_first _ se t (from_second _ nw t (diagonal_back men from empty free straight diagonal t below rooks bishops (negsuc 0) (pos 1) nw p.0 all.northwest p.1 p.2 goes i)))
-        by_diagonal (inr (inr (inl i))) goes = from_first _ sw t (from_second _ se t (diagonal_back men from empty free straight diagonal t below rooks bishops (pos 1) (negsuc 0) se p.0 all.southeast p.1 p.2 goes i))
+        by_diagonal (inl i) goes = from_first _ sw t (from_first _ se t
+            (from_first _ nw t (from_second _ ne t (diagonal_back men from empty free straight diagonal t below rooks bishops (pos 1)
+            (pos 1) ne p.0 all.northeast p.1 p.2 goes i))))
+        by_diagonal (inr (inl i)) goes = from_first _ sw t (from_first _ se t
+            (from_second _ nw t (diagonal_back men from empty free straight diagonal t below rooks bishops (negsuc 0) (pos 1) nw p.0 all.northwest p.1 p.2 goes i)))
+        by_diagonal (inr (inr (inl i))) goes = from_first _ sw t
+            (from_second _ se t (diagonal_back men from empty free straight diagonal t below rooks bishops (pos 1) (negsuc 0) se p.0 all.southeast p.1 p.2 goes i))
         by_diagonal (inr (inr (inr i))) goes = from_second _ sw t (diagonal_back men from empty free straight diagonal t below rooks bishops (negsuc 0) (negsuc 0) sw p.0 all.southwest p.1 p.2 goes i)
 
-        by_way : ((goes_straight (man_at men p.0) ≡ true) × (sees orthogonals (is_occupied men) p.0 t ≡ true)) ⊎ ((goes_diagonally (man_at men p.0) ≡ true) × (sees diagonals (is_occupied men) p.0 t ≡ true)) ⊎ (slides (man_at men p.0) ≡ false)
+        by_way : ((goes_straight (man_at men p.0) ≡ true) × (sees orthogonals (is_occupied men) p.0 t ≡ true))
+            ⊎ ((goes_diagonally (man_at men p.0) ≡ true) × (sees diagonals (is_occupied men) p.0 t ≡ true)) ⊎ (slides (man_at men p.0) ≡ false)
             → Has (bit_or (union_of_eight n s w e ne nw se sw) leaps) t
         by_way (inl h) = in_union (by_four (one_of_four _ _ _ _ h.1) h.0)
         by_way (inr (inl h)) = in_union (by_diagonal (one_of_four _ _ _ _ h.1) h.0)

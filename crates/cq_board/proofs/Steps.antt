@@ -34,14 +34,16 @@ set_word (w ∷ []) n one = refl
 set_word (w ∷ v ∷ words) n one = absurd (omega arith)
 
 -- the lists of a changed list of views increase, where each view's does
-lists_increase : (views : List View) → ((id : ℕ) (v : View) → get_elem? views id ≡ some v → IsStrictlyIncreasing v.drawn) → (id : ℕ) (list : List ℕ) → get_elem? (drawn_by views) id ≡ some list → IsStrictlyIncreasing list
+lists_increase : (views : List View) → ((id : ℕ) (v : View) → get_elem? views id ≡ some v → IsStrictlyIncreasing v.drawn) → (id : ℕ) (list : List ℕ)
+    → get_elem? (drawn_by views) id ≡ some list → IsStrictlyIncreasing list
 lists_increase views all id list at = let m = at_mapped (λ (u : View). u.drawn) views id list at in subst IsStrictlyIncreasing m.2 (all id m.0 m.1)
 
 view_increases : (terms : Terms) (words : List ℕ) (views : List View) → IsKept terms words views → (id : ℕ) (v : View) → get_elem? views id ≡ some v → IsStrictlyIncreasing v.drawn
 view_increases terms words views kept id v at = kept.sound.increasing id v.drawn (at_map (λ (u : View). u.drawn) views id v at)
 
 -- a change of one view keeps what is said of each
-each_set : (P : View → Type 0) (views : List View) (id : ℕ) (w : View) → ((j : ℕ) (v : View) → get_elem? views j ≡ some v → P v) → P w → (j : ℕ) (v : View) → get_elem? (set views id w) j ≡ some v → P v
+each_set : (P : View → Type 0) (views : List View) (id : ℕ) (w : View) → ((j : ℕ) (v : View) → get_elem? views j ≡ some v → P v) → P w
+    → (j : ℕ) (v : View) → get_elem? (set views id w) j ≡ some v → P v
 each_set P views id w all new j v at = ⊎_elim (λ here. subst P here.1 new) (λ there. all j v there.1) (at_set views id j w v at)
 
 each_snoc : (P : View → Type 0) (views : List View) (w : View) → ((j : ℕ) (v : View) → get_elem? views j ≡ some v → P v) → P w → (j : ℕ) (v : View) → get_elem? (views ++ w ∷ []) j ≡ some v → P v
@@ -189,7 +191,8 @@ joins terms id v other w part s kept at apart there = record {
         let t = two_of_sum (λ (u : View). times x u.drawn) s.views id other v w (λ same. apart (sym same)) at was_there in
         let f = kept.sound.once x in at_most (nat_lt x (get_or s.words 0 0)) (sym a ∙ f) t
       where
-        at_most : (b : Bool) → sum_by (λ (u : View). times x u.drawn) s.views ≡ one_if b → times x v.drawn + times x w.drawn ≤ sum_by (λ (u : View). times x u.drawn) s.views → times x v.drawn + times x w.drawn ≤ 1
+        at_most : (b : Bool) → sum_by (λ (u : View). times x u.drawn) s.views ≡ one_if b
+            → times x v.drawn + times x w.drawn ≤ sum_by (λ (u : View). times x u.drawn) s.views → times x v.drawn + times x w.drawn ≤ 1
         at_most true e le = omega arith
         at_most false e le = omega arith
 

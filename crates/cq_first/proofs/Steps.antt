@@ -22,7 +22,8 @@ set_word (w ∷ []) n one = refl
 set_word (w ∷ v ∷ words) n one = absurd (omega arith)
 
 -- a change of one view keeps what is said of each
-each_set : (P : View → Type 0) (views : List View) (id : ℕ) (w : View) → ((j : ℕ) (v : View) → get_elem? views j ≡ some v → P v) → P w → (j : ℕ) (v : View) → get_elem? (set views id w) j ≡ some v → P v
+each_set : (P : View → Type 0) (views : List View) (id : ℕ) (w : View) → ((j : ℕ) (v : View) → get_elem? views j ≡ some v → P v) → P w
+    → (j : ℕ) (v : View) → get_elem? (set views id w) j ≡ some v → P v
 each_set P views id w all new j v at = ⊎_elim (λ here. subst P here.1 new) (λ there. all j v there.1) (at_set views id j w v at)
 
 each_snoc : (P : View → Type 0) (views : List View) (w : View) → ((j : ℕ) (v : View) → get_elem? views j ≡ some v → P v) → P w → (j : ℕ) (v : View) → get_elem? (views ++ w ∷ []) j ≡ some v → P v
@@ -117,7 +118,8 @@ lowers terms slots id k me part s kept homes at fits = (
   lowering k me.0,
   keeps,
   tt,
-  subst (λ (ws : List ℕ). IsKept terms ws (set s.views id (lowering k me.0))) (sym (set_word s.words (min (get_or s.words 0 0) k) kept.word)) (lower_keeps terms s.words s.views id me.0 k part kept at),
+  subst (λ (ws : List ℕ). IsKept terms ws (set s.views id (lowering k me.0))) (sym (set_word s.words (min (get_or s.words 0 0) k) kept.word))
+      (lower_keeps terms s.words s.views id me.0 k part kept at),
   refl,
 )
 
@@ -149,7 +151,9 @@ look_keeps terms words views id v k part kept at = record {
     own : (v.numbers ≡ terms.numbers) × (v.seats ≡ terms.seats)
     own = own_part terms words views id v kept at part
 
-    by_parts : (x : ℕ) → 0 < skipped_in x (set views id new) → skipped_in x (set views id new) + times x v.skipped ≡ skipped_in x views + times x (skipping (nat_lt w k) v.skipped k) → times x v.skipped ≤ skipped_in x views → w < x
+    by_parts : (x : ℕ) → 0 < skipped_in x (set views id new)
+        → skipped_in x (set views id new) + times x v.skipped ≡ skipped_in x views + times x (skipping (nat_lt w k) v.skipped k)
+        → times x v.skipped ≤ skipped_in x views → w < x
     by_parts x there total own_skips =
         let rest : ℕ = skipped_in x views - times x v.skipped in
         skip_above (nat_lt w k) w k x rest v.skipped refl (omega arith) (λ same above. omega arith) (λ some_there. kept.skips x (omega arith))
@@ -160,7 +164,8 @@ looks terms slots id k me part s kept homes at fits = (
   looking k me.0 (get_or s.words 0 0),
   keeps,
   tt,
-  subst (λ (ws : List ℕ). IsKept terms ws (set s.views id (looking k me.0 (get_or s.words 0 0)))) (sym (set_word s.words (get_or s.words 0 0) kept.word)) (look_keeps terms s.words s.views id me.0 k part kept at),
+  subst (λ (ws : List ℕ). IsKept terms ws (set s.views id (looking k me.0 (get_or s.words 0 0))))
+      (sym (set_word s.words (get_or s.words 0 0) kept.word)) (look_keeps terms s.words s.views id me.0 k part kept at),
   (
     refl,
     record {

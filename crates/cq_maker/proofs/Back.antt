@@ -76,10 +76,12 @@ names number r =
     let b = distinct_put ((codes "Event", codes "Selfrun") ∷ []) (codes "Site") (codes "?") refl a in
     let c = distinct_put ((codes "Event", codes "Selfrun") ∷ (codes "Site", codes "?") ∷ []) (codes "Date") (codes "????.??.??") refl b in
     let d = distinct_put ((codes "Event", codes "Selfrun") ∷ (codes "Site", codes "?") ∷ (codes "Date", codes "????.??.??") ∷ []) (codes "Round") (decimal number) refl c in
-    let e = distinct_put ((codes "Event", codes "Selfrun") ∷ (codes "Site", codes "?") ∷ (codes "Date", codes "????.??.??") ∷ (codes "Round", decimal number) ∷ []) (codes "White") (codes "?") refl d in
+    let e = distinct_put ((codes "Event", codes "Selfrun") ∷ (codes "Site", codes "?") ∷ (codes "Date", codes "????.??.??")
+    ∷ (codes "Round", decimal number) ∷ []) (codes "White") (codes "?") refl d in
     let f = distinct_put ((codes "Event", codes "Selfrun") ∷ (codes "Site", codes "?") ∷ (codes "Date", codes "????.??.??") ∷ (codes "Round", decimal number) ∷ (codes "White", codes "?") ∷ [])
     (codes "Black") (codes "?") refl e in
-    distinct_put ((codes "Event", codes "Selfrun") ∷ (codes "Site", codes "?") ∷ (codes "Date", codes "????.??.??") ∷ (codes "Round", decimal number) ∷ (codes "White", codes "?") ∷ (codes "Black", codes "?") ∷ [])
+    distinct_put ((codes "Event", codes "Selfrun") ∷ (codes "Site", codes "?") ∷ (codes "Date", codes "????.??.??") ∷ (codes "Round", decimal number)
+    ∷ (codes "White", codes "?") ∷ (codes "Black", codes "?") ∷ [])
     (codes "Result") (result_text r) refl f
 
 start_is_position : IsPosition start_board

@@ -111,10 +111,12 @@ module _ (p : Board) (a b : ℕ) (h : a < 64) (k : b < 64) where
   pawn_seen : (side : Side) → side ≡ p.side → pawn_moves p a b ≡ true
       → (attacks_as (man_of (opponent side) Pawn) (is_occupied p.men) b a || is_ahead (opponent side) b a) ≡ true
   pawn_seen White s g =
-      ap₂ (λ x y. x || y) (sym (at_squares (is_pawn_attack White) (λ x y. is_pawn_attack Black y x) (pawn_back White) a b h k)) (sym (at_squares (is_ahead White) (λ x y. is_ahead Black y x) (ahead_back White) a b h k))
+      ap₂ (λ x y. x || y) (sym (at_squares (is_pawn_attack White) (λ x y. is_pawn_attack Black y x) (pawn_back White) a b h k))
+      (sym (at_squares (is_ahead White) (λ x y. is_ahead Black y x) (ahead_back White) a b h k))
       ∙ ap (λ t. is_pawn_attack t a b || is_ahead t a b) s ∙ pawn_goes p a b h k g
   pawn_seen Black s g =
-      ap₂ (λ x y. x || y) (sym (at_squares (is_pawn_attack Black) (λ x y. is_pawn_attack White y x) (pawn_back Black) a b h k)) (sym (at_squares (is_ahead Black) (λ x y. is_ahead White y x) (ahead_back Black) a b h k))
+      ap₂ (λ x y. x || y) (sym (at_squares (is_pawn_attack Black) (λ x y. is_pawn_attack White y x) (pawn_back Black) a b h k))
+      (sym (at_squares (is_ahead Black) (λ x y. is_ahead White y x) (ahead_back Black) a b h k))
       ∙ ap (λ t. is_pawn_attack t a b || is_ahead t a b) s ∙ pawn_goes p a b h k g
 
   comes : (side : Side) (piece : Piece) → side ≡ p.side → man_at p.men a ≡ man_of side piece → goes_as (man_of side piece) p a b ≡ true

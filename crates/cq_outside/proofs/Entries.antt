@@ -52,13 +52,15 @@ find_none k [] h = refl
 find_none k (f ∷ es) h = ap (λ b. cond b (Some f.1) (find (slice_cmp nat_cmp) k es)) (names_differ k f.0 h.0) ∙ find_none k es h.1
 
 -- what it has at a name whose first entry stands at i
-find_at : {X : Type 0} (k : List ℕ) (es : List (List ℕ × X)) (i : ℕ) (d : List ℕ × X) → i < length es → (get_or es i d).0 ≡ k → Lacks k (take i es) → find (slice_cmp nat_cmp) k es ≡ Some (get_or es i d).1
+find_at : {X : Type 0} (k : List ℕ) (es : List (List ℕ × X)) (i : ℕ) (d : List ℕ × X) → i < length es → (get_or es i d).0 ≡ k → Lacks k (take i es)
+    → find (slice_cmp nat_cmp) k es ≡ Some (get_or es i d).1
 find_at k [] i d l e h = absurd (omega arith)
 find_at k (f ∷ es) zero d l e h = ap (λ b. cond b (Some f.1) (find (slice_cmp nat_cmp) k es)) (names_same k f.0 e)
 find_at k (f ∷ es) (suc i) d l e h =
     ap (λ b. cond b (Some f.1) (find (slice_cmp nat_cmp) k es)) (names_differ k f.0 h.0) ∙ find_at k es i d (omega arith) e h.1
 
-find_set : {X : Type 0} (q k : List ℕ) (v : X) (es : List (List ℕ × X)) (i : ℕ) (d : List ℕ × X) → i < length es → (get_or es i d).0 ≡ k → Lacks k (take i es) → find (slice_cmp nat_cmp) q (set es i (k, v)) ≡ cond (names q k) (Some v) (find (slice_cmp nat_cmp) q es)
+find_set : {X : Type 0} (q k : List ℕ) (v : X) (es : List (List ℕ × X)) (i : ℕ) (d : List ℕ × X) → i < length es → (get_or es i d).0 ≡ k
+    → Lacks k (take i es) → find (slice_cmp nat_cmp) q (set es i (k, v)) ≡ cond (names q k) (Some v) (find (slice_cmp nat_cmp) q es)
 find_set q k v [] i d l e h = absurd (omega arith)
 find_set q k v (f ∷ es) zero d l e h =
     shadowed (names q k) (Some v) (Some f.1) (find (slice_cmp nat_cmp) q es)
@@ -68,7 +70,8 @@ find_set q k v (f ∷ es) (suc i) d l e h =
     ∙ swapped (names q f.0) (names q k) (Some f.1) (Some v) (find (slice_cmp nat_cmp) q es) (λ a b. h.0 (sym (names_equal q f.0 a) ∙ names_equal q k b))
 
 -- to replace the first entry of a name is to insert it in the map
-pub replaced : {X : Type 0} (n k : List ℕ) (v : X) (es : List (List ℕ × X)) (i : ℕ) (d : List ℕ × X) → n ≡ k → i < length es → (get_or es i d).0 ≡ k → All (λ f. f.0 ≢ k) (take i es) → from_entries {R = slice_cmp nat_cmp} (set es i (n, v)) ≡ insert (from_entries es) k v
+pub replaced : {X : Type 0} (n k : List ℕ) (v : X) (es : List (List ℕ × X)) (i : ℕ) (d : List ℕ × X) → n ≡ k → i < length es → (get_or es i d).0 ≡ k
+    → All (λ f. f.0 ≢ k) (take i es) → from_entries {R = slice_cmp nat_cmp} (set es i (n, v)) ≡ insert (from_entries es) k v
 replaced {X} n k v es i d p l e h =
     let lacks : Lacks k (take i es) = recursion_from_All (λ (f : List ℕ × X). f.0 ≢ k) (take i es) h in
     (λ j. from_entries {R = slice_cmp nat_cmp} (set es i (p j, v)))
@@ -83,7 +86,8 @@ added {X} n k v es p h =
     ∙ from_entries_push nat_list_cmp_total exact es k v (find_none k es (recursion_from_All (λ (f : List ℕ × X). f.0 ≢ k) es h))
 
 -- what the map has of a name whose first entry stands at i, and of a name without an entry
-pub entry_at : {X : Type 0} (k : List ℕ) (es : List (List ℕ × X)) (i : ℕ) (d : List ℕ × X) → i < length es → (get_or es i d).0 ≡ k → All (λ f. f.0 ≢ k) (take i es) → get (from_entries {R = slice_cmp nat_cmp} es) k ≡ Some (get_or es i d).1
+pub entry_at : {X : Type 0} (k : List ℕ) (es : List (List ℕ × X)) (i : ℕ) (d : List ℕ × X) → i < length es → (get_or es i d).0 ≡ k
+    → All (λ f. f.0 ≢ k) (take i es) → get (from_entries {R = slice_cmp nat_cmp} es) k ≡ Some (get_or es i d).1
 entry_at {X} k es i d l e h =
     get-from_entries nat_list_cmp_total es k ∙ find_at k es i d l e (recursion_from_All (λ (f : List ℕ × X). f.0 ≢ k) (take i es) h)
 
@@ -92,7 +96,8 @@ no_entry {X} k es h =
     get-from_entries nat_list_cmp_total es k ∙ find_none k es (recursion_from_All (λ (f : List ℕ × X). f.0 ≢ k) es h)
 
 -- the bytes of a name whose first file stands at i, and of a name without a file
-pub bytes_at : (k : List ℕ) (es : List (List ℕ × List ℕ)) (i : ℕ) (d : List ℕ × List ℕ) → i < length es → (get_or es i d).0 ≡ k → All (λ f. f.0 ≢ k) (take i es) → (get_or es i d).1 ≡ bytes_of (from_entries es) k
+pub bytes_at : (k : List ℕ) (es : List (List ℕ × List ℕ)) (i : ℕ) (d : List ℕ × List ℕ) → i < length es → (get_or es i d).0 ≡ k
+    → All (λ f. f.0 ≢ k) (take i es) → (get_or es i d).1 ≡ bytes_of (from_entries es) k
 bytes_at k es i d l e h = sym (ap (λ o. unwrap_or o []) (entry_at k es i d l e h))
 
 pub no_bytes : (k : List ℕ) (es : List (List ℕ × List ℕ)) → All (λ f. f.0 ≢ k) es → [] ≡ bytes_of (from_entries es) k

@@ -8,7 +8,8 @@ pub left_split : (bytes : List ℕ) (at n : ℕ) → drop at bytes ≡ take n (d
 left_split bytes at n = sym (ap (λ l. take n (drop at bytes) ++ l) (sym (drop-drop n at bytes)) ∙ take-append-drop n (drop at bytes))
 
 -- the bytes that were copied to the front of a buffer, and what is left after them
-pub moved : (bytes slice copied tail : List ℕ) (at n : ℕ) → slice ≡ bytes → at + n ≤ length bytes → copied ≡ take n (take (length slice - at) (drop at slice)) → drop at bytes ≡ take n (copied ++ tail) ++ drop (at + n) bytes
+pub moved : (bytes slice copied tail : List ℕ) (at n : ℕ) → slice ≡ bytes → at + n ≤ length bytes
+    → copied ≡ take n (take (length slice - at) (drop at slice)) → drop at bytes ≡ take n (copied ++ tail) ++ drop (at + n) bytes
 moved bytes slice copied tail at n s h e =
     let all : take (length bytes - at) (drop at bytes) ≡ drop at bytes = take_all (length bytes - at) (drop at bytes) (omega (arith, length-drop at bytes)) in
     let same : copied ≡ take n (drop at bytes) = e ∙ ap (λ l. take n (take (length l - at) (drop at l))) s ∙ ap (take n) all in

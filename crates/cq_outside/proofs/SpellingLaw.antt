@@ -56,7 +56,8 @@ both_true a b e f = rw e f
 times_passes : (part : List ℕ → Bool) (Part : List ℕ → Type 0) → ((w : List ℕ) → Part w → part w ≡ true) → (k : ℕ) (w : List ℕ) → Times Part k w → times part k w ≡ true
 times_passes part Part is zero w t = rw t refl
 times_passes part Part is (suc k) w t =
-    ap (splits (λ u v. part u && times part k v)) t.2 ∙ split_passes (λ u v. part u && times part k v) t.0 t.1 (both_true (part t.0) (times part k t.1) (is t.0 t.3) (times_passes part Part is k t.1 t.4))
+    ap (splits (λ u v. part u && times part k v)) t.2 ∙ split_passes (λ u v. part u && times part k v) t.0 t.1
+    (both_true (part t.0) (times part k t.1) (is t.0 t.3) (times_passes part Part is k t.1 t.4))
 
 -- more parts than nodes: one of them is empty, and can be left out
 fewer : (Part : List ℕ → Type 0) (k : ℕ) (w u v : List ℕ) → length w ≤ k → w ≡ u ++ v → Part u → Times Part k v → Times Part k w

@@ -3,6 +3,7 @@
 //! space and decimal digits, which are the same in PGN and in queries; and a counter of steps.
 #![tactic(auto)]
 
+mod arguments;
 mod by_name;
 pub mod bytes;
 pub mod calls;
@@ -25,6 +26,7 @@ pub mod sure_source;
 pub mod system;
 pub mod text;
 
+pub use arguments::command_words;
 pub use bytes::Bytes;
 pub use calls::Calls;
 pub use desk::Desk;

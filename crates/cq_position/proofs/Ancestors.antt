@@ -31,7 +31,8 @@ module _ (a b : List Node) (first : AreParentsFirst a) where
 
   pub way_same : (n : ℕ) → HaveSameParents a b n → way_up a n ≡ way_up b n
   unfolding way_up
-  way_same n same = up_same (n + 1) (n + 1) (Some n) (λ m is. let e : n ≡ m = cc in omega (arith, e)) (λ m is. let e : n ≡ m = cc in omega (arith, e)) (λ m is. let e : n ≡ m = cc in subst (HaveSameParents a b) e same)
+  way_same n same = up_same (n + 1) (n + 1) (Some n) (λ m is. let e : n ≡ m = cc in omega (arith, e))
+      (λ m is. let e : n ≡ m = cc in omega (arith, e)) (λ m is. let e : n ≡ m = cc in subst (HaveSameParents a b) e same)
 
 module _ (nodes : List Node) (first : AreParentsFirst nodes) where
   -- a node, and then the way up from its parent
@@ -40,7 +41,8 @@ module _ (nodes : List Node) (first : AreParentsFirst nodes) where
   way_step n p is =
       let less = first.before n p is in
       ap (λ i. up_from i nodes (Some n)) (add-one n)
-      ∙ ap (λ l. n ∷ l) (ap (up_from n nodes) is ∙ up_same nodes nodes first n (p + 1) (Some p) (λ m e. let f : p ≡ m = cc in omega (arith, f, less)) (λ m e. let f : p ≡ m = cc in omega (arith, f)) (λ m e. record { same = λ i h. refl }))
+      ∙ ap (λ l. n ∷ l) (ap (up_from n nodes) is ∙ up_same nodes nodes first n (p + 1) (Some p) (λ m e. let f : p ≡ m = cc in omega (arith, f, less))
+      (λ m e. let f : p ≡ m = cc in omega (arith, f)) (λ m e. record { same = λ i h. refl }))
 
   pub way_root : (n : ℕ) → (node_at nodes n).parent ≡ None → way_up nodes n ≡ n ∷ []
   unfolding way_up

@@ -345,7 +345,9 @@ attacked_in_ways men by s h =
     ∙ ap₂ (λ x y. x || y) (any_same knight _ (λ a. ap (λ t. stands men a (knight_of by) && t) (knight_steps_back a s)) squares)
     (any_or pawn king squares
     ∙ ap₂ (λ x y. x || y)
-    (any_same_on pawn _ squares (All-weaker (λ a. a < 64) _ (λ a low. ap (λ t. stands men a (pawn_of by) && t) (at_squares (is_pawn_attack by) (λ x y. is_pawn_attack (opponent by) y x) (pawn_back by) a s low h)) squares squares_board))
+    (any_same_on pawn _ squares (All-weaker (λ a. a < 64) _
+    (λ a low. ap (λ t. stands men a (pawn_of by) && t)
+    (at_squares (is_pawn_attack by) (λ x y. is_pawn_attack (opponent by) y x) (pawn_back by) a s low h)) squares squares_board))
     (any_same king _ (λ a. ap (λ t. stands men a (king_of by) && t) (king_steps_back a s)) squares))))
 
 -- where no man is on the lines, none attacks along them

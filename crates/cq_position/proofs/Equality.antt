@@ -45,7 +45,9 @@ same_rights r s =
 
 Decides-rights : (r s : Rights) → Decides (same_rights r s) (r ≡ s)
 Decides-rights r s =
-    let four = Decides-both _ _ (Decides-beq r.white_kingside s.white_kingside) (Decides-both _ _ (Decides-beq r.white_queenside s.white_queenside) (Decides-both _ _ (Decides-beq r.black_kingside s.black_kingside) (Decides-beq r.black_queenside s.black_queenside))) in (
+    let four = Decides-both _ _ (Decides-beq r.white_kingside s.white_kingside)
+    (Decides-both _ _ (Decides-beq r.white_queenside s.white_queenside)
+    (Decides-both _ _ (Decides-beq r.black_kingside s.black_kingside) (Decides-beq r.black_queenside s.black_queenside))) in (
       λ h.
           let parts = four.0 h in
           ap₂ (λ a b. rights_of a b r.black_kingside r.black_queenside) parts.0 parts.1.0
@@ -65,7 +67,9 @@ same_parts p q =
 pub equal_by_parts : (p q : Board) (r : Bool) → r ≡ same_parts p q → Decides r (p ≡ q)
 equal_by_parts p q r e =
     let men = Decides-men p.men q.men in
-    let five = Decides-both _ _ (Decides-eqb p.number q.number) (Decides-both _ _ men (Decides-both _ _ (Decides-side p.side q.side) (Decides-both _ _ (Decides-rights p.rights q.rights) (Decides-square p.passant q.passant)))) in (
+    let five = Decides-both _ _ (Decides-eqb p.number q.number)
+    (Decides-both _ _ men (Decides-both _ _ (Decides-side p.side q.side)
+    (Decides-both _ _ (Decides-rights p.rights q.rights) (Decides-square p.passant q.passant)))) in (
       λ h.
           let parts = five.0 (sym e ∙ h) in
           ap₂ (λ men number. board_of men p.side p.rights p.passant number) parts.1.0 parts.0

@@ -17,7 +17,8 @@ pub record Grown (xs : List Node) (k p : ℕ) (c : Continuations) : Type 0 where
   pub tree : IsTree (xs ++ nodes_from p k c)
   pub stays : (q : ℕ) → Contains (way_up xs p) q → Contains (way_up (xs ++ nodes_from p k c) (length (xs ++ nodes_from p k c) - 1)) q
 
-pub grown : (c : Continuations) (xs : List Node) (k p : ℕ) → k ≡ length xs → p < k → IsTree xs → Contains (way_up xs (k - 1)) p → Follows (node_at xs p).position c → k + size c ≤ 65536 → Grown xs k p c
+pub grown : (c : Continuations) (xs : List Node) (k p : ℕ) → k ≡ length xs → p < k → IsTree xs → Contains (way_up xs (k - 1)) p
+    → Follows (node_at xs p).position c → k + size c ≤ 65536 → Grown xs k p c
 unfolding nodes_from Follows
 grown none xs k p at less tree on follows few =
     record {

@@ -84,7 +84,8 @@ record OnBoard (m : Move) : Type 0 where
 keeps_to_board : (p : Board) (m : Move) → length p.men ≡ 64 → is_pseudo_legal p m ≡ true → OnBoard m
 unfolding is_pseudo_legal reaches
 keeps_to_board p m long h =
-    let reached = is_of_side p.side (man_at p.men m.from) && not (is_of_side p.side (man_at p.men m.to)) && not (stands p.men m.to (king_of (opponent p.side))) && goes_as (man_at p.men m.from) p m.from m.to in
+    let reached = is_of_side p.side (man_at p.men m.from) && not (is_of_side p.side (man_at p.men m.to)) && not
+    (stands p.men m.to (king_of (opponent p.side))) && goes_as (man_at p.men m.from) p m.from m.to in
     let last = and_parts (not m.null && nat_lt m.to 64 && reached) (promotion_is_right p m) h in
     let third = and_parts (not m.null && nat_lt m.to 64) reached last.0 in
     let first = and_parts (not m.null) (nat_lt m.to 64) third.0 in

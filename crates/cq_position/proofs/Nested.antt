@@ -82,9 +82,20 @@ parents_in parent k (played m next others) = (
   record { number = parent; is = refl; within = inl refl },
   all_append (HasParentIn parent k (1 + size next + size others)) (nodes_from k (k + 1) next) (nodes_from parent (k + 1 + size next) others)
       (all_weaker (HasParentIn k (k + 1) (size next)) (HasParentIn parent k (1 + size next + size others))
-      (λ n h. record { number = h.number; is = h.is; within = ⊎_elim (λ is. inr (omega (arith, is), omega (arith, is))) (λ both. inr (omega (arith, both.0), omega (arith, both.1))) h.within }) (nodes_from k (k + 1) next) (parents_in k (k + 1) next))
+      (λ n h. record {
+        number = h.number;
+        is = h.is;
+        within = ⊎_elim (λ is. inr (omega (arith, is), omega (arith, is)))
+            (λ both. inr (omega (arith, both.0), omega (arith, both.1))) h.within;
+      }) (nodes_from k (k + 1) next) (parents_in k (k + 1) next))
       (all_weaker (HasParentIn parent (k + 1 + size next) (size others)) (HasParentIn parent k (1 + size next + size others))
-      (λ n h. record { number = h.number; is = h.is; within = ⊎_elim (λ is. inl is) (λ both. inr (omega (arith, both.0), omega (arith, both.1))) h.within }) (nodes_from parent (k + 1 + size next) others) (parents_in parent (k + 1 + size next) others)),
+      (λ n h. record {
+        number = h.number;
+        is = h.is;
+        within = ⊎_elim (λ is. inl is)
+            (λ both. inr (omega (arith, both.0), omega (arith, both.1))) h.within;
+      }) (nodes_from parent (k + 1 + size next) others)
+      (parents_in parent (k + 1 + size next) others)),
 )
 
 -- none of these nodes follows a number that is neither their parent nor one of theirs
@@ -108,7 +119,8 @@ by_parent of n (Some q) is differ = is_number_other n.parent of q is (differ q r
 pub comes_back : (parent k : ℕ) (c : Continuations) (more : List Node) → parent < k → AllByRecursion (IsOutside parent k (size c)) more
     → continuations parent k (nodes_from parent k c ++ more) ≡ c
 unfolding nodes_from
-comes_back parent k none more before out = none_of_them parent k more (all_weaker (IsOutside parent k 0) (IsElsewhere parent) (λ n h. by_parent parent n n.parent refl (λ q is. (h.other q is).0)) more out)
+comes_back parent k none more before out = none_of_them parent k more
+    (all_weaker (IsOutside parent k 0) (IsElsewhere parent) (λ n h. by_parent parent n n.parent refl (λ q is. (h.other q is).0)) more out)
 comes_back parent k (played m next others) more before out =
     let inner = nodes_from k (k + 1) next in
     let outer = nodes_from parent (k + 1 + size next) others in
@@ -124,7 +136,10 @@ comes_back parent k (played m next others) more before out =
           ⊎_elim (λ at. (λ same. omega (arith, at, same, e, before), inl (omega (arith, at, e, before)))) (λ both. (λ same. omega (arith, both.0, same, e), inr (omega (arith, both.0, e)))) h.within;
     }) outer (parents_in parent (k + 1 + size next) others))
     (all_weaker (IsOutside parent k (1 + size next + size others)) (IsOutside k (k + 1) (size next))
-    (λ x h. record { other = λ q is. ⊎_elim (λ low. (λ same. omega (arith, low, same), inl (omega (arith, low)))) (λ high. (λ same. omega (arith, high, same), inr (omega (arith, high)))) (h.other q is).1 }) more out)))
+    (λ x h. record {
+      other = λ q is. ⊎_elim (λ low. (λ same. omega (arith, low, same), inl (omega (arith, low))))
+          (λ high. (λ same. omega (arith, high, same), inr (omega (arith, high)))) (h.other q is).1;
+    }) more out)))
     (ap (continuations parent (k + 1)) (append_assoc inner outer more)
     ∙ skipped parent (k + 1) inner (outer ++ more) (elsewhere parent k (k + 1) next (λ is. omega (arith, is)) (omega arith))
     ∙ ap (λ i. continuations parent i (outer ++ more)) (let e : k + 1 + length inner ≡ k + 1 + size next = omega arith in e)

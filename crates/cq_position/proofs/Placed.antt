@@ -29,10 +29,12 @@ put_row n row back =
     let split : replicate (n + 8) Empty ++ back ≡ replicate n Empty ++ (replicate 8 Empty ++ back) = rw (← replicate-append-replicate n 8 Empty, append_assoc) refl in
     rw (split, take_at (replicate n Empty) (replicate 8 Empty ++ back) n (length-replicate n Empty), drop_at (replicate n Empty) (replicate 8 Empty ++ back) n (length-replicate n Empty)) refl
 
-ranks-more : (ranks : List (List ℕ)) (done : ℕ) → done < length ranks → flat_map rank_squares (reverse (take (done + 1) ranks)) ≡ rank_squares (get_or ranks done []) ++ flat_map rank_squares (reverse (take done ranks))
+ranks-more : (ranks : List (List ℕ)) (done : ℕ) → done < length ranks
+    → flat_map rank_squares (reverse (take (done + 1) ranks)) ≡ rank_squares (get_or ranks done []) ++ flat_map rank_squares (reverse (take done ranks))
 ranks-more ranks done lt = rw (take_more ranks done [] lt, reverse-append (take done ranks) (get_or ranks done [] ∷ [])) refl
 
-pub IsPlacedTo-more : (ranks : List (List ℕ)) (done : ℕ) (men row : List Man) (first : List ℕ) (left : List (List ℕ)) → done < 8 → IsPlacedTo ranks done men (first ∷ left) → is_rank first ≡ true → row ≡ rank_squares first
+pub IsPlacedTo-more : (ranks : List (List ℕ)) (done : ℕ) (men row : List Man) (first : List ℕ) (left : List (List ℕ)) → done < 8
+    → IsPlacedTo ranks done men (first ∷ left) → is_rank first ≡ true → row ≡ rank_squares first
     → IsPlacedTo ranks (done + 1) (put_mid (56 - 8 * done) 8 men row) left
 IsPlacedTo-more ranks done men row first left lt p is e =
     let there = within ranks done first left p.left_is in
@@ -49,7 +51,8 @@ IsPlacedTo-more ranks done men row first left lt p is e =
     }
 
 -- a rank that is none, and too few or too many of them
-pub bad_rank : (ranks : List (List ℕ)) (done : ℕ) (men : List Man) (first : List ℕ) (left : List (List ℕ)) → IsPlacedTo ranks done men (first ∷ left) → is_rank first ≡ false → list_all is_rank ranks ≡ false
+pub bad_rank : (ranks : List (List ℕ)) (done : ℕ) (men : List Man) (first : List ℕ) (left : List (List ℕ)) → IsPlacedTo ranks done men (first ∷ left)
+    → is_rank first ≡ false → list_all is_rank ranks ≡ false
 bad_rank ranks done men first left p bad =
     let there = within ranks done first left p.left_is in
     let cut = drop_more ranks done [] there in

@@ -86,11 +86,13 @@ before_skips k p [] above n ns m i less falls parent later = tt
 before_skips k p (q ∷ qs) above n ns m i less falls parent later =
     let rest = falls_from q qs p above falls.1 in (
       passed_over q k n ns (by_parent q n (Some p) parent (λ r is same. let e : p ≡ r = cc in omega (arith, e, same, rest.0)))
-          ∙ absent q (k + 1) (k ∷ p ∷ above) ns (omega (arith, falls.0, less)) ((λ same. omega (arith, same, falls.0, less)), ((λ same. omega (arith, same, rest.0)), not_in p q above rest.1 (omega (arith, rest.0)))) later,
+          ∙ absent q (k + 1) (k ∷ p ∷ above) ns (omega (arith, falls.0, less))
+          ((λ same. omega (arith, same, falls.0, less)), ((λ same. omega (arith, same, rest.0)), not_in p q above rest.1 (omega (arith, rest.0)))) later,
       before_skips k p qs above n ns m q (omega (arith, falls.0, less)) falls.1 parent later,
     )
 
-above_same : (k p : ℕ) (above : List ℕ) (n : Node) (ns : List Node) (i : ℕ) → i ≤ p → Falls i above → n.parent ≡ Some p → AllByRecursion (λ q. continuations q k (n ∷ ns) ≡ continuations q (k + 1) ns) above
+above_same : (k p : ℕ) (above : List ℕ) (n : Node) (ns : List Node) (i : ℕ) → i ≤ p → Falls i above → n.parent ≡ Some p
+    → AllByRecursion (λ q. continuations q k (n ∷ ns) ≡ continuations q (k + 1) ns) above
 unfolding Falls
 above_same k p [] n ns i less falls parent = tt
 above_same k p (q ∷ qs) n ns i less falls parent = (

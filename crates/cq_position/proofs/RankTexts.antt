@@ -111,7 +111,8 @@ cut_row : (men : List Man) (a b : ℕ) → a + 8 ≡ b → take 8 (drop a men) +
 cut_row men a b e = rw (← e, ← drop-drop 8 a men) (take-append-drop 8 (drop a men))
 
 rows : (men : List Man) → length men ≡ 64
-    → take 8 (drop 0 men) ++ (take 8 (drop 8 men) ++ (take 8 (drop 16 men) ++ (take 8 (drop 24 men) ++ (take 8 (drop 32 men) ++ (take 8 (drop 40 men) ++ (take 8 (drop 48 men) ++ (take 8 (drop 56 men) ++ []))))))) ≡ men
+    → take 8 (drop 0 men) ++ (take 8 (drop 8 men) ++ (take 8 (drop 16 men)
+    ++ (take 8 (drop 24 men) ++ (take 8 (drop 32 men) ++ (take 8 (drop 40 men) ++ (take 8 (drop 48 men) ++ (take 8 (drop 56 men) ++ []))))))) ≡ men
 rows men e =
     let last : take 8 (drop 56 men) ≡ drop 56 men = take_all 8 (drop 56 men) (omega (arith, length-drop 56 men)) in
     rw (append-nil, last, cut_row men 48 56 refl, cut_row men 40 48 refl, cut_row men 32 40 refl, cut_row men 24 32 refl, cut_row men 16 24 refl, cut_row men 8 16 refl) (cut_row men 0 8 refl)
@@ -139,5 +140,6 @@ eight_ranks a b c d e f g h p q r s t u v w ra rb rc rd re rf rg rh =
 pub placement_back : (men : List Man) → length men ≡ 64 → IsPlacementOf (placement_text men) men
 placement_back men e =
     let row = λ (a : ℕ) (le : a ≤ 56). rank_whole (take 8 (drop a men)) (row_length men a e le) in
-    let all = eight_ranks _ _ _ _ _ _ _ _ _ _ _ _ _ _ _ _ (row 56 (omega arith)) (row 48 (omega arith)) (row 40 (omega arith)) (row 32 (omega arith)) (row 24 (omega arith)) (row 16 (omega arith)) (row 8 (omega arith)) (row 0 (omega arith)) in
+    let all = eight_ranks _ _ _ _ _ _ _ _ _ _ _ _ _ _ _ _ (row 56 (omega arith)) (row 48 (omega arith)) (row 40 (omega arith)) (row 32 (omega arith))
+    (row 24 (omega arith)) (row 16 (omega arith)) (row 8 (omega arith)) (row 0 (omega arith)) in
     rw (rows men e) at all

@@ -43,7 +43,8 @@ IsRowTo-more text i file row man width lt run le r =
     let fits = r.fits in
     record {
       fits = omega arith;
-      squares = rw (squares-more text i lt, run.squares, rest, r.squares, ← r.width) (set_run (rank_squares (take i text)) (8 - length (rank_squares (take i text))) width man run.some (rw r.width le) run.alone);
+      squares = rw (squares-more text i lt, run.squares, rest, r.squares, ← r.width)
+          (set_run (rank_squares (take i text)) (8 - length (rank_squares (take i text))) width man run.some (rw r.width le) run.alone);
       width = rw (squares-more text i lt, run.squares, length-append, run_of, r.width) refl;
       bytes = rw (list_all_more is_rank_byte text i 0 lt, r.bytes, run.known) refl;
     }
@@ -61,10 +62,12 @@ pub bad_byte : (text : List ℕ) (i : ℕ) → i < length text → is_rank_byte 
 bad_byte text i lt bad = not_rank _ _ (inl (list_all_at is_rank_byte text i 0 lt bad))
 
 -- a run that goes past the h-file
-pub overlong : (text : List ℕ) (i file : ℕ) (row : List Man) (man : Man) (width : ℕ) → i < length text → IsRunOf (get_or text i 0) man width → 8 - file < width → IsRowTo text i file row → is_rank text ≡ false
+pub overlong : (text : List ℕ) (i file : ℕ) (row : List Man) (man : Man) (width : ℕ) → i < length text → IsRunOf (get_or text i 0) man width
+    → 8 - file < width → IsRowTo text i file row → is_rank text ≡ false
 overlong text i file row man width lt run gt r =
     let front : length (rank_squares (take (i + 1) text)) ≡ file + width = rw (squares-more text i lt, run.squares, length-append, length-replicate, r.width) refl in
-    let parts : rank_squares text ≡ rank_squares (take (i + 1) text) ++ rank_squares (drop (i + 1) text) = rw (← flat_map-append squares_of (take (i + 1) text) (drop (i + 1) text), take-append-drop) refl in
+    let parts : rank_squares text ≡ rank_squares (take (i + 1) text)
+    ++ rank_squares (drop (i + 1) text) = rw (← flat_map-append squares_of (take (i + 1) text) (drop (i + 1) text), take-append-drop) refl in
     let whole : length (rank_squares text) ≡ length (rank_squares (take (i + 1) text)) + length (rank_squares (drop (i + 1) text)) = ap length parts ∙ length-append _ _ in
     let fits = r.fits in
     not_rank _ _ (inr (past_eight (length (rank_squares text)) (omega arith)))

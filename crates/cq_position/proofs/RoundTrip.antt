@@ -69,7 +69,8 @@ rights_back : (men : List Man) (r : Rights) (text : List ℕ) → IsRightsText t
 rights_back men r text t e =
     let three = left_true _ _ e in
     let two = left_true _ _ three in
-    let one : (a b : Bool) (s : Side) (k : Bool) → a ≡ b → (not b || are_home men s k) ≡ true → (a && are_home men s k) ≡ b = λ a b s k same stand. ap (λ x. x && are_home men s k) same ∙ kept b (are_home men s k) stand in
+    let one : (a b : Bool) (s : Side) (k : Bool) → a ≡ b → (not b || are_home men s k) ≡ true
+    → (a && are_home men s k) ≡ b = λ a b s k same stand. ap (λ x. x && are_home men s k) same ∙ kept b (are_home men s k) stand in
     let wk = one _ _ White true t.white_king (left_true _ _ two) in
     let wq = one _ _ White false t.white_queen (right_true _ _ two) in
     let bk = one _ _ Black true t.black_king (right_true _ _ three) in
@@ -159,13 +160,31 @@ meaning_back : (b : Board) (t s c e n : List ℕ) → IsPosition b → IsPlaceme
 unfolding fen_meaning position_or_fault
 meaning_back b t s c e n p placement side rights passant number nine =
     let free = all_weaker is_digit (is_not 32) digit_no_space n number.digits in
-    let cut = fields_join t (s ∷ c ∷ e ∷ (48 ∷ []) ∷ n ∷ []) (rw (placement.spaces, side.spaces, rights.spaces, passant.spaces, free) refl) (rw (placement.some, side.some, rights.some, passant.some, number.some) refl) in
+    let cut = fields_join t (s ∷ c ∷ e ∷ (48 ∷ []) ∷ n ∷ []) (rw (placement.spaces, side.spaces, rights.spaces, passant.spaces, free) refl)
+    (rw (placement.some, side.some, rights.some, passant.some, number.some) refl) in
     let same = rights_back b.men b.rights c rights p.rights in
-    rw cut (rw (placement.placed, side.known, rights.castling, passant.known, nine, placement.men_are, side.named, p.kings, p.no_pawn_on_edge, p.few_enough, p.opponent_not_in_check, same, passant.named, number.value, at_least_one b.number p.numbered) refl)
+    rw cut (rw (
+      placement.placed,
+      side.known,
+      rights.castling,
+      passant.known,
+      nine,
+      placement.men_are,
+      side.named,
+      p.kings,
+      p.no_pawn_on_edge,
+      p.few_enough,
+      p.opponent_not_in_check,
+      same,
+      passant.named,
+      number.value,
+      at_least_one b.number p.numbered,
+    ) refl)
 
 pub reads_back : (b : Board) → IsPosition b → b.number ≤ 999999999 → fen_meaning (fen_of b) ≡ Ok b
 unfolding fen_of
 reads_back b p le =
     let number = number_back b.number (omega arith) in
     meaning_back b (placement_text b.men) (side_text b.side) (castling_text b.rights) (passant_text b.passant) (decimal b.number) p (placement_back b.men p.whole) (side_back b.side)
-    (castling_back b.rights.white_kingside b.rights.white_queenside b.rights.black_kingside b.rights.black_queenside) (passant_back b.men b.side b.passant p.passed) number (nine_digits b.number le number)
+    (castling_back b.rights.white_kingside b.rights.white_queenside b.rights.black_kingside b.rights.black_queenside)
+    (passant_back b.men b.side b.passant p.passed) number (nine_digits b.number le number)

@@ -17,7 +17,8 @@ start = refl
 
 abbrev after_e4 : Board
 after_e4 = record start_board {
-  men = R ∷ N ∷ B ∷ Q ∷ K ∷ B ∷ N ∷ R ∷ [] ++ replicate 4 P ++ Empty ∷ P ∷ P ∷ P ∷ [] ++ replicate 12 Empty ++ P ∷ [] ++ replicate 19 Empty ++ replicate 8 BlackP ++ BlackR ∷ BlackN ∷ BlackB ∷ BlackQ ∷ BlackK ∷ BlackB ∷ BlackN ∷ BlackR ∷ [];
+  men = R ∷ N ∷ B ∷ Q ∷ K ∷ B ∷ N ∷ R ∷ [] ++ replicate 4 P ++ Empty ∷ P ∷ P ∷ P ∷ [] ++ replicate 12 Empty ++ P ∷ [] ++ replicate 19 Empty
+      ++ replicate 8 BlackP ++ BlackR ∷ BlackN ∷ BlackB ∷ BlackQ ∷ BlackK ∷ BlackB ∷ BlackN ∷ BlackR ∷ [];
   side = Black;
   passant = Some 20;
 }
@@ -28,7 +29,9 @@ king_pawn = refl
 
 abbrev after_c5 : Board
 after_c5 = record after_e4 {
-  men = R ∷ N ∷ B ∷ Q ∷ K ∷ B ∷ N ∷ R ∷ [] ++ replicate 4 P ++ Empty ∷ P ∷ P ∷ P ∷ [] ++ replicate 12 Empty ++ P ∷ [] ++ replicate 5 Empty ++ BlackP ∷ [] ++ replicate 13 Empty ++ BlackP ∷ BlackP ∷ Empty ∷ [] ++ replicate 5 BlackP ++ BlackR ∷ BlackN ∷ BlackB ∷ BlackQ ∷ BlackK ∷ BlackB ∷ BlackN ∷ BlackR ∷ [];
+  men = R ∷ N ∷ B ∷ Q ∷ K ∷ B ∷ N ∷ R ∷ [] ++ replicate 4 P ++ Empty ∷ P ∷ P ∷ P ∷ [] ++ replicate 12 Empty ++ P ∷ [] ++ replicate 5 Empty
+      ++ BlackP ∷ [] ++ replicate 13 Empty ++ BlackP ∷ BlackP ∷ Empty ∷ [] ++ replicate 5 BlackP
+      ++ BlackR ∷ BlackN ∷ BlackB ∷ BlackQ ∷ BlackK ∷ BlackB ∷ BlackN ∷ BlackR ∷ [];
   side = White;
   passant = Some 42;
   number = 2;
@@ -40,7 +43,9 @@ sicilian = refl
 
 abbrev after_nf3 : Board
 after_nf3 = record after_c5 {
-  men = R ∷ N ∷ B ∷ Q ∷ K ∷ B ∷ Empty ∷ R ∷ [] ++ replicate 4 P ++ Empty ∷ P ∷ P ∷ P ∷ [] ++ replicate 5 Empty ++ N ∷ [] ++ replicate 6 Empty ++ P ∷ [] ++ replicate 5 Empty ++ BlackP ∷ [] ++ replicate 13 Empty ++ BlackP ∷ BlackP ∷ Empty ∷ [] ++ replicate 5 BlackP ++ BlackR ∷ BlackN ∷ BlackB ∷ BlackQ ∷ BlackK ∷ BlackB ∷ BlackN ∷ BlackR ∷ [];
+  men = R ∷ N ∷ B ∷ Q ∷ K ∷ B ∷ Empty ∷ R ∷ [] ++ replicate 4 P ++ Empty ∷ P ∷ P ∷ P ∷ [] ++ replicate 5 Empty ++ N ∷ [] ++ replicate 6 Empty
+      ++ P ∷ [] ++ replicate 5 Empty ++ BlackP ∷ [] ++ replicate 13 Empty ++ BlackP ∷ BlackP ∷ Empty ∷ [] ++ replicate 5 BlackP
+      ++ BlackR ∷ BlackN ∷ BlackB ∷ BlackQ ∷ BlackK ∷ BlackB ∷ BlackN ∷ BlackR ∷ [];
   side = Black;
   passant = None;
 }

@@ -32,7 +32,8 @@ parent_before nodes k p tree is = (
 
 -- whether a node is another or below it
 pub is_below_self : (nodes : List Node) (n : ℕ) → IsTree nodes → is_below nodes n n ≡ true
-is_below_self nodes n tree = ap (list_any (λ m. m == n)) (way_on nodes n (node_at nodes n).parent tree refl) ∙ ap (λ b. b || list_any (λ m. m == n) (way_from nodes (node_at nodes n).parent)) (eq-eqb n n refl)
+is_below_self nodes n tree = ap (list_any (λ m. m == n)) (way_on nodes n (node_at nodes n).parent tree refl)
+    ∙ ap (λ b. b || list_any (λ m. m == n) (way_from nodes (node_at nodes n).parent)) (eq-eqb n n refl)
 
 below_by : (nodes : List Node) (n k : ℕ) (o : Option ℕ) → IsTree nodes → (node_at nodes k).parent ≡ o → (k ≡ n → ⊥) → is_below nodes n k ≡ list_any (λ m. m == n) (way_from nodes o)
 below_by nodes n k o tree is other = ap (list_any (λ m. m == n)) (way_on nodes k o tree is) ∙ ap (λ b. b || list_any (λ m. m == n) (way_from nodes o)) (ne_eqb k n other)

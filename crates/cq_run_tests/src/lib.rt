@@ -1,4 +1,4 @@
-//! Tests of the top call: worked rows over the forms in memory, failures of the outside, and malicious input.
+//! Tests of the top call: each mode over the forms in memory, and failures of the outside.
 #![tactic(auto)]
 
 #[cfg(test)]
@@ -8,10 +8,6 @@ mod faults;
 #[cfg(test)]
 mod first_rows;
 #[cfg(test)]
-mod meaning_rows;
-#[cfg(test)]
 mod prefixes;
-#[cfg(test)]
-mod query_rows;
 #[cfg(test)]
 mod rows;

@@ -112,7 +112,8 @@ parts_agree p m w plain =
     let given = given_agrees p m in
     and_from (not m.null && not (is_castling p m)) (agrees_in_parts p (piece_parts p m) m)
     (and_from (not m.null) (not (is_castling p m)) (not_from_false m.null w.null) (not_from_false (is_castling p m) plain))
-    (five_from (stands p.men m.from (man_of p.side (piece_of_man (man_at p.men m.from)))) (agrees_where_given (given_file p m) (file_of m.from)) (agrees_where_given (given_rank p m) (rank_of m.from)) (m.to == m.to) (is_same_promotion m.promotion m.promotion)
+    (five_from (stands p.men m.from (man_of p.side (piece_of_man (man_at p.men m.from)))) (agrees_where_given (given_file p m) (file_of m.from))
+    (agrees_where_given (given_rank p m) (rank_of m.from)) (m.to == m.to) (is_same_promotion m.promotion m.promotion)
     (stands_there p.men m.from (man_of p.side (piece_of_man (man_at p.men m.from))) (sym (man_back p.side (man_at p.men m.from) w.own)))
     given.0 given.1 (itself m.to) (itself (promotion_number m.promotion)))
 
@@ -130,7 +131,8 @@ unfolding agrees
 agrees_so p parts n e =
     let t = and_parts (not n.null && not (is_castling p n)) (agrees_in_parts p parts n) e in
     let s = and_parts (not n.null) (not (is_castling p n)) t.0 in
-    let f = five_parts (stands p.men n.from (man_of p.side parts.piece)) (agrees_where_given parts.file (file_of n.from)) (agrees_where_given parts.rank (rank_of n.from)) (n.to == parts.goal) (is_same_promotion n.promotion parts.promotion) t.1 in
+    let f = five_parts (stands p.men n.from (man_of p.side parts.piece)) (agrees_where_given parts.file (file_of n.from))
+    (agrees_where_given parts.rank (rank_of n.from)) (n.to == parts.goal) (is_same_promotion n.promotion parts.promotion) t.1 in
     record {
       plain = not-true (is_castling p n) s.1;
       man = stands-is p.men n.from (man_of p.side parts.piece) f.0;
@@ -204,7 +206,8 @@ castles_so p m w castling =
 castling_agrees : (p : Board) (m : Move) (kingside : Bool) → goes_right m ≡ kingside → m.null ≡ false → is_castling p m ≡ true → agrees p (Castling kingside) m ≡ true
 unfolding agrees
 castling_agrees p m true way null castling = and_from (not m.null && is_castling p m) (goes_right m) (and_from (not m.null) (is_castling p m) (not_from_false m.null null) castling) way
-castling_agrees p m false way null castling = and_from (not m.null && is_castling p m) (not (goes_right m)) (and_from (not m.null) (is_castling p m) (not_from_false m.null null) castling) (not_from_false (goes_right m) way)
+castling_agrees p m false way null castling = and_from (not m.null && is_castling p m) (not (goes_right m))
+    (and_from (not m.null) (is_castling p m) (not_from_false m.null null) castling) (not_from_false (goes_right m) way)
 
 pub agrees_castling : (p : Board) (n : Move) (kingside : Bool) → agrees p (Castling kingside) n ≡ true → (n.null ≡ false) × (is_castling p n ≡ true) × (goes_right n ≡ kingside)
 unfolding agrees
@@ -240,5 +243,7 @@ unfolding san_parts
 meant p m q kept leads =
     elim leads [
       | inl legal ↦ legal_meant p m q kept legal (what_moves p m (legal_passes p m q legal)) m.null (is_castling p m) refl refl
-      | inr pass ↦ subst (λ (parts : Parts). IsMeant p parts m) (sym (ap (λ (x : Move). if x.null then Null else (if is_castling p x then Castling (goes_right x) else Moved (piece_parts p x))) pass.null)) (null_meant p m pass.null pass.safe)
+      | inr pass ↦ subst (λ (parts : Parts). IsMeant p parts m)
+          (sym (ap (λ (x : Move). if x.null then Null else (if is_castling p x then Castling (goes_right x) else Moved
+          (piece_parts p x))) pass.null)) (null_meant p m pass.null pass.safe)
     ]

@@ -48,7 +48,8 @@ pub found-with : (test : ℕ → Bool) (found : List ℕ) (mask square bit : ℕ
 found-with test found mask square bit some fits e f passes r = record {
   rest =
       append_assoc found (square ∷ []) (filter test (set_squares (cleared mask bit)))
-      ∙ ap (λ xs. found ++ xs) (sym (ap (filter test) (first_square mask square bit some fits e f) ∙ ap (λ t. cond t (square ∷ filter test (set_squares (cleared mask bit))) (filter test (set_squares (cleared mask bit)))) passes))
+      ∙ ap (λ xs. found ++ xs) (sym (ap (filter test) (first_square mask square bit some fits e f)
+      ∙ ap (λ t. cond t (square ∷ filter test (set_squares (cleared mask bit))) (filter test (set_squares (cleared mask bit)))) passes))
       ∙ r.rest;
 }
 
@@ -56,7 +57,8 @@ pub found-without : (test : ℕ → Bool) (found : List ℕ) (mask square bit : 
     → test square ≡ false → IsFound test found mask → IsFound test found (cleared mask bit)
 found-without test found mask square bit some fits e f fails r = record {
   rest =
-      ap (λ xs. found ++ xs) (sym (ap (filter test) (first_square mask square bit some fits e f) ∙ ap (λ t. cond t (square ∷ filter test (set_squares (cleared mask bit))) (filter test (set_squares (cleared mask bit)))) fails))
+      ap (λ xs. found ++ xs) (sym (ap (filter test) (first_square mask square bit some fits e f)
+      ∙ ap (λ t. cond t (square ∷ filter test (set_squares (cleared mask bit))) (filter test (set_squares (cleared mask bit)))) fails))
       ∙ r.rest;
 }
 

@@ -57,8 +57,10 @@ single_passed White a c b e f = let x = eqb-true b (a + 8) e in let y = eqb-true
 single_passed Black a c b e f = let x = eqb-true a (b + 8) e in let y = eqb-true c (b + 16) (and_parts (rank_of c == 6) (c == b + 16) f).1 in omega arith
 
 two_captures : (side : Side) (a c b : ℕ) → is_pawn_attack side a b ≡ true → is_pawn_attack side c b ≡ true → file_of c ≡ file_of a → c ≡ a
-two_captures White a c b e f same = let x = eqb-true (rank_of b) (rank_of a + 1) (and_parts (rank_of b == rank_of a + 1) (files_apart a b == 1) e).0 in let y = eqb-true (rank_of b) (rank_of c + 1) (and_parts (rank_of b == rank_of c + 1) (files_apart c b == 1) f).0 in omega arith
-two_captures Black a c b e f same = let x = eqb-true (rank_of a) (rank_of b + 1) (and_parts (rank_of a == rank_of b + 1) (files_apart a b == 1) e).0 in let y = eqb-true (rank_of c) (rank_of b + 1) (and_parts (rank_of c == rank_of b + 1) (files_apart c b == 1) f).0 in omega arith
+two_captures White a c b e f same = let x = eqb-true (rank_of b) (rank_of a + 1) (and_parts (rank_of b == rank_of a + 1) (files_apart a b == 1) e).0 in
+    let y = eqb-true (rank_of b) (rank_of c + 1) (and_parts (rank_of b == rank_of c + 1) (files_apart c b == 1) f).0 in omega arith
+two_captures Black a c b e f same = let x = eqb-true (rank_of a) (rank_of b + 1) (and_parts (rank_of a == rank_of b + 1) (files_apart a b == 1) e).0 in
+    let y = eqb-true (rank_of c) (rank_of b + 1) (and_parts (rank_of c == rank_of b + 1) (files_apart c b == 1) f).0 in omega arith
 
 capture_apart : (side : Side) (a b : ℕ) → is_pawn_attack side a b ≡ true → (files_apart a b == 1) ≡ true
 capture_apart White a b e = (and_parts (rank_of b == rank_of a + 1) (files_apart a b == 1) e).1

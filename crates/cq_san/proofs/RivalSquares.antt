@@ -152,9 +152,17 @@ module _ (p : Board) (m : Move) (kept : IsPosition p) (q : Board) (legal : Legal
         let found = Any-from_list_any v (filter (is_origin p (unplaced p m)) squares) e in
         let s = found.1 in
         let both = and_parts (not (s == m.from)) (u s) (sym (v_is s) ∙ found.4) in
-        let passes = All-contains (λ x. is_origin p (unplaced p m) x ≡ true) (filter (is_origin p (unplaced p m)) squares) s (filter_passes (is_origin p (unplaced p m)) squares) (found.0, found.2, found.3) in
+        let passes = All-contains (λ x. is_origin p (unplaced p m) x ≡ true) (filter (is_origin p (unplaced p m)) squares) s
+        (filter_passes (is_origin p (unplaced p m)) squares) (found.0, found.2, found.3) in
         let rival = origin_rival s passes both.0 in
-        list_any-from_Any t (legal_list p) (rival.0.0, move_from (unplaced p m) s, rival.0.1, rival.0.2, t_is (move_from (unplaced p m) s) ∙ and_from (is_rival p m (move_from (unplaced p m) s)) (u s) rival.1 both.1)
+        list_any-from_Any t (legal_list p) (
+          rival.0.0,
+          move_from (unplaced p m) s,
+          rival.0.1,
+          rival.0.2,
+          t_is (move_from (unplaced p m) s)
+              ∙ and_from (is_rival p m (move_from (unplaced p m) s)) (u s) rival.1 both.1,
+        )
 
     to_squares : list_any t (legal_list p) ≡ true → list_any v (origins p (unplaced p m)) ≡ true
     to_squares e =

@@ -23,10 +23,20 @@ use Rattle.cq_san.specs.declared.parts.Parts.TheVariants.{Moved, Castling, Null}
 use Rattle.cq_san.specs.Writing.{letter, coordinate, promotion_text, capture_sign, parts_text, piece_of_man, given_file, given_rank, rank_among, rivals_of, piece_parts, san_parts, check_sign, sign_of, tells, file_among, is_capture, AreOnBoard}
 
 seven : (a b c d f g e : List ℕ) → length f ≡ 1 → length g ≡ 1 → length (a ++ b ++ c ++ d ++ f ++ g ++ e) ≡ length a + length b + length c + length d + 2 + length e
-seven a b c d f g e one two = omega (arith, length-append (a ++ b ++ c ++ d ++ f ++ g) e, length-append (a ++ b ++ c ++ d ++ f) g, length-append (a ++ b ++ c ++ d) f, length-append (a ++ b ++ c) d, length-append (a ++ b) c, length-append a b)
+seven a b c d f g e one two = omega (
+  arith,
+  length-append (a ++ b ++ c ++ d ++ f ++ g) e,
+  length-append (a ++ b ++ c ++ d ++ f) g,
+  length-append
+      (a ++ b ++ c ++ d) f,
+  length-append (a ++ b ++ c) d,
+  length-append (a ++ b) c,
+  length-append a b,
+)
 
 -- the bytes of the parts together
-pub parts_len : (capture : Bool) (m : PieceMove) → length (parts_text capture (Moved m)) ≡ length (letter m.piece) + length (coordinate 97 m.file) + length (coordinate 49 m.rank) + length (capture_sign capture) + 2 + length (promotion_text m.promotion)
+pub parts_len : (capture : Bool) (m : PieceMove) → length (parts_text capture (Moved m))
+    ≡ length (letter m.piece) + length (coordinate 97 m.file) + length (coordinate 49 m.rank) + length (capture_sign capture) + 2 + length (promotion_text m.promotion)
 parts_len capture m =
     let a = letter m.piece in
     let b = coordinate 97 m.file in

@@ -75,7 +75,9 @@ pub marks_orthogonal : (occupied : ℕ → Bool) (from a b c d : ℕ) → from <
     → IsBitboard c (contains (seen occupied (ray_from (negsuc 0) (pos 0) from))) → IsBitboard d (contains (seen occupied (ray_from (pos 1) (pos 0) from)))
     → IsBitboard (bit_or (bit_or (bit_or a b) c) d) (λ to. is_orthogonal from to && is_open occupied from to)
 marks_orthogonal occupied from a b c d low up down left right =
-    marks_same _ _ _ (λ k h. or_four (contains (seen occupied (ray_from (pos 0) (pos 1) from)) k) (contains (seen occupied (ray_from (pos 0) (negsuc 0) from)) k) (contains (seen occupied (ray_from (negsuc 0) (pos 0) from)) k) (contains (seen occupied (ray_from (pos 1) (pos 0) from)) k) ∙ sees_orthogonals occupied from k low h)
+    marks_same _ _ _ (λ k h. or_four (contains (seen occupied (ray_from (pos 0) (pos 1) from)) k)
+    (contains (seen occupied (ray_from (pos 0) (negsuc 0) from)) k) (contains (seen occupied (ray_from (negsuc 0) (pos 0) from)) k)
+    (contains (seen occupied (ray_from (pos 1) (pos 0) from)) k) ∙ sees_orthogonals occupied from k low h)
     (marks_or _ _ _ _ (marks_or _ _ _ _ (marks_or _ _ _ _ up down) left) right)
 
 pub marks_diagonal : (occupied : ℕ → Bool) (from a b c d : ℕ) → from < 64
@@ -83,7 +85,9 @@ pub marks_diagonal : (occupied : ℕ → Bool) (from a b c d : ℕ) → from < 6
     → IsBitboard c (contains (seen occupied (ray_from (pos 1) (negsuc 0) from))) → IsBitboard d (contains (seen occupied (ray_from (negsuc 0) (negsuc 0) from)))
     → IsBitboard (bit_or (bit_or (bit_or a b) c) d) (λ to. is_diagonal from to && is_open occupied from to)
 marks_diagonal occupied from a b c d low ne nw se sw =
-    marks_same _ _ _ (λ k h. or_four (contains (seen occupied (ray_from (pos 1) (pos 1) from)) k) (contains (seen occupied (ray_from (negsuc 0) (pos 1) from)) k) (contains (seen occupied (ray_from (pos 1) (negsuc 0) from)) k) (contains (seen occupied (ray_from (negsuc 0) (negsuc 0) from)) k) ∙ sees_diagonals occupied from k low h)
+    marks_same _ _ _ (λ k h. or_four (contains (seen occupied (ray_from (pos 1) (pos 1) from)) k)
+    (contains (seen occupied (ray_from (negsuc 0) (pos 1) from)) k) (contains (seen occupied (ray_from (pos 1) (negsuc 0) from)) k)
+    (contains (seen occupied (ray_from (negsuc 0) (negsuc 0) from)) k) ∙ sees_diagonals occupied from k low h)
     (marks_or _ _ _ _ (marks_or _ _ _ _ (marks_or _ _ _ _ ne nw) se) sw)
 
 -- the queen's lines

@@ -62,8 +62,13 @@ up files ranks mask by set table t below = (there, back)
         by_order (inl above) = let z = not_shifted_up (bit_and set mask) by t below above in absurd (omega arith)
         by_order (inr reached) =
             let both = in_both set mask (t - by) (sym (shifted_up (bit_and set mask) by t below reached) ∙ h) in
-            let e : t - by + by ≡ t = omega arith in
-            (t - by, omega arith, both.0, goal_is (stepped files ranks (t - by)) t (sym (entry (t - by) (omega arith)) ∙ (ap (λ b. b && has mask (t - by)) (eq-eqb (t - by + by) t e) ∙ eq-eqb (bit_at mask (t - by)) 1 both.1)))
+            let e : t - by + by ≡ t = omega arith in (
+              t - by,
+              omega arith,
+              both.0,
+              goal_is (stepped files ranks (t - by)) t
+                  (sym (entry (t - by) (omega arith)) ∙ (ap (λ b. b && has mask (t - by)) (eq-eqb (t - by + by) t e) ∙ eq-eqb (bit_at mask (t - by)) 1 both.1)),
+            )
 
     back : IsStepped files ranks set t → Has (bit_and set mask * 2 ^ by % 2 ^ 64) t
     back p =
@@ -80,8 +85,13 @@ down files ranks mask by set table small t below = (there, back)
 
     there : Has (bit_and set mask / 2 ^ by) t → IsStepped files ranks set t
     there h =
-        let both = in_both set mask (by + t) (sym (shifted_down (bit_and set mask) by t) ∙ h) in let low : by + t < 64 = set_below set (by + t) small both.0 in
-        (by + t, low, both.0, goal_is (stepped files ranks (by + t)) t (sym (entry (by + t) low) ∙ (ap (λ b. b && has mask (by + t)) (eq-eqb (by + t) (by + t) refl) ∙ eq-eqb (bit_at mask (by + t)) 1 both.1)))
+        let both = in_both set mask (by + t) (sym (shifted_down (bit_and set mask) by t) ∙ h) in let low : by + t < 64 = set_below set (by + t) small both.0 in (
+          by + t,
+          low,
+          both.0,
+          goal_is (stepped files ranks (by + t)) t
+              (sym (entry (by + t) low) ∙ (ap (λ b. b && has mask (by + t)) (eq-eqb (by + t) (by + t) refl) ∙ eq-eqb (bit_at mask (by + t)) 1 both.1)),
+        )
       where
         set_below : (n i : ℕ) → n < 2 ^ 64 → Has n i → i < 64
         set_below n i small h = by_order (cases_lt i 64)

@@ -88,7 +88,8 @@ module _ (files ranks : ℤ) (d : IsDirection files ranks) (empty edge moved : �
 pub slides_on : (files ranks : ℤ) (from empty reached edge moved turn : ℕ) → IsDirection files ranks → IsSetOf moved (IsStepped files ranks edge)
     → Sliding files ranks from empty reached edge turn → Sliding files ranks from empty (bit_or reached moved) (bit_and moved empty) (turn + 1)
 slides_on files ranks from empty reached edge moved turn d steps so_far = record {
-  all = λ t low slid. ⊎_elim (λ h. inl (from_first reached moved t h)) (λ on. ⊎_elim (λ h. inl (from_second reached moved t h)) (λ next. inr next) (split files ranks d empty edge moved steps t low on)) (so_far.all t low slid);
+  all = λ t low slid. ⊎_elim (λ h. inl (from_first reached moved t h))
+      (λ on. ⊎_elim (λ h. inl (from_second reached moved t h)) (λ next. inr next) (split files ranks d empty edge moved steps t low on)) (so_far.all t low slid);
   done = λ t low h. ⊎_elim (λ old. so_far.done t low old) (λ new. so_far.open_ t low (from_moved files ranks d empty edge moved steps t low new)) (in_either reached moved t h);
   open_ = λ t low slid. so_far.open_ t low (from_next files ranks d empty edge moved steps t low slid);
   short = λ s low h. shorter files ranks d empty edge moved steps s low (in_both moved empty s h).0 turn so_far.short;

@@ -83,7 +83,8 @@ words_back number named limit back w x y z h = record {
   ones = word_back number named limit back 0 w x y z w h.ones h.numbers (λ s. bit_zero (bit_at w s) (bit_at x s) (bit_at y s) (bit_at z s) (bit_at-lt w s));
   twos = word_back number named limit back 1 w x y z x h.twos h.numbers (λ s. bit_one (bit_at w s) (bit_at x s) (bit_at y s) (bit_at z s) (bit_at-lt w s) (bit_at-lt x s));
   fours = word_back number named limit back 2 w x y z y h.fours h.numbers (λ s. bit_two (bit_at w s) (bit_at x s) (bit_at y s) (bit_at z s) (bit_at-lt w s) (bit_at-lt x s) (bit_at-lt y s));
-  eights = word_back number named limit back 3 w x y z z h.eights h.numbers (λ s. bit_three (bit_at w s) (bit_at x s) (bit_at y s) (bit_at z s) (bit_at-lt w s) (bit_at-lt x s) (bit_at-lt y s) (bit_at-lt z s));
+  eights = word_back number named limit back 3 w x y z z h.eights h.numbers
+      (λ s. bit_three (bit_at w s) (bit_at x s) (bit_at y s) (bit_at z s) (bit_at-lt w s) (bit_at-lt x s) (bit_at-lt y s) (bit_at-lt z s));
 }
 
 number_is : (a b c d n i j k l : ℕ) → bit_at a n ≡ i → bit_at b n ≡ j → bit_at c n ≡ k → bit_at d n ≡ l → number_at a b c d n ≡ i + 2 * j + 4 * k + 8 * l

@@ -27,7 +27,10 @@ pub fn slanted_lines(from: Square) -> u64
 
 /// Expands to the squares that are seen from a square in four directions, each listed by its files and its ranks.
 macro_rules! seen_along {
-    ($from:expr, $empty:expr; ($f1:literal, $r1:literal), ($f2:literal, $r2:literal), ($f3:literal, $r3:literal), ($f4:literal, $r4:literal)) => {
+    (
+        $from:expr, $empty:expr;
+        ($f1:literal, $r1:literal), ($f2:literal, $r2:literal), ($f3:literal, $r3:literal), ($f4:literal, $r4:literal)
+    ) => {
         seen::<$f1, $r1>($from, $empty)
             | seen::<$f2, $r2>($from, $empty)
             | seen::<$f3, $r3>($from, $empty)

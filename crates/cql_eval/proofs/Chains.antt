@@ -40,7 +40,8 @@ and_same false t x h e f = ap (λ b. b && h) e
 
 -- one part more, whose column is asked for at what is left
 pub left_more : (tree : SearchedTree) (live : List Bool) (test next : ℕ → Bool) (left given again later : List Bool) (c : FilterColumn) (v : ℕ → Value) (want : Bool)
-    → LeftOf tree live test left → given ≡ left → again ≡ left → IsColumn c given v → IsNarrowed again c want later → ((n : ℕ) → next n ≡ (test n && is_so want (holds (v n)))) → LeftOf tree live next later
+    → LeftOf tree live test left → given ≡ left → again ≡ left → IsColumn c given v → IsNarrowed again c want later
+    → ((n : ℕ) → next n ≡ (test n && is_so want (holds (v n)))) → LeftOf tree live next later
 left_more tree live test next left given again later c v want had is is_too column_given narrowed_again more = record {
   asked = narrowed_asked tree left later c want had.asked narrowed;
   within = λ n e. had.within n (both_left (is_live left n) (is_so want (holds (shown c n))) (sym (narrowed.each n) ∙ e));
@@ -87,8 +88,10 @@ pub all_more : (tree : SearchedTree) (g : Context) (e : Names) (n : ℕ) (xs : L
 all_more tree g e n xs i f below is = ap (list_all holds) (values_take tree g e n xs i f below is) ∙ all_snoc holds (values tree g e (filter_trees (take i xs)) n) (value tree g e (filter_tree f) n)
 
 pub none_more : (tree : SearchedTree) (g : Context) (e : Names) (n : ℕ) (xs : List Filter) (i : ℕ) (f : Filter) → i < length xs → f ≡ get_or xs i f
-    → not (list_any holds (values tree g e (filter_trees (take (i + 1) xs)) n)) ≡ (not (list_any holds (values tree g e (filter_trees (take i xs)) n)) && is_so false (holds (value tree g e (filter_tree f) n)))
-none_more tree g e n xs i f below is = ap (λ vs. not (list_any holds vs)) (values_take tree g e n xs i f below is) ∙ none_snoc holds (values tree g e (filter_trees (take i xs)) n) (value tree g e (filter_tree f) n)
+    → not (list_any holds (values tree g e (filter_trees (take (i + 1) xs)) n))
+    ≡ (not (list_any holds (values tree g e (filter_trees (take i xs)) n)) && is_so false (holds (value tree g e (filter_tree f) n)))
+none_more tree g e n xs i f below is = ap (λ vs. not (list_any holds vs)) (values_take tree g e n xs i f below is)
+    ∙ none_snoc holds (values tree g e (filter_trees (take i xs)) n) (value tree g e (filter_tree f) n)
 
 pub take_whole : {A : Type 0} (xs : List A) (i : ℕ) → length xs ≤ i → take i xs ≡ xs
 take_whole [] zero h = refl
@@ -112,7 +115,8 @@ pub left_all : (tree : SearchedTree) (live : List Bool) (of : FilterTrees → �
 left_all tree live of left xs i fs end is had n l = ap as_truth (had.each n l ∙ ap (λ ys. of (filter_trees ys) n) (take_whole xs i end) ∙ ap (λ gs. of gs n) is)
 
 -- if, where each part is asked for where it counts
-pub if_open : (live held failed given again : List Bool) (a b c : FilterColumn) (u v w : ℕ → Value) → given ≡ held → again ≡ failed → IsColumn a live u → IsNarrowed live a true held → IsNarrowed live a false failed
+pub if_open : (live held failed given again : List Bool) (a b c : FilterColumn) (u v w : ℕ → Value) → given ≡ held → again ≡ failed
+    → IsColumn a live u → IsNarrowed live a true held → IsNarrowed live a false failed
     → IsColumn b given v → IsColumn c again w → (n : ℕ) → is_live live n ≡ true → if_of (shown a n) (shown b n) (shown c n) ≡ if_of (u n) (v n) (w n)
 if_open live held failed given again a b c u v w is is_too first held_is failed_is second third n l =
     by (holds (shown a n)) (holds (u n)) (ap holds (first n l))
@@ -193,7 +197,8 @@ square_end tree live every x asked k left bs end whole had is n l =
     turned true = refl
     turned false = refl
 
-pub turn_all : (tree : SearchedTree) (every : Bool) (x : ℕ → Value) (v : ℕ → Value) (s : ℕ) (left there g1 g3 g4 g5 later : List Bool) (c : FilterColumn) → g1 ≡ left → g3 ≡ there → g4 ≡ left → g5 ≡ there
+pub turn_all : (tree : SearchedTree) (every : Bool) (x : ℕ → Value) (v : ℕ → Value) (s : ℕ) (left there g1 g3 g4 g5 later : List Bool)
+    (c : FilterColumn) → g1 ≡ left → g3 ≡ there → g4 ≡ left → g5 ≡ there
     → AreHaving x s g1 there → IsColumn c g3 v → AreLeft every (λ n. holds (shown c n)) g4 g5 later → AreUnsettled every x (λ n. holds (v n)) s left later
 turn_all tree every x v s left there g1 g3 g4 g5 later c e1 e3 e4 e5 having column is =
     turn_law tree every x v s left there there later c (subst (λ l. AreHaving x s l there) e1 having) (subst (λ l. IsColumn c l v) e3 column)
@@ -212,6 +217,7 @@ pub square_form : (tree : SearchedTree) (e : Names) (f a b : FilterTree) (at : �
 unfolding value
 square_form tree e f a b at every text is n = sym (ap (λ x. value tree [] e x n) is)
 
-pub if_form : (tree : SearchedTree) (e : Names) (f a b c : FilterTree) (at : ℕ) → f ≡ filter_at at (if_ a b c) → (n : ℕ) → if_of (value tree [] e a n) (value tree [] e b n) (value tree [] e c n) ≡ value tree [] e f n
+pub if_form : (tree : SearchedTree) (e : Names) (f a b c : FilterTree) (at : ℕ) → f ≡ filter_at at (if_ a b c) → (n : ℕ)
+    → if_of (value tree [] e a n) (value tree [] e b n) (value tree [] e c n) ≡ value tree [] e f n
 unfolding value
 if_form tree e f a b c at is n = sym (ap (λ x. value tree [] e x n) is)

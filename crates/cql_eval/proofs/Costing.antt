@@ -17,7 +17,8 @@ module _ {A : Type 0} (all : List A → ℕ) (one : A → ℕ) (step : (x : A) (
   next : (xs : List A) (i : ℕ) (x : A) → i < length xs → x ≡ get_or xs i x → all (drop i xs) ≡ one x + all (drop (i + 1) xs)
   next xs i x h is = ap all (drop_more xs i x h) ∙ step (get_or xs i x) (drop (suc i) xs) ∙ ap₂ (λ y j. one y + all (drop j xs)) (sym is) (sym (add-one i))
 
-  pub more : (xs : List A) (i : ℕ) (x : A) (before now later : ℕ) → i < length xs → x ≡ get_or xs i x → now + all (drop i xs) ≤ before + all xs → later ≤ now + one x → later + all (drop (i + 1) xs) ≤ before + all xs
+  pub more : (xs : List A) (i : ℕ) (x : A) (before now later : ℕ) → i < length xs → x ≡ get_or xs i x → now + all (drop i xs) ≤ before + all xs
+      → later ≤ now + one x → later + all (drop (i + 1) xs) ≤ before + all xs
   more xs i x before now later h is had new = omega (arith, next xs i x h is, had, new)
 
   pub within : (xs : List A) (i : ℕ) (x : A) (before now later : ℕ) → i < length xs → x ≡ get_or xs i x → now + all (drop i xs) ≤ before + all xs → later ≤ now + one x → later ≤ before + all xs

@@ -84,7 +84,8 @@ told_live live test k items end had n = ⊎_elim (had.each n)
     (λ far. past items n (omega (arith, far, had.count)) ∙ sym (ap (λ b. b && test n) (past live n (omega (arith, far, end)))))
     (split_at n k)
 
-pub part_asked : (tree : SearchedTree) (live left : List Bool) (test : ℕ → Bool) → AreAsked tree live → length left ≡ length live → ((n : ℕ) → get_or left n false ≡ (get_or live n false && test n)) → AreAsked tree left
+pub part_asked : (tree : SearchedTree) (live left : List Bool) (test : ℕ → Bool) → AreAsked tree live → length left ≡ length live
+    → ((n : ℕ) → get_or left n false ≡ (get_or live n false && test n)) → AreAsked tree left
 part_asked tree live left test asked count each = record {
   count = count ∙ asked.count;
   searched = λ n e. asked.searched n (both_left (get_or live n false) (test n) (sym (each n) ∙ e));

@@ -30,9 +30,11 @@ any_below tree h n = any_filtered h (is_below tree.game.nodes n) (searched tree.
 abbrev holds_below : SearchedTree → (ℕ → Value) → ℕ → ℕ → Bool
 holds_below tree v n m = is_searched tree.variations tree.game.nodes m && (is_below tree.game.nodes n m && holds (v m))
 
-pub find_is : (tree : SearchedTree) (live wide asked again start found : List Bool) (c : FilterColumn) (v : ℕ → Value) → IsBelowLive tree live wide → asked ≡ wide → again ≡ wide → IsColumn c asked v → IsNarrowed again c true start
+pub find_is : (tree : SearchedTree) (live wide asked again start found : List Bool) (c : FilterColumn) (v : ℕ → Value) → IsBelowLive tree live wide
+    → asked ≡ wide → again ≡ wide → IsColumn c asked v → IsNarrowed again c true start
     → AreRaised tree.game.nodes start found → (n : ℕ) → is_live live n ≡ true → as_truth (get_or found n false) ≡ some_node v (below_in tree n)
-find_is tree live wide asked again start found c v covers is is_too column_asked narrowed_again raised n l = ap as_truth (same_truth (get_or found n false) (list_any (λ m. holds (v m)) (below_in tree n)) to from)
+find_is tree live wide asked again start found c v covers is is_too column_asked narrowed_again raised n l = ap as_truth
+    (same_truth (get_or found n false) (list_any (λ m. holds (v m)) (below_in tree n)) to from)
   where
     column : IsColumn c wide v
     column = subst (λ w. IsColumn c w v) is column_asked

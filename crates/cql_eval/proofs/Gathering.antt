@@ -22,7 +22,8 @@ unfolding value
 columns_begun tree e live [] columns is = λ n l. ap (λ cs. all_shown cs n) is
 columns_begun tree e live (x ∷ xs) columns is = λ n l. ap (λ cs. all_shown cs n) is
 
-pub columns_more : (tree : SearchedTree) (e : Names) (live : List Bool) (xs : List Filter) (i : ℕ) (f : Filter) (before later : List FilterColumn) (c : FilterColumn) → i < length xs → f ≡ get_or xs i f
+pub columns_more : (tree : SearchedTree) (e : Names) (live : List Bool) (xs : List Filter) (i : ℕ) (f : Filter) (before later : List FilterColumn)
+    (c : FilterColumn) → i < length xs → f ≡ get_or xs i f
     → Where live (λ n. all_shown before n ≡ values tree [] e (filter_trees (take i xs)) n) → IsColumn c live (value tree [] e (filter_tree f)) → later ≡ before ++ c ∷ []
     → Where live (λ n. all_shown later n ≡ values tree [] e (filter_trees (take (i + 1) xs)) n)
 columns_more tree e live xs i f before later c below is had new more = λ n l.
@@ -38,7 +39,8 @@ unfolding value
 terms_begun tree e live [] columns is = λ n l. ap (λ cs. terms_shown cs n) is
 terms_begun tree e live (x ∷ xs) columns is = λ n l. ap (λ cs. terms_shown cs n) is
 
-pub terms_more : (tree : SearchedTree) (e : Names) (live : List Bool) (xs : List Term) (i : ℕ) (t : Term) (before later : List (Bool × FilterColumn)) (c : FilterColumn) → i < length xs → t ≡ get_or xs i t
+pub terms_more : (tree : SearchedTree) (e : Names) (live : List Bool) (xs : List Term) (i : ℕ) (t : Term) (before later : List (Bool × FilterColumn))
+    (c : FilterColumn) → i < length xs → t ≡ get_or xs i t
     → Where live (λ n. terms_shown before n ≡ term_values tree [] e (term_trees (take i xs)) n) → IsColumn c live (value tree [] e (filter_tree t.filter)) → later ≡ before ++ (t.minus, c) ∷ []
     → Where live (λ n. terms_shown later n ≡ term_values tree [] e (term_trees (take (i + 1) xs)) n)
 terms_more tree e live xs i t before later c below is had new more = λ n l.
@@ -57,7 +59,8 @@ take_next xs i x h is = take_more xs i x h ∙ ap (λ y. take i xs ++ y ∷ []) 
 pub kept_more : (columns : List FilterColumn) (n i : ℕ) (c : FilterColumn) (before later : List Kept) → i < length columns → c ≡ get_or columns i c
     → map meant before ≡ all_shown (take i columns) n → later ≡ before ++ kept_at c n ∷ [] → map meant later ≡ all_shown (take (i + 1) columns) n
 kept_more columns n i c before later below is had more =
-    ap (map meant) more ∙ map_snoc meant before (kept_at c n) ∙ ap (λ vs. vs ++ shown c n ∷ []) had ∙ sym (ap (λ cs. all_shown cs n) (take_next columns i c below is) ∙ map_snoc (λ x. shown x n) (take i columns) c)
+    ap (map meant) more ∙ map_snoc meant before (kept_at c n) ∙ ap (λ vs. vs ++ shown c n ∷ []) had
+    ∙ sym (ap (λ cs. all_shown cs n) (take_next columns i c below is) ∙ map_snoc (λ x. shown x n) (take i columns) c)
 
 pub terms_kept_more : (columns : List (Bool × FilterColumn)) (n i : ℕ) (t : Bool × FilterColumn) (before later : List (Bool × Kept)) → i < length columns → t ≡ get_or columns i t
     → terms_meant before ≡ terms_shown (take i columns) n → later ≡ before ++ (t.0, kept_at t.1 n) ∷ [] → terms_meant later ≡ terms_shown (take (i + 1) columns) n

@@ -30,7 +30,8 @@ one_less : (p : ℕ → Bool) (k m : ℕ) (b : Bool) → b ≡ p k → length (f
 one_less p k m true is = ap (λ b. length (cond b (k ∷ filter p (range_with_len (k + 1) m)) (filter p (range_with_len (k + 1) m)))) (sym is) ∙ (omega arith)
 one_less p k m false is = ap (λ b. length (cond b (k ∷ filter p (range_with_len (k + 1) m)) (filter p (range_with_len (k + 1) m)))) (sym is) ∙ (omega arith)
 
-pub steps_next : (p : ℕ → Bool) (k count total now later : ℕ) (there : Bool) → k < count → there ≡ p k → later ≡ now + (if there then 1 else 0) → now + left_of p k count ≡ total → later + left_of p (k + 1) count ≡ total
+pub steps_next : (p : ℕ → Bool) (k count total now later : ℕ) (there : Bool) → k < count → there ≡ p k → later ≡ now + (if there then 1 else 0)
+    → now + left_of p k count ≡ total → later + left_of p (k + 1) count ≡ total
 steps_next p k count total now later there h is more had =
     let e : count - k ≡ suc (count - (k + 1)) = omega (arith, h) in
     let split : left_of p k count ≡ (if there then 1 else 0) + left_of p (k + 1) count = ap (λ m. length (filter p (range_with_len k m))) e ∙ one_less p k (count - (k + 1)) there is in
@@ -95,7 +96,8 @@ pub hits_are : (tree : SearchedTree) (all left : List Bool) (xs : List Filter) (
 hits_are tree all left xs i fs is end same had = same_lists left (hit_column tree fs)
     (had.asked.count ∙ sym (length-map-range_with_len (λ n. is_searched tree.variations tree.game.nodes n && is_hit tree fs n) 0 (length tree.game.nodes)))
     (λ n d h. let low : n < length tree.game.nodes = omega (arith, h, had.asked.count) in
-    any_default left n d false h ∙ had.each n ∙ ap₂ (λ a b. a && b) (all_at tree all is n low) (ap (λ ys. list_all holds (values tree [] [] (filter_trees ys) n)) (take_whole xs i end) ∙ ap (λ gs. is_hit tree gs n) same)
+    any_default left n d false h ∙ had.each n ∙ ap₂ (λ a b. a && b) (all_at tree all is n low)
+    (ap (λ ys. list_all holds (values tree [] [] (filter_trees ys) n)) (take_whole xs i end) ∙ ap (λ gs. is_hit tree gs n) same)
     ∙ sym (get_or-map-range_with_len (λ m. is_searched tree.variations tree.game.nodes m && is_hit tree fs m) 0 (length tree.game.nodes) n n d low (omega arith)))
 
 -- the sort items so far
@@ -120,7 +122,8 @@ sorts_snoc no_filters f = append_nil (item_numbers f)
     append_nil (x ∷ l) = ap (λ k. x ∷ k) (append_nil l)
 sorts_snoc (more_filters x fs) f = ap (λ l. item_numbers x ++ l) (sorts_snoc fs f) ∙ sym (append_assoc (item_numbers x) (sort_numbers fs) (item_numbers f))
 
-sorts_more : (xs : List Filter) (i : ℕ) (f : Filter) → i < length xs → f ≡ get_or xs i f → sort_numbers (filter_trees (take (i + 1) xs)) ≡ sort_numbers (filter_trees (take i xs)) ++ item_numbers (filter_tree f)
+sorts_more : (xs : List Filter) (i : ℕ) (f : Filter) → i < length xs → f ≡ get_or xs i f
+    → sort_numbers (filter_trees (take (i + 1) xs)) ≡ sort_numbers (filter_trees (take i xs)) ++ item_numbers (filter_tree f)
 sorts_more xs i f below is = ap sort_numbers (filter_trees_more xs i f below is) ∙ sorts_snoc (filter_trees (take i xs)) (filter_tree f)
 
 sorts_begun : (xs : List Filter) → sort_numbers (filter_trees (take 0 xs)) ≡ []
@@ -142,7 +145,8 @@ pub made_all : {A : Type 0} (make : FilterTree → A) (made : List A) (xs : List
 made_all make made xs i fs end same had = had ∙ ap (λ ys. map make (sort_numbers (filter_trees ys))) (take_whole xs i end) ∙ ap (λ gs. map make (sort_numbers gs)) same
 
 -- at all searched nodes a row is the sort item's column
-pub rows_same : (tree : SearchedTree) (all given : List Bool) → all ≡ map (is_searched tree.variations tree.game.nodes) (numbers tree.game.nodes) → given ≡ all → (fs : List FilterTree) → map (key_row_of tree given) fs ≡ map (key_column tree) fs
+pub rows_same : (tree : SearchedTree) (all given : List Bool) → all ≡ map (is_searched tree.variations tree.game.nodes) (numbers tree.game.nodes)
+    → given ≡ all → (fs : List FilterTree) → map (key_row_of tree given) fs ≡ map (key_column tree) fs
 rows_same tree all given is same fs = ap (λ h. map h fs) (fun_ext (λ f.
     map_range (λ n. if is_live given n then number_at tree n f else None) (λ n. if is_searched tree.variations tree.game.nodes n then number_at tree n f else None) 0 (length tree.game.nodes)
     (λ n h. ap (λ b. if b then number_at tree n f else None) (ap (λ l. is_live l n) same ∙ all_at tree all is n (omega (arith, h))))))
@@ -166,12 +170,15 @@ rows_begun tree xs left rows none = record {
   entries = λ n l. made_begun (number_at tree n) (map (λ row. get_or row n None) rows) xs (ap (map (λ row. get_or row n None)) none);
 }
 
-pub rows_more : (tree : SearchedTree) (xs : List Filter) (i : ℕ) (f : Filter) (left given later : List Bool) (rows new : List (List (Option ℤ))) → i < length xs → f ≡ get_or xs i f → given ≡ left → AreAsked tree left
+pub rows_more : (tree : SearchedTree) (xs : List Filter) (i : ℕ) (f : Filter) (left given later : List Bool) (rows new : List (List (Option ℤ)))
+    → i < length xs → f ≡ get_or xs i f → given ≡ left → AreAsked tree left
     → ((n : ℕ) → is_live later n ≡ true → is_live left n ≡ true) → new ≡ rows ++ map (key_row_of tree given) (item_numbers (filter_tree f))
     → RowsSoFar tree xs i left rows → RowsSoFar tree xs (i + 1) later new
 rows_more tree xs i f left given later rows new below is same asked within more had = record {
   lengths = made_more (λ g. length tree.game.nodes) (map length rows) (map length new) xs i f below is
-      (ap (map length) more ∙ map_append length rows (map (key_row_of tree given) (item_numbers (filter_tree f))) ∙ ap (λ l. map length rows ++ l) (map_map length (key_row_of tree given) (item_numbers (filter_tree f)) ∙ ap (λ h. map h (item_numbers (filter_tree f))) (fun_ext (λ g. row_length tree given g)))) had.lengths;
+      (ap (map length) more ∙ map_append length rows (map (key_row_of tree given) (item_numbers (filter_tree f)))
+      ∙ ap (λ l. map length rows ++ l) (map_map length (key_row_of tree given) (item_numbers (filter_tree f))
+      ∙ ap (λ h. map h (item_numbers (filter_tree f))) (fun_ext (λ g. row_length tree given g)))) had.lengths;
   entries = λ n l.
       let live = within n l in
       let low : n < length tree.game.nodes = (let b = live_below left n live in omega (arith, b, asked.count)) in
@@ -182,7 +189,8 @@ rows_more tree xs i f left given later rows new below is same asked within more 
       ∙ ap (λ h. map h (item_numbers (filter_tree f))) (fun_ext (λ g. row_entry tree given g n low (ap (λ x. is_live x n) same ∙ live))))) (had.entries n live);
 }
 
-pub rows_all : (tree : SearchedTree) (xs : List Filter) (i : ℕ) (fs : FilterTrees) (left : List Bool) (rows : List (List (Option ℤ))) → length xs ≤ i → filter_trees xs ≡ fs → RowsSoFar tree xs i left rows → AreKeysAtHits tree fs left rows
+pub rows_all : (tree : SearchedTree) (xs : List Filter) (i : ℕ) (fs : FilterTrees) (left : List Bool) (rows : List (List (Option ℤ))) → length xs ≤ i
+    → filter_trees xs ≡ fs → RowsSoFar tree xs i left rows → AreKeysAtHits tree fs left rows
 rows_all tree xs i fs left rows end same had = record {
   rows = made_all (λ f. length tree.game.nodes) (map length rows) xs i fs end same had.lengths;
   numbers = λ n l. made_all (number_at tree n) (map (λ row. get_or row n None) rows) xs i fs end same (had.entries n l);
@@ -215,7 +223,8 @@ sort_each tree asked left later c f part at least text is within column numbered
     by true x y e = ap (λ z. is_some (amount z)) (e refl)
     by false x y e = refl
 
-pub sort_keys : {A : Type 0} (f : A → List (Option ℤ)) (tree : SearchedTree) (asked : List Bool) (old new : List A) (row : A) (item part : FilterTree) (at : ℕ) (least : Bool) (text : List ℕ) → item ≡ filter_at at (sort least text part)
+pub sort_keys : {A : Type 0} (f : A → List (Option ℤ)) (tree : SearchedTree) (asked : List Bool) (old new : List A) (row : A)
+    (item part : FilterTree) (at : ℕ) (least : Bool) (text : List ℕ) → item ≡ filter_at at (sort least text part)
     → new ≡ old ++ row ∷ [] → f row ≡ key_row_of tree asked part → map f new ≡ map f old ++ map (key_row_of tree asked) (item_numbers item)
 sort_keys f tree asked old new row item part at least text is more is_row =
     ap (map f) more ∙ map_append f old (row ∷ []) ∙ ap (λ r. map f old ++ r ∷ []) is_row ∙ ap (λ g. map f old ++ map (key_row_of tree asked) (item_numbers g)) (sym is)

@@ -1,11 +1,12 @@
 -- Nodes that are taken out of a set one by one.
 use Rattle.std.proofs.Common.{◌≡◌, ℕ, ◌+◌, ◌<◌, ◌≤◌, Bool, true, false, ◌&&◌, List, ◌++◌, length, take, drop, get_or, refl, sym, ap, ◌∙◌, subst, arith, ⊎_elim}
-use Rattle.std.specs.Prelude.{slice_set, is_some}
+use Rattle.std.specs.Prelude.{slice_set, is_some, not, if◌then◌else◌}
 use Rattle.std.proofs.Math.Seq.{take-append_seam}
 use Rattle.std.proofs.lemmas.List.{get_or-set_same, get_or-set_other, length-set}
 use Rattle.cql_eval.specs.Columns.{is_live, shown, AreKept, IsNumbered}
 use Rattle.cql_eval.specs.declared.filter_column.FilterColumn.{FilterColumn}
-use Rattle.cql_syntax.specs.Values.{amount}
+use Rattle.cql_syntax.specs.Values.{Value, amount, has}
+use Rattle.cql_eval.specs.Asked.{AreHaving, AreLeft}
 use Rattle.cql_eval.proofs.Filling.{split_last, split_at, past, any_default}
 
 -- the first k nodes are tried
@@ -46,6 +47,15 @@ kept_all test live left k end had = record {
 pub numbered_by_kept : (live left : List Bool) (c : FilterColumn) (k : ℕ) → length left ≤ k → KeptTo (λ n. is_some (amount (shown c n))) live k left → IsNumbered live c left
 numbered_by_kept live left c k end had =
     let kept = kept_all (λ n. is_some (amount (shown c n))) live left k end had in
+    record { count = kept.count; each = kept.each }
+
+pub having_by_kept : (x : ℕ → Value) (s : ℕ) (left there : List Bool) → AreKept (λ n. has (x n) s) left there → AreHaving x s left there
+having_by_kept x s left there kept = record { count = kept.count; each = kept.each }
+
+pub left_by_kept : (every : Bool) (asked : ℕ → Bool) (left there later : List Bool) (k : ℕ) → length later ≤ k
+    → KeptTo (λ n. not (get_or there n false && (if every then not (asked n) else asked n))) left k later → AreLeft every asked left there later
+left_by_kept every asked left there later k end had =
+    let kept = kept_all (λ n. not (get_or there n false && (if every then not (asked n) else asked n))) left later k end had in
     record { count = kept.count; each = kept.each }
 
 -- a list that is changed in place, and is as long as it was

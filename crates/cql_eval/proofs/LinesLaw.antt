@@ -192,7 +192,11 @@ pub record PatternSoFar (first : ℕ) (xs : List Constituent) (i next : ℕ) (ps
   pub count : next + parts_atoms (part_trees (drop i xs)) ≡ first + parts_atoms (part_trees xs)
 
 pub pattern_begun : (first : ℕ) (xs : List Constituent) (ps : List Given) → ps ≡ [] → PatternSoFar first xs 0 first ps
-pattern_begun first xs ps is = record { whole = ap (followed_by (parts_numbered first (part_trees (drop 0 xs)))) is ∙ ap (λ ys. parts_numbered first (part_trees ys)) (drop_none xs); count = ap (λ ys. first + parts_atoms (part_trees ys)) (drop_none xs) }
+pattern_begun first xs ps is = record {
+  whole = ap (followed_by (parts_numbered first (part_trees (drop 0 xs)))) is
+      ∙ ap (λ ys. parts_numbered first (part_trees ys)) (drop_none xs);
+  count = ap (λ ys. first + parts_atoms (part_trees ys)) (drop_none xs);
+}
   where
     drop_none : (ys : List Constituent) → drop 0 ys ≡ ys
     drop_none [] = refl
@@ -209,14 +213,17 @@ pattern_more first xs i c next later ps more p q below is body mark on new had =
 }
 
 -- the next part's atoms are of the first 64
-pub next_few : (first most : ℕ) (xs : List Constituent) (i : ℕ) (c : Constituent) (next : ℕ) (ps : List Given) (cs : PartTrees) → PatternSoFar first xs i next ps → i < length xs → c ≡ get_or xs i c → part_trees xs ≡ cs
+pub next_few : (first most : ℕ) (xs : List Constituent) (i : ℕ) (c : Constituent) (next : ℕ) (ps : List Given) (cs : PartTrees)
+    → PatternSoFar first xs i next ps → i < length xs → c ≡ get_or xs i c → part_trees xs ≡ cs
     → first + parts_atoms cs ≤ most → next + body_atoms (body_tree c.body) ≤ most
 next_few first most xs i c next ps cs had below is same few = let l = atoms_left xs i c below is in let s = ap parts_atoms same in omega (arith, l, s, had.count, few)
 
-pub pattern_all : (first : ℕ) (xs : List Constituent) (i next : ℕ) (ps : List Given) (cs : PartTrees) → length xs ≤ i → part_trees xs ≡ cs → PatternSoFar first xs i next ps → pattern_trees ps ≡ parts_numbered first cs
+pub pattern_all : (first : ℕ) (xs : List Constituent) (i next : ℕ) (ps : List Given) (cs : PartTrees) → length xs ≤ i → part_trees xs ≡ cs
+    → PatternSoFar first xs i next ps → pattern_trees ps ≡ parts_numbered first cs
 pattern_all first xs i next ps cs end same had = sym (followed_none ps) ∙ ap (λ ds. followed_by (parts_numbered next ds) ps) (sym (drop_all xs i end)) ∙ had.whole ∙ ap (parts_numbered first) same
 
-pub next_all : (first : ℕ) (xs : List Constituent) (i next : ℕ) (ps : List Given) (cs : PartTrees) → length xs ≤ i → part_trees xs ≡ cs → PatternSoFar first xs i next ps → next ≡ first + parts_atoms cs
+pub next_all : (first : ℕ) (xs : List Constituent) (i next : ℕ) (ps : List Given) (cs : PartTrees) → length xs ≤ i → part_trees xs ≡ cs
+    → PatternSoFar first xs i next ps → next ≡ first + parts_atoms cs
 next_all first xs i next ps cs end same had = let e = atoms_end xs i end in let s = ap parts_atoms same in omega (arith, e, s, had.count)
 
 -- the atoms of a table
@@ -243,7 +250,8 @@ tells_next tree e first at whole body mark rest old new tabled filled had test s
     had test (λ a n h. same a n (omega (arith, h)) ∙ filled.before a n h)
     (tabled_marked test (IsAsked tree) mark (body_numbered at body) (body_pattern tree [] e body) (tabled test same), last)
 
-tells_end : (tree : SearchedTree) (e : Names) (first at : ℕ) (whole : PartTrees) (table : AtomTable) → TellsAll tree e first whole at no_parts table → AreTabled tree table at (parts_numbered first whole) (pattern tree [] e whole)
+tells_end : (tree : SearchedTree) (e : Names) (first at : ℕ) (whole : PartTrees) (table : AtomTable) → TellsAll tree e first whole at no_parts table
+    → AreTabled tree table at (parts_numbered first whole) (pattern tree [] e whole)
 unfolding pattern
 tells_end tree e first at whole table had test same = had test same tt
 
@@ -254,8 +262,19 @@ pub record TableSoFar (tree : SearchedTree) (e : Names) (first : ℕ) (xs : List
   pub beyond : first ≤ at
 
 pub table_begun : (tree : SearchedTree) (e : Names) (first : ℕ) (xs : List Constituent) (table : AtomTable) → TableSoFar tree e first xs 0 first table table
-table_begun tree e first [] table = record { tells = λ test same last. last; filled = record { atoms = refl; nodes = refl; before = λ a n h. refl; after = λ a n h. refl }; count = refl; beyond = omega arith }
-table_begun tree e first (x ∷ xs) table = record { tells = λ test same last. last; filled = record { atoms = refl; nodes = refl; before = λ a n h. refl; after = λ a n h. refl }; count = refl; beyond = omega arith }
+table_begun tree e first [] table = record {
+  tells = λ test same last. last;
+  filled = record {
+    atoms = refl;
+    nodes = refl;
+    before = λ a n h. refl;
+    after = λ a n h. refl;
+  };
+  count = refl;
+  beyond = omega arith;
+}
+table_begun tree e first
+    (x ∷ xs) table = record { tells = λ test same last. last; filled = record { atoms = refl; nodes = refl; before = λ a n h. refl; after = λ a n h. refl }; count = refl; beyond = omega arith }
 
 pub table_more : (tree : SearchedTree) (e : Names) (first : ℕ) (xs : List Constituent) (i : ℕ) (c : Constituent) (at later : ℕ) (old table new : AtomTable) → i < length xs → c ≡ get_or xs i c
     → later ≡ at + body_atoms (body_tree c.body) → AreTabled tree new (at + body_atoms (body_tree c.body)) (body_numbered at (body_tree c.body)) (body_pattern tree [] e (body_tree c.body))
@@ -274,26 +293,30 @@ table_more tree e first xs i c at later old table new below is on tabled filled 
   beyond = omega (arith, had.beyond, on);
 }
 
-pub table_all : (tree : SearchedTree) (e : Names) (first : ℕ) (xs : List Constituent) (i at : ℕ) (old table : AtomTable) (cs : PartTrees) → length xs ≤ i → part_trees xs ≡ cs → TableSoFar tree e first xs i at old table
+pub table_all : (tree : SearchedTree) (e : Names) (first : ℕ) (xs : List Constituent) (i at : ℕ) (old table : AtomTable) (cs : PartTrees)
+    → length xs ≤ i → part_trees xs ≡ cs → TableSoFar tree e first xs i at old table
     → AreTabled tree table (first + parts_atoms cs) (parts_numbered first cs) (pattern tree [] e cs)
 table_all tree e first xs i at old table cs end same had =
     subst (λ ds. AreTabled tree table (first + parts_atoms ds) (parts_numbered first ds) (pattern tree [] e ds)) same
     (subst (λ k. AreTabled tree table k (parts_numbered first (part_trees xs)) (pattern tree [] e (part_trees xs))) (let l = atoms_end xs i end in omega (arith, l, had.count))
     (tells_end tree e first at (part_trees xs) table (subst (λ ds. TellsAll tree e first (part_trees xs) at ds table) (drop_all xs i end) had.tells)))
 
-pub filled_all : (tree : SearchedTree) (e : Names) (first : ℕ) (xs : List Constituent) (i at : ℕ) (old table : AtomTable) (cs : PartTrees) → length xs ≤ i → part_trees xs ≡ cs → TableSoFar tree e first xs i at old table
+pub filled_all : (tree : SearchedTree) (e : Names) (first : ℕ) (xs : List Constituent) (i at : ℕ) (old table : AtomTable) (cs : PartTrees)
+    → length xs ≤ i → part_trees xs ≡ cs → TableSoFar tree e first xs i at old table
     → IsFilledIn old table first (first + parts_atoms cs)
 filled_all tree e first xs i at old table cs end same had =
     subst (IsFilledIn old table first) (let l = atoms_end xs i end in let s = ap parts_atoms same in omega (arith, l, s, had.count)) had.filled
 
-pub at_all : (tree : SearchedTree) (e : Names) (first : ℕ) (xs : List Constituent) (i at : ℕ) (old table : AtomTable) (cs : PartTrees) → length xs ≤ i → part_trees xs ≡ cs → TableSoFar tree e first xs i at old table → at ≡ first + parts_atoms cs
+pub at_all : (tree : SearchedTree) (e : Names) (first : ℕ) (xs : List Constituent) (i at : ℕ) (old table : AtomTable) (cs : PartTrees)
+    → length xs ≤ i → part_trees xs ≡ cs → TableSoFar tree e first xs i at old table → at ≡ first + parts_atoms cs
 at_all tree e first xs i at old table cs end same had = let l = atoms_end xs i end in let s = ap parts_atoms same in omega (arith, l, s, had.count)
 
 pub still_clear : (old table : AtomTable) (first at : ℕ) → first ≤ at → AreClearFrom old first → IsFilledIn old table first at → AreClearFrom table at
 still_clear old table first at beyond clear filled a n h = filled.after a n h ∙ clear a n (omega (arith, h, beyond))
 
 -- the next part is flat, and has room too
-pub part_room : (tree : SearchedTree) (e : Names) (first : ℕ) (xs : List Constituent) (i : ℕ) (c : Constituent) (at count : ℕ) (old table : AtomTable) (cs : PartTrees) → TableSoFar tree e first xs i at old table
+pub part_room : (tree : SearchedTree) (e : Names) (first : ℕ) (xs : List Constituent) (i : ℕ) (c : Constituent) (at count : ℕ)
+    (old table : AtomTable) (cs : PartTrees) → TableSoFar tree e first xs i at old table
     → i < length xs → c ≡ get_or xs i c → part_trees xs ≡ cs → HasRoom count first (first + parts_atoms cs) old → HasRoom count at (at + body_atoms (body_tree c.body)) table
 part_room tree e first xs i c at count old table cs had below is same room =
     let l = atoms_left xs i c below is in let s = ap parts_atoms same in
@@ -322,7 +345,8 @@ or_none : (b c : Bool) → c ≡ false → (b || c) ≡ b
 or_none true c e = refl
 or_none false c e = e
 
-pub put_more : (test : ℕ → Bool) (which k : ℕ) (there : Bool) (old table new : AtomTable) → there ≡ test k → IsPut which k there table new → PutUpTo test which k old table → PutUpTo test which (k + 1) old new
+pub put_more : (test : ℕ → Bool) (which k : ℕ) (there : Bool) (old table new : AtomTable) → there ≡ test k → IsPut which k there table new
+    → PutUpTo test which k old table → PutUpTo test which (k + 1) old new
 put_more test which k there old table new is step had = record {
   put = λ n h. ⊎_elim
       (λ less. step.others which n (λ e. omega (arith, e.1, less)) ∙ had.put n less)
@@ -358,7 +382,8 @@ parent_in tree k spots (Some p) is_tree is here =
     let e = ap length is ∙ length-map-range_with_len (spot_at tree) 0 k in
     omega (arith, b.0, e)
 
-pub searched_in : (tree : SearchedTree) (k : ℕ) (spots : List Spot) (o : Option ℕ) (there : Bool) → IsTree tree.game.nodes → spots ≡ map (spot_at tree) (range_with_len 0 k) → o ≡ (node_at tree.game.nodes k).parent
+pub searched_in : (tree : SearchedTree) (k : ℕ) (spots : List Spot) (o : Option ℕ) (there : Bool) → IsTree tree.game.nodes
+    → spots ≡ map (spot_at tree) (range_with_len 0 k) → o ≡ (node_at tree.game.nodes k).parent
     → there ≡ is_searched tree.variations tree.game.nodes k → IfSome o (λ p. there ≡ true → shapes.is_searched spots p ≡ true)
 searched_in tree k spots None there is_tree is here s = tt
 searched_in tree k spots (Some p) there is_tree is here s = λ e.
@@ -414,26 +439,35 @@ answer_there : (b : Bool) (P : ℕ → Type 0) (o : Option ℕ) → b ≡ true �
 answer_there true P o e h = h
 answer_there false P o e h = cc
 
-greatest_is : (tree : SearchedTree) → IsTree tree.game.nodes → (back primary : Bool) (extent : Extent) (table : AtomTable) (p : Pattern ℕ) (r : Pattern (ℕ → Value)) → Tabled (holds_in table) (IsAsked tree) p r
+greatest_is : (tree : SearchedTree) → IsTree tree.game.nodes
+    → (back primary : Bool) (extent : Extent) (table : AtomTable) (p : Pattern ℕ) (r : Pattern (ℕ → Value)) → Tabled (holds_in table) (IsAsked tree) p r
     → (n : ℕ) → IsAsked tree n → (o : Option ℕ)
     → IsGreatest (λ len. Line (holds_in table) (Edge back primary (spots_in tree)) p n len × (values.allows (limits_in extent) len ≡ true)) o
     → as_number (option_map pos o) ≡ line_of tree back primary extent r n
-greatest_is tree is_tree true primary Any table p r tabled n asked o g = lines_are_theirs tree is_tree true primary (shapes.joined primary (spots_in tree)) (spots_join tree primary is_tree) Any (holds_in table) p r tabled n asked o g
-greatest_is tree is_tree false primary Any table p r tabled n asked o g = lines_are_theirs tree is_tree false primary (shapes.joined primary (spots_in tree)) (spots_join tree primary is_tree) Any (holds_in table) p r tabled n asked o g
-greatest_is tree is_tree true primary (Within least most) table p r tabled n asked o g = lines_are_theirs tree is_tree true primary (shapes.joined primary (spots_in tree)) (spots_join tree primary is_tree) (Within least most) (holds_in table) p r tabled n asked o g
-greatest_is tree is_tree false primary (Within least most) table p r tabled n asked o g = lines_are_theirs tree is_tree false primary (shapes.joined primary (spots_in tree)) (spots_join tree primary is_tree) (Within least most) (holds_in table) p r tabled n asked o g
+greatest_is tree is_tree true primary Any table p r tabled n asked o g = lines_are_theirs tree is_tree true primary
+    (shapes.joined primary (spots_in tree)) (spots_join tree primary is_tree) Any (holds_in table) p r tabled n asked o g
+greatest_is tree is_tree false primary Any table p r tabled n asked o g = lines_are_theirs tree is_tree false primary
+    (shapes.joined primary (spots_in tree)) (spots_join tree primary is_tree) Any (holds_in table) p r tabled n asked o g
+greatest_is tree is_tree true primary (Within least most) table p r tabled n asked o g = lines_are_theirs tree is_tree true primary
+    (shapes.joined primary (spots_in tree)) (spots_join tree primary is_tree) (Within least most) (holds_in table) p r tabled n asked o g
+greatest_is tree is_tree false primary (Within least most) table p r tabled n asked o g = lines_are_theirs tree is_tree false primary
+    (shapes.joined primary (spots_in tree)) (spots_join tree primary is_tree) (Within least most) (holds_in table) p r tabled n asked o g
 
 abbrev Wanted : AtomTable → Pattern ℕ → ℕ → Option ℕ → List Spot → Bool → Bool → Option Limits → Type 0
 Wanted table p n o xs x y z = IsGreatest (λ len. Line (holds_in table) (Edge x y xs) p n len × (values.allows z len ≡ true)) o
 
 -- the value at a searched node, by the parts of the shape that was made of the game
-pub line_value_is : (tree : SearchedTree) → IsTree tree.game.nodes → (back primary : Bool) (extent : Extent) (spots : List Spot) (b q : Bool) (l : Option Limits) → spots ≡ map (spot_at tree) (numbers tree.game.nodes) → b ≡ back → q ≡ primary → l ≡ limits_in extent
+pub line_value_is : (tree : SearchedTree) → IsTree tree.game.nodes
+    → (back primary : Bool) (extent : Extent) (spots : List Spot) (b q : Bool) (l : Option Limits)
+    → spots ≡ map (spot_at tree) (numbers tree.game.nodes) → b ≡ back → q ≡ primary → l ≡ limits_in extent
     → (table : AtomTable) (p : Pattern ℕ) (r : Pattern (ℕ → Value)) → Tabled (holds_in table) (IsAsked tree) p r → (n : ℕ) → IsAsked tree n → (o : Option ℕ)
     → AnswerAt (shapes.is_searched spots n) (λ len. Line (holds_in table) (Edge b q spots) p n len × (values.allows l len ≡ true)) o
     → as_number (option_map pos o) ≡ line_of tree back primary extent r n
 line_value_is tree is_tree back primary extent spots b q l are is_back is_primary is_limits table p r tabled n asked o answer =
     greatest_is tree is_tree back primary extent table p r tabled n asked o
-    (subst (λ x. Wanted table p n o (spots_in tree) back primary x) is_limits (subst (λ x. Wanted table p n o (spots_in tree) back x l) is_primary (subst (λ x. Wanted table p n o (spots_in tree) x q l) is_back (subst (λ x. Wanted table p n o x b q l) are
+    (subst (λ x. Wanted table p n o (spots_in tree) back primary x) is_limits
+    (subst (λ x. Wanted table p n o (spots_in tree) back x l) is_primary
+    (subst (λ x. Wanted table p n o (spots_in tree) x q l) is_back (subst (λ x. Wanted table p n o x b q l) are
     (answer_there (shapes.is_searched spots n) (λ len. Line (holds_in table) (Edge b q spots) p n len × (values.allows l len ≡ true)) o
     (ap (λ xs. shapes.is_searched xs n) are ∙ ap shapes.searched_by (spot_there tree (length tree.game.nodes) n asked.1) ∙ asked.0) answer)))))
 
@@ -482,12 +516,15 @@ line_costs nodes (Line' back primary extent cs) = refl
 pub atoms_within : (nodes : ℕ) (l : OneLine) (before now : ℕ) → now ≤ before + parts_cost nodes (parts_tree (out-Line l).parts) → now ≤ before + line_cost nodes (line_tree l)
 atoms_within nodes l before now h = omega (arith, line_costs nodes l, h)
 
-pub looks_in : (tree : SearchedTree) (l : OneLine) (before now later atoms : ℕ) (spots : List Spot) → spots ≡ map (spot_at tree) (numbers tree.game.nodes) → atoms ≡ parts_atoms (parts_tree (out-Line l).parts)
-    → now ≤ before + parts_cost (length tree.game.nodes) (parts_tree (out-Line l).parts) → later ≤ now + atoms * searched_count spots → later ≤ before + line_cost (length tree.game.nodes) (line_tree l)
+pub looks_in : (tree : SearchedTree) (l : OneLine) (before now later atoms : ℕ) (spots : List Spot)
+    → spots ≡ map (spot_at tree) (numbers tree.game.nodes) → atoms ≡ parts_atoms (parts_tree (out-Line l).parts)
+    → now ≤ before + parts_cost (length tree.game.nodes) (parts_tree (out-Line l).parts) → later ≤ now + atoms * searched_count spots
+    → later ≤ before + line_cost (length tree.game.nodes) (line_tree l)
 looks_in tree l before now later atoms spots is count h more =
     omega (arith, line_costs (length tree.game.nodes) l, h, more, looks_within tree atoms spots is, ap (λ a. a * length tree.game.nodes) count)
 
-pub numbers_are : (tree : SearchedTree) → IsTree tree.game.nodes → (e : Names) (l : OneLine) (spots : List Spot) (b q : Bool) (limits : Option Limits) → spots ≡ map (spot_at tree) (numbers tree.game.nodes)
+pub numbers_are : (tree : SearchedTree) → IsTree tree.game.nodes
+    → (e : Names) (l : OneLine) (spots : List Spot) (b q : Bool) (limits : Option Limits) → spots ≡ map (spot_at tree) (numbers tree.game.nodes)
     → b ≡ (out-Line l).back → q ≡ (out-Line l).primary → limits ≡ limits_in (out-Line l).extent → (table : AtomTable) (p : Pattern ℕ) → p ≡ parts_numbered 0 (parts_tree (out-Line l).parts)
     → AreTabled tree table (0 + parts_atoms (parts_tree (out-Line l).parts)) (parts_numbered 0 (parts_tree (out-Line l).parts)) (pattern tree [] e (parts_tree (out-Line l).parts))
     → (wide : List (Option ℤ)) (found : List (Option ℕ)) → wide ≡ map (option_map pos) found → (n : ℕ) → IsAsked tree n

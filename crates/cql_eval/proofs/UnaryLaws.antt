@@ -39,7 +39,8 @@ at_any p (x ∷ xs) e = by (p x) refl e (λ f. at_any p xs f)
     by false is f rest = let found = rest f in record { m = found.m; on = or_right (x == found.m) (list_any (λ y. y == found.m) xs) found.on; passes = found.passes }
 
 -- a node of the set is one that is asked for and at which it holds
-module _ (wide asked again start : List Bool) (c : FilterColumn) (v : ℕ → Value) (is : asked ≡ wide) (is_too : again ≡ wide) (column_asked : IsColumn c asked v) (narrowed_again : IsNarrowed again c true start) where
+module _ (wide asked again start : List Bool) (c : FilterColumn) (v : ℕ → Value) (is : asked ≡ wide) (is_too : again ≡ wide)
+    (column_asked : IsColumn c asked v) (narrowed_again : IsNarrowed again c true start) where
   column : IsColumn c wide v
   column = subst (λ w. IsColumn c w v) is column_asked
 
@@ -58,10 +59,12 @@ module _ (wide asked again start : List Bool) (c : FilterColumn) (v : ℕ → Va
   pub start_is : (m : ℕ) → is_live wide m ≡ true → get_or start m false ≡ holds (v m)
   start_is m l = narrowed.each m ∙ ap (λ b. b && is_so true (holds (shown c m))) l ∙ ap holds (column m l)
 
-pub find_up_is : (tree : SearchedTree) (live wide asked again given start found : List Bool) (c : FilterColumn) (v : ℕ → Value) → IsAboveLive tree live wide → asked ≡ wide → again ≡ wide → given ≡ start
+pub find_up_is : (tree : SearchedTree) (live wide asked again given start found : List Bool) (c : FilterColumn) (v : ℕ → Value)
+    → IsAboveLive tree live wide → asked ≡ wide → again ≡ wide → given ≡ start
     → IsColumn c asked v → IsNarrowed again c true start → AreLowered tree.game.nodes given found → (n : ℕ) → n < length tree.game.nodes → is_live live n ≡ true
     → as_truth (get_or found n false) ≡ some_node v (way_up tree.game.nodes n)
-find_up_is tree live wide asked again given start found c v covers is is_too is_start column narrowed lowered n low l = ap as_truth (same_truth (get_or found n false) (list_any (λ m. holds (v m)) (way_up tree.game.nodes n)) to from)
+find_up_is tree live wide asked again given start found c v covers is is_too is_start column narrowed lowered n low l = ap as_truth
+    (same_truth (get_or found n false) (list_any (λ m. holds (v m)) (way_up tree.game.nodes n)) to from)
   where
     under : AreLowered tree.game.nodes start found
     under = subst (λ s. AreLowered tree.game.nodes s found) is_start lowered
@@ -84,10 +87,12 @@ any_child tree h n = any_filtered h (is_searched tree.variations tree.game.nodes
 abbrev holds_child : SearchedTree → (ℕ → Value) → ℕ → ℕ → Bool
 holds_child tree v n k = is_child_of tree.game.nodes n k && (is_searched tree.variations tree.game.nodes k && holds (v k))
 
-pub child_holds_is : (tree : SearchedTree) (live wide asked again given start none found : List Bool) (count : ℕ) (c : FilterColumn) (v : ℕ → Value) → AreChildrenOfLive tree live wide → asked ≡ wide → again ≡ wide → given ≡ start
+pub child_holds_is : (tree : SearchedTree) (live wide asked again given start none found : List Bool) (count : ℕ) (c : FilterColumn) (v : ℕ → Value)
+    → AreChildrenOfLive tree live wide → asked ≡ wide → again ≡ wide → given ≡ start
     → IsColumn c asked v → IsNarrowed again c true start → none ≡ replicate count false → HasParents tree.game.nodes given none found → (n : ℕ) → is_live live n ≡ true
     → as_truth (get_or found n false) ≡ some_node v (children_in tree n)
-child_holds_is tree live wide asked again given start none found count c v covers is is_too is_start column narrowed empty has n l = ap as_truth (same_truth (get_or found n false) (list_any (λ m. holds (v m)) (children_in tree n)) to from)
+child_holds_is tree live wide asked again given start none found count c v covers is is_too is_start column narrowed empty has n l = ap as_truth
+    (same_truth (get_or found n false) (list_any (λ m. holds (v m)) (children_in tree n)) to from)
   where
     parents : HasParents tree.game.nodes start none found
     parents = subst (λ s. HasParents tree.game.nodes s none found) is_start has
@@ -100,7 +105,8 @@ child_holds_is tree live wide asked again given start none found count c v cover
         let q = is_child n (node_at tree.game.nodes k).parent p in
         any_child tree (λ m. holds (v m)) n
         ∙ in_range (holds_child tree v n) 0 (length tree.game.nodes) k (omega arith) (omega (arith, inside, covers.asked.count))
-        (both (is_child_of tree.game.nodes n k) (is_searched tree.variations tree.game.nodes k && holds (v k)) q (both (is_searched tree.variations tree.game.nodes k) (holds (v k)) (covers.asked.searched k w) h))
+        (both (is_child_of tree.game.nodes n k) (is_searched tree.variations tree.game.nodes k && holds (v k)) q
+        (both (is_searched tree.variations tree.game.nodes k) (holds (v k)) (covers.asked.searched k w) h))
 
     to : get_or found n false ≡ true → list_any (λ m. holds (v m)) (children_in tree n) ≡ true
     to e = ⊎_elim (λ s. absurd (none_there none count n empty s)) (λ by. by_child by.0 by.1 by.2) ((parents.each n).0 e)
@@ -114,7 +120,8 @@ child_holds_is tree live wide asked again given start none found count c v cover
         let h = right (is_searched tree.variations tree.game.nodes r.k) (holds (v r.k)) more in
         (parents.each n).1 (inr (r.k, starts wide asked again start c v is is_too column narrowed r.k (covers.covers n r.k l p (omega (arith, r.high)) s) h, p))
 
-pub parent_holds_is : (tree : SearchedTree) (live wide asked again given start found : List Bool) (c : FilterColumn) (v : ℕ → Value) → AreParentsOfLive tree live wide → asked ≡ wide → again ≡ wide → given ≡ start
+pub parent_holds_is : (tree : SearchedTree) (live wide asked again given start found : List Bool) (c : FilterColumn) (v : ℕ → Value)
+    → AreParentsOfLive tree live wide → asked ≡ wide → again ≡ wide → given ≡ start
     → IsColumn c asked v → IsNarrowed again c true start → ((n : ℕ) → n < length tree.game.nodes → get_or found n false ≡ flag_of given (node_at tree.game.nodes n).parent)
     → (n : ℕ) → n < length tree.game.nodes → is_live live n ≡ true → as_truth (get_or found n false) ≡ some_node v (option_to_list (node_at tree.game.nodes n).parent)
 parent_holds_is tree live wide asked again given start found c v covers is is_too is_start column narrowed flags n low l =

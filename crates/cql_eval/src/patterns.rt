@@ -83,7 +83,8 @@ pub(crate) fn shape_of(
     requires tree { IsTree game.now.nodes }
     ensures spots { IfOk result (λ shape. spots_of shape
         ≡ map (spot_at (searched_tree game.now variations)) (numbers game.now.nodes)) }
-    ensures way { IfOk result (λ shape. (goes_back shape ≡ back) × (is_primary shape ≡ primary) × (limits_of shape ≡ limits_in extent.now)) }
+    ensures way { IfOk result (λ shape.
+        (goes_back shape ≡ back) × (is_primary shape ≡ primary) × (limits_of shape ≡ limits_in extent.now)) }
 {
     let mut shape = Shape::new(alloc, back, primary);
     limit(&mut shape, extent);

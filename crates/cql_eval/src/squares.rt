@@ -4,9 +4,11 @@ ghost use Rattle.cq_symmetry.specs.Images.{is_in};
 ghost use Rattle.cql_syntax.specs.Values as spec;
 ghost use Rattle.cql_values.specs.Shown.{meant};
 ghost use Rattle.cql_eval.specs.Asked.{AreHaving, AreLeft, AreWanted};
-ghost use Rattle.cql_eval.specs.Columns.{shown};
+ghost use Rattle.cql_values.specs.declared.value.Value.TheVariants.{Set};
+ghost use Rattle.cql_eval.specs.Columns.{shown, AreKept};
 
-use crate::filter_column::{FilterColumn, truth_at};
+use crate::filter_column::{FilterColumn, set_at, truth_at};
+use crate::nodes::same;
 use cq_geometry::Square;
 use cq_outside::NoMemory;
 use cql_values::sets::has_square;
@@ -39,12 +41,40 @@ pub(crate) fn having(
 ) -> Result<Vec<bool>, NoMemory>
     ensures { IfOk result (λ there. AreHaving (shown squares.now) square left.now there.items) }
 {
-    let mut there = Vec::with_capacity(alloc, left.len())?;
-    for n in 0..left.len() {
-        let has = has_there(left[n], squares, square, n);
-        there.push(has)?;
-    }
+    let mut there = same(alloc, left)?;
+    keep_having(&mut there, squares, square);
     Ok(there)
+}
+
+fn keep_having(there: &mut [bool], squares: &FilterColumn, square: Square)
+    ensures { AreKept (λ n. spec.has (shown squares.now n) square) there.old there.new }
+{
+    match squares {
+        FilterColumn::Sets(sets) => keep_by_sets(there, sets, square),
+        _ => keep_by_values(there, squares, square),
+    }
+}
+
+fn keep_by_sets(there: &mut [bool], sets: &[u64], square: Square)
+    ensures { AreKept (λ n. spec.has (meant (Set (get_or sets.now n 0))) square) there.old there.new }
+{
+    for n in 0..there.len() {
+        there[n] = has_in_sets(there[n], sets, square, n);
+    }
+}
+
+fn has_in_sets(asked: bool, sets: &[u64], square: Square, n: usize) -> bool
+    ensures { result ≡ (asked && spec.has (meant (Set (get_or sets.now n 0))) square) }
+{
+    asked && has_one(Value::Set(set_at(sets, n)), square)
+}
+
+fn keep_by_values(there: &mut [bool], squares: &FilterColumn, square: Square)
+    ensures { AreKept (λ n. spec.has (shown squares.now n) square) there.old there.new }
+{
+    for n in 0..there.len() {
+        there[n] = has_there(there[n], squares, square, n);
+    }
 }
 
 fn has_there(asked: bool, squares: &FilterColumn, square: Square, n: usize) -> bool
@@ -69,12 +99,17 @@ pub(crate) fn unsettled(
 ) -> Result<Vec<bool>, NoMemory>
     ensures { IfOk result (λ later. AreLeft every (λ n. spec.holds (shown column.now n)) left.now there.now later.items) }
 {
-    let mut later = Vec::with_capacity(alloc, left.len())?;
-    for n in 0..left.len() {
-        let kept = keeps(every, left[n], truth_at(there, n), column, n);
-        later.push(kept)?;
-    }
+    let mut later = same(alloc, left)?;
+    settle(every, &mut later, there, column);
     Ok(later)
+}
+
+fn settle(every: bool, left: &mut [bool], there: &[bool], column: &FilterColumn)
+    ensures { AreLeft every (λ n. spec.holds (shown column.now n)) left.old there.now left.new }
+{
+    for n in 0..left.len() {
+        left[n] = keeps(every, left[n], truth_at(there, n), column, n);
+    }
 }
 
 fn keeps(every: bool, asked: bool, there: bool, column: &FilterColumn, n: usize) -> bool

@@ -47,13 +47,15 @@ none_and k a p =
     let low = le_or_r 0 a in let some = p.0 in let fits = p.1 in
     (omega (arith, low, some), or_lt k 0 a (omega (arith, fits)) p.1)
 
-more_united : {X : Type 0} (read : X → Option ℕ) (k so_far : ℕ) (items : List X) (set : ℕ) → ((x : X) (n : ℕ) → read x ≡ Some n → AreSome k n) → AreSome k so_far → united read so_far items ≡ Some set → AreSome k set
+more_united : {X : Type 0} (read : X → Option ℕ) (k so_far : ℕ) (items : List X) (set : ℕ) → ((x : X) (n : ℕ) → read x ≡ Some n → AreSome k n)
+    → AreSome k so_far → united read so_far items ≡ Some set → AreSome k set
 more_united read k so_far [] set each here e = subst (AreSome k) (same_Some so_far set e) here
 more_united read k so_far (x ∷ xs) set each here e =
     option_and_then_some (λ n. united read (bit_or so_far n) xs) (read x) set e (λ n is rest.
     more_united read k (bit_or so_far n) xs set each (joined k so_far n here (each x n is)) rest)
 
-all_united : {X : Type 0} (read : X → Option ℕ) (k : ℕ) (items : List X) (set : ℕ) → ((x : X) (n : ℕ) → read x ≡ Some n → AreSome k n) → 0 < length items → united read 0 items ≡ Some set → AreSome k set
+all_united : {X : Type 0} (read : X → Option ℕ) (k : ℕ) (items : List X) (set : ℕ) → ((x : X) (n : ℕ) → read x ≡ Some n → AreSome k n)
+    → 0 < length items → united read 0 items ≡ Some set → AreSome k set
 all_united read k [] set each some e = absurd (omega arith)
 all_united read k (x ∷ xs) set each some e =
     option_and_then_some (λ n. united read (bit_or 0 n) xs) (read x) set e (λ n is rest.
@@ -64,14 +66,16 @@ all_united read k (x ∷ xs) set each some e =
 power : (k : ℕ) → k < 13 → AreSome 13 (2 ^ k)
 power k h = let low : 1 ≤ 2 ^ k = pow_mono {i = zero} {j = k} (omega arith) in (omega (arith, low), pow-lt h)
 
-letter_by : (a b c : Bool) (place : Option ℕ) (men : ℕ) → ((k : ℕ) → place ≡ Some k → k < 13) → cond a (Some 0x003f) (cond b (Some 0x0fc0) (cond c (Some 0x1fff) (option_map (λ man. 2 ^ man) place))) ≡ Some men → AreSome 13 men
+letter_by : (a b c : Bool) (place : Option ℕ) (men : ℕ) → ((k : ℕ) → place ≡ Some k → k < 13)
+    → cond a (Some 0x003f) (cond b (Some 0x0fc0) (cond c (Some 0x1fff) (option_map (λ man. 2 ^ man) place))) ≡ Some men → AreSome 13 men
 letter_by true b c place men h e = subst (AreSome 13) (same_Some 0x003f men e) (omega arith, omega arith)
 letter_by false true c place men h e = subst (AreSome 13) (same_Some 0x0fc0 men e) (omega arith, omega arith)
 letter_by false false true place men h e = subst (AreSome 13) (same_Some 0x1fff men e) (omega arith, omega arith)
 letter_by false false false place men h e = by_map (λ man. 2 ^ man) place men (λ k is power_is. subst (AreSome 13) power_is (power k (h k is))) e
 
 letter_some : (letter men : ℕ) → men_of_letter letter ≡ Some men → AreSome 13 men
-letter_some letter men e = letter_by (letter == 65) (letter == 97) (letter == 46) (position (λ man. man == letter) man_letters) men (λ k is. (position-Some (λ man. man == letter) man_letters k 0 is).0) e
+letter_some letter men e = letter_by (letter == 65) (letter == 97) (letter == 46) (position (λ man. man == letter) man_letters) men
+    (λ k is. (position-Some (λ man. man == letter) man_letters k 0 is).0) e
 
 letters_some : (text : List ℕ) (men : ℕ) → men_of_letters text ≡ Some men → AreSome 13 men
 letters_some [] men e = absurd (none-some men e)
@@ -103,7 +107,8 @@ by_table x y m n set bound a b h =
     let g = rw (e, f) at h in
     (ltb-true 0 set (and_parts _ _ g).0, ltb-true set bound (and_parts _ _ g).1)
 
-within_some : (file last_file rank last_rank : ℕ) → 97 ≤ file → file ≤ last_file → last_file ≤ 104 → 49 ≤ rank → rank ≤ last_rank → last_rank ≤ 56 → AreSome 64 (squares_within file last_file rank last_rank)
+within_some : (file last_file rank last_rank : ℕ) → 97 ≤ file → file ≤ last_file → last_file ≤ 104 → 49 ≤ rank → rank ≤ last_rank → last_rank ≤ 56
+    → AreSome 64 (squares_within file last_file rank last_rank)
 within_some file last_file rank last_rank a b c d e f =
     by_table file last_file rank last_rank _ _ b e
     (at_one (λ s. has_some file last_file rank s) 49 8

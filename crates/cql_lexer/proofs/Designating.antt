@@ -154,13 +154,15 @@ not_both text squares k m s v above e =
     absurd (omega (arith, begins.low, high, one, other))
 
 -- where squares follow the men, no squares are longer than the men
-no_squares : (text : List ℕ) (men n squares k m : ℕ) → Within men_of (length text) text men n → Within squares_of (length (drop n text)) (drop n text) squares k → n < m → m ≤ length text → squares_of (take m text) ≡ None
+no_squares : (text : List ℕ) (men n squares k m : ℕ) → Within men_of (length text) text men n
+    → Within squares_of (length (drop n text)) (drop n text) squares k → n < m → m ≤ length text → squares_of (take m text) ≡ None
 no_squares text men n squares k m w v above h =
     ⊎_elim
     (λ plain.
     let one = men_plain_len text men n plain w in
     squares_plain text m plain
-    ∙ ⊎_elim (λ none. none) (λ some. absurd (not_both text squares k m some.0 (subst (λ j. Within squares_of (length (drop j text)) (drop j text) squares k) one v) (omega arith) some.1)) (some_or_none (specification (take m text))))
+    ∙ ⊎_elim (λ none. none) (λ some. absurd (not_both text squares k m some.0
+    (subst (λ j. Within squares_of (length (drop j text)) (drop j text) squares k) one v) (omega arith) some.1)) (some_or_none (specification (take m text))))
     (λ found.
     let o = opens text found.0 found.1 in
     let len = men_group_len text found.0 men n o w in
@@ -180,13 +182,15 @@ squares_behind text zero v h = refl
 squares_behind text (suc m) v h = v.none (suc m) (omega arith) h
 
 -- the squares after the men in a front
-behind : (text : List ℕ) (men n m : ℕ) → Within men_of (length text) text men n → m ≤ length text → n ≤ m → men_then_squares (take m text) ≡ option_map (men_on men) (squares_of (take (m - n) (drop n text)))
+behind : (text : List ℕ) (men n m : ℕ) → Within men_of (length text) text men n → m ≤ length text → n ≤ m
+    → men_then_squares (take m text) ≡ option_map (men_on men) (squares_of (take (m - n) (drop n text)))
 behind text men n m w h long =
     join_some (take m text) men n (men_long text men n m w h long)
     ∙ ap (λ t. option_map (men_on men) (squares_of t)) (let e : m ≡ n + (m - n) = omega arith in ap (λ j. drop n (take j text)) e ∙ drop-take n (m - n) text)
 
 -- no front is men and squares, where no squares follow the men
-join_nothing : (text : List ℕ) (men n m : ℕ) → Within men_of (length text) text men n → Nothing squares_of (length (drop n text)) (drop n text) → m ≤ length text → men_then_squares (take m text) ≡ None
+join_nothing : (text : List ℕ) (men n m : ℕ) → Within men_of (length text) text men n → Nothing squares_of (length (drop n text)) (drop n text)
+    → m ≤ length text → men_then_squares (take m text) ≡ None
 join_nothing text men n m w v h =
     ⊎_elim
     (λ short. join_none (take m text) (men_short text men n m w h short))
@@ -194,7 +198,8 @@ join_nothing text men n m w v h =
     (order m n)
 
 -- men and squares
-pub men_and_squares : (text : List ℕ) (men n squares k : ℕ) → Some (men, n) ≡ longest men_of text → Some (squares, k) ≡ longest squares_of (take (length text - n) (drop n text)) → Some (men_on men squares, n + k) ≡ longest designator text
+pub men_and_squares : (text : List ℕ) (men n squares k : ℕ) → Some (men, n) ≡ longest men_of text
+    → Some (squares, k) ≡ longest squares_of (take (length text - n) (drop n text)) → Some (men_on men squares, n + k) ≡ longest designator text
 men_and_squares text men n squares k e f =
     let w = longest_parts men_of text men n (sym e) in
     let v = longest_parts squares_of (drop n text) squares k (sym (ap (longest squares_of) (take_rest text n)) ∙ sym f) in
@@ -212,7 +217,9 @@ men_and_squares text men n squares k e f =
     })
 
 -- squares, where there are men, but no squares after them
-pub squares_beside_men : (text : List ℕ) (men n squares k : ℕ) → Some (men, n) ≡ longest men_of text → None ≡ longest squares_of (take (length text - n) (drop n text)) → Some (squares, k) ≡ longest squares_of text → Some (men_on any_men squares, k) ≡ longest designator text
+pub squares_beside_men : (text : List ℕ) (men n squares k : ℕ) → Some (men, n) ≡ longest men_of text
+    → None ≡ longest squares_of (take (length text - n) (drop n text)) → Some (squares, k) ≡ longest squares_of text
+    → Some (men_on any_men squares, k) ≡ longest designator text
 squares_beside_men text men n squares k e f g =
     let w = longest_parts men_of text men n (sym e) in
     let u = longest_nothing squares_of (drop n text) (sym (ap (longest squares_of) (take_rest text n)) ∙ sym f) in
@@ -226,7 +233,8 @@ squares_beside_men text men n squares k e f g =
     })
 
 -- men alone
-pub men_alone : (text : List ℕ) (men n : ℕ) → Some (men, n) ≡ longest men_of text → None ≡ longest squares_of (take (length text - n) (drop n text)) → None ≡ longest squares_of text → Some (men_on men all_squares, n) ≡ longest designator text
+pub men_alone : (text : List ℕ) (men n : ℕ) → Some (men, n) ≡ longest men_of text → None ≡ longest squares_of (take (length text - n) (drop n text))
+    → None ≡ longest squares_of text → Some (men_on men all_squares, n) ≡ longest designator text
 men_alone text men n e f g =
     let w = longest_parts men_of text men n (sym e) in
     let u = longest_nothing squares_of (drop n text) (sym (ap (longest squares_of) (take_rest text n)) ∙ sym f) in

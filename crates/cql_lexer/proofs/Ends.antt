@@ -59,7 +59,8 @@ file_name_proper expectations.Token text = tt
 file_name_proper expectations.FileName text = file_by (ltb 0 (prefix_len is_file_byte text)) (prefix_len is_file_byte text) text
 file_name_proper expectations.Outcome text = tt
 
-outcome_by : (a b c d : Bool) → Finds (cond a (Some (of_len 7 (Outcome outcomes.Draw))) (cond b (Some (of_len 3 (Outcome outcomes.White))) (cond c (Some (of_len 3 (Outcome outcomes.Black))) (cond d (Some (of_len 1 (Outcome outcomes.Unfinished))) None))))
+outcome_by : (a b c d : Bool) → Finds (cond a (Some (of_len 7 (Outcome outcomes.Draw)))
+    (cond b (Some (of_len 3 (Outcome outcomes.White))) (cond c (Some (of_len 3 (Outcome outcomes.Black))) (cond d (Some (of_len 1 (Outcome outcomes.Unfinished))) None))))
 outcome_by true b c d = tt
 outcome_by false true c d = tt
 outcome_by false false true d = tt
@@ -70,7 +71,8 @@ outcome_proper : (expected : Expected) (text : List ℕ) → Finds (outcome expe
 unfolding outcome
 outcome_proper expectations.Token text = tt
 outcome_proper expectations.FileName text = tt
-outcome_proper expectations.Outcome text = outcome_by (starts_with nat_eq text (codes "1/2-1/2")) (starts_with nat_eq text (codes "1-0")) (starts_with nat_eq text (codes "0-1")) (starts_with nat_eq text (codes "*"))
+outcome_proper expectations.Outcome text = outcome_by (starts_with nat_eq text (codes "1/2-1/2")) (starts_with nat_eq text (codes "1-0"))
+    (starts_with nat_eq text (codes "0-1")) (starts_with nat_eq text (codes "*"))
 
 quoted_by : (o : Option ℕ) (text : List ℕ) → Reads (elim o [ Some end ↦ Ok (of_len (end + 2) (Text (take end (drop 1 text)))) | None ↦ Err UnclosedText ])
 quoted_by None text = tt
@@ -106,7 +108,8 @@ name_by : (b : Bool) (run : ℕ) (kind : QueryTokenKind) → IsProper kind → F
 name_by true run kind p = p
 name_by false run kind p = tt
 
-squares_by : (o : Option (Designator × ℕ)) (run : ℕ) (name : Option Lexeme) → ((d : Designator) (len : ℕ) → o ≡ Some (d, len) → IsProperDesignator d) → Finds name → Finds (elim o [ Some found ↦ cond (leb run found.1) (Some (of_len found.1 (Squares found.0))) name | None ↦ name ])
+squares_by : (o : Option (Designator × ℕ)) (run : ℕ) (name : Option Lexeme) → ((d : Designator) (len : ℕ) → o ≡ Some (d, len) → IsProperDesignator d)
+    → Finds name → Finds (elim o [ Some found ↦ cond (leb run found.1) (Some (of_len found.1 (Squares found.0))) name | None ↦ name ])
 squares_by None run name h p = p
 squares_by (Some found) run name h p = finds_if (leb run found.1) (Some (of_len found.1 (Squares found.0))) name (h found.0 found.1 refl) p
 
@@ -149,7 +152,8 @@ abbrev Found : Result (QueryToken × ℕ) QueryFault → Type 0
 Found (Ok found) = IsProper found.0.kind
 Found (Err fault) = Unit {0}
 
-found_by : (r : Result Lexeme QueryReason) (at : ℕ) → Reads r → Found (elim r [ Ok found ↦ Ok (record { at = at; kind = found.kind }, found.len) | Err reason ↦ Err (record { byte = at; reason = reason }) ])
+found_by : (r : Result Lexeme QueryReason) (at : ℕ) → Reads r
+    → Found (elim r [ Ok found ↦ Ok (record { at = at; kind = found.kind }, found.len) | Err reason ↦ Err (record { byte = at; reason = reason }) ])
 found_by (Ok found) at p = p
 found_by (Err reason) at p = tt
 
@@ -166,7 +170,8 @@ ends_front end token (Ok []) p q = absurd q
 ends_front end token (Ok (next ∷ tokens)) p q = (p, q)
 ends_front end token (Err fault) p q = tt
 
-ends_then : (end : ℕ) (r : Result (QueryToken × ℕ) QueryFault) (f : QueryToken × ℕ → Result (List QueryToken) QueryFault) → Found r → ((x : QueryToken × ℕ) → Ends end (f x)) → Ends end (result_and_then (λ found. with_front (found.0 ∷ []) (f found)) r)
+ends_then : (end : ℕ) (r : Result (QueryToken × ℕ) QueryFault) (f : QueryToken × ℕ → Result (List QueryToken) QueryFault) → Found r
+    → ((x : QueryToken × ℕ) → Ends end (f x)) → Ends end (result_and_then (λ found. with_front (found.0 ∷ []) (f found)) r)
 ends_then end (Ok found) f p q = ends_front end found.0 (f found) p (q found)
 ends_then end (Err fault) f p q = tt
 
@@ -198,7 +203,8 @@ ends zero at expected (b ∷ text) =
 
 whole : (query : List ℕ) → Ends (length query) (tokens_of query)
 unfolding tokens_of
-whole query = ends_if (length query) (ltb most_bytes (length query)) _ (tokens_from 0 0 expectations.Token query) tt (ends_at (0 + length query) (length query) _ (omega arith) (ends 0 0 expectations.Token query))
+whole query = ends_if (length query) (ltb most_bytes (length query)) _ (tokens_from 0 0 expectations.Token query) tt
+    (ends_at (0 + length query) (length query) _ (omega arith) (ends 0 0 expectations.Token query))
 
 pub tokens_end : (query : List ℕ) (tokens : List QueryToken) → tokens_of query ≡ Ok tokens → EndOnce (length query) tokens
 tokens_end query tokens e = subst (Ends (length query)) e (whole query)

@@ -124,7 +124,8 @@ pub squares_group_none : (text inside : List ℕ) → group text ≡ Some inside
 squares_group_none text inside e f =
     let o = opens text inside e in
     longest_none squares_of text (record {
-      none = λ m a b. ⊎_elim (λ same. ap (λ j. squares_of (take j text)) same ∙ squares_group text inside o ∙ f) (λ other. squares_group-other text inside m o b other) (cases_eq m (length inside + 2));
+      none = λ m a b. ⊎_elim (λ same. ap (λ j. squares_of (take j text)) same ∙ squares_group text inside o ∙ f)
+          (λ other. squares_group-other text inside m o b other) (cases_eq m (length inside + 2));
     })
 
 -- a specification is of two, four or six bytes

@@ -103,7 +103,8 @@ map_none : (o : Option ℕ) (f : ℕ → List ℕ) → option_map f o ≡ None �
 map_none None f e = refl
 map_none (Some k) f e = absurd (cc)
 
-still_none : (c : Bool) (rest : List ℕ) (k : ℕ) → cond c (option_map (λ end. take end rest) (position is_closing_bracket rest)) None ≡ None → cond c (option_map (λ end. take end (take k rest)) (position is_closing_bracket (take k rest))) None ≡ None
+still_none : (c : Bool) (rest : List ℕ) (k : ℕ) → cond c (option_map (λ end. take end rest) (position is_closing_bracket rest)) None ≡ None
+    → cond c (option_map (λ end. take end (take k rest)) (position is_closing_bracket (take k rest))) None ≡ None
 still_none false rest k e = refl
 still_none true rest k e = ap (option_map (λ end. take end (take k rest))) (position-take_none is_closing_bracket k rest (map_none _ _ e))
 

@@ -24,7 +24,8 @@ some_or_none (Some x) = inr (x, refl)
 pub equal_or_below : (k n : ℕ) → k ≤ suc n → (k ≡ suc n) ⊎ (k ≤ n)
 equal_or_below k n h = ⊎_elim (λ below. inr (omega arith)) (λ above. inl (omega arith)) (order k (suc n))
 
-step : {X : Type 0} (read : List ℕ → Option X) (n : ℕ) (text : List ℕ) (o : Option X) → read (take (suc n) text) ≡ o → longest_within read (suc n) text ≡ option_or (option_map (λ x. (x, suc n)) o) (longest_within read n text)
+step : {X : Type 0} (read : List ℕ → Option X) (n : ℕ) (text : List ℕ) (o : Option X) → read (take (suc n) text) ≡ o
+    → longest_within read (suc n) text ≡ option_or (option_map (λ x. (x, suc n)) o) (longest_within read n text)
 unfolding longest_within
 step read n text o e = ap (λ o. option_or (option_map (λ x. (x, suc n)) o) (longest_within read n text)) e
 
@@ -125,7 +126,8 @@ front_some {X} read n text x k e =
     (found.1, leb-true _ _ test.0, found.0)
 
 -- a front of n bytes that reads is the longest where no longer one reads
-front_last : {X : Type 0} (read : List ℕ → Option X) (n : ℕ) (text : List ℕ) (x : X × ℕ) → 0 < n → front read n text ≡ Some x → ((m : ℕ) → n < m → m ≤ length text → read (take m text) ≡ None) → Some x ≡ longest read text
+front_last : {X : Type 0} (read : List ℕ → Option X) (n : ℕ) (text : List ℕ) (x : X × ℕ) → 0 < n → front read n text ≡ Some x
+    → ((m : ℕ) → n < m → m ≤ length text → read (take m text) ≡ None) → Some x ≡ longest read text
 front_last read n text x positive e last =
     let here = front_some read n text x.0 x.1 e in
     longest_some read text x.0 x.1 (record {
@@ -136,7 +138,8 @@ front_last read n text x positive e last =
     })
 
 -- what is no front of some length
-module _ {X : Type 0} (read : List ℕ → Option X) (text : List ℕ) (a b c : ℕ) (pc : 0 < c) (pb : c < b) (pa : b < a) (other : (m : ℕ) → m ≤ length text → m ≢ a → m ≢ b → m ≢ c → read (take m text) ≡ None) where
+module _ {X : Type 0} (read : List ℕ → Option X) (text : List ℕ) (a b c : ℕ) (pc : 0 < c) (pb : c < b) (pa : b < a)
+    (other : (m : ℕ) → m ≤ length text → m ≢ a → m ≢ b → m ≢ c → read (take m text) ≡ None) where
   at_length : (n m : ℕ) → front read n text ≡ None → m ≤ length text → m ≡ n → read (take m text) ≡ None
   at_length n m none h e = subst (λ k. read (take k text) ≡ None) (sym e) (front_none read n text none (omega arith))
 

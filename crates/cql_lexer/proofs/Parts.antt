@@ -21,7 +21,8 @@ united-at_none so_far text end found none =
     ∙ ap (option_and_then (λ set. united specification (bit_or so_far set) (slice_split is_comma (drop (end + 1) text)))) none
 
 -- a part that is one
-pub united-at_some : (so_far : ℕ) (text : List ℕ) (end set : ℕ) → position is_comma text ≡ Some end → specification (take end text) ≡ Some set → united specification so_far (slice_split is_comma text) ≡ united specification (bit_or so_far set) (slice_split is_comma (drop (end + 1) text))
+pub united-at_some : (so_far : ℕ) (text : List ℕ) (end set : ℕ) → position is_comma text ≡ Some end → specification (take end text) ≡ Some set
+    → united specification so_far (slice_split is_comma text) ≡ united specification (bit_or so_far set) (slice_split is_comma (drop (end + 1) text))
 united-at_some so_far text end set found some =
     ap (united specification so_far) (parts-at_comma text end found)
     ∙ ap (option_and_then (λ set. united specification (bit_or so_far set) (slice_split is_comma (drop (end + 1) text)))) some

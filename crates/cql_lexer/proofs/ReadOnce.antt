@@ -80,7 +80,8 @@ outcome_front expectations.Outcome text =
     (finds_if text (starts_with nat_eq text (codes "0-1")) _ _ (word_front text (codes "0-1") (Outcome outcomes.Black) (omega arith))
     (finds_if text (starts_with nat_eq text (codes "*")) _ None (word_front text (codes "*") (Outcome outcomes.Unfinished) (omega arith)) tt)))
 
-quoted_by : (text : List ℕ) (o : Option ℕ) → ((end : ℕ) → o ≡ Some end → end < length (drop 1 text)) → Reads text (elim o [ Some end ↦ Ok (of_len (end + 2) (Text (take end (drop 1 text)))) | None ↦ Err UnclosedText ])
+quoted_by : (text : List ℕ) (o : Option ℕ) → ((end : ℕ) → o ≡ Some end → end < length (drop 1 text))
+    → Reads text (elim o [ Some end ↦ Ok (of_len (end + 2) (Text (take end (drop 1 text)))) | None ↦ Err UnclosedText ])
 quoted_by text None h = tt
 quoted_by text (Some end) h = let inside = h end refl in let rest = length-drop 1 text in (omega arith, omega (arith, inside, rest))
 
@@ -103,7 +104,9 @@ number_front text e =
     let value = digits_value 10 (take len text) in
     reads_if text (leb value greatest_number) (Ok (of_len len (Number value))) (Err NumberTooLarge) (λ _. (first_of_run is_ascii_digit text e, prefix_len-le-length is_ascii_digit text)) tt
 
-squares_front : (text : List ℕ) (o : Option (Designator × ℕ)) (run : ℕ) (name : Option Lexeme) → ((d : Designator) (len : ℕ) → o ≡ Some (d, len) → (0 < len) × (len ≤ length text)) → Finds text name → Finds text (elim o [ Some found ↦ cond (leb run found.1) (Some (of_len found.1 (Squares found.0))) name | None ↦ name ])
+squares_front : (text : List ℕ) (o : Option (Designator × ℕ)) (run : ℕ) (name : Option Lexeme)
+    → ((d : Designator) (len : ℕ) → o ≡ Some (d, len) → (0 < len) × (len ≤ length text)) → Finds text name
+    → Finds text (elim o [ Some found ↦ cond (leb run found.1) (Some (of_len found.1 (Squares found.0))) name | None ↦ name ])
 squares_front text None run name h p = p
 squares_front text (Some found) run name h p = finds_if text (leb run found.1) (Some (of_len found.1 (Squares found.0))) name (λ _. h found.0 found.1 refl) p
 
@@ -143,7 +146,8 @@ abbrev Fronts : List ℕ → Result (QueryToken × ℕ) QueryFault → Type 0
 Fronts text (Ok found) = (0 < found.1) × (found.1 ≤ length text)
 Fronts text (Err fault) = Unit {0}
 
-token_by : (text : List ℕ) (r : Result Lexeme QueryReason) (at : ℕ) → Reads text r → Fronts text (elim r [ Ok found ↦ Ok (record { at = at; kind = found.kind }, found.len) | Err reason ↦ Err (record { byte = at; reason = reason }) ])
+token_by : (text : List ℕ) (r : Result Lexeme QueryReason) (at : ℕ) → Reads text r
+    → Fronts text (elim r [ Ok found ↦ Ok (record { at = at; kind = found.kind }, found.len) | Err reason ↦ Err (record { byte = at; reason = reason }) ])
 token_by text (Ok found) at p = p
 token_by text (Err reason) at p = tt
 
@@ -168,7 +172,8 @@ separator_fits text =
 
 -- the tokens of a text are a reading of it
 
-module _ (at : ℕ) (expected : Expected) (text : List ℕ) (some : 0 < length text) (more : (next : ℕ) (after : Expected) (rest : List ℕ) → length rest < length text → IsRead next after rest (tokens_from 0 next after rest)) where
+module _ (at : ℕ) (expected : Expected) (text : List ℕ) (some : 0 < length text)
+    (more : (next : ℕ) (after : Expected) (rest : List ℕ) → length rest < length text → IsRead next after rest (tokens_from 0 next after rest)) where
   by_separator : 0 < separator_len text → IsRead at expected text (tokens_from 0 at expected text)
   by_separator positive =
       let len = length-drop (separator_len text) text in

@@ -26,7 +26,8 @@ at_one test first (suc len) all k low high =
 -- what the code computes
 abbrev computed : ℕ → ℕ → ℕ → ℕ → ℕ
 computed file last_file rank last_rank =
-    bit_and (bit_and ((2 * 2 ^ (last_file - 97) % 2 ^ 64 - 1 * 2 ^ (file - 97) % 2 ^ 64) * 0x0101010101010101) ((2 ^ 64 - 1) / 2 ^ (8 * (56 - last_rank)))) ((2 ^ 64 - 1) * 2 ^ (8 * (rank - 49)) % 2 ^ 64)
+    bit_and (bit_and ((2 * 2 ^ (last_file - 97) % 2 ^ 64 - 1 * 2 ^ (file - 97) % 2 ^ 64) * 0x0101010101010101)
+    ((2 ^ 64 - 1) / 2 ^ (8 * (56 - last_rank)))) ((2 ^ 64 - 1) * 2 ^ (8 * (rank - 49)) % 2 ^ 64)
 
 abbrev agrees : ℕ → ℕ → ℕ → ℕ → Bool
 agrees file last_file rank last_rank =
@@ -55,5 +56,6 @@ parts x y m n p q s t a b h =
     (leb-true p q (and_parts _ _ g).0, eqb-true s t (and_parts _ _ g).1)
 
 -- the difference of the powers fits, and what the code computes is the squares of the ranges
-pub within : (file last_file rank last_rank : ℕ) → 97 ≤ file → file ≤ last_file → last_file ≤ 104 → 49 ≤ rank → rank ≤ last_rank → last_rank ≤ 56 → (1 * 2 ^ (file - 97) % 2 ^ 64 ≤ 2 * 2 ^ (last_file - 97) % 2 ^ 64) × (computed file last_file rank last_rank ≡ squares_within file last_file rank last_rank)
+pub within : (file last_file rank last_rank : ℕ) → 97 ≤ file → file ≤ last_file → last_file ≤ 104 → 49 ≤ rank → rank ≤ last_rank → last_rank ≤ 56
+    → (1 * 2 ^ (file - 97) % 2 ^ 64 ≤ 2 * 2 ^ (last_file - 97) % 2 ^ 64) × (computed file last_file rank last_rank ≡ squares_within file last_file rank last_rank)
 within file last_file rank last_rank a b c d e f = parts file last_file rank last_rank _ _ _ _ b e (agreed file last_file rank last_rank a b c d e f)

@@ -50,7 +50,8 @@ unfolding tokens_of tokens_from separator_len first_lexeme file_name outcome nam
 reversed_ranges = refl
 
 -- black men on a1, and the second rank, which is whole
-black_men_and_rank : tokens_of (codes "aa1 a-h2") ≡ Ok (token 0 (men 0xfc0 1) ∷ token 4 (Squares (record { men = any; part = record { squares = 0xff00; whole_ranks = true; whole_files = false } })) ∷ token 8 End ∷ [])
+black_men_and_rank : tokens_of (codes "aa1 a-h2") ≡ Ok
+    (token 0 (men 0xfc0 1) ∷ token 4 (Squares (record { men = any; part = record { squares = 0xff00; whole_ranks = true; whole_files = false } })) ∷ token 8 End ∷ [])
 unfolding tokens_of tokens_from separator_len first_lexeme file_name outcome named_or_squares longest longest_within designator men_on is_whole board.squares squares_within
 black_men_and_rank = refl
 

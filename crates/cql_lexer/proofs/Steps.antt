@@ -24,7 +24,8 @@ passes (suc n) at expected (b ∷ text) h =
     passes n (at + 1) expected text (omega arith) ∙ ap (λ k. tokens_from 0 k expected (drop n text)) e
 
 -- the same after the first of them
-passes_more : (n at : ℕ) (expected : Expected) (b : ℕ) (text : List ℕ) → 0 < n → n ≤ suc (length text) → tokens_from (n - 1) (at + 1) expected text ≡ tokens_from 0 (at + n) expected (drop n (b ∷ text))
+passes_more : (n at : ℕ) (expected : Expected) (b : ℕ) (text : List ℕ) → 0 < n → n ≤ suc (length text)
+    → tokens_from (n - 1) (at + 1) expected text ≡ tokens_from 0 (at + n) expected (drop n (b ∷ text))
 passes_more n at expected b text positive h =
     let place : at + 1 + (n - 1) ≡ at + n = omega arith in
     let count : suc (n - 1) ≡ n = omega arith in
@@ -33,14 +34,17 @@ passes_more n at expected b text positive h =
     ∙ ap (λ k. tokens_from 0 (at + n) expected (drop k (b ∷ text))) count
 
 -- white space and comments are passed
-pub pass_separator : (at : ℕ) (expected : Expected) (text : List ℕ) → 0 < separator_len text → separator_len text ≤ length text → 0 < length text → tokens_from 0 at expected text ≡ tokens_from 0 (at + separator_len text) expected (drop (separator_len text) text)
+pub pass_separator : (at : ℕ) (expected : Expected) (text : List ℕ) → 0 < separator_len text → separator_len text ≤ length text → 0 < length text
+    → tokens_from 0 at expected text ≡ tokens_from 0 (at + separator_len text) expected (drop (separator_len text) text)
 unfolding tokens_from
 pass_separator at expected [] positive h some = absurd (omega arith)
 pass_separator at expected (b ∷ text) positive h some =
     cond-true (ltb 0 (separator_len (b ∷ text))) _ _ (lt-ltb _ _ positive) ∙ passes_more (separator_len (b ∷ text)) at expected b text positive h
 
 -- a token is read, and its bytes are passed
-pub pass_token : (at : ℕ) (expected : Expected) (text : List ℕ) (token : QueryToken) (len : ℕ) → 0 < length text → separator_len text ≡ 0 → token_at expected at text ≡ Ok (token, len) → 0 < len → len ≤ length text → tokens_from 0 at expected text ≡ with_front (token ∷ []) (tokens_from 0 (at + len) (expected_after token.kind) (drop len text))
+pub pass_token : (at : ℕ) (expected : Expected) (text : List ℕ) (token : QueryToken) (len : ℕ) → 0 < length text → separator_len text ≡ 0
+    → token_at expected at text ≡ Ok (token, len) → 0 < len → len ≤ length text
+    → tokens_from 0 at expected text ≡ with_front (token ∷ []) (tokens_from 0 (at + len) (expected_after token.kind) (drop len text))
 unfolding tokens_from
 pass_token at expected [] token len some none found positive h = absurd (omega arith)
 pass_token at expected (b ∷ text) token len some none found positive h =
@@ -49,7 +53,8 @@ pass_token at expected (b ∷ text) token len some none found positive h =
     ∙ ap (with_front (token ∷ [])) (passes_more len at (expected_after token.kind) b text positive h)
 
 -- a fault ends the reading
-pub stop : (at : ℕ) (expected : Expected) (text : List ℕ) (fault : QueryFault) → 0 < length text → separator_len text ≡ 0 → token_at expected at text ≡ Err fault → tokens_from 0 at expected text ≡ Err fault
+pub stop : (at : ℕ) (expected : Expected) (text : List ℕ) (fault : QueryFault) → 0 < length text → separator_len text ≡ 0
+    → token_at expected at text ≡ Err fault → tokens_from 0 at expected text ≡ Err fault
 unfolding tokens_from
 stop at expected [] fault some none found = absurd (omega arith)
 stop at expected (b ∷ text) fault some none found =
@@ -86,7 +91,9 @@ too_long query h = cond-true (ltb most_bytes (length query)) _ _ (lt-ltb _ _ h)
 left : (query : List ℕ) (at s : ℕ) → s ≡ separator_len (take (length query - at) (drop at query)) → separator_len (drop at query) ≡ s
 left query at s e = sym (ap separator_len (take_rest query at)) ∙ sym e
 
-pub after_separator : (query : List ℕ) (tokens : List QueryToken) (expected : Expected) (at s : ℕ) → TokensLeft query tokens expected at → at < length query → s ≡ separator_len (take (length query - at) (drop at query)) → 0 < s → s ≤ length (take (length query - at) (drop at query)) → TokensLeft query tokens expected (at + s)
+pub after_separator : (query : List ℕ) (tokens : List QueryToken) (expected : Expected) (at s : ℕ) → TokensLeft query tokens expected at
+    → at < length query → s ≡ separator_len (take (length query - at) (drop at query)) → 0 < s
+    → s ≤ length (take (length query - at) (drop at query)) → TokensLeft query tokens expected (at + s)
 after_separator query tokens expected at s before inside e positive fits =
     let is = left query at s e in
     let len = length-drop at query in
@@ -102,7 +109,10 @@ after_separator query tokens expected at s before inside e positive fits =
           ∙ before.rest;
     }
 
-pub after_token : (query : List ℕ) (tokens : List QueryToken) (expected : Expected) (at s : ℕ) (token : QueryToken) (len : ℕ) → TokensLeft query tokens expected at → at < length query → s ≡ separator_len (take (length query - at) (drop at query)) → s ≤ 0 → token_at expected at (drop at query) ≡ Ok (token, len) → 0 < len → at + len ≤ length query → TokensLeft query (tokens ++ token ∷ []) (expected_after token.kind) (at + len)
+pub after_token : (query : List ℕ) (tokens : List QueryToken) (expected : Expected) (at s : ℕ) (token : QueryToken) (len : ℕ)
+    → TokensLeft query tokens expected at → at < length query → s ≡ separator_len (take (length query - at) (drop at query)) → s ≤ 0
+    → token_at expected at (drop at query) ≡ Ok (token, len) → 0 < len → at + len ≤ length query
+    → TokensLeft query (tokens ++ token ∷ []) (expected_after token.kind) (at + len)
 after_token query tokens expected at s token len before inside e none found positive fits =
     let is = left query at s e in
     let rest = length-drop at query in
@@ -116,16 +126,21 @@ after_token query tokens expected at s token len before inside e none found posi
           ∙ before.rest;
     }
 
-pub at_fault : (query : List ℕ) (tokens : List QueryToken) (expected : Expected) (at s : ℕ) (fault : QueryFault) → TokensLeft query tokens expected at → at < length query → s ≡ separator_len (take (length query - at) (drop at query)) → s ≤ 0 → token_at expected at (drop at query) ≡ Err fault → tokens_of query ≡ Err fault
+pub at_fault : (query : List ℕ) (tokens : List QueryToken) (expected : Expected) (at s : ℕ) (fault : QueryFault)
+    → TokensLeft query tokens expected at → at < length query → s ≡ separator_len (take (length query - at) (drop at query)) → s ≤ 0
+    → token_at expected at (drop at query) ≡ Err fault → tokens_of query ≡ Err fault
 at_fault query tokens expected at s fault before inside e none found =
     let is = left query at s e in
     sym before.rest ∙ ap (with_front tokens) (stop at expected (drop at query) fault (omega (arith, length-drop at query)) (omega (arith, is)) found)
 
-pub at_refusal : (query : List ℕ) (tokens : List QueryToken) (expected : Expected) (at s : ℕ) (refusal : Refusal QueryFault) → TokensLeft query tokens expected at → at < length query → s ≡ separator_len (take (length query - at) (drop at query)) → s ≤ 0 → Refuses {Y = QueryToken × ℕ} refusal (token_at expected at (drop at query)) → Refuses {Y = List QueryToken} refusal (tokens_of query)
+pub at_refusal : (query : List ℕ) (tokens : List QueryToken) (expected : Expected) (at s : ℕ) (refusal : Refusal QueryFault)
+    → TokensLeft query tokens expected at → at < length query → s ≡ separator_len (take (length query - at) (drop at query)) → s ≤ 0
+    → Refuses {Y = QueryToken × ℕ} refusal (token_at expected at (drop at query)) → Refuses {Y = List QueryToken} refusal (tokens_of query)
 at_refusal query tokens expected at s (Fault fault) before inside e none found = at_fault query tokens expected at s fault before inside e none found
 at_refusal query tokens expected at s NoMemory before inside e none found = tt
 
-pub at_end : (query : List ℕ) (tokens : List QueryToken) (expected : Expected) (at : ℕ) → TokensLeft query tokens expected at → length query ≤ at → tokens_of query ≡ Ok (tokens ++ (record { at = at; kind = End }) ∷ [])
+pub at_end : (query : List ℕ) (tokens : List QueryToken) (expected : Expected) (at : ℕ) → TokensLeft query tokens expected at → length query ≤ at
+    → tokens_of query ≡ Ok (tokens ++ (record { at = at; kind = End }) ∷ [])
 unfolding tokens_from
 at_end query tokens expected at before h =
     sym before.rest ∙ ap (λ t. with_front tokens (tokens_from 0 at expected t)) (drop_all at query h)

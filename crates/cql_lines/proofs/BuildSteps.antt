@@ -26,7 +26,8 @@ null_few true (suc m) (suc n) h = null_few true m n (omega arith)
 null_few false (suc m) (suc n) h = refl
 
 -- rows after rows
-pub rows_after : (old mid new front : List Rule) (len : ℕ) (row : ℕ → List Rule) → mid ≡ old ++ front → length front ≡ len → new ≡ mid ++ row (length mid) → new ≡ old ++ (front ++ row (length old + len))
+pub rows_after : (old mid new front : List Rule) (len : ℕ) (row : ℕ → List Rule) → mid ≡ old ++ front → length front ≡ len
+    → new ≡ mid ++ row (length mid) → new ≡ old ++ (front ++ row (length old + len))
 rows_after old mid new front len row m l n =
     let k : length mid ≡ length old + len = ap length m ∙ length-append old front ∙ ap (λ x. length old + x) l in
     n ∙ ap (λ x. mid ++ row x) k ∙ ap (λ x. x ++ row (length old + len)) m ∙ append_assoc old front (row (length old + len))
@@ -42,7 +43,8 @@ module _ (row : Next → ℕ → List Rule) (first : ℕ → ℕ) (b : Bool) (le
       let e : suc k ≡ k + 1 = omega arith in
       let front = rows_times row first b len (m - 1) k next (length old) in
       let l : length front ≡ k * len = (let a = ap length is in let c = length-append old front in omega arith) in
-      let head : begins f null next ≡ begins (firsts_times first b len k (length old)) (null_times b (m - 1) k) next = ap (λ x. begins x null next) fs ∙ ap (λ x. begins (firsts_times first b len k (length old)) x next) ns in
+      let head : begins f null next ≡ begins (firsts_times first b len k (length old)) (null_times b (m - 1) k) next = ap
+      (λ x. begins x null next) fs ∙ ap (λ x. begins (firsts_times first b len k (length old)) x next) ns in
       subst (λ j. new ≡ old ++ rows_times row first b len m j next (length old)) e
       (rows_after old mid new front (k * len) (λ x. row (begins (firsts_times first b len k (length old)) (null_times b (m - 1) k) next) x) is l
       (more ∙ ap (λ x. mid ++ row x (length mid)) head))

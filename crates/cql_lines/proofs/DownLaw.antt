@@ -13,7 +13,8 @@ use Rattle.cql_lines.specs.Down.{cell, Late, Stands, Passed}
 use Rattle.cql_lines.proofs.Measures.{Measure, Keeps, Joins}
 
 -- the greatest of the numbers of two kinds
-pub greatest_of_two : (P Q R : ℕ → Type 0) (a b : ℕ) → IsGreatestOrZero P a → IsGreatestOrZero Q b → ((k : ℕ) → R k → P k ⊎ Q k) → ((k : ℕ) → P k → R k) → ((k : ℕ) → Q k → R k) → IsGreatestOrZero R (max a b)
+pub greatest_of_two : (P Q R : ℕ → Type 0) (a b : ℕ) → IsGreatestOrZero P a → IsGreatestOrZero Q b → ((k : ℕ) → R k → P k ⊎ Q k)
+    → ((k : ℕ) → P k → R k) → ((k : ℕ) → Q k → R k) → IsGreatestOrZero R (max a b)
 greatest_of_two P Q R a b p q split left right = record {
   bounds = λ k r. elim (split k r) [
     | inl x ↦ (let h = p.bounds k x in omega arith)
@@ -31,16 +32,19 @@ same_greatest P R a p back on = record { bounds = λ k r. p.bounds k (back k r);
 pub none_greatest : (P : ℕ → Type 0) → ((k : ℕ) → P k → ⊥) → IsGreatestOrZero P 0
 none_greatest P never = record { bounds = λ k p. absurd (never k p); reached = λ some. absurd (omega (arith, some)) }
 
-module _ (Known : Measure) (join : ℕ → ℕ → ℕ) (same : Keeps Known) (two : Joins Known join) (words : List ℕ) (rules : List Rule) (primary : Bool) (spots : List Spot) (below : (n p : ℕ) → joined primary spots n ≡ Some p → p < n) where
+module _ (Known : Measure) (join : ℕ → ℕ → ℕ) (same : Keeps Known) (two : Joins Known join) (words : List ℕ) (rules : List Rule) (primary : Bool)
+    (spots : List Spot) (below : (n p : ℕ) → joined primary spots n ≡ Some p → p < n) where
   -- the row of a node is whole when its turn comes
-  pub whole_row : (t : ℕ) (rows : List (ℕ → ℕ)) → Stands Known words rules primary spots t rows → (n : ℕ) → n + t + 1 ≡ length spots → (j : ℕ) → Known (Below (holds words) rules (Edge false primary spots) j n) (cell rows n j)
+  pub whole_row : (t : ℕ) (rows : List (ℕ → ℕ)) → Stands Known words rules primary spots t rows → (n : ℕ) → n + t + 1 ≡ length spots → (j : ℕ)
+      → Known (Below (holds words) rules (Edge false primary spots) j n) (cell rows n j)
   whole_row t rows s n e j =
       same (Late words rules primary spots t n j) (Below (holds words) rules (Edge false primary spots) j n) (cell rows n j) (s.known n j)
       (λ k r. (r.0, (let h = below r.0 n r.1 in omega arith), r.1, r.2))
       (λ k l. (l.0, l.2, l.3))
 
   -- one node more
-  late_split : (t n p j k : ℕ) → n + t + 1 ≡ length spots → Late words rules primary spots (t + 1) p j k → Late words rules primary spots t p j k ⊎ ((joined primary spots n ≡ Some p) × FromPlace (holds words) rules (Edge false primary spots) j n k)
+  late_split : (t n p j k : ℕ) → n + t + 1 ≡ length spots → Late words rules primary spots (t + 1) p j k
+      → Late words rules primary spots t p j k ⊎ ((joined primary spots n ≡ Some p) × FromPlace (holds words) rules (Edge false primary spots) j n k)
   late_split t n p j k e l = elim (cases_eq l.0 n) [
     | inl is ↦ inr (sym (ap (joined primary spots) is) ∙ l.2, subst (λ c. FromPlace (holds words) rules (Edge false primary spots) j c k) is l.3)
     | inr other ↦ inl (l.0, (let h = l.1 in omega arith), l.2, l.3)
@@ -79,7 +83,8 @@ module _ (Known : Measure) (join : ℕ → ℕ → ℕ) (same : Keeps Known) (tw
     ];
   }
 
-  pub stands_same : (t n : ℕ) (rows : List (ℕ → ℕ)) → n + t + 1 ≡ length spots → Stands Known words rules primary spots t rows → joined primary spots n ≡ None → Stands Known words rules primary spots (t + 1) rows
+  pub stands_same : (t n : ℕ) (rows : List (ℕ → ℕ)) → n + t + 1 ≡ length spots → Stands Known words rules primary spots t rows
+      → joined primary spots n ≡ None → Stands Known words rules primary spots (t + 1) rows
   stands_same t n rows e s none = record {
     count = s.count;
     known = λ q j. known_other t n q j rows e s (λ up. let both = sym none ∙ up in cc);

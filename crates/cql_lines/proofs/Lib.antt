@@ -10,6 +10,7 @@ pub mod Lists
 pub mod Measures
 pub mod Puts
 pub mod LinesLaw
+pub mod MasksLaw
 pub mod OwnLaw
 pub mod Parts
 pub mod PlacesLaw

@@ -115,9 +115,11 @@ atoms_on new given p old empty is rules atoms below i r e =
 pub built_of : (a : Automaton) (given : Given) (p : Pattern ℕ) → plain_tree given ≡ p → a.rules.items ≡ rows (plain_tree given) end 0 → a.first ≡ firsts (plain_tree given) 0 → HasRulesOf a p
 built_of a given p is rules first = subst (HasRulesOf a) is record { rules = rules; first = first; plain = given_plain given }
 
-pub built_on : (a : Automaton) (given : Given) (p : Pattern ℕ) (old : List Rule) → old ≡ [] → plain_tree given ≡ p → a.rules.items ≡ old ++ rows (plain_tree given) end (length old) → a.first ≡ firsts (plain_tree given) (length old)
+pub built_on : (a : Automaton) (given : Given) (p : Pattern ℕ) (old : List Rule) → old ≡ [] → plain_tree given ≡ p
+    → a.rules.items ≡ old ++ rows (plain_tree given) end (length old) → a.first ≡ firsts (plain_tree given) (length old)
     → HasRulesOf a p
-built_on a given p old empty is rules first = built_of a given p is (rules_are a.rules.items old (rows (plain_tree given) end) rules empty) (first_is a.first old (firsts (plain_tree given)) first empty)
+built_on a given p old empty is rules first = built_of a given p is (rules_are a.rules.items old (rows (plain_tree given) end) rules empty)
+    (first_is a.first old (firsts (plain_tree given)) first empty)
 
 -- what the automaton of a pattern reads on the way from a node is what the pattern spells
 module _ (words : List ℕ) (a : Automaton) (p : Pattern ℕ) (of : IsAutomatonOf a p) (spots : List Spot) (E : ℕ → ℕ → Type 0) where
@@ -127,7 +129,8 @@ module _ (words : List ℕ) (a : Automaton) (p : Pattern ℕ) (of : IsAutomatonO
   read_of : (n k : ℕ) → Line (holds words) E p n k → Read (holds words) a.rules.items E a.first n k
   read_of n k l = (l.0, l.1, l.2, (of.reads (holds words) n l.0).1 l.3)
 
-  pub value_of : (rules : List Rule) (extent : Option Limits) → rules ≡ a.rules.items → (n : ℕ) (o : Option ℕ) → AnswerAt (is_searched spots n) (Allowed extent (Read (holds words) rules E a.first n)) o
+  pub value_of : (rules : List Rule) (extent : Option Limits) → rules ≡ a.rules.items → (n : ℕ) (o : Option ℕ)
+      → AnswerAt (is_searched spots n) (Allowed extent (Read (holds words) rules E a.first n)) o
       → AnswerAt (is_searched spots n) (λ k. Line (holds words) E p n k × (allows extent k ≡ true)) o
   value_of rules None is n o answer =
       same_answer (is_searched spots n) (Read (holds words) a.rules.items E a.first n) (λ k. Line (holds words) E p n k × (allows None k ≡ true)) o

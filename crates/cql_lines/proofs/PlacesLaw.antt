@@ -130,7 +130,8 @@ module _ (test : ℕ → ℕ → Bool) (rules : List Rule) where
   some_emptied P b e m (zero, low, high, t) = absurd (omega (arith, low))
   some_emptied P b e m (suc k, low, high, t) = let z = nothing_before t.0 t.1 t.2 in e (subst P z.0 t.3)
 
-  one_front : (a : ℕ) (next : Next) (f i : ℕ) (w : List ℕ) → slice_get rules i ≡ Some (record { atom = a; after = next }) → f ≡ 2 ^ i → Accepts test rules (from f) w → Front (Spells test (one a)) next w
+  one_front : (a : ℕ) (next : Next) (f i : ℕ) (w : List ℕ) → slice_get rules i ≡ Some (record { atom = a; after = next }) → f ≡ 2 ^ i
+      → Accepts test rules (from f) w → Front (Spells test (one a)) next w
   one_front a next f i [] g e t = absurd (cc)
   one_front a next f i (x ∷ w) g e t =
       let same : t.0 ≡ i = in_single i t.0 (subst (λ m. IsIn m t.0) e t.2) in

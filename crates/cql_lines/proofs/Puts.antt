@@ -14,7 +14,8 @@ put_here words node word atom low set = ap (λ w. is_set w atom) (get_or-set_sam
 pub put_there : (words : List ℕ) (node word atom a n : ℕ) → node < length words → ((b : ℕ) → b ≢ atom → is_set word b ≡ is_set (at words node) b) → ((a ≡ atom) × (n ≡ node) → ⊥)
     → holds (slice_set words node word) a n ≡ holds words a n
 put_there words node word atom a n low same other = elim (cases_eq n node) [
-  | inl here ↦ ap (λ k. holds (slice_set words node word) a k) here ∙ ap (λ w. is_set w a) (get_or-set_same words node word 0 low) ∙ same a (λ e. other (e, here)) ∙ ap (λ k. holds words a k) (sym here)
+  | inl here ↦ ap (λ k. holds (slice_set words node word) a k) here ∙ ap (λ w. is_set w a) (get_or-set_same words node word 0 low)
+      ∙ same a (λ e. other (e, here)) ∙ ap (λ k. holds words a k) (sym here)
   | inr apart ↦ ap (λ w. is_set w a) (get_or-set_other words node n word 0 apart)
 ]
 

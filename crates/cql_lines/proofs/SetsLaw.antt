@@ -107,7 +107,8 @@ module _ (test : ℕ → ℕ → Bool) (rules : List Rule) (Edge : ℕ → ℕ �
       let all = union_has r.after.places below (length rules) read.0 (suc (length w)) within inside has in
       let longer : suc (suc (length w)) < 128 = (let h = e in omega arith) in
       subst (IsIn (bit_or (shifted (union_in r.after.places below (length rules))) (when r.after.ends 2))) (sym e)
-      (in_left (shifted (union_in r.after.places below (length rules))) (when r.after.ends 2) (suc (suc (length w))) (shifted_bit (union_in r.after.places below (length rules)) (suc (length w)) longer ∙ all))
+      (in_left (shifted (union_in r.after.places below (length rules))) (when r.after.ends 2) (suc (suc (length w)))
+      (shifted_bit (union_in r.after.places below (length rules)) (suc (length w)) longer ∙ all))
 
   -- the lengths of one place at one node
   pub place_set_here : (n i : ℕ) (below : ℕ → ℕ) → ((j : ℕ) → IsSet (Below test rules Edge j n) (below j)) → (r : Rule) → slice_get rules i ≡ Some r → test r.atom n ≡ true

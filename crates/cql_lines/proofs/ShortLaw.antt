@@ -36,7 +36,8 @@ module _ (primary : Bool) (spots : List Spot) (below : (n p : ℕ) → joined pr
     | inr none ↦ omega arith
   ]
 
-  pub above_short : (words : List ℕ) (rules : List Rule) (n j m : ℕ) → n < length spots → length spots ≤ most_nodes → IsGreatestOrZero (Below (holds words) rules (Edge true primary spots) j n) m → m < 4294967295
+  pub above_short : (words : List ℕ) (rules : List Rule) (n j m : ℕ) → n < length spots → length spots ≤ most_nodes
+      → IsGreatestOrZero (Below (holds words) rules (Edge true primary spots) j n) m → m < 4294967295
   above_short words rules n j m low few g = elim (cases_lt 0 m) [
     | inl some ↦
         let r = g.reached some in

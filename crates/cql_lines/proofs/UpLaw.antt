@@ -21,7 +21,8 @@ set_cell rows n m j own e low = ap (λ k. cell (slice_set rows n own) k j) e ∙
 pub other_cell : (rows : List (ℕ → ℕ)) (n m j : ℕ) (own : ℕ → ℕ) → (m ≡ n → ⊥) → cell (slice_set rows n own) m j ≡ cell rows m j
 other_cell rows n m j own e = ap (λ r. r j) (get_or-set_other rows n m own (λ j. 0) e)
 
-module _ (Known : Measure) (same : Keeps Known) (none : HasNone Known) (words : List ℕ) (rules : List Rule) (primary : Bool) (spots : List Spot) (below : (n p : ℕ) → joined primary spots n ≡ Some p → (p < n) × (is_searched spots p ≡ true)) where
+module _ (Known : Measure) (same : Keeps Known) (none : HasNone Known) (words : List ℕ) (rules : List Rule) (primary : Bool) (spots : List Spot)
+    (below : (n p : ℕ) → joined primary spots n ≡ Some p → (p < n) × (is_searched spots p ≡ true)) where
   row_above : (t n : ℕ) (rows : List (ℕ → ℕ)) (row : ℕ → ℕ) (o : Option ℕ) → joined primary spots n ≡ o → n ≤ t → StandsUp Known words rules primary spots t rows → IsAbove o rows row
       → (j : ℕ) → Known (Below (holds words) rules (Edge true primary spots) j n) (row j)
   row_above t n rows row None e low s a j =
@@ -35,7 +36,8 @@ module _ (Known : Measure) (same : Keeps Known) (none : HasNone Known) (words : 
       (λ k l. (let same : l.0 ≡ p = (let both = sym l.1 ∙ e in cc) in subst (λ c. FromPlace (holds words) rules (Edge true primary spots) j c k) same l.2))
       (λ k f. (p, e, f)))
 
-  pub row_here : (n : ℕ) (rows : List (ℕ → ℕ)) (row : ℕ → ℕ) → StandsUp Known words rules primary spots n rows → IsAbove (joined primary spots n) rows row → (j : ℕ) → Known (Below (holds words) rules (Edge true primary spots) j n) (row j)
+  pub row_here : (n : ℕ) (rows : List (ℕ → ℕ)) (row : ℕ → ℕ) → StandsUp Known words rules primary spots n rows
+      → IsAbove (joined primary spots n) rows row → (j : ℕ) → Known (Below (holds words) rules (Edge true primary spots) j n) (row j)
   row_here n rows row s a = row_above n n rows row (joined primary spots n) refl (omega arith) s a
 
   pub above_known : (place : Rule → ℕ → (ℕ → ℕ) → ℕ → ℕ) (goes : Goes Known place) (n : ℕ) (rows : List (ℕ → ℕ)) (row own : ℕ → ℕ) (held atoms : ℕ) → StandsUp Known words rules primary spots n rows
@@ -54,7 +56,8 @@ module _ (Known : Measure) (same : Keeps Known) (none : HasNone Known) (words : 
       record {
         count = length-set rows n own ∙ s.count;
         known = λ m j less on. elim (cases_eq m n) [
-          | inl is ↦ subst (Known (FromPlace (holds words) rules (Edge true primary spots) j m)) (sym (set_cell rows n m j own is within)) (subst (λ k. Known (FromPlace (holds words) rules (Edge true primary spots) j k) (own j)) (sym is) (known j))
+          | inl is ↦ subst (Known (FromPlace (holds words) rules (Edge true primary spots) j m)) (sym (set_cell rows n m j own is within))
+              (subst (λ k. Known (FromPlace (holds words) rules (Edge true primary spots) j k) (own j)) (sym is) (known j))
           | inr other ↦ subst (Known (FromPlace (holds words) rules (Edge true primary spots) j m)) (sym (other_cell rows n m j own other)) (s.known m j (omega arith) on)
         ];
       }

@@ -30,7 +30,8 @@ pub answered : (s : Bool) (P : ℕ → Type 0) (o : Option ℕ) (m : ℕ) → s 
 answered true P o m e l is = subst (IsGreatest P) (sym is) l
 answered false P o m e l is = absurd (cc)
 
-module _ (Known : Measure) (join : ℕ → ℕ → ℕ) (same : Keeps Known) (two : Joins Known join) (words : List ℕ) (rules : List Rule) (primary : Bool) (spots : List Spot) (below : (n p : ℕ) → joined primary spots n ≡ Some p → p < n) where
+module _ (Known : Measure) (join : ℕ → ℕ → ℕ) (same : Keeps Known) (two : Joins Known join) (words : List ℕ) (rules : List Rule) (primary : Bool)
+    (spots : List Spot) (below : (n p : ℕ) → joined primary spots n ≡ Some p → p < n) where
   pub unvisited : (n : ℕ) (rows : List (ℕ → ℕ)) → n < length spots → Stands Known words rules primary spots (length spots - n - 1) rows → is_searched spots n ≡ false
       → Stands Known words rules primary spots (length spots - n) rows
   unvisited n rows low s off =
@@ -38,7 +39,8 @@ module _ (Known : Measure) (join : ℕ → ℕ → ℕ) (same : Keeps Known) (tw
       subst (λ t. Stands Known words rules primary spots t rows) t
       (stands_same Known join same two words rules primary spots below (length spots - n - 1) n rows (omega arith) s (unsearched_by primary (slice_get spots n) off))
 
-  pub whole_at : (n : ℕ) (rows : List (ℕ → ℕ)) → n < length spots → Stands Known words rules primary spots (length spots - n - 1) rows → (j : ℕ) → Known (Below (holds words) rules (Edge false primary spots) j n) (cell rows n j)
+  pub whole_at : (n : ℕ) (rows : List (ℕ → ℕ)) → n < length spots → Stands Known words rules primary spots (length spots - n - 1) rows → (j : ℕ)
+      → Known (Below (holds words) rules (Edge false primary spots) j n) (cell rows n j)
   whole_at n rows low s = whole_row Known join same two words rules primary spots below (length spots - n - 1) rows s n (omega arith)
 
   pub known_at : (none : HasNone Known) (place : Rule → ℕ → (ℕ → ℕ) → ℕ → ℕ) (goes : Goes Known place) (n : ℕ) (rows : List (ℕ → ℕ)) (own : ℕ → ℕ) (held atoms : ℕ) → n < length spots

@@ -120,7 +120,8 @@ module _ (test : ℕ → ℕ → Bool) (rules : List Rule) (Edge : ℕ → ℕ �
   }
 
   -- some of the places, at one node
-  pub read_here : (f n : ℕ) (values : ℕ → ℕ) → ((i : ℕ) → IsGreatestOrZero (FromPlace test rules Edge i n) (values i)) → IsGreatestOrZero (Read test rules Edge f n) (greatest_in f values (length rules))
+  pub read_here : (f n : ℕ) (values : ℕ → ℕ) → ((i : ℕ) → IsGreatestOrZero (FromPlace test rules Edge i n) (values i))
+      → IsGreatestOrZero (Read test rules Edge f n) (greatest_in f values (length rules))
   read_here f n values known = record {
     bounds = λ k line.
         let read = line.3 in

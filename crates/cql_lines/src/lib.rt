@@ -5,6 +5,7 @@
 pub mod automaton;
 mod build;
 mod lines;
+mod masks;
 pub mod pattern;
 mod plain;
 mod rows;

@@ -8,6 +8,7 @@ ghost use Rattle.cql_lines.specs.Sets.{Between, shifted, union_in, place_set};
 ghost use Rattle.cql_lines.specs.declared.automaton.Rule.{Rule as RuleValue};
 
 use crate::automaton::Rule;
+use crate::masks::{first_place, past_places};
 use crate::rows::Row;
 use crate::shape::Limits;
 
@@ -28,7 +29,7 @@ fn union_of(mask: u64, row: &[u128; 64], count: usize) -> u128
     ensures { result ≡ union_in mask (at row.now) count }
 {
     let mut all = 0;
-    for j in 0..count {
+    for j in first_place(mask, count)..past_places(mask, count) {
         all = with_lengths(all, mask, j, row[j]);
     }
     all

@@ -5,6 +5,7 @@ ghost use Rattle.cql_lines.specs.Lengths.{greatest_in, place_value, is_set, at};
 ghost use Rattle.cql_lines.specs.declared.automaton.Rule.{Rule as RuleValue};
 
 use crate::automaton::Rule;
+use crate::masks::{first_place, past_places};
 use crate::rows::Row;
 use crate::shape::Limits;
 
@@ -14,7 +15,7 @@ fn greatest(mask: u64, row: &[u32; 64], count: usize) -> u32
     ensures { result ≡ greatest_in mask (at row.now) count }
 {
     let mut best = 0;
-    for j in 0..count {
+    for j in first_place(mask, count)..past_places(mask, count) {
         best = better(best, mask, j, row[j]);
     }
     best

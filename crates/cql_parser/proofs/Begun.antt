@@ -16,7 +16,7 @@ use Rattle.cql_parser.specs.declared.role.Joint.TheVariants.{Chained, Added, Pai
 use Rattle.cql_syntax.specs.declared.leaves.Chain.TheVariants as chains
 use Rattle.cql_syntax.specs.declared.leaves.Pair.TheVariants as pairs
 use Rattle.cql_parser.specs.declared.role.Role.TheVariants.{End}
-use Rattle.cql_parser.specs.Places.{role, heads, opens, goes, context, least, next, whole, level_of, depth_of, joint_level, takes}
+use Rattle.cql_parser.specs.Places.{role, heads, opens, goes, context, least, next, whole, level_of, depth_of, joint_level, takes, spot}
 use Rattle.cql_parser.specs.Grammar.{Phrase, made, joined, Parts, first, add, put, root, end, Items, none, more, text, texts, items_text, head_of, level, IsOver, AreOver, Fits, Goes, AllFit, head_step, heading, Written, Begins}
 use Rattle.cql_parser.specs.Machine.{InRule, Joining, Opening, Reading, Done, Deep, Stuck, depth, due, around, written}
 use Rattle.cql_parser.proofs.Exits.{Exit, ended, by_token, by_check, exit, rank, check, IsExit, is_exit, Quiet, q_check, q_end, quiet_role, quiet_joins, quiet_goes, IsQuiet, quiet_exit}
@@ -59,11 +59,11 @@ few l n c (add ps x s) goes_ = few l n c ps goes_.2
 few l n c (put ps p s) goes_ = few l n c ps goes_.5
 
 check_fits : (l n : ℕ) (c : Context) → opens c check ≡ Some Leaf → n ≤ l → Fits l n c check_phrase
-unfolding depth_of whole
+unfolding depth_of whole spot
 check_fits l n c opens_ low = ((ap (opens c) check_role ∙ opens_, (let h : n ≤ l = low in omega arith)), refl)
 
 check_level : level check_phrase ≡ 10
-unfolding level_of
+unfolding level_of spot
 check_level = refl
 
 -- a rule at its end that begins with given parts

@@ -11,7 +11,7 @@ use Rattle.cql_parser.specs.declared.place.Place.{Place}
 use Rattle.cql_parser.specs.declared.place.Place.TheVariants.{Leaf, ResultDue, PlayerDue, TextDue, EloDue, Pre, PreDone, FindDue, Condition, ThenDue, Consequence, ElseDue, AllDue, NameDue, InDue, SquaresDue, MinDue, SortText, Tight, TightDone, Direction, OneNumber, TwoNumbers, BetweenOpen, BetweenFirst, BetweenSecond, BetweenClose, ListOpen, ListFirst, ListSecond, ListMore, Parens, ParensClose, Braces, BracesMore, Closed, LineStart, LineExtent, LineMost, LineArrow, Move, Origin, MovedFrom, Goal, MovedTo, Taken, MovedTaking, Promoted, Part, Bare, Count, Counted, UpTo, UpEnd, Marked}
 use Rattle.cql_parser.specs.declared.role.Role.{Role}
 use Rattle.cql_parser.specs.declared.role.Role.TheVariants.{Word, Sign, End}
-use Rattle.cql_parser.specs.Places.{role, opens, goes, context, least, next, whole, joint, joins}
+use Rattle.cql_parser.specs.Places.{role, opens, goes, context, least, next, whole, joint, joins, spot}
 
 -- it is at its end, or goes on with a token, or with `check`
 pub data Exit : Type 0 where
@@ -148,7 +148,7 @@ IsExit s by_check = (opens (context s) check ≡ Some Leaf) × (least s ≤ 10) 
     × (rank (next s) < rank s)
 
 pub is_exit : (s : Place) → IsExit s (exit s)
-unfolding goes opens context least next whole role word_of sign_of
+unfolding goes opens context least next whole role word_of sign_of spot
 is_exit Leaf = refl
 is_exit ResultDue = (refl, omega arith)
 is_exit PlayerDue = (refl, omega arith)
@@ -239,7 +239,7 @@ quiet_joins n q_check = refl
 quiet_joins n q_end = refl
 
 pub quiet_goes : (s : Place) (q : Quiet) → whole s ≡ true → goes s (quiet_role q) ≡ None
-unfolding goes whole
+unfolding goes whole spot
 quiet_goes Leaf q is = refl
 quiet_goes ResultDue q is = absurd cc
 quiet_goes PlayerDue q is = absurd cc
@@ -352,7 +352,7 @@ IsQuiet (by_token t p) = (q : Quiet) × (role t ≡ quiet_role q)
 IsQuiet by_check = Unit {0}
 
 pub quiet_exit : (s : Place) → IsQuiet (exit (next s))
-unfolding next role word_of sign_of
+unfolding next role word_of sign_of spot
 quiet_exit Leaf = tt
 quiet_exit ResultDue = tt
 quiet_exit PlayerDue = tt

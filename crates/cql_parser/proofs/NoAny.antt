@@ -260,11 +260,56 @@ take_free d n places.Consequence f free = record { one = f.one; two = is_written
 take_free d n places.BetweenSecond f free = record { one = f.one; two = is_written (filter_of n) (filter_free n free); three = f.three; last = f.last; row = f.row; parts = f.parts; body = f.body }
 take_free d n places.Goal f free = record { one = f.one; two = is_written (filter_of n) (filter_free n free); three = f.three; last = f.last; row = f.row; parts = f.parts; body = f.body }
 take_free d n places.Taken f free = record { one = f.one; two = f.two; three = is_written (filter_of n) (filter_free n free); last = f.last; row = f.row; parts = f.parts; body = f.body }
-take_free d n places.ListFirst f free = record { one = f.one; two = f.two; three = f.three; last = f.last; row = λ s. row_on s d.row (filter_of n) (f.row s) (filter_free n free s); parts = f.parts; body = f.body }
-take_free d n places.ListSecond f free = record { one = f.one; two = f.two; three = f.three; last = f.last; row = λ s. row_on s d.row (filter_of n) (f.row s) (filter_free n free s); parts = f.parts; body = f.body }
-take_free d n places.ListMore f free = record { one = f.one; two = f.two; three = f.three; last = f.last; row = λ s. row_on s d.row (filter_of n) (f.row s) (filter_free n free s); parts = f.parts; body = f.body }
-take_free d n places.Braces f free = record { one = f.one; two = f.two; three = f.three; last = f.last; row = λ s. row_on s d.row (filter_of n) (f.row s) (filter_free n free s); parts = f.parts; body = f.body }
-take_free d n places.BracesMore f free = record { one = f.one; two = f.two; three = f.three; last = f.last; row = λ s. row_on s d.row (filter_of n) (f.row s) (filter_free n free s); parts = f.parts; body = f.body }
+take_free d n places.ListFirst f free = record {
+  one = f.one;
+  two = f.two;
+  three = f.three;
+  last = f.last;
+  row = λ s. row_on s d.row (filter_of n)
+      (f.row s) (filter_free n free s);
+  parts = f.parts;
+  body = f.body;
+}
+take_free d n places.ListSecond f free = record {
+  one = f.one;
+  two = f.two;
+  three = f.three;
+  last = f.last;
+  row = λ s. row_on s d.row (filter_of n)
+      (f.row s) (filter_free n free s);
+  parts = f.parts;
+  body = f.body;
+}
+take_free d n places.ListMore f free = record {
+  one = f.one;
+  two = f.two;
+  three = f.three;
+  last = f.last;
+  row = λ s. row_on s d.row (filter_of n)
+      (f.row s) (filter_free n free s);
+  parts = f.parts;
+  body = f.body;
+}
+take_free d n places.Braces f free = record {
+  one = f.one;
+  two = f.two;
+  three = f.three;
+  last = f.last;
+  row = λ s. row_on s d.row (filter_of n)
+      (f.row s) (filter_free n free s);
+  parts = f.parts;
+  body = f.body;
+}
+take_free d n places.BracesMore f free = record {
+  one = f.one;
+  two = f.two;
+  three = f.three;
+  last = f.last;
+  row = λ s. row_on s d.row (filter_of n)
+      (f.row s) (filter_free n free s);
+  parts = f.parts;
+  body = f.body;
+}
 take_free d n (places.Part g b) f free = record { one = f.one; two = f.two; three = f.three; last = f.last; row = f.row; parts = f.parts; body = node_body_free n free }
 take_free d n _ f free = record { one = f.one; two = f.two; three = f.three; last = is_written (filter_of n) (filter_free n free); row = f.row; parts = f.parts; body = f.body }
 
@@ -295,11 +340,13 @@ form_free d (makers.Family family) f = (refl, λ s. need_free d.last f.last (par
 form_free d makers.If f = (
   refl,
   λ s. has_both (occurrences (part_of s Position) (need d.one)) _ (need_free d.one f.one (part_of s Position))
-      (has_both (occurrences (part_of s Position) (need d.two)) (occurrences (part_of s Position) (need d.last)) (need_free d.two f.two (part_of s Position)) (need_free d.last f.last (part_of s Position))),
+      (has_both (occurrences (part_of s Position) (need d.two)) (occurrences (part_of s Position) (need d.last))
+      (need_free d.two f.two (part_of s Position)) (need_free d.last f.last (part_of s Position))),
 )
 form_free d makers.Square f = (
   refl,
-  λ s. has_both (occurrences (part_of_square s Set) (need d.one)) (occurrences (asked_of_each s d.text) (need d.last)) (need_free d.one f.one (part_of_square s Set)) (need_free d.last f.last (asked_of_each s d.text)),
+  λ s. has_both (occurrences (part_of_square s Set) (need d.one)) (occurrences (asked_of_each s d.text) (need d.last))
+      (need_free d.one f.one (part_of_square s Set)) (need_free d.last f.last (asked_of_each s d.text)),
 )
 form_free d makers.Sort f = (refl, λ s. need_free d.last f.last (part_of s NumberKind))
 form_free d makers.Between f = (

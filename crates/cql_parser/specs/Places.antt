@@ -201,128 +201,88 @@ goes (Bare group back) role = part_goes group back role
 goes (Marked group back) role = part_goes group back role
 goes place role = None
 
--- where a filter is due, what is around it
+-- What stands at a place: what is around the filter that is due there, the least level of it and the place after it; whether the rule may
+-- be at its end; and, where the first token of a filter leads there, the level of that filter and how much deeper its parts stand.
+pub record Spot : Type 0 where
+  pub context : Context
+  pub least : ℕ
+  pub next : Place
+  pub whole : Bool
+  pub level : ℕ
+  pub depth : ℕ
+
+-- a filter is due, or a token alone, or the rule may be at its end
+abbrev pub filter_due : Context → ℕ → Place → Spot
+filter_due context least next = record { context = context; least = least; next = next; whole = false; level = 10; depth = 0 }
+
+abbrev pub token_due : Spot
+token_due = filter_due Nowhere 10 Closed
+
+abbrev pub at_end : Spot
+at_end = record token_due { whole = true }
+
+-- the same after the first token of a filter with parts
+abbrev pub begun : ℕ → Spot → Spot
+begun level spot = record spot { level = level; depth = 1 }
+
+unfoldable pub spot : Place → Spot
+spot Pre = begun 2 (filter_due Within 2 PreDone)
+spot FindDue = begun 2 (filter_due Within 2 PreDone)
+spot Condition = begun 2 (filter_due Within 0 ThenDue)
+spot Consequence = filter_due Within 0 ElseDue
+spot AllDue = begun 2 token_due
+spot SquaresDue = filter_due Within 6 Pre
+spot MinDue = begun 2 token_due
+spot Tight = begun 9 (filter_due Within 9 TightDone)
+spot Direction = begun 9 (filter_due Within 9 TightDone)
+spot OneNumber = filter_due Within 9 TightDone
+spot TwoNumbers = filter_due NoNumber 9 TightDone
+spot BetweenOpen = begun 10 token_due
+spot BetweenFirst = filter_due Within 0 BetweenSecond
+spot BetweenSecond = filter_due Within 0 BetweenClose
+spot ListOpen = begun 10 token_due
+spot ListFirst = filter_due Within 0 ListSecond
+spot ListSecond = filter_due Within 0 ListMore
+spot ListMore = filter_due Within 0 ListMore
+spot Parens = begun 10 (filter_due Within 0 ParensClose)
+spot Braces = begun 10 (filter_due Within 0 BracesMore)
+spot BracesMore = filter_due Within 0 BracesMore
+spot LineStart = begun 2 token_due
+spot (Part group back) = begun 10 (filter_due (Along back) 10 (Bare group back))
+spot Move = begun 2 at_end
+spot Origin = filter_due Within 9 MovedFrom
+spot MovedFrom = at_end
+spot Goal = filter_due Within 9 MovedTo
+spot MovedTo = at_end
+spot Taken = filter_due Within 9 MovedTaking
+spot MovedTaking = at_end
+spot Promoted = filter_due Within 9 PreDone
+spot Leaf = at_end
+spot EloDue = at_end
+spot PreDone = at_end
+spot TightDone = at_end
+spot Closed = at_end
+spot (Bare false back) = at_end
+spot (Marked false back) = at_end
+spot place = token_due
+
 unfoldable pub context : Place → Context
-context Pre = Within
-context FindDue = Within
-context Condition = Within
-context Consequence = Within
-context SquaresDue = Within
-context Tight = Within
-context Direction = Within
-context OneNumber = Within
-context TwoNumbers = NoNumber
-context BetweenFirst = Within
-context BetweenSecond = Within
-context ListFirst = Within
-context ListSecond = Within
-context ListMore = Within
-context Parens = Within
-context Braces = Within
-context BracesMore = Within
-context Origin = Within
-context Goal = Within
-context Taken = Within
-context Promoted = Within
-context (Part group back) = Along back
-context place = Nowhere
+context place = (spot place).context
 
--- the least level of the filter that is due
 unfoldable pub least : Place → ℕ
-least Pre = 2
-least FindDue = 2
-least Condition = 0
-least Consequence = 0
-least SquaresDue = 6
-least Tight = 9
-least Direction = 9
-least OneNumber = 9
-least TwoNumbers = 9
-least BetweenFirst = 0
-least BetweenSecond = 0
-least ListFirst = 0
-least ListSecond = 0
-least ListMore = 0
-least Parens = 0
-least Braces = 0
-least BracesMore = 0
-least Origin = 9
-least Goal = 9
-least Taken = 9
-least Promoted = 9
-least place = 10
+least place = (spot place).least
 
--- the place after it
 unfoldable pub next : Place → Place
-next Pre = PreDone
-next FindDue = PreDone
-next Condition = ThenDue
-next Consequence = ElseDue
-next SquaresDue = Pre
-next Tight = TightDone
-next Direction = TightDone
-next OneNumber = TightDone
-next TwoNumbers = TightDone
-next BetweenFirst = BetweenSecond
-next BetweenSecond = BetweenClose
-next ListFirst = ListSecond
-next ListSecond = ListMore
-next ListMore = ListMore
-next Parens = ParensClose
-next Braces = BracesMore
-next BracesMore = BracesMore
-next Origin = MovedFrom
-next Goal = MovedTo
-next Taken = MovedTaking
-next Promoted = PreDone
-next (Part group back) = Bare group back
-next place = Closed
+next place = (spot place).next
 
--- whether the rule may be at its end
 unfoldable pub whole : Place → Bool
-whole Leaf = true
-whole EloDue = true
-whole PreDone = true
-whole TightDone = true
-whole Closed = true
-whole Move = true
-whole MovedFrom = true
-whole MovedTo = true
-whole MovedTaking = true
-whole (Bare false back) = true
-whole (Marked false back) = true
-whole place = false
+whole place = (spot place).whole
 
--- the level of the filter whose first token leads to a place
 unfoldable pub level_of : Place → ℕ
-level_of Pre = 2
-level_of FindDue = 2
-level_of Condition = 2
-level_of AllDue = 2
-level_of MinDue = 2
-level_of LineStart = 2
-level_of Move = 2
-level_of Tight = 9
-level_of Direction = 9
-level_of place = 10
+level_of place = (spot place).level
 
--- how much deeper its parts stand
 unfoldable pub depth_of : Place → ℕ
-depth_of Pre = 1
-depth_of FindDue = 1
-depth_of Condition = 1
-depth_of AllDue = 1
-depth_of MinDue = 1
-depth_of LineStart = 1
-depth_of Move = 1
-depth_of Tight = 1
-depth_of Direction = 1
-depth_of BetweenOpen = 1
-depth_of ListOpen = 1
-depth_of Parens = 1
-depth_of Braces = 1
-depth_of (Part group back) = 1
-depth_of place = 0
+depth_of place = (spot place).depth
 
 -- what a token between two filters makes of them
 unfoldable pub joint : Role → Option Joint

@@ -374,7 +374,7 @@ pub fn goes(place: Place, role: Role) -> Option<Place>
 
 impl Place {
     /// What is around the filter that is due.
-    #[tactic(auto, unfolding(crate::specs::Places::context))]
+    #[tactic(auto, unfolding(crate::specs::Places::context, crate::specs::Places::spot))]
     pub fn context(self) -> Context
         ensures { result ≡ context self }
     {
@@ -406,7 +406,7 @@ impl Place {
     }
 
     /// The least level of the filter that is due.
-    #[tactic(auto, unfolding(crate::specs::Places::least))]
+    #[tactic(auto, unfolding(crate::specs::Places::least, crate::specs::Places::spot))]
     pub fn least(self) -> u8
         ensures value { result ≡ least self }
         ensures few { result ≤ 10 }
@@ -437,7 +437,7 @@ impl Place {
     }
 
     /// The place after it.
-    #[tactic(auto, unfolding(crate::specs::Places::next))]
+    #[tactic(auto, unfolding(crate::specs::Places::next, crate::specs::Places::spot))]
     pub fn next(self) -> Place
         ensures { result ≡ next self }
     {
@@ -463,7 +463,7 @@ impl Place {
     }
 
     /// Whether the rule may be at its end.
-    #[tactic(auto, unfolding(crate::specs::Places::whole))]
+    #[tactic(auto, unfolding(crate::specs::Places::whole, crate::specs::Places::spot))]
     pub fn is_whole(self) -> bool
         ensures { result ≡ whole self }
     {
@@ -483,7 +483,7 @@ impl Place {
     }
 
     /// The level of the filter whose first token leads here.
-    #[tactic(auto, unfolding(crate::specs::Places::level_of))]
+    #[tactic(auto, unfolding(crate::specs::Places::level_of, crate::specs::Places::spot))]
     pub fn level(self) -> u8
         ensures value { result ≡ level_of self }
         ensures few { result ≤ 10 }
@@ -502,7 +502,7 @@ impl Place {
     }
 
     /// How much deeper its parts stand.
-    #[tactic(auto, unfolding(crate::specs::Places::depth_of))]
+    #[tactic(auto, unfolding(crate::specs::Places::depth_of, crate::specs::Places::spot))]
     pub fn depth(self) -> u32
         ensures value { result ≡ depth_of self }
         ensures few { result ≤ 1 }

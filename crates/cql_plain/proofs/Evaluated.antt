@@ -59,10 +59,12 @@ pub settled : (every : Bool) (x : Value) (asked : ℕ → Bool) (set s : ℕ) �
 settled every x asked set s is low e =
     sym (by_settling every x asked true (sym (ap (λ h. list_any (settles every h asked) squares) is ∙ some_square (settles every (is_in set) asked) s low e)))
 
-pub never_settled : (every : Bool) (x : Value) (asked : ℕ → Bool) (set n : ℕ) → has x ≡ is_in set → n ≡ 64 → list_any (settles every (is_in set) asked) (range_with_len 0 n) ≡ false → as_truth every ≡ square_of every x asked
+pub never_settled : (every : Bool) (x : Value) (asked : ℕ → Bool) (set n : ℕ) → has x ≡ is_in set → n ≡ 64
+    → list_any (settles every (is_in set) asked) (range_with_len 0 n) ≡ false → as_truth every ≡ square_of every x asked
 unfolding squares
 never_settled every x asked set n is end e =
-    sym (by_settling every x asked false (sym (ap (λ h. list_any (settles every h asked) (range_with_len 0 64)) is ∙ ap (λ k. list_any (settles every (is_in set) asked) (range_with_len 0 k)) (sym end) ∙ e)))
+    sym (by_settling every x asked false (sym (ap (λ h. list_any (settles every h asked) (range_with_len 0 64)) is
+    ∙ ap (λ k. list_any (settles every (is_in set) asked) (range_with_len 0 k)) (sym end) ∙ e)))
 
 pub none_more : (test : ℕ → Bool) (n : ℕ) (b : Bool) → b ≡ test n → b ≡ false → list_any test (range_with_len 0 n) ≡ false → list_any test (range_with_len 0 (n + 1)) ≡ false
 none_more test n b is fails had = any_last test n ∙ ap (λ t. t || test n) had ∙ sym is ∙ fails

@@ -24,8 +24,14 @@ longest_more b steps ends extent best new nodes counts is len all g =
     subst (IsGreatest (IsLengthBelow (b + 1) steps ends extent)) (sym is)
     (greatest_with (IsLengthBelow b steps ends extent) (IsLengthBelow (b + 1) steps ends extent) best counts nodes
     (λ m p. (p.0, omega (arith, p.1), p.2, p.3, p.4))
-    (λ t. let both = sym all ∙ t in
-    (b, omega arith, subst (IsIn ends) (let e : b + 1 ≡ suc b = omega arith in e) (left (get_or ends (b + 1) false) (allows extent nodes) both), sym len, right (get_or ends (b + 1) false) (allows extent nodes) both))
+    (λ t. let both = sym all ∙ t in (
+      b,
+      omega arith,
+      subst (IsIn ends) (let e : b + 1 ≡ suc b = omega arith in e)
+          (left (get_or ends (b + 1) false) (allows extent nodes) both),
+      sym len,
+      right (get_or ends (b + 1) false) (allows extent nodes) both,
+    ))
     (λ m q. elim (cases_lt q.0 b) [
       | inl before ↦ inl (q.0, before, q.2, q.3, q.4)
       | inr here ↦

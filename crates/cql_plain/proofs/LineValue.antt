@@ -14,7 +14,8 @@ use Rattle.cql_plain.specs.Paths.{ArePaths, IsLength}
 use Rattle.cql_plain.specs.declared.paths.Reached.{Reached}
 use Rattle.cql_plain.proofs.LineLaw.{line_law}
 
-pub line_is : (tree : SearchedTree) → IsTree tree.game.nodes → (g : Context) (e : Names) (l : OneLine) (n : ℕ) (steps steps_1 steps_2 : List (Option Reached)) (starts starts_1 ends ends_1 : List Bool) (o : Option ℕ)
+pub line_is : (tree : SearchedTree) → IsTree tree.game.nodes
+    → (g : Context) (e : Names) (l : OneLine) (n : ℕ) (steps steps_1 steps_2 : List (Option Reached)) (starts starts_1 ends ends_1 : List Bool) (o : Option ℕ)
     → ArePaths tree (out-Line l).back (out-Line l).primary n steps → starts ≡ true ∷ replicate (length steps) false → steps_1 ≡ steps → starts_1 ≡ starts
     → EndsOf steps_1 (pattern tree g e (parts_tree (out-Line l).parts)) starts_1 ends → steps_2 ≡ steps → ends_1 ≡ ends
     → IsGreatest (IsLength steps_2 ends_1 (out-Line l).extent) o → as_number (option_map pos o) ≡ line_value tree g e (line_tree l) n

@@ -132,7 +132,8 @@ module _ (p : Board) (m : Move) where
         let king = stands-is p.men m.from (king_of p.side) (and_parts (stands p.men m.from (king_of p.side)) (files_apart m.from m.to == 2) does).0 in
         let home = home_of p.men p.side kingside (rights_at p.men p.rights p.side kingside i.rights c.right) in
         let men : men_after p m ≡ rook_moved (men_moved p m) p.side kingside =
-        cond-true (is_castling p m) (rook_moved (men_moved p m) p.side (nat_lt m.from m.to)) (cond (is_en_passant_capture p m) (slice_set (men_moved p m) (beside m.from m.to) Empty) (men_moved p m)) does
+        cond-true (is_castling p m) (rook_moved (men_moved p m) p.side (nat_lt m.from m.to))
+        (cond (is_en_passant_capture p m) (slice_set (men_moved p m) (beside m.from m.to) Empty) (men_moved p m)) does
         ∙ ap (rook_moved (men_moved p m) p.side) flag in
         let none : taken_square p m ≡ None =
         not_at_goal empty ∙ ap (λ x. cond (is_pawn x && not (file_of m.from == file_of m.to)) (Some (beside m.from m.to)) None) king
@@ -141,7 +142,8 @@ module _ (p : Board) (m : Move) where
         (takes_none (men_after p m) (λ s there.
         ap (λ x. is_of_side other (man_at x s)) men
         ∙ ap (is_of_side other)
-        (rook_other (men_moved p m) p.side kingside s (off_own s (rook_home p.side kingside) there (ap (is_of_side p.side) home.rook ∙ own_rook p.side)) (off_empty s (castling_crossed p.side kingside) there c.crossed))
+        (rook_other (men_moved p m) p.side kingside s (off_own s (rook_home p.side kingside) there
+        (ap (is_of_side p.side) home.rook ∙ own_rook p.side)) (off_empty s (castling_crossed p.side kingside) there c.crossed))
         ∙ stays s there (off_empty s m.to there empty)))
 
     in_passing : Captures p.men p.side m.from m.to → man_at p.men m.to ≡ Empty → is_pawn (man_at p.men m.from) ≡ true → men_after p m ≡ slice_set (men_moved p m) (beside m.from m.to) Empty
@@ -206,7 +208,8 @@ module _ (p : Board) (m : Move) where
               let first : men_after p m ≡ plain = cond-false (is_castling p m) castling plain not_castling in
               elim (cases_Bool (is_en_passant_capture p m)) [
                 | inl does ↦
-                    let pawn = (and_parts (is_pawn (man_at p.men m.from)) (files_apart m.from m.to == 1) (and_parts (is_pawn (man_at p.men m.from) && (files_apart m.from m.to == 1)) (is_goal p.passant m.to) does).0).0 in
+                    let pawn = (and_parts (is_pawn (man_at p.men m.from)) (files_apart m.from m.to == 1)
+                    (and_parts (is_pawn (man_at p.men m.from) && (files_apart m.from m.to == 1)) (is_goal p.passant m.to) does).0).0 in
                     in_passing (captures_when p m i.passed g does) (passing_goal_empty p m i.passed does) pawn (first ∙ cond-true (is_en_passant_capture p m) removed (men_moved p m) does)
                 | inr none ↦ by_moving none (first ∙ cond-false (is_en_passant_capture p m) removed (men_moved p m) none)
               ]

@@ -279,15 +279,19 @@ mutual
   inner_good (sum_of ts) g s w h = terms_good ts g (part_of s Number) h
   inner_good (pair c x y) g s w h =
       let at : Standing = part_of s (pair_wants c) in
-      two (occurrences at x) (occurrences at y) (occurrences at (flat g x)) (occurrences at (flat g y)) (λ k. flat_good x g at at.wanted (wanted_is at x k) k) (λ k. flat_good y g at at.wanted (wanted_is at y k) k) h
+      two (occurrences at x) (occurrences at y) (occurrences at (flat g x)) (occurrences at (flat g y))
+      (λ k. flat_good x g at at.wanted (wanted_is at x k) k) (λ k. flat_good y g at at.wanted (wanted_is at y k) k) h
   inner_good (if_ x y z) g s w h =
       let at : Standing = part_of s Position in
-      two (occurrences at x) (occurrences at y ++ occurrences at z) (occurrences at (flat g x)) (occurrences at (flat g y) ++ occurrences at (flat g z)) (λ k. flat_good x g at at.wanted (wanted_is at x k) k)
-      (two (occurrences at y) (occurrences at z) (occurrences at (flat g y)) (occurrences at (flat g z)) (λ k. flat_good y g at at.wanted (wanted_is at y k) k) (λ k. flat_good z g at at.wanted (wanted_is at z k) k)) h
+      two (occurrences at x) (occurrences at y ++ occurrences at z) (occurrences at (flat g x))
+      (occurrences at (flat g y) ++ occurrences at (flat g z)) (λ k. flat_good x g at at.wanted (wanted_is at x k) k)
+      (two (occurrences at y) (occurrences at z) (occurrences at (flat g y)) (occurrences at (flat g z))
+      (λ k. flat_good y g at at.wanted (wanted_is at y k) k) (λ k. flat_good z g at at.wanted (wanted_is at z k) k)) h
   inner_good (square every text x y) g s w h =
       let at : Standing = part_of_square s Set in
       let of_each : Standing = asked_of_each s text in
-      two (occurrences at x) (occurrences of_each y) (occurrences at (flat g x)) (occurrences of_each (flat g y)) (λ k. flat_good x g at at.wanted (wanted_is at x k) k) (λ k. flat_good y g of_each of_each.wanted (wanted_is of_each y k) k) h
+      two (occurrences at x) (occurrences of_each y) (occurrences at (flat g x)) (occurrences of_each (flat g y))
+      (λ k. flat_good x g at at.wanted (wanted_is at x k) k) (λ k. flat_good y g of_each of_each.wanted (wanted_is of_each y k) k) h
   inner_good (line l) g s w h = line_good l g (part_of s Position) h
   inner_good (played p) g s w h = played_good p g (part_of s Set) h
   inner_good (transform t f) g s w h =
@@ -306,7 +310,8 @@ mutual
 
   terms_good : (ts : TermTrees) (g : Context) (s : Standing) → list_all sound (of_terms s ts) ≡ true → list_all good (of_terms s (flat_terms g ts)) ≡ true
   terms_good no_terms g s h = refl
-  terms_good (more_terms minus f ts) g s h = two (occurrences s f) (of_terms s ts) (occurrences s (flat g f)) (of_terms s (flat_terms g ts)) (λ k. flat_good f g s s.wanted (wanted_is s f k) k) (terms_good ts g s) h
+  terms_good (more_terms minus f ts) g s h = two (occurrences s f) (of_terms s ts) (occurrences s (flat g f)) (of_terms s (flat_terms g ts))
+      (λ k. flat_good f g s s.wanted (wanted_is s f k) k) (terms_good ts g s) h
 
   line_good : (l : LineTree) (g : Context) (s : Standing) → list_all sound (of_line s l) ≡ true → list_all good (of_line s (flat_line g l)) ≡ true
   line_good (path back primary extent cs) g s h = parts_good cs g s h

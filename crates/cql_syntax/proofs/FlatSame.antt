@@ -75,7 +75,9 @@ module _ (tree : SearchedTree) (e : Names) (n : ℕ) where
   abbrev vs : FilterTrees → List Value
   vs fs = values tree [] e fs n
 
-  any_chosen : (p : Value → Bool) (x y : FilterTree) (rest fs : FilterTrees) (b : Bool) → (b ≡ true → x ≡ y) → (p (v x) || list_any p (vs rest)) ≡ (p (v x) || list_any p (vs fs)) → (p (v x) || list_any p (vs (if b then rest else more_filters y rest))) ≡ (p (v x) || (p (v y) || list_any p (vs fs)))
+  any_chosen : (p : Value → Bool) (x y : FilterTree) (rest fs : FilterTrees) (b : Bool) → (b ≡ true → x ≡ y)
+      → (p (v x) || list_any p (vs rest)) ≡ (p (v x) || list_any p (vs fs))
+      → (p (v x) || list_any p (vs (if b then rest else more_filters y rest))) ≡ (p (v x) || (p (v y) || list_any p (vs fs)))
   unfolding value
   any_chosen p x y rest fs true is ih = ih ∙ or_twice (p (v x)) (p (v y)) (list_any p (vs fs)) (ap (λ f. p (v f)) (sym (is refl)))
   any_chosen p x y rest fs false is ih = or_under (p (v x)) (p (v y)) (list_any p (vs rest)) (list_any p (vs fs)) ih
@@ -90,10 +92,13 @@ module _ (tree : SearchedTree) (e : Names) (n : ℕ) where
   any_distinct p [] = refl
   any_distinct p (x ∷ xs) = any_without p x (distinct xs) ∙ ap (λ r. p (v x) || r) (any_distinct p xs)
 
-  greatest_chosen : (x y : FilterTree) (rest fs : FilterTrees) (b : Bool) → (b ≡ true → x ≡ y) → greater (amount (v x)) (greatest (vs rest)) ≡ greater (amount (v x)) (greatest (vs fs)) → greater (amount (v x)) (greatest (vs (if b then rest else more_filters y rest))) ≡ greater (amount (v x)) (greater (amount (v y)) (greatest (vs fs)))
+  greatest_chosen : (x y : FilterTree) (rest fs : FilterTrees) (b : Bool) → (b ≡ true → x ≡ y)
+      → greater (amount (v x)) (greatest (vs rest)) ≡ greater (amount (v x)) (greatest (vs fs))
+      → greater (amount (v x)) (greatest (vs (if b then rest else more_filters y rest))) ≡ greater (amount (v x)) (greater (amount (v y)) (greatest (vs fs)))
   unfolding value
   greatest_chosen x y rest fs true is ih = ih ∙ sym (greater_twice (amount (v x)) (greatest (vs fs))) ∙ ap (λ f. greater (amount (v x)) (greater (amount (v f)) (greatest (vs fs)))) (is refl)
-  greatest_chosen x y rest fs false is ih = greater_swap (amount (v x)) (amount (v y)) (greatest (vs rest)) ∙ ap (greater (amount (v y))) ih ∙ greater_swap (amount (v y)) (amount (v x)) (greatest (vs fs))
+  greatest_chosen x y rest fs false is ih = greater_swap (amount (v x)) (amount (v y)) (greatest (vs rest)) ∙ ap (greater (amount (v y))) ih
+      ∙ greater_swap (amount (v y)) (amount (v x)) (greatest (vs fs))
 
   greatest_without : (x : FilterTree) (fs : FilterTrees) → greater (amount (v x)) (greatest (vs (without x fs))) ≡ greater (amount (v x)) (greatest (vs fs))
   unfolding value
@@ -134,7 +139,8 @@ module _ (tree : SearchedTree) where
     form_is_same (chain c fs) g e n = ap (chain_of c) (all_is_same fs g e n)
     form_is_same (sum_of ts) g e n = ap total_of (terms_is_same ts g e n)
     form_is_same (pair c a b) g e n = ap₂ (pair_of (position_at tree n).men c) (flat_is_same a g e n) (flat_is_same b g e n)
-    form_is_same (if_ a b c) g e n = ap₂ (λ x y. if_of x y (value tree g e c n)) (flat_is_same a g e n) (flat_is_same b g e n) ∙ ap (if_of (value tree [] e (flat g a) n) (value tree [] e (flat g b) n)) (flat_is_same c g e n)
+    form_is_same (if_ a b c) g e n = ap₂ (λ x y. if_of x y (value tree g e c n)) (flat_is_same a g e n) (flat_is_same b g e n)
+        ∙ ap (if_of (value tree [] e (flat g a) n) (value tree [] e (flat g b) n)) (flat_is_same c g e n)
     form_is_same (square every text a b) g e n = ap₂ (square_of every) (flat_is_same a g e n) (fun_ext (λ s. ap holds (flat_is_same b g ((text, s) ∷ e) n)))
     form_is_same (line (path back primary extent cs)) g e n = ap (λ p. line_of tree back primary extent p n) (parts_is_same cs g e)
     form_is_same (played p) g e n = ap as_truth (played_is_same p g e n)
@@ -163,8 +169,10 @@ module _ (tree : SearchedTree) where
 
     played_is_same : (p : PlayedTree) (g : Context) (e : Names) (n : ℕ) → played_value tree g e p n ≡ played_value tree [] e (flat_played g p) n
     played_is_same (move_of origin goal taken promoted) g e n =
-        ap₂ (λ x y. meets_all (led_to tree.game.nodes n) x y (written_value tree g e taken (before tree n)) (written_value tree g e promoted n)) (written_is_same origin g e (before tree n)) (written_is_same goal g e n)
-        ∙ ap₂ (λ x y. meets_all (led_to tree.game.nodes n) (written_value tree [] e (flat_written g origin) (before tree n)) (written_value tree [] e (flat_written g goal) n) x y) (written_is_same taken g e (before tree n)) (written_is_same promoted g e n)
+        ap₂ (λ x y. meets_all (led_to tree.game.nodes n) x y (written_value tree g e taken (before tree n)) (written_value tree g e promoted n))
+        (written_is_same origin g e (before tree n)) (written_is_same goal g e n)
+        ∙ ap₂ (λ x y. meets_all (led_to tree.game.nodes n) (written_value tree [] e (flat_written g origin) (before tree n))
+        (written_value tree [] e (flat_written g goal) n) x y) (written_is_same taken g e (before tree n)) (written_is_same promoted g e n)
 
     written_is_same : (w : WrittenTree) (g : Context) (e : Names) (n : ℕ) → written_value tree g e w n ≡ written_value tree [] e (flat_written g w) n
     written_is_same left_out g e n = refl

@@ -29,7 +29,8 @@ pub terms_tree_in : (ts : Terms) → terms_tree ts ≡ term_trees (terms_in ts)
 terms_tree_in (Terms' capacity row) = term_row_is row ∙ sym (ap (λ y. term_trees y.items.items) (outs-Terms' capacity row) ∙ ap term_trees (items_shown-the_row-Term-2 capacity row))
 
 pub parts_tree_in : (cs : Constituents) → parts_tree cs ≡ part_trees (parts_in cs)
-parts_tree_in (Constituents' capacity row) = part_row_is row ∙ sym (ap (λ y. part_trees y.items.items) (outs-Constituents' capacity row) ∙ ap part_trees (items_shown-the_row-Constituent-0 capacity row))
+parts_tree_in (Constituents' capacity row) = part_row_is row
+    ∙ sym (ap (λ y. part_trees y.items.items) (outs-Constituents' capacity row) ∙ ap part_trees (items_shown-the_row-Constituent-0 capacity row))
 
 pub filters_tree_rolled : (x : _) → filters_tree (roll-Filters x) ≡ filter_trees x.items.items
 filters_tree_rolled x = filters_tree_in (roll-Filters x) ∙ ap (λ y. filter_trees y.items.items) (out-roll-Filters x)
@@ -60,6 +61,7 @@ pub term_trees_more : (xs : List Term) (i : ℕ) (f : Term) → i < length xs �
 term_trees_more xs i f below is =
     ap term_trees (take_more xs i f below) ∙ term_trees_snoc (take i xs) (get_or xs i f) ∙ sym (ap (λ g. with_term (term_trees (take i xs)) g.minus (filter_tree g.filter)) is)
 
-pub part_trees_more : (xs : List Constituent) (i : ℕ) (f : Constituent) → i < length xs → f ≡ get_or xs i f → part_trees (take (i + 1) xs) ≡ with_part (part_trees (take i xs)) (body_tree f.body) f.mark
+pub part_trees_more : (xs : List Constituent) (i : ℕ) (f : Constituent) → i < length xs → f ≡ get_or xs i f
+    → part_trees (take (i + 1) xs) ≡ with_part (part_trees (take i xs)) (body_tree f.body) f.mark
 part_trees_more xs i f below is =
     ap part_trees (take_more xs i f below) ∙ part_trees_snoc (take i xs) (get_or xs i f) ∙ sym (ap (λ g. with_part (part_trees (take i xs)) (body_tree g.body) g.mark) is)

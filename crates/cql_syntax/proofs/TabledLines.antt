@@ -75,8 +75,13 @@ module _ (table : ℕ → ℕ → Bool) (Reach : ℕ → Type 0) where
   from_values (repeated l m p) (one _) t w all s = absurd t
   from_values (repeated l m p) nothing t w all s = absurd t
   from_values (repeated l m p) (joined _ _) t w all s = absurd t
-  from_values (repeated l m p) (repeated k o r) t w all s =
-      (s.0, subst (λ i. i ≤ s.0) (sym t.0) s.1, subst (λ i. IfSome i (λ j. s.0 ≤ j)) (sym t.1) s.2, times_same Reach (Spells (λ v n. holds (v n)) r) (Spells table p) (from_values p r t.2) s.0 w all s.3)
+  from_values (repeated l m p) (repeated k o r) t w all s = (
+    s.0,
+    subst (λ i. i ≤ s.0) (sym t.0) s.1,
+    subst (λ i. IfSome i (λ j. s.0 ≤ j)) (sym t.1) s.2,
+    times_same Reach (Spells (λ v n. holds (v n)) r)
+        (Spells table p) (from_values p r t.2) s.0 w all s.3,
+  )
 
 -- from searched nodes, a relation is that of the steps of paths
 record AreSteps (tree : SearchedTree) (back primary : Bool) (Edge : ℕ → ℕ → Type 0) : Type 0 where

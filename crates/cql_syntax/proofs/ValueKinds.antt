@@ -130,7 +130,8 @@ form_is tree g e (tagged field text) n = refl
 form_is tree g e (outcome o) n = refl
 form_is tree g e (elo whose) n = refl
 form_is tree g e (unary u f) n =
-    ap (λ k. is_of_kind k (unary_of tree (unary_image g u) (value tree g e f) n)) (sym (kept unary_kind (λ m x. if changes_light m then exchanged_light x else x) (λ m x. light_kept (changes_light m) x) g u))
+    ap (λ k. is_of_kind k (unary_of tree (unary_image g u) (value tree g e f) n))
+    (sym (kept unary_kind (λ m x. if changes_light m then exchanged_light x else x) (λ m x. light_kept (changes_light m) x) g u))
     ∙ unary_is tree (unary_image g u) (value tree g e f) n
 form_is tree g e (direction way a b f) n = refl
 form_is tree g e (chain c fs) n = chain_is c _

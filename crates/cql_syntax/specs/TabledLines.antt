@@ -36,7 +36,8 @@ Tabled table Reach (joined p q) (joined r s) = Tabled table Reach p r × Tabled 
 Tabled table Reach (repeated l m p) (repeated k o r) = (l ≡ k) × (m ≡ o) × Tabled table Reach p r
 Tabled table Reach p r = ⊥
 
--- At a searched node of the game the greatest length of a way that the table's pattern spells, and that the extent allows, is the value of the line.
+-- At a searched node of the game the greatest length of a way that the table's pattern spells, and that the extent allows, is the value
+-- of the line.
 abbrev pub LinesAreTheirs : Type 0
 LinesAreTheirs =
     (tree : SearchedTree) → IsTree tree.game.nodes → (back primary : Bool) (above : ℕ → Option ℕ) → AreParents tree primary above

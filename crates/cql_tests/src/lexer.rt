@@ -1,6 +1,5 @@
-use cq_outside::Refusal;
 use cql_lexer::{query_tokens, tokens_are_read, tokens_end_once};
-use cql_syntax::{Outcome, QueryFault, QueryReason, QueryTokenKind};
+use cql_syntax::{Outcome, QueryTokenKind};
 use std::alloc::Global;
 use std::process::Abort;
 use std::test::Fail;
@@ -206,54 +205,5 @@ fn tokens_are_by_the_first_rule(rt: HostRuntime) -> Result<(), Fail> {
     for (query, wanted) in RULES.iter() {
         gives(&rt, rt.alloc(), query, wanted)?;
     }
-    Ok(())
-}
-
-fn fault_of(alloc: Global, query: &[u8]) -> Option<QueryFault> {
-    let refusal = query_tokens(alloc, query).err()?;
-    match refusal {
-        Refusal::Fault(fault) => Some(fault),
-        Refusal::NoMemory => None,
-    }
-}
-
-fn refuses(rt: &impl Abort, alloc: Global, query: &[u8], byte: u32, reason: QueryReason) {
-    let wanted = Some(QueryFault { byte, reason });
-    assert_eq!(rt; fault_of(alloc, query), wanted, "in {query:?}");
-}
-
-#[test]
-fn the_first_fault_is_answered(rt: HostRuntime) -> Result<(), Fail> {
-    let alloc = rt.alloc();
-    let rows = [
-        (b"[Ra1]".as_slice(), 0, QueryReason::BadByte),
-        (b"x$".as_slice(), 1, QueryReason::BadByte),
-        (b"R[a1".as_slice(), 1, QueryReason::BadByte),
-        (b"\0".as_slice(), 0, QueryReason::BadByte),
-        (b"\x80".as_slice(), 0, QueryReason::BadByte),
-        (b"\xff".as_slice(), 0, QueryReason::BadByte),
-        (b"\"abc".as_slice(), 0, QueryReason::UnclosedText),
-        (b"1 1000000000".as_slice(), 2, QueryReason::NumberTooLarge),
-        (b"999999999 $".as_slice(), 10, QueryReason::BadByte),
-    ];
-    for (query, byte, reason) in rows {
-        refuses(&rt, alloc, query, byte, reason);
-    }
-    Ok(())
-}
-
-#[test]
-fn a_query_has_at_most_65536_bytes(rt: HostRuntime) -> Result<(), Fail> {
-    let alloc = rt.alloc();
-    let spaces = vec![in alloc; b' '; 65_537]?;
-    refuses(
-        &rt,
-        alloc,
-        spaces.as_slice(),
-        65_536,
-        QueryReason::QueryTooLong,
-    );
-    assert_eq!(rt; spaces.len(), 65_537);
-    gives(&rt, alloc, &spaces[..65_536], &[(65_536, Seen::End)])?;
     Ok(())
 }

@@ -27,7 +27,8 @@ pub bound_here : (pairs : List (List ℕ × ℕ)) (left k : ℕ) (d : List ℕ �
     → 1 * 2 ^ number % 18446744073709551616 < 2 ^ 64 → is_in (1 * 2 ^ number % 18446744073709551616) ≡ (λ s. nat_lt s 64 && is_bound_to e text s)
 bound_here pairs left k d text e next within same names number is low fits =
     is_mask (1 * 2 ^ number % 18446744073709551616) (is_bound_to e text) fits
-    (marks_same _ _ _ (λ s h. ap (λ m. m == s) is ∙ sym (found pairs k d text (omega (arith, next, within)) names s) ∙ ap (λ n. is_bound_to (reverse (take n pairs)) text s) next ∙ same s) (marks_one number low))
+    (marks_same _ _ _ (λ s h. ap (λ m. m == s) is ∙ sym (found pairs k d text (omega (arith, next, within)) names s)
+    ∙ ap (λ n. is_bound_to (reverse (take n pairs)) text s) next ∙ same s) (marks_one number low))
 
 pub bound_nowhere : (pairs : List (List ℕ × ℕ)) (left : ℕ) (text : List ℕ) (e : Names) → left ≡ 0 → ((s : ℕ) → is_bound_to (reverse (take left pairs)) text s ≡ is_bound_to e text s)
     → is_in 0 ≡ (λ s. nat_lt s 64 && is_bound_to e text s)

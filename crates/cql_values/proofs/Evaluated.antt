@@ -70,7 +70,8 @@ some_kept set asked (x ∷ xs) = by (set x) (filter set xs) (list_any (settles f
     by false rest found e = e
 
 -- what is asked of a square, by the squares that settle it
-pub by_settling : (every : Bool) (x : Value) (asked : ℕ → Bool) (found : Bool) → found ≡ list_any (settles every (has x) asked) squares → square_of every x asked ≡ as_truth (if found then not every else every)
+pub by_settling : (every : Bool) (x : Value) (asked : ℕ → Bool) (found : Bool) → found ≡ list_any (settles every (has x) asked) squares
+    → square_of every x asked ≡ as_truth (if found then not every else every)
 by_settling true x asked found e = ap as_truth (every_kept (has x) asked squares ∙ ap not (sym e) ∙ turned found)
   where
     turned : (b : Bool) → not b ≡ (if b then not true else true)

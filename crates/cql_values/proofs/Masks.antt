@@ -123,7 +123,8 @@ union_step mask x xs has i d lt e m = record {
   bit = λ s low. (union_more mask x (λ s. list_any (λ v. has v s) (take i xs)) (has (get_or xs i d)) e m).bit s low ∙ ap bit_of (sym (list_any_more (λ v. has v s) xs i d lt));
 }
 
-pub union_is : {A B : Type 0} (mask : ℕ) (xs : List A) (f : A → B) (has : B → ℕ → Bool) → mask < 2 ^ 64 → IsBitboard mask (λ s. list_any (λ v. has (f v) s) xs) → is_in mask ≡ (λ s. nat_lt s 64 && list_any (λ v. has v s) (map f xs))
+pub union_is : {A B : Type 0} (mask : ℕ) (xs : List A) (f : A → B) (has : B → ℕ → Bool) → mask < 2 ^ 64
+    → IsBitboard mask (λ s. list_any (λ v. has (f v) s) xs) → is_in mask ≡ (λ s. nat_lt s 64 && list_any (λ v. has v s) (map f xs))
 union_is mask xs f has fits m = is_mask mask _ fits (record { bit = λ s low. m.bit s low ∙ ap bit_of (sym (any_mapped (λ v. has v s) f xs)) })
 
 pub all_squares : IsBitboard (2 ^ 64 - 1) (λ s. true)
@@ -136,7 +137,8 @@ intersection_step mask x xs has i d lt e m = record {
       ∙ min_of (list_all (λ v. has v s) (take i xs)) (has (get_or xs i d) s) ∙ ap bit_of (sym (list_all_more (λ v. has v s) xs i d lt));
 }
 
-pub intersection_is : {A B : Type 0} (mask : ℕ) (xs : List A) (f : A → B) (has : B → ℕ → Bool) → mask < 2 ^ 64 → IsBitboard mask (λ s. list_all (λ v. has (f v) s) xs) → is_in mask ≡ (λ s. nat_lt s 64 && list_all (λ v. has v s) (map f xs))
+pub intersection_is : {A B : Type 0} (mask : ℕ) (xs : List A) (f : A → B) (has : B → ℕ → Bool) → mask < 2 ^ 64
+    → IsBitboard mask (λ s. list_all (λ v. has (f v) s) xs) → is_in mask ≡ (λ s. nat_lt s 64 && list_all (λ v. has v s) (map f xs))
 intersection_is mask xs f has fits m = is_mask mask _ fits (record { bit = λ s low. m.bit s low ∙ ap bit_of (sym (all_mapped (λ v. has v s) f xs)) })
 
 -- the squares of a set that are on the board and in another

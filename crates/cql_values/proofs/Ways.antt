@@ -18,13 +18,15 @@ abbrev pub left_up : Option ℕ → ℕ
 left_up None = 0
 left_up (Some n) = n + 1
 
-pub way_more : (nodes : List Node) (way : List ℕ) (m : ℕ) (o : Option ℕ) (whole : List ℕ) → IsTree nodes → o ≡ (node_at nodes m).parent → way ++ way_up nodes m ≡ whole → (way ++ m ∷ []) ++ way_from nodes o ≡ whole
+pub way_more : (nodes : List Node) (way : List ℕ) (m : ℕ) (o : Option ℕ) (whole : List ℕ) → IsTree nodes → o ≡ (node_at nodes m).parent
+    → way ++ way_up nodes m ≡ whole → (way ++ m ∷ []) ++ way_from nodes o ≡ whole
 way_more nodes way m o whole tree is e = append_assoc way (m ∷ []) (way_from nodes o) ∙ ap (λ l. way ++ l) (sym (way_on nodes m o tree (sym is))) ∙ e
 
 -- all of it are nodes
 pub way_inside : (nodes : List Node) (n : ℕ) → IsTree nodes → n < length nodes → All (λ m. m < length nodes) (way_up nodes n)
 way_inside nodes n tree h =
-    All-weaker (Contains (way_up nodes n)) (λ m. m < length nodes) (λ m on. let r = reaches nodes (tree_first nodes tree) n m on in omega (arith, r.less, h)) (way_up nodes n) (All-contains_itself (way_up nodes n))
+    All-weaker (Contains (way_up nodes n)) (λ m. m < length nodes)
+    (λ m on. let r = reaches nodes (tree_first nodes tree) n m on in omega (arith, r.less, h)) (way_up nodes n) (All-contains_itself (way_up nodes n))
 
 in_numbers : (a n : ℕ) → All (λ k. (a ≤ k) × (k < a + n)) (range_with_len a n)
 in_numbers a n = λ k d h.
@@ -38,12 +40,14 @@ numbers_inside nodes = All-weaker (λ k. (0 ≤ k) × (k < 0 + length nodes)) (�
 pub children_inside : (nodes : List Node) (variations : Bool) (n : ℕ) → All (λ m. m < length nodes) (filter (is_searched variations nodes) (children nodes n))
 unfolding children
 children_inside nodes variations n =
-    All-filter (is_searched variations nodes) (λ m. m < length nodes) (filter (is_child_of nodes n) (numbers nodes)) (All-filter (is_child_of nodes n) (λ m. m < length nodes) (numbers nodes) (numbers_inside nodes))
+    All-filter (is_searched variations nodes) (λ m. m < length nodes) (filter (is_child_of nodes n) (numbers nodes))
+    (All-filter (is_child_of nodes n) (λ m. m < length nodes) (numbers nodes) (numbers_inside nodes))
 
 pub below_inside : (nodes : List Node) (variations : Bool) (n : ℕ) → All (λ m. m < length nodes) (filter (is_below nodes n) (searched variations nodes))
 unfolding searched
 below_inside nodes variations n =
-    All-filter (is_below nodes n) (λ m. m < length nodes) (filter (is_searched variations nodes) (numbers nodes)) (All-filter (is_searched variations nodes) (λ m. m < length nodes) (numbers nodes) (numbers_inside nodes))
+    All-filter (is_below nodes n) (λ m. m < length nodes) (filter (is_searched variations nodes) (numbers nodes))
+    (All-filter (is_searched variations nodes) (λ m. m < length nodes) (numbers nodes) (numbers_inside nodes))
 
 -- tests that agree on a range
 same_filter : (p q : ℕ → Bool) (a n : ℕ) → ((k : ℕ) → a ≤ k → p k ≡ q k) → filter p (range_with_len a n) ≡ filter q (range_with_len a n)
@@ -60,7 +64,8 @@ later_only : (p : ℕ → Bool) (a k : ℕ) → a + 1 ≤ k → p k ≡ (nat_lt 
 later_only p a k h = let less : a < k = omega (arith, h) in rw (lt-ltb a k less) refl
 
 not_self : (p : ℕ → Bool) (a n : ℕ) → filter (λ k. nat_lt a k && p k) (range_with_len a (suc n)) ≡ filter (λ k. nat_lt a k && p k) (range_with_len (a + 1) n)
-not_self p a n = let self : a ≤ a = omega arith in ap (λ b. cond (b && p a) (a ∷ filter (λ k. nat_lt a k && p k) (range_with_len (a + 1) n)) (filter (λ k. nat_lt a k && p k) (range_with_len (a + 1) n))) (le-ltb a a self)
+not_self p a n = let self : a ≤ a = omega arith in ap (λ b. cond (b && p a) (a ∷ filter (λ k. nat_lt a k && p k) (range_with_len (a + 1) n))
+    (filter (λ k. nat_lt a k && p k) (range_with_len (a + 1) n))) (le-ltb a a self)
 
 skips : (p : ℕ → Bool) (a n : ℕ) (o : Option ℕ) → p a ≡ false → after p (a + 1) n o ≡ after p a (suc n) o
 skips p a n None e = refl

@@ -264,9 +264,11 @@ module _ (follow : LexemesFollow) (grow : ReadingsGrow) (longest : AreLongest) w
       let ends : end l ≡ place = omega arith in
       let before : ends_before game l ≡ false = ap (λ t. t && first && has_movetext game) (grows_no_open (reading first b bs).kind grows) in
       subst (FinishesAt place) (sym (ap (cut_from place game) (one_lexeme at first b bs dark whole)
-      ∙ ap (λ t. cond t (span_to at game ++ cut_from place (l ∷ []) []) (cond (ends_after game l) (span_to (end l) (game ++ l ∷ []) ++ cut_from place [] []) (cut_from place (game ++ l ∷ []) []))) before
+      ∙ ap (λ t. cond t (span_to at game ++ cut_from place (l ∷ []) [])
+      (cond (ends_after game l) (span_to (end l) (game ++ l ∷ []) ++ cut_from place [] []) (cut_from place (game ++ l ∷ []) []))) before
       ∙ ap (λ e. cond (ends_after game l) (span_to e (game ++ l ∷ []) ++ cut_from place [] []) (cut_from place (game ++ l ∷ []) [])) ends))
-      (of_both (FinishesAt place) (ends_after game l) (span_to place (game ++ l ∷ []) ++ []) (cut_from place (game ++ l ∷ []) []) (first_of_span place (game ++ l ∷ [])) (last_ends place (game ++ l ∷ [])))
+      (of_both (FinishesAt place) (ends_after game l) (span_to place (game ++ l ∷ []) ++ []) (cut_from place (game ++ l ∷ []) [])
+      (first_of_span place (game ++ l ∷ [])) (last_ends place (game ++ l ∷ [])))
 
   -- the reading of such a text with x after it either takes the x or stays
   x_taken : (at : ℕ) (first : Bool) (game : List Lexeme) (b : ℕ) (bs : List ℕ) → is_white b ≡ false → length (b ∷ bs) < (reading first b (bs ++ 120 ∷ [])).len
@@ -287,7 +289,8 @@ module _ (follow : LexemesFollow) (grow : ReadingsGrow) (longest : AreLongest) w
       (last_ends place (game ++ l ∷ []))
 
   -- a symbol takes the x
-  no_symbol : (first : Bool) (b : ℕ) (bs : List ℕ) → (reading first b bs).len ≡ length (b ∷ bs) → (reading first b (bs ++ 120 ∷ [])).len ≤ length (b ∷ bs) → (reading first b bs).kind ≡ Token Symbol → ⊥
+  no_symbol : (first : Bool) (b : ℕ) (bs : List ℕ) → (reading first b bs).len ≡ length (b ∷ bs)
+      → (reading first b (bs ++ 120 ∷ [])).len ≤ length (b ∷ bs) → (reading first b bs).kind ≡ Token Symbol → ⊥
   no_symbol first b bs whole stays is =
       let short = longest first b bs in
       let size : length (b ∷ bs ++ 120 ∷ []) ≡ length (b ∷ bs) + 1 = length-append (b ∷ bs) (120 ∷ []) in

@@ -60,10 +60,13 @@ module _ (start : ℕ) (text : List ℕ) where
       of_both (AllByRecursion (CleanSpan start text)) (list_all (λ l. is_passed_over l.kind) game) [] (span_to place game) tt (span_clean place game clean before)
   cut_clean place game (l ∷ ls) clean before after =
       let more = all_append (StandsIn start true text) game (l ∷ []) before (after.0, tt) in
-      of_both (AllByRecursion (CleanSpan start text)) (ends_before game l) (span_to l.at game ++ cut_from place (l ∷ []) ls) (if ends_after game l then span_to (end l) (game ++ l ∷ []) ++ cut_from place [] ls else cut_from place (game ++ l ∷ []) ls)
-      (all_append (CleanSpan start text) (span_to l.at game) (cut_from place (l ∷ []) ls) (span_clean l.at game (begin_clean l after.0) before) (cut_clean place (l ∷ []) ls clean (after.0, tt) after.1))
+      of_both (AllByRecursion (CleanSpan start text)) (ends_before game l) (span_to l.at game ++ cut_from place (l ∷ []) ls)
+      (if ends_after game l then span_to (end l) (game ++ l ∷ []) ++ cut_from place [] ls else cut_from place (game ++ l ∷ []) ls)
+      (all_append (CleanSpan start text) (span_to l.at game) (cut_from place (l ∷ []) ls) (span_clean l.at game (begin_clean l after.0) before)
+      (cut_clean place (l ∷ []) ls clean (after.0, tt) after.1))
       (of_both (AllByRecursion (CleanSpan start text)) (ends_after game l) (span_to (end l) (game ++ l ∷ []) ++ cut_from place [] ls) (cut_from place (game ++ l ∷ []) ls)
-      (all_append (CleanSpan start text) (span_to (end l) (game ++ l ∷ [])) (cut_from place [] ls) (span_clean (end l) (game ++ l ∷ []) (end_clean l after.0) more) (cut_clean place [] ls clean tt after.1))
+      (all_append (CleanSpan start text) (span_to (end l) (game ++ l ∷ [])) (cut_from place [] ls)
+      (span_clean (end l) (game ++ l ∷ []) (end_clean l after.0) more) (cut_clean place [] ls clean tt after.1))
       (cut_clean place (game ++ l ∷ []) ls clean more after.1))
 
   -- the text's end is such a place

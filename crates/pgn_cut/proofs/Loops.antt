@@ -41,10 +41,12 @@ pub feeding_turn : (was now next : Cutter) (piece : List ℕ) (at taken : ℕ) (
     → IsFeeding was now piece at before after → taken ≤ length (take (length piece - at) (drop at piece)) → HasGained now next (take taken (take (length piece - at) (drop at piece))) after more
     → IsFeeding was next piece (at + taken) before more
 feeding_turn was now next piece at taken before after more fed stands few f fits gained =
-    feeding_on was now next piece at taken before after more fed stands few f (let len = rest_len piece at in omega (arith, fits)) (subst (λ l. HasGained now next (take taken l) after more) (rest_is piece at) gained)
+    feeding_on was now next piece at taken before after more fed stands few f (let len = rest_len piece at in omega (arith, fits))
+    (subst (λ l. HasGained now next (take taken l) after more) (rest_is piece at) gained)
 
 -- a call that is refused
-pub feeding_back : (was now : Cutter) (piece : List ℕ) (at : ℕ) (before after more : List Span) (len : ℕ) → IsFeeding was now piece at before after → more ≡ after → len ≡ length before → take len more ≡ before
+pub feeding_back : (was now : Cutter) (piece : List ℕ) (at : ℕ) (before after more : List Span) (len : ℕ) → IsFeeding was now piece at before after
+    → more ≡ after → len ≡ length before → take len more ≡ before
 feeding_back was now piece at before after more len f same len_is =
     ap₂ take len_is (same ∙ f.gained.spans) ∙ take-append_seam before f.gained.gained
 

@@ -37,12 +37,14 @@ module _ (game : List Lexeme) (l : Lexeme) (was : OpenGame) (is : was ≡ progre
         kept = l ∷ [];
         stands = now_is;
         cuts = λ place rest.
-            ap (λ b. cond b (span_to l.at game ++ cut_from place (l ∷ []) rest) (cond (ends_after game l) (span_to (end l) (game ++ l ∷ []) ++ cut_from place [] rest) (cut_from place (game ++ l ∷ []) rest))) test
+            ap (λ b. cond b (span_to l.at game ++ cut_from place (l ∷ []) rest)
+            (cond (ends_after game l) (span_to (end l) (game ++ l ∷ []) ++ cut_from place [] rest) (cut_from place (game ++ l ∷ []) rest))) test
             ∙ ap (λ s. s ++ cut_from place (l ∷ []) rest) (sym span);
       }
 
   pub closes_after : (t u : Bool) → t ≡ (opens l.kind && l.first && was.has_movetext) → t ≡ false → u ≡ (marks l.kind l.text && was.depth == 0) → u ≡ true
-      → (more : OpenGame) → more ≡ progress_of (game ++ l ∷ []) → (now : OpenGame) → now ≡ progress_of [] → (closed : Option Span) → closed ≡ span_from (end l) more.start → IsStepOfCut now closed l game
+      → (more : OpenGame) → more ≡ progress_of (game ++ l ∷ []) → (now : OpenGame) → now ≡ progress_of [] → (closed : Option Span)
+      → closed ≡ span_from (end l) more.start → IsStepOfCut now closed l game
   unfolding cut_from
   closes_after t u t_is no_ u_is yes_ more more_is now now_is closed closed_is =
       let test = before_is t t_is ∙ no_ in
@@ -52,7 +54,8 @@ module _ (game : List Lexeme) (l : Lexeme) (was : OpenGame) (is : was ≡ progre
         kept = [];
         stands = now_is;
         cuts = λ place rest.
-            ap (λ b. cond b (span_to l.at game ++ cut_from place (l ∷ []) rest) (cond (ends_after game l) (span_to (end l) (game ++ l ∷ []) ++ cut_from place [] rest) (cut_from place (game ++ l ∷ []) rest))) test
+            ap (λ b. cond b (span_to l.at game ++ cut_from place (l ∷ []) rest)
+            (cond (ends_after game l) (span_to (end l) (game ++ l ∷ []) ++ cut_from place [] rest) (cut_from place (game ++ l ∷ []) rest))) test
             ∙ ap (λ b. cond b (span_to (end l) (game ++ l ∷ []) ++ cut_from place [] rest) (cut_from place (game ++ l ∷ []) rest)) marker
             ∙ ap (λ s. s ++ cut_from place [] rest) (sym span);
       }
@@ -67,6 +70,7 @@ module _ (game : List Lexeme) (l : Lexeme) (was : OpenGame) (is : was ≡ progre
         kept = game ++ l ∷ [];
         stands = now_is;
         cuts = λ place rest.
-            ap (λ b. cond b (span_to l.at game ++ cut_from place (l ∷ []) rest) (cond (ends_after game l) (span_to (end l) (game ++ l ∷ []) ++ cut_from place [] rest) (cut_from place (game ++ l ∷ []) rest))) test
+            ap (λ b. cond b (span_to l.at game ++ cut_from place (l ∷ []) rest)
+            (cond (ends_after game l) (span_to (end l) (game ++ l ∷ []) ++ cut_from place [] rest) (cut_from place (game ++ l ∷ []) rest))) test
             ∙ ap (λ b. cond b (span_to (end l) (game ++ l ∷ []) ++ cut_from place [] rest) (cut_from place (game ++ l ∷ []) rest)) marker;
       }

@@ -135,7 +135,8 @@ inside_each from to (l ∷ ls) first last =
     (grind (arith, nat_tests), inside_each from to ls first.1 last.1)
 
 -- lexemes between others are those within their places
-pub within_is : (from to : ℕ) (done mid rest : List Lexeme) → AllByRecursion (λ l. l.at < from) done → AllByRecursion (λ l. from ≤ l.at) mid → AllByRecursion (λ l. l.at < to) mid → AllByRecursion (λ l. to ≤ l.at) rest
+pub within_is : (from to : ℕ) (done mid rest : List Lexeme) → AllByRecursion (λ l. l.at < from) done → AllByRecursion (λ l. from ≤ l.at) mid
+    → AllByRecursion (λ l. l.at < to) mid → AllByRecursion (λ l. to ≤ l.at) rest
     → within from to (done ++ (mid ++ rest)) ≡ mid
 within_is from to done mid rest before first last after =
     let test : Lexeme → Bool = λ l. nat_le from l.at && nat_lt l.at to in
@@ -183,16 +184,19 @@ each_whole all done game (l ∷ ls) q place is before order last open_ =
     let done_before = map_all (λ m. m.at < q) (λ m. m.at < l.at) (λ m less. omega arith) done before in
     let by_end = map_all (λ m. m.at < l.at) (λ m. m.at < end l) (λ m less. omega arith) game game_before in
     let game_by_end = all_both (λ m. m.at < end l) game (l ∷ []) by_end (omega arith, tt) in
-    by_test (AllByRecursion (IsWhole all)) (ends_before game l) (span_to l.at game ++ cut_from place (l ∷ []) ls) (if ends_after game l then span_to (end l) (game ++ l ∷ []) ++ cut_from place [] ls else cut_from place (game ++ l ∷ []) ls)
+    by_test (AllByRecursion (IsWhole all)) (ends_before game l) (span_to l.at game ++ cut_from place (l ∷ []) ls)
+    (if ends_after game l then span_to (end l) (game ++ l ∷ []) ++ cut_from place [] ls else cut_from place (game ++ l ∷ []) ls)
     (λ ends. all_both (IsWhole all) (span_to l.at game) (cut_from place (l ∷ []) ls)
     (span_whole all done game (l ∷ ls) q l.at is before order game_before (order_from l.at (l ∷ ls) begun) (open_uncut game open_))
-    (each_whole all (done ++ game) (l ∷ []) ls l.at place (is ∙ sym (append_assoc done game (l ∷ ls))) (all_both (λ m. m.at < l.at) done game done_before game_before) begun later (first_open game l ends)))
+    (each_whole all (done ++ game) (l ∷ []) ls l.at place (is ∙ sym (append_assoc done game (l ∷ ls)))
+    (all_both (λ m. m.at < l.at) done game done_before game_before) begun later (first_open game l ends)))
     (λ goes. by_test (AllByRecursion (IsWhole all)) (ends_after game l) (span_to (end l) (game ++ l ∷ []) ++ cut_from place [] ls) (cut_from place (game ++ l ∷ []) ls)
     (λ ends. all_both (IsWhole all) (span_to (end l) (game ++ l ∷ [])) (cut_from place [] ls)
     (span_whole all done (game ++ l ∷ []) ls q (end l) is_pushed before (subst (InOrder q) pushed order) game_by_end rest_after (closed_uncut game l open_ goes))
     (each_whole all (done ++ (game ++ l ∷ [])) [] ls (end l) place (is_pushed ∙ sym (append_assoc done (game ++ l ∷ []) ls))
     (all_both (λ m. m.at < end l) done (game ++ l ∷ []) (map_all (λ m. m.at < l.at) (λ m. m.at < end l) (λ m less. omega arith) done done_before) game_by_end) begun.2 later.1 none_open))
-    (λ goes_on. each_whole all done (game ++ l ∷ []) ls q place is_pushed before (subst (InOrder q) pushed order) (subst (AllByRecursion (λ m. m.at < place)) pushed last) (more_open game l open_ goes goes_on)))
+    (λ goes_on. each_whole all done (game ++ l ∷ []) ls q place is_pushed before (subst (InOrder q) pushed order)
+    (subst (AllByRecursion (λ m. m.at < place)) pushed last) (more_open game l open_ goes goes_on)))
 
 all_whole : StandInOrder → StandApart → (archive : List ℕ) → AllByRecursion (IsWhole (archive_lexemes archive)) (cut archive)
 all_whole in_order apart archive =
@@ -222,7 +226,8 @@ unfolding HasNoEnd
 games_uncut in_order apart are_local start first bytes is =
     let all = All-from_recursion (HasNoEnd is.archive) (cut is.archive) (each_uncut in_order apart are_local is.archive) in
     let here : IsUncut (lexemes is.game.start is.game.first (game_bytes is.archive is.game)) = All-contains (HasNoEnd is.archive) (cut is.archive) is.game all is.among in
-    subst (λ s. IsUncut (lexemes s first bytes)) is.starts (subst (λ f. IsUncut (lexemes is.game.start f bytes)) is.column (subst (λ b. IsUncut (lexemes is.game.start is.game.first b)) (sym is.has) here))
+    subst (λ s. IsUncut (lexemes s first bytes)) is.starts
+    (subst (λ f. IsUncut (lexemes is.game.start f bytes)) is.column (subst (λ b. IsUncut (lexemes is.game.start is.game.first b)) (sym is.has) here))
 
 -- where a token stands among the lexemes that give it
 record Split (ls : List Lexeme) (before : List GameToken) (t : GameToken) (after : List GameToken) : Type 0 where
@@ -234,7 +239,8 @@ record Split (ls : List Lexeme) (before : List GameToken) (t : GameToken) (after
   here : token_of l ≡ t ∷ []
   later : tokens_among ys ≡ after
 
-one_on : (m : Lexeme) (ls : List Lexeme) (before whole : List GameToken) (t : GameToken) (after : List GameToken) → token_of m ++ before ≡ whole → Split ls before t after → Split (m ∷ ls) whole t after
+one_on : (m : Lexeme) (ls : List Lexeme) (before whole : List GameToken) (t : GameToken) (after : List GameToken) → token_of m ++ before ≡ whole
+    → Split ls before t after → Split (m ∷ ls) whole t after
 one_on m ls before whole t after joined_ s = record {
   xs = m ∷ s.xs;
   l = s.l;
@@ -246,7 +252,8 @@ one_on m ls before whole t after joined_ s = record {
 }
 
 split_at : (m : Lexeme) (kind : LexemeKind) → m.kind ≡ kind → (ls : List Lexeme) (before : List GameToken) (t : GameToken) (after : List GameToken)
-    → ((less : List GameToken) → tokens_among ls ≡ less ++ t ∷ after → Split ls less t after) → token_if m.at (length m.text) kind ++ tokens_among ls ≡ before ++ t ∷ after → Split (m ∷ ls) before t after
+    → ((less : List GameToken) → tokens_among ls ≡ less ++ t ∷ after → Split ls less t after)
+    → token_if m.at (length m.text) kind ++ tokens_among ls ≡ before ++ t ∷ after → Split (m ∷ ls) before t after
 split_at m EscapeLine kind_is ls before t after rec e = one_on m ls before before t after (ap (λ k. token_if m.at (length m.text) k ++ before) kind_is) (rec before e)
 split_at m (Token kind) kind_is ls [] t after rec e =
     let same : record { at = m.at; len = length m.text; kind = kind } ≡ t = ap (λ l. get_or l 0 t) e in
@@ -260,7 +267,8 @@ split_tokens [] before t after e = absurd (no_split before t after e)
 split_tokens (m ∷ ls) before t after e = split_at m m.kind refl ls before t after (λ less is. split_tokens ls less t after is) e
 
 -- escape lines open no variation
-depth_over : (d at len : ℕ) (kind : LexemeKind) (ts : List GameToken) → fold (λ n (t : GameToken). nest n (Token t.kind)) d (token_if at len kind ++ ts) ≡ fold (λ n (t : GameToken). nest n (Token t.kind)) (nest d kind) ts
+depth_over : (d at len : ℕ) (kind : LexemeKind) (ts : List GameToken)
+    → fold (λ n (t : GameToken). nest n (Token t.kind)) d (token_if at len kind ++ ts) ≡ fold (λ n (t : GameToken). nest n (Token t.kind)) (nest d kind) ts
 depth_over d at len EscapeLine ts = refl
 depth_over d at len (Token kind) ts = refl
 

@@ -46,7 +46,8 @@ unfolding cut_from Begins Opens
 open_first place from g gs [] order ends = of_both (Opens g.at from) (list_all (λ l. is_passed_over l.kind) (g ∷ gs)) [] (span_to place (g ∷ gs)) tt (refl, tt)
 open_first place from g gs (l ∷ ls) order ends =
     let begins = order.0 in let some = order.1 in let last = ends.0 in
-    of_both (Opens g.at from) (ends_before (g ∷ gs) l) (span_to l.at (g ∷ gs) ++ cut_from place (l ∷ []) ls) (if ends_after (g ∷ gs) l then span_to (end l) (g ∷ gs ++ l ∷ []) ++ cut_from place [] ls else cut_from place (g ∷ gs ++ l ∷ []) ls)
+    of_both (Opens g.at from) (ends_before (g ∷ gs) l) (span_to l.at (g ∷ gs) ++ cut_from place (l ∷ []) ls)
+    (if ends_after (g ∷ gs) l then span_to (end l) (g ∷ gs ++ l ∷ []) ++ cut_from place [] ls else cut_from place (g ∷ gs ++ l ∷ []) ls)
     (refl, starts_from from place (cut_from place (l ∷ []) ls) (cut_in_order place from (end l) (l ∷ []) ls (begins, omega arith) last order.2 ends.1))
     (of_both (Opens g.at from) (ends_after (g ∷ gs) l) (span_to (end l) (g ∷ gs ++ l ∷ []) ++ cut_from place [] ls) (cut_from place (g ∷ gs ++ l ∷ []) ls)
     (refl, starts_from from place (cut_from place [] ls) (cut_in_order place from (end l) [] ls (omega arith) last order.2 ends.1))
@@ -64,7 +65,8 @@ unfolding cut_from Begins Opens start_or
 open_next place from game l ls no_open late last order ends =
     let before : ends_before game l ≡ false = ap (λ t. t && l.first && has_movetext game) no_open in
     subst (Opens (start_or game l.at) from)
-    (sym (ap (λ t. cond t (span_to l.at game ++ cut_from place (l ∷ []) ls) (cond (ends_after game l) (span_to (end l) (game ++ l ∷ []) ++ cut_from place [] ls) (cut_from place (game ++ l ∷ []) ls))) before))
+    (sym (ap (λ t. cond t (span_to l.at game ++ cut_from place (l ∷ []) ls)
+    (cond (ends_after game l) (span_to (end l) (game ++ l ∷ []) ++ cut_from place [] ls) (cut_from place (game ++ l ∷ []) ls))) before))
     (of_both (Opens (start_or game l.at) from) (ends_after game l) (span_to (end l) (game ++ l ∷ []) ++ cut_from place [] ls) (cut_from place (game ++ l ∷ []) ls) (closes game) (goes_on game))
   where
     after : AllByRecursion (λ t. from ≤ t.start) (cut_from place [] ls)
@@ -84,7 +86,8 @@ unfolding Opens
 opens_at front more place [] all = tt
 opens_at front more place (g ∷ games) all = (inl all.0, All-from_recursion (λ t. length front ≤ t.start) games all.1)
 
-marked_at : (front more : List ℕ) (place : ℕ) (games : List Span) → length front < text_start (front ++ more) → AllByRecursion (λ t. length front ≤ t.start) games → AreOpenAt (Some place) front more games
+marked_at : (front more : List ℕ) (place : ℕ) (games : List Span) → length front < text_start (front ++ more)
+    → AllByRecursion (λ t. length front ≤ t.start) games → AreOpenAt (Some place) front more games
 marked_at front more place [] mark all = tt
 marked_at front more place (g ∷ games) mark all = (inr (mark, all.0), All-from_recursion (λ t. length front ≤ t.start) games all.1)
 
@@ -190,26 +193,33 @@ module _ (in_order : StandInOrder) (apart : StandApart) (follow : LexemesFollow)
     in_text t more = subst (λ start. AreOpenAt (open_place start c.state c.at) fed more (later_games fed more)) (sym (start_is c t.kept t.game))
         (subst (AreOpenAt (open_place (begins_at (start_of t.kept)) c.state c.at) fed more) (sym (later_are t more)) (⊎_elim (nothing t.kept) (something t.kept) (between_or c.state)))
       where
-        nothing : (kept : List Lexeme) → c.state ≡ Between → AreOpenAt (open_place (begins_at (start_of kept)) c.state c.at) fed more (cut_from (length fed + length more) kept (lexemes c.at c.first (t.bytes ++ more)))
+        nothing : (kept : List Lexeme) → c.state ≡ Between → AreOpenAt (open_place (begins_at (start_of kept)) c.state c.at) fed more
+            (cut_from (length fed + length more) kept (lexemes c.at c.first (t.bytes ++ more)))
         nothing kept is =
             let none : t.bytes ≡ [] = subst (λ s. IsOpen c.first s t.bytes) is t.opened in
             let here : c.at ≡ length fed = let len = ap length none in let h = t.here in omega arith in
             subst (λ s. AreOpenAt (open_place (begins_at (start_of kept)) s c.at) fed more (cut_from (length fed + length more) kept (lexemes c.at c.first (t.bytes ++ more)))) (sym is)
-            (subst (λ bytes. AreOpenAt (open_place (begins_at (start_of kept)) Between c.at) fed more (cut_from (length fed + length more) kept (lexemes c.at c.first (bytes ++ more)))) (sym none) (by kept here))
+            (subst (λ bytes. AreOpenAt (open_place (begins_at (start_of kept)) Between c.at) fed more
+            (cut_from (length fed + length more) kept (lexemes c.at c.first (bytes ++ more)))) (sym none) (by kept here))
           where
-            by : (kept : List Lexeme) → c.at ≡ length fed → AreOpenAt (open_place (begins_at (start_of kept)) Between c.at) fed more (cut_from (length fed + length more) kept (lexemes c.at c.first more))
+            by : (kept : List Lexeme) → c.at ≡ length fed → AreOpenAt (open_place (begins_at (start_of kept)) Between c.at) fed more
+                (cut_from (length fed + length more) kept (lexemes c.at c.first more))
             by [] here = All-from_recursion (λ g. length fed ≤ g.start) (cut_from (length fed + length more) [] (lexemes c.at c.first more))
-                (subst (λ n. AllByRecursion (λ g. n ≤ g.start) (cut_from (length fed + length more) [] (lexemes c.at c.first more))) here (open_none c.at c.first more (length fed + length more) (omega arith)))
+                (subst (λ n. AllByRecursion (λ g. n ≤ g.start) (cut_from (length fed + length more) [] (lexemes c.at c.first more))) here
+                (open_none c.at c.first more (length fed + length more) (omega arith)))
             by (g ∷ gs) here = opens_at fed more g.at (cut_from (length fed + length more) (g ∷ gs) (lexemes c.at c.first more))
                 (subst (λ n. Opens g.at n (cut_from (length fed + length more) (g ∷ gs) (lexemes c.at c.first more))) here (open_game c.at c.first more g gs (length fed + length more) (omega arith)))
 
-        something : (kept : List Lexeme) → (c.state ≡ Between → ⊥) → AreOpenAt (open_place (begins_at (start_of kept)) c.state c.at) fed more (cut_from (length fed + length more) kept (lexemes c.at c.first (t.bytes ++ more)))
+        something : (kept : List Lexeme) → (c.state ≡ Between → ⊥)
+            → AreOpenAt (open_place (begins_at (start_of kept)) c.state c.at) fed more (cut_from (length fed + length more) kept (lexemes c.at c.first (t.bytes ++ more)))
         something kept other = by kept (subst (λ n. Opens (start_or kept c.at) n (cut_from (length fed + length more) kept (lexemes c.at c.first (t.bytes ++ more)))) t.here
-            (open_lexeme c.at c.first t.bytes more kept (length fed + length more) (ends c.first c.state t.bytes t.opened other).1 (some_open c.first c.state t.bytes t.opened other) (let h = t.here in omega arith)))
+            (open_lexeme c.at c.first t.bytes more kept (length fed + length more) (ends c.first c.state t.bytes t.opened other).1
+            (some_open c.first c.state t.bytes t.opened other) (let h = t.here in omega arith)))
           where
             by : (kept : List Lexeme) → Opens (start_or kept c.at) (length fed) (cut_from (length fed + length more) kept (lexemes c.at c.first (t.bytes ++ more)))
                 → AreOpenAt (open_place (begins_at (start_of kept)) c.state c.at) fed more (cut_from (length fed + length more) kept (lexemes c.at c.first (t.bytes ++ more)))
-            by [] all = subst (λ o. AreOpenAt o fed more (cut_from (length fed + length more) [] (lexemes c.at c.first (t.bytes ++ more)))) (sym (at_lexeme c.first c.state t.bytes c.at t.opened other))
+            by [] all = subst (λ o. AreOpenAt o fed more (cut_from (length fed + length more) [] (lexemes c.at c.first (t.bytes ++ more))))
+                (sym (at_lexeme c.first c.state t.bytes c.at t.opened other))
                 (opens_at fed more c.at (cut_from (length fed + length more) [] (lexemes c.at c.first (t.bytes ++ more))) all)
             by (g ∷ gs) all = opens_at fed more g.at (cut_from (length fed + length more) (g ∷ gs) (lexemes c.at c.first (t.bytes ++ more))) all
 
@@ -221,14 +231,17 @@ module _ (in_order : StandInOrder) (apart : StandApart) (follow : LexemesFollow)
   by_mark : (front more : List ℕ) → length front < 3 → (text_start (front ++ more) ≡ 0 → Opens 0 (length front) (cut (front ++ more))) → AreOpenAt (Some 0) front more (cut (front ++ more))
   by_mark front more short opened = ⊎_elim
       (λ none. opens_at front more 0 (cut (front ++ more)) (opened none))
-      (λ mark. marked_at front more 0 (cut (front ++ more)) (omega (arith, mark, short)) (map_all (λ g. text_start (front ++ more) ≤ g.start) (λ g. length front ≤ g.start) (λ g h. omega (arith, h, mark, short)) (cut (front ++ more)) (after_mark (front ++ more))))
+      (λ mark. marked_at front more 0 (cut (front ++ more)) (omega (arith, mark, short))
+      (map_all (λ g. text_start (front ++ more) ≤ g.start) (λ g. length front ≤ g.start) (λ g h. omega (arith, h, mark, short))
+      (cut (front ++ more)) (after_mark (front ++ more))))
       (starts_by (front ++ more))
 
   one_opened : (more : List ℕ) → text_start (239 ∷ more) ≡ 0 → Opens 0 1 (cut (239 ∷ more))
   unfolding bad bad_lexeme
   one_opened more none =
       let one = bad_one alone in
-      subst (Opens 0 1) (sym (cut_is (239 ∷ more) none ∙ ap (cut_from (suc (length more)) []) (bad_next 0 true 239 one more refl) ∙ bad_goes_in (suc (length more)) [] 0 true 239 one (lexemes 1 false more)))
+      subst (Opens 0 1) (sym (cut_is (239 ∷ more) none ∙ ap (cut_from (suc (length more)) []) (bad_next 0 true 239 one more refl)
+      ∙ bad_goes_in (suc (length more)) [] 0 true 239 one (lexemes 1 false more)))
       (open_game 1 false more (bad_lexeme 0 true 239 one) [] (suc (length more)) (omega arith))
 
   two_opened : (more : List ℕ) → text_start (239 ∷ 187 ∷ more) ≡ 0 → Opens 0 2 (cut (239 ∷ 187 ∷ more))
@@ -251,11 +264,16 @@ module _ (in_order : StandInOrder) (apart : StandApart) (follow : LexemesFollow)
     where
       in_mark : IsInMark c fed → IsOpenAt (open_place (begins_at c.game.start) c.state c.at) fed
       in_mark m more = subst (λ start. AreOpenAt (open_place start c.state c.at) fed more (later_games fed more)) (sym (start_is c [] m.game)) (⊎_elim
-          (λ p. from_parts p.0 p.1 (subst (AreOpenAt None [] more) (sym (all_later [] more nothing_closes)) (All-from_recursion (λ g. 0 ≤ g.start) (cut more) (map_all (λ g. text_start more ≤ g.start) (λ g. 0 ≤ g.start) (λ g h. omega arith) (cut more) (after_mark more)))))
+          (λ p. from_parts p.0 p.1 (subst (AreOpenAt None [] more) (sym (all_later [] more nothing_closes))
+          (All-from_recursion (λ g. 0 ≤ g.start) (cut more) (map_all (λ g. text_start more ≤ g.start) (λ g. 0 ≤ g.start) (λ g h. omega arith)
+          (cut more) (after_mark more)))))
           (λ q. ⊎_elim
           (λ p. from_parts p.0 p.1 (subst (AreOpenAt (Some 0) (239 ∷ []) more) (sym (all_later (239 ∷ []) more one_closes_nothing)) (by_mark (239 ∷ []) more (omega arith) (one_opened more))))
-          (λ p. from_parts p.0 p.1 (subst (AreOpenAt (Some 0) (239 ∷ 187 ∷ []) more) (sym (all_later (239 ∷ 187 ∷ []) more two_close_nothing)) (by_mark (239 ∷ 187 ∷ []) more (omega arith) (two_opened more)))) q)
+          (λ p. from_parts p.0 p.1 (subst (AreOpenAt (Some 0) (239 ∷ 187 ∷ []) more) (sym (all_later (239 ∷ 187 ∷ []) more two_close_nothing))
+          (by_mark (239 ∷ 187 ∷ []) more (omega arith) (two_opened more)))) q)
           m.part)
         where
-          from_parts : {s : State} {front : List ℕ} → c.state ≡ s → fed ≡ front → AreOpenAt (open_place None s c.at) front more (later_games front more) → AreOpenAt (open_place None c.state c.at) fed more (later_games fed more)
-          from_parts {s} {front} state is all = subst (λ t. AreOpenAt (open_place None t c.at) fed more (later_games fed more)) (sym state) (subst (λ f. AreOpenAt (open_place None s c.at) f more (later_games f more)) (sym is) all)
+          from_parts : {s : State} {front : List ℕ} → c.state ≡ s → fed ≡ front
+              → AreOpenAt (open_place None s c.at) front more (later_games front more) → AreOpenAt (open_place None c.state c.at) fed more (later_games fed more)
+          from_parts {s} {front} state is all = subst (λ t. AreOpenAt (open_place None t c.at) fed more (later_games fed more)) (sym state)
+              (subst (λ f. AreOpenAt (open_place None s c.at) f more (later_games f more)) (sym is) all)

@@ -121,7 +121,8 @@ text_push true body b part other inside =
     (body_append part.0 (92 ∷ b ∷ []) part.2 (inr (refl, no_line b other, tt))))
 
 -- a byte that belongs to an open lexeme and isn't its last leaves it open
-pub goes_on : (first : Bool) (s : State) (bytes : List ℕ) (b : ℕ) → IsOpen first s bytes → (s ≡ Between → ⊥) → takes s b ≡ true → finishes s b ≡ false → IsOpen first (after s (length bytes) b) (bytes ++ b ∷ [])
+pub goes_on : (first : Bool) (s : State) (bytes : List ℕ) (b : ℕ) → IsOpen first s bytes → (s ≡ Between → ⊥) → takes s b ≡ true
+    → finishes s b ≡ false → IsOpen first (after s (length bytes) b) (bytes ++ b ∷ [])
 goes_on first AtStart bytes b is other takes_ more = is
 goes_on first OneOfMark bytes b is other takes_ more = is
 goes_on first TwoOfMark bytes b is other takes_ more = is
@@ -173,11 +174,13 @@ number_kind (d ∷ ds) = Token (Nag (min 256 (digits_value 10 (d ∷ ds))))
 number_read : (first : Bool) (digits rest : List ℕ) → AllByRecursion (λ d. is_ascii_digit d ≡ true) digits → EndsBefore InNumber rest
     → reading first 36 (digits ++ rest) ≡ record { kind = number_kind digits; len = length (36 ∷ digits) }
 unfolding reading nag number_kind
-number_read first [] rest all ended = ap (λ n. cond (n == 0) (record { kind = Token BadByte; len = 1 }) (record { kind = Token (Nag (min 256 (digits_value 10 (take n rest)))); len = n + 1 })) (digits_len [] rest all ended)
+number_read first [] rest all ended = ap (λ n. cond (n == 0) (record { kind = Token BadByte; len = 1 })
+    (record { kind = Token (Nag (min 256 (digits_value 10 (take n rest)))); len = n + 1 })) (digits_len [] rest all ended)
 number_read first (d ∷ ds) rest all ended =
     let some : (suc (length ds) == 0) ≡ false = grind (arith, nat_tests) in
     let one : suc (length ds) + 1 ≡ suc (suc (length ds)) = omega arith in
-    ap (λ n. cond (n == 0) (record { kind = Token BadByte; len = 1 }) (record { kind = Token (Nag (min 256 (digits_value 10 (take n (d ∷ ds ++ rest))))); len = n + 1 })) (digits_len (d ∷ ds) rest all ended)
+    ap (λ n. cond (n == 0) (record { kind = Token BadByte; len = 1 })
+    (record { kind = Token (Nag (min 256 (digits_value 10 (take n (d ∷ ds ++ rest))))); len = n + 1 })) (digits_len (d ∷ ds) rest all ended)
     ∙ ap (λ t. cond t (record { kind = Token BadByte; len = 1 }) (record { kind = Token (Nag (min 256 (digits_value 10 (take (suc (length ds)) (d ∷ ds ++ rest))))); len = suc (length ds) + 1 })) some
     ∙ ap₂ (λ l n. record { kind = Token (Nag (min 256 (digits_value 10 l))); len = n }) (take-append_seam (d ∷ ds) rest) one
 
@@ -261,7 +264,9 @@ begins first b =
     of_test P (b == 33) _ _ (λ e. inl (ap (λ c. c ∷ []) (eqb-true b 33 e))) (λ e7.
     of_test P (b == 63) _ _ (λ e. inr (ap (λ c. c ∷ []) (eqb-true b 63 e))) (λ e8.
     of_test P (b == 45) _ _ (λ e. ap (λ c. c ∷ []) (eqb-true b 45 e)) (λ e9.
-    λ rest. skip (is_ascii_alphanumeric b) _ _ _ e1 (skip (b == 123) _ _ _ e2 (skip (b == 59) _ _ _ e3 (skip (b == 37 && first) _ _ _ e4 (skip (b == 34) _ _ _ e5 (skip (b == 36) _ _ _ e6 (skip (b == 33) _ _ _ e7 (skip (b == 63) _ _ _ e8 (skip (b == 45) _ _ _ e9 refl))))))))
+    λ rest. skip (is_ascii_alphanumeric b) _ _ _ e1 (skip (b == 123) _ _ _ e2
+    (skip (b == 59) _ _ _ e3 (skip (b == 37 && first) _ _ _ e4
+    (skip (b == 34) _ _ _ e5 (skip (b == 36) _ _ _ e6 (skip (b == 33) _ _ _ e7 (skip (b == 63) _ _ _ e8 (skip (b == 45) _ _ _ e9 refl))))))))
     )))))))))
 
 pub opens_lexeme : (first : Bool) (b : ℕ) (s : State) → begun first b ≡ Some s → IsOpen first s (b ∷ [])
@@ -300,8 +305,10 @@ module _ (follow : LexemesFollow) (alone : StandsAlone) (before : StaysBefore) w
     next = λ at rest ends.
         let n : ℕ = length (b ∷ bs) in
         follow at first b (bs ++ rest) dark
-        ∙ ap (λ (q : Reading). (record { at = at; first = first; text = take q.len (b ∷ bs ++ rest); kind = q.kind }) ∷ lexemes (at + q.len) (first_at first (b ∷ bs ++ rest) q.len) (drop q.len (b ∷ bs ++ rest))) (reads rest ends)
-        ∙ ap₂ (λ t l. (record { at = at; first = first; text = t; kind = read }) ∷ lexemes (at + n) (first_at first (b ∷ bs ++ rest) n) l) (take-append_seam (b ∷ bs) rest) (drop-append_seam (b ∷ bs) rest)
+        ∙ ap (λ (q : Reading). (record { at = at; first = first; text = take q.len (b ∷ bs ++ rest); kind = q.kind })
+        ∷ lexemes (at + q.len) (first_at first (b ∷ bs ++ rest) q.len) (drop q.len (b ∷ bs ++ rest))) (reads rest ends)
+        ∙ ap₂ (λ t l. (record { at = at; first = first; text = t; kind = read }) ∷ lexemes (at + n) (first_at first (b ∷ bs ++ rest) n) l)
+        (take-append_seam (b ∷ bs) rest) (drop-append_seam (b ∷ bs) rest)
         ∙ ap (λ col. (record { at = at; first = first; text = b ∷ bs; kind = read }) ∷ lexemes (at + n) col rest) (column_in first b bs rest);
   }
 
@@ -314,7 +321,8 @@ module _ (follow : LexemesFollow) (alone : StandsAlone) (before : StaysBefore) w
       by_reading first b bs asked kind marker Before whole.dark alike marked (λ rest e. before first kind b bs rest whole (ends rest e))
 
   ends_by_reading : (first : Bool) (b : ℕ) (bs : List ℕ) (asked read : LexemeKind) (marker : Bool) (Before : List ℕ → Type 0) → is_white b ≡ false → AreAlike asked read → marker ≡ marks read (b ∷ bs)
-      → ((rest : List ℕ) → Before rest → reading first b (bs ++ rest) ≡ record { kind = read; len = length (b ∷ bs) }) → Before [] → is_left_open read ≡ true → EndsAs first (b ∷ bs) asked marker Before
+      → ((rest : List ℕ) → Before rest → reading first b (bs ++ rest) ≡ record { kind = read; len = length (b ∷ bs) }) → Before []
+      → is_left_open read ≡ true → EndsAs first (b ∷ bs) asked marker Before
   ends_by_reading first b bs asked read marker Before dark alike marked reads none left =
       let here : reading first b bs ≡ record { kind = read; len = length (b ∷ bs) } = ap (reading first b) (sym (append-nil bs)) ∙ reads [] none in
       (by_reading first b bs asked read marker Before dark alike marked reads, (dark, ap (λ (q : Reading). q.len) here, ap (λ (q : Reading). is_left_open q.kind) here ∙ left))
@@ -333,32 +341,44 @@ module _ (follow : LexemesFollow) (alone : StandsAlone) (before : StaysBefore) w
   ends first TwoOfMark bytes is other = absurd is
   ends first Between bytes is other = absurd (other refl)
   ends first InComment bytes is other =
-      ends_by_grammar first bytes (Token UnclosedComment) (Token UnclosedComment) false (EndsBefore InComment) is (has_some 123 is.0 bytes is.1) (λ e. cc) (same_kind (Token UnclosedComment)) refl (ended InComment (Token UnclosedComment) (λ b. refl)) tt refl
+      ends_by_grammar first bytes (Token UnclosedComment) (Token UnclosedComment) false (EndsBefore InComment) is (has_some 123 is.0 bytes is.1)
+      (λ e. cc) (same_kind (Token UnclosedComment)) refl (ended InComment (Token UnclosedComment) (λ b. refl)) tt refl
   ends first InLine bytes is other =
       ⊎_elim
-      (λ line. ends_by_grammar first bytes (Token LineComment) (Token LineComment) false (EndsBefore InLine) line (has_some 59 line.0 bytes line.1) (λ e. cc) (same_kind (Token LineComment)) refl (ended InLine (Token LineComment) (λ b. refl)) tt refl)
-      (λ line. ends_by_grammar first bytes (Token LineComment) EscapeLine false (EndsBefore InLine) line (has_some 37 line.0 bytes line.1) (λ e. cc) lines_alike refl (ended InLine EscapeLine (λ b. refl)) tt refl)
+      (λ line. ends_by_grammar first bytes (Token LineComment) (Token LineComment) false (EndsBefore InLine) line (has_some 59 line.0 bytes line.1)
+      (λ e. cc) (same_kind (Token LineComment)) refl (ended InLine (Token LineComment) (λ b. refl)) tt refl)
+      (λ line. ends_by_grammar first bytes (Token LineComment) EscapeLine false (EndsBefore InLine) line (has_some 37 line.0 bytes line.1)
+      (λ e. cc) lines_alike refl (ended InLine EscapeLine (λ b. refl)) tt refl)
       is
   ends first (InText backslash) bytes is other =
-      ends_by_grammar first bytes (Token UnclosedText) (Token UnclosedText) false (EndsBefore (InText backslash)) (is.0, is.1, part_of_text backslash is.0 is.2) (has_some 34 is.0 bytes is.1) (λ e. cc) (same_kind (Token UnclosedText)) refl (ended (InText backslash) (Token UnclosedText) (λ b. refl)) tt refl
+      ends_by_grammar first bytes (Token UnclosedText) (Token UnclosedText) false (EndsBefore (InText backslash))
+      (is.0, is.1, part_of_text backslash is.0 is.2) (has_some 34 is.0 bytes is.1) (λ e. cc) (same_kind (Token UnclosedText)) refl
+      (ended (InText backslash) (Token UnclosedText) (λ b. refl)) tt refl
   ends first (InSymbol r) bytes is other =
-      ends_by_grammar first bytes (Token Symbol) (Token Symbol) (are_spelled r (length bytes)) (EndsBefore (InSymbol r)) is.0 (has_some is.0.0 is.0.1 bytes is.0.2) (λ e. cc) (same_kind (Token Symbol)) (marker_is r bytes is.1) (ended (InSymbol r) (Token Symbol) (λ b. refl)) tt refl
+      ends_by_grammar first bytes (Token Symbol) (Token Symbol) (are_spelled r (length bytes)) (EndsBefore (InSymbol r)) is.0
+      (has_some is.0.0 is.0.1 bytes is.0.2) (λ e. cc) (same_kind (Token Symbol)) (marker_is r bytes is.1) (ended (InSymbol r) (Token Symbol) (λ b. refl)) tt refl
   ends first InNumber bytes is other =
       subst (λ l. EndsAs first l (Token BadByte) false (EndsBefore InNumber)) (sym is.1)
-      (ends_by_reading first 36 is.0 (Token BadByte) (number_kind is.0) false (EndsBefore InNumber) refl (number_alike is.0) (number_marks is.0) (λ rest e. number_read first is.0 rest is.2 e) tt (number_left is.0))
+      (ends_by_reading first 36 is.0 (Token BadByte) (number_kind is.0) false (EndsBefore InNumber) refl (number_alike is.0) (number_marks is.0)
+      (λ rest e. number_read first is.0 rest is.2 e) tt (number_left is.0))
   ends first InSuffix bytes is other =
       ⊎_elim
-      (λ good. subst (λ l. EndsAs first l (Token BadByte) false (EndsBefore InSuffix)) (sym good) (ends_by_reading first 33 [] (Token BadByte) (Token (Nag 1)) false (EndsBefore InSuffix) refl (bad_like_nag 1) refl (good_read first) tt refl))
-      (λ poor. subst (λ l. EndsAs first l (Token BadByte) false (EndsBefore InSuffix)) (sym poor) (ends_by_reading first 63 [] (Token BadByte) (Token (Nag 2)) false (EndsBefore InSuffix) refl (bad_like_nag 2) refl (poor_read first) tt refl))
+      (λ good. subst (λ l. EndsAs first l (Token BadByte) false (EndsBefore InSuffix)) (sym good)
+      (ends_by_reading first 33 [] (Token BadByte) (Token (Nag 1)) false (EndsBefore InSuffix) refl (bad_like_nag 1) refl (good_read first) tt refl))
+      (λ poor. subst (λ l. EndsAs first l (Token BadByte) false (EndsBefore InSuffix)) (sym poor)
+      (ends_by_reading first 63 [] (Token BadByte) (Token (Nag 2)) false (EndsBefore InSuffix) refl (bad_like_nag 2) refl (poor_read first) tt refl))
       is
   ends first InNull bytes is other =
-      subst (λ l. EndsAs first l (Token BadByte) false (EndsBefore InNull)) (sym is) (ends_by_reading first 45 [] (Token BadByte) (Token BadByte) false (EndsBefore InNull) refl (same_kind (Token BadByte)) refl (hyphen_read first) tt refl)
+      subst (λ l. EndsAs first l (Token BadByte) false (EndsBefore InNull)) (sym is)
+      (ends_by_reading first 45 [] (Token BadByte) (Token BadByte) false (EndsBefore InNull) refl (same_kind (Token BadByte)) refl (hyphen_read first) tt refl)
 
   -- and with its last byte, whatever follows
-  suffix_ends : (first : Bool) (a b : ℕ) (n : ℕ) → is_white a ≡ false → ((rest : List ℕ) → reading first a (b ∷ rest) ≡ record { kind = Token (Nag n); len = 2 }) → IsOneLexeme first (a ∷ b ∷ []) (Token Null) false (λ rest. Unit {0})
+  suffix_ends : (first : Bool) (a b : ℕ) (n : ℕ) → is_white a ≡ false
+      → ((rest : List ℕ) → reading first a (b ∷ rest) ≡ record { kind = Token (Nag n); len = 2 }) → IsOneLexeme first (a ∷ b ∷ []) (Token Null) false (λ rest. Unit {0})
   suffix_ends first a b n dark reads = by_reading first a (b ∷ []) (Token Null) (Token (Nag n)) false (λ rest. Unit {0}) dark (null_like_nag n) refl (λ rest e. reads rest)
 
-  pub ends_with : (first : Bool) (s : State) (bytes : List ℕ) (b : ℕ) → IsOpen first s bytes → takes s b ≡ true → finishes s b ≡ true → IsOneLexeme first (bytes ++ b ∷ []) (kind_with_last s) false (λ rest. Unit {0})
+  pub ends_with : (first : Bool) (s : State) (bytes : List ℕ) (b : ℕ) → IsOpen first s bytes → takes s b ≡ true → finishes s b ≡ true
+      → IsOneLexeme first (bytes ++ b ∷ []) (kind_with_last s) false (λ rest. Unit {0})
   unfolding reading good_suffix poor_suffix
   ends_with first AtStart bytes b is takes_ last = absurd is
   ends_with first OneOfMark bytes b is takes_ last = absurd is
@@ -366,12 +386,14 @@ module _ (follow : LexemesFollow) (alone : StandsAlone) (before : StaysBefore) w
   ends_with first Between bytes b is takes_ last = absurd (false≢true last)
   ends_with first InComment bytes b is takes_ last =
       let text : bytes ++ b ∷ [] ≡ 123 ∷ is.0 ++ 125 ∷ [] = ap₂ (λ l c. l ++ c ∷ []) is.1 (eqb-true b 125 last) in
-      by_grammar first (bytes ++ b ∷ []) (Token Comment) (Token Comment) false (λ rest. Unit {0}) (is.0, text, is.2) (has_some 123 (is.0 ++ 125 ∷ []) (bytes ++ b ∷ []) text) (λ e. cc) (same_kind (Token Comment)) refl (λ rest e. ended_always (Token Comment) (λ c. refl) rest)
+      by_grammar first (bytes ++ b ∷ []) (Token Comment) (Token Comment) false (λ rest. Unit {0}) (is.0, text, is.2)
+      (has_some 123 (is.0 ++ 125 ∷ []) (bytes ++ b ∷ []) text) (λ e. cc) (same_kind (Token Comment)) refl (λ rest e. ended_always (Token Comment) (λ c. refl) rest)
   ends_with first InLine bytes b is takes_ last = absurd (false≢true last)
   ends_with first (InText true) bytes b is takes_ last = absurd (false≢true (and_parts (b == 34) false last).1)
   ends_with first (InText false) bytes b is takes_ last =
       let text : bytes ++ b ∷ [] ≡ 34 ∷ is.0 ++ 34 ∷ [] = ap₂ (λ l c. l ++ c ∷ []) is.1 (eqb-true b 34 (and_parts (b == 34) true last).0) in
-      by_grammar first (bytes ++ b ∷ []) (Token Text) (Token Text) false (λ rest. Unit {0}) (is.0, text, is.2) (has_some 34 (is.0 ++ 34 ∷ []) (bytes ++ b ∷ []) text) (λ e. cc) (same_kind (Token Text)) refl (λ rest e. ended_always (Token Text) (λ c. refl) rest)
+      by_grammar first (bytes ++ b ∷ []) (Token Text) (Token Text) false (λ rest. Unit {0}) (is.0, text, is.2)
+      (has_some 34 (is.0 ++ 34 ∷ []) (bytes ++ b ∷ []) text) (λ e. cc) (same_kind (Token Text)) refl (λ rest e. ended_always (Token Text) (λ c. refl) rest)
   ends_with first (InSymbol r) bytes b is takes_ last = absurd (false≢true last)
   ends_with first InNumber bytes b is takes_ last = absurd (false≢true last)
   ends_with first InSuffix bytes b is takes_ last =
@@ -387,13 +409,15 @@ module _ (follow : LexemesFollow) (alone : StandsAlone) (before : StaysBefore) w
       is
   ends_with first InNull bytes b is takes_ last =
       let text : bytes ++ b ∷ [] ≡ codes "--" = ap₂ (λ l c. l ++ c ∷ []) is (eqb-true b 45 takes_) in
-      by_grammar first (bytes ++ b ∷ []) (Token Null) (Token Null) false (λ rest. Unit {0}) text (has_some 45 (45 ∷ []) (bytes ++ b ∷ []) text) (λ e. cc) (same_kind (Token Null)) refl (λ rest e. ended_always (Token Null) (λ c. refl) rest)
+      by_grammar first (bytes ++ b ∷ []) (Token Null) (Token Null) false (λ rest. Unit {0}) text (has_some 45 (45 ∷ []) (bytes ++ b ∷ []) text)
+      (λ e. cc) (same_kind (Token Null)) refl (λ rest e. ended_always (Token Null) (λ c. refl) rest)
 
   -- a byte that is a lexeme by itself
   pub stands_alone : (first : Bool) (b : ℕ) → is_white b ≡ false → begun first b ≡ None → IsOneLexeme first (b ∷ []) (reading first b []).kind (b == 42) (λ rest. Unit {0})
   stands_alone first b dark none =
       let here = alone_read first b [] none in
-      by_reading first b [] (reading first b []).kind (single b).kind (b == 42) (λ rest. Unit {0}) dark (subst (λ (q : Reading). AreAlike q.kind (single b).kind) (sym here) (same_kind (single b).kind)) (single_marks b)
+      by_reading first b [] (reading first b []).kind (single b).kind (b == 42) (λ rest. Unit {0}) dark
+      (subst (λ (q : Reading). AreAlike q.kind (single b).kind) (sym here) (same_kind (single b).kind)) (single_marks b)
       (λ rest e. alone_read first b rest none ∙ single_is b)
 
   -- what is open is unsettled

@@ -54,9 +54,11 @@ cut_in_order place from before game (l ∷ ls) begins most order ends =
     let past = order.0 in
     let some = order.1 in
     let last = ends.0 in
-    of_both (AreInOrder from place) (ends_before game l) (span_to l.at game ++ cut_from place (l ∷ []) ls) (if ends_after game l then span_to (end l) (game ++ l ∷ []) ++ cut_from place [] ls else cut_from place (game ++ l ∷ []) ls)
+    of_both (AreInOrder from place) (ends_before game l) (span_to l.at game ++ cut_from place (l ∷ []) ls)
+    (if ends_after game l then span_to (end l) (game ++ l ∷ []) ++ cut_from place [] ls else cut_from place (game ++ l ∷ []) ls)
     (let after = cut_in_order place l.at (end l) (l ∷ []) ls (omega arith, omega arith) last order.2 ends.1 in
-    span_first from before l.at place game (cut_from place (l ∷ []) ls) begins past (omega arith) after (λ _. lower l.at from place (cut_from place (l ∷ []) ls) (begins_by from before game l begins past) after))
+    span_first from before l.at place game (cut_from place (l ∷ []) ls) begins past (omega arith) after
+    (λ _. lower l.at from place (cut_from place (l ∷ []) ls) (begins_by from before game l begins past) after))
     (of_both (AreInOrder from place) (ends_after game l) (span_to (end l) (game ++ l ∷ []) ++ cut_from place [] ls) (cut_from place (game ++ l ∷ []) ls)
     (let after = cut_in_order place (end l) (end l) [] ls (omega arith) last order.2 ends.1 in
     span_first from (end l) (end l) place (game ++ l ∷ []) (cut_from place [] ls) (begins_more from before game l begins past some) (omega arith) last after

@@ -40,7 +40,8 @@ movetext_without : (h m p : Bool) → m ≡ false → h ≡ (h || (m && p))
 movetext_without true m p none = refl
 movetext_without false m p none = sym (ap (λ t. t && p) none)
 
-bracket_push : (open_ : Bool) (kept : List Lexeme) (l : Lexeme) → IsBracket open_ l → (was : OpenGame) → was ≡ progress_of kept → was.has_more ≡ true → with_pair open_ was ≡ progress_of (kept ++ l ∷ [])
+bracket_push : (open_ : Bool) (kept : List Lexeme) (l : Lexeme) → IsBracket open_ l → (was : OpenGame) → was ≡ progress_of kept → was.has_more ≡ true
+    → with_pair open_ was ≡ progress_of (kept ++ l ∷ [])
 bracket_push open_ kept l is was same more =
     progress_push kept l was same (with_pair open_ was) (start_stays kept was same more _) (sym (is.nests was.depth)) (sym (is.pairs was.in_pair))
     (movetext_without was.has_movetext (is_movetext l.kind) (not was.in_pair) is.movetext) (more_stays was.has_more _ more)
@@ -200,7 +201,8 @@ module _ (closes : Closes) (c : Cutter) (run fed : List ℕ) (between : c.state 
       (λ words.
       let w = words_between ends alone white run words.1 c.at c.first in
       let place : c.at + 0 + length run ≡ c.at + length run = omega arith in
-      pass t w.some (λ n on. quiet_cut n t.kept w.some on w.quiet) (quiet_all t.kept w.some w.quiet c.game t.game words.0) (λ more. w.reads more ∙ ap (λ n. w.some ++ lexemes n (first_at c.first run (length run)) more) place))
+      pass t w.some (λ n on. quiet_cut n t.kept w.some on w.quiet) (quiet_all t.kept w.some w.quiet c.game t.game words.0)
+      (λ more. w.reads more ∙ ap (λ n. w.some ++ lexemes n (first_at c.first run (length run)) more) place))
       (λ pair.
       let r = pair_reads ends alone white c.at c.first run pair.1 in
       let parts = and_parts c.game.has_more (not (c.game.has_movetext || c.game.in_pair)) pair.0 in

@@ -27,7 +27,8 @@ start_push : (game : List Lexeme) (l : Lexeme) → start_of (game ++ l ∷ []) �
 start_push [] l = refl
 start_push (x ∷ xs) l = refl
 
-movetext_push : (open_ : Bool) (game : List Lexeme) (l : Lexeme) → movetext_in open_ (game ++ l ∷ []) ≡ (movetext_in open_ game || (is_movetext l.kind && not (fold (λ o x. opens_pair o x.kind) open_ game)))
+movetext_push : (open_ : Bool) (game : List Lexeme) (l : Lexeme)
+    → movetext_in open_ (game ++ l ∷ []) ≡ (movetext_in open_ game || (is_movetext l.kind && not (fold (λ o x. opens_pair o x.kind) open_ game)))
 movetext_push open_ [] l = or_false (is_movetext l.kind && not open_)
 movetext_push open_ (x ∷ xs) l =
     ap (λ t. (is_movetext x.kind && not open_) || t) (movetext_push (opens_pair open_ x.kind) xs l)

@@ -71,7 +71,15 @@ run_passed closes c run fed some stands all =
     let place = t.place in
     let deep = t.sound.0 in
     let low = t.sound.1 in
-    let text = text_is closes (record { state = c.state; game = c.game; at = c.at; first = c.first; place = c.place + length run; column = get_or run (length run - 1) 0 == 10 }) (fed ++ run) (closed fed) t.kept (t.bytes ++ run) t.game
+    let text = text_is closes (record {
+      state = c.state;
+      game = c.game;
+      at = c.at;
+      first = c.first;
+      place = c.place + length run;
+      column = get_or run
+          (length run - 1) 0 == 10;
+    }) (fed ++ run) (closed fed) t.kept (t.bytes ++ run) t.game
     (run_open c.first c.state run t.bytes t.opened all) (run_column c.first t.bytes run some) (omega arith) (omega arith) (omega arith, omega arith)
     (λ more.
     let long = length-append run more in
@@ -102,7 +110,8 @@ gains_on a b c xs ys p q r one two = record {
 }
 
 -- the games that are new
-pub new_games : (was now : Cutter) (bytes fed : List ℕ) (before after : List Span) → HasGained was now bytes before after → Stands was fed → after ≡ before ++ drop (length (closed fed)) (closed (fed ++ bytes))
+pub new_games : (was now : Cutter) (bytes fed : List ℕ) (before after : List Span) → HasGained was now bytes before after → Stands was fed
+    → after ≡ before ++ drop (length (closed fed)) (closed (fed ++ bytes))
 new_games was now bytes fed before after g stands =
     g.spans ∙ ap (λ l. before ++ l) (sym (drop-append_seam (closed fed) g.gained)) ∙ ap (λ l. before ++ drop (length (closed fed)) l) (sym (g.stands fed stands).1)
 

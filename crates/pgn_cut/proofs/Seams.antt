@@ -117,7 +117,8 @@ AreNear ls ms = (ms ≡ ls) ⊎ PairFirst ls ms
 near_places : (place : ℕ) (ls ms : List Lexeme) → AreNear ls ms → SamePlaces (cut_from place [] ms) (cut_from place [] ls)
 near_places place ls ms (inl same) = subst (λ x. SamePlaces (cut_from place [] x) (cut_from place [] ls)) (sym same) (same_places (cut_from place [] ls))
 near_places place ls ms (inr p) =
-    subst (λ x. SamePlaces (cut_from place [] x) (cut_from place [] ls)) (sym p.other) (subst (λ x. SamePlaces (cut_from place [] (in_column false p.lexeme_ ∷ p.after)) (cut_from place [] x)) (sym p.is)
+    subst (λ x. SamePlaces (cut_from place [] x) (cut_from place [] ls)) (sym p.other)
+    (subst (λ x. SamePlaces (cut_from place [] (in_column false p.lexeme_ ∷ p.after)) (cut_from place [] x)) (sym p.is)
     (subst (λ x. SamePlaces x (cut_from place [] (p.lexeme_ ∷ p.after))) (sym (pair_begins place (in_column false p.lexeme_) p.after p.opens_it))
     (subst (SamePlaces (cut_from place (in_column false p.lexeme_ ∷ []) p.after)) (sym (pair_begins place p.lexeme_ p.after p.opens_it)) (cut_firsts place false p.lexeme_ [] p.after))))
 
@@ -201,7 +202,8 @@ column_behind bytes at size text is len ends =
     sym (get_or-drop at bytes i 0) ∙ sym (get_or-take (at + size - at) (drop at bytes) i 0 (omega arith)) ∙ sym (ap (λ t. get_or t i 0) is) in
     ap (first_at true bytes) next ∙ ap ends_line byte ∙ ends.dark
 
-module _ (in_order : StandInOrder) (apart : StandApart) (are_local : AreLocal) (spelled : AreSpelled) (follow : LexemesFollow) (longest : AreLongest) (nothing : NothingHasNone) (white : WhiteIsPassed) (move : LexemesMove) where
+module _ (in_order : StandInOrder) (apart : StandApart) (are_local : AreLocal) (spelled : AreSpelled) (follow : LexemesFollow) (longest : AreLongest)
+    (nothing : NothingHasNone) (white : WhiteIsPassed) (move : LexemesMove) where
   all_end : (at : ℕ) (first : Bool) (bytes : List ℕ) (place : ℕ) → at + length bytes ≡ place → AllByRecursion (λ l. end l ≤ place) (lexemes at first bytes)
   all_end at first bytes place is =
       map_all (StandsIn at first bytes) (λ l. end l ≤ place) (λ l s. let most = s.to_end in omega arith) (lexemes at first bytes) (apart at first bytes)
@@ -240,7 +242,8 @@ module _ (in_order : StandInOrder) (apart : StandApart) (are_local : AreLocal) (
 
     s : Split start place [] all before g after
     unfolding start text all place
-    s = splits (length w) (text_start w) [] (archive_lexemes w) (in_order (text_start w) true (drop (text_start w) w)) (text_within w) (all_end (text_start w) true (drop (text_start w) w) (length w) size) before g after e
+    s = splits (length w) (text_start w) [] (archive_lexemes w) (in_order (text_start w) true (drop (text_start w) w)) (text_within w)
+        (all_end (text_start w) true (drop (text_start w) w) (length w) size) before g after e
 
     pre_sized : AllByRecursion (λ l. l.at < end l) s.pre
     unfolding all
@@ -390,7 +393,8 @@ module _ (in_order : StandInOrder) (apart : StandApart) (are_local : AreLocal) (
         ∙ ap (filter test) post_moved ∙ within_moves (g.end - 1) from to (lexemes 1 column rest))
         ∙ tokens_move (g.end - 1) (within from to (lexemes 1 column rest)) ∙ ap (map (moved_token (g.end - 1))) (near_tokens from to (lexemes 1 column rest) (lexemes 1 false rest) near)
 
-    moved_all : (ms ls : List Span) → SamePlaces ms ls → AllByRecursion (HasItsLexemes (spaced_rest w g.end)) ms → AllByRecursion (λ h. 1 ≤ h.start) ms → AllByRecursion (HasItsLexemes w) (map (moved_span n) ls)
+    moved_all : (ms ls : List Span) → SamePlaces ms ls → AllByRecursion (HasItsLexemes (spaced_rest w g.end)) ms
+        → AllByRecursion (λ h. 1 ≤ h.start) ms → AllByRecursion (HasItsLexemes w) (map (moved_span n) ls)
         → AreMovedGames n (spaced_rest w g.end) w ms (map (moved_span n) ls)
     unfolding all start text
     moved_all [] [] same here begins there = tt
@@ -405,7 +409,8 @@ module _ (in_order : StandInOrder) (apart : StandApart) (are_local : AreLocal) (
             → tokens_among (lexemes (l.start + n) l.first (game_bytes w (moved_span n l))) ≡ map (moved_token n) (tokens_among (lexemes m.start m.first (game_bytes (spaced_rest w g.end) m)))
         one_tokens m l start_is end_is here begins there =
             ap tokens_among there ∙ ap₂ (λ a b. tokens_among (within (a + n) (b + n) all)) (sym start_is) (sym end_is)
-            ∙ same_tokens m.start m.end begins ∙ ap (λ ls. map (moved_token n) (tokens_among (within m.start m.end ls))) (sym behind_lexemes) ∙ sym (ap (λ ls. map (moved_token n) (tokens_among ls)) here)
+            ∙ same_tokens m.start m.end begins ∙ ap (λ ls. map (moved_token n) (tokens_among (within m.start m.end ls))) (sym behind_lexemes)
+            ∙ sym (ap (λ ls. map (moved_token n) (tokens_among ls)) here)
 
     is_seam : IsSeam w before g after
     unfolding n

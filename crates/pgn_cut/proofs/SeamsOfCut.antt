@@ -104,7 +104,8 @@ abbrev Rec : (place from : ℕ) (game rest : List Lexeme) → Type 0
 Rec place from game rest = (before : List Span) (g : Span) (after : List Span) → cut_from place game rest ≡ before ++ g ∷ after → Split from place game rest before g after
 
 -- with other names for the same spans
-first_is : (from place : ℕ) (game rest : List Lexeme) (s : Span) (ys before : List Span) (g : Span) (after : List Span) → before ≡ [] → g ≡ s → after ≡ ys → Split from place game rest [] s ys → Split from place game rest before g after
+first_is : (from place : ℕ) (game rest : List Lexeme) (s : Span) (ys before : List Span) (g : Span) (after : List Span) → before ≡ [] → g ≡ s
+    → after ≡ ys → Split from place game rest [] s ys → Split from place game rest before g after
 first_is from place game rest s ys before g after is_before is_g is_after h =
     subst (λ b. Split from place game rest b g after) (sym is_before) (subst (λ x. Split from place game rest [] x after) (sym is_g) (subst (Split from place game rest [] s) (sym is_after) h))
 
@@ -146,7 +147,8 @@ alone_of to game is = ap (λ t. cond t [] (span_to to game)) is
 pub pair_begins : (place : ℕ) (l : Lexeme) (ls : List Lexeme) → opens l.kind ≡ true → cut_from place [] (l ∷ ls) ≡ cut_from place (l ∷ []) ls
 pair_begins place l ls is = cut_step place [] l ls false false (and_false (opens l.kind && l.first)) (ap (λ t. t && true) (opens_marks l.kind l.text is))
 
-split_step : (place from : ℕ) (game : List Lexeme) (l : Lexeme) (ls : List Lexeme) → InOrder from (l ∷ ls) → Rec place (end l) (l ∷ []) ls → Rec place (end l) [] ls → Rec place (end l) (game ++ l ∷ []) ls
+split_step : (place from : ℕ) (game : List Lexeme) (l : Lexeme) (ls : List Lexeme) → InOrder from (l ∷ ls) → Rec place (end l) (l ∷ []) ls
+    → Rec place (end l) [] ls → Rec place (end l) (game ++ l ∷ []) ls
     → (t u : Bool) → ends_before game l ≡ t → ends_after game l ≡ u → (before : List Span) (g : Span) (after : List Span)
     → cond t (span_to l.at game ++ cut_from place (l ∷ []) ls) (cond u (span_to (end l) (game ++ l ∷ []) ++ cut_from place [] ls) (cut_from place (game ++ l ∷ []) ls)) ≡ before ++ g ∷ after
     → Split from place game (l ∷ ls) before g after
@@ -210,7 +212,8 @@ splits place from game [] order le ends before g after e =
       edge = inr (inr o.2);
     }
 splits place from game (l ∷ ls) order le ends before g after e =
-    split_step place from game l ls order (splits place (end l) (l ∷ []) ls order.2 ends.0 ends.1) (splits place (end l) [] ls order.2 ends.0 ends.1) (splits place (end l) (game ++ l ∷ []) ls order.2 ends.0 ends.1)
+    split_step place from game l ls order (splits place (end l) (l ∷ []) ls order.2 ends.0 ends.1) (splits place (end l) [] ls order.2 ends.0 ends.1)
+    (splits place (end l) (game ++ l ∷ []) ls order.2 ends.0 ends.1)
     (ends_before game l) (ends_after game l) refl refl before g after e
 
 -- the cut of lexemes that stand elsewhere
@@ -240,17 +243,20 @@ map_choice f false xs ys us vs a b = b
 pub cut_moves : (n place : ℕ) (game rest : List Lexeme) → cut_from (place + n) (map (moved n) game) (map (moved n) rest) ≡ map (moved_span n) (cut_from place game rest)
 unfolding cut_from
 cut_moves n place game [] =
-    ap (λ t. cond t [] (span_to (place + n) (map (moved n) game))) (passed_moves n game) ∙ map_choice (moved_span n) (list_all (λ l. is_passed_over l.kind) game) [] (span_to place game) [] _ refl (span_moves n place game)
+    ap (λ t. cond t [] (span_to (place + n) (map (moved n) game))) (passed_moves n game)
+    ∙ map_choice (moved_span n) (list_all (λ l. is_passed_over l.kind) game) [] (span_to place game) [] _ refl (span_moves n place game)
 cut_moves n place game (l ∷ ls) =
     let is_t : ends_before (map (moved n) game) (moved n l) ≡ ends_before game l = ap (λ b. opens l.kind && l.first && b) (movetext_moves n false game) in
     let is_u : ends_after (map (moved n) game) (moved n l) ≡ ends_after game l = ap (λ d. is_marker l && d == 0) (depth_moves n 0 game) in
     let is_end : end (moved n l) ≡ end l + n = omega arith in
     let pushed : map (moved n) game ++ moved n l ∷ [] ≡ map (moved n) (game ++ l ∷ []) = sym (map-append (moved n) game (l ∷ [])) in
     cut_step (place + n) (map (moved n) game) (moved n l) (map (moved n) ls) (ends_before game l) (ends_after game l) is_t is_u
-    ∙ map_choice (moved_span n) (ends_before game l) (span_to l.at game ++ cut_from place (l ∷ []) ls) (cond (ends_after game l) (span_to (end l) (game ++ l ∷ []) ++ cut_from place [] ls) (cut_from place (game ++ l ∷ []) ls)) _ _
+    ∙ map_choice (moved_span n) (ends_before game l) (span_to l.at game ++ cut_from place (l ∷ []) ls)
+    (cond (ends_after game l) (span_to (end l) (game ++ l ∷ []) ++ cut_from place [] ls) (cut_from place (game ++ l ∷ []) ls)) _ _
     (ap₂ (λ x y. x ++ y) (span_moves n l.at game) (cut_moves n place (l ∷ []) ls) ∙ sym (map-append (moved_span n) (span_to l.at game) (cut_from place (l ∷ []) ls)))
     (map_choice (moved_span n) (ends_after game l) (span_to (end l) (game ++ l ∷ []) ++ cut_from place [] ls) (cut_from place (game ++ l ∷ []) ls) _ _
-    (ap₂ (λ x y. x ++ y) (ap₂ span_to is_end pushed ∙ span_moves n (end l) (game ++ l ∷ [])) (cut_moves n place [] ls) ∙ sym (map-append (moved_span n) (span_to (end l) (game ++ l ∷ [])) (cut_from place [] ls)))
+    (ap₂ (λ x y. x ++ y) (ap₂ span_to is_end pushed ∙ span_moves n (end l) (game ++ l ∷ [])) (cut_moves n place [] ls)
+    ∙ sym (map-append (moved_span n) (span_to (end l) (game ++ l ∷ [])) (cut_from place [] ls)))
     (ap (λ k. cut_from (place + n) k (map (moved n) ls)) pushed ∙ cut_moves n place (game ++ l ∷ []) ls))
 
 -- spans of the same places, whichever of them begin in the first column

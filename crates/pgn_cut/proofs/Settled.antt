@@ -68,7 +68,8 @@ record IsOwn (first : Bool) (bytes : List ℕ) (r : Reading) : Type 0 where
   text : take r.len bytes ≡ b ∷ bs
   whole : IsReadWhole first r.kind b bs
 
-own_at : ReadingsGrow → (first : Bool) (b : ℕ) (bs : List ℕ) (r : Reading) (n : ℕ) → is_white b ≡ false → r ≡ reading first b bs → r.len ≡ suc n → n ≤ length bs → IsReadWhole first r.kind b (take n bs)
+own_at : ReadingsGrow → (first : Bool) (b : ℕ) (bs : List ℕ) (r : Reading) (n : ℕ) → is_white b ≡ false → r ≡ reading first b bs → r.len ≡ suc n
+    → n ≤ length bs → IsReadWhole first r.kind b (take n bs)
 own_at grow first b bs r n dark is len within =
     let size = length-take-le n bs within in
     let read = ap (λ (q : Reading). q.len) is in
@@ -139,7 +140,8 @@ module _ (grow : ReadingsGrow) (next : StandsNext) (ends_white : WhiteEnds) (whi
 -- a cutter between lexemes meets one
 pub lexeme_met : Closes → (c : Cutter) (run : List ℕ) (f : Found) → c.state ≡ Between → 0 < length run → IsFound c.first run f → (now : Cutter) (closed_ : Option Span)
     → IsBetween now (c.place + length run) (get_or run (length run - 1) 0 == 10) → now.game.depth ≤ c.game.depth + 1
-    → ((game : List Lexeme) (l : Lexeme) → Shows (record { at = c.at; end = c.place + f.len; first = c.first; kind = f.kind; marker = f.marker }) l → c.game ≡ progress_of game → IsStepOfCut now.game closed_ l game)
+    → ((game : List Lexeme) (l : Lexeme) → Shows (record { at = c.at; end = c.place + f.len; first = c.first; kind = f.kind; marker = f.marker }) l
+    → c.game ≡ progress_of game → IsStepOfCut now.game closed_ l game)
     → (fed : List ℕ) → Stands c fed → StandsWith now (fed ++ run) (closed fed ++ option_to_list closed_)
 lexeme_met closes c run f between some found now closed_ rest deeper met fed stands =
     ⊎_elim
@@ -155,7 +157,8 @@ lexeme_met closes c run f between some found now closed_ rest deeper met fed sta
     let place_is = rest.place_ in
     let size = found.size in
     let ends : c.place + f.len ≡ c.at + length found.text = omega arith in
-    let step = met t.kept (record { at = c.at; first = c.first; text = found.text; kind = f.kind }) (record { at = refl; ends = ends; first = refl; alike = same_kind f.kind; marker = found.marked }) t.game in
+    let step = met t.kept (record { at = c.at; first = c.first; text = found.text; kind = f.kind })
+    (record { at = refl; ends = ends; first = refl; alike = same_kind f.kind; marker = found.marked }) t.game in
     let col : first_at c.first run (length run) ≡ now.first = sym (run_column c.first [] run some) ∙ sym rest.first in
     let now_at : c.at + length run ≡ now.at = omega arith in
     let text = text_is closes now (fed ++ run) (closed fed ++ option_to_list closed_) step.kept [] step.stands (subst (λ s. IsOpen now.first s []) (sym rest.state) refl)

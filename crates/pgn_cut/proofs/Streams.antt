@@ -104,7 +104,8 @@ module _ (closes : Closes) (c : Cutter) (fed : List ℕ) (b : ℕ) (games : List
   -- a lexeme ends with the byte
   pub meets : (kind : LexemeKind) (marker : Bool) → IsOneLexeme c.first (r.bytes ++ b ∷ []) kind marker Whenever → (now : Cutter) (closed_ : Option Span) → IsBetween now (c.place + 1) (b == 10)
       → now.game.depth ≤ c.game.depth + 1
-      → ((game : List Lexeme) (l : Lexeme) → Shows (record { at = c.at; end = c.place + 1; first = c.first; kind = kind; marker = marker }) l → c.game ≡ progress_of game → IsStepOfCut now.game closed_ l game)
+      → ((game : List Lexeme) (l : Lexeme) → Shows (record { at = c.at; end = c.place + 1; first = c.first; kind = kind; marker = marker }) l
+      → c.game ≡ progress_of game → IsStepOfCut now.game closed_ l game)
       → HasTaken now (fed ++ b ∷ []) (games ++ option_to_list closed_)
   meets kind marker one now closed_ between deeper met =
       let bytes : List ℕ = r.bytes ++ b ∷ [] in
@@ -128,9 +129,11 @@ module _ (closes : Closes) (c : Cutter) (fed : List ℕ) (b : ℕ) (games : List
       ∙ ap₂ (λ a f. (games ++ option_to_list closed_) ++ cut_from n step.kept (lexemes a f more)) now_at now_first)
 
 -- what is open ends
-pub ends_here : (c : Cutter) (fed : List ℕ) (t : IsInText c fed) (kind : LexemeKind) (marker : Bool) → IsOneLexeme c.first t.bytes kind marker (EndsBefore c.state) → (now : Cutter) (closed_ : Option Span)
+pub ends_here : (c : Cutter) (fed : List ℕ) (t : IsInText c fed) (kind : LexemeKind) (marker : Bool)
+    → IsOneLexeme c.first t.bytes kind marker (EndsBefore c.state) → (now : Cutter) (closed_ : Option Span)
     → IsBetween now c.place c.column → now.game.depth ≤ c.game.depth + 1
-    → ((game : List Lexeme) (l : Lexeme) → Shows (record { at = c.at; end = c.place; first = c.first; kind = kind; marker = marker }) l → c.game ≡ progress_of game → IsStepOfCut now.game closed_ l game)
+    → ((game : List Lexeme) (l : Lexeme) → Shows (record { at = c.at; end = c.place; first = c.first; kind = kind; marker = marker }) l
+    → c.game ≡ progress_of game → IsStepOfCut now.game closed_ l game)
     → IsEnded now closed_ c.state fed
 ends_here c fed t kind marker one now closed_ between deeper met =
     let sound = t.sound.0 in

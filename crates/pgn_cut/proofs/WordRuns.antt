@@ -59,7 +59,11 @@ ends_after_byte open_ (suc n) (x ∷ xs) less other = ends_after_byte (cond open
 pub words_end : (end : ℕ) (xs : List ℕ) → end ≤ length xs → end ≤ prefix_len is_plain xs → (0 < end → continues_symbol (get_or xs (end - 1) 0) ≡ false) → AreWords (take end xs)
 words_end zero [] fits within stops = (tt, refl)
 words_end zero (x ∷ xs) fits within stops = (tt, refl)
-words_end (suc n) xs fits within stops = (plain_front (suc n) xs within, ends_after_byte false n xs (omega (arith, fits)) (let same : n ≡ suc n - 1 = omega arith in ap (λ m. continues_symbol (get_or xs m 0)) same ∙ stops (omega arith)))
+words_end (suc n) xs fits within stops = (
+  plain_front (suc n) xs within,
+  ends_after_byte false n xs (omega (arith, fits))
+      (let same : n ≡ suc n - 1 = omega arith in ap (λ m. continues_symbol (get_or xs m 0)) same ∙ stops (omega arith)),
+)
 
 -- Lexemes that change nothing that is kept of a game with movetext, or in a tag pair.
 
@@ -87,7 +91,8 @@ more_stays false p some = absurd (false≢true some)
 quiet_push : (kept : List Lexeme) (l : Lexeme) → IsQuiet l → (was : OpenGame) → was ≡ progress_of kept → passes_words was ≡ true → was ≡ progress_of (kept ++ l ∷ [])
 quiet_push kept l q was is passes =
     let parts = and_parts was.has_more (was.has_movetext || was.in_pair) passes in
-    progress_push kept l was is was (start_stays kept was is parts.0 _) (sym (q.nests was.depth)) (sym (q.pairs was.in_pair)) (movetext_stays was.has_movetext was.in_pair _ parts.1) (more_stays was.has_more _ parts.0)
+    progress_push kept l was is was (start_stays kept was is parts.0 _) (sym (q.nests was.depth)) (sym (q.pairs was.in_pair))
+    (movetext_stays was.has_movetext was.in_pair _ parts.1) (more_stays was.has_more _ parts.0)
 
 pub quiet_all : (kept some : List Lexeme) → AllByRecursion IsQuiet some → (was : OpenGame) → was ≡ progress_of kept → passes_words was ≡ true → was ≡ progress_of (kept ++ some)
 quiet_all kept [] all was is passes = is ∙ ap progress_of (sym (append-nil kept))
@@ -247,7 +252,8 @@ module _ (ends : LexemesEnd) (alone : StandAlone) (white : WhiteIsPassed) where
   ReadsBetween run = (at : ℕ) (first : Bool) → ends_in_symbol false run ≡ false → Reads at first [] run
 
   abbrev ReadsInside : List ℕ → Type 0
-  ReadsInside run = (at : ℕ) (first : Bool) (r : Results) (o : List ℕ) → IsOpen first (InSymbol r) o → AllByRecursion (λ b. is_plain b ≡ true) o → ends_in_symbol true run ≡ false → Reads at first o run
+  ReadsInside run = (at : ℕ) (first : Bool) (r : Results) (o : List ℕ) → IsOpen first (InSymbol r) o → AllByRecursion (λ b. is_plain b ≡ true) o
+      → ends_in_symbol true run ≡ false → Reads at first o run
 
   none_read : (at : ℕ) (first : Bool) → Reads at first [] []
   none_read at first = record { some = []; quiet = tt; reads = λ more. let place : at ≡ at + 0 + 0 = omega arith in ap (λ n. lexemes n first more) place }
@@ -258,12 +264,14 @@ module _ (ends : LexemesEnd) (alone : StandAlone) (white : WhiteIsPassed) where
       let on = words_read bs all.1 in (
         λ at first end_.
             ⊎_elim
-            (λ is. further at first [] b bs (on.1 at first (results_from b) (b ∷ []) (opens_lexeme first b (InSymbol (results_from b)) (letter b first is)) (all.0, tt) (ap (λ t. ends_in_symbol t bs) (sym is) ∙ end_)))
+            (λ is. further at first [] b bs (on.1 at first (results_from b) (b ∷ [])
+            (opens_lexeme first b (InSymbol (results_from b)) (letter b first is)) (all.0, tt) (ap (λ t. ends_in_symbol t bs) (sym is) ∙ end_)))
             (λ other. other_byte at first b bs all.0 other (on.0 (at + 1) (ends_line b) (ap (λ t. ends_in_symbol t bs) (sym other) ∙ end_)))
             (cases_Bool (is_ascii_alphanumeric b)),
         λ at first r o is plain end_.
             ⊎_elim
-            (λ goes. further at first o b bs (on.1 at first (results_after r (length o) b) (o ++ b ∷ []) (goes_on first (InSymbol r) o b is (λ e. cc) goes refl) (all_push (λ c. is_plain c ≡ true) o b plain all.0)
+            (λ goes. further at first o b bs (on.1 at first (results_after r (length o) b) (o ++ b ∷ [])
+            (goes_on first (InSymbol r) o b is (λ e. cc) goes refl) (all_push (λ c. is_plain c ≡ true) o b plain all.0)
             (ap (λ t. ends_in_symbol t bs) (sym goes) ∙ end_)))
             (λ stops. symbol_ends at first r o b bs is plain stops
             (other_byte (at + length o) (first_at first o (length o)) b bs all.0 (or_parts (is_ascii_alphanumeric b) _ stops).0

@@ -17,7 +17,7 @@ pub record IsFoundAs (kind : LexemeKind) (first : Bool) (run : List ℕ) : Type 
   pub kind_ : found.kind ≡ kind
   pub is : IsFound first run found
 
--- these bytes are a tag pair, whatever follows
+-- These bytes are a tag pair, whatever follows: a bracket, words or none, a string and a bracket.
 pub record IsPair (run : List ℕ) : Type 0 where
   pub name : List ℕ
   pub text : List ℕ

@@ -29,8 +29,8 @@ AreMovedGames n here there _ _ = ⊥
 abbrev pub spaced_rest : List ℕ → ℕ → List ℕ
 spaced_rest archive place = space ∷ drop place archive
 
--- A seam after a game: the bytes before the seam are cut into the games up to that one, and the others, with one space before them, into the
--- games after that one.
+-- A seam after a game: the bytes before the seam are cut into the games up to that one, and the others, with one space before them,
+-- into the games after that one.
 pub record IsSeam (archive : List ℕ) (before : List Span) (game : Span) (after : List Span) : Type 0 where
   pub front : cut (take game.end archive) ≡ before ++ game ∷ []
   pub rest : AreMovedGames (game.end - 1) (spaced_rest archive game.end) archive (cut (spaced_rest archive game.end)) after

@@ -152,7 +152,8 @@ tell_opened w ws ss t first text more glued apart =
           ap (λ l. told first (l ++ more)) b.is
           ∙ told_one LeftParen first 40 [] (b.inner ++ more) one_left (never_left (b.inner ++ more))
           ∙ ap (λ (l : List Word). (record { kind = LeftParen; text = 40 ∷ [] }) ∷ l) r.is;
-      alike = alike_append ((record { kind = LeftParen; text = 40 ∷ [] }) ∷ []) r.words ((record { kind = LeftParen; text = 40 ∷ [] }) ∷ []) ss (alike_same ((record { kind = LeftParen; text = 40 ∷ [] }) ∷ [])) r.alike;
+      alike = alike_append ((record { kind = LeftParen; text = 40 ∷ [] }) ∷ []) r.words ((record { kind = LeftParen; text = 40 ∷ [] }) ∷ []) ss
+          (alike_same ((record { kind = LeftParen; text = 40 ∷ [] }) ∷ [])) r.alike;
     }
 
 -- a token of one byte after the last word

@@ -25,7 +25,8 @@ none_left = record { rows = []; all = refl; written = refl; fitting = tt }
 
 longer_row : (v : List ℕ) (vs : List (List ℕ)) (w : List ℕ) → length (join_with_byte 32 (v ∷ vs)) + 1 + length w ≤ 79 → IsFitting (v ∷ vs ++ w ∷ [])
 longer_row v vs w few =
-    let n : length (join_with_byte 32 (v ∷ vs ++ w ∷ [])) ≡ length (join_with_byte 32 (v ∷ vs)) + length (32 ∷ w) = ap length (joined_more v vs w) ∙ length-append (join_with_byte 32 (v ∷ vs)) (32 ∷ w) in
+    let n : length (join_with_byte 32 (v ∷ vs ++ w ∷ [])) ≡ length (join_with_byte 32 (v ∷ vs)) + length (32 ∷ w) = ap length (joined_more v vs w)
+    ∙ length-append (join_with_byte 32 (v ∷ vs)) (32 ∷ w) in
     (omega arith, inl (omega (arith, few, n)))
 
 -- a row takes the next word, or ends

@@ -182,7 +182,9 @@ none_left_out (t ∷ ts) all =
     ∙ ap (λ l. t ∷ l) (none_left_out ts both.1)
 
 -- so all tags are written as they are
-seven_written : (a b c d e f r : List ℕ) (rest : List Tag) (result : List ℕ) → let tags : List Tag = (codes "Event", a) ∷ (codes "Site", b) ∷ (codes "Date", c) ∷ (codes "Round", d) ∷ (codes "White", e) ∷ (codes "Black", f) ∷ (codes "Result", r) ∷ rest in
+seven_written : (a b c d e f r : List ℕ) (rest : List Tag) (result : List ℕ)
+    → let tags : List Tag = (codes "Event", a) ∷ (codes "Site", b) ∷ (codes "Date", c) ∷ (codes "Round", d) ∷ (codes "White", e) ∷ (codes "Black", f)
+    ∷ (codes "Result", r) ∷ rest in
     list_all (λ t. not (is_in_roster t.0)) rest ≡ true → AreSorted rest → tag_value (codes "Result") tags ≡ Some result
     → ((value : List ℕ) → tag_value (codes "FEN") tags ≡ Some value → tag_value (codes "SetUp") tags ≡ Some (codes "1"))
     → map (roster_tag tags) roster ++ ((codes "Result", result) ∷ other_tags tags) ≡ tags

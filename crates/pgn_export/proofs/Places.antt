@@ -103,7 +103,8 @@ module _ (nodes : List Node) (tree : IsTree nodes) where
   first_by parent within =
       let rest : ℕ = length nodes - (parent + 1) in
       let all : length nodes ≡ (parent + 1) + rest = omega (arith, within) in
-      let same = ap (λ n. find (is_child_of nodes parent) (range_with_len 0 n)) all ∙ skipped_first (is_child_of nodes parent) (parent + 1) rest (λ m high. not_before parent m (omega (arith, high))) in
+      let same = ap (λ n. find (is_child_of nodes parent) (range_with_len 0 n)) all
+      ∙ skipped_first (is_child_of nodes parent) (parent + 1) rest (λ m high. not_before parent m (omega (arith, high))) in
       subst (BeginsBy parent (parent + 1)) (sym same) (by_find parent rest (parent + 1) (sym all))
 
   late : (k m : ℕ) → k < m → (nat_lt k m && true) ≡ true

@@ -32,11 +32,13 @@ record IsWord (w : List ℕ) : Type 0 where
   lacks : Lacks 125 w
 
 -- the parts of a text have no white space
-dark_onto : (b : ℕ) (parts : List (List ℕ)) → is_white b ≡ false → AllByRecursion (AllByRecursion (λ c. is_white c ≡ false)) parts → AllByRecursion (AllByRecursion (λ c. is_white c ≡ false)) (onto_first b parts)
+dark_onto : (b : ℕ) (parts : List (List ℕ)) → is_white b ≡ false → AllByRecursion (AllByRecursion (λ c. is_white c ≡ false)) parts
+    → AllByRecursion (AllByRecursion (λ c. is_white c ≡ false)) (onto_first b parts)
 dark_onto b [] dark all = ((dark, tt), tt)
 dark_onto b (p ∷ parts) dark all = ((dark, all.0), all.1)
 
-dark_by : (b : ℕ) (bs : List ℕ) (t : Bool) → is_white b ≡ t → AllByRecursion (AllByRecursion (λ c. is_white c ≡ false)) (slice_split is_white bs) → AllByRecursion (AllByRecursion (λ c. is_white c ≡ false)) (slice_split is_white (b ∷ bs))
+dark_by : (b : ℕ) (bs : List ℕ) (t : Bool) → is_white b ≡ t → AllByRecursion (AllByRecursion (λ c. is_white c ≡ false)) (slice_split is_white bs)
+    → AllByRecursion (AllByRecursion (λ c. is_white c ≡ false)) (slice_split is_white (b ∷ bs))
 dark_by b bs true white all = subst (AllByRecursion (AllByRecursion (λ c. is_white c ≡ false))) (sym (slice_split-cons_yes is_white b bs white)) (tt, all)
 dark_by b bs false dark all = subst (AllByRecursion (AllByRecursion (λ c. is_white c ≡ false))) (sym (slice_split-cons_no is_white b bs dark)) (dark_onto b (slice_split is_white bs) dark all)
 
@@ -73,7 +75,8 @@ words_by w ws parts false none dark more lacks =
     let left_out : filter is_not_empty (w ∷ parts) ≡ filter is_not_empty parts = ap (λ t. cond t (w ∷ filter is_not_empty parts) (filter is_not_empty parts)) none in
     subst (AllByRecursion IsWord) (sym left_out) (more (subst (AllByRecursion (Lacks 125)) left_out lacks))
 
-are_words : (parts : List (List ℕ)) → AllByRecursion (AllByRecursion (λ c. is_white c ≡ false)) parts → AllByRecursion (Lacks 125) (filter is_not_empty parts) → AllByRecursion IsWord (filter is_not_empty parts)
+are_words : (parts : List (List ℕ)) → AllByRecursion (AllByRecursion (λ c. is_white c ≡ false)) parts
+    → AllByRecursion (Lacks 125) (filter is_not_empty parts) → AllByRecursion IsWord (filter is_not_empty parts)
 are_words [] dark lacks = tt
 are_words (w ∷ parts) dark lacks = words_by w [] parts (is_not_empty w) refl dark (are_words parts dark.1) lacks
 

@@ -41,7 +41,8 @@ lacks_by : (bs : List ℕ) → list_all (λ b. not (b == 10)) bs ≡ true → La
 lacks_by [] e = tt
 lacks_by (b ∷ bs) e = (other_byte b (first_of (not (b == 10)) (list_all (λ b. not (b == 10)) bs) e), lacks_by bs (second_of (not (b == 10)) (list_all (λ b. not (b == 10)) bs) e))
 
-writable_by : (b : ℕ) (bs value : List ℕ) → is_ascii_alphanumeric b ≡ true → list_all continues_symbol bs ≡ true → result_of_text (b ∷ bs) ≡ None → list_all (λ b. not (b == 10)) value ≡ true → IsWritable (b ∷ bs, value)
+writable_by : (b : ℕ) (bs value : List ℕ) → is_ascii_alphanumeric b ≡ true → list_all continues_symbol bs ≡ true → result_of_text (b ∷ bs) ≡ None
+    → list_all (λ b. not (b == 10)) value ≡ true → IsWritable (b ∷ bs, value)
 writable_by b bs value begins goes no_marker lacks = record { name = (b, bs, refl, begins, goes_by bs goes); no_marker = no_marker; value = lacks_by value lacks }
 
 -- the game of the initial array without moves is normal

@@ -36,7 +36,8 @@ one_period_told word vs t = tell_closed Period 46 word [] vs one_period period_a
 
 number_said : (side : Side) (due : Bool) (n : ℕ) → n < 4294967296 → Said (number_words side due n) (number_tokens side due n)
 number_said White due n small =
-    said_some (decimal n ++ codes ".") [] (number_tokens White due n) (one_period_told (decimal n) (token_of Symbol (decimal n) ∷ []) (symbol_told (decimal n) (number_symbol (decimal n) (number_digits n small))))
+    said_some (decimal n ++ codes ".") [] (number_tokens White due n)
+    (one_period_told (decimal n) (token_of Symbol (decimal n) ∷ []) (symbol_told (decimal n) (number_symbol (decimal n) (number_digits n small))))
 number_said Black true n small =
     let one = one_period_told (decimal n) (token_of Symbol (decimal n) ∷ []) (symbol_told (decimal n) (number_symbol (decimal n) (number_digits n small))) in
     let three = one_period_told ((decimal n ++ codes ".") ++ codes ".") _ (one_period_told (decimal n ++ codes ".") _ one) in
@@ -69,7 +70,8 @@ move_said p due m kept leads notes =
     (number_said p.side due p.number kept.fits)
     (said_more (san_text p m.move ∷ []) (map nag_word m.nags ++ flat_map comment_words m.comments) (move_token p m.move ∷ []) (map glyph_token m.nags ++ map remark_word m.comments)
     (san_said p m.move m.position m.move.null refl kept leads)
-    (said_more (map nag_word m.nags) (flat_map comment_words m.comments) (map glyph_token m.nags) (map remark_word m.comments) (glyphs_said m.nags notes.nags) (comments_said m.comments notes.comments)))
+    (said_more (map nag_word m.nags) (flat_map comment_words m.comments) (map glyph_token m.nags) (map remark_word m.comments)
+    (glyphs_said m.nags notes.nags) (comments_said m.comments notes.comments)))
 
 move_some : (p : Board) (due : Bool) (m : Played) (more : List (List ℕ)) → 0 < length (move_words p due m ++ more)
 move_some p due m more =

@@ -251,7 +251,8 @@ piece_moves capture m check moves file rank goal =
     let before = symbolic_append three (capture_sign capture)
     (symbolic_append two (coordinate 49 m.rank) (symbolic_append (letter m.piece) (coordinate 97 m.file) (letter_symbolic m.piece) (file_symbolic m.file file)) (rank_symbolic m.rank rank))
     (capture_symbolic capture) in
-    let goes = symbolic_append five goal_rank (symbolic_append four goal_file before (symbolic_byte (97 + file_of m.goal) (file_begins (file_of m.goal) f))) (symbolic_byte (49 + rank_of m.goal) (rank_begins (rank_of m.goal) r)) in
+    let goes = symbolic_append five goal_rank (symbolic_append four goal_file before
+    (symbolic_byte (97 + file_of m.goal) (file_begins (file_of m.goal) f))) (symbolic_byte (49 + rank_of m.goal) (rank_begins (rank_of m.goal) r)) in
     let lettered = letter_left five goal_rank (letter_right four goal_file (one_letter (97 + file_of m.goal) (file_letter (file_of m.goal) f))) in
     let n = length-append five goal_rank in
     let k = length-append six (promotion_text m.promotion) in

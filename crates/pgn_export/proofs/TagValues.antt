@@ -190,7 +190,8 @@ sorted_value name tags all =
     ∙ kept_value is_other name tags
 
 others_value : (name : List ℕ) (tags : List Tag) → AreDistinct tags → (fen : Bool) → is_some (tag_value (codes "FEN") tags) ≡ fen
-    → tag_value name (other_tags tags) ≡ cond fen (cond (bytes_eq name (codes "SetUp")) (Some (codes "1")) (cond (is_other name) (tag_value name tags) None)) (cond (is_other name) (tag_value name tags) None)
+    → tag_value name (other_tags tags) ≡ cond fen (cond (bytes_eq name (codes "SetUp")) (Some (codes "1"))
+    (cond (is_other name) (tag_value name tags) None)) (cond (is_other name) (tag_value name tags) None)
 unfolding other_tags
 others_value name tags all true is =
     ap (λ b. tag_value name (if b then put (sorted (filter (λ t. not (is_in_roster t.0)) tags)) (codes "SetUp", codes "1") else sorted (filter (λ t. not (is_in_roster t.0)) tags))) is
@@ -245,7 +246,8 @@ values_joined : (name : List ℕ) (xs : List Tag) (t : Tag) (ys : List Tag) → 
 values_joined name xs t ys =
     ap (option_map (λ t. t.1)) (find-append (λ t. bytes_eq name t.0) xs (t ∷ ys)) ∙ by_first (find (λ t. bytes_eq name t.0) xs)
   where
-    by_first : (o : Option Tag) → option_map (λ t. t.1) (option_or o (find (λ t. bytes_eq name t.0) (t ∷ ys))) ≡ option_or (option_map (λ t. t.1) o) (cond (bytes_eq name t.0) (Some t.1) (tag_value name ys))
+    by_first : (o : Option Tag) → option_map (λ t. t.1) (option_or o (find (λ t. bytes_eq name t.0) (t ∷ ys)))
+        ≡ option_or (option_map (λ t. t.1) o) (cond (bytes_eq name t.0) (Some t.1) (tag_value name ys))
     by_first (Some u) = refl
     by_first None = one_value (bytes_eq name t.0) t (find (λ t. bytes_eq name t.0) ys)
 
@@ -278,7 +280,8 @@ others_order tags fen is =
     by_fen : (b : Bool) → AreSorted (sorted (filter (λ t. not (is_in_roster t.0)) tags))
         → AllByRecursion (λ name. is_other name ≡ true) (map (λ u. u.0) (sorted (filter (λ t. not (is_in_roster t.0)) tags)))
         → AreSorted (if b then put (sorted (filter (λ t. not (is_in_roster t.0)) tags)) (codes "SetUp", codes "1") else sorted (filter (λ t. not (is_in_roster t.0)) tags))
-        × AllByRecursion (λ name. is_other name ≡ true) (map (λ u. u.0) (if b then put (sorted (filter (λ t. not (is_in_roster t.0)) tags)) (codes "SetUp", codes "1") else sorted (filter (λ t. not (is_in_roster t.0)) tags)))
+        × AllByRecursion (λ name. is_other name ≡ true) (map (λ u. u.0)
+        (if b then put (sorted (filter (λ t. not (is_in_roster t.0)) tags)) (codes "SetUp", codes "1") else sorted (filter (λ t. not (is_in_roster t.0)) tags)))
     by_fen true one two = (
       put_sorted (sorted (filter (λ t. not (is_in_roster t.0)) tags)) (codes "SetUp", codes "1") one,
       all_put (λ name. is_other name ≡ true) (sorted (filter (λ t. not (is_in_roster t.0)) tags)) (codes "SetUp", codes "1") two refl,

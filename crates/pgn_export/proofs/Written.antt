@@ -145,8 +145,13 @@ pub comments_tell : (depth : ℕ) (a : Place) (cs : List (List ℕ)) (line : Lin
 comments_tell depth a [] line t all tells = tells
 comments_tell depth a (c ∷ cs) line t all tells =
     let u = record t { comments = cs ++ t.comments } in
-    let kept : record u { comments = c ∷ u.comments } ≡ remark_told c u = ap (λ l. record u { comments = l ++ u.comments }) (sym all.0.spaced) in
-    (a, u, subst (λ s. TellsWord depth a s a u (record u { comments = c ∷ u.comments })) (sym (remark_sense c (all_each (λ b. b ≢ 125) c all.0.no_brace))) (refl, kept), comments_tell depth a cs line t all.1 tells)
+    let kept : record u { comments = c ∷ u.comments } ≡ remark_told c u = ap (λ l. record u { comments = l ++ u.comments }) (sym all.0.spaced) in (
+      a,
+      u,
+      subst (λ s. TellsWord depth a s a u (record u { comments = c ∷ u.comments }))
+          (sym (remark_sense c (all_each (λ b. b ≢ 125) c all.0.no_brace))) (refl, kept),
+      comments_tell depth a cs line t all.1 tells,
+    )
 
 -- where a move leads
 null_of : (p : Board) (m : Move) → is_pseudo_legal p m ≡ true → m.null ≡ false
@@ -187,9 +192,15 @@ move_tells depth a p due m line next others end at kept leads notes tells =
     let to : b.reached ≡ m.position = ap (λ x. led_to x m.move) at ∙ led p m.move m.position leads in
     let read : san a.reached (san_text p m.move) ≡ Ok m.move = ap (λ x. san x (san_text p m.move)) at ∙ written_read p m.move m.position kept leads in
     let tells_move : lined none (played m next others) end ≡ move_told m.move b.reached u = ap (λ q. move_told m.move q u) (sym to) in
-    let one : Tells depth a (word (move_token p m.move) noted_line) (lined none (played m next others) end) =
-    (b, u, subst (λ s. TellsWord depth a s b u (lined none (played m next others) end)) (sym (move_sense_by p m.move m.position m.move.null refl kept leads)) (m.move, read, refl, tells_move), after_it) in
-    subst (λ l. Tells depth a l (lined none (played m next others) end)) (sym (onto_append (number_tokens p.side due p.number) ((move_token p m.move ∷ []) ++ (map glyph_token m.nags ++ map remark_word m.comments)) line))
+    let one : Tells depth a (word (move_token p m.move) noted_line) (lined none (played m next others) end) = (
+      b,
+      u,
+      subst (λ s. TellsWord depth a s b u (lined none (played m next others) end))
+          (sym (move_sense_by p m.move m.position m.move.null refl kept leads)) (m.move, read, refl, tells_move),
+      after_it,
+    ) in
+    subst (λ l. Tells depth a l (lined none (played m next others) end))
+    (sym (onto_append (number_tokens p.side due p.number) ((move_token p m.move ∷ []) ++ (map glyph_token m.nags ++ map remark_word m.comments)) line))
     (number_tells depth a p.side due p.number (word (move_token p m.move) noted_line) (lined none (played m next others) end) kept.fits one)
 
 left_sense : sense (token_of LeftParen (codes "(")) ≡ opens
@@ -234,7 +245,8 @@ mutual
       (variations_tell others p (line_of m.position (is_due m others) next) depth b next end (ap (λ x. Some x) at) kept follows.2 notes.2 (omega (arith, few, beside_))
       (line_tells next m.position (is_due m others) depth b to (stays_position p m.move m.position kept follows.0) follows.1 notes.1 (omega (arith, few, below))))
 
-  pub variations_tell : (others : Continuations) (p : Board) (line : Line) (depth : ℕ) (a : Place) (next : Continuations) (end : Place) → a.before ≡ Some p → IsPosition p → Follows p others → AreKept others
+  pub variations_tell : (others : Continuations) (p : Board) (line : Line) (depth : ℕ) (a : Place) (next : Continuations) (end : Place)
+      → a.before ≡ Some p → IsPosition p → Follows p others → AreKept others
       → depth + levels_beside others ≤ 100 → Tells depth a line (lined none next end) → Tells depth a (variations_of p others line) (lined others next end)
   variations_tell none p line depth a next end before kept follows notes few tells = tells
   variations_tell (played m inner others) p line depth a next end before kept follows notes few tells =

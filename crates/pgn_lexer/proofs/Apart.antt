@@ -80,7 +80,8 @@ all_placed (b ∷ bs) zero at first =
     let fits = reading_within first b bs in
     let zero_on : 0 ≡ at - at = omega arith in (
       record { after = omega arith; some = omega arith; before = omega arith; column = ap (first_at first (b ∷ bs)) zero_on },
-      map_all (Placed (at + 1) (ends_line b) bs) (Placed at first (b ∷ bs)) (one_on at first b bs) (lexemes_from bs (r.len - 1) (at + 1) (ends_line b)) (all_placed bs (r.len - 1) (at + 1) (ends_line b)),
+      map_all (Placed (at + 1) (ends_line b) bs) (Placed at first (b ∷ bs)) (one_on at first b bs)
+          (lexemes_from bs (r.len - 1) (at + 1) (ends_line b)) (all_placed bs (r.len - 1) (at + 1) (ends_line b)),
     ))
 
 -- each lexeme of a text stands in it

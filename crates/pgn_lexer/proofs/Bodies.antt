@@ -88,7 +88,8 @@ escape_of_line rest at within is next =
 
 pub escape_of_byte : (rest : List ℕ) (at : ℕ) → at + 1 < length rest → get_or rest at 0 ≡ 92 → get_or rest (at + 1) 0 ≢ 10 → body_len false (drop at rest) ≡ 2 + body_len false (drop (at + 2) rest)
 escape_of_byte rest at within is other =
-    let taken : body_len true (drop (at + 1) rest) ≡ 1 + body_len false (drop (at + 1 + 1) rest) = at_drop_more (body_len true) rest (at + 1) 0 within ∙ body_len-escaped (get_or rest (at + 1) 0) (drop (at + 1 + 1) rest) other in
+    let taken : body_len true (drop (at + 1) rest) ≡ 1 + body_len false (drop (at + 1 + 1) rest) = at_drop_more (body_len true) rest
+    (at + 1) 0 within ∙ body_len-escaped (get_or rest (at + 1) 0) (drop (at + 1 + 1) rest) other in
     let place : at + 1 + 1 ≡ at + 2 = omega arith in
     starts_escape rest at (omega arith) is ∙ ap (λ n. 1 + n) (taken ∙ ap (λ i. 1 + body_len false (drop i rest)) place) ∙ omega arith
 
@@ -110,15 +111,19 @@ pub record Reaches (rest : List ℕ) (at : ℕ) : Type 0 where
   pub body : body_len false rest ≡ at + body_len false (drop at rest)
 
 -- it reaches the first special byte from a place on that it reaches
-pub reaches_next : (rest : List ℕ) (from n : ℕ) → from ≤ length rest → n ≡ position_or_len is_special (drop from rest) → body_len false rest ≡ from + body_len false (drop from rest) → Reaches rest (from + n)
+pub reaches_next : (rest : List ℕ) (from n : ℕ) → from ≤ length rest → n ≡ position_or_len is_special (drop from rest)
+    → body_len false rest ≡ from + body_len false (drop from rest) → Reaches rest (from + n)
 reaches_next rest from n within is body =
     let most : n ≤ length (drop from rest) = subst (λ k. k ≤ length (drop from rest)) (sym is) (prefix_len-le-length (λ x. not (is_special x)) (drop from rest)) in
     let left : length (drop from rest) ≡ length rest - from = length-drop from rest in
-    let goes : body_len false (drop from rest) ≡ n + body_len false (drop n (drop from rest)) = subst (λ k. body_len false (drop from rest) ≡ k + body_len false (drop k (drop from rest))) (sym is) (plain_front (drop from rest)) in
+    let goes : body_len false (drop from rest) ≡ n + body_len false (drop n (drop from rest)) = subst
+    (λ k. body_len false (drop from rest) ≡ k + body_len false (drop k (drop from rest))) (sym is) (plain_front (drop from rest)) in
     let both : body_len false (drop n (drop from rest)) ≡ body_len false (drop (from + n) rest) = ap (body_len false) (drop-drop n from rest) in
     record {
       within = omega arith;
-      special = λ more. ap is_special (sym (get_or-drop from rest n 0)) ∙ subst (λ k. is_special (get_or (drop from rest) k 0) ≡ true) (sym is) (passes_at_first is_special (drop from rest) 0 (subst (λ k. k < length (drop from rest)) is (omega arith)));
+      special = λ more. ap is_special (sym (get_or-drop from rest n 0))
+          ∙ subst (λ k. is_special (get_or (drop from rest) k 0) ≡ true) (sym is)
+          (passes_at_first is_special (drop from rest) 0 (subst (λ k. k < length (drop from rest)) is (omega arith)));
       body = omega arith;
     }
 

@@ -259,6 +259,7 @@ next at first kind b bs more whole ended =
     let n : ℕ = length (b ∷ bs) in
     let r : Reading = record { kind = kind; len = n } in
     over_lexeme b (bs ++ more) at first whole.dark
-    ∙ ap (λ (q : Reading). (record { at = at; first = first; text = take q.len (b ∷ bs ++ more); kind = q.kind }) ∷ lexemes (at + q.len) (first_at first (b ∷ bs ++ more) q.len) (drop q.len (b ∷ bs ++ more))) (before first kind b bs more whole.reads ended)
+    ∙ ap (λ (q : Reading). (record { at = at; first = first; text = take q.len (b ∷ bs ++ more); kind = q.kind })
+    ∷ lexemes (at + q.len) (first_at first (b ∷ bs ++ more) q.len) (drop q.len (b ∷ bs ++ more))) (before first kind b bs more whole.reads ended)
     ∙ ap₂ (λ t l. (record { at = at; first = first; text = t; kind = kind }) ∷ lexemes (at + n) (first_at first (b ∷ bs ++ more) n) l) (take-append_seam (b ∷ bs) more) (drop-append_seam (b ∷ bs) more)
     ∙ ap (λ col. (record { at = at; first = first; text = b ∷ bs; kind = kind }) ∷ lexemes (at + n) col more) (column_in first b bs more)

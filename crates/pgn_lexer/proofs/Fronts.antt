@@ -66,7 +66,8 @@ comment_short m body other len short most fits same =
 abbrev text_by : ℕ → ℕ → Reading
 text_by body next = if next == 34 then token Text (body + 2) else token UnclosedText (body + 1)
 
-text_short : (m body other : ℕ) (rest : List ℕ) → (text_by body (get_or rest body 0)).len ≤ m + 1 → (body ≤ m → other ≡ body) → text_by other (get_or (take m rest) other 0) ≡ text_by body (get_or rest body 0)
+text_short : (m body other : ℕ) (rest : List ℕ) → (text_by body (get_or rest body 0)).len ≤ m + 1 → (body ≤ m → other ≡ body)
+    → text_by other (get_or (take m rest) other 0) ≡ text_by body (get_or rest body 0)
 text_short m body other rest fits same =
     let few_more = least (get_or rest body 0 == 34) (token Text (body + 2)) (token UnclosedText (body + 1)) (body + 1) (omega arith) (omega arith) m fits in
     let few : body ≤ m = omega arith in
@@ -84,7 +85,8 @@ text_short m body other rest fits same =
 abbrev nag_by : ℕ → List ℕ → Reading
 nag_by digits number = if digits == 0 then token BadByte 1 else token (Nag (min 256 (digits_value 10 number))) (digits + 1)
 
-nag_short : (m digits other : ℕ) (rest : List ℕ) → (nag_by digits (take digits rest)).len ≤ m + 1 → (digits ≤ m → other ≡ digits) → nag_by other (take other (take m rest)) ≡ nag_by digits (take digits rest)
+nag_short : (m digits other : ℕ) (rest : List ℕ) → (nag_by digits (take digits rest)).len ≤ m + 1 → (digits ≤ m → other ≡ digits)
+    → nag_by other (take other (take m rest)) ≡ nag_by digits (take digits rest)
 nag_short m digits other rest fits same =
     let few : digits ≤ m = ⊎_elim
     (λ none. omega arith)
@@ -124,7 +126,8 @@ module _ (m : ℕ) (rest : List ℕ) where
       (λ short.
       let len : length (take m rest) ≡ m = length-take-le m rest (omega arith) in
       ap (comment_by (position_or_len (λ b. b == 125) (take m rest))) len
-      ∙ comment_short m (position_or_len (λ b. b == 125) rest) (position_or_len (λ b. b == 125) (take m rest)) (length rest) short (prefix_len-le-length (λ b. not (b == 125)) rest) fits (prefix_len-take (λ b. not (b == 125)) m rest))
+      ∙ comment_short m (position_or_len (λ b. b == 125) rest) (position_or_len (λ b. b == 125) (take m rest)) (length rest) short
+      (prefix_len-le-length (λ b. not (b == 125)) rest) fits (prefix_len-take (λ b. not (b == 125)) m rest))
       (λ long. ap comment (take_all m rest long))
       (cases_lt m (length rest))
 

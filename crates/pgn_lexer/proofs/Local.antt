@@ -75,7 +75,8 @@ take_part (b ∷ bs) zero at first (suc m) less apart =
     (take-take r.len (suc m) (b ∷ bs) fits)
     (take_part bs (r.len - 1) (at + 1) (ends_line b) m (omega arith) (subst (λ p. IsUncrossed p (lexemes_from bs (r.len - 1) (at + 1) (ends_line b))) e open_.1)
     ∙ ap (λ p. filter (λ l. nat_lt l.at p) (lexemes_from bs (r.len - 1) (at + 1) (ends_line b))) (sym e))
-    ∙ sym (ap (λ t. cond t (lexeme at first b bs ∷ filter (λ l. nat_lt l.at (at + suc m)) (lexemes_from bs (r.len - 1) (at + 1) (ends_line b))) (filter (λ l. nat_lt l.at (at + suc m)) (lexemes_from bs (r.len - 1) (at + 1) (ends_line b)))) here))
+    ∙ sym (ap (λ t. cond t (lexeme at first b bs ∷ filter (λ l. nat_lt l.at (at + suc m)) (lexemes_from bs (r.len - 1) (at + 1) (ends_line b)))
+    (filter (λ l. nat_lt l.at (at + suc m)) (lexemes_from bs (r.len - 1) (at + 1) (ends_line b)))) here))
     apart
 
 -- the lexemes from a place on
@@ -108,7 +109,8 @@ drop_part (b ∷ bs) zero at first (suc m) less apart =
     let passed : nat_le (at + suc m) at ≡ false = grind (arith, nat_tests) in
     drop_part bs (r.len - 1) (at + 1) (ends_line b) m (omega arith) (subst (λ p. IsUncrossed p (lexemes_from bs (r.len - 1) (at + 1) (ends_line b))) e open_.1)
     ∙ ap (λ p. filter (λ l. nat_le p l.at) (lexemes_from bs (r.len - 1) (at + 1) (ends_line b))) (sym e)
-    ∙ sym (ap (λ t. cond t (lexeme at first b bs ∷ filter (λ l. nat_le (at + suc m) l.at) (lexemes_from bs (r.len - 1) (at + 1) (ends_line b))) (filter (λ l. nat_le (at + suc m) l.at) (lexemes_from bs (r.len - 1) (at + 1) (ends_line b)))) passed))
+    ∙ sym (ap (λ t. cond t (lexeme at first b bs ∷ filter (λ l. nat_le (at + suc m) l.at) (lexemes_from bs (r.len - 1) (at + 1) (ends_line b)))
+    (filter (λ l. nat_le (at + suc m) l.at) (lexemes_from bs (r.len - 1) (at + 1) (ends_line b)))) passed))
     apart
 
 -- the lexemes between two places

@@ -62,18 +62,21 @@ unfolding comment Agrees
 comment_is body ys lacks =
     let rest = (body ++ 125 ∷ []) ++ ys in
     let split : rest ≡ body ++ (125 ∷ ys) = append_assoc body (125 ∷ []) ys in
-    let place : position_or_len (λ b. b == 125) rest ≡ length body + 0 = ap (position_or_len (λ b. b == 125)) split ∙ prefix_len-append (λ b. not (b == 125)) body (125 ∷ ys) (lacks_passes 125 body lacks) in
+    let place : position_or_len (λ b. b == 125) rest ≡ length body + 0 = ap (position_or_len (λ b. b == 125)) split
+    ∙ prefix_len-append (λ b. not (b == 125)) body (125 ∷ ys) (lacks_passes 125 body lacks) in
     let long : length rest ≡ length body + suc (length ys) = ap length split ∙ length-append body (125 ∷ ys) in
     let closes : nat_lt (position_or_len (λ b. b == 125) rest) (length rest) ≡ true = lt-ltb (position_or_len (λ b. b == 125) rest) (length rest) (omega arith) in
     let n : length (body ++ 125 ∷ []) ≡ length body + 1 = length-append body (125 ∷ []) in
-    subst (λ t. Agrees (Token Comment) (suc (length (body ++ 125 ∷ []))) (if t then token Comment (position_or_len (λ b. b == 125) rest + 2) else token UnclosedComment (position_or_len (λ b. b == 125) rest + 1))) (sym closes)
+    subst (λ t. Agrees (Token Comment) (suc (length (body ++ 125 ∷ [])))
+    (if t then token Comment (position_or_len (λ b. b == 125) rest + 2) else token UnclosedComment (position_or_len (λ b. b == 125) rest + 1))) (sym closes)
     (omega arith, λ _ _. refl)
 
 unclosed_is : (body ys : List ℕ) → Lacks 125 body → Agrees (Token UnclosedComment) (suc (length body)) (comment (body ++ ys))
 unfolding comment Agrees
 unclosed_is body ys lacks =
     let place = prefix_len-append (λ b. not (b == 125)) body ys (lacks_passes 125 body lacks) in
-    of_both (Agrees (Token UnclosedComment) (suc (length body))) (nat_lt (position_or_len (λ b. b == 125) (body ++ ys)) (length (body ++ ys))) (token Comment (position_or_len (λ b. b == 125) (body ++ ys) + 2)) (token UnclosedComment (position_or_len (λ b. b == 125) (body ++ ys) + 1))
+    of_both (Agrees (Token UnclosedComment) (suc (length body))) (nat_lt (position_or_len (λ b. b == 125) (body ++ ys)) (length (body ++ ys)))
+    (token Comment (position_or_len (λ b. b == 125) (body ++ ys) + 2)) (token UnclosedComment (position_or_len (λ b. b == 125) (body ++ ys) + 1))
     (λ _. (omega arith, λ _ as_many. absurd (omega arith)))
     (λ _. (omega arith, λ _ _. refl))
 
@@ -89,7 +92,8 @@ symbol_is : (more ys : List ℕ) → AllByRecursion (λ c. continues_symbol c �
 unfolding symbol Agrees
 symbol_is more ys all = let place = prefix_len-append continues_symbol more ys all in (omega arith, λ _ _. refl)
 
-nag_is : (digits ys : List ℕ) → 0 < length digits → AllByRecursion (λ d. is_ascii_digit d ≡ true) digits → Agrees (Token (Nag (min 256 (digits_value 10 digits)))) (suc (length digits)) (nag (digits ++ ys))
+nag_is : (digits ys : List ℕ) → 0 < length digits → AllByRecursion (λ d. is_ascii_digit d ≡ true) digits
+    → Agrees (Token (Nag (min 256 (digits_value 10 digits)))) (suc (length digits)) (nag (digits ++ ys))
 unfolding nag Agrees
 nag_is digits ys some all =
     let d = prefix_len is_ascii_digit (digits ++ ys) in
@@ -129,7 +133,8 @@ unfinished_len body ys unfinished = ⊎_elim
 unfinished_is : (body ys : List ℕ) → length body ≤ body_len false (body ++ ys) → Agrees (Token UnclosedText) (suc (length body)) (text (body ++ ys))
 unfolding text Agrees
 unfinished_is body ys few =
-    of_both (Agrees (Token UnclosedText) (suc (length body))) (slice_index (body ++ ys) (body_len false (body ++ ys)) == 34) (token Text (body_len false (body ++ ys) + 2)) (token UnclosedText (body_len false (body ++ ys) + 1))
+    of_both (Agrees (Token UnclosedText) (suc (length body))) (slice_index (body ++ ys) (body_len false (body ++ ys)) == 34)
+    (token Text (body_len false (body ++ ys) + 2)) (token UnclosedText (body_len false (body ++ ys) + 1))
     (λ _. (omega arith, λ _ as_many. absurd (omega arith)))
     (λ _. (omega arith, λ _ _. refl))
 
@@ -165,8 +170,12 @@ suffix_agrees : (first : Bool) (b : ℕ) (rest : List ℕ) (k n : ℕ) → n ≤
 unfolding reading good_suffix poor_suffix
 suffix_agrees first b rest k n fits suffixed =
     let As : ℕ → Type 0 = λ v. Agrees (Token (Nag v)) n (reading first b rest) in
-    ⊎_elim (λ (v, is). let h = heads b rest n 33 [] fits is in subst As (sym v) (move first (Token (Nag 1)) b 33 n 1 rest (drop 0 rest) h.0 h.1 h.2 (one_is 1 (get_or rest 0 0 == 33) (get_or rest 0 0 == 63) (token (Nag 3) 2) (token (Nag 5) 2) refl refl)))
-    (⊎_elim (λ (v, is). let h = heads b rest n 63 [] fits is in subst As (sym v) (move first (Token (Nag 2)) b 63 n 1 rest (drop 0 rest) h.0 h.1 h.2 (one_is 2 (get_or rest 0 0 == 63) (get_or rest 0 0 == 33) (token (Nag 4) 2) (token (Nag 6) 2) refl refl)))
+    ⊎_elim (λ (v, is). let h = heads b rest n 33 [] fits is in
+    subst As (sym v) (move first (Token (Nag 1)) b 33 n 1 rest (drop 0 rest) h.0 h.1 h.2
+    (one_is 1 (get_or rest 0 0 == 33) (get_or rest 0 0 == 63) (token (Nag 3) 2) (token (Nag 5) 2) refl refl)))
+    (⊎_elim (λ (v, is). let h = heads b rest n 63 [] fits is in
+    subst As (sym v) (move first (Token (Nag 2)) b 63 n 1 rest (drop 0 rest) h.0 h.1 h.2
+    (one_is 2 (get_or rest 0 0 == 63) (get_or rest 0 0 == 33) (token (Nag 4) 2) (token (Nag 6) 2) refl refl)))
     (⊎_elim (λ (v, is). let h = heads b rest n 33 (33 ∷ []) fits is in subst As (sym v) (move first (Token (Nag 3)) b 33 n 2 rest (33 ∷ drop 1 rest) h.0 h.1 h.2 (exactly (Token (Nag 3)) 2)))
     (⊎_elim (λ (v, is). let h = heads b rest n 63 (63 ∷ []) fits is in subst As (sym v) (move first (Token (Nag 4)) b 63 n 2 rest (63 ∷ drop 1 rest) h.0 h.1 h.2 (exactly (Token (Nag 4)) 2)))
     (⊎_elim (λ (v, is). let h = heads b rest n 33 (63 ∷ []) fits is in subst As (sym v) (move first (Token (Nag 5)) b 33 n 2 rest (63 ∷ drop 1 rest) h.0 h.1 h.2 (exactly (Token (Nag 5)) 2)))
@@ -185,7 +194,8 @@ agrees first b rest (Token Close) n fits is =
     let h = heads b rest n 93 [] fits is in move first (Token Close) b 93 n 1 rest ([] ++ drop 0 rest) h.0 h.1 h.2 (exactly (Token Close) 1)
 agrees first b rest (Token Text) n fits (body, is, whole) =
     let h = heads b rest n 34 (body ++ 34 ∷ []) fits is in
-    move first (Token Text) b 34 n (suc (length (body ++ 34 ∷ []))) rest ((body ++ 34 ∷ []) ++ drop (length (body ++ 34 ∷ [])) rest) h.0 h.1 h.2 (text_is body (drop (length (body ++ 34 ∷ [])) rest) whole)
+    move first (Token Text) b 34 n (suc (length (body ++ 34 ∷ []))) rest ((body ++ 34 ∷ []) ++ drop (length (body ++ 34 ∷ [])) rest) h.0 h.1 h.2
+    (text_is body (drop (length (body ++ 34 ∷ [])) rest) whole)
 agrees first b rest (Token Symbol) n fits (c, more, is, begins, all) =
     let h = heads b rest n c more fits is in
     move first (Token Symbol) b c n (suc (length more)) rest (more ++ drop (length more) rest) h.0 h.1 h.2
@@ -203,7 +213,8 @@ agrees first b rest (Token Null) n fits is =
     let h = heads b rest n 45 (45 ∷ []) fits is in move first (Token Null) b 45 n 2 rest (45 ∷ drop 1 rest) h.0 h.1 h.2 (exactly (Token Null) 2)
 agrees first b rest (Token Comment) n fits (body, is, lacks) =
     let h = heads b rest n 123 (body ++ 125 ∷ []) fits is in
-    move first (Token Comment) b 123 n (suc (length (body ++ 125 ∷ []))) rest ((body ++ 125 ∷ []) ++ drop (length (body ++ 125 ∷ [])) rest) h.0 h.1 h.2 (comment_is body (drop (length (body ++ 125 ∷ [])) rest) lacks)
+    move first (Token Comment) b 123 n (suc (length (body ++ 125 ∷ []))) rest
+    ((body ++ 125 ∷ []) ++ drop (length (body ++ 125 ∷ [])) rest) h.0 h.1 h.2 (comment_is body (drop (length (body ++ 125 ∷ [])) rest) lacks)
 agrees first b rest (Token LineComment) n fits (line, is, lacks) =
     let h = heads b rest n 59 line fits is in
     move first (Token LineComment) b 59 n (suc (length line)) rest (line ++ drop (length line) rest) h.0 h.1 h.2 (line_is line (drop (length line) rest) lacks)

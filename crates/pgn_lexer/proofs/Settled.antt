@@ -230,7 +230,8 @@ white_settles : (b : ℕ) (bs : List ℕ) (at : ℕ) (first : Bool) → is_white
 unfolding lexemes_from
 white_settles b bs at first white rest =
     further b bs 0 at first [] 0
-    (λ more. ap (λ t. cond t (lexemes_from (bs ++ more) 0 (at + 1) (ends_line b)) (lexeme at first b (bs ++ more) ∷ lexemes_from (bs ++ more) ((reading first b (bs ++ more)).len - 1) (at + 1) (ends_line b))) white)
+    (λ more. ap (λ t. cond t (lexemes_from (bs ++ more) 0 (at + 1) (ends_line b))
+    (lexeme at first b (bs ++ more) ∷ lexemes_from (bs ++ more) ((reading first b (bs ++ more)).len - 1) (at + 1) (ends_line b))) white)
     rest
 
 lexeme_settles : (b : ℕ) (bs : List ℕ) (at : ℕ) (first : Bool) → is_white b ≡ false → ((more : List ℕ) → reading first b (bs ++ more) ≡ reading first b bs)
@@ -241,12 +242,14 @@ lexeme_settles b bs at first dark stays rest =
     let within = reading_within first b bs in
     further b bs 0 at first (lexeme at first b bs ∷ []) (r.len - 1)
     (λ more.
-    ap (λ t. cond t (lexemes_from (bs ++ more) 0 (at + 1) (ends_line b)) (lexeme at first b (bs ++ more) ∷ lexemes_from (bs ++ more) ((reading first b (bs ++ more)).len - 1) (at + 1) (ends_line b))) dark
+    ap (λ t. cond t (lexemes_from (bs ++ more) 0 (at + 1) (ends_line b))
+    (lexeme at first b (bs ++ more) ∷ lexemes_from (bs ++ more) ((reading first b (bs ++ more)).len - 1) (at + 1) (ends_line b))) dark
     ∙ ap (λ q. (record { at = at; first = first; text = take q.len (b ∷ bs ++ more); kind = q.kind }) ∷ lexemes_from (bs ++ more) (q.len - 1) (at + 1) (ends_line b)) (stays more)
     ∙ ap (λ t. (record { at = at; first = first; text = t; kind = r.kind }) ∷ lexemes_from (bs ++ more) (r.len - 1) (at + 1) (ends_line b)) (take-append-le r.len (b ∷ bs) more (omega arith)))
     rest
 
-last_unsettled : (b : ℕ) (bs : List ℕ) (at : ℕ) (first : Bool) → is_white b ≡ false → length bs < (reading first b bs).len → is_left_open (reading first b bs).kind ≡ true → SettlesFrom (b ∷ bs) 0 at first
+last_unsettled : (b : ℕ) (bs : List ℕ) (at : ℕ) (first : Bool) → is_white b ≡ false → length bs < (reading first b bs).len
+    → is_left_open (reading first b bs).kind ≡ true → SettlesFrom (b ∷ bs) 0 at first
 last_unsettled b bs at first dark reaches grows_ =
     let within = reading_within first b bs in
     record {

@@ -29,7 +29,8 @@ front_passes p (x ∷ xs) =
 
 -- those before the first such byte aren't it
 pub front_lacks : (c : ℕ) (xs : List ℕ) → Lacks c (take (position_or_len (λ b. b == c) xs) xs)
-front_lacks c xs = map_all (λ b. not (b == c) ≡ true) (λ b. b ≢ c) (λ b passes is. false≢true (sym (not-true (b == c) passes) ∙ eq-eqb b c is)) (take (position_or_len (λ b. b == c) xs) xs) (front_passes (λ b. not (b == c)) xs)
+front_lacks c xs = map_all (λ b. not (b == c) ≡ true) (λ b. b ≢ c) (λ b passes is. false≢true (sym (not-true (b == c) passes) ∙ eq-eqb b c is))
+    (take (position_or_len (λ b. b == c) xs) xs) (front_passes (λ b. not (b == c)) xs)
 
 one_more : (b : ℕ) (rest : List ℕ) (n : ℕ) → take (n + 1) (b ∷ rest) ≡ b ∷ take n rest
 one_more b rest n = let e : n + 1 ≡ suc n = omega arith in ap (λ k. take k (b ∷ rest)) e

@@ -39,7 +39,8 @@ one_on at b bs l stands =
 all_after : (bs : List ℕ) (inside at : ℕ) (first : Bool) → AllByRecursion (IsAfter at bs) (lexemes_from bs inside at first)
 unfolding lexemes_from
 all_after [] inside at first = tt
-all_after (b ∷ bs) (suc inside) at first = map_all (IsAfter (at + 1) bs) (IsAfter at (b ∷ bs)) (one_on at b bs) (lexemes_from bs inside (at + 1) (ends_line b)) (all_after bs inside (at + 1) (ends_line b))
+all_after (b ∷ bs) (suc inside) at first = map_all (IsAfter (at + 1) bs) (IsAfter at (b ∷ bs)) (one_on at b bs)
+    (lexemes_from bs inside (at + 1) (ends_line b)) (all_after bs inside (at + 1) (ends_line b))
 all_after (b ∷ bs) zero at first =
     let r = reading first b bs in
     let l = lexeme at first b bs in
@@ -80,7 +81,8 @@ module _ (start : ℕ) (first : Bool) (bytes : List ℕ) where
   Known l = StandsIn start first bytes l × IsSpelled start bytes l
 
   -- the token of a lexeme, with those of the lexemes after it
-  one_token : (l : Lexeme) (kind : LexemeKind) → l.kind ≡ kind → (ts : List GameToken) → Known l → AllByRecursion (IsTokenOf start bytes) ts → AllByRecursion (IsTokenOf start bytes) (token_if l.at (length l.text) kind ++ ts)
+  one_token : (l : Lexeme) (kind : LexemeKind) → l.kind ≡ kind → (ts : List GameToken) → Known l → AllByRecursion (IsTokenOf start bytes) ts
+      → AllByRecursion (IsTokenOf start bytes) (token_if l.at (length l.text) kind ++ ts)
   unfolding Known
   one_token l EscapeLine is ts known rest = rest
   one_token l (Token kind) is ts known rest = (
@@ -99,7 +101,8 @@ module _ (start : ℕ) (first : Bool) (bytes : List ℕ) where
 
   pub tokens_stand : AllByRecursion (IsTokenOf start bytes) (tokens_of start first bytes)
   unfolding Known
-  tokens_stand = all_tokens (lexemes start first bytes) (both_all (StandsIn start first bytes) (IsSpelled start bytes) (lexemes start first bytes) (stand_apart start first bytes) (all_spelled start first bytes))
+  tokens_stand = all_tokens (lexemes start first bytes) (both_all (StandsIn start first bytes) (IsSpelled start bytes) (lexemes start first bytes)
+      (stand_apart start first bytes) (all_spelled start first bytes))
 
   pub each_token_stands : All (IsTokenOf start bytes) (tokens_of start first bytes)
   each_token_stands = All-from_recursion (IsTokenOf start bytes) (tokens_of start first bytes) tokens_stand

@@ -35,7 +35,8 @@ over_inside (b ∷ bs) (suc inside) at first =
     ∙ ap₂ (λ p c. lexemes_from (drop inside bs) 0 p c) e (sym (first_at-cons first b bs inside))
 
 -- over white space
-pub over_white : (bs : List ℕ) (at : ℕ) (first : Bool) → lexemes_from bs 0 at first ≡ lexemes_from (drop (prefix_len is_white bs) bs) 0 (at + prefix_len is_white bs) (first_at first bs (prefix_len is_white bs))
+pub over_white : (bs : List ℕ) (at : ℕ) (first : Bool)
+    → lexemes_from bs 0 at first ≡ lexemes_from (drop (prefix_len is_white bs) bs) 0 (at + prefix_len is_white bs) (first_at first bs (prefix_len is_white bs))
 unfolding lexemes_from
 over_white [] at first = refl
 over_white (b ∷ bs) at first =
@@ -86,7 +87,8 @@ all_moved n (b ∷ bs) (suc inside) at first =
 all_moved n (b ∷ bs) zero at first =
     let e : at + n + 1 ≡ at + 1 + n = omega arith in
     let before : ℕ = (reading first b bs).len - 1 in
-    both_moved n (is_white b) (lexeme at first b bs) (lexemes_from bs 0 (at + 1) (ends_line b)) (lexemes_from bs before (at + 1) (ends_line b)) (lexemes_from bs 0 (at + n + 1) (ends_line b)) (lexemes_from bs before (at + n + 1) (ends_line b))
+    both_moved n (is_white b) (lexeme at first b bs) (lexemes_from bs 0 (at + 1) (ends_line b)) (lexemes_from bs before (at + 1) (ends_line b))
+    (lexemes_from bs 0 (at + n + 1) (ends_line b)) (lexemes_from bs before (at + n + 1) (ends_line b))
     (ap (λ p. lexemes_from bs 0 p (ends_line b)) e ∙ all_moved n bs 0 (at + 1) (ends_line b))
     (ap (λ p. lexemes_from bs before p (ends_line b)) e ∙ all_moved n bs before (at + 1) (ends_line b))
 
@@ -142,8 +144,10 @@ module _ (start : ℕ) (first : Bool) (bytes rest : List ℕ) (at white : ℕ) w
       at_white start first bytes at ∙ at_end start first bytes (at + prefix_len is_white (drop at bytes)) (omega arith)
 
   pub some_next : (front : List ℕ) → front ≡ drop at bytes → white ≡ prefix_len is_white front → white ≤ length front → at ≤ length bytes → (at + white ≡ length bytes → ⊥)
-      → rest ≡ drop (at + white) bytes → (col : Bool) → col ≡ first_at first bytes (at + white) → (r : Reading) → r ≡ reading col (get_or rest 0 0) (take (length rest - 1) (drop 1 rest)) → r.len ≤ length (take (length rest - 1) (drop 1 rest)) + 1
-      → lexemes_at start first bytes at ≡ (record { at = start + (at + white); first = col; text = take r.len rest; kind = r.kind }) ∷ lexemes_at start first bytes (at + white + length (take r.len rest))
+      → rest ≡ drop (at + white) bytes → (col : Bool) → col ≡ first_at first bytes (at + white) → (r : Reading)
+      → r ≡ reading col (get_or rest 0 0) (take (length rest - 1) (drop 1 rest)) → r.len ≤ length (take (length rest - 1) (drop 1 rest)) + 1
+      → lexemes_at start first bytes at ≡ (record { at = start + (at + white); first = col; text = take r.len rest; kind = r.kind })
+      ∷ lexemes_at start first bytes (at + white + length (take r.len rest))
   some_next front front_is skipped few inside more rest_is col col_is r r_is fits =
       let p : ℕ = at + white in
       let here : white ≡ prefix_len is_white (drop at bytes) = skipped ∙ ap (prefix_len is_white) front_is in
@@ -153,7 +157,8 @@ module _ (start : ℕ) (first : Bool) (bytes rest : List ℕ) (at white : ℕ) w
       let dark : is_white (get_or bytes p 0) ≡ false = subst (λ n. is_white (get_or bytes (at + n) 0) ≡ false) (sym here) (dark_after_white bytes at (omega arith)) in
       let byte : get_or rest 0 0 ≡ get_or bytes p 0 = ap (λ l. get_or l 0 0) rest_is ∙ get_or-drop p bytes 0 0 ∙ ap (λ n. get_or bytes n 0) (add-zero p) in
       let others : take (length rest - 1) (drop 1 rest) ≡ drop (p + 1) bytes = take_rest rest 1 ∙ ap (drop 1) rest_is ∙ drop-drop 1 p bytes in
-      let reads : r ≡ reading (first_at first bytes p) (get_or bytes p 0) (drop (p + 1) bytes) = r_is ∙ ap₂ (λ b l. reading col b l) byte others ∙ ap (λ c. reading c (get_or bytes p 0) (drop (p + 1) bytes)) col_is in
+      let reads : r ≡ reading (first_at first bytes p) (get_or bytes p 0) (drop (p + 1) bytes) = r_is ∙ ap₂ (λ b l. reading col b l) byte others
+      ∙ ap (λ c. reading c (get_or bytes p 0) (drop (p + 1) bytes)) col_is in
       let others_len : length (take (length rest - 1) (drop 1 rest)) ≡ length bytes - (p + 1) = ap length others ∙ length-drop (p + 1) bytes in
       let text_len : length (take r.len rest) ≡ r.len = length-take-le r.len rest (omega arith) in
       let skips : lexemes_at start first bytes at ≡ lexemes_at start first bytes p = at_white start first bytes at ∙ ap (λ n. lexemes_at start first bytes (at + n)) (sym here) in

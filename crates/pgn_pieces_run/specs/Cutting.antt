@@ -79,5 +79,6 @@ Says WriteFault least was now = WritesPart least was now [] × NoReadFailed was 
 Says NoMemory least was now =
     ((later : List ℕ) × (length later ≤ 65536) × WritesPart least was now later) × NoReadFailed was now × NoWriteFailed was now
 Says ArchiveTooLong least was now =
-    ((front : List ℕ) × (2 ^ 40 < length front) × (length front ≤ 2 ^ 40 + 65536) × WritesFirst least was now front) × NoReadFailed was now × NoWriteFailed was now
+    ((front : List ℕ) × (2 ^ 40 < length front) × (length front ≤ 2 ^ 40 + 65536) × WritesFirst least was now front)
+    × NoReadFailed was now × NoWriteFailed was now
 Says _ least was now = ⊥

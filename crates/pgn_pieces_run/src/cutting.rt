@@ -22,7 +22,8 @@ fn turn<S: Source, O: Sink>(
     pieces: &mut Pieces,
     out: &mut O,
 ) -> Result<usize, Status>
-    requires stands { (front : List ℕ) × (before : List APiece) × Stands pieces.old front before × (length front + length buffer.old < 2 ^ 62) }
+    requires stands { (front : List ℕ) × (before : List APiece) × Stands pieces.old front before
+        × (length front + length buffer.old < 2 ^ 62) }
     requires room { length buffer.old ≤ 65536 }
     ensures bound { IfOk result (λ n. n ≤ length buffer.old) }
     ensures end { IfOk result (λ n. n ≡ 0 → 0 < length buffer.old → IsAtEnd (S.left source.new)) }
@@ -76,7 +77,8 @@ fn end<O: Sink>(alloc: Global, pieces: Pieces, out: &mut O) -> Status
 /// - `ReadFault`: a read failed, and no write. The lines of the pieces that are long enough by then are written.
 /// - `WriteFault`: a write failed, and no read. A front of the table is written.
 /// - `NoMemory`: no memory was found, and nothing failed. A front of the table is written.
-/// - `ArchiveTooLong`: more than 2^40 bytes were read, at most 65,536 more, and nothing failed. The lines of the pieces that are long enough are written.
+/// - `ArchiveTooLong`: more than 2^40 bytes were read, at most 65,536 more, and nothing failed. The lines of the pieces that are long
+///   enough are written.
 pub(crate) fn cut<S: Source, O: Sink>(
     alloc: Global,
     source: &mut S,

@@ -124,7 +124,8 @@ left_is h way rows i d low = at_drop_more (λ rs. h.nodes ++ nodes_by way (lengt
 pub next_row : (g h : Game) (way : List ℕ) (rows : List Row) (i : ℕ) (d : Row) (all : List Node) → i < length rows → IsTree all → IsBuilt g h way (drop i rows) all
     → IsNext h.nodes (slice_index way (get_or rows i d).level) (get_or rows i d).move
 next_row g h way rows i d all low tree built =
-    is_next h.nodes (nodes_by (way_on way (get_or rows i d).level (length h.nodes)) (length h.nodes + 1) (drop (i + 1) rows)) (slice_index way (get_or rows i d).level) (get_or rows i d).move built.rooted
+    is_next h.nodes (nodes_by (way_on way (get_or rows i d).level (length h.nodes)) (length h.nodes + 1) (drop (i + 1) rows))
+    (slice_index way (get_or rows i d).level) (get_or rows i d).move built.rooted
     (subst IsTree (sym built.nodes ∙ left_is h way rows i d low) tree)
 
 pub built_on : (g h j : Game) (way on : List ℕ) (rows : List Row) (i : ℕ) (d : Row) (all : List Node) → i < length rows → IsBuilt g h way (drop i rows) all

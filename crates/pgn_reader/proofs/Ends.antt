@@ -3,8 +3,8 @@ use Rattle.std.proofs.Common.{◌≡◌, List, [], ◌∷◌, ◌++◌, reverse,
 use Rattle.std.specs.Option.{is_some}
 use Rattle.std.proofs.lemmas.List.{reverse-append}
 use Rattle.cq_position.specs.Board.{Board}
-use Rattle.pgn_reader.specs.declared.reader.Reader.{Reader}
-use Rattle.pgn_reader.specs.declared.reader.Phase.TheVariants.{Movetext}
+use Rattle.pgn_reader.specs.declared.token_machine.Reader.{Reader}
+use Rattle.pgn_reader.specs.declared.token_machine.Phase.TheVariants.{Movetext}
 use Rattle.pgn_reader.specs.Frame.{Frame, with_variation}
 use Rattle.pgn_reader.specs.Shown.{head_of, shown_by, shown, moves_in}
 use Rattle.pgn_reader.specs.Machine.{Head, at, in_body, on_end}

@@ -82,7 +82,8 @@ sound_moved a m sound led = record {
   before = λ q e. subst IsPosition (some_same a.reached q e) sound.reached;
 }
 
-told_move : (a : Place) (m : Move) (u : Told) → Led a.reached m → Followed (moved a m) u → Follows a.reached (played (record { move = m; position = led_to a.reached m; nags = u.nags; comments = u.comments }) u.rest u.variations)
+told_move : (a : Place) (m : Move) (u : Told) → Led a.reached m → Followed (moved a m) u
+    → Follows a.reached (played (record { move = m; position = led_to a.reached m; nags = u.nags; comments = u.comments }) u.rest u.variations)
 unfolding Follows
 told_move a m u led f = (led.leads, f.rest, f.variations a.reached refl)
 

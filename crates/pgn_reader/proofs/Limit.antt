@@ -198,7 +198,8 @@ move_limit moves a text (Ok move) is e = record { text = text; move = move; is =
 never : (s : Sense) (moves : ℕ) (a : Place) → None ≡ Some TooManyPositions → PassesLimit moves a s
 never s moves a e = absurd cc
 
-limit_passes : (heading : Bool) (depth moves : ℕ) (a : Place) (kind : TokenKind) (s : Sense) → (s ≡ out_of_place TooManyPositions → ⊥) → movetext_fault heading depth moves a kind s ≡ Some TooManyPositions → PassesLimit moves a s
+limit_passes : (heading : Bool) (depth moves : ℕ) (a : Place) (kind : TokenKind) (s : Sense) → (s ≡ out_of_place TooManyPositions → ⊥)
+    → movetext_fault heading depth moves a kind s ≡ Some TooManyPositions → PassesLimit moves a s
 limit_passes heading depth moves a kind (plays m) placed e = move_limit moves a m (san a.reached m) refl e
 limit_passes heading depth moves a kind opens placed e = absurd (no_opening depth a.before e)
 limit_passes heading depth moves a kind closes placed e = absurd (no_end depth a.before e)

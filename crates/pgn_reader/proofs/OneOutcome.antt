@@ -85,7 +85,8 @@ same_reason ts k a b m n = by_why m.why n.why
     same = ap standing_of (sym n.is_run ∙ m.is_run)
 
     by_why : ((w : Word) × (take (k + 1) ts ≡ take k ts ++ w ∷ []) × (k < length ts) × (fault_at (standing_of m.state) w ≡ Some a)) ⊎ ((k ≡ length ts) × (fault_at_end (standing_of m.state) ≡ Some a))
-        → ((w : Word) × (take (k + 1) ts ≡ take k ts ++ w ∷ []) × (k < length ts) × (fault_at (standing_of n.state) w ≡ Some b)) ⊎ ((k ≡ length ts) × (fault_at_end (standing_of n.state) ≡ Some b)) → a ≡ b
+        → ((w : Word) × (take (k + 1) ts ≡ take k ts ++ w ∷ []) × (k < length ts) × (fault_at (standing_of n.state) w ≡ Some b))
+        ⊎ ((k ≡ length ts) × (fault_at_end (standing_of n.state) ≡ Some b)) → a ≡ b
     by_why (inl (v, more, low, why)) (inl (w, more', low', why')) =
         let words : w ≡ v = last_is (take k ts) w v (sym more' ∙ more) in
         some_is a b (sym why ∙ ap₂ (λ s x. fault_at s x) (sym same) (sym words) ∙ why')

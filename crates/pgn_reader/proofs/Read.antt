@@ -62,7 +62,8 @@ wholly_nothing_by : (f : Frame) (o : Option Move) → f.last ≡ o → f.moves +
 unfolding rows
 wholly_nothing_by f None is = refl
 wholly_nothing_by f (Some m) is =
-    ap₂ (λ x y. f.moves ++ (record { level = f.level; move = record { move = m; position = f.reached; nags = x; comments = y } } ∷ (f.here ++ f.earlier))) (sym (append-nil f.nags)) (sym (append-nil f.comments))
+    ap₂ (λ x y. f.moves ++ (record { level = f.level; move = record { move = m; position = f.reached; nags = x; comments = y } }
+    ∷ (f.here ++ f.earlier))) (sym (append-nil f.nags)) (sym (append-nil f.comments))
 
 pub wholly_nothing : (f : Frame) → whole f ≡ wholly f (nothing_told (place f))
 wholly_nothing f = wholly_nothing_by f f.last refl
@@ -88,7 +89,16 @@ abbrev row_of : ℕ → Move → Board → List ℕ → List (List ℕ) → Row
 row_of level m q nags comments = record { level = level; move = record { move = m; position = q; nags = nags; comments = comments } }
 
 move_by : (f : Frame) (m : Move) (q : Board) (u : Told) (o : Option Move)
-    → (f.moves ++ last_row_by o f) ++ ((record { level = f.next; move = record { move = m; position = q; nags = carried o f.nags ++ u.nags; comments = carried o f.comments ++ u.comments } } ∷ rows (f.next + 1) u.rest)
+    → (f.moves ++ last_row_by o f) ++ ((record {
+      level = f.next;
+      move = record {
+        move = m;
+        position = q;
+        nags = carried o f.nags
+            ++ u.nags;
+        comments = carried o f.comments ++ u.comments;
+      };
+    } ∷ rows (f.next + 1) u.rest)
     ++ (rows f.next u.variations ++ (f.here ++ f.earlier)))
     ≡ f.moves ++ (wholly_by o f (move_told m q u) ++ (f.here ++ (rows f.level none ++ f.earlier)))
 unfolding rows
@@ -103,7 +113,8 @@ move_by f m q u (Some l) =
     let next : List Row = row_of f.next m q u.nags u.comments ∷ (rows (f.next + 1) u.rest ++ (rows f.next u.variations ++ tail)) in
     append_assoc f.moves (row_of f.level l f.reached f.nags f.comments ∷ []) next
     ∙ ap₂ (λ x y. f.moves ++ (row_of f.level l f.reached x y ∷ next)) (sym (append-nil f.nags)) (sym (append-nil f.comments))
-    ∙ ap (λ x. f.moves ++ (row_of f.level l f.reached (f.nags ++ []) (f.comments ++ []) ∷ (row_of f.next m q u.nags u.comments ∷ x))) (sym (append_assoc (rows (f.next + 1) u.rest) (rows f.next u.variations) tail))
+    ∙ ap (λ x. f.moves ++ (row_of f.level l f.reached (f.nags ++ []) (f.comments ++ []) ∷ (row_of f.next m q u.nags u.comments ∷ x)))
+    (sym (append_assoc (rows (f.next + 1) u.rest) (rows f.next u.variations) tail))
 
 move_told_is : (f : Frame) (m : Move) (q : Board) (u : Told) → wholly (advance f m q) u ≡ wholly f (move_told m q u)
 move_told_is f m q u = move_by f m q u f.last

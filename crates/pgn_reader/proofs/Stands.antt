@@ -99,7 +99,8 @@ pair_done ts all start w v is =
     let is_pair : IsPair pair = record { comments = v.pair.are_comments; opening = v.is_open; name = v.is_symbol; value = v.is_text; closing = is } in
     let whole : InPair (ts ++ w ∷ []) v.tags (v.opening ∷ v.name ∷ v.value ∷ w ∷ []) = part_on ts v.tags (v.opening ∷ v.name ∷ v.value ∷ []) w v.pair in
     let pairs : List Pair = v.pair.pairs ++ pair ∷ [] in
-    let text_is : heading_text pairs ≡ heading_text v.pair.pairs ++ pair_text pair = flat_map-append pair_text v.pair.pairs (pair ∷ []) ∙ ap (λ x. heading_text v.pair.pairs ++ x) (append-nil (pair_text pair)) in
+    let text_is : heading_text pairs ≡ heading_text v.pair.pairs ++ pair_text pair = flat_map-append pair_text v.pair.pairs (pair ∷ [])
+    ∙ ap (λ x. heading_text v.pair.pairs ++ x) (append-nil (pair_text pair)) in
     record {
       pairs = pairs;
       has_heading = record {
@@ -162,7 +163,21 @@ closed start (within b o l) f g k w q is has_move (around, p, before, shallow, o
       begun = longer b m;
       text_is = text_longer b m ∙ sym (append_assoc (begun_text b) (o ∷ text l) (w ∷ []));
       stack = stack_on start b g (with_variation g f) k m (variation_told t (nothing_told (place g))) around
-          (λ d e. (p, before, omega (arith, e, shallow), opening, is, t, subst (λ n. Tells (n + 1) (beginning p) l t) (sym e) tells, q, ap (λ x. x.before) end ∙ has_move, nothing_told (place g), refl, refl)) refl;
+          (λ d e. (
+            p,
+            before,
+            omega (arith, e, shallow),
+            opening,
+            is,
+            t,
+            subst (λ n. Tells (n + 1) (beginning p) l t) (sym e) tells,
+            q,
+            ap
+                (λ x. x.before) end ∙ has_move,
+            nothing_told (place g),
+            refl,
+            refl,
+          )) refl;
     }
 
 end_stands : (ts : List Word) (h : Head) (f : Frame) (k : List Frame) (w : Word) → sense w ≡ closes → Shown ts h f k → (o : Option Board) → f.before ≡ o → Stands (ts ++ w ∷ []) (on_end h f k o)

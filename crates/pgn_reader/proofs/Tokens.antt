@@ -8,9 +8,9 @@ use Rattle.cq_outside.specs.declared.faults.Refusal.{Refusal}
 use Rattle.cq_outside.specs.declared.faults.Refusal.TheVariants.{Fault}
 use Rattle.pgn_reader.specs.declared.fault.Reason.{Reason}
 use Rattle.pgn_reader.specs.declared.fault.Reason.TheVariants.{TooManyPositions}
-use Rattle.pgn_reader.specs.declared.reader.Reader.{Reader}
-use Rattle.pgn_reader.specs.declared.reader.Phase.{Phase}
-use Rattle.pgn_reader.specs.declared.reader.Phase.TheVariants.{Movetext, Opened, Named, Valued, Ended}
+use Rattle.pgn_reader.specs.declared.token_machine.Reader.{Reader}
+use Rattle.pgn_reader.specs.declared.token_machine.Phase.{Phase}
+use Rattle.pgn_reader.specs.declared.token_machine.Phase.TheVariants.{Movetext, Opened, Named, Valued, Ended}
 use Rattle.pgn_reader.specs.Words.{Word}
 use Rattle.pgn_reader.specs.Games.{Spells}
 use Rattle.pgn_reader.specs.Standing.{fault_at, fault_at_end, variations_fault}

@@ -107,7 +107,8 @@ pub word_stands : (ts : List Word) (h j : Head) (f g : Frame) (k : List Frame) (
     → ((d : ℕ) → d ≡ length k → TellsWord d (place f) s (place g) (nothing_told (place g)) u) → Stepped h s j → Shown (ts ++ w ∷ []) j g k
 word_stands ts h j f g k w s u is shown tells step =
     let line : Line = word w nothing in
-    let told : (d : ℕ) → d ≡ length k → Tells d (place f) line u = λ d e. (place g, nothing_told (place g), subst (λ x. TellsWord d (place f) x (place g) (nothing_told (place g)) u) (sym is) (tells d e), refl) in
+    let told : (d : ℕ) → d ≡ length k → Tells d (place f) line u = λ d e.
+    (place g, nothing_told (place g), subst (λ x. TellsWord d (place f) x (place g) (nothing_told (place g)) u) (sym is) (tells d e), refl) in
     shown_on ts (w ∷ []) h j f g k k shown (longer shown.begun line) (text_longer shown.begun line)
     (stack_on h.start shown.begun f g k line u shown.stack told (sym (end_same (length k) (place f) (place g) (nothing_told (place g)) u s (tells (length k) refl))))
     step.tags step.start (one_move h j w s is step.moves) (one_comment h j w s is step.heading)

@@ -2,10 +2,10 @@
 use Rattle.std.specs.Prelude.{◌≡◌, ◌≤◌, List, None, Result, Ok, Err}
 use Rattle.cq_position.specs.declared.games.GameResult.{GameResult}
 use Rattle.cq_position.specs.Games.{Game}
-use Rattle.pgn_reader.specs.declared.reader.Phase.{Phase}
-use Rattle.pgn_reader.specs.declared.reader.Phase.TheVariants.{Ended}
-use Rattle.pgn_reader.specs.declared.reader.Reader.{Reader}
-use Rattle.pgn_reader.specs.declared.reading.TokenFault.{TokenFault}
+use Rattle.pgn_reader.specs.declared.token_machine.Phase.{Phase}
+use Rattle.pgn_reader.specs.declared.token_machine.Phase.TheVariants.{Ended}
+use Rattle.pgn_reader.specs.declared.token_machine.Reader.{Reader}
+use Rattle.pgn_reader.specs.declared.all_tokens.TokenFault.{TokenFault}
 use Rattle.pgn_reader.specs.Words.{Word}
 use Rattle.pgn_reader.specs.Tags.{Tags, result_of_tags}
 use Rattle.pgn_reader.specs.Standing.{fault_at_end}

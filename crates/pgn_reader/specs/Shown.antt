@@ -4,9 +4,9 @@ use Rattle.cq_outside.specs.declared.faults.Refusal.{Refusal}
 use Rattle.cq_outside.specs.declared.faults.Refusal.TheVariants.{Fault, NoMemory}
 use Rattle.pgn_reader.specs.declared.fault.Reason.{Reason}
 use Rattle.pgn_reader.specs.declared.fault.Reason.TheVariants.{TooManyPositions}
-use Rattle.pgn_reader.specs.declared.reader.Reader.{Reader}
-use Rattle.pgn_reader.specs.declared.reader.Phase.{Phase}
-use Rattle.pgn_reader.specs.declared.reader.Phase.TheVariants.{Movetext, Opened, Named, Valued, Ended}
+use Rattle.pgn_reader.specs.declared.token_machine.Reader.{Reader}
+use Rattle.pgn_reader.specs.declared.token_machine.Phase.{Phase}
+use Rattle.pgn_reader.specs.declared.token_machine.Phase.TheVariants.{Movetext, Opened, Named, Valued, Ended}
 use Rattle.pgn_reader.specs.Words.{Sense}
 use Rattle.pgn_lexer.specs.declared.token.TokenKind.{TokenKind}
 use Rattle.pgn_reader.specs.Standing.{movetext_fault}

@@ -1,22 +1,22 @@
 //! Reading a game: its tags and its tree, or its first fault.
 #![tactic(auto)]
 
+mod all_tokens;
 mod build;
 mod fault;
-mod game;
 mod laws;
 mod line;
 mod notes;
 mod preface;
-mod reader;
-mod reading;
 mod row;
 mod shared;
 mod text;
+mod token_machine;
+mod whole_game;
 
 pub use fault::{GameFault, Reason};
-pub use game::read_game;
 pub use laws::{
     first_bytes_decide, games_have_one_outcome, games_have_outcomes, markers_end_games,
     split_games_are_read_alike, tokens_decide,
 };
+pub use whole_game::read_game;

@@ -48,7 +48,8 @@ module _ (a b : List Linked) (len : length a ≡ length b) (same : (m : ℕ) →
 
   pub kept_same : IsLinkedTree b
   kept_same = record {
-    tree = same_tree (nodes_of a) (nodes_of b) (let h = kept.tree.rooted in let c = counts in omega (arith, h, c)) (let c = counts in omega (arith, c)) (record { place = λ m less. place m }) kept.tree;
+    tree = same_tree (nodes_of a) (nodes_of b) (let h = kept.tree.rooted in let c = counts in omega (arith, h, c))
+        (let c = counts in omega (arith, c)) (record { place = λ m less. place m }) kept.tree;
     links = record {
       first_child = λ n h. sym (same n).first_child ∙ kept.links.first_child n (omega (arith, h, len)) ∙ first_same n;
       last_child = λ n h. (let last = kept.links.last_child n (omega (arith, h, len)) in subst (IsLastChild (nodes_of b) n) (same n).last_child
@@ -82,7 +83,8 @@ pub within_items : (items : List Linked) (k : ℕ) → {nodes : List Node} → n
 within_items items k same h = let len = length_nodes_of items in let counts = ap length same in omega (arith, h, len, counts)
 
 -- the nodes after a change of one
-pub nodes_set : (items : List Linked) (k : ℕ) (old new : Linked) (change : Node → Node) → {nodes : List Node} → nodes_of items ≡ nodes → k < length nodes → old ≡ get_or items k old → new.node ≡ change old.node
+pub nodes_set : (items : List Linked) (k : ℕ) (old new : Linked) (change : Node → Node) → {nodes : List Node} → nodes_of items ≡ nodes
+    → k < length nodes → old ≡ get_or items k old → new.node ≡ change old.node
     → nodes_of (slice_set items k new) ≡ with_node nodes k change
 nodes_set items k old new change same h old_is new_is =
     let here = read_at items k old (within_items items k same h) old_is in

@@ -38,14 +38,16 @@ module _ (nodes : List Node) (x : Node) where
   new_child n = ap (λ y. is_number y.parent n) new_node
 
   pub numbers_more : numbers all ≡ numbers nodes ++ length nodes ∷ []
-  numbers_more = ap (range_with_len 0) (length-append nodes (x ∷ []) ∙ add-one (length nodes)) ∙ range_more 0 (length nodes) ∙ ap (λ k. numbers nodes ++ k ∷ []) (let e : 0 + length nodes ≡ length nodes = omega arith in e)
+  numbers_more = ap (range_with_len 0) (length-append nodes (x ∷ []) ∙ add-one (length nodes)) ∙ range_more 0 (length nodes)
+      ∙ ap (λ k. numbers nodes ++ k ∷ []) (let e : 0 + length nodes ≡ length nodes = omega arith in e)
 
   pub first_more : (n : ℕ) → first_child all n ≡ option_or (first_child nodes n) (cond (is_number x.parent n) (Some (length nodes)) None)
   unfolding first_child
   first_more n =
       ap (find (is_child_of all n)) numbers_more
       ∙ find-append (is_child_of all n) (numbers nodes) (length nodes ∷ [])
-      ∙ ap₂ option_or (find_agree (is_child_of all n) (is_child_of nodes n) 0 (length nodes) (λ m low high. old_child n m (omega (arith, high)))) (ap (λ t. cond t (Some (length nodes)) None) (new_child n))
+      ∙ ap₂ option_or (find_agree (is_child_of all n) (is_child_of nodes n) 0 (length nodes) (λ m low high. old_child n m (omega (arith, high))))
+      (ap (λ t. cond t (Some (length nodes)) None) (new_child n))
 
   later_old : (o : Option ℕ) (n k : ℕ) → k < length nodes → is_later_sibling all o n k ≡ is_later_sibling nodes o n k
   later_old None n k h = refl
@@ -67,7 +69,8 @@ module _ (nodes : List Node) (x : Node) where
       ap (λ y. find (is_later_sibling all y.parent n) (numbers all)) (old_node n h)
       ∙ ap (find (is_later_sibling all o n)) numbers_more
       ∙ find-append (is_later_sibling all o n) (numbers nodes) (length nodes ∷ [])
-      ∙ ap₂ option_or (find_agree (is_later_sibling all o n) (is_later_sibling nodes o n) 0 (length nodes) (λ m low high. later_old o n m (omega (arith, high)))) (ap (λ t. cond t (Some (length nodes)) None) (later_last o n))
+      ∙ ap₂ option_or (find_agree (is_later_sibling all o n) (is_later_sibling nodes o n) 0 (length nodes)
+      (λ m low high. later_old o n m (omega (arith, high)))) (ap (λ t. cond t (Some (length nodes)) None) (later_last o n))
 
 not_later : (nodes : List Node) (o : Option ℕ) (n k : ℕ) → k ≤ n → is_later_sibling nodes o n k ≡ false
 not_later nodes None n k less = refl

@@ -88,7 +88,8 @@ module _ (items : List Linked) (x : Node) (w : Bool) (parent : ℕ) (h : parent 
       ap (λ i. (linked_at (after pushed parent k room None) i).first_child) at
       ∙ first_set pushed parent k room
       ∙ ap Some (sym count)
-      ∙ ap (λ f. option_or f (Some (length nodes))) (sym (has_no_first nodes parent (λ j. false_from_ne_true (is_child_of nodes parent j) (λ is. let found = last.after j is in let e : None ≡ Some found.0 = found.1 in absurd cc))))
+      ∙ ap (λ f. option_or f (Some (length nodes))) (sym (has_no_first nodes parent
+      (λ j. false_from_ne_true (is_child_of nodes parent j) (λ is. let found = last.after j is in let e : None ≡ Some found.0 = found.1 in absurd cc))))
       ∙ sym first_here
       ∙ ap (first_child more) (sym at))
       (λ differ. first_other pushed parent k room m differ ∙ old_first m less ∙ sym (first_elsewhere m differ))
@@ -150,7 +151,8 @@ module _ (items : List Linked) (x : Node) (w : Bool) (parent : ℕ) (h : parent 
       (λ at. ap (λ i. (linked_at pushed i).next_sibling) at ∙ ap (λ y. y.next_sibling) new_at ∙ sym (last_has_none nodes m (omega (arith, at, count))))
       (old_or_new m less)
 
-  stays_by : (m : ℕ) → m < length nodes → (t : Bool) → later_new nodes x (node_at nodes m).parent m ≡ t → (t ≡ true → is_some (next_sibling nodes m) ≡ true) → next_sibling more m ≡ next_sibling nodes m
+  stays_by : (m : ℕ) → m < length nodes → (t : Bool) → later_new nodes x (node_at nodes m).parent m ≡ t
+      → (t ≡ true → is_some (next_sibling nodes m) ≡ true) → next_sibling more m ≡ next_sibling nodes m
   stays_by m less true is some_ =
       next_more nodes x m less ∙ ap (λ t. option_or (next_sibling nodes m) (cond t (Some (length nodes)) None)) is ∙ some_or (next_sibling nodes m) (Some (length nodes)) (some_ refl)
   stays_by m less false is some_ =
@@ -187,19 +189,22 @@ module _ (items : List Linked) (x : Node) (w : Bool) (parent : ℕ) (h : parent 
       let hangs = number_is (node_at nodes l).parent parent child in
       next_more nodes x l within
       ∙ ap₂ (λ f t. option_or f (cond t (Some (length nodes)) None))
-      (has_no_next nodes l parent hangs (λ j after. false_from_ne_true (is_child_of nodes parent j) (λ is. let found = last.after j is in let e : l ≡ found.0 = some_is l found.0 found.1 in let less = found.2 in omega (arith, e, less, after))))
+      (has_no_next nodes l parent hangs (λ j after. false_from_ne_true (is_child_of nodes parent j)
+      (λ is. let found = last.after j is in let e : l ≡ found.0 = some_is l found.0 found.1 in let less = found.2 in omega (arith, e, less, after))))
       (ap (λ q. later_new nodes x q l) hangs ∙ ap₂ (λ a b. a && b) (lt-ltb l (length nodes) within) hangs_here)
       ∙ ap Some count
 
   next_at : (o : Option ℕ) → IsLastChild nodes parent o → (m : ℕ) → m < k + 1 → (linked_at (after pushed parent k room o) m).next_sibling ≡ next_sibling more m
   next_at None last m less = next_kept pushed parent k room m ∙ old_next m less ∙ sym (next_stays None last m less (λ l is. absurd cc))
   next_at (Some l) last m less = ⊎_elim
-      (λ at. ap (λ i. (linked_at (after pushed parent k room (Some l)) i).next_sibling) at ∙ next_set pushed parent k room l (in_room (Some l) last l refl) ∙ sym (next_here l last) ∙ ap (next_sibling more) (sym at))
+      (λ at. ap (λ i. (linked_at (after pushed parent k room (Some l)) i).next_sibling) at
+      ∙ next_set pushed parent k room l (in_room (Some l) last l refl) ∙ sym (next_here l last) ∙ ap (next_sibling more) (sym at))
       (λ differ. next_other pushed parent k room l m differ ∙ old_next m less ∙ sym (next_stays (Some l) last m less (λ i is. λ same. differ (same ∙ sym (some_is l i is)))))
       (same_or_not m l)
 
   -- the main line
-  main_at : w ≡ (is_main nodes parent && not (is_some (first_child nodes parent))) → (o : Option ℕ) → IsLastChild nodes parent o → (m : ℕ) → m < k + 1 → (linked_at (after pushed parent k room o) m).main ≡ is_main more m
+  main_at : w ≡ (is_main nodes parent && not (is_some (first_child nodes parent))) → (o : Option ℕ) → IsLastChild nodes parent o → (m : ℕ)
+      → m < k + 1 → (linked_at (after pushed parent k room o) m).main ≡ is_main more m
   main_at w_is o last m less =
       main_kept pushed parent k room o m (in_room o last)
       ∙ ⊎_elim
@@ -208,7 +213,8 @@ module _ (items : List Linked) (x : Node) (w : Bool) (parent : ℕ) (h : parent 
       ∙ sym (main_new nodes x tree later parent x_parent (omega (arith, h, count))) ∙ ap (is_main more) (count ∙ sym at))
       (old_or_new m less)
 
-  pub links_after : w ≡ (is_main nodes parent && not (is_some (first_child nodes parent))) → (o : Option ℕ) → IsLastChild nodes parent o → IsLinkedTree (with_linked (with_link (items ++ unlinked x w ∷ []) o parent (length items)) parent (with_last_child (length items)))
+  pub links_after : w ≡ (is_main nodes parent && not (is_some (first_child nodes parent))) → (o : Option ℕ) → IsLastChild nodes parent o
+      → IsLinkedTree (with_linked (with_link (items ++ unlinked x w ∷ []) o parent (length items)) parent (with_last_child (length items)))
   unfolding after
   links_after w_is o last =
       let same : nodes_of (after pushed parent k room o) ≡ more = linked_nodes pushed o parent k ∙ nodes_of_push items (unlinked x w) in

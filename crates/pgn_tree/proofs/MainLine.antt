@@ -72,7 +72,8 @@ module _ (nodes : List Node) (x : Node) (tree : IsTree nodes) (later : IsTree (n
       let first : is_first_child all (length nodes) ≡ not (is_some (first_child nodes p)) =
       ap (λ o. is_first_child_of all o (length nodes)) here
       ∙ ap (λ o. is_number o (length nodes))
-      (first_more nodes x p ∙ ap (λ o. option_or (first_child nodes p) (cond (is_number o p) (Some (length nodes)) None)) parent ∙ ap (λ t. option_or (first_child nodes p) (cond t (Some (length nodes)) None)) (is_self p))
+      (first_more nodes x p ∙ ap (λ o. option_or (first_child nodes p) (cond (is_number o p) (Some (length nodes)) None)) parent
+      ∙ ap (λ t. option_or (first_child nodes p) (cond t (Some (length nodes)) None)) (is_self p))
       ∙ child_is_first (first_child nodes p) (λ c is. within p c is) in
       ap (list_all (in_line all)) (way_step all (tree_first all later) (length nodes) p here)
       ∙ ap (λ t. t && is_main all p) (or_false (length nodes) (is_first_child all (length nodes)) tree.rooted ∙ first)
@@ -89,13 +90,16 @@ filter_more p k =
     ∙ filter-append p (range_with_len 0 k) (k ∷ [])
 
 -- the main line of more and more nodes
-pub line_more : (nodes : List Node) (k : ℕ) (line new : List ℕ) → line ≡ filter (is_main nodes) (range_with_len 0 k) → true ≡ is_main nodes k → new ≡ line ++ k ∷ [] → new ≡ filter (is_main nodes) (range_with_len 0 (k + 1))
+pub line_more : (nodes : List Node) (k : ℕ) (line new : List ℕ) → line ≡ filter (is_main nodes) (range_with_len 0 k) → true ≡ is_main nodes k
+    → new ≡ line ++ k ∷ [] → new ≡ filter (is_main nodes) (range_with_len 0 (k + 1))
 line_more nodes k line new is main new_is =
     new_is ∙ ap (λ l. l ++ k ∷ []) is ∙ ap (λ t. filter (is_main nodes) (range_with_len 0 k) ++ cond t (k ∷ []) []) main ∙ sym (filter_more (is_main nodes) k)
 
-pub line_same : (nodes : List Node) (k : ℕ) (line new : List ℕ) → line ≡ filter (is_main nodes) (range_with_len 0 k) → false ≡ is_main nodes k → new ≡ line → new ≡ filter (is_main nodes) (range_with_len 0 (k + 1))
+pub line_same : (nodes : List Node) (k : ℕ) (line new : List ℕ) → line ≡ filter (is_main nodes) (range_with_len 0 k) → false ≡ is_main nodes k
+    → new ≡ line → new ≡ filter (is_main nodes) (range_with_len 0 (k + 1))
 line_same nodes k line new is main new_is =
-    new_is ∙ is ∙ sym (append-nil (filter (is_main nodes) (range_with_len 0 k))) ∙ ap (λ t. filter (is_main nodes) (range_with_len 0 k) ++ cond t (k ∷ []) []) main ∙ sym (filter_more (is_main nodes) k)
+    new_is ∙ is ∙ sym (append-nil (filter (is_main nodes) (range_with_len 0 k)))
+    ∙ ap (λ t. filter (is_main nodes) (range_with_len 0 k) ++ cond t (k ∷ []) []) main ∙ sym (filter_more (is_main nodes) k)
 
 pub line_all : (nodes : List Node) (k : ℕ) (line : List ℕ) → line ≡ filter (is_main nodes) (range_with_len 0 k) → k ≡ length nodes → line ≡ main_line nodes
 unfolding main_line

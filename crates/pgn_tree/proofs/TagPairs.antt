@@ -23,9 +23,11 @@ module _ {K : Type 0} (items : K → List ℕ) where
 
   pub seen : (name : List ℕ) (es : List (K × List ℕ)) → lookup (λ k. bytes_eq name (items k)) es ≡ tag_value name (map {B = List ℕ × List ℕ} (λ e. (items e.0, e.1)) es)
   seen name [] = refl
-  seen name (e ∷ es) = ap (λ r. cond (bytes_eq name (items e.0)) (Some e.1) r) (seen name es) ∙ sym (found_by (bytes_eq name (items e.0)) e.1 (items e.0) (find (λ t. bytes_eq name t.0) (map {B = List ℕ × List ℕ} (λ e. (items e.0, e.1)) es)))
+  seen name (e ∷ es) = ap (λ r. cond (bytes_eq name (items e.0)) (Some e.1) r) (seen name es)
+      ∙ sym (found_by (bytes_eq name (items e.0)) e.1 (items e.0) (find (λ t. bytes_eq name t.0) (map {B = List ℕ × List ℕ} (λ e. (items e.0, e.1)) es)))
 
-  pub shown_append : (es : List (K × List ℕ)) (k : K) (v : List ℕ) → map {B = List ℕ × List ℕ} (λ e. (items e.0, e.1)) (es ++ (k, v) ∷ []) ≡ map {B = List ℕ × List ℕ} (λ e. (items e.0, e.1)) es ++ (items k, v) ∷ []
+  pub shown_append : (es : List (K × List ℕ)) (k : K) (v : List ℕ)
+      → map {B = List ℕ × List ℕ} (λ e. (items e.0, e.1)) (es ++ (k, v) ∷ []) ≡ map {B = List ℕ × List ℕ} (λ e. (items e.0, e.1)) es ++ (items k, v) ∷ []
   shown_append [] k v = refl
   shown_append (e ∷ es) k v = ap (λ l. (items e.0, e.1) ∷ l) (shown_append es k v)
 
@@ -60,7 +62,8 @@ distinct_put tags name value none distinct =
     record {
       differ = λ i j less h. ⊎_elim
           (λ before is. distinct.differ i j less before (ap (λ t. t.0) (sym (old i (omega (arith, less, before)))) ∙ is ∙ ap (λ t. t.0) (old j before)))
-          (λ at is. is_none tags name i none (omega (arith, less, at)) (ap (λ t. t.0) (sym (old i (omega (arith, less, at)))) ∙ is ∙ ap (λ k. (tag_at (tags ++ (name, value) ∷ []) k).0) at ∙ ap (λ t. t.0) new))
+          (λ at is. is_none tags name i none (omega (arith, less, at))
+          (ap (λ t. t.0) (sym (old i (omega (arith, less, at)))) ∙ is ∙ ap (λ k. (tag_at (tags ++ (name, value) ∷ []) k).0) at ∙ ap (λ t. t.0) new))
           (last j (length tags) (omega (arith, h, len)));
     }
   where

@@ -74,7 +74,8 @@ onto_joined a w (v ∷ vs) = append_assoc a w (32 ∷ join_with_byte 32 (v ∷ v
 joined_from : (b : ℕ) (bs : List ℕ) (ws : List (List ℕ)) → with_words (b ∷ bs) ws ≡ join_with_byte 32 ((b ∷ bs) ∷ ws)
 unfolding with_words
 joined_from b bs [] = refl
-joined_from b bs (w ∷ ws) = ap (λ t. with_words t ws) (with_more b bs w) ∙ joined_from b ((bs ++ 32 ∷ []) ++ w) ws ∙ onto_joined (b ∷ (bs ++ 32 ∷ [])) w ws ∙ append_assoc (b ∷ bs) (32 ∷ []) (join_with_byte 32 (w ∷ ws))
+joined_from b bs (w ∷ ws) = ap (λ t. with_words t ws) (with_more b bs w) ∙ joined_from b ((bs ++ 32 ∷ []) ++ w) ws
+    ∙ onto_joined (b ∷ (bs ++ 32 ∷ [])) w ws ∙ append_assoc (b ∷ bs) (32 ∷ []) (join_with_byte 32 (w ∷ ws))
 
 joined_by : (ws : List (List ℕ)) → ((w : List ℕ) (more : List (List ℕ)) → ws ≡ w ∷ more → 0 < length w) → with_words [] ws ≡ join_with_byte 32 ws
 unfolding with_words
@@ -117,4 +118,5 @@ one_comment t comment is some_ =
 -- without words a node stays as it is
 pub same_node : (nodes : List Node) (k : ℕ) (t : List ℕ) → comment_of (words t) ≡ [] → nodes ≡ with_node nodes k (with_comment t)
 same_node nodes k t none =
-    sym (ap (slice_set nodes k) (ap (λ c. record (node_at nodes k) { comments = (node_at nodes k).comments ++ c }) none ∙ ap (λ c. record (node_at nodes k) { comments = c }) (append-nil (node_at nodes k).comments)) ∙ set_same nodes k no_node)
+    sym (ap (slice_set nodes k) (ap (λ c. record (node_at nodes k) { comments = (node_at nodes k).comments ++ c }) none
+    ∙ ap (λ c. record (node_at nodes k) { comments = c }) (append-nil (node_at nodes k).comments)) ∙ set_same nodes k no_node)

@@ -13,6 +13,13 @@ impl Column {
         self.hits[node as usize]
     }
 
+    /// How many sort items the query has.
+    pub fn sorts(&self) -> usize
+        ensures { result ≡ length (keys_of self.now) }
+    {
+        self.keys.len()
+    }
+
     /// The value at a node of the sort item of a number, counted from 0; None where it has none.
     pub fn key(&self, sort: u32, node: u32) -> Option<i64>
         requires sort { sort < length (keys_of self.now) }

@@ -25,5 +25,6 @@ loop-item-preserved c =
     record {
       brace = right_of NoBrace here rest (subst (All NoBrace) split c.loop-item.invariant.brace);
       left = one_less c.args.game.now c.loop-item.game c.add_comment_of.new.game c.args.node (with_marks (comment_texts (filter_trees (drop i items)))) (with_marks here) (with_marks rest)
-          (with_marks (comment_texts (filters_tree c.args.items.now))) c.requires.node c.in_ok-add_comment_of.ensures (λ x. ap (λ l. with_marks l x) split ∙ marks_split here rest x) c.loop-item.invariant.left;
+          (with_marks (comment_texts (filters_tree c.args.items.now))) c.requires.node c.in_ok-add_comment_of.ensures
+          (λ x. ap (λ l. with_marks l x) split ∙ marks_split here rest x) c.loop-item.invariant.left;
     }

@@ -23,4 +23,5 @@ unfolding marks
 returns c =
     two_changes c.args.game.now c.add_comment.new.self c.add_comments.new.game c.args.node (with_comment c.as_slice.result.now) (with_marks (comment_texts (filters_tree c.args.query.now.items)))
     (with_marks (marks (query_tree c.args.query.now))) c.requires.node c.in_ok-add_comment.ensures.ok c.in_ok-add_comments.ensures
-    (λ x. subst (λ t. with_marks (comment_texts (filters_tree c.args.query.now.items)) (with_comment c.as_slice.result.now x) ≡ with_marks (comment_texts (filters_tree c.args.query.now.items)) (with_comment t x)) c.as_slice.ensures refl)
+    (λ x. subst (λ t. with_marks (comment_texts (filters_tree c.args.query.now.items)) (with_comment c.as_slice.result.now x)
+    ≡ with_marks (comment_texts (filters_tree c.args.query.now.items)) (with_comment t x)) c.as_slice.ensures refl)

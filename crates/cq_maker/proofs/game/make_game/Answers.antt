@@ -26,7 +26,8 @@ pub returns-clause-game : goal.returns-clause-game
 returns-clause-game c =
     let x = c.args.draws.now in
     let is = line_is x c.below-most.result c.below-most.new.self c.below-most.ensures.number c.below-most.ensures.state in
-    game_is x c.args.number c.in_ok-game.game c.add_rows.new.game c.add_rows-2.new.game c.in_ok-tags.tags c.ending.result c.start.result c.in_ok-line.line.last c.as_slice.result.now c.as_slice-2.result.now
+    game_is x c.args.number c.in_ok-game.game c.add_rows.new.game c.add_rows-2.new.game c.in_ok-tags.tags c.ending.result c.start.result
+    c.in_ok-line.line.last c.as_slice.result.now c.as_slice-2.result.now
     c.in_ok-game.ensures c.start.ensures c.in_ok-tags.ensures c.ending.ensures (c.in_ok-line.ensures.last ∙ ap (λ l. l.last) is) c.in_ok-add_rows.ensures c.in_ok-add_rows-2.ensures
     (ap₂ (λ a b. nodes_of_rows a ++ nodes_of_rows b) c.as_slice.ensures.value c.as_slice-2.ensures.value ∙ c.in_ok-line.ensures.nodes ∙ ap (λ l. nodes_from 0 1 l.moves) is)
 

@@ -8,10 +8,12 @@ unfolding in_check
 loop-number-init c = any_from-start (attacked_king c.args.men.now c.args.side)
 
 pub returns-then-is_attacked_king : goal.returns-then-is_attacked_king
-returns-then-is_attacked_king c = sym (any_from-here (attacked_king c.args.men.now c.args.side) c.loop-number.number (omega arith) (sym (rw c.new.ensures at c.is_attacked_king.ensures) ∙ c.if-is_attacked_king.true)) ∙ c.loop-number.invariant
+returns-then-is_attacked_king c = sym (any_from-here (attacked_king c.args.men.now c.args.side) c.loop-number.number (omega arith)
+    (sym (rw c.new.ensures at c.is_attacked_king.ensures) ∙ c.if-is_attacked_king.true)) ∙ c.loop-number.invariant
 
 pub loop-number-preserved : goal.loop-number-preserved
-loop-number-preserved c = sym (any_from-next (attacked_king c.args.men.now c.args.side) c.loop-number.number (omega arith) (sym (rw c.new.ensures at c.is_attacked_king.ensures) ∙ c.if-is_attacked_king.false)) ∙ c.loop-number.invariant
+loop-number-preserved c = sym (any_from-next (attacked_king c.args.men.now c.args.side) c.loop-number.number (omega arith)
+    (sym (rw c.new.ensures at c.is_attacked_king.ensures) ∙ c.if-is_attacked_king.false)) ∙ c.loop-number.invariant
 
 pub returns : goal.returns
 returns c = sym (any_from-end (attacked_king c.args.men.now c.args.side) c.loop-number.number (omega arith)) ∙ c.loop-number.invariant

@@ -35,7 +35,9 @@ loop-left-preserved-then-is_origin c =
     let some : 0 < c.loop-left.left = omega arith in
     let fits : c.loop-left.left < 2 ^ 64 = search rules in
     let passes = sym c.is_origin.ensures ∙ c.if-is_origin.true in
-    rw c.push.ensures.items (found-with test c.loop-left.found.items c.loop-left.left c.lowest_square-from.result c.number.result some fits c.lowest_square-from.ensures.value c.number.ensures.value passes c.loop-left.invariant)
+    rw c.push.ensures.items
+    (found-with test c.loop-left.found.items c.loop-left.left c.lowest_square-from.result c.number.result some fits
+    c.lowest_square-from.ensures.value c.number.ensures.value passes c.loop-left.invariant)
 
 pub loop-left-smaller : goal.loop-left-smaller
 loop-left-smaller c =
@@ -49,7 +51,8 @@ loop-left-preserved c =
     let some : 0 < c.loop-left.left = omega arith in
     let fits : c.loop-left.left < 2 ^ 64 = search rules in
     let fails = sym c.is_origin.ensures ∙ c.if-is_origin.false in
-    found-without test c.loop-left.found.items c.loop-left.left c.lowest_square-from.result c.number.result some fits c.lowest_square-from.ensures.value c.number.ensures.value fails c.loop-left.invariant
+    found-without test c.loop-left.found.items c.loop-left.left c.lowest_square-from.result c.number.result some fits
+    c.lowest_square-from.ensures.value c.number.ensures.value fails c.loop-left.invariant
 
 pub returns : goal.returns
 unfolding origins

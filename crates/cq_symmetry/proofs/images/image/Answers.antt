@@ -13,7 +13,9 @@ loop-number-init c = no_mask _ (λ s low. refl)
 pub loop-number-preserved : goal.loop-number-preserved
 loop-number-preserved c =
     or_masks _ _ _ _ c.loop-number.invariant c.image_of_one-squares.ensures (or_fits c.loop-number.squares c.image_of_one-squares.result (Fits-lt-pow c.loop-number.auto.squares-fits) (omega arith))
-    ∙ same_mask _ _ (λ s low. sym (any_last (spec.is_image c.args.m c.args.part s) c.loop-number.number ∙ ap (λ n. list_any (spec.is_image c.args.m c.args.part s) (range_with_len 0 c.loop-number.number) || spec.is_image c.args.m c.args.part s n) (sym c.new-square.ensures)))
+    ∙ same_mask _ _ (λ s low. sym (any_last (spec.is_image c.args.m c.args.part s) c.loop-number.number
+    ∙ ap (λ n. list_any (spec.is_image c.args.m c.args.part s) (range_with_len 0 c.loop-number.number) || spec.is_image c.args.m c.args.part s n)
+    (sym c.new-square.ensures)))
 
 pub returns : goal.returns
 unfolding spec.image board.squares

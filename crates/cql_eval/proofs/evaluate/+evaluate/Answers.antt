@@ -34,7 +34,8 @@ use Rattle.cql_eval.proofs.evaluate.+evaluate.Goals as goal
 
 pub chains::all_hold-returns-clause-value : goal.chains::all_hold-returns-clause-value
 chains::all_hold-returns-clause-value g t c = λ n l.
-    truth_left c.args.live.now c.in_ok-left.left.items _ _ (searched_tree c.args.game.now c.args.variations) c.in_ok-left.ensures.left (so_all (searched_tree c.args.game.now c.args.variations) c.args.names.now true (filters_tree c.args.filters.now)) n l
+    truth_left c.args.live.now c.in_ok-left.left.items _ _ (searched_tree c.args.game.now c.args.variations) c.in_ok-left.ensures.left
+    (so_all (searched_tree c.args.game.now c.args.variations) c.args.names.now true (filters_tree c.args.filters.now)) n l
 
 pub chains::all_hold-returns-clause-cost : goal.chains::all_hold-returns-clause-cost
 chains::all_hold-returns-clause-cost g t c = omega (arith, c.left_by.ensures.cost, cost_all (length c.args.game.now.nodes) (filters_tree c.args.filters.now))
@@ -44,7 +45,8 @@ chains::all_hold-returns-in_err-left-clause-cost g t c = omega (arith, c.left_by
 
 pub chains::none_holds-returns-clause-value : goal.chains::none_holds-returns-clause-value
 chains::none_holds-returns-clause-value g t c = λ n l.
-    truth_left c.args.live.now c.in_ok-left.left.items _ _ (searched_tree c.args.game.now c.args.variations) c.in_ok-left.ensures.left (so_no (searched_tree c.args.game.now c.args.variations) c.args.names.now (filters_tree c.args.filters.now)) n l
+    truth_left c.args.live.now c.in_ok-left.left.items _ _ (searched_tree c.args.game.now c.args.variations) c.in_ok-left.ensures.left
+    (so_no (searched_tree c.args.game.now c.args.variations) c.args.names.now (filters_tree c.args.filters.now)) n l
 
 pub chains::none_holds-returns-clause-cost : goal.chains::none_holds-returns-clause-cost
 chains::none_holds-returns-clause-cost g t c = omega (arith, c.left_by.ensures.cost, cost_all (length c.args.game.now.nodes) (filters_tree c.args.filters.now))
@@ -62,7 +64,8 @@ chains::left_by-loop-class-init g t c = record {
 
 pub chains::left_by-loop-class-preserved : goal.chains::left_by-loop-class-preserved
 chains::left_by-loop-class-preserved g t c = record {
-  left = class_left (searched_tree c.args.game.now c.args.variations) c.args.names.now c.args.want c.loop-class.class (filters_tree c.args.filters.now) c.args.live.now c.loop-class.left.items c.deref_mut.result.now c.ask_class.new.left
+  left = class_left (searched_tree c.args.game.now c.args.variations) c.args.names.now c.args.want c.loop-class.class
+      (filters_tree c.args.filters.now) c.args.live.now c.loop-class.left.items c.deref_mut.result.now c.ask_class.new.left
       c.loop-class.left.len (omega (arith, c.ask_class.ensures.len, c.deref_mut.ensures.len)) c.deref_mut.ensures.value c.loop-class.invariant.left c.in_ok-ask_class.ensures.left;
   cost = omega (arith, c.loop-class.invariant.cost, c.ask_class.ensures.cost, cost_next (length c.args.game.now.nodes) c.loop-class.class (filters_tree c.args.filters.now));
   rises = omega (arith, c.loop-class.invariant.rises, c.ask_class.ensures.rises);
@@ -70,7 +73,8 @@ chains::left_by-loop-class-preserved g t c = record {
 
 pub chains::left_by-returns-clause-left : goal.chains::left_by-returns-clause-left
 chains::left_by-returns-clause-left g t c =
-    subst (λ k. IsLeft (searched_tree c.args.game.now c.args.variations) c.args.live.now (are_so (is_before k) (searched_tree c.args.game.now c.args.variations) c.args.names.now c.args.want (filters_tree c.args.filters.now)) c.loop-class.left.items)
+    subst (λ k. IsLeft (searched_tree c.args.game.now c.args.variations) c.args.live.now
+    (are_so (is_before k) (searched_tree c.args.game.now c.args.variations) c.args.names.now c.args.want (filters_tree c.args.filters.now)) c.loop-class.left.items)
     (class_end c.loop-class.class c.args.past (omega (arith, c.loop-class-test.false)) (omega (arith, c.loop-class.auto.class-end))) c.loop-class.invariant.left
 
 pub chains::left_by-returns-clause-cost : goal.chains::left_by-returns-clause-cost
@@ -101,7 +105,9 @@ pub chains::ask_class-loop-filter-preserved : goal.chains::ask_class-loop-filter
 chains::ask_class-loop-filter-preserved g t c = record {
   len = c.ask_if.ensures.len ∙ c.loop-filter.invariant.len;
   left = is_left_then (searched_tree c.args.game.now c.args.variations) c.args.left.now c.loop-filter.left c.ask_if.new.left _ _ _ c.loop-filter.invariant.left c.in_ok-ask_if.ensures.left
-      (λ n. so_more (is_of c.args.class) (searched_tree c.args.game.now c.args.variations) c.args.names.now c.args.want c.as_slice-filter-items.result.now c.loop-filter.filter-index c.filter-item.result n c.loop-filter-test.true c.filter-item.is);
+      (λ n. so_more (is_of c.args.class)
+      (searched_tree c.args.game.now c.args.variations) c.args.names.now c.args.want c.as_slice-filter-items.result.now c.loop-filter.filter-index
+      c.filter-item.result n c.loop-filter-test.true c.filter-item.is);
   cost = class_cost_more (is_of c.args.class) (length c.args.game.now.nodes) c.as_slice-filter-items.result.now c.loop-filter.filter-index c.filter-item.result _ c.loop-filter.steps c.ask_if.new.steps
       c.loop-filter-test.true c.filter-item.is c.loop-filter.invariant.cost c.ask_if.ensures.cost;
   rises = omega (arith, c.loop-filter.invariant.rises, c.ask_if.ensures.rises);
@@ -111,12 +117,16 @@ chains::ask_class-loop-filter-preserved g t c = record {
 pub chains::ask_class-returns-clause-left : goal.chains::ask_class-returns-clause-left
 chains::ask_class-returns-clause-left g t c =
     is_left_same (searched_tree c.args.game.now c.args.variations) c.args.left.now c.loop-filter.left _ _
-    (λ n. so_whole (is_of c.args.class) (searched_tree c.args.game.now c.args.variations) c.args.names.now c.args.want c.as_slice-filter-items.result.now c.loop-filter.filter-index (filters_tree c.args.filters.now) n (omega (arith, c.loop-filter-test.false)) c.as_slice-filter-items.ensures.tree)
+    (λ n. so_whole (is_of c.args.class)
+    (searched_tree c.args.game.now c.args.variations) c.args.names.now c.args.want c.as_slice-filter-items.result.now c.loop-filter.filter-index
+    (filters_tree c.args.filters.now) n (omega (arith, c.loop-filter-test.false)) c.as_slice-filter-items.ensures.tree)
     c.loop-filter.invariant.left
 
 pub chains::ask_class-returns-in_err-ask_if-clause-cost : goal.chains::ask_class-returns-in_err-ask_if-clause-cost
 chains::ask_class-returns-in_err-ask_if-clause-cost g t c =
-    class_cost_within (is_of c.args.class) (length c.args.game.now.nodes) c.as_slice-filter-items.result.now c.loop-filter.filter-index c.filter-item.result _ c.loop-filter.steps c.ask_if.new.steps (filters_tree c.args.filters.now)
+    class_cost_within (is_of c.args.class)
+    (length c.args.game.now.nodes) c.as_slice-filter-items.result.now c.loop-filter.filter-index c.filter-item.result _ c.loop-filter.steps c.ask_if.new.steps
+    (filters_tree c.args.filters.now)
     c.loop-filter-test.true c.filter-item.is c.loop-filter.invariant.cost c.ask_if.ensures.cost c.as_slice-filter-items.ensures.tree
 
 pub chains::ask_if-returns-then-not-is_of_class-clause-left : goal.chains::ask_if-returns-then-not-is_of_class-clause-left
@@ -126,7 +136,8 @@ chains::ask_if-returns-then-not-is_of_class-clause-left g t c =
 
 pub chains::ask_if-returns-clause-left : goal.chains::ask_if-returns-clause-left
 chains::ask_if-returns-clause-left g t c =
-    left_taken (is_of c.args.class) (searched_tree c.args.game.now c.args.variations) c.args.names.now c.args.want (filter_tree c.args.filter.now) c.args.left.now c.narrow.new.left c.in_ok-column.column
+    left_taken (is_of c.args.class) (searched_tree c.args.game.now c.args.variations) c.args.names.now c.args.want
+    (filter_tree c.args.filter.now) c.args.left.now c.narrow.new.left c.in_ok-column.column
     (sym c.is_of_class.ensures ∙ c.if-not-is_of_class.false) c.requires.asked c.in_ok-column.ensures.value c.narrow.ensures.nodes
 
 pub chains::ask_if-returns-clause-cost : goal.chains::ask_if-returns-clause-cost
@@ -138,33 +149,52 @@ chains::ask_if-returns-in_err-column-clause-cost g t c =
     cost_taken (is_of c.args.class) (length c.args.game.now.nodes) (filter_tree c.args.filter.now) _ _ (sym c.is_of_class.ensures ∙ c.if-not-is_of_class.false) c.evaluate.ensures.cost
 
 pub squares::square_truths-loop-number-init : goal.squares::square_truths-loop-number-init
-squares::square_truths-loop-number-init g t c = record { left = left_begun (searched_tree c.args.game.now c.args.variations) c.args.live.now _ c.in_ok-left.left.items c.requires.asked c.in_ok-left.ensures (λ n. refl); wanted = wanted_same (shown c.args.squares.now) c.args.live.now c.in_ok-left.left.items c.wanted_squares-wanted.result c.in_ok-left.ensures c.wanted_squares-wanted.ensures; cost = omega arith; rises = omega arith }
+squares::square_truths-loop-number-init g t c = record {
+  left = left_begun
+      (searched_tree c.args.game.now c.args.variations) c.args.live.now _ c.in_ok-left.left.items c.requires.asked c.in_ok-left.ensures
+      (λ n. refl);
+  wanted = wanted_same
+      (shown c.args.squares.now) c.args.live.now c.in_ok-left.left.items c.wanted_squares-wanted.result c.in_ok-left.ensures c.wanted_squares-wanted.ensures;
+  cost = omega arith;
+  rises = omega arith;
+}
 
 pub squares::square_truths-loop-number-preserved : goal.squares::square_truths-loop-number-preserved
 squares::square_truths-loop-number-preserved g t c =
     record {
-      left = square_more (searched_tree c.args.game.now c.args.variations) c.args.live.now c.args.every (shown c.args.squares.now) (λ n s. holds (value (searched_tree c.args.game.now c.args.variations) [] ((c.args.name.now, s) ∷ c.args.names.now) (filter_tree c.args.asked.now) n))
+      left = square_more (searched_tree c.args.game.now c.args.variations) c.args.live.now c.args.every (shown c.args.squares.now)
+          (λ n s. holds (value (searched_tree c.args.game.now c.args.variations) [] ((c.args.name.now, s) ∷ c.args.names.now) (filter_tree c.args.asked.now) n))
           c.loop-number.number c.new-square.result c.loop-number.left.items c.in_ok-left-2.left.items c.new-square.ensures c.loop-number.invariant.left c.in_ok-left-2.ensures.value;
-      wanted = wanted_kept c.args.every (shown c.args.squares.now) _ c.new-square.result c.loop-number.left.items c.in_ok-left-2.left.items c.wanted_squares-wanted.result c.loop-number.invariant.wanted c.in_ok-left-2.ensures.value;
-      cost = square_cost (filter_cost (length c.args.game.now.nodes) (filter_tree c.args.asked.now)) c.loop-number.number _ c.loop-number.steps c.square_turn.new.steps c.loop-number-test.true c.loop-number.invariant.cost c.square_turn.ensures.cost;
+      wanted = wanted_kept c.args.every
+          (shown c.args.squares.now) _ c.new-square.result c.loop-number.left.items c.in_ok-left-2.left.items c.wanted_squares-wanted.result
+          c.loop-number.invariant.wanted c.in_ok-left-2.ensures.value;
+      cost = square_cost (filter_cost (length c.args.game.now.nodes)
+          (filter_tree c.args.asked.now)) c.loop-number.number _ c.loop-number.steps c.square_turn.new.steps c.loop-number-test.true c.loop-number.invariant.cost c.square_turn.ensures.cost;
       rises = omega (arith, c.loop-number.invariant.rises, c.square_turn.ensures.rises);
     }
 
 pub squares::square_truths-returns-clause-value : goal.squares::square_truths-returns-clause-value
 squares::square_truths-returns-clause-value g t c = λ n l.
-    square_end (searched_tree c.args.game.now c.args.variations) c.args.live.now c.args.every (shown c.args.squares.now) (λ m s. holds (value (searched_tree c.args.game.now c.args.variations) [] ((c.args.name.now, s) ∷ c.args.names.now) (filter_tree c.args.asked.now) m))
-    c.loop-number.number c.loop-number.left.items c.in_ok-truths.truths.items (omega (arith, c.loop-number-test.false, c.loop-number.auto.number-end)) c.requires.asked c.loop-number.invariant.left c.in_ok-truths.ensures n l
+    square_end (searched_tree c.args.game.now c.args.variations) c.args.live.now c.args.every (shown c.args.squares.now)
+    (λ m s. holds (value (searched_tree c.args.game.now c.args.variations) [] ((c.args.name.now, s) ∷ c.args.names.now) (filter_tree c.args.asked.now) m))
+    c.loop-number.number c.loop-number.left.items c.in_ok-truths.truths.items
+    (omega (arith, c.loop-number-test.false, c.loop-number.auto.number-end)) c.requires.asked c.loop-number.invariant.left c.in_ok-truths.ensures n l
 
 pub squares::square_turn-returns-clause-value : goal.squares::square_turn-returns-clause-value
 squares::square_turn-returns-clause-value g t c =
-    turn_all (searched_tree c.args.game.now c.args.variations) c.args.every (shown c.args.squares.now) (value (searched_tree c.args.game.now c.args.variations) [] ((c.args.name.now, c.args.square) ∷ c.args.names.now) (filter_tree c.args.asked.now)) c.args.square c.args.left.items c.in_ok-there.there.items
+    turn_all (searched_tree c.args.game.now c.args.variations) c.args.every (shown c.args.squares.now)
+    (value (searched_tree c.args.game.now c.args.variations) [] ((c.args.name.now, c.args.square) ∷ c.args.names.now)
+    (filter_tree c.args.asked.now)) c.args.square c.args.left.items c.in_ok-there.there.items
     c.deref.result.now c.deref-3.result.now c.deref-4.result.now c.deref-5.result.now c.in_ok-later.later.items c.in_ok-column.column
     c.deref.ensures.value c.deref-3.ensures.value c.deref-4.ensures.value c.deref-5.ensures.value c.in_ok-there.ensures
-    (subst (λ e. IsColumn c.in_ok-column.column c.deref-3.result.now (value (searched_tree c.args.game.now c.args.variations) [] e (filter_tree c.args.asked.now))) c.in_ok-inner.ensures c.in_ok-column.ensures.value) c.in_ok-later.ensures
+    (subst (λ e. IsColumn c.in_ok-column.column c.deref-3.result.now
+    (value (searched_tree c.args.game.now c.args.variations) [] e
+    (filter_tree c.args.asked.now))) c.in_ok-inner.ensures c.in_ok-column.ensures.value) c.in_ok-later.ensures
 
 pub squares::square_turn-returns-then-not-any_live-clause-value : goal.squares::square_turn-returns-then-not-any_live-clause-value
 squares::square_turn-returns-then-not-any_live-clause-value g t c =
-    turn_stop c.args.every (shown c.args.squares.now) _ c.args.square c.args.left.items c.in_ok-there.there.items c.deref.result.now c.deref-2.result.now c.deref.ensures.value c.deref-2.ensures.value c.in_ok-there.ensures
+    turn_stop c.args.every
+    (shown c.args.squares.now) _ c.args.square c.args.left.items c.in_ok-there.there.items c.deref.result.now c.deref-2.result.now c.deref.ensures.value c.deref-2.ensures.value c.in_ok-there.ensures
     (sym c.any_live.ensures ∙ c.if-not-any_live.true)
 
 pub squares::square_turn-returns-then-not-has_square-clause-value : goal.squares::square_turn-returns-then-not-has_square-clause-value
@@ -173,14 +203,19 @@ squares::square_turn-returns-then-not-has_square-clause-value g t c =
 
 pub unary_column-returns-in_ok-set-in-Find-clause-value : goal.unary_column-returns-in_ok-set-in-Find-clause-value
 unary_column-returns-in_ok-set-in-Find-clause-value g t c = rw c.in-Find.is (λ n l.
-    find_is (searched_tree c.args.game.now c.args.variations) c.args.live.now c.in_ok-wide-in-Find.wide.items c.deref.result.now c.deref-in-Find.result.now c.in_ok-set-in-Find.set.items c.raised-found.result.items c.in_ok-column-in-Find.column
-    (value (searched_tree c.args.game.now c.args.variations) [] c.args.names.now (filter_tree c.args.part.now)) c.in_ok-wide-in-Find.ensures c.deref.ensures.value c.deref-in-Find.ensures.value c.in_ok-column-in-Find.ensures.value c.in_ok-set-in-Find.ensures c.raised-found.ensures n l)
+    find_is (searched_tree c.args.game.now c.args.variations) c.args.live.now c.in_ok-wide-in-Find.wide.items c.deref.result.now
+    c.deref-in-Find.result.now c.in_ok-set-in-Find.set.items c.raised-found.result.items c.in_ok-column-in-Find.column
+    (value (searched_tree c.args.game.now c.args.variations) [] c.args.names.now
+    (filter_tree c.args.part.now)) c.in_ok-wide-in-Find.ensures c.deref.ensures.value c.deref-in-Find.ensures.value
+    c.in_ok-column-in-Find.ensures.value c.in_ok-set-in-Find.ensures c.raised-found.ensures n l)
 
 pub unary_column-returns-in_ok-values-in_default-clause-value : goal.unary_column-returns-in_ok-values-in_default-clause-value
 unary_column-returns-in_ok-values-in_default-clause-value g t c = λ n l.
     let other = c.in_default in
     c.in_ok-values-in_default.ensures n l
-    ∙ word_here (searched_tree c.args.game.now c.args.variations) c.args.word (value (searched_tree c.args.game.now c.args.variations) [] c.args.names.now (filter_tree c.args.part.now)) n (shown c.in_ok-column-in_default.column n) other.not-Find other.not-FindUp other.not-Child other.not-Parent
+    ∙ word_here (searched_tree c.args.game.now c.args.variations) c.args.word
+    (value (searched_tree c.args.game.now c.args.variations) [] c.args.names.now (filter_tree c.args.part.now)) n
+    (shown c.in_ok-column-in_default.column n) other.not-Find other.not-FindUp other.not-Child other.not-Parent
     (c.in_ok-column-in_default.ensures.value n l)
 
 pub evaluate-returns-in-Unary-clause-value : goal.evaluate-returns-in-Unary-clause-value
@@ -200,7 +235,8 @@ evaluate-returns-in_ok-truths-in-Square-clause-value g t c = λ n l.
     let a = c.deref-in-Square.result.now in
     let b = c.deref-in-Square-2.result.now in
     c.in_ok-truths-in-Square.ensures.value n l
-    ∙ ap (λ x. square_of every x (λ s. holds (value (searched_tree c.args.game.now c.args.variations) [] ((text, s) ∷ c.args.names.now) (filter_tree b) n))) (c.in_ok-squares-in-Square.ensures.value n l)
+    ∙ ap (λ x. square_of every x (λ s. holds (value (searched_tree c.args.game.now c.args.variations) [] ((text, s) ∷ c.args.names.now)
+    (filter_tree b) n))) (c.in_ok-squares-in-Square.ensures.value n l)
     ∙ square_form (searched_tree c.args.game.now c.args.variations) c.args.names.now (filter_tree f) (filter_tree a) (filter_tree b) f.at every text
     (ap (λ form. filter_at f.at (form_tree form)) c.in-Square.is
     ∙ ap (λ x. filter_at f.at (square every x (filter_tree c.in-Square.squares.value) (filter_tree c.in-Square.asked.value))) (sym c.as_slice-in-Square.ensures)
@@ -213,9 +249,13 @@ evaluate-returns-in_ok-truths-in-If-clause-value g t c = λ n l.
     let y = c.deref-in-If-2.result.now in
     let z = c.deref-in-If-4.result.now in
     c.in_ok-truths-in-If.ensures n l
-    ∙ if_open c.args.live.now c.in_ok-held-in-If.held.items c.in_ok-failed-in-If.failed.items c.deref-in-If-3.result.now c.deref-in-If-5.result.now c.in_ok-first-in-If.first c.in_ok-second-in-If.second c.in_ok-third-in-If.third
-    (value (searched_tree c.args.game.now c.args.variations) [] c.args.names.now (filter_tree x)) (value (searched_tree c.args.game.now c.args.variations) [] c.args.names.now (filter_tree y)) (value (searched_tree c.args.game.now c.args.variations) [] c.args.names.now (filter_tree z))
-    c.deref-in-If-3.ensures.value c.deref-in-If-5.ensures.value c.in_ok-first-in-If.ensures.value c.in_ok-held-in-If.ensures.narrowed c.in_ok-failed-in-If.ensures.narrowed c.in_ok-second-in-If.ensures.value c.in_ok-third-in-If.ensures.value n l
+    ∙ if_open c.args.live.now c.in_ok-held-in-If.held.items c.in_ok-failed-in-If.failed.items c.deref-in-If-3.result.now c.deref-in-If-5.result.now
+    c.in_ok-first-in-If.first c.in_ok-second-in-If.second c.in_ok-third-in-If.third
+    (value (searched_tree c.args.game.now c.args.variations) [] c.args.names.now (filter_tree x))
+    (value (searched_tree c.args.game.now c.args.variations) [] c.args.names.now (filter_tree y))
+    (value (searched_tree c.args.game.now c.args.variations) [] c.args.names.now (filter_tree z))
+    c.deref-in-If-3.ensures.value c.deref-in-If-5.ensures.value c.in_ok-first-in-If.ensures.value c.in_ok-held-in-If.ensures.narrowed
+    c.in_ok-failed-in-If.ensures.narrowed c.in_ok-second-in-If.ensures.value c.in_ok-third-in-If.ensures.value n l
     ∙ if_form (searched_tree c.args.game.now c.args.variations) c.args.names.now (filter_tree f) (filter_tree x) (filter_tree y) (filter_tree z) f.at
     (ap (λ form. filter_at f.at (form_tree form)) c.in-If.is
     ∙ ap (λ p. filter_at f.at (if_ (filter_tree p) (filter_tree c.in-If.then.value) (filter_tree c.in-If.otherwise.value))) (sym c.deref-in-If.ensures)
@@ -429,23 +469,30 @@ evaluate-returns-in-Transform-clause-value g t c =
 
 pub unary_column-returns-in_ok-found-in-FindUp-clause-value : goal.unary_column-returns-in_ok-found-in-FindUp-clause-value
 unary_column-returns-in_ok-found-in-FindUp-clause-value g t c = rw c.in-FindUp.is (λ n l.
-    find_up_is (searched_tree c.args.game.now c.args.variations) c.args.live.now c.in_ok-wide-in-FindUp.wide.items c.deref-in-FindUp.result.now c.deref-in-FindUp-2.result.now c.deref-in-FindUp-3.result.now
-    c.in_ok-set-in-FindUp.set.items c.in_ok-found-in-FindUp.found.items c.in_ok-column-in-FindUp.column (value (searched_tree c.args.game.now c.args.variations) [] c.args.names.now (filter_tree c.args.part.now))
+    find_up_is (searched_tree c.args.game.now c.args.variations) c.args.live.now c.in_ok-wide-in-FindUp.wide.items c.deref-in-FindUp.result.now
+    c.deref-in-FindUp-2.result.now c.deref-in-FindUp-3.result.now
+    c.in_ok-set-in-FindUp.set.items c.in_ok-found-in-FindUp.found.items c.in_ok-column-in-FindUp.column
+    (value (searched_tree c.args.game.now c.args.variations) [] c.args.names.now (filter_tree c.args.part.now))
     c.in_ok-wide-in-FindUp.ensures c.deref-in-FindUp.ensures.value c.deref-in-FindUp-2.ensures.value c.deref-in-FindUp-3.ensures.value
     c.in_ok-column-in-FindUp.ensures.value c.in_ok-set-in-FindUp.ensures c.in_ok-found-in-FindUp.ensures n
     (omega (arith, live_below c.args.live.now n l, c.requires.asked.count)) l)
 
 pub unary_column-returns-in_ok-start-in-Child-clause-value : goal.unary_column-returns-in_ok-start-in-Child-clause-value
 unary_column-returns-in_ok-start-in-Child-clause-value g t c = rw c.in-Child.is (λ n l.
-    child_holds_is (searched_tree c.args.game.now c.args.variations) c.args.live.now c.in_ok-wide-in-Child.wide.items c.deref-in-Child.result.now c.deref-in-Child-2.result.now c.deref-in-Child-3.result.now
-    c.in_ok-set-in-Child.set.items c.in_ok-start-in-Child.start.items c.with_parents-found.result.items (length c.args.game.now.nodes) c.in_ok-column-in-Child.column (value (searched_tree c.args.game.now c.args.variations) [] c.args.names.now (filter_tree c.args.part.now))
+    child_holds_is (searched_tree c.args.game.now c.args.variations) c.args.live.now c.in_ok-wide-in-Child.wide.items c.deref-in-Child.result.now
+    c.deref-in-Child-2.result.now c.deref-in-Child-3.result.now
+    c.in_ok-set-in-Child.set.items c.in_ok-start-in-Child.start.items c.with_parents-found.result.items
+    (length c.args.game.now.nodes) c.in_ok-column-in-Child.column
+    (value (searched_tree c.args.game.now c.args.variations) [] c.args.names.now (filter_tree c.args.part.now))
     c.in_ok-wide-in-Child.ensures c.deref-in-Child.ensures.value c.deref-in-Child-2.ensures.value c.deref-in-Child-3.ensures.value
     c.in_ok-column-in-Child.ensures.value c.in_ok-set-in-Child.ensures c.in_ok-start-in-Child.ensures c.with_parents-found.ensures n l)
 
 pub unary_column-returns-in_ok-found-in-Parent-clause-value : goal.unary_column-returns-in_ok-found-in-Parent-clause-value
 unary_column-returns-in_ok-found-in-Parent-clause-value g t c = rw c.in-Parent.is (λ n l.
-    parent_holds_is (searched_tree c.args.game.now c.args.variations) c.args.live.now c.in_ok-wide-in-Parent.wide.items c.deref-in-Parent.result.now c.deref-in-Parent-2.result.now c.deref-in-Parent-3.result.now
-    c.in_ok-set-in-Parent.set.items c.in_ok-found-in-Parent.found.items c.in_ok-column-in-Parent.column (value (searched_tree c.args.game.now c.args.variations) [] c.args.names.now (filter_tree c.args.part.now))
+    parent_holds_is (searched_tree c.args.game.now c.args.variations) c.args.live.now c.in_ok-wide-in-Parent.wide.items
+    c.deref-in-Parent.result.now c.deref-in-Parent-2.result.now c.deref-in-Parent-3.result.now
+    c.in_ok-set-in-Parent.set.items c.in_ok-found-in-Parent.found.items c.in_ok-column-in-Parent.column
+    (value (searched_tree c.args.game.now c.args.variations) [] c.args.names.now (filter_tree c.args.part.now))
     c.in_ok-wide-in-Parent.ensures c.deref-in-Parent.ensures.value c.deref-in-Parent-2.ensures.value c.deref-in-Parent-3.ensures.value
     c.in_ok-column-in-Parent.ensures.value c.in_ok-set-in-Parent.ensures c.in_ok-found-in-Parent.ensures n
     (omega (arith, live_below c.args.live.now n l, c.requires.asked.count)) l)

@@ -4,4 +4,5 @@ use Rattle.cql_eval.proofs.Lives.{all_told}
 use Rattle.cql_eval.proofs.nodes.all_nodes.Goals as goal
 
 pub returns : goal.returns
-returns c = all_told (searched_tree c.args.game.now c.args.variations) c.loop-k.k c.loop-k.all.items (omega (arith, c.loop-k-test.false, c.len-k-end.ensures.len, c.loop-k.auto.k-end)) c.loop-k.invariant
+returns c = all_told (searched_tree c.args.game.now c.args.variations) c.loop-k.k c.loop-k.all.items
+    (omega (arith, c.loop-k-test.false, c.len-k-end.ensures.len, c.loop-k.auto.k-end)) c.loop-k.invariant

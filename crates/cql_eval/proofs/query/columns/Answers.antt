@@ -20,7 +20,8 @@ loop-item-init g c = record {
 
 pub loop-item-preserved : goal.loop-item-preserved
 loop-item-preserved g c = record {
-  items = items_more (searched_tree c.args.game.now c.args.query.now.variations) c.in_ok-all.all.items c.as_slice-item-items.result.now c.loop-item.item-index c.item-item.result c.loop-item.left.items _
+  items = items_more
+      (searched_tree c.args.game.now c.args.query.now.variations) c.in_ok-all.all.items c.as_slice-item-items.result.now c.loop-item.item-index c.item-item.result c.loop-item.left.items _
       c.in_ok-left-2.left.items c.loop-item-test.true c.item-item.is (search rules) c.in_ok-left-2.ensures.asked c.in_ok-left-2.ensures.each
       c.loop-item.invariant.items;
   keys = made_more (key_column (searched_tree c.args.game.now c.args.query.now.variations)) (map (λ row. row.items) c.loop-item.keys.items) (map (λ row. row.items) c.narrowed_by.new.keys.items)
@@ -39,7 +40,8 @@ narrowed_by-requires-clause-asked g c = search (rules, all_asked (searched_tree 
 
 pub narrowed_by-requires-clause-within : goal.narrowed_by-requires-clause-within
 narrowed_by-requires-clause-within g c =
-    items_within (searched_tree c.args.game.now c.args.query.now.variations) c.in_ok-all.all.items c.as_slice-item-items.result.now c.loop-item.item-index c.loop-item.left.items _ _ (search rules) (search rules)
+    items_within (searched_tree c.args.game.now c.args.query.now.variations) c.in_ok-all.all.items c.as_slice-item-items.result.now
+    c.loop-item.item-index c.loop-item.left.items _ _ (search rules) (search rules)
     c.loop-item.invariant.items
 
 pub narrowed_by-requires-clause-flat : goal.narrowed_by-requires-clause-flat
@@ -55,7 +57,8 @@ returns-in_err-left-2-clause-most g c =
 
 pub returns-clause-hits : goal.returns-clause-hits
 returns-clause-hits g c =
-    hits_are (searched_tree c.args.game.now c.args.query.now.variations) c.in_ok-all.all.items c.loop-item.left.items c.as_slice-item-items.result.now c.loop-item.item-index (filters_tree c.args.query.now.items)
+    hits_are (searched_tree c.args.game.now c.args.query.now.variations) c.in_ok-all.all.items c.loop-item.left.items c.as_slice-item-items.result.now c.loop-item.item-index
+    (filters_tree c.args.query.now.items)
     c.in_ok-all.ensures.nodes (omega (arith, c.loop-item-test.false)) c.as_slice-item-items.ensures.tree c.loop-item.invariant.items
 
 pub returns-clause-keys : goal.returns-clause-keys

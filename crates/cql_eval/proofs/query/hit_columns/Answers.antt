@@ -11,7 +11,8 @@ use Rattle.cql_eval.proofs.query.hit_columns.Goals as goal
 
 pub loop-item-init : goal.loop-item-init
 loop-item-init g c = record {
-  items = sorted_begun (searched_tree c.args.game.now c.args.query.now.variations) c.in_ok-all.all.items c.deref.result.now c.in_ok-left.left.items _ (filters_tree c.args.query.now.items) c.as_slice-item-items.result.now (search rules) (search rules) c.in_ok-left.ensures.left;
+  items = sorted_begun (searched_tree c.args.game.now c.args.query.now.variations) c.in_ok-all.all.items c.deref.result.now c.in_ok-left.left.items _
+      (filters_tree c.args.query.now.items) c.as_slice-item-items.result.now (search rules) (search rules) c.in_ok-left.ensures.left;
   keys = rows_begun (searched_tree c.args.game.now c.args.query.now.variations) c.as_slice-item-items.result.now c.in_ok-left.left.items (map (λ row. row.items) c.new-keys.result.items)
       (ap (map (λ row. row.items)) c.new-keys.ensures.items);
   most = omega (arith, c.searched_nodes.ensures.most, c.left_by.ensures.cost);
@@ -20,13 +21,16 @@ loop-item-init g c = record {
 
 pub loop-item-preserved : goal.loop-item-preserved
 loop-item-preserved g c = record {
-  items = sorted_more (searched_tree c.args.game.now c.args.query.now.variations) c.in_ok-all.all.items c.loop-item.left.items c.deref_mut.result.now c.sort_by.new.left (filters_tree c.args.query.now.items) c.as_slice-item-items.result.now c.loop-item.item-index c.item-item.result
+  items = sorted_more (searched_tree c.args.game.now c.args.query.now.variations) c.in_ok-all.all.items c.loop-item.left.items c.deref_mut.result.now c.sort_by.new.left
+      (filters_tree c.args.query.now.items) c.as_slice-item-items.result.now c.loop-item.item-index c.item-item.result
       c.loop-item.left.len c.loop-item-test.true c.item-item.is (omega (arith, c.sort_by.ensures.len, c.deref_mut.ensures.len)) c.deref_mut.ensures.value
       c.loop-item.invariant.items c.in_ok-sort_by.ensures.left;
-  keys = rows_more (searched_tree c.args.game.now c.args.query.now.variations) c.as_slice-item-items.result.now c.loop-item.item-index c.item-item.result c.loop-item.left.items c.deref_mut.result.now _
+  keys = rows_more
+      (searched_tree c.args.game.now c.args.query.now.variations) c.as_slice-item-items.result.now c.loop-item.item-index c.item-item.result c.loop-item.left.items c.deref_mut.result.now _
       (map (λ row. row.items) c.loop-item.keys.items) (map (λ row. row.items) c.sort_by.new.keys.items) c.loop-item-test.true c.item-item.is
       c.deref_mut.ensures.value c.loop-item.invariant.items.asked
-      (sorted_within (searched_tree c.args.game.now c.args.query.now.variations) c.loop-item.left.items c.deref_mut.result.now c.sort_by.new.left _ c.loop-item.left.len (omega (arith, c.sort_by.ensures.len, c.deref_mut.ensures.len)) c.deref_mut.ensures.value
+      (sorted_within (searched_tree c.args.game.now c.args.query.now.variations) c.loop-item.left.items c.deref_mut.result.now c.sort_by.new.left _ c.loop-item.left.len
+      (omega (arith, c.sort_by.ensures.len, c.deref_mut.ensures.len)) c.deref_mut.ensures.value
       c.in_ok-sort_by.ensures.left)
       c.in_ok-sort_by.ensures.keys c.loop-item.invariant.keys;
   most = class_cost_more (is_of 5) (length c.args.game.now.nodes) c.as_slice-item-items.result.now c.loop-item.item-index c.item-item.result _ c.loop-item.steps c.sort_by.new.steps
@@ -50,13 +54,23 @@ returns-in_err-sort_by-clause-most g c =
     let within = class_cost_within (is_of 5) (length c.args.game.now.nodes) c.as_slice-item-items.result.now c.loop-item.item-index c.item-item.result _ c.loop-item.steps
     c.sort_by.new.steps (filters_tree c.args.query.now.items) c.loop-item-test.true c.item-item.is c.loop-item.invariant.most
     c.sort_by.ensures.cost c.as_slice-item-items.ensures.tree in
-    omega (arith, within, sorted_cost (length c.args.game.now.nodes) c.as_slice-item-items.result.now (filters_tree c.args.query.now.items) c.as_slice-item-items.ensures.tree, ap (cost_of (is_of 5) (length c.args.game.now.nodes)) c.as_slice-item-items.ensures.tree)
+    omega (
+      arith,
+      within,
+      sorted_cost (length c.args.game.now.nodes) c.as_slice-item-items.result.now
+          (filters_tree c.args.query.now.items) c.as_slice-item-items.ensures.tree,
+      ap
+          (cost_of (is_of 5) (length c.args.game.now.nodes)) c.as_slice-item-items.ensures.tree,
+    )
 
 pub returns-clause-hits : goal.returns-clause-hits
 returns-clause-hits g c =
-    hits_are (searched_tree c.args.game.now c.args.query.now.variations) c.in_ok-all.all.items c.loop-item.left.items c.as_slice-item-items.result.now c.loop-item.item-index (filters_tree c.args.query.now.items)
+    hits_are (searched_tree c.args.game.now c.args.query.now.variations) c.in_ok-all.all.items c.loop-item.left.items c.as_slice-item-items.result.now c.loop-item.item-index
+    (filters_tree c.args.query.now.items)
     c.in_ok-all.ensures.nodes (omega (arith, c.loop-item-test.false)) c.as_slice-item-items.ensures.tree
-    (sorted_items (searched_tree c.args.game.now c.args.query.now.variations) c.in_ok-all.all.items c.loop-item.left.items (filters_tree c.args.query.now.items) c.as_slice-item-items.result.now c.loop-item.item-index (omega (arith, c.loop-item-test.false)) c.as_slice-item-items.ensures.tree c.loop-item.invariant.items)
+    (sorted_items (searched_tree c.args.game.now c.args.query.now.variations) c.in_ok-all.all.items c.loop-item.left.items
+    (filters_tree c.args.query.now.items) c.as_slice-item-items.result.now c.loop-item.item-index
+    (omega (arith, c.loop-item-test.false)) c.as_slice-item-items.ensures.tree c.loop-item.invariant.items)
 
 pub returns-clause-keys : goal.returns-clause-keys
 returns-clause-keys g c =
@@ -69,4 +83,11 @@ returns-clause-most g c =
 
 pub returns-in_err-left-clause-most : goal.returns-in_err-left-clause-most
 returns-in_err-left-clause-most g c =
-    omega (arith, c.searched_nodes.ensures.most, c.left_by.ensures.cost, cost_later (length c.args.game.now.nodes) 5 6 (filters_tree c.args.query.now.items) (omega arith), cost_all (length c.args.game.now.nodes) (filters_tree c.args.query.now.items))
+    omega (
+      arith,
+      c.searched_nodes.ensures.most,
+      c.left_by.ensures.cost,
+      cost_later (length c.args.game.now.nodes) 5 6
+          (filters_tree c.args.query.now.items) (omega arith),
+      cost_all (length c.args.game.now.nodes) (filters_tree c.args.query.now.items),
+    )

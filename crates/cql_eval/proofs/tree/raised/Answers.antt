@@ -11,7 +11,8 @@ loop-turn-preserved c =
     raised_next c.args.game.now.nodes c.requires.tree c.args.set.items c.loop-turn.found.items c.raise.new.found.items
     (c.len-count.result - 1 - c.loop-turn.turn) _ _ _
     (omega (arith, c.loop-turn-test.true, c.len-count.ensures.len)) (omega (arith, c.loop-turn-test.true, c.len-count.ensures.len))
-    (c.index-there.ensures ∙ any_default c.loop-turn.found.items (c.len-count.result - 1 - c.loop-turn.turn) _ false (omega (arith, c.loop-turn-test.true, c.len-count.ensures.len, c.loop-turn.invariant.count, c.requires.count)))
+    (c.index-there.ensures ∙ any_default c.loop-turn.found.items (c.len-count.result - 1 - c.loop-turn.turn) _ false
+    (omega (arith, c.loop-turn-test.true, c.len-count.ensures.len, c.loop-turn.invariant.count, c.requires.count)))
     c.raise.ensures c.loop-turn.invariant
 
 pub returns : goal.returns

@@ -19,7 +19,8 @@ build_times-loop-k-preserved t c =
           (c.loop-k.invariant.null ∙ ap (λ e. null_times e (c.args.m - (c.args.n - c.loop-k.k)) c.loop-k.k) c.is_nullable-empty.ensures ∙ ap (λ d. null_times (nullable p) d c.loop-k.k) due)
           (c.in_ok-build.ensures.rows ∙ ap (λ x. c.loop-k.rules.items ++ rows p x (length c.loop-k.rules.items)) c.begin.ensures);
       len = next_length (length c.args.rules.now.items) (length c.loop-k.rules.items) (length c.build.new.rules.items) (size p) c.loop-k.k c.loop-k.invariant.len c.in_ok-build.ensures.len;
-      first = times_first (rows p) (firsts p) (nullable p) (size p) c.args.rules.now.items c.loop-k.rules.items c.loop-k.k c.loop-k.first c.in_ok-build.field-0 c.with_where-first.result c.is_nullable-empty.result
+      first = times_first (rows p) (firsts p) (nullable p)
+          (size p) c.args.rules.now.items c.loop-k.rules.items c.loop-k.k c.loop-k.first c.in_ok-build.field-0 c.with_where-first.result c.is_nullable-empty.result
           c.loop-k.invariant.len c.loop-k.invariant.first c.in_ok-build.ensures.first c.is_nullable-empty.ensures c.with_where-first.ensures;
       null = c.null_after-null.ensures c.loop-k.k (c.loop-k.invariant.null ∙ ap (λ d. null_times c.is_nullable-empty.result d c.loop-k.k) (left_due c.args.m c.args.n c.loop-k.k c.loop-k-test.true))
           ∙ ap (λ d. null_times c.is_nullable-empty.result d (c.loop-k.k + 1)) (left_next c.args.m c.args.n c.loop-k.k c.loop-k-test.true);

@@ -18,7 +18,9 @@ lengths_at-requires-clause-atom c = c.requires.atoms c.loop-i.i _ (slice_get-get
 
 pub loop-i-preserved : goal.loop-i-preserved
 loop-i-preserved c = record {
-  here = here_more c.args.rules.now c.loop-i.own c.loop-i.i c.lengths_at.result (λ r. place_set r c.args.held (at c.args.below.now) (length c.args.rules.now)) _ c.loop-i.invariant.size (omega (arith, c.loop-i-test.true, c.requires.count)) c.lengths_at.ensures c.loop-i.invariant.here;
+  here = here_more c.args.rules.now c.loop-i.own c.loop-i.i c.lengths_at.result
+      (λ r. place_set r c.args.held (at c.args.below.now) (length c.args.rules.now)) _ c.loop-i.invariant.size
+      (omega (arith, c.loop-i-test.true, c.requires.count)) c.lengths_at.ensures c.loop-i.invariant.here;
   past = past_more c.loop-i.own c.loop-i.i c.lengths_at.result c.loop-i.invariant.past;
   size = length-set c.loop-i.own c.loop-i.i c.lengths_at.result ∙ c.loop-i.invariant.size;
 }

@@ -18,7 +18,11 @@ length_at-requires-clause-atom c = c.requires.atoms c.loop-i.i _ (slice_get-get_
 
 pub loop-i-preserved : goal.loop-i-preserved
 loop-i-preserved c = record {
-  here = here_more c.args.rules.now c.loop-i.own c.loop-i.i c.length_at.result (λ r. place_value r c.args.held (at c.args.below.now) (length c.args.rules.now)) _ c.loop-i.invariant.size (omega (arith, c.loop-i-test.true, c.requires.count)) (c.length_at.ensures ∙ place_used _ c.args.held (at c.args.below.now) c.used_len-used.result (length c.args.rules.now) c.used_len-used.ensures.within c.used_len-used.ensures.past) c.loop-i.invariant.here;
+  here = here_more c.args.rules.now c.loop-i.own c.loop-i.i c.length_at.result
+      (λ r. place_value r c.args.held (at c.args.below.now) (length c.args.rules.now)) _ c.loop-i.invariant.size
+      (omega (arith, c.loop-i-test.true, c.requires.count))
+      (c.length_at.ensures ∙ place_used _ c.args.held (at c.args.below.now) c.used_len-used.result
+      (length c.args.rules.now) c.used_len-used.ensures.within c.used_len-used.ensures.past) c.loop-i.invariant.here;
   past = past_more c.loop-i.own c.loop-i.i c.length_at.result c.loop-i.invariant.past;
   size = length-set c.loop-i.own c.loop-i.i c.length_at.result ∙ c.loop-i.invariant.size;
 }

@@ -13,7 +13,8 @@ use Rattle.cql_lines.proofs.visits.longest_down.Goals as goal
 pub loop-turn-init : goal.loop-turn-init
 loop-turn-init g c = record {
   stands =
-      stands_first (Known g.R.Row.sets) (none_known g.R.Row.sets) c.args.table.now.words.items c.args.rules.now c.args.shape.now.primary c.args.shape.now.spots.items (map g.R.Row.cells c.as_mut_slice-grid.result.now)
+      stands_first (Known g.R.Row.sets) (none_known g.R.Row.sets) c.args.table.now.words.items c.args.rules.now c.args.shape.now.primary c.args.shape.now.spots.items
+      (map g.R.Row.cells c.as_mut_slice-grid.result.now)
       (length-map c.as_mut_slice-grid.result.now g.R.Row.cells ∙ ap length c.as_mut_slice-grid.ensures.value ∙ c.in_ok-rows.ensures.count ∙ c.len-nodes.ensures)
       (subst (λ rows. (n j : ℕ) → cell (map g.R.Row.cells rows) n j ≡ 0) (sym c.as_mut_slice-grid.ensures.value) c.in_ok-rows.ensures.blank);
   size = ap length c.in_ok-values.ensures ∙ length-replicate c.len-nodes.result None ∙ c.len-nodes.ensures;

@@ -12,6 +12,7 @@ invariant-loop-node g l = record {
   stands : StandsUp (Known g.R.Row.sets) l.table.words.items l.rules l.shape.primary l.shape.spots.items l.node (map g.R.Row.cells l.grid);
   size : length l.values.items ≡ length l.shape.spots.items;
   done : (n : ℕ) → n < l.node →
-      AnswerAt (is_searched l.shape.spots.items n) (Allowed l.shape.extent (Read (holds l.table.words.items) l.rules (Edge true l.shape.primary l.shape.spots.items) l.first n)) (get_or l.values.items n None);
+      AnswerAt (is_searched l.shape.spots.items n) (Allowed l.shape.extent
+      (Read (holds l.table.words.items) l.rules (Edge true l.shape.primary l.shape.spots.items) l.first n)) (get_or l.values.items n None);
   exact : l.steps + l.table.atoms * searched_count (drop l.node l.shape.spots.items) ≡ l.fn.steps + l.table.atoms * searched_count l.shape.spots.items;
 }

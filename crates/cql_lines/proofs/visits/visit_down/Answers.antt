@@ -23,7 +23,8 @@ pub own-own-requires-clause-room : goal.own-own-requires-clause-room
 own-own-requires-clause-room g c = λ j.
     let s = c.args.shape.now in
     let b = g.R.Row.sets in
-    let low = within c.args.node (length s.spots.items) (length (map g.R.Row.cells c.args.rows.now)) (length c.args.rows.now) c.requires.node c.requires.stands.count (length-map c.args.rows.now g.R.Row.cells) in
+    let low = within c.args.node (length s.spots.items) (length (map g.R.Row.cells c.args.rows.now))
+    (length c.args.rows.now) c.requires.node c.requires.stands.count (length-map c.args.rows.now g.R.Row.cells) in
     subst (λ row. LeavesRoom b (row j)) (cell_of g.R.Row.cells c.args.rows.now c.args.node c.index-rows-node.result low)
     (room_below s.primary s.spots.items s.below c.args.table.now.words.items c.args.rules.now c.requires.fit.nodes b c.args.node j _
     (whole_at (Known b) (both_kinds b) (same_known b) (two_known b) c.args.table.now.words.items c.args.rules.now s.primary s.spots.items s.below c.args.node (map g.R.Row.cells c.args.rows.now)
@@ -38,7 +39,8 @@ returns-clause-stands g c =
     let same = sym (cell_of g.R.Row.cells c.args.rows.now c.args.node c.index-rows-node.result low) in
     visited (Known b) (both_kinds b) (same_known b) (two_known b) c.args.table.now.words.items c.args.rules.now s.primary s.spots.items s.below c.args.node rows
     (map g.R.Row.cells c.pass_up.new.rows) (g.R.Row.cells c.own-own.result) c.requires.node c.requires.stands
-    (known_at (Known b) (both_kinds b) (same_known b) (two_known b) c.args.table.now.words.items c.args.rules.now s.primary s.spots.items s.below (none_known b) (place_cell b) (goes_known b) c.args.node rows
+    (known_at (Known b) (both_kinds b) (same_known b) (two_known b) c.args.table.now.words.items c.args.rules.now s.primary s.spots.items s.below
+    (none_known b) (place_cell b) (goes_known b) c.args.node rows
     (g.R.Row.cells c.own-own.result) c.held-held.result c.args.table.now.atoms c.requires.node c.requires.stands c.held-held.ensures.held c.requires.fit.atoms
     (λ i r e. c.own-own.ensures.here i r e ∙ ap (λ row. place_cell b r c.held-held.result row (length c.args.rules.now)) same) c.own-own.ensures.past)
     c.pass_up.ensures
@@ -53,8 +55,10 @@ returns-clause-value g c =
     answered_by (is_searched s.spots.items c.args.node)
     (Allowed s.extent (Read (holds c.args.table.now.words.items) c.args.rules.now (Edge false s.primary s.spots.items) c.args.first c.args.node))
     c.answer.result (sym c.searched.ensures ∙ c.if-not-searched.false)
-    (read_answer c.args.table.now.words.items c.args.rules.now (Edge false s.primary s.spots.items) c.args.first c.args.node (g.R.Row.cells c.own-own.result) b s.extent c.answer.result c.requires.counts
-    (known_at (Known b) (both_kinds b) (same_known b) (two_known b) c.args.table.now.words.items c.args.rules.now s.primary s.spots.items s.below (none_known b) (place_cell b) (goes_known b) c.args.node rows
+    (read_answer c.args.table.now.words.items c.args.rules.now (Edge false s.primary s.spots.items) c.args.first c.args.node
+    (g.R.Row.cells c.own-own.result) b s.extent c.answer.result c.requires.counts
+    (known_at (Known b) (both_kinds b) (same_known b) (two_known b) c.args.table.now.words.items c.args.rules.now s.primary s.spots.items s.below
+    (none_known b) (place_cell b) (goes_known b) c.args.node rows
     (g.R.Row.cells c.own-own.result) c.held-held.result c.args.table.now.atoms c.requires.node c.requires.stands c.held-held.ensures.held c.requires.fit.atoms
     (λ i r e. c.own-own.ensures.here i r e ∙ ap (λ row. place_cell b r c.held-held.result row (length c.args.rules.now)) same) c.own-own.ensures.past)
     c.answer.ensures)

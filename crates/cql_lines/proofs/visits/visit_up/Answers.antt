@@ -33,8 +33,10 @@ returns-clause-stands g c =
     subst (StandsUp (Known b) c.args.table.now.words.items c.args.rules.now s.primary s.spots.items (c.args.node + 1)) (sym (map-set g.R.Row.cells c.args.rows.now c.args.node c.own-own.result))
     (stands_up (Known b) (same_known b) (none_known b) c.args.table.now.words.items c.args.rules.now s.primary s.spots.items (λ n p e. (s.below n p e, s.whole n p e)) c.args.node rows
     (g.R.Row.cells c.own-own.result) c.requires.node c.requires.stands
-    (above_known (Known b) (same_known b) (none_known b) c.args.table.now.words.items c.args.rules.now s.primary s.spots.items (λ n p e. (s.below n p e, s.whole n p e)) (place_cell b) (goes_known b) c.args.node rows
-    (g.R.Row.cells c.row_above-above.result) (g.R.Row.cells c.own-own.result) c.held-held.result c.args.table.now.atoms c.requires.stands c.row_above-above.ensures c.held-held.ensures.held c.requires.fit.atoms
+    (above_known (Known b) (same_known b) (none_known b) c.args.table.now.words.items c.args.rules.now s.primary s.spots.items
+    (λ n p e. (s.below n p e, s.whole n p e)) (place_cell b) (goes_known b) c.args.node rows
+    (g.R.Row.cells c.row_above-above.result)
+    (g.R.Row.cells c.own-own.result) c.held-held.result c.args.table.now.atoms c.requires.stands c.row_above-above.ensures c.held-held.ensures.held c.requires.fit.atoms
     c.own-own.ensures.here c.own-own.ensures.past))
 
 pub returns-clause-value : goal.returns-clause-value
@@ -45,8 +47,11 @@ returns-clause-value g c =
     answered_by (is_searched s.spots.items c.args.node)
     (Allowed s.extent (Read (holds c.args.table.now.words.items) c.args.rules.now (Edge true s.primary s.spots.items) c.args.first c.args.node))
     c.answer.result (sym c.searched.ensures ∙ c.if-not-searched.false)
-    (read_answer c.args.table.now.words.items c.args.rules.now (Edge true s.primary s.spots.items) c.args.first c.args.node (g.R.Row.cells c.own-own.result) b s.extent c.answer.result c.requires.counts
-    (above_known (Known b) (same_known b) (none_known b) c.args.table.now.words.items c.args.rules.now s.primary s.spots.items (λ n p e. (s.below n p e, s.whole n p e)) (place_cell b) (goes_known b) c.args.node rows
-    (g.R.Row.cells c.row_above-above.result) (g.R.Row.cells c.own-own.result) c.held-held.result c.args.table.now.atoms c.requires.stands c.row_above-above.ensures c.held-held.ensures.held c.requires.fit.atoms
+    (read_answer c.args.table.now.words.items c.args.rules.now (Edge true s.primary s.spots.items) c.args.first c.args.node
+    (g.R.Row.cells c.own-own.result) b s.extent c.answer.result c.requires.counts
+    (above_known (Known b) (same_known b) (none_known b) c.args.table.now.words.items c.args.rules.now s.primary s.spots.items
+    (λ n p e. (s.below n p e, s.whole n p e)) (place_cell b) (goes_known b) c.args.node rows
+    (g.R.Row.cells c.row_above-above.result)
+    (g.R.Row.cells c.own-own.result) c.held-held.result c.args.table.now.atoms c.requires.stands c.row_above-above.ensures c.held-held.ensures.held c.requires.fit.atoms
     c.own-own.ensures.here c.own-own.ensures.past)
     c.answer.ensures)

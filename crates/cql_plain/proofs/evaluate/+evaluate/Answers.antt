@@ -45,19 +45,22 @@ evaluate-returns-in-Transform t c =
 
 pub square_at-returns-then-branch : goal.square_at-returns-then-branch
 square_at-returns-then-branch t c =
-    let asked : ℕ → Bool = λ s. spec.holds (meaning.value (tree_in c.args.scope.now) c.args.scope.now.context.now ((c.args.name.now, s) ∷ c.args.scope.now.names.now) (filter_tree c.args.asked.now) c.args.node) in
+    let asked : ℕ → Bool = λ s. spec.holds (meaning.value (tree_in c.args.scope.now) c.args.scope.now.context.now
+    ((c.args.name.now, s) ∷ c.args.scope.now.names.now) (filter_tree c.args.asked.now) c.args.node) in
     let low : c.new-square.result < 64 = omega (arith, c.new-square.ensures, c.loop-number-test.true) in
     settled c.args.every (meant c.args.squares) asked c.squares-set.result c.new-square.result c.squares-set.ensures low (sym c.in_ok-decides.ensures ∙ c.if-branch.true)
 
 pub square_at-loop-number-preserved : goal.square_at-loop-number-preserved
 square_at-loop-number-preserved t c =
-    let asked : ℕ → Bool = λ s. spec.holds (meaning.value (tree_in c.args.scope.now) c.args.scope.now.context.now ((c.args.name.now, s) ∷ c.args.scope.now.names.now) (filter_tree c.args.asked.now) c.args.node) in
+    let asked : ℕ → Bool = λ s. spec.holds (meaning.value (tree_in c.args.scope.now) c.args.scope.now.context.now
+    ((c.args.name.now, s) ∷ c.args.scope.now.names.now) (filter_tree c.args.asked.now) c.args.node) in
     let test : ℕ → Bool = settles c.args.every (is_in c.squares-set.result) asked in
     none_more test c.loop-number.number c.in_ok-decides.field-0 (c.in_ok-decides.ensures ∙ ap test c.new-square.ensures) c.if-branch.false c.loop-number.invariant
 
 pub square_at-returns : goal.square_at-returns
 square_at-returns t c =
-    let asked : ℕ → Bool = λ s. spec.holds (meaning.value (tree_in c.args.scope.now) c.args.scope.now.context.now ((c.args.name.now, s) ∷ c.args.scope.now.names.now) (filter_tree c.args.asked.now) c.args.node) in
+    let asked : ℕ → Bool = λ s. spec.holds (meaning.value (tree_in c.args.scope.now) c.args.scope.now.context.now
+    ((c.args.name.now, s) ∷ c.args.scope.now.names.now) (filter_tree c.args.asked.now) c.args.node) in
     let end : c.loop-number.number ≡ 64 = omega (arith, c.loop-number-test.false, c.loop-number.auto.number-end) in
     never_settled c.args.every (meant c.args.squares) asked c.squares-set.result c.loop-number.number c.squares-set.ensures end c.loop-number.invariant
 
@@ -79,7 +82,8 @@ unary_at-returns-in_ok-value-in-None t c =
 pub lines::line_at-returns : goal.lines::line_at-returns
 lines::line_at-returns t c = c.number_of.ensures ∙ line_is (tree_in c.args.scope.now) c.requires.tree c.args.scope.now.context.now c.args.scope.now.names.now c.args.line.now c.args.node
     c.in_ok-steps.steps.items c.as_slice.result.now c.as_slice-3.result.now c.in_ok-starts.starts.items c.as_slice-2.result.now c.in_ok-ends.ends.items c.as_slice-4.result.now c.longest.result
-    c.in_ok-steps.ensures (c.in_ok-starts.ensures ∙ ap (λ n. true ∷ replicate n false) (c.len.ensures.len ∙ sym c.in_ok-steps.ensures.count)) c.as_slice.ensures.value c.as_slice-2.ensures.value c.in_ok-ends.ensures
+    c.in_ok-steps.ensures (c.in_ok-starts.ensures ∙ ap (λ n. true ∷ replicate n false)
+    (c.len.ensures.len ∙ sym c.in_ok-steps.ensures.count)) c.as_slice.ensures.value c.as_slice-2.ensures.value c.in_ok-ends.ensures
     c.as_slice-3.ensures.value c.as_slice-4.ensures.value c.longest.ensures
 
 pub lines::parts_ends-loop-part-init : goal.lines::parts_ends-loop-part-init
@@ -90,7 +94,8 @@ lines::parts_ends-loop-part-init t c =
 pub lines::parts_ends-loop-part-preserved : goal.lines::parts_ends-loop-part-preserved
 lines::parts_ends-loop-part-preserved t c =
     parts_more c.args.steps.now c.requires.steps (tree_in c.args.scope.now) c.args.scope.now.context.now c.args.scope.now.names.now c.args.starts.now (parts_tree c.args.parts.now)
-    c.as_slice-part-items.result.now c.loop-part.part-index c.part-item.result c.least_of-least.result c.most_of-most.result c.loop-part.places.items c.as_slice.result.now c.in_ok-places-2.places.items
+    c.as_slice-part-items.result.now c.loop-part.part-index c.part-item.result c.least_of-least.result c.most_of-most.result
+    c.loop-part.places.items c.as_slice.result.now c.in_ok-places-2.places.items
     c.loop-part-test.true c.part-item.is c.least_of-least.ensures c.most_of-most.ensures c.as_slice.ensures.value c.in_ok-places-2.ensures c.loop-part.invariant
 
 pub lines::parts_ends-returns : goal.lines::parts_ends-returns
@@ -109,7 +114,8 @@ lines::repeat-loop-times-preserved t c =
     c.loop-times.times c.loop-times.here.items c.loop-times.ends.items c.in_ok-next.next.items c.deref-in-loop-times.result.now c.deref-in-loop-times-2.result.now c.deref-in-loop-times-3.result.now
     c.deref-in-loop-times-4.result.now c.deref-in-loop-times-5.result.now c.in_ok-here-2.here.items c.in_ok-ends-2.ends.items _
     c.deref-in-loop-times.ensures.value c.deref-in-loop-times-2.ensures.value c.deref-in-loop-times-3.ensures.value c.deref-in-loop-times-4.ensures.value c.deref-in-loop-times-5.ensures.value
-    c.in_ok-next.ensures (λ e. leb-true c.args.least (c.loop-times.times + 1) e) (λ h. le-leb c.args.least (c.loop-times.times + 1) h) c.in_ok-here-2.ensures c.in_ok-ends-2.ensures c.loop-times.invariant
+    c.in_ok-next.ensures (λ e. leb-true c.args.least (c.loop-times.times + 1) e)
+    (λ h. le-leb c.args.least (c.loop-times.times + 1) h) c.in_ok-here-2.ensures c.in_ok-ends-2.ensures c.loop-times.invariant
 
 pub lines::repeat-returns : goal.lines::repeat-returns
 lines::repeat-returns t c =

@@ -6,7 +6,9 @@ use Rattle.cql_rewrite.proofs.PlayedParts.{same_parts_of, promoted_same, third_d
 use Rattle.cql_rewrite.proofs.same.+same.Goals as goal
 
 pub same_filters-returns-then-first-second : goal.same_filters-returns-then-first-second
-same_filters-returns-then-first-second t c = differed _ _ (filter_rows c.args.placed) c.as_slice-first.result.now c.as_slice-second.result.now _ (ap₂ (λ xs ys. spec.same_filters (all_with c.args.placed xs) (all_with c.args.placed ys)) c.as_slice-first.ensures.tree c.as_slice-second.ensures.tree) c.if-first-second.true
+same_filters-returns-then-first-second t c = differed _ _ (filter_rows c.args.placed) c.as_slice-first.result.now c.as_slice-second.result.now _
+    (ap₂ (λ xs ys. spec.same_filters (all_with c.args.placed xs)
+    (all_with c.args.placed ys)) c.as_slice-first.ensures.tree c.as_slice-second.ensures.tree) c.if-first-second.true
 
 pub same_filters-returns-then-not-same_as : goal.same_filters-returns-then-not-same_as
 same_filters-returns-then-not-same_as t c =
@@ -19,10 +21,13 @@ same_filters-loop-k-preserved t c =
     c.loop-k-test.true c.if-first-second.false c.index-first-k.is c.index-second-k.is (sym c.same_as.ensures ∙ c.if-not-same_as.false) c.loop-k.invariant
 
 pub same_filters-returns : goal.same_filters-returns
-same_filters-returns t c = ended _ _ (filter_rows c.args.placed) c.as_slice-first.result.now c.as_slice-second.result.now c.loop-k.k _ (omega (arith, c.loop-k-test.false)) c.if-first-second.false c.loop-k.invariant
+same_filters-returns t c = ended _ _ (filter_rows c.args.placed) c.as_slice-first.result.now c.as_slice-second.result.now c.loop-k.k _
+    (omega (arith, c.loop-k-test.false)) c.if-first-second.false c.loop-k.invariant
 
 pub same_terms-returns-then-first-second : goal.same_terms-returns-then-first-second
-same_terms-returns-then-first-second t c = differed _ _ (term_rows c.args.placed) c.as_slice-first.result.now c.as_slice-second.result.now _ (ap₂ (λ xs ys. spec.same_terms (terms_with c.args.placed xs) (terms_with c.args.placed ys)) c.as_slice-first.ensures.tree c.as_slice-second.ensures.tree) c.if-first-second.true
+same_terms-returns-then-first-second t c = differed _ _ (term_rows c.args.placed) c.as_slice-first.result.now c.as_slice-second.result.now _
+    (ap₂ (λ xs ys. spec.same_terms (terms_with c.args.placed xs)
+    (terms_with c.args.placed ys)) c.as_slice-first.ensures.tree c.as_slice-second.ensures.tree) c.if-first-second.true
 
 pub same_terms-returns-then-not-same_term : goal.same_terms-returns-then-not-same_term
 same_terms-returns-then-not-same_term t c =
@@ -35,10 +40,13 @@ same_terms-loop-k-preserved t c =
     c.loop-k-test.true c.if-first-second.false c.index-first-k.is c.index-second-k.is (sym c.same_term.ensures ∙ c.if-not-same_term.false) c.loop-k.invariant
 
 pub same_terms-returns : goal.same_terms-returns
-same_terms-returns t c = ended _ _ (term_rows c.args.placed) c.as_slice-first.result.now c.as_slice-second.result.now c.loop-k.k _ (omega (arith, c.loop-k-test.false)) c.if-first-second.false c.loop-k.invariant
+same_terms-returns t c = ended _ _ (term_rows c.args.placed) c.as_slice-first.result.now c.as_slice-second.result.now c.loop-k.k _
+    (omega (arith, c.loop-k-test.false)) c.if-first-second.false c.loop-k.invariant
 
 pub same_parts-returns-then-first-second : goal.same_parts-returns-then-first-second
-same_parts-returns-then-first-second t c = differed _ _ (part_rows c.args.placed) c.as_slice-first.result.now c.as_slice-second.result.now _ (ap₂ (λ xs ys. spec.same_parts (parts_with c.args.placed xs) (parts_with c.args.placed ys)) c.as_slice-first.ensures.tree c.as_slice-second.ensures.tree) c.if-first-second.true
+same_parts-returns-then-first-second t c = differed _ _ (part_rows c.args.placed) c.as_slice-first.result.now c.as_slice-second.result.now _
+    (ap₂ (λ xs ys. spec.same_parts (parts_with c.args.placed xs)
+    (parts_with c.args.placed ys)) c.as_slice-first.ensures.tree c.as_slice-second.ensures.tree) c.if-first-second.true
 
 pub same_parts-returns-then-not-same_part : goal.same_parts-returns-then-not-same_part
 same_parts-returns-then-not-same_part t c =
@@ -51,7 +59,8 @@ same_parts-loop-k-preserved t c =
     c.loop-k-test.true c.if-first-second.false c.index-first-k.is c.index-second-k.is (sym c.same_part.ensures ∙ c.if-not-same_part.false) c.loop-k.invariant
 
 pub same_parts-returns : goal.same_parts-returns
-same_parts-returns t c = ended _ _ (part_rows c.args.placed) c.as_slice-first.result.now c.as_slice-second.result.now c.loop-k.k _ (omega (arith, c.loop-k-test.false)) c.if-first-second.false c.loop-k.invariant
+same_parts-returns t c = ended _ _ (part_rows c.args.placed) c.as_slice-first.result.now c.as_slice-second.result.now c.loop-k.k _
+    (omega (arith, c.loop-k-test.false)) c.if-first-second.false c.loop-k.invariant
 
 pub same_played-returns-then-not-same_written-3 : goal.same_played-returns-then-not-same_written-3
 same_played-returns-then-not-same_written-3 t c =

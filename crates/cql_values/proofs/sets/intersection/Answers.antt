@@ -8,4 +8,5 @@ loop-value-init c = all_squares
 
 pub loop-value-preserved : goal.loop-value-preserved
 loop-value-preserved c =
-    intersection_step c.loop-value.mask c.squares-mask.result c.args.values.now (λ v. spec.has (meant v)) c.loop-value.value-index _ c.loop-value-test.true c.squares-mask.ensures c.loop-value.invariant
+    intersection_step c.loop-value.mask c.squares-mask.result c.args.values.now
+    (λ v. spec.has (meant v)) c.loop-value.value-index _ c.loop-value-test.true c.squares-mask.ensures c.loop-value.invariant

@@ -17,4 +17,5 @@ pub returns : goal.returns
 unfolding board.squares
 returns c =
     let end : c.loop-number.number ≡ 64 = omega arith in
-    subst (λ n. IsBitboard c.loop-number.mask (λ goal. list_any (λ s. is_in c.args.from s && list_any (spec.leads_to c.args.m c.args.n s goal) c.args.directions.now) (range_with_len 0 n))) end c.loop-number.invariant
+    subst (λ n. IsBitboard c.loop-number.mask (λ goal. list_any
+    (λ s. is_in c.args.from s && list_any (spec.leads_to c.args.m c.args.n s goal) c.args.directions.now) (range_with_len 0 n))) end c.loop-number.invariant

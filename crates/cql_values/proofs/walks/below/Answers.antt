@@ -16,4 +16,5 @@ pub returns : goal.returns
 unfolding games.searched
 returns c =
     let all : c.loop-k.k ≡ length c.args.game.now.nodes = omega (arith, c.loop-k-test.false, c.loop-k.auto.k-end, c.len-k-end.ensures.len) in
-    subst (λ m. c.loop-k.nodes.items ≡ filter (games.is_below c.args.game.now.nodes c.args.n) (filter (games.is_searched c.args.variations c.args.game.now.nodes) (range_with_len 0 m))) all c.loop-k.invariant.nodes
+    subst (λ m. c.loop-k.nodes.items ≡ filter (games.is_below c.args.game.now.nodes c.args.n)
+    (filter (games.is_searched c.args.variations c.args.game.now.nodes) (range_with_len 0 m))) all c.loop-k.invariant.nodes

@@ -22,9 +22,11 @@ loop-next-preserved c =
     let nodes = c.args.game.now.nodes in
     let child = c.in-Some.child in
     let parent : (node_at nodes child).parent ≡ Some c.args.n = subst (λ o. IfSome o (λ d. (node_at nodes d).parent ≡ Some c.args.n)) c.in-Some.is c.loop-next.invariant.child in
-    let had = subst (λ o. c.loop-next.nodes.items ++ filter (is_searched c.args.variations nodes) (children_from nodes c.args.n o) ≡ children_in (searched_tree c.args.game.now c.args.variations) c.args.n) c.in-Some.is c.loop-next.invariant.nodes in
+    let had = subst (λ o. c.loop-next.nodes.items ++ filter (is_searched c.args.variations nodes) (children_from nodes c.args.n o)
+    ≡ children_in (searched_tree c.args.game.now c.args.variations) c.args.n) c.in-Some.is c.loop-next.invariant.nodes in
     record {
-      nodes = children_more nodes c.args.variations c.args.n child c.next_sibling-next.result c.loop-next.nodes.items c.push_if.new.nodes.items (children_in (searched_tree c.args.game.now c.args.variations) c.args.n)
+      nodes = children_more nodes c.args.variations c.args.n child c.next_sibling-next.result c.loop-next.nodes.items c.push_if.new.nodes.items
+          (children_in (searched_tree c.args.game.now c.args.variations) c.args.n)
           c.is_searched.result parent c.next_sibling-next.ensures.value c.is_searched.ensures c.in_ok-push_if.ensures had;
       within = inside_of c.next_sibling-next.result child (length nodes) c.next_sibling-next.ensures.after;
       child = parent_of_next nodes c.args.n child c.next_sibling-next.result parent c.next_sibling-next.ensures.value;

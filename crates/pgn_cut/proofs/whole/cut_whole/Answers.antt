@@ -12,7 +12,8 @@ finish-requires c = (c.args.archive.now, c.in_ok-feed.ensures.stands [] c.new-cu
 pub returns-clause-games : goal.returns-clause-games
 returns-clause-games c =
     whole_games c.args.archive.now c.new-spans.result.items c.feed.new.spans.items c.finish.new.spans.items c.new-spans.ensures.items (c.in_ok-feed.ensures.games [] c.new-cutter.ensures)
-    (c.in_ok-finish.ensures.games c.args.archive.now (c.in_ok-feed.ensures.stands [] c.new-cutter.ensures)) (c.closed_games_stay.ensures.whole c.args.archive.now).0 (c.closed_games_stay.ensures.whole c.args.archive.now).1
+    (c.in_ok-finish.ensures.games c.args.archive.now (c.in_ok-feed.ensures.stands [] c.new-cutter.ensures))
+    (c.closed_games_stay.ensures.whole c.args.archive.now).0 (c.closed_games_stay.ensures.whole c.args.archive.now).1
 
 pub returns-clause-order : goal.returns-clause-order
 returns-clause-order c = subst (AreInOrder 0 (length c.args.archive.now)) (sym (returns-clause-games c)) (c.games_stand_apart.ensures.order c.args.archive.now)

@@ -9,5 +9,8 @@ returns-then-at-bytes-clause-none c = λ start.
 
 pub returns-clause-next : goal.returns-clause-next
 returns-clause-next c = λ start.
-    some_next start c.args.first c.args.bytes.now _ c.args.at c.white_len.result _ (take_rest c.args.bytes.now c.args.at) c.white_len.ensures.value c.white_len.ensures.within c.requires c.if-at-bytes.false
-    (take_rest c.args.bytes.now (c.args.at + c.white_len.result)) c.in_first_column-first.result c.in_first_column-first.ensures c.longest_reading-reading.result c.longest_reading-reading.ensures.value c.longest_reading-reading.ensures.within
+    some_next start c.args.first c.args.bytes.now _ c.args.at c.white_len.result _
+    (take_rest c.args.bytes.now c.args.at) c.white_len.ensures.value c.white_len.ensures.within c.requires c.if-at-bytes.false
+    (take_rest c.args.bytes.now
+    (c.args.at + c.white_len.result)) c.in_first_column-first.result c.in_first_column-first.ensures c.longest_reading-reading.result
+    c.longest_reading-reading.ensures.value c.longest_reading-reading.ensures.within

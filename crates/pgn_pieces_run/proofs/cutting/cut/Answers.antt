@@ -29,7 +29,8 @@ returns-in-Ok-eq0-clause-says g c =
     let was = pipe g.S.Source.left g.S.Source.faults g.O.Sink.taken g.O.Sink.faults c.args.source.now c.args.out.now in
     let cut = c.in-Ok-eq0.ensures.goes_on c.args.least c.loop-count.count was c.loop-count.invariant.cut in
     let some : 0 < length c.as_mut_slice.result.now = search rules in
-    c.end.ensures c.args.least (c.loop-count.count + c.in-Ok-eq0.field-0) (g.S.Source.faults c.turn.new.source) (g.S.Source.left c.turn.new.source) was (c.in-Ok-eq0.ensures.end c.in-Ok-eq0.field-0-test some)
+    c.end.ensures c.args.least (c.loop-count.count + c.in-Ok-eq0.field-0) (g.S.Source.faults c.turn.new.source)
+    (g.S.Source.left c.turn.new.source) was (c.in-Ok-eq0.ensures.end c.in-Ok-eq0.field-0-test some)
     (omega (arith, c.loop-count-test.true, c.in-Ok-eq0.field-0-test)) cut
 
 pub returns-in-Ok-eq0-clause-next : goal.returns-in-Ok-eq0-clause-next

@@ -18,7 +18,8 @@ returns-in-Ok-write_all_of-clause-goes_on g c = λ least count was cut.
     let text = c.feed.new.text in
     let n = c.in-Ok.n in
     let at = pipe g.S.Source.left g.S.Source.faults g.O.Sink.taken g.O.Sink.faults in
-    read_more least count n was (at c.args.source.now c.args.out.now) (at c.read_piece.new.source c.write_all_of.new.sink) c.args.pieces.now c.feed.new.self bytes text cut c.in-Ok.ensures.bytes.0 c.in-Ok.ensures.cause.same
+    read_more least count n was (at c.args.source.now c.args.out.now)
+    (at c.read_piece.new.source c.write_all_of.new.sink) c.args.pieces.now c.feed.new.self bytes text cut c.in-Ok.ensures.bytes.0 c.in-Ok.ensures.cause.same
     (subst (λ (t : List ℕ). TakesBytes c.args.pieces.now c.feed.new.self bytes t text) c.new-text.ensures c.in-Ok-feed.ensures.takes) c.in-Ok-feed.ensures.least
     (omega (arith, length-take n c.read_piece.new.buf, c.in-Ok.ensures.bound, c.read_piece.auto.buf))
     (subst (Grew (g.O.Sink.taken c.args.out.now) (g.O.Sink.taken c.write_all_of.new.sink)) c.as_slice.ensures c.in-Ok-write_all_of.ensures.ok)
@@ -30,7 +31,8 @@ returns-clause-stops g c = λ least count was cut.
     let text = c.feed.new.text in
     let part = c.in-Err-write_all_of.ensures.err in
     let at = pipe g.S.Source.left g.S.Source.faults g.O.Sink.taken g.O.Sink.faults in
-    write_failed least count was (at c.args.source.now c.args.out.now) (at c.read_piece.new.source c.write_all_of.new.sink) c.args.pieces.now c.feed.new.self bytes text cut c.in-Ok.ensures.bytes.0 c.in-Ok.ensures.cause.same
+    write_failed least count was (at c.args.source.now c.args.out.now)
+    (at c.read_piece.new.source c.write_all_of.new.sink) c.args.pieces.now c.feed.new.self bytes text cut c.in-Ok.ensures.bytes.0 c.in-Ok.ensures.cause.same
     (subst (λ (t : List ℕ). TakesBytes c.args.pieces.now c.feed.new.self bytes t text) c.new-text.ensures c.in-Ok-feed.ensures.takes) c.in-Ok-feed.ensures.least
     (part.0, subst (λ (t : List ℕ). Grew (g.O.Sink.taken c.args.out.now) (g.O.Sink.taken c.write_all_of.new.sink) (take part.0 t)) c.as_slice.ensures part.1)
     c.in-Err-write_all_of.ensures.cause.failed

@@ -10,4 +10,5 @@ loop-group-preserved c =
 
 pub returns : goal.returns
 returns c =
-    groups_done (λ group. group.items) c.loop-group.rows.items _ c.loop-group.group-iterator.iter.rest.items (nil_from_length c.loop-group.group-iterator.iter.rest.items (sym c.loop-group.group-iterator.iter.rest.ok.0 ∙ c.in-None.ensures.steps.0)) c.loop-group.invariant
+    groups_done (λ group. group.items) c.loop-group.rows.items _ c.loop-group.group-iterator.iter.rest.items
+    (nil_from_length c.loop-group.group-iterator.iter.rest.items (sym c.loop-group.group-iterator.iter.rest.ok.0 ∙ c.in-None.ensures.steps.0)) c.loop-group.invariant

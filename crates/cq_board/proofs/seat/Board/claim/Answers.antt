@@ -15,5 +15,6 @@ invariant_of-seat c =
     let e = c.fetch_add-found.ensures in let old = c.args.seat.now in record {
       no_slot = ap (λ m. m.1) e.2.0 ∙ old.no_slot;
       increasing = e.2.1;
-      one_share = subst (λ m. share m.0.numbers m.0 ≡ 1) (sym e.2.0) (drawing_share old.seat.me.0.numbers old.seat.me.0 c.fetch_add-found.result refl (omega (arith, c.requires.«open»)) ∙ old.one_share);
+      one_share = subst (λ m. share m.0.numbers m.0 ≡ 1) (sym e.2.0)
+          (drawing_share old.seat.me.0.numbers old.seat.me.0 c.fetch_add-found.result refl (omega (arith, c.requires.«open»)) ∙ old.one_share);
     }

@@ -28,7 +28,8 @@ pub returns-clause-once : goal.returns-clause-once
 returns-clause-once c =
     let final = c.close_with-closed.ensures.values.2 in let state = final.0 in let seen = final.1 in
     drawn_once c.args.self c.args.seats.items c.loop-seat.seats.items c.loop-seat.whole state.words state.views c.loop-seat.whole.id c.word-next.result
-    (let o = c.loop-seat.seats.ok in let z = c.in_default-pop.ensures.cases.0 in search rules) c.loop-seat.invariant seen.0 seen.1 (subst (λ words. get_elem? words 0 ≡ some c.word-next.result) (sym final.2) c.word-next.ensures)
+    (let o = c.loop-seat.seats.ok in let z = c.in_default-pop.ensures.cases.0 in search rules) c.loop-seat.invariant seen.0 seen.1
+    (subst (λ words. get_elem? words 0 ≡ some c.word-next.result) (sym final.2) c.word-next.ensures)
 
 pub returns-clause-ended : goal.returns-clause-ended
 returns-clause-ended c = word_past c.args.self c.args.seats.items c.word-next.result c.requires.seats (returns-clause-once c)

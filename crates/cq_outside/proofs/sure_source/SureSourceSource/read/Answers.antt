@@ -5,7 +5,9 @@ use Rattle.cq_outside.proofs.sure_source.SureSourceSource.read.Goals as goal
 
 pub returns-clause-bytes : goal.returns-clause-bytes
 returns-clause-bytes c = (
-  sym c.self.view_is ∙ moved c.self.inside.bytes c.as_slice.result.now c.copy_from_slice.new.self _ c.self.inside.read c.min-n.result c.as_slice.ensures (grind (arith, common_steps)) c.copy_from_slice.ensures.after,
+  sym c.self.view_is
+      ∙ moved c.self.inside.bytes c.as_slice.result.now c.copy_from_slice.new.self _ c.self.inside.read c.min-n.result c.as_slice.ensures
+      (grind (arith, common_steps)) c.copy_from_slice.ensures.after,
   λ z r. moved_all c.self.inside.bytes c.self.inside.read c.min-n.result _ _ c.min-n.ensures (grind (arith, common_steps)) z (grind (arith, common_steps)),
 )
 

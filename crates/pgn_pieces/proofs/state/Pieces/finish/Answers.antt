@@ -9,7 +9,14 @@ add_all-requires c =
     let s = c.requires in
     let are : c.as_slice.result.now ≡ drop (length (closed s.0)) (cut s.0) =
     c.as_slice.ensures.value ∙ c.in_ok-finish.ensures.games s.0 s.2.cutter ∙ ap (λ (l : List Span). l ++ drop (length (closed s.0)) (cut s.0)) c.new-games.ensures.items in
-    record { order = (length s.0, s.3, ended_in_order c.games_stand_apart.ensures.order c.args.self s.1 s.0 c.as_slice.result.now s.2 (ended c.closed_games_stay.ensures.whole s.0 c.as_slice.result.now are)) }
+    record {
+      order = (
+        length s.0,
+        s.3,
+        ended_in_order c.games_stand_apart.ensures.order c.args.self s.1 s.0 c.as_slice.result.now s.2
+            (ended c.closed_games_stay.ensures.whole s.0 c.as_slice.result.now are),
+      );
+    }
 
 pub returns : goal.returns
 returns c =

@@ -24,7 +24,8 @@ pub returns-clause-ok : goal.returns-clause-ok
 returns-clause-ok c =
     on_ok_weaker c.add_comment.result (λ is.
     ap {A = List Node} {B = Game} (λ nodes. record { tags = c.self.inside.tags; result = c.self.inside.result; nodes = nodes })
-    (nodes_set c.self.inside.nodes.items c.args.k c.index_mut.result.now c.add_comment.new.self (with_comment c.args.text.now) (ap (λ g. g.nodes) c.self.view_is) c.requires.node c.index_mut.ensures.value
+    (nodes_set c.self.inside.nodes.items c.args.k c.index_mut.result.now c.add_comment.new.self (with_comment c.args.text.now)
+    (ap (λ g. g.nodes) c.self.view_is) c.requires.node c.index_mut.ensures.value
     (ap (λ y. y.node) is ∙ ap {A = List _} {B = Node} (λ l. record c.index_mut.result.now.node { comments = c.index_mut.result.now.node.comments ++ l })
     (sym (one_comment c.args.text.now c.in_ok-comment.comment c.in_ok-comment.ensures c.if-is_empty.ensures))))
     ∙ ap {A = Game} {B = Game} (λ g. record g { nodes = with_node c.args.self.now.nodes c.args.k (with_comment c.args.text.now) }) c.self.view_is)

@@ -18,6 +18,7 @@ pub returns-clause-ok : goal.returns-clause-ok
 returns-clause-ok c =
     on_ok_weaker c.add_nag.result (λ is.
     ap {A = List Node} {B = Game} (λ nodes. record { tags = c.self.inside.tags; result = c.self.inside.result; nodes = nodes })
-    (nodes_set c.self.inside.nodes.items c.args.k c.index_mut.result.now c.add_nag.new.self (with_nag c.args.nag) (ap (λ g. g.nodes) c.self.view_is) c.requires c.index_mut.ensures.value (ap (λ y. y.node) is))
+    (nodes_set c.self.inside.nodes.items c.args.k c.index_mut.result.now c.add_nag.new.self (with_nag c.args.nag)
+    (ap (λ g. g.nodes) c.self.view_is) c.requires c.index_mut.ensures.value (ap (λ y. y.node) is))
     ∙ ap {A = Game} {B = Game} (λ g. record g { nodes = with_node c.args.self.now.nodes c.args.k (with_nag c.args.nag) }) c.self.view_is)
     c.add_nag.ensures.ok

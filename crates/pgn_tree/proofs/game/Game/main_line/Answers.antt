@@ -5,7 +5,8 @@ use Rattle.pgn_tree.proofs.game.Game.main_line.Goals.{then-is_main+in_ok-push, e
 
 pub loop-k-preserved : goal.loop-k-preserved
 loop-k-preserved c = elim c.if-is_main.branch [
-  | then-is_main+in_ok-push w ↦ line_more c.args.self.now.nodes c.loop-k.k c.loop-k.line.items c.if-is_main.line.items c.loop-k.invariant w.if-is_main.ensures (ap (λ v. v.items) w.line-is ∙ w.in_ok-push.ensures.items)
+  | then-is_main+in_ok-push w ↦ line_more c.args.self.now.nodes c.loop-k.k c.loop-k.line.items c.if-is_main.line.items c.loop-k.invariant w.if-is_main.ensures
+      (ap (λ v. v.items) w.line-is ∙ w.in_ok-push.ensures.items)
   | else-is_main w ↦ line_same c.args.self.now.nodes c.loop-k.k c.loop-k.line.items c.if-is_main.line.items c.loop-k.invariant w.if-is_main.ensures (ap (λ v. v.items) w.line-is)
 ]
 
