@@ -70,7 +70,7 @@ filter_same test other (n ∷ ns) same =
 
 filter_passes : (test : ℕ → Bool) (ns : List ℕ) → All (λ n. test n ≡ true) (filter test ns)
 filter_passes test [] = λ i d low. absurd (omega (arith, low))
-filter_passes test (n ∷ ns) = by (test n) refl
+filter_passes test (n ∷ ns) = by (filter test ns) (filter_passes test ns) (test n) refl
   where
     first : (ms : List ℕ) → test n ≡ true → All (λ m. test m ≡ true) ms → All (λ m. test m ≡ true) (n ∷ ms)
     first ms here rest = λ i d low. at i d low
@@ -79,9 +79,9 @@ filter_passes test (n ∷ ns) = by (test n) refl
         at zero d low = here
         at (suc i) d low = rest i d (omega (arith, low))
 
-    by : (b : Bool) → test n ≡ b → All (λ m. test m ≡ true) (if b then n ∷ filter test ns else filter test ns)
-    by true e = first (filter test ns) e (filter_passes test ns)
-    by false e = filter_passes test ns
+    by : (ms : List ℕ) → All (λ m. test m ≡ true) ms → (b : Bool) → test n ≡ b → All (λ m. test m ≡ true) (if b then n ∷ ms else ms)
+    by ms rest true e = first ms e rest
+    by ms rest false e = rest
 
 range_is_below : (n : ℕ) → All (λ i. i < n) (range_with_len 0 n)
 range_is_below n = λ i d below.

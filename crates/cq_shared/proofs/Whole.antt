@@ -1,5 +1,5 @@
 -- What is found of all queries, and what all parts cost.
-use Rattle.std.proofs.Common.{◌≡◌, ℕ, zero, suc, ◌+◌, ◌<◌, ◌≤◌, ◌&&◌, List, [], ◌∷◌, ◌++◌, length, map, take, get_or, ℤ, refl, sym, ap, ap₂, ◌∙◌, subst, arith}
+use Rattle.std.proofs.Common.{◌≡◌, ℕ, zero, suc, ◌+◌, ◌<◌, ◌≤◌, ◌&&◌, true, List, [], ◌∷◌, ◌++◌, length, map, take, get_or, ℤ, refl, sym, ap, ap₂, ◌∙◌, subst, arith}
 use Rattle.std.proofs.lemmas.List.{take_more, take_all}
 use Rattle.cq_position.specs.Games.{Game}
 use Rattle.cql_plan.specs.Plans.{query_of}
@@ -84,6 +84,16 @@ pub costs_are : (game : Game) (parts : List Part) (askers : List Asker) → equa
 costs_are game parts askers same =
     sym (cost_next 5 game parts) ∙ cost_all game parts (classes_low parts)
     ∙ ap (plan_cost game) (equal_is (all_shown parts) (different (parts_in_all (map (λ a. asked_query a) askers))) same ∙ ap (λ qs. different (parts_in_all qs)) (sym (plan_trees askers)))
+
+-- a plan, as its parts and its queries are lent
+
+pub record IsPlan (parts : List Part) (askers : List Asker) : Type 0 where
+  pub are : AreAskers parts askers
+  pub same : equal_parts (all_shown parts) (different (parts_in_all (map (λ a. asked_query a) askers))) ≡ true
+
+pub plan_lent : (parts lent : List Part) (askers lent_askers : List Asker) → lent ≡ parts → lent_askers ≡ askers → IsPlan parts askers → IsPlan lent lent_askers
+plan_lent parts lent askers lent_askers same same_askers plan =
+    subst (λ ps. IsPlan ps lent_askers) (sym same) (subst (IsPlan parts) (sym same_askers) plan)
 
 -- the hits of the queries of a plan
 pub hits_of_all : (game : Game) (askers : List Asker) → map (λ a. hits (asked_query a) game) askers ≡ map (λ q. hits q game) (trees_of (map (λ a. query_of a.plan) askers))
