@@ -8,16 +8,16 @@ use Rattle.cql_syntax.specs.Flat.{flat_query}
 use Rattle.cql_syntax.specs.Leaves.{same_flag}
 use Rattle.cql_syntax.specs.Trees.{FilterTree}
 use Rattle.cql_syntax.specs.Unplaced.{same_unplaced}
-use Rattle.cq_shared.specs.Askers.{asked_query, IsAsker, AreAskers}
+use Rattle.cq_shared.specs.Askers.{asked_query, AreAskers}
 use Rattle.cq_shared.specs.Beginning.{begins, HaveBegun}
-use Rattle.cq_shared.specs.Known.{all_shown, is_asked}
-use Rattle.cq_shared.specs.Matching.{is_left, is_of, IsReady, AreReady}
-use Rattle.cq_shared.specs.Parts.{PartTree, same_part, is_at, query_parts, parts_in, parts_with}
+use Rattle.cq_shared.specs.Known.{all_shown}
+use Rattle.cq_shared.specs.Matching.{is_left, is_of, AreReady}
+use Rattle.cq_shared.specs.Parts.{PartTree, query_parts, parts_in, parts_with}
 use Rattle.cq_shared.specs.Singles.{shown}
 use Rattle.cq_shared.specs.declared.nodes.Nodes.{Nodes}
 use Rattle.cq_shared.specs.declared.part.Asker.{Asker}
 use Rattle.cq_shared.specs.declared.part.Part.{Part}
-use Rattle.cq_shared.proofs.Meeting.{Among, among_at, asked_read, flag_is}
+use Rattle.cq_shared.proofs.Meeting.{among_at, asked_read, flag_is}
 use Rattle.cq_shared.proofs.Seeking.{at_read}
 use Rattle.cq_shared.proofs.Gaining.{shown_length, shown_read}
 use Rattle.cq_shared.proofs.Unions.{Told, past_end, left_before, left_last, left_past}

@@ -1,20 +1,18 @@
 -- The keys of sort items, by the rows of parts that are the same.
-use Rattle.std.proofs.Common.{◌≡◌, ℕ, zero, suc, ◌+◌, ◌<◌, ◌≤◌, ◌&&◌, ◌||◌, Bool, true, false, List, [], ◌∷◌, ◌++◌, length, map, take, drop, get_or, All, Option, None, Some, ℤ, refl, sym, ap, ap₂, ◌∙◌, subst, arith, append_assoc}
-use Rattle.std.specs.Prelude.{fold, is_some, ◌==◌}
+use Rattle.std.proofs.Common.{◌≡◌, ℕ, suc, ◌+◌, ◌<◌, ◌≤◌, ◌&&◌, Bool, true, List, [], ◌∷◌, ◌++◌, length, map, take, drop, get_or, All, Option, None, Some, ℤ, refl, sym, ap, ap₂, ◌∙◌, subst, arith, append_assoc}
+use Rattle.std.specs.Prelude.{fold, ◌==◌}
 use Rattle.std.specs.List.{list_all}
-use Rattle.std.proofs.lemmas.Bool.{and_parts, and_from, eqb-true}
+use Rattle.std.proofs.lemmas.Bool.{and_parts, and_from}
 use Rattle.std.proofs.lemmas.List.{take_more, take_all, drop_all, append-nil, drop_more}
 use Rattle.std.proofs.lemmas.List.Sums.{fold-append}
-use Rattle.cq_position.specs.Games.{Game}
 use Rattle.cq_position.specs.Search.{SearchedTree}
 use Rattle.cql_eval.specs.Classes.{form_class, filter_class}
-use Rattle.cql_eval.specs.Hits.{number_at}
 use Rattle.cql_plan.specs.Rows.{key_in}
 use Rattle.cql_syntax.specs.Hits.{all_keys, item_keys, chosen}
 use Rattle.cql_syntax.specs.Meaning.{value}
 use Rattle.cql_syntax.specs.Trees.{FilterTree, filter_at, FormTree, designator, number, name, plain, tagged, outcome, elo, unary, direction, chain, sum_of, pair, if_, square, line, played, transform, sort, comment, any, FilterTrees, no_filters, more_filters}
 use Rattle.cql_syntax.specs.Leaves.{same_flag}
-use Rattle.cql_syntax.specs.Same.{same_filter, same_form}
+use Rattle.cql_syntax.specs.Same.{same_filter}
 use Rattle.cql_syntax.specs.Unplaced.{unplaced, with_places, same_unplaced}
 use Rattle.std.specs.Str.{bytes_eq}
 use Rattle.cql_syntax.specs.Values.{Value, as_number, amount, of_both, chosen_from}

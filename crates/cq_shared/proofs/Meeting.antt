@@ -1,12 +1,9 @@
 -- What is left to a query after all parts are its hits.
-use Rattle.std.proofs.Common.{◌≡◌, ℕ, zero, suc, ◌+◌, ◌<◌, ◌≤◌, Bool, true, false, ◌&&◌, ◌||◌, not, List, [], ◌∷◌, ◌++◌, length, map, get_or, refl, sym, ap, ap₂, ◌∙◌, subst, arith, nat_lt, ⊎_elim, inl, inr}
-use Rattle.std.specs.Prelude.{cond, ◌==◌}
-use Rattle.std.specs.List.{list_all, filter, range_with_len}
-use Rattle.std.proofs.lemmas.Bool.{cases_Bool, and_parts, and_from, or_cases, eqb-true, eq-eqb, both_ways, lt-ltb, le-ltb, cases_lt, false_from_ne_true}
-use Rattle.std.proofs.lemmas.Bool.Decides.{nat_tests}
-use Rattle.std.proofs.lemmas.List.{get_or_default}
-use Rattle.cq_position.specs.Games.{Game, is_searched}
-use Rattle.cq_position.specs.Search.{SearchedTree}
+use Rattle.std.proofs.Common.{◌≡◌, ℕ, zero, suc, ◌<◌, Bool, true, false, ◌&&◌, ◌||◌, not, List, [], ◌∷◌, length, get_or, refl, sym, ap, ap₂, ◌∙◌, arith, inl, inr}
+use Rattle.std.specs.Prelude.{◌==◌}
+use Rattle.std.specs.List.{list_all}
+use Rattle.std.proofs.lemmas.Bool.{and_parts, and_from, or_cases, eqb-true, eq-eqb, lt-ltb}
+use Rattle.cq_position.specs.Games.{Game}
 use Rattle.cql_syntax.specs.Flat.{flat_query}
 use Rattle.cql_syntax.specs.Hits.{is_hit, tree_of}
 use Rattle.cql_syntax.specs.Trees.{FilterTree, QueryTree}
@@ -16,15 +13,14 @@ use Rattle.cql_syntax.specs.Leaves.{same_flag}
 use Rattle.cql_syntax.specs.Unplaced.{same_unplaced}
 use Rattle.cql_syntax.proofs.UnplacedSame.{same_value}
 use Rattle.cql_values.specs.Trees.{searched_tree}
-use Rattle.cq_shared.specs.Askers.{asked_query, IsAsker, AreAskers}
+use Rattle.cq_shared.specs.Askers.{asked_query, IsAsker}
 use Rattle.cq_shared.specs.Known.{all_shown, is_asked}
-use Rattle.cq_shared.specs.Matching.{is_left, is_of, meets, meets_if, is_class, is_before, holds_at, part_holds, AreLeft, AreReady, IsReady}
+use Rattle.cq_shared.specs.Matching.{is_of, meets, meets_if, is_before, holds_at, part_holds}
 use Rattle.cq_shared.specs.Parts.{PartTree, query_parts, parts_in, parts_with, same_part, is_at, are_at}
 use Rattle.cq_shared.specs.Places.{is_among}
-use Rattle.cq_shared.specs.Singles.{part_tree, shown}
+use Rattle.cq_shared.specs.Singles.{shown}
 use Rattle.cq_shared.specs.declared.part.Part.{Part}
 use Rattle.cq_shared.specs.declared.part.Asker.{Asker}
-use Rattle.cq_shared.specs.declared.nodes.Nodes.{Nodes}
 use Rattle.cq_shared.proofs.PartsHold.{parts_hold}
 use Rattle.cq_shared.proofs.Seeking.{at_read, at_below}
 use Rattle.cq_shared.proofs.Gaining.{shown_length, shown_read}

@@ -1,18 +1,18 @@
 -- What is left to a query, and its rows, are its hits and its keys.
-use Rattle.std.proofs.Common.{◌≡◌, ◌≢◌, ℕ, zero, suc, ◌+◌, ◌<◌, ◌≤◌, ◌&&◌, ◌||◌, Bool, true, false, List, [], ◌∷◌, ◌++◌, length, map, take, drop, get_or, All, Option, None, Some, ℤ, refl, sym, ap, ap₂, ◌∙◌, subst, arith, nat_lt, length-append}
+use Rattle.std.proofs.Common.{◌≡◌, ◌≢◌, ℕ, zero, suc, ◌+◌, ◌<◌, ◌≤◌, ◌&&◌, Bool, true, false, List, [], ◌∷◌, ◌++◌, length, map, drop, get_or, All, Some, ℤ, refl, sym, ap, ap₂, ◌∙◌, subst, arith, nat_lt}
 use Rattle.std.specs.Prelude.{is_some, cond, ◌==◌, if◌then◌else◌}
 use Rattle.std.specs.List.{list_all, filter, range_with_len}
 use Rattle.std.proofs.lemmas.Bool.{and_parts, and_from, or_left, or_right, eqb-true, eq-eqb, lt-ltb, both_ways}
-use Rattle.std.proofs.lemmas.List.{map-id, take_more, take_all}
+use Rattle.std.proofs.lemmas.List.{map-id}
 use Rattle.std.proofs.lemmas.List.FromFn.{length-range_with_len, get_or-range_with_len, filter_of_map_range_with_len_more}
-use Rattle.cq_position.specs.Games.{Game, Node, numbers, is_searched, searched}
+use Rattle.cq_position.specs.Games.{Game, numbers, is_searched, searched}
 use Rattle.cq_position.specs.Search.{SearchedTree}
 use Rattle.cql_eval.specs.Classes.{filter_class}
 use Rattle.cql_eval.specs.Columns.{is_live}
 use Rattle.cql_plan.specs.Needs.{query_passes}
 use Rattle.cql_plan.specs.Rows.{key_in}
 use Rattle.cql_syntax.specs.Flat.{flat_query}
-use Rattle.cql_syntax.specs.Hits.{hits, hits_in, keys, all_keys, item_keys, is_hit, tree_of}
+use Rattle.cql_syntax.specs.Hits.{hits, keys, all_keys, item_keys, is_hit, tree_of}
 use Rattle.cql_syntax.specs.Leaves.{same_flag}
 use Rattle.cql_syntax.specs.Trees.{FilterTree, FilterTrees, QueryTree}
 use Rattle.cql_syntax.specs.Unplaced.{same_unplaced}
@@ -20,13 +20,13 @@ use Rattle.cql_syntax.specs.Meaning.{value}
 use Rattle.cql_syntax.specs.Values.{holds}
 use Rattle.cql_syntax.proofs.FlatHits.{hits_same, keys_same}
 use Rattle.cql_values.specs.Trees.{searched_tree}
-use Rattle.cq_shared.specs.Askers.{asked_query, IsAsker, AreAskers}
+use Rattle.cq_shared.specs.Askers.{asked_query, AreAskers}
 use Rattle.cq_shared.specs.Beginning.{begins}
-use Rattle.cq_shared.specs.Known.{all_shown, is_asked}
-use Rattle.cq_shared.specs.Matching.{is_left, is_of, holds_at, sort_number, tree_for, HasRow, HaveRows}
-use Rattle.cq_shared.specs.Parts.{PartTree, parts_in, parts_with, top_parts, top_sorts, query_parts, same_part, is_at, are_at}
+use Rattle.cq_shared.specs.Known.{all_shown}
+use Rattle.cq_shared.specs.Matching.{holds_at, sort_number, tree_for, HaveRows}
+use Rattle.cq_shared.specs.Parts.{PartTree, parts_with, top_parts, top_sorts, same_part, is_at, are_at}
 use Rattle.cq_shared.specs.Places.{is_among}
-use Rattle.cq_shared.specs.Reading.{nodes_there, is_found, is_least, row_key, row_keys, AreFound, HasNumbers, HaveNumbers, IsFoundBy}
+use Rattle.cq_shared.specs.Reading.{nodes_there, is_found, is_least, row_key, row_keys, AreFound, HaveNumbers, IsFoundBy}
 use Rattle.cq_shared.specs.Singles.{part_tree, shown}
 use Rattle.cq_shared.specs.Verdicts.{IsKeyed}
 use Rattle.cq_shared.specs.declared.nodes.Nodes.{Nodes}
@@ -35,7 +35,7 @@ use Rattle.cq_shared.specs.declared.part.Asker.{Asker}
 use Rattle.cq_shared.specs.declared.part.Part.{Part}
 use Rattle.cq_shared.proofs.Gaining.{shown_length, shown_read}
 use Rattle.cq_shared.proofs.Keyed.{sort_keys, is_sort, all_sorted, all_keys_are, item_keyed, class_same, sorts_alike}
-use Rattle.cq_shared.proofs.Meeting.{Among, among_at, all_at, Element, element, asked_read, flag_is, hold_at_hits, same_holds}
+use Rattle.cq_shared.proofs.Meeting.{among_at, all_at, element, asked_read, flag_is, hold_at_hits, same_holds}
 use Rattle.cq_shared.proofs.PartsHold.{parts_hold}
 use Rattle.cq_shared.proofs.Seeking.{at_read, at_below}
 use Rattle.cq_shared.proofs.Sorting.{row_read, rows_count}

@@ -2,7 +2,7 @@
 use Rattle.std.proofs.Common.{◌≡◌, ℕ, zero, suc, ◌+◌, ◌<◌, true, List, [], ◌∷◌, ◌++◌, length, take, get_or, refl, sym, ap, ◌∙◌, subst, arith}
 use Rattle.std.proofs.lemmas.List.{take_more}
 use Rattle.cq_position.specs.Games.{Game}
-use Rattle.cq_shared.specs.Matching.{is_left, is_of, HasRow, HaveRows}
+use Rattle.cq_shared.specs.Matching.{is_left, HasRow, HaveRows}
 use Rattle.cq_shared.specs.declared.nodes.Nodes.{Nodes}
 use Rattle.cq_shared.specs.declared.nodes.Row.{Row}
 use Rattle.cq_shared.specs.declared.part.Part.{Part}

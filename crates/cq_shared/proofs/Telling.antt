@@ -1,27 +1,24 @@
 -- What a part tells at the nodes that are asked for.
-use Rattle.std.proofs.Common.{◌≡◌, ℕ, zero, suc, ◌+◌, ◌<◌, ◌≤◌, Bool, true, false, ◌&&◌, List, [], ◌∷◌, length, map, get_or, Option, None, Some, ℤ, refl, sym, ap, ap₂, ◌∙◌, subst, arith, ⊎_elim}
-use Rattle.std.specs.Prelude.{is_some, cond, if◌then◌else◌}
+use Rattle.std.proofs.Common.{◌≡◌, ℕ, zero, suc, ◌+◌, ◌<◌, ◌≤◌, Bool, true, false, ◌&&◌, List, [], ◌∷◌, length, map, get_or, Option, None, Some, ℤ, refl, sym, ap, ◌∙◌, subst, arith}
+use Rattle.std.specs.Prelude.{is_some, if◌then◌else◌}
 use Rattle.std.specs.List.{list_any}
-use Rattle.std.proofs.lemmas.Bool.{cases_Bool, both_ways}
 use Rattle.std.proofs.lemmas.List.FromFn.{get_or-map-range_with_len}
 use Rattle.cq_position.specs.Games.{Game, is_searched}
 use Rattle.cq_position.specs.Search.{SearchedTree, nodes_in}
 use Rattle.cql_eval.specs.Classes.{form_class, filter_class}
 use Rattle.cql_eval.specs.Columns.{is_live, AreAsked}
 use Rattle.cql_eval.specs.Costs.{filter_cost, filters_cost}
-use Rattle.cql_eval.specs.Hits.{hit_column, number_at, sort_numbers, AreKeysAtHits}
+use Rattle.cql_eval.specs.Hits.{hit_column, AreKeysAtHits}
 use Rattle.cql_syntax.specs.Hits.{is_hit}
-use Rattle.cql_syntax.specs.Meaning.{value, values}
+use Rattle.cql_syntax.specs.Meaning.{value}
 use Rattle.cql_syntax.specs.TreeOf.{filters_tree}
 use Rattle.cql_syntax.specs.Trees.{FilterTree, filter_at, FormTree, designator, number, name, plain, tagged, outcome, elo, unary, direction, chain, sum_of, pair, if_, square, line, played, transform, sort, comment, any, FilterTrees, no_filters, more_filters}
 use Rattle.cql_syntax.specs.Values.{holds}
-use Rattle.cql_values.specs.Trees.{searched_tree}
-use Rattle.cq_shared.specs.Matching.{tree_for, holds_at, part_holds, part_cost, form_number, sort_number, is_left, is_of, IsTold, IsRowAt, IsUnion, IsNarrowedBy, HasRow}
+use Rattle.cq_shared.specs.Matching.{tree_for, holds_at, part_holds, part_cost, sort_number, IsTold, IsRowAt, IsUnion, IsNarrowedBy, HasRow}
 use Rattle.cq_shared.specs.Parts.{first_of, alone, is_single}
 use Rattle.cq_shared.specs.Singles.{shown}
 use Rattle.cq_shared.specs.declared.nodes.Nodes.{Nodes}
 use Rattle.cq_shared.specs.declared.part.Part.{Part}
-use Rattle.cq_shared.proofs.Singling.{single_is}
 
 -- nodes that are asked for
 

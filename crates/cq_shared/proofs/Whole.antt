@@ -1,10 +1,9 @@
 -- What is found of all queries, and what all parts cost.
-use Rattle.std.proofs.Common.{◌≡◌, ℕ, zero, suc, ◌+◌, ◌<◌, ◌≤◌, ◌&&◌, true, List, [], ◌∷◌, ◌++◌, length, map, take, get_or, ℤ, refl, sym, ap, ap₂, ◌∙◌, subst, arith}
+use Rattle.std.proofs.Common.{◌≡◌, ℕ, suc, ◌+◌, ◌<◌, ◌≤◌, ◌&&◌, true, List, [], ◌∷◌, ◌++◌, length, map, take, get_or, ℤ, refl, sym, ap, ap₂, ◌∙◌, subst, arith}
 use Rattle.std.proofs.lemmas.List.{take_more, take_all}
 use Rattle.cq_position.specs.Games.{Game}
 use Rattle.cql_plan.specs.Plans.{query_of}
 use Rattle.cql_syntax.specs.Hits.{hits}
-use Rattle.cql_syntax.specs.Trees.{QueryTree}
 use Rattle.cq_shared.specs.Askers.{asked_query, AreAskers}
 use Rattle.cq_shared.specs.Beginning.{HaveBegun}
 use Rattle.cq_shared.specs.Known.{all_shown}

@@ -1,6 +1,6 @@
 -- Several queries over one game: each different part is asked once, where some query that has it still wants it.
 use Rattle.std.specs.Prelude.{◌≡◌, ℕ, zero, suc, ◌+◌, ◌<◌, ◌&&◌, ◌||◌, ◌==◌, nat_lt, not, Bool, true, false, List, [], ◌∷◌, Option, None, ℤ, get_or, length, if◌then◌else◌}
-use Rattle.std.specs.List.{list_all, list_any, sum_by}
+use Rattle.std.specs.List.{list_all, sum_by}
 use Rattle.cq_position.specs.Games.{Game, is_searched}
 use Rattle.cq_position.specs.Search.{SearchedTree, nodes_in}
 use Rattle.cql_eval.specs.Columns.{is_live}

@@ -1,5 +1,5 @@
 -- What is read of the nodes that are left to a query, and of the rows of its sort items.
-use Rattle.std.specs.Prelude.{◌≡◌, ℕ, zero, suc, ◌<◌, ◌≤◌, ◌&&◌, Bool, true, false, List, [], ◌∷◌, Option, None, ℤ, is_some, get_or, length, map, All}
+use Rattle.std.specs.Prelude.{◌≡◌, ℕ, zero, suc, ◌<◌, ◌&&◌, Bool, true, false, List, [], ◌∷◌, Option, None, ℤ, is_some, get_or, length, map, All}
 use Rattle.std.specs.List.{filter}
 use Rattle.cq_position.specs.Games.{Game, numbers}
 use Rattle.cql_eval.specs.Columns.{is_live, Where}

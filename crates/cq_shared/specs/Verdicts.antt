@@ -1,7 +1,7 @@
 -- What several queries find in a game, as their callers see it: a list for each query, in order.
 use Rattle.std.specs.Prelude.{◌≡◌, ◌≢◌, ℕ, ℤ, List, [], ◌∷◌, Some, map}
 use Rattle.cq_position.specs.Games.{Game}
-use Rattle.cql_syntax.specs.Hits.{hits, keys}
+use Rattle.cql_syntax.specs.Hits.{keys}
 use Rattle.cql_syntax.specs.Trees.{QueryTree}
 use Rattle.cq_shared.specs.declared.verdicts.Verdicts.{Verdicts}
 

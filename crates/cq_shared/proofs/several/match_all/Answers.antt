@@ -8,7 +8,7 @@ use Rattle.cq_shared.specs.Verdicts.{nodes_of, keys_of, HaveKeys}
 use Rattle.cq_shared.proofs.After.{all_still_ready}
 use Rattle.cq_shared.proofs.Begun.{begun_ready}
 use Rattle.cq_shared.proofs.Makings.{plan_trees}
-use Rattle.cq_shared.proofs.Whole.{IsPlan, plan_lent, are_found, costs_are, hits_of_all}
+use Rattle.cq_shared.proofs.Whole.{plan_lent, are_found, costs_are, hits_of_all}
 use Rattle.cq_shared.proofs.several.match_all.Goals as goal
 
 pub left_by-requires : goal.left_by-requires

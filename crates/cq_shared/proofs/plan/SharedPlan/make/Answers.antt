@@ -1,6 +1,5 @@
-use Rattle.std.proofs.Common.{◌≡◌, ◌∙◌, ◌+◌, ap, sym, subst, arith, take, map, get_or, length}
+use Rattle.std.proofs.Common.{◌∙◌, ap, sym, subst, arith, map, length}
 use Rattle.std.proofs.lemmas.List.{take_all}
-use Rattle.cql_syntax.specs.TreeOf.{query_tree}
 use Rattle.cq_shared.specs.Askers.{asked_query, AreAskers}
 use Rattle.cq_shared.specs.Parts.{parts_in_all, different}
 use Rattle.cq_shared.specs.Plans.{trees_of}
