@@ -5,7 +5,6 @@ use Rattle.std.specs.Prelude.{◌==◌}
 use Rattle.std.proofs.lemmas.Bool.{and_parts}
 use Rattle.std.proofs.lemmas.List.{take_more, drop_all}
 use Rattle.cql_syntax.specs.TreeOf.{filter_tree}
-use Rattle.cql_syntax.specs.Trees.{FilterTree}
 use Rattle.cql_syntax.specs.declared.tree.Filter.{Filter}
 use Rattle.cq_shared.specs.Alone.{stands_alone}
 use Rattle.cq_shared.specs.Parts.{PartTree, parts_with, with_part, with_parts, is_at, are_at, Keeps}

@@ -118,18 +118,18 @@ this_asked first second ks n more fresh k =
 pub askers_more : (parts later : List Part) (askers : List Asker) (a : Asker) (n : ℕ) → n ≡ length askers → Keeps (all_shown parts) (all_shown later)
     → ((k q : ℕ) → is_asked later k q ≡ (is_asked parts k q || (is_among k a.numbers.items && (n == q)))) → AreAskers parts askers → IsAsker later n a
     → AreAskers later (askers ++ a ∷ [])
-askers_more parts later askers a n last keeps more are is = λ q b low reads. ⊎_elim
-    (λ before. asker_kept parts later q b keeps (λ k. others_asked (is_asked parts) (is_asked later) a.numbers.items n more k q (λ e. omega (arith, e, last, before)))
-    (are q b before (read_before askers a q b before reads)))
-    (λ past. let e : q ≡ length askers = omega (arith, past, low, length-append askers (a ∷ [])) in
-    let here : b ≡ a = reads ∙ ap (λ j. get_or (askers ++ a ∷ []) j b) e ∙ read_end askers a b in
-    subst (λ x. IsAsker later q x) (sym here) (subst (λ m. IsAsker later m a) (last ∙ sym e) is))
-    (cases_lt q (length askers))
-
-pub fresh_more : (parts later : List Part) (ks : List ℕ) (n : ℕ) → ((k q : ℕ) → is_asked later k q ≡ (is_asked parts k q || (is_among k ks && (n == q))))
-    → ((k r : ℕ) → n ≤ r → is_asked parts k r ≡ false) → (k r : ℕ) → n + 1 ≤ r → is_asked later k r ≡ false
-fresh_more parts later ks n more fresh k r low =
-    others_asked (is_asked parts) (is_asked later) ks n more k r (λ e. omega (arith, e, low)) ∙ fresh k r (omega (arith, low))
+askers_more parts later askers a n last keeps more are is = record {
+  each = λ q b low reads. ⊎_elim
+      (λ before. asker_kept parts later q b keeps (λ k. others_asked (is_asked parts) (is_asked later) a.numbers.items n more k q (λ e. omega (arith, e, last, before)))
+      (are.each q b before (read_before askers a q b before reads)))
+      (λ past. let e : q ≡ length askers = omega (arith, past, low, length-append askers (a ∷ [])) in
+      let here : b ≡ a = reads ∙ ap (λ j. get_or (askers ++ a ∷ []) j b) e ∙ read_end askers a b in
+      subst (λ x. IsAsker later q x) (sym here) (subst (λ m. IsAsker later m a) (last ∙ sym e) is))
+      (cases_lt q (length askers));
+  others = λ k q past.
+      let after : length askers + 1 ≤ q = omega (arith, past, length-append askers (a ∷ [])) in
+      others_asked (is_asked parts) (is_asked later) a.numbers.items n more k q (λ e. omega (arith, e, last, after)) ∙ are.others k q (omega (arith, after));
+}
 
 pub trees_more : (queries : List TypedQuery) (askers : List Asker) (a : Asker) (q : ℕ) (query : TypedQuery) → q < length queries → query ≡ get_or queries q query
     → map (λ x. asked_query x) askers ≡ trees_of (take q queries) → asked_query a ≡ query_tree query.query
@@ -167,12 +167,12 @@ pub parts_none : (parts : List Part) (askers : List Asker) → parts ≡ [] → 
 unfolding with_parts
 parts_none parts askers is none = ap all_shown is ∙ sym (ap (λ xs. different (parts_in_all (map (λ a. asked_query a) xs))) none)
 
-pub askers_none : (parts : List Part) (askers : List Asker) → askers ≡ [] → AreAskers parts askers
-askers_none parts askers none = λ q a low reads. absurd (omega (arith, low, ap length none))
-
-pub fresh_none : (parts : List Part) → parts ≡ [] → (k r : ℕ) → is_asked parts k r ≡ false
+pub askers_none : (parts : List Part) (askers : List Asker) → parts ≡ [] → askers ≡ [] → AreAskers parts askers
 unfolding is_asked
-fresh_none parts none k r = ap (λ ps. is_asked ps k r) none
+askers_none parts askers is none = record {
+  each = λ q a low reads. absurd (omega (arith, low, ap length none));
+  others = λ k q past. ap (λ ps. is_asked ps k q) is;
+}
 
 pub plan_trees : (askers : List Asker) → trees_of (map (λ a. query_of a.plan) askers) ≡ map (λ a. asked_query a) askers
 plan_trees [] = refl

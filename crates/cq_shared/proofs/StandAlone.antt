@@ -1,12 +1,12 @@
 -- The parts of a flat query can stand by themselves.
-use Rattle.std.proofs.Common.{◌≡◌, ℕ, Bool, true, false, ◌&&◌, ◌||◌, not, List, [], ◌∷◌, ◌++◌, Option, None, Some, refl, sym, ap, ap₂, ◌∙◌, subst}
+use Rattle.std.proofs.Common.{◌≡◌, ℕ, Bool, true, false, ◌&&◌, ◌||◌, not, List, [], ◌∷◌, ◌++◌, Option, None, Some, refl, ap, ap₂, ◌∙◌}
 use Rattle.std.specs.List.{list_all, list_any}
 use Rattle.cql_syntax.specs.FlatItems.{has_family, kinds_agree, break_no_rule, has_its_kind, breaks_none, is_empty}
 use Rattle.cql_syntax.specs.Occurrences.{Standing, Occurrence, occurrences, inner, all_of, of_items, sorts_with, top_item}
 use Rattle.cql_syntax.specs.TreeFaults.{broken_rules, wrong_kind, below_top, past_four_sorts, unbound_name, brace_in_comment, is_long_line, is_fifth_square, is_family}
 use Rattle.cql_syntax.specs.Kinds.{form_kind}
-use Rattle.cql_syntax.specs.Trees.{FilterTree, filter_at, FormTree, designator, number, name, plain, tagged, outcome, elo, unary, direction, chain, sum_of, pair, if_, square, line, played, transform, sort, comment, any, FilterTrees, no_filters, more_filters}
-use Rattle.cql_syntax.specs.declared.leaves.Chain.TheVariants.{Or, And, All, Union, Intersect, Product, Max, Min}
+use Rattle.cql_syntax.specs.Trees.{FilterTree, filter_at, FormTree, chain, sort, comment, FilterTrees, no_filters, more_filters}
+use Rattle.cql_syntax.specs.declared.leaves.Chain.TheVariants.{And, All}
 use Rattle.cql_syntax.specs.declared.leaves.Kind.TheVariants.{Position}
 use Rattle.cql_syntax.specs.declared.fault.QueryReason.{QueryReason}
 use Rattle.cq_shared.specs.Alone.{is_sound, stands_alone}

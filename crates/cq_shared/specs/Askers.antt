@@ -1,5 +1,5 @@
 -- What a plan of several queries keeps of each of them.
-use Rattle.std.specs.Prelude.{◌≡◌, ℕ, ◌<◌, true, List, get_or, length}
+use Rattle.std.specs.Prelude.{◌≡◌, ℕ, ◌<◌, ◌≤◌, true, false, List, get_or, length}
 use Rattle.cql_plan.specs.Plans.{query_of}
 use Rattle.cql_syntax.specs.Flat.{flat_query}
 use Rattle.cql_syntax.specs.TreeOf.{query_tree}
@@ -19,6 +19,7 @@ pub record IsAsker (parts : List Part) (q : ℕ) (a : Asker) : Type 0 where
   pub asked : (k : ℕ) → is_asked parts k q ≡ is_among k a.numbers.items
   pub sorts : a.sorts ≡ length (top_parts (flat_query (asked_query a)).items)
 
--- each of some queries, by its number
-abbrev pub AreAskers : List Part → List Asker → Type 0
-AreAskers parts askers = (q : ℕ) (a : Asker) → q < length askers → a ≡ get_or askers q a → IsAsker parts q a
+-- each of some queries, by its number; a number past the last has no part
+pub record AreAskers (parts : List Part) (askers : List Asker) : Type 0 where
+  pub each : (q : ℕ) (a : Asker) → q < length askers → a ≡ get_or askers q a → IsAsker parts q a
+  pub others : (k q : ℕ) → length askers ≤ q → is_asked parts k q ≡ false

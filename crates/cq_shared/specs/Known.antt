@@ -1,5 +1,5 @@
 -- The parts that a plan has found, and which queries have them.
-use Rattle.std.specs.Prelude.{ℕ, zero, suc, Bool, true, false, List, [], ◌∷◌, map}
+use Rattle.std.specs.Prelude.{ℕ, zero, suc, Bool, false, List, [], ◌∷◌, map}
 use Rattle.cq_shared.specs.Parts.{PartTree}
 use Rattle.cq_shared.specs.Places.{is_among}
 use Rattle.cq_shared.specs.Singles.{shown}

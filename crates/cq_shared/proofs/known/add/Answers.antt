@@ -1,4 +1,4 @@
-use Rattle.std.proofs.Common.{◌≡◌, ◌∙◌, true, false, sym, ap, subst, OnOk}
+use Rattle.std.proofs.Common.{◌≡◌, ◌∙◌, true, false, sym, subst, OnOk}
 use Rattle.std.specs.List.{list_any}
 use Rattle.cq_shared.specs.Known.{all_shown}
 use Rattle.cq_shared.specs.Parts.{is_at, same_part}

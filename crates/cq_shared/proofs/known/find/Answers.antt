@@ -1,4 +1,4 @@
-use Rattle.std.proofs.Common.{◌≡◌, ◌∙◌, ◌<◌, ℕ, false, length, get_or, sym, ap, refl, arith, below_more}
+use Rattle.std.proofs.Common.{◌≡◌, ◌∙◌, false, length, get_or, sym, ap, refl, arith, below_more}
 use Rattle.cq_shared.specs.Known.{all_shown}
 use Rattle.cq_shared.specs.Parts.{is_at}
 use Rattle.cq_shared.specs.Places.{numbers_at}

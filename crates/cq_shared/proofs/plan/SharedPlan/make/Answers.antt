@@ -1,11 +1,9 @@
-use Rattle.std.proofs.Common.{◌≡◌, ◌∙◌, ◌+◌, ap, sym, subst, arith, take, map, get_or, length}
+use Rattle.std.proofs.Common.{◌∙◌, ap, sym, subst, arith, map, length}
 use Rattle.std.proofs.lemmas.List.{take_all}
-use Rattle.cql_syntax.specs.TreeOf.{query_tree}
 use Rattle.cq_shared.specs.Askers.{asked_query, AreAskers}
-use Rattle.cq_shared.specs.Known.{all_shown, is_asked}
 use Rattle.cq_shared.specs.Parts.{parts_in_all, different}
 use Rattle.cq_shared.specs.Plans.{trees_of}
-use Rattle.cq_shared.proofs.Makings.{askers_more, fresh_more, trees_more, equal_if, askers_none, fresh_none, parts_none, trees_none, parts_later, plan_trees, counted_more}
+use Rattle.cq_shared.proofs.Makings.{askers_more, trees_more, equal_if, askers_none, parts_none, trees_none, parts_later, plan_trees, counted_more}
 use Rattle.cq_shared.proofs.Tables.{table_none}
 use Rattle.cq_shared.proofs.plan.SharedPlan.make.Goals as goal
 
@@ -15,12 +13,11 @@ loop-q-init c = record {
   trees = trees_none c.args.queries.now c.new-askers.result.items c.new-askers.ensures.items;
   table = table_none c.in_ok-places.places.items c.new-parts.result.items (omega (arith, c.in_ok-places.ensures, c.count_all.ensures)) c.new-parts.ensures.items;
   parts = parts_none c.new-parts.result.items c.new-askers.result.items c.new-parts.ensures.items c.new-askers.ensures.items;
-  askers = askers_none c.new-parts.result.items c.new-askers.result.items c.new-askers.ensures.items;
-  fresh = λ k r low. fresh_none c.new-parts.result.items c.new-parts.ensures.items k r;
+  askers = askers_none c.new-parts.result.items c.new-askers.result.items c.new-parts.ensures.items c.new-askers.ensures.items;
 }
 
 pub asker_of-requires-clause-fresh : goal.asker_of-requires-clause-fresh
-asker_of-requires-clause-fresh c = λ k. c.loop-q.invariant.fresh k c.loop-q.q (omega arith)
+asker_of-requires-clause-fresh c = λ k. c.loop-q.invariant.askers.others k c.loop-q.q (omega (arith, c.loop-q.invariant.count))
 
 pub loop-q-preserved : goal.loop-q-preserved
 loop-q-preserved c =
@@ -39,7 +36,6 @@ loop-q-preserved c =
           ∙ ap (λ xs. different (parts_in_all (map (λ x. asked_query x) xs))) (sym c.in_ok-push.ensures.items);
       askers = subst (AreAskers later) (sym c.in_ok-push.ensures.items)
           (askers_more old later askers a c.loop-q.q (sym c.loop-q.invariant.count) c.in_ok-asker.ensures.kept c.in_ok-asker.ensures.asked c.loop-q.invariant.askers c.in_ok-asker.ensures.asker);
-      fresh = λ k r low. fresh_more old later a.numbers.items c.loop-q.q c.in_ok-asker.ensures.asked c.loop-q.invariant.fresh k r low;
     }
 
 pub invariant_of-plan : goal.invariant_of-plan

@@ -1,6 +1,6 @@
-use Rattle.std.proofs.Common.{◌≡◌, ℕ, ◌≤◌, false, length, take, map}
+use Rattle.std.proofs.Common.{◌≡◌, length, take, map}
 use Rattle.cq_shared.specs.Askers.{asked_query, AreAskers}
-use Rattle.cq_shared.specs.Known.{all_shown, is_asked}
+use Rattle.cq_shared.specs.Known.{all_shown}
 use Rattle.cq_shared.specs.Parts.{parts_in_all, different}
 use Rattle.cq_shared.specs.Places.{IsTable}
 use Rattle.cq_shared.specs.Plans.{trees_of}
@@ -13,5 +13,4 @@ invariant-loop-q l = record {
   table : IsTable l.places.items (all_shown l.parts.items);
   parts : all_shown l.parts.items ≡ different (parts_in_all (map (λ a. asked_query a) l.askers.items));
   askers : AreAskers l.parts.items l.askers.items;
-  fresh : (k r : ℕ) → l.q ≤ r → is_asked l.parts.items k r ≡ false;
 }

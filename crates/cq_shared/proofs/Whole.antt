@@ -1,0 +1,104 @@
+-- What is found of all queries, and what all parts cost.
+use Rattle.std.proofs.Common.{◌≡◌, ℕ, suc, ◌+◌, ◌<◌, ◌≤◌, ◌&&◌, true, List, [], ◌∷◌, ◌++◌, length, map, take, get_or, ℤ, refl, sym, ap, ap₂, ◌∙◌, subst, arith}
+use Rattle.std.proofs.lemmas.List.{take_more, take_all}
+use Rattle.cq_position.specs.Games.{Game}
+use Rattle.cql_plan.specs.Plans.{query_of}
+use Rattle.cql_syntax.specs.Hits.{hits}
+use Rattle.cq_shared.specs.Askers.{asked_query, AreAskers}
+use Rattle.cq_shared.specs.Beginning.{HaveBegun}
+use Rattle.cq_shared.specs.Known.{all_shown}
+use Rattle.cq_shared.specs.Matching.{is_before, is_class, costs_if, plan_cost, AreLeft}
+use Rattle.cq_shared.specs.Parts.{parts_in_all, different, equal_parts}
+use Rattle.cq_shared.specs.Plans.{trees_of, plan_parts}
+use Rattle.cq_shared.specs.Reading.{AreFound}
+use Rattle.cq_shared.specs.Singles.{shown}
+use Rattle.cq_shared.specs.Verdicts.{IsKeyed, HaveKeys}
+use Rattle.cq_shared.specs.declared.nodes.Nodes.{Nodes}
+use Rattle.cq_shared.specs.declared.part.Asker.{Asker}
+use Rattle.cq_shared.specs.declared.part.Part.{Part}
+use Rattle.cq_shared.specs.declared.verdicts.Found.{Found}
+use Rattle.cq_shared.proofs.After.{left_next, cost_next, cost_all}
+use Rattle.cq_shared.proofs.Keyed.{class_low}
+use Rattle.cq_shared.proofs.Makings.{equal_is, plan_trees}
+use Rattle.cq_shared.proofs.Meeting.{met_before, meets_hit}
+
+-- query by query
+
+abbrev pub nodes_in_all : List Found → List (List ℕ)
+nodes_in_all found = map (λ f. f.nodes.items) found
+
+abbrev pub keys_in_all : List Found → List (List ℤ)
+keys_in_all found = map (λ f. f.keys.items) found
+
+pub record AllFound (game : Game) (askers : List Asker) (found : List Found) : Type 0 where
+  pub nodes : nodes_in_all found ≡ map (λ a. hits (asked_query a) game) askers
+  pub keys : HaveKeys game (map (λ a. asked_query a) askers) (nodes_in_all found) (keys_in_all found)
+
+map_snoc : {A B : Type 0} (f : A → B) (xs : List A) (x : A) → map f (xs ++ x ∷ []) ≡ map f xs ++ f x ∷ []
+map_snoc f [] x = refl
+map_snoc f (y ∷ xs) x = ap (λ l. f y ∷ l) (map_snoc f xs x)
+
+pub found_none : (game : Game) (askers : List Asker) (found : List Found) → found ≡ [] → AllFound game (take 0 askers) found
+found_none game askers found none = subst (AllFound game []) (sym none) (record { nodes = refl; keys = tt })
+
+keyed_snoc : (game : Game) (askers : List Asker) (found : List Found) (a : Asker) (f : Found) → HaveKeys game (map (λ a. asked_query a) askers) (nodes_in_all found) (keys_in_all found)
+    → IsKeyed game (asked_query a) f.nodes.items f.keys.items
+    → HaveKeys game (map (λ a. asked_query a) (askers ++ a ∷ [])) (nodes_in_all (found ++ f ∷ [])) (keys_in_all (found ++ f ∷ []))
+keyed_snoc game [] [] a f had is = (is, tt)
+keyed_snoc game [] (g ∷ found) a f had is = absurd had
+keyed_snoc game (b ∷ askers) [] a f had is = absurd had
+keyed_snoc game (b ∷ askers) (g ∷ found) a f had is = (had.0, keyed_snoc game askers found a f had.1 is)
+
+pub found_more : (game : Game) (askers : List Asker) (q : ℕ) (a : Asker) (found later : List Found) (f : Found) → q < length askers → a ≡ get_or askers q a → later ≡ found ++ f ∷ []
+    → f.nodes.items ≡ hits (asked_query a) game → IsKeyed game (asked_query a) f.nodes.items f.keys.items → AllFound game (take q askers) found → AllFound game (take (q + 1) askers) later
+found_more game askers q a found later f low reads more nodes keyed had =
+    subst (AllFound game (take (q + 1) askers)) (sym more)
+    (subst (λ xs. AllFound game xs (found ++ f ∷ [])) (ap (λ y. take q askers ++ y ∷ []) reads ∙ sym (take_more askers q a low))
+    (record {
+      nodes = map_snoc (λ (g : Found). g.nodes.items) found f ∙ ap₂ (λ xs x. xs ++ x ∷ []) had.nodes nodes ∙ sym (map_snoc (λ b. hits (asked_query b) game) (take q askers) a);
+      keys = keyed_snoc game (take q askers) found a f had.keys keyed;
+    }))
+
+pub found_all : (game : Game) (askers : List Asker) (q : ℕ) (found : List Found) → length askers ≤ q → AllFound game (take q askers) found → AllFound game askers found
+found_all game askers q found past had = subst (λ xs. AllFound game xs found) (take_all q askers past) had
+
+-- all classes of parts
+
+classes_low : (parts : List Part) (k : ℕ) (p : Part) → k < length parts → p ≡ get_or parts k p → p.class < 6
+classes_low parts k p low reads = omega (arith, p.class_is, class_low (shown p.single).filter)
+
+pub are_found : (game : Game) (parts : List Part) (askers : List Asker) (began left later : List Nodes) → AreAskers parts askers → HaveBegun game askers began
+    → AreLeft (is_before 5) game parts began left → AreLeft (is_class 5) game parts left later → AreFound game askers later
+are_found game parts askers began left later are had first second =
+    let all = left_next 5 game parts began left later first second in
+    record {
+      count = all.count ∙ had.count;
+      each = λ q a low reads n.
+          all.each q n ∙ ap₂ (λ x y. x && y) (had.each q a low reads n) (met_before game parts q n (classes_low parts) ∙ meets_hit game parts q n a (are.each q a low reads));
+    }
+
+-- what they cost
+pub costs_are : (game : Game) (parts : List Part) (askers : List Asker) → equal_parts (all_shown parts) (different (parts_in_all (map (λ a. asked_query a) askers))) ≡ true
+    → costs_if (is_before 5) game parts + costs_if (is_class 5) game parts ≡ plan_cost game (plan_parts (map (λ a. query_of a.plan) askers))
+costs_are game parts askers same =
+    sym (cost_next 5 game parts) ∙ cost_all game parts (classes_low parts)
+    ∙ ap (plan_cost game) (equal_is (all_shown parts) (different (parts_in_all (map (λ a. asked_query a) askers))) same ∙ ap (λ qs. different (parts_in_all qs)) (sym (plan_trees askers)))
+
+-- a plan, as its parts and its queries are lent
+
+pub record IsPlan (parts : List Part) (askers : List Asker) : Type 0 where
+  pub are : AreAskers parts askers
+  pub same : equal_parts (all_shown parts) (different (parts_in_all (map (λ a. asked_query a) askers))) ≡ true
+
+pub plan_lent : (parts lent : List Part) (askers lent_askers : List Asker) → lent ≡ parts → lent_askers ≡ askers → IsPlan parts askers → IsPlan lent lent_askers
+plan_lent parts lent askers lent_askers same same_askers plan =
+    subst (λ ps. IsPlan ps lent_askers) (sym same) (subst (IsPlan parts) (sym same_askers) plan)
+
+-- the hits of the queries of a plan
+pub hits_of_all : (game : Game) (askers : List Asker) → map (λ a. hits (asked_query a) game) askers ≡ map (λ q. hits q game) (trees_of (map (λ a. query_of a.plan) askers))
+hits_of_all game [] = refl
+hits_of_all game (a ∷ askers) = ap (λ ns. hits (asked_query a) game ∷ ns) (hits_of_all game askers)
+
+pub keys_count : (found : List Found) → length (keys_in_all found) ≡ length (nodes_in_all found)
+keys_count [] = refl
+keys_count (f ∷ found) = ap suc (keys_count found)

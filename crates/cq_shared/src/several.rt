@@ -1,0 +1,39 @@
+//! The hits of several queries in one game, and their keys.
+ghost use Rattle.std.specs.Prelude.{◌≡◌, ◌+◌, ◌≤◌, length, map, IfOk};
+ghost use Rattle.cql_syntax.specs.Hits.{hits};
+ghost use Rattle.cq_shared.specs.Matching.{plan_cost};
+ghost use Rattle.cq_shared.specs.Plans.{queries_of, trees_of, plan_parts};
+ghost use Rattle.cq_shared.specs.Verdicts.{nodes_of, keys_of, HaveKeys};
+
+use crate::beginning::began;
+use crate::found::found_all;
+use crate::matching::{left_by, sorted_by};
+use crate::plan::SharedPlan;
+use crate::verdicts::Verdicts;
+use cq_outside::{NoMemory, Steps};
+use pgn_tree::Game;
+use std::alloc::Global;
+use std::sync::ledger::Ledger;
+
+/// The hits of each query of a plan in a game, and its keys.
+///
+/// Each different part is asked at most once, and not at all where no query that has it still wants a node. So the steps are at most
+/// those of the different parts, each as the only item of a query.
+pub fn match_all<L: Ledger>(
+    alloc: Global,
+    plan: &SharedPlan,
+    game: &Game,
+    steps: &mut Steps<L>,
+) -> Result<Verdicts, NoMemory>
+    ensures nodes { IfOk result (λ v. nodes_of v ≡ map (λ q. hits q game.now) (trees_of (queries_of plan.now))) }
+    ensures keys { IfOk result (λ v. HaveKeys game.now (trees_of (queries_of plan.now)) (nodes_of v) (keys_of v)) }
+    ensures count { IfOk result (λ v. length (keys_of v) ≡ length (nodes_of v)) }
+    ensures most { steps.new ≤ steps.old + plan_cost game.now (plan_parts (queries_of plan.now)) }
+{
+    let askers = plan.askers.as_slice();
+    let parts = plan.parts.as_slice();
+    let began = began(alloc, askers, game)?;
+    let left = left_by(alloc, parts, game, began, steps)?;
+    let sorted = sorted_by(alloc, parts, game, left, steps)?;
+    found_all(alloc, askers, parts, game, &sorted)
+}
