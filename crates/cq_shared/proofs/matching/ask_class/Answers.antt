@@ -16,7 +16,13 @@ pub loop-k-preserved : goal.loop-k-preserved
 loop-k-preserved g c = record {
   left = left_more (is_class c.args.class) c.args.game.now c.args.parts.now c.loop-k.k c.index-parts-k.result c.args.left.items c.loop-k.later.items _ c.loop-k-test.true c.index-parts-k.is
       c.loop-k.invariant.left c.in_ok-later.ensures.left;
-  cost = omega (arith, c.loop-k.invariant.cost, c.after_if.ensures.cost, cost_more (is_class c.args.class) c.args.game.now c.args.parts.now c.loop-k.k c.index-parts-k.result c.loop-k-test.true c.index-parts-k.is);
+  cost = omega (
+    arith,
+    c.loop-k.invariant.cost,
+    c.after_if.ensures.cost,
+    cost_more
+        (is_class c.args.class) c.args.game.now c.args.parts.now c.loop-k.k c.index-parts-k.result c.loop-k-test.true c.index-parts-k.is,
+  );
 }
 
 pub returns-clause-left : goal.returns-clause-left
@@ -24,4 +30,10 @@ returns-clause-left g c = left_all (is_class c.args.class) c.args.game.now c.arg
 
 pub returns-in_err-later-clause-cost : goal.returns-in_err-later-clause-cost
 returns-in_err-later-clause-cost g c =
-    omega (arith, c.loop-k.invariant.cost, c.after_if.ensures.cost, cost_more (is_class c.args.class) c.args.game.now c.args.parts.now c.loop-k.k c.index-parts-k.result c.loop-k-test.true c.index-parts-k.is)
+    omega (
+      arith,
+      c.loop-k.invariant.cost,
+      c.after_if.ensures.cost,
+      cost_more
+          (is_class c.args.class) c.args.game.now c.args.parts.now c.loop-k.k c.index-parts-k.result c.loop-k-test.true c.index-parts-k.is,
+    )

@@ -21,8 +21,20 @@ loop-k-preserved g c =
 
 pub returns-in_err-sorted-clause-cost : goal.returns-in_err-sorted-clause-cost
 returns-in_err-sorted-clause-cost g c =
-    omega (arith, c.loop-k.invariant.cost, c.after_sort_if.ensures.cost, cost_more (is_class 5) c.args.game.now c.args.parts.now c.loop-k.k c.index-parts-k.result c.loop-k-test.true c.index-parts-k.is)
+    omega (
+      arith,
+      c.loop-k.invariant.cost,
+      c.after_sort_if.ensures.cost,
+      cost_more
+          (is_class 5) c.args.game.now c.args.parts.now c.loop-k.k c.index-parts-k.result c.loop-k-test.true c.index-parts-k.is,
+    )
 
 pub returns-in_err-push-clause-cost : goal.returns-in_err-push-clause-cost
 returns-in_err-push-clause-cost g c =
-    omega (arith, c.loop-k.invariant.cost, c.after_sort_if.ensures.cost, cost_more (is_class 5) c.args.game.now c.args.parts.now c.loop-k.k c.index-parts-k.result c.loop-k-test.true c.index-parts-k.is)
+    omega (
+      arith,
+      c.loop-k.invariant.cost,
+      c.after_sort_if.ensures.cost,
+      cost_more
+          (is_class 5) c.args.game.now c.args.parts.now c.loop-k.k c.index-parts-k.result c.loop-k-test.true c.index-parts-k.is,
+    )
