@@ -1,9 +1,15 @@
 pub mod Adding
+pub mod After
+pub mod Begun
 pub mod Gaining
 pub mod Makings
+pub mod Meeting
 pub mod PartsHold
 pub mod SameText
 pub mod Seeking
 pub mod Singling
+pub mod Sorting
 pub mod StandAlone
 pub mod Tables
+pub mod Telling
+pub mod Unions

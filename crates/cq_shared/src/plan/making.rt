@@ -25,8 +25,8 @@ use std::alloc::Global;
 impl SharedPlan {
     /// The plan of 1 to 16 queries.
     ///
-    /// Each part has a place in a table by its text, and is compared with the parts alone that have the same place: few, in texts that
-    /// were not chosen for it.
+    /// Each part has a place in a table by its text, and is compared with the parts alone that have the same place. So the work stays
+    /// within a small multiple of the weights of the queries.
     pub fn make(alloc: Global, queries: &[TypedQuery]) -> Result<SharedPlan, NoMemory>
         requires some { 0 < length queries.now }
         requires few { length queries.now ≤ 16 }

@@ -1,0 +1,211 @@
+-- What a part tells at the nodes that are asked for.
+use Rattle.std.proofs.Common.{◌≡◌, ℕ, zero, suc, ◌+◌, ◌<◌, ◌≤◌, Bool, true, false, ◌&&◌, List, [], ◌∷◌, length, map, get_or, Option, None, Some, ℤ, refl, sym, ap, ap₂, ◌∙◌, subst, arith, ⊎_elim}
+use Rattle.std.specs.Prelude.{is_some, cond, if◌then◌else◌}
+use Rattle.std.specs.List.{list_any}
+use Rattle.std.proofs.lemmas.Bool.{cases_Bool, both_ways}
+use Rattle.cq_position.specs.Games.{Game, is_searched}
+use Rattle.cq_position.specs.Search.{SearchedTree, nodes_in}
+use Rattle.cql_eval.specs.Classes.{form_class, filter_class}
+use Rattle.cql_eval.specs.Columns.{is_live, AreAsked}
+use Rattle.cql_eval.specs.Costs.{filter_cost, filters_cost}
+use Rattle.cql_eval.specs.Hits.{hit_column, number_at, sort_numbers, AreKeysAtHits}
+use Rattle.cql_plan.proofs.RowsLaw.{column_hit}
+use Rattle.cql_syntax.specs.Hits.{is_hit}
+use Rattle.cql_syntax.specs.Meaning.{value, values}
+use Rattle.cql_syntax.specs.TreeOf.{filters_tree}
+use Rattle.cql_syntax.specs.Trees.{FilterTree, filter_at, FormTree, designator, number, name, plain, tagged, outcome, elo, unary, direction, chain, sum_of, pair, if_, square, line, played, transform, sort, comment, any, FilterTrees, no_filters, more_filters}
+use Rattle.cql_syntax.specs.Values.{holds}
+use Rattle.cql_values.specs.Trees.{searched_tree}
+use Rattle.cq_shared.specs.Matching.{tree_for, holds_at, part_holds, part_cost, form_number, sort_number, is_left, is_of, IsTold, IsRowAt, IsUnion, IsNarrowedBy, HasRow}
+use Rattle.cq_shared.specs.Parts.{first_of, alone, is_single}
+use Rattle.cq_shared.specs.Singles.{shown}
+use Rattle.cq_shared.specs.declared.nodes.Nodes.{Nodes}
+use Rattle.cq_shared.specs.declared.part.Part.{Part}
+use Rattle.cq_shared.proofs.Singling.{single_is}
+
+-- nodes that are asked for
+
+past_end : (xs : List Bool) (n : ℕ) → length xs ≤ n → get_or xs n false ≡ false
+past_end [] zero h = refl
+past_end [] (suc n) h = refl
+past_end (x ∷ xs) zero h = absurd (omega (arith, h))
+past_end (x ∷ xs) (suc n) h = past_end xs n (omega (arith, h))
+
+below_end : (xs : List Bool) (n : ℕ) → get_or xs n false ≡ true → n < length xs
+below_end [] zero there = cc
+below_end [] (suc n) there = cc
+below_end (x ∷ xs) zero there = omega arith
+below_end (x ∷ xs) (suc n) there = let h = below_end xs n there in omega (arith, h)
+
+none_live : (live : List Bool) (n : ℕ) → list_any (λ b. b) live ≡ false → is_live live n ≡ true → ⊥
+none_live [] zero none there = cc
+none_live [] (suc n) none there = cc
+none_live (true ∷ xs) n none there = cc
+none_live (false ∷ xs) zero none there = cc
+none_live (false ∷ xs) (suc n) none there = none_live xs n none there
+
+-- a part as the only item
+
+pub cost_alone : (nodes : ℕ) (fs : FilterTrees) → is_single fs ≡ true → filters_cost nodes fs ≡ filter_cost nodes (first_of fs)
+unfolding filter_cost
+cost_alone nodes no_filters e = cc
+cost_alone nodes (more_filters f no_filters) e = omega arith
+cost_alone nodes (more_filters f (more_filters g fs)) e = cc
+
+pub cost_is : (game : Game) (p : Part) (before now : ℕ) → now ≤ before + length (nodes_in (tree_for game p)) + filters_cost (length game.nodes) (filters_tree p.single.query.items)
+    → is_single (filters_tree p.single.query.items) ≡ true → now ≤ before + part_cost game (shown p.single)
+unfolding part_cost
+cost_is game p before now cost one = omega (arith, cost, cost_alone (length game.nodes) (filters_tree p.single.query.items) one)
+
+hit_alone : (tree : SearchedTree) (fs : FilterTrees) (n : ℕ) → is_single fs ≡ true → is_hit tree fs n ≡ holds (value tree [] [] (first_of fs) n)
+unfolding value
+hit_alone tree no_filters n e = cc
+hit_alone tree (more_filters f no_filters) n e = and_true (holds (value tree [] [] f n))
+  where
+    and_true : (b : Bool) → (b && true) ≡ b
+    and_true true = refl
+    and_true false = refl
+hit_alone tree (more_filters f (more_filters g fs)) n e = cc
+
+hit_there : (game : Game) (p : Part) (live hits : List Bool) (n : ℕ) → AreAsked (tree_for game p) live → is_single (filters_tree p.single.query.items) ≡ true
+    → hits ≡ hit_column (tree_for game p) (filters_tree p.single.query.items) → is_live live n ≡ true → get_or hits n false ≡ part_holds game p n
+unfolding holds_at
+hit_there game p live hits n asked one is there =
+    column_hit (tree_for game p) (filters_tree p.single.query.items) hits n is (let low = below_end live n there in omega (arith, low, asked.count))
+    ∙ ap (λ b. b && is_hit (tree_for game p) (filters_tree p.single.query.items) n) (asked.searched n there)
+    ∙ hit_alone (tree_for game p) (filters_tree p.single.query.items) n one
+
+pub told_by : (game : Game) (p : Part) (live hits truths : List Bool) → AreAsked (tree_for game p) live → is_single (filters_tree p.single.query.items) ≡ true
+    → hits ≡ hit_column (tree_for game p) (filters_tree p.single.query.items) → truths ≡ hits → IsTold game p live truths
+told_by game p live hits truths asked one is same = record { each = λ n there. ap (λ l. get_or l n false) same ∙ hit_there game p live hits n asked one is there }
+
+pub told_none : (game : Game) (p : Part) (live truths : List Bool) → list_any (λ b. b) live ≡ false → IsTold game p live truths
+told_none game p live truths none = record { each = λ n there. absurd (none_live live n none there) }
+
+pub row_none : (game : Game) (p : Part) (live : List Bool) (row : List (Option ℤ)) → list_any (λ b. b) live ≡ false → IsRowAt game p live row
+row_none game p live row none = record { each = λ n there. absurd (none_live live n none there) }
+
+-- sort items
+
+record SortForm (f : FormTree) : Type 0 where
+  least : Bool
+  title : List ℕ
+  part : FilterTree
+  is : f ≡ sort least title part
+
+form_sorts : (f : FormTree) → form_class f ≡ 5 → SortForm f
+unfolding form_class
+form_sorts (sort least text g) e = record { least = least; title = text; part = g; is = refl }
+form_sorts (designator d) e = absurd (omega (arith, e))
+form_sorts (number k) e = absurd (omega (arith, e))
+form_sorts (name text) e = absurd (omega (arith, e))
+form_sorts (plain word) e = absurd (omega (arith, e))
+form_sorts (tagged field text) e = absurd (omega (arith, e))
+form_sorts (outcome o) e = absurd (omega (arith, e))
+form_sorts (elo whose) e = absurd (omega (arith, e))
+form_sorts (unary u f) e = absurd (omega (arith, e))
+form_sorts (direction way m n f) e = absurd (omega (arith, e))
+form_sorts (chain c fs) e = absurd (omega (arith, e))
+form_sorts (sum_of ts) e = absurd (omega (arith, e))
+form_sorts (pair c a b) e = absurd (omega (arith, e))
+form_sorts (if_ a b c) e = absurd (omega (arith, e))
+form_sorts (square every text a b) e = absurd (omega (arith, e))
+form_sorts (line l) e = absurd (omega (arith, e))
+form_sorts (played p) e = absurd (omega (arith, e))
+form_sorts (transform t f) e = absurd (omega (arith, e))
+form_sorts (comment text) e = absurd (omega (arith, e))
+form_sorts (any kind fs) e = absurd (omega (arith, e))
+
+-- a sort item holds where it has a number
+form_has : (tree : SearchedTree) (at : ℕ) (f : FormTree) (n : ℕ) → SortForm f → holds (value tree [] [] (filter_at at f) n) ≡ is_some (sort_number tree (filter_at at f) n)
+unfolding value sort_number
+form_has tree at f n s = subst (λ g. holds (value tree [] [] (filter_at at g) n) ≡ is_some (sort_number tree (filter_at at g) n)) (sym s.is) refl
+
+sort_has : (tree : SearchedTree) (f : FilterTree) (n : ℕ) → filter_class f ≡ 5 → holds (value tree [] [] f n) ≡ is_some (sort_number tree f n)
+sort_has tree (filter_at at f) n e = form_has tree at f n (form_sorts f e)
+
+-- the row of a sort item as the only item
+
+pub record OneRow (tree : SearchedTree) (hits : List Bool) (keys : List (List (Option ℤ))) (f : FilterTree) : Type 0 where
+  pub some : 0 < length keys
+  pub count : length (get_or keys 0 []) ≡ length tree.game.nodes
+  pub numbers : (n : ℕ) → get_or hits n false ≡ true → get_or (get_or keys 0 []) n None ≡ sort_number tree f n
+
+form_row : (tree : SearchedTree) (at : ℕ) (f : FormTree) (hits : List Bool) (keys : List (List (Option ℤ))) → SortForm f → AreKeysAtHits tree (alone (filter_at at f)) hits keys
+    → OneRow tree hits keys (filter_at at f)
+unfolding sort_number
+form_row tree at f hits keys s are = subst (λ g. OneRow tree hits keys (filter_at at g)) (sym s.is) (by keys (subst (λ g. AreKeysAtHits tree (alone (filter_at at g)) hits keys) s.is are))
+  where
+    by : (keys : List (List (Option ℤ))) → AreKeysAtHits tree (alone (filter_at at (sort s.least s.title s.part))) hits keys
+        → OneRow tree hits keys (filter_at at (sort s.least s.title s.part))
+    by [] had = let e = had.rows in cc
+    by (r ∷ []) had = record {
+      some = omega arith;
+      count = ap (λ l. get_or l 0 0) had.rows;
+      numbers = λ n there. ap (λ l. get_or l 0 None) (had.numbers n there);
+    }
+    by (r ∷ k ∷ rest) had = let e = had.rows in cc
+
+pub one_row : (tree : SearchedTree) (fs : FilterTrees) (hits : List Bool) (keys : List (List (Option ℤ))) → is_single fs ≡ true → filter_class (first_of fs) ≡ 5
+    → AreKeysAtHits tree fs hits keys → OneRow tree hits keys (first_of fs)
+one_row tree no_filters hits keys one e are = cc
+one_row tree (more_filters (filter_at at f) no_filters) hits keys one e are = form_row tree at f hits keys (form_sorts f e) are
+one_row tree (more_filters f (more_filters g fs)) hits keys one e are = cc
+
+none_if : {A : Type 0} (o : Option A) → is_some o ≡ false → None ≡ o
+none_if None e = refl
+none_if (Some x) e = cc
+
+pub row_by : (game : Game) (p : Part) (live hits : List Bool) (keys : List (List (Option ℤ))) (row : List (Option ℤ)) → AreAsked (tree_for game p) live
+    → is_single (filters_tree p.single.query.items) ≡ true → p.class ≡ 5 → p.class ≡ filter_class (first_of (filters_tree p.single.query.items))
+    → hits ≡ hit_column (tree_for game p) (filters_tree p.single.query.items) → AreKeysAtHits (tree_for game p) (filters_tree p.single.query.items) hits keys
+    → ((n : ℕ) → get_or row n None ≡ (if get_or hits n false then get_or (get_or keys 0 []) n None else None)) → IsRowAt game p live row
+unfolding holds_at
+row_by game p live hits keys row asked one class class_is is are given = record {
+  each = λ n there. given n ∙ by n there (get_or hits n false) refl;
+}
+  where
+    tree : SearchedTree
+    tree = tree_for game p
+
+    f : FilterTree
+    f = first_of (filters_tree p.single.query.items)
+
+    sorts : filter_class f ≡ 5
+    sorts = sym class_is ∙ class
+
+    has : (n : ℕ) → is_live live n ≡ true → get_or hits n false ≡ is_some (sort_number tree f n)
+    has n there = hit_there game p live hits n asked one is there ∙ sort_has tree f n sorts
+
+    by : (n : ℕ) → is_live live n ≡ true → (b : Bool) → get_or hits n false ≡ b → (if b then get_or (get_or keys 0 []) n None else None) ≡ sort_number tree f n
+    by n there true e = (one_row tree (filters_tree p.single.query.items) hits keys one sorts are).numbers n e
+    by n there false e = none_if (sort_number tree f n) (sym (has n there) ∙ e)
+
+-- a sort item holds where its row has a number
+some_at : (row : List (Option ℤ)) (n : ℕ) → get_or (map is_some row) n false ≡ is_some (get_or row n None)
+some_at [] zero = refl
+some_at [] (suc n) = refl
+some_at (x ∷ row) zero = refl
+some_at (x ∷ row) (suc n) = some_at row n
+
+pub told_by_row : (game : Game) (p : Part) (live truths : List Bool) (row : List (Option ℤ)) → p.class ≡ 5 → p.class ≡ filter_class (first_of (filters_tree p.single.query.items))
+    → IsRowAt game p live row → truths ≡ map is_some row → IsTold game p live truths
+unfolding holds_at
+told_by_row game p live truths row class class_is is same = record {
+  each = λ n there. ap (λ l. get_or l n false) same ∙ some_at row n ∙ ap is_some (is.each n there)
+      ∙ sym (sort_has (tree_for game p) (first_of (filters_tree p.single.query.items)) n (sym class_is ∙ class));
+}
+
+-- the row is that of what is left
+and_first : (p q : Bool) → (p && q) ≡ true → p ≡ true
+and_first true q e = refl
+and_first false q e = e
+
+pub has_row : (game : Game) (p : Part) (left later : List Nodes) (live : List Bool) (row : List (Option ℤ)) → IsRowAt game p live row → IsUnion p left live → IsNarrowedBy game p left later
+    → HasRow game later p row
+has_row game p left later live row is union by = record {
+  each = λ class q n has there. is.each n (union.each q n has (and_first _ _ (sym (by.each q n) ∙ there)));
+}
+
+pub no_row : (game : Game) (p : Part) (left : List Nodes) (row : List (Option ℤ)) → (p.class ≡ 5 → ⊥) → HasRow game left p row
+no_row game p left row other = record { each = λ class q n has there. absurd (other class) }

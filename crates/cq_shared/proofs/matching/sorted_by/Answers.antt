@@ -1,0 +1,28 @@
+use Rattle.std.proofs.Common.{arith}
+use Rattle.cq_shared.specs.Matching.{is_class}
+use Rattle.cq_shared.proofs.After.{left_more, cost_more, narrowed_fewer}
+use Rattle.cq_shared.proofs.Sorting.{rows_more}
+use Rattle.cq_shared.proofs.matching.sorted_by.Goals as goal
+
+pub loop-k-preserved : goal.loop-k-preserved
+loop-k-preserved g c =
+    let p = c.index-parts-k.result in
+    let parts = c.args.parts.now in
+    let k = c.loop-k.k in
+    let later = c.in_ok-sorted.sorted.left.items in
+    record {
+      left = left_more (is_class 5) c.args.game.now parts k p c.args.left.items c.loop-k.later.items later c.loop-k-test.true c.index-parts-k.is c.loop-k.invariant.left
+          c.in_ok-sorted.ensures.left;
+      rows = rows_more c.args.game.now c.loop-k.later.items later parts c.loop-k.rows.items c.push.new.self.items k p c.in_ok-sorted.sorted.row c.loop-k-test.true c.index-parts-k.is
+          (narrowed_fewer (is_class 5) c.args.game.now p c.loop-k.later.items later c.in_ok-sorted.ensures.left) c.loop-k.invariant.rows c.in_ok-sorted.ensures.row
+          c.in_ok-push.ensures.items;
+      cost = omega (arith, c.loop-k.invariant.cost, c.after_sort_if.ensures.cost, cost_more (is_class 5) c.args.game.now parts k p c.loop-k-test.true c.index-parts-k.is);
+    }
+
+pub returns-in_err-sorted-clause-cost : goal.returns-in_err-sorted-clause-cost
+returns-in_err-sorted-clause-cost g c =
+    omega (arith, c.loop-k.invariant.cost, c.after_sort_if.ensures.cost, cost_more (is_class 5) c.args.game.now c.args.parts.now c.loop-k.k c.index-parts-k.result c.loop-k-test.true c.index-parts-k.is)
+
+pub returns-in_err-push-clause-cost : goal.returns-in_err-push-clause-cost
+returns-in_err-push-clause-cost g c =
+    omega (arith, c.loop-k.invariant.cost, c.after_sort_if.ensures.cost, cost_more (is_class 5) c.args.game.now c.args.parts.now c.loop-k.k c.index-parts-k.result c.loop-k-test.true c.index-parts-k.is)

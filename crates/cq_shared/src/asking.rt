@@ -1,0 +1,101 @@
+//! What a part gives at the nodes that are asked for.
+ghost use Rattle.std.specs.Prelude.{◌≡◌, ℕ, ◌+◌, ◌<◌, ◌≤◌, [], length, map, get_or, false, true, None, is_some, IfOk, if◌then◌else◌};
+ghost use Rattle.std.specs.List.{list_any};
+ghost use Rattle.cql_eval.specs.Columns.{AreAsked};
+ghost use Rattle.cql_eval.specs.Hits.{hits_of, keys_of};
+ghost use Rattle.cq_shared.specs.Matching.{tree_for, part_cost, IsTold, IsRowAt};
+ghost use Rattle.cq_shared.specs.Singles.{shown};
+
+use crate::part::Part;
+use cq_outside::{NoMemory, Steps};
+use cql_eval::{Column, hit_columns};
+use pgn_tree::Game;
+use std::alloc::Global;
+use std::sync::ledger::Ledger;
+
+/// Whether a part holds, at the nodes that are asked for. Where there are none it isn't looked at.
+pub(crate) fn truths_at<L: Ledger>(
+    alloc: Global,
+    part: &Part,
+    game: &Game,
+    live: &[bool],
+    steps: &mut Steps<L>,
+) -> Result<Vec<bool>, NoMemory>
+    requires asked { AreAsked (tree_for game.now part.now) live.now }
+    ensures told { IfOk result (λ truths. IsTold game.now part.now live.now truths.items) }
+    ensures cost { steps.new ≤ steps.old + part_cost game.now (shown part.now.single) }
+{
+    if !any_live(live) {
+        return Ok(Vec::new(alloc));
+    }
+    let column = hit_columns(alloc, &part.single.query, game, steps)?;
+    let truths = hits(alloc, &column, game)?;
+    Ok(truths)
+}
+
+/// The numbers of a sort item at the nodes that are asked for. Where there are none it isn't looked at.
+pub(crate) fn numbers_at<L: Ledger>(
+    alloc: Global,
+    part: &Part,
+    game: &Game,
+    live: &[bool],
+    steps: &mut Steps<L>,
+) -> Result<Vec<Option<i64>>, NoMemory>
+    requires asked { AreAsked (tree_for game.now part.now) live.now }
+    requires sort { part.now.class ≡ 5 }
+    ensures told { IfOk result (λ row. IsRowAt game.now part.now live.now row.items) }
+    ensures cost { steps.new ≤ steps.old + part_cost game.now (shown part.now.single) }
+{
+    if !any_live(live) {
+        return Ok(Vec::new(alloc));
+    }
+    let column = hit_columns(alloc, &part.single.query, game, steps)?;
+    let numbers = row(alloc, &column, game)?;
+    Ok(numbers)
+}
+
+fn any_live(live: &[bool]) -> bool
+    ensures { result ≡ list_any (λ b. b) live.now }
+{
+    live.iter().any(|there| *there)
+}
+
+// Whether all items of a column hold, node by node.
+fn hits(alloc: Global, column: &Column, game: &Game) -> Result<Vec<bool>, NoMemory>
+    requires { length (hits_of column.now) ≡ length game.now.nodes }
+    ensures { IfOk result (λ truths. truths.items ≡ hits_of column.now) }
+{
+    let mut truths = Vec::new(alloc);
+    for k in 0..game.len() {
+        truths.push(column.hit(k))?;
+    }
+    Ok(truths)
+}
+
+// The numbers of the first sort item of a column, node by node.
+fn row(alloc: Global, column: &Column, game: &Game) -> Result<Vec<Option<i64>>, NoMemory>
+    requires hits { length (hits_of column.now) ≡ length game.now.nodes }
+    requires some { 0 < length (keys_of column.now) }
+    requires numbers { length (get_or (keys_of column.now) 0 []) ≡ length game.now.nodes }
+    ensures { IfOk result (λ row. (n : ℕ) → get_or row.items n None
+        ≡ (if get_or (hits_of column.now) n false then get_or (get_or (keys_of column.now) 0 []) n None else None)) }
+{
+    let mut row = Vec::new(alloc);
+    for k in 0..game.len() {
+        row.push(number_if(column, k))?;
+    }
+    Ok(row)
+}
+
+fn number_if(column: &Column, k: u32) -> Option<i64>
+    requires hits { k < length (hits_of column.now) }
+    requires some { 0 < length (keys_of column.now) }
+    requires numbers { k < length (get_or (keys_of column.now) 0 []) }
+    ensures { result ≡ (if get_or (hits_of column.now) k false then get_or (get_or (keys_of column.now) 0 []) k None else None) }
+{
+    if column.hit(k) {
+        column.key(0, k)
+    } else {
+        None
+    }
+}

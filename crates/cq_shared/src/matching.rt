@@ -1,0 +1,169 @@
+//! One game against all parts of a plan.
+ghost use Rattle.std.specs.Prelude.{◌≡◌, ℕ, ◌+◌, ◌<◌, ◌≤◌, [], length, map, is_some, IfOk};
+ghost use Rattle.cq_shared.specs.Matching.{part_cost, cost_if, costs_if, is_before, is_class, AreLeft, AreReady, IsReady, IsNarrowedBy, IsNarrowedIf, HasRow, HaveRows};
+ghost use Rattle.cq_shared.specs.Singles.{shown};
+
+use crate::asking::{numbers_at, truths_at};
+use crate::class::SORTS;
+use crate::narrowing::{narrowed, wanted_nodes};
+use crate::nodes::{Nodes, Row, Sorted, SortedBy};
+use crate::part::Part;
+use cq_outside::{NoMemory, Steps};
+use pgn_tree::Game;
+use std::alloc::Global;
+use std::sync::ledger::Ledger;
+
+/// The nodes that are left to each query after all parts but the sort items: those that cost least are asked first.
+pub(crate) fn left_by<L: Ledger>(
+    alloc: Global,
+    parts: &[Part],
+    game: &Game,
+    began: Vec<Nodes>,
+    steps: &mut Steps<L>,
+) -> Result<Vec<Nodes>, NoMemory>
+    requires ready { AreReady game.now began.items parts.now }
+    ensures left { IfOk result (λ left. AreLeft (is_before 5) game.now parts.now began.items left.items) }
+    ensures cost { steps.new ≤ steps.old + costs_if (is_before 5) game.now parts.now }
+{
+    let mut left = began;
+    for class in 0..SORTS {
+        left = ask_class(alloc, class, parts, game, left, steps)?;
+    }
+    Ok(left)
+}
+
+// The nodes that are left to each query after the parts of a class.
+fn ask_class<L: Ledger>(
+    alloc: Global,
+    class: u32,
+    parts: &[Part],
+    game: &Game,
+    left: Vec<Nodes>,
+    steps: &mut Steps<L>,
+) -> Result<Vec<Nodes>, NoMemory>
+    requires ready { AreReady game.now left.items parts.now }
+    ensures left { IfOk result (λ later. AreLeft (is_class class) game.now parts.now left.items later.items) }
+    ensures cost { steps.new ≤ steps.old + costs_if (is_class class) game.now parts.now }
+{
+    let mut later = left;
+    for k in 0..parts.len() {
+        later = after_if(alloc, class, &parts[k], game, later, steps)?;
+    }
+    Ok(later)
+}
+
+// The nodes that are left after a part, where it is of the class.
+fn after_if<L: Ledger>(
+    alloc: Global,
+    class: u32,
+    part: &Part,
+    game: &Game,
+    left: Vec<Nodes>,
+    steps: &mut Steps<L>,
+) -> Result<Vec<Nodes>, NoMemory>
+    requires ready { IsReady game.now left.items part.now }
+    ensures left { IfOk result (λ later. IsNarrowedIf (is_class class) game.now part.now left.items later.items) }
+    ensures cost { steps.new ≤ steps.old + cost_if (is_class class) game.now part.now }
+{
+    if part.class != class {
+        return Ok(left);
+    }
+    let later = after(alloc, part, game, left, steps)?;
+    Ok(later)
+}
+
+// The nodes that are left to each query after a part. It is asked once, at the nodes that some query that has it still wants.
+fn after<L: Ledger>(
+    alloc: Global,
+    part: &Part,
+    game: &Game,
+    left: Vec<Nodes>,
+    steps: &mut Steps<L>,
+) -> Result<Vec<Nodes>, NoMemory>
+    requires ready { IsReady game.now left.items part.now }
+    ensures left { IfOk result (λ later. IsNarrowedBy game.now part.now left.items later.items) }
+    ensures cost { steps.new ≤ steps.old + part_cost game.now (shown part.now.single) }
+{
+    let live = wanted_nodes(alloc, part, game, left.as_slice())?;
+    let truths = truths_at(alloc, part, game, live.as_slice(), steps)?;
+    narrowed(alloc, part, game, left, live.as_slice(), truths.as_slice())
+}
+
+/// The nodes that are left to each query after the sort items, and the numbers of these there.
+pub(crate) fn sorted_by<L: Ledger>(
+    alloc: Global,
+    parts: &[Part],
+    game: &Game,
+    left: Vec<Nodes>,
+    steps: &mut Steps<L>,
+) -> Result<Sorted, NoMemory>
+    requires ready { AreReady game.now left.items parts.now }
+    ensures left { IfOk result (λ s. AreLeft (is_class 5) game.now parts.now left.items s.left.items) }
+    ensures rows { IfOk result (λ s. HaveRows game.now s.left.items parts.now s.rows.items) }
+    ensures cost { steps.new ≤ steps.old + costs_if (is_class 5) game.now parts.now }
+{
+    let mut later = left;
+    let mut rows = Vec::new(alloc);
+    for k in 0..parts.len() {
+        let sorted = after_sort_if(alloc, &parts[k], game, later, steps)?;
+        later = sorted.left;
+        rows.push(sorted.row)?;
+    }
+    Ok(Sorted { left: later, rows })
+}
+
+// The nodes that are left after a part, where it is a sort item, and its numbers there.
+fn after_sort_if<L: Ledger>(
+    alloc: Global,
+    part: &Part,
+    game: &Game,
+    left: Vec<Nodes>,
+    steps: &mut Steps<L>,
+) -> Result<SortedBy, NoMemory>
+    requires ready { IsReady game.now left.items part.now }
+    ensures left { IfOk result (λ s. IsNarrowedIf (is_class 5) game.now part.now left.items s.left.items) }
+    ensures row { IfOk result (λ s. HasRow game.now s.left.items part.now s.row.numbers.items) }
+    ensures cost { steps.new ≤ steps.old + cost_if (is_class 5) game.now part.now }
+{
+    if part.class != SORTS {
+        let row = Row {
+            numbers: Vec::new(alloc),
+        };
+        return Ok(SortedBy { left, row });
+    }
+    let sorted = after_sort(alloc, part, game, left, steps)?;
+    Ok(sorted)
+}
+
+// The same for a sort item.
+fn after_sort<L: Ledger>(
+    alloc: Global,
+    part: &Part,
+    game: &Game,
+    left: Vec<Nodes>,
+    steps: &mut Steps<L>,
+) -> Result<SortedBy, NoMemory>
+    requires ready { IsReady game.now left.items part.now }
+    requires sort { part.now.class ≡ 5 }
+    ensures left { IfOk result (λ s. IsNarrowedBy game.now part.now left.items s.left.items) }
+    ensures row { IfOk result (λ s. HasRow game.now s.left.items part.now s.row.numbers.items) }
+    ensures cost { steps.new ≤ steps.old + part_cost game.now (shown part.now.single) }
+{
+    let live = wanted_nodes(alloc, part, game, left.as_slice())?;
+    let numbers = numbers_at(alloc, part, game, live.as_slice(), steps)?;
+    let truths = given(alloc, numbers.as_slice())?;
+    let later = narrowed(alloc, part, game, left, live.as_slice(), truths.as_slice())?;
+    let row = Row { numbers };
+    Ok(SortedBy { left: later, row })
+}
+
+// Which numbers there are.
+fn given(alloc: Global, numbers: &[Option<i64>]) -> Result<Vec<bool>, NoMemory>
+    ensures { IfOk result (λ truths. truths.items ≡ map is_some numbers.now) }
+{
+    let truths = numbers
+        .iter()
+        .map(|number| number.is_some())
+        .collect(alloc)?;
+    Ok(truths)
+}

@@ -1,0 +1,27 @@
+//! What is kept of a game's nodes while parts are asked.
+
+/// A set of nodes: a truth for each.
+#[derive(Drop)]
+pub(crate) struct Nodes {
+    pub(crate) there: Vec<bool>,
+}
+
+/// The numbers of a sort item, a place for each node.
+#[derive(Drop)]
+pub(crate) struct Row {
+    pub(crate) numbers: Vec<Option<i64>>,
+}
+
+/// The nodes that are left to each query after the sort items, and a row for each part.
+#[derive(Drop)]
+pub(crate) struct Sorted {
+    pub(crate) left: Vec<Nodes>,
+    pub(crate) rows: Vec<Row>,
+}
+
+/// The nodes that are left to each query after one sort item, and its row.
+#[derive(Drop)]
+pub(crate) struct SortedBy {
+    pub(crate) left: Vec<Nodes>,
+    pub(crate) row: Row,
+}
