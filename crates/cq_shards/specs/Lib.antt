@@ -11,6 +11,7 @@ pub mod Order
 pub mod Comparing
 pub mod OrderRows
 pub mod Answers
+pub mod Many
 pub mod Work
 pub mod FirstMatch
 pub mod Finders
