@@ -10,6 +10,7 @@ pub mod Promise
 pub mod AllGames
 pub mod FirstGame
 pub mod Writing
+pub mod ManyQueries
 pub mod SelfRun
 pub mod Run
 pub mod QueryReading

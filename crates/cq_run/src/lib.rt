@@ -2,6 +2,7 @@
 #![tactic(auto)]
 
 mod all_games;
+mod all_queries;
 mod archives;
 mod command;
 mod first_match;
