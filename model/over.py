@@ -83,6 +83,8 @@ def marks():
     want = found(ONE, asking='cql(matchstring "") check')
     for text in (QUERY, 'cql(matchstring "here") check', '// matchstring "x"\ncql ( matchstring // a "\n "b"variations) check'):
         compare("-p of " + text, asked("-p", text, "one.pgn")[:2], (0, want))
+    for text in ('cql(input a//b matchstring "x") check', 'cql(output // c\nd//e matchstring "x" input "//f" matchstring "y") check'):
+        compare("-p of " + text, asked("-p", text, "one.pgn")[:2], (0, want))
     kept = 'cql(matchstring "a") check comment "matchstring"'
     compare("comments stay", asked("-p", kept, "one.pgn")[1], found(ONE, asking=kept.replace('"a"', '""')))
 
