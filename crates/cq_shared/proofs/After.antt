@@ -1,7 +1,7 @@
 -- What is left after some parts, and what they cost.
 use Rattle.std.proofs.Common.{◌≡◌, ℕ, zero, suc, ◌+◌, ◌<◌, ◌≤◌, ◌&&◌, ◌||◌, not, Bool, true, false, List, [], ◌∷◌, ◌++◌, length, get_or, take, drop, refl, sym, ap, ap₂, ◌∙◌, subst, arith, nat_lt, nat_eq}
 use Rattle.std.specs.Prelude.{if◌then◌else◌}
-use Rattle.std.specs.List.{list_all, list_any, filter, sum_by}
+use Rattle.std.specs.List.{list_all, list_any, filter}
 use Rattle.std.proofs.lemmas.Bool.Decides.{nat_tests}
 use Rattle.std.proofs.lemmas.List.{take_more, take_all}
 use Rattle.std.proofs.lemmas.List.Sums.{sum_by-cons}
@@ -9,7 +9,7 @@ use Rattle.cq_position.specs.Games.{Game}
 use Rattle.cq_shared.specs.declared.part.Part.{Part}
 use Rattle.cq_shared.specs.declared.nodes.Nodes.{Nodes}
 use Rattle.cq_shared.specs.Known.{all_shown}
-use Rattle.cq_shared.specs.Matching.{is_left, meets, meets_if, is_class, is_before, cost_if, costs_if, part_cost, plan_cost, cost_at, AreLeft, AreReady, IsReady, IsUnion, IsWanted, IsNarrowedBy, IsNarrowedIf}
+use Rattle.cq_shared.specs.Matching.{is_left, meets, meets_if, is_class, is_before, cost_if, costs_if, part_cost, plan_cost, cost_at, AreLeft, AreReady, IsReady, IsUnion, IsNarrowedBy, IsNarrowedIf}
 use Rattle.cq_shared.specs.Parts.{PartTree}
 use Rattle.cq_shared.specs.Singles.{shown}
 use Rattle.cq_shared.specs.Wanted.{both, Admits, TakesAtMost}

@@ -115,10 +115,10 @@ hits_found q game there law is = by (query_passes q game) refl
     by true passes =
         filter_same (is_live there) found (numbers game.nodes)
         (λ i d low.
-          let n = get_or (numbers game.nodes) i d in
-          let inside = range_is_below (length game.nodes) i d low in
-          is n ∙ ap (λ b. b && is_hit (tree_of q game) (flat_query q).items n)
-          (true_and (nat_lt n (length game.nodes)) (query_passes q game) (is_searched q.variations game.nodes n) (lt-ltb n (length game.nodes) inside) passes))
+        let n = get_or (numbers game.nodes) i d in
+        let inside = range_is_below (length game.nodes) i d low in
+        is n ∙ ap (λ b. b && is_hit (tree_of q game) (flat_query q).items n)
+        (true_and (nat_lt n (length game.nodes)) (query_passes q game) (is_searched q.variations game.nodes n) (lt-ltb n (length game.nodes) inside) passes))
         ∙ sym (filter_both (is_searched q.variations game.nodes) (is_hit (tree_of q game) (flat_query q).items) (numbers game.nodes)) ∙ hits_same q game
     by false refused =
         filter_none (is_live there) (numbers game.nodes)
@@ -263,7 +263,8 @@ module _ (game : Game) (parts : List Part) (a : Asker) (x : Nodes) (rows : List 
       let p = s.part in
       let sorts : filter_class found.part.filter ≡ 5 =
       eqb-true (filter_class found.part.filter) 5
-      (all_at (λ (r : PartTree). is_sort r.filter) (parts_with query.variations (top_sorts items)) found.number found.part (sorted_with query.variations (top_sorts items) (all_sorted items)) found.low found.reads) in
+      (all_at (λ (r : PartTree). is_sort r.filter) (parts_with query.variations (top_sorts items)) found.number found.part
+      (sorted_with query.variations (top_sorts items) (all_sorted items)) found.low found.reads) in
       let class : filter_class (shown p.single).filter ≡ 5 = class_same (shown p.single).filter found.part.filter (alike (shown p.single) found.part s.same).1 ∙ sorts in
       record {
         part = s.low;
@@ -291,8 +292,8 @@ module _ (game : Game) (parts : List Part) (a : Asker) (x : Nodes) (rows : List 
       ap (λ o. o ∷ []) (key_at parts rows nodes k p r.row s.low below s.reads r.reads ∙ ap (λ b. key_in b r.row.numbers.items nodes) like.least)
       ∙ item_keyed tree nodes r.row.numbers.items f sorts
       (λ i d low.
-        let n = get_or nodes i d in
-        is.each k p r.row s.reads r.reads s.low among (p.class_is ∙ class) n (live i d low) ∙ ap (λ v. sort_number (searched_tree game v) g n) both.0 ∙ like.number n)
+      let n = get_or nodes i d in
+      is.each k p r.row s.reads r.reads s.low among (p.class_is ∙ class) n (live i d low) ∙ ap (λ v. sort_number (searched_tree game v) g n) both.0 ∙ like.number n)
 
   rows_keyed : (js : List ℕ) (fs : List FilterTree) → are_at (all_shown parts) js (parts_with query.variations fs) ≡ true → list_all is_sort fs ≡ true
       → ((k : ℕ) → is_among k js ≡ true → is_among k a.numbers.items ≡ true) → row_keys parts rows nodes js ≡ sort_keys tree nodes fs

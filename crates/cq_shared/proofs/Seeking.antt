@@ -97,4 +97,5 @@ all_more ps [] [] k r all here = and_from (is_at ps k r) true here refl
 all_more ps [] (s ∷ rs) k r all here = cc
 all_more ps (j ∷ ks) [] k r all here = cc
 all_more ps (j ∷ ks) (s ∷ rs) k r all here =
-    and_from (is_at ps j s) (are_at ps (ks ++ k ∷ []) (rs ++ r ∷ [])) ((and_parts (is_at ps j s) (are_at ps ks rs) all).0) (all_more ps ks rs k r ((and_parts (is_at ps j s) (are_at ps ks rs) all).1) here)
+    and_from (is_at ps j s) (are_at ps (ks ++ k ∷ []) (rs ++ r ∷ [])) ((and_parts (is_at ps j s) (are_at ps ks rs) all).0)
+    (all_more ps ks rs k r ((and_parts (is_at ps j s) (are_at ps ks rs) all).1) here)

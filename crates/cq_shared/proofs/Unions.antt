@@ -97,7 +97,10 @@ wants_more p left n i x inside at not_here so_far =
     ∙ ap (λ (j : ℕ). some_wants p (j + 1) (drop (suc i) left) n) z ∙ ap (λ (j : ℕ). some_wants p (i + 1) (drop j left) n) e) ∙ so_far
 
 pub wants_here : (p : Part) (left : List Nodes) (n i : ℕ) (x : Nodes) → i < length left → x ≡ get_or left i x → (is_of i p && get_or x.there.items n false) ≡ true → some_wants p 0 left n ≡ true
-wants_here p left n i x inside at both_are = let has = (both_true (is_of i p) (get_or x.there.items n false) both_are).0 in let z : 0 + i ≡ i = omega arith in wanted p 0 left i n (subst (λ (j : ℕ). is_of j p ≡ true) (sym z) has) (left_at left i inside at)
+wants_here p left n i x inside at both_are =
+    let has = (both_true (is_of i p) (get_or x.there.items n false) both_are).0 in
+    let z : 0 + i ≡ i = omega arith in
+    wanted p 0 left i n (subst (λ (j : ℕ). is_of j p ≡ true) (sym z) has) (left_at left i inside at)
   where
     there : get_or x.there.items n false ≡ true
     there = (both_true (is_of i p) (get_or x.there.items n false) both_are).1
@@ -116,10 +119,15 @@ pub are_united : (game : Game) (p : Part) (left : List Nodes) (k : ℕ) (live : 
 are_united game p left k live high low ready had = (
   record {
     count = had.count ∙ omega (arith, high, low);
-    searched = λ n there. let w = wanting p 0 left n (sym (had.each n (inside n there)) ∙ there) in let z : 0 + w.0 ≡ w.0 = omega arith in ready.searched w.0 n (subst (λ (j : ℕ). is_of j p ≡ true) z w.1) w.2;
+    searched = λ n there.
+        let w = wanting p 0 left n (sym (had.each n (inside n there)) ∙ there) in
+        let z : 0 + w.0 ≡ w.0 = omega arith in
+        ready.searched w.0 n (subst (λ (j : ℕ). is_of j p ≡ true) z w.1) w.2;
   },
   record {
-    each = λ q n has there. had.each n (let i = ready.inside q n has there in omega (arith, i, high)) ∙ (let z : 0 + q ≡ q = omega arith in wanted p 0 left q n (subst (λ (j : ℕ). is_of j p ≡ true) (sym z) has) there);
+    each = λ q n has there.
+        had.each n (let i = ready.inside q n has there in omega (arith, i, high))
+        ∙ (let z : 0 + q ≡ q = omega arith in wanted p 0 left q n (subst (λ (j : ℕ). is_of j p ≡ true) (sym z) has) there);
     some = λ some.
         let s = live_at live some in
         let w = wanting p 0 left s.0 (sym (had.each s.0 (inside s.0 s.1)) ∙ s.1) in
@@ -173,8 +181,10 @@ by_truth false wants b t told = refl
 by_truth true false b t told = refl
 by_truth true true b t told = told refl refl
 
-pub narrowed_more : (game : Game) (p : Part) (left later now : List Nodes) (live truths : List Bool) (k : ℕ) (x y : Nodes) → IsTold game p live truths → IsUnion p left live → k < length left → x ≡ get_or left k x
-    → ((n : ℕ) → get_or y.there.items n false ≡ (get_or x.there.items n false && (not (is_of k p) || get_or truths n false))) → now ≡ later ++ y ∷ [] → AreNarrowed game p left later k → AreNarrowed game p left now (k + 1)
+pub narrowed_more : (game : Game) (p : Part) (left later now : List Nodes) (live truths : List Bool) (k : ℕ) (x y : Nodes)
+    → IsTold game p live truths → IsUnion p left live → k < length left → x ≡ get_or left k x
+    → ((n : ℕ) → get_or y.there.items n false ≡ (get_or x.there.items n false && (not (is_of k p) || get_or truths n false))) → now ≡ later ++ y ∷ []
+    → AreNarrowed game p left later k → AreNarrowed game p left now (k + 1)
 narrowed_more game p left later now live truths k x y told union inside at made more had = record {
   count = ap length more ∙ length-append later (y ∷ []) ∙ ap (λ i. i + 1) had.count;
   each = λ q n less. ⊎_elim

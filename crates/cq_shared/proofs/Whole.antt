@@ -82,6 +82,9 @@ are_found game parts askers began left later are had first second =
 
 -- what they cost
 
+abbrev pub asked_cost : Game → List Asker → ℕ
+asked_cost game askers = plan_cost game (asked_parts game (trees_of (map (λ a. query_of a.plan) askers)) (plan_parts (map (λ a. query_of a.plan) askers)))
+
 module _ (game : Game) (parts : List Part) (askers : List Asker) where
   abbrev test : PartTree → Bool
   test = is_asked_in game (map (λ a. asked_query a) askers)
@@ -90,7 +93,7 @@ module _ (game : Game) (parts : List Part) (askers : List Asker) where
   want p = test (shown p.single)
 
   abbrev asked : ℕ
-  asked = plan_cost game (asked_parts game (trees_of (map (λ a. query_of a.plan) askers)) (plan_parts (map (λ a. query_of a.plan) askers)))
+  asked = asked_cost game askers
 
   pub costs_are : equal_parts (all_shown parts) (different (parts_in_all (map (λ a. asked_query a) askers))) ≡ true
       → costs_if (both (is_before 5) want) game parts + costs_if (both (is_class 5) want) game parts ≡ asked

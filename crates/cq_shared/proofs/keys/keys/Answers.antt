@@ -13,15 +13,18 @@ loop-i-init c = record {
 
 pub key_of-key-requires-clause-part : goal.key_of-key-requires-clause-part
 key_of-key-requires-clause-part c =
-    (c.requires c.index-number.result.now (among_from c.args.asker.now.numbers.items c.args.asker.now.sorts c.loop-i.i c.index-number.result.now c.loop-i.invariant.low (search rules) (search rules))).part
+    (c.requires c.index-number.result.now
+    (among_from c.args.asker.now.numbers.items c.args.asker.now.sorts c.loop-i.i c.index-number.result.now c.loop-i.invariant.low (search rules) (search rules))).part
 
 pub key_of-key-requires-clause-row : goal.key_of-key-requires-clause-row
 key_of-key-requires-clause-row c =
-    (c.requires c.index-number.result.now (among_from c.args.asker.now.numbers.items c.args.asker.now.sorts c.loop-i.i c.index-number.result.now c.loop-i.invariant.low (search rules) (search rules))).row
+    (c.requires c.index-number.result.now
+    (among_from c.args.asker.now.numbers.items c.args.asker.now.sorts c.loop-i.i c.index-number.result.now c.loop-i.invariant.low (search rules) (search rules))).row
 
 pub key_of-key-requires-clause-values : goal.key_of-key-requires-clause-values
 key_of-key-requires-clause-values c =
-    (c.requires c.index-number.result.now (among_from c.args.asker.now.numbers.items c.args.asker.now.sorts c.loop-i.i c.index-number.result.now c.loop-i.invariant.low (search rules) (search rules))).some
+    (c.requires c.index-number.result.now
+    (among_from c.args.asker.now.numbers.items c.args.asker.now.sorts c.loop-i.i c.index-number.result.now c.loop-i.invariant.low (search rules) (search rules))).some
 
 pub loop-i-preserved : goal.loop-i-preserved
 loop-i-preserved c = let fits : SFits w64 c.key_of-key.result = search rules in record {

@@ -21,8 +21,8 @@ loop-k-preserved g c = record {
     arith,
     c.loop-k.invariant.cost want admits,
     c.after_if.ensures.cost want
-    (still_admits (is_class c.args.class) c.args.game.now (take c.loop-k.k c.args.parts.now) c.args.left.items c.loop-k.later.items want c.index-parts-k.result c.loop-k.invariant.left
-      (admits c.loop-k.k c.index-parts-k.result c.loop-k-test.true c.index-parts-k.is)),
+        (still_admits (is_class c.args.class) c.args.game.now (take c.loop-k.k c.args.parts.now) c.args.left.items c.loop-k.later.items want c.index-parts-k.result c.loop-k.invariant.left
+        (admits c.loop-k.k c.index-parts-k.result c.loop-k-test.true c.index-parts-k.is)),
     cost_more (both (is_class c.args.class) want) c.args.game.now c.args.parts.now c.loop-k.k c.index-parts-k.result c.loop-k-test.true c.index-parts-k.is,
   );
 }
@@ -32,10 +32,10 @@ returns-clause-left g c = left_all (is_class c.args.class) c.args.game.now c.arg
 
 pub returns-in_err-later-clause-cost : goal.returns-in_err-later-clause-cost
 returns-in_err-later-clause-cost g c = λ want admits. omega (
-      arith,
-      c.loop-k.invariant.cost want admits,
-      c.after_if.ensures.cost want
+  arith,
+  c.loop-k.invariant.cost want admits,
+  c.after_if.ensures.cost want
       (still_admits (is_class c.args.class) c.args.game.now (take c.loop-k.k c.args.parts.now) c.args.left.items c.loop-k.later.items want c.index-parts-k.result c.loop-k.invariant.left
       (admits c.loop-k.k c.index-parts-k.result c.loop-k-test.true c.index-parts-k.is)),
-      cost_more (both (is_class c.args.class) want) c.args.game.now c.args.parts.now c.loop-k.k c.index-parts-k.result c.loop-k-test.true c.index-parts-k.is,
-    )
+  cost_more (both (is_class c.args.class) want) c.args.game.now c.args.parts.now c.loop-k.k c.index-parts-k.result c.loop-k-test.true c.index-parts-k.is,
+)

@@ -19,8 +19,8 @@ loop-class-preserved g c = record {
     arith,
     c.loop-class.invariant.cost want admits,
     c.ask_class.ensures.cost want
-    (λ k p low at. still_admits (is_before c.loop-class.class) c.args.game.now c.args.parts.now c.args.began.items c.loop-class.left.items want p c.loop-class.invariant.left
-    (admits k p low at)),
+        (λ k p low at. still_admits (is_before c.loop-class.class) c.args.game.now c.args.parts.now c.args.began.items c.loop-class.left.items want p c.loop-class.invariant.left
+        (admits k p low at)),
     cost_next c.loop-class.class want c.args.game.now c.args.parts.now,
   );
 }
@@ -36,11 +36,11 @@ returns-clause-cost g c = λ want admits.
 
 pub returns-in_err-left-clause-cost : goal.returns-in_err-left-clause-cost
 returns-in_err-left-clause-cost g c = λ want admits. omega (
-      arith,
-      c.loop-class.invariant.cost want admits,
-      c.ask_class.ensures.cost want
+  arith,
+  c.loop-class.invariant.cost want admits,
+  c.ask_class.ensures.cost want
       (λ k p low at. still_admits (is_before c.loop-class.class) c.args.game.now c.args.parts.now c.args.began.items c.loop-class.left.items want p c.loop-class.invariant.left
-    (admits k p low at)),
-      cost_next c.loop-class.class want c.args.game.now c.args.parts.now,
-      cost_later (c.loop-class.class + 1) 5 want c.args.game.now c.args.parts.now (omega (arith, c.loop-class-test.true)),
-    )
+      (admits k p low at)),
+  cost_next c.loop-class.class want c.args.game.now c.args.parts.now,
+  cost_later (c.loop-class.class + 1) 5 want c.args.game.now c.args.parts.now (omega (arith, c.loop-class-test.true)),
+)

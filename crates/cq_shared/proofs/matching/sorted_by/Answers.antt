@@ -21,28 +21,28 @@ loop-k-preserved g c =
         arith,
         c.loop-k.invariant.cost want admits,
         c.after_sort_if.ensures.cost want
-        (still_admits (is_class 5) c.args.game.now (take c.loop-k.k c.args.parts.now) c.args.left.items c.loop-k.later.items want c.index-parts-k.result c.loop-k.invariant.left
-      (admits c.loop-k.k c.index-parts-k.result c.loop-k-test.true c.index-parts-k.is)),
+            (still_admits (is_class 5) c.args.game.now (take c.loop-k.k c.args.parts.now) c.args.left.items c.loop-k.later.items want c.index-parts-k.result c.loop-k.invariant.left
+            (admits c.loop-k.k c.index-parts-k.result c.loop-k-test.true c.index-parts-k.is)),
         cost_more (both (is_class 5) want) c.args.game.now c.args.parts.now c.loop-k.k c.index-parts-k.result c.loop-k-test.true c.index-parts-k.is,
       );
     }
 
 pub returns-in_err-sorted-clause-cost : goal.returns-in_err-sorted-clause-cost
 returns-in_err-sorted-clause-cost g c = λ want admits. omega (
-      arith,
-      c.loop-k.invariant.cost want admits,
-      c.after_sort_if.ensures.cost want
+  arith,
+  c.loop-k.invariant.cost want admits,
+  c.after_sort_if.ensures.cost want
       (still_admits (is_class 5) c.args.game.now (take c.loop-k.k c.args.parts.now) c.args.left.items c.loop-k.later.items want c.index-parts-k.result c.loop-k.invariant.left
       (admits c.loop-k.k c.index-parts-k.result c.loop-k-test.true c.index-parts-k.is)),
-      cost_more (both (is_class 5) want) c.args.game.now c.args.parts.now c.loop-k.k c.index-parts-k.result c.loop-k-test.true c.index-parts-k.is,
-    )
+  cost_more (both (is_class 5) want) c.args.game.now c.args.parts.now c.loop-k.k c.index-parts-k.result c.loop-k-test.true c.index-parts-k.is,
+)
 
 pub returns-in_err-push-clause-cost : goal.returns-in_err-push-clause-cost
 returns-in_err-push-clause-cost g c = λ want admits. omega (
-      arith,
-      c.loop-k.invariant.cost want admits,
-      c.after_sort_if.ensures.cost want
+  arith,
+  c.loop-k.invariant.cost want admits,
+  c.after_sort_if.ensures.cost want
       (still_admits (is_class 5) c.args.game.now (take c.loop-k.k c.args.parts.now) c.args.left.items c.loop-k.later.items want c.index-parts-k.result c.loop-k.invariant.left
       (admits c.loop-k.k c.index-parts-k.result c.loop-k-test.true c.index-parts-k.is)),
-      cost_more (both (is_class 5) want) c.args.game.now c.args.parts.now c.loop-k.k c.index-parts-k.result c.loop-k-test.true c.index-parts-k.is,
-    )
+  cost_more (both (is_class 5) want) c.args.game.now c.args.parts.now c.loop-k.k c.index-parts-k.result c.loop-k-test.true c.index-parts-k.is,
+)
