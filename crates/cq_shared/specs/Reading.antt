@@ -66,5 +66,6 @@ pub record IsFoundBy (game : Game) (parts : List Part) (a : Asker) (nodes : Node
   pub sorts : a.sorts ≡ length (top_parts (flat_query (asked_query a)).items)
   pub left : (n : ℕ) → is_live nodes.there.items n ≡ is_found game (asked_query a) n
   pub count : length rows ≡ length parts
-  pub each : (k : ℕ) (p : Part) (r : Row) → p ≡ get_or parts k p → r ≡ get_or rows k r
-      → k < length parts → is_among k a.numbers.items ≡ true → p.class ≡ 5 → Where nodes.there.items (λ n. get_or r.numbers.items n None ≡ sort_number (tree_for game p) (shown p.single).filter n)
+  pub each : (k : ℕ) (p : Part) (r : Row) → p ≡ get_or parts k p → r ≡ get_or rows k r → k < length parts
+      → is_among k a.numbers.items ≡ true
+      → p.class ≡ 5 → Where nodes.there.items (λ n. get_or r.numbers.items n None ≡ sort_number (tree_for game p) (shown p.single).filter n)

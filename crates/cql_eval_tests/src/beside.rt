@@ -23,7 +23,7 @@ use std::sync::ledger::{Blank, Ledger};
 use std::test::Fail;
 
 // The flat form of the query that a text is.
-fn flat_query(alloc: Global, text: &[u8]) -> Result<FlatQuery, Refusal<QueryFault>> {
+pub(crate) fn flat_query(alloc: Global, text: &[u8]) -> Result<FlatQuery, Refusal<QueryFault>> {
     tokens_of_a_text_are_ended();
     spelled_queries_have_no_any();
     let tokens = query_tokens(alloc, text)?;
@@ -69,7 +69,7 @@ fn holds_plainly(alloc: Global, query: &FlatQuery, game: &Game, node: u32) -> Re
     Ok(true)
 }
 
-fn found(alloc: Global, query: &FlatQuery, game: &Game) -> Result<Column, NoMemory>
+pub(crate) fn found(alloc: Global, query: &FlatQuery, game: &Game) -> Result<Column, NoMemory>
     ensures { IfOk result (λ column. length (hits_of column) ≡ length game.now.nodes) }
 {
     counted::<Brand>(alloc, query, game, Blank::new(1))

@@ -8,4 +8,6 @@ mod drawn;
 #[cfg(test)]
 mod games;
 #[cfg(test)]
+mod keys;
+#[cfg(test)]
 mod queries;

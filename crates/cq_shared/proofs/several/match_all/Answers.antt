@@ -47,7 +47,8 @@ pub returns-clause-asked : goal.returns-clause-asked
 returns-clause-asked g c =
     let plan = plan_lent c.args.plan.now.parts.items c.as_slice-parts.result.now c.args.plan.now.askers.items c.as_slice-askers.result.now c.as_slice-parts.ensures.value
     c.as_slice-askers.ensures.value (record { are = c.args.plan.now.askers_are; same = c.args.plan.now.parts_are }) in
-    let cost = both_cost c.args.game.now c.as_slice-parts.result.now c.as_slice-askers.result.now c.in_ok-began.began.items c.in_ok-left.left.items _ _ _ plan.are c.in_ok-began.ensures plan.same c.in_ok-left.ensures.left c.left_by.ensures.cost
+    let cost = both_cost c.args.game.now c.as_slice-parts.result.now c.as_slice-askers.result.now c.in_ok-began.began.items c.in_ok-left.left.items _ _ _
+    plan.are c.in_ok-began.ensures plan.same c.in_ok-left.ensures.left c.left_by.ensures.cost
     c.sorted_by.ensures.cost in
     let same = ap (asked_cost c.args.game.now) c.as_slice-askers.ensures.value in
     omega (arith, cost, same)
@@ -56,7 +57,9 @@ pub returns-clause-most : goal.returns-clause-most
 returns-clause-most g c =
     let plan = plan_lent c.args.plan.now.parts.items c.as_slice-parts.result.now c.args.plan.now.askers.items c.as_slice-askers.result.now c.as_slice-parts.ensures.value
     c.as_slice-askers.ensures.value (record { are = c.args.plan.now.askers_are; same = c.args.plan.now.parts_are }) in
-    let cost = all_cost c.args.game.now c.as_slice-parts.result.now c.as_slice-askers.result.now _ _ (both_cost c.args.game.now c.as_slice-parts.result.now c.as_slice-askers.result.now c.in_ok-began.began.items c.in_ok-left.left.items _ _ _ plan.are c.in_ok-began.ensures plan.same c.in_ok-left.ensures.left c.left_by.ensures.cost
+    let cost = all_cost c.args.game.now c.as_slice-parts.result.now c.as_slice-askers.result.now _ _
+    (both_cost c.args.game.now c.as_slice-parts.result.now c.as_slice-askers.result.now c.in_ok-began.began.items c.in_ok-left.left.items _ _ _
+    plan.are c.in_ok-began.ensures plan.same c.in_ok-left.ensures.left c.left_by.ensures.cost
     c.sorted_by.ensures.cost) in
     let same = ap (λ xs. plan_cost c.args.game.now (plan_parts (map (λ a. query_of a.plan) xs))) c.as_slice-askers.ensures.value in
     omega (arith, cost, same)
@@ -73,7 +76,8 @@ pub returns-in_err-left-clause-most : goal.returns-in_err-left-clause-most
 returns-in_err-left-clause-most g c =
     let plan = plan_lent c.args.plan.now.parts.items c.as_slice-parts.result.now c.args.plan.now.askers.items c.as_slice-askers.result.now c.as_slice-parts.ensures.value
     c.as_slice-askers.ensures.value (record { are = c.args.plan.now.askers_are; same = c.args.plan.now.parts_are }) in
-    let cost = all_cost c.args.game.now c.as_slice-parts.result.now c.as_slice-askers.result.now _ _ (first_cost c.args.game.now c.as_slice-parts.result.now c.as_slice-askers.result.now c.in_ok-began.began.items _ _ plan.are c.in_ok-began.ensures plan.same c.left_by.ensures.cost) in
+    let cost = all_cost c.args.game.now c.as_slice-parts.result.now c.as_slice-askers.result.now _ _
+    (first_cost c.args.game.now c.as_slice-parts.result.now c.as_slice-askers.result.now c.in_ok-began.began.items _ _ plan.are c.in_ok-began.ensures plan.same c.left_by.ensures.cost) in
     let same = ap (λ xs. plan_cost c.args.game.now (plan_parts (map (λ a. query_of a.plan) xs))) c.as_slice-askers.ensures.value in
     omega (arith, cost, same)
 
@@ -81,7 +85,8 @@ pub returns-in_err-sorted-clause-asked : goal.returns-in_err-sorted-clause-asked
 returns-in_err-sorted-clause-asked g c =
     let plan = plan_lent c.args.plan.now.parts.items c.as_slice-parts.result.now c.args.plan.now.askers.items c.as_slice-askers.result.now c.as_slice-parts.ensures.value
     c.as_slice-askers.ensures.value (record { are = c.args.plan.now.askers_are; same = c.args.plan.now.parts_are }) in
-    let cost = both_cost c.args.game.now c.as_slice-parts.result.now c.as_slice-askers.result.now c.in_ok-began.began.items c.in_ok-left.left.items _ _ _ plan.are c.in_ok-began.ensures plan.same c.in_ok-left.ensures.left c.left_by.ensures.cost
+    let cost = both_cost c.args.game.now c.as_slice-parts.result.now c.as_slice-askers.result.now c.in_ok-began.began.items c.in_ok-left.left.items _ _ _
+    plan.are c.in_ok-began.ensures plan.same c.in_ok-left.ensures.left c.left_by.ensures.cost
     c.sorted_by.ensures.cost in
     let same = ap (asked_cost c.args.game.now) c.as_slice-askers.ensures.value in
     omega (arith, cost, same)
@@ -90,7 +95,9 @@ pub returns-in_err-sorted-clause-most : goal.returns-in_err-sorted-clause-most
 returns-in_err-sorted-clause-most g c =
     let plan = plan_lent c.args.plan.now.parts.items c.as_slice-parts.result.now c.args.plan.now.askers.items c.as_slice-askers.result.now c.as_slice-parts.ensures.value
     c.as_slice-askers.ensures.value (record { are = c.args.plan.now.askers_are; same = c.args.plan.now.parts_are }) in
-    let cost = all_cost c.args.game.now c.as_slice-parts.result.now c.as_slice-askers.result.now _ _ (both_cost c.args.game.now c.as_slice-parts.result.now c.as_slice-askers.result.now c.in_ok-began.began.items c.in_ok-left.left.items _ _ _ plan.are c.in_ok-began.ensures plan.same c.in_ok-left.ensures.left c.left_by.ensures.cost
+    let cost = all_cost c.args.game.now c.as_slice-parts.result.now c.as_slice-askers.result.now _ _
+    (both_cost c.args.game.now c.as_slice-parts.result.now c.as_slice-askers.result.now c.in_ok-began.began.items c.in_ok-left.left.items _ _ _
+    plan.are c.in_ok-began.ensures plan.same c.in_ok-left.ensures.left c.left_by.ensures.cost
     c.sorted_by.ensures.cost) in
     let same = ap (λ xs. plan_cost c.args.game.now (plan_parts (map (λ a. query_of a.plan) xs))) c.as_slice-askers.ensures.value in
     omega (arith, cost, same)

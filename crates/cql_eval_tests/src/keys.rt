@@ -1,0 +1,96 @@
+//! The values of sort items beside the plain evaluator, node by node.
+
+use crate::beside::{flat_query, found};
+use crate::games::GAMES;
+use cq_maker::make_archive;
+use cql_eval::Column;
+use cql_plain::number_at;
+use cql_syntax::{Filter, Form};
+use cql_values::Names;
+use pgn_reader::read_game;
+use pgn_tree::Game;
+use std::alloc::Global;
+use std::process::Abort;
+use std::test::Fail;
+
+// Those of the pages, and others, one a line.
+static SORTED: &'static str = "\
+cql() mate sort min \"moves\" movenumber\n\
+cql() power A - power a >= 9 sort \"lead\" power A - power a\n\
+cql(variations) sort \"checks\" flipcolor line --> {btm check} --> (wtm --> {btm check})+\n\
+cql(variations) sort \"rating\" elo sort min \"length\" ply\n\
+cql() sort \"year\" year btm sort min \"men\" #(A | a) sort \"least\" min(#A ply) terminal\n\
+cql() flipcolor { move capture n } sort min \"rank\" 3 * #(P & up p) - depth sort \"row\" line --> .+";
+
+// Compares the values of a sort item with the plain evaluator's at each node of a game.
+fn compare_row<R: Abort>(
+    rt: &R,
+    alloc: Global,
+    number: &Filter,
+    sort: u32,
+    column: &Column,
+    game: &Game,
+    variations: bool,
+) -> Result<(), Fail> {
+    assert!(rt; (sort as usize) < column.sorts());
+    assert_eq!(rt; column.row(sort as usize).len(), game.len() as usize);
+    let names = Names::new(alloc);
+    for node in 0..game.len() {
+        let searched = variations || game.is_main(node);
+        let value = number_at(alloc, number, game, variations, node, &[], &names)?;
+        let expected = if searched { value } else { None };
+        assert_eq!(rt; column.key(sort, node), expected, "item {sort} at {node}");
+    }
+    Ok(())
+}
+
+// Compares an item, if it is the sort item of a number, and answers the number of the next.
+fn compare_item<R: Abort>(
+    rt: &R,
+    alloc: Global,
+    item: &Filter,
+    sort: u32,
+    column: &Column,
+    game: &Game,
+    variations: bool,
+) -> Result<u32, Fail> {
+    match &item.form {
+        Form::Sort(.., number) => {
+            assert!(rt; sort < 4);
+            compare_row(rt, alloc, number, sort, column, game, variations)?;
+            Ok(sort + 1)
+        }
+        _ => Ok(sort),
+    }
+}
+
+fn compare<R: Abort>(rt: &R, alloc: Global, text: &[u8], game: &[u8]) -> Result<(), Fail> {
+    let query = flat_query(alloc, text)?;
+    let game = read_game(alloc, game, 0, true)?;
+    let column = found(alloc, &query, &game)?;
+    let mut sort = 0;
+    for item in query.items.as_slice() {
+        sort = compare_item(rt, alloc, item, sort, &column, &game, query.variations)?;
+    }
+    assert_eq!(rt; column.sorts(), sort as usize);
+    Ok(())
+}
+
+fn over_queries<R: Abort>(rt: &R, alloc: Global, game: &[u8]) -> Result<(), Fail> {
+    for query in SORTED.lines() {
+        compare(rt, alloc, query.as_bytes(), game)?;
+    }
+    Ok(())
+}
+
+#[test]
+fn keys_are_as_the_plain_evaluator(rt: HostRuntime) -> Result<(), Fail> {
+    for game in GAMES.iter() {
+        over_queries(&rt, rt.alloc(), game)?;
+    }
+    for seed in 1..4 {
+        let archive = make_archive(rt.alloc(), seed, 1)?;
+        over_queries(&rt, rt.alloc(), archive.as_slice())?;
+    }
+    Ok(())
+}
