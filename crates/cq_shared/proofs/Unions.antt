@@ -3,6 +3,7 @@ use Rattle.std.proofs.Common.{◌≡◌, ◌⊎◌, inl, inr, ⊎_elim, ℕ, zer
 use Rattle.std.specs.Prelude.{nat_lt}
 use Rattle.std.proofs.lemmas.List.{get_or_append_left, drop_all}
 use Rattle.std.proofs.Math.Seq.{get_or-append_seam}
+use Rattle.std.specs.List.{list_any}
 use Rattle.cq_position.specs.Games.{Game}
 use Rattle.cq_shared.specs.declared.part.Part.{Part}
 use Rattle.cq_shared.specs.declared.nodes.Nodes.{Nodes}
@@ -96,8 +97,10 @@ wants_more p left n i x inside at not_here so_far =
     ∙ ap (λ (j : ℕ). some_wants p (j + 1) (drop (suc i) left) n) z ∙ ap (λ (j : ℕ). some_wants p (i + 1) (drop j left) n) e) ∙ so_far
 
 pub wants_here : (p : Part) (left : List Nodes) (n i : ℕ) (x : Nodes) → i < length left → x ≡ get_or left i x → (is_of i p && get_or x.there.items n false) ≡ true → some_wants p 0 left n ≡ true
-wants_here p left n i x inside at both_are = let has = (both_true (is_of i p) (get_or x.there.items n false) both_are).0 in
-    let z : 0 + i ≡ i = omega arith in wanted p 0 left i n (subst (λ (j : ℕ). is_of j p ≡ true) (sym z) has) (left_at left i inside at)
+wants_here p left n i x inside at both_are =
+    let has = (both_true (is_of i p) (get_or x.there.items n false) both_are).0 in
+    let z : 0 + i ≡ i = omega arith in
+    wanted p 0 left i n (subst (λ (j : ℕ). is_of j p ≡ true) (sym z) has) (left_at left i inside at)
   where
     there : get_or x.there.items n false ≡ true
     there = (both_true (is_of i p) (get_or x.there.items n false) both_are).1
@@ -116,15 +119,28 @@ pub are_united : (game : Game) (p : Part) (left : List Nodes) (k : ℕ) (live : 
 are_united game p left k live high low ready had = (
   record {
     count = had.count ∙ omega (arith, high, low);
-    searched = λ n there. let w = wanting p 0 left n (sym (had.each n (inside n there)) ∙ there) in let z : 0 + w.0 ≡ w.0 = omega arith in
+    searched = λ n there.
+        let w = wanting p 0 left n (sym (had.each n (inside n there)) ∙ there) in
+        let z : 0 + w.0 ≡ w.0 = omega arith in
         ready.searched w.0 n (subst (λ (j : ℕ). is_of j p ≡ true) z w.1) w.2;
   },
   record {
-    each = λ q n has there. had.each n (let i = ready.inside q n has there in omega (arith, i, high))
+    each = λ q n has there.
+        had.each n (let i = ready.inside q n has there in omega (arith, i, high))
         ∙ (let z : 0 + q ≡ q = omega arith in wanted p 0 left q n (subst (λ (j : ℕ). is_of j p ≡ true) (sym z) has) there);
+    some = λ some.
+        let s = live_at live some in
+        let w = wanting p 0 left s.0 (sym (had.each s.0 (inside s.0 s.1)) ∙ s.1) in
+        let z : 0 + w.0 ≡ w.0 = omega arith in
+        record { query = w.0; node = s.0; has = subst (λ (j : ℕ). is_of j p ≡ true) z w.1; there = w.2 };
   },
 )
   where
+    live_at : (bs : List Bool) → list_any (λ b. b) bs ≡ true → (n : ℕ) × (is_live bs n ≡ true)
+    live_at [] e = cc
+    live_at (true ∷ bs) e = (0, refl)
+    live_at (false ∷ bs) e = let s = live_at bs e in (suc s.0, s.1)
+
     inside : (n : ℕ) → is_live live n ≡ true → n < k
     inside n there = ⊎_elim (λ less. less) (λ more. absurd (is_not (past_end live n (omega (arith, more, had.count))) there)) (inside_or_past n k)
       where

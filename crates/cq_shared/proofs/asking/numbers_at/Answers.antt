@@ -2,6 +2,7 @@ use Rattle.std.proofs.Common.{sym, ◌∙◌}
 use Rattle.cql_eval.specs.Hits.{hits_of, keys_of}
 use Rattle.cql_values.specs.Trees.{searched_tree}
 use Rattle.cql_syntax.specs.TreeOf.{filters_tree}
+use Rattle.cq_shared.proofs.After.{cost_live}
 use Rattle.cq_shared.proofs.Telling.{row_by, one_row, cost_is}
 use Rattle.cq_shared.proofs.asking.numbers_at.Goals as goal
 
@@ -24,10 +25,13 @@ returns-clause-told g c =
     c.requires.sort p.class_is c.in_ok-column.ensures.hits c.in_ok-column.ensures.keys c.in_ok-numbers.ensures
 
 pub returns-clause-cost : goal.returns-clause-cost
-returns-clause-cost g c = cost_is c.args.game.now c.args.part.now _ _ c.hit_columns.ensures.most c.args.part.now.single.one
+returns-clause-cost g c =
+    cost_live c.args.live.now _ _ _ (sym c.any_live.ensures ∙ c.if-not-any_live.false) (cost_is c.args.game.now c.args.part.now _ _ c.hit_columns.ensures.most c.args.part.now.single.one)
 
 pub returns-in_err-column-clause-cost : goal.returns-in_err-column-clause-cost
-returns-in_err-column-clause-cost g c = cost_is c.args.game.now c.args.part.now _ _ c.hit_columns.ensures.most c.args.part.now.single.one
+returns-in_err-column-clause-cost g c =
+    cost_live c.args.live.now _ _ _ (sym c.any_live.ensures ∙ c.if-not-any_live.false) (cost_is c.args.game.now c.args.part.now _ _ c.hit_columns.ensures.most c.args.part.now.single.one)
 
 pub returns-in_err-numbers-clause-cost : goal.returns-in_err-numbers-clause-cost
-returns-in_err-numbers-clause-cost g c = cost_is c.args.game.now c.args.part.now _ _ c.hit_columns.ensures.most c.args.part.now.single.one
+returns-in_err-numbers-clause-cost g c =
+    cost_live c.args.live.now _ _ _ (sym c.any_live.ensures ∙ c.if-not-any_live.false) (cost_is c.args.game.now c.args.part.now _ _ c.hit_columns.ensures.most c.args.part.now.single.one)
