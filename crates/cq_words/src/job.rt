@@ -47,6 +47,13 @@ pub enum Job {
         games: u32,
         workers: u32,
     },
+    /// To answer each query in the file of queries `queries` over one reading of the archive in the file `archive`.
+    Many {
+        queries: Bytes,
+        archive: Bytes,
+        workers: u32,
+        limit: u64,
+    },
 }
 
 /// How an archive is answered: by how many workers, up to how many bytes of it, and whether up to the first match alone.
