@@ -15,5 +15,9 @@ mod FirstGames
 mod FirstTexts
 mod FirstStops
 mod FirstRounds
+mod Pieces
+mod PiecesRead
+mod QueryFiles
+mod RunFaults
 mod RunPromise
 pub mod EveryText

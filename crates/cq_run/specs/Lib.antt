@@ -1,5 +1,6 @@
 pub mod Status
 pub mod Queries
+pub mod QueryFiles
 pub mod Outcomes
 pub mod Answer
 pub mod Sorts

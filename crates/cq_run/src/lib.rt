@@ -9,6 +9,7 @@ mod flat_form;
 mod laws;
 mod output;
 mod queries;
+mod query_files;
 mod selfrun;
 mod sorts;
 mod status;

@@ -63,7 +63,7 @@ pub struct Settings {
     pub workers: u32,
     /// From 1 to 2^40.
     pub limit: u64,
-    /// Whether the first game that matches is written alone, and no more is read after its batch.
+    /// Whether the first game that matches is written alone, and nothing is read after the read that completes its batch.
     pub first: bool,
 }
 
