@@ -9,8 +9,12 @@ mod Given
 mod AnswerPromise
 mod OneOutcome
 mod Reached
+mod AllRounds
 mod Rounds
 mod Sorted
+mod Rows
+mod ManyRounds
+mod ManyEnds
 mod FirstGames
 mod FirstTexts
 mod FirstStops

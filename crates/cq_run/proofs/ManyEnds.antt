@@ -1,0 +1,222 @@
+-- Writing what several queries find in an archive, once it was read to its end.
+use Rattle.std.proofs.Common.{◌≡◌, ℕ, zero, suc, ◌+◌, ◌<◌, ◌≤◌, List, [], ◌∷◌, ◌++◌, ◌⊎◌, length, length-append, map, take, drop, get_or, append-nil, append_assoc, arith, refl, ap, ap₂, sym, ◌∙◌, subst, inl, inr, Ok, Err, Option}
+use Rattle.std.specs.Prelude.{Result, count_by}
+use Rattle.std.specs.List.{flat_map}
+use Rattle.std.specs.List.Sorted.{IsPermutation}
+use Rattle.std.proofs.lemmas.Bool.{cases_lt}
+use Rattle.std.proofs.lemmas.List.{get_or-map, get_or_append_left, get_or_push, length-map}
+use Rattle.std.proofs.lemmas.List.Sorted.{length_permutation}
+use Rattle.cq_outside.specs.Faults.{Rose}
+use Rattle.cq_outside.specs.Flow.{Grew}
+use Rattle.cq_outside.specs.declared.faults.Failed.{Failed}
+use Rattle.cq_outside.specs.declared.faults.Refusal.{Refusal}
+use Rattle.cq_outside.specs.declared.faults.Refusal.TheVariants.{Fault, NoMemory as IsNoMemory}
+use Rattle.cql_syntax.specs.Trees.{QueryTree}
+use Rattle.cq_report.specs.Games.{head_line, summary_line}
+use Rattle.cq_shards.specs.Outcomes.{Outcome}
+use Rattle.cq_shards.specs.declared.answers.GameAnswer.{GameAnswer}
+use Rattle.cq_run.specs.declared.status.Status.TheVariants.{NoMemory, WriteFault}
+use Rattle.cq_run.specs.declared.tally.Tally.{Tally}
+use Rattle.cq_run.specs.Answer.{fault_lines, is_match, is_refused, summary_of, tally_of}
+use Rattle.cq_run.specs.Exports.{AreExports, exports_of, matches_from}
+use Rattle.cq_run.specs.ManyQueries.{AreAllAnswers, HaveExports, faults_alone, output_of, outputs_from, summaries, texts_of_all}
+use Rattle.cq_run.specs.ManyWriting.{AreInOrder, FoundByAll, WritesOut}
+use Rattle.cq_run.specs.Promise.{SinkView, Sinks, Texts, Unfinished, WritesPart, NoWriteFailed, OneSinkFailed}
+use Rattle.cq_run.specs.Writing.{InOrder, WritesAnswer, WritesText}
+use Rattle.cq_run.proofs.Exports.{sorted_exports}
+use Rattle.cq_run.proofs.GameByGame.{AllButLast, as_prefix, both_prefix}
+use Rattle.cq_run.proofs.Rows.{kept_of, matches_counted}
+use Rattle.cq_run.proofs.Sinks.{Took, fails_after, grew_on, none_after, prefix_of, then_out, took_count, took_front, took_on, with_out}
+
+-- ---- texts one after the other
+
+-- a part of a text, after some that were taken
+pub then_part : (a b c : Option (List ℕ)) (xs ys more whole : List ℕ) → xs ++ (ys ++ more) ≡ whole → Grew a b xs → (count : ℕ) × Grew b c (take count ys)
+    → (count : ℕ) × Grew a c (take count whole)
+then_part a b c xs ys more whole is before part =
+    let took : Took a c whole = subst (Took a c) is (took_on a b c xs ys more before (took_count b c ys part.0 part.1)) in
+    (length took.part, prefix_of a c whole took)
+
+-- a line, and then a text
+pub line_written : (line text whole : List ℕ) (before mid after : SinkView) (result : Result (Unit {0}) (Refusal Failed)) → line ++ text ≡ whole
+    → Grew before.taken mid.taken line → mid.faults ≡ before.faults → WritesText text mid after result → WritesOut whole before after result
+line_written line text whole before mid after (Ok _) is grew same writes =
+    (subst (Grew before.taken after.taken) is (grew_on before.taken mid.taken after.taken line text grew writes.0), writes.1 ∙ same)
+line_written line text whole before mid after (Err (Fault _)) is grew same writes =
+    (then_part before.taken mid.taken after.taken line text [] whole (ap (λ l. line ++ l) (append-nil text) ∙ is) grew writes.0, subst (λ n. Rose n after.faults) same writes.1)
+line_written line text whole before mid after (Err IsNoMemory) is grew same none = absurd none
+
+outputs_none : (n : ℕ) → outputs_from n [] ≡ []
+unfolding outputs_from
+outputs_none n = refl
+
+outputs_first : (n : ℕ) (t : List ℕ) (ts : List (List ℕ)) → outputs_from n (t ∷ ts) ≡ output_of n t ++ outputs_from (n + 1) ts
+unfolding outputs_from
+outputs_first n t ts = refl
+
+outputs_on : (n : ℕ) (xs ys : List (List ℕ)) → outputs_from n (xs ++ ys) ≡ outputs_from n xs ++ outputs_from (n + length xs) ys
+unfolding outputs_from
+outputs_on n [] ys = ap (λ k. outputs_from k ys) (let e : n ≡ n + 0 = omega arith in e)
+outputs_on n (x ∷ xs) ys =
+    ap (λ l. output_of n x ++ l)
+    (outputs_on (n + 1) xs ys ∙ ap (λ k. outputs_from (n + 1) xs ++ outputs_from k ys) (let e : (n + 1) + length xs ≡ n + length (x ∷ xs) = omega arith in e))
+    ∙ sym (append_assoc (output_of n x) (outputs_from (n + 1) xs) (outputs_from (n + length (x ∷ xs)) ys))
+
+-- ---- all outputs and the report
+
+-- each query's games that match are in its order
+abbrev pub EachInOrder : List QueryTree → List Outcome → List (List GameAnswer) → Type 0
+EachInOrder queries outcomes ordered = (i : ℕ) (q : QueryTree) → i < length queries
+    → InOrder (get_or queries i q) (kept_of outcomes (get_or queries i q)) (get_or ordered i [])
+
+have_exports : (queries : List QueryTree) (outcomes : List Outcome) (ordered : List (List GameAnswer)) → length ordered ≡ length queries
+    → EachInOrder queries outcomes ordered → HaveExports queries outcomes (map exports_of ordered)
+have_exports [] outcomes [] long each = tt
+have_exports [] outcomes (o ∷ os) long each = absurd (omega (arith, long))
+have_exports (q ∷ qs) outcomes [] long each = absurd (omega (arith, long))
+have_exports (q ∷ qs) outcomes (o ∷ os) long each = (
+  sorted_exports q outcomes o (each zero q (omega arith)),
+  have_exports qs outcomes os (omega (arith, long)) (λ i p below. each (suc i) p (omega (arith, below))),
+)
+
+sorted_long : (query : QueryTree) (outcomes : List Outcome) (ordered : List GameAnswer) → InOrder query (kept_of outcomes query) ordered
+    → length ordered ≡ count_by (is_match query) outcomes
+sorted_long query outcomes ordered order =
+    length_permutation (kept_of outcomes query) (sorted_exports query outcomes ordered order).sorted (sorted_exports query outcomes ordered order).same
+    ∙ matches_counted query outcomes
+
+abbrev pub lines_of : Tally → List (List GameAnswer) → List ℕ
+lines_of tally rows = flat_map (λ row. summary_line tally.games (length row) tally.refused) rows
+
+lines_are : (queries : List QueryTree) (outcomes : List Outcome) (ordered : List (List GameAnswer)) → length ordered ≡ length queries
+    → EachInOrder queries outcomes ordered
+    → flat_map (λ row. summary_line (length outcomes) (length row) (count_by is_refused outcomes)) ordered ≡ summaries queries outcomes
+lines_are [] outcomes [] long each = refl
+lines_are [] outcomes (o ∷ os) long each = absurd (omega (arith, long))
+lines_are (q ∷ qs) outcomes [] long each = absurd (omega (arith, long))
+lines_are (q ∷ qs) outcomes (o ∷ os) long each =
+    ap₂ (λ n l. summary_line (length outcomes) n (count_by is_refused outcomes) ++ l) (sorted_long q outcomes o (each zero q (omega arith)))
+    (lines_are qs outcomes os (omega (arith, long)) (λ i p below. each (suc i) p (omega (arith, below))))
+
+-- the queries, what was found of all games, and the matches of each query in its order
+pub record Ends (queries : List QueryTree) (outcomes : List Outcome) (sinks : Sinks) (tally : Tally) (ordered : List (List GameAnswer)) : Type 0 where
+  pub some : 1 ≤ length queries
+  pub kept : List (List GameAnswer)
+  pub found : FoundByAll queries outcomes sinks tally kept
+  pub sorts : AreInOrder queries kept ordered
+
+pub kept_long : (queries : List QueryTree) (outcomes : List Outcome) (kept : List (List GameAnswer)) → kept ≡ map (kept_of outcomes) queries → length kept ≡ length queries
+kept_long queries outcomes kept is = ap length is ∙ length-map queries (kept_of outcomes)
+
+sorted_each : (queries : List QueryTree) (outcomes : List Outcome) (sinks : Sinks) (tally : Tally) (ordered : List (List GameAnswer))
+    → Ends queries outcomes sinks tally ordered → EachInOrder queries outcomes ordered
+sorted_each queries outcomes sinks tally ordered ends = λ i q below.
+    let long = kept_long queries outcomes ends.kept ends.found.kept_ in
+    subst (λ ks. InOrder (get_or queries i q) ks (get_or ordered i []))
+    (ap (λ l. get_or l i []) ends.found.kept_ ∙ get_or-map (kept_of outcomes) queries i q [] below) (ends.sorts.each i q (omega (arith, below, long)))
+
+sorted_count : (queries : List QueryTree) (outcomes : List Outcome) (sinks : Sinks) (tally : Tally) (ordered : List (List GameAnswer))
+    → Ends queries outcomes sinks tally ordered → length ordered ≡ length queries
+sorted_count queries outcomes sinks tally ordered ends = ends.sorts.count ∙ kept_long queries outcomes ends.kept ends.found.kept_
+
+tally_is : (queries : List QueryTree) (outcomes : List Outcome) (sinks : Sinks) (tally : Tally) (ordered : List (List GameAnswer))
+    → Ends queries outcomes sinks tally ordered → (tally.games ≡ length outcomes) × (tally.refused ≡ count_by is_refused outcomes)
+tally_is [] outcomes sinks tally ordered ends = let some = ends.some in absurd (omega (arith, some))
+tally_is (q ∷ qs) outcomes sinks tally ordered ends =
+    let is = ends.found.first q qs refl in (ap (λ (t : Tally). t.games) is, ap (λ (t : Tally). t.refused) is)
+
+abbrev outputs_in : List (List GameAnswer) → List ℕ
+outputs_in ordered = outputs_from 1 (map exports_of ordered)
+
+all_answers : (queries : List QueryTree) (outcomes : List Outcome) (sinks : Sinks) (tally : Tally) (ordered : List (List GameAnswer))
+    → Ends queries outcomes sinks tally ordered
+    → AreAllAnswers queries outcomes tally.refused (record { out = outputs_in ordered; err = fault_lines 1 outcomes ++ lines_of tally ordered })
+all_answers queries outcomes sinks tally ordered ends =
+    let each = sorted_each queries outcomes sinks tally ordered ends in
+    let long = sorted_count queries outcomes sinks tally ordered ends in
+    let is = tally_is queries outcomes sinks tally ordered ends in
+    record {
+      exports = map exports_of ordered;
+      are = have_exports queries outcomes ordered long each;
+      outputs = refl;
+      report = ap (λ l. fault_lines 1 outcomes ++ l)
+          (ap₂ (λ g r. flat_map (λ row. summary_line g (length row) r) ordered) is.0 is.1 ∙ lines_are queries outcomes ordered long each);
+      count = is.1;
+    }
+
+-- all outputs were written
+pub outputs_written : (queries : List QueryTree) (outcomes : List Outcome) (sinks : Sinks) (out : SinkView) (tally : Tally) (ordered : List (List GameAnswer))
+    → Ends queries outcomes sinks tally ordered → WritesOut (outputs_in ordered) sinks.out_after out (Ok tt)
+    → AllButLast (texts_of_all queries) outcomes (with_out sinks out) tally.refused (lines_of tally ordered)
+outputs_written queries outcomes sinks out tally ordered ends writes = record {
+  exports = outputs_in ordered;
+  report = fault_lines 1 outcomes;
+  are = all_answers queries outcomes sinks tally ordered ends;
+  out = grew_on sinks.out.taken sinks.out_after.taken out.taken [] (outputs_in ordered) ends.found.writes.out writes.0;
+  err = ends.found.writes.err;
+  unfailed = record { out = writes.1 ∙ ends.found.unfailed.out; err = ends.found.unfailed.err };
+}
+
+-- a part of them was
+outputs_part : (queries : List QueryTree) (outcomes : List Outcome) (sinks : Sinks) (out : SinkView) (tally : Tally) (ordered : List (List GameAnswer))
+    → Ends queries outcomes sinks tally ordered → (count : ℕ) × Grew sinks.out_after.taken out.taken (take count (outputs_in ordered))
+    → WritesPart (Unfinished (texts_of_all queries) outcomes) (with_out sinks out)
+outputs_part queries outcomes sinks out tally ordered ends part =
+    let texts : Texts = record { out = outputs_in ordered; err = fault_lines 1 outcomes ++ lines_of tally ordered } in
+    record {
+      texts = texts;
+      are = inr (tally.refused, all_answers queries outcomes sinks tally ordered ends);
+      writes = both_prefix (with_out sinks out) texts (record {
+        out = subst (Took sinks.out.taken out.taken) (append-nil (outputs_in ordered))
+            (took_on sinks.out.taken sinks.out_after.taken out.taken [] (outputs_in ordered) [] ends.found.writes.out
+            (took_count sinks.out_after.taken out.taken (outputs_in ordered) part.0 part.1));
+        err = took_front sinks.err.taken sinks.err_after.taken (fault_lines 1 outcomes) (lines_of tally ordered) ends.found.writes.err;
+      });
+    }
+
+pub outputs_failed : (queries : List QueryTree) (outcomes : List Outcome) (sinks : Sinks) (out : SinkView) (tally : Tally) (ordered : List (List GameAnswer)) (failed : Failed)
+    → Ends queries outcomes sinks tally ordered → WritesOut (outputs_in ordered) sinks.out_after out (Err (Fault failed))
+    → WritesAnswer (texts_of_all queries) outcomes (with_out sinks out) WriteFault
+outputs_failed queries outcomes sinks out tally ordered failed ends writes =
+    (outputs_part queries outcomes sinks out tally ordered ends writes.0, fails_after (then_out sinks out) ends.found.unfailed (inl (writes.1, refl)))
+
+pub outputs_starved : (queries : List QueryTree) (outcomes : List Outcome) (sinks : Sinks) (out : SinkView) (tally : Tally) (ordered : List (List GameAnswer))
+    → Ends queries outcomes sinks tally ordered → WritesOut (outputs_in ordered) sinks.out_after out (Err IsNoMemory)
+    → WritesAnswer (texts_of_all queries) outcomes (with_out sinks out) NoMemory
+outputs_starved queries outcomes sinks out tally ordered ends writes = (
+  outputs_part queries outcomes sinks out tally ordered ends writes.0,
+  none_after (then_out sinks out) ends.found.unfailed (record { out = writes.1; err = refl }),
+)
+
+-- no memory to put the matches in order
+pub unordered_all : (queries : List QueryTree) (outcomes : List Outcome) (sinks : Sinks) (tally : Tally) (kept : List (List GameAnswer))
+    → FoundByAll queries outcomes sinks tally kept → WritesAnswer (texts_of_all queries) outcomes sinks NoMemory
+unordered_all queries outcomes sinks tally kept found =
+    (record { texts = faults_alone outcomes; are = inl refl; writes = as_prefix sinks (faults_alone outcomes) found.writes }, found.unfailed)
+
+-- ---- query by query
+
+order_here : (queries : List QueryTree) (ks os : List (List GameAnswer)) (k o : List GameAnswer) (i : ℕ) (q : QueryTree) → AreInOrder queries ks os
+    → InOrder (get_or queries (length os) q) k o → (i < length ks) ⊎ (length ks ≤ i) → i < length (ks ++ k ∷ [])
+    → InOrder (get_or queries i q) (get_or (ks ++ k ∷ []) i []) (get_or (os ++ o ∷ []) i [])
+order_here queries ks os k o i q so order (inr from) below =
+    let count = so.count in
+    let long = length-append ks (k ∷ []) in
+    let here : i ≡ length os = omega (arith, from, below, long, count) in
+    subst (λ l. InOrder (get_or queries i q) l (get_or (os ++ o ∷ []) i [])) (sym (get_or_push ks k [] i (omega (arith, here, count))))
+    (subst (InOrder (get_or queries i q) k) (sym (get_or_push os o [] i (sym here)))
+    (subst (λ j. InOrder (get_or queries j q) k o) (sym here) order))
+order_here queries ks os k o i q so order (inl less) below =
+    let count = so.count in
+    subst (λ l. InOrder (get_or queries i q) l (get_or (os ++ o ∷ []) i [])) (sym (get_or_append_left ks (k ∷ []) [] i less))
+    (subst (InOrder (get_or queries i q) (get_or ks i [])) (sym (get_or_append_left os (o ∷ []) [] i (omega (arith, less, count)))) (so.each i q less))
+
+pub one_more_ordered : (queries : List QueryTree) (ks os : List (List GameAnswer)) (k o : List GameAnswer) → AreInOrder queries ks os
+    → ((q : QueryTree) → InOrder (get_or queries (length os) q) k o) → AreInOrder queries (ks ++ k ∷ []) (os ++ o ∷ [])
+one_more_ordered queries ks os k o so order = record {
+  count = length-append os (o ∷ []) ∙ ap (λ n. n + 1) so.count ∙ sym (length-append ks (k ∷ []));
+  each = λ i q below. order_here queries ks os k o i q so (order q) (cases_lt i (length ks)) below;
+}
+
+pub none_ordered_yet : (queries : List QueryTree) → AreInOrder queries [] []
+none_ordered_yet queries = record { count = refl; each = λ i q below. absurd (omega (arith, below)) }

@@ -1,0 +1,11 @@
+use Rattle.cq_run.proofs.ManyEnds.{none_ordered_yet, one_more_ordered}
+use Rattle.cq_run.proofs.outputs.all_by_keys.Goals as goal
+
+pub loop-matches-init : goal.loop-matches-init
+loop-matches-init c = ?
+
+pub loop-matches-preserved : goal.loop-matches-preserved
+loop-matches-preserved c = ?
+
+pub returns : goal.returns
+returns c = ?
