@@ -22,7 +22,7 @@ use Rattle.cq_run.proofs.Sinks.{grew_on, Took, took_count, took_on, prefix_of}
 text_in : GameAnswer → List ℕ
 text_in a = text_of a.what
 
-exports_more : (xs : List GameAnswer) (i : ℕ) (a : GameAnswer) → i < length xs → a ≡ get_or xs i a → exports_of (take (i + 1) xs) ≡ exports_of (take i xs) ++ text_of a.what
+pub exports_more : (xs : List GameAnswer) (i : ℕ) (a : GameAnswer) → i < length xs → a ≡ get_or xs i a → exports_of (take (i + 1) xs) ≡ exports_of (take i xs) ++ text_of a.what
 exports_more xs i a inside is =
     ap exports_of (take_more xs i a inside) ∙ ap (λ x. exports_of (take i xs ++ x ∷ [])) (sym is)
     ∙ flat_map-append (λ (x : GameAnswer). text_of x.what) (take i xs) (a ∷ []) ∙ ap (λ l. exports_of (take i xs) ++ l) (append-nil (text_of a.what))

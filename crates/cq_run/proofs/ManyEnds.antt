@@ -1,17 +1,23 @@
 -- Writing what several queries find in an archive, once it was read to its end.
-use Rattle.std.proofs.Common.{◌≡◌, ℕ, zero, suc, ◌+◌, ◌<◌, ◌≤◌, List, [], ◌∷◌, ◌++◌, ◌⊎◌, length, length-append, map, take, drop, get_or, append-nil, append_assoc, arith, refl, ap, ap₂, sym, ◌∙◌, subst, inl, inr, Ok, Err, Option}
+use Rattle.std.proofs.Common.{◌≡◌, ℕ, zero, suc, ◌+◌, ◌<◌, ◌≤◌, List, [], ◌∷◌, ◌++◌, ◌⊎◌, length, length-append, map, replicate, take, drop, get_or, append-nil, append_assoc, arith, refl, ap, ap₂, sym, ◌∙◌, subst, inl, inr, Ok, Err, Option}
 use Rattle.std.specs.Prelude.{Result, count_by}
 use Rattle.std.specs.List.{flat_map}
 use Rattle.std.specs.List.Sorted.{IsPermutation}
 use Rattle.std.proofs.lemmas.Bool.{cases_lt}
-use Rattle.std.proofs.lemmas.List.{get_or-map, get_or_append_left, get_or_push, length-map}
+use Rattle.std.proofs.lemmas.Grind.{flat_map-append}
+use Rattle.std.proofs.lemmas.List.{get_or-map, get_or_append_left, get_or_push, length-map, length-take, map-append, replicate-append-replicate, take_more, take-append-drop}
+use Rattle.std.proofs.lemmas.List.Folds.{flat_map-map}
+use Rattle.std.proofs.lemmas.Simd.{map-map}
 use Rattle.std.proofs.lemmas.List.Sorted.{length_permutation}
 use Rattle.cq_outside.specs.Faults.{Rose}
 use Rattle.cq_outside.specs.Flow.{Grew}
 use Rattle.cq_outside.specs.declared.faults.Failed.{Failed}
 use Rattle.cq_outside.specs.declared.faults.Refusal.{Refusal}
 use Rattle.cq_outside.specs.declared.faults.Refusal.TheVariants.{Fault, NoMemory as IsNoMemory}
+use Rattle.cql_syntax.specs.TreeOf.{query_tree}
 use Rattle.cql_syntax.specs.Trees.{QueryTree}
+use Rattle.cql_syntax.specs.declared.typed.TypedQuery.{TypedQuery}
+use Rattle.cq_shared.specs.Plans.{trees_of}
 use Rattle.cq_report.specs.Games.{head_line, summary_line}
 use Rattle.cq_shards.specs.Outcomes.{Outcome}
 use Rattle.cq_shards.specs.declared.answers.GameAnswer.{GameAnswer}
@@ -61,6 +67,41 @@ outputs_on n (x ∷ xs) ys =
     ap (λ l. output_of n x ++ l)
     (outputs_on (n + 1) xs ys ∙ ap (λ k. outputs_from (n + 1) xs ++ outputs_from k ys) (let e : (n + 1) + length xs ≡ n + length (x ∷ xs) = omega arith in e))
     ∙ sym (append_assoc (output_of n x) (outputs_from (n + 1) xs) (outputs_from (n + length (x ∷ xs)) ys))
+
+-- a text more, of some that are written one after the other
+pub texts_more : {X : Type 0} (f : X → List ℕ) (xs : List X) (i : ℕ) (x : X) → i < length xs → x ≡ get_or xs i x
+    → flat_map f (take (i + 1) xs) ≡ flat_map f (take i xs) ++ f x
+texts_more f xs i x inside is =
+    ap (flat_map f) (take_more xs i x inside) ∙ ap (λ y. flat_map f (take i xs ++ y ∷ [])) (sym is)
+    ∙ flat_map-append f (take i xs) (x ∷ []) ∙ ap (λ l. flat_map f (take i xs) ++ l) (append-nil (f x))
+
+pub outputs_more : {X : Type 0} (f : X → List ℕ) (xs : List X) (i : ℕ) (x : X) → i < length xs → x ≡ get_or xs i x
+    → outputs_from 1 (map f (take (i + 1) xs)) ≡ outputs_from 1 (map f (take i xs)) ++ output_of (i + 1) (f x)
+outputs_more f xs i x inside is =
+    let front = map f (take i xs) in
+    let long = length-map (take i xs) f in
+    let few = length-take i xs in
+    let e : 1 + length front ≡ i + 1 = omega (arith, long, few, inside) in
+    ap (λ l. outputs_from 1 (map f l)) (take_more xs i x inside) ∙ ap (λ y. outputs_from 1 (map f (take i xs ++ y ∷ []))) (sym is)
+    ∙ ap (outputs_from 1) (map-append f (take i xs) (x ∷ [])) ∙ outputs_on 1 front (f x ∷ [])
+    ∙ ap (λ l. outputs_from 1 front ++ l)
+    (outputs_first (1 + length front) (f x) [] ∙ ap (λ l. output_of (1 + length front) (f x) ++ l) (outputs_none (1 + length front + 1))
+    ∙ append-nil (output_of (1 + length front) (f x)) ∙ ap (λ n. output_of n (f x)) e)
+
+-- the outputs before one, it, and those after it
+pub outputs_around : {X : Type 0} (f : X → List ℕ) (xs : List X) (i : ℕ) (x : X) → i < length xs → x ≡ get_or xs i x
+    → outputs_from 1 (map f (take i xs)) ++ (output_of (i + 1) (f x) ++ outputs_from (1 + length (map f (take (i + 1) xs))) (map f (drop (i + 1) xs))) ≡ outputs_from 1 (map f xs)
+outputs_around f xs i x inside is =
+    let rest = outputs_from (1 + length (map f (take (i + 1) xs))) (map f (drop (i + 1) xs)) in
+    sym (append_assoc (outputs_from 1 (map f (take i xs))) (output_of (i + 1) (f x)) rest) ∙ ap (λ l. l ++ rest) (sym (outputs_more f xs i x inside is))
+    ∙ sym (outputs_on 1 (map f (take (i + 1) xs)) (map f (drop (i + 1) xs))) ∙ ap (outputs_from 1) (sym (map-append f (take (i + 1) xs) (drop (i + 1) xs)))
+    ∙ ap (λ l. outputs_from 1 (map f l)) (take-append-drop (i + 1) xs)
+
+-- the query of a plan that has this number
+pub query_at : (queries : List TypedQuery) (n : ℕ) (t : TypedQuery) (q : QueryTree) → n < length queries → t ≡ get_or queries n t
+    → query_tree t.query ≡ get_or (trees_of queries) n q
+query_at queries n t q inside is =
+    ap (λ (u : TypedQuery). query_tree u.query) is ∙ sym (get_or-map (λ (u : TypedQuery). query_tree u.query) queries n t q inside)
 
 -- ---- all outputs and the report
 
@@ -125,7 +166,7 @@ tally_is [] outcomes sinks tally ordered ends = let some = ends.some in absurd (
 tally_is (q ∷ qs) outcomes sinks tally ordered ends =
     let is = ends.found.first q qs refl in (ap (λ (t : Tally). t.games) is, ap (λ (t : Tally). t.refused) is)
 
-abbrev outputs_in : List (List GameAnswer) → List ℕ
+abbrev pub outputs_in : List (List GameAnswer) → List ℕ
 outputs_in ordered = outputs_from 1 (map exports_of ordered)
 
 all_answers : (queries : List QueryTree) (outcomes : List Outcome) (sinks : Sinks) (tally : Tally) (ordered : List (List GameAnswer))
@@ -220,3 +261,17 @@ one_more_ordered queries ks os k o so order = record {
 
 pub none_ordered_yet : (queries : List QueryTree) → AreInOrder queries [] []
 none_ordered_yet queries = record { count = refl; each = λ i q below. absurd (omega (arith, below)) }
+
+-- of rows in vectors
+pub outputs_of_rows : {X : Type 0} (items : X → List GameAnswer) (rows : List X) → outputs_from 1 (map (λ row. exports_of (items row)) rows) ≡ outputs_in (map items rows)
+outputs_of_rows items rows = ap (outputs_from 1) (sym (map-map exports_of items rows))
+
+pub lines_of_rows : {X : Type 0} (items : X → List GameAnswer) (tally : Tally) (rows : List X)
+    → flat_map (λ row. summary_line tally.games (length (items row)) tally.refused) rows ≡ lines_of tally (map items rows)
+lines_of_rows items tally rows = sym (flat_map-map (λ row. summary_line tally.games (length row) tally.refused) items rows)
+
+-- one more for which nothing is kept
+pub none_more : {X : Type 0} (items : X → List GameAnswer) (rows : List X) (n : ℕ) (row : X) → map items rows ≡ replicate n [] → items row ≡ []
+    → map items (rows ++ row ∷ []) ≡ replicate (n + 1) []
+none_more items rows n row none empty =
+    map-append items rows (row ∷ []) ∙ ap₂ (λ l r. l ++ r ∷ []) none empty ∙ replicate-append-replicate n 1 []

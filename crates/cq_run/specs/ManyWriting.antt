@@ -46,14 +46,16 @@ pub record KeepsRest (rows before after : List (List GameAnswer)) : Type 0 where
 
 -- The games with these outcomes are answered: the lines of the faulty ones are written, the tally is that of the first query, and for each
 -- query its matches are kept.
-pub record FoundByAll (queries : List QueryTree) (outcomes : List Outcome) (sinks : Sinks) (tally : Tally) (kept : List (List GameAnswer)) : Type 0 where
+pub record FoundByAll (queries : List QueryTree) (outcomes : List Outcome) (sinks : Sinks) (tally : Tally)
+    (kept : List (List GameAnswer)) : Type 0 where
   pub first : (q : QueryTree) (qs : List QueryTree) → queries ≡ q ∷ qs → tally ≡ tally_of q outcomes
   pub kept_ : kept ≡ map (λ q. matches_from q 0 outcomes) queries
   pub writes : Writes sinks (faults_alone outcomes)
   pub unfailed : NoWriteFailed sinks
 
 -- the same after a call that may be refused
-abbrev pub KeepsSome : List QueryTree → List Outcome → Sinks → Tally → List (List GameAnswer) → Result (Unit {0}) (Refusal Failed) → Type 0
+abbrev pub KeepsSome : List QueryTree → List Outcome → Sinks → Tally → List (List GameAnswer)
+    → Result (Unit {0}) (Refusal Failed) → Type 0
 KeepsSome queries outcomes sinks tally kept (Ok _) = FoundByAll queries outcomes sinks tally kept
 KeepsSome queries outcomes sinks tally kept (Err (Fault _)) = WritesPrefix sinks (faults_alone outcomes) × OneSinkFailed sinks
 KeepsSome queries outcomes sinks tally kept (Err IsNoMemory) = WritesPrefix sinks (faults_alone outcomes) × NoWriteFailed sinks

@@ -11,8 +11,8 @@ use crate::status::Status;
 use crate::tally::Tally;
 use cq_outside::{Gate, Refusal, Sink, Source};
 use cq_shards::laws::ordered_answers_stand_beside_their_games;
-use cq_shared::SharedPlan;
 use cq_shards::{BatchFault, Batches, run_many};
+use cq_shared::SharedPlan;
 use cq_words::Settings;
 use cql_syntax::TypedQuery;
 use std::alloc::Global;
@@ -23,8 +23,8 @@ use std::thread::Threads;
 /// ranges are conditions, and so is that not the first match alone is asked for.
 ///
 /// The fault lines of a batch are written before the next one is asked for. The games that match are kept until all are answered: then
-/// `out` takes for each query, in order, the line `query I bytes W`, with its number, from 1, and the length of its exports, and then these,
-/// as `answer` writes them for it alone. After that `err` takes the last line of each query's report, in order.
+/// `out` takes for each query, in order, the line `query I bytes W`, with its number, from 1, and the length of its exports, and then
+/// these, as `answer` writes them for it alone. After that `err` takes the last line of each query's report, in order.
 ///
 /// Answers:
 /// - `Done` or `DoneWithRefusals`: both sinks have taken all, and no game is faulty, or some.

@@ -79,11 +79,7 @@ fn keep_rest(
 }
 
 // Keeps the matches among the answers of some games.
-fn keep(
-    alloc: Global,
-    answers: Vec<GameAnswer>,
-    kept: &mut Vec<GameAnswer>,
-) -> Result<(), NoMemory>
+fn keep(alloc: Global, answers: Vec<GameAnswer>, kept: &mut Vec<GameAnswer>) -> Result<(), NoMemory>
     ensures { OnOk result (AddsMatches answers.items kept.old.items kept.new.items) }
 {
     let mut matches = in_order(alloc, answers)?;

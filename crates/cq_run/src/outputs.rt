@@ -15,8 +15,8 @@ use crate::status::Status;
 use crate::tally::Tally;
 use cq_outside::{Bytes, Failed, NoMemory, Refusal, Sink};
 use cq_report::{head_line, summary_line};
-use cq_shared::SharedPlan;
 use cq_shards::{GameAnswer, by_keys};
+use cq_shared::SharedPlan;
 use std::alloc::Global;
 
 /// Writes what is due once all games are answered: the output of each query, and the last lines of the report.
@@ -130,11 +130,7 @@ fn write_summaries<E: Sink>(
 }
 
 // The last lines of the report, one for each query, of which a row has the matches.
-fn summary_lines(
-    alloc: Global,
-    tally: Tally,
-    rows: &[Vec<GameAnswer>],
-) -> Result<Bytes, NoMemory>
+fn summary_lines(alloc: Global, tally: Tally, rows: &[Vec<GameAnswer>]) -> Result<Bytes, NoMemory>
     ensures { IfOk result (λ lines. lines ≡ flat_map (λ row. line_of tally.games (length row.items) tally.refused) rows.now) }
 {
     let mut lines = Bytes::new(alloc);

@@ -233,8 +233,8 @@ keep_batch-requires-clause-games g c =
     let rows = answers_in c.in-Ok.answers in
     let a = answered laws c.ordered_answers_stand_beside_their_games.ensures queries _ rows c.in-Ok.ensures in
     λ ordered sorts.
-        let few = many_few laws queries now sinks c.loop-turn.tally kept _ c.loop-turn._turn rows c.requires.limit.1 c.requires.few.0 turn a ordered sorts in
-        omega (arith, few)
+    let few = many_few laws queries now sinks c.loop-turn.tally kept _ c.loop-turn._turn rows c.requires.limit.1 c.requires.few.0 turn a ordered sorts in
+    omega (arith, few)
 
 pub keep_batch-requires-clause-matched : goal.keep_batch-requires-clause-matched
 keep_batch-requires-clause-matched g c =

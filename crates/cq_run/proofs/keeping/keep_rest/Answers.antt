@@ -1,4 +1,6 @@
-use Rattle.cq_run.proofs.Rows.{none_of_rest, one_of_rest, all_of_rest}
+use Rattle.std.proofs.Common.{◌<◌, ◌≤◌, length, map, rules}
+use Rattle.std.proofs.lemmas.List.{get_or-map, length-map, map-set}
+use Rattle.cq_run.proofs.Rows.{all_of_rest, none_of_rest, one_of_rest}
 use Rattle.cq_run.proofs.keeping.keep_rest.Goals as goal
 
 pub loop-i-init : goal.loop-i-init

@@ -1,7 +1,18 @@
+use Rattle.std.proofs.Common.{◌≡◌, ◌+◌, ◌*◌, ◌^◌, ◌<◌, ◌≤◌, length, length-append, take, ap, ◌∙◌, arith, rules}
+use Rattle.std.proofs.lemmas.List.{take_all}
+use Rattle.cq_run.specs.Exports.{exports_of}
+use Rattle.cq_run.proofs.Kept.{exports_more}
 use Rattle.cq_run.proofs.outputs.count_bytes.Goals as goal
 
 pub loop-i-preserved : goal.loop-i-preserved
-loop-i-preserved c = ?
+loop-i-preserved c =
+    let answers = c.args.answers.now in
+    let i = c.loop-i.i in
+    let inside : i < length answers = search rules in
+    let more = ap length (exports_more answers i c.index.result.now inside c.index.ensures) ∙ length-append (exports_of (take i answers)) c.text.result.now in
+    ?
 
 pub returns : goal.returns
-returns c = ?
+returns c =
+    let all : length c.args.answers.now ≤ c.loop-i.i = search rules in
+    c.loop-i.invariant.0 ∙ ap (λ xs. length (exports_of xs)) (take_all c.loop-i.i c.args.answers.now all)
