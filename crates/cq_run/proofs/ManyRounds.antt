@@ -69,8 +69,11 @@ run_of_all queries place sinks tally kept = record {
 
 -- ---- the first query's answers are written
 
-one_text : (out out' err : List ℕ) → out ≡ out' → (record { out = out; err = err } : Texts) ≡ record { out = out'; err = err }
-one_text out out' err e = cc
+abbrev texts_with : List ℕ → List ℕ → Texts
+texts_with out err = record { out = out; err = err }
+
+one_text : (out out' err : List ℕ) → out ≡ out' → texts_with out err ≡ texts_with out' err
+one_text out out' err e = ap (λ t. texts_with t err) e
 
 faults_same : (query : QueryTree) (rs : List Outcome) → texts_so_far true query rs ≡ faults_alone rs
 faults_same query rs = one_text _ _ (fault_lines 1 rs) (written_none query rs)

@@ -80,7 +80,7 @@ kept_if_match query n (Err fault) xs ys e = e
 
 -- the matches among answers
 pub matches_are : (query : QueryTree) (n : ℕ) (rs : List Outcome) → filter is_match_kept (answers_from query n rs) ≡ matches_from query n rs
-unfolding answers_from, matches_from
+unfolding answers_from matches_from
 matches_are query n [] = refl
 matches_are query n (r ∷ rs) =
     filter-append is_match_kept (answer_of query n r ∷ []) (answers_from query (n + 1) rs)
