@@ -29,7 +29,7 @@ use Rattle.cq_run.specs.ManyQueries.{AreAllAnswers, HaveExports, faults_alone, o
 use Rattle.cq_run.specs.ManyWriting.{AreInOrder, FoundByAll, WritesOut}
 use Rattle.cq_run.specs.Promise.{SinkView, Sinks, Texts, Unfinished, WritesPart, NoWriteFailed, OneSinkFailed}
 use Rattle.cq_run.specs.Writing.{InOrder, WritesAnswer, WritesText}
-use Rattle.cq_run.proofs.Exports.{sorted_exports}
+use Rattle.cq_run.proofs.Exports.{sorted_exports, sorted_same}
 use Rattle.cq_run.proofs.GameByGame.{AllButLast, as_prefix, both_prefix}
 use Rattle.cq_run.proofs.Rows.{kept_of, matches_counted}
 use Rattle.cq_run.proofs.Sinks.{Took, fails_after, grew_on, none_after, prefix_of, then_out, took_count, took_front, took_on, with_out}
@@ -123,8 +123,7 @@ have_exports (q ∷ qs) outcomes (o ∷ os) long each = (
 sorted_long : (query : QueryTree) (outcomes : List Outcome) (ordered : List GameAnswer) → InOrder query (kept_of outcomes query) ordered
     → length ordered ≡ count_by (is_match query) outcomes
 sorted_long query outcomes ordered order =
-    length_permutation (kept_of outcomes query) (sorted_exports query outcomes ordered order).sorted (sorted_exports query outcomes ordered order).same
-    ∙ matches_counted query outcomes
+    length_permutation (kept_of outcomes query) ordered (sorted_same query outcomes ordered order) ∙ matches_counted query outcomes
 
 abbrev pub lines_of : Tally → List (List GameAnswer) → List ℕ
 lines_of tally rows = flat_map (λ row. summary_line tally.games (length row) tally.refused) rows
