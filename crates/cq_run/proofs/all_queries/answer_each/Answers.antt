@@ -1,6 +1,7 @@
 use Rattle.std.proofs.Common.{◌≡◌, ◌+◌, ◌≤◌, Ok, Err, map, length, ap, sym, subst, ◌∙◌, arith, rules}
 use Rattle.std.proofs.lemmas.List.{length-map}
 use Rattle.cq_outside.specs.declared.faults.Refusal.TheVariants.{Fault}
+use Rattle.cql_syntax.specs.TreeOf.{query_tree}
 use Rattle.cq_shared.specs.Plans.{queries_of, trees_of}
 use Rattle.cq_shards.specs.Many.{answers_in}
 use Rattle.cq_shards.specs.declared.state.BatchFault.TheVariants.{ReadFault, ArchiveTooLong}
@@ -41,7 +42,9 @@ returns-in_default-clause-next g c =
 
 pub write_outputs-requires-clause-some : goal.write_outputs-requires-clause-some
 write_outputs-requires-clause-some g c =
-    ?
+    let some = c.requires.few.0 in
+    let same = length-map (queries_of c.args.plan.now) (λ q. query_tree q.query) in
+    omega (arith, some, same)
 
 pub write_outputs-requires-clause-kept : goal.write_outputs-requires-clause-kept
 write_outputs-requires-clause-kept g c =
@@ -57,9 +60,7 @@ write_outputs-requires-clause-kept g c =
     let laws = c.archives_come_in_batches.ensures in
     let after = source c.next.new.source in
     let long = kept_long queries was.known.outcomes kept was.found.kept_ in
-    let a = length-map c.loop-turn.kept.items (λ row. row.items) in
-    let b = length-map (queries_of c.args.plan.now) _ in
-    ?
+    sym (length-map c.loop-turn.kept.items (λ row. row.items)) ∙ long ∙ length-map (queries_of c.args.plan.now) (λ q. query_tree q.query)
 
 pub returns-in-Ok-None-clause-answers : goal.returns-in-Ok-None-clause-answers
 returns-in-Ok-None-clause-answers g c =
@@ -188,7 +189,11 @@ keep_batch-requires-clause-queries g c =
     let was = c.loop-turn.invariant.0 in
     let laws = c.archives_come_in_batches.ensures in
     let after = source c.next.new.source in
-    ?
+    let long = kept_long queries was.known.outcomes kept was.found.kept_ in
+    let same = length-map c.loop-turn.kept.items (λ row. row.items) in
+    let some = c.requires.few.0 in
+    let few = c.requires.few.1 in
+    (omega (arith, long, same, some), omega (arith, long, same, few))
 
 pub keep_batch-requires-clause-rows : goal.keep_batch-requires-clause-rows
 keep_batch-requires-clause-rows g c =
@@ -210,7 +215,8 @@ keep_batch-requires-clause-rows g c =
     let now = place_of c.args.settings.limit c.next.new.self (source c.args.source.now) after in
     let rows = answers_in c.in-Ok.answers in
     let a = answered laws c.ordered_answers_stand_beside_their_games.ensures queries _ rows c.in-Ok.ensures in
-    ?
+    many_counted queries _ rows c.in-Ok.ensures ∙ sym (kept_long queries was.known.outcomes kept was.found.kept_)
+    ∙ length-map c.loop-turn.kept.items (λ row. row.items)
 
 pub keep_batch-requires-clause-games : goal.keep_batch-requires-clause-games
 keep_batch-requires-clause-games g c =
@@ -349,7 +355,9 @@ loop-turn-preserved g c =
     let new_sinks = sinks_of (out c.args.out.now) (out c.keep_batch.new.out) (err c.args.err.now) (err c.keep_batch.new.err) in
     let does = c.keep_batch.ensures queries turn.known.outcomes a.outcomes (out c.args.out.now) (err c.args.err.now)
     (follows queries now sinks c.loop-turn.tally kept _ c.loop-turn._turn rows turn a) turn.found in
-    ?
+    let next = turn_done now run.Found (λ rs. FoundByAll queries rs new_sinks c.keep_batch.new.tally (map (λ row. row.items) c.keep_batch.new.kept.items)) _
+    c.loop-turn._turn a.outcomes turn a.are_read (rw c.in-Ok-keep_batch.is at does) in
+    (next.0, g.met.S.Source.follows_on c.args.source.now c.loop-turn.source c.next.new.source c.loop-turn.invariant.1 c.next.ensures.next, next.1)
 
 pub unreachable-requires : goal.unreachable-requires
 unreachable-requires g c =
@@ -365,4 +373,6 @@ unreachable-requires g c =
     let laws = c.archives_come_in_batches.ensures in
     let after = source c.next.new.source in
     let few = rounds_few laws place was.known.front was.known.m was.known.reached in
-    ?
+    let turns = c.loop-turn.invariant.2 in
+    let over : c.args.settings.limit + 3 ≤ c.loop-turn._turn = search rules in
+    omega (arith, few, turns, over)
