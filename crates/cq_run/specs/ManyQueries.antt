@@ -1,6 +1,6 @@
 -- What several queries ask to be written, over one reading of an archive.
 use Rattle.std.specs.Prelude.{◌≡◌, ℕ, ◌+◌, List, [], ◌∷◌, ◌++◌, length, count_by}
-use Rattle.std.specs.List.{flat_map}
+use Rattle.std.specs.List.{AllZip, flat_map}
 use Rattle.cql_syntax.specs.Trees.{QueryTree}
 use Rattle.cq_report.specs.Games.{head_line}
 use Rattle.cq_shards.specs.Outcomes.{Outcome}
@@ -10,10 +10,7 @@ use Rattle.cq_run.specs.Promise.{Texts, Wanted}
 
 -- each query has these exports
 abbrev pub HaveExports : List QueryTree → List Outcome → List (List ℕ) → Type 0
-HaveExports [] outcomes [] = Unit {0}
-HaveExports [] outcomes (t ∷ ts) = ⊥
-HaveExports (q ∷ qs) outcomes [] = ⊥
-HaveExports (q ∷ qs) outcomes (t ∷ ts) = AreExports q outcomes t × HaveExports qs outcomes ts
+HaveExports queries outcomes exports = AllZip (λ query text. AreExports query outcomes text) queries exports
 
 -- the output of a query: the line with its number and the length of its exports, and then these
 abbrev pub output_of : ℕ → List ℕ → List ℕ

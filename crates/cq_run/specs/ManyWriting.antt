@@ -1,6 +1,7 @@
 -- What answering several queries leaves, as the private functions give it. Of each query a row: its answers of a batch, or the matches
 -- that are kept for it.
 use Rattle.std.specs.Prelude.{◌≡◌, ℕ, ◌+◌, ◌<◌, ◌≤◌, List, [], ◌∷◌, ◌++◌, length, take, map, filter, get_or, AllPairs, Result, Ok, Err}
+use Rattle.std.specs.List.{AllZip}
 use Rattle.std.specs.List.Sorted.{IsPermutation}
 use Rattle.cq_outside.specs.Faults.{Rose}
 use Rattle.cq_outside.specs.Flow.{Grew}
@@ -29,10 +30,7 @@ IsRowOf query number outcomes row = (ordered : List GameAnswer) → IsRowOrdered
 
 -- each query has such a row
 abbrev pub AreRowsOf : List QueryTree → ℕ → List Outcome → List (List GameAnswer) → Type 0
-AreRowsOf [] number outcomes [] = Unit {0}
-AreRowsOf [] number outcomes (row ∷ rows) = ⊥
-AreRowsOf (q ∷ qs) number outcomes [] = ⊥
-AreRowsOf (q ∷ qs) number outcomes (row ∷ rows) = IsRowOf q number outcomes row × AreRowsOf qs number outcomes rows
+AreRowsOf queries number outcomes rows = AllZip (λ query row. IsRowOf query number outcomes row) queries rows
 
 -- the matches of a row are added to those kept before
 abbrev pub AddsMatches : (row before after : List GameAnswer) → Type 0
