@@ -1,5 +1,5 @@
 -- The answers of one game to several queries, made from the last query's to the first one's.
-use Rattle.std.proofs.Common.{◌≡◌, ◌≢◌, ℕ, ◌+◌, ◌-◌, ◌<◌, ◌≤◌, ℤ, List, [], ◌∷◌, ◌++◌, length, get_or, map, drop, Some, zero, suc, refl, ap, ap₂, sym, subst, ◌∙◌, arith}
+use Rattle.std.proofs.Common.{◌≡◌, ◌≢◌, ℕ, ◌+◌, ◌-◌, ◌<◌, ◌≤◌, ℤ, List, [], ◌∷◌, ◌++◌, length, get_or, map, drop, Some, zero, suc, ap, ap₂, sym, ◌∙◌, arith}
 use Rattle.std.proofs.lemmas.List.{drop_more, get_or-map, length-map}
 use Rattle.cq_position.specs.Games.{Game}
 use Rattle.cql_syntax.specs.Hits.{hits, keys}
@@ -34,27 +34,14 @@ pub tree_at : (queries : List TypedQuery) (k : ℕ) (q : TypedQuery) → k < len
 tree_at queries k q inside at = ap (λ (p : TypedQuery). query_tree p.query) at ∙ sym (get_or-map (λ (p : TypedQuery). query_tree p.query) queries k q (query_tree q.query) inside)
 
 pub tree_count : (queries : List TypedQuery) → length (trees_of queries) ≡ length queries
-tree_count queries = length-map (λ (p : TypedQuery). query_tree p.query) queries
+tree_count queries = length-map queries (λ (p : TypedQuery). query_tree p.query)
 
 -- the hits and the keys of one query
 pub hits_at : (queries : List QueryTree) (game : Game) (found : List (List ℕ)) (k : ℕ) (q : QueryTree) → k < length queries → q ≡ get_or queries k q
     → found ≡ map (λ p. hits p game) queries → get_or found k [] ≡ hits q game
 hits_at queries game found k q inside at are = ap (λ fs. get_or fs k []) are ∙ get_or-map (λ p. hits p game) queries k q [] inside ∙ ap (λ p. hits p game) (sym at)
 
-pub hits_count : (queries : List QueryTree) (game : Game) (found : List (List ℕ)) → found ≡ map (λ p. hits p game) queries → length found ≡ length queries
-hits_count queries game found are = ap length are ∙ length-map (λ p. hits p game) queries
-
-pub keys_count : (game : Game) (queries : List QueryTree) (found : List (List ℕ)) (kss : List (List ℤ)) → HaveKeys game queries found kss → length kss ≡ length queries
-keys_count game [] [] [] have = refl
-keys_count game (q ∷ qs) (ns ∷ nss) (ks ∷ kss) have = ap suc (keys_count game qs nss kss have.1)
-keys_count game [] [] (ks ∷ kss) have = absurd have
-keys_count game [] (ns ∷ nss) [] have = absurd have
-keys_count game [] (ns ∷ nss) (ks ∷ kss) have = absurd have
-keys_count game (q ∷ qs) [] [] have = absurd have
-keys_count game (q ∷ qs) [] (ks ∷ kss) have = absurd have
-keys_count game (q ∷ qs) (ns ∷ nss) [] have = absurd have
-
-pub keyed_at : (game : Game) (queries : List QueryTree) (found : List (List ℕ)) (kss : List (List ℤ)) (k : ℕ) (d : QueryTree) → HaveKeys game queries found kss → k < length queries
+keyed_at : (game : Game) (queries : List QueryTree) (found : List (List ℕ)) (kss : List (List ℤ)) (k : ℕ) (d : QueryTree) → HaveKeys game queries found kss → k < length queries
     → IsKeyed game (get_or queries k d) (get_or found k []) (get_or kss k [])
 keyed_at game (q ∷ qs) (ns ∷ nss) (ks ∷ kss) zero d have inside = have.0
 keyed_at game (q ∷ qs) (ns ∷ nss) (ks ∷ kss) (suc k) d have inside = keyed_at game qs nss kss k d have.1 (omega (arith, inside))
