@@ -1,4 +1,4 @@
-use Rattle.std.proofs.Common.{refl, rules, arith}
+use Rattle.std.proofs.Common.{rules, arith}
 use Rattle.cq_shared.specs.Plans.{queries_of, trees_of}
 use Rattle.cq_shards.specs.Rows.{IsRowFor}
 use Rattle.cq_shards.proofs.RowDraws.{index_of, is_through, numbered, starts_answering}

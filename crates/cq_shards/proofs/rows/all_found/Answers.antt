@@ -1,4 +1,4 @@
-use Rattle.std.proofs.Common.{◌-◌, ◌<◌, length, ap, arith, Ok, ◌∙◌}
+use Rattle.std.proofs.Common.{◌-◌, ap, arith, Ok, ◌∙◌}
 use Rattle.cql_syntax.specs.TreeOf.{query_tree}
 use Rattle.cq_shared.specs.Plans.{queries_of, trees_of}
 use Rattle.cq_shared.specs.Verdicts as all

@@ -1,4 +1,4 @@
-use Rattle.std.proofs.Common.{refl, rules, arith}
+use Rattle.std.proofs.Common.{rules, arith}
 use Rattle.cq_shards.specs.Answers.{query_in}
 use Rattle.cq_shards.specs.Work.{IsAnswerFor}
 use Rattle.cq_shards.proofs.AnswerDraws.{index_of, is_through, numbered, starts_answering}
