@@ -1,4 +1,4 @@
-use Rattle.std.proofs.Common.{Some, length-append, ◌≡◌, ◌∷◌, [], ◌++◌, length, refl, ap, arith, All, rules}
+use Rattle.std.proofs.Common.{Some, ◌≡◌, [], refl, rules}
 use Rattle.std.proofs.lemmas.List.Elements.{All-pop}
 use Rattle.cq_board.specs.Seats.{IsSeatOf, drawn, HasEnded}
 use Rattle.cq_shards.specs.Finders.{IsUnusedMark}
