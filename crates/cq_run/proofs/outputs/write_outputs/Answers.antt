@@ -1,4 +1,4 @@
-use Rattle.std.proofs.Common.{Global, Vec, map, Err, ap, ◌∙◌}
+use Rattle.std.proofs.Common.{Global, Vec, map, Ok, Err, ap, ◌∙◌}
 use Rattle.cq_shards.specs.declared.answers.GameAnswer.{GameAnswer}
 use Rattle.cq_shared.specs.Plans.{queries_of, trees_of}
 use Rattle.cq_run.specs.ManyQueries.{texts_of_all}
@@ -25,7 +25,13 @@ returns-in-Ok-write_each g c = λ rs first second found.
     let ordered = map (λ (row : Vec GameAnswer Global). row.items) rows in
     let ends = ends_of (queries_of c.args.plan.now) rs sinks c.args.tally (map (λ (row : Vec GameAnswer Global). row.items) c.args.kept.items) ordered c.requires.some found
     c.in-Ok.ensures in
-    ?
+    ended c.write_summaries.result (texts_of_all queries) rs (with_out sinks (out c.write_each.new.out)) (err c.write_summaries.new.err) c.args.tally.refused
+    (lines_of c.args.tally ordered)
+    (outputs_written queries rs sinks (out c.write_each.new.out) c.args.tally ordered ends
+    (rows_written (λ (row : Vec GameAnswer Global). row.items) rows c.as_slice.result.now (out c.args.out.now) (out c.write_each.new.out) (Ok tt) c.as_slice.ensures.value
+    c.in-Ok-write_each.ensures))
+    (rows_told (λ (row : Vec GameAnswer Global). row.items) c.args.tally rows c.as_slice-in-Ok-write_each.result.now (err c.args.err.now) (err c.write_summaries.new.err)
+    c.write_summaries.result c.as_slice-in-Ok-write_each.ensures.value c.write_summaries.ensures)
 
 pub returns-in-Err-Fault : goal.returns-in-Err-Fault
 returns-in-Err-Fault g c = λ rs first second found.
@@ -41,8 +47,8 @@ returns-in-Err-Fault g c = λ rs first second found.
     c.as_slice.ensures.value c.write_each.ensures in
     outputs_failed queries rs sinks (out c.write_each.new.out) c.args.tally ordered _ ends (rw (c.in-Err-Fault.is ∙ ap Err c.in-Err-Fault.field-0-is) at did)
 
-pub returns-in-Err-NoMemory : goal.returns-in-Err-NoMemory
-returns-in-Err-NoMemory g c = λ rs first second found.
+pub returns : goal.returns
+returns g c = λ rs first second found.
     let out = sink_view g.O.Sink.taken g.O.Sink.faults in
     let err = sink_view g.E.Sink.taken g.E.Sink.faults in
     let queries = trees_of (queries_of c.args.plan.now) in
