@@ -18,18 +18,18 @@ use Rattle.cql_syntax.specs.TreeOf.{query_tree}
 use Rattle.cql_syntax.specs.Trees.{QueryTree}
 use Rattle.cql_syntax.specs.declared.typed.TypedQuery.{TypedQuery}
 use Rattle.cq_shared.specs.Plans.{trees_of}
-use Rattle.cq_report.specs.Games.{head_line, summary_line}
+use Rattle.cq_report.specs.Games.{summary_line}
 use Rattle.cq_shards.specs.Order.{AreApart, ComesBefore, HasKeys, directions, is_match as is_match_kept}
 use Rattle.cq_shards.specs.Outcomes.{Outcome}
 use Rattle.cq_shards.specs.declared.answers.GameAnswer.{GameAnswer}
 use Rattle.cq_run.specs.declared.status.Status.{Status}
 use Rattle.cq_run.specs.declared.status.Status.TheVariants.{NoMemory, WriteFault}
 use Rattle.cq_run.specs.declared.tally.Tally.{Tally}
-use Rattle.cq_run.specs.Answer.{fault_lines, is_match, is_refused, summary_of, tally_of}
-use Rattle.cq_run.specs.Exports.{AreExports, exports_of, matches_from}
+use Rattle.cq_run.specs.Answer.{fault_lines, is_match, is_refused}
+use Rattle.cq_run.specs.Exports.{exports_of}
 use Rattle.cq_run.specs.ManyQueries.{AreAllAnswers, HaveExports, faults_alone, output_of, outputs_from, summaries, texts_of_all}
 use Rattle.cq_run.specs.ManyWriting.{AreInOrder, FoundByAll, WritesOut}
-use Rattle.cq_run.specs.Promise.{SinkView, Sinks, Texts, Unfinished, WritesPart, NoWriteFailed, OneSinkFailed}
+use Rattle.cq_run.specs.Promise.{SinkView, Sinks, Texts, Unfinished, WritesPart}
 use Rattle.cq_run.specs.Writing.{InOrder, WritesAnswer, WritesLast, WritesText}
 use Rattle.cq_run.proofs.Exports.{sorted_exports, sorted_same}
 use Rattle.cq_run.proofs.GameByGame.{AllButLast, as_prefix, both_prefix}
@@ -100,7 +100,7 @@ outputs_around f xs i x inside is =
     ∙ ap (λ l. outputs_from 1 (map f l)) (take-append-drop (i + 1) xs)
 
 -- the query of a plan that has this number
-pub query_at : (queries : List TypedQuery) (n : ℕ) (t : TypedQuery) (q : QueryTree) → n < length queries → t ≡ get_or queries n t
+query_at : (queries : List TypedQuery) (n : ℕ) (t : TypedQuery) (q : QueryTree) → n < length queries → t ≡ get_or queries n t
     → query_tree t.query ≡ get_or (trees_of queries) n q
 query_at queries n t q inside is =
     ap (λ (u : TypedQuery). query_tree u.query) is ∙ sym (get_or-map (λ (u : TypedQuery). query_tree u.query) queries n t q inside)
@@ -253,7 +253,7 @@ order_here queries ks os k o i q so order (inl less) below =
     subst (λ l. InOrder (get_or queries i q) l (get_or (os ++ o ∷ []) i [])) (sym (get_or_append_left ks (k ∷ []) [] i less))
     (subst (InOrder (get_or queries i q) (get_or ks i [])) (sym (get_or_append_left os (o ∷ []) [] i (omega (arith, less, count)))) (so.each i q less))
 
-pub one_more_ordered : (queries : List QueryTree) (ks os : List (List GameAnswer)) (k o : List GameAnswer) → AreInOrder queries ks os
+one_more_ordered : (queries : List QueryTree) (ks os : List (List GameAnswer)) (k o : List GameAnswer) → AreInOrder queries ks os
     → ((q : QueryTree) → InOrder (get_or queries (length os) q) k o) → AreInOrder queries (ks ++ k ∷ []) (os ++ o ∷ [])
 one_more_ordered queries ks os k o so order = record {
   count = length-append os (o ∷ []) ∙ ap (λ n. n + 1) so.count ∙ sym (length-append ks (k ∷ []));
@@ -299,10 +299,10 @@ ordered_few items queries kept ys more os y is so =
     let long = ap length is ∙ length-append ys (y ∷ more) in
     omega (arith, count, a, b, long)
 
-pub outputs_of_rows : {X : Type 0} (items : X → List GameAnswer) (rows : List X) → outputs_from 1 (map (λ row. exports_of (items row)) rows) ≡ outputs_in (map items rows)
+outputs_of_rows : {X : Type 0} (items : X → List GameAnswer) (rows : List X) → outputs_from 1 (map (λ row. exports_of (items row)) rows) ≡ outputs_in (map items rows)
 outputs_of_rows items rows = ap (outputs_from 1) (sym (map-map exports_of items rows))
 
-pub lines_of_rows : {X : Type 0} (items : X → List GameAnswer) (tally : Tally) (rows : List X)
+lines_of_rows : {X : Type 0} (items : X → List GameAnswer) (tally : Tally) (rows : List X)
     → flat_map (λ row. summary_line tally.games (length (items row)) tally.refused) rows ≡ lines_of tally (map items rows)
 lines_of_rows items tally rows = sym (flat_map-map (λ row. summary_line tally.games (length row) tally.refused) items rows)
 

@@ -1,7 +1,6 @@
 -- Of several queries the answers of a batch, and the matches that are kept.
-use Rattle.std.proofs.Common.{◌≡◌, ◌⊎◌, inl, inr, ℕ, zero, suc, ◌+◌, ◌<◌, ◌≤◌, Bool, true, false, List, [], ◌∷◌, ◌++◌, length, map, filter, get_or, set, append_assoc, arith, refl, ap, ap₂, sym, ◌∙◌, cond, subst, Ok, Err, ℤ}
-use Rattle.std.specs.Prelude.{AllPairs, count_by}
-use Rattle.std.specs.List.Sorted.{IsPermutation}
+use Rattle.std.proofs.Common.{◌≡◌, ◌⊎◌, inl, inr, ℕ, zero, suc, ◌+◌, ◌<◌, ◌≤◌, Bool, true, false, List, [], ◌∷◌, ◌++◌, length, map, filter, get_or, set, append_assoc, arith, refl, ap, ap₂, sym, ◌∙◌, cond, subst, Ok, Err}
+use Rattle.std.specs.Prelude.{count_by}
 use Rattle.std.proofs.lemmas.Bool.{cases_lt}
 use Rattle.std.proofs.lemmas.List.{ext_get_or, get_or-map, get_or-set_same, get_or-set_other, length-map, length-set, map-set}
 use Rattle.std.proofs.lemmas.List.Elements.{filter-append}
@@ -206,7 +205,7 @@ adds_here i j rows left before after new so inside adds some (inr from) below =
 adds_here i j rows left before after new so inside adds some (inl less) below =
     subst (AddsMatches (get_or rows j []) (get_or before j [])) (sym (get_or-set_other after i j new [] (λ e. omega (arith, less, e)))) (so.done j some less)
 
-pub one_of_rest : (i : ℕ) (rows left before after : List (List GameAnswer)) (new : List GameAnswer) → KeepsFirst i rows left before after → 1 ≤ i → i < length after
+one_of_rest : (i : ℕ) (rows left before after : List (List GameAnswer)) (new : List GameAnswer) → KeepsFirst i rows left before after → 1 ≤ i → i < length after
     → AddsMatches (get_or left i []) (get_or after i []) new → KeepsFirst (i + 1) rows (set left i []) before (set after i new)
 one_of_rest i rows left before after new so from inside adds = record {
   count = length-set after i new ∙ so.count;
@@ -217,7 +216,7 @@ one_of_rest i rows left before after new so from inside adds = record {
   rows_later = λ j more. get_or-set_other left i j [] [] (λ e. omega (arith, more, e)) ∙ so.rows_later j (omega (arith, more));
 }
 
-pub all_of_rest : (i : ℕ) (rows left before after : List (List GameAnswer)) → KeepsFirst i rows left before after → length after ≤ i → KeepsRest rows before after
+all_of_rest : (i : ℕ) (rows left before after : List (List GameAnswer)) → KeepsFirst i rows left before after → length after ≤ i → KeepsRest rows before after
 all_of_rest i rows left before after so all = record {
   count = so.count;
   first = so.first;

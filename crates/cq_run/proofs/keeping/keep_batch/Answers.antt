@@ -1,4 +1,4 @@
-use Rattle.std.proofs.Common.{true, Global, Vec, [], Ok, Err, List, length, map, get_or, ap, sym, ◌∙◌, subst, arith}
+use Rattle.std.proofs.Common.{true, Global, Vec, Err, List, map, ap, sym, ◌∙◌, subst, arith}
 use Rattle.std.proofs.lemmas.List.{length-map}
 use Rattle.std.proofs.lemmas.Result.{err_from_is_err_and}
 use Rattle.cq_shards.specs.Many.{answers_in}

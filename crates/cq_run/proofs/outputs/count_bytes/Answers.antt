@@ -1,4 +1,4 @@
-use Rattle.std.proofs.Common.{◌≡◌, ◌+◌, ◌++◌, ◌*◌, ◌^◌, ◌<◌, ◌≤◌, length, length-append, take, ap, sym, ◌∙◌, arith, rules}
+use Rattle.std.proofs.Common.{◌+◌, ◌++◌, ◌<◌, ◌≤◌, length, length-append, take, ap, sym, ◌∙◌, arith, rules}
 use Rattle.std.proofs.lemmas.List.{take_all}
 use Rattle.cq_run.specs.Exports.{exports_of}
 use Rattle.cq_run.proofs.Kept.{exports_more}

@@ -1,4 +1,4 @@
-use Rattle.std.proofs.Common.{[], ◌∷◌, ◌++◌, Ok, Err, ap, ap₂, refl, sym, subst, ◌∙◌}
+use Rattle.std.proofs.Common.{[], ◌++◌, Err, ap, refl, ◌∙◌}
 use Rattle.std.proofs.lemmas.Result.{err_from_is_err_and}
 use Rattle.cq_report.specs.Games.{head_line}
 use Rattle.cq_run.specs.Exports.{exports_of}
