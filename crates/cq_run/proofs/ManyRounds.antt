@@ -38,7 +38,7 @@ use Rattle.cq_run.proofs.Sorted.{StandBeside}
 
 -- ---- what is asked for
 
-faults_grow : (rs qs : List Outcome) (sinks : Sinks) → WritesPrefix sinks (faults_alone rs) → WritesPrefix sinks (faults_alone (rs ++ qs))
+pub faults_grow : (rs qs : List Outcome) (sinks : Sinks) → WritesPrefix sinks (faults_alone rs) → WritesPrefix sinks (faults_alone (rs ++ qs))
 faults_grow rs qs sinks writes =
     both_prefix sinks (faults_alone (rs ++ qs)) (record {
       out = took_count sinks.out.taken sinks.out_after.taken [] writes.out_count writes.out;
