@@ -1,4 +1,4 @@
-use Rattle.std.proofs.Common.{subst}
+use Rattle.std.proofs.Common.{subst, rules}
 use Rattle.cq_shared.specs.Plans.{queries_of, trees_of}
 use Rattle.cq_run.specs.ManyQueries.{texts_of_all}
 use Rattle.cq_run.specs.Promise.{AnswerPromise, source_view, sink_view, sinks_of}
@@ -7,7 +7,8 @@ use Rattle.cq_run.proofs.ManyRounds.{asked_of_all, few_trees}
 use Rattle.cq_run.proofs.all_queries.answer_many.Goals as goal
 
 pub answer_each-requires-clause-few : goal.answer_each-requires-clause-few
-answer_each-requires-clause-few g c κs = few_trees c.args.queries.now (trees_of (queries_of c.in-Ok.plan)) c.in-Ok.ensures c.requires.few.0 c.requires.few.1
+answer_each-requires-clause-few g c =
+    search (rules, few_trees c.args.queries.now (trees_of (queries_of c.in-Ok.plan)) c.in-Ok.ensures c.requires.few.0 c.requires.few.1)
 
 pub returns-clause-answers : goal.returns-clause-answers
 returns-clause-answers g c =
