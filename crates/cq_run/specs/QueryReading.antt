@@ -41,7 +41,8 @@ RefusesFile reading name desk after Unread = FailsToRead reading.most name desk 
 RefusesFile reading name desk after OutOfMemory = LacksMemory reading.most name desk after
 
 -- reading a file: what is taken of it is accepted as what is shown
-abbrev pub ReadsFile : {Q F T : Type 0} → Reading Q F → (T → Q) → List ℕ → DeskView → DeskView → Result T (FileRefusal F) → Type 0
+abbrev pub ReadsFile : {Q F T : Type 0} → Reading Q F → (T → Q) → List ℕ → DeskView → DeskView → Result T (FileRefusal F)
+    → Type 0
 ReadsFile reading shown name desk after (Ok found) =
     (text : List ℕ) × TakesQuery reading.most name desk after text × reading.Is text (shown found)
 ReadsFile reading shown name desk after (Err why) = RefusesFile reading name desk after why
