@@ -197,10 +197,7 @@ fn answer_one<R: Threads + Sync, D: Desk, O: Sink, E: Sink, G: Gate + Sync>(
             let (text, archive) = (text.as_slice(), archive.as_slice());
             answer_text(rt, alloc, text, archive, settings, desk, out, err, gate)
         }
-        Job::Check { .. } => unreachable!(),
-        Job::Explain { .. } => unreachable!(),
-        Job::SelfRun { .. } => unreachable!(),
-        Job::Many { .. } => unreachable!(),
+        _ => unreachable!(),
     }
 }
 
