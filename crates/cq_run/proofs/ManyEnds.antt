@@ -1,6 +1,6 @@
 -- Writing what several queries find in an archive, once it was read to its end.
 use Rattle.std.proofs.Common.{◌≡◌, ℕ, zero, suc, ◌+◌, ◌<◌, ◌≤◌, List, [], ◌∷◌, ◌++◌, ◌⊎◌, length, length-append, map, replicate, take, drop, get_or, append-nil, append_assoc, arith, refl, ap, ap₂, sym, ◌∙◌, subst, inl, inr, Ok, Err, Option}
-use Rattle.std.specs.Prelude.{Result, count_by}
+use Rattle.std.specs.Prelude.{All, AllPairs, Result, count_by, filter}
 use Rattle.std.specs.List.{flat_map}
 use Rattle.std.specs.List.Sorted.{IsPermutation}
 use Rattle.std.proofs.lemmas.Bool.{cases_lt}
@@ -18,17 +18,19 @@ use Rattle.cql_syntax.specs.TreeOf.{query_tree}
 use Rattle.cql_syntax.specs.Trees.{QueryTree}
 use Rattle.cql_syntax.specs.declared.typed.TypedQuery.{TypedQuery}
 use Rattle.cq_shared.specs.Plans.{trees_of}
-use Rattle.cq_report.specs.Games.{head_line, summary_line}
+use Rattle.cq_report.specs.Games.{summary_line}
+use Rattle.cq_shards.specs.Order.{AreApart, ComesBefore, HasKeys, directions, is_match as is_match_kept}
 use Rattle.cq_shards.specs.Outcomes.{Outcome}
 use Rattle.cq_shards.specs.declared.answers.GameAnswer.{GameAnswer}
+use Rattle.cq_run.specs.declared.status.Status.{Status}
 use Rattle.cq_run.specs.declared.status.Status.TheVariants.{NoMemory, WriteFault}
 use Rattle.cq_run.specs.declared.tally.Tally.{Tally}
-use Rattle.cq_run.specs.Answer.{fault_lines, is_match, is_refused, summary_of, tally_of}
-use Rattle.cq_run.specs.Exports.{AreExports, exports_of, matches_from}
+use Rattle.cq_run.specs.Answer.{fault_lines, is_match, is_refused}
+use Rattle.cq_run.specs.Exports.{exports_of}
 use Rattle.cq_run.specs.ManyQueries.{AreAllAnswers, HaveExports, faults_alone, output_of, outputs_from, summaries, texts_of_all}
 use Rattle.cq_run.specs.ManyWriting.{AreInOrder, FoundByAll, WritesOut}
-use Rattle.cq_run.specs.Promise.{SinkView, Sinks, Texts, Unfinished, WritesPart, NoWriteFailed, OneSinkFailed}
-use Rattle.cq_run.specs.Writing.{InOrder, WritesAnswer, WritesText}
+use Rattle.cq_run.specs.Promise.{SinkView, Sinks, Texts, Unfinished, WritesPart}
+use Rattle.cq_run.specs.Writing.{InOrder, WritesAnswer, WritesLast, WritesText}
 use Rattle.cq_run.proofs.Exports.{sorted_exports, sorted_same}
 use Rattle.cq_run.proofs.GameByGame.{AllButLast, as_prefix, both_prefix}
 use Rattle.cq_run.proofs.Rows.{kept_of, matches_counted}
@@ -52,7 +54,7 @@ line_written line text whole before mid after (Err (Fault _)) is grew same write
     (then_part before.taken mid.taken after.taken line text [] whole (ap (λ l. line ++ l) (append-nil text) ∙ is) grew writes.0, subst (λ n. Rose n after.faults) same writes.1)
 line_written line text whole before mid after (Err IsNoMemory) is grew same none = absurd none
 
-outputs_none : (n : ℕ) → outputs_from n [] ≡ []
+pub outputs_none : (n : ℕ) → outputs_from n [] ≡ []
 unfolding outputs_from
 outputs_none n = refl
 
@@ -98,7 +100,7 @@ outputs_around f xs i x inside is =
     ∙ ap (λ l. outputs_from 1 (map f l)) (take-append-drop (i + 1) xs)
 
 -- the query of a plan that has this number
-pub query_at : (queries : List TypedQuery) (n : ℕ) (t : TypedQuery) (q : QueryTree) → n < length queries → t ≡ get_or queries n t
+query_at : (queries : List TypedQuery) (n : ℕ) (t : TypedQuery) (q : QueryTree) → n < length queries → t ≡ get_or queries n t
     → query_tree t.query ≡ get_or (trees_of queries) n q
 query_at queries n t q inside is =
     ap (λ (u : TypedQuery). query_tree u.query) is ∙ sym (get_or-map (λ (u : TypedQuery). query_tree u.query) queries n t q inside)
@@ -251,7 +253,7 @@ order_here queries ks os k o i q so order (inl less) below =
     subst (λ l. InOrder (get_or queries i q) l (get_or (os ++ o ∷ []) i [])) (sym (get_or_append_left ks (k ∷ []) [] i less))
     (subst (InOrder (get_or queries i q) (get_or ks i [])) (sym (get_or_append_left os (o ∷ []) [] i (omega (arith, less, count)))) (so.each i q less))
 
-pub one_more_ordered : (queries : List QueryTree) (ks os : List (List GameAnswer)) (k o : List GameAnswer) → AreInOrder queries ks os
+one_more_ordered : (queries : List QueryTree) (ks os : List (List GameAnswer)) (k o : List GameAnswer) → AreInOrder queries ks os
     → ((q : QueryTree) → InOrder (get_or queries (length os) q) k o) → AreInOrder queries (ks ++ k ∷ []) (os ++ o ∷ [])
 one_more_ordered queries ks os k o so order = record {
   count = length-append os (o ∷ []) ∙ ap (λ n. n + 1) so.count ∙ sym (length-append ks (k ∷ []));
@@ -261,13 +263,68 @@ one_more_ordered queries ks os k o so order = record {
 pub none_ordered_yet : (queries : List QueryTree) → AreInOrder queries [] []
 none_ordered_yet queries = record { count = refl; each = λ i q below. absurd (omega (arith, below)) }
 
+-- a query of a plan orders what is kept for it
+pub ordered_by : (queries : List TypedQuery) (n : ℕ) (t : TypedQuery) (ks os : List GameAnswer) → n < length queries → t ≡ get_or queries n t
+    → IsPermutation (filter is_match_kept ks) os
+    → (AreApart ks → All (HasKeys (directions (query_tree t.query).items)) ks → AllPairs (ComesBefore (directions (query_tree t.query).items)) os)
+    → (q : QueryTree) → InOrder (get_or (trees_of queries) n q) ks os
+ordered_by queries n t ks os inside is same order = λ q. subst (λ r. InOrder r ks os) (query_at queries n t q inside is) (record { same = same; order = order })
+
 -- of rows in vectors
-pub outputs_of_rows : {X : Type 0} (items : X → List GameAnswer) (rows : List X) → outputs_from 1 (map (λ row. exports_of (items row)) rows) ≡ outputs_in (map items rows)
+pub more_ordered : {X : Type 0} (items : X → List GameAnswer) (queries : List QueryTree) (ys os now : List X) (y o : X) → AreInOrder queries (map items ys) (map items os)
+    → now ≡ os ++ o ∷ [] → ((q : QueryTree) → InOrder (get_or queries (length os) q) (items y) (items o)) → AreInOrder queries (map items (ys ++ y ∷ [])) (map items now)
+more_ordered items queries ys os now y o so pushed order =
+    subst (λ l. AreInOrder queries (map items (ys ++ y ∷ [])) (map items l)) (sym pushed)
+    (subst (λ ks. AreInOrder queries ks (map items (os ++ o ∷ []))) (sym (map-append items ys (y ∷ [])))
+    (subst (AreInOrder queries (map items ys ++ items y ∷ [])) (sym (map-append items os (o ∷ [])))
+    (one_more_ordered queries (map items ys) (map items os) (items y) (items o) so
+    (λ q. subst (λ n. InOrder (get_or queries n q) (items y) (items o)) (sym (length-map os items)) (order q)))))
+
+none_left : {X : Type 0} (xs : List X) → length xs ≡ 0 → xs ≡ []
+none_left [] e = refl
+none_left (x ∷ xs) e = cc
+
+pub all_ordered : {X : Type 0} (items : X → List GameAnswer) (queries : List QueryTree) (kept ys rest os : List X) → kept ≡ ys ++ rest → length rest ≡ 0
+    → AreInOrder queries (map items ys) (map items os) → AreInOrder queries (map items kept) (map items os)
+all_ordered items queries kept ys rest os is none so =
+    subst (λ ks. AreInOrder queries (map items ks) (map items os)) (sym (is ∙ ap (λ l. ys ++ l) (none_left rest none) ∙ append-nil ys)) so
+
+-- so many are put in order before the next
+pub ordered_few : {X : Type 0} (items : X → List GameAnswer) (queries : List QueryTree) (kept ys more os : List X) (y : X) → kept ≡ ys ++ y ∷ more
+    → AreInOrder queries (map items ys) (map items os) → length os < length kept
+ordered_few items queries kept ys more os y is so =
+    let count = so.count in
+    let a = length-map ys items in
+    let b = length-map os items in
+    let long = ap length is ∙ length-append ys (y ∷ more) in
+    omega (arith, count, a, b, long)
+
+outputs_of_rows : {X : Type 0} (items : X → List GameAnswer) (rows : List X) → outputs_from 1 (map (λ row. exports_of (items row)) rows) ≡ outputs_in (map items rows)
 outputs_of_rows items rows = ap (outputs_from 1) (sym (map-map exports_of items rows))
 
-pub lines_of_rows : {X : Type 0} (items : X → List GameAnswer) (tally : Tally) (rows : List X)
+lines_of_rows : {X : Type 0} (items : X → List GameAnswer) (tally : Tally) (rows : List X)
     → flat_map (λ row. summary_line tally.games (length (items row)) tally.refused) rows ≡ lines_of tally (map items rows)
 lines_of_rows items tally rows = sym (flat_map-map (λ row. summary_line tally.games (length row) tally.refused) items rows)
+
+-- so that they are written
+pub rows_written : {X : Type 0} (items : X → List GameAnswer) (rows given : List X) (before after : SinkView) (result : Result (Unit {0}) (Refusal Failed)) → given ≡ rows
+    → WritesOut (outputs_from 1 (map (λ row. exports_of (items row)) given)) before after result → WritesOut (outputs_in (map items rows)) before after result
+rows_written items rows given before after result is writes =
+    subst (λ t. WritesOut t before after result) (outputs_of_rows items rows)
+    (subst (λ xs. WritesOut (outputs_from 1 (map (λ row. exports_of (items row)) xs)) before after result) is writes)
+
+pub rows_told : {X : Type 0} (items : X → List GameAnswer) (tally : Tally) (rows given : List X) (before after : SinkView) (status : Status) → given ≡ rows
+    → WritesLast (flat_map (λ row. summary_line tally.games (length (items row)) tally.refused) given) tally.refused before after status
+    → WritesLast (lines_of tally (map items rows)) tally.refused before after status
+rows_told items tally rows given before after status is writes =
+    subst (λ t. WritesLast t tally.refused before after status) (lines_of_rows items tally rows)
+    (subst (λ xs. WritesLast (flat_map (λ row. summary_line tally.games (length (items row)) tally.refused) xs) tally.refused before after status) is writes)
+
+pub ends_of : (typed : List TypedQuery) (outcomes : List Outcome) (sinks : Sinks) (tally : Tally) (kept ordered : List (List GameAnswer)) → 1 ≤ length typed
+    → FoundByAll (trees_of typed) outcomes sinks tally kept → AreInOrder (trees_of typed) kept ordered → Ends (trees_of typed) outcomes sinks tally ordered
+ends_of typed outcomes sinks tally kept ordered some found sorts =
+    let long = length-map typed (λ (q : TypedQuery). query_tree q.query) in
+    record { some = omega (arith, some, long); kept = kept; found = found; sorts = sorts }
 
 -- one more for which nothing is kept
 pub none_more : {X : Type 0} (items : X → List GameAnswer) (rows : List X) (n : ℕ) (row : X) → map items rows ≡ replicate n [] → items row ≡ []

@@ -1,6 +1,6 @@
 -- Answering several queries batch by batch.
-use Rattle.std.proofs.Common.{◌≡◌, ℕ, ◌+◌, ◌^◌, ◌<◌, ◌≤◌, Bool, true, false, List, [], ◌∷◌, ◌++◌, length, map, get_or, set, replicate, refl, ap, sym, ◌∙◌, arith, subst, Ok, Err, inl, inr}
-use Rattle.std.specs.Prelude.{Result, count_by, OnOk}
+use Rattle.std.proofs.Common.{◌≡◌, ℕ, ◌+◌, ◌^◌, ◌<◌, ◌≤◌, true, false, List, [], ◌∷◌, ◌++◌, length, map, get_or, set, replicate, refl, ap, sym, ◌∙◌, arith, subst, Ok, Err}
+use Rattle.std.specs.Prelude.{Result}
 use Rattle.std.proofs.lemmas.List.{length-map}
 use Rattle.std.proofs.lemmas.List.Sums.{count_by-le-length}
 use Rattle.std.proofs.lemmas.Simd.{splat_is_map}
@@ -8,10 +8,12 @@ use Rattle.cq_outside.specs.Flow.{Grew}
 use Rattle.cq_outside.specs.declared.faults.Failed.{Failed}
 use Rattle.cq_outside.specs.declared.faults.Refusal.{Refusal}
 use Rattle.cq_outside.specs.declared.faults.Refusal.TheVariants.{Fault, NoMemory as IsNoMemory}
+use Rattle.cql_syntax.specs.TreeOf.{query_tree}
 use Rattle.cql_syntax.specs.Trees.{QueryTree}
+use Rattle.cql_syntax.specs.declared.typed.TypedQuery.{TypedQuery}
+use Rattle.cq_shared.specs.Plans.{trees_of}
 use Rattle.cq_shards.specs.Answers.{answers_from, games_of, number_of}
 use Rattle.cq_shards.specs.Many.{AreManyOf}
-use Rattle.cq_shards.specs.Nexts.{Moves, GivesBatch}
 use Rattle.cq_shards.specs.Outcomes.{AreKeptRead, Outcome}
 use Rattle.cq_shards.specs.Streams.{Stands}
 use Rattle.cq_shards.specs.declared.answers.GameAnswer.{GameAnswer}
@@ -23,7 +25,7 @@ use Rattle.cq_run.specs.Answer.{fault_lines, is_match, is_refused, tally_of}
 use Rattle.cq_run.specs.ByBatches.{Laws}
 use Rattle.cq_run.specs.Exports.{matches_from}
 use Rattle.cq_run.specs.ManyQueries.{faults_alone, texts_of_all}
-use Rattle.cq_run.specs.ManyWriting.{AreRowsOf, FoundByAll, IsRowOrdered, KeepsRest, KeepsSome}
+use Rattle.cq_run.specs.ManyWriting.{AreRowsOf, FoundByAll, IsRowOrdered, KeepsRest}
 use Rattle.cq_run.specs.Promise.{SinkView, SourceView, Sinks, Texts, Writes, WritesPrefix, NoWriteFailed, OneSinkFailed, sinks_of}
 use Rattle.cq_run.specs.Writing.{AnswersSome, FoundSoFar, Stand, stand_of}
 use Rattle.cq_run.proofs.AllRounds.{Rounds, Run, Turn, turn_few}
@@ -31,14 +33,14 @@ use Rattle.cq_run.proofs.AnswerPromise.{Asked}
 use Rattle.cq_run.proofs.Exports.{written_none}
 use Rattle.cq_run.proofs.GameByGame.{answers_count, as_prefix, both_prefix, fault_lines_on, no_fault_lines, same_stand, tally_with, took_more}
 use Rattle.cq_run.proofs.Given.{Rest, rest_of}
-use Rattle.cq_run.proofs.Reached.{Place, moved_to, no_reads, place_of}
-use Rattle.cq_run.proofs.Rows.{Keeping, Keeps, all_kept, kept_of, many_counted, row_at, rows_are}
+use Rattle.cq_run.proofs.Reached.{Place, no_reads, place_of}
+use Rattle.cq_run.proofs.Rows.{Keeping, all_kept, kept_of, row_at, rows_are}
 use Rattle.cq_run.proofs.Sinks.{Took, took_count, unwritten}
 use Rattle.cq_run.proofs.Sorted.{StandBeside}
 
 -- ---- what is asked for
 
-faults_grow : (rs qs : List Outcome) (sinks : Sinks) → WritesPrefix sinks (faults_alone rs) → WritesPrefix sinks (faults_alone (rs ++ qs))
+pub faults_grow : (rs qs : List Outcome) (sinks : Sinks) → WritesPrefix sinks (faults_alone rs) → WritesPrefix sinks (faults_alone (rs ++ qs))
 faults_grow rs qs sinks writes =
     both_prefix sinks (faults_alone (rs ++ qs)) (record {
       out = took_count sinks.out.taken sinks.out_after.taken [] writes.out_count writes.out;
@@ -182,6 +184,13 @@ no_rounds queries limit b source out err kept n count none stands same reads = r
     unfailed = record { out = refl; err = refl };
   };
 }
+
+-- there are as many as are asked
+pub few_trees : (queries : List TypedQuery) (trees : List QueryTree) → trees ≡ trees_of queries → 1 ≤ length queries → length queries ≤ 16
+    → (1 ≤ length trees) × (length trees ≤ 16)
+few_trees queries trees is some few =
+    let long : length trees ≡ length queries = ap length is ∙ length-map queries (λ (q : TypedQuery). query_tree q.query) in
+    (omega (arith, long, some), omega (arith, long, few))
 
 -- the tally counts no more than the games
 pub tally_few : (queries : List QueryTree) (rs : List Outcome) (sinks : Sinks) (tally : Tally) (kept : List (List GameAnswer)) → 1 ≤ length queries

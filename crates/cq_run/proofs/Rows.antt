@@ -1,9 +1,8 @@
 -- Of several queries the answers of a batch, and the matches that are kept.
-use Rattle.std.proofs.Common.{◌≡◌, ◌⊎◌, inl, inr, ℕ, zero, suc, ◌+◌, ◌<◌, ◌≤◌, Bool, true, false, List, [], ◌∷◌, ◌++◌, length, map, filter, get_or, set, append_assoc, arith, refl, ap, ap₂, sym, ◌∙◌, cond, subst, Ok, Err, ℤ}
-use Rattle.std.specs.Prelude.{AllPairs, count_by}
-use Rattle.std.specs.List.Sorted.{IsPermutation}
+use Rattle.std.proofs.Common.{◌≡◌, ◌⊎◌, inl, inr, ℕ, zero, suc, ◌+◌, ◌<◌, ◌≤◌, Bool, true, false, List, [], ◌∷◌, ◌++◌, length, map, filter, get_or, set, append_assoc, arith, refl, ap, ap₂, sym, ◌∙◌, cond, subst, Ok, Err}
+use Rattle.std.specs.Prelude.{count_by}
 use Rattle.std.proofs.lemmas.Bool.{cases_lt}
-use Rattle.std.proofs.lemmas.List.{ext_get_or, get_or-map, get_or-set_same, get_or-set_other, length-map, length-set}
+use Rattle.std.proofs.lemmas.List.{ext_get_or, get_or-map, get_or-set_same, get_or-set_other, length-map, length-set, map-set}
 use Rattle.std.proofs.lemmas.List.Elements.{filter-append}
 use Rattle.std.proofs.lemmas.List.Sums.{length-filter}
 use Rattle.cq_position.specs.Games.{Game}
@@ -206,7 +205,7 @@ adds_here i j rows left before after new so inside adds some (inr from) below =
 adds_here i j rows left before after new so inside adds some (inl less) below =
     subst (AddsMatches (get_or rows j []) (get_or before j [])) (sym (get_or-set_other after i j new [] (λ e. omega (arith, less, e)))) (so.done j some less)
 
-pub one_of_rest : (i : ℕ) (rows left before after : List (List GameAnswer)) (new : List GameAnswer) → KeepsFirst i rows left before after → 1 ≤ i → i < length after
+one_of_rest : (i : ℕ) (rows left before after : List (List GameAnswer)) (new : List GameAnswer) → KeepsFirst i rows left before after → 1 ≤ i → i < length after
     → AddsMatches (get_or left i []) (get_or after i []) new → KeepsFirst (i + 1) rows (set left i []) before (set after i new)
 one_of_rest i rows left before after new so from inside adds = record {
   count = length-set after i new ∙ so.count;
@@ -217,9 +216,48 @@ one_of_rest i rows left before after new so from inside adds = record {
   rows_later = λ j more. get_or-set_other left i j [] [] (λ e. omega (arith, more, e)) ∙ so.rows_later j (omega (arith, more));
 }
 
-pub all_of_rest : (i : ℕ) (rows left before after : List (List GameAnswer)) → KeepsFirst i rows left before after → length after ≤ i → KeepsRest rows before after
+all_of_rest : (i : ℕ) (rows left before after : List (List GameAnswer)) → KeepsFirst i rows left before after → length after ≤ i → KeepsRest rows before after
 all_of_rest i rows left before after so all = record {
   count = so.count;
   first = so.first;
   rest = λ j some below. so.done j some (let count = so.count in omega (arith, all, below, count));
 }
+
+-- ---- rows in vectors
+
+-- what is kept for the query of a place
+pub kept_at : {X : Type 0} (items : X → List GameAnswer) (kept : List X) (i : ℕ) (x : X) → i < length kept → x ≡ get_or kept i x → items x ≡ get_or (map items kept) i []
+kept_at items kept i x inside is = ap items is ∙ sym (get_or-map items kept i x [] inside)
+
+-- a row more
+pub row_of_rest : {X : Type 0} (items : X → List GameAnswer) (i : ℕ) (rows left less : List (List GameAnswer)) (olds kept : List X) (taken : List GameAnswer) (old new : X)
+    → KeepsFirst i rows left (map items olds) (map items kept) → 1 ≤ i → i < length olds → taken ≡ get_or left i [] → less ≡ set left i [] → old ≡ get_or kept i old
+    → AddsMatches taken (items old) (items new) → KeepsFirst (i + 1) rows less (map items olds) (map items (set kept i new))
+row_of_rest items i rows left less olds kept taken old new so from below given is value adds =
+    let count = so.count in
+    let long = length-map olds items in
+    let same = length-map kept items in
+    let inside : i < length kept = omega (arith, below, count, long, same) in
+    let was : items old ≡ get_or (map items kept) i [] = kept_at items kept i old inside value in
+    subst (λ l. KeepsFirst (i + 1) rows l (map items olds) (map items (set kept i new))) (sym is)
+    (subst (KeepsFirst (i + 1) rows (set left i []) (map items olds)) (sym (map-set items kept i new))
+    (one_of_rest i rows left (map items olds) (map items kept) (items new) so from (omega (arith, inside, same))
+    (subst (λ t. AddsMatches t (get_or (map items kept) i []) (items new)) given (subst (λ o. AddsMatches taken o (items new)) was adds))))
+
+pub rows_of_rest : {X : Type 0} (items : X → List GameAnswer) (i : ℕ) (rows left : List (List GameAnswer)) (olds kept : List X)
+    → KeepsFirst i rows left (map items olds) (map items kept) → length olds ≤ i → KeepsRest rows (map items olds) (map items kept)
+rows_of_rest items i rows left olds kept so all =
+    let count = so.count in
+    let long = length-map olds items in
+    all_of_rest i rows left (map items olds) (map items kept) so (omega (arith, all, count, long))
+
+-- the row of the first query was handed out before
+pub rest_of_all : {X : Type 0} (items : X → List GameAnswer) (rows left : List (List GameAnswer)) (kept : List X) (first : X) (new : List (List GameAnswer)) → left ≡ set rows 0 []
+    → KeepsRest left (map items (set kept 0 first)) new → KeepsRest rows (set (map items kept) 0 (items first)) new
+rest_of_all items rows left kept first new is keeps =
+    subst (λ ks. KeepsRest rows ks new) (map-set items kept 0 first) (record {
+      count = keeps.count;
+      first = keeps.first;
+      rest = λ i some below. subst (λ r. AddsMatches r (get_or (map items (set kept 0 first)) i []) (get_or new i []))
+          (ap (λ l. get_or l i []) is ∙ get_or-set_other rows 0 i [] [] (λ e. omega (arith, some, e))) (keeps.rest i some below);
+    })

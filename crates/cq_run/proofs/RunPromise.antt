@@ -370,11 +370,11 @@ job_promised one never words status call job value taken does = record {
       (record { one = λ q found. one_query one text q query found is; none = λ fault faulty. no_fault one never text query fault is faulty }) short none
       (asked_done words status call job other value taken does asks);
   queries_always_refused = λ other text fault asks has faulty.
-      queries_refused_always other text status call has (λ queries are. no_many_fault one never text queries fault are faulty)
+      queries_refused_always other text status call has (λ queries are. no_many_fault one never text queries fault faulty are)
       (asked_done words status call job other value taken does asks);
   queries_complete = λ other text queries asks has are short none.
       all_complete other text queries status call has
-      (record { one = λ qs found. same_queries one text qs queries found are; none = λ fault faulty. no_many_fault one never text queries fault are faulty }) short none
+      (record { one = λ qs found. same_queries one text qs queries found are; none = λ fault faulty. no_many_fault one never text queries fault faulty are }) short none
       (asked_done words status call job other value taken does asks);
 }
 

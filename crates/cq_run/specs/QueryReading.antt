@@ -3,6 +3,8 @@ use Rattle.std.specs.Prelude.{◌≡◌, List, ℕ, Result, Ok, Err}
 use Rattle.std.specs.List.{AllZip}
 use Rattle.cq_outside.specs.declared.faults.Refusal.{Refusal}
 use Rattle.cq_outside.specs.declared.faults.Refusal.TheVariants.{Fault, NoMemory as IsNoMemory}
+use Rattle.cq_words.specs.declared.job.Job.{Job}
+use Rattle.cq_words.specs.declared.job.Job.TheVariants.{Run, Eval}
 use Rattle.cql_syntax.specs.TreeOf.{query_tree}
 use Rattle.cql_syntax.specs.Trees.{QueryTree}
 use Rattle.cql_syntax.specs.declared.fault.QueryFault.{QueryFault}
@@ -41,7 +43,8 @@ RefusesFile reading name desk after Unread = FailsToRead reading.most name desk 
 RefusesFile reading name desk after OutOfMemory = LacksMemory reading.most name desk after
 
 -- reading a file: what is taken of it is accepted as what is shown
-abbrev pub ReadsFile : {Q F T : Type 0} → Reading Q F → (T → Q) → List ℕ → DeskView → DeskView → Result T (FileRefusal F) → Type 0
+abbrev pub ReadsFile : {Q F T : Type 0} → Reading Q F → (T → Q) → List ℕ → DeskView → DeskView → Result T (FileRefusal F)
+    → Type 0
 ReadsFile reading shown name desk after (Ok found) =
     (text : List ℕ) × TakesQuery reading.most name desk after text × reading.Is text (shown found)
 ReadsFile reading shown name desk after (Err why) = RefusesFile reading name desk after why
@@ -79,3 +82,9 @@ ReadsPieces shown pieces (Err refusal) = RefusesPieces pieces refusal
 
 abbrev pub call_of : DeskView → DeskView → Sinks → Call
 call_of desk after sinks = record { desk = desk; desk_after = after; sinks = sinks }
+
+-- a job of one query over an archive in a file
+abbrev pub AsksOne : Job → Type 0
+AsksOne (Run query archive workers limit first) = Unit {0}
+AsksOne (Eval text archive workers limit first) = Unit {0}
+AsksOne _ = ⊥

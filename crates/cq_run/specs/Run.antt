@@ -166,8 +166,8 @@ pub data OverText (text : List ℕ) (Accepted : QueryTree → Status → Call �
 -- The same of what a file is asked for, which is opened and read first.
 pub data OverFile {Q F : Type 0} (reading : Reading Q F) (name : List ℕ) (Accepted : Q → Status → Call → Type 0) (status : Status)
     (call : Call) : Type 0 where
-  file_accepted : (text : List ℕ) (found : Q) (mid : DeskView) → TakesQuery reading.most name call.desk mid text → reading.Is text found
-      → Accepted found status (from_desk mid call) → OverFile reading name Accepted status call
+  file_accepted : (text : List ℕ) (found : Q) (mid : DeskView) → TakesQuery reading.most name call.desk mid text
+      → reading.Is text found → Accepted found status (from_desk mid call) → OverFile reading name Accepted status call
   file_refused : (text : List ℕ) (fault : F) → TakesQuery reading.most name call.desk call.desk_after text → reading.Has text fault
       → RefusesQuery (reading.line fault) status call.sinks → OverFile reading name Accepted status call
   file_unopened : status ≡ OpenFault → FailsToOpen call.desk call.desk_after → IsUnwritten call.sinks

@@ -6,7 +6,7 @@ ghost use Rattle.cq_shared.specs.Plans.{trees_of};
 ghost use Rattle.cql_syntax.specs.TreeOf.{query_tree};
 ghost use Rattle.cq_run.specs.FirstGame.{wanted};
 ghost use Rattle.cq_run.specs.ManyQueries.{texts_of_all};
-ghost use Rattle.cq_run.specs.QueryReading.{call_of};
+ghost use Rattle.cq_run.specs.QueryReading.{AsksOne, call_of};
 ghost use Rattle.cq_run.specs.Promise.{SinkView, desk_view, sink_view, sinks_of};
 ghost use Rattle.cq_run.specs.Run.{Promise, AnswersFile, OverText, OverFile, SaysAccepted, Explains, DoesJob, WritesUsage};
 ghost use Rattle.cq_run.specs.Run.{a_query, some_queries};
@@ -119,6 +119,54 @@ fn do_job<R: Threads + Sync, D: Desk, O: Sink, E: Sink, G: Gate + Sync>(
         (sink_view E.taken E.faults err.old) (sink_view E.taken E.faults err.new))) }
 {
     match job {
+        Job::Run { .. } => answer_one(rt, alloc, job, desk, out, err, gate),
+        Job::Eval { .. } => answer_one(rt, alloc, job, desk, out, err, gate),
+        Job::Check { query } => check_file(alloc, query.as_slice(), desk, out, err),
+        Job::Explain { query } => explain_file(alloc, query.as_slice(), desk, out, err),
+        Job::SelfRun {
+            text,
+            seed,
+            games,
+            workers,
+        } => {
+            let text = text.as_slice();
+            answer_text_over_made(rt, alloc, text, *seed, *games, *workers, out, err, gate)
+        }
+        Job::Many {
+            queries,
+            archive,
+            workers,
+            limit,
+        } => {
+            let settings = Settings {
+                workers: *workers,
+                limit: *limit,
+                first: false,
+            };
+            let (queries, archive) = (queries.as_slice(), archive.as_slice());
+            answer_queries_file(rt, alloc, queries, archive, settings, desk, out, err, gate)
+        }
+    }
+}
+
+// Does a job that answers one query over an archive in a file.
+fn answer_one<R: Threads + Sync, D: Desk, O: Sink, E: Sink, G: Gate + Sync>(
+    rt: &R,
+    alloc: Global,
+    job: &Job,
+    desk: &mut D,
+    out: &mut O,
+    err: &mut E,
+    gate: &G,
+) -> Status
+    requires ranges { IsInRange job.now }
+    requires one { AsksOne job.now }
+    ensures { DoesJob job.now result (call_of
+        (desk_view D.told D.left D.faults D.open_faults desk.old) (desk_view D.told D.left D.faults D.open_faults desk.new)
+        (sinks_of (sink_view O.taken O.faults out.old) (sink_view O.taken O.faults out.new)
+        (sink_view E.taken E.faults err.old) (sink_view E.taken E.faults err.new))) }
+{
+    match job {
         Job::Run {
             query,
             archive,
@@ -149,31 +197,7 @@ fn do_job<R: Threads + Sync, D: Desk, O: Sink, E: Sink, G: Gate + Sync>(
             let (text, archive) = (text.as_slice(), archive.as_slice());
             answer_text(rt, alloc, text, archive, settings, desk, out, err, gate)
         }
-        Job::Check { query } => check_file(alloc, query.as_slice(), desk, out, err),
-        Job::Explain { query } => explain_file(alloc, query.as_slice(), desk, out, err),
-        Job::SelfRun {
-            text,
-            seed,
-            games,
-            workers,
-        } => {
-            let text = text.as_slice();
-            answer_text_over_made(rt, alloc, text, *seed, *games, *workers, out, err, gate)
-        }
-        Job::Many {
-            queries,
-            archive,
-            workers,
-            limit,
-        } => {
-            let settings = Settings {
-                workers: *workers,
-                limit: *limit,
-                first: false,
-            };
-            let (queries, archive) = (queries.as_slice(), archive.as_slice());
-            answer_queries_file(rt, alloc, queries, archive, settings, desk, out, err, gate)
-        }
+        _ => unreachable!(),
     }
 }
 

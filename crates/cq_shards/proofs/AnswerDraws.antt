@@ -1,8 +1,8 @@
 -- Workers that answer one query: their answers are what they make of games.
-use Rattle.std.proofs.Common.{◌≡◌, ℕ, ◌+◌, ◌<◌, ◌≤◌, List, [], ◌∷◌, ◌++◌, length, ap, arith, All, Bool, true, false}
+use Rattle.std.proofs.Common.{◌≡◌, ℕ, List, ap, arith, true, false}
 use Rattle.cq_board.specs.declared.seat.Board.{Board}
 use Rattle.cq_board.specs.declared.seat.ClaimSeat.{ClaimSeat}
-use Rattle.cq_board.specs.Seats.{IsSeatOf, drawn, HasEnded}
+use Rattle.cq_board.specs.Seats.{IsSeatOf}
 use Rattle.cql_syntax.specs.Trees.{QueryTree}
 use Rattle.cq_shards.specs.declared.answers.GameAnswer.{GameAnswer}
 use Rattle.cq_shards.specs.declared.batch.Batch.{Batch}
@@ -34,7 +34,8 @@ is_through board query batch w done = record { seat = done.seat; answered = λ f
 pub is_starved : (board : Board) (query : QueryTree) (batch : Batch) (w : Worker) → IsSeatOf board w.seat → w.starved ≡ true → IsThrough board query batch w
 is_starved board query batch w seat is = record { seat = seat; answered = λ fed. absurd (grind arith); past = λ fed. absurd (grind arith) }
 
-pub done : (board : Board) (query : QueryTree) (batch : Batch) (w : Worker) → w.starved ≡ false → IsThrough board query batch w → IsDone (IsAnswerFor query batch) index_of board batch w.seat w.answers.items
+pub done : (board : Board) (query : QueryTree) (batch : Batch) (w : Worker) → w.starved ≡ false → IsThrough board query batch w
+    → IsDone (IsAnswerFor query batch) index_of board batch w.seat w.answers.items
 done board query batch w fed through = record { seat = through.seat; has_made = through.answered fed; past = through.past fed }
 
 pub are_answers : (query : QueryTree) (batch : Batch) (answers : List GameAnswer) → AreMade (IsAnswerFor query batch) index_of batch answers → AreAnswersOf query batch answers

@@ -1,8 +1,8 @@
 -- Workers that answer several queries: their rows are what they make of games.
-use Rattle.std.proofs.Common.{◌≡◌, ℕ, ◌+◌, ◌<◌, ◌≤◌, List, [], ◌∷◌, ◌++◌, length, ap, arith, All, Bool, true, false}
+use Rattle.std.proofs.Common.{◌≡◌, ℕ, List, arith, true, false}
 use Rattle.cq_board.specs.declared.seat.Board.{Board}
 use Rattle.cq_board.specs.declared.seat.ClaimSeat.{ClaimSeat}
-use Rattle.cq_board.specs.Seats.{IsSeatOf, drawn, HasEnded}
+use Rattle.cq_board.specs.Seats.{IsSeatOf}
 use Rattle.cql_syntax.specs.Trees.{QueryTree}
 use Rattle.cq_shards.specs.declared.batch.Batch.{Batch}
 use Rattle.cq_shards.specs.declared.many.RowWorker.{RowWorker}

@@ -1,5 +1,5 @@
 -- Rows of answers, from which those of one query after the other are taken off.
-use Rattle.std.proofs.Common.{◌==◌, ◌≡◌, ℕ, ◌+◌, ◌<◌, ◌≤◌, List, [], ◌∷◌, ◌++◌, length, get_or, take, drop, map, Some, suc, refl, sym, ap, ap₂, ◌∙◌, subst, arith, All, length-append}
+use Rattle.std.proofs.Common.{◌==◌, ◌≡◌, ℕ, ◌+◌, ◌<◌, ◌≤◌, List, [], ◌∷◌, ◌++◌, length, get_or, take, drop, map, Some, refl, sym, ap, ap₂, ◌∙◌, subst, arith, All, length-append}
 use Rattle.std.specs.List.{AllZip}
 use Rattle.std.proofs.lemmas.List.{drop_more, map-append, take_all, take_more}
 use Rattle.std.proofs.lemmas.List.Elements.{All-pop, All-push, All-nil}
@@ -11,8 +11,8 @@ use Rattle.cq_shards.specs.declared.many.AnswerList.{AnswerList}
 use Rattle.cq_shards.specs.declared.rows.GameRow.{GameRow}
 use Rattle.cq_shards.specs.Answers.{AreAnswersOf, IsAnswerAmong, answer_of, answers_at, games_of, number_of}
 use Rattle.cq_shards.specs.Many.{AreManyOf}
-use Rattle.cq_shards.specs.Rows.{AreRowsOf, AreTakenOff, IsRowFor, IsRowIn, answers_back, rows_at}
-use Rattle.cq_shards.specs.Work.{IsAnswerFor, size}
+use Rattle.cq_shards.specs.Rows.{AreRowsOf, AreTakenOff, IsRowIn, answers_back, rows_at}
+use Rattle.cq_shards.specs.Work.{size}
 use Rattle.cq_shards.proofs.Counting.{answers_more}
 use Rattle.cq_shards.proofs.Drains.{made_more}
 
@@ -76,7 +76,7 @@ takes_one queries batch was rows row now a left left' answers answers' before to
     let p = All-pop (IsRowIn queries batch) was rows (Some row) took.rows_ before.rows_ in
     let is : IsRowIn queries batch row = p.1 in
     let same = snoc_same now.answers.items (answers_back before.later (number_of batch + is.0) is.1.outcome) a (answer_of before.first (number_of batch + is.0) is.1.outcome)
-        (sym took.off ∙ some_back queries before.later before.first batch row before.are is) in
+    (sym took.off ∙ some_back queries before.later before.first batch row before.are is) in
     let row_left : IsRowIn before.later batch now = (is.0, record { outcome = is.1.outcome; read = is.1.read; index = took.index ∙ is.1.index; answers = same.0 }) in
     let answer : IsAnswerIn before.first batch a = (is.0, record { game = is.1.read.game; outcome = is.1.outcome; at = is.1.read.at; read = is.1.read.read; is = same.1 }) in
     let numbered : a.index ≡ row.index = ap (λ (b : GameAnswer). b.index) same.1 ∙ sym is.1.index in record {

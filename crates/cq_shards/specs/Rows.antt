@@ -1,5 +1,5 @@
 -- The answers of games to several queries, game by game, as the private functions give them.
-use Rattle.std.specs.Prelude.{◌≡◌, ℕ, ◌+◌, ◌<◌, ◌==◌, Bool, false, List, [], ◌∷◌, ◌++◌, length, All, count_by}
+use Rattle.std.specs.Prelude.{◌≡◌, ℕ, ◌+◌, ◌<◌, ◌==◌, false, List, [], ◌∷◌, ◌++◌, All, count_by}
 use Rattle.cq_board.specs.declared.seat.Board.{Board}
 use Rattle.cq_board.specs.Seats.{IsSeatOf, drawn, HasEnded}
 use Rattle.cql_syntax.specs.Trees.{QueryTree}

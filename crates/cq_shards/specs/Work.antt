@@ -22,7 +22,8 @@ abbrev pub size : Batch → ℕ
 size batch = length (games_of batch)
 
 -- what was made is of the games that were drawn, as far as these are games of the batch
-pub record HasMade {X : Type 0} (IsOf : ℕ → X → Type 0) (index : X → ℕ) (batch : Batch) (numbers : List ℕ) (made : List X) : Type 0 where
+pub record HasMade {X : Type 0} (IsOf : ℕ → X → Type 0) (index : X → ℕ) (batch : Batch) (numbers : List ℕ)
+    (made : List X) : Type 0 where
   pub each : All (λ x. (number : ℕ) × IsOf number x) made
   pub drawn_ : (number : ℕ) → number < size batch → count_by (λ x. index x == number_of batch + number) made ≡ times number numbers
 

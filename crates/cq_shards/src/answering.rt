@@ -74,7 +74,14 @@ fn answer_read(
     match outcome {
         Ok(game) => {
             let found = find(alloc, plan, game)?;
-            answer_found(alloc, plan.query(), game, index, found.nodes(), found.keys())
+            answer_found(
+                alloc,
+                plan.query(),
+                game,
+                index,
+                found.nodes(),
+                found.keys(),
+            )
         }
         Err(fault) => Ok(refused(index, *fault)),
     }

@@ -1,5 +1,5 @@
 //! The answers of several queries to a batch, each game of which is read once.
-ghost use Rattle.std.specs.Prelude.{◌≡◌, ◌+◌, ◌<◌, ◌≤◌, [], length, get_or, slice_set, drop, All, IfOk};
+ghost use Rattle.std.specs.Prelude.{◌≡◌, ◌<◌, ◌≤◌, [], length, get_or, slice_set, drop, All, IfOk};
 ghost use Rattle.cq_board.specs.Seats.{numbers_of, seats_of, IsSeatOf, drawn, HasEnded};
 ghost use Rattle.cq_shared.specs.Plans.{queries_of, trees_of};
 ghost use Rattle.cq_shards.specs.Answers.{games_of};
@@ -13,9 +13,8 @@ use cq_board::{Board, ClaimSeat};
 use cq_outside::{Gate, NoMemory};
 use cq_shared::SharedPlan;
 use std::alloc::Global;
-use std::mem;
-use std::thread;
 use std::thread::Threads;
+use std::{mem, thread};
 
 /// The most workers.
 const MOST_WORKERS: usize = 64;

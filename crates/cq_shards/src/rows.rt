@@ -1,5 +1,5 @@
 //! The answers of one game to several queries.
-ghost use Rattle.std.specs.Prelude.{◌≡◌, ◌+◌, ◌<◌, length, drop, All, IfOk, Ok, Err};
+ghost use Rattle.std.specs.Prelude.{◌≡◌, ◌<◌, length, IfOk, Ok, Err};
 ghost use Rattle.cq_shared.specs.Plans.{queries_of, trees_of};
 ghost use Rattle.cq_shards.specs.Answers.{games_of, number_of};
 ghost use Rattle.cq_shards.specs.Rows.{IsRowAt, answers_back};

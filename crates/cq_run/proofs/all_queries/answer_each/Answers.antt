@@ -1,4 +1,4 @@
-use Rattle.std.proofs.Common.{◌≡◌, ◌+◌, ◌≤◌, Ok, Err, map, length, ap, sym, subst, ◌∙◌, arith, rules}
+use Rattle.std.proofs.Common.{◌≡◌, ◌+◌, ◌≤◌, Ok, Err, map, ap, sym, ◌∙◌, arith, rules}
 use Rattle.std.proofs.lemmas.List.{length-map}
 use Rattle.cq_outside.specs.declared.faults.Refusal.TheVariants.{Fault}
 use Rattle.cql_syntax.specs.TreeOf.{query_tree}
@@ -7,7 +7,7 @@ use Rattle.cq_shards.specs.Many.{answers_in}
 use Rattle.cq_shards.specs.declared.state.BatchFault.TheVariants.{ReadFault, ArchiveTooLong}
 use Rattle.cq_run.specs.ManyWriting.{FoundByAll}
 use Rattle.cq_run.specs.Promise.{source_view, sink_view, sinks_of}
-use Rattle.cq_run.proofs.AllRounds.{Rounds, finished_all, round_ends, round_starves, round_too_long, round_turns, round_unread, turn_done, turn_fails, turn_starves, turn_wants}
+use Rattle.cq_run.proofs.AllRounds.{finished_all, round_ends, round_starves, round_too_long, round_turns, round_unread, turn_done, turn_fails, turn_starves, turn_wants}
 use Rattle.cq_run.proofs.AnswerPromise.{none_answered}
 use Rattle.cq_run.proofs.ManyEnds.{kept_long}
 use Rattle.cq_run.proofs.ManyRounds.{answered, asked_of_all, follows, many_few, no_rounds, run_of_all, tally_few}
@@ -23,7 +23,7 @@ loop-turn-init g c =
     let queries = trees_of (queries_of c.args.plan.now) in
     let made = c.new-batches in (
       no_rounds queries c.args.settings.limit made.result (source c.args.source.now) (out c.args.out.now) (err c.args.err.now) _ c.len.result
-          (c.len.ensures ∙ sym (length-map (queries_of c.args.plan.now) _)) c.in-Ok-none_kept.ensures made.ensures.stands made.ensures.limit made.ensures.reads,
+          (c.len.ensures ∙ sym (length-map (queries_of c.args.plan.now) (λ q. query_tree q.query))) c.in-Ok.ensures made.ensures.stands made.ensures.limit made.ensures.reads,
       g.met.S.Source.follows_same c.args.source.now,
       omega arith,
     )
@@ -48,17 +48,9 @@ write_outputs-requires-clause-some g c =
 
 pub write_outputs-requires-clause-kept : goal.write_outputs-requires-clause-kept
 write_outputs-requires-clause-kept g c =
-    let source = source_view g.S.Source.left g.S.Source.faults in
-    let out = sink_view g.O.Sink.taken g.O.Sink.faults in
-    let err = sink_view g.E.Sink.taken g.E.Sink.faults in
     let queries = trees_of (queries_of c.args.plan.now) in
-    let place = place_of c.args.settings.limit c.loop-turn.batches (source c.args.source.now) (source c.loop-turn.source) in
-    let sinks = sinks_of (out c.args.out.now) (out c.loop-turn.out) (err c.args.err.now) (err c.loop-turn.err) in
     let kept = map (λ row. row.items) c.loop-turn.kept.items in
-    let run = run_of_all queries place sinks c.loop-turn.tally kept in
     let was = c.loop-turn.invariant.0 in
-    let laws = c.archives_come_in_batches.ensures in
-    let after = source c.next.new.source in
     let long = kept_long queries was.known.outcomes kept was.found.kept_ in
     sym (length-map c.loop-turn.kept.items (λ row. row.items)) ∙ long ∙ length-map (queries_of c.args.plan.now) (λ q. query_tree q.query)
 
@@ -178,17 +170,9 @@ returns-in_default-run_many-clause-next g c =
 
 pub keep_batch-requires-clause-queries : goal.keep_batch-requires-clause-queries
 keep_batch-requires-clause-queries g c =
-    let source = source_view g.S.Source.left g.S.Source.faults in
-    let out = sink_view g.O.Sink.taken g.O.Sink.faults in
-    let err = sink_view g.E.Sink.taken g.E.Sink.faults in
     let queries = trees_of (queries_of c.args.plan.now) in
-    let place = place_of c.args.settings.limit c.loop-turn.batches (source c.args.source.now) (source c.loop-turn.source) in
-    let sinks = sinks_of (out c.args.out.now) (out c.loop-turn.out) (err c.args.err.now) (err c.loop-turn.err) in
     let kept = map (λ row. row.items) c.loop-turn.kept.items in
-    let run = run_of_all queries place sinks c.loop-turn.tally kept in
     let was = c.loop-turn.invariant.0 in
-    let laws = c.archives_come_in_batches.ensures in
-    let after = source c.next.new.source in
     let long = kept_long queries was.known.outcomes kept was.found.kept_ in
     let same = length-map c.loop-turn.kept.items (λ row. row.items) in
     let some = c.requires.few.0 in
@@ -197,25 +181,11 @@ keep_batch-requires-clause-queries g c =
 
 pub keep_batch-requires-clause-rows : goal.keep_batch-requires-clause-rows
 keep_batch-requires-clause-rows g c =
-    let source = source_view g.S.Source.left g.S.Source.faults in
-    let out = sink_view g.O.Sink.taken g.O.Sink.faults in
-    let err = sink_view g.E.Sink.taken g.E.Sink.faults in
     let queries = trees_of (queries_of c.args.plan.now) in
-    let place = place_of c.args.settings.limit c.loop-turn.batches (source c.args.source.now) (source c.loop-turn.source) in
-    let sinks = sinks_of (out c.args.out.now) (out c.loop-turn.out) (err c.args.err.now) (err c.loop-turn.err) in
     let kept = map (λ row. row.items) c.loop-turn.kept.items in
-    let run = run_of_all queries place sinks c.loop-turn.tally kept in
     let was = c.loop-turn.invariant.0 in
-    let laws = c.archives_come_in_batches.ensures in
-    let after = source c.next.new.source in
-    let is = c.in-Ok-Some.is ∙ ap Ok c.in-Ok-Some.field-0-is in
-    let says = rw is at c.next.ensures.says in
-    let counts = rw is at c.next.ensures.cause in
-    let turn = round_turns laws place run.Found c.next.new.self after _ c.loop-turn._turn was c.loop-turn.invariant.2 says counts in
-    let now = place_of c.args.settings.limit c.next.new.self (source c.args.source.now) after in
-    let rows = answers_in c.in-Ok.answers in
-    let a = answered laws c.ordered_answers_stand_beside_their_games.ensures queries _ rows c.in-Ok.ensures in
-    many_counted queries _ rows c.in-Ok.ensures ∙ sym (kept_long queries was.known.outcomes kept was.found.kept_)
+    let rows = answers_in c.in-Ok-run_many.answers in
+    many_counted queries c.in-Ok-Some.batch rows c.in-Ok-run_many.ensures ∙ sym (kept_long queries was.known.outcomes kept was.found.kept_)
     ∙ length-map c.loop-turn.kept.items (λ row. row.items)
 
 pub keep_batch-requires-clause-games : goal.keep_batch-requires-clause-games
@@ -236,40 +206,30 @@ keep_batch-requires-clause-games g c =
     let counts = rw is at c.next.ensures.cause in
     let turn = round_turns laws place run.Found c.next.new.self after _ c.loop-turn._turn was c.loop-turn.invariant.2 says counts in
     let now = place_of c.args.settings.limit c.next.new.self (source c.args.source.now) after in
-    let rows = answers_in c.in-Ok.answers in
-    let a = answered laws c.ordered_answers_stand_beside_their_games.ensures queries _ rows c.in-Ok.ensures in
+    let rows = answers_in c.in-Ok-run_many.answers in
+    let a = answered laws c.ordered_answers_stand_beside_their_games.ensures queries c.in-Ok-Some.batch rows c.in-Ok-run_many.ensures in
     λ ordered sorts.
     let few = many_few laws queries now sinks c.loop-turn.tally kept _ c.loop-turn._turn rows c.requires.limit.1 c.requires.few.0 turn a ordered sorts in
     omega (arith, few)
 
 pub keep_batch-requires-clause-matched : goal.keep_batch-requires-clause-matched
 keep_batch-requires-clause-matched g c =
-    let source = source_view g.S.Source.left g.S.Source.faults in
     let out = sink_view g.O.Sink.taken g.O.Sink.faults in
     let err = sink_view g.E.Sink.taken g.E.Sink.faults in
     let queries = trees_of (queries_of c.args.plan.now) in
-    let place = place_of c.args.settings.limit c.loop-turn.batches (source c.args.source.now) (source c.loop-turn.source) in
     let sinks = sinks_of (out c.args.out.now) (out c.loop-turn.out) (err c.args.err.now) (err c.loop-turn.err) in
     let kept = map (λ row. row.items) c.loop-turn.kept.items in
-    let run = run_of_all queries place sinks c.loop-turn.tally kept in
     let was = c.loop-turn.invariant.0 in
-    let laws = c.archives_come_in_batches.ensures in
-    let after = source c.next.new.source in
     (tally_few queries was.known.outcomes sinks c.loop-turn.tally kept c.requires.few.0 was.found).1
 
 pub keep_batch-requires-clause-refused : goal.keep_batch-requires-clause-refused
 keep_batch-requires-clause-refused g c =
-    let source = source_view g.S.Source.left g.S.Source.faults in
     let out = sink_view g.O.Sink.taken g.O.Sink.faults in
     let err = sink_view g.E.Sink.taken g.E.Sink.faults in
     let queries = trees_of (queries_of c.args.plan.now) in
-    let place = place_of c.args.settings.limit c.loop-turn.batches (source c.args.source.now) (source c.loop-turn.source) in
     let sinks = sinks_of (out c.args.out.now) (out c.loop-turn.out) (err c.args.err.now) (err c.loop-turn.err) in
     let kept = map (λ row. row.items) c.loop-turn.kept.items in
-    let run = run_of_all queries place sinks c.loop-turn.tally kept in
     let was = c.loop-turn.invariant.0 in
-    let laws = c.archives_come_in_batches.ensures in
-    let after = source c.next.new.source in
     (tally_few queries was.known.outcomes sinks c.loop-turn.tally kept c.requires.few.0 was.found).2
 
 pub returns-in-Err-Fault-clause-answers : goal.returns-in-Err-Fault-clause-answers
@@ -290,8 +250,8 @@ returns-in-Err-Fault-clause-answers g c =
     let counts = rw is at c.next.ensures.cause in
     let turn = round_turns laws place run.Found c.next.new.self after _ c.loop-turn._turn was c.loop-turn.invariant.2 says counts in
     let now = place_of c.args.settings.limit c.next.new.self (source c.args.source.now) after in
-    let rows = answers_in c.in-Ok.answers in
-    let a = answered laws c.ordered_answers_stand_beside_their_games.ensures queries _ rows c.in-Ok.ensures in
+    let rows = answers_in c.in-Ok-run_many.answers in
+    let a = answered laws c.ordered_answers_stand_beside_their_games.ensures queries c.in-Ok-Some.batch rows c.in-Ok-run_many.ensures in
     let new_sinks = sinks_of (out c.args.out.now) (out c.keep_batch.new.out) (err c.args.err.now) (err c.keep_batch.new.err) in
     let does = c.keep_batch.ensures queries turn.known.outcomes a.outcomes (out c.args.out.now) (err c.args.err.now)
     (follows queries now sinks c.loop-turn.tally kept _ c.loop-turn._turn rows turn a) turn.found in
@@ -320,8 +280,8 @@ returns-in-Err-NoMemory-keep_batch-clause-answers g c =
     let counts = rw is at c.next.ensures.cause in
     let turn = round_turns laws place run.Found c.next.new.self after _ c.loop-turn._turn was c.loop-turn.invariant.2 says counts in
     let now = place_of c.args.settings.limit c.next.new.self (source c.args.source.now) after in
-    let rows = answers_in c.in-Ok.answers in
-    let a = answered laws c.ordered_answers_stand_beside_their_games.ensures queries _ rows c.in-Ok.ensures in
+    let rows = answers_in c.in-Ok-run_many.answers in
+    let a = answered laws c.ordered_answers_stand_beside_their_games.ensures queries c.in-Ok-Some.batch rows c.in-Ok-run_many.ensures in
     let new_sinks = sinks_of (out c.args.out.now) (out c.keep_batch.new.out) (err c.args.err.now) (err c.keep_batch.new.err) in
     let does = c.keep_batch.ensures queries turn.known.outcomes a.outcomes (out c.args.out.now) (err c.args.err.now)
     (follows queries now sinks c.loop-turn.tally kept _ c.loop-turn._turn rows turn a) turn.found in
@@ -350,8 +310,8 @@ loop-turn-preserved g c =
     let counts = rw is at c.next.ensures.cause in
     let turn = round_turns laws place run.Found c.next.new.self after _ c.loop-turn._turn was c.loop-turn.invariant.2 says counts in
     let now = place_of c.args.settings.limit c.next.new.self (source c.args.source.now) after in
-    let rows = answers_in c.in-Ok.answers in
-    let a = answered laws c.ordered_answers_stand_beside_their_games.ensures queries _ rows c.in-Ok.ensures in
+    let rows = answers_in c.in-Ok-run_many.answers in
+    let a = answered laws c.ordered_answers_stand_beside_their_games.ensures queries c.in-Ok-Some.batch rows c.in-Ok-run_many.ensures in
     let new_sinks = sinks_of (out c.args.out.now) (out c.keep_batch.new.out) (err c.args.err.now) (err c.keep_batch.new.err) in
     let does = c.keep_batch.ensures queries turn.known.outcomes a.outcomes (out c.args.out.now) (err c.args.err.now)
     (follows queries now sinks c.loop-turn.tally kept _ c.loop-turn._turn rows turn a) turn.found in
@@ -362,16 +322,9 @@ loop-turn-preserved g c =
 pub unreachable-requires : goal.unreachable-requires
 unreachable-requires g c =
     let source = source_view g.S.Source.left g.S.Source.faults in
-    let out = sink_view g.O.Sink.taken g.O.Sink.faults in
-    let err = sink_view g.E.Sink.taken g.E.Sink.faults in
-    let queries = trees_of (queries_of c.args.plan.now) in
     let place = place_of c.args.settings.limit c.loop-turn.batches (source c.args.source.now) (source c.loop-turn.source) in
-    let sinks = sinks_of (out c.args.out.now) (out c.loop-turn.out) (err c.args.err.now) (err c.loop-turn.err) in
-    let kept = map (λ row. row.items) c.loop-turn.kept.items in
-    let run = run_of_all queries place sinks c.loop-turn.tally kept in
     let was = c.loop-turn.invariant.0 in
     let laws = c.archives_come_in_batches.ensures in
-    let after = source c.next.new.source in
     let few = rounds_few laws place was.known.front was.known.m was.known.reached in
     let turns = c.loop-turn.invariant.2 in
     let over : c.args.settings.limit + 3 ≤ c.loop-turn._turn = search rules in

@@ -1,22 +1,24 @@
-use Rattle.std.proofs.Common.{◌≤◌, length, sym, subst, arith}
-use Rattle.std.proofs.lemmas.List.{length-map}
-use Rattle.cql_syntax.specs.TreeOf.{query_tree}
-use Rattle.cq_shared.specs.Plans.{trees_of}
+use Rattle.std.proofs.Common.{subst, rules}
+use Rattle.cq_shared.specs.Plans.{queries_of, trees_of}
 use Rattle.cq_run.specs.ManyQueries.{texts_of_all}
-use Rattle.cq_run.specs.Promise.{AnswerPromise, source_view, sink_view}
-use Rattle.cq_run.proofs.AnswerPromise.{none_answered}
-use Rattle.cq_run.proofs.ManyRounds.{asked_of_all}
+use Rattle.cq_run.specs.Promise.{AnswerPromise, source_view, sink_view, sinks_of}
+use Rattle.cq_run.proofs.AnswerPromise.{answer_call, none_answered}
+use Rattle.cq_run.proofs.ManyRounds.{asked_of_all, few_trees}
 use Rattle.cq_run.proofs.all_queries.answer_many.Goals as goal
 
 pub answer_each-requires-clause-few : goal.answer_each-requires-clause-few
 answer_each-requires-clause-few g c =
-    let same = length-map c.args.queries.now (λ q. query_tree q.query) in
-    let some = c.requires.few.0 in
-    let few = c.requires.few.1 in
-    subst (λ qs. (1 ≤ length qs) × (length qs ≤ 16)) (sym c.in-Ok.ensures) (omega (arith, same, some), omega (arith, same, few))
+    search (rules, few_trees c.args.queries.now (trees_of (queries_of c.in-Ok.plan)) c.in-Ok.ensures c.requires.few.0 c.requires.few.1)
 
 pub returns-clause-answers : goal.returns-clause-answers
-returns-clause-answers g c = subst (λ qs. AnswerPromise (texts_of_all qs) _ _) c.in-Ok.ensures c.answer_each.ensures.answers
+returns-clause-answers g c =
+    let source = source_view g.S.Source.left g.S.Source.faults in
+    let out = sink_view g.O.Sink.taken g.O.Sink.faults in
+    let err = sink_view g.E.Sink.taken g.E.Sink.faults in
+    let new = c.answer_each.new in
+    let sinks = sinks_of (out c.args.out.now) (out new.out) (err c.args.err.now) (err new.err) in
+    subst (λ qs. AnswerPromise (texts_of_all qs) c.answer_each.result (answer_call c.args.settings.limit (source c.args.source.now) (source new.source) sinks))
+    c.in-Ok.ensures c.answer_each.ensures.answers
 
 pub returns-in_default-clause-answers : goal.returns-in_default-clause-answers
 returns-in_default-clause-answers g c =

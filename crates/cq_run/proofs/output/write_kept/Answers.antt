@@ -12,4 +12,4 @@ returns g c =
     let ordered = c.in_ok-ordered.ordered.items in
     kept_written (query_in c.args.plan.now) c.args.kept.items ordered (out c.args.out.now) (out c.write_texts.new.out) c.write_texts.result
     (in_order c.args.kept.items ordered c.query.result.now c.args.plan.now.query c.query.ensures c.in_ok-ordered.ensures.same c.in_ok-ordered.ensures.order)
-    (subst (λ xs. WritesText (exports_of xs) (out c.args.out.now) (out c.write_texts.new.out) c.write_texts.result) c.as_slice.ensures c.write_texts.ensures)
+    (subst (λ xs. WritesText (exports_of xs) (out c.args.out.now) (out c.write_texts.new.out) c.write_texts.result) c.as_slice.ensures.value c.write_texts.ensures)

@@ -14,8 +14,8 @@ pub loop-i-preserved : goal.loop-i-preserved
 loop-i-preserved g c =
     let taken = g.O.Sink.taken in
     let inside : c.loop-i.i < length c.args.answers.now = search rules in (
-      more_written c.args.answers.now c.loop-i.i c.index.result.now (taken c.args.out.now) (taken c.loop-i.out) (taken c.write_all_of.new.sink) c.text.result.now
-          (record { inside = inside; is = c.index.ensures; texts = c.text.ensures }) c.loop-i.invariant.0 c.in-Ok.ensures.ok,
+      more_written c.args.answers.now c.loop-i.i c.index-answers-i.result (taken c.args.out.now) (taken c.loop-i.out) (taken c.write_all_of.new.sink) c.text.result.now
+          (record { inside = inside; is = c.index-answers-i.is; texts = c.text.ensures }) c.loop-i.invariant.0 c.in-Ok.ensures.ok,
       c.in-Ok.ensures.cause.same ∙ c.loop-i.invariant.1,
     )
 
@@ -23,8 +23,8 @@ pub returns-in-Err : goal.returns-in-Err
 returns-in-Err g c =
     let taken = g.O.Sink.taken in
     let inside : c.loop-i.i < length c.args.answers.now = search rules in (
-      part_written c.args.answers.now c.loop-i.i c.index.result.now (taken c.args.out.now) (taken c.loop-i.out) (taken c.write_all_of.new.sink) c.text.result.now
-          c.in-Err.ensures.err.0 (record { inside = inside; is = c.index.ensures; texts = c.text.ensures }) c.loop-i.invariant.0 c.in-Err.ensures.err.1,
+      part_written c.args.answers.now c.loop-i.i c.index-answers-i.result (taken c.args.out.now) (taken c.loop-i.out) (taken c.write_all_of.new.sink) c.text.result.now
+          c.in-Err.ensures.err.0 (record { inside = inside; is = c.index-answers-i.is; texts = c.text.ensures }) c.loop-i.invariant.0 c.in-Err.ensures.err.1,
       subst (λ n. Rose n (g.O.Sink.faults c.write_all_of.new.sink)) c.loop-i.invariant.1 c.in-Err.ensures.cause.failed,
     )
 

@@ -1,4 +1,4 @@
-use Rattle.std.proofs.Common.{◌≡◌, ◌++◌, length, map}
+use Rattle.std.proofs.Common.{◌≡◌, ◌++◌, map}
 use Rattle.cq_shared.specs.Plans.{queries_of, trees_of}
 use Rattle.cq_run.specs.ManyWriting.{AreInOrder}
 use Rattle.cq_run.proofs.outputs.all_by_keys.Given as goal

@@ -11,7 +11,8 @@ use Rattle.cq_run.proofs.RunPromise.{file_answered, told_why}
 use Rattle.cq_run.proofs.top_call.answer_queries_file.Goals as goal
 
 pub answer_file_by_all-requires-clause-few : goal.answer_file_by_all-requires-clause-few
-answer_file_by_all-requires-clause-few g c = held_few c.in-Ok.ensures.0 c.in-Ok.queries.items c.as_slice-queries.result.now c.as_slice-queries.ensures.value c.in-Ok.ensures.2
+answer_file_by_all-requires-clause-few g c lives within =
+    held_few c.in-Ok.ensures.0 c.in-Ok.queries.items c.as_slice-queries.result.now c.as_slice-queries.ensures.value c.in-Ok.ensures.2
 
 pub returns-in-Ok : goal.returns-in-Ok
 returns-in-Ok g c =

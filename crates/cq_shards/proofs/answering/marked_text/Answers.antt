@@ -1,4 +1,5 @@
-use Rattle.std.proofs.Common.{ap, ◌∙◌}
+use Rattle.std.proofs.Common.{◌≡◌, subst, ◌∙◌}
+use Rattle.std.specs.Prelude.{IfOk}
 use Rattle.pgn_export.specs.Export.{export_text}
 use Rattle.cql_syntax.specs.TreeOf.{query_tree}
 use Rattle.cq_shards.proofs.Braces.{marked_by_hits, marks_unbraced}
@@ -15,4 +16,6 @@ pub mark-requires-clause-inside : goal.mark-requires-clause-inside
 mark-requires-clause-inside c = hits_inside (query_tree c.args.query.now.query) c.args.game.now c.args.nodes.now c.requires
 
 pub returns : goal.returns
-returns c = ?
+returns c =
+    let query = query_tree c.args.query.now.query in
+    subst (λ g. IfOk c.export.result (λ text. text ≡ export_text g)) (c.in_ok-marked.ensures ∙ marked_by_hits query c.args.game.now c.args.nodes.now c.requires) c.export.ensures.text

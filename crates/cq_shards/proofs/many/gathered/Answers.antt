@@ -36,4 +36,5 @@ returns c =
     let queries = trees_of (queries_of c.args.plan.now) in
     are_rows queries batch c.loop-worker.rows.items
     (gathered (IsThroughRows c.args.board queries batch) (IsRowFor queries batch) index_of c.args.board batch c.loop-worker.slots.items c.loop-worker.seats.items c.loop-worker.rows.items
-    c.in_ok-close.field-0 c.loop-worker.invariant (let o = c.loop-worker.slots.ok in let z = c.in_default.ensures.cases.0 in search rules) (let l = c.args.board.limits.1 in omega (arith, l)) c.in_ok-close.ensures.once)
+    c.in_ok-close.field-0 c.loop-worker.invariant (let o = c.loop-worker.slots.ok in let z = c.in_default.ensures.cases.0 in search rules)
+    (let l = c.args.board.limits.1 in omega (arith, l)) c.in_ok-close.ensures.once)

@@ -1,4 +1,4 @@
-use Rattle.std.proofs.Common.{refl, rules, arith}
+use Rattle.std.proofs.Common.{rules, arith}
 use Rattle.cq_shards.specs.Answers.{query_in}
 use Rattle.cq_shards.specs.Work.{IsAnswerFor}
 use Rattle.cq_shards.proofs.AnswerDraws.{index_of, is_through, numbered, starts_answering}
@@ -6,7 +6,7 @@ use Rattle.cq_shards.proofs.Drains.{goes_on, ends}
 use Rattle.cq_shards.proofs.workers.draw_all.Goals as goal
 
 pub loop-turn-init : goal.loop-turn-init
-loop-turn-init g c = starts_answering c.args.board.now (query_in c.args.plan.now) c.args.batch.now c.args.worker.old c.requires.fresh
+loop-turn-init g c = starts_answering c.args.board.now (query_in c.args.plan.now) c.args.batch.now c.args.worker.now c.requires.fresh
 
 pub returns-in_default : goal.returns-in_default
 returns-in_default g c =
