@@ -49,10 +49,13 @@ unfolding searched
 all_left tree now = let e : length tree.game.nodes - 0 ≡ length tree.game.nodes = omega arith in ap (λ m. now + length (filter (is_searched tree.variations tree.game.nodes) (range_with_len 0 m))) e
 
 -- a step for each node of a set
-pub ticks_more : (live : List Bool) (n : ℕ) (there : Bool) (before now later : ℕ) → n < length live → there ≡ get_or live n false → later ≡ now + (if there then 1 else 0)
+pub ticks_more : (live : List Bool) (n : ℕ) (d : Bool) (before now later : ℕ) → n < length live → later ≡ now + (if get_or live n d then 1 else 0)
     → now ≡ before + count_by (λ b. b) (take n live) → later ≡ before + count_by (λ b. b) (take (n + 1) live)
-ticks_more live n true before now later low is more had = let e = count_by_more_yes (λ b. b) live n false low (sym is) in omega (arith, more, had, e)
-ticks_more live n false before now later low is more had = let e = count_by_more_no (λ b. b) live n false low (sym is) in omega (arith, more, had, e)
+ticks_more live n d before now later low more had = by (get_or live n d) refl more
+  where
+    by : (b : Bool) → get_or live n d ≡ b → later ≡ now + (if b then 1 else 0) → later ≡ before + count_by (λ b. b) (take (n + 1) live)
+    by true is more = let e = count_by_more_yes (λ b. b) live n d low is in omega (arith, more, had, e)
+    by false is more = let e = count_by_more_no (λ b. b) live n d low is in omega (arith, more, had, e)
 
 pub ticks_all : (live : List Bool) (n before now : ℕ) → length live ≤ n → now ≡ before + count_by (λ b. b) (take n live) → now ≡ before + count_by (λ b. b) live
 ticks_all live n before now end had = had ∙ ap (λ l. before + count_by (λ b. b) l) (take_whole live n end)

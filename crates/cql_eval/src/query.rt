@@ -82,7 +82,8 @@ pub fn hit_columns<L: Ledger>(
         + filters_cost (length game.now.nodes) (filters_tree query.now.items) }
 {
     let all = searched_nodes(alloc, game, query.variations, steps)?;
-    columns_of(alloc, query, game, &all, steps)
+    let column = columns_of(alloc, query, game, &all, steps)?;
+    Ok(column)
 }
 
 /// The same at the searched nodes of a set alone: at other nodes nothing holds.
@@ -106,7 +107,8 @@ pub fn hit_columns_at<L: Ledger>(
         + filters_cost (length game.now.nodes) (filters_tree query.now.items) }
 {
     tick_nodes(live, steps);
-    columns_of(alloc, query, game, live, steps)
+    let column = columns_of(alloc, query, game, live, steps)?;
+    Ok(column)
 }
 
 // What the items give at the nodes of a set.

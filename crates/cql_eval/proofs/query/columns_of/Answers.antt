@@ -10,7 +10,7 @@ use Rattle.cql_eval.proofs.query.columns_of.Goals as goal
 
 pub loop-item-init : goal.loop-item-init
 loop-item-init g c = record {
-  items = sorted_begun (searched_tree c.args.game.now c.args.query.now.variations) c.args.live.now c.deref.result.now c.in_ok-left.left.items _
+  items = sorted_begun (searched_tree c.args.game.now c.args.query.now.variations) c.args.live.now c.args.live.now c.in_ok-left.left.items _
       (filters_tree c.args.query.now.items) c.as_slice-item-items.result.now (search rules) (search rules) c.in_ok-left.ensures.left;
   keys = rows_begun (searched_tree c.args.game.now c.args.query.now.variations) c.as_slice-item-items.result.now c.in_ok-left.left.items (map (λ row. row.items) c.new-keys.result.items)
       (ap (map (λ row. row.items)) c.new-keys.ensures.items);
