@@ -78,11 +78,6 @@ pub record AreLeft (taken : Part → Bool) (game : Game) (parts : List Part) (be
   pub count : length left ≡ length began
   pub each : (q n : ℕ) → is_left left q n ≡ (is_left began q n && list_all (meets_if taken game q n) parts)
 
--- of the queries from q on, which have these nodes left, some that has the part wants node n
-unfoldable pub some_wants : Part → ℕ → List Nodes → ℕ → Bool
-some_wants p q [] n = false
-some_wants p q (x ∷ xs) n = (is_of q p && get_or x.there.items n false) || some_wants p (q + 1) xs n
-
 -- each query that has the part has left nodes of the game alone, and searched ones
 pub record IsReady (game : Game) (left : List Nodes) (p : Part) : Type 0 where
   pub searched : (q n : ℕ) → is_of q p ≡ true → is_left left q n ≡ true → is_searched p.single.query.variations game.nodes n ≡ true

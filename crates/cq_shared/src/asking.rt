@@ -8,7 +8,7 @@ ghost use Rattle.cq_shared.specs.Singles.{shown};
 
 use crate::part::Part;
 use cq_outside::{NoMemory, Steps};
-use cql_eval::{Column, hit_columns};
+use cql_eval::{Column, hit_columns_at};
 use pgn_tree::Game;
 use std::alloc::Global;
 use std::sync::ledger::Ledger;
@@ -28,9 +28,8 @@ pub(crate) fn truths_at<L: Ledger>(
     if !any_live(live) {
         return Ok(Vec::new(alloc));
     }
-    let column = hit_columns(alloc, &part.single.query, game, steps)?;
-    let truths = hits(alloc, &column, game)?;
-    Ok(truths)
+    let column = hit_columns_at(alloc, &part.single.query, game, live, steps)?;
+    Ok(column.into_hits())
 }
 
 /// The numbers of a sort item at the nodes that are asked for. Where there are none it isn't looked at.
@@ -49,7 +48,7 @@ pub(crate) fn numbers_at<L: Ledger>(
     if !any_live(live) {
         return Ok(Vec::new(alloc));
     }
-    let column = hit_columns(alloc, &part.single.query, game, steps)?;
+    let column = hit_columns_at(alloc, &part.single.query, game, live, steps)?;
     let numbers = row(alloc, &column, game)?;
     Ok(numbers)
 }
@@ -60,18 +59,6 @@ fn any_live(live: &[bool]) -> bool
     live.iter().any(|there| *there)
 }
 
-// Whether all items of a column hold, node by node.
-fn hits(alloc: Global, column: &Column, game: &Game) -> Result<Vec<bool>, NoMemory>
-    requires { length (hits_of column.now) ≡ length game.now.nodes }
-    ensures { IfOk result (λ truths. truths.items ≡ hits_of column.now) }
-{
-    let mut truths = Vec::new(alloc);
-    for k in 0..game.len() {
-        truths.push(column.hit(k))?;
-    }
-    Ok(truths)
-}
-
 // The numbers of the first sort item of a column, node by node.
 fn row(alloc: Global, column: &Column, game: &Game) -> Result<Vec<Option<i64>>, NoMemory>
     requires hits { length (hits_of column.now) ≡ length game.now.nodes }
@@ -80,7 +67,7 @@ fn row(alloc: Global, column: &Column, game: &Game) -> Result<Vec<Option<i64>>, 
     ensures { IfOk result (λ row. (n : ℕ) → get_or row.items n None
         ≡ (if get_or (hits_of column.now) n false then get_or (get_or (keys_of column.now) 0 []) n None else None)) }
 {
-    let mut row = Vec::new(alloc);
+    let mut row = Vec::with_capacity(alloc, game.len() as usize)?;
     for k in 0..game.len() {
         row.push(number_if(column, k))?;
     }

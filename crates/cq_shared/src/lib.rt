@@ -18,6 +18,7 @@ mod nodes;
 mod part;
 mod plan;
 mod several;
+mod shared;
 mod single;
 mod table;
 mod verdicts;

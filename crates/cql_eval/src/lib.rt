@@ -19,4 +19,5 @@ mod squares;
 mod tree;
 
 pub use column::Column;
-pub use query::{columns, hit_columns};
+pub use narrow::keep_true;
+pub use query::{columns, hit_columns, hit_columns_at};

@@ -22,6 +22,13 @@ pub(crate) fn narrow(left: &mut [bool], column: &FilterColumn, want: bool)
     }
 }
 
+/// Leaves those nodes of a set at which a truth is given that is true.
+pub fn keep_true(left: &mut [bool], truths: &[bool])
+    ensures { AreKept (λ n. get_or truths.now n false) left.old left.new }
+{
+    keep_by_truths(left, truths, true);
+}
+
 fn keep_by_truths(left: &mut [bool], truths: &[bool], want: bool)
     ensures { AreKept (λ n. is_so want (holds (meant (Truth (get_or truths.now n false))))) left.old left.new }
 {
