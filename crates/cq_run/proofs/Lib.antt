@@ -25,3 +25,4 @@ mod QueryFiles
 mod RunFaults
 mod RunPromise
 pub mod EveryText
+mod FileLaws

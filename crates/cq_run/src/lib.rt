@@ -23,6 +23,9 @@ mod totals;
 pub use all_queries::answer_many;
 pub use archives::answer;
 pub use command::answer_command;
-pub use laws::{every_text_is_a_query_or_has_a_fault, texts_have_one_outcome};
+pub use laws::{
+    every_file_of_queries_is_accepted_or_has_a_fault, every_text_is_a_query_or_has_a_fault,
+    files_of_queries_have_one_outcome, texts_have_one_outcome,
+};
 pub use status::Status;
 pub use top_call::run;
