@@ -6,7 +6,6 @@
 
 mod asking;
 mod beginning;
-mod class;
 mod finding;
 mod found;
 mod keys;

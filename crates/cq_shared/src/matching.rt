@@ -4,11 +4,11 @@ ghost use Rattle.cq_shared.specs.Matching.{is_before, is_class, AreLeft, AreRead
 ghost use Rattle.cq_shared.specs.Wanted.{TakesAtMost, TakeAtMost};
 
 use crate::asking::{numbers_at, truths_at};
-use crate::class::SORTS;
 use crate::narrowing::{narrowed, wanted_nodes};
 use crate::nodes::{Nodes, Row, Sorted, SortedBy};
 use crate::part::Part;
 use cq_outside::{NoMemory, Steps};
+use cql_eval::SORTS;
 use pgn_tree::Game;
 use std::alloc::Global;
 use std::sync::ledger::Ledger;

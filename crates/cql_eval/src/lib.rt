@@ -20,4 +20,5 @@ mod tree;
 
 pub use column::Column;
 pub use narrow::keep_true;
+pub use order::{SORTS, class_of};
 pub use query::{columns, hit_columns, hit_columns_at};

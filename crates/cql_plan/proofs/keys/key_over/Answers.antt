@@ -1,8 +1,8 @@
 use Rattle.std.proofs.Common.{Some, ap, ◌∙◌, refl, w64, SFits, to_z, rules}
 use Rattle.std.proofs.Math.Facts.{to_z-of_z}
 use Rattle.cql_syntax.specs.Hits.{chosen}
-use Rattle.cq_shared.proofs.Keyed.{key_first, key_next, key_all}
-use Rattle.cq_shared.proofs.keys.key_over.Goals as goal
+use Rattle.cql_plan.proofs.RowsLaw.{key_first, key_next, key_all}
+use Rattle.cql_plan.proofs.keys.key_over.Goals as goal
 
 pub loop-k-init : goal.loop-k-init
 loop-k-init c =
