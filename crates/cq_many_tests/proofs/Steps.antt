@@ -11,10 +11,12 @@ use Rattle.cq_shared.specs.Matching.{part_cost, plan_cost}
 use Rattle.cq_shared.specs.Parts.{PartTree}
 
 -- a step for each searched node
-pub wtm_cost : (game : Game) (variations : Bool) (at : ℕ) → plan_cost game (record { variations = variations; filter = filter_at at (plain Wtm) } ∷ []) ≡ length (nodes_in (searched_tree game variations))
+pub wtm_cost : (game : Game) (variations : Bool) (at : ℕ)
+    → plan_cost game (record { variations = variations; filter = filter_at at (plain Wtm) } ∷ []) ≡ length (nodes_in (searched_tree game variations))
 unfolding part_cost filter_cost
 wtm_cost game variations at = omega (arith, sum_by-cons (part_cost game) (record { variations = variations; filter = filter_at at (plain Wtm) }) [])
 
-pub by_wtm : (game : Game) (ps : List PartTree) (variations : Bool) (at before now : ℕ) → now ≤ before + plan_cost game ps → ps ≡ record { variations = variations; filter = filter_at at (plain Wtm) } ∷ []
+pub by_wtm : (game : Game) (ps : List PartTree) (variations : Bool) (at before now : ℕ) → now ≤ before + plan_cost game ps
+    → ps ≡ record { variations = variations; filter = filter_at at (plain Wtm) } ∷ []
     → now ≤ before + length (nodes_in (searched_tree game variations))
 by_wtm game ps variations at before now most is = omega (arith, subst (λ qs. now ≤ before + plan_cost game qs) is most, wtm_cost game variations at)

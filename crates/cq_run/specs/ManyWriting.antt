@@ -26,7 +26,8 @@ IsRowOrdered row ordered = IsPermutation row ordered × (AreApart row → AllPai
 
 -- in the order of its games a row has the answers of these games to a query, the first of them having this number
 abbrev pub IsRowOf : QueryTree → ℕ → List Outcome → List GameAnswer → Type 0
-IsRowOf query number outcomes row = (ordered : List GameAnswer) → IsRowOrdered row ordered → ordered ≡ answers_from query number outcomes
+IsRowOf query number outcomes row =
+    (ordered : List GameAnswer) → IsRowOrdered row ordered → ordered ≡ answers_from query number outcomes
 
 -- each query has such a row
 abbrev pub AreRowsOf : List QueryTree → ℕ → List Outcome → List (List GameAnswer) → Type 0

@@ -166,7 +166,8 @@ none_if (Some x) e = cc
 
 pub row_by : (game : Game) (p : Part) (live hits : List Bool) (keys : List (List (Option ℤ))) (row : List (Option ℤ))
     → is_single (filters_tree p.single.query.items) ≡ true → p.class ≡ 5 → p.class ≡ filter_class (first_of (filters_tree p.single.query.items))
-    → ((k : ℕ) → get_or hits k false ≡ (is_live live k && is_hit (tree_for game p) (filters_tree p.single.query.items) k)) → AreKeysAtHits (tree_for game p) (filters_tree p.single.query.items) hits keys
+    → ((k : ℕ) → get_or hits k false ≡ (is_live live k && is_hit (tree_for game p) (filters_tree p.single.query.items) k))
+    → AreKeysAtHits (tree_for game p) (filters_tree p.single.query.items) hits keys
     → ((n : ℕ) → get_or row n None ≡ (if get_or hits n false then get_or (get_or keys 0 []) n None else None)) → IsRowAt game p live row
 unfolding holds_at
 row_by game p live hits keys row one class class_is is are given = record {

@@ -93,7 +93,8 @@ wanted t (x ∷ xs) q among is = ⊎_elim
     (λ later. or_right (t x) (list_any t xs) (wanted t xs q later is))
     (or_true (x == q) (is_among q xs) among)
 
-pub are_united : (game : Game) (p : Part) (left : List Nodes) (k : ℕ) (live : List Bool) → length game.nodes ≤ k → k ≤ length game.nodes → IsReady game left p → Told (λ n. list_any (λ q. is_left left q n) p.askers.items) k live
+pub are_united : (game : Game) (p : Part) (left : List Nodes) (k : ℕ) (live : List Bool) → length game.nodes ≤ k → k ≤ length game.nodes → IsReady game left p
+    → Told (λ n. list_any (λ q. is_left left q n) p.askers.items) k live
     → AreAsked (tree_for game p) live × IsUnion p left live
 are_united game p left k live high low ready had = (
   record {

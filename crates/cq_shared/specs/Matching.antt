@@ -80,7 +80,8 @@ pub record AreLeft (taken : Part → Bool) (game : Game) (parts : List Part) (be
 
 -- each query that has the part has left nodes of the game alone, and searched ones
 pub record IsReady (game : Game) (left : List Nodes) (p : Part) : Type 0 where
-  pub searched : (q n : ℕ) → is_of q p ≡ true → is_left left q n ≡ true → is_searched p.single.query.variations game.nodes n ≡ true
+  pub searched : (q n : ℕ) → is_of q p ≡ true → is_left left q n ≡ true
+      → is_searched p.single.query.variations game.nodes n ≡ true
   pub inside : (q n : ℕ) → is_of q p ≡ true → is_left left q n ≡ true → n < length game.nodes
 
 abbrev pub AreReady : Game → List Nodes → List Part → Type 0

@@ -21,7 +21,8 @@ both taken want p = taken p && want p
 
 -- what is taken of steps is no more than such parts cost
 abbrev pub TakesAtMost : (Part → Bool) → Game → Part → List Nodes → ℕ → ℕ → Type 0
-TakesAtMost taken game p left before now = (want : Part → Bool) → Admits want left p → now ≤ before + cost_if (both taken want) game p
+TakesAtMost taken game p left before now =
+    (want : Part → Bool) → Admits want left p → now ≤ before + cost_if (both taken want) game p
 
 abbrev pub TakeAtMost : (Part → Bool) → Game → List Part → List Nodes → ℕ → ℕ → Type 0
 TakeAtMost taken game parts left before now =

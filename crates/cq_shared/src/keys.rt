@@ -42,7 +42,8 @@ fn key_of(parts: &[Part], rows: &[Row], number: usize, nodes: &[u32]) -> i64
     requires some { 0 < length nodes.now }
     requires part { number < length parts.now }
     requires row { number < length rows.now }
-    requires values { (r : RowOf) → r ≡ get_or rows.now number r → All (λ n. is_some (get_or r.numbers.items n None) ≡ true) nodes.now }
+    requires values { (r : RowOf) → r ≡ get_or rows.now number r
+        → All (λ n. is_some (get_or r.numbers.items n None) ≡ true) nodes.now }
     ensures { Some result ≡ row_key parts.now rows.now nodes.now number }
 {
     let part = &parts[number];

@@ -55,7 +55,8 @@ fn push_if(found: &mut Vec<u32>, there: bool, node: u32) -> Result<(), NoMemory>
 /// One key for each sort item over the hits, the first item foremost: its greatest value there, or with `min` the least. Over no nodes
 /// there are no keys.
 pub(crate) fn keys(alloc: Global, told: &Told, nodes: &[u32]) -> Result<Vec<i64>, NoMemory>
-    requires { nodes.now ≡ hits_in (searched_tree told.now.game.now told.now.query.now.variations) (filters_tree told.now.query.now.items) }
+    requires { nodes.now
+        ≡ hits_in (searched_tree told.now.game.now told.now.query.now.variations) (filters_tree told.now.query.now.items) }
     ensures keys { IfOk result (λ keys. nodes.now ≢ [] → map Some keys.items
         ≡ all_keys (searched_tree told.now.game.now told.now.query.now.variations) nodes.now (filters_tree told.now.query.now.items)) }
     ensures none { IfOk result (λ keys. nodes.now ≡ [] → keys.items ≡ []) }

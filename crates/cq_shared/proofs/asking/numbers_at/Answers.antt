@@ -26,12 +26,15 @@ returns-clause-told g c =
 
 pub returns-clause-cost : goal.returns-clause-cost
 returns-clause-cost g c =
-    cost_live c.args.live.now _ _ _ (sym c.any_live.ensures ∙ c.if-not-any_live.false) (cost_is c.args.game.now c.args.part.now c.args.live.now _ _ c.requires.asked c.hit_columns_at.ensures.most c.args.part.now.single.one)
+    cost_live c.args.live.now _ _ _ (sym c.any_live.ensures ∙ c.if-not-any_live.false)
+    (cost_is c.args.game.now c.args.part.now c.args.live.now _ _ c.requires.asked c.hit_columns_at.ensures.most c.args.part.now.single.one)
 
 pub returns-in_err-column-clause-cost : goal.returns-in_err-column-clause-cost
 returns-in_err-column-clause-cost g c =
-    cost_live c.args.live.now _ _ _ (sym c.any_live.ensures ∙ c.if-not-any_live.false) (cost_is c.args.game.now c.args.part.now c.args.live.now _ _ c.requires.asked c.hit_columns_at.ensures.most c.args.part.now.single.one)
+    cost_live c.args.live.now _ _ _ (sym c.any_live.ensures ∙ c.if-not-any_live.false)
+    (cost_is c.args.game.now c.args.part.now c.args.live.now _ _ c.requires.asked c.hit_columns_at.ensures.most c.args.part.now.single.one)
 
 pub returns-in_err-numbers-clause-cost : goal.returns-in_err-numbers-clause-cost
 returns-in_err-numbers-clause-cost g c =
-    cost_live c.args.live.now _ _ _ (sym c.any_live.ensures ∙ c.if-not-any_live.false) (cost_is c.args.game.now c.args.part.now c.args.live.now _ _ c.requires.asked c.hit_columns_at.ensures.most c.args.part.now.single.one)
+    cost_live c.args.live.now _ _ _ (sym c.any_live.ensures ∙ c.if-not-any_live.false)
+    (cost_is c.args.game.now c.args.part.now c.args.live.now _ _ c.requires.asked c.hit_columns_at.ensures.most c.args.part.now.single.one)
