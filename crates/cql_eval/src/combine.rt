@@ -7,7 +7,8 @@ ghost use Rattle.cql_values.specs.Shown.{meant, terms_meant};
 ghost use Rattle.cql_values.specs.Trees.{searched_tree};
 ghost use Rattle.cql_eval.specs.Columns.{AreAsked, AreTruths, AreValues, IsNumbered, shown, all_shown, terms_shown};
 
-use crate::filter_column::FilterColumn;
+use crate::filter_column::{FilterColumn, blank_truths, blank_values};
+use crate::spans::{asked_end, end_of, first_asked, first_live};
 use cq_geometry::Compass;
 use cq_outside::NoMemory;
 use cql_syntax::{Chain, Kind, Pair, Unary};
@@ -26,12 +27,18 @@ pub(crate) fn negated(
 ) -> Result<Vec<bool>, NoMemory>
     ensures { IfOk result (λ truths. AreTruths truths.items live.now (λ n. spec.as_truth (not (spec.holds (shown column.now n))))) }
 {
-    let mut truths = Vec::with_capacity(alloc, live.len())?;
-    for n in 0..live.len() {
-        let fails = live[n] && !column.at(n).holds();
-        truths.push(fails)?;
+    let end = end_of(live);
+    let mut truths = blank_truths(alloc, end)?;
+    for n in first_live(live)..end {
+        truths[n] = fails(live[n], column, n);
     }
     Ok(truths)
+}
+
+fn fails(asked: bool, column: &FilterColumn, n: usize) -> bool
+    ensures { result ≡ (asked && not (spec.holds (shown column.now n))) }
+{
+    asked && !column.at(n).holds()
 }
 
 /// Of the nodes of a set those at which a column has a number.
@@ -61,10 +68,10 @@ pub(crate) fn chosen(
     ensures { IfOk result (λ truths. AreTruths truths.items live.now
         (λ n. spec.if_of (shown first.now n) (shown second.now n) (shown third.now n))) }
 {
-    let mut truths = Vec::with_capacity(alloc, live.len())?;
-    for n in 0..live.len() {
-        let truth = is_chosen(first, second, third, n);
-        truths.push(truth)?;
+    let end = end_of(live);
+    let mut truths = blank_truths(alloc, end)?;
+    for n in first_live(live)..end {
+        truths[n] = is_chosen(first, second, third, n);
     }
     Ok(truths)
 }
@@ -88,10 +95,10 @@ pub(crate) fn unary_values(
     ensures { IfOk result (λ values. AreValues values.items live.now
         (λ n. of_value (node_at game.now.nodes n).position.men word (shown column.now n))) }
 {
-    let mut values = Vec::with_capacity(alloc, game.len() as usize)?;
-    for n in 0..game.len() {
-        let value = unary_value(live[n as usize], word, game, column, n);
-        values.push(value)?;
+    let end = asked_end(live, game.len());
+    let mut values = blank_values(alloc, end as usize)?;
+    for n in first_asked(live, game.len())..end {
+        values[n as usize] = unary_value(live[n as usize], word, game, column, n);
     }
     Ok(values)
 }
@@ -119,10 +126,10 @@ pub(crate) fn reached_values(
     ensures { IfOk result (λ values. AreValues values.items live.now
         (λ n. spec.reached_of directions.now least most (shown column.now n))) }
 {
-    let mut values = Vec::with_capacity(alloc, live.len())?;
-    for n in 0..live.len() {
-        let value = reached_value(live[n], directions, least, most, column.at(n));
-        values.push(value)?;
+    let end = end_of(live);
+    let mut values = blank_values(alloc, end)?;
+    for n in first_live(live)..end {
+        values[n] = reached_value(live[n], directions, least, most, column.at(n));
     }
     Ok(values)
 }
@@ -151,10 +158,10 @@ pub(crate) fn pair_values(
     ensures { IfOk result (λ values. AreValues values.items live.now
         (λ n. spec.pair_of (node_at game.now.nodes n).position.men pair (shown first.now n) (shown second.now n))) }
 {
-    let mut values = Vec::with_capacity(alloc, game.len() as usize)?;
-    for n in 0..game.len() {
-        let value = pair_value(live[n as usize], pair, game, first, second, n);
-        values.push(value)?;
+    let end = asked_end(live, game.len());
+    let mut values = blank_values(alloc, end as usize)?;
+    for n in first_asked(live, game.len())..end {
+        values[n as usize] = pair_value(live[n as usize], pair, game, first, second, n);
     }
     Ok(values)
 }
@@ -192,10 +199,10 @@ pub(crate) fn chain_values(
 ) -> Result<Vec<Value>, NoMemory>
     ensures { IfOk result (λ values. AreValues values.items live.now (λ n. spec.chain_of chain (all_shown columns.now n))) }
 {
-    let mut values = Vec::with_capacity(alloc, live.len())?;
-    for n in 0..live.len() {
-        let value = chain_value(alloc, live[n], chain, columns, n)?;
-        values.push(value)?;
+    let end = end_of(live);
+    let mut values = blank_values(alloc, end)?;
+    for n in first_live(live)..end {
+        values[n] = chain_value(alloc, live[n], chain, columns, n)?;
     }
     Ok(values)
 }
@@ -225,10 +232,10 @@ pub(crate) fn any_values(
 ) -> Result<Vec<Value>, NoMemory>
     ensures { IfOk result (λ values. AreValues values.items live.now (λ n. spec.any_of kind (all_shown columns.now n))) }
 {
-    let mut values = Vec::with_capacity(alloc, live.len())?;
-    for n in 0..live.len() {
-        let value = any_value(alloc, live[n], kind, columns, n)?;
-        values.push(value)?;
+    let end = end_of(live);
+    let mut values = blank_values(alloc, end)?;
+    for n in first_live(live)..end {
+        values[n] = any_value(alloc, live[n], kind, columns, n)?;
     }
     Ok(values)
 }
@@ -268,10 +275,10 @@ pub(crate) fn sum_values(
 ) -> Result<Vec<Value>, NoMemory>
     ensures { IfOk result (λ values. AreValues values.items live.now (λ n. spec.total_of (terms_shown terms.now n))) }
 {
-    let mut values = Vec::with_capacity(alloc, live.len())?;
-    for n in 0..live.len() {
-        let value = sum_value(alloc, live[n], terms, n)?;
-        values.push(value)?;
+    let end = end_of(live);
+    let mut values = blank_values(alloc, end)?;
+    for n in first_live(live)..end {
+        values[n] = sum_value(alloc, live[n], terms, n)?;
     }
     Ok(values)
 }

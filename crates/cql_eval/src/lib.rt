@@ -15,6 +15,7 @@ mod nodes;
 mod order;
 mod patterns;
 mod query;
+mod spans;
 mod squares;
 mod tree;
 

@@ -94,6 +94,6 @@ fn square_turn<L: Ledger>(
     }
     let inner = names.with(alloc, name, square)?;
     let column = evaluate(alloc, asked, game, variations, &inner, &there, steps)?;
-    let later = unsettled(alloc, every, &left, &there, &column)?;
+    let later = unsettled(every, left, &there, &column);
     Ok(later)
 }

@@ -185,11 +185,11 @@ squares::square_turn-returns-clause-value g t c =
     turn_all (searched_tree c.args.game.now c.args.variations) c.args.every (shown c.args.squares.now)
     (value (searched_tree c.args.game.now c.args.variations) [] ((c.args.name.now, c.args.square) ∷ c.args.names.now)
     (filter_tree c.args.asked.now)) c.args.square c.args.left.items c.in_ok-there.there.items
-    c.deref.result.now c.deref-3.result.now c.deref-4.result.now c.deref-5.result.now c.in_ok-later.later.items c.in_ok-column.column
-    c.deref.ensures.value c.deref-3.ensures.value c.deref-4.ensures.value c.deref-5.ensures.value c.in_ok-there.ensures
+    c.deref.result.now c.deref-3.result.now c.args.left.items c.deref-4.result.now c.unsettled-later.result.items c.in_ok-column.column
+    c.deref.ensures.value c.deref-3.ensures.value refl c.deref-4.ensures.value c.in_ok-there.ensures
     (subst (λ e. IsColumn c.in_ok-column.column c.deref-3.result.now
     (value (searched_tree c.args.game.now c.args.variations) [] e
-    (filter_tree c.args.asked.now))) c.in_ok-inner.ensures c.in_ok-column.ensures.value) c.in_ok-later.ensures
+    (filter_tree c.args.asked.now))) c.in_ok-inner.ensures c.in_ok-column.ensures.value) c.unsettled-later.ensures
 
 pub squares::square_turn-returns-then-not-any_live-clause-value : goal.squares::square_turn-returns-then-not-any_live-clause-value
 squares::square_turn-returns-then-not-any_live-clause-value g t c =
