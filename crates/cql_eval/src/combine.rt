@@ -41,6 +41,28 @@ fn fails(asked: bool, column: &FilterColumn, n: usize) -> bool
     asked && !column.at(n).holds()
 }
 
+/// Where a column holds.
+pub(crate) fn held(
+    alloc: Global,
+    column: &FilterColumn,
+    live: &[bool],
+) -> Result<Vec<bool>, NoMemory>
+    ensures { IfOk result (λ truths. AreTruths truths.items live.now (λ n. spec.as_truth (spec.holds (shown column.now n)))) }
+{
+    let end = end_of(live);
+    let mut truths = blank_truths(alloc, end)?;
+    for n in first_live(live)..end {
+        truths[n] = holds_at(live[n], column, n);
+    }
+    Ok(truths)
+}
+
+fn holds_at(asked: bool, column: &FilterColumn, n: usize) -> bool
+    ensures { result ≡ (asked && spec.holds (shown column.now n)) }
+{
+    asked && column.at(n).holds()
+}
+
 /// Of the nodes of a set those at which a column has a number.
 pub(crate) fn numbered(
     alloc: Global,

@@ -8,7 +8,7 @@ loop-n-init c = put_none as_truth false c.args.live.now _ _ _ _ c.in_ok-truths.e
 
 pub loop-n-preserved : goal.loop-n-preserved
 loop-n-preserved c =
-    put_more as_truth false c.args.live.now _ _ c.loop-n.n c.loop-n.truths.items _ c.is_chosen.result c.loop-n-test.true refl 
+    put_more as_truth false c.args.live.now _ _ c.loop-n.n c.loop-n.truths.items _ c.is_chosen.result c.loop-n-test.true refl
     (λ asked. ap as_truth c.is_chosen.ensures) c.loop-n.invariant
 
 pub returns : goal.returns

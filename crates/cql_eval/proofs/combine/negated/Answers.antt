@@ -10,7 +10,7 @@ loop-n-init c = put_none as_truth false c.args.live.now _ _ _ _ c.in_ok-truths.e
 
 pub loop-n-preserved : goal.loop-n-preserved
 loop-n-preserved c =
-    put_more as_truth false c.args.live.now _ _ c.loop-n.n c.loop-n.truths.items _ c.fails.result c.loop-n-test.true refl 
+    put_more as_truth false c.args.live.now _ _ c.loop-n.n c.loop-n.truths.items _ c.fails.result c.loop-n-test.true refl
     (λ asked. ap as_truth (c.fails.ensures ∙ ap (λ b. b && not (holds (shown c.args.column.now c.loop-n.n))) asked)) c.loop-n.invariant
 
 pub returns : goal.returns

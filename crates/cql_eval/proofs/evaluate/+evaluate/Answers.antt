@@ -180,6 +180,9 @@ squares::square_truths-returns-clause-value g t c = λ n l.
     c.loop-number.number c.loop-number.left.items c.in_ok-truths.truths.items
     (omega (arith, c.loop-number-test.false, c.loop-number.auto.number-end)) c.requires.asked c.loop-number.invariant.left c.in_ok-truths.ensures n l
 
+pub squares::square_truths-returns-in-Some-clause-value : goal.squares::square_truths-returns-in-Some-clause-value
+squares::square_truths-returns-in-Some-clause-value g t c = ?
+
 pub squares::square_turn-returns-clause-value : goal.squares::square_turn-returns-clause-value
 squares::square_turn-returns-clause-value g t c =
     turn_all (searched_tree c.args.game.now c.args.variations) c.args.every (shown c.args.squares.now)
