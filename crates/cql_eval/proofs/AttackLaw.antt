@@ -1,5 +1,5 @@
 -- Squares that are tried one by one, where it is asked whether a man on the square attacks one of a designator.
-use Rattle.std.proofs.Common.{◌≡◌, ℕ, ◌+◌, ◌<◌, Bool, true, false, not, ◌&&◌, ◌==◌, List, [], ◌∷◌, length, get_or, Option, None, Some, refl, sym, ap, ap₂, ◌∙◌, arith}
+use Rattle.std.proofs.Common.{◌≡◌, ℕ, ◌<◌, Bool, true, false, not, ◌&&◌, ◌==◌, List, [], ◌∷◌, length, get_or, Option, None, Some, refl, sym, ap, ap₂, ◌∙◌, arith}
 use Rattle.std.specs.Prelude.{nat_lt, IfSome, if◌then◌else◌}
 use Rattle.std.proofs.lemmas.Bool.{lt-ltb}
 use Rattle.std.specs.List.{list_any}
@@ -12,7 +12,7 @@ use Rattle.cql_syntax.specs.Contexts.{designator_image}
 use Rattle.cql_syntax.specs.Meaning.{Names, value, values, position_at, standing_of, is_bound_to}
 use Rattle.cql_syntax.specs.Trees.{FilterTree, filter_at, FilterTrees, more_filters, no_filters, pair, chain, name, designator}
 use Rattle.cql_syntax.specs.TreeOf.{filter_tree, filter_trees}
-use Rattle.cql_syntax.specs.Values.{Value, as_truth, holds, has, related, squares_where, square_of, chain_of, pair_of}
+use Rattle.cql_syntax.specs.Values.{Value, as_truth, holds, has, related, squares_where, square_of, chain_of}
 use Rattle.cql_syntax.specs.declared.leaves.Chain.TheVariants.{All}
 use Rattle.cql_syntax.specs.declared.leaves.Designator.{Designator}
 use Rattle.cql_syntax.specs.declared.leaves.Pair.TheVariants.{Attacks}

@@ -1,5 +1,5 @@
 -- What is asked of a square, where it is whether a man on it attacks a square of a designator, as the private functions give it.
-use Rattle.std.specs.Prelude.{◌≡◌, ℕ, ◌<◌, ◌∷◌, [], ◌&&◌, ◌==◌, List, Some, Bool}
+use Rattle.std.specs.Prelude.{◌≡◌, ℕ, ◌<◌, ◌∷◌, [], ◌&&◌, ◌==◌, List, Some}
 use Rattle.std.specs.List.{list_any}
 use Rattle.cq_geometry.specs.Squares.{squares}
 use Rattle.cq_position.specs.Attacks.{attacks}

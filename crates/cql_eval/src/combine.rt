@@ -1,5 +1,5 @@
 //! Columns that are made of the columns of parts.
-ghost use Rattle.std.specs.Prelude.{◌≡◌, ◌<◌, ◌&&◌, length, map, true, not, IfOk};
+ghost use Rattle.std.specs.Prelude.{◌≡◌, ◌<◌, ◌&&◌, length, map, true, not, IfOk, OnOk};
 ghost use Rattle.cq_position.specs.Games.{node_at};
 ghost use Rattle.cql_syntax.specs.Values as spec;
 ghost use Rattle.cql_values.specs.Asked.{of_value};
@@ -223,14 +223,15 @@ pub(crate) fn chain_values(
 {
     let end = end_of(live);
     let mut values = blank_values(alloc, end)?;
+    let mut row = Vec::with_capacity(alloc, columns.len())?;
     for n in first_live(live)..end {
-        values[n] = chain_value(alloc, live[n], chain, columns, n)?;
+        values[n] = chain_value(&mut row, live[n], chain, columns, n)?;
     }
     Ok(values)
 }
 
 fn chain_value(
-    alloc: Global,
+    row: &mut Vec<Value>,
     asked: bool,
     chain: Chain,
     columns: &[FilterColumn],
@@ -241,8 +242,8 @@ fn chain_value(
     if !asked {
         return Ok(Value::Truth(false));
     }
-    let values = values_at(alloc, columns, n)?;
-    Ok(chain_of(chain, values.as_slice()))
+    put_values(row, columns, n)?;
+    Ok(chain_of(chain, row.as_slice()))
 }
 
 /// Any of the columns of some filters of a kind.
@@ -256,14 +257,15 @@ pub(crate) fn any_values(
 {
     let end = end_of(live);
     let mut values = blank_values(alloc, end)?;
+    let mut row = Vec::with_capacity(alloc, columns.len())?;
     for n in first_live(live)..end {
-        values[n] = any_value(alloc, live[n], kind, columns, n)?;
+        values[n] = any_value(&mut row, live[n], kind, columns, n)?;
     }
     Ok(values)
 }
 
 fn any_value(
-    alloc: Global,
+    row: &mut Vec<Value>,
     asked: bool,
     kind: Kind,
     columns: &[FilterColumn],
@@ -274,19 +276,19 @@ fn any_value(
     if !asked {
         return Ok(Value::Truth(false));
     }
-    let values = values_at(alloc, columns, n)?;
-    Ok(any_of(kind, values.as_slice()))
+    put_values(row, columns, n)?;
+    Ok(any_of(kind, row.as_slice()))
 }
 
-// The values of columns at a node.
-fn values_at(alloc: Global, columns: &[FilterColumn], n: usize) -> Result<Vec<Value>, NoMemory>
-    ensures { IfOk result (λ values. map meant values.items ≡ all_shown columns.now n) }
+// Writes the values of columns at a node in place of what was there.
+fn put_values(row: &mut Vec<Value>, columns: &[FilterColumn], n: usize) -> Result<(), NoMemory>
+    ensures { OnOk result (map meant row.new.items ≡ all_shown columns.now n) }
 {
-    let mut values = Vec::new(alloc);
+    row.clear();
     for column in columns {
-        values.push(column.at(n))?;
+        row.push(column.at(n))?;
     }
-    Ok(values)
+    Ok(())
 }
 
 /// The sums of columns, each of which is added, or subtracted where it says so.
@@ -299,14 +301,15 @@ pub(crate) fn sum_values(
 {
     let end = end_of(live);
     let mut values = blank_values(alloc, end)?;
+    let mut row = Vec::with_capacity(alloc, terms.len())?;
     for n in first_live(live)..end {
-        values[n] = sum_value(alloc, live[n], terms, n)?;
+        values[n] = sum_value(&mut row, live[n], terms, n)?;
     }
     Ok(values)
 }
 
 fn sum_value(
-    alloc: Global,
+    row: &mut Vec<(bool, Value)>,
     asked: bool,
     terms: &[(bool, FilterColumn)],
     n: usize,
@@ -316,21 +319,17 @@ fn sum_value(
     if !asked {
         return Ok(Value::Truth(false));
     }
-    let values = terms_at(alloc, terms, n)?;
-    Ok(total(values.as_slice()))
+    put_terms(row, terms, n)?;
+    Ok(total(row.as_slice()))
 }
 
-// The values of terms at a node.
-fn terms_at(
-    alloc: Global,
-    terms: &[(bool, FilterColumn)],
-    n: usize,
-) -> Result<Vec<(bool, Value)>, NoMemory>
-    ensures { IfOk result (λ values. terms_meant values.items ≡ terms_shown terms.now n) }
+// Writes the values of terms at a node in place of what was there.
+fn put_terms(row: &mut Vec<(bool, Value)>, terms: &[(bool, FilterColumn)], n: usize) -> Result<(), NoMemory>
+    ensures { OnOk result (terms_meant row.new.items ≡ terms_shown terms.now n) }
 {
-    let mut values = Vec::new(alloc);
+    row.clear();
     for term in terms {
-        values.push((term.0, term.1.at(n)))?;
+        row.push((term.0, term.1.at(n)))?;
     }
-    Ok(values)
+    Ok(())
 }

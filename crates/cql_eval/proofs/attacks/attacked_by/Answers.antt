@@ -1,7 +1,6 @@
-use Rattle.std.proofs.Common.{◌≡◌, ap, true}
+use Rattle.std.proofs.Common.{ap}
 use Rattle.cql_syntax.specs.Trees as trees
 use Rattle.cql_syntax.specs.TreeOf.{filter_tree}
-use Rattle.cql_eval.specs.Attacked.{AsksAttack, IsDesignated}
 use Rattle.cql_eval.proofs.AttackLaw.{some_both, pair_asks}
 use Rattle.cql_eval.proofs.attacks.attacked_by.Goals as goal
 

@@ -1,4 +1,4 @@
-use Rattle.std.proofs.Common.{◌≡◌, ap}
+use Rattle.std.proofs.Common.{ap}
 use Rattle.std.proofs.lemmas.Option.{IfSome_then}
 use Rattle.cql_syntax.specs.Trees as trees
 use Rattle.cql_syntax.specs.TreeOf.{filter_trees}

@@ -1,6 +1,4 @@
-use Rattle.std.proofs.Common.{◌≡◌}
 use Rattle.std.proofs.lemmas.Option.{IfSome_then}
-use Rattle.cql_syntax.specs.TreeOf.{filter_tree}
 use Rattle.cql_eval.specs.Attacked.{AsksAttack}
 use Rattle.cql_eval.proofs.AttackLaw.{only_one}
 use Rattle.cql_eval.proofs.attacks.attacked_in_one.Goals as goal

@@ -1,7 +1,7 @@
 use Rattle.std.proofs.Common.{◌∙◌, ap, subst, sym}
 use Rattle.std.proofs.lemmas.Option.{IfSome_then}
 use Rattle.cql_syntax.specs.Trees as trees
-use Rattle.cql_syntax.specs.TreeOf.{filter_tree, form_tree}
+use Rattle.cql_syntax.specs.TreeOf.{form_tree}
 use Rattle.cql_eval.specs.Attacked.{AsksAttack}
 use Rattle.cql_eval.proofs.attacks.attacked_part.Goals as goal
 

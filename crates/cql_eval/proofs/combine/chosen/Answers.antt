@@ -1,4 +1,4 @@
-use Rattle.std.proofs.Common.{◌∙◌, false, refl, ap}
+use Rattle.std.proofs.Common.{false, refl, ap}
 use Rattle.cql_syntax.specs.Values.{as_truth}
 use Rattle.cql_eval.proofs.Filling.{put_none, put_more, put_all}
 use Rattle.cql_eval.proofs.combine.chosen.Goals as goal

@@ -1,5 +1,5 @@
 use Rattle.std.specs.Prelude.{false}
-use Rattle.cql_syntax.specs.Values.{as_truth, holds, if_of}
+use Rattle.cql_syntax.specs.Values.{as_truth, if_of}
 use Rattle.cql_eval.specs.Columns.{shown}
 use Rattle.cql_eval.proofs.Filling.{FilledTo}
 use Rattle.cql_eval.proofs.combine.chosen.Given as goal
