@@ -1,7 +1,7 @@
 -- Columns that are filled node by node.
-use Rattle.std.proofs.Common.{◌≡◌, ℕ, zero, suc, ◌+◌, ◌-◌, ◌<◌, ◌≤◌, ◌⊎◌, Bool, true, false, List, [], ◌∷◌, ◌++◌, length, get_or, ◌&&◌, refl, ap, sym, subst, ◌∙◌, arith, ⊎_elim, inl, inr, length-append}
+use Rattle.std.proofs.Common.{◌≡◌, ℕ, zero, suc, ◌+◌, ◌<◌, ◌≤◌, ◌⊎◌, Bool, true, false, List, [], ◌∷◌, ◌++◌, length, get_or, ◌&&◌, refl, ap, sym, subst, ◌∙◌, arith, ⊎_elim, inl, inr, length-append}
 use Rattle.cq_position.specs.Search.{SearchedTree}
-use Rattle.std.specs.Prelude.{is_some, slice_set}
+use Rattle.std.specs.Prelude.{◌-◌, is_some, slice_set}
 use Rattle.cql_syntax.specs.Values.{holds, amount}
 use Rattle.cql_eval.specs.Columns.{shown, is_so, IsNarrowed, IsNumbered, AreAsked}
 use Rattle.cql_eval.specs.declared.filter_column.FilterColumn.{FilterColumn}

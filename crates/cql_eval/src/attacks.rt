@@ -19,7 +19,11 @@ use pgn_tree::Game;
 use std::alloc::Global;
 
 /// The designator, where it is asked of some square whether a man on it attacks one of the designator's squares.
-pub(crate) fn attacked_part<'a>(every: bool, name: &[u8], asked: &'a Filter) -> Option<&'a Designator>
+pub(crate) fn attacked_part<'a>(
+    every: bool,
+    name: &[u8],
+    asked: &'a Filter,
+) -> Option<&'a Designator>
     ensures some { IfSome result (λ d. every ≡ false) }
     ensures each { IfSome result (λ d. AsksAttack name.now d.now (filter_tree asked.now)) }
 {
@@ -33,7 +37,8 @@ pub(crate) fn attacked_part<'a>(every: bool, name: &[u8], asked: &'a Filter) -> 
 }
 
 fn attacked_in<'a>(chain: Chain, name: &[u8], parts: &'a [Filter]) -> Option<&'a Designator>
-    ensures { IfSome result (λ d. (i : ℕ) → AsksAttack name.now d.now (trees.filter_at i (trees.chain chain (filter_trees parts.now)))) }
+    ensures { IfSome result (λ d. (i : ℕ)
+        → AsksAttack name.now d.now (trees.filter_at i (trees.chain chain (filter_trees parts.now)))) }
 {
     match chain {
         Chain::All => attacked_in_one(name, parts),
@@ -60,7 +65,12 @@ fn attacked_by_pair<'a>(name: &[u8], asked: &'a Filter) -> Option<&'a Designator
     }
 }
 
-fn attacked_by<'a>(pair: Pair, name: &[u8], first: &Filter, second: &'a Filter) -> Option<&'a Designator>
+fn attacked_by<'a>(
+    pair: Pair,
+    name: &[u8],
+    first: &Filter,
+    second: &'a Filter,
+) -> Option<&'a Designator>
     ensures { IfSome result (λ d. (i : ℕ)
         → AsksAttack name.now d.now (trees.filter_at i (trees.pair pair (filter_tree first.now) (filter_tree second.now)))) }
 {
@@ -108,7 +118,15 @@ pub(crate) fn attack_truths(
 {
     let goals = standing_sets(alloc, d, game, variations, live)?;
     let goals = FilterColumn::Sets(goals);
-    let values = pair_values(alloc, Pair::Attacks, game, variations, squares, &goals, live)?;
+    let values = pair_values(
+        alloc,
+        Pair::Attacks,
+        game,
+        variations,
+        squares,
+        &goals,
+        live,
+    )?;
     let values = FilterColumn::Values(values);
     let truths = held(alloc, &values, live)?;
     Ok(truths)

@@ -324,7 +324,11 @@ fn sum_value(
 }
 
 // Writes the values of terms at a node in place of what was there.
-fn put_terms(row: &mut Vec<(bool, Value)>, terms: &[(bool, FilterColumn)], n: usize) -> Result<(), NoMemory>
+fn put_terms(
+    row: &mut Vec<(bool, Value)>,
+    terms: &[(bool, FilterColumn)],
+    n: usize,
+) -> Result<(), NoMemory>
     ensures { OnOk result (terms_meant row.new.items ≡ terms_shown terms.now n) }
 {
     row.clear();
