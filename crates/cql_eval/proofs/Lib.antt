@@ -1,3 +1,4 @@
+pub mod AttackLaw
 pub mod Chains
 pub mod ClassLaw
 pub mod Costing

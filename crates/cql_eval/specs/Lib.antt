@@ -1,4 +1,5 @@
 pub mod Asked
+pub mod Attacked
 pub mod Classes
 pub mod Columns
 pub mod Costs

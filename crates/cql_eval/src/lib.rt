@@ -4,6 +4,7 @@
 //! `cql_syntax/specs/Meaning` has the meaning, `specs/Columns` what a column promises.
 #![tactic(auto)]
 
+mod attacks;
 pub mod column;
 mod combine;
 mod evaluate;
@@ -15,6 +16,7 @@ mod nodes;
 mod order;
 mod patterns;
 mod query;
+mod spans;
 mod squares;
 mod tree;
 

@@ -10,6 +10,9 @@ use Rattle.cql_values.specs.Trees.{searched_tree}
 use Rattle.cql_values.proofs.Evaluated.{word_here}
 use Rattle.cql_eval.specs.Columns.{AreAsked, IsColumn, shown}
 use Rattle.cql_eval.proofs.ClassLaw.{left_taken, left_passed, cost_taken, is_left_begun, is_left_then, is_left_same, so_begun, so_more, so_whole, so_none, so_all, so_no, class_left, class_end, truth_left, class_cost_more, class_cost_within, cost_next, cost_later, cost_all}
+use Rattle.std.proofs.Math.Path.{fun_ext}
+use Rattle.cql_eval.specs.Columns.{AreTruths}
+use Rattle.cql_eval.proofs.AttackLaw.{attack_is}
 use Rattle.cql_eval.proofs.Chains.{left_begun, if_open, square_more, square_end, turn_all, turn_stop, unary_form, square_form, if_form}
 use Rattle.cql_eval.specs.Classes.{is_of, is_before, are_so, IsLeft}
 use Rattle.cql_eval.specs.Costs.{filter_cost, parts_atoms, body_atoms}
@@ -180,16 +183,23 @@ squares::square_truths-returns-clause-value g t c = λ n l.
     c.loop-number.number c.loop-number.left.items c.in_ok-truths.truths.items
     (omega (arith, c.loop-number-test.false, c.loop-number.auto.number-end)) c.requires.asked c.loop-number.invariant.left c.in_ok-truths.ensures n l
 
+pub squares::square_truths-returns-in-Some-clause-value : goal.squares::square_truths-returns-in-Some-clause-value
+squares::square_truths-returns-in-Some-clause-value g t c =
+    subst (λ v. IfOk c.attack_truths.result (λ truths. AreTruths truths.items c.args.live.now v))
+    (fun_ext (λ n. attack_is (searched_tree c.args.game.now c.args.variations) c.args.names.now c.args.name.now c.in-Some.d.now c.args.every
+    (shown c.args.squares.now n) (filter_tree c.args.asked.now) n c.in-Some.ensures.some c.in-Some.ensures.each))
+    c.attack_truths.ensures
+
 pub squares::square_turn-returns-clause-value : goal.squares::square_turn-returns-clause-value
 squares::square_turn-returns-clause-value g t c =
     turn_all (searched_tree c.args.game.now c.args.variations) c.args.every (shown c.args.squares.now)
     (value (searched_tree c.args.game.now c.args.variations) [] ((c.args.name.now, c.args.square) ∷ c.args.names.now)
     (filter_tree c.args.asked.now)) c.args.square c.args.left.items c.in_ok-there.there.items
-    c.deref.result.now c.deref-3.result.now c.deref-4.result.now c.deref-5.result.now c.in_ok-later.later.items c.in_ok-column.column
-    c.deref.ensures.value c.deref-3.ensures.value c.deref-4.ensures.value c.deref-5.ensures.value c.in_ok-there.ensures
+    c.deref.result.now c.deref-3.result.now c.args.left.items c.deref-4.result.now c.unsettled-later.result.items c.in_ok-column.column
+    c.deref.ensures.value c.deref-3.ensures.value refl c.deref-4.ensures.value c.in_ok-there.ensures
     (subst (λ e. IsColumn c.in_ok-column.column c.deref-3.result.now
     (value (searched_tree c.args.game.now c.args.variations) [] e
-    (filter_tree c.args.asked.now))) c.in_ok-inner.ensures c.in_ok-column.ensures.value) c.in_ok-later.ensures
+    (filter_tree c.args.asked.now))) c.in_ok-inner.ensures c.in_ok-column.ensures.value) c.unsettled-later.ensures
 
 pub squares::square_turn-returns-then-not-any_live-clause-value : goal.squares::square_turn-returns-then-not-any_live-clause-value
 squares::square_turn-returns-then-not-any_live-clause-value g t c =
