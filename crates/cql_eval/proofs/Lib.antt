@@ -15,6 +15,8 @@ pub mod MoveLaw
 pub mod Parents
 pub mod Raising
 pub mod SortsLaw
+pub mod SpelledAlike
+pub mod SpelledTmp
 pub mod UnaryLaws
 pub mod Wanting
 pub mod Widening

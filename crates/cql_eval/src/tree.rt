@@ -3,6 +3,7 @@ ghost use Rattle.std.specs.Prelude.{◌≡◌, ℕ, ◌<◌, ◌||◌, length, g
 ghost use Rattle.cq_position.specs.Games.{IsTree, node_at};
 ghost use Rattle.cql_values.specs.Trees.{searched_tree};
 ghost use Rattle.cql_eval.specs.Columns.{AreAsked};
+ghost use Rattle.cql_eval.specs.SpelledParts.{AreOnward, AreReached};
 ghost use Rattle.cql_eval.specs.Trees.{IsBelowLive, IsAboveLive, AreChildrenOfLive, AreParentsOfLive, AreBeforeLive, is_below_live, flag_of, IsRaised, AreRaised, AreLowered, HasParents};
 
 use crate::filter_column::truth_at;
@@ -200,4 +201,44 @@ pub(crate) fn of_parents(alloc: Global, game: &Game, set: &[bool]) -> Result<Vec
         found.push(there)?;
     }
     Ok(found)
+}
+
+/// The nodes that a step of a line leads to from those that are asked for: down or, with `back`, up.
+#[tactic(auto, using(crate::proofs::SpelledAlike::children_onward, crate::proofs::SpelledAlike::parents_onward))]
+pub(crate) fn onward(
+    alloc: Global,
+    game: &Game,
+    variations: bool,
+    back: bool,
+    live: &[bool],
+) -> Result<Vec<bool>, NoMemory>
+    requires tree { IsTree game.now.nodes }
+    requires asked { AreAsked (searched_tree game.now variations) live.now }
+    ensures { IfOk result (λ next. AreOnward (searched_tree game.now variations) back live.now next.items) }
+{
+    if back {
+        parents(alloc, game, variations, live)
+    } else {
+        children(alloc, game, variations, live)
+    }
+}
+
+/// All nodes on ways of a line from those that are asked for: down or, with `back`, up.
+#[tactic(auto, using(crate::proofs::SpelledAlike::below_reached, crate::proofs::SpelledAlike::above_reached))]
+pub(crate) fn reached(
+    alloc: Global,
+    game: &Game,
+    variations: bool,
+    back: bool,
+    live: &[bool],
+) -> Result<Vec<bool>, NoMemory>
+    requires tree { IsTree game.now.nodes }
+    requires asked { AreAsked (searched_tree game.now variations) live.now }
+    ensures { IfOk result (λ wide. AreReached (searched_tree game.now variations) back live.now wide.items) }
+{
+    if back {
+        above(alloc, game, variations, live)
+    } else {
+        below(alloc, game, variations, live)
+    }
 }

@@ -1,5 +1,5 @@
 //! The numbers of a line.
-ghost use Rattle.std.specs.Prelude.{◌≡◌, ◌+◌, ◌≤◌, [], length, get_or, None, IfOk, OnOk, true};
+ghost use Rattle.std.specs.Prelude.{◌≡◌, ℕ, ◌+◌, ◌<◌, ◌≤◌, [], length, get_or, None, IfOk, OnOk, true, false};
 ghost use Rattle.cq_position.specs.Games.{IsTree};
 ghost use Rattle.cql_syntax.specs.Meaning as meaning;
 ghost use Rattle.cql_syntax.specs.TreeOf.{body_tree, filter_tree, line_tree, parts_tree};
@@ -10,21 +10,25 @@ ghost use Rattle.cql_eval.specs.Costs.{line_cost, parts_cost, body_cost, parts_a
 ghost use Rattle.cql_eval.specs.FlatTrees.{IsFlatLine, AreFlatParts, IsFlatBody};
 ghost use Rattle.cql_lines.specs.Tables.{atoms_of, nodes_of};
 ghost use Rattle.cql_eval.specs.LineAtoms as spec;
-ghost use Rattle.cql_eval.specs.LineAtoms.{AreAllAsked, AreTabled, HasRoom, IsFilledIn};
+ghost use Rattle.cql_eval.specs.LineAtoms.{HasRoom, IsFilledIn};
+ghost use Rattle.cql_eval.specs.SpelledParts.{AreTabled, IsLive, IsNever, LeadsOn, EndsHere};
+ghost use Rattle.cql_syntax.specs.TabledLines.{IsAsked};
+ghost use Rattle.cq_position.specs.Search.{IsStep};
 
 use super::evaluate;
-use crate::nodes::all_nodes;
-use crate::patterns::{empty_table, parts_pattern, put_column, shape_of, wide_numbers};
+use crate::nodes::{all_nodes, any_live, part_of, same};
+use crate::patterns::{empty_table, no_numbers, parts_pattern, put_column, shape_of, wide_numbers};
+use crate::tree::{onward, reached};
 use cq_outside::{NoMemory, Steps};
 use cql_lines::{AtomTable, Automaton, line_values};
-use cql_syntax::{Body, Constituents, Line};
+use cql_syntax::{Body, Constituent, Constituents, Line, Mark};
 use cql_values::names::Names;
 use pgn_tree::Game;
 use std::alloc::Global;
 use std::sync::ledger::Ledger;
 
-/// The greatest length of a path from each node that a line's pattern spells: its atoms are asked for at all searched nodes, and the
-/// automaton of its pattern then answers all nodes at once.
+/// The greatest length of a path from each node that a line's pattern spells. Its atoms are asked for where they may begin on a path, one
+/// after the other, and the automaton of its pattern then answers all nodes at once.
 #[cycle(evaluate)]
 pub(super) fn line_numbers<L: Ledger>(
     alloc: Global,
@@ -45,7 +49,13 @@ pub(super) fn line_numbers<L: Ledger>(
 {
     prove!(has_flat_parts(line));
     let parts = &line.parts;
-    let table = filled_table(alloc, parts, game, variations, names, steps)?;
+    let mut met = true;
+    let table = filled_table(
+        alloc, parts, game, variations, line.back, names, &mut met, steps,
+    )?;
+    if !met {
+        return no_numbers(alloc, game);
+    }
     let mut atoms = 0;
     let pattern = parts_pattern(alloc, parts, &mut atoms)?;
     let automaton = Automaton::build(alloc, &pattern)?;
@@ -73,22 +83,27 @@ fn has_flat_parts(line: &Line) -> bool
     true
 }
 
-// The table of the atoms of parts in a row, each of which is asked for at all searched nodes.
+// The table of the atoms of parts in a row that may begin at all searched nodes. Where the row isn't met at the end, no path is spelled.
 #[cycle(evaluate)]
 fn filled_table<L: Ledger>(
     alloc: Global,
     parts: &Constituents,
     game: &Game,
     variations: bool,
+    back: bool,
     names: &Names,
+    met: &mut bool,
     steps: &mut Steps<L>,
 ) -> Result<AtomTable, NoMemory>
     requires tree { IsTree game.now.nodes }
     requires flat { AreFlatParts (parts_tree parts.now) }
     requires few { parts_atoms (parts_tree parts.now) ≤ 64 }
-    ensures value { IfOk result (λ table. AreTabled (searched_tree game.now variations) table (0 + parts_atoms (parts_tree parts.now))
-        (spec.parts_numbered 0 (parts_tree parts.now))
+    ensures value { IfOk result (λ table. AreTabled (searched_tree game.now variations) back (IsAsked (searched_tree game.now variations))
+        table (0 + parts_atoms (parts_tree parts.now)) (spec.parts_numbered 0 (parts_tree parts.now))
         (meaning.pattern (searched_tree game.now variations) [] names.now (parts_tree parts.now))) }
+    ensures never { OnOk result (met.old ≡ true → met.new ≡ false
+        → IsNever (IsStep (searched_tree game.now variations) back false) (IsAsked (searched_tree game.now variations))
+            (meaning.pattern (searched_tree game.now variations) [] names.now (parts_tree parts.now))) }
     ensures atoms { IfOk result (λ table. atoms_of table ≡ parts_atoms (parts_tree parts.now)) }
     ensures nodes { IfOk result (λ table. nodes_of table ≡ length game.now.nodes) }
     ensures cost { steps.new ≤ steps.old + parts_cost (length game.now.nodes) (parts_tree parts.now) }
@@ -97,12 +112,13 @@ fn filled_table<L: Ledger>(
     let all = all_nodes(alloc, game, variations)?;
     let mut table = empty_table(alloc, parts, game)?;
     put_parts(
-        alloc, parts, 0, &mut table, game, variations, names, &all, steps,
+        alloc, parts, 0, &mut table, game, variations, back, names, &all, met, steps,
     )?;
     Ok(table)
 }
 
-// Puts the atoms of parts in a row into a table, with the numbers from the first on, and answers the number after them.
+// Puts the atoms of parts in a row that begins at the nodes of a set into a table, with the numbers from the first on, and answers the
+// number after them. Where an atom of the row itself holds nowhere, the row isn't met.
 #[cycle(evaluate)]
 #[tactic(auto, unfolding(crate::specs::Costs::filter_cost))]
 fn put_parts<L: Ledger>(
@@ -112,31 +128,130 @@ fn put_parts<L: Ledger>(
     table: &mut AtomTable,
     game: &Game,
     variations: bool,
+    back: bool,
     names: &Names,
-    all: &[bool],
+    live: &[bool],
+    met: &mut bool,
     steps: &mut Steps<L>,
 ) -> Result<u32, NoMemory>
     requires tree { IsTree game.now.nodes }
-    requires all { AreAllAsked (searched_tree game.now variations) all.now }
+    requires asked { AreAsked (searched_tree game.now variations) live.now }
     requires flat { AreFlatParts (parts_tree parts.now) }
     requires room { HasRoom (length game.now.nodes) first (first + parts_atoms (parts_tree parts.now)) table.old }
     ensures next { IfOk result (λ next. next ≡ first + parts_atoms (parts_tree parts.now)) }
-    ensures value { OnOk result (AreTabled (searched_tree game.now variations) table.new (first + parts_atoms (parts_tree parts.now))
-        (spec.parts_numbered first (parts_tree parts.now))
+    ensures value { OnOk result (AreTabled (searched_tree game.now variations) back (IsLive live.now)
+        table.new (first + parts_atoms (parts_tree parts.now)) (spec.parts_numbered first (parts_tree parts.now))
         (meaning.pattern (searched_tree game.now variations) [] names.now (parts_tree parts.now))) }
+    ensures never { OnOk result (met.old ≡ true → met.new ≡ false
+        → IsNever (IsStep (searched_tree game.now variations) back false) (IsLive live.now)
+            (meaning.pattern (searched_tree game.now variations) [] names.now (parts_tree parts.now))) }
     ensures others { OnOk result (IsFilledIn table.old table.new first (first + parts_atoms (parts_tree parts.now))) }
     ensures cost { steps.new ≤ steps.old + parts_cost (length game.now.nodes) (parts_tree parts.now) }
     ensures rises { steps.old ≤ steps.new }
 {
     let mut at = first;
+    let mut starts = same(alloc, live)?;
     for part in parts.as_slice() {
-        at = put_body(
-            alloc, &part.body, at, table, game, variations, names, all, steps,
+        at = put_part(
+            alloc, part, at, table, game, variations, back, names, &mut starts, met, steps,
         )?;
     }
     Ok(at)
 }
 
+// Puts the atoms of a part that may begin at the nodes of a set, which becomes that of the nodes at which the next part may begin.
+#[cycle(evaluate)]
+fn put_part<L: Ledger>(
+    alloc: Global,
+    part: &Constituent,
+    first: u32,
+    table: &mut AtomTable,
+    game: &Game,
+    variations: bool,
+    back: bool,
+    names: &Names,
+    starts: &mut Vec<bool>,
+    met: &mut bool,
+    steps: &mut Steps<L>,
+) -> Result<u32, NoMemory>
+    requires tree { IsTree game.now.nodes }
+    requires asked { AreAsked (searched_tree game.now variations) starts.old.items }
+    requires flat { IsFlatBody (body_tree part.now.body) }
+    requires room { HasRoom (length game.now.nodes) first (first + body_atoms (body_tree part.now.body)) table.old }
+    ensures next { IfOk result (λ next. next ≡ first + body_atoms (body_tree part.now.body)) }
+    ensures leads { OnOk result (LeadsOn (searched_tree game.now variations) back starts.old.items starts.new.items
+        table.new (first + body_atoms (body_tree part.now.body))
+        (meaning.marked part.now.mark (spec.body_numbered first (body_tree part.now.body)))
+        (meaning.marked part.now.mark (meaning.body_pattern (searched_tree game.now variations) [] names.now (body_tree part.now.body)))) }
+    ensures ends { OnOk result (met.old ≡ true → met.new ≡ false → EndsHere (searched_tree game.now variations) back starts.old.items
+        (meaning.marked part.now.mark (meaning.body_pattern (searched_tree game.now variations) [] names.now (body_tree part.now.body)))) }
+    ensures others { OnOk result (IsFilledIn table.old table.new first (first + body_atoms (body_tree part.now.body))) }
+    ensures cost { steps.new ≤ steps.old + body_cost (length game.now.nodes) (body_tree part.now.body) }
+    ensures rises { steps.old ≤ steps.new }
+{
+    match part.mark {
+        Mark::Once => put_once(
+            alloc, &part.body, first, table, game, variations, back, names, starts, met, steps,
+        ),
+        _ => {
+            *starts = reached(alloc, game, variations, back, starts)?;
+            put_body(
+                alloc, &part.body, first, table, game, variations, back, names, starts, steps,
+            )
+        }
+    }
+}
+
+// Puts the atoms of a part that stands once.
+#[cycle(evaluate)]
+#[tactic(auto, unfolding(cql_syntax::specs::Meaning::value, crate::specs::Costs::filter_cost, crate::specs::FlatTrees::unflat))]
+fn put_once<L: Ledger>(
+    alloc: Global,
+    body: &Body,
+    first: u32,
+    table: &mut AtomTable,
+    game: &Game,
+    variations: bool,
+    back: bool,
+    names: &Names,
+    starts: &mut Vec<bool>,
+    met: &mut bool,
+    steps: &mut Steps<L>,
+) -> Result<u32, NoMemory>
+    requires tree { IsTree game.now.nodes }
+    requires asked { AreAsked (searched_tree game.now variations) starts.old.items }
+    requires flat { IsFlatBody (body_tree body.now) }
+    requires room { HasRoom (length game.now.nodes) first (first + body_atoms (body_tree body.now)) table.old }
+    ensures next { IfOk result (λ next. next ≡ first + body_atoms (body_tree body.now)) }
+    ensures leads { OnOk result (LeadsOn (searched_tree game.now variations) back starts.old.items starts.new.items
+        table.new (first + body_atoms (body_tree body.now)) (spec.body_numbered first (body_tree body.now))
+        (meaning.body_pattern (searched_tree game.now variations) [] names.now (body_tree body.now))) }
+    ensures ends { OnOk result (met.old ≡ true → met.new ≡ false → EndsHere (searched_tree game.now variations) back starts.old.items
+        (meaning.body_pattern (searched_tree game.now variations) [] names.now (body_tree body.now))) }
+    ensures others { OnOk result (IsFilledIn table.old table.new first (first + body_atoms (body_tree body.now))) }
+    ensures cost { steps.new ≤ steps.old + body_cost (length game.now.nodes) (body_tree body.now) }
+    ensures rises { steps.old ≤ steps.new }
+{
+    match body {
+        Body::Atom(filter) => {
+            let column = evaluate(alloc, filter, game, variations, names, starts, steps)?;
+            put_column(table, first, &column, game, starts);
+            let held = part_of(alloc, game, variations, starts, &column, true)?;
+            *met = *met && any_live(&held);
+            *starts = onward(alloc, game, variations, back, &held)?;
+            Ok(first + 1)
+        }
+        Body::Group(parts) => {
+            let next = put_parts(
+                alloc, parts, first, table, game, variations, back, names, starts, met, steps,
+            )?;
+            *starts = reached(alloc, game, variations, back, starts)?;
+            Ok(next)
+        }
+    }
+}
+
+// Puts the atoms of what may begin at any node of a set, again and again.
 #[cycle(evaluate)]
 #[tactic(auto, unfolding(cql_syntax::specs::Meaning::value, crate::specs::Costs::filter_cost, crate::specs::FlatTrees::unflat))]
 fn put_body<L: Ledger>(
@@ -146,17 +261,18 @@ fn put_body<L: Ledger>(
     table: &mut AtomTable,
     game: &Game,
     variations: bool,
+    back: bool,
     names: &Names,
-    all: &[bool],
+    live: &[bool],
     steps: &mut Steps<L>,
 ) -> Result<u32, NoMemory>
     requires tree { IsTree game.now.nodes }
-    requires all { AreAllAsked (searched_tree game.now variations) all.now }
+    requires asked { AreAsked (searched_tree game.now variations) live.now }
     requires flat { IsFlatBody (body_tree body.now) }
     requires room { HasRoom (length game.now.nodes) first (first + body_atoms (body_tree body.now)) table.old }
     ensures next { IfOk result (λ next. next ≡ first + body_atoms (body_tree body.now)) }
-    ensures value { OnOk result (AreTabled (searched_tree game.now variations) table.new (first + body_atoms (body_tree body.now))
-        (spec.body_numbered first (body_tree body.now))
+    ensures value { OnOk result (AreTabled (searched_tree game.now variations) back (IsLive live.now)
+        table.new (first + body_atoms (body_tree body.now)) (spec.body_numbered first (body_tree body.now))
         (meaning.body_pattern (searched_tree game.now variations) [] names.now (body_tree body.now))) }
     ensures others { OnOk result (IsFilledIn table.old table.new first (first + body_atoms (body_tree body.now))) }
     ensures cost { steps.new ≤ steps.old + body_cost (length game.now.nodes) (body_tree body.now) }
@@ -164,12 +280,15 @@ fn put_body<L: Ledger>(
 {
     match body {
         Body::Atom(filter) => {
-            let column = evaluate(alloc, filter, game, variations, names, all, steps)?;
-            put_column(table, first, &column, game, all);
+            let column = evaluate(alloc, filter, game, variations, names, live, steps)?;
+            put_column(table, first, &column, game, live);
             Ok(first + 1)
         }
-        Body::Group(parts) => put_parts(
-            alloc, parts, first, table, game, variations, names, all, steps,
-        ),
+        Body::Group(parts) => {
+            let mut met = true;
+            put_parts(
+                alloc, parts, first, table, game, variations, back, names, live, &mut met, steps,
+            )
+        }
     }
 }

@@ -14,6 +14,8 @@ use Rattle.cql_eval.proofs.Chains.{left_begun, if_open, square_more, square_end,
 use Rattle.cql_eval.specs.Classes.{is_of, is_before, are_so, IsLeft}
 use Rattle.cql_eval.specs.Costs.{filter_cost, parts_atoms, body_atoms}
 use Rattle.cql_eval.specs.LineAtoms.{spot_at}
+use Rattle.cql_eval.specs.SpelledParts.{IsLive}
+use Rattle.cql_eval.proofs.SpelledAlike.{wide_leads, group_leads, group_ends}
 use Rattle.cql_lines.specs.PatternTrees.{pattern_tree}
 use Rattle.cql_lines.specs.Tables.{atoms_of}
 use Rattle.cql_lines.specs.Trees.{spots_of}
@@ -25,7 +27,7 @@ use Rattle.cql_eval.proofs.Lives.{none_live}
 use Rattle.cql_eval.proofs.Wanting.{wanted_same, wanted_kept, turn_skip}
 use Rattle.cql_eval.proofs.FindLaw.{find_is}
 use Rattle.cql_eval.proofs.FlatLaw.{filter_flat, term_flat, no_family}
-use Rattle.cql_eval.proofs.LinesLaw.{few_atoms, few_places, atoms_below, table_begun, table_more, table_all, filled_all, at_all, atom_tabled, atom_form, line_flat, numbers_are, parts_cost_more, parts_cost_within, atoms_within, looks_in}
+use Rattle.cql_eval.proofs.LinesLaw.{few_atoms, few_places, atoms_below, table_begun, table_more, table_all, ends_all, filled_all, at_all, atom_tabled, atom_leads, atom_ends, atom_form, leads_form, ends_form, group_tabled, group_never, no_line, line_flat, numbers_are, parts_cost_more, parts_cost_within, atoms_within, looks_in}
 use Rattle.cql_eval.proofs.UnaryLaws.{find_up_is, child_holds_is, parent_holds_is}
 use Rattle.cql_eval.proofs.FormLaws.{chain_form, any_form}
 use Rattle.cql_eval.proofs.MoveLaw.{move_is, part_is, no_part_is}
@@ -324,50 +326,60 @@ chains::terms_of-returns-in_err-column-clause-cost g t c =
 -- lines
 
 pub lines::put_parts-loop-part-init : goal.lines::put_parts-loop-part-init
-lines::put_parts-loop-part-init g t c = record {
-  table = table_begun (searched_tree c.args.game.now c.args.variations) c.args.names.now c.args.first c.as_slice-part-items.result.now _;
-  cost = omega arith;
-  rises = omega arith;
-  flat = λ i k h e. part_flat c.as_slice-part-items.result.now i k (parts_tree c.args.parts.now) h e c.as_slice-part-items.ensures.tree c.requires.flat;
-  room = λ k h e. part_room (searched_tree c.args.game.now c.args.variations) c.args.names.now c.args.first c.as_slice-part-items.result.now 0 k c.args.first
-      (length c.args.game.now.nodes) _ _ (parts_tree c.args.parts.now)
-      (table_begun (searched_tree c.args.game.now c.args.variations) c.args.names.now c.args.first c.as_slice-part-items.result.now _) h e c.as_slice-part-items.ensures.tree c.requires.room;
-}
+lines::put_parts-loop-part-init g t c =
+    let begun = table_begun (searched_tree c.args.game.now c.args.variations) c.args.back c.args.names.now c.args.first c.as_slice-part-items.result.now c.args.live.now c.in_ok-starts.starts.items _ _
+    c.requires.asked c.in_ok-starts.ensures in
+    record {
+      table = begun;
+      asked = begun.asked;
+      cost = omega arith;
+      rises = omega arith;
+      flat = λ i k h e. part_flat c.as_slice-part-items.result.now i k (parts_tree c.args.parts.now) h e c.as_slice-part-items.ensures.tree c.requires.flat;
+      room = λ k h e. part_room (searched_tree c.args.game.now c.args.variations) c.args.back c.args.names.now c.args.first c.as_slice-part-items.result.now 0 k c.args.first
+          (length c.args.game.now.nodes) c.args.live.now c.in_ok-starts.starts.items _ _ _ _ (parts_tree c.args.parts.now) begun h e c.as_slice-part-items.ensures.tree c.requires.room;
+    }
 
 pub lines::put_parts-loop-part-preserved : goal.lines::put_parts-loop-part-preserved
 lines::put_parts-loop-part-preserved g t c =
-    let more = table_more (searched_tree c.args.game.now c.args.variations) c.args.names.now c.args.first c.as_slice-part-items.result.now c.loop-part.part-index c.part-item.result
-    c.loop-part.at c.in_ok-at.at _ c.loop-part.table c.put_body.new.table c.loop-part-test.true c.part-item.is
-    c.in_ok-at.ensures.next c.in_ok-at.ensures.value c.in_ok-at.ensures.others c.loop-part.invariant.table in
+    let more = table_more (searched_tree c.args.game.now c.args.variations) c.args.back c.args.names.now c.args.first c.as_slice-part-items.result.now c.loop-part.part-index c.part-item.result
+    c.loop-part.at c.in_ok-at.at c.args.live.now c.loop-part.starts.items c.put_part.new.starts.items _ c.loop-part.met c.put_part.new.met _ c.loop-part.table c.put_part.new.table
+    c.loop-part-test.true c.part-item.is c.in_ok-at.ensures.next c.in_ok-at.ensures.leads c.in_ok-at.ensures.ends c.in_ok-at.ensures.others c.loop-part.invariant.table in
     record {
       table = more;
+      asked = more.asked;
       cost = parts_cost_more (length c.args.game.now.nodes) c.as_slice-part-items.result.now c.loop-part.part-index c.part-item.result _ c.loop-part.steps
-          c.put_body.new.steps c.loop-part-test.true c.part-item.is c.loop-part.invariant.cost c.put_body.ensures.cost;
-      rises = omega (arith, c.loop-part.invariant.rises, c.put_body.ensures.rises);
+          c.put_part.new.steps c.loop-part-test.true c.part-item.is c.loop-part.invariant.cost c.put_part.ensures.cost;
+      rises = omega (arith, c.loop-part.invariant.rises, c.put_part.ensures.rises);
       flat = c.loop-part.invariant.flat;
-      room = λ k h e. part_room (searched_tree c.args.game.now c.args.variations) c.args.names.now c.args.first c.as_slice-part-items.result.now (c.loop-part.part-index + 1) k
-          c.in_ok-at.at (length c.args.game.now.nodes) _ c.put_body.new.table (parts_tree c.args.parts.now) more h e c.as_slice-part-items.ensures.tree c.requires.room;
+      room = λ k h e. part_room (searched_tree c.args.game.now c.args.variations) c.args.back c.args.names.now c.args.first c.as_slice-part-items.result.now (c.loop-part.part-index + 1) k
+          c.in_ok-at.at (length c.args.game.now.nodes) c.args.live.now c.put_part.new.starts.items _ c.put_part.new.met _ c.put_part.new.table (parts_tree c.args.parts.now)
+          more h e c.as_slice-part-items.ensures.tree c.requires.room;
     }
 
 pub lines::put_parts-returns-clause-next : goal.lines::put_parts-returns-clause-next
 lines::put_parts-returns-clause-next g t c =
-    at_all (searched_tree c.args.game.now c.args.variations) c.args.names.now c.args.first c.as_slice-part-items.result.now c.loop-part.part-index c.loop-part.at _ c.loop-part.table
-    (parts_tree c.args.parts.now) (omega (arith, c.loop-part-test.false)) c.as_slice-part-items.ensures.tree c.loop-part.invariant.table
+    at_all (searched_tree c.args.game.now c.args.variations) c.args.back c.args.names.now c.args.first c.as_slice-part-items.result.now c.loop-part.part-index c.loop-part.at c.args.live.now c.loop-part.starts.items _ c.loop-part.met
+    _ c.loop-part.table (parts_tree c.args.parts.now) (omega (arith, c.loop-part-test.false)) c.as_slice-part-items.ensures.tree c.loop-part.invariant.table
 
 pub lines::put_parts-returns-clause-value : goal.lines::put_parts-returns-clause-value
 lines::put_parts-returns-clause-value g t c =
-    table_all (searched_tree c.args.game.now c.args.variations) c.args.names.now c.args.first c.as_slice-part-items.result.now c.loop-part.part-index c.loop-part.at _ c.loop-part.table
-    (parts_tree c.args.parts.now) (omega (arith, c.loop-part-test.false)) c.as_slice-part-items.ensures.tree c.loop-part.invariant.table
+    table_all (searched_tree c.args.game.now c.args.variations) c.args.back c.args.names.now c.args.first c.as_slice-part-items.result.now c.loop-part.part-index c.loop-part.at c.args.live.now c.loop-part.starts.items _ c.loop-part.met
+    _ c.loop-part.table (parts_tree c.args.parts.now) (omega (arith, c.loop-part-test.false)) c.as_slice-part-items.ensures.tree c.loop-part.invariant.table
+
+pub lines::put_parts-returns-clause-never : goal.lines::put_parts-returns-clause-never
+lines::put_parts-returns-clause-never g t c =
+    ends_all (searched_tree c.args.game.now c.args.variations) c.args.back c.args.names.now c.args.first c.as_slice-part-items.result.now c.loop-part.part-index c.loop-part.at c.args.live.now c.loop-part.starts.items _ c.loop-part.met
+    _ c.loop-part.table (parts_tree c.args.parts.now) (omega (arith, c.loop-part-test.false)) c.as_slice-part-items.ensures.tree c.loop-part.invariant.table
 
 pub lines::put_parts-returns-clause-others : goal.lines::put_parts-returns-clause-others
 lines::put_parts-returns-clause-others g t c =
-    filled_all (searched_tree c.args.game.now c.args.variations) c.args.names.now c.args.first c.as_slice-part-items.result.now c.loop-part.part-index c.loop-part.at _ c.loop-part.table
-    (parts_tree c.args.parts.now) (omega (arith, c.loop-part-test.false)) c.as_slice-part-items.ensures.tree c.loop-part.invariant.table
+    filled_all (searched_tree c.args.game.now c.args.variations) c.args.back c.args.names.now c.args.first c.as_slice-part-items.result.now c.loop-part.part-index c.loop-part.at c.args.live.now c.loop-part.starts.items _ c.loop-part.met
+    _ c.loop-part.table (parts_tree c.args.parts.now) (omega (arith, c.loop-part-test.false)) c.as_slice-part-items.ensures.tree c.loop-part.invariant.table
 
 pub lines::put_parts-returns-in_err-at-clause-cost : goal.lines::put_parts-returns-in_err-at-clause-cost
 lines::put_parts-returns-in_err-at-clause-cost g t c =
     parts_cost_within (length c.args.game.now.nodes) c.as_slice-part-items.result.now c.loop-part.part-index c.part-item.result _ c.loop-part.steps
-    c.put_body.new.steps (parts_tree c.args.parts.now) c.loop-part-test.true c.part-item.is c.loop-part.invariant.cost c.put_body.ensures.cost
+    c.put_part.new.steps (parts_tree c.args.parts.now) c.loop-part-test.true c.part-item.is c.loop-part.invariant.cost c.put_part.ensures.cost
     c.as_slice-part-items.ensures.tree
 
 pub lines::put_body-put_column-requires-clause-atom : goal.lines::put_body-put_column-requires-clause-atom
@@ -381,11 +393,20 @@ lines::put_body-put_column-requires-clause-clear g t c = λ n. c.requires.room.c
 
 pub lines::put_body-returns-in_ok-column-in-Atom-clause-value : goal.lines::put_body-returns-in_ok-column-in-Atom-clause-value
 lines::put_body-returns-in_ok-column-in-Atom-clause-value g t c =
-    atom_form (searched_tree c.args.game.now c.args.variations) c.args.names.now c.put_column.new.table c.args.first (body_tree c.args.body.now) (filter_tree c.deref.result.now)
+    atom_form (searched_tree c.args.game.now c.args.variations) c.args.back c.args.names.now (IsLive c.args.live.now) c.put_column.new.table c.args.first (body_tree c.args.body.now) (filter_tree c.deref.result.now)
     (ap body_tree c.in-Atom.is ∙ ap (λ p. atom (filter_tree p)) (sym c.deref.ensures))
-    (atom_tabled (searched_tree c.args.game.now c.args.variations) c.put_column.new.table c.args.first c.in_ok-column-in-Atom.column
-    (value (searched_tree c.args.game.now c.args.variations) [] c.args.names.now (filter_tree c.deref.result.now)) c.args.all.now c.args.all.now c.requires.all refl
+    (atom_tabled (searched_tree c.args.game.now c.args.variations) c.args.back c.put_column.new.table c.args.first c.in_ok-column-in-Atom.column
+    (value (searched_tree c.args.game.now c.args.variations) [] c.args.names.now (filter_tree c.deref.result.now)) c.args.live.now c.requires.asked
     c.in_ok-column-in-Atom.ensures.value c.put_column.ensures.put)
+
+pub lines::put_once-put_column-requires-clause-atom : goal.lines::put_once-put_column-requires-clause-atom
+lines::put_once-put_column-requires-clause-atom g t c =
+    let form : body_tree c.args.body.now ≡ atom (filter_tree c.deref.result.now) =
+    ap body_tree c.in-Atom.is ∙ ap (λ p. atom (filter_tree p)) (sym c.deref.ensures) in
+    omega (arith, c.requires.room.atoms, ap body_atoms form)
+
+pub lines::put_once-put_column-requires-clause-clear : goal.lines::put_once-put_column-requires-clause-clear
+lines::put_once-put_column-requires-clause-clear g t c = λ n. c.requires.room.clear c.args.first n (omega arith)
 
 pub lines::line_numbers-parts_pattern-requires : goal.lines::line_numbers-parts_pattern-requires
 lines::line_numbers-parts_pattern-requires g t c = omega (arith, few_atoms _ (line_flat c.args.line.now c.requires.flat).0)
