@@ -50,7 +50,7 @@ use Rattle.cql_eval.specs.FlatTrees.{unflat, unflat_body, unflat_parts, IsFlatLi
 use Rattle.cql_eval.specs.LineAtoms.{parts_numbered, body_numbered, limits_in, spot_at, AreClearFrom, HasRoom, IsPut, IsFilledIn}
 use Rattle.cql_eval.specs.SpelledParts.{IsLive, AreAlike, IsNever, Agrees, AreTabled, AreOnward, LeadsOn, EndsHere}
 use Rattle.cql_eval.proofs.Lives.{none_live}
-use Rattle.cql_eval.proofs.SpelledAlike.{atom_alike, after_atom, never_atom, never_there, along_wider, alike_on}
+use Rattle.cql_eval.proofs.SpelledAlike.{atom_alike, after_atom, never_atom, never_there, never_one, along_wider, alike_on}
 use Rattle.cql_eval.specs.declared.filter_column.FilterColumn.{FilterColumn}
 use Rattle.cql_eval.proofs.Filling.{split_last, live_below}
 use Rattle.cql_eval.proofs.SpelledTmp.{spelled_lines_are_theirs}
@@ -422,8 +422,26 @@ module _ (tree : SearchedTree) (back : Bool) (table : AtomTable) (which : ℕ) (
       never = λ s g. never_atom (IsStep tree back false) (IsLive live) (IsLive next) v (λ n m l h step. on.covers n m (is_held n l h) step) s g;
     }
 
+    pub atom_never : list_any (λ b. b) held ≡ false → IsNever (IsStep tree back false) (IsLive live) (one v)
+    atom_never none = never_one (IsStep tree back false) (IsLive live) v (λ n l h. none_live held none n (is_held n l h))
+
     pub atom_ends : list_any (λ b. b) held ≡ false → EndsHere tree back live (one v)
     atom_ends none s = never_there (IsStep tree back false) (IsLive live) v (λ n l h. none_live held none n (is_held n l h)) s
+
+-- an atom that is asked for nowhere holds nowhere
+module _ (tree : SearchedTree) (back : Bool) (v : ℕ → Value) (live : List Bool) (none : list_any (λ b. b) live ≡ false) where
+  pub none_onward : AreAsked tree live → AreOnward tree back live live
+  none_onward asked = record { asked = asked; covers = λ n m l step. absurd (none_live live none n l) }
+
+  pub none_leads : (table : AtomTable) (which : ℕ) → AreAsked tree live → LeadsOn tree back live live table (which + 1) (one which) (one v)
+  none_leads table which asked = record {
+    asked = asked;
+    alike = λ test same q s g. after_atom (IsStep tree back false) (IsLive live) (IsLive live) test which v (λ n l. absurd (none_live live none n l)) (λ n m l h step. absurd (none_live live none n l)) q s g;
+    never = λ s g. never_atom (IsStep tree back false) (IsLive live) (IsLive live) v (λ n m l h step. absurd (none_live live none n l)) s g;
+  }
+
+  pub none_ends : EndsHere tree back live (one v)
+  none_ends s = never_there (IsStep tree back false) (IsLive live) v (λ n l h. none_live live none n l) s
 
 -- the tree of a game
 
@@ -627,6 +645,16 @@ pub atom_form : (tree : SearchedTree) (back : Bool) (e : Names) (In : ℕ → Ty
     → AreTabled tree back In table (first + 1) (one first) (one (value tree [] e f)) → AreTabled tree back In table (first + body_atoms b) (body_numbered first b) (body_pattern tree [] e b)
 unfolding value
 atom_form tree back e In table first b f is h = subst (λ x. AreTabled tree back In table (first + body_atoms x) (body_numbered first x) (body_pattern tree [] e x)) (sym is) h
+
+pub never_form : (tree : SearchedTree) (back : Bool) (e : Names) (In : ℕ → Type 0) (b : BodyTree) (f : FilterTree) → b ≡ atom f
+    → IsNever (IsStep tree back false) In (one (value tree [] e f)) → IsNever (IsStep tree back false) In (body_pattern tree [] e b)
+unfolding value
+never_form tree back e In b f is h = subst (λ x. IsNever (IsStep tree back false) In (body_pattern tree [] e x)) (sym is) h
+
+-- a row goes on as long as each atom holds somewhere
+pub not_some : (met some : Bool) → met ≡ true → (met && some) ≡ false → some ≡ false
+not_some true some e f = f
+not_some false some e f = cc
 
 pub leads_form : (tree : SearchedTree) (back : Bool) (e : Names) (old new : List Bool) (table : AtomTable) (first : ℕ) (b : BodyTree) (f : FilterTree) → b ≡ atom f
     → LeadsOn tree back old new table (first + 1) (one first) (one (value tree [] e f)) → LeadsOn tree back old new table (first + body_atoms b) (body_numbered first b) (body_pattern tree [] e b)

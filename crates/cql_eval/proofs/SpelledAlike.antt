@@ -1,6 +1,6 @@
 -- What is spelled on ways that begin at some nodes, part by part.
 use Rattle.std.proofs.Common.{◌≡◌, ℕ, zero, suc, ◌<◌, ◌≤◌, Bool, true, false, List, [], ◌∷◌, ◌++◌, length, Option, Some, None, refl, sym, ap, ◌∙◌, subst, arith, ⊎_elim}
-use Rattle.std.specs.Prelude.{◌↔◌, IfSome}
+use Rattle.std.specs.Prelude.{◌↔◌, ◌&&◌, ◌||◌, not, IfSome}
 use Rattle.cq_outside.specs.Spelling.{Pattern, one, nothing, joined, repeated, Spells, Times}
 use Rattle.cq_position.specs.Games.{IsTree, node_at, is_below}
 use Rattle.cq_position.specs.Search.{SearchedTree, IsStep, Along}
@@ -13,7 +13,8 @@ use Rattle.cql_syntax.specs.Values.{Value, holds}
 use Rattle.cql_syntax.specs.declared.leaves.Mark.{Mark}
 use Rattle.cql_syntax.specs.declared.leaves.Mark.TheVariants.{Once, Star, Plus, Maybe, Times as Repeated}
 use Rattle.cql_eval.specs.Columns.{is_live, AreAsked}
-use Rattle.cql_eval.specs.SpelledParts.{IsLive, IsWay, AreAlike, IsNever, Agrees, AreTabled, Leads, AreOnward, AreReached, LeadsOn, EndsHere}
+use Rattle.cql_eval.specs.LineAtoms.{AreAllAsked}
+use Rattle.cql_eval.specs.SpelledParts.{IsLive, IsWay, AreAlike, IsNever, Agrees, AreTabled, Leads, AreOnward, AreReached, LeadsOn, EndsHere, is_needed}
 use Rattle.cql_eval.specs.Trees.{IsBelowLive, IsAboveLive, AreChildrenOfLive, AreParentsOfLive}
 use Rattle.cql_eval.proofs.Filling.{equal_or, live_below}
 use Rattle.cql_eval.proofs.Raising.{below_up}
@@ -109,6 +110,22 @@ module _ (Step : ℕ → ℕ → Type 0) where
   never_before : (In : ℕ → Type 0) (r s : Pattern (ℕ → Value)) → IsNever Step In r → IsNever Step In (joined r s)
   never_before In r s f w way x = f x.0 (way_left In x.0 x.1 (subst (IsWay Step In) x.2 way)) x.3
 
+  pub never_one : (In : ℕ → Type 0) (v : ℕ → Value) → ((n : ℕ) → In n → holds (v n) ≡ true → ⊥) → IsNever Step In (one v)
+  never_one In v none w way x = none x.0 (subst (IsWay Step In) x.1 way).0 x.2
+
+  times_never : (In : ℕ → Type 0) (P : List ℕ → Type 0) → ((u : List ℕ) → IsWay Step In u → P u → ⊥) → (k : ℕ) (w : List ℕ) → 1 ≤ k → IsWay Step In w → Times P k w → ⊥
+  times_never In P f zero w h way t = absurd (omega (arith, h))
+  times_never In P f (suc k) w h way t = f t.0 (way_left In t.0 t.1 (subst (IsWay Step In) t.2 way)) t.3
+
+  -- what must stand once, and is never spelled
+  marked_never : (In : ℕ → Type 0) (m : Mark) (r : Pattern (ℕ → Value)) → is_needed m ≡ true → IsNever Step In r → IsNever Step In (marked m r)
+  marked_never In Once r e f = f
+  marked_never In Star r e f = cc
+  marked_never In Plus r e f = λ w way x. times_never In (Spells (λ v m. holds (v m)) r) f x.0 w x.1 way x.3
+  marked_never In Maybe r e f = cc
+  marked_never In (Repeated zero most) r e f = cc
+  marked_never In (Repeated (suc least) most) r e f = λ w way x. times_never In (Spells (λ v m. holds (v m)) r) f x.0 w (omega (arith, x.1)) way x.3
+
   never_wider : (In Out : ℕ → Type 0) → ((n : ℕ) → In n → Out n) → (r : Pattern (ℕ → Value)) → IsNever Step Out r → IsNever Step In r
   never_wider In Out own r f w way x = f w (way_wider In Out own w way) x
 
@@ -179,6 +196,12 @@ module _ (tree : SearchedTree) (is_tree : IsTree tree.game.nodes) where
           (never_wider (IsStep tree back false) (ReachedFrom tree back (IsLive old)) (IsLive wide) in_wide s g);
     }
 
+    -- it is needed, and isn't spelled
+    pub wide_ends : (m : Mark) → is_needed m ≡ true → IsNever (IsStep tree back false) (IsLive wide) r → EndsHere tree back old (marked m r)
+    wide_ends m e f s = never_before (IsStep tree back false) (IsLive old) (marked m r) s
+        (marked_never (IsStep tree back false) (IsLive old) m r e
+        (never_wider (IsStep tree back false) (IsLive old) (IsLive wide) (λ n l. in_wide n (reached_own back old asked n l)) r f))
+
     -- a group that stands once
     pub group_leads : AreTabled tree back (IsLive old) table past p r → LeadsOn tree back old wide table past p r
     group_leads tabled = record {
@@ -211,3 +234,19 @@ along_wider tree back primary n (m ∷ w) a = (step_wider tree back primary n m 
 pub alike_on : (tree : SearchedTree) (back primary : Bool) (test : ℕ → ℕ → Bool) (p : Pattern ℕ) (r : Pattern (ℕ → Value)) → AreAlike (IsStep tree back false) (IsAsked tree) test p r
     → (n : ℕ) → IsAsked tree n → AreSpelledAlike tree back primary test p r n
 alike_on tree back primary test p r f n asked w goes = f (n ∷ w) (asked, along_wider tree back primary n w goes)
+
+pub not_met : (m i n : Bool) → m ≡ true → (m && (i || not n)) ≡ false → (i ≡ false) × (n ≡ true)
+not_met true true n e f = cc
+not_met true false true e f = (refl, refl)
+not_met true false false e f = cc
+not_met false i n e f = cc
+
+-- where all searched nodes are asked for
+
+pub all_tabled : (tree : SearchedTree) (back : Bool) (all : List Bool) (table : AtomTable) (past : ℕ) (p : Pattern ℕ) (r : Pattern (ℕ → Value)) → AreAllAsked tree all
+    → AreTabled tree back (IsLive all) table past p r → AreTabled tree back (IsAsked tree) table past p r
+all_tabled tree back all table past p r every f test same = alike_wider (IsStep tree back false) (IsAsked tree) (IsLive all) (λ n asked. every.covers n asked) test p r (f test same)
+
+pub all_never : (tree : SearchedTree) (back : Bool) (all : List Bool) (r : Pattern (ℕ → Value)) → AreAllAsked tree all
+    → IsNever (IsStep tree back false) (IsLive all) r → IsNever (IsStep tree back false) (IsAsked tree) r
+all_never tree back all r every f = never_wider (IsStep tree back false) (IsAsked tree) (IsLive all) (λ n asked. every.covers n asked) r f

@@ -1,5 +1,5 @@
 -- What a table's atoms spell on the ways of a line that begin at some nodes, and where a way leads.
-use Rattle.std.specs.Prelude.{◌≡◌, ◌↔◌, ℕ, ◌+◌, ◌<◌, Bool, true, false, List, [], ◌∷◌}
+use Rattle.std.specs.Prelude.{◌≡◌, ◌↔◌, ℕ, zero, ◌+◌, ◌<◌, ◌==◌, Bool, true, false, not, List, [], ◌∷◌}
 use Rattle.cq_outside.specs.Spelling.{Pattern, joined, Spells}
 use Rattle.cq_position.specs.Games.{is_below}
 use Rattle.cq_position.specs.Search.{SearchedTree, IsStep, Along}
@@ -7,6 +7,8 @@ use Rattle.cql_lines.specs.Tables.{holds_in}
 use Rattle.cql_lines.specs.declared.table.AtomTable.{AtomTable}
 use Rattle.cql_syntax.specs.TabledLines.{IsAsked}
 use Rattle.cql_syntax.specs.Values.{Value, holds}
+use Rattle.cql_syntax.specs.declared.leaves.Mark.{Mark}
+use Rattle.cql_syntax.specs.declared.leaves.Mark.TheVariants.{Once, Star, Plus, Maybe, Times}
 use Rattle.cql_eval.specs.Columns.{is_live, AreAsked}
 
 -- a node of a set
@@ -60,3 +62,11 @@ pub record LeadsOn (tree : SearchedTree) (back : Bool) (old new : List Bool) (ta
 -- a way that begins so isn't spelled, whatever follows the part
 abbrev pub EndsHere : SearchedTree → Bool → List Bool → Pattern (ℕ → Value) → Type 0
 EndsHere tree back live r = (s : Pattern (ℕ → Value)) → IsNever (IsStep tree back false) (IsLive live) (joined r s)
+
+-- whether a part with a mark stands at least once
+abbrev pub is_needed : Mark → Bool
+is_needed Once = true
+is_needed Star = false
+is_needed Plus = true
+is_needed Maybe = false
+is_needed (Times least most) = not (least == 0)

@@ -24,7 +24,7 @@ pub(crate) fn below(
     requires asked { AreAsked (searched_tree game.now variations) live.now }
     ensures { IfOk result (λ wide. IsBelowLive (searched_tree game.now variations) live.now wide.items) }
 {
-    let mut wide = Vec::new(alloc);
+    let mut wide = Vec::with_capacity(alloc, game.len() as usize)?;
     for k in 0..game.len() {
         let there = is_wide(game, variations, live, &wide, k);
         wide.push(there)?;
@@ -84,7 +84,7 @@ pub(crate) fn lowered(alloc: Global, game: &Game, set: &[bool]) -> Result<Vec<bo
     requires tree { IsTree game.now.nodes }
     ensures { IfOk result (λ found. AreLowered game.now.nodes set.now found.items) }
 {
-    let mut found = Vec::new(alloc);
+    let mut found = Vec::with_capacity(alloc, game.len() as usize)?;
     for k in 0..game.len() {
         let there = is_under(game, set, &found, k);
         found.push(there)?;
@@ -119,7 +119,7 @@ pub(crate) fn with_parents(game: &Game, set: &[bool], start: Vec<bool>) -> Vec<b
 pub(crate) fn none(alloc: Global, game: &Game) -> Result<Vec<bool>, NoMemory>
     ensures { IfOk result (λ set. set.items ≡ replicate (length game.now.nodes) false) }
 {
-    let mut set = Vec::new(alloc);
+    let mut set = Vec::with_capacity(alloc, game.len() as usize)?;
     for _k in 0..game.len() {
         set.push(false)?;
     }
@@ -152,7 +152,7 @@ pub(crate) fn children(
     requires asked { AreAsked (searched_tree game.now variations) live.now }
     ensures { IfOk result (λ wide. AreChildrenOfLive (searched_tree game.now variations) live.now wide.items) }
 {
-    let mut wide = Vec::new(alloc);
+    let mut wide = Vec::with_capacity(alloc, game.len() as usize)?;
     for k in 0..game.len() {
         let there = is_searched(game, variations, k) && is_flagged(game.parent(k), live);
         wide.push(there)?;
@@ -195,7 +195,7 @@ pub(crate) fn of_parents(alloc: Global, game: &Game, set: &[bool]) -> Result<Vec
     ensures { IfOk result (λ found. (n : ℕ) → n < length game.now.nodes
         → get_or found.items n false ≡ flag_of set.now (node_at game.now.nodes n).parent) }
 {
-    let mut found = Vec::new(alloc);
+    let mut found = Vec::with_capacity(alloc, game.len() as usize)?;
     for k in 0..game.len() {
         let there = is_flagged(game.parent(k), set);
         found.push(there)?;

@@ -15,7 +15,7 @@ use Rattle.cql_eval.specs.Classes.{is_of, is_before, are_so, IsLeft}
 use Rattle.cql_eval.specs.Costs.{filter_cost, parts_atoms, body_atoms}
 use Rattle.cql_eval.specs.LineAtoms.{spot_at}
 use Rattle.cql_eval.specs.SpelledParts.{IsLive}
-use Rattle.cql_eval.proofs.SpelledAlike.{wide_leads, group_leads, group_ends}
+use Rattle.cql_eval.proofs.SpelledAlike.{wide_leads, wide_ends, not_met, group_leads, group_ends}
 use Rattle.cql_lines.specs.PatternTrees.{pattern_tree}
 use Rattle.cql_lines.specs.Tables.{atoms_of}
 use Rattle.cql_lines.specs.Trees.{spots_of}
@@ -27,7 +27,7 @@ use Rattle.cql_eval.proofs.Lives.{none_live}
 use Rattle.cql_eval.proofs.Wanting.{wanted_same, wanted_kept, turn_skip}
 use Rattle.cql_eval.proofs.FindLaw.{find_is}
 use Rattle.cql_eval.proofs.FlatLaw.{filter_flat, term_flat, no_family}
-use Rattle.cql_eval.proofs.LinesLaw.{few_atoms, few_places, atoms_below, table_begun, table_more, table_all, ends_all, filled_all, at_all, atom_tabled, atom_leads, atom_ends, atom_form, leads_form, ends_form, group_tabled, group_never, no_line, line_flat, numbers_are, parts_cost_more, parts_cost_within, atoms_within, looks_in}
+use Rattle.cql_eval.proofs.LinesLaw.{few_atoms, few_places, atoms_below, table_begun, table_more, table_all, ends_all, filled_all, at_all, atom_tabled, atom_leads, atom_ends, none_onward, none_leads, none_ends, atom_form, leads_form, ends_form, group_tabled, group_never, never_form, atom_never, not_some, no_line, line_flat, numbers_are, parts_cost_more, parts_cost_within, atoms_within, looks_in}
 use Rattle.cql_eval.proofs.UnaryLaws.{find_up_is, child_holds_is, parent_holds_is}
 use Rattle.cql_eval.proofs.FormLaws.{chain_form, any_form}
 use Rattle.cql_eval.proofs.MoveLaw.{move_is, part_is, no_part_is}
@@ -391,22 +391,66 @@ lines::put_body-put_column-requires-clause-atom g t c =
 pub lines::put_body-put_column-requires-clause-clear : goal.lines::put_body-put_column-requires-clause-clear
 lines::put_body-put_column-requires-clause-clear g t c = λ n. c.requires.room.clear c.args.first n (omega arith)
 
-pub lines::put_body-returns-in_ok-column-in-Atom-clause-value : goal.lines::put_body-returns-in_ok-column-in-Atom-clause-value
-lines::put_body-returns-in_ok-column-in-Atom-clause-value g t c =
+pub lines::put_body-returns-in_ok-held-in-Atom-clause-value : goal.lines::put_body-returns-in_ok-held-in-Atom-clause-value
+lines::put_body-returns-in_ok-held-in-Atom-clause-value g t c =
     atom_form (searched_tree c.args.game.now c.args.variations) c.args.back c.args.names.now (IsLive c.args.live.now) c.put_column.new.table c.args.first (body_tree c.args.body.now) (filter_tree c.deref.result.now)
     (ap body_tree c.in-Atom.is ∙ ap (λ p. atom (filter_tree p)) (sym c.deref.ensures))
     (atom_tabled (searched_tree c.args.game.now c.args.variations) c.args.back c.put_column.new.table c.args.first c.in_ok-column-in-Atom.column
     (value (searched_tree c.args.game.now c.args.variations) [] c.args.names.now (filter_tree c.deref.result.now)) c.args.live.now c.requires.asked
     c.in_ok-column-in-Atom.ensures.value c.put_column.ensures.put)
 
-pub lines::put_once-put_column-requires-clause-atom : goal.lines::put_once-put_column-requires-clause-atom
-lines::put_once-put_column-requires-clause-atom g t c =
-    let form : body_tree c.args.body.now ≡ atom (filter_tree c.deref.result.now) =
-    ap body_tree c.in-Atom.is ∙ ap (λ p. atom (filter_tree p)) (sym c.deref.ensures) in
-    omega (arith, c.requires.room.atoms, ap body_atoms form)
+pub lines::put_body-returns-in_ok-held-in-Atom-clause-never : goal.lines::put_body-returns-in_ok-held-in-Atom-clause-never
+lines::put_body-returns-in_ok-held-in-Atom-clause-never g t c =
+    λ b m. never_form (searched_tree c.args.game.now c.args.variations) c.args.back c.args.names.now (IsLive c.args.live.now) (body_tree c.args.body.now) (filter_tree c.deref.result.now) (ap body_tree c.in-Atom.is ∙ ap (λ p. atom (filter_tree p)) (sym c.deref.ensures))
+    (atom_never (searched_tree c.args.game.now c.args.variations) c.args.back c.put_column.new.table c.args.first c.in_ok-column-in-Atom.column (value (searched_tree c.args.game.now c.args.variations) [] c.args.names.now (filter_tree c.deref.result.now)) c.args.live.now c.requires.asked
+    c.in_ok-column-in-Atom.ensures.value c.put_column.ensures.put c.in_ok-held-in-Atom.held.items c.in_ok-held-in-Atom.ensures
+    (ap (list_any (λ x. x)) (sym c.deref-2.ensures.value) ∙ sym c.any_live.ensures ∙ not_some _ _ b (sym c.both.ensures ∙ m)))
 
-pub lines::put_once-put_column-requires-clause-clear : goal.lines::put_once-put_column-requires-clause-clear
-lines::put_once-put_column-requires-clause-clear g t c = λ n. c.requires.room.clear c.args.first n (omega arith)
+pub lines::put_marked-returns-clause-leads : goal.lines::put_marked-returns-clause-leads
+lines::put_marked-returns-clause-leads g t c =
+    ?
+
+pub lines::put_marked-returns-clause-ends : goal.lines::put_marked-returns-clause-ends
+lines::put_marked-returns-clause-ends g t c =
+    ?
+
+pub lines::put_once-returns-in_ok-behind-in-Atom-clause-leads : goal.lines::put_once-returns-in_ok-behind-in-Atom-clause-leads
+lines::put_once-returns-in_ok-behind-in-Atom-clause-leads g t c =
+    ?
+
+pub lines::put_once-returns-in_ok-behind-in-Atom-clause-ends : goal.lines::put_once-returns-in_ok-behind-in-Atom-clause-ends
+lines::put_once-returns-in_ok-behind-in-Atom-clause-ends g t c =
+    ?
+
+pub lines::put_once-returns-in_ok-starts-in-Group-clause-leads : goal.lines::put_once-returns-in_ok-starts-in-Group-clause-leads
+lines::put_once-returns-in_ok-starts-in-Group-clause-leads g t c =
+    ?
+
+pub lines::put_once-returns-in_ok-starts-in-Group-clause-ends : goal.lines::put_once-returns-in_ok-starts-in-Group-clause-ends
+lines::put_once-returns-in_ok-starts-in-Group-clause-ends g t c =
+    ?
+
+pub lines::put_part-returns-in-Once-clause-ends : goal.lines::put_part-returns-in-Once-clause-ends
+lines::put_part-returns-in-Once-clause-ends g t c =
+    ?
+
+pub lines::put_atom-returns-clause-leads : goal.lines::put_atom-returns-clause-leads
+lines::put_atom-returns-clause-leads g t c =
+    ?
+
+pub lines::line_numbers-returns-then-not-met-clause-value : goal.lines::line_numbers-returns-then-not-met-clause-value
+lines::line_numbers-returns-then-not-met-clause-value g t c =
+    ?
+
+pub lines::line_numbers-returns-then-not-met-clause-cost : goal.lines::line_numbers-returns-then-not-met-clause-cost
+lines::line_numbers-returns-then-not-met-clause-cost g t c =
+    atoms_within (length c.args.game.now.nodes) c.args.line.now _ c.filled_table.new.steps c.filled_table.ensures.cost
+
+pub lines::put_atom-put_column-requires-clause-atom : goal.lines::put_atom-put_column-requires-clause-atom
+lines::put_atom-put_column-requires-clause-atom g t c = omega (arith, c.requires.room.atoms)
+
+pub lines::put_atom-put_column-requires-clause-clear : goal.lines::put_atom-put_column-requires-clause-clear
+lines::put_atom-put_column-requires-clause-clear g t c = λ n. c.requires.room.clear c.args.first n (omega arith)
 
 pub lines::line_numbers-parts_pattern-requires : goal.lines::line_numbers-parts_pattern-requires
 lines::line_numbers-parts_pattern-requires g t c = omega (arith, few_atoms _ (line_flat c.args.line.now c.requires.flat).0)
