@@ -1,5 +1,5 @@
 -- The atoms of a line one by one in a table, and the line's number from the table.
-use Rattle.std.proofs.Common.{◌≡◌, ℕ, zero, suc, ◌+◌, ◌*◌, ◌<◌, ◌≤◌, ◌&&◌, ◌||◌, max, pos, ℤ, Bool, true, false, List, [], ◌∷◌, ◌++◌, length, map, drop, take, get_or, Option, Some, None, option_map, refl, sym, ap, ap₂, ◌∙◌, subst, arith, ⊎_elim, add-one}
+use Rattle.std.proofs.Common.{◌≡◌, Result, Ok, Err, IfOk, ℕ, zero, suc, ◌+◌, ◌*◌, ◌<◌, ◌≤◌, ◌&&◌, ◌||◌, max, pos, ℤ, Bool, true, false, List, [], ◌∷◌, ◌++◌, length, map, drop, take, get_or, Option, Some, None, option_map, refl, sym, ap, ap₂, ◌∙◌, subst, arith, ⊎_elim, add-one}
 use denote.Hole.Carrier as Carrier
 use Rattle.std.specs.Prelude.{not, IfSome, slice_get, if◌then◌else◌}
 use Rattle.std.specs.List.{range_with_len, count_by, list_any}
@@ -682,3 +682,7 @@ pub wide_more : (xs : List (Option ℕ)) (i : ℕ) (d : Option ℕ) (y : Option 
     → before ≡ map (option_map pos) (take i xs) → later ≡ map (option_map pos) (take (i + 1) xs)
 wide_more xs i d y before later below is more had =
     more ∙ ap₂ (λ l x. l ++ x ∷ []) had is ∙ sym (ap (map (option_map pos)) (take_more xs i d below) ∙ map_snoc (option_map pos) (take i xs) (get_or xs i d))
+
+pub if_ok_map : {T E : Type 0} (r : Result T E) (p q : T → Type 0) → ((x : T) → p x → q x) → IfOk r p → IfOk r q
+if_ok_map (Ok x) p q f h = f x h
+if_ok_map (Err e) p q f h = tt

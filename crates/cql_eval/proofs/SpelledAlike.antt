@@ -250,3 +250,30 @@ all_tabled tree back all table past p r every f test same = alike_wider (IsStep 
 pub all_never : (tree : SearchedTree) (back : Bool) (all : List Bool) (r : Pattern (ℕ → Value)) → AreAllAsked tree all
     → IsNever (IsStep tree back false) (IsLive all) r → IsNever (IsStep tree back false) (IsAsked tree) r
 all_never tree back all r every f = never_wider (IsStep tree back false) (IsAsked tree) (IsLive all) (λ n asked. every.covers n asked) r f
+
+-- the same, where sets are given by others that are equal to them
+
+pub wide_leads_at : (tree : SearchedTree) → IsTree tree.game.nodes → (back : Bool) (old given wide shown : List Bool) → given ≡ old → shown ≡ wide → AreAsked tree old → AreReached tree back given wide
+    → (table : AtomTable) (past : ℕ) (p : Pattern ℕ) (r : Pattern (ℕ → Value)) (m : Mark) → AreTabled tree back (IsLive shown) table past p r → LeadsOn tree back old wide table past (marked m p) (marked m r)
+wide_leads_at tree is_tree back old given wide shown is same asked reached table past p r m tabled =
+    wide_leads tree is_tree back old wide asked (subst (λ l. AreReached tree back l wide) is reached) table past p r m (subst (λ l. AreTabled tree back (IsLive l) table past p r) same tabled)
+
+pub wide_ends_at : (tree : SearchedTree) → IsTree tree.game.nodes → (back : Bool) (old given wide shown : List Bool) → given ≡ old → shown ≡ wide → AreAsked tree old → AreReached tree back given wide
+    → (table : AtomTable) (past : ℕ) (p : Pattern ℕ) (r : Pattern (ℕ → Value)) (m : Mark) → is_needed m ≡ true → IsNever (IsStep tree back false) (IsLive shown) r → EndsHere tree back old (marked m r)
+wide_ends_at tree is_tree back old given wide shown is same asked reached table past p r m needed never =
+    wide_ends tree is_tree back old wide asked (subst (λ l. AreReached tree back l wide) is reached) table past p r m needed (subst (λ l. IsNever (IsStep tree back false) (IsLive l) r) same never)
+
+pub group_leads_at : (tree : SearchedTree) → IsTree tree.game.nodes → (back : Bool) (old given wide shown : List Bool) → given ≡ old → shown ≡ old → AreAsked tree old → AreReached tree back given wide
+    → (table : AtomTable) (past : ℕ) (p : Pattern ℕ) (r : Pattern (ℕ → Value)) → AreTabled tree back (IsLive shown) table past p r → LeadsOn tree back old wide table past p r
+group_leads_at tree is_tree back old given wide shown is same asked reached table past p r tabled =
+    group_leads tree is_tree back old wide asked (subst (λ l. AreReached tree back l wide) is reached) table past p r (subst (λ l. AreTabled tree back (IsLive l) table past p r) same tabled)
+
+pub leads_at : (tree : SearchedTree) (back : Bool) (old given new : List Bool) → given ≡ old → (table : AtomTable) (past : ℕ) (p : Pattern ℕ) (r : Pattern (ℕ → Value))
+    → LeadsOn tree back given new table past p r → LeadsOn tree back old new table past p r
+leads_at tree back old given new is table past p r h = subst (λ l. LeadsOn tree back l new table past p r) is h
+
+pub ends_at : (tree : SearchedTree) (back : Bool) (old given : List Bool) → given ≡ old → (r : Pattern (ℕ → Value)) → EndsHere tree back given r → EndsHere tree back old r
+ends_at tree back old given is r h = subst (λ l. EndsHere tree back l r) is h
+
+pub onward_at : (tree : SearchedTree) (back : Bool) (held given next : List Bool) → given ≡ held → AreOnward tree back given next → AreOnward tree back held next
+onward_at tree back held given next is h = subst (λ l. AreOnward tree back l next) is h

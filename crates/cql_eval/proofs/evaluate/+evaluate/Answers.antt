@@ -1,7 +1,7 @@
 use Rattle.std.proofs.Common.{◌+◌, rules, map, ◌≡◌, [], ◌∷◌, ◌∙◌, ap, ap₂, sym, subst, arith, refl, length, not, true, false}
-use Rattle.std.specs.Prelude.{option_map, pos, IfOk, ◌<◌}
+use Rattle.std.specs.Prelude.{option_map, pos, IfOk, OnOk, ◌<◌}
 use Rattle.std.specs.List.{list_all, list_any}
-use Rattle.cql_syntax.specs.Meaning.{value, values, unary_of}
+use Rattle.cql_syntax.specs.Meaning.{value, values, unary_of, marked, body_pattern}
 use Rattle.cql_syntax.specs.TreeOf.{filter_tree, form_tree, filters_tree, terms_tree, line_tree, parts_tree, body_tree, played_tree}
 use Rattle.cql_syntax.specs.Trees.{filter_at, unary, square, if_, atom}
 use Rattle.cql_syntax.specs.declared.tree.Line.{out-Line}
@@ -13,9 +13,9 @@ use Rattle.cql_eval.proofs.ClassLaw.{left_taken, left_passed, cost_taken, is_lef
 use Rattle.cql_eval.proofs.Chains.{left_begun, if_open, square_more, square_end, turn_all, turn_stop, unary_form, square_form, if_form}
 use Rattle.cql_eval.specs.Classes.{is_of, is_before, are_so, IsLeft}
 use Rattle.cql_eval.specs.Costs.{filter_cost, parts_atoms, body_atoms}
-use Rattle.cql_eval.specs.LineAtoms.{spot_at}
-use Rattle.cql_eval.specs.SpelledParts.{IsLive}
-use Rattle.cql_eval.proofs.SpelledAlike.{wide_leads, wide_ends, not_met, group_leads, group_ends}
+use Rattle.cql_eval.specs.LineAtoms.{spot_at, body_numbered}
+use Rattle.cql_eval.specs.SpelledParts.{IsLive, EndsHere}
+use Rattle.cql_eval.proofs.SpelledAlike.{wide_leads_at, wide_ends_at, group_leads_at, leads_at, ends_at, onward_at, not_met, group_ends}
 use Rattle.cql_lines.specs.PatternTrees.{pattern_tree}
 use Rattle.cql_lines.specs.Tables.{atoms_of}
 use Rattle.cql_lines.specs.Trees.{spots_of}
@@ -27,7 +27,7 @@ use Rattle.cql_eval.proofs.Lives.{none_live}
 use Rattle.cql_eval.proofs.Wanting.{wanted_same, wanted_kept, turn_skip}
 use Rattle.cql_eval.proofs.FindLaw.{find_is}
 use Rattle.cql_eval.proofs.FlatLaw.{filter_flat, term_flat, no_family}
-use Rattle.cql_eval.proofs.LinesLaw.{few_atoms, few_places, atoms_below, table_begun, table_more, table_all, ends_all, filled_all, at_all, atom_tabled, atom_leads, atom_ends, none_onward, none_leads, none_ends, atom_form, leads_form, ends_form, group_tabled, group_never, never_form, atom_never, not_some, no_line, line_flat, numbers_are, parts_cost_more, parts_cost_within, atoms_within, looks_in}
+use Rattle.cql_eval.proofs.LinesLaw.{few_atoms, few_places, atoms_below, table_begun, table_more, table_all, ends_all, filled_all, at_all, atom_tabled, atom_leads, atom_ends, none_onward, none_leads, none_ends, atom_form, leads_form, ends_form, group_tabled, group_never, never_form, atom_never, not_some, if_ok_map, no_line, line_flat, numbers_are, parts_cost_more, parts_cost_within, atoms_within, looks_in}
 use Rattle.cql_eval.proofs.UnaryLaws.{find_up_is, child_holds_is, parent_holds_is}
 use Rattle.cql_eval.proofs.FormLaws.{chain_form, any_form}
 use Rattle.cql_eval.proofs.MoveLaw.{move_is, part_is, no_part_is}
@@ -404,43 +404,66 @@ lines::put_body-returns-in_ok-held-in-Atom-clause-never g t c =
     λ b m. never_form (searched_tree c.args.game.now c.args.variations) c.args.back c.args.names.now (IsLive c.args.live.now) (body_tree c.args.body.now) (filter_tree c.deref.result.now) (ap body_tree c.in-Atom.is ∙ ap (λ p. atom (filter_tree p)) (sym c.deref.ensures))
     (atom_never (searched_tree c.args.game.now c.args.variations) c.args.back c.put_column.new.table c.args.first c.in_ok-column-in-Atom.column (value (searched_tree c.args.game.now c.args.variations) [] c.args.names.now (filter_tree c.deref.result.now)) c.args.live.now c.requires.asked
     c.in_ok-column-in-Atom.ensures.value c.put_column.ensures.put c.in_ok-held-in-Atom.held.items c.in_ok-held-in-Atom.ensures
-    (ap (list_any (λ x. x)) (sym c.deref-2.ensures.value) ∙ sym c.any_live.ensures ∙ not_some _ _ b (sym c.both.ensures ∙ m)))
+    (ap (list_any (λ x. x)) (sym c.deref-in-Atom.ensures.value) ∙ sym c.any_live-some.ensures ∙ not_some _ _ b (sym c.both.ensures ∙ m)))
 
 pub lines::put_marked-returns-clause-leads : goal.lines::put_marked-returns-clause-leads
 lines::put_marked-returns-clause-leads g t c =
-    ?
+    wide_leads_at (searched_tree c.args.game.now c.args.variations) c.requires.tree c.args.back c.args.starts.now.items c.deref.result.now c.in_ok-wide.wide.items c.deref-2.result.now c.deref.ensures.value c.deref-2.ensures.value
+    c.requires.asked c.in_ok-wide.ensures c.put_body.new.table (c.args.first + body_atoms (body_tree c.args.part.now.body)) (body_numbered c.args.first (body_tree c.args.part.now.body))
+    (body_pattern (searched_tree c.args.game.now c.args.variations) [] c.args.names.now (body_tree c.args.part.now.body)) c.args.part.now.mark c.in_ok-next.ensures.value
 
 pub lines::put_marked-returns-clause-ends : goal.lines::put_marked-returns-clause-ends
 lines::put_marked-returns-clause-ends g t c =
-    ?
+    λ b m. let parts = not_met _ _ _ b (sym c.goes_on.ensures ∙ m) in
+    wide_ends_at (searched_tree c.args.game.now c.args.variations) c.requires.tree c.args.back c.args.starts.now.items c.deref.result.now c.in_ok-wide.wide.items c.deref-2.result.now c.deref.ensures.value c.deref-2.ensures.value
+    c.requires.asked c.in_ok-wide.ensures c.put_body.new.table (c.args.first + body_atoms (body_tree c.args.part.now.body)) (body_numbered c.args.first (body_tree c.args.part.now.body))
+    (body_pattern (searched_tree c.args.game.now c.args.variations) [] c.args.names.now (body_tree c.args.part.now.body)) c.args.part.now.mark (sym c.is_needed-needed.ensures ∙ parts.1) (c.in_ok-next.ensures.never refl parts.0)
 
 pub lines::put_once-returns-in_ok-behind-in-Atom-clause-leads : goal.lines::put_once-returns-in_ok-behind-in-Atom-clause-leads
 lines::put_once-returns-in_ok-behind-in-Atom-clause-leads g t c =
-    ?
+    leads_at (searched_tree c.args.game.now c.args.variations) c.args.back c.args.starts.now.items c.deref-in-Atom.result.now c.in_ok-behind-in-Atom.behind.items c.deref-in-Atom.ensures.value c.put_atom.new.table (c.args.first + body_atoms (body_tree c.args.body.now)) (body_numbered c.args.first (body_tree c.args.body.now))
+    (body_pattern (searched_tree c.args.game.now c.args.variations) [] c.args.names.now (body_tree c.args.body.now))
+    (leads_form (searched_tree c.args.game.now c.args.variations) c.args.back c.args.names.now c.deref-in-Atom.result.now c.in_ok-behind-in-Atom.behind.items c.put_atom.new.table c.args.first (body_tree c.args.body.now) (filter_tree c.deref.result.now)
+    (ap body_tree c.in-Atom.is ∙ ap (λ p. atom (filter_tree p)) (sym c.deref.ensures)) c.in_ok-behind-in-Atom.ensures.leads)
 
 pub lines::put_once-returns-in_ok-behind-in-Atom-clause-ends : goal.lines::put_once-returns-in_ok-behind-in-Atom-clause-ends
 lines::put_once-returns-in_ok-behind-in-Atom-clause-ends g t c =
-    ?
+    λ b m. ends_at (searched_tree c.args.game.now c.args.variations) c.args.back c.args.starts.now.items c.deref-in-Atom.result.now c.deref-in-Atom.ensures.value (body_pattern (searched_tree c.args.game.now c.args.variations) [] c.args.names.now (body_tree c.args.body.now))
+    (ends_form (searched_tree c.args.game.now c.args.variations) c.args.back c.args.names.now c.deref-in-Atom.result.now (body_tree c.args.body.now) (filter_tree c.deref.result.now)
+    (ap body_tree c.in-Atom.is ∙ ap (λ p. atom (filter_tree p)) (sym c.deref.ensures)) (c.in_ok-behind-in-Atom.ensures.ends b m))
 
 pub lines::put_once-returns-in_ok-starts-in-Group-clause-leads : goal.lines::put_once-returns-in_ok-starts-in-Group-clause-leads
 lines::put_once-returns-in_ok-starts-in-Group-clause-leads g t c =
-    ?
+    group_leads_at (searched_tree c.args.game.now c.args.variations) c.requires.tree c.args.back c.args.starts.now.items c.deref-in-Group-2.result.now c.in_ok-starts-in-Group.field-0.items c.deref-in-Group.result.now
+    c.deref-in-Group-2.ensures.value c.deref-in-Group.ensures.value c.requires.asked c.in_ok-starts-in-Group.ensures c.put_parts.new.table (c.args.first + body_atoms (body_tree c.args.body.now)) (body_numbered c.args.first (body_tree c.args.body.now))
+    (body_pattern (searched_tree c.args.game.now c.args.variations) [] c.args.names.now (body_tree c.args.body.now))
+    (group_tabled (searched_tree c.args.game.now c.args.variations) c.args.back c.args.names.now (IsLive c.deref-in-Group.result.now) c.put_parts.new.table c.args.first (body_tree c.args.body.now) (parts_tree c.in-Group.parts)
+    (ap body_tree c.in-Group.is) c.in_ok-next-in-Group.ensures.value)
 
 pub lines::put_once-returns-in_ok-starts-in-Group-clause-ends : goal.lines::put_once-returns-in_ok-starts-in-Group-clause-ends
 lines::put_once-returns-in_ok-starts-in-Group-clause-ends g t c =
-    ?
+    λ b m. ends_at (searched_tree c.args.game.now c.args.variations) c.args.back c.args.starts.now.items c.deref-in-Group.result.now c.deref-in-Group.ensures.value (body_pattern (searched_tree c.args.game.now c.args.variations) [] c.args.names.now (body_tree c.args.body.now))
+    (group_ends (searched_tree c.args.game.now c.args.variations) c.requires.tree c.args.back c.deref-in-Group.result.now (body_pattern (searched_tree c.args.game.now c.args.variations) [] c.args.names.now (body_tree c.args.body.now))
+    (group_never (searched_tree c.args.game.now c.args.variations) c.args.back c.args.names.now (IsLive c.deref-in-Group.result.now) (body_tree c.args.body.now) (parts_tree c.in-Group.parts) (ap body_tree c.in-Group.is)
+    (c.in_ok-next-in-Group.ensures.never b m)))
 
 pub lines::put_part-returns-in-Once-clause-ends : goal.lines::put_part-returns-in-Once-clause-ends
 lines::put_part-returns-in-Once-clause-ends g t c =
-    ?
+    subst (λ m. OnOk c.put_once.result (c.args.met.now ≡ true → c.put_once.new.met ≡ false → EndsHere (searched_tree c.args.game.now c.args.variations) c.args.back c.args.starts.now.items
+    (marked m (body_pattern (searched_tree c.args.game.now c.args.variations) [] c.args.names.now (body_tree c.args.part.now.body))))) (sym c.in-Once.is) c.put_once.ensures.ends
 
 pub lines::put_atom-returns-clause-leads : goal.lines::put_atom-returns-clause-leads
 lines::put_atom-returns-clause-leads g t c =
-    ?
+    atom_leads (searched_tree c.args.game.now c.args.variations) c.args.back c.put_column.new.table c.args.first c.in_ok-column.column (value (searched_tree c.args.game.now c.args.variations) [] c.args.names.now (filter_tree c.args.filter.now))
+    c.args.live.now c.requires.asked c.in_ok-column.ensures.value c.put_column.ensures.put c.in_ok-held.held.items c.in_ok-held.ensures c.in_ok-behind.behind.items
+    (onward_at (searched_tree c.args.game.now c.args.variations) c.args.back c.in_ok-held.held.items c.deref-2.result.now c.in_ok-behind.behind.items c.deref-2.ensures.value c.in_ok-behind.ensures)
 
 pub lines::line_numbers-returns-then-not-met-clause-value : goal.lines::line_numbers-returns-then-not-met-clause-value
 lines::line_numbers-returns-then-not-met-clause-value g t c =
-    ?
+    if_ok_map c.no_numbers.result _ _
+    (λ numbers is n l. no_line (searched_tree c.args.game.now c.args.variations) c.requires.tree c.args.names.now c.args.line.now numbers.items (length c.args.game.now.nodes) is
+    (c.in_ok-table.ensures.never refl c.if-not-met.true) n
+    (c.requires.asked.searched n l, let inside = live_below c.args.live.now n l in omega (arith, inside, c.requires.asked.count))) c.no_numbers.ensures
 
 pub lines::line_numbers-returns-then-not-met-clause-cost : goal.lines::line_numbers-returns-then-not-met-clause-cost
 lines::line_numbers-returns-then-not-met-clause-cost g t c =
