@@ -16,7 +16,6 @@ pub mod Parents
 pub mod Raising
 pub mod SortsLaw
 pub mod SpelledAlike
-pub mod SpelledTmp
 pub mod UnaryLaws
 pub mod Wanting
 pub mod Widening

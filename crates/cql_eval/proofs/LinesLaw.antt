@@ -33,8 +33,7 @@ use Rattle.cql_lines.specs.declared.shape.Spot.{Spot}
 use Rattle.cql_lines.specs.declared.table.AtomTable.{AtomTable}
 use Rattle.cql_syntax.specs.Meaning.{Names, marked, value, pattern, body_pattern, line_of, line_value}
 use Rattle.cql_syntax.specs.Places.{copies, parts_places, body_places}
-use Rattle.cql_syntax.specs.TabledLines.{Searched, IsAsked, AreParents, Joins}
-use Rattle.cql_eval.proofs.SpelledTmp.{AreSpelledAlike}
+use Rattle.cql_syntax.specs.TabledLines.{Searched, IsAsked, AreSpelledAlike, AreParents, Joins}
 use Rattle.cql_syntax.specs.TreeOf.{body_tree, part_trees, parts_tree, line_tree}
 use Rattle.cql_syntax.specs.Trees.{FilterTree, PartTrees, no_parts, more_parts, BodyTree, atom, group}
 use Rattle.cql_syntax.specs.Values.{Value, as_number, holds as value_holds}
@@ -53,7 +52,7 @@ use Rattle.cql_eval.proofs.Lives.{none_live}
 use Rattle.cql_eval.proofs.SpelledAlike.{atom_alike, after_atom, never_atom, never_there, never_one, along_wider, alike_on}
 use Rattle.cql_eval.specs.declared.filter_column.FilterColumn.{FilterColumn}
 use Rattle.cql_eval.proofs.Filling.{split_last, live_below}
-use Rattle.cql_eval.proofs.SpelledTmp.{spelled_lines_are_theirs}
+use Rattle.cql_syntax.proofs.TabledLines.{spelled_lines_are_theirs}
 
 -- as many places as the line has, and no more atoms
 

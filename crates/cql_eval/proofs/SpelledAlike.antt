@@ -7,8 +7,7 @@ use Rattle.cq_position.specs.Search.{SearchedTree, IsStep, Along}
 use Rattle.cq_position.proofs.WaysUp.{is_below_self, below_parent, parent_before}
 use Rattle.cql_lines.specs.declared.table.AtomTable.{AtomTable}
 use Rattle.cql_syntax.specs.Meaning.{marked}
-use Rattle.cql_syntax.specs.TabledLines.{IsAsked}
-use Rattle.cql_eval.proofs.SpelledTmp.{AreSpelledAlike}
+use Rattle.cql_syntax.specs.TabledLines.{IsAsked, AreSpelledAlike}
 use Rattle.cql_syntax.specs.Values.{Value, holds}
 use Rattle.cql_syntax.specs.declared.leaves.Mark.{Mark}
 use Rattle.cql_syntax.specs.declared.leaves.Mark.TheVariants.{Once, Star, Plus, Maybe, Times as Repeated}
@@ -61,9 +60,9 @@ module _ (Step : ℕ → ℕ → Type 0) where
       → (test : ℕ → ℕ → Bool) (p q : Pattern ℕ) (r s : Pattern (ℕ → Value)) → AreAlike Step In test p r → AreAlike Step Out test q s → AreAlike Step In test (joined p q) (joined r s)
   joined_alike In Out own on test p q r s f g w way = (
     λ x. let parts = subst (IsWay Step In) x.2 way in
-    (x.0, x.1, x.2, (f x.0 (way_left In x.0 x.1 parts)).0 x.3, (g x.1 (way_right Out on x.0 x.1 (way_wider In Out own (x.0 ++ x.1) parts))).0 x.4),
+        (x.0, x.1, x.2, (f x.0 (way_left In x.0 x.1 parts)).0 x.3, (g x.1 (way_right Out on x.0 x.1 (way_wider In Out own (x.0 ++ x.1) parts))).0 x.4),
     λ x. let parts = subst (IsWay Step In) x.2 way in
-    (x.0, x.1, x.2, (f x.0 (way_left In x.0 x.1 parts)).1 x.3, (g x.1 (way_right Out on x.0 x.1 (way_wider In Out own (x.0 ++ x.1) parts))).1 x.4),
+        (x.0, x.1, x.2, (f x.0 (way_left In x.0 x.1 parts)).1 x.3, (g x.1 (way_right Out on x.0 x.1 (way_wider In Out own (x.0 ++ x.1) parts))).1 x.4),
   )
 
   -- an atom is one node, and what follows it follows a node where it holds
@@ -72,10 +71,10 @@ module _ (Step : ℕ → ℕ → Type 0) where
       → (q : Pattern ℕ) (s : Pattern (ℕ → Value)) → AreAlike Step Next test q s → AreAlike Step In test (joined (one a) q) (joined (one v) s)
   after_atom In Next test a v is next q s g w way = (
     λ x. let there = subst (IsWay Step In) (x.2 ∙ ap (λ u. u ++ x.1) x.3.1) way in
-    let held : holds (v x.3.0) ≡ true = sym (is x.3.0 there.0) ∙ x.3.2 in
-    (x.0, x.1, x.2, (x.3.0, x.3.1, held), (g x.1 (way_after Next x.3.0 x.1 (λ m e. next x.3.0 m there.0 held e) there.1)).0 x.4),
+        let held : holds (v x.3.0) ≡ true = sym (is x.3.0 there.0) ∙ x.3.2 in
+        (x.0, x.1, x.2, (x.3.0, x.3.1, held), (g x.1 (way_after Next x.3.0 x.1 (λ m e. next x.3.0 m there.0 held e) there.1)).0 x.4),
     λ x. let there = subst (IsWay Step In) (x.2 ∙ ap (λ u. u ++ x.1) x.3.1) way in
-    (x.0, x.1, x.2, (x.3.0, x.3.1, is x.3.0 there.0 ∙ x.3.2), (g x.1 (way_after Next x.3.0 x.1 (λ m e. next x.3.0 m there.0 x.3.2 e) there.1)).1 x.4),
+        (x.0, x.1, x.2, (x.3.0, x.3.1, is x.3.0 there.0 ∙ x.3.2), (g x.1 (way_after Next x.3.0 x.1 (λ m e. next x.3.0 m there.0 x.3.2 e) there.1)).1 x.4),
   )
 
   times_way : (Out : ℕ → Type 0) → ((n m : ℕ) → Out n → Step n m → Out m)

@@ -106,7 +106,7 @@ fn filled_table<L: Ledger>(
         (meaning.pattern (searched_tree game.now variations) [] names.now (parts_tree parts.now))) }
     ensures never { OnOk result (met.old ≡ true → met.new ≡ false
         → IsNever (IsStep (searched_tree game.now variations) back false) (IsAsked (searched_tree game.now variations))
-            (meaning.pattern (searched_tree game.now variations) [] names.now (parts_tree parts.now))) }
+        (meaning.pattern (searched_tree game.now variations) [] names.now (parts_tree parts.now))) }
     ensures atoms { IfOk result (λ table. atoms_of table ≡ parts_atoms (parts_tree parts.now)) }
     ensures nodes { IfOk result (λ table. nodes_of table ≡ length game.now.nodes) }
     ensures cost { steps.new ≤ steps.old + parts_cost (length game.now.nodes) (parts_tree parts.now) }
@@ -147,7 +147,7 @@ fn put_parts<L: Ledger>(
         (meaning.pattern (searched_tree game.now variations) [] names.now (parts_tree parts.now))) }
     ensures never { OnOk result (met.old ≡ true → met.new ≡ false
         → IsNever (IsStep (searched_tree game.now variations) back false) (IsLive live.now)
-            (meaning.pattern (searched_tree game.now variations) [] names.now (parts_tree parts.now))) }
+        (meaning.pattern (searched_tree game.now variations) [] names.now (parts_tree parts.now))) }
     ensures others { OnOk result (IsFilledIn table.old table.new first (first + parts_atoms (parts_tree parts.now))) }
     ensures cost { steps.new ≤ steps.old + parts_cost (length game.now.nodes) (parts_tree parts.now) }
     ensures rises { steps.old ≤ steps.new }
@@ -156,7 +156,17 @@ fn put_parts<L: Ledger>(
     let mut starts = same(alloc, live)?;
     for part in parts.as_slice() {
         at = put_part(
-            alloc, part, at, table, game, variations, back, names, &mut starts, met, steps,
+            alloc,
+            part,
+            at,
+            table,
+            game,
+            variations,
+            back,
+            names,
+            &mut starts,
+            met,
+            steps,
         )?;
     }
     Ok(at)
@@ -384,7 +394,7 @@ fn put_body<L: Ledger>(
         (meaning.body_pattern (searched_tree game.now variations) [] names.now (body_tree body.now))) }
     ensures never { OnOk result (met.old ≡ true → met.new ≡ false
         → IsNever (IsStep (searched_tree game.now variations) back false) (IsLive live.now)
-            (meaning.body_pattern (searched_tree game.now variations) [] names.now (body_tree body.now))) }
+        (meaning.body_pattern (searched_tree game.now variations) [] names.now (body_tree body.now))) }
     ensures others { OnOk result (IsFilledIn table.old table.new first (first + body_atoms (body_tree body.now))) }
     ensures cost { steps.new ≤ steps.old + body_cost (length game.now.nodes) (body_tree body.now) }
     ensures rises { steps.old ≤ steps.new }
