@@ -242,7 +242,8 @@ abbrev pub NeverAll : SearchedTree → Bool → Names → PartTrees → List Boo
 NeverAll tree back e whole live rest starts =
     IsNever (IsStep tree back false) (IsLive starts) (pattern tree [] e rest) → IsNever (IsStep tree back false) (IsLive live) (pattern tree [] e whole)
 
-tells_next : (tree : SearchedTree) (back : Bool) (e : Names) (first at : ℕ) (whole : PartTrees) (live : List Bool) (body : BodyTree) (mark : Mark) (rest : PartTrees) (starts later : List Bool) (old new : AtomTable)
+tells_next : (tree : SearchedTree) (back : Bool) (e : Names) (first at : ℕ) (whole : PartTrees) (live : List Bool) (body : BodyTree) (mark : Mark)
+    (rest : PartTrees) (starts later : List Bool) (old new : AtomTable)
     → LeadsOn tree back starts later new (at + body_atoms body) (marked mark (body_numbered at body)) (marked mark (body_pattern tree [] e body)) → IsFilledIn old new at (at + body_atoms body)
     → TellsAll tree back e first whole live at (more_parts body mark rest) starts old → TellsAll tree back e first whole live (at + body_atoms body) rest later new
 unfolding pattern
@@ -262,7 +263,8 @@ ends_next : (tree : SearchedTree) (back : Bool) (e : Names) (whole : PartTrees) 
 unfolding pattern
 ends_next tree back e whole live body mark rest starts ends had = had (ends (pattern tree [] e rest))
 
-tells_end : (tree : SearchedTree) (back : Bool) (e : Names) (first at : ℕ) (whole : PartTrees) (live starts : List Bool) (table : AtomTable) → TellsAll tree back e first whole live at no_parts starts table
+tells_end : (tree : SearchedTree) (back : Bool) (e : Names) (first at : ℕ) (whole : PartTrees) (live starts : List Bool) (table : AtomTable)
+    → TellsAll tree back e first whole live at no_parts starts table
     → AreTabled tree back (IsLive live) table at (parts_numbered first whole) (pattern tree [] e whole)
 unfolding pattern
 tells_end tree back e first at whole live starts table had test same = had test same (λ w way. (λ x. x, λ x. x))
@@ -435,7 +437,8 @@ module _ (tree : SearchedTree) (back : Bool) (v : ℕ → Value) (live : List Bo
   pub none_leads : (table : AtomTable) (which : ℕ) → AreAsked tree live → LeadsOn tree back live live table (which + 1) (one which) (one v)
   none_leads table which asked = record {
     asked = asked;
-    alike = λ test same q s g. after_atom (IsStep tree back false) (IsLive live) (IsLive live) test which v (λ n l. absurd (none_live live none n l)) (λ n m l h step. absurd (none_live live none n l)) q s g;
+    alike = λ test same q s g. after_atom (IsStep tree back false) (IsLive live) (IsLive live) test which v (λ n l. absurd (none_live live none n l))
+        (λ n m l h step. absurd (none_live live none n l)) q s g;
     never = λ s g. never_atom (IsStep tree back false) (IsLive live) (IsLive live) v (λ n m l h step. absurd (none_live live none n l)) s g;
   }
 
@@ -607,7 +610,8 @@ same_words d (suc j) (suc m) = same_words d j m
 pub numbers_are : (tree : SearchedTree) → IsTree tree.game.nodes
     → (e : Names) (l : OneLine) (spots : List Spot) (b q : Bool) (limits : Option Limits) → spots ≡ map (spot_at tree) (numbers tree.game.nodes)
     → b ≡ (out-Line l).back → q ≡ (out-Line l).primary → limits ≡ limits_in (out-Line l).extent → (table : AtomTable) (p : Pattern ℕ) → p ≡ parts_numbered 0 (parts_tree (out-Line l).parts)
-    → AreTabled tree (out-Line l).back (IsAsked tree) table (0 + parts_atoms (parts_tree (out-Line l).parts)) (parts_numbered 0 (parts_tree (out-Line l).parts)) (pattern tree [] e (parts_tree (out-Line l).parts))
+    → AreTabled tree (out-Line l).back (IsAsked tree) table (0 + parts_atoms (parts_tree (out-Line l).parts))
+    (parts_numbered 0 (parts_tree (out-Line l).parts)) (pattern tree [] e (parts_tree (out-Line l).parts))
     → (wide : List (Option ℤ)) (found : List (Option ℕ)) → wide ≡ map (option_map pos) found → (n : ℕ) → IsAsked tree n
     → AnswerAt (shapes.is_searched spots n) (λ len. Line (holds_in table) (Edge b q spots) p n len × (values.allows limits len ≡ true)) (get_or found n None)
     → as_number (get_or wide n None) ≡ line_value tree [] e (line_tree l) n
@@ -626,7 +630,8 @@ pub no_line : (tree : SearchedTree) → IsTree tree.game.nodes → (e : Names) (
 unfolding value out-Line Carrier.out
 no_line tree is_tree e (Line' back primary extent cs) wide k is never n asked =
     ap as_number (ap (λ xs. get_or xs n None) is ∙ same_words None k n)
-    ∙ spelled_lines_are_theirs tree is_tree back primary (shapes.joined primary (spots_in tree)) (spots_join tree primary is_tree) extent (λ a m. false) nothing (pattern tree [] e (parts_tree cs)) n asked
+    ∙ spelled_lines_are_theirs tree is_tree back primary (shapes.joined primary (spots_in tree)) (spots_join tree primary is_tree) extent
+    (λ a m. false) nothing (pattern tree [] e (parts_tree cs)) n asked
     (λ w goes. (λ x. absurd cc, λ x. absurd (never (n ∷ w) (asked, along_wider tree back primary n w goes) x)))
     None (λ len x. let none : n ∷ x.0.0 ≡ [] = x.0.3 in absurd cc)
 

@@ -85,7 +85,8 @@ module _ (Step : ℕ → ℕ → Type 0) where
       (t.0, t.1, t.2, f t.0 (way_left Out t.0 t.1 parts) t.3, times_way Out on P Q f k t.1 (way_right Out on t.0 t.1 parts) t.4)
 
   repeated_alike : (Out : ℕ → Type 0) → ((n m : ℕ) → Out n → Step n m → Out m)
-      → (test : ℕ → ℕ → Bool) (least : ℕ) (most : Option ℕ) (p : Pattern ℕ) (r : Pattern (ℕ → Value)) → AreAlike Step Out test p r → AreAlike Step Out test (repeated least most p) (repeated least most r)
+      → (test : ℕ → ℕ → Bool) (least : ℕ) (most : Option ℕ) (p : Pattern ℕ) (r : Pattern (ℕ → Value)) → AreAlike Step Out test p r
+      → AreAlike Step Out test (repeated least most p) (repeated least most r)
   repeated_alike Out on test least most p r f w way = (
     λ x. (x.0, x.1, x.2, times_way Out on (Spells test p) (Spells (λ v m. holds (v m)) r) (λ u a s. (f u a).0 s) x.0 w way x.3),
     λ x. (x.0, x.1, x.2, times_way Out on (Spells (λ v m. holds (v m)) r) (Spells test p) (λ u a s. (f u a).1 s) x.0 w way x.3),
@@ -186,7 +187,8 @@ module _ (tree : SearchedTree) (is_tree : IsTree tree.game.nodes) where
     pub wide_leads : (m : Mark) → AreTabled tree back (IsLive wide) table past p r → LeadsOn tree back old wide table past (marked m p) (marked m r)
     wide_leads m tabled = record {
       asked = reached.asked;
-      alike = λ test same q s g. joined_alike (IsStep tree back false) (IsLive old) (ReachedFrom tree back (IsLive old)) (reached_own back old asked) (reached_on back old) test (marked m p) q (marked m r) s
+      alike = λ test same q s g. joined_alike (IsStep tree back false) (IsLive old) (ReachedFrom tree back (IsLive old)) (reached_own back old asked)
+          (reached_on back old) test (marked m p) q (marked m r) s
           (alike_wider (IsStep tree back false) (IsLive old) (ReachedFrom tree back (IsLive old)) (reached_own back old asked) test (marked m p) (marked m r)
           (marked_alike (IsStep tree back false) (ReachedFrom tree back (IsLive old)) (reached_on back old) test m p r
           (alike_wider (IsStep tree back false) (ReachedFrom tree back (IsLive old)) (IsLive wide) in_wide test p r (tabled test same))))
@@ -253,7 +255,8 @@ all_never tree back all r every f = never_wider (IsStep tree back false) (IsAske
 -- the same, where sets are given by others that are equal to them
 
 pub wide_leads_at : (tree : SearchedTree) → IsTree tree.game.nodes → (back : Bool) (old given wide shown : List Bool) → given ≡ old → shown ≡ wide → AreAsked tree old → AreReached tree back given wide
-    → (table : AtomTable) (past : ℕ) (p : Pattern ℕ) (r : Pattern (ℕ → Value)) (m : Mark) → AreTabled tree back (IsLive shown) table past p r → LeadsOn tree back old wide table past (marked m p) (marked m r)
+    → (table : AtomTable) (past : ℕ) (p : Pattern ℕ) (r : Pattern (ℕ → Value)) (m : Mark) → AreTabled tree back (IsLive shown) table past p r
+    → LeadsOn tree back old wide table past (marked m p) (marked m r)
 wide_leads_at tree is_tree back old given wide shown is same asked reached table past p r m tabled =
     wide_leads tree is_tree back old wide asked (subst (λ l. AreReached tree back l wide) is reached) table past p r m (subst (λ l. AreTabled tree back (IsLive l) table past p r) same tabled)
 

@@ -53,11 +53,14 @@ pub record AreReached (tree : SearchedTree) (back : Bool) (live wide : List Bool
   pub covers : (n m : ℕ) → IsLive live n → Leads tree back n m → IsLive wide m
 
 -- A part of a row is asked for where it may begin: whatever follows it need be right only on ways from where it may follow.
-pub record LeadsOn (tree : SearchedTree) (back : Bool) (old new : List Bool) (table : AtomTable) (past : ℕ) (p : Pattern ℕ) (r : Pattern (ℕ → Value)) : Type 0 where
+pub record LeadsOn (tree : SearchedTree) (back : Bool) (old new : List Bool) (table : AtomTable) (past : ℕ) (p : Pattern ℕ)
+    (r : Pattern (ℕ → Value)) : Type 0 where
   pub asked : AreAsked tree new
   pub alike : (test : ℕ → ℕ → Bool) → Agrees test table past → (q : Pattern ℕ) (s : Pattern (ℕ → Value))
-      → AreAlike (IsStep tree back false) (IsLive new) test q s → AreAlike (IsStep tree back false) (IsLive old) test (joined p q) (joined r s)
-  pub never : (s : Pattern (ℕ → Value)) → IsNever (IsStep tree back false) (IsLive new) s → IsNever (IsStep tree back false) (IsLive old) (joined r s)
+      → AreAlike (IsStep tree back false) (IsLive new) test q s
+      → AreAlike (IsStep tree back false) (IsLive old) test (joined p q) (joined r s)
+  pub never : (s : Pattern (ℕ → Value)) → IsNever (IsStep tree back false) (IsLive new) s
+      → IsNever (IsStep tree back false) (IsLive old) (joined r s)
 
 -- a way that begins so isn't spelled, whatever follows the part
 abbrev pub EndsHere : SearchedTree → Bool → List Bool → Pattern (ℕ → Value) → Type 0

@@ -51,7 +51,8 @@ abbrev pub AreSpelledAlike : SearchedTree → (back primary : Bool) → (ℕ →
 AreSpelledAlike tree back primary table p r n =
     (w : List ℕ) → Along (IsStep tree back primary) n w → Spells table p (n ∷ w) ↔ Spells (λ v m. holds (v m)) r (n ∷ w)
 
--- The same where the table's pattern and that of the values spell the same paths from the node: what the table has elsewhere doesn't matter.
+-- The same where the table's pattern and that of the values spell the same paths from the node: what the table has elsewhere doesn't
+-- matter.
 abbrev pub SpelledLinesAreTheirs : Type 0
 SpelledLinesAreTheirs =
     (tree : SearchedTree) → IsTree tree.game.nodes → (back primary : Bool) (above : ℕ → Option ℕ) → AreParents tree primary above

@@ -368,22 +368,26 @@ lines::put_parts-loop-part-preserved g t c =
 
 pub lines::put_parts-returns-clause-next : goal.lines::put_parts-returns-clause-next
 lines::put_parts-returns-clause-next g t c =
-    at_all (searched_tree c.args.game.now c.args.variations) c.args.back c.args.names.now c.args.first c.as_slice-part-items.result.now c.loop-part.part-index c.loop-part.at c.args.live.now c.loop-part.starts.items _ c.loop-part.met
+    at_all (searched_tree c.args.game.now c.args.variations) c.args.back c.args.names.now c.args.first c.as_slice-part-items.result.now c.loop-part.part-index
+    c.loop-part.at c.args.live.now c.loop-part.starts.items _ c.loop-part.met
     _ c.loop-part.table (parts_tree c.args.parts.now) (omega (arith, c.loop-part-test.false)) c.as_slice-part-items.ensures.tree c.loop-part.invariant.table
 
 pub lines::put_parts-returns-clause-value : goal.lines::put_parts-returns-clause-value
 lines::put_parts-returns-clause-value g t c =
-    table_all (searched_tree c.args.game.now c.args.variations) c.args.back c.args.names.now c.args.first c.as_slice-part-items.result.now c.loop-part.part-index c.loop-part.at c.args.live.now c.loop-part.starts.items _ c.loop-part.met
+    table_all (searched_tree c.args.game.now c.args.variations) c.args.back c.args.names.now c.args.first c.as_slice-part-items.result.now c.loop-part.part-index
+    c.loop-part.at c.args.live.now c.loop-part.starts.items _ c.loop-part.met
     _ c.loop-part.table (parts_tree c.args.parts.now) (omega (arith, c.loop-part-test.false)) c.as_slice-part-items.ensures.tree c.loop-part.invariant.table
 
 pub lines::put_parts-returns-clause-never : goal.lines::put_parts-returns-clause-never
 lines::put_parts-returns-clause-never g t c =
-    ends_all (searched_tree c.args.game.now c.args.variations) c.args.back c.args.names.now c.args.first c.as_slice-part-items.result.now c.loop-part.part-index c.loop-part.at c.args.live.now c.loop-part.starts.items _ c.loop-part.met
+    ends_all (searched_tree c.args.game.now c.args.variations) c.args.back c.args.names.now c.args.first c.as_slice-part-items.result.now c.loop-part.part-index
+    c.loop-part.at c.args.live.now c.loop-part.starts.items _ c.loop-part.met
     _ c.loop-part.table (parts_tree c.args.parts.now) (omega (arith, c.loop-part-test.false)) c.as_slice-part-items.ensures.tree c.loop-part.invariant.table
 
 pub lines::put_parts-returns-clause-others : goal.lines::put_parts-returns-clause-others
 lines::put_parts-returns-clause-others g t c =
-    filled_all (searched_tree c.args.game.now c.args.variations) c.args.back c.args.names.now c.args.first c.as_slice-part-items.result.now c.loop-part.part-index c.loop-part.at c.args.live.now c.loop-part.starts.items _ c.loop-part.met
+    filled_all (searched_tree c.args.game.now c.args.variations) c.args.back c.args.names.now c.args.first c.as_slice-part-items.result.now c.loop-part.part-index
+    c.loop-part.at c.args.live.now c.loop-part.starts.items _ c.loop-part.met
     _ c.loop-part.table (parts_tree c.args.parts.now) (omega (arith, c.loop-part-test.false)) c.as_slice-part-items.ensures.tree c.loop-part.invariant.table
 
 pub lines::put_parts-returns-in_err-at-clause-cost : goal.lines::put_parts-returns-in_err-at-clause-cost
@@ -403,7 +407,8 @@ lines::put_body-put_column-requires-clause-clear g t c = λ n. c.requires.room.c
 
 pub lines::put_body-returns-in_ok-held-in-Atom-clause-value : goal.lines::put_body-returns-in_ok-held-in-Atom-clause-value
 lines::put_body-returns-in_ok-held-in-Atom-clause-value g t c =
-    atom_form (searched_tree c.args.game.now c.args.variations) c.args.back c.args.names.now (IsLive c.args.live.now) c.put_column.new.table c.args.first (body_tree c.args.body.now) (filter_tree c.deref.result.now)
+    atom_form (searched_tree c.args.game.now c.args.variations) c.args.back c.args.names.now
+    (IsLive c.args.live.now) c.put_column.new.table c.args.first (body_tree c.args.body.now) (filter_tree c.deref.result.now)
     (ap body_tree c.in-Atom.is ∙ ap (λ p. atom (filter_tree p)) (sym c.deref.ensures))
     (atom_tabled (searched_tree c.args.game.now c.args.variations) c.args.back c.put_column.new.table c.args.first c.in_ok-column-in-Atom.column
     (value (searched_tree c.args.game.now c.args.variations) [] c.args.names.now (filter_tree c.deref.result.now)) c.args.live.now c.requires.asked
@@ -411,50 +416,64 @@ lines::put_body-returns-in_ok-held-in-Atom-clause-value g t c =
 
 pub lines::put_body-returns-in_ok-held-in-Atom-clause-never : goal.lines::put_body-returns-in_ok-held-in-Atom-clause-never
 lines::put_body-returns-in_ok-held-in-Atom-clause-never g t c =
-    λ b m. never_form (searched_tree c.args.game.now c.args.variations) c.args.back c.args.names.now (IsLive c.args.live.now) (body_tree c.args.body.now) (filter_tree c.deref.result.now) (ap body_tree c.in-Atom.is ∙ ap (λ p. atom (filter_tree p)) (sym c.deref.ensures))
-    (atom_never (searched_tree c.args.game.now c.args.variations) c.args.back c.put_column.new.table c.args.first c.in_ok-column-in-Atom.column (value (searched_tree c.args.game.now c.args.variations) [] c.args.names.now (filter_tree c.deref.result.now)) c.args.live.now c.requires.asked
+    λ b m. never_form (searched_tree c.args.game.now c.args.variations) c.args.back c.args.names.now (IsLive c.args.live.now)
+    (body_tree c.args.body.now) (filter_tree c.deref.result.now) (ap body_tree c.in-Atom.is ∙ ap (λ p. atom (filter_tree p)) (sym c.deref.ensures))
+    (atom_never (searched_tree c.args.game.now c.args.variations) c.args.back c.put_column.new.table c.args.first c.in_ok-column-in-Atom.column
+    (value (searched_tree c.args.game.now c.args.variations) [] c.args.names.now (filter_tree c.deref.result.now)) c.args.live.now c.requires.asked
     c.in_ok-column-in-Atom.ensures.value c.put_column.ensures.put c.in_ok-held-in-Atom.held.items c.in_ok-held-in-Atom.ensures
     (ap (list_any (λ x. x)) (sym c.deref-in-Atom.ensures.value) ∙ sym c.any_live-some.ensures ∙ not_some _ _ b (sym c.both.ensures ∙ m)))
 
 pub lines::put_marked-returns-clause-leads : goal.lines::put_marked-returns-clause-leads
 lines::put_marked-returns-clause-leads g t c =
-    wide_leads_at (searched_tree c.args.game.now c.args.variations) c.requires.tree c.args.back c.args.starts.now.items c.deref.result.now c.in_ok-wide.wide.items c.deref-2.result.now c.deref.ensures.value c.deref-2.ensures.value
+    wide_leads_at (searched_tree c.args.game.now c.args.variations) c.requires.tree c.args.back c.args.starts.now.items c.deref.result.now c.in_ok-wide.wide.items
+    c.deref-2.result.now c.deref.ensures.value c.deref-2.ensures.value
     c.requires.asked c.in_ok-wide.ensures c.put_body.new.table (c.args.first + body_atoms (body_tree c.args.part.now.body)) (body_numbered c.args.first (body_tree c.args.part.now.body))
     (body_pattern (searched_tree c.args.game.now c.args.variations) [] c.args.names.now (body_tree c.args.part.now.body)) c.args.part.now.mark c.in_ok-next.ensures.value
 
 pub lines::put_marked-returns-clause-ends : goal.lines::put_marked-returns-clause-ends
 lines::put_marked-returns-clause-ends g t c =
     λ b m. let parts = not_met _ _ _ b (sym c.goes_on.ensures ∙ m) in
-    wide_ends_at (searched_tree c.args.game.now c.args.variations) c.requires.tree c.args.back c.args.starts.now.items c.deref.result.now c.in_ok-wide.wide.items c.deref-2.result.now c.deref.ensures.value c.deref-2.ensures.value
+    wide_ends_at (searched_tree c.args.game.now c.args.variations) c.requires.tree c.args.back c.args.starts.now.items c.deref.result.now c.in_ok-wide.wide.items
+    c.deref-2.result.now c.deref.ensures.value c.deref-2.ensures.value
     c.requires.asked c.in_ok-wide.ensures c.put_body.new.table (c.args.first + body_atoms (body_tree c.args.part.now.body)) (body_numbered c.args.first (body_tree c.args.part.now.body))
-    (body_pattern (searched_tree c.args.game.now c.args.variations) [] c.args.names.now (body_tree c.args.part.now.body)) c.args.part.now.mark (sym c.is_needed-needed.ensures ∙ parts.1) (c.in_ok-next.ensures.never refl parts.0)
+    (body_pattern (searched_tree c.args.game.now c.args.variations) [] c.args.names.now (body_tree c.args.part.now.body)) c.args.part.now.mark
+    (sym c.is_needed-needed.ensures ∙ parts.1) (c.in_ok-next.ensures.never refl parts.0)
 
 pub lines::put_once-returns-in_ok-behind-in-Atom-clause-leads : goal.lines::put_once-returns-in_ok-behind-in-Atom-clause-leads
 lines::put_once-returns-in_ok-behind-in-Atom-clause-leads g t c =
-    leads_at (searched_tree c.args.game.now c.args.variations) c.args.back c.args.starts.now.items c.deref-in-Atom.result.now c.in_ok-behind-in-Atom.behind.items c.deref-in-Atom.ensures.value c.put_atom.new.table (c.args.first + body_atoms (body_tree c.args.body.now)) (body_numbered c.args.first (body_tree c.args.body.now))
+    leads_at (searched_tree c.args.game.now c.args.variations) c.args.back c.args.starts.now.items c.deref-in-Atom.result.now c.in_ok-behind-in-Atom.behind.items
+    c.deref-in-Atom.ensures.value c.put_atom.new.table (c.args.first + body_atoms (body_tree c.args.body.now)) (body_numbered c.args.first (body_tree c.args.body.now))
     (body_pattern (searched_tree c.args.game.now c.args.variations) [] c.args.names.now (body_tree c.args.body.now))
-    (leads_form (searched_tree c.args.game.now c.args.variations) c.args.back c.args.names.now c.deref-in-Atom.result.now c.in_ok-behind-in-Atom.behind.items c.put_atom.new.table c.args.first (body_tree c.args.body.now) (filter_tree c.deref.result.now)
+    (leads_form (searched_tree c.args.game.now c.args.variations) c.args.back c.args.names.now c.deref-in-Atom.result.now c.in_ok-behind-in-Atom.behind.items
+    c.put_atom.new.table c.args.first (body_tree c.args.body.now) (filter_tree c.deref.result.now)
     (ap body_tree c.in-Atom.is ∙ ap (λ p. atom (filter_tree p)) (sym c.deref.ensures)) c.in_ok-behind-in-Atom.ensures.leads)
 
 pub lines::put_once-returns-in_ok-behind-in-Atom-clause-ends : goal.lines::put_once-returns-in_ok-behind-in-Atom-clause-ends
 lines::put_once-returns-in_ok-behind-in-Atom-clause-ends g t c =
-    λ b m. ends_at (searched_tree c.args.game.now c.args.variations) c.args.back c.args.starts.now.items c.deref-in-Atom.result.now c.deref-in-Atom.ensures.value (body_pattern (searched_tree c.args.game.now c.args.variations) [] c.args.names.now (body_tree c.args.body.now))
+    λ b m. ends_at (searched_tree c.args.game.now c.args.variations) c.args.back c.args.starts.now.items c.deref-in-Atom.result.now c.deref-in-Atom.ensures.value
+    (body_pattern (searched_tree c.args.game.now c.args.variations) [] c.args.names.now (body_tree c.args.body.now))
     (ends_form (searched_tree c.args.game.now c.args.variations) c.args.back c.args.names.now c.deref-in-Atom.result.now (body_tree c.args.body.now) (filter_tree c.deref.result.now)
     (ap body_tree c.in-Atom.is ∙ ap (λ p. atom (filter_tree p)) (sym c.deref.ensures)) (c.in_ok-behind-in-Atom.ensures.ends b m))
 
 pub lines::put_once-returns-in_ok-starts-in-Group-clause-leads : goal.lines::put_once-returns-in_ok-starts-in-Group-clause-leads
 lines::put_once-returns-in_ok-starts-in-Group-clause-leads g t c =
-    group_leads_at (searched_tree c.args.game.now c.args.variations) c.requires.tree c.args.back c.args.starts.now.items c.deref-in-Group-2.result.now c.in_ok-starts-in-Group.field-0.items c.deref-in-Group.result.now
-    c.deref-in-Group-2.ensures.value c.deref-in-Group.ensures.value c.requires.asked c.in_ok-starts-in-Group.ensures c.put_parts.new.table (c.args.first + body_atoms (body_tree c.args.body.now)) (body_numbered c.args.first (body_tree c.args.body.now))
+    group_leads_at (searched_tree c.args.game.now c.args.variations) c.requires.tree c.args.back c.args.starts.now.items c.deref-in-Group-2.result.now
+    c.in_ok-starts-in-Group.field-0.items c.deref-in-Group.result.now
+    c.deref-in-Group-2.ensures.value c.deref-in-Group.ensures.value c.requires.asked c.in_ok-starts-in-Group.ensures c.put_parts.new.table
+    (c.args.first + body_atoms (body_tree c.args.body.now)) (body_numbered c.args.first (body_tree c.args.body.now))
     (body_pattern (searched_tree c.args.game.now c.args.variations) [] c.args.names.now (body_tree c.args.body.now))
-    (group_tabled (searched_tree c.args.game.now c.args.variations) c.args.back c.args.names.now (IsLive c.deref-in-Group.result.now) c.put_parts.new.table c.args.first (body_tree c.args.body.now) (parts_tree c.in-Group.parts)
+    (group_tabled (searched_tree c.args.game.now c.args.variations) c.args.back c.args.names.now
+    (IsLive c.deref-in-Group.result.now) c.put_parts.new.table c.args.first (body_tree c.args.body.now) (parts_tree c.in-Group.parts)
     (ap body_tree c.in-Group.is) c.in_ok-next-in-Group.ensures.value)
 
 pub lines::put_once-returns-in_ok-starts-in-Group-clause-ends : goal.lines::put_once-returns-in_ok-starts-in-Group-clause-ends
 lines::put_once-returns-in_ok-starts-in-Group-clause-ends g t c =
-    λ b m. ends_at (searched_tree c.args.game.now c.args.variations) c.args.back c.args.starts.now.items c.deref-in-Group.result.now c.deref-in-Group.ensures.value (body_pattern (searched_tree c.args.game.now c.args.variations) [] c.args.names.now (body_tree c.args.body.now))
-    (group_ends (searched_tree c.args.game.now c.args.variations) c.requires.tree c.args.back c.deref-in-Group.result.now (body_pattern (searched_tree c.args.game.now c.args.variations) [] c.args.names.now (body_tree c.args.body.now))
-    (group_never (searched_tree c.args.game.now c.args.variations) c.args.back c.args.names.now (IsLive c.deref-in-Group.result.now) (body_tree c.args.body.now) (parts_tree c.in-Group.parts) (ap body_tree c.in-Group.is)
+    λ b m. ends_at (searched_tree c.args.game.now c.args.variations) c.args.back c.args.starts.now.items c.deref-in-Group.result.now c.deref-in-Group.ensures.value
+    (body_pattern (searched_tree c.args.game.now c.args.variations) [] c.args.names.now (body_tree c.args.body.now))
+    (group_ends (searched_tree c.args.game.now c.args.variations) c.requires.tree c.args.back c.deref-in-Group.result.now
+    (body_pattern (searched_tree c.args.game.now c.args.variations) [] c.args.names.now (body_tree c.args.body.now))
+    (group_never (searched_tree c.args.game.now c.args.variations) c.args.back c.args.names.now (IsLive c.deref-in-Group.result.now)
+    (body_tree c.args.body.now) (parts_tree c.in-Group.parts) (ap body_tree c.in-Group.is)
     (c.in_ok-next-in-Group.ensures.never b m)))
 
 pub lines::put_part-returns-in-Once-clause-ends : goal.lines::put_part-returns-in-Once-clause-ends
@@ -464,7 +483,8 @@ lines::put_part-returns-in-Once-clause-ends g t c =
 
 pub lines::put_atom-returns-clause-leads : goal.lines::put_atom-returns-clause-leads
 lines::put_atom-returns-clause-leads g t c =
-    atom_leads (searched_tree c.args.game.now c.args.variations) c.args.back c.put_column.new.table c.args.first c.in_ok-column.column (value (searched_tree c.args.game.now c.args.variations) [] c.args.names.now (filter_tree c.args.filter.now))
+    atom_leads (searched_tree c.args.game.now c.args.variations) c.args.back c.put_column.new.table c.args.first c.in_ok-column.column
+    (value (searched_tree c.args.game.now c.args.variations) [] c.args.names.now (filter_tree c.args.filter.now))
     c.args.live.now c.requires.asked c.in_ok-column.ensures.value c.put_column.ensures.put c.in_ok-held.held.items c.in_ok-held.ensures c.in_ok-behind.behind.items
     (onward_at (searched_tree c.args.game.now c.args.variations) c.args.back c.in_ok-held.held.items c.deref-2.result.now c.in_ok-behind.behind.items c.deref-2.ensures.value c.in_ok-behind.ensures)
 
