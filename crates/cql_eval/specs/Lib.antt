@@ -6,4 +6,5 @@ pub mod Costs
 pub mod FlatTrees
 pub mod Hits
 pub mod LineAtoms
+pub mod SpelledParts
 pub mod Trees
