@@ -17,12 +17,13 @@ build:
 	@bash scripts/build.sh
 
 # Installs what `make build` has built, with manual pages, completion for bash, zsh and fish, a syntax file for vim, the page of boards,
-# the wrapper for several archives and the scripts for many machines.
+# the wrapper for several archives, the script that gives each of several queries a file, and the scripts for many machines.
 install:
 	@test -x $(PROGRAM) -a -x $(PIECES) || { echo "make build comes first"; exit 1; }
 	install -D $(PROGRAM) $(BIN)/cqlpgn
 	install -D $(PIECES) $(BIN)/pgnpieces
 	install -D contrib/cqlpgn-over $(BIN)/cqlpgn-over
+	install contrib/cqlpgn-split $(BIN)/cqlpgn-split
 	install -D view/diagrams $(SHARE)/cqlpgn/view/diagrams
 	install -m 644 view/*.py view/page.html $(SHARE)/cqlpgn/view
 	install -d $(SHARE)/cqlpgn/many
@@ -31,7 +32,7 @@ install:
 	ln -sf ../share/cqlpgn/view/diagrams $(BIN)/cqlpgn-diagrams
 	install -D -m 644 docs/cqlpgn.1 $(SHARE)/man/man1/cqlpgn.1
 	install -m 644 docs/pgnpieces.1 $(SHARE)/man/man1/pgnpieces.1
-	for name in cqlpgn-over cqlpgn-diagrams; do \
+	for name in cqlpgn-over cqlpgn-split cqlpgn-diagrams; do \
 	  echo '.so man1/cqlpgn.1' > $(SHARE)/man/man1/$$name.1; \
 	  mkdir -p $(SHARE)/bash-completion/completions $(SHARE)/fish/vendor_completions.d; \
 	  ln -sf cqlpgn $(SHARE)/bash-completion/completions/$$name; \
@@ -51,9 +52,9 @@ install:
 
 # Takes away what install has put, wherever the completion for zsh went, and the folders of others that it leaves empty.
 uninstall:
-	rm -f $(BIN)/cqlpgn $(BIN)/cqlpgn-over $(BIN)/cqlpgn-diagrams $(BIN)/pgnpieces
-	rm -f $(SHARE)/man/man1/cqlpgn.1 $(SHARE)/man/man1/cqlpgn-over.1 $(SHARE)/man/man1/cqlpgn-diagrams.1 $(SHARE)/man/man1/pgnpieces.1 $(SHARE)/man/man7/cql.7
-	for name in cqlpgn cqlpgn-over cqlpgn-diagrams; do \
+	rm -f $(BIN)/pgnpieces $(SHARE)/man/man1/pgnpieces.1 $(SHARE)/man/man7/cql.7
+	for name in cqlpgn cqlpgn-over cqlpgn-split cqlpgn-diagrams; do \
+	  rm -f $(BIN)/$$name $(SHARE)/man/man1/$$name.1; \
 	  rm -f $(SHARE)/bash-completion/completions/$$name $(SHARE)/fish/vendor_completions.d/$$name.fish; \
 	done
 	rm -f $(SHARE)/zsh/site-functions/_cqlpgn $(SHARE)/zsh/vendor-completions/_cqlpgn

@@ -37,6 +37,10 @@ def runs(folder):
         f.write('cql(variations) flipcolor {A attacks k} sort "p" power A\n')
     with open(os.path.join(folder, "faulty.cql"), "w") as f:
         f.write("cql() {check\n")
+    with open(os.path.join(folder, "several.cql"), "w") as f:
+        f.write('cql() check\n%%\ncql(variations) check sort "p" power A\n%%\ncql() flipcolor {A attacks k} sort min "p" power A check\n')
+    with open(os.path.join(folder, "second.cql"), "w") as f:
+        f.write("cql() check\n%%\ncql() echo\n")
     composite = 'cql(matchstring "mate") mate year == 2023 elo white > 1800'
     yield ["eval", composite], COMPOSITE
     yield ["eval", composite, "--workers", "2"], COMPOSITE
@@ -44,6 +48,8 @@ def runs(folder):
     for query in QUERIES:
         yield ["eval", "cql(variations) " + query], GAMES
     for words in (["run", "q.cql"], ["run", "q.cql", "--workers", "2"], ["run", "faulty.cql"]):
+        yield words, GAMES
+    for words in (["many", "several.cql"], ["many", "several.cql", "--workers", "2"], ["many", "second.cql"]):
         yield words, GAMES
     for words in (["explain", "q.cql"], ["check", "q.cql"], ["check", "faulty.cql"], ["eval"], ["run", "none.cql"]):
         yield words, b""

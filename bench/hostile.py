@@ -1,5 +1,5 @@
 #!/usr/bin/env python3
-"""Inputs that are made to hurt: archives without end, and games and queries of one kind of token.
+"""Inputs that are made to hurt: archives without end, games and queries of one kind of token, and files of long and heavy queries.
 
     bench/hostile.py BINARY endless [GIB]     memory over an archive of GIB (4) on a pipe: it must not grow after the first quarter
     bench/hostile.py BINARY sizes             processor seconds for inputs of one size and of twice the size: at most 2.2 times as many
@@ -122,6 +122,17 @@ QUERIES = {
 }
 
 
+def long_query(number):
+    """a query of nearly 65,536 bytes; files of such have many thousand parts, most of them in several queries"""
+    return b"cql() " + b" ".join(b"#A == %d" % ((number * 7919 + place) % 5000) for place in range(6000))
+
+
+def heavy_query(number):
+    """a query of the greatest weight"""
+    man = b"K%c%c" % (b"abcdefgh"[number % 8], b"12"[number // 8])
+    return b"cql() " + (b"flip flip flip flip flip %b " % man) * 7 + man
+
+
 def other_tags(size):
     """a game of tags of which each has a name of its own, in no order"""
     return b"".join(b'[A%07d "b"]\n' % (i * 7919 % 9999991) for i in range((size - 1) // 15)) + b"*"
@@ -159,6 +170,13 @@ def sizes(binary, measure):
                     f.write(head + repeated(token, n - len(head + tail)) + tail)
                 runs.append(measure([binary, "run", "q.cql"], b"1. e4 *", folder))
             line("query", name, *runs)
+        for name, made in (("long", long_query), ("heavy", heavy_query)):
+            runs = []
+            for n in (8, 16):
+                with open(os.path.join(folder, "q.cql"), "wb") as f:
+                    f.write(b"\n%%\n".join(map(made, range(n))))
+                runs.append(measure([binary, "many", "q.cql"], b"1. e4 *", folder))
+            line("queries", name, *runs)
     return ok
 
 

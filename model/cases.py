@@ -36,6 +36,8 @@ class Case:
         folder = os.path.join(CASES, name)
         self.name, self.folder = name, folder
         self.query = read(folder, "query.cql") or b""
+        packed = read(folder, "queries.cql.gz")
+        self.queries = gzip.decompress(packed) if packed is not None else read(folder, "queries.cql")
         packed, named = read(folder, "archive.pgn.gz"), read(folder, "archive")
         self.is_large = packed is not None
         if packed is not None:
@@ -44,8 +46,8 @@ class Case:
             self.archive = read(EXAMPLES, named.decode().strip())
         else:
             self.archive = read(folder, "archive.pgn") or b""
-        words = read(folder, "args") or b"run\nquery.cql\narchive.pgn\n"
-        self.words = words.decode().splitlines()
+        usual = "run\nquery.cql\narchive.pgn\n" if self.queries is None else "many\nqueries.cql\narchive.pgn\n"
+        self.words = (read(folder, "args") or usual.encode()).decode().splitlines()
         self.under = dict(line.split() for line in (read(folder, "under") or b"").decode().splitlines())
 
     def wanted(self):
@@ -57,7 +59,8 @@ class Case:
         memory = int(self.under.get("memory", 0))
         limits = (lambda: resource.setrlimit(resource.RLIMIT_AS, (memory, memory))) if memory else None
         with tempfile.TemporaryDirectory() as room, open("/dev/full", "wb") as full:
-            for name, text in (("query.cql", self.query), ("archive.pgn", self.archive)):
+            files = {"query.cql": self.query, "queries.cql": self.queries or b"", "archive.pgn": self.archive}
+            for name, text in files.items():
                 with open(os.path.join(room, name), "wb") as f:
                     f.write(text)
             streams = {"stdout": subprocess.PIPE, "stderr": subprocess.PIPE}
@@ -74,6 +77,8 @@ class Case:
             return program.run_eval(self.query, self.archive)
         if self.words == ["run", "query.cql", "archive.pgn", "--first"]:
             return program.run_eval(self.query, self.archive, first=True)
+        if self.words == ["many", "queries.cql", "archive.pgn"]:
+            return program.run_many(self.queries, self.archive)
         if self.words == ["check", "query.cql"]:
             return program.run_check(self.query)
         if self.words == ["explain", "query.cql"]:

@@ -4,7 +4,8 @@
     python3 fuzz.py BINARY MODE SEED COUNT
 
 MODE is `archives` (random and mutated archives), `queries` (random queries over small games), `explained` (the same queries by
-`explain`) or `texts` (mutated query texts and texts near the limits, by `check`). Differences land in the folder out/ beside this
+`explain`), `many` (files of such queries, which have parts in common) or `texts` (mutated query texts and texts near the limits, by
+`check`). Differences land in the folder out/ beside this
 file. pypy3 is several times faster than python3 here."""
 
 
@@ -983,8 +984,32 @@ def random_man_query():
     return "cql() " + RANDOM.choice(common + [any_man])
 
 
+def mixed(text, other):
+    """a query with parts of two: one of them with the other's items, or but for the parameter `variations`"""
+    if chance(0.3):
+        return text.replace("variations", "") if "variations" in text else text.replace("(", "(variations ", 1)
+    items = other.split(")", 1)[1]
+    return text + " " + items if chance(0.7) else text.split(")", 1)[0] + ")" + items
+
+
+def queries_file(archive):
+    """a file of queries, at times of too many or with a fault"""
+    texts = [good_query(archive)]
+    while len(texts) < 18 and chance(0.7):
+        other = RANDOM.choice(texts)
+        texts.append(mixed(good_query(archive), other) if chance(0.6) else mixed(other, RANDOM.choice(texts)) if chance(0.8) else other)
+    if chance(0.05):
+        texts.insert(RANDOM.randint(0, len(texts)), RANDOM.choice(["", "// none", mutate_query(texts[0])]))
+    texts = [text + RANDOM.choice(["", "\n", "\n// %%", "\r\n", " // %%\n\n"]) for text in texts]
+    between = RANDOM.choice(["\n%%\n"] * 40 + ["\n%%\r\n", "\n%% \n", "\n %%\n", "\n%%\n%%\n"])
+    return between.join(texts) + RANDOM.choice([""] * 40 + ["\n%%", "\n%%\n"])
+
+
 def random_case(mode):
     """(query, archive)"""
+    if mode == "many":
+        archive = small_archive()
+        return queries_file(archive), archive
     if mode == "archives":
         return random_man_query(), random_archive()
     if mode in ("queries", "explained"):
@@ -997,13 +1022,15 @@ def random_case(mode):
 
 def answers(binary, mode, text, archive, folder):
     """the model's answer and the program's"""
-    if mode in ("texts", "explained"):
+    if mode in ("texts", "explained", "many"):
         with open(os.path.join(folder, "q.cql"), "wb") as f:
             f.write(text.encode())
     if mode == "texts":
         return program.run_check(text.encode()), run(binary, ["check", "q.cql"], b"", folder)
     if mode == "explained":
         return program.run_explain(text.encode()), run(binary, ["explain", "q.cql"], b"", folder)
+    if mode == "many":
+        return program.run_many(text.encode(), archive), run(binary, ["many", "q.cql"], archive, folder)
     return program.run_eval(text.encode(), archive), run(binary, ["eval", text], archive, folder)
 
 

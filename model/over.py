@@ -1,6 +1,6 @@
 #!/usr/bin/env python3
-"""contrib/cqlpgn-over as a process: what it writes, what it says and its exit status; then the boards of view/, and what contrib/ has of
-the language.
+"""contrib/cqlpgn-over as a process: what it writes, what it says and its exit status; then contrib/cqlpgn-split, the boards of view/, and
+what contrib/ has of the language.
 
     python3 over.py BINARY
 
@@ -25,6 +25,7 @@ import query
 
 TOP = os.path.join(os.path.dirname(os.path.abspath(__file__)), "..")
 OVER = os.path.join(TOP, "contrib", "cqlpgn-over")
+SPLIT = os.path.join(TOP, "contrib", "cqlpgn-split")
 BINARY = os.path.abspath(sys.argv[1])
 sys.dont_write_bytecode = True
 sys.path.insert(0, os.path.join(TOP, "view"))
@@ -151,6 +152,43 @@ def faults():
     compare("no program", asked(QUERY, "one.pgn", CQLPGN="none")[1], b"")
 
 
+def split(data, *words):
+    """(status, out, lines of err) of the script that gives each query a file, in a locale whose letters are bytes and in another"""
+    answers = []
+    for locale in ("C", "C.UTF-8"):
+        env = {**os.environ, "LC_ALL": locale}
+        done = subprocess.run([sys.executable, SPLIT, *words], input=data, capture_output=True, env=env, check=False, timeout=60)
+        answers.append((done.returncode, done.stdout, done.stderr.decode().splitlines()))
+    return answers[0] if answers[0] == answers[1] else answers
+
+
+def apart():
+    """what `many` writes, in a file for each query"""
+
+    def kept(number, name="found/0%d.pgn"):
+        with open(name % number, "rb") as file:
+            return file.read()
+
+    os.mkdir("found")
+    archive = '[White "Müller"]\n'.encode() + ONE
+    texts = ["cql() check", "cql() Pa8", 'cql(matchstring "für") initial']
+    joint = program.run_many("\n%%\n".join(texts).encode(), archive)[1]
+    compare("three queries apart", split(joint, "found/"), (0, b"", []))
+    compare("a file for each", [kept(number) for number in (1, 2, 3)], [program.run_eval(text.encode(), archive)[1] for text in texts])
+    lines = b"query 1 bytes 16\nquery 2 bytes 0\nquery 2 bytes 3\n\xffb\nquery 3 bytes 0\n"
+    compare("lines are counted, not sought", split(lines, "x"), (0, b"", []))
+    compare("a file for each line", [kept(number, "x0%d.pgn") for number in (1, 2, 3)], [b"query 2 bytes 0\n", b"\xffb\n", b""])
+    large = b"query 1 bytes 200000\n" + b"\n" * 200000
+    compare("a file longer than a read", (split(large, "found/"), kept(1)), ((0, b"", []), b"\n" * 200000))
+    compare("an end too soon", split(joint[:-1], "found/")[0], 5)
+    compare("nothing", split(b"", "found/")[0], 5)
+    compare("games of one query", split(found(ONE), "found/")[0], 5)
+    compare("a query left out", split(b"query 2 bytes 0\n", "found/")[0], 5)
+    compare("no such folder", split(joint, "none/"), (6, b"", ["cqlpgn-split: none/01.pgn: No such file or directory"]))
+    compare("no words", split(joint)[0], 3)
+    compare("two words", split(joint, "a", "b")[0], 3)
+
+
 def boards():
     """what view/ plays through beside the model's positions, and a page that it makes"""
     out = b""
@@ -194,6 +232,7 @@ with tempfile.TemporaryDirectory() as room:
     marks()
     packed()
     faults()
+    apart()
     boards()
     words()
     os.chdir(TOP)

@@ -158,6 +158,13 @@ def game_fault_row(page, row):
         compare("%s: a case of %s" % (page, reason), has_case, True)
 
 
+def queries_fault_row(page, row):
+    """what is said of a file of queries, and where it is: a case has it"""
+    said = re.sub("REASON", "[a-z ]+", re.sub(r"\b[IB]\b", r"\\d+", codes(row[0])[0]))
+    found = [case.name for case in CASES if re.fullmatch(said, case.wanted()[2].decode("latin1").strip())]
+    compare("%s: a case of %s" % (page, row[0]), bool(found), True)
+
+
 def status_row(page, row):
     compare("%s: a case with status %s" % (page, row[0]), int(row[0]) in [case.wanted()[0] for case in CASES], True)
 
@@ -187,6 +194,7 @@ TABLES = {
     ("Step", "Reason", "Where", "Example"): query_fault_row,
     ("Query", "Its fault"): fault_row,
     ("Reason", "Where it stands"): game_fault_row,
+    ("Line", "Where it comes"): queries_fault_row,
     ("Status", "Means", "What to do"): status_row,
     ("Written", "What is said", "Meant", "Why"): refused_row,
     ("Written", "Finds", "What it asks", "Meant", "Finds"): slip_row,
@@ -206,7 +214,8 @@ def try_page(page):
         os.symlink(".", os.path.join(room, "examples"))
         os.mkdir(os.path.join(room, "bin"))
         os.symlink(BINARY, os.path.join(room, "bin", "cqlpgn"))
-        os.symlink(os.path.join(TOP, "contrib", "cqlpgn-over"), os.path.join(room, "bin", "cqlpgn-over"))
+        for name in ("cqlpgn-over", "cqlpgn-split"):
+            os.symlink(os.path.join(TOP, "contrib", name), os.path.join(room, "bin", name))
         os.symlink(os.path.join(TOP, "view", "diagrams"), os.path.join(room, "bin", "cqlpgn-diagrams"))
         try_blocks(page, text, room)
     for head, rows in tables_of(text):

@@ -4,8 +4,9 @@
     python3 process.py BINARY
 
 First the worked rows and examples (rows.py, worked.py), the cases (cases.py) and what the pages show (pages.py), then every exit status
-that a process can be brought to, with archives from files, from pipes and from `-`; then archives of one batch and more, in pieces, by 1 to
-64 workers: one text, which is written batch by batch as the archive comes. The last line counts all: 'N passed, M failed'.
+that a process can be brought to, with archives from files, from pipes and from `-`, and files of queries; then archives of one batch and
+more, in pieces, by 1 to 64 workers: one text, which is written batch by batch as the archive comes. The last line counts all: 'N passed,
+M failed'.
 """
 
 import os
@@ -17,6 +18,7 @@ import sys
 import tempfile
 import threading
 
+import cases
 import program
 
 HERE = os.path.dirname(os.path.abspath(__file__))
@@ -236,6 +238,86 @@ def ends_before_its_writer():
     compare("a pipe that stays open", got, program.run_eval(b"cql() initial", b"*\n" * 1025, first=True))
 
 
+def joined(asked):
+    """what `many` answers, of the answers to each query alone"""
+    outs = b"".join(b"query %d bytes %d\n" % (number, len(out)) + out for number, (_, out, _) in enumerate(asked, 1))
+    reports = [err.splitlines(keepends=True) for _, _, err in asked]
+    return asked[0][0], outs, b"".join(reports[0][:-1] + [report[-1] for report in reports])
+
+
+def many(folder, queries, archive=None, options=(), **streams):
+    """the answer to a file of queries over an archive by its name, or over ARCHIVE"""
+    with open(os.path.join(folder, "queries.cql"), "wb") as f:
+        f.write(queries)
+    return process(["many", "queries.cql", archive or "a.pgn", *options], folder=folder, **streams)
+
+
+def files_of_queries(folder):
+    """the cookbook answered at once as query by query; how files are cut, and what is refused of them"""
+    cookbook = [case for case in cases.all_cases() if case.name.startswith("cookbook-")][:16]
+    with open(os.path.join(folder, "games.pgn"), "wb") as f:
+        f.write(cookbook[0].archive)
+    for workers in ("1", "4", "64"):
+        got = many(folder, b"%%\n".join(case.query for case in cookbook), "games.pgn", ["--workers", workers])
+        compare("sixteen queries by %s workers" % workers, got, joined([case.wanted() for case in cookbook]))
+    sixteen = [b"cql() check //" + b"x" * 65521 + b"\n" for _ in range(15)] + [b"cql() mate //" + b"x" * 65478]
+    accepted = {
+        "two queries": b"cql() Pd4\n%%\ncql() check\n",
+        "one query": QUERY,
+        "queries whose lines end with CR LF": b"// %%\r\ncql()\r\ncheck\r\n%%\n// b\r\ncql() mate\r\n",
+        "%% in a remark": b"// %%\ncql() check\n%%\n//%%\n//\ncql() mate",
+        "a sort item in one query alone": b'cql() terminal sort min "p" ply\n%%\ncql() terminal\n%%\ncql() terminal sort "p" ply\n',
+        "1,048,576 bytes": b"%%\n".join(sixteen),
+    }
+    compare("how long the longest file is", len(accepted["1,048,576 bytes"]), 1048576)
+    for name, text in accepted.items():
+        compare(name, many(folder, text), joined([program.run_eval(piece, ARCHIVE) for piece in program.pieces_of(text)]))
+    refused = {
+        "queries too long": [accepted["1,048,576 bytes"] + b" ", b"%%\n" * 349526],
+        "queries too many": [b"%%\n" * 16, b"cql() check\n%%\n" * 16 + b"cql() !"],
+        "query 1 byte 0: unexpected end": [b"", b"%%", b"%%\n", b"%%\n" * 15, b"%%\ncql() !"],
+        "query 2 byte 0: unexpected end": [b"cql() check\n%%\n", b"cql() check\n%%\n%%\ncql() check"],
+        "query 1 byte 13: bad byte": [b"cql() check\r\n%%\r\ncql() mate\r\n", b"cql() check\n %%\n"],
+        "query 1 byte 12: bad byte": [b"cql() check\n%%%\n", b"cql() check\n%% \n%%\ncql() !"],
+        "query 1 byte 14: unclosed text": [b'cql() comment "a\n%%\nb" check'],
+        "query 2 byte 6: outside profile echo": [b"cql() check\n%%\ncql() echo\n%%\ncql() !\n"],
+        "query 2 byte 65536: query too long": [b"cql() check\n%%\n" + b" " * 65537],
+    }
+    for line, texts in refused.items():
+        for number, text in enumerate(texts, 1):
+            compare("%s, number %d" % (line, number), many(folder, text, "none.pgn"), (2, b"", line.encode() + b"\n"))
+
+
+def many_ends(folder):
+    """each status of `many`, and the words that it does not take"""
+    two = b"cql() initial\n%%\ncql() check\n"
+    whole = program.run_many(two, ARCHIVE)
+    with open(os.path.join(folder, "two.cql"), "wb") as f:
+        f.write(two)
+    compare("a faulty game", many(folder, two, "faulty.pgn"), program.run_many(two, FAULTY))
+    compare("an archive from a pipe", process(["many", "two.cql"], ARCHIVE, folder), whole)
+    compare("queries from a pipe", process(["many", "-", "a.pgn"], two, folder), whole)
+    compare("no such file of queries", process(["many", "none.cql", "a.pgn"], folder=folder), (4, b"", b""))
+    compare("no such archive", many(folder, two, "none.pgn"), (4, b"", b""))
+    compare("a folder of queries", process(["many", ".", "a.pgn"], folder=folder), (5, b"", b""))
+    compare("a folder as archive", many(folder, two, "."), (5, b"", b""))
+    with open("/dev/full", "wb") as full:
+        compare("a full device takes no queries' games", many(folder, two, stdout=full)[:2], (6, b""))
+        status, out, _ = many(folder, two, stderr=full)
+        compare("a full device takes no counts", (status, whole[1].startswith(out)), (6, True))
+        compare("a full device takes no query's fault", many(folder, b"%%", stderr=full), (6, b"", b""))
+    hungry = process(["many", "two.cql"], b"{" + b"x" * 2**24 + b"} 1. e4 *", folder, 2**23)
+    compare("no memory for a game of many", hungry, (7, b"", b""))
+    archive = b"1. e4 e5 2. Ke3 *\n" + b"*\n" * 1023 + b"1. e4 e5 *\n"
+    limited = process(["many", "two.cql", "--limit", str(len(archive) - 1)], archive, folder)
+    compare("one byte more than the limit", limited, (8, b"", b"game 1 byte 12: illegal move\n"))
+    for workers in ("1", "64"):
+        met = process(["many", "two.cql", "--limit", str(len(archive)), "--workers", workers], archive, folder)
+        compare("two batches by %s workers" % workers, met, program.run_many(two, archive))
+    for words in ([], ["a.pgn", "b.pgn", "c.pgn"], ["a.pgn", "--first"], ["a.pgn", "--seed", "1"], ["a.pgn", "--games", "1"]):
+        compare("refused words of many %r" % words, process(["many", *words], folder=folder), (3, b"", program.USAGE))
+
+
 def many_runs():
     """two hundred runs by 64 workers"""
     archive = b"".join(b"1. e4 e5 2. Qh5 Nc6 3. Bc4 Nf6 4. Qxf7# 1-0\n" if i % 7 else b"1. e4 e5 2. Ke3 *\n" for i in range(3000))
@@ -254,6 +336,8 @@ with tempfile.TemporaryDirectory() as room:
     ways_in(room)
     done_and_refused(room)
     failures(room)
+    files_of_queries(room)
+    many_ends(room)
 batches()
 as_it_is_read()
 first_matches()

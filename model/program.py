@@ -1,4 +1,6 @@
-"""The whole program as functions: `eval` of a query over an archive, `check`, `explain` and `selfrun` of a query."""
+"""The whole program as functions: `eval` of a query over an archive, `many` of several, `check`, `explain` and `selfrun` of a query."""
+
+import re
 
 from explain import explain
 from maker import made
@@ -52,6 +54,34 @@ def run_eval(text, b, first=False):
     except QueryFault as f:
         return (2, b"", fault_line(f))
     return answer(q, b, first)
+
+
+MOST_BYTES, MOST_QUERIES = 1 << 20, 16
+
+
+def pieces_of(text):
+    """the queries of a file, which is cut at each line that is exactly `%%`; that line and its end belong to none"""
+    return re.split(rb"^%%(?:\n|\Z)", text, flags=re.M)
+
+
+def run_many(text, b):
+    """(status, out, err) of the queries of a file over one archive"""
+    if len(text) > MOST_BYTES:
+        return (2, b"", b"queries too long\n")
+    pieces = pieces_of(text)
+    if len(pieces) > MOST_QUERIES:
+        return (2, b"", b"queries too many\n")
+    queries = []
+    for number, piece in enumerate(pieces, 1):
+        try:
+            queries.append(read_query(piece))
+        except QueryFault as f:
+            return (2, b"", b"query %d" % number + fault_line(f)[len(b"query") :])
+    answers = [answer(q, b) for q in queries]
+    outs = [b"query %d bytes %d\n" % (number, len(out)) + out for number, (_, out, _) in enumerate(answers, 1)]
+    *faults, _ = answers[0][2].splitlines(keepends=True)
+    counts = [err.splitlines(keepends=True)[-1] for _, _, err in answers]
+    return (answers[0][0], b"".join(outs), b"".join(faults + counts))
 
 
 def run_check(text):

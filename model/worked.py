@@ -198,6 +198,29 @@ example(
 )
 
 
+def several(name, text, archive, out, err, status):
+    """what the queries of a file answer over the archive"""
+    wanted = (status, out.encode(), err.encode())
+    equal(name, program.run_many(text.encode(), archive.encode()), wanted)
+    if binary:
+        with tempfile.TemporaryDirectory() as folder:
+            with open(os.path.join(folder, "queries.cql"), "w", encoding="ascii", newline="") as f:
+                f.write(text)
+            through_program(name, ["many", "queries.cql"], archive.encode(), wanted, folder)
+
+
+NO_MATE = "games 1 matched 1 refused 0\ngames 1 matched 0 refused 0\n"
+ONE_OF_TWO = "query 1 bytes 118\n" + exported("1. e4 e5 2. Nf3 {CQL} *") + "query 2 bytes 0\n"
+several("two queries", "cql() Nf3\n%%\ncql() mate\n", SHORT_GAME, ONE_OF_TWO, NO_MATE, 0)
+several("a fault of the second query", "cql() check\n%%\ncql() echo", SHORT_GAME, "", "query 2 byte 6: outside profile echo\n", 2)
+several("seventeen queries", "cql() check\n%%\n" * 16 + "cql() check", SHORT_GAME, "", "queries too many\n", 2)
+several("nothing between two separators", "cql() check\n%%\n%%\ncql() mate", "", "", "query 2 byte 0: unexpected end\n", 2)
+several("a separator alone", "%%", "", "", "query 1 byte 0: unexpected end\n", 2)
+several("one query and no separator", "cql() mate", "", "query 1 bytes 0\n", "games 0 matched 0 refused 0\n", 0)
+several("a separator with CR is none", "cql() mate\r\n%%\r\ncql() check", "", "", "query 1 byte 12: bad byte\n", 2)
+several("lines that are cut before tokens are read", 'cql() comment "a\n%%\nb"', "", "", "query 1 byte 14: unclosed text\n", 2)
+
+
 def cut_at(archive):
     return [(start, end) for start, end, _ in pgn.cut(archive)]
 

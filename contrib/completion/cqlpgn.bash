@@ -1,5 +1,5 @@
-# Completion of cqlpgn, cqlpgn-over and cqlpgn-diagrams for bash: `source contrib/completion/cqlpgn.bash` in ~/.bashrc, where
-# `make install` or the package has not put it where bash-completion finds it.
+# Completion of cqlpgn, cqlpgn-over, cqlpgn-split and cqlpgn-diagrams for bash: `source contrib/completion/cqlpgn.bash` in ~/.bashrc,
+# where `make install` or the package has not put it where bash-completion finds it.
 
 _cqlpgn_files() {
     # files whose names end so, and folders
@@ -11,7 +11,7 @@ _cqlpgn() {
     local word=${COMP_WORDS[COMP_CWORD]} before=${COMP_WORDS[COMP_CWORD - 1]} mode=${COMP_WORDS[1]:-}
     COMPREPLY=()
     if [ "$COMP_CWORD" = 1 ]; then
-        mapfile -t COMPREPLY < <(compgen -W 'run eval check explain selfrun' -- "$word")
+        mapfile -t COMPREPLY < <(compgen -W 'run eval many check explain selfrun' -- "$word")
         return
     fi
     case $before in
@@ -20,9 +20,10 @@ _cqlpgn() {
     esac
     case $mode:$word in
         selfrun:-*) mapfile -t COMPREPLY < <(compgen -W '--workers --seed --games' -- "$word") ;;
+        many:-*) mapfile -t COMPREPLY < <(compgen -W '--workers --limit' -- "$word") ;;
         run:-* | eval:-*) mapfile -t COMPREPLY < <(compgen -W '--workers --limit --first' -- "$word") ;;
-        run:* | check:* | explain:*)
-            if [ "$COMP_CWORD" = 2 ]; then _cqlpgn_files 'cql|txt' "$word"; elif [ "$mode" = run ]; then _cqlpgn_files pgn "$word"; fi ;;
+        run:* | many:*) if [ "$COMP_CWORD" = 2 ]; then _cqlpgn_files 'cql|txt' "$word"; else _cqlpgn_files pgn "$word"; fi ;;
+        check:* | explain:*) [ "$COMP_CWORD" != 2 ] || _cqlpgn_files 'cql|txt' "$word" ;;
         eval:*) [ "$COMP_CWORD" = 2 ] || _cqlpgn_files pgn "$word" ;;
     esac
 }
@@ -40,6 +41,11 @@ _cqlpgn_over() {
     esac
 }
 
+_cqlpgn_split() {
+    COMPREPLY=()
+    [ "$COMP_CWORD" != 1 ] || mapfile -t COMPREPLY < <(compgen -d -S / -- "${COMP_WORDS[1]}")
+}
+
 _cqlpgn_diagrams() {
     local word=${COMP_WORDS[COMP_CWORD]} before=${COMP_WORDS[COMP_CWORD - 1]}
     COMPREPLY=()
@@ -52,4 +58,5 @@ _cqlpgn_diagrams() {
 
 complete -o filenames -F _cqlpgn cqlpgn
 complete -o filenames -F _cqlpgn_over cqlpgn-over
+complete -o nospace -F _cqlpgn_split cqlpgn-split
 complete -o filenames -F _cqlpgn_diagrams cqlpgn-diagrams

@@ -1,4 +1,4 @@
-# Completion of cqlpgn, cqlpgn-over and cqlpgn-diagrams for fish: the file lies in ~/.config/fish/completions.
+# Completion of cqlpgn, cqlpgn-over, cqlpgn-split and cqlpgn-diagrams for fish: the file lies in ~/.config/fish/completions.
 
 function __cqlpgn_place --description 'is the word before the cursor this one, counted from 1 and without options'
     set -l words (commandline -opc | string match -v -- '-*')
@@ -13,13 +13,14 @@ end
 complete -c cqlpgn -f
 complete -c cqlpgn -n '__cqlpgn_place 1' -a run -d 'answers the query in a file over an archive'
 complete -c cqlpgn -n '__cqlpgn_place 1' -a eval -d 'answers a query that is given as a word over an archive'
+complete -c cqlpgn -n '__cqlpgn_place 1' -a many -d 'answers the queries in a file over one reading of an archive'
 complete -c cqlpgn -n '__cqlpgn_place 1' -a check -d 'says whether the query in a file has a fault, and where'
 complete -c cqlpgn -n '__cqlpgn_place 1' -a explain -d 'writes what the query in a file means without transforms'
 complete -c cqlpgn -n '__cqlpgn_place 1' -a selfrun -d 'answers a query over games that are made'
-complete -c cqlpgn -n '__cqlpgn_mode run check explain; and __cqlpgn_place 2' -a '(__fish_complete_suffix .cql)' -d query
-complete -c cqlpgn -n '__cqlpgn_mode run eval; and __cqlpgn_place 3' -a '(__fish_complete_suffix .pgn)' -d archive
-complete -c cqlpgn -n '__cqlpgn_mode run eval selfrun' -l workers -x -a '1 2 4 8 16 32 64' -d '1 to 64 workers'
-complete -c cqlpgn -n '__cqlpgn_mode run eval' -l limit -x -d 'refuses an archive of more bytes'
+complete -c cqlpgn -n '__cqlpgn_mode run many check explain; and __cqlpgn_place 2' -a '(__fish_complete_suffix .cql)' -d query
+complete -c cqlpgn -n '__cqlpgn_mode run eval many; and __cqlpgn_place 3' -a '(__fish_complete_suffix .pgn)' -d archive
+complete -c cqlpgn -n '__cqlpgn_mode run eval many selfrun' -l workers -x -a '1 2 4 8 16 32 64' -d '1 to 64 workers'
+complete -c cqlpgn -n '__cqlpgn_mode run eval many' -l limit -x -d 'refuses an archive of more bytes'
 complete -c cqlpgn -n '__cqlpgn_mode run eval' -l first -d 'the first game that matches alone'
 complete -c cqlpgn -n '__cqlpgn_mode selfrun' -l seed -x -d 'the seed of the games'
 complete -c cqlpgn -n '__cqlpgn_mode selfrun' -l games -x -d 'how many games'
@@ -30,6 +31,10 @@ complete -c cqlpgn-over -s p -d 'no marks'
 complete -c cqlpgn-over -l workers -x -a '1 2 4 8 16 32 64' -d '1 to 64 workers'
 complete -c cqlpgn-over -l limit -x -d 'refuses an archive of more bytes'
 complete -c cqlpgn-over -l help -d 'explains the words'
+
+complete -c cqlpgn-split -f
+complete -c cqlpgn-split -n '__cqlpgn_place 1' -a '(__fish_complete_directories)' -d 'where the files go'
+complete -c cqlpgn-split -l help -d 'explains the words'
 
 complete -c cqlpgn-diagrams -l tex -d 'a text for LaTeX'
 complete -c cqlpgn-diagrams -l mark -x -d 'the comment of a marked position'

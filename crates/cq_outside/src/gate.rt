@@ -5,8 +5,8 @@ pub trait Gate {
     /// `worker` has drawn the game `shard` of the batch, and has not read it yet.
     fn enter(&self, worker: u64, shard: u64);
 
-    /// `worker` has made the answer of the game `shard`. `text` is its export, empty where the game is
-    /// refused or has no match.
+    /// `worker` has made the answer of the game `shard`. `text` is its export, empty where the game is refused or has no match; of
+    /// several queries it is that of the first.
     fn leave(&self, worker: u64, shard: u64, text: &[u8]);
 }
 

@@ -41,3 +41,7 @@ summary_line games matched refused = counts games matched refused ++ codes "\n"
 abbrev pub made_line : (bytes games matched refused written : ℕ) → List ℕ
 made_line bytes games matched refused written =
     codes "bytes " ++ decimal bytes ++ codes " " ++ counts games matched refused ++ codes " written " ++ decimal written ++ codes "\n"
+
+-- the line over the exports of one of several queries: its number, from 1, and how many bytes they have
+abbrev pub head_line : (query bytes : ℕ) → List ℕ
+head_line query bytes = codes "query " ++ decimal query ++ codes " bytes " ++ decimal bytes ++ codes "\n"

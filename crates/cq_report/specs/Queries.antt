@@ -34,3 +34,8 @@ query_reason_text TooManySquares = codes "too many squares"
 -- the line of a query's fault: its byte, from 0, and the reason
 abbrev pub query_line : QueryFault → List ℕ
 query_line fault = codes "query byte " ++ decimal fault.byte ++ codes ": " ++ query_reason_text fault.reason ++ codes "\n"
+
+-- the same line in a file of queries: the query's number, from 1, its byte within the query, and the reason
+abbrev pub numbered_query_line : ℕ → QueryFault → List ℕ
+numbered_query_line number fault =
+    codes "query " ++ decimal number ++ codes " byte " ++ decimal fault.byte ++ codes ": " ++ query_reason_text fault.reason ++ codes "\n"

@@ -83,6 +83,19 @@ pub fn made_line(
     Ok(line)
 }
 
+/// The line over the exports of one of several queries: its number, from 1, and how many bytes they have.
+pub fn head_line(alloc: Global, query: u64, bytes: u128) -> Result<Bytes, NoMemory>
+    ensures { IfOk result (λ line. line ≡ lines.head_line query bytes) }
+{
+    let mut digits = Buffer::new();
+    let mut line = Bytes::from_slice(alloc, b"query ")?;
+    line.push_all(digits.format(query).as_bytes())?;
+    line.push_all(b" bytes ")?;
+    line.push_all(digits.format(bytes).as_bytes())?;
+    line.push_all(b"\n")?;
+    Ok(line)
+}
+
 // Adds how many games there are, match and are refused.
 fn push_counts(line: &mut Bytes, games: u64, matched: u64, refused: u64) -> Result<(), NoMemory>
     ensures { OnOk result (line.new ≡ line.old ++ lines.counts games matched refused) }

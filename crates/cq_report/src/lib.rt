@@ -5,5 +5,5 @@
 mod games;
 mod queries;
 
-pub use games::{fault_line, made_line, summary_line};
-pub use queries::query_line;
+pub use games::{fault_line, head_line, made_line, summary_line};
+pub use queries::{numbered_query_line, query_line};

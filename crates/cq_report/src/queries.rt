@@ -20,6 +20,25 @@ pub fn query_line(alloc: Global, fault: &QueryFault) -> Result<Bytes, NoMemory>
     Ok(line)
 }
 
+/// The same line in a file of queries: the query's number, from 1, its byte within the query, from 0, and the reason.
+pub fn numbered_query_line(
+    alloc: Global,
+    number: u32,
+    fault: &QueryFault,
+) -> Result<Bytes, NoMemory>
+    ensures { IfOk result (λ line. line ≡ lines.numbered_query_line number fault.now) }
+{
+    let mut digits = Buffer::new();
+    let mut line = Bytes::from_slice(alloc, b"query ")?;
+    line.push_all(digits.format(number).as_bytes())?;
+    line.push_all(b" byte ")?;
+    line.push_all(digits.format(fault.byte).as_bytes())?;
+    line.push_all(b": ")?;
+    push_reason(&mut line, &fault.reason)?;
+    line.push_all(b"\n")?;
+    Ok(line)
+}
+
 // Adds what is said of a query.
 fn push_reason(line: &mut Bytes, reason: &QueryReason) -> Result<(), NoMemory>
     ensures { OnOk result (line.new ≡ line.old ++ lines.query_reason_text reason.now) }

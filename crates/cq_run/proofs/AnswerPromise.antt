@@ -1,5 +1,5 @@
 -- The promise of `answer`, from what its parts answer.
-use Rattle.std.proofs.Common.{◌≡◌, ℕ, ◌+◌, ◌≤◌, List, [], ◌∷◌, ◌++◌, length, length-append, append-nil, Option, Some, None, refl, ap, sym, ◌∙◌, arith, subst, inl, inr}
+use Rattle.std.proofs.Common.{◌≡◌, ℕ, ◌+◌, ◌≤◌, List, [], ◌∷◌, ◌++◌, length, length-append, append-nil, Bool, Option, Some, None, refl, ap, sym, ◌∙◌, arith, subst, inl, inr}
 use Rattle.std.specs.Io.KnownBytes.{Consumes, IsAtEnd}
 use Rattle.cq_outside.specs.Flow.{TakesAtMost}
 use Rattle.cql_syntax.specs.Trees.{QueryTree}
@@ -12,9 +12,10 @@ use Rattle.cq_run.specs.AllGames.{texts_of, texts_so_far}
 use Rattle.cq_shards.specs.Outcomes.{Outcome}
 use Rattle.cq_run.specs.ByBatches.{HaveOutcomes}
 use Rattle.cq_run.specs.Outcomes.{AreRead}
-use Rattle.cq_run.specs.Promise.{SourceView, SinkView, Sinks, Answering, MayBe, TakesTooMuch, Overruns, AnswerPromise, ReadsNoMore, sinks_of}
+use Rattle.cq_run.specs.Promise.{SourceView, SinkView, Sinks, Texts, Wanted, Answering, MayBe, TakesTooMuch, Overruns, AnswerPromise, ReadsNoMore, WritesPrefix, sinks_of}
 use Rattle.cq_run.specs.Sorts.{have_sort}
-use Rattle.cq_run.proofs.GameByGame.{none_found, as_prefix, prefix_grows}
+use Rattle.cq_run.proofs.GameByGame.{prefix_grows}
+use Rattle.cq_run.proofs.Sinks.{unwritten}
 
 -- the games of some spans have outcomes
 pub outcomes_of : HaveOutcomes → (archive : List ℕ) (spans : List Span) → (outcomes : List Outcome) × AreRead archive spans outcomes
@@ -59,21 +60,44 @@ not_too_long limit source after told tells few much =
 abbrev pub answer_call : ℕ → SourceView → SourceView → Sinks → Answering
 answer_call limit source after sinks = record { limit = limit; source = source; source_after = after; sinks = sinks }
 
--- all games of an archive are asked for, so no fewer suffice
-pub needs_all : (query : QueryTree) (limit : ℕ) (source after : SourceView) (sinks : Sinks) → TakesAtMost (limit + 1) source.left after.left
-    → ReadsNoMore (texts_of query) (answer_call limit source after sinks)
-needs_all query limit source after sinks some = record { front = some.bytes; takes = some.takes; needed = λ enough. enough.early }
+-- What is asked for of all games of an archive, so that no fewer suffice: what is written of some of them before more are read is a prefix
+-- of what is written of more.
+pub record Asked : Type 1 where
+  pub wanted : Wanted
+  pub so_far : List Outcome → Texts
+  pub reading : (rs : List Outcome) → wanted.reading rs (so_far rs)
+  pub faulted : (rs : List Outcome) → wanted.faulted rs (so_far rs)
+  pub never : (rs : List Outcome) (refused : ℕ) (texts : Texts) → wanted.early rs refused texts → ⊥
+  pub grows : (rs qs : List Outcome) (sinks : Sinks) → WritesPrefix sinks (so_far rs) → WritesPrefix sinks (so_far (rs ++ qs))
+
+-- what one query asks for
+abbrev pub asked_of : (sorted : Bool) (query : QueryTree) → have_sort query.items ≡ sorted → Asked
+asked_of sorted query sorts = record {
+  wanted = texts_of query;
+  so_far = texts_so_far sorted query;
+  reading = λ rs. ap (λ s. texts_so_far s query rs) (sym sorts);
+  faulted = λ rs. ap (λ s. texts_so_far s query rs) (sym sorts);
+  never = λ rs refused texts enough. enough;
+  grows = prefix_grows sorted query;
+}
+
+pub needs_all : (asked : Asked) (limit : ℕ) (source after : SourceView) (sinks : Sinks) → TakesAtMost (limit + 1) source.left after.left
+    → ReadsNoMore asked.wanted (answer_call limit source after sinks)
+needs_all asked limit source after sinks some = record {
+  front = some.bytes;
+  takes = some.takes;
+  needed = λ enough. asked.never enough.outcomes enough.refused enough.texts enough.early;
+}
 
 -- no memory before anything was read
 pub none_taken : (limit : ℕ) (source : SourceView) → TakesAtMost (limit + 1) source.left source.left
 none_taken limit source = record { bytes = []; takes = consumes_none source.left; few = omega arith }
 
-pub none_answered : HaveOutcomes → (q : QueryTree) (limit : ℕ) (source : SourceView) (out err : SinkView)
-    → AnswerPromise (texts_of q) NoMemory (answer_call limit source source (sinks_of out out err err))
-none_answered have q limit source out err =
+pub none_answered : HaveOutcomes → (asked : Asked) (limit : ℕ) (source : SourceView) (out err : SinkView)
+    → AnswerPromise asked.wanted NoMemory (answer_call limit source source (sinks_of out out err err))
+none_answered have asked limit source out err =
     let sinks = sinks_of out out err err in
     let rest = outcomes_of have [] (closed []) in
-    let some = none_found (have_sort q.items) q out err in
     record {
       says = (
         inl (record {
@@ -83,15 +107,15 @@ none_answered have q limit source out err =
           few = omega arith;
           are_read = rest.1;
           holds = record {
-            texts = texts_so_far (have_sort q.items) q rest.0;
-            are = refl;
-            writes = prefix_grows (have_sort q.items) q [] rest.0 sinks (as_prefix sinks (texts_so_far (have_sort q.items) q []) some.writes);
+            texts = asked.so_far rest.0;
+            are = asked.reading rest.0;
+            writes = record { out_count = 0; err_count = 0; out = unwritten out.taken; err = unwritten err.taken };
           };
         }),
         record { source = refl; sinks = record { out = refl; err = refl } },
       );
       takes = none_taken limit source;
-      reads_no_more = needs_all q limit source source sinks (none_taken limit source);
+      reads_no_more = needs_all asked limit source source sinks (none_taken limit source);
       too_long_always = λ _. inl (inr (inr (inl refl)));
       complete = λ _. inr (inr (inl refl));
     }

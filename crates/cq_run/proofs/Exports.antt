@@ -168,10 +168,14 @@ all_matches query (a ∷ xs) all =
 apart : (xs : List GameAnswer) → AllPairs IsEarlier xs → AreApart xs
 apart xs pairs = λ i j d before below same. let less = pairs i j d before below in omega (arith, less, same)
 
+pub sorted_same : (query : QueryTree) (outcomes : List Outcome) (ordered : List GameAnswer) → InOrder query (matches_from query 0 outcomes) ordered
+    → IsPermutation (matches_from query 0 outcomes) ordered
+sorted_same query outcomes ordered order = subst (λ xs. IsPermutation xs ordered) (all_matches query (matches_from query 0 outcomes) (all_of_games query 0 outcomes)) order.same
+
 pub sorted_exports : (query : QueryTree) (outcomes : List Outcome) (ordered : List GameAnswer) → InOrder query (matches_from query 0 outcomes) ordered → AreExports query outcomes (exports_of ordered)
 sorted_exports query outcomes ordered order = record {
   sorted = ordered;
-  same = subst (λ xs. IsPermutation xs ordered) (all_matches query (matches_from query 0 outcomes) (all_of_games query 0 outcomes)) order.same;
+  same = sorted_same query outcomes ordered order;
   order = order.order (apart (matches_from query 0 outcomes) (in_archive_order query 0 outcomes))
       (λ i d below found. (all_of_games query 0 outcomes i d below).keyed);
   is = refl;

@@ -22,12 +22,13 @@ use Rattle.cq_run.specs.AllGames.{texts_so_far}
 use Rattle.cq_run.specs.ByBatches.{Laws}
 use Rattle.cq_run.specs.FirstGame.{first_texts, some_match, up_to_first, wanted}
 use Rattle.cq_run.specs.Promise.{SourceView, SinkView, Sinks, AnswerPromise, Writes, WritesPrefix, NoWriteFailed, OneSinkFailed, sinks_of}
+use Rattle.cq_run.specs.Sorts.{have_sort}
 use Rattle.cq_run.specs.Writing.{FoundSoFar, Stand, WritesSummary, stand_of}
 use Rattle.cq_run.specs.declared.status.Status.{Status}
 use Rattle.cq_run.specs.declared.status.Status.TheVariants.{ReadFault, WriteFault, NoMemory, ArchiveTooLong}
 use Rattle.cq_shards.proofs.Filling.{consumes_none}
 use Rattle.cq_shards.proofs.Streams.{count_within}
-use Rattle.cq_run.proofs.AnswerPromise.{answer_call, none_answered as all_unanswered, none_taken, outcomes_of}
+use Rattle.cq_run.proofs.AnswerPromise.{answer_call, asked_of, none_answered as all_unanswered, none_taken, outcomes_of}
 use Rattle.cq_run.proofs.GameByGame.{answers_count, as_prefix, none_found, tally_with}
 use Rattle.cq_run.proofs.FirstGames.{UpTo, all_up, are_first, first_texts_of, none_counted, some_counted, some_of_first, up_few, up_on, up_to}
 use Rattle.cq_run.proofs.Given.{count_read, full_each, given, given_few, kept_read_on}
@@ -336,4 +337,4 @@ none_answered laws query limit source out err =
 pub unanswered : Laws → (first : Bool) (query : QueryTree) (limit : ℕ) (source : SourceView) (out err : SinkView)
     → AnswerPromise (wanted first query) NoMemory (answer_call limit source source (sinks_of out out err err))
 unanswered laws true query limit source out err = none_answered laws query limit source out err
-unanswered laws false query limit source out err = all_unanswered laws.have query limit source out err
+unanswered laws false query limit source out err = all_unanswered laws.have (asked_of (have_sort query.items) query refl) limit source out err

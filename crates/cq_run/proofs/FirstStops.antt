@@ -24,7 +24,7 @@ use Rattle.cq_run.proofs.AnswerPromise.{answer_call, may_be, not_overrun, not_to
 use Rattle.cq_run.proofs.FirstGames.{all_up, are_first, first_is, first_texts_of, some_grows, texts_same, no_first}
 use Rattle.cq_run.proofs.Given.{full_rises, given, given_full, reads_archive, whole_are}
 use Rattle.cq_run.proofs.Reached.{Known, Place, ReadsAll, takes_some}
-use Rattle.cq_run.proofs.Rounds.{finds_all, takes_all}
+use Rattle.cq_run.proofs.AllRounds.{finds_all, takes_all}
 use Rattle.cq_run.proofs.Sinks.{some_failed}
 use Rattle.cq_run.proofs.FirstTexts.{not_enough, Before, no_more, refused_of, FirstWritten, written_more, ReadOn, on_cut, on_whole, on_closed}
 
@@ -57,24 +57,24 @@ pub first_read : Laws → (status : Status) (query : QueryTree) (call : Answerin
     → Before query call.source call.source_after → FirstWritten (refused_of query rs) (first_texts_of query rs) call.sinks status → AnswerPromise (first_texts query) status call
 first_read laws Done query call archive rs all before writes =
     first_promised laws Done query call archive rs all before (
-      inl (finds_all query call archive rs _ all (all_taken query rs call.sinks (λ n. n ≡ 0) writes.0 writes.1)),
+      inl (finds_all call archive rs _ all (all_taken query rs call.sinks (λ n. n ≡ 0) writes.0 writes.1)),
       record { source = all.counts; sinks = writes.2 },
     ) (λ _. inl refl)
 first_read laws DoneWithRefusals query call archive rs all before writes =
     first_promised laws DoneWithRefusals query call archive rs all before (
-      inl (finds_all query call archive rs _ all (all_taken query rs call.sinks (λ n. 0 < n) writes.0 writes.1)),
+      inl (finds_all call archive rs _ all (all_taken query rs call.sinks (λ n. 0 < n) writes.0 writes.1)),
       record { source = all.counts; sinks = writes.2 },
     ) (λ _. inr (inl refl))
 first_read laws WriteFault query call archive rs all before writes =
     first_promised laws WriteFault query call archive rs all before (
       writes.1,
       all.counts,
-      inr (finds_all query call archive rs _ all (part_taken query rs call.sinks writes.0)),
+      inr (finds_all call archive rs _ all (part_taken query rs call.sinks writes.0)),
     )
     (λ every. absurd (every.no_write (some_failed call.sinks writes.1)))
 first_read laws NoMemory query call archive rs all before writes =
     first_promised laws NoMemory query call archive rs all before (
-      inr (finds_all query call archive rs _ all (part_taken query rs call.sinks writes.0)),
+      inr (finds_all call archive rs _ all (part_taken query rs call.sinks writes.0)),
       record { source = all.counts; sinks = writes.1 },
     ) (λ _. inr (inr (inl refl)))
 first_read laws QueryRefused query call archive rs all before writes = absurd writes

@@ -27,8 +27,8 @@ use Rattle.cq_shards.specs.Answers.{has_match}
 use Rattle.cq_run.specs.Answer.{tally_of, report_of, export_if, fault_if, fault_lines, is_match, is_refused, summary_of}
 use Rattle.cq_run.specs.Exports.{AreExports, exports_of, match_if, matches_from}
 use Rattle.cq_shards.specs.Order.{values_in}
-use Rattle.cq_run.specs.Promise.{SinkView, Sinks, Texts, Writes, WritesPrefix, WritesAll, WritesPart, Unfinished, IsUnwritten, NoWriteFailed, OneSinkFailed, sinks_of}
-use Rattle.cq_run.specs.Writing.{WritesText, WritesKept, InOrder, AnswersGame, FoundSoFar, WritesAnswer, WritesSummary, Stand, stand_of, onward, tallied, kept_if, kept_from, texts_of_game}
+use Rattle.cq_run.specs.Promise.{SinkView, Sinks, Texts, Wanted, Writes, WritesPrefix, WritesAll, WritesPart, Unfinished, IsUnwritten, NoWriteFailed, OneSinkFailed, sinks_of}
+use Rattle.cq_run.specs.Writing.{WritesText, WritesKept, InOrder, AnswersGame, FoundSoFar, WritesAnswer, WritesLast, Stand, stand_of, onward, tallied, kept_if, kept_from, texts_of_game}
 use Rattle.cq_run.proofs.Exports.{matches_more, written_none, unsorted_exports, sorted_exports, none_ordered}
 use Rattle.cq_run.proofs.Sinks.{unwritten, wrote_none, grew_on, Took, took_count, took_on, took_front, prefix_of, Moments, until_now, from_now, in_all, with_out, with_err, then_out, then_err, fails_after, none_after}
 
@@ -44,7 +44,7 @@ fault_lines_from : (n : ℕ) (r : Outcome) (rs : List Outcome) → fault_lines n
 unfolding fault_lines
 fault_lines_from n r rs = refl
 
-no_fault_lines : (n : ℕ) → fault_lines n [] ≡ []
+pub no_fault_lines : (n : ℕ) → fault_lines n [] ≡ []
 unfolding fault_lines
 no_fault_lines n = refl
 
@@ -57,7 +57,7 @@ same_tally games games' matched matched' refused refused' g m r = cc
 
 -- the same texts and games kept, by cases on whether the query has a sort item
 
-same_stand : (t u : Tally) (ks ls : List GameAnswer) → t ≡ u → ks ≡ ls → stand_of t ks ≡ stand_of u ls
+pub same_stand : (t u : Tally) (ks ls : List GameAnswer) → t ≡ u → ks ≡ ls → stand_of t ks ≡ stand_of u ls
 same_stand t u ks ls e f = cc
 
 all_written : (query : QueryTree) (game : Game) → has_match query game ≡ true → written false query (Ok game) ≡ export_text (marked query game)
@@ -389,7 +389,7 @@ exports_whole false query outcomes answers ordered sorts are order =
 
 -- no memory to put the games in order, or a write of them that failed
 pub unordered : (sorted : Bool) (query : QueryTree) (rs : List Outcome) (sinks : Sinks) (out : SinkView) (stand : Stand) → have_sort query.items ≡ sorted
-    → FoundSoFar sorted query rs sinks stand → out ≡ sinks.out_after → WritesAnswer query rs (with_out sinks out) NoMemory
+    → FoundSoFar sorted query rs sinks stand → out ≡ sinks.out_after → WritesAnswer (texts_of query) rs (with_out sinks out) NoMemory
 unordered sorted query rs sinks out stand sorts found same =
     let at = then_out sinks out in
     let unmoved : IsUnwritten (from_now at) = record { out = same; err = refl } in (
@@ -407,7 +407,7 @@ are_answers query rs exports are = record { exports = are; report = refl; count 
 
 pub unkept : (sorted : Bool) (query : QueryTree) (rs : List Outcome) (sinks : Sinks) (out : SinkView) (stand : Stand) (failed : Failed)
     → have_sort query.items ≡ sorted → FoundSoFar sorted query rs sinks stand
-    → WritesKept query stand.kept sinks.out_after out (Err (Fault failed)) → WritesAnswer query rs (with_out sinks out) WriteFault
+    → WritesKept query stand.kept sinks.out_after out (Err (Fault failed)) → WritesAnswer (texts_of query) rs (with_out sinks out) WriteFault
 unkept sorted query rs sinks out stand failed sorts found (ordered, order, part, rose) =
     let exports = flat_map (written sorted query) rs ++ exports_of ordered in
     let texts : Texts = record { out = exports; err = report_of query rs } in
@@ -424,85 +424,85 @@ unkept sorted query rs sinks out stand failed sorts found (ordered, order, part,
       fails_after (then_out sinks out) found.unfailed (inl (rose, refl)),
     )
 
--- all exports were written
-pub record FoundAll (query : QueryTree) (outcomes : List Outcome) (sinks : Sinks) (tally : Tally) : Type 0 where
-  pub is : tally ≡ tally_of query outcomes
+-- all but the last text of the report was written; with it so many games are refused, and these are the texts of all of them
+pub record AllButLast (wanted : Wanted) (outcomes : List Outcome) (sinks : Sinks) (refused : ℕ) (last : List ℕ) : Type 0 where
   pub exports : List ℕ
-  pub are : AreExports query outcomes exports
+  pub report : List ℕ
+  pub are : wanted.ended outcomes refused (record { out = exports; err = report ++ last })
   pub out : Grew sinks.out.taken sinks.out_after.taken exports
-  pub err : Grew sinks.err.taken sinks.err_after.taken (fault_lines 1 outcomes)
+  pub err : Grew sinks.err.taken sinks.err_after.taken report
   pub unfailed : NoWriteFailed sinks
 
+-- all exports were written
 pub ordered_all : (sorted : Bool) (query : QueryTree) (rs : List Outcome) (sinks : Sinks) (out : SinkView) (stand : Stand) → have_sort query.items ≡ sorted
     → FoundSoFar sorted query rs sinks stand → WritesKept query stand.kept sinks.out_after out (Ok tt)
-    → FoundAll query rs (with_out sinks out) stand.tally
-ordered_all sorted query rs sinks out stand sorts found (ordered, order, grew, same) = record {
-  is = ap (λ (t : Stand). t.tally) found.is;
-  exports = flat_map (written sorted query) rs ++ exports_of ordered;
-  are = exports_whole sorted query rs stand.kept ordered sorts (ap (λ (t : Stand). t.kept) found.is) order;
-  out = grew_on sinks.out.taken sinks.out_after.taken out.taken (flat_map (written sorted query) rs) (exports_of ordered) found.writes.out grew;
-  err = found.writes.err;
-  unfailed = record { out = same ∙ found.unfailed.out; err = found.unfailed.err };
-}
+    → AllButLast (texts_of query) rs (with_out sinks out) stand.tally.refused (summary_of stand.tally)
+ordered_all sorted query rs sinks out stand sorts found (ordered, order, grew, same) =
+    let exports = flat_map (written sorted query) rs ++ exports_of ordered in
+    let are = exports_whole sorted query rs stand.kept ordered sorts (ap (λ (t : Stand). t.kept) found.is) order in
+    record {
+      exports = exports;
+      report = fault_lines 1 rs;
+      are = subst (λ (t : Stand). AreAnswers query rs t.tally.refused (record { out = exports; err = fault_lines 1 rs ++ summary_of t.tally })) (sym found.is)
+          (are_answers query rs exports are);
+      out = grew_on sinks.out.taken sinks.out_after.taken out.taken (flat_map (written sorted query) rs) (exports_of ordered) found.writes.out grew;
+      err = found.writes.err;
+      unfailed = record { out = same ∙ found.unfailed.out; err = found.unfailed.err };
+    }
 
--- the last line was written
-finished : (query : QueryTree) (rs : List Outcome) (sinks : Sinks) (err : SinkView) (tally : Tally) (AreRefused : ℕ → Type 0)
-    → (found : FoundAll query rs sinks tally) → AreRefused tally.refused → Grew sinks.err_after.taken err.taken (summary_of tally)
-    → WritesAll (AreAnswers query rs) AreRefused (with_err sinks err)
-finished query rs sinks err tally AreRefused found refused_ grew = record {
-  refused = (tally_of query rs).refused;
-  is = subst (λ (t : Tally). AreRefused t.refused) found.is refused_;
+-- the last text was written
+finished : (wanted : Wanted) (rs : List Outcome) (sinks : Sinks) (err : SinkView) (refused : ℕ) (last : List ℕ) (AreRefused : ℕ → Type 0)
+    → AllButLast wanted rs sinks refused last → AreRefused refused → Grew sinks.err_after.taken err.taken last
+    → WritesAll (wanted.ended rs) AreRefused (with_err sinks err)
+finished wanted rs sinks err refused last AreRefused found is grew = record {
+  refused = refused;
+  is = is;
   writes = record {
-    texts = record { out = found.exports; err = report_of query rs };
-    are = are_answers query rs found.exports found.are;
+    texts = record { out = found.exports; err = found.report ++ last };
+    are = found.are;
     writes = record {
       out = found.out;
-      err = subst (λ t. Grew sinks.err.taken err.taken (fault_lines 1 rs ++ summary_of t)) found.is
-          (grew_on sinks.err.taken sinks.err_after.taken err.taken (fault_lines 1 rs) (summary_of tally) found.err grew);
+      err = grew_on sinks.err.taken sinks.err_after.taken err.taken found.report last found.err grew;
     };
   };
 }
 
--- the last line could not be written, or only a part of it
-unfinished : (query : QueryTree) (rs : List Outcome) (sinks : Sinks) (err : SinkView) (tally : Tally) (count : ℕ) → (found : FoundAll query rs sinks tally)
-    → Grew sinks.err_after.taken err.taken (take count (summary_of tally)) → WritesPart (Unfinished (texts_of query) rs) (with_err sinks err)
-unfinished query rs sinks err tally count found grew =
-    let last = summary_of (tally_of query rs) in
-    let part : Grew sinks.err_after.taken err.taken (take count last) =
-    subst (λ t. Grew sinks.err_after.taken err.taken (take count (summary_of t))) found.is grew in
-    let texts : Texts = record { out = found.exports; err = report_of query rs } in
+-- it could not be written, or only a part of it
+unfinished : (wanted : Wanted) (rs : List Outcome) (sinks : Sinks) (err : SinkView) (refused : ℕ) (last : List ℕ) (count : ℕ) → AllButLast wanted rs sinks refused last
+    → Grew sinks.err_after.taken err.taken (take count last) → WritesPart (Unfinished wanted rs) (with_err sinks err)
+unfinished wanted rs sinks err refused last count found grew =
+    let texts : Texts = record { out = found.exports; err = found.report ++ last } in
     record {
       texts = texts;
-      are = inr ((tally_of query rs).refused, are_answers query rs found.exports found.are);
+      are = inr (refused, found.are);
       writes = both_prefix (with_err sinks err) texts (record {
         out = subst (Took sinks.out.taken sinks.out_after.taken) (append-nil found.exports)
             (took_front sinks.out.taken sinks.out_after.taken found.exports [] found.out);
-        err = part_more sinks.err.taken sinks.err_after.taken err.taken (fault_lines 1 rs) last count found.err part;
+        err = part_more sinks.err.taken sinks.err_after.taken err.taken found.report last count found.err grew;
       });
     }
 
--- all exports were written, and the last line was written or could not be
-pub ended : (status : Status) (query : QueryTree) (rs : List Outcome) (sinks : Sinks) (err : SinkView) (tally : Tally) → FoundAll query rs sinks tally
-    → WritesSummary tally sinks.err_after err status → WritesAnswer query rs (with_err sinks err) status
-ended Done query rs sinks err tally found writes = (
-  finished query rs sinks err tally (λ n. n ≡ 0) found writes.0 writes.1,
+pub ended : (status : Status) (wanted : Wanted) (rs : List Outcome) (sinks : Sinks) (err : SinkView) (refused : ℕ) (last : List ℕ) → AllButLast wanted rs sinks refused last
+    → WritesLast last refused sinks.err_after err status → WritesAnswer wanted rs (with_err sinks err) status
+ended Done wanted rs sinks err refused last found writes = (
+  finished wanted rs sinks err refused last (λ n. n ≡ 0) found writes.0 writes.1,
   record { out = found.unfailed.out; err = writes.2 ∙ found.unfailed.err },
 )
-ended DoneWithRefusals query rs sinks err tally found writes = (
-  finished query rs sinks err tally (λ n. 0 < n) found writes.0 writes.1,
+ended DoneWithRefusals wanted rs sinks err refused last found writes = (
+  finished wanted rs sinks err refused last (λ n. 0 < n) found writes.0 writes.1,
   record { out = found.unfailed.out; err = writes.2 ∙ found.unfailed.err },
 )
-ended WriteFault query rs sinks err tally found writes = (
-  unfinished query rs sinks err tally writes.0.0 found writes.0.1,
+ended WriteFault wanted rs sinks err refused last found writes = (
+  unfinished wanted rs sinks err refused last writes.0.0 found writes.0.1,
   fails_after (then_err sinks err) found.unfailed (inr (writes.1, refl)),
 )
-ended NoMemory query rs sinks err tally found writes = (
-  unfinished query rs sinks err tally 0 found
+ended NoMemory wanted rs sinks err refused last found writes = (
+  unfinished wanted rs sinks err refused last 0 found
       (subst (λ (s : SinkView). Grew sinks.err_after.taken s.taken []) (sym writes) (unwritten sinks.err_after.taken)),
   record { out = found.unfailed.out; err = ap (λ (s : SinkView). s.faults) writes ∙ found.unfailed.err },
 )
-ended QueryRefused query rs sinks err tally found writes = absurd writes
-ended WordsRefused query rs sinks err tally found writes = absurd writes
-ended OpenFault query rs sinks err tally found writes = absurd writes
-ended ReadFault query rs sinks err tally found writes = absurd writes
-ended ArchiveTooLong query rs sinks err tally found writes = absurd writes
+ended QueryRefused wanted rs sinks err refused last found writes = absurd writes
+ended WordsRefused wanted rs sinks err refused last found writes = absurd writes
+ended OpenFault wanted rs sinks err refused last found writes = absurd writes
+ended ReadFault wanted rs sinks err refused last found writes = absurd writes
+ended ArchiveTooLong wanted rs sinks err refused last found writes = absurd writes

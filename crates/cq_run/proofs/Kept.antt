@@ -1,22 +1,28 @@
 -- Writing the games that were kept.
-use Rattle.std.proofs.Common.{◌≡◌, ℕ, ◌+◌, ◌<◌, List, [], ◌∷◌, ◌++◌, length, take, drop, get_or, filter, All, AllPairs, append-nil, Option, ap, sym, ◌∙◌, subst}
+use Rattle.std.proofs.Common.{◌≡◌, ℕ, ◌+◌, ◌<◌, List, [], ◌∷◌, ◌++◌, length, take, drop, get_or, filter, All, AllPairs, append-nil, Option, Ok, Err, ap, sym, ◌∙◌, subst}
+use Rattle.std.specs.Prelude.{Result}
 use Rattle.std.specs.List.Sorted.{IsPermutation}
 use Rattle.std.proofs.lemmas.Grind.{flat_map-append}
 use Rattle.std.proofs.lemmas.List.{take_more, drop_more, take-append-drop}
 use Rattle.cq_outside.specs.Flow.{Grew}
+use Rattle.cq_outside.specs.declared.faults.Failed.{Failed}
+use Rattle.cq_outside.specs.declared.faults.Refusal.{Refusal}
+use Rattle.cq_outside.specs.declared.faults.Refusal.TheVariants.{Fault, NoMemory as IsNoMemory}
 use Rattle.cq_shards.specs.Order.{AreApart, ComesBefore, HasKeys, directions, is_match}
 use Rattle.cq_shards.specs.declared.answers.GameAnswer.{GameAnswer}
 use Rattle.cql_syntax.specs.TreeOf.{query_tree}
+use Rattle.cql_syntax.specs.Trees.{QueryTree}
 use Rattle.cql_syntax.specs.declared.typed.TypedQuery.{TypedQuery}
 use Rattle.cq_run.specs.Exports.{exports_of}
 use Rattle.cq_shards.specs.Answers.{text_of}
-use Rattle.cq_run.specs.Writing.{InOrder}
+use Rattle.cq_run.specs.Promise.{SinkView}
+use Rattle.cq_run.specs.Writing.{InOrder, WritesKept, WritesText}
 use Rattle.cq_run.proofs.Sinks.{grew_on, Took, took_count, took_on, prefix_of}
 
 text_in : GameAnswer → List ℕ
 text_in a = text_of a.what
 
-exports_more : (xs : List GameAnswer) (i : ℕ) (a : GameAnswer) → i < length xs → a ≡ get_or xs i a → exports_of (take (i + 1) xs) ≡ exports_of (take i xs) ++ text_of a.what
+pub exports_more : (xs : List GameAnswer) (i : ℕ) (a : GameAnswer) → i < length xs → a ≡ get_or xs i a → exports_of (take (i + 1) xs) ≡ exports_of (take i xs) ++ text_of a.what
 exports_more xs i a inside is =
     ap exports_of (take_more xs i a inside) ∙ ap (λ x. exports_of (take i xs ++ x ∷ [])) (sym is)
     ∙ flat_map-append (λ (x : GameAnswer). text_of x.what) (take i xs) (a ∷ []) ∙ ap (λ l. exports_of (take i xs) ++ l) (append-nil (text_of a.what))
@@ -26,6 +32,13 @@ pub in_order : (answers ordered : List GameAnswer) (given held : TypedQuery) →
     → (AreApart answers → All (HasKeys (directions (query_tree given.query).items)) answers
     → AllPairs (ComesBefore (directions (query_tree given.query).items)) ordered) → InOrder (query_tree held.query) answers ordered
 in_order answers ordered given held e same order = subst (λ (t : TypedQuery). InOrder (query_tree t.query) answers ordered) e (record { same = same; order = order })
+
+-- and their exports are written
+pub kept_written : (query : QueryTree) (answers ordered : List GameAnswer) (before after : SinkView) (result : Result (Unit {0}) (Refusal Failed))
+    → InOrder query answers ordered → WritesText (exports_of ordered) before after result → WritesKept query answers before after result
+kept_written query answers ordered before after (Ok _) order writes = (ordered, order, writes.0, writes.1)
+kept_written query answers ordered before after (Err (Fault _)) order writes = (ordered, order, writes.0, writes.1)
+kept_written query answers ordered before after (Err IsNoMemory) order none = absurd none
 
 -- a kept game at its place, and its export
 pub record IsAt (xs : List GameAnswer) (i : ℕ) (a : GameAnswer) (text : List ℕ) : Type 0 where

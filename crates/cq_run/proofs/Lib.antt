@@ -9,11 +9,20 @@ mod Given
 mod AnswerPromise
 mod OneOutcome
 mod Reached
+mod AllRounds
 mod Rounds
 mod Sorted
+mod Rows
+mod ManyRounds
+mod ManyEnds
 mod FirstGames
 mod FirstTexts
 mod FirstStops
 mod FirstRounds
+mod Pieces
+mod PiecesRead
+mod QueryFiles
+mod RunFaults
 mod RunPromise
 pub mod EveryText
+mod FileLaws

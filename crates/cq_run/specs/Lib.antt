@@ -1,5 +1,6 @@
 pub mod Status
 pub mod Queries
+pub mod QueryFiles
 pub mod Outcomes
 pub mod Answer
 pub mod Sorts
@@ -8,7 +9,9 @@ pub mod ByBatches
 pub mod Promise
 pub mod AllGames
 pub mod FirstGame
+pub mod ManyQueries
 pub mod Writing
+pub mod ManyWriting
 pub mod SelfRun
 pub mod Run
 pub mod QueryReading

@@ -1,38 +1,90 @@
--- Reading a query, from a word or a file, and saying why there is none, as the private functions do.
+-- Reading a query or several, from a word or a file, and saying why there are none, as the private functions do.
 use Rattle.std.specs.Prelude.{◌≡◌, List, ℕ, Result, Ok, Err}
+use Rattle.std.specs.List.{AllZip}
 use Rattle.cq_outside.specs.declared.faults.Refusal.{Refusal}
 use Rattle.cq_outside.specs.declared.faults.Refusal.TheVariants.{Fault, NoMemory as IsNoMemory}
+use Rattle.cq_words.specs.declared.job.Job.{Job}
+use Rattle.cq_words.specs.declared.job.Job.TheVariants.{Run, Eval}
 use Rattle.cql_syntax.specs.TreeOf.{query_tree}
+use Rattle.cql_syntax.specs.Trees.{QueryTree}
 use Rattle.cql_syntax.specs.declared.fault.QueryFault.{QueryFault}
 use Rattle.cql_syntax.specs.declared.typed.TypedQuery.{TypedQuery}
-use Rattle.cq_run.specs.declared.queries.QueryRefusal.{QueryRefusal}
-use Rattle.cq_run.specs.declared.queries.QueryRefusal.TheVariants.{Faulty, Unopened, Unread, OutOfMemory}
+use Rattle.cq_run.specs.declared.queries.FileRefusal.{FileRefusal}
+use Rattle.cq_run.specs.declared.queries.FileRefusal.TheVariants.{Faulty, Unopened, Unread, OutOfMemory}
+use Rattle.cq_run.specs.declared.query_files.ManyFault.{ManyFault}
+use Rattle.cq_run.specs.declared.query_files.ManyFault.TheVariants.{Faulty as IsFaulty}
 use Rattle.cq_run.specs.declared.status.Status.{Status}
 use Rattle.cq_run.specs.declared.status.Status.TheVariants.{OpenFault, ReadFault, NoMemory}
 use Rattle.cq_run.specs.Queries.{IsQuery, IsQueryFault}
+use Rattle.cq_run.specs.QueryFiles.{IsFirstFault}
 use Rattle.cq_run.specs.Promise.{Sinks, DeskView, IsUnwritten}
-use Rattle.cq_run.specs.Run.{Call, RefusesQuery, TakesQuery, FailsToOpen, FailsToRead, LacksMemory}
+use Rattle.cq_run.specs.Run.{Call, Reading, a_query, RefusesQuery, TakesQuery, FailsToOpen, FailsToRead, LacksMemory}
 
--- reading a query: the text is this query, or has this fault
+-- reading a text: it is accepted as what is shown, or has this fault
+abbrev pub ReadsText : {Q F T : Type 0} → Reading Q F → (T → Q) → List ℕ → Result T (Refusal F) → Type 0
+ReadsText reading shown text (Ok found) = reading.Is text (shown found)
+ReadsText reading shown text (Err (Fault fault)) = reading.Has text fault
+ReadsText reading shown text (Err IsNoMemory) = Unit {0}
+
+-- taking the text of a file
+abbrev pub TakesText : {F : Type 0} → ℕ → List ℕ → DeskView → DeskView → Result (List ℕ) (FileRefusal F) → Type 0
+TakesText most name desk after (Ok text) = TakesQuery most name desk after text
+TakesText most name desk after (Err (Faulty fault)) = ⊥
+TakesText most name desk after (Err Unopened) = FailsToOpen desk after
+TakesText most name desk after (Err Unread) = FailsToRead most name desk after
+TakesText most name desk after (Err OutOfMemory) = LacksMemory most name desk after
+
+-- why nothing is accepted of a file: what is taken of it has this fault, or nothing is taken
+abbrev pub RefusesFile : {Q F : Type 0} → Reading Q F → List ℕ → DeskView → DeskView → FileRefusal F → Type 0
+RefusesFile reading name desk after (Faulty fault) =
+    (text : List ℕ) × TakesQuery reading.most name desk after text × reading.Has text fault
+RefusesFile reading name desk after Unopened = FailsToOpen desk after
+RefusesFile reading name desk after Unread = FailsToRead reading.most name desk after
+RefusesFile reading name desk after OutOfMemory = LacksMemory reading.most name desk after
+
+-- reading a file: what is taken of it is accepted as what is shown
+abbrev pub ReadsFile : {Q F T : Type 0} → Reading Q F → (T → Q) → List ℕ → DeskView → DeskView → Result T (FileRefusal F)
+    → Type 0
+ReadsFile reading shown name desk after (Ok found) =
+    (text : List ℕ) × TakesQuery reading.most name desk after text × reading.Is text (shown found)
+ReadsFile reading shown name desk after (Err why) = RefusesFile reading name desk after why
+
+-- saying why what is in a file is not answered
+abbrev pub TellsWhy : {Q F : Type 0} → Reading Q F → FileRefusal F → Status → Sinks → Type 0
+TellsWhy reading (Faulty fault) status sinks = RefusesQuery (reading.line fault) status sinks
+TellsWhy reading Unopened status sinks = (status ≡ OpenFault) × IsUnwritten sinks
+TellsWhy reading Unread status sinks = (status ≡ ReadFault) × IsUnwritten sinks
+TellsWhy reading OutOfMemory status sinks = (status ≡ NoMemory) × IsUnwritten sinks
+
+-- the query that a text is
 abbrev pub ReadsQuery : List ℕ → Result TypedQuery (Refusal QueryFault) → Type 0
-ReadsQuery text (Ok typed) = IsQuery text (query_tree typed.query)
-ReadsQuery text (Err (Fault fault)) = IsQueryFault text fault
-ReadsQuery text (Err IsNoMemory) = Unit {0}
+ReadsQuery text result = ReadsText a_query (λ typed. query_tree typed.query) text result
 
--- reading the query in a file: what is taken of the file is this query, or has this fault
-abbrev pub ReadsFile : List ℕ → DeskView → DeskView → Result TypedQuery QueryRefusal → Type 0
-ReadsFile name desk after (Ok typed) = (text : List ℕ) × TakesQuery name desk after text × IsQuery text (query_tree typed.query)
-ReadsFile name desk after (Err (Faulty fault)) = (text : List ℕ) × TakesQuery name desk after text × IsQueryFault text fault
-ReadsFile name desk after (Err Unopened) = FailsToOpen desk after
-ReadsFile name desk after (Err Unread) = FailsToRead name desk after
-ReadsFile name desk after (Err OutOfMemory) = LacksMemory name desk after
+-- ---- a file of queries
 
--- saying why the query in a file is not answered
-abbrev pub TellsWhy : QueryRefusal → Status → Sinks → Type 0
-TellsWhy (Faulty fault) status sinks = RefusesQuery fault status sinks
-TellsWhy Unopened status sinks = (status ≡ OpenFault) × IsUnwritten sinks
-TellsWhy Unread status sinks = (status ≡ ReadFault) × IsUnwritten sinks
-TellsWhy OutOfMemory status sinks = (status ≡ NoMemory) × IsUnwritten sinks
+-- the query that the piece of this number is
+abbrev pub ReadsPiece : ℕ → List ℕ → Result TypedQuery (Refusal ManyFault) → Type 0
+ReadsPiece number piece (Ok typed) = IsQuery piece (query_tree typed.query)
+ReadsPiece number piece (Err (Fault (IsFaulty found fault))) = (found ≡ number) × IsQueryFault piece fault
+ReadsPiece number piece (Err (Fault fault)) = ⊥
+ReadsPiece number piece (Err IsNoMemory) = Unit {0}
+
+-- the first fault of some pieces
+abbrev pub RefusesPieces : List (List ℕ) → Refusal ManyFault → Type 0
+RefusesPieces pieces (Fault (IsFaulty number fault)) = IsFirstFault pieces number fault
+RefusesPieces pieces (Fault fault) = ⊥
+RefusesPieces pieces IsNoMemory = Unit {0}
+
+-- the queries that some pieces are
+abbrev pub ReadsPieces : {T : Type 0} → (T → List QueryTree) → List (List ℕ) → Result T (Refusal ManyFault) → Type 0
+ReadsPieces shown pieces (Ok found) = AllZip IsQuery pieces (shown found)
+ReadsPieces shown pieces (Err refusal) = RefusesPieces pieces refusal
 
 abbrev pub call_of : DeskView → DeskView → Sinks → Call
 call_of desk after sinks = record { desk = desk; desk_after = after; sinks = sinks }
+
+-- a job of one query over an archive in a file
+abbrev pub AsksOne : Job → Type 0
+AsksOne (Run query archive workers limit first) = Unit {0}
+AsksOne (Eval text archive workers limit first) = Unit {0}
+AsksOne _ = ⊥

@@ -1,5 +1,5 @@
 -- What `run` promises: what it does for its words, what out and err have taken then, and when each answer comes.
-use Rattle.std.specs.Prelude.{◌≡◌, ◌⊎◌, ℕ, ◌+◌, ◌≤◌, ◌<◌, Bool, true, List, [], ◌∷◌, ◌++◌, length, take, Option, None, Some, codes}
+use Rattle.std.specs.Prelude.{◌≡◌, ◌⊎◌, ℕ, ◌+◌, ◌≤◌, ◌<◌, true, List, [], ◌∷◌, ◌++◌, length, take, Option, None, Some, codes}
 use Rattle.std.specs.Option.{option_map}
 use Rattle.std.specs.Io.KnownBytes.{Consumes, IsAtEnd}
 use Rattle.clap.specs.Takes.{takes}
@@ -11,7 +11,7 @@ use Rattle.cql_syntax.specs.Limits.{most_bytes}
 use Rattle.cq_words.specs.Jobs.{asked, job_in}
 use Rattle.cq_words.specs.Line.{line}
 use Rattle.cq_words.specs.declared.job.Job.{Job}
-use Rattle.cq_words.specs.declared.job.Job.TheVariants.{Run, Eval, Check, Explain, SelfRun}
+use Rattle.cq_words.specs.declared.job.Job.TheVariants.{Run, Eval, Check, Explain, SelfRun, Many}
 use Rattle.cq_maker.specs.Made.{made}
 use Rattle.cql_rewrite.specs.FlatText.{items_text}
 use Rattle.cql_syntax.specs.Flat.{flat_query}
@@ -21,7 +21,10 @@ use Rattle.cq_report.specs.Queries.{query_line}
 use Rattle.cq_run.specs.declared.status.Status.{Status}
 use Rattle.cq_run.specs.declared.status.Status.TheVariants.{Done, DoneWithRefusals, QueryRefused, WordsRefused}
 use Rattle.cq_run.specs.declared.status.Status.TheVariants.{OpenFault, ReadFault, WriteFault, NoMemory}
+use Rattle.cq_run.specs.declared.query_files.ManyFault.{ManyFault}
 use Rattle.cq_run.specs.Queries.{IsQuery, IsQueryFault}
+use Rattle.cq_run.specs.QueryFiles.{HoldsQueries, IsManyFault, many_line, most_in_file}
+use Rattle.cq_run.specs.ManyQueries.{texts_of_all}
 use Rattle.cq_run.specs.SelfRun.{WritesMade}
 use Rattle.cq_run.specs.FirstGame.{wanted}
 use Rattle.cq_run.specs.Promise.{SourceView, DeskView, Sinks, Texts, Writes, WritesPrefix, IsUnwritten, NoWriteFailed}
@@ -61,27 +64,41 @@ pub record FailsToOpen (desk after : DeskView) : Type 0 where
   pub told : after.told ≡ desk.told
   pub file : after.file ≡ desk.file
 
--- The file of a query was opened, and these bytes of it were taken: all, or one more than the limit.
-pub record TakesQuery (name : List ℕ) (desk after : DeskView) (text : List ℕ) : Type 0 where
+-- The file of a query, or of several, was opened, and these bytes of it were taken: all, or one more than the limit.
+pub record TakesQuery (most : ℕ) (name : List ℕ) (desk after : DeskView) (text : List ℕ) : Type 0 where
   pub file : SourceView
   pub opened : Opened name desk after file
   pub takes : Consumes file.left after.file.left text
-  pub few : length text ≤ most_bytes + 1
-  pub whole : length text ≤ most_bytes → IsAtEnd after.file.left
+  pub few : length text ≤ most + 1
+  pub whole : length text ≤ most → IsAtEnd after.file.left
   pub faults : after.file.faults ≡ file.faults
 
--- the file of a query was opened, and could not be read: its count rose
-pub record FailsToRead (name : List ℕ) (desk after : DeskView) : Type 0 where
+-- such a file was opened, and could not be read: its count rose
+pub record FailsToRead (most : ℕ) (name : List ℕ) (desk after : DeskView) : Type 0 where
   pub file : SourceView
   pub opened : Opened name desk after file
-  pub few : TakesAtMost most_bytes file.left after.file.left
+  pub few : TakesAtMost most file.left after.file.left
   pub rose : Rose file.faults after.file.faults
 
--- no memory to open the file of a query, or to read it
-pub data LacksMemory (name : List ℕ) (desk after : DeskView) : Type 0 where
-  no_memory_to_open : after ≡ desk → LacksMemory name desk after
-  no_memory_to_read : (file : SourceView) → Opened name desk after file → TakesAtMost (most_bytes + 1) file.left after.file.left
-      → after.file.faults ≡ file.faults → LacksMemory name desk after
+-- no memory to open such a file, or to read it
+pub data LacksMemory (most : ℕ) (name : List ℕ) (desk after : DeskView) : Type 0 where
+  no_memory_to_open : after ≡ desk → LacksMemory most name desk after
+  no_memory_to_read : (file : SourceView) → Opened name desk after file → TakesAtMost (most + 1) file.left after.file.left
+      → after.file.faults ≡ file.faults → LacksMemory most name desk after
+
+-- What a file is asked for, one query or several: how many bytes of it count, what its text is where it is accepted, with which faults it
+-- is refused, and the line that tells of one.
+pub record Reading (Accepted Fault : Type 0) : Type 1 where
+  pub most : ℕ
+  pub Is : List ℕ → Accepted → Type 0
+  pub Has : List ℕ → Fault → Type 0
+  pub line : Fault → List ℕ
+
+abbrev pub a_query : Reading QueryTree QueryFault
+a_query = record { most = most_bytes; Is = IsQuery; Has = IsQueryFault; line = query_line }
+
+abbrev pub some_queries : Reading (List QueryTree) ManyFault
+some_queries = record { most = most_in_file; Is = HoldsQueries; Has = IsManyFault; line = many_line }
 
 -- ---- lines
 
@@ -102,12 +119,12 @@ WritesUsage WordsRefused sinks = Writes sinks (text_for_err usage_line) × NoWri
 WritesUsage WriteFault sinks = WritesPrefix sinks (text_for_err usage_line) × ErrFailed sinks
 WritesUsage _ sinks = ⊥
 
--- a query with a fault: its line is written
-abbrev pub RefusesQuery : QueryFault → Status → Sinks → Type 0
-RefusesQuery fault QueryRefused sinks = Writes sinks (text_for_err (query_line fault)) × NoWriteFailed sinks
-RefusesQuery fault WriteFault sinks = WritesPrefix sinks (text_for_err (query_line fault)) × ErrFailed sinks
-RefusesQuery fault NoMemory sinks = IsUnwritten sinks
-RefusesQuery fault _ sinks = ⊥
+-- a query, or a file of queries, is refused: this line is written
+abbrev pub RefusesQuery : List ℕ → Status → Sinks → Type 0
+RefusesQuery text QueryRefused sinks = Writes sinks (text_for_err text) × NoWriteFailed sinks
+RefusesQuery text WriteFault sinks = WritesPrefix sinks (text_for_err text) × ErrFailed sinks
+RefusesQuery text NoMemory sinks = IsUnwritten sinks
+RefusesQuery text _ sinks = ⊥
 
 -- a query that is accepted: `ok` is written
 abbrev pub accepted_text : List ℕ
@@ -130,40 +147,35 @@ WritesFlat query _ sinks = ⊥
 
 -- ---- jobs
 
--- A query that is accepted is answered over the archive in a file, of which so many bytes are the limit, up to its first match or of all
--- its games.
-pub data AnswersFile (archive : List ℕ) (limit : ℕ) (first : Bool) (query : QueryTree) (status : Status) (call : Call) : Type 0 where
+-- What is accepted is answered over the archive in a file, of which so many bytes are the limit, by the texts that it asks for.
+pub data AnswersFile (archive : List ℕ) (limit : ℕ) (asks : Wanted) (status : Status) (call : Call) : Type 0 where
   archive_answered : (file : SourceView) → Opened archive call.desk call.desk_after file
-      → AnswerPromise (wanted first query) status (record {
-        limit = limit;
-        source = file;
-        source_after = call.desk_after.file;
-        sinks = call.sinks;
-      })
-      → AnswersFile archive limit first query status call
+      → AnswerPromise asks status (record { limit = limit; source = file; source_after = call.desk_after.file; sinks = call.sinks })
+      → AnswersFile archive limit asks status call
   archive_unopened : status ≡ OpenFault → FailsToOpen call.desk call.desk_after → IsUnwritten call.sinks
-      → AnswersFile archive limit first query status call
-  archive_out_of_memory : status ≡ NoMemory → IsUnmoved call → AnswersFile archive limit first query status call
+      → AnswersFile archive limit asks status call
+  archive_out_of_memory : status ≡ NoMemory → IsUnmoved call → AnswersFile archive limit asks status call
 
 -- A query that a word is: it is refused for its fault, or accepted, and then this is done.
 pub data OverText (text : List ℕ) (Accepted : QueryTree → Status → Call → Type 0) (status : Status) (call : Call) : Type 0 where
   text_accepted : (query : QueryTree) → IsQuery text query → Accepted query status call → OverText text Accepted status call
-  text_refused : (fault : QueryFault) → IsQueryFault text fault → RefusesQuery fault status call.sinks → call.desk_after ≡ call.desk
-      → OverText text Accepted status call
+  text_refused : (fault : QueryFault) → IsQueryFault text fault → RefusesQuery (query_line fault) status call.sinks
+      → call.desk_after ≡ call.desk → OverText text Accepted status call
   text_out_of_memory : status ≡ NoMemory → IsUnmoved call → OverText text Accepted status call
 
--- The same of a query in a file, which is opened and read first.
-pub data OverFile (name : List ℕ) (Accepted : QueryTree → Status → Call → Type 0) (status : Status) (call : Call) : Type 0 where
-  file_accepted : (text : List ℕ) (query : QueryTree) (mid : DeskView) → TakesQuery name call.desk mid text → IsQuery text query
-      → Accepted query status (from_desk mid call) → OverFile name Accepted status call
-  file_refused : (text : List ℕ) (fault : QueryFault) → TakesQuery name call.desk call.desk_after text → IsQueryFault text fault
-      → RefusesQuery fault status call.sinks → OverFile name Accepted status call
+-- The same of what a file is asked for, which is opened and read first.
+pub data OverFile {Q F : Type 0} (reading : Reading Q F) (name : List ℕ) (Accepted : Q → Status → Call → Type 0) (status : Status)
+    (call : Call) : Type 0 where
+  file_accepted : (text : List ℕ) (found : Q) (mid : DeskView) → TakesQuery reading.most name call.desk mid text
+      → reading.Is text found → Accepted found status (from_desk mid call) → OverFile reading name Accepted status call
+  file_refused : (text : List ℕ) (fault : F) → TakesQuery reading.most name call.desk call.desk_after text → reading.Has text fault
+      → RefusesQuery (reading.line fault) status call.sinks → OverFile reading name Accepted status call
   file_unopened : status ≡ OpenFault → FailsToOpen call.desk call.desk_after → IsUnwritten call.sinks
-      → OverFile name Accepted status call
-  file_unread : status ≡ ReadFault → FailsToRead name call.desk call.desk_after → IsUnwritten call.sinks
-      → OverFile name Accepted status call
-  file_out_of_memory : status ≡ NoMemory → LacksMemory name call.desk call.desk_after → IsUnwritten call.sinks
-      → OverFile name Accepted status call
+      → OverFile reading name Accepted status call
+  file_unread : status ≡ ReadFault → FailsToRead reading.most name call.desk call.desk_after → IsUnwritten call.sinks
+      → OverFile reading name Accepted status call
+  file_out_of_memory : status ≡ NoMemory → LacksMemory reading.most name call.desk call.desk_after → IsUnwritten call.sinks
+      → OverFile reading name Accepted status call
 
 -- an accepted query is said to be one, and no other file is opened
 abbrev pub SaysAccepted : QueryTree → Status → Call → Type 0
@@ -179,11 +191,12 @@ RunsMade seed games query status call = WritesMade (made seed games) query statu
 
 -- what is done for a job
 abbrev pub DoesJob : Job → Status → Call → Type 0
-DoesJob (Run query archive workers limit first) = OverFile query (AnswersFile archive limit first)
-DoesJob (Eval text archive workers limit first) = OverText text (AnswersFile archive limit first)
-DoesJob (Check query) = OverFile query SaysAccepted
-DoesJob (Explain query) = OverFile query Explains
+DoesJob (Run query archive workers limit first) = OverFile a_query query (λ asks. AnswersFile archive limit (wanted first asks))
+DoesJob (Eval text archive workers limit first) = OverText text (λ asks. AnswersFile archive limit (wanted first asks))
+DoesJob (Check query) = OverFile a_query query SaysAccepted
+DoesJob (Explain query) = OverFile a_query query Explains
 DoesJob (SelfRun text seed games workers) = OverText text (RunsMade seed games)
+DoesJob (Many queries archive workers limit) = OverFile some_queries queries (λ asks. AnswersFile archive limit (texts_of_all asks))
 
 -- What is done for words: the job that they ask, or they are refused, and no file is opened then.
 pub data Does (words : List (List ℕ)) (status : Status) (call : Call) : Type 0 where
@@ -205,22 +218,28 @@ pub record AnswersItsFault (status : Status) (call : Call) : Type 0 where
   pub out_faults : call.sinks.out.faults < call.sinks.out_after.faults → status ≡ WriteFault
   pub err_faults : call.sinks.err.faults < call.sinks.err_after.faults → status ≡ WriteFault
 
--- The desk tells its files, and this is taken of a query's file, which was opened and read without a fault: all of it, or one byte
--- more than the limit.
-pub record IsInFile (call : Call) (name text : List ℕ) : Type 0 where
+-- The desk tells its files, and this is taken of the file of a query, or of several, which was opened and read without a fault: all of it,
+-- or one byte more than the limit.
+pub record IsInFile (call : Call) (most : ℕ) (name text : List ℕ) : Type 0 where
   pub told : Told
   pub tells : call.desk.told ≡ Some told
-  pub taken : text ≡ take (most_bytes + 1) (bytes_of told.files name)
+  pub taken : text ≡ take (most + 1) (bytes_of told.files name)
   pub opens : Rose call.desk.open_faults call.desk_after.open_faults → ⊥
   pub reads : Rose call.desk.file.faults call.desk_after.file.faults → ⊥
 
--- the text of a job's query
+-- the text of a job's one query
 abbrev pub HasText : Call → Job → List ℕ → Type 0
-HasText call (Run query archive workers limit first) text = IsInFile call query text
+HasText call (Run query archive workers limit first) text = IsInFile call most_bytes query text
 HasText call (Eval word archive workers limit first) text = word ≡ text
-HasText call (Check query) text = IsInFile call query text
-HasText call (Explain query) text = IsInFile call query text
+HasText call (Check query) text = IsInFile call most_bytes query text
+HasText call (Explain query) text = IsInFile call most_bytes query text
 HasText call (SelfRun word seed games workers) text = word ≡ text
+HasText call (Many queries archive workers limit) text = ⊥
+
+-- the text of a job's file of queries
+abbrev pub HasQueriesText : Call → Job → List ℕ → Type 0
+HasQueriesText call (Many queries archive workers limit) text = IsInFile call most_in_file queries text
+HasQueriesText call job text = ⊥
 
 -- no count rose
 pub record NothingRose (call : Call) : Type 0 where
@@ -242,14 +261,21 @@ IsWithin call (Eval text archive workers limit first) query = IsShort call archi
 IsWithin call (Check name) query = Unit {0}
 IsWithin call (Explain name) query = Unit {0}
 IsWithin call (SelfRun text seed games workers) query = Unit {0}
+IsWithin call (Many queries archive workers limit) query = Unit {0}
 
--- the answers of a job whose query is accepted, where nothing fails
+-- the same of the archive of a job with a file of queries
+abbrev pub IsWithinForAll : Call → Job → List QueryTree → Type 0
+IsWithinForAll call (Many name archive workers limit) queries = IsShort call archive limit (texts_of_all queries)
+IsWithinForAll call job queries = Unit {0}
+
+-- the answers of a job that is accepted, where nothing fails
 abbrev pub good_answers : Job → List Status
 good_answers (Run query archive workers limit first) = Done ∷ DoneWithRefusals ∷ NoMemory ∷ []
 good_answers (Eval text archive workers limit first) = Done ∷ DoneWithRefusals ∷ NoMemory ∷ []
 good_answers (Check query) = Done ∷ NoMemory ∷ []
 good_answers (Explain query) = Done ∷ NoMemory ∷ []
 good_answers (SelfRun text seed games workers) = Done ∷ DoneWithRefusals ∷ NoMemory ∷ []
+good_answers (Many queries archive workers limit) = Done ∷ DoneWithRefusals ∷ NoMemory ∷ []
 
 -- What `run` promises of its status: what was done for the words, that a count that rose is answered by its own fault, and when an
 -- answer always or never comes.
@@ -262,3 +288,7 @@ pub record Promise (words : List (List ℕ)) (status : Status) (call : Call) : T
       → IsQueryFault text fault → IsOneOf status (QueryRefused ∷ WriteFault ∷ NoMemory ∷ [])
   pub complete : (job : Job) (text : List ℕ) (query : QueryTree) → Asks words (Some job) → HasText call job text
       → IsQuery text query → IsWithin call job query → NothingRose call → IsOneOf status (good_answers job)
+  pub queries_always_refused : (job : Job) (text : List ℕ) (fault : ManyFault) → Asks words (Some job) → HasQueriesText call job text
+      → IsManyFault text fault → IsOneOf status (QueryRefused ∷ WriteFault ∷ NoMemory ∷ [])
+  pub queries_complete : (job : Job) (text : List ℕ) (queries : List QueryTree) → Asks words (Some job) → HasQueriesText call job text
+      → HoldsQueries text queries → IsWithinForAll call job queries → NothingRose call → IsOneOf status (good_answers job)

@@ -18,8 +18,8 @@ use Rattle.cq_shards.specs.declared.answers.GameAnswer.{GameAnswer}
 use Rattle.cq_shards.specs.Outcomes.{Outcome}
 use Rattle.cq_run.specs.Answer.{export_if, fault_if, is_match, is_refused, summary_of, tally_of}
 use Rattle.cq_run.specs.Exports.{exports_of, match_if, matches_from}
-use Rattle.cq_run.specs.AllGames.{AreAnswers, texts_of, texts_so_far, written}
-use Rattle.cq_run.specs.Promise.{SinkView, Sinks, Texts, Writes, WritesPrefix, WritesAll, WritesPart, Unfinished, IsUnwritten}
+use Rattle.cq_run.specs.AllGames.{texts_so_far, written}
+use Rattle.cq_run.specs.Promise.{SinkView, Sinks, Texts, Wanted, Writes, WritesPrefix, WritesAll, WritesPart, Unfinished, IsUnwritten}
 use Rattle.cq_run.specs.Promise.{OneSinkFailed, NoWriteFailed}
 
 -- writing a text to a sink: all of it was taken, or its count rose and a prefix was
@@ -37,16 +37,19 @@ WritesFault number fault before after (Err (Fault _)) =
     ((count : ℕ) × Grew before.taken after.taken (take count (fault_line number fault))) × Rose before.faults after.faults
 WritesFault number fault before after (Err IsNoMemory) = after ≡ before
 
--- writing the last line of a report: the status tells whether a game is refused, or why not all of it is written
+-- writing the last text of a report: the status tells whether a game is refused, or why not all of it is written
+abbrev pub WritesLast : List ℕ → (refused : ℕ) → SinkView → SinkView → Status → Type 0
+WritesLast text refused before after Done = (refused ≡ 0) × Grew before.taken after.taken text × (after.faults ≡ before.faults)
+WritesLast text refused before after DoneWithRefusals =
+    (0 < refused) × Grew before.taken after.taken text × (after.faults ≡ before.faults)
+WritesLast text refused before after WriteFault =
+    ((count : ℕ) × Grew before.taken after.taken (take count text)) × Rose before.faults after.faults
+WritesLast text refused before after NoMemory = after ≡ before
+WritesLast text refused before after _ = ⊥
+
+-- the last line, where one query is answered
 abbrev pub WritesSummary : Tally → SinkView → SinkView → Status → Type 0
-WritesSummary tally before after Done =
-    (tally.refused ≡ 0) × Grew before.taken after.taken (summary_of tally) × (after.faults ≡ before.faults)
-WritesSummary tally before after DoneWithRefusals =
-    (0 < tally.refused) × Grew before.taken after.taken (summary_of tally) × (after.faults ≡ before.faults)
-WritesSummary tally before after WriteFault =
-    ((count : ℕ) × Grew before.taken after.taken (take count (summary_of tally))) × Rose before.faults after.faults
-WritesSummary tally before after NoMemory = after ≡ before
-WritesSummary tally before after _ = ⊥
+WritesSummary tally = WritesLast (summary_of tally) tally.refused
 
 -- one game more is counted
 abbrev pub tallied : QueryTree → Tally → Outcome → Tally
@@ -124,16 +127,14 @@ WritesKept query answers before after (Err (Fault _)) =
 WritesKept query answers before after (Err IsNoMemory) = after ≡ before
 
 -- what each status says of the sinks, where all games have these outcomes
-abbrev pub WritesAnswer : QueryTree → List Outcome → Sinks → Status → Type 0
-WritesAnswer query outcomes sinks Done =
-    WritesAll (AreAnswers query outcomes) (λ refused. refused ≡ 0) sinks × NoWriteFailed sinks
-WritesAnswer query outcomes sinks DoneWithRefusals =
-    WritesAll (AreAnswers query outcomes) (λ refused. 0 < refused) sinks × NoWriteFailed sinks
-WritesAnswer query outcomes sinks WriteFault =
-    WritesPart (Unfinished (texts_of query) outcomes) sinks × OneSinkFailed sinks
-WritesAnswer query outcomes sinks NoMemory =
-    WritesPart (Unfinished (texts_of query) outcomes) sinks × NoWriteFailed sinks
-WritesAnswer query outcomes sinks _ = ⊥
+abbrev pub WritesAnswer : Wanted → List Outcome → Sinks → Status → Type 0
+WritesAnswer wanted outcomes sinks Done =
+    WritesAll (wanted.ended outcomes) (λ refused. refused ≡ 0) sinks × NoWriteFailed sinks
+WritesAnswer wanted outcomes sinks DoneWithRefusals =
+    WritesAll (wanted.ended outcomes) (λ refused. 0 < refused) sinks × NoWriteFailed sinks
+WritesAnswer wanted outcomes sinks WriteFault = WritesPart (Unfinished wanted outcomes) sinks × OneSinkFailed sinks
+WritesAnswer wanted outcomes sinks NoMemory = WritesPart (Unfinished wanted outcomes) sinks × NoWriteFailed sinks
+WritesAnswer wanted outcomes sinks _ = ⊥
 
 -- one game more of a made archive is counted
 abbrev pub counted : QueryTree → Totals → Outcome → Totals

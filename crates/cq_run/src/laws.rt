@@ -1,9 +1,11 @@
-//! Laws of the queries that texts are, and of their faults, and what answering batch by batch rests on.
+//! Laws of the queries that texts and files of queries are, and of their faults, and what answering batch by batch rests on.
 ghost use Rattle.std.specs.Prelude.{◌≡◌, ◌⊎◌, ℕ, List};
 ghost use Rattle.cql_syntax.specs.Trees.{QueryTree};
 ghost use Rattle.cql_syntax.specs.declared.fault.QueryFault.{QueryFault};
 ghost use Rattle.cq_run.specs.ByBatches.{Laws};
 ghost use Rattle.cq_run.specs.Queries.{IsQuery, IsQueryFault};
+ghost use Rattle.cq_run.specs.QueryFiles.{HoldsQueries, IsManyFault};
+ghost use Rattle.cq_run.specs.declared.query_files.ManyFault.{ManyFault};
 
 use cq_shards::laws::batches_stay;
 use cql_parser::{
@@ -31,6 +33,24 @@ pub fn texts_have_one_outcome()
     tokens_have_at_most_one_fault();
     tokens_spell_at_most_one_query();
     faulty_tokens_spell_no_query();
+}
+
+/// A law: every file of queries is accepted or has a fault, and not both.
+pub fn every_file_of_queries_is_accepted_or_has_a_fault()
+    ensures { (text : List ℕ) →
+        (((qs : List QueryTree) × HoldsQueries text qs) × ((f : ManyFault) → IsManyFault text f → ⊥))
+        ⊎ (((f : ManyFault) × IsManyFault text f) × ((qs : List QueryTree) → HoldsQueries text qs → ⊥)) }
+{
+    every_text_is_a_query_or_has_a_fault();
+}
+
+/// A law: a file of queries is accepted as one list of queries at most, and has at most one fault.
+pub fn files_of_queries_have_one_outcome()
+    ensures queries { (text : List ℕ) (qs rs : List QueryTree) → HoldsQueries text qs → HoldsQueries text rs → qs ≡ rs }
+    ensures fault { (text : List ℕ) (f g : ManyFault) → IsManyFault text f → IsManyFault text g → f ≡ g }
+{
+    every_text_is_a_query_or_has_a_fault();
+    texts_have_one_outcome();
 }
 
 // What is given of an archive in batches, piece by piece, are its games as they are cut, and each is read from what is kept of it.

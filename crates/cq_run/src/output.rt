@@ -5,9 +5,11 @@ ghost use Rattle.cql_syntax.specs.Trees.{QueryTree};
 ghost use Rattle.cq_shards.specs.Answers.{answer_of, answers_from, query_in};
 ghost use Rattle.cq_shards.specs.Outcomes.{Outcome};
 ghost use Rattle.cq_run.specs.Sorts.{have_sort as some_sort};
+ghost use Rattle.cq_run.specs.AllGames.{texts_of};
+ghost use Rattle.cq_run.specs.Exports.{exports_of};
 ghost use Rattle.cq_run.specs.Promise.{SinkView, sink_view, sinks_of};
 ghost use Rattle.cq_run.specs.Writing.{AnswersGame, AnswersSome, FoundSoFar, stand_of, WritesAnswer};
-ghost use Rattle.cq_run.specs.Writing.{WritesFault, WritesKept, WritesSummary, WritesText};
+ghost use Rattle.cq_run.specs.Writing.{WritesFault, WritesKept, WritesLast, WritesSummary, WritesText};
 
 use crate::sorts::have_sort;
 use crate::status::Status;
@@ -32,7 +34,7 @@ pub fn write_rest<O: Sink, E: Sink>(
         → some_sort (query_in plan.now).items ≡ sorted
         → FoundSoFar sorted (query_in plan.now) outcomes
         (sinks_of first (sink_view O.taken O.faults out.old) second (sink_view E.taken E.faults err.old)) (stand_of tally kept.items)
-        → WritesAnswer (query_in plan.now) outcomes
+        → WritesAnswer (texts_of (query_in plan.now)) outcomes
         (sinks_of first (sink_view O.taken O.faults out.new) second (sink_view E.taken E.faults err.new)) result }
 {
     match write_kept(alloc, plan, kept, out) {
@@ -60,8 +62,16 @@ fn write_kept<O: Sink>(
         (sink_view O.taken O.faults out.old) (sink_view O.taken O.faults out.new) result }
 {
     let ordered = by_keys(alloc, kept, &plan.query().query)?;
-    for i in 0..ordered.len() {
-        match write_all_of(out, ordered[i].text()) {
+    write_texts(ordered.as_slice(), out)
+}
+
+/// Writes the exports of answers, one after the other.
+pub fn write_texts<O: Sink>(answers: &[GameAnswer], out: &mut O) -> Result<(), Refusal<Failed>>
+    ensures { WritesText (exports_of answers.now)
+        (sink_view O.taken O.faults out.old) (sink_view O.taken O.faults out.new) result }
+{
+    for i in 0..answers.len() {
+        match write_all_of(out, answers[i].text()) {
             Ok(()) => {}
             Err(failed) => return Err(Refusal::Fault(failed)),
         }
@@ -76,8 +86,15 @@ pub fn write_summary<E: Sink>(alloc: Global, tally: Tally, err: &mut E) -> Statu
     let Ok(line) = summary_line(alloc, tally.games, tally.matched, tally.refused) else {
         return Status::NoMemory;
     };
-    match write_all_of(err, line.as_slice()) {
-        Ok(()) if tally.refused == 0 => Status::Done,
+    write_last(line.as_slice(), tally.refused, err)
+}
+
+/// Writes the last of a report, in which so many games are refused.
+pub fn write_last<E: Sink>(text: &[u8], refused: u64, err: &mut E) -> Status
+    ensures { WritesLast text.now refused (sink_view E.taken E.faults err.old) (sink_view E.taken E.faults err.new) result }
+{
+    match write_all_of(err, text) {
+        Ok(()) if refused == 0 => Status::Done,
         Ok(()) => Status::DoneWithRefusals,
         Err(_) => Status::WriteFault,
     }
@@ -167,8 +184,8 @@ fn write_fault<E: Sink>(
     write_to(err, line.as_slice())
 }
 
-// Writes all of a text.
-fn write_to<S: Sink>(sink: &mut S, text: &[u8]) -> Result<(), Refusal<Failed>>
+/// Writes all of a text.
+pub fn write_to<S: Sink>(sink: &mut S, text: &[u8]) -> Result<(), Refusal<Failed>>
     ensures { WritesText text.now (sink_view S.taken S.faults sink.old) (sink_view S.taken S.faults sink.new) result }
 {
     match write_all_of(sink, text) {

@@ -1,10 +1,13 @@
-//! Reading a query, and saying what is wrong with one.
-ghost use Rattle.cq_run.specs.QueryReading.{ReadsQuery, ReadsFile, TellsWhy};
+//! Reading a file and the query in it, and saying what is wrong with one.
+ghost use Rattle.std.specs.Prelude.{◌<◌, ◌^◌};
+ghost use Rattle.cql_syntax.specs.TreeOf.{query_tree};
+ghost use Rattle.cq_report.specs.Queries.{query_line};
+ghost use Rattle.cq_run.specs.QueryReading.{ReadsQuery, ReadsFile, TakesText, TellsWhy};
 ghost use Rattle.cq_run.specs.Promise.{SinkView, desk_view, sink_view, sinks_of};
-ghost use Rattle.cq_run.specs.Run.{AcceptsQuery, RefusesQuery};
+ghost use Rattle.cq_run.specs.Run.{AcceptsQuery, RefusesQuery, a_query};
 
 use crate::status::Status;
-use cq_outside::{Desk, OpenFault, Refusal, Sink, read_up_to, write_all_of};
+use cq_outside::{Bytes, Desk, OpenFault, Refusal, Sink, read_up_to, write_all_of};
 use cq_report::query_line;
 use cql_kinds::check;
 use cql_lexer::{QUERY_LIMIT, query_tokens};
@@ -15,11 +18,11 @@ use std::alloc::Global;
 /// The line that answers a query that is accepted.
 const ACCEPTED: &[u8] = b"ok\n";
 
-/// Why the query in a file is not answered.
+/// Why what a file asks is not answered.
 #[derive(Drop)]
-pub enum QueryRefusal {
-    /// The query has a fault.
-    Faulty(QueryFault),
+pub enum FileRefusal<F> {
+    /// The query in it has a fault, or the file of queries.
+    Faulty(F),
     /// The file could not be opened.
     Unopened,
     /// The file could not be read.
@@ -45,43 +48,58 @@ pub fn query_in_file<D: Desk>(
     alloc: Global,
     name: &[u8],
     desk: &mut D,
-) -> Result<TypedQuery, QueryRefusal>
-    ensures { ReadsFile name.now (desk_view D.told D.left D.faults D.open_faults desk.old)
+) -> Result<TypedQuery, FileRefusal<QueryFault>>
+    ensures { ReadsFile a_query (λ typed. query_tree typed.query) name.now
+        (desk_view D.told D.left D.faults D.open_faults desk.old)
+        (desk_view D.told D.left D.faults D.open_faults desk.new) result }
+{
+    let text = text_in_file::<D, QueryFault>(alloc, name, desk, QUERY_LIMIT)?;
+    match read_query(alloc, text.as_slice()) {
+        Ok(query) => Ok(query),
+        Err(Refusal::Fault(fault)) => Err(FileRefusal::Faulty(fault)),
+        Err(Refusal::NoMemory) => Err(FileRefusal::OutOfMemory),
+    }
+}
+
+/// The bytes of a file that is opened, until its end or one byte more than a limit.
+pub fn text_in_file<D: Desk, F>(
+    alloc: Global,
+    name: &[u8],
+    desk: &mut D,
+    most: usize,
+) -> Result<Bytes, FileRefusal<F>>
+    requires { most < 2 ^ 62 }
+    ensures { TakesText most name.now (desk_view D.told D.left D.faults D.open_faults desk.old)
         (desk_view D.told D.left D.faults D.open_faults desk.new) result }
 {
     match desk.open(alloc, name) {
         Ok(()) => {}
-        Err(OpenFault::Failed) => return Err(QueryRefusal::Unopened),
-        Err(OpenFault::NoMemory) => return Err(QueryRefusal::OutOfMemory),
+        Err(OpenFault::Failed) => return Err(FileRefusal::Unopened),
+        Err(OpenFault::NoMemory) => return Err(FileRefusal::OutOfMemory),
     }
-    let text = match read_up_to(desk, alloc, QUERY_LIMIT) {
-        Ok(text) => text,
-        Err(Refusal::Fault(_)) => return Err(QueryRefusal::Unread),
-        Err(Refusal::NoMemory) => return Err(QueryRefusal::OutOfMemory),
-    };
-    match read_query(alloc, text.as_slice()) {
-        Ok(query) => Ok(query),
-        Err(Refusal::Fault(fault)) => Err(QueryRefusal::Faulty(fault)),
-        Err(Refusal::NoMemory) => Err(QueryRefusal::OutOfMemory),
+    match read_up_to(desk, alloc, most) {
+        Ok(text) => Ok(text),
+        Err(Refusal::Fault(_)) => Err(FileRefusal::Unread),
+        Err(Refusal::NoMemory) => Err(FileRefusal::OutOfMemory),
     }
 }
 
 /// Says why the query in a file is not answered.
-pub fn report_refusal<E: Sink>(alloc: Global, why: &QueryRefusal, err: &mut E) -> Status
-    ensures { (out : SinkView) → TellsWhy why.now result
+pub fn report_refusal<E: Sink>(alloc: Global, why: &FileRefusal<QueryFault>, err: &mut E) -> Status
+    ensures { (out : SinkView) → TellsWhy a_query why.now result
         (sinks_of out out (sink_view E.taken E.faults err.old) (sink_view E.taken E.faults err.new)) }
 {
     match why {
-        QueryRefusal::Faulty(fault) => refuse_query(alloc, fault, err),
-        QueryRefusal::Unopened => Status::OpenFault,
-        QueryRefusal::Unread => Status::ReadFault,
-        QueryRefusal::OutOfMemory => Status::NoMemory,
+        FileRefusal::Faulty(fault) => refuse_query(alloc, fault, err),
+        FileRefusal::Unopened => Status::OpenFault,
+        FileRefusal::Unread => Status::ReadFault,
+        FileRefusal::OutOfMemory => Status::NoMemory,
     }
 }
 
 /// Writes the line of a query that is refused.
 pub fn refuse_query<E: Sink>(alloc: Global, fault: &QueryFault, err: &mut E) -> Status
-    ensures { (out : SinkView) → RefusesQuery fault.now result
+    ensures { (out : SinkView) → RefusesQuery (query_line fault.now) result
         (sinks_of out out (sink_view E.taken E.faults err.old) (sink_view E.taken E.faults err.new)) }
 {
     let Ok(line) = query_line(alloc, fault) else {

@@ -1,15 +1,21 @@
 //! The top call.
-ghost use Rattle.std.specs.Prelude.{map, ◌≤◌, ◌^◌};
+ghost use Rattle.std.specs.Prelude.{map, length, false, ◌≡◌, ◌≤◌, ◌^◌};
 ghost use Rattle.std.specs.String.{string_bytes};
 ghost use Rattle.cq_words.specs.Jobs.{IsInRange};
+ghost use Rattle.cq_shared.specs.Plans.{trees_of};
 ghost use Rattle.cql_syntax.specs.TreeOf.{query_tree};
-ghost use Rattle.cq_run.specs.QueryReading.{call_of};
+ghost use Rattle.cq_run.specs.FirstGame.{wanted};
+ghost use Rattle.cq_run.specs.ManyQueries.{texts_of_all};
+ghost use Rattle.cq_run.specs.QueryReading.{AsksOne, call_of};
 ghost use Rattle.cq_run.specs.Promise.{SinkView, desk_view, sink_view, sinks_of};
 ghost use Rattle.cq_run.specs.Run.{Promise, AnswersFile, OverText, OverFile, SaysAccepted, Explains, DoesJob, WritesUsage};
+ghost use Rattle.cq_run.specs.Run.{a_query, some_queries};
 
+use crate::all_queries::answer_many;
 use crate::archives::answer;
 use crate::flat_form::explain;
 use crate::queries::{accept_query, query_in_file, read_query, refuse_query, report_refusal};
+use crate::query_files::{queries_in_file, report_queries_refusal};
 use crate::selfrun::answer_text_over_made;
 use crate::status::Status;
 use cq_outside::{Desk, Gate, OpenFault, Refusal, Sink, write_all_of};
@@ -34,21 +40,28 @@ const USAGE: &[u8] =
 /// - `selfrun TEXT` answers the query that the word TEXT is over an archive that is made, of `--games G` games, from 0 to 100,000 and
 ///   by default 100, from `--seed S`, from 0 to 2^32 - 1 and by default 1: `out` takes one line, `bytes B games G matched M refused
 ///   R written W`, where B is the length of the archive and W that of the exports, and no file is opened.
+/// - `many QUERIES [ARCHIVE]` answers the queries in the file QUERIES, from 1 to 16 with a line `%%` between two of them, over one reading
+///   of the archive: for each in order `out` takes the line `query I bytes W` and then its W bytes of exports; `err` takes the lines of
+///   the faulty games and then, for each in order, its counts.
 ///
-/// `run`, `eval` and `selfrun` take `--workers N`, from 1 to 64, the number of workers that answer the games of a batch, in threads of
-/// `rt`, by default 4; each tells `gate` as it enters and leaves a game. `run` and `eval` take `--limit B`, from 1 to 2^40: more than so
-/// many bytes of an archive are refused, of which one more is taken at most. An archive is read in pieces of at most 65,536 bytes, batch
-/// by batch. They also take `--first`: the first game that matches is written alone, whatever the query's sort items, the report ends with
-/// it, and no more is read after its batch. Of a query's file at most 65,537 bytes are taken. A query with a fault is refused by a line on `err`,
-/// `query byte B: REASON`, before the archive is opened, and other words by the usage line.
+/// All but `check` and `explain` take `--workers N`, from 1 to 64, the number of workers that answer the games of a batch, in threads of
+/// `rt`, by default 4; each tells `gate` as it enters and leaves a game. `run`, `eval` and `many` take `--limit B`, from 1 to 2^40: more
+/// than so many bytes of an archive are refused, of which one more is taken at most. An archive is read in pieces of at most 65,536 bytes,
+/// batch by batch. `run` and `eval` also take `--first`: the first game that matches is written alone, whatever the query's sort items, the
+/// report ends with it, and nothing is read after the read that completes its batch.
+///
+/// Of a query's file at most 65,537 bytes are taken, and of a file of queries 1,048,577. A query with a fault is refused by a line on
+/// `err`, `query byte B: REASON`, before the archive is opened. So is a file of queries, by the first of these lines that applies: `queries
+/// too long`, with more than 1,048,576 bytes; `queries too many`, with more than 16 pieces; `query I byte B: REASON`, with I the number of
+/// the first piece with a fault, from 1, and B its byte in the piece. Other words are refused by the usage line.
 ///
 /// Answers:
 /// - `Done` or `DoneWithRefusals`: both sinks have taken all, and no game of the report, or some, is faulty. `check` and `explain` answer
 ///   `Done`.
-/// - `QueryRefused` or `WordsRefused`: the query has a fault, or the words are refused; the line is written.
+/// - `QueryRefused` or `WordsRefused`: the query has a fault, or the file of queries, or the words are refused; the line is written.
 /// - `OpenFault`: that count of the desk rose, and no other; nothing is written.
 /// - `ReadFault`: that count of the desk rose, and no other. Of the games of the whole batches that were read the lines of the faulty
-///   ones are written, and the exports where the query has no sort item.
+///   ones are written, and the exports where there is one query and it has no sort item.
 /// - `WriteFault`: the count of one sink rose, and no other. Each sink has taken a prefix of its text.
 /// - `NoMemory`: no memory was found, and no count rose; each sink has taken a prefix of its text.
 /// - `ArchiveTooLong`: more bytes of the archive than the limit were taken; written is as much as after a fault of reading.
@@ -106,6 +119,54 @@ fn do_job<R: Threads + Sync, D: Desk, O: Sink, E: Sink, G: Gate + Sync>(
         (sink_view E.taken E.faults err.old) (sink_view E.taken E.faults err.new))) }
 {
     match job {
+        Job::Run { .. } => answer_one(rt, alloc, job, desk, out, err, gate),
+        Job::Eval { .. } => answer_one(rt, alloc, job, desk, out, err, gate),
+        Job::Check { query } => check_file(alloc, query.as_slice(), desk, out, err),
+        Job::Explain { query } => explain_file(alloc, query.as_slice(), desk, out, err),
+        Job::SelfRun {
+            text,
+            seed,
+            games,
+            workers,
+        } => {
+            let text = text.as_slice();
+            answer_text_over_made(rt, alloc, text, *seed, *games, *workers, out, err, gate)
+        }
+        Job::Many {
+            queries,
+            archive,
+            workers,
+            limit,
+        } => {
+            let settings = Settings {
+                workers: *workers,
+                limit: *limit,
+                first: false,
+            };
+            let (queries, archive) = (queries.as_slice(), archive.as_slice());
+            answer_queries_file(rt, alloc, queries, archive, settings, desk, out, err, gate)
+        }
+    }
+}
+
+// Does a job that answers one query over an archive in a file.
+fn answer_one<R: Threads + Sync, D: Desk, O: Sink, E: Sink, G: Gate + Sync>(
+    rt: &R,
+    alloc: Global,
+    job: &Job,
+    desk: &mut D,
+    out: &mut O,
+    err: &mut E,
+    gate: &G,
+) -> Status
+    requires ranges { IsInRange job.now }
+    requires one { AsksOne job.now }
+    ensures { DoesJob job.now result (call_of
+        (desk_view D.told D.left D.faults D.open_faults desk.old) (desk_view D.told D.left D.faults D.open_faults desk.new)
+        (sinks_of (sink_view O.taken O.faults out.old) (sink_view O.taken O.faults out.new)
+        (sink_view E.taken E.faults err.old) (sink_view E.taken E.faults err.new))) }
+{
+    match job {
         Job::Run {
             query,
             archive,
@@ -136,17 +197,7 @@ fn do_job<R: Threads + Sync, D: Desk, O: Sink, E: Sink, G: Gate + Sync>(
             let (text, archive) = (text.as_slice(), archive.as_slice());
             answer_text(rt, alloc, text, archive, settings, desk, out, err, gate)
         }
-        Job::Check { query } => check_file(alloc, query.as_slice(), desk, out, err),
-        Job::Explain { query } => explain_file(alloc, query.as_slice(), desk, out, err),
-        Job::SelfRun {
-            text,
-            seed,
-            games,
-            workers,
-        } => {
-            let text = text.as_slice();
-            answer_text_over_made(rt, alloc, text, *seed, *games, *workers, out, err, gate)
-        }
+        _ => unreachable!(),
     }
 }
 
@@ -164,7 +215,7 @@ fn answer_query_file<R: Threads + Sync, D: Desk, O: Sink, E: Sink, G: Gate + Syn
 ) -> Status
     requires workers { (1 ≤ settings.workers) × (settings.workers ≤ 64) }
     requires limit { (1 ≤ settings.limit) × (settings.limit ≤ 2 ^ 40) }
-    ensures { OverFile name.now (AnswersFile archive.now settings.limit settings.first) result (call_of
+    ensures { OverFile a_query name.now (λ asks. AnswersFile archive.now settings.limit (wanted settings.first asks)) result (call_of
         (desk_view D.told D.left D.faults D.open_faults desk.old) (desk_view D.told D.left D.faults D.open_faults desk.new)
         (sinks_of (sink_view O.taken O.faults out.old) (sink_view O.taken O.faults out.new)
         (sink_view E.taken E.faults err.old) (sink_view E.taken E.faults err.new))) }
@@ -189,7 +240,7 @@ fn answer_text<R: Threads + Sync, D: Desk, O: Sink, E: Sink, G: Gate + Sync>(
 ) -> Status
     requires workers { (1 ≤ settings.workers) × (settings.workers ≤ 64) }
     requires limit { (1 ≤ settings.limit) × (settings.limit ≤ 2 ^ 40) }
-    ensures { OverText text.now (AnswersFile archive.now settings.limit settings.first) result (call_of
+    ensures { OverText text.now (λ asks. AnswersFile archive.now settings.limit (wanted settings.first asks)) result (call_of
         (desk_view D.told D.left D.faults D.open_faults desk.old) (desk_view D.told D.left D.faults D.open_faults desk.new)
         (sinks_of (sink_view O.taken O.faults out.old) (sink_view O.taken O.faults out.new)
         (sink_view E.taken E.faults err.old) (sink_view E.taken E.faults err.new))) }
@@ -216,13 +267,70 @@ fn answer_file<R: Threads + Sync, D: Desk, O: Sink, E: Sink, G: Gate + Sync>(
 ) -> Status
     requires workers { (1 ≤ settings.workers) × (settings.workers ≤ 64) }
     requires limit { (1 ≤ settings.limit) × (settings.limit ≤ 2 ^ 40) }
-    ensures { AnswersFile archive.now settings.limit settings.first (query_tree query.now.query) result (call_of
+    ensures { AnswersFile archive.now settings.limit (wanted settings.first (query_tree query.now.query)) result (call_of
         (desk_view D.told D.left D.faults D.open_faults desk.old) (desk_view D.told D.left D.faults D.open_faults desk.new)
         (sinks_of (sink_view O.taken O.faults out.old) (sink_view O.taken O.faults out.new)
         (sink_view E.taken E.faults err.old) (sink_view E.taken E.faults err.new))) }
 {
     match desk.open(alloc, archive) {
         Ok(()) => answer(rt, alloc, query, settings, desk, out, err, gate),
+        Err(OpenFault::Failed) => Status::OpenFault,
+        Err(OpenFault::NoMemory) => Status::NoMemory,
+    }
+}
+
+// Answers the queries in a file over the archive in another.
+fn answer_queries_file<R: Threads + Sync, D: Desk, O: Sink, E: Sink, G: Gate + Sync>(
+    rt: &R,
+    alloc: Global,
+    name: &[u8],
+    archive: &[u8],
+    settings: Settings,
+    desk: &mut D,
+    out: &mut O,
+    err: &mut E,
+    gate: &G,
+) -> Status
+    requires workers { (1 ≤ settings.workers) × (settings.workers ≤ 64) }
+    requires limit { (1 ≤ settings.limit) × (settings.limit ≤ 2 ^ 40) }
+    requires all { settings.first ≡ false }
+    ensures { OverFile some_queries name.now (λ asks. AnswersFile archive.now settings.limit (texts_of_all asks)) result (call_of
+        (desk_view D.told D.left D.faults D.open_faults desk.old) (desk_view D.told D.left D.faults D.open_faults desk.new)
+        (sinks_of (sink_view O.taken O.faults out.old) (sink_view O.taken O.faults out.new)
+        (sink_view E.taken E.faults err.old) (sink_view E.taken E.faults err.new))) }
+{
+    match queries_in_file(alloc, name, desk) {
+        Ok(queries) => {
+            let queries = queries.as_slice();
+            answer_file_by_all(rt, alloc, queries, archive, settings, desk, out, err, gate)
+        }
+        Err(why) => report_queries_refusal(alloc, &why, err),
+    }
+}
+
+// Answers several queries over the archive in a file.
+fn answer_file_by_all<R: Threads + Sync, D: Desk, O: Sink, E: Sink, G: Gate + Sync>(
+    rt: &R,
+    alloc: Global,
+    queries: &[TypedQuery],
+    archive: &[u8],
+    settings: Settings,
+    desk: &mut D,
+    out: &mut O,
+    err: &mut E,
+    gate: &G,
+) -> Status
+    requires few { (1 ≤ length queries.now) × (length queries.now ≤ 16) }
+    requires workers { (1 ≤ settings.workers) × (settings.workers ≤ 64) }
+    requires limit { (1 ≤ settings.limit) × (settings.limit ≤ 2 ^ 40) }
+    requires all { settings.first ≡ false }
+    ensures { AnswersFile archive.now settings.limit (texts_of_all (trees_of queries.now)) result (call_of
+        (desk_view D.told D.left D.faults D.open_faults desk.old) (desk_view D.told D.left D.faults D.open_faults desk.new)
+        (sinks_of (sink_view O.taken O.faults out.old) (sink_view O.taken O.faults out.new)
+        (sink_view E.taken E.faults err.old) (sink_view E.taken E.faults err.new))) }
+{
+    match desk.open(alloc, archive) {
+        Ok(()) => answer_many(rt, alloc, queries, settings, desk, out, err, gate),
         Err(OpenFault::Failed) => Status::OpenFault,
         Err(OpenFault::NoMemory) => Status::NoMemory,
     }
@@ -236,7 +344,7 @@ fn check_file<D: Desk, O: Sink, E: Sink>(
     out: &mut O,
     err: &mut E,
 ) -> Status
-    ensures { OverFile name.now SaysAccepted result (call_of
+    ensures { OverFile a_query name.now SaysAccepted result (call_of
         (desk_view D.told D.left D.faults D.open_faults desk.old) (desk_view D.told D.left D.faults D.open_faults desk.new)
         (sinks_of (sink_view O.taken O.faults out.old) (sink_view O.taken O.faults out.new)
         (sink_view E.taken E.faults err.old) (sink_view E.taken E.faults err.new))) }
@@ -255,7 +363,7 @@ fn explain_file<D: Desk, O: Sink, E: Sink>(
     out: &mut O,
     err: &mut E,
 ) -> Status
-    ensures { OverFile name.now Explains result (call_of
+    ensures { OverFile a_query name.now Explains result (call_of
         (desk_view D.told D.left D.faults D.open_faults desk.old) (desk_view D.told D.left D.faults D.open_faults desk.new)
         (sinks_of (sink_view O.taken O.faults out.old) (sink_view O.taken O.faults out.new)
         (sink_view E.taken E.faults err.old) (sink_view E.taken E.faults err.new))) }

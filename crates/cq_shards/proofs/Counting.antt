@@ -68,7 +68,9 @@ one_less false q = omega arith
 
 pub matches_among : (x : ℕ) (later_ones : List GameAnswer) → matches_at x later_ones ≤ answers_at x later_ones
 matches_among x [] = omega arith
-matches_among x (a ∷ later_ones) = let m = matches_cons x a later_ones in let n = answers_cons x a later_ones in let r = matches_among x later_ones in let o = one_less (a.index == x) (is_match a) in omega arith
+matches_among x (a ∷ later_ones) =
+    let m = matches_cons x a later_ones in let n = answers_cons x a later_ones in let r = matches_among x later_ones in
+    let o = one_less (a.index == x) (is_match a) in omega arith
 
 -- none of the later answers has this number
 pub none_later : (x : ℕ) (later_ones : List GameAnswer) → All (λ b. x < b.index) later_ones → answers_at x later_ones ≡ 0

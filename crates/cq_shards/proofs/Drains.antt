@@ -1,173 +1,174 @@
 -- Workers as they draw, and what is gathered of them.
-use Rattle.std.proofs.Common.{Some, length-append, ◌-◌, ◌==◌, ◌≡◌, ℕ, ◌+◌, ◌<◌, ◌≤◌, List, [], ◌∷◌, ◌++◌, length, refl, sym, ap, ◌∙◌, subst, arith, All, cond, eq-eqb, Bool, true, false}
-use Rattle.std.specs.Prelude.{sum_by, nat_eq}
+use Rattle.std.proofs.Common.{Some, length-append, ◌==◌, ◌≡◌, ℕ, ◌+◌, ◌<◌, ◌≤◌, List, [], ◌∷◌, ◌++◌, length, sym, ap, ◌∙◌, subst, arith, All, Bool}
+use Rattle.std.specs.Prelude.{sum_by, count_by}
 use Rattle.std.proofs.lemmas.List.{map-append}
 use Rattle.std.proofs.lemmas.List.Elements.{All-pop, All-push, All-nil, All-append}
 use Rattle.std.proofs.lemmas.List.Sums.{sum_by-append, sum_by_push}
+use Rattle.cq_board.proofs.Increasing.{one_if}
 use Rattle.cq_board.specs.declared.seat.Board.{Board}
 use Rattle.cq_board.specs.declared.seat.ClaimSeat.{ClaimSeat}
-use Rattle.cq_board.specs.Draws.{times, times_in, once_below, IsDrawnOnce}
+use Rattle.cq_board.specs.Draws.{times, times_in, IsDrawnOnce}
 use Rattle.cq_board.specs.Seats.{seats_of, IsSeatOf, drawn, all_drawn, HasEnded}
 use Rattle.cq_shards.specs.declared.batch.Batch.{Batch}
-use Rattle.cq_shards.specs.declared.answers.GameAnswer.{GameAnswer}
-use Rattle.cq_shards.specs.declared.workers.Worker.{Worker}
-use Rattle.cql_syntax.specs.Trees.{QueryTree}
-use Rattle.cq_shards.specs.Answers.{AreAnswersOf, IsAnswerAmong, IsAnswerAt, answers_at, games_of, number_of}
-use Rattle.cq_shards.specs.Work.{HasAnswered, IsFresh, IsThrough, size}
+use Rattle.cq_shards.specs.Answers.{number_of}
+use Rattle.cq_shards.specs.Work.{HasMade, IsPast, size}
+use Rattle.cq_shards.proofs.Counting.{below_once, once_at, same_bool, same_self, not_same, times_more}
 
-abbrev IsAnswerIn : QueryTree → Batch → GameAnswer → Type 0
-IsAnswerIn query b a = IsAnswerAmong query (number_of b) (games_of b) a
+-- what is made of a game has its number in the archive
+abbrev pub IsNumbered : {X : Type 0} → (ℕ → X → Type 0) → (X → ℕ) → Batch → Type 0
+IsNumbered {X} IsOf index batch = (number : ℕ) (x : X) → IsOf number x → index x ≡ number_of batch + number
 
-abbrev IsAnswerOf : QueryTree → Batch → ℕ → GameAnswer → Type 0
-IsAnswerOf query b number a = IsAnswerAt query (number_of b) (games_of b) number a
+-- one of the things that are made
+abbrev pub IsIn : {X : Type 0} → (ℕ → X → Type 0) → X → Type 0
+IsIn IsOf x = (number : ℕ) × IsOf number x
+
+-- how many of some things are of the game with this number
+abbrev pub made_at : {X : Type 0} → (X → ℕ) → Batch → ℕ → List X → ℕ
+made_at index batch number made = count_by (λ x. index x == number_of batch + number) made
 
 -- a worker before this turn
-pub record IsDrawing (board : Board) (query : QueryTree) (batch : Batch) (w : Worker) (turn : ℕ) : Type 0 where
-  pub seat : IsSeatOf board w.seat
-  pub may_draw : HasEnded w.seat → ⊥
-  pub turns : length (drawn w.seat) ≡ turn
+pub record IsDrawing {X : Type 0} (IsOf : ℕ → X → Type 0) (index : X → ℕ) (board : Board) (batch : Batch) (s : ClaimSeat) (made : List X) (turn : ℕ) : Type 0 where
+  pub seat : IsSeatOf board s
+  pub may_draw : HasEnded s → ⊥
+  pub turns : length (drawn s) ≡ turn
   pub few : turn ≤ size batch
-  pub answered : HasAnswered query batch (drawn w.seat) w.answers.items
+  pub has_made : HasMade IsOf index batch (drawn s) made
 
-pub starts : (board : Board) (query : QueryTree) (batch : Batch) (w : Worker) → IsFresh board w → IsDrawing board query batch w 0
-starts board query batch w fresh = record {
-  seat = fresh.seat;
-  may_draw = fresh.may_draw;
-  turns = ap length fresh.nothing;
-  few = omega arith;
-  answered = record {
-    each = subst (All (IsAnswerIn query batch)) (sym fresh.no_answers) (All-nil (IsAnswerIn query batch));
-    drawn_ = λ number less. ap (answers_at (number_of batch + number)) fresh.no_answers ∙ sym (ap (times number) fresh.nothing);
-  };
-}
-
-abbrev pub one_if : Bool → ℕ
-one_if true = 1
-one_if false = 0
-
-cond_one : (b : Bool) → cond b 1 0 ≡ one_if b
-cond_one true = refl
-cond_one false = refl
-
--- one number more is drawn: how often another stands in the list
-times_more : (x : ℕ) (was now : List ℕ) (k : ℕ) → now ≡ was ++ k ∷ [] → times x now ≡ times x was + one_if (k == x)
-times_more x was now k more = ap (times x) more ∙ sum_by_push (λ y. cond (y == x) 1 0) was k ∙ ap (λ (n : ℕ). times x was + n) (cond_one (k == x))
-
-answers_more : (x : ℕ) (was now : List GameAnswer) (a : GameAnswer) → now ≡ was ++ a ∷ [] → answers_at x now ≡ answers_at x was + one_if (a.index == x)
-answers_more x was now a more = ap (answers_at x) more ∙ sum_by_push (λ b. cond (b.index == x) 1 0) was a ∙ ap (λ (n : ℕ). answers_at x was + n) (cond_one (a.index == x))
-
-same_bool : (base k x index : ℕ) → index ≡ base + k → nat_eq index (base + x) ≡ nat_eq k x
-same_bool base k x index is = grind arith
-
-same_test : (base k x index : ℕ) → index ≡ base + k → one_if (index == base + x) ≡ one_if (k == x)
-same_test base k x index is = ap one_if (same_bool base k x index is)
-
-other_test : (k x n : ℕ) → x < n → n ≤ k → one_if (k == x) ≡ 0
-other_test k x n less more = let e : nat_eq k x ≡ false = grind arith in ap one_if e
-
-same_one : (k : ℕ) → one_if (k == k) ≡ 1
-same_one k = let e : nat_eq k k ≡ true = eq-eqb k k refl in ap one_if e
-
-pub goes_on : (board : Board) (query : QueryTree) (batch : Batch) (w now : Worker) (number turn : ℕ) (a : GameAnswer) → IsDrawing board query batch w turn → IsSeatOf board now.seat
-    → (HasEnded now.seat → ⊥) → drawn now.seat ≡ drawn w.seat ++ number ∷ [] → number < size batch → length (drawn w.seat) ≤ number
-    → IsAnswerOf query batch number a → now.answers.items ≡ w.answers.items ++ a ∷ [] → IsDrawing board query batch now (turn + 1)
-goes_on board query batch w now number turn a was seat open_ drew less late is more = record {
+pub starts : {X : Type 0} (IsOf : ℕ → X → Type 0) (index : X → ℕ) (board : Board) (batch : Batch) (s : ClaimSeat) (made : List X)
+    → IsSeatOf board s → (HasEnded s → ⊥) → drawn s ≡ [] → made ≡ [] → IsDrawing IsOf index board batch s made 0
+starts IsOf index board batch s made seat open_ nothing none = record {
   seat = seat;
   may_draw = open_;
-  turns = let l = length-append (drawn w.seat) (number ∷ []) in let t = was.turns in let e : length (drawn now.seat) ≡ length (drawn w.seat ++ number ∷ []) = ap length drew in omega arith;
-  few = let t = was.turns in omega arith;
-  answered = record {
-    each = subst (All (IsAnswerIn query batch)) (sym more) (All-push (IsAnswerIn query batch) w.answers.items a was.answered.each (number, is));
-    drawn_ = λ x below.
-        let b = was.answered.drawn_ x below in
-        let t = times_more x (drawn w.seat) (drawn now.seat) number drew in
-        let s = answers_more (number_of batch + x) w.answers.items now.answers.items a more in
-        let e = same_test (number_of batch) number x a.index (ap (λ (b : GameAnswer). b.index) is.is) in
-        s ∙ (ap (λ (n : ℕ). n + one_if (a.index == number_of batch + x)) b ∙ ap (λ (n : ℕ). times x (drawn w.seat) + n) e) ∙ sym t;
+  turns = ap length nothing;
+  few = omega arith;
+  has_made = record {
+    each = subst (All (IsIn IsOf)) (sym none) (All-nil (IsIn IsOf));
+    drawn_ = λ number less. ap (made_at index batch number) none ∙ sym (ap (times number) nothing);
   };
 }
 
-pub ends : (board : Board) (query : QueryTree) (batch : Batch) (w now : Worker) (number turn : ℕ) → IsDrawing board query batch w turn → IsSeatOf board now.seat
-    → drawn now.seat ≡ drawn w.seat ++ number ∷ [] → size batch ≤ number → now.answers.items ≡ w.answers.items → IsThrough board query batch now
-ends board query batch w now number turn was seat drew late same = record {
+pub made_more : {X : Type 0} (p : X → Bool) (was now : List X) (x : X) → now ≡ was ++ x ∷ [] → count_by p now ≡ count_by p was + one_if (p x)
+made_more p was now x more = ap (count_by p) more ∙ sum_by_push (λ y. one_if (p y)) was x
+
+other_test : (k x n : ℕ) → x < n → n ≤ k → one_if (k == x) ≡ 0
+other_test k x n less more = ap one_if (not_same k x (λ e. absurd (omega (arith, e, less, more))))
+
+-- what a worker draws, and makes of it
+pub record DrewOne {X : Type 0} (IsOf : ℕ → X → Type 0) (board : Board) (batch : Batch) (s t : ClaimSeat) (was now : List X) (number : ℕ) (x : X) : Type 0 where
+  pub seat : IsSeatOf board t
+  pub may_draw : HasEnded t → ⊥
+  pub drew : drawn t ≡ drawn s ++ number ∷ []
+  pub inside : number < size batch
+  pub late : length (drawn s) ≤ number
+  pub is : IsOf number x
+  pub more : now ≡ was ++ x ∷ []
+
+pub goes_on : {X : Type 0} (IsOf : ℕ → X → Type 0) (index : X → ℕ) (board : Board) (batch : Batch) (s t : ClaimSeat) (was now : List X) (number turn : ℕ) (x : X)
+    → IsNumbered IsOf index batch → IsDrawing IsOf index board batch s was turn → DrewOne IsOf board batch s t was now number x
+    → IsDrawing IsOf index board batch t now (turn + 1)
+goes_on {X} IsOf index board batch s t was now number turn x numbered before one = record {
+  seat = one.seat;
+  may_draw = one.may_draw;
+  turns = let l = length-append (drawn s) (number ∷ []) in let a = before.turns in let e : length (drawn t) ≡ length (drawn s ++ number ∷ []) = ap length one.drew in omega arith;
+  few = let a = before.turns in let b = one.late in let c = one.inside in omega arith;
+  has_made = record {
+    each = subst (All (IsIn IsOf)) (sym one.more) (All-push (IsIn IsOf) was x before.has_made.each (number, one.is));
+    drawn_ = λ k below.
+        let b = before.has_made.drawn_ k below in
+        let d = times_more k (drawn s) (drawn t) number one.drew in
+        let m = made_more (λ (y : X). index y == number_of batch + k) was now x one.more in
+        let e : one_if (index x == number_of batch + k) ≡ one_if (number == k) = ap one_if (same_bool (number_of batch) number k (index x) (numbered number x one.is)) in
+        m ∙ (ap (λ (n : ℕ). n + one_if (index x == number_of batch + k)) b ∙ ap (λ (n : ℕ). times k (drawn s) + n) e) ∙ sym d;
+  };
+}
+
+-- a worker that found memory and goes on no more
+pub record IsDone {X : Type 0} (IsOf : ℕ → X → Type 0) (index : X → ℕ) (board : Board) (batch : Batch) (s : ClaimSeat) (made : List X) : Type 0 where
+  pub seat : IsSeatOf board s
+  pub has_made : HasMade IsOf index batch (drawn s) made
+  pub past : IsPast batch (drawn s)
+
+pub ends : {X : Type 0} (IsOf : ℕ → X → Type 0) (index : X → ℕ) (board : Board) (batch : Batch) (s t : ClaimSeat) (made : List X) (number turn : ℕ)
+    → IsDrawing IsOf index board batch s made turn → IsSeatOf board t → drawn t ≡ drawn s ++ number ∷ [] → size batch ≤ number → IsDone IsOf index board batch t made
+ends IsOf index board batch s t made number turn before seat drew late = record {
   seat = seat;
-  answered = λ fed. record {
-    each = subst (All (IsAnswerIn query batch)) (sym same) was.answered.each;
-    drawn_ = λ x below.
-        let b = was.answered.drawn_ x below in
-        let t = times_more x (drawn w.seat) (drawn now.seat) number drew in
-        let o = other_test number x (size batch) below late in
-        ap (answers_at (number_of batch + x)) same ∙ b ∙ omega arith;
+  has_made = record {
+    each = before.has_made.each;
+    drawn_ = λ k below.
+        let b = before.has_made.drawn_ k below in
+        let d = times_more k (drawn s) (drawn t) number drew in
+        let o = other_test number k (size batch) below late in
+        b ∙ omega (arith, d, o);
   };
-  past = λ fed. (number, late, (let t = times_more number (drawn w.seat) (drawn now.seat) number drew in let o = same_one number in omega arith));
+  past = (number, late, (let d = times_more number (drawn s) (drawn t) number drew in let o = ap one_if (same_self number) in omega (arith, d, o)));
 }
-
-pub starved : (board : Board) (query : QueryTree) (batch : Batch) (now : Worker) → IsSeatOf board now.seat → now.starved ≡ true → IsThrough board query batch now
-starved board query batch now seat is = record { seat = seat; answered = λ fed. absurd (grind arith); past = λ fed. absurd (grind arith) }
 
 -- what is gathered of the workers that are taken so far, while these are left
-pub record IsGathering (board : Board) (query : QueryTree) (batch : Batch) (left : List Worker) (seats : List ClaimSeat) (answers : List GameAnswer) : Type 0 where
-  pub through : All (IsThrough board query batch) left
+pub record IsGathering {W X : Type 0} (Is : W → Type 0) (IsOf : ℕ → X → Type 0) (index : X → ℕ) (board : Board) (batch : Batch) (left : List W) (seats : List ClaimSeat) (made : List X) : Type 0 where
+  pub through : All Is left
   pub taken : All (IsSeatOf board) seats
   pub count : length seats + length left ≡ seats_of board
-  pub each : All (IsAnswerIn query batch) answers
-  pub drawn_ : (number : ℕ) → number < size batch → answers_at (number_of batch + number) answers ≡ times_in number (all_drawn seats)
+  pub each : All (IsIn IsOf) made
+  pub drawn_ : (number : ℕ) → number < size batch → made_at index batch number made ≡ times_in number (all_drawn seats)
   pub past : 0 < length seats → (number : ℕ) × (size batch ≤ number) × (0 < times_in number (all_drawn seats))
 
-pub gathers : (board : Board) (query : QueryTree) (batch : Batch) (left : List Worker) (seats : List ClaimSeat) (answers : List GameAnswer) → All (IsThrough board query batch) left
-    → length left ≡ seats_of board → seats ≡ [] → answers ≡ [] → IsGathering board query batch left seats answers
-gathers board query batch left seats answers through count none nothing = record {
+pub gathers : {W X : Type 0} (Is : W → Type 0) (IsOf : ℕ → X → Type 0) (index : X → ℕ) (board : Board) (batch : Batch) (left : List W) (seats : List ClaimSeat) (made : List X)
+    → All Is left → length left ≡ seats_of board → seats ≡ [] → made ≡ [] → IsGathering Is IsOf index board batch left seats made
+gathers Is IsOf index board batch left seats made through count none nothing = record {
   through = through;
   taken = subst (All (IsSeatOf board)) (sym none) (All-nil (IsSeatOf board));
-  count = let e : length seats ≡ 0 = ap length none in omega arith;
-  each = subst (All (IsAnswerIn query batch)) (sym nothing) (All-nil (IsAnswerIn query batch));
-  drawn_ = λ number less. ap (answers_at (number_of batch + number)) nothing ∙ sym (ap (λ s. times_in number (all_drawn s)) none);
-  past = λ some. let e : length seats ≡ 0 = ap length none in absurd (omega arith);
+  count = let e : length seats ≡ 0 = ap length none in omega (arith, e, count);
+  each = subst (All (IsIn IsOf)) (sym nothing) (All-nil (IsIn IsOf));
+  drawn_ = λ number less. ap (made_at index batch number) nothing ∙ sym (ap (λ s. times_in number (all_drawn s)) none);
+  past = λ some. let e : length seats ≡ 0 = ap length none in absurd (omega (arith, e, some));
 }
 
 in_more : (x : ℕ) (rest now : List ClaimSeat) (s : ClaimSeat) → now ≡ rest ++ s ∷ [] → times_in x (all_drawn now) ≡ times_in x (all_drawn rest) + times x (drawn s)
 in_more x rest now s more = ap (λ l. times_in x (all_drawn l)) more ∙ ap (sum_by (times x)) (map-append drawn rest (s ∷ [])) ∙ sum_by_push (times x) (all_drawn rest) (drawn s)
 
-pub gathers_one : (board : Board) (query : QueryTree) (batch : Batch) (left rest : List Worker) (w : Worker) (seats seats' : List ClaimSeat) (answers answers' : List GameAnswer)
-    → IsGathering board query batch left seats answers → left ≡ rest ++ w ∷ [] → w.starved ≡ false → seats' ≡ seats ++ w.seat ∷ [] → answers' ≡ answers ++ w.answers.items
-    → IsGathering board query batch rest seats' answers'
-gathers_one board query batch left rest w seats seats' answers answers' was taken fed more told =
-    let p = All-pop (IsThrough board query batch) left rest (Some w) taken was.through in
-    let t : IsThrough board query batch w = p.1 in
-    let has = t.answered fed in record {
+-- one worker more is taken
+pub record TookOne {W X : Type 0} (left rest : List W) (w : W) (seats seats' : List ClaimSeat) (s : ClaimSeat) (was now more : List X) : Type 0 where
+  pub left_ : left ≡ rest ++ w ∷ []
+  pub seat : seats' ≡ seats ++ s ∷ []
+  pub made : now ≡ was ++ more
+
+pub gathers_one : {W X : Type 0} (Is : W → Type 0) (IsOf : ℕ → X → Type 0) (index : X → ℕ) (board : Board) (batch : Batch) (left rest : List W) (w : W)
+    (seats seats' : List ClaimSeat) (s : ClaimSeat) (was now more : List X) → IsGathering Is IsOf index board batch left seats was → TookOne left rest w seats seats' s was now more
+    → (Is w → IsDone IsOf index board batch s more) → IsGathering Is IsOf index board batch rest seats' now
+gathers_one {W} {X} Is IsOf index board batch left rest w seats seats' s was now more before one done =
+    let p = All-pop Is left rest (Some w) one.left_ before.through in
+    let has : IsDone IsOf index board batch s more = done p.1 in record {
       through = p.0;
-      taken = subst (All (IsSeatOf board)) (sym more) (All-push (IsSeatOf board) seats w.seat was.taken t.seat);
-      count = let a = length-append seats (w.seat ∷ []) in let b = length-append rest (w ∷ []) in let c = was.count in
-          let d : length seats' ≡ length (seats ++ w.seat ∷ []) = ap length more in let e : length left ≡ length (rest ++ w ∷ []) = ap length taken in omega arith;
-      each = subst (All (IsAnswerIn query batch)) (sym told) (All-append (IsAnswerIn query batch) answers w.answers.items was.each has.each);
-      drawn_ = λ x less.
-          let a : answers_at (number_of batch + x) answers' ≡ answers_at (number_of batch + x) answers + answers_at (number_of batch + x) w.answers.items =
-          ap (answers_at (number_of batch + x)) told ∙ sum_by-append (λ b. cond (b.index == number_of batch + x) 1 0) answers w.answers.items in
-          let b = was.drawn_ x less in
-          let c = has.drawn_ x less in
-          let d = in_more x seats seats' w.seat more in
-          a ∙ (ap (λ (n : ℕ). n + answers_at (number_of batch + x) w.answers.items) b ∙ ap (λ (n : ℕ). times_in x (all_drawn seats) + n) c) ∙ sym d;
-      past = λ some. let late = t.past fed in (late.0, late.1, (let d = in_more late.0 seats seats' w.seat more in let l = late.2 in omega arith));
+      taken = subst (All (IsSeatOf board)) (sym one.seat) (All-push (IsSeatOf board) seats s before.taken has.seat);
+      count = let a = length-append seats (s ∷ []) in let b = length-append rest (w ∷ []) in let c = before.count in
+          let d : length seats' ≡ length (seats ++ s ∷ []) = ap length one.seat in let e : length left ≡ length (rest ++ w ∷ []) = ap length one.left_ in omega arith;
+      each = subst (All (IsIn IsOf)) (sym one.made) (All-append (IsIn IsOf) was more before.each has.has_made.each);
+      drawn_ = λ k less.
+          let a : made_at index batch k now ≡ made_at index batch k was + made_at index batch k more =
+          ap (made_at index batch k) one.made ∙ sum_by-append (λ (x : X). one_if (index x == number_of batch + k)) was more in
+          let b = before.drawn_ k less in
+          let c = has.has_made.drawn_ k less in
+          let d = in_more k seats seats' s one.seat in
+          a ∙ (ap (λ (n : ℕ). n + made_at index batch k more) b ∙ ap (λ (n : ℕ). times_in k (all_drawn seats) + n) c) ∙ sym d;
+      past = λ some. let late = has.past in (late.0, late.1, (let d = in_more late.0 seats seats' s one.seat in let l = late.2 in omega (arith, d, l)));
     }
 
-once_at : (next x : ℕ) → x < next → once_below next x ≡ 1
-once_at next x less = grind arith
+-- each game's once
+pub record AreMade {X : Type 0} (IsOf : ℕ → X → Type 0) (index : X → ℕ) (batch : Batch) (made : List X) : Type 0 where
+  pub each : All (IsIn IsOf) made
+  pub once : (number : ℕ) → number < size batch → made_at index batch number made ≡ 1
 
-below_once : (next x : ℕ) → 0 < once_below next x → x < next
-below_once next x some = grind arith
-
-pub gathered : (board : Board) (query : QueryTree) (batch : Batch) (left : List Worker) (seats : List ClaimSeat) (answers : List GameAnswer) (next : ℕ)
-    → IsGathering board query batch left seats answers
-    → left ≡ [] → 0 < seats_of board → IsDrawnOnce next (all_drawn seats) → AreAnswersOf query batch answers
-gathered board query batch left seats answers next was none some once =
+pub gathered : {W X : Type 0} (Is : W → Type 0) (IsOf : ℕ → X → Type 0) (index : X → ℕ) (board : Board) (batch : Batch) (left : List W) (seats : List ClaimSeat) (made : List X) (next : ℕ)
+    → IsGathering Is IsOf index board batch left seats made → left ≡ [] → 0 < seats_of board → IsDrawnOnce next (all_drawn seats) → AreMade IsOf index batch made
+gathered Is IsOf index board batch left seats made next was none some once =
     let count = was.count in
     let empty : length left ≡ 0 = ap length none in
-    let late = was.past (omega arith) in
+    let late = was.past (omega (arith, count, empty, some)) in
     let there = late.2 in
     let o = once late.0 in
-    let high = below_once next late.0 (omega arith) in
+    let high = below_once next late.0 (omega (arith, there, o)) in
     let far = late.1 in
     record {
       each = was.each;
-      once = λ number less. was.drawn_ number less ∙ once number ∙ once_at next number (omega arith);
+      once = λ number less. was.drawn_ number less ∙ once number ∙ once_at next number (omega (arith, high, far, less));
     }

@@ -21,7 +21,8 @@ use Rattle.cq_shards.specs.Work.{size}
 use Rattle.cq_shards.proofs.Counting.{answers_both, matches_both, once_at, below_once}
 
 -- what is gathered of the workers that are taken so far, while these are left
-pub record IsGathering (board : Board) (first : FirstBoard) (query : QueryTree) (batch : Batch) (left : List Finder) (seats : List ClaimSeat) (marks : List FirstSeat) (answers : List GameAnswer) : Type 0 where
+pub record IsGathering (board : Board) (first : FirstBoard) (query : QueryTree) (batch : Batch) (left : List Finder) (seats : List ClaimSeat)
+    (marks : List FirstSeat) (answers : List GameAnswer) : Type 0 where
   pub through : All (IsFinished board first query batch) left
   pub taken : All (IsSeatOf board) seats
   pub marked : All (IsMarkOf first) marks
@@ -32,8 +33,9 @@ pub record IsGathering (board : Board) (first : FirstBoard) (query : QueryTree) 
   pub found_ : (x : ℕ) → x < size batch → matches_at (number_of batch + x) answers ≡ times_in x (map found marks)
   pub past : 0 < length seats → (number : ℕ) × (size batch ≤ number) × (0 < times_in number (all_drawn seats))
 
-pub gathers : (board : Board) (first : FirstBoard) (query : QueryTree) (batch : Batch) (left : List Finder) (seats : List ClaimSeat) (marks : List FirstSeat) (answers : List GameAnswer) → All (IsFinished board first query batch) left
-    → length left ≡ seats_of board → length left ≡ marks_of first → seats ≡ [] → marks ≡ [] → answers ≡ [] → IsGathering board first query batch left seats marks answers
+pub gathers : (board : Board) (first : FirstBoard) (query : QueryTree) (batch : Batch) (left : List Finder) (seats : List ClaimSeat) (marks : List FirstSeat)
+    (answers : List GameAnswer) → All (IsFinished board first query batch) left → length left ≡ seats_of board → length left ≡ marks_of first
+    → seats ≡ [] → marks ≡ [] → answers ≡ [] → IsGathering board first query batch left seats marks answers
 gathers board first query batch left seats marks answers through count count_marks none no_marks nothing = record {
   through = through;
   taken = subst (All (IsSeatOf board)) (sym none) (All-nil (IsSeatOf board));
@@ -53,8 +55,10 @@ module _ {S : Type 0} where
   longer : (rest now : List S) (s : S) → now ≡ rest ++ s ∷ [] → length now ≡ length rest + 1
   longer rest now s more = ap length more ∙ length-append rest (s ∷ [])
 
-pub gathers_one : (board : Board) (first : FirstBoard) (query : QueryTree) (batch : Batch) (left rest : List Finder) (w : Finder) (seats seats' : List ClaimSeat) (marks marks' : List FirstSeat) (answers answers' : List GameAnswer)
-    → IsGathering board first query batch left seats marks answers → left ≡ rest ++ w ∷ [] → w.starved ≡ false → seats' ≡ seats ++ w.seat ∷ [] → marks' ≡ marks ++ w.mark ∷ [] → answers' ≡ answers ++ w.answers.items
+pub gathers_one : (board : Board) (first : FirstBoard) (query : QueryTree) (batch : Batch) (left rest : List Finder) (w : Finder)
+    (seats seats' : List ClaimSeat) (marks marks' : List FirstSeat) (answers answers' : List GameAnswer)
+    → IsGathering board first query batch left seats marks answers → left ≡ rest ++ w ∷ [] → w.starved ≡ false → seats' ≡ seats ++ w.seat ∷ []
+    → marks' ≡ marks ++ w.mark ∷ [] → answers' ≡ answers ++ w.answers.items
     → IsGathering board first query batch rest seats' marks' answers'
 gathers_one board first query batch left rest w seats seats' marks marks' answers answers' was taken fed more more_marks told =
     let p = All-pop (IsFinished board first query batch) left rest (Some w) taken was.through in
@@ -79,7 +83,8 @@ none_or_some : (n : ℕ) → (n ≡ 0) ⊎ (0 < n)
 none_or_some zero = inl refl
 none_or_some (suc n) = inr (omega arith)
 
-pub gathered : (board : Board) (first : FirstBoard) (query : QueryTree) (batch : Batch) (left : List Finder) (seats : List ClaimSeat) (marks : List FirstSeat) (answers : List GameAnswer) (next word : ℕ)
+pub gathered : (board : Board) (first : FirstBoard) (query : QueryTree) (batch : Batch) (left : List Finder) (seats : List ClaimSeat)
+    (marks : List FirstSeat) (answers : List GameAnswer) (next word : ℕ)
     → IsGathering board first query batch left seats marks answers → length left ≡ 0 → 0 < seats_of board → IsDrawnOnce next (all_drawn seats)
     → IsFirst (size batch) word (map found marks) (map skipped marks) → AreFound query batch word answers
 gathered board first query batch left seats marks answers next word was none some_seats once is = record {

@@ -41,7 +41,8 @@ starts board first query batch w fresh = record {
   };
 }
 
-has_skipped : (query : QueryTree) (batch : Batch) (w now : Finder) (number : ℕ) (numbers more : List ℕ) → HasFound query batch numbers (found w.mark) (skipped w.mark) w.answers.items → more ≡ numbers ++ number ∷ []
+has_skipped : (query : QueryTree) (batch : Batch) (w now : Finder) (number : ℕ) (numbers more : List ℕ)
+    → HasFound query batch numbers (found w.mark) (skipped w.mark) w.answers.items → more ≡ numbers ++ number ∷ []
     → HasSkipped number w now → HasFound query batch more (found now.mark) (skipped now.mark) now.answers.items
 has_skipped query batch w now number numbers more was drew skips = record {
   each = subst (All (IsAnswerIn query batch)) (sym skips.same) was.each;
@@ -51,7 +52,8 @@ has_skipped query batch w now number numbers more was drew skips = record {
   found_ = λ x less. ap (matches_at (number_of batch + x)) skips.same ∙ was.found_ x less ∙ sym (ap (times x) skips.founds);
 }
 
-has_told : (query : QueryTree) (batch : Batch) (w now : Finder) (number : ℕ) (numbers more : List ℕ) → HasFound query batch numbers (found w.mark) (skipped w.mark) w.answers.items → more ≡ numbers ++ number ∷ []
+has_told : (query : QueryTree) (batch : Batch) (w now : Finder) (number : ℕ) (numbers more : List ℕ)
+    → HasFound query batch numbers (found w.mark) (skipped w.mark) w.answers.items → more ≡ numbers ++ number ∷ []
     → number < size batch → HasAnsweredOne query batch number w now → HasFound query batch more (found now.mark) (skipped now.mark) now.answers.items
 has_told query batch w now number numbers more was drew within told = record {
   each = subst (All (IsAnswerIn query batch)) (sym told.more) (All-push (IsAnswerIn query batch) w.answers.items told.answer was.each (number, told.is));
@@ -69,7 +71,8 @@ has_told query batch w now number numbers more was drew within told = record {
 abbrev pub seated : Finder → ClaimSeat → Finder
 seated w s = record { seat = s; mark = w.mark; answers = w.answers; starved = w.starved }
 
-pub goes_on : (board : Board) (first : FirstBoard) (query : QueryTree) (batch : Batch) (w now : Finder) (s : ClaimSeat) (number turn : ℕ) (fed : Bool) → IsDrawing board first query batch w turn → IsSeatOf board s
+pub goes_on : (board : Board) (first : FirstBoard) (query : QueryTree) (batch : Batch) (w now : Finder) (s : ClaimSeat) (number turn : ℕ) (fed : Bool)
+    → IsDrawing board first query batch w turn → IsSeatOf board s
     → (HasEnded s → ⊥) → drawn s ≡ drawn w.seat ++ number ∷ [] → number < size batch → length (drawn w.seat) ≤ number
     → TookOne first query batch number (seated w s) now fed → fed ≡ true → IsDrawing board first query batch now (turn + 1)
 goes_on board first query batch w now s number turn fed was seat may drew less late took is_fed = record {
@@ -103,7 +106,8 @@ ends board first query batch w s number turn was seat drew late = record {
   past = λ fed. (number, late, (let t = times_more number (drawn w.seat) (drawn s) number drew in let o = ap one_if (same_self number) in omega arith));
 }
 
-pub starved : (board : Board) (first : FirstBoard) (query : QueryTree) (batch : Batch) (w now : Finder) (s : ClaimSeat) (number : ℕ) (fed : Bool) → IsSeatOf board s → TookOne first query batch number (seated w s) now fed → fed ≡ false
+pub starved : (board : Board) (first : FirstBoard) (query : QueryTree) (batch : Batch) (w now : Finder) (s : ClaimSeat) (number : ℕ) (fed : Bool)
+    → IsSeatOf board s → TookOne first query batch number (seated w s) now fed → fed ≡ false
     → IsFinished board first query batch now
 starved board first query batch w now s number fed seat took not_fed =
     let hungry = took.starved not_fed in record {
@@ -113,19 +117,23 @@ starved board first query batch w now s number fed seat took not_fed =
       past = λ fed. absurd (grind arith);
     }
 
-pub fresh_more : (board : Board) (first : FirstBoard) (was now : List Finder) (s : ClaimSeat) (m : FirstSeat) (w : Finder) → All (IsFreshFinder board first) was → IsSeatOf board s × (drawn s ≡ []) × (HasEnded s → ⊥)
+pub fresh_more : (board : Board) (first : FirstBoard) (was now : List Finder) (s : ClaimSeat) (m : FirstSeat) (w : Finder)
+    → All (IsFreshFinder board first) was → IsSeatOf board s × (drawn s ≡ []) × (HasEnded s → ⊥)
     → IsUnusedMark first m → w.seat ≡ s → w.mark ≡ m → w.answers.items ≡ [] → w.starved ≡ false → now ≡ was ++ w ∷ [] → All (IsFreshFinder board first) now
-fresh_more board first was now s m w before (of_board, nothing, may) (of_first, unused) seat mark none fed more = subst (All (IsFreshFinder board first)) (sym more) (All-push (IsFreshFinder board first) was w before record {
-  seat = subst (IsSeatOf board) (sym seat) of_board;
-  mark = subst (IsMarkOf first) (sym mark) of_first;
-  nothing = ap drawn seat ∙ nothing;
-  may_draw = λ ended. may (subst HasEnded seat ended);
-  none_found = ap found mark ∙ unused.found;
-  none_skipped = ap skipped mark ∙ unused.skipped;
-  no_answers = none;
-  fed = fed;
-})
+fresh_more board first was now s m w before (of_board, nothing, may) (of_first, unused) seat mark none fed more =
+    subst (All (IsFreshFinder board first)) (sym more) (All-push (IsFreshFinder board first) was w before record {
+      seat = subst (IsSeatOf board) (sym seat) of_board;
+      mark = subst (IsMarkOf first) (sym mark) of_first;
+      nothing = ap drawn seat ∙ nothing;
+      may_draw = λ ended. may (subst HasEnded seat ended);
+      none_found = ap found mark ∙ unused.found;
+      none_skipped = ap skipped mark ∙ unused.skipped;
+      no_answers = none;
+      fed = fed;
+    })
 
-pub count_more : (was now : List Finder) (w : Finder) (left rest : List ClaimSeat) (s : ClaimSeat) (n : ℕ) → now ≡ was ++ w ∷ [] → left ≡ rest ++ s ∷ [] → length was + length left ≡ n → length now + length rest ≡ n
+pub count_more : (was now : List Finder) (w : Finder) (left rest : List ClaimSeat) (s : ClaimSeat) (n : ℕ)
+    → now ≡ was ++ w ∷ [] → left ≡ rest ++ s ∷ [] → length was + length left ≡ n → length now + length rest ≡ n
 count_more was now w left rest s n more taken count =
-    let a : length now ≡ length (was ++ w ∷ []) = ap length more in let b = length-append was (w ∷ []) in let d : length left ≡ length (rest ++ s ∷ []) = ap length taken in let e = length-append rest (s ∷ []) in omega arith
+    let a : length now ≡ length (was ++ w ∷ []) = ap length more in let b = length-append was (w ∷ []) in
+    let d : length left ≡ length (rest ++ s ∷ []) = ap length taken in let e = length-append rest (s ∷ []) in omega arith

@@ -14,9 +14,13 @@ pub mod Streams
 pub mod Filling
 pub mod Braces
 pub mod Found
-pub mod Drains
-pub mod Beside
 pub mod Counting
+pub mod Drains
+pub mod AnswerDraws
+pub mod RowAnswers
+pub mod RowDraws
+pub mod Takings
+pub mod Beside
 pub mod FinderDraws
 pub mod FinderAnswers
 pub mod UpToFirst

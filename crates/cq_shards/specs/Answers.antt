@@ -57,7 +57,8 @@ number_of batch = batch.index
 
 -- the answer of a game
 abbrev pub IsAnswerOf : QueryTree → (index : ℕ) → KeptGame → GameAnswer → Type 0
-IsAnswerOf query index game a = (outcome : Outcome) × IsRead game.start game.first game.bytes outcome × (a ≡ answer_of query index outcome)
+IsAnswerOf query index game a =
+    (outcome : Outcome) × IsRead game.start game.first game.bytes outcome × (a ≡ answer_of query index outcome)
 
 -- the answer of the game that has this number among some games, of which the first has the number `n` in the archive
 pub record IsAnswerAt (query : QueryTree) (n : ℕ) (games : KeptGames) (number : ℕ) (a : GameAnswer) : Type 0 where

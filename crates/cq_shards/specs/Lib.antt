@@ -12,5 +12,7 @@ pub mod Comparing
 pub mod OrderRows
 pub mod Answers
 pub mod Work
+pub mod Rows
+pub mod Many
 pub mod FirstMatch
 pub mod Finders

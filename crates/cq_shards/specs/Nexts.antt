@@ -21,7 +21,8 @@ pub record Moves (was now : Batches) (left left_after : Option (List ℕ)) (Give
   pub limit : now.limit ≡ was.limit
   pub at_end : now.ended ≡ true → IsAtEnd left_after
   pub stays : was.ended ≡ true → (bytes ≡ []) × (now.ended ≡ true)
-  pub within : (front : List ℕ) (m : ℕ) → Stands was front m → now.ended ≡ true → (was.ended ≡ true) ⊎ (length (front ++ bytes) ≤ was.limit)
+  pub within : (front : List ℕ) (m : ℕ) → Stands was front m → now.ended ≡ true
+      → (was.ended ≡ true) ⊎ (length (front ++ bytes) ≤ was.limit)
   pub few : (front : List ℕ) (m : ℕ) → Stands was front m → length (front ++ bytes) ≤ was.limit + 1
   pub needed : (front : List ℕ) (m : ℕ) → Stands was front m → IsNeeded front bytes m
   pub given : (front : List ℕ) (m : ℕ) → Stands was front m → Given (front ++ bytes) m
@@ -42,7 +43,8 @@ pub record HasGivenFull (was : Batches) (AreTaken : ℕ → Type 0) (front : Lis
   pub reads : was.ended ≡ false
   pub taken : AreTaken (length front)
 
-abbrev pub SaysNext : Batches → Batches → Option (List ℕ) → Option (List ℕ) → Result (Option Batch) (Refusal BatchFault) → Type 0
+abbrev pub SaysNext : Batches → Batches → Option (List ℕ) → Option (List ℕ) → Result (Option Batch) (Refusal BatchFault)
+    → Type 0
 SaysNext was now left left_after (Ok (Some batch)) = Moves was now left left_after (GivesBatch now batch)
 SaysNext was now left left_after (Ok None) = Moves was now left left_after (HasGivenAll now)
 SaysNext was now left left_after (Err (Fault ReadFault)) = Moves was now left left_after (HasGivenFull was (λ n. n ≤ was.limit))

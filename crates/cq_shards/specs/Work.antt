@@ -1,10 +1,10 @@
 -- Workers at a batch, before their first draw and after their last, as the private functions give it.
-use Rattle.std.specs.Prelude.{◌≡◌, ℕ, ◌+◌, ◌<◌, ◌≤◌, List, [], length, false, All}
+use Rattle.std.specs.Prelude.{◌≡◌, ℕ, ◌+◌, ◌<◌, ◌≤◌, ◌==◌, List, [], length, false, All, count_by}
 use Rattle.cq_board.specs.declared.seat.Board.{Board}
 use Rattle.cq_board.specs.Draws.{times}
 use Rattle.cq_board.specs.Seats.{IsSeatOf, drawn, HasEnded}
 use Rattle.cql_syntax.specs.Trees.{QueryTree}
-use Rattle.cq_shards.specs.Answers.{IsAnswerAmong, answers_at, games_of, number_of}
+use Rattle.cq_shards.specs.Answers.{IsAnswerAt, games_of, number_of}
 use Rattle.cq_shards.specs.declared.answers.GameAnswer.{GameAnswer}
 use Rattle.cq_shards.specs.declared.batch.Batch.{Batch}
 use Rattle.cq_shards.specs.declared.workers.Worker.{Worker}
@@ -21,10 +21,14 @@ pub record IsFresh (board : Board) (w : Worker) : Type 0 where
 abbrev pub size : Batch → ℕ
 size batch = length (games_of batch)
 
--- what was answered is what was drawn, as far as that is a game of the batch
-pub record HasAnswered (query : QueryTree) (batch : Batch) (numbers : List ℕ) (answers : List GameAnswer) : Type 0 where
-  pub each : All (IsAnswerAmong query (number_of batch) (games_of batch)) answers
-  pub drawn_ : (number : ℕ) → number < size batch → answers_at (number_of batch + number) answers ≡ times number numbers
+-- what was made is of the games that were drawn, as far as these are games of the batch
+pub record HasMade {X : Type 0} (IsOf : ℕ → X → Type 0) (index : X → ℕ) (batch : Batch) (numbers : List ℕ)
+    (made : List X) : Type 0 where
+  pub each : All (λ x. (number : ℕ) × IsOf number x) made
+  pub drawn_ : (number : ℕ) → number < size batch → count_by (λ x. index x == number_of batch + number) made ≡ times number numbers
+
+abbrev pub IsAnswerFor : QueryTree → Batch → ℕ → GameAnswer → Type 0
+IsAnswerFor query batch number a = IsAnswerAt query (number_of batch) (games_of batch) number a
 
 -- a number that is none of the batch was drawn
 abbrev pub IsPast : Batch → List ℕ → Type 0
@@ -33,5 +37,5 @@ IsPast batch numbers = (number : ℕ) × (size batch ≤ number) × (0 < times n
 -- a worker that goes on no more; where it found memory, it drew until none was left
 pub record IsThrough (board : Board) (query : QueryTree) (batch : Batch) (w : Worker) : Type 0 where
   pub seat : IsSeatOf board w.seat
-  pub answered : w.starved ≡ false → HasAnswered query batch (drawn w.seat) w.answers.items
+  pub answered : w.starved ≡ false → HasMade (IsAnswerFor query batch) (λ a. a.index) batch (drawn w.seat) w.answers.items
   pub past : w.starved ≡ false → IsPast batch (drawn w.seat)

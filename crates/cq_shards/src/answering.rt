@@ -1,19 +1,21 @@
 //! The answer of one game.
-ghost use Rattle.std.specs.Prelude.{◌≡◌, ◌+◌, ◌<◌, ◌^◌, length, All, AllPairs, IfOk, Ok};
-ghost use Rattle.cq_annotate.specs.Marking.{game_marked};
+ghost use Rattle.std.specs.Prelude.{◌≡◌, ◌≢◌, ◌<◌, [], length, map, Some, IfOk, Ok, Err};
+ghost use Rattle.cql_syntax.specs.Hits.{hits, keys, marked};
+ghost use Rattle.cql_syntax.specs.TreeOf.{query_tree};
+ghost use Rattle.cql_syntax.specs.Trees.{QueryTree};
 ghost use Rattle.pgn_export.specs.Export.{export_text};
-ghost use Rattle.cql_syntax.specs.Hits.{marks};
-ghost use Rattle.cq_shards.specs.Answers.{IsAnswerAt, IsAnswerOf, answer_of, games_of, number_of, query_in, text_of};
+ghost use Rattle.cq_shards.specs.Answers.{IsAnswerAt, answer_of, games_of, number_of, query_in, text_of};
+ghost use Rattle.cq_shards.specs.Outcomes.{IsReadAt};
 
 use crate::answers::{Answer, GameAnswer, Keys};
 use crate::batch::Batch;
 use crate::finding::find;
-use crate::kept::KeptGame;
 use cq_annotate::mark;
 use cq_outside::{Bytes, NoMemory, Refusal};
 use cql_plan::Plan;
+use cql_syntax::TypedQuery;
 use pgn_export::export;
-use pgn_reader::read_game;
+use pgn_reader::{GameFault, read_game};
 use pgn_tree::Game;
 use std::alloc::Global;
 
@@ -39,60 +41,99 @@ pub(crate) fn answer_at(
     requires { number < length (games_of batch.now) }
     ensures { IfOk result (IsAnswerAt (query_in plan.now) (number_of batch.now) (games_of batch.now) number) }
 {
-    answer_one(
-        alloc,
-        plan,
-        &batch.games[number as usize],
-        batch.index + number,
-    )
+    let outcome = read_at(alloc, batch, number)?;
+    answer_read(alloc, plan, &outcome, batch.index + number)
 }
 
-// The answer of a game that has this number in the archive.
-fn answer_one(
+/// What the game is read as that has this number in a batch.
+pub(crate) fn read_at(
     alloc: Global,
-    plan: &Plan,
-    game: &KeptGame,
-    index: u64,
-) -> Result<GameAnswer, NoMemory>
-    requires { game.now.start < 2 ^ 62 }
-    ensures { IfOk result (IsAnswerOf (query_in plan.now) index game.now) }
+    batch: &Batch,
+    number: u64,
+) -> Result<Result<Game, GameFault>, NoMemory>
+    requires { number < length (games_of batch.now) }
+    ensures { IfOk result (IsReadAt (games_of batch.now) number) }
 {
+    let game = &batch.games[number as usize];
     match read_game(alloc, game.bytes.as_slice(), game.start, game.first) {
-        Ok(game) => answer_game(alloc, plan, &game, index),
-        Err(Refusal::Fault(fault)) => Ok(GameAnswer {
-            index,
-            what: Answer::Refused(fault),
-        }),
+        Ok(read) => Ok(Ok(read)),
+        Err(Refusal::Fault(fault)) => Ok(Err(fault)),
         Err(Refusal::NoMemory) => Err(NoMemory),
     }
 }
 
-// The answer of a game that was read.
-fn answer_game(alloc: Global, plan: &Plan, game: &Game, index: u64) -> Result<GameAnswer, NoMemory>
-    ensures { IfOk result (λ a. a ≡ answer_of (query_in plan.now) index (Ok game.now)) }
+// The answer of a game that is read so.
+fn answer_read(
+    alloc: Global,
+    plan: &Plan,
+    outcome: &Result<Game, GameFault>,
+    index: u64,
+) -> Result<GameAnswer, NoMemory>
+    ensures { IfOk result (λ a. a ≡ answer_of (query_in plan.now) index outcome.now) }
 {
-    let found = find(alloc, plan, game)?;
-    let hits = found.nodes();
-    if hits.is_empty() {
+    match outcome {
+        Ok(game) => {
+            let found = find(alloc, plan, game)?;
+            answer_found(
+                alloc,
+                plan.query(),
+                game,
+                index,
+                found.nodes(),
+                found.keys(),
+            )
+        }
+        Err(fault) => Ok(refused(index, *fault)),
+    }
+}
+
+/// The answer of a faulty game.
+pub(crate) fn refused(index: u64, fault: GameFault) -> GameAnswer
+    ensures { (query : QueryTree) → result ≡ answer_of query index (Err fault) }
+{
+    GameAnswer {
+        index,
+        what: Answer::Refused(fault),
+    }
+}
+
+/// The answer of a game, by the hits of a query and its keys over them.
+pub(crate) fn answer_found(
+    alloc: Global,
+    query: &TypedQuery,
+    game: &Game,
+    index: u64,
+    nodes: &[u32],
+    values: &[i64],
+) -> Result<GameAnswer, NoMemory>
+    requires nodes { nodes.now ≡ hits (query_tree query.now.query) game.now }
+    requires keys { nodes.now ≢ [] → map Some values.now ≡ keys (query_tree query.now.query) game.now }
+    ensures { IfOk result (λ a. a ≡ answer_of (query_tree query.now.query) index (Ok game.now)) }
+{
+    if nodes.is_empty() {
         return Ok(GameAnswer {
             index,
             what: Answer::Miss,
         });
     }
-    let text = marked_text(alloc, plan, game, hits)?;
-    let keys = Keys::of(alloc, found.keys())?;
+    let text = marked_text(alloc, query, game, nodes)?;
+    let keys = Keys::of(alloc, values)?;
     Ok(GameAnswer {
         index,
         what: Answer::Match { text, keys },
     })
 }
 
-// The export of a game that is marked at some of its nodes.
-fn marked_text(alloc: Global, plan: &Plan, game: &Game, nodes: &[u32]) -> Result<Bytes, NoMemory>
-    requires increasing { AllPairs (λ m n. m < n) nodes.now }
-    requires inside { All (λ n. n < length game.now.nodes) nodes.now }
-    ensures { IfOk result (λ text. text ≡ export_text (game_marked (marks (query_in plan.now)) nodes.now game.now)) }
+// The export of a game that is marked at the hits of a query.
+fn marked_text(
+    alloc: Global,
+    query: &TypedQuery,
+    game: &Game,
+    nodes: &[u32],
+) -> Result<Bytes, NoMemory>
+    requires { nodes.now ≡ hits (query_tree query.now.query) game.now }
+    ensures { IfOk result (λ text. text ≡ export_text (marked (query_tree query.now.query) game.now)) }
 {
-    let marked = mark(alloc, game, nodes, &plan.query().query)?;
+    let marked = mark(alloc, game, nodes, &query.query)?;
     export(alloc, &marked)
 }

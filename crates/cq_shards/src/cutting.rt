@@ -58,7 +58,8 @@ impl Batches {
 
     /// Takes the next bytes of the archive.
     pub(crate) fn feed(&mut self, piece: &[u8]) -> Result<(), NoMemory>
-        requires stands { (front : List ℕ) × (m : ℕ) × Stands self.old front m × (length front + length piece.now ≤ self.old.limit + 1) }
+        requires stands { (front : List ℕ) × (m : ℕ) × Stands self.old front m
+            × (length front + length piece.now ≤ self.old.limit + 1) }
         requires reads { self.old.ended ≡ false }
         ensures stands { OnOk result ((front : List ℕ) (m : ℕ) → Stands self.old front m
             → length front + length piece.now ≤ self.old.limit + 1 → Stands self.new (front ++ piece.now) m) }

@@ -3,6 +3,7 @@
 use crate::answers::{Answer, GameAnswer, Keys};
 use crate::batch::Batch;
 use crate::kept::KeptGame;
+use crate::many::ManyAnswers;
 use crate::state::Batches;
 use cq_outside::Shared;
 
@@ -11,6 +12,8 @@ impl Shared for Keys {}
 impl Shared for Answer {}
 
 impl Shared for GameAnswer {}
+
+impl Shared for ManyAnswers {}
 
 impl Shared for KeptGame {}
 

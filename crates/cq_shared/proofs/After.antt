@@ -1,7 +1,7 @@
 -- What is left after some parts, and what they cost.
 use Rattle.std.proofs.Common.{◌≡◌, ℕ, zero, suc, ◌+◌, ◌<◌, ◌≤◌, ◌&&◌, ◌||◌, not, Bool, true, false, List, [], ◌∷◌, ◌++◌, length, get_or, take, drop, refl, sym, ap, ap₂, ◌∙◌, subst, arith, nat_lt, nat_eq}
 use Rattle.std.specs.Prelude.{if◌then◌else◌}
-use Rattle.std.specs.List.{list_all}
+use Rattle.std.specs.List.{list_all, list_any, filter}
 use Rattle.std.proofs.lemmas.Bool.Decides.{nat_tests}
 use Rattle.std.proofs.lemmas.List.{take_more, take_all}
 use Rattle.std.proofs.lemmas.List.Sums.{sum_by-cons}
@@ -9,8 +9,10 @@ use Rattle.cq_position.specs.Games.{Game}
 use Rattle.cq_shared.specs.declared.part.Part.{Part}
 use Rattle.cq_shared.specs.declared.nodes.Nodes.{Nodes}
 use Rattle.cq_shared.specs.Known.{all_shown}
-use Rattle.cq_shared.specs.Matching.{is_left, meets, meets_if, is_class, is_before, cost_if, costs_if, part_cost, plan_cost, AreLeft, AreReady, IsReady, IsNarrowedBy, IsNarrowedIf}
+use Rattle.cq_shared.specs.Matching.{is_left, meets, meets_if, is_class, is_before, cost_if, costs_if, part_cost, plan_cost, cost_at, AreLeft, AreReady, IsReady, IsUnion, IsNarrowedBy, IsNarrowedIf}
+use Rattle.cq_shared.specs.Parts.{PartTree}
 use Rattle.cq_shared.specs.Singles.{shown}
+use Rattle.cq_shared.specs.Wanted.{both, Admits, TakesAtMost}
 
 and_true : (p : Bool) → (p && true) ≡ p
 and_true true = refl
@@ -130,41 +132,34 @@ left_next c game parts began left later had asked = record {
 
 -- what parts cost
 
-parted : (a b : Bool) (v : ℕ) → (a ≡ true → b ≡ false) → (if a || b then v else 0) ≡ (if a then v else 0) + (if b then v else 0)
-parted true true v other = let e = other refl in cc
-parted true false v other = omega arith
-parted false true v other = omega arith
-parted false false v other = refl
+parted : (a b w : Bool) (v : ℕ) → (a ≡ true → b ≡ false) → (if (a || b) && w then v else 0) ≡ (if a && w then v else 0) + (if b && w then v else 0)
+parted true true w v other = let e = other refl in cc
+parted true false true v other = omega arith
+parted true false false v other = omega arith
+parted false true w v other = omega arith
+parted false false w v other = omega arith
 
-pub cost_next : (c : ℕ) (game : Game) (ps : List Part) → costs_if (is_before (c + 1)) game ps ≡ costs_if (is_before c) game ps + costs_if (is_class c) game ps
+pub cost_next : (c : ℕ) (want : Part → Bool) (game : Game) (ps : List Part)
+    → costs_if (both (is_before (c + 1)) want) game ps ≡ costs_if (both (is_before c) want) game ps + costs_if (both (is_class c) want) game ps
 unfolding costs_if
-cost_next c game [] = refl
-cost_next c game (p ∷ ps) =
-    let one : cost_if (is_before (c + 1)) game p ≡ cost_if (is_before c) game p + cost_if (is_class c) game p =
-    ap (λ b. if b then part_cost game (shown p.single) else 0) (below_next p.class c) ∙ parted (is_before c p) (is_class c p) (part_cost game (shown p.single)) (apart p.class c) in
-    omega (arith, one, cost_next c game ps)
+cost_next c want game [] = refl
+cost_next c want game (p ∷ ps) =
+    let one : cost_if (both (is_before (c + 1)) want) game p ≡ cost_if (both (is_before c) want) game p + cost_if (both (is_class c) want) game p =
+    ap (λ b. if b && want p then part_cost game (shown p.single) else 0) (below_next p.class c)
+    ∙ parted (is_before c p) (is_class c p) (want p) (part_cost game (shown p.single)) (apart p.class c) in
+    omega (arith, one, cost_next c want game ps)
 
-pub cost_none : (game : Game) (ps : List Part) → costs_if (is_before 0) game ps ≡ 0
+fewer : (a b w : Bool) (v : ℕ) → (a ≡ true → b ≡ true) → (if a && w then v else 0) ≤ (if b && w then v else 0)
+fewer true true w v e = omega arith
+fewer true false w v e = let f = e refl in cc
+fewer false b w v e = omega arith
+
+pub cost_later : (c d : ℕ) (want : Part → Bool) (game : Game) (ps : List Part) → c ≤ d → costs_if (both (is_before c) want) game ps ≤ costs_if (both (is_before d) want) game ps
 unfolding costs_if
-cost_none game [] = refl
-cost_none game (p ∷ ps) =
-    let one : cost_if (is_before 0) game p ≡ 0 = ap (λ b. if b then part_cost game (shown p.single) else 0) (below_none p.class) in
-    omega (arith, one, cost_none game ps)
-  where
-    below_none : (x : ℕ) → nat_lt x 0 ≡ false
-    below_none x = grind (arith, nat_tests)
-
-fewer : (a b : Bool) (v : ℕ) → (a ≡ true → b ≡ true) → (if a then v else 0) ≤ (if b then v else 0)
-fewer true true v e = omega arith
-fewer true false v e = let f = e refl in cc
-fewer false b v e = omega arith
-
-pub cost_later : (c d : ℕ) (game : Game) (ps : List Part) → c ≤ d → costs_if (is_before c) game ps ≤ costs_if (is_before d) game ps
-unfolding costs_if
-cost_later c d game [] low = omega arith
-cost_later c d game (p ∷ ps) low =
-    let one = fewer (is_before c p) (is_before d p) (part_cost game (shown p.single)) (kept p.class) in
-    omega (arith, one, cost_later c d game ps low)
+cost_later c d want game [] low = omega arith
+cost_later c d want game (p ∷ ps) low =
+    let one = fewer (is_before c p) (is_before d p) (want p) (part_cost game (shown p.single)) (kept p.class) in
+    omega (arith, one, cost_later c d want game ps low)
   where
     kept : (x : ℕ) → nat_lt x c ≡ true → nat_lt x d ≡ true
     kept x e = grind (arith, nat_tests)
@@ -179,21 +174,56 @@ cost_more taken game parts k p inside at = let e : suc k ≡ k + 1 = omega arith
     step (x ∷ xs) zero p inside at = ap (λ y. cost_if taken game y + costs_if taken game xs) (sym at)
     step (x ∷ xs) (suc k) p inside at = step xs k p (omega (arith, inside)) at
 
--- all parts
-pub cost_all : (game : Game) (ps : List Part) → ((k : ℕ) (p : Part) → k < length ps → p ≡ get_or ps k p → p.class < 6) → costs_if (is_before 6) game ps ≡ plan_cost game (all_shown ps)
+-- all parts of which a test is true
+pub cost_all : (game : Game) (test : PartTree → Bool) (ps : List Part) → ((k : ℕ) (p : Part) → k < length ps → p ≡ get_or ps k p → p.class < 6)
+    → costs_if (both (is_before 6) (λ p. test (shown p.single))) game ps ≡ plan_cost game (filter test (all_shown ps))
 unfolding costs_if
-cost_all game [] low = refl
-cost_all game (p ∷ ps) low =
-    let one : cost_if (is_before 6) game p ≡ part_cost game (shown p.single) = ap (λ b. if b then part_cost game (shown p.single) else 0) (below p.class (low 0 p (omega arith) refl)) in
-    omega (arith, one, sum_by-cons (part_cost game) (shown p.single) (all_shown ps), cost_all game ps (λ k r inside at. low (suc k) r (omega (arith, inside)) at))
+cost_all game test [] low = refl
+cost_all game test (p ∷ ps) low =
+    let one : cost_if (both (is_before 6) (λ p. test (shown p.single))) game p ≡ (if test (shown p.single) then part_cost game (shown p.single) else 0) =
+    ap (λ b. if b && test (shown p.single) then part_cost game (shown p.single) else 0) (below p.class (low 0 p (omega arith) refl)) in
+    omega (arith, one, kept (test (shown p.single)) (shown p.single) (filter test (all_shown ps)), cost_all game test ps (λ k r inside at. low (suc k) r (omega (arith, inside)) at))
   where
     below : (x : ℕ) → x < 6 → nat_lt x 6 ≡ true
     below x e = grind (arith, nat_tests)
 
+    kept : (b : Bool) (x : PartTree) (xs : List PartTree) → plan_cost game (if b then x ∷ xs else xs) ≡ (if b then part_cost game x else 0) + plan_cost game xs
+    kept true x xs = sum_by-cons (part_cost game) x xs
+    kept false x xs = omega arith
+
+-- they cost no more than all
+pub cost_some : (game : Game) (test : PartTree → Bool) (ps : List PartTree) → plan_cost game (filter test ps) ≤ plan_cost game ps
+cost_some game test [] = omega arith
+cost_some game test (p ∷ ps) = by (test p) (filter test ps) (cost_some game test ps)
+  where
+    by : (b : Bool) (rs : List PartTree) → plan_cost game rs ≤ plan_cost game ps → plan_cost game (if b then p ∷ rs else rs) ≤ plan_cost game (p ∷ ps)
+    by true rs less = omega (arith, sum_by-cons (part_cost game) p rs, sum_by-cons (part_cost game) p ps, less)
+    by false rs less = omega (arith, sum_by-cons (part_cost game) p ps, less)
+
 -- a part that is taken, as a callee answers for it
 
-pub cost_taken : (taken : Part → Bool) (game : Game) (p : Part) → taken p ≡ true → cost_if taken game p ≡ part_cost game (shown p.single)
-cost_taken taken game p is = ap (λ b. if b then part_cost game (shown p.single) else 0) is
+pub cost_taken : (taken want : Part → Bool) (game : Game) (p : Part) → taken p ≡ true → cost_if (both taken want) game p ≡ cost_if (both (λ p. true) want) game p
+cost_taken taken want game p is = ap (λ b. if b && want p then part_cost game (shown p.single) else 0) is
+
+pub cost_wanted : (game : Game) (p : Part) (left : List Nodes) (live : List Bool) (before now : ℕ) → now ≤ before + cost_at live (part_cost game (shown p.single)) → IsUnion p left live
+    → TakesAtMost (λ p. true) game p left before now
+cost_wanted game p left live before now cost union = λ want admits.
+    let less = at_most (list_any (λ b. b) live) (want p) (λ some. admits (union.some some)) in
+    omega (arith, cost, less)
+  where
+    at_most : (a b : Bool) → (a ≡ true → b ≡ true) → (if a then part_cost game (shown p.single) else 0) ≤ (if b then part_cost game (shown p.single) else 0)
+    at_most true true e = omega arith
+    at_most true false e = let f = e refl in cc
+    at_most false b e = omega arith
+
+pub cost_live : (live : List Bool) (cost before now : ℕ) → list_any (λ b. b) live ≡ true → now ≤ before + cost → now ≤ before + cost_at live cost
+cost_live live cost before now some most = omega (arith, most, ap (λ b. if b then cost else 0) some)
+
+-- what some query still wants it wanted before
+pub still_admits : (taken : Part → Bool) (game : Game) (parts : List Part) (began left : List Nodes) (want : Part → Bool) (p : Part) → AreLeft taken game parts began left
+    → Admits want began p → Admits want left p
+still_admits taken game parts began left want p had admits = λ w.
+    admits (record { query = w.query; node = w.node; has = w.has; there = fewer_left taken game parts began left w.query w.node had w.there })
 
 pub narrowed_fewer : (taken : Part → Bool) (game : Game) (p : Part) (left later : List Nodes) → IsNarrowedIf taken game p left later
     → (q n : ℕ) → is_left later q n ≡ true → is_left left q n ≡ true

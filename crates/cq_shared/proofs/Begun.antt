@@ -1,19 +1,21 @@
 -- The nodes with which queries begin, query by query.
-use Rattle.std.proofs.Common.{◌≡◌, ℕ, zero, suc, ◌+◌, ◌<◌, ◌≤◌, Bool, true, false, ◌&&◌, List, [], ◌∷◌, ◌++◌, length, take, get_or, refl, sym, ap, ◌∙◌, subst, arith, nat_lt, length-append, ⊎_elim}
-use Rattle.std.proofs.lemmas.Bool.{cases_lt, lt-ltb, le-ltb, and_parts, ltb-true}
+use Rattle.std.proofs.Common.{◌≡◌, ℕ, zero, suc, ◌+◌, ◌<◌, ◌≤◌, Bool, true, false, ◌&&◌, List, [], ◌∷◌, ◌++◌, length, take, map, get_or, refl, sym, ap, ◌∙◌, subst, arith, nat_lt, length-append, ⊎_elim}
+use Rattle.std.specs.List.{list_any}
+use Rattle.std.proofs.lemmas.Bool.{cases_lt, lt-ltb, le-ltb, and_parts, and_from, or_left, or_right, ltb-true}
 use Rattle.std.proofs.lemmas.List.{take_more, take_all}
 use Rattle.cq_position.specs.Games.{Game, is_searched}
 use Rattle.cql_plan.specs.Needs.{query_passes}
 use Rattle.cql_syntax.specs.Flat.{flat_query}
 use Rattle.cql_syntax.specs.Leaves.{same_flag}
-use Rattle.cql_syntax.specs.Trees.{FilterTree}
+use Rattle.cql_syntax.specs.Trees.{FilterTree, QueryTree}
 use Rattle.cql_syntax.specs.Unplaced.{same_unplaced}
 use Rattle.cq_shared.specs.Askers.{asked_query, AreAskers}
 use Rattle.cq_shared.specs.Beginning.{begins, HaveBegun}
 use Rattle.cq_shared.specs.Known.{all_shown}
 use Rattle.cq_shared.specs.Matching.{is_left, is_of, AreReady}
-use Rattle.cq_shared.specs.Parts.{PartTree, query_parts, parts_in, parts_with}
+use Rattle.cq_shared.specs.Parts.{PartTree, query_parts, parts_in, parts_with, same_part}
 use Rattle.cq_shared.specs.Singles.{shown}
+use Rattle.cq_shared.specs.Wanted.{AdmitsAll, has_part, is_asked_in}
 use Rattle.cq_shared.specs.declared.nodes.Nodes.{Nodes}
 use Rattle.cq_shared.specs.declared.part.Asker.{Asker}
 use Rattle.cq_shared.specs.declared.part.Part.{Part}
@@ -86,6 +88,37 @@ with_variations : (v : Bool) (fs : List FilterTree) (k : ℕ) (p : PartTree) →
 with_variations v [] k p low reads = absurd (omega (arith, low))
 with_variations v (f ∷ fs) zero p low reads = ap (λ r. r.variations) reads
 with_variations v (f ∷ fs) (suc k) p low reads = with_variations v fs k p (omega (arith, low)) reads
+
+-- each part that some query wants at first is one of a query that the game has what it needs for
+
+any_at : (h : PartTree → Bool) (ps : List PartTree) (k : ℕ) (p : PartTree) → k < length ps → p ≡ get_or ps k p → h p ≡ true → list_any h ps ≡ true
+any_at h [] k p low reads is = absurd (omega (arith, low))
+any_at h (x ∷ ps) zero p low reads is = or_left (h x) (list_any h ps) (ap h (sym reads) ∙ is)
+any_at h (x ∷ ps) (suc k) p low reads is = or_right (h x) (list_any h ps) (any_at h ps k p (omega (arith, low)) reads is)
+
+any_asked : (h : QueryTree → Bool) (askers : List Asker) (q : ℕ) (a : Asker) → q < length askers → a ≡ get_or askers q a → h (asked_query a) ≡ true
+    → list_any h (map (λ b. asked_query b) askers) ≡ true
+any_asked h [] q a low reads is = absurd (omega (arith, low))
+any_asked h (x ∷ askers) zero a low reads is = or_left (h (asked_query x)) (list_any h (map (λ b. asked_query b) askers)) (ap (λ b. h (asked_query b)) (sym reads) ∙ is)
+any_asked h (x ∷ askers) (suc q) a low reads is =
+    or_right (h (asked_query x)) (list_any h (map (λ b. asked_query b) askers)) (any_asked h askers q a (omega (arith, low)) reads is)
+
+pub begun_admits : (game : Game) (parts : List Part) (askers : List Asker) (began : List Nodes) → AreAskers parts askers → HaveBegun game askers began
+    → AdmitsAll (λ p. is_asked_in game (map (λ a. asked_query a) askers) (shown p.single)) began parts
+begun_admits game parts askers began are had = λ k p low reads w.
+    let l = there_below began w.query w.node w.there in
+    let below : w.query < length askers = omega (arith, l, had.count) in
+    let one = one_of askers w.query below in
+    let a = one.asker in
+    let b : begins game (asked_query a) w.node ≡ true = sym (had.each w.query a below one.reads w.node) ∙ w.there in
+    let is = are.each w.query a below one.reads in
+    let found = among_at (all_shown parts) a.numbers.items (parts_in (asked_query a)) k is.numbers (sym (is.asked k) ∙ asked_read parts k w.query p low reads ∙ w.has) in
+    let same = sym (at_read (all_shown parts) k (shown p.single) found.part (omega (arith, low, shown_length parts)) (shown_read parts k p reads low)) ∙ found.here in
+    let searched : Bool = is_searched (asked_query a).variations game.nodes w.node in
+    let later = and_parts (nat_lt w.node (length game.nodes)) (query_passes (asked_query a) game && searched) b in
+    any_asked (λ q. query_passes q game && has_part (shown p.single) q) askers w.query a below one.reads
+    (and_from (query_passes (asked_query a) game) (has_part (shown p.single) (asked_query a)) (and_parts (query_passes (asked_query a) game) searched later.1).0
+    (any_at (same_part (shown p.single)) (parts_in (asked_query a)) found.number found.part found.low found.reads same))
 
 pub begun_ready : (game : Game) (parts : List Part) (askers : List Asker) (began : List Nodes) → AreAskers parts askers → HaveBegun game askers began → AreReady game began parts
 begun_ready game parts askers began are had = λ k p low reads. record {

@@ -1,14 +1,14 @@
 -- What a part tells at the nodes that are asked for.
-use Rattle.std.proofs.Common.{◌≡◌, ℕ, zero, suc, ◌+◌, ◌<◌, ◌≤◌, Bool, true, false, ◌&&◌, List, [], ◌∷◌, length, map, get_or, Option, None, Some, ℤ, refl, sym, ap, ◌∙◌, subst, arith}
-use Rattle.std.specs.Prelude.{is_some, if◌then◌else◌}
-use Rattle.std.specs.List.{list_any}
-use Rattle.std.proofs.lemmas.List.FromFn.{get_or-map-range_with_len}
-use Rattle.cq_position.specs.Games.{Game, is_searched}
+use Rattle.std.proofs.Common.{◌≡◌, ℕ, zero, suc, ◌+◌, ◌<◌, ◌≤◌, Bool, true, false, ◌&&◌, List, [], ◌∷◌, length, map, get_or, Option, None, Some, ℤ, refl, sym, ap, ◌∙◌, cond, subst, arith}
+use Rattle.std.specs.Prelude.{is_some, count_by, if◌then◌else◌}
+use Rattle.std.specs.List.{list_any, filter, range_with_len}
+use Rattle.std.proofs.lemmas.List.Sums.{sum_by-cons}
+use Rattle.cq_position.specs.Games.{Game, is_searched, searched}
 use Rattle.cq_position.specs.Search.{SearchedTree, nodes_in}
 use Rattle.cql_eval.specs.Classes.{form_class, filter_class}
 use Rattle.cql_eval.specs.Columns.{is_live, AreAsked}
 use Rattle.cql_eval.specs.Costs.{filter_cost, filters_cost}
-use Rattle.cql_eval.specs.Hits.{hit_column, AreKeysAtHits}
+use Rattle.cql_eval.specs.Hits.{AreKeysAtHits}
 use Rattle.cql_syntax.specs.Hits.{is_hit}
 use Rattle.cql_syntax.specs.Meaning.{value}
 use Rattle.cql_syntax.specs.TreeOf.{filters_tree}
@@ -21,18 +21,6 @@ use Rattle.cq_shared.specs.declared.nodes.Nodes.{Nodes}
 use Rattle.cq_shared.specs.declared.part.Part.{Part}
 
 -- nodes that are asked for
-
-past_end : (xs : List Bool) (n : ℕ) → length xs ≤ n → get_or xs n false ≡ false
-past_end [] zero h = refl
-past_end [] (suc n) h = refl
-past_end (x ∷ xs) zero h = absurd (omega (arith, h))
-past_end (x ∷ xs) (suc n) h = past_end xs n (omega (arith, h))
-
-below_end : (xs : List Bool) (n : ℕ) → get_or xs n false ≡ true → n < length xs
-below_end [] zero there = cc
-below_end [] (suc n) there = cc
-below_end (x ∷ xs) zero there = omega arith
-below_end (x ∷ xs) (suc n) there = let h = below_end xs n there in omega (arith, h)
 
 none_live : (live : List Bool) (n : ℕ) → list_any (λ b. b) live ≡ false → is_live live n ≡ true → ⊥
 none_live [] zero none there = cc
@@ -49,10 +37,33 @@ cost_alone nodes no_filters e = cc
 cost_alone nodes (more_filters f no_filters) e = omega arith
 cost_alone nodes (more_filters f (more_filters g fs)) e = cc
 
-pub cost_is : (game : Game) (p : Part) (before now : ℕ) → now ≤ before + length (nodes_in (tree_for game p)) + filters_cost (length game.nodes) (filters_tree p.single.query.items)
+count_within : (t : ℕ → Bool) (live : List Bool) (k : ℕ) → ((n : ℕ) → is_live live n ≡ true → t (k + n) ≡ true)
+    → count_by (λ b. b) live ≤ length (filter t (range_with_len k (length live)))
+count_within t [] k all = omega arith
+count_within t (b ∷ bs) k all = by b (t k) (λ e. ap t (let z : k ≡ k + 0 = omega arith in z) ∙ all 0 e)
+    (count_within t bs (k + 1) (λ n there. ap t (let e : k + 1 + n ≡ k + suc n = omega arith in e) ∙ all (suc n) there))
+  where
+    by : (b c : Bool) → (b ≡ true → c ≡ true) → count_by (λ b. b) bs ≤ length (filter t (range_with_len (k + 1) (length bs)))
+        → count_by (λ b. b) (b ∷ bs) ≤ length (cond c (k ∷ filter t (range_with_len (k + 1) (length bs))) (filter t (range_with_len (k + 1) (length bs))))
+    by true true implied rest = let e = sum_by-cons (λ b. cond b 1 0) true bs in omega (arith, rest, e)
+    by true false implied rest = let e = implied refl in cc
+    by false true implied rest = let e = sum_by-cons (λ b. cond b 1 0) false bs in omega (arith, rest, e)
+    by false false implied rest = let e = sum_by-cons (λ b. cond b 1 0) false bs in omega (arith, rest, e)
+
+-- the nodes that are asked for are no more than those that are searched
+count_asked : (tree : SearchedTree) (live : List Bool) → AreAsked tree live → count_by (λ b. b) live ≤ length (nodes_in tree)
+unfolding searched
+count_asked tree live asked =
+    subst (λ len. count_by (λ b. b) live ≤ length (filter (is_searched tree.variations tree.game.nodes) (range_with_len 0 len))) asked.count
+    (count_within (is_searched tree.variations tree.game.nodes) live 0
+    (λ n there. ap (is_searched tree.variations tree.game.nodes) (let e : 0 + n ≡ n = omega arith in e) ∙ asked.searched n there))
+
+pub cost_is : (game : Game) (p : Part) (live : List Bool) (before now : ℕ) → AreAsked (tree_for game p) live
+    → now ≤ before + count_by (λ b. b) live + filters_cost (length game.nodes) (filters_tree p.single.query.items)
     → is_single (filters_tree p.single.query.items) ≡ true → now ≤ before + part_cost game (shown p.single)
 unfolding part_cost
-cost_is game p before now cost one = omega (arith, cost, cost_alone (length game.nodes) (filters_tree p.single.query.items) one)
+cost_is game p live before now asked cost one =
+    omega (arith, cost, count_asked (tree_for game p) live asked, cost_alone (length game.nodes) (filters_tree p.single.query.items) one)
 
 hit_alone : (tree : SearchedTree) (fs : FilterTrees) (n : ℕ) → is_single fs ≡ true → is_hit tree fs n ≡ holds (value tree [] [] (first_of fs) n)
 unfolding value
@@ -64,24 +75,17 @@ hit_alone tree (more_filters f no_filters) n e = and_true (holds (value tree [] 
     and_true false = refl
 hit_alone tree (more_filters f (more_filters g fs)) n e = cc
 
--- whether a node is a hit
-column_hit : (tree : SearchedTree) (items : FilterTrees) (hits : List Bool) (k : ℕ) → hits ≡ hit_column tree items → k < length tree.game.nodes
-    → get_or hits k false ≡ (is_searched tree.variations tree.game.nodes k && is_hit tree items k)
-column_hit tree items hits k is low =
-    ap (λ l. get_or l k false) is
-    ∙ get_or-map-range_with_len (λ n. is_searched tree.variations tree.game.nodes n && is_hit tree items n) 0 (length tree.game.nodes) k k false low (omega arith)
-
-hit_there : (game : Game) (p : Part) (live hits : List Bool) (n : ℕ) → AreAsked (tree_for game p) live → is_single (filters_tree p.single.query.items) ≡ true
-    → hits ≡ hit_column (tree_for game p) (filters_tree p.single.query.items) → is_live live n ≡ true → get_or hits n false ≡ part_holds game p n
+-- a node that is asked for is a hit where the part holds
+hit_there : (game : Game) (p : Part) (live hits : List Bool) (n : ℕ) → is_single (filters_tree p.single.query.items) ≡ true
+    → ((k : ℕ) → get_or hits k false ≡ (is_live live k && is_hit (tree_for game p) (filters_tree p.single.query.items) k))
+    → is_live live n ≡ true → get_or hits n false ≡ part_holds game p n
 unfolding holds_at
-hit_there game p live hits n asked one is there =
-    column_hit (tree_for game p) (filters_tree p.single.query.items) hits n is (let low = below_end live n there in omega (arith, low, asked.count))
-    ∙ ap (λ b. b && is_hit (tree_for game p) (filters_tree p.single.query.items) n) (asked.searched n there)
-    ∙ hit_alone (tree_for game p) (filters_tree p.single.query.items) n one
+hit_there game p live hits n one are there =
+    are n ∙ ap (λ b. b && is_hit (tree_for game p) (filters_tree p.single.query.items) n) there ∙ hit_alone (tree_for game p) (filters_tree p.single.query.items) n one
 
-pub told_by : (game : Game) (p : Part) (live hits truths : List Bool) → AreAsked (tree_for game p) live → is_single (filters_tree p.single.query.items) ≡ true
-    → hits ≡ hit_column (tree_for game p) (filters_tree p.single.query.items) → truths ≡ hits → IsTold game p live truths
-told_by game p live hits truths asked one is same = record { each = λ n there. ap (λ l. get_or l n false) same ∙ hit_there game p live hits n asked one is there }
+pub told_by : (game : Game) (p : Part) (live hits truths : List Bool) → is_single (filters_tree p.single.query.items) ≡ true
+    → ((k : ℕ) → get_or hits k false ≡ (is_live live k && is_hit (tree_for game p) (filters_tree p.single.query.items) k)) → truths ≡ hits → IsTold game p live truths
+told_by game p live hits truths one are same = record { each = λ n there. ap (λ l. get_or l n false) same ∙ hit_there game p live hits n one are there }
 
 pub told_none : (game : Game) (p : Part) (live truths : List Bool) → list_any (λ b. b) live ≡ false → IsTold game p live truths
 told_none game p live truths none = record { each = λ n there. absurd (none_live live n none there) }
@@ -160,12 +164,13 @@ none_if : {A : Type 0} (o : Option A) → is_some o ≡ false → None ≡ o
 none_if None e = refl
 none_if (Some x) e = cc
 
-pub row_by : (game : Game) (p : Part) (live hits : List Bool) (keys : List (List (Option ℤ))) (row : List (Option ℤ)) → AreAsked (tree_for game p) live
+pub row_by : (game : Game) (p : Part) (live hits : List Bool) (keys : List (List (Option ℤ))) (row : List (Option ℤ))
     → is_single (filters_tree p.single.query.items) ≡ true → p.class ≡ 5 → p.class ≡ filter_class (first_of (filters_tree p.single.query.items))
-    → hits ≡ hit_column (tree_for game p) (filters_tree p.single.query.items) → AreKeysAtHits (tree_for game p) (filters_tree p.single.query.items) hits keys
+    → ((k : ℕ) → get_or hits k false ≡ (is_live live k && is_hit (tree_for game p) (filters_tree p.single.query.items) k))
+    → AreKeysAtHits (tree_for game p) (filters_tree p.single.query.items) hits keys
     → ((n : ℕ) → get_or row n None ≡ (if get_or hits n false then get_or (get_or keys 0 []) n None else None)) → IsRowAt game p live row
 unfolding holds_at
-row_by game p live hits keys row asked one class class_is is are given = record {
+row_by game p live hits keys row one class class_is is are given = record {
   each = λ n there. given n ∙ by n there (get_or hits n false) refl;
 }
   where
@@ -179,7 +184,7 @@ row_by game p live hits keys row asked one class class_is is are given = record 
     sorts = sym class_is ∙ class
 
     has : (n : ℕ) → is_live live n ≡ true → get_or hits n false ≡ is_some (sort_number tree f n)
-    has n there = hit_there game p live hits n asked one is there ∙ sort_has tree f n sorts
+    has n there = hit_there game p live hits n one is there ∙ sort_has tree f n sorts
 
     by : (n : ℕ) → is_live live n ≡ true → (b : Bool) → get_or hits n false ≡ b → (if b then get_or (get_or keys 0 []) n None else None) ≡ sort_number tree f n
     by n there true e = (one_row tree (filters_tree p.single.query.items) hits keys one sorts are).numbers n e

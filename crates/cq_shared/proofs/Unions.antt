@@ -1,13 +1,16 @@
 -- Sets of nodes, made node by node.
-use Rattle.std.proofs.Common.{◌≡◌, ◌⊎◌, inl, inr, ⊎_elim, ℕ, zero, suc, ◌+◌, ◌<◌, ◌≤◌, ◌&&◌, ◌||◌, not, Bool, true, false, List, [], ◌∷◌, ◌++◌, length, get_or, drop, refl, sym, ap, subst, ◌∙◌, arith, ltb-true, ltb-false, length-append}
+use Rattle.std.proofs.Common.{◌≡◌, ◌⊎◌, inl, inr, ⊎_elim, ℕ, zero, suc, ◌+◌, ◌<◌, ◌≤◌, ◌&&◌, ◌||◌, ◌==◌, not, Bool, true, false, List, [], ◌∷◌, ◌++◌, length, get_or, take, drop, refl, sym, ap, subst, ◌∙◌, arith, ltb-true, ltb-false, length-append}
 use Rattle.std.specs.Prelude.{nat_lt}
+use Rattle.std.proofs.lemmas.Bool.{eqb-true, eq-eqb}
 use Rattle.std.proofs.lemmas.List.{get_or_append_left, drop_all}
-use Rattle.std.proofs.Math.Seq.{get_or-append_seam}
+use Rattle.std.proofs.Math.Seq.{get_or-append_seam, take-append_seam}
+use Rattle.std.specs.List.{list_any}
 use Rattle.cq_position.specs.Games.{Game}
+use Rattle.cq_shared.specs.Places.{is_among}
 use Rattle.cq_shared.specs.declared.part.Part.{Part}
 use Rattle.cq_shared.specs.declared.nodes.Nodes.{Nodes}
-use Rattle.cql_eval.specs.Columns.{is_live, AreAsked}
-use Rattle.cq_shared.specs.Matching.{is_left, is_of, meets, part_holds, some_wants, tree_for, IsReady, IsUnion, IsTold, IsNarrowedBy}
+use Rattle.cql_eval.specs.Columns.{is_live, AreAsked, AreKept}
+use Rattle.cq_shared.specs.Matching.{is_left, is_of, meets, part_holds, tree_for, IsReady, IsUnion, IsTold, IsNarrowedBy}
 
 pub record Told (test : ℕ → Bool) (k : ℕ) (items : List Bool) : Type 0 where
   pub count : length items ≡ k
@@ -47,10 +50,6 @@ or_true : (a b : Bool) → (a || b) ≡ true → (a ≡ true) ⊎ (b ≡ true)
 or_true true b e = inl refl
 or_true false b e = inr e
 
-both_true : (a b : Bool) → (a && b) ≡ true → (a ≡ true) × (b ≡ true)
-both_true true b e = (refl, e)
-both_true false b e = cc
-
 or_left : (a b : Bool) → a ≡ true → (a || b) ≡ true
 or_left true b e = refl
 or_left false b e = cc
@@ -59,72 +58,66 @@ or_right : (a b : Bool) → b ≡ true → (a || b) ≡ true
 or_right true b e = refl
 or_right false b e = e
 
--- the query that wants it
-wanting : (p : Part) (from : ℕ) (left : List Nodes) (n : ℕ) → some_wants p from left n ≡ true → (q : ℕ) × (is_of (from + q) p ≡ true) × (is_left left q n ≡ true)
-unfolding some_wants
-wanting p from [] n e = cc
-wanting p from (x ∷ xs) n e = ⊎_elim
-    (λ here. let b = both_true _ _ here in (0, (let z : from ≡ from + 0 = omega arith in subst (λ (i : ℕ). is_of i p ≡ true) z b.0), b.1))
-    (λ later. let w = wanting p (from + 1) xs n later in (suc w.0, (let z : (from + 1) + w.0 ≡ from + suc w.0 = omega arith in subst (λ (i : ℕ). is_of i p ≡ true) z w.1), w.2))
-    (or_true _ _ e)
+-- the queries that have a part, and whether one of them still wants a node
+one_step : (t : ℕ → Bool) (xs : List ℕ) (i d : ℕ) → i < length xs → t (get_or xs i d) ≡ false → list_any t (drop i xs) ≡ list_any t (drop (i + 1) xs)
+one_step t [] i d inside not_here = absurd (omega arith)
+one_step t (x ∷ xs) zero d inside not_here = ap (λ b. b || list_any t xs) not_here
+one_step t (x ∷ xs) (suc i) d inside not_here =
+    one_step t xs i d (omega arith) not_here ∙ ap (λ (j : ℕ). list_any t (drop j (x ∷ xs))) (let e : suc (i + 1) ≡ suc i + 1 = omega arith in e)
 
-wanted : (p : Part) (from : ℕ) (left : List Nodes) (q n : ℕ) → is_of (from + q) p ≡ true → is_left left q n ≡ true → some_wants p from left n ≡ true
-unfolding some_wants
-wanted p from [] q n has there = cc
-wanted p from (x ∷ xs) zero n has there = let z : from + 0 ≡ from = omega arith in
-    or_left _ _ (ap (λ b. b && get_or x.there.items n false) (subst (λ (i : ℕ). is_of i p ≡ true) z has) ∙ there)
-wanted p from (x ∷ xs) (suc q) n has there = let z : from + suc q ≡ (from + 1) + q = omega arith in
-    or_right _ _ (wanted p (from + 1) xs q n (subst (λ (i : ℕ). is_of i p ≡ true) z has) there)
+pub wants_more : (t : ℕ → Bool) (qs : List ℕ) (i d : ℕ) → i < length qs → t (get_or qs i d) ≡ false → list_any t (drop i qs) ≡ list_any t qs
+    → list_any t (drop (i + 1) qs) ≡ list_any t qs
+wants_more t qs i d inside not_here so_far = sym (one_step t qs i d inside not_here) ∙ so_far
 
-wants_step : (p : Part) (left : List Nodes) (n from i : ℕ) (x : Nodes) → i < length left → x ≡ get_or left i x → (is_of (from + i) p && get_or x.there.items n false) ≡ false
-    → some_wants p (from + i) (drop i left) n ≡ some_wants p (from + i + 1) (drop (suc i) left) n
-unfolding some_wants
-wants_step p [] n from i x inside at not_here = absurd (omega arith)
-wants_step p (y ∷ left) n from zero x inside at not_here =
-    ap (λ z. (is_of (from + 0) p && get_or z.there.items n false) || some_wants p (from + 0 + 1) left n) (sym at) ∙ ap (λ b. b || some_wants p (from + 0 + 1) left n) not_here
-wants_step p (y ∷ left) n from (suc i) x inside at not_here =
-    let e : from + suc i ≡ (from + 1) + i = omega arith in
-    ap (λ (j : ℕ). some_wants p j (drop i left) n) e
-    ∙ wants_step p left n (from + 1) i x (omega arith) at (subst (λ (j : ℕ). (is_of j p && get_or x.there.items n false) ≡ false) e not_here)
-    ∙ ap (λ (j : ℕ). some_wants p (j + 1) (drop (suc i) left) n) (sym e)
+pub wants_here : (t : ℕ → Bool) (qs : List ℕ) (i d : ℕ) → i < length qs → t (get_or qs i d) ≡ true → list_any t qs ≡ true
+wants_here t [] i d inside here = absurd (omega arith)
+wants_here t (x ∷ xs) zero d inside here = ap (λ b. b || list_any t xs) here
+wants_here t (x ∷ xs) (suc i) d inside here = or_right (t x) (list_any t xs) (wants_here t xs i d (omega arith) here)
 
-pub wants_more : (p : Part) (left : List Nodes) (n i : ℕ) (x : Nodes) → i < length left → x ≡ get_or left i x → (is_of i p && get_or x.there.items n false) ≡ false
-    → some_wants p i (drop i left) n ≡ some_wants p 0 left n → some_wants p (i + 1) (drop (i + 1) left) n ≡ some_wants p 0 left n
-wants_more p left n i x inside at not_here so_far =
-    let z : 0 + i ≡ i = omega arith in let e : suc i ≡ i + 1 = omega arith in
-    sym (ap (λ (j : ℕ). some_wants p j (drop i left) n) (sym z) ∙ wants_step p left n 0 i x inside at (subst (λ (j : ℕ). (is_of j p && get_or x.there.items n false) ≡ false) (sym z) not_here)
-    ∙ ap (λ (j : ℕ). some_wants p (j + 1) (drop (suc i) left) n) z ∙ ap (λ (j : ℕ). some_wants p (i + 1) (drop j left) n) e) ∙ so_far
+pub wants_none : (t : ℕ → Bool) (qs : List ℕ) (i : ℕ) → length qs ≤ i → list_any t (drop i qs) ≡ list_any t qs → list_any t qs ≡ false
+wants_none t qs i past so_far = sym so_far ∙ ap (list_any t) (drop_all i qs past)
 
-pub wants_here : (p : Part) (left : List Nodes) (n i : ℕ) (x : Nodes) → i < length left → x ≡ get_or left i x → (is_of i p && get_or x.there.items n false) ≡ true → some_wants p 0 left n ≡ true
-wants_here p left n i x inside at both_are = let has = (both_true (is_of i p) (get_or x.there.items n false) both_are).0 in
-    let z : 0 + i ≡ i = omega arith in wanted p 0 left i n (subst (λ (j : ℕ). is_of j p ≡ true) (sym z) has) (left_at left i inside at)
+-- one of the queries is among them, and the other way around
+wanting : (t : ℕ → Bool) (qs : List ℕ) → list_any t qs ≡ true → (q : ℕ) × (is_among q qs ≡ true) × (t q ≡ true)
+wanting t [] e = cc
+wanting t (x ∷ xs) e = by (t x) refl (wanting t xs)
   where
-    there : get_or x.there.items n false ≡ true
-    there = (both_true (is_of i p) (get_or x.there.items n false) both_are).1
+    by : (b : Bool) → t x ≡ b → (list_any t xs ≡ true → (q : ℕ) × (is_among q xs ≡ true) × (t q ≡ true)) → (q : ℕ) × (is_among q (x ∷ xs) ≡ true) × (t q ≡ true)
+    by true is rest = (x, or_left (x == x) (is_among x xs) (eq-eqb x x refl), is)
+    by false is rest = let w = rest (ap (λ b. b || list_any t xs) (sym is) ∙ e) in (w.0, or_right (x == w.0) (is_among w.0 xs) w.1, w.2)
 
-    left_at : (left : List Nodes) (i : ℕ) → i < length left → x ≡ get_or left i x → is_left left i n ≡ true
-    left_at [] i inside at = absurd (omega arith)
-    left_at (y ∷ ys) zero inside at = ap (λ w. get_or w.there.items n false) (sym at) ∙ there
-    left_at (y ∷ ys) (suc i) inside at = left_at ys i (omega arith) at
+wanted : (t : ℕ → Bool) (qs : List ℕ) (q : ℕ) → is_among q qs ≡ true → t q ≡ true → list_any t qs ≡ true
+wanted t [] q among is = cc
+wanted t (x ∷ xs) q among is = ⊎_elim
+    (λ same. or_left (t x) (list_any t xs) (ap t (eqb-true x q same) ∙ is))
+    (λ later. or_right (t x) (list_any t xs) (wanted t xs q later is))
+    (or_true (x == q) (is_among q xs) among)
 
-pub wants_none : (p : Part) (left : List Nodes) (n i : ℕ) → length left ≤ i → some_wants p i (drop i left) n ≡ some_wants p 0 left n → some_wants p 0 left n ≡ false
-unfolding some_wants
-wants_none p left n i past so_far = sym so_far ∙ ap (λ l. some_wants p i l n) (drop_all i left past)
-
-pub are_united : (game : Game) (p : Part) (left : List Nodes) (k : ℕ) (live : List Bool) → length game.nodes ≤ k → k ≤ length game.nodes → IsReady game left p → Told (some_wants p 0 left) k live
+pub are_united : (game : Game) (p : Part) (left : List Nodes) (k : ℕ) (live : List Bool) → length game.nodes ≤ k → k ≤ length game.nodes → IsReady game left p
+    → Told (λ n. list_any (λ q. is_left left q n) p.askers.items) k live
     → AreAsked (tree_for game p) live × IsUnion p left live
 are_united game p left k live high low ready had = (
   record {
     count = had.count ∙ omega (arith, high, low);
-    searched = λ n there. let w = wanting p 0 left n (sym (had.each n (inside n there)) ∙ there) in let z : 0 + w.0 ≡ w.0 = omega arith in
-        ready.searched w.0 n (subst (λ (j : ℕ). is_of j p ≡ true) z w.1) w.2;
+    searched = λ n there.
+        let w = wanting (λ q. is_left left q n) p.askers.items (sym (had.each n (inside n there)) ∙ there) in
+        ready.searched w.0 n w.1 w.2;
   },
   record {
-    each = λ q n has there. had.each n (let i = ready.inside q n has there in omega (arith, i, high))
-        ∙ (let z : 0 + q ≡ q = omega arith in wanted p 0 left q n (subst (λ (j : ℕ). is_of j p ≡ true) (sym z) has) there);
+    each = λ q n has there.
+        had.each n (let i = ready.inside q n has there in omega (arith, i, high)) ∙ wanted (λ r. is_left left r n) p.askers.items q has there;
+    some = λ some.
+        let s = live_at live some in
+        let w = wanting (λ q. is_left left q s.0) p.askers.items (sym (had.each s.0 (inside s.0 s.1)) ∙ s.1) in
+        record { query = w.0; node = s.0; has = w.1; there = w.2 };
   },
 )
   where
+    live_at : (bs : List Bool) → list_any (λ b. b) bs ≡ true → (n : ℕ) × (is_live bs n ≡ true)
+    live_at [] e = cc
+    live_at (true ∷ bs) e = (0, refl)
+    live_at (false ∷ bs) e = let s = live_at bs e in (suc s.0, s.1)
+
     inside : (n : ℕ) → is_live live n ≡ true → n < k
     inside n there = ⊎_elim (λ less. less) (λ more. absurd (is_not (past_end live n (omega (arith, more, had.count))) there)) (inside_or_past n k)
       where
@@ -182,6 +175,18 @@ narrowed_more game p left later now live truths k x y told union inside at made 
         ap (λ l. is_left l k n) more ∙ left_last later y k n (sym had.count) ∙ made n ∙ ap (λ b. b && (not (is_of k p) || get_or truths n false)) (sym (left_here left x k n inside at))
         ∙ by_truth (is_left left k n) (is_of k p) (get_or truths n false) (part_holds game p n) (λ has there. told.each n (union.each k n has there))
 
+-- the next query's nodes, where those of the queries before are there
+pub narrowed_next : (game : Game) (p : Part) (left ys more later now : List Nodes) (live truths : List Bool) (x y : Nodes) (len : ℕ) (wants : Bool)
+    → IsTold game p live truths → IsUnion p left live → left ≡ ys ++ x ∷ more → len ≡ length later → wants ≡ is_of len p
+    → ((n : ℕ) → get_or y.there.items n false ≡ (get_or x.there.items n false && (not wants || get_or truths n false))) → now ≡ later ++ y ∷ []
+    → AreNarrowed game p left later (length ys) → AreNarrowed game p left now (length (ys ++ x ∷ []))
+narrowed_next game p left ys more later now live truths x y len wants told union is len_is has made added had =
+    subst (AreNarrowed game p left now) (sym (length-append ys (x ∷ [])))
+    (narrowed_more game p left later now live truths (length ys) x y told union
+    (let e : length left ≡ length ys + length (x ∷ more) = ap length is ∙ length-append ys (x ∷ more) in omega (arith, e))
+    (sym (ap (λ l. get_or l (length ys) x) is ∙ get_or-append_seam ys x more x))
+    (λ n. made n ∙ ap (λ b. get_or x.there.items n false && (not b || get_or truths n false)) (has ∙ ap (λ j. is_of j p) (len_is ∙ had.count))) added had)
+
 pub narrowed_all : (game : Game) (p : Part) (left later : List Nodes) (k : ℕ) → k ≡ length left → AreNarrowed game p left later k → IsNarrowedBy game p left later
 narrowed_all game p left later k all had = record {
   count = had.count ∙ all;
@@ -189,3 +194,21 @@ narrowed_all game p left later k all had = record {
       (λ past. left_past later q n (omega (arith, past, had.count)) ∙ sym (ap (λ b. b && meets game q n p) (left_past left q n (omega (arith, past, all)))))
       (inside_or_past q k);
 }
+
+pub narrowed_end : (game : Game) (p : Part) (left ys more later : List Nodes) → left ≡ ys ++ more → length more ≡ 0 → AreNarrowed game p left later (length ys) → IsNarrowedBy game p left later
+narrowed_end game p left ys more later is none had = narrowed_all game p left later (length ys)
+    (let e : length left ≡ length ys + length more = ap length is ∙ length-append ys more in omega (arith, e, none)) had
+
+-- one query's nodes
+pub kept_as : (xs truths : List Bool) (wants : Bool) → wants ≡ false → (n : ℕ) → get_or xs n false ≡ (get_or xs n false && (not wants || get_or truths n false))
+kept_as xs truths wants none n = by (get_or xs n false) ∙ sym (ap (λ w. get_or xs n false && (not w || get_or truths n false)) none)
+  where
+    by : (b : Bool) → b ≡ (b && true)
+    by true = refl
+    by false = refl
+
+pub kept_where : (wants : Bool) (len : ℕ) (new old given truths : List Bool) → wants ≡ true → len ≡ length new → given ≡ old → AreKept (λ n. get_or truths n false) given new
+    → (n : ℕ) → get_or (take len (new ++ drop (length new) old)) n false ≡ (get_or old n false && (not wants || get_or truths n false))
+kept_where wants len new old given truths has count same kept n =
+    ap (λ i. get_or (take i (new ++ drop (length new) old)) n false) count ∙ ap (λ l. get_or l n false) (take-append_seam new (drop (length new) old)) ∙ kept.each n
+    ∙ ap (λ l. get_or l n false && get_or truths n false) same ∙ sym (ap (λ w. get_or old n false && (not w || get_or truths n false)) has)

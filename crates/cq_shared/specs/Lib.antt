@@ -9,3 +9,4 @@ pub mod Plans
 pub mod Reading
 pub mod Singles
 pub mod Verdicts
+pub mod Wanted

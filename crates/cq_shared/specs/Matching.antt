@@ -1,6 +1,6 @@
 -- Several queries over one game: each different part is asked once, where some query that has it still wants it.
 use Rattle.std.specs.Prelude.{◌≡◌, ℕ, zero, suc, ◌+◌, ◌<◌, ◌&&◌, ◌||◌, ◌==◌, nat_lt, not, Bool, true, false, List, [], ◌∷◌, Option, None, ℤ, get_or, length, if◌then◌else◌}
-use Rattle.std.specs.List.{list_all, sum_by}
+use Rattle.std.specs.List.{list_all, sum_by, list_any}
 use Rattle.cq_position.specs.Games.{Game, is_searched}
 use Rattle.cq_position.specs.Search.{SearchedTree, nodes_in}
 use Rattle.cql_eval.specs.Columns.{is_live}
@@ -78,22 +78,30 @@ pub record AreLeft (taken : Part → Bool) (game : Game) (parts : List Part) (be
   pub count : length left ≡ length began
   pub each : (q n : ℕ) → is_left left q n ≡ (is_left began q n && list_all (meets_if taken game q n) parts)
 
--- of the queries from q on, which have these nodes left, some that has the part wants node n
-unfoldable pub some_wants : Part → ℕ → List Nodes → ℕ → Bool
-some_wants p q [] n = false
-some_wants p q (x ∷ xs) n = (is_of q p && get_or x.there.items n false) || some_wants p (q + 1) xs n
-
 -- each query that has the part has left nodes of the game alone, and searched ones
 pub record IsReady (game : Game) (left : List Nodes) (p : Part) : Type 0 where
-  pub searched : (q n : ℕ) → is_of q p ≡ true → is_left left q n ≡ true → is_searched p.single.query.variations game.nodes n ≡ true
+  pub searched : (q n : ℕ) → is_of q p ≡ true → is_left left q n ≡ true
+      → is_searched p.single.query.variations game.nodes n ≡ true
   pub inside : (q n : ℕ) → is_of q p ≡ true → is_left left q n ≡ true → n < length game.nodes
 
 abbrev pub AreReady : Game → List Nodes → List Part → Type 0
 AreReady game left parts = (k : ℕ) (p : Part) → k < length parts → p ≡ get_or parts k p → IsReady game left p
 
--- all nodes that a query with the part still wants are there
+-- some query that has the part still wants a node
+pub record IsWanted (p : Part) (left : List Nodes) : Type 0 where
+  pub query : ℕ
+  pub node : ℕ
+  pub has : is_of query p ≡ true
+  pub there : is_left left query node ≡ true
+
+-- all nodes that a query with the part still wants are there, and none where no query wants one
 pub record IsUnion (p : Part) (left : List Nodes) (live : List Bool) : Type 0 where
   pub each : (q n : ℕ) → is_of q p ≡ true → is_left left q n ≡ true → is_live live n ≡ true
+  pub some : list_any (λ b. b) live ≡ true → IsWanted p left
+
+-- a cost, where some node is there
+abbrev pub cost_at : List Bool → ℕ → ℕ
+cost_at live cost = if list_any (λ b. b) live then cost else 0
 
 -- whether the part holds, at the nodes that are asked for
 pub record IsTold (game : Game) (p : Part) (live truths : List Bool) : Type 0 where

@@ -3,12 +3,12 @@ ghost use Rattle.std.specs.Prelude.{◌≡◌, ℕ, ◌+◌, ◌<◌, ◌≤◌,
 ghost use Rattle.std.specs.List.{list_any};
 ghost use Rattle.cql_eval.specs.Columns.{AreAsked};
 ghost use Rattle.cql_eval.specs.Hits.{hits_of, keys_of};
-ghost use Rattle.cq_shared.specs.Matching.{tree_for, part_cost, IsTold, IsRowAt};
+ghost use Rattle.cq_shared.specs.Matching.{tree_for, part_cost, cost_at, IsTold, IsRowAt};
 ghost use Rattle.cq_shared.specs.Singles.{shown};
 
 use crate::part::Part;
 use cq_outside::{NoMemory, Steps};
-use cql_eval::{Column, hit_columns};
+use cql_eval::{Column, hit_columns_at};
 use pgn_tree::Game;
 use std::alloc::Global;
 use std::sync::ledger::Ledger;
@@ -23,14 +23,13 @@ pub(crate) fn truths_at<L: Ledger>(
 ) -> Result<Vec<bool>, NoMemory>
     requires asked { AreAsked (tree_for game.now part.now) live.now }
     ensures told { IfOk result (λ truths. IsTold game.now part.now live.now truths.items) }
-    ensures cost { steps.new ≤ steps.old + part_cost game.now (shown part.now.single) }
+    ensures cost { steps.new ≤ steps.old + cost_at live.now (part_cost game.now (shown part.now.single)) }
 {
     if !any_live(live) {
         return Ok(Vec::new(alloc));
     }
-    let column = hit_columns(alloc, &part.single.query, game, steps)?;
-    let truths = hits(alloc, &column, game)?;
-    Ok(truths)
+    let column = hit_columns_at(alloc, &part.single.query, game, live, steps)?;
+    Ok(column.into_hits())
 }
 
 /// The numbers of a sort item at the nodes that are asked for. Where there are none it isn't looked at.
@@ -44,12 +43,12 @@ pub(crate) fn numbers_at<L: Ledger>(
     requires asked { AreAsked (tree_for game.now part.now) live.now }
     requires sort { part.now.class ≡ 5 }
     ensures told { IfOk result (λ row. IsRowAt game.now part.now live.now row.items) }
-    ensures cost { steps.new ≤ steps.old + part_cost game.now (shown part.now.single) }
+    ensures cost { steps.new ≤ steps.old + cost_at live.now (part_cost game.now (shown part.now.single)) }
 {
     if !any_live(live) {
         return Ok(Vec::new(alloc));
     }
-    let column = hit_columns(alloc, &part.single.query, game, steps)?;
+    let column = hit_columns_at(alloc, &part.single.query, game, live, steps)?;
     let numbers = row(alloc, &column, game)?;
     Ok(numbers)
 }
@@ -60,18 +59,6 @@ fn any_live(live: &[bool]) -> bool
     live.iter().any(|there| *there)
 }
 
-// Whether all items of a column hold, node by node.
-fn hits(alloc: Global, column: &Column, game: &Game) -> Result<Vec<bool>, NoMemory>
-    requires { length (hits_of column.now) ≡ length game.now.nodes }
-    ensures { IfOk result (λ truths. truths.items ≡ hits_of column.now) }
-{
-    let mut truths = Vec::new(alloc);
-    for k in 0..game.len() {
-        truths.push(column.hit(k))?;
-    }
-    Ok(truths)
-}
-
 // The numbers of the first sort item of a column, node by node.
 fn row(alloc: Global, column: &Column, game: &Game) -> Result<Vec<Option<i64>>, NoMemory>
     requires hits { length (hits_of column.now) ≡ length game.now.nodes }
@@ -80,7 +67,7 @@ fn row(alloc: Global, column: &Column, game: &Game) -> Result<Vec<Option<i64>>, 
     ensures { IfOk result (λ row. (n : ℕ) → get_or row.items n None
         ≡ (if get_or (hits_of column.now) n false then get_or (get_or (keys_of column.now) 0 []) n None else None)) }
 {
-    let mut row = Vec::new(alloc);
+    let mut row = Vec::with_capacity(alloc, game.len() as usize)?;
     for k in 0..game.len() {
         row.push(number_if(column, k))?;
     }

@@ -16,7 +16,7 @@ use std::alloc::Global;
 pub(crate) fn began(alloc: Global, askers: &[Asker], game: &Game) -> Result<Vec<Nodes>, NoMemory>
     ensures { IfOk result (λ began. HaveBegun game.now askers.now began.items) }
 {
-    let mut began = Vec::new(alloc);
+    let mut began = Vec::with_capacity(alloc, askers.len())?;
     for asker in askers {
         let nodes = began_by(alloc, asker, game)?;
         began.push(nodes)?;
@@ -29,7 +29,7 @@ fn began_by(alloc: Global, asker: &Asker, game: &Game) -> Result<Nodes, NoMemory
 {
     let passes = may_hold(&asker.plan, game);
     let variations = asker.plan.query().query.variations;
-    let mut there = Vec::new(alloc);
+    let mut there = Vec::with_capacity(alloc, game.len() as usize)?;
     for n in 0..game.len() {
         let wanted = is_wanted(game, passes, variations, n);
         there.push(wanted)?;

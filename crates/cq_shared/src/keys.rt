@@ -1,8 +1,6 @@
 //! The keys of a query over the nodes that are left to it.
 ghost use Rattle.std.specs.Prelude.{◌≡◌, ◌<◌, ◌≢◌, [], length, map, drop, get_or, true, None, Some, is_some, All, IfOk};
-ghost use Rattle.cql_plan.specs.Rows.{key_in};
 ghost use Rattle.cql_syntax.specs.TreeOf.{filter_tree};
-ghost use Rattle.cql_syntax.specs.Hits.{chosen as chosen_of};
 ghost use Rattle.cq_shared.specs.Reading.{is_least, row_key, row_keys, HaveNumbers};
 ghost use Rattle.cq_shared.specs.declared.nodes.Row.{Row as RowOf};
 
@@ -10,6 +8,7 @@ use crate::nodes::Row;
 use crate::part::{Asker, Part};
 use crate::single::reading::filter_of;
 use cq_outside::NoMemory;
+use cql_plan::key_over;
 use cql_syntax::{Filter, Form};
 use std::alloc::Global;
 
@@ -43,7 +42,8 @@ fn key_of(parts: &[Part], rows: &[Row], number: usize, nodes: &[u32]) -> i64
     requires some { 0 < length nodes.now }
     requires part { number < length parts.now }
     requires row { number < length rows.now }
-    requires values { (r : RowOf) → r ≡ get_or rows.now number r → All (λ n. is_some (get_or r.numbers.items n None) ≡ true) nodes.now }
+    requires values { (r : RowOf) → r ≡ get_or rows.now number r
+        → All (λ n. is_some (get_or r.numbers.items n None) ≡ true) nodes.now }
     ensures { Some result ≡ row_key parts.now rows.now nodes.now number }
 {
     let part = &parts[number];
@@ -60,31 +60,4 @@ fn is_least(filter: &Filter) -> bool
         Form::Sort(least, ..) => *least,
         _ => false,
     }
-}
-
-// The greatest entry of a row at some nodes, at each of which it has one, or the least.
-fn key_over(row: &[Option<i64>], least: bool, nodes: &[u32]) -> i64
-    requires some { 0 < length nodes.now }
-    requires values { All (λ n. is_some (get_or row.now n None) ≡ true) nodes.now }
-    ensures { Some result ≡ key_in least row.now nodes.now }
-{
-    let mut key = entry_at(row, nodes[0]);
-    for k in 1..nodes.len() {
-        let value = entry_at(row, nodes[k]);
-        key = chosen(least, key, value);
-    }
-    key
-}
-
-fn entry_at(row: &[Option<i64>], n: u32) -> i64
-    requires { is_some (get_or row.now n None) ≡ true }
-    ensures { get_or row.now n None ≡ Some result }
-{
-    row[n as usize].unwrap()
-}
-
-fn chosen(least: bool, a: i64, b: i64) -> i64
-    ensures { result ≡ chosen_of least a b }
-{
-    if least { a.min(b) } else { a.max(b) }
 }

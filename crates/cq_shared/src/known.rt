@@ -8,12 +8,12 @@ ghost use Rattle.cq_shared.specs.Parts.{with_part, with_parts, parts_with, same_
 ghost use Rattle.cq_shared.specs.Places.{IsTable, place_of, is_among};
 ghost use Rattle.cq_shared.specs.Singles.{shown};
 
-use crate::class::class_of;
 use crate::part::Part;
 use crate::single::Single;
 use crate::single::reading::{filter_of, place, same_single, single_of};
 use crate::table::{Place, put};
 use cq_outside::NoMemory;
+use cql_eval::class_of;
 use cql_syntax::Filter;
 use std::alloc::Global;
 

@@ -1,14 +1,14 @@
 //! One game against all parts of a plan.
-ghost use Rattle.std.specs.Prelude.{◌≡◌, ℕ, ◌+◌, ◌<◌, ◌≤◌, [], length, map, is_some, IfOk};
-ghost use Rattle.cq_shared.specs.Matching.{part_cost, cost_if, costs_if, is_before, is_class, AreLeft, AreReady, IsReady, IsNarrowedBy, IsNarrowedIf, HasRow, HaveRows};
-ghost use Rattle.cq_shared.specs.Singles.{shown};
+ghost use Rattle.std.specs.Prelude.{◌≡◌, true, map, is_some, IfOk};
+ghost use Rattle.cq_shared.specs.Matching.{is_before, is_class, AreLeft, AreReady, IsReady, IsNarrowedBy, IsNarrowedIf, HasRow, HaveRows};
+ghost use Rattle.cq_shared.specs.Wanted.{TakesAtMost, TakeAtMost};
 
 use crate::asking::{numbers_at, truths_at};
-use crate::class::SORTS;
 use crate::narrowing::{narrowed, wanted_nodes};
 use crate::nodes::{Nodes, Row, Sorted, SortedBy};
 use crate::part::Part;
 use cq_outside::{NoMemory, Steps};
+use cql_eval::SORTS;
 use pgn_tree::Game;
 use std::alloc::Global;
 use std::sync::ledger::Ledger;
@@ -23,7 +23,7 @@ pub(crate) fn left_by<L: Ledger>(
 ) -> Result<Vec<Nodes>, NoMemory>
     requires ready { AreReady game.now began.items parts.now }
     ensures left { IfOk result (λ left. AreLeft (is_before 5) game.now parts.now began.items left.items) }
-    ensures cost { steps.new ≤ steps.old + costs_if (is_before 5) game.now parts.now }
+    ensures cost { TakeAtMost (is_before 5) game.now parts.now began.items steps.old steps.new }
 {
     let mut left = began;
     for class in 0..SORTS {
@@ -43,7 +43,7 @@ fn ask_class<L: Ledger>(
 ) -> Result<Vec<Nodes>, NoMemory>
     requires ready { AreReady game.now left.items parts.now }
     ensures left { IfOk result (λ later. AreLeft (is_class class) game.now parts.now left.items later.items) }
-    ensures cost { steps.new ≤ steps.old + costs_if (is_class class) game.now parts.now }
+    ensures cost { TakeAtMost (is_class class) game.now parts.now left.items steps.old steps.new }
 {
     let mut later = left;
     for k in 0..parts.len() {
@@ -63,7 +63,7 @@ fn after_if<L: Ledger>(
 ) -> Result<Vec<Nodes>, NoMemory>
     requires ready { IsReady game.now left.items part.now }
     ensures left { IfOk result (λ later. IsNarrowedIf (is_class class) game.now part.now left.items later.items) }
-    ensures cost { steps.new ≤ steps.old + cost_if (is_class class) game.now part.now }
+    ensures cost { TakesAtMost (is_class class) game.now part.now left.items steps.old steps.new }
 {
     if part.class != class {
         return Ok(left);
@@ -82,7 +82,7 @@ fn after<L: Ledger>(
 ) -> Result<Vec<Nodes>, NoMemory>
     requires ready { IsReady game.now left.items part.now }
     ensures left { IfOk result (λ later. IsNarrowedBy game.now part.now left.items later.items) }
-    ensures cost { steps.new ≤ steps.old + part_cost game.now (shown part.now.single) }
+    ensures cost { TakesAtMost (λ p. true) game.now part.now left.items steps.old steps.new }
 {
     let live = wanted_nodes(alloc, part, game, left.as_slice())?;
     let truths = truths_at(alloc, part, game, live.as_slice(), steps)?;
@@ -100,7 +100,7 @@ pub(crate) fn sorted_by<L: Ledger>(
     requires ready { AreReady game.now left.items parts.now }
     ensures left { IfOk result (λ s. AreLeft (is_class 5) game.now parts.now left.items s.left.items) }
     ensures rows { IfOk result (λ s. HaveRows game.now s.left.items parts.now s.rows.items) }
-    ensures cost { steps.new ≤ steps.old + costs_if (is_class 5) game.now parts.now }
+    ensures cost { TakeAtMost (is_class 5) game.now parts.now left.items steps.old steps.new }
 {
     let mut later = left;
     let mut rows = Vec::new(alloc);
@@ -123,7 +123,7 @@ fn after_sort_if<L: Ledger>(
     requires ready { IsReady game.now left.items part.now }
     ensures left { IfOk result (λ s. IsNarrowedIf (is_class 5) game.now part.now left.items s.left.items) }
     ensures row { IfOk result (λ s. HasRow game.now s.left.items part.now s.row.numbers.items) }
-    ensures cost { steps.new ≤ steps.old + cost_if (is_class 5) game.now part.now }
+    ensures cost { TakesAtMost (is_class 5) game.now part.now left.items steps.old steps.new }
 {
     if part.class != SORTS {
         let row = Row {
@@ -147,7 +147,7 @@ fn after_sort<L: Ledger>(
     requires sort { part.now.class ≡ 5 }
     ensures left { IfOk result (λ s. IsNarrowedBy game.now part.now left.items s.left.items) }
     ensures row { IfOk result (λ s. HasRow game.now s.left.items part.now s.row.numbers.items) }
-    ensures cost { steps.new ≤ steps.old + part_cost game.now (shown part.now.single) }
+    ensures cost { TakesAtMost (λ p. true) game.now part.now left.items steps.old steps.new }
 {
     let live = wanted_nodes(alloc, part, game, left.as_slice())?;
     let numbers = numbers_at(alloc, part, game, live.as_slice(), steps)?;

@@ -1,11 +1,13 @@
 //! The nodes that are left to queries after a part.
 ghost use Rattle.std.specs.Prelude.{◌≡◌, ℕ, ◌<◌, ◌&&◌, ◌||◌, not, length, true, false, get_or, IfOk};
+ghost use Rattle.std.specs.List.{list_any};
 ghost use Rattle.cql_eval.specs.Columns.{AreAsked};
-ghost use Rattle.cq_shared.specs.Matching.{tree_for, is_of, some_wants, IsReady, IsUnion, IsTold, IsNarrowedBy};
+ghost use Rattle.cq_shared.specs.Matching.{tree_for, is_left, is_of, IsReady, IsUnion, IsTold, IsNarrowedBy};
 
 use crate::nodes::Nodes;
 use crate::part::Part;
 use cq_outside::NoMemory;
+use cql_eval::keep_true;
 use pgn_tree::Game;
 use std::alloc::Global;
 
@@ -19,29 +21,33 @@ pub(crate) fn wanted_nodes(
     requires ready { IsReady game.now left.now part.now }
     ensures { IfOk result (λ live. AreAsked (tree_for game.now part.now) live.items × IsUnion part.now left.now live.items) }
 {
-    let mut live = Vec::new(alloc);
+    let mut live = Vec::with_capacity(alloc, game.len() as usize)?;
     for n in 0..game.len() {
-        let there = is_wanted(part, left, n as usize);
+        let there = is_wanted(&part.askers, left, n as usize);
         live.push(there)?;
     }
     Ok(live)
 }
 
-fn is_wanted(part: &Part, left: &[Nodes], n: usize) -> bool
-    ensures { result ≡ some_wants part.now 0 left.now n }
+// Whether one of these queries still wants a node.
+fn is_wanted(askers: &[u32], left: &[Nodes], n: usize) -> bool
+    ensures { result ≡ list_any (λ q. is_left left.now q n) askers.now }
 {
-    for q in 0..left.len() {
-        if wants(part, q, &left[q], n) {
+    for k in 0..askers.len() {
+        if is_left(left, askers[k] as usize, n) {
             return true;
         }
     }
     false
 }
 
-fn wants(part: &Part, q: usize, nodes: &Nodes, n: usize) -> bool
-    ensures { result ≡ (is_of q part.now && get_or nodes.now.there.items n false) }
+fn is_left(left: &[Nodes], q: usize, n: usize) -> bool
+    ensures { result ≡ is_left left.now q n }
 {
-    has(part, q) && is_there(nodes, n)
+    if q < left.len() {
+        return is_there(&left[q], n);
+    }
+    false
 }
 
 // Whether a query has the part.
@@ -71,27 +77,23 @@ pub(crate) fn narrowed(
     requires union { IsUnion part.now left.items live.now }
     ensures { IfOk result (λ later. IsNarrowedBy game.now part.now left.items later.items) }
 {
-    let mut later = Vec::new(alloc);
-    for q in 0..left.len() {
-        let nodes = narrowed_one(alloc, has(part, q), &left[q], truths)?;
-        later.push(nodes)?;
+    let mut later = Vec::with_capacity(alloc, left.len())?;
+    for nodes in left {
+        let query = later.len();
+        let wants = has(part, query);
+        later.push(narrowed_if(wants, nodes, truths))?;
     }
     Ok(later)
 }
 
-fn narrowed_one(
-    alloc: Global,
-    wants: bool,
-    left: &Nodes,
-    truths: &[bool],
-) -> Result<Nodes, NoMemory>
-    ensures { IfOk result (λ later. (n : ℕ) → get_or later.there.items n false
-        ≡ (get_or left.now.there.items n false && (not wants || get_or truths.now n false))) }
+fn narrowed_if(wants: bool, left: Nodes, truths: &[bool]) -> Nodes
+    ensures { (n : ℕ) → get_or result.there.items n false
+        ≡ (get_or left.there.items n false && (not wants || get_or truths.now n false)) }
 {
-    let mut there = Vec::new(alloc);
-    for n in 0..left.there.len() {
-        let stays = left.there[n] && (!wants || truths.get(n).copied().unwrap_or(false));
-        there.push(stays)?;
+    if !wants {
+        return left;
     }
-    Ok(Nodes { there })
+    let mut there = left.there;
+    keep_true(&mut there, truths);
+    Nodes { there }
 }

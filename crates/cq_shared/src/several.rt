@@ -3,6 +3,7 @@ ghost use Rattle.std.specs.Prelude.{◌≡◌, ◌+◌, ◌≤◌, length, map, 
 ghost use Rattle.cql_syntax.specs.Hits.{hits};
 ghost use Rattle.cq_shared.specs.Matching.{plan_cost};
 ghost use Rattle.cq_shared.specs.Plans.{queries_of, trees_of, plan_parts};
+ghost use Rattle.cq_shared.specs.Wanted.{asked_parts};
 ghost use Rattle.cq_shared.specs.Verdicts.{nodes_of, keys_of, HaveKeys};
 
 use crate::beginning::began;
@@ -28,6 +29,8 @@ pub fn match_all<L: Ledger>(
     ensures nodes { IfOk result (λ v. nodes_of v ≡ map (λ q. hits q game.now) (trees_of (queries_of plan.now))) }
     ensures keys { IfOk result (λ v. HaveKeys game.now (trees_of (queries_of plan.now)) (nodes_of v) (keys_of v)) }
     ensures count { IfOk result (λ v. length (keys_of v) ≡ length (nodes_of v)) }
+    ensures asked { steps.new ≤ steps.old
+        + plan_cost game.now (asked_parts game.now (trees_of (queries_of plan.now)) (plan_parts (queries_of plan.now))) }
     ensures most { steps.new ≤ steps.old + plan_cost game.now (plan_parts (queries_of plan.now)) }
 {
     let askers = plan.askers.as_slice();

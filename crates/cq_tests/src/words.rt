@@ -26,6 +26,28 @@ fn expect<R: Abort>(
     Ok(())
 }
 
+/// Words of `many`, and the archive, the workers and the limit that they ask.
+static MANY: [(&str, &str, u32, u64); 3] = [
+    ("many q", "-", 4, MOST),
+    ("many q a.pgn", "a.pgn", 4, MOST),
+    ("--limit 7 many q --workers=64 a.pgn", "a.pgn", 64, 7),
+];
+
+#[test]
+fn many(rt: HostRuntime) -> Result<(), Fail> {
+    let alloc = rt.alloc();
+    for (line, archive, workers, limit) in MANY.iter() {
+        let job = Job::Many {
+            queries: bytes(alloc, "q")?,
+            archive: bytes(alloc, archive)?,
+            workers: *workers,
+            limit: *limit,
+        };
+        expect(&rt, alloc, line, Ok(job))?;
+    }
+    Ok(())
+}
+
 /// Words of `run`, and the archive, the workers, the limit and whether the first match that they ask.
 static RUNS: [(&str, &str, u32, u64, bool); 7] = [
     ("run q", "-", 4, MOST, false),
@@ -110,12 +132,17 @@ fn other_modes(rt: HostRuntime) -> Result<(), Fail> {
 }
 
 /// Words that are refused.
-static REFUSED: [&str; 25] = [
+static REFUSED: [&str; 30] = [
     "eval",
     "--help",
     "-h",
     "--version",
-    "many q",
+    "many",
+    "many q a.pgn b",
+    "many q --first",
+    "many q --seed 1",
+    "many q --games 1",
+    "many q --workers 65",
     "eval q --workers 0",
     "eval q --workers 65",
     "eval q --workers",

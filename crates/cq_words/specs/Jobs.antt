@@ -26,7 +26,8 @@ mode_of word =
     else (if bytes_eq word (codes "eval") then Some mode.Eval
     else (if bytes_eq word (codes "check") then Some mode.Check
     else (if bytes_eq word (codes "explain") then Some mode.Explain
-    else (if bytes_eq word (codes "selfrun") then Some mode.SelfRun else None))))
+    else (if bytes_eq word (codes "selfrun") then Some mode.SelfRun
+    else (if bytes_eq word (codes "many") then Some mode.Many else None)))))
 
 -- ---- what is given, of the matches
 
@@ -77,6 +78,10 @@ settings_in rows =
     (λ limit. record { workers = workers; limit = limit; first = is_set rows (codes "first") }) (limit_in rows))
     (workers_in rows)
 
+-- `many` takes `--workers` and `--limit`
+abbrev pub many_settings_in : List Row → Option Settings
+many_settings_in rows = if is_set rows (codes "first") then None else settings_in rows
+
 -- `selfrun` takes `--workers`, `--seed` and `--games`, and no archive
 abbrev pub self_run_settings_in : List Row → Option SelfRunSettings
 self_run_settings_in rows =
@@ -95,6 +100,7 @@ job_by mode.Eval query rows = option_map (λ s. job.Eval query (archive_in rows)
 job_by mode.Check query rows = if has_more rows then None else Some (job.Check query)
 job_by mode.Explain query rows = if has_more rows then None else Some (job.Explain query)
 job_by mode.SelfRun query rows = option_map (λ m. job.SelfRun query m.seed m.games m.workers) (self_run_settings_in rows)
+job_by mode.Many queries rows = option_map (λ s. job.Many queries (archive_in rows) s.workers s.limit) (many_settings_in rows)
 
 -- the job of matches that keep the rules; none of others
 abbrev pub job_in : List Row → Option Job
@@ -121,3 +127,4 @@ IsInRange (job.Eval text archive workers limit first) = (1 ≤ workers) × (work
 IsInRange (job.Check query) = Unit {0}
 IsInRange (job.Explain query) = Unit {0}
 IsInRange (job.SelfRun text seed games workers) = (seed ≤ 4294967295) × (games ≤ 100000) × (1 ≤ workers) × (workers ≤ 64)
+IsInRange (job.Many queries archive workers limit) = (1 ≤ workers) × (workers ≤ 64) × (1 ≤ limit) × (limit ≤ 1099511627776)

@@ -47,6 +47,13 @@ pub enum Job {
         games: u32,
         workers: u32,
     },
+    /// To answer each query in the file of queries `queries` over one reading of the archive in the file `archive`.
+    Many {
+        queries: Bytes,
+        archive: Bytes,
+        workers: u32,
+        limit: u64,
+    },
 }
 
 /// How an archive is answered: by how many workers, up to how many bytes of it, and whether up to the first match alone.
@@ -56,7 +63,7 @@ pub struct Settings {
     pub workers: u32,
     /// From 1 to 2^40.
     pub limit: u64,
-    /// Whether the first game that matches is written alone, and no more is read after its batch.
+    /// Whether the first game that matches is written alone, and nothing is read after the read that completes its batch.
     pub first: bool,
 }
 

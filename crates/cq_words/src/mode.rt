@@ -10,6 +10,7 @@ pub(crate) enum Mode {
     Check,
     Explain,
     SelfRun,
+    Many,
 }
 
 // The mode that a word names.
@@ -26,6 +27,8 @@ pub(crate) fn mode_of(word: &str) -> Option<Mode>
         Some(Mode::Explain)
     } else if word == "selfrun" {
         Some(Mode::SelfRun)
+    } else if word == "many" {
+        Some(Mode::Many)
     } else {
         None
     }

@@ -1,7 +1,7 @@
 //! What the matches give of each argument.
 ghost use Rattle.std.specs.Prelude.{◌≡◌, ◌≤◌, IfSome, IfOk, option_map};
 ghost use Rattle.clap.specs.Words.{first_of, found_of, rows_of};
-ghost use Rattle.cq_words.specs.Jobs.{archive_in, has_more, is_given, is_set, number_of, number_or, self_run_settings_in, settings_in, workers_in};
+ghost use Rattle.cq_words.specs.Jobs.{archive_in, has_more, is_given, is_set, many_settings_in, number_of, number_or, self_run_settings_in, settings_in, workers_in};
 
 use crate::job::{BYTES_LIMIT, GAMES_LIMIT, SEED_LIMIT, SelfRunSettings, Settings, WORKERS_LIMIT};
 use clap::ArgMatches;
@@ -79,6 +79,17 @@ pub(crate) fn settings_in(matches: &ArgMatches<'_>) -> Option<Settings>
         limit,
         first,
     })
+}
+
+// The settings of `many`; none where an option is given that it doesn't take.
+pub(crate) fn many_settings_in(matches: &ArgMatches<'_>) -> Option<Settings>
+    ensures value { result ≡ many_settings_in (rows_of (found_of matches.now)) }
+    ensures bounds { IfSome result (λ s. (1 ≤ s.workers) × (s.workers ≤ 64) × (1 ≤ s.limit) × (s.limit ≤ 1099511627776)) }
+{
+    if is_set(matches, "first") {
+        return None;
+    }
+    settings_in(matches)
 }
 
 // The settings of `selfrun`; none where an archive is given, or an option that it doesn't take.

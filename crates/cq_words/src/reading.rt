@@ -10,7 +10,9 @@ ghost use Rattle.cq_words.specs.Promises.{HasMatches, IsRefused};
 use crate::job::{Job, WordsRefused};
 use crate::line;
 use crate::mode::{Mode, mode_of};
-use crate::options::{archive_in, has_more, self_run_settings_in, settings_in, text_of};
+use crate::options::{
+    archive_in, has_more, many_settings_in, self_run_settings_in, settings_in, text_of,
+};
 use clap::ArgMatches;
 use clap::error::ErrorKind;
 use cq_outside::{Bytes, Refusal};
@@ -121,7 +123,27 @@ fn self_run_job(
     })
 }
 
-// The job of a mode and a query.
+// The job of `many`.
+fn many_job(
+    alloc: Global,
+    queries: &str,
+    matches: &ArgMatches<'_>,
+) -> Result<Job, Refusal<WordsRefused>>
+    ensures value { Answers (job_by modes.Many queries.now (rows_of (found_of matches.now))) result }
+    ensures ranges { IfOk result IsInRange }
+{
+    let Some(settings) = many_settings_in(matches) else {
+        return Err(Refusal::Fault(WordsRefused));
+    };
+    Ok(Job::Many {
+        queries: Bytes::from_slice(alloc, queries.as_bytes())?,
+        archive: archive_in(alloc, matches)?,
+        workers: settings.workers,
+        limit: settings.limit,
+    })
+}
+
+// The job of a mode and a query, or a file of queries.
 fn job_by(
     alloc: Global,
     mode: Mode,
@@ -137,6 +159,7 @@ fn job_by(
         Mode::Check => check_job(alloc, query, matches),
         Mode::Explain => explain_job(alloc, query, matches),
         Mode::SelfRun => self_run_job(alloc, query, matches),
+        Mode::Many => many_job(alloc, query, matches),
     }
 }
 

@@ -1,12 +1,12 @@
 -- Columns that are filled node by node.
 use Rattle.std.proofs.Common.{◌≡◌, ℕ, zero, suc, ◌+◌, ◌<◌, ◌≤◌, ◌⊎◌, Bool, true, false, List, [], ◌∷◌, ◌++◌, length, get_or, ◌&&◌, refl, ap, sym, subst, ◌∙◌, arith, ⊎_elim, inl, inr, length-append}
 use Rattle.cq_position.specs.Search.{SearchedTree}
-use Rattle.std.specs.Prelude.{is_some}
+use Rattle.std.specs.Prelude.{◌-◌, is_some, slice_set}
 use Rattle.cql_syntax.specs.Values.{holds, amount}
 use Rattle.cql_eval.specs.Columns.{shown, is_so, IsNarrowed, IsNumbered, AreAsked}
 use Rattle.cql_eval.specs.declared.filter_column.FilterColumn.{FilterColumn}
 use Rattle.std.proofs.lemmas.Bool.{cases_order}
-use Rattle.std.proofs.lemmas.List.{get_or_append_left}
+use Rattle.std.proofs.lemmas.List.{get_or_append_left, get_or-set_same, get_or-set_other, length-set}
 use Rattle.std.proofs.Math.Seq.{get_or-append_seam}
 
 pub split_last : (n k : ℕ) → n < k + 1 → (n < k) ⊎ (n ≡ k)
@@ -47,6 +47,44 @@ live_below (b ∷ live) (suc n) e = omega (arith, live_below live n e)
 pub filled_all : {A B : Type 0} (show : A → B) (d : A) (live : List Bool) (v : ℕ → B) (k : ℕ) (items : List A) → length live ≤ k → Filled show d live v k items
     → (n : ℕ) → get_or live n false ≡ true → show (get_or items n d) ≡ v n
 filled_all show d live v k items end had n a = had.each n (omega (arith, live_below live n a, end)) a
+
+-- a set has no node before one, and none past one
+pub none_before : (live : List Bool) (k : ℕ) → get_or live k false ≡ false → ((n : ℕ) → n < k → get_or live n false ≡ false) → (n : ℕ) → n < k + 1 → get_or live n false ≡ false
+none_before live k is had n h = ⊎_elim (had n) (λ same. ap (λ i. get_or live i false) same ∙ is) (split_last n k h)
+
+pub none_past : (live : List Bool) (end : ℕ) → 0 < end → get_or live (end - 1) false ≡ false → ((n : ℕ) → end ≤ n → get_or live n false ≡ false)
+    → (n : ℕ) → end - 1 ≤ n → get_or live n false ≡ false
+none_past live end some is had n h = ⊎_elim (λ same. ap (λ i. get_or live i false) (sym same) ∙ is) (λ away. had n (omega (arith, h, some, away))) (equal_or (end - 1) n)
+
+-- the same of a column that reaches as far as the nodes that are asked for, and is written over
+pub record FilledTo {A B : Type 0} (show : A → B) (d : A) (live : List Bool) (v : ℕ → B) (end k : ℕ) (items : List A) : Type 0 where
+  pub count : length items ≡ end
+  pub each : (n : ℕ) → n < k → get_or live n false ≡ true → show (get_or items n d) ≡ v n
+  pub past : (n : ℕ) → end ≤ n → get_or live n false ≡ false
+
+never_both : (b : Bool) → b ≡ false → b ≡ true → ⊥
+never_both true e h = cc
+never_both false e h = cc
+
+pub put_none : {A B : Type 0} (show : A → B) (d : A) (live : List Bool) (v : ℕ → B) (end k : ℕ) (items : List A) → length items ≡ end
+    → ((n : ℕ) → end ≤ n → get_or live n false ≡ false) → ((n : ℕ) → n < k → get_or live n false ≡ false) → FilledTo show d live v end k items
+put_none show d live v end k items size past before = record { count = size; each = λ n h a. absurd (never_both (get_or live n false) (before n h) a); past = past }
+
+pub put_more : {A B : Type 0} (show : A → B) (d : A) (live : List Bool) (v : ℕ → B) (end k : ℕ) (items later : List A) (x : A)
+    → k < end → later ≡ slice_set items k x → (get_or live k false ≡ true → show x ≡ v k) → FilledTo show d live v end k items → FilledTo show d live v end (k + 1) later
+put_more show d live v end k items later x low is new had = record {
+  count = ap length is ∙ length-set items k x ∙ had.count;
+  each = λ n h a. ap (λ l. show (get_or l n d)) is ∙ ⊎_elim
+      (λ less. ap show (get_or-set_other items k n x d (λ e. omega (arith, less, e))) ∙ had.each n less a)
+      (λ same. ap (λ i. show (get_or (slice_set items k x) i d)) same ∙ ap show (get_or-set_same items k x d (omega (arith, low, had.count)))
+      ∙ new (subst (λ i. get_or live i false ≡ true) same a) ∙ ap v (sym same))
+      (split_last n k h);
+  past = had.past;
+}
+
+pub put_all : {A B : Type 0} (show : A → B) (d : A) (live : List Bool) (v : ℕ → B) (end k : ℕ) (items : List A) → end ≤ k → FilledTo show d live v end k items
+    → (n : ℕ) → get_or live n false ≡ true → show (get_or items n d) ≡ v n
+put_all show d live v end k items done had n a = ⊎_elim (λ low. had.each n (omega (arith, low, done)) a) (λ far. absurd (never_both (get_or live n false) (had.past n far) a)) (split_at n end)
 
 -- beyond its end a list of truths has none
 pub past : (xs : List Bool) (n : ℕ) → length xs ≤ n → get_or xs n false ≡ false

@@ -1,6 +1,7 @@
 -- The searched nodes as steps, and the hits and keys of the items of a query one by one.
 use Rattle.std.proofs.Common.{◌≡◌, ℕ, zero, suc, ◌+◌, ◌-◌, ◌<◌, ◌≤◌, ◌&&◌, Bool, true, false, List, [], ◌∷◌, ◌++◌, length, map, take, get_or, cond, refl, sym, ap, ap₂, ◌∙◌, subst, arith, append_assoc, ℤ}
-use Rattle.std.specs.Prelude.{if◌then◌else◌, Option, None, is_some}
+use Rattle.std.specs.Prelude.{if◌then◌else◌, Option, None, is_some, count_by}
+use Rattle.std.proofs.lemmas.List.Sums.{count_by_more_yes, count_by_more_no}
 use Rattle.std.proofs.Math.Path.{fun_ext}
 use Rattle.std.specs.List.{list_all, filter, range_with_len}
 use Rattle.std.proofs.lemmas.List.{same_lists}
@@ -16,6 +17,7 @@ use Rattle.cql_syntax.specs.TreeOf.{filter_tree, filter_trees}
 use Rattle.cql_syntax.specs.Values.{Value, holds, amount}
 use Rattle.cql_syntax.specs.declared.tree.Filter.{Filter}
 use Rattle.cql_syntax.proofs.Lists.{filter_trees_more}
+use Rattle.cql_eval.specs.Classes.{IsLeft}
 use Rattle.cql_eval.specs.Columns.{is_live, shown, AreAsked, IsColumn, IsNarrowed, IsNumbered}
 use Rattle.cql_eval.specs.declared.filter_column.FilterColumn.{FilterColumn}
 use Rattle.cql_eval.specs.Hits.{hit_column, key_column, key_row_of, number_at, sort_numbers, item_numbers, AreKeysAtHits}
@@ -45,6 +47,18 @@ steps_all p k count now total end had =
 pub all_left : (tree : SearchedTree) (now : ℕ) → now + left_of (is_searched tree.variations tree.game.nodes) 0 (length tree.game.nodes) ≡ now + length (nodes_in tree)
 unfolding searched
 all_left tree now = let e : length tree.game.nodes - 0 ≡ length tree.game.nodes = omega arith in ap (λ m. now + length (filter (is_searched tree.variations tree.game.nodes) (range_with_len 0 m))) e
+
+-- a step for each node of a set
+pub ticks_more : (live : List Bool) (n : ℕ) (d : Bool) (before now later : ℕ) → n < length live → later ≡ now + (if get_or live n d then 1 else 0)
+    → now ≡ before + count_by (λ b. b) (take n live) → later ≡ before + count_by (λ b. b) (take (n + 1) live)
+ticks_more live n d before now later low more had = by (get_or live n d) refl more
+  where
+    by : (b : Bool) → get_or live n d ≡ b → later ≡ now + (if b then 1 else 0) → later ≡ before + count_by (λ b. b) (take (n + 1) live)
+    by true is more = let e = count_by_more_yes (λ b. b) live n d low is in omega (arith, more, had, e)
+    by false is more = let e = count_by_more_no (λ b. b) live n d low is in omega (arith, more, had, e)
+
+pub ticks_all : (live : List Bool) (n before now : ℕ) → length live ≤ n → now ≡ before + count_by (λ b. b) (take n live) → now ≡ before + count_by (λ b. b) live
+ticks_all live n before now end had = had ∙ ap (λ l. before + count_by (λ b. b) l) (take_whole live n end)
 
 -- the searched nodes are asked for
 module _ (tree : SearchedTree) (all : List Bool) (is : all ≡ map (is_searched tree.variations tree.game.nodes) (numbers tree.game.nodes)) where
@@ -98,6 +112,21 @@ hits_are tree all left xs i fs is end same had = same_lists left (hit_column tre
     (λ n d h. let low : n < length tree.game.nodes = omega (arith, h, had.asked.count) in
     any_default left n d false h ∙ had.each n ∙ ap₂ (λ a b. a && b) (all_at tree all is n low)
     (ap (λ ys. list_all holds (values tree [] [] (filter_trees ys) n)) (take_whole xs i end) ∙ ap (λ gs. is_hit tree gs n) same)
+    ∙ sym (get_or-map-range_with_len (λ m. is_searched tree.variations tree.game.nodes m && is_hit tree fs m) 0 (length tree.game.nodes) n n d low (omega arith)))
+
+pub hits_left : (tree : SearchedTree) (all left : List Bool) (xs : List Filter) (i : ℕ) (fs : FilterTrees) → length xs ≤ i → filter_trees xs ≡ fs
+    → ItemsSoFar tree all xs i left → IsLeft tree all (is_hit tree fs) left
+hits_left tree all left xs i fs end same had = record {
+  asked = had.asked;
+  each = λ n. had.each n ∙ ap (λ b. is_live all n && b) (ap (λ ys. list_all holds (values tree [] [] (filter_trees ys) n)) (take_whole xs i end) ∙ ap (λ gs. is_hit tree gs n) same);
+}
+
+pub hits_whole : (tree : SearchedTree) (all left : List Bool) (fs : FilterTrees) → all ≡ map (is_searched tree.variations tree.game.nodes) (numbers tree.game.nodes)
+    → IsLeft tree all (is_hit tree fs) left → left ≡ hit_column tree fs
+hits_whole tree all left fs is had = same_lists left (hit_column tree fs)
+    (had.asked.count ∙ sym (length-map-range_with_len (λ n. is_searched tree.variations tree.game.nodes n && is_hit tree fs n) 0 (length tree.game.nodes)))
+    (λ n d h. let low : n < length tree.game.nodes = omega (arith, h, had.asked.count) in
+    any_default left n d false h ∙ had.each n ∙ ap (λ b. b && is_hit tree fs n) (all_at tree all is n low)
     ∙ sym (get_or-map-range_with_len (λ m. is_searched tree.variations tree.game.nodes m && is_hit tree fs m) 0 (length tree.game.nodes) n n d low (omega arith)))
 
 -- the sort items so far

@@ -18,6 +18,19 @@ pub record KeptTo (test : ℕ → Bool) (live : List Bool) (k : ℕ) (left : Lis
 pub kept_none : (test : ℕ → Bool) (live : List Bool) → KeptTo test live 0 live
 kept_none test live = record { count = refl; tried = λ n h. absurd (omega (arith, h)); rest = λ n h. refl }
 
+-- nodes that aren't in a set are left as they are
+none_left : (a t : Bool) → a ≡ false → a ≡ (a && t)
+none_left true t e = cc
+none_left false t e = refl
+
+all_left : (a b t : Bool) → b ≡ false → a ≡ (a && not (b && t))
+all_left true true t e = cc
+all_left true false t e = refl
+all_left false b t e = refl
+
+pub kept_from : (test : ℕ → Bool) (live : List Bool) (k : ℕ) → ((n : ℕ) → n < k → get_or live n false ≡ false) → KeptTo test live k live
+kept_from test live k none = record { count = refl; tried = λ n h. none_left (get_or live n false) (test n) (none n h); rest = λ n h. refl }
+
 pub kept_more : (test : ℕ → Bool) (live left later : List Bool) (k : ℕ) (d b : Bool) → k < length left → later ≡ slice_set left k b → b ≡ (get_or left k d && test k)
     → KeptTo test live k left → KeptTo test live (k + 1) later
 kept_more test live left later k d b low is new had = record {
@@ -44,19 +57,31 @@ kept_all test live left k end had = record {
       (split_at n k);
 }
 
-pub numbered_by_kept : (live left : List Bool) (c : FilterColumn) (k : ℕ) → length left ≤ k → KeptTo (λ n. is_some (amount (shown c n))) live k left → IsNumbered live c left
-numbered_by_kept live left c k end had =
-    let kept = kept_all (λ n. is_some (amount (shown c n))) live left k end had in
-    record { count = kept.count; each = kept.each }
+-- the same, where no node is in the set from k on
+pub kept_to : (test : ℕ → Bool) (live left : List Bool) (end k : ℕ) → end ≤ k → ((n : ℕ) → end ≤ n → get_or live n false ≡ false) → KeptTo test live k left → AreKept test live left
+kept_to test live left end k done none had = record {
+  count = had.count;
+  each = λ n. ⊎_elim (had.tried n) (λ far. had.rest n far ∙ none_left (get_or live n false) (test n) (none n (omega (arith, far, done)))) (split_at n k);
+}
+
+pub numbered_by_kept : (live left : List Bool) (c : FilterColumn) → AreKept (λ n. is_some (amount (shown c n))) live left → IsNumbered live c left
+numbered_by_kept live left c kept = record { count = kept.count; each = kept.each }
 
 pub having_by_kept : (x : ℕ → Value) (s : ℕ) (left there : List Bool) → AreKept (λ n. has (x n) s) left there → AreHaving x s left there
 having_by_kept x s left there kept = record { count = kept.count; each = kept.each }
 
-pub left_by_kept : (every : Bool) (asked : ℕ → Bool) (left there later : List Bool) (k : ℕ) → length later ≤ k
+-- a set of which those nodes are taken that another set has, and that a column settles
+pub left_from : (left there : List Bool) (t : ℕ → Bool) (k : ℕ) → ((n : ℕ) → n < k → get_or there n false ≡ false) → KeptTo (λ n. not (get_or there n false && t n)) left k left
+left_from left there t k none = record { count = refl; tried = λ n h. all_left (get_or left n false) (get_or there n false) (t n) (none n h); rest = λ n h. refl }
+
+pub left_by_kept : (every : Bool) (asked : ℕ → Bool) (left there later : List Bool) (end k : ℕ) → end ≤ k → ((n : ℕ) → end ≤ n → get_or there n false ≡ false)
     → KeptTo (λ n. not (get_or there n false && (if every then not (asked n) else asked n))) left k later → AreLeft every asked left there later
-left_by_kept every asked left there later k end had =
-    let kept = kept_all (λ n. not (get_or there n false && (if every then not (asked n) else asked n))) left later k end had in
-    record { count = kept.count; each = kept.each }
+left_by_kept every asked left there later end k done none had = record {
+  count = had.count;
+  each = λ n. ⊎_elim (had.tried n)
+      (λ far. had.rest n far ∙ all_left (get_or left n false) (get_or there n false) (if every then not (asked n) else asked n) (none n (omega (arith, far, done))))
+      (split_at n k);
+}
 
 -- a list that is changed in place, and is as long as it was
 pub written : (len : ℕ) (new old : List Bool) → len ≡ length new → take len (new ++ drop (length new) old) ≡ new

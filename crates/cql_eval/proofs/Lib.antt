@@ -1,3 +1,4 @@
+pub mod AttackLaw
 pub mod Chains
 pub mod ClassLaw
 pub mod Costing
@@ -15,6 +16,7 @@ pub mod MoveLaw
 pub mod Parents
 pub mod Raising
 pub mod SortsLaw
+pub mod SpelledAlike
 pub mod UnaryLaws
 pub mod Wanting
 pub mod Widening

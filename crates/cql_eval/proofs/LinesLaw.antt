@@ -1,8 +1,8 @@
 -- The atoms of a line one by one in a table, and the line's number from the table.
-use Rattle.std.proofs.Common.{◌≡◌, ℕ, zero, suc, ◌+◌, ◌*◌, ◌<◌, ◌≤◌, ◌&&◌, ◌||◌, max, pos, ℤ, Bool, true, false, List, [], ◌∷◌, ◌++◌, length, map, drop, take, get_or, Option, Some, None, option_map, refl, sym, ap, ap₂, ◌∙◌, subst, arith, ⊎_elim, add-one}
+use Rattle.std.proofs.Common.{◌≡◌, Result, Ok, Err, IfOk, ℕ, zero, suc, ◌+◌, ◌*◌, ◌<◌, ◌≤◌, ◌&&◌, ◌||◌, max, pos, ℤ, Bool, true, false, List, [], ◌∷◌, ◌++◌, length, map, drop, take, get_or, Option, Some, None, option_map, refl, sym, ap, ap₂, ◌∙◌, subst, arith, ⊎_elim, add-one}
 use denote.Hole.Carrier as Carrier
 use Rattle.std.specs.Prelude.{not, IfSome, slice_get, if◌then◌else◌}
-use Rattle.std.specs.List.{range_with_len, count_by}
+use Rattle.std.specs.List.{range_with_len, count_by, list_any}
 use Rattle.std.specs.Prelude.{replicate, ◌==◌}
 use Rattle.std.specs.Int.{bit_at}
 use Rattle.std.proofs.lemmas.Nat.Bits.{bit_at-zero}
@@ -17,7 +17,7 @@ use Rattle.cq_outside.specs.Greatest.{IsGreatest}
 use Rattle.cq_outside.specs.Spelling.{Pattern, one, nothing, joined, repeated}
 use Rattle.cq_outside.specs.Ways.{Line}
 use Rattle.cq_position.specs.Games.{IsTree, node_at, is_first_child, is_searched, numbers}
-use Rattle.cq_position.specs.Search.{SearchedTree}
+use Rattle.cq_position.specs.Search.{SearchedTree, IsStep, Along}
 use Rattle.cq_position.proofs.WaysUp.{searched_up, parent_before}
 use Rattle.cql_lines.specs.Automata.{places as automaton_places}
 use Rattle.cql_lines.specs.Building.{AtomsBelow}
@@ -33,7 +33,7 @@ use Rattle.cql_lines.specs.declared.shape.Spot.{Spot}
 use Rattle.cql_lines.specs.declared.table.AtomTable.{AtomTable}
 use Rattle.cql_syntax.specs.Meaning.{Names, marked, value, pattern, body_pattern, line_of, line_value}
 use Rattle.cql_syntax.specs.Places.{copies, parts_places, body_places}
-use Rattle.cql_syntax.specs.TabledLines.{Tabled, Searched, IsAsked, AreParents, Joins}
+use Rattle.cql_syntax.specs.TabledLines.{Searched, IsAsked, AreSpelledAlike, AreParents, Joins}
 use Rattle.cql_syntax.specs.TreeOf.{body_tree, part_trees, parts_tree, line_tree}
 use Rattle.cql_syntax.specs.Trees.{FilterTree, PartTrees, no_parts, more_parts, BodyTree, atom, group}
 use Rattle.cql_syntax.specs.Values.{Value, as_number, holds as value_holds}
@@ -43,13 +43,16 @@ use Rattle.cql_syntax.specs.declared.leaves.Mark.{Mark}
 use Rattle.cql_syntax.specs.declared.leaves.Mark.TheVariants.{Once, Star, Plus, Maybe, Times}
 use Rattle.cql_syntax.specs.declared.tree.Constituent.{Constituent}
 use Rattle.cql_syntax.specs.declared.tree.Line.{Line as OneLine, Line', out-Line}
-use Rattle.cql_eval.specs.Columns.{is_live, shown, IsColumn}
+use Rattle.cql_eval.specs.Columns.{is_live, shown, IsColumn, AreAsked, IsPart}
 use Rattle.cql_eval.specs.Costs.{filter_cost, line_cost, parts_atoms, body_atoms, parts_cost, body_cost}
 use Rattle.cql_eval.specs.FlatTrees.{unflat, unflat_body, unflat_parts, IsFlatLine, AreFlatParts, IsFlatBody, IsFlat}
-use Rattle.cql_eval.specs.LineAtoms.{AreAllAsked, parts_numbered, body_numbered, limits_in, spot_at, AreClearFrom, HasRoom, IsPut, IsFilledIn, AreTabled}
+use Rattle.cql_eval.specs.LineAtoms.{parts_numbered, body_numbered, limits_in, spot_at, AreClearFrom, HasRoom, IsPut, IsFilledIn}
+use Rattle.cql_eval.specs.SpelledParts.{IsLive, AreAlike, IsNever, Agrees, AreTabled, AreOnward, LeadsOn, EndsHere}
+use Rattle.cql_eval.proofs.Lives.{none_live}
+use Rattle.cql_eval.proofs.SpelledAlike.{atom_alike, after_atom, never_atom, never_there, never_one, along_wider, alike_on}
 use Rattle.cql_eval.specs.declared.filter_column.FilterColumn.{FilterColumn}
 use Rattle.cql_eval.proofs.Filling.{split_last, live_below}
-use Rattle.cql_syntax.proofs.TabledLines.{lines_are_theirs}
+use Rattle.cql_syntax.proofs.TabledLines.{spelled_lines_are_theirs}
 
 -- as many places as the line has, and no more atoms
 
@@ -228,97 +231,133 @@ next_all first xs i next ps cs end same had = let e = atoms_end xs i end in let 
 
 -- the atoms of a table
 
-module _ (test : ℕ → ℕ → Bool) (Reach : ℕ → Type 0) where
-  tabled_marked : (m : Mark) (p : Pattern ℕ) (r : Pattern (ℕ → Value)) → Tabled test Reach p r → Tabled test Reach (marked m p) (marked m r)
-  tabled_marked Once p r h = h
-  tabled_marked Star p r h = (refl, refl, h)
-  tabled_marked Plus p r h = (refl, refl, h)
-  tabled_marked Maybe p r h = (refl, refl, h)
-  tabled_marked (Times least most) p r h = (refl, refl, h)
-
 -- what is left of the parts tells the whole, given the table of those so far
-abbrev pub TellsAll : SearchedTree → Names → ℕ → PartTrees → ℕ → PartTrees → AtomTable → Type 0
-TellsAll tree e first whole at rest table =
-    (test : ℕ → ℕ → Bool) → ((a n : ℕ) → a < at → test a n ≡ holds_in table a n) → Tabled test (IsAsked tree) (parts_numbered at rest) (pattern tree [] e rest)
-    → Tabled test (IsAsked tree) (parts_numbered first whole) (pattern tree [] e whole)
+abbrev pub TellsAll : SearchedTree → Bool → Names → ℕ → PartTrees → List Bool → ℕ → PartTrees → List Bool → AtomTable → Type 0
+TellsAll tree back e first whole live at rest starts table =
+    (test : ℕ → ℕ → Bool) → Agrees test table at → AreAlike (IsStep tree back false) (IsLive starts) test (parts_numbered at rest) (pattern tree [] e rest)
+    → AreAlike (IsStep tree back false) (IsLive live) test (parts_numbered first whole) (pattern tree [] e whole)
 
-tells_next : (tree : SearchedTree) (e : Names) (first at : ℕ) (whole : PartTrees) (body : BodyTree) (mark : Mark) (rest : PartTrees) (old new : AtomTable)
-    → AreTabled tree new (at + body_atoms body) (body_numbered at body) (body_pattern tree [] e body) → IsFilledIn old new at (at + body_atoms body)
-    → TellsAll tree e first whole at (more_parts body mark rest) old → TellsAll tree e first whole (at + body_atoms body) rest new
+-- where what is left is never spelled, the whole isn't
+abbrev pub NeverAll : SearchedTree → Bool → Names → PartTrees → List Bool → PartTrees → List Bool → Type 0
+NeverAll tree back e whole live rest starts =
+    IsNever (IsStep tree back false) (IsLive starts) (pattern tree [] e rest) → IsNever (IsStep tree back false) (IsLive live) (pattern tree [] e whole)
+
+tells_next : (tree : SearchedTree) (back : Bool) (e : Names) (first at : ℕ) (whole : PartTrees) (live : List Bool) (body : BodyTree) (mark : Mark)
+    (rest : PartTrees) (starts later : List Bool) (old new : AtomTable)
+    → LeadsOn tree back starts later new (at + body_atoms body) (marked mark (body_numbered at body)) (marked mark (body_pattern tree [] e body)) → IsFilledIn old new at (at + body_atoms body)
+    → TellsAll tree back e first whole live at (more_parts body mark rest) starts old → TellsAll tree back e first whole live (at + body_atoms body) rest later new
 unfolding pattern
-tells_next tree e first at whole body mark rest old new tabled filled had test same last =
+tells_next tree back e first at whole live body mark rest starts later old new leads filled had test same last =
     had test (λ a n h. same a n (omega (arith, h)) ∙ filled.before a n h)
-    (tabled_marked test (IsAsked tree) mark (body_numbered at body) (body_pattern tree [] e body) (tabled test same), last)
+    (leads.alike test same (parts_numbered (at + body_atoms body) rest) (pattern tree [] e rest) last)
 
-tells_end : (tree : SearchedTree) (e : Names) (first at : ℕ) (whole : PartTrees) (table : AtomTable) → TellsAll tree e first whole at no_parts table
-    → AreTabled tree table at (parts_numbered first whole) (pattern tree [] e whole)
+never_next : (tree : SearchedTree) (back : Bool) (e : Names) (whole : PartTrees) (live : List Bool) (body : BodyTree) (mark : Mark) (rest : PartTrees) (starts later : List Bool)
+    → ((s : Pattern (ℕ → Value)) → IsNever (IsStep tree back false) (IsLive later) s → IsNever (IsStep tree back false) (IsLive starts) (joined (marked mark (body_pattern tree [] e body)) s))
+    → NeverAll tree back e whole live (more_parts body mark rest) starts → NeverAll tree back e whole live rest later
 unfolding pattern
-tells_end tree e first at whole table had test same = had test same tt
+never_next tree back e whole live body mark rest starts later never had last = had (never (pattern tree [] e rest) last)
 
-pub record TableSoFar (tree : SearchedTree) (e : Names) (first : ℕ) (xs : List Constituent) (i at : ℕ) (old table : AtomTable) : Type 0 where
-  pub tells : TellsAll tree e first (part_trees xs) at (part_trees (drop i xs)) table
+ends_next : (tree : SearchedTree) (back : Bool) (e : Names) (whole : PartTrees) (live : List Bool) (body : BodyTree) (mark : Mark) (rest : PartTrees) (starts : List Bool)
+    → EndsHere tree back starts (marked mark (body_pattern tree [] e body)) → NeverAll tree back e whole live (more_parts body mark rest) starts
+    → IsNever (IsStep tree back false) (IsLive live) (pattern tree [] e whole)
+unfolding pattern
+ends_next tree back e whole live body mark rest starts ends had = had (ends (pattern tree [] e rest))
+
+tells_end : (tree : SearchedTree) (back : Bool) (e : Names) (first at : ℕ) (whole : PartTrees) (live starts : List Bool) (table : AtomTable)
+    → TellsAll tree back e first whole live at no_parts starts table
+    → AreTabled tree back (IsLive live) table at (parts_numbered first whole) (pattern tree [] e whole)
+unfolding pattern
+tells_end tree back e first at whole live starts table had test same = had test same (λ w way. (λ x. x, λ x. x))
+
+pub record TableSoFar (tree : SearchedTree) (back : Bool) (e : Names) (first : ℕ) (xs : List Constituent) (i at : ℕ) (live starts : List Bool) (begun met : Bool) (old table : AtomTable) : Type 0 where
+  pub asked : AreAsked tree starts
+  pub tells : TellsAll tree back e first (part_trees xs) live at (part_trees (drop i xs)) starts table
+  pub never : NeverAll tree back e (part_trees xs) live (part_trees (drop i xs)) starts
+  pub ends : begun ≡ true → met ≡ false → IsNever (IsStep tree back false) (IsLive live) (pattern tree [] e (part_trees xs))
   pub filled : IsFilledIn old table first at
   pub count : at + parts_atoms (part_trees (drop i xs)) ≡ first + parts_atoms (part_trees xs)
   pub beyond : first ≤ at
 
-pub table_begun : (tree : SearchedTree) (e : Names) (first : ℕ) (xs : List Constituent) (table : AtomTable) → TableSoFar tree e first xs 0 first table table
-table_begun tree e first [] table = record {
-  tells = λ test same last. last;
-  filled = record {
-    atoms = refl;
-    nodes = refl;
-    before = λ a n h. refl;
-    after = λ a n h. refl;
-  };
-  count = refl;
+not_both : (b : Bool) → b ≡ true → b ≡ false → ⊥
+not_both true e f = cc
+not_both false e f = cc
+
+none_dropped : (xs : List Constituent) → drop 0 xs ≡ xs
+none_dropped [] = refl
+none_dropped (x ∷ xs) = refl
+
+pub table_begun : (tree : SearchedTree) (back : Bool) (e : Names) (first : ℕ) (xs : List Constituent) (live starts : List Bool) (met : Bool) (table : AtomTable)
+    → AreAsked tree live → starts ≡ live → TableSoFar tree back e first xs 0 first live starts met met table table
+table_begun tree back e first xs live starts met table asked is = record {
+  asked = subst (AreAsked tree) (sym is) asked;
+  tells = λ test same last.
+      subst (λ ys. AreAlike (IsStep tree back false) (IsLive live) test (parts_numbered first (part_trees ys)) (pattern tree [] e (part_trees ys))) (none_dropped xs)
+      (subst (λ l. AreAlike (IsStep tree back false) (IsLive l) test (parts_numbered first (part_trees (drop 0 xs))) (pattern tree [] e (part_trees (drop 0 xs)))) is last);
+  never = λ last. subst (λ ys. IsNever (IsStep tree back false) (IsLive live) (pattern tree [] e (part_trees ys))) (none_dropped xs)
+      (subst (λ l. IsNever (IsStep tree back false) (IsLive l) (pattern tree [] e (part_trees (drop 0 xs)))) is last);
+  ends = λ b m. absurd (not_both met b m);
+  filled = record { atoms = refl; nodes = refl; before = λ a n h. refl; after = λ a n h. refl };
+  count = ap (λ ys. first + parts_atoms (part_trees ys)) (none_dropped xs);
   beyond = omega arith;
 }
-table_begun tree e first
-    (x ∷ xs) table = record { tells = λ test same last. last; filled = record { atoms = refl; nodes = refl; before = λ a n h. refl; after = λ a n h. refl }; count = refl; beyond = omega arith }
 
-pub table_more : (tree : SearchedTree) (e : Names) (first : ℕ) (xs : List Constituent) (i : ℕ) (c : Constituent) (at later : ℕ) (old table new : AtomTable) → i < length xs → c ≡ get_or xs i c
-    → later ≡ at + body_atoms (body_tree c.body) → AreTabled tree new (at + body_atoms (body_tree c.body)) (body_numbered at (body_tree c.body)) (body_pattern tree [] e (body_tree c.body))
-    → IsFilledIn table new at (at + body_atoms (body_tree c.body)) → TableSoFar tree e first xs i at old table → TableSoFar tree e first xs (i + 1) later old new
-table_more tree e first xs i c at later old table new below is on tabled filled had = record {
-  tells = subst (λ k. TellsAll tree e first (part_trees xs) k (part_trees (drop (i + 1) xs)) new) (sym on)
-      (tells_next tree e first at (part_trees xs) (body_tree c.body) c.mark (part_trees (drop (i + 1) xs)) table new tabled filled
-      (subst (λ cs. TellsAll tree e first (part_trees xs) at cs table) (drop_parts xs i c below is) had.tells));
-  filled = record {
-    atoms = filled.atoms ∙ had.filled.atoms;
-    nodes = filled.nodes ∙ had.filled.nodes;
-    before = λ a n h. filled.before a n (omega (arith, h, had.beyond)) ∙ had.filled.before a n h;
-    after = λ a n h. filled.after a n (omega (arith, h, on)) ∙ had.filled.after a n (omega (arith, h, on));
-  };
-  count = (let l = atoms_left xs i c below is in omega (arith, l, on, had.count));
-  beyond = omega (arith, had.beyond, on);
-}
+truth_or : (P : Type 0) (b : Bool) → (b ≡ true → P) → (b ≡ false → P) → P
+truth_or P true f g = f refl
+truth_or P false f g = g refl
 
-pub table_all : (tree : SearchedTree) (e : Names) (first : ℕ) (xs : List Constituent) (i at : ℕ) (old table : AtomTable) (cs : PartTrees)
-    → length xs ≤ i → part_trees xs ≡ cs → TableSoFar tree e first xs i at old table
-    → AreTabled tree table (first + parts_atoms cs) (parts_numbered first cs) (pattern tree [] e cs)
-table_all tree e first xs i at old table cs end same had =
-    subst (λ ds. AreTabled tree table (first + parts_atoms ds) (parts_numbered first ds) (pattern tree [] e ds)) same
-    (subst (λ k. AreTabled tree table k (parts_numbered first (part_trees xs)) (pattern tree [] e (part_trees xs))) (let l = atoms_end xs i end in omega (arith, l, had.count))
-    (tells_end tree e first at (part_trees xs) table (subst (λ ds. TellsAll tree e first (part_trees xs) at ds table) (drop_all xs i end) had.tells)))
+pub table_more : (tree : SearchedTree) (back : Bool) (e : Names) (first : ℕ) (xs : List Constituent) (i : ℕ) (c : Constituent) (at next : ℕ) (live starts later : List Bool) (begun met more : Bool)
+    (old table new : AtomTable) → i < length xs → c ≡ get_or xs i c → next ≡ at + body_atoms (body_tree c.body)
+    → LeadsOn tree back starts later new (at + body_atoms (body_tree c.body)) (marked c.mark (body_numbered at (body_tree c.body))) (marked c.mark (body_pattern tree [] e (body_tree c.body)))
+    → (met ≡ true → more ≡ false → EndsHere tree back starts (marked c.mark (body_pattern tree [] e (body_tree c.body))))
+    → IsFilledIn table new at (at + body_atoms (body_tree c.body)) → TableSoFar tree back e first xs i at live starts begun met old table
+    → TableSoFar tree back e first xs (i + 1) next live later begun more old new
+table_more tree back e first xs i c at next live starts later begun met more old table new below is on leads ends filled had =
+    let before : NeverAll tree back e (part_trees xs) live (more_parts (body_tree c.body) c.mark (part_trees (drop (i + 1) xs))) starts =
+    subst (λ cs. NeverAll tree back e (part_trees xs) live cs starts) (drop_parts xs i c below is) had.never in
+    record {
+      asked = leads.asked;
+      tells = subst (λ k. TellsAll tree back e first (part_trees xs) live k (part_trees (drop (i + 1) xs)) later new) (sym on)
+          (tells_next tree back e first at (part_trees xs) live (body_tree c.body) c.mark (part_trees (drop (i + 1) xs)) starts later table new leads filled
+          (subst (λ cs. TellsAll tree back e first (part_trees xs) live at cs starts table) (drop_parts xs i c below is) had.tells));
+      never = never_next tree back e (part_trees xs) live (body_tree c.body) c.mark (part_trees (drop (i + 1) xs)) starts later leads.never before;
+      ends = λ b m. truth_or (IsNever (IsStep tree back false) (IsLive live) (pattern tree [] e (part_trees xs))) met
+          (λ yes. ends_next tree back e (part_trees xs) live (body_tree c.body) c.mark (part_trees (drop (i + 1) xs)) starts (ends yes m) before)
+          (λ no. had.ends b no);
+      filled = record {
+        atoms = filled.atoms ∙ had.filled.atoms;
+        nodes = filled.nodes ∙ had.filled.nodes;
+        before = λ a n h. filled.before a n (omega (arith, h, had.beyond)) ∙ had.filled.before a n h;
+        after = λ a n h. filled.after a n (omega (arith, h, on)) ∙ had.filled.after a n (omega (arith, h, on));
+      };
+      count = (let l = atoms_left xs i c below is in omega (arith, l, on, had.count));
+      beyond = omega (arith, had.beyond, on);
+    }
 
-pub filled_all : (tree : SearchedTree) (e : Names) (first : ℕ) (xs : List Constituent) (i at : ℕ) (old table : AtomTable) (cs : PartTrees)
-    → length xs ≤ i → part_trees xs ≡ cs → TableSoFar tree e first xs i at old table
-    → IsFilledIn old table first (first + parts_atoms cs)
-filled_all tree e first xs i at old table cs end same had =
-    subst (IsFilledIn old table first) (let l = atoms_end xs i end in let s = ap parts_atoms same in omega (arith, l, s, had.count)) had.filled
+module _ (tree : SearchedTree) (back : Bool) (e : Names) (first : ℕ) (xs : List Constituent) (i at : ℕ) (live starts : List Bool) (begun met : Bool) (old table : AtomTable) (cs : PartTrees)
+    (end : length xs ≤ i) (same : part_trees xs ≡ cs) (had : TableSoFar tree back e first xs i at live starts begun met old table) where
+  pub table_all : AreTabled tree back (IsLive live) table (first + parts_atoms cs) (parts_numbered first cs) (pattern tree [] e cs)
+  table_all =
+      subst (λ ds. AreTabled tree back (IsLive live) table (first + parts_atoms ds) (parts_numbered first ds) (pattern tree [] e ds)) same
+      (subst (λ k. AreTabled tree back (IsLive live) table k (parts_numbered first (part_trees xs)) (pattern tree [] e (part_trees xs))) (let l = atoms_end xs i end in omega (arith, l, had.count))
+      (tells_end tree back e first at (part_trees xs) live starts table (subst (λ ds. TellsAll tree back e first (part_trees xs) live at ds starts table) (drop_all xs i end) had.tells)))
 
-pub at_all : (tree : SearchedTree) (e : Names) (first : ℕ) (xs : List Constituent) (i at : ℕ) (old table : AtomTable) (cs : PartTrees)
-    → length xs ≤ i → part_trees xs ≡ cs → TableSoFar tree e first xs i at old table → at ≡ first + parts_atoms cs
-at_all tree e first xs i at old table cs end same had = let l = atoms_end xs i end in let s = ap parts_atoms same in omega (arith, l, s, had.count)
+  pub ends_all : begun ≡ true → met ≡ false → IsNever (IsStep tree back false) (IsLive live) (pattern tree [] e cs)
+  ends_all b m = subst (λ ds. IsNever (IsStep tree back false) (IsLive live) (pattern tree [] e ds)) same (had.ends b m)
+
+  pub filled_all : IsFilledIn old table first (first + parts_atoms cs)
+  filled_all = subst (IsFilledIn old table first) (let l = atoms_end xs i end in let s = ap parts_atoms same in omega (arith, l, s, had.count)) had.filled
+
+  pub at_all : at ≡ first + parts_atoms cs
+  at_all = let l = atoms_end xs i end in let s = ap parts_atoms same in omega (arith, l, s, had.count)
 
 pub still_clear : (old table : AtomTable) (first at : ℕ) → first ≤ at → AreClearFrom old first → IsFilledIn old table first at → AreClearFrom table at
 still_clear old table first at beyond clear filled a n h = filled.after a n h ∙ clear a n (omega (arith, h, beyond))
 
 -- the next part is flat, and has room too
-pub part_room : (tree : SearchedTree) (e : Names) (first : ℕ) (xs : List Constituent) (i : ℕ) (c : Constituent) (at count : ℕ)
-    (old table : AtomTable) (cs : PartTrees) → TableSoFar tree e first xs i at old table
+pub part_room : (tree : SearchedTree) (back : Bool) (e : Names) (first : ℕ) (xs : List Constituent) (i : ℕ) (c : Constituent) (at count : ℕ) (live starts : List Bool) (begun met : Bool)
+    (old table : AtomTable) (cs : PartTrees) → TableSoFar tree back e first xs i at live starts begun met old table
     → i < length xs → c ≡ get_or xs i c → part_trees xs ≡ cs → HasRoom count first (first + parts_atoms cs) old → HasRoom count at (at + body_atoms (body_tree c.body)) table
-part_room tree e first xs i c at count old table cs had below is same room =
+part_room tree back e first xs i c at count live starts begun met old table cs had below is same room =
     let l = atoms_left xs i c below is in let s = ap parts_atoms same in
     record {
       few = omega (arith, l, s, had.count, room.few);
@@ -361,11 +400,50 @@ put_more test which k there old table new is step had = record {
   };
 }
 
-pub atom_tabled : (tree : SearchedTree) (table : AtomTable) (which : ℕ) (c : FilterColumn) (v : ℕ → Value) (all given : List Bool) → AreAllAsked tree all → given ≡ all → IsColumn c all v
-    → ((n : ℕ) → n < length tree.game.nodes → holds_in table which n ≡ (is_live given n && value_holds (shown c n))) → AreTabled tree table (which + 1) (one which) (one v)
-atom_tabled tree table which c v all given every is column put test same n asked =
-    let live = every.covers n asked in
-    same which n (omega arith) ∙ put n asked.1 ∙ ap (λ l. is_live l n && value_holds (shown c n)) is ∙ ap (λ b. b && value_holds (shown c n)) live ∙ ap value_holds (column n live)
+-- an atom's column stands in the table, at the nodes for which it is asked
+module _ (tree : SearchedTree) (back : Bool) (table : AtomTable) (which : ℕ) (c : FilterColumn) (v : ℕ → Value) (live : List Bool) (asked : AreAsked tree live) (column : IsColumn c live v)
+    (put : (n : ℕ) → n < length tree.game.nodes → holds_in table which n ≡ (is_live live n && value_holds (shown c n))) where
+  atom_there : (test : ℕ → ℕ → Bool) → Agrees test table (which + 1) → (n : ℕ) → IsLive live n → test which n ≡ value_holds (v n)
+  atom_there test same n l =
+      same which n (omega arith) ∙ put n (omega (arith, live_below live n l, asked.count)) ∙ ap (λ b. b && value_holds (shown c n)) l ∙ ap value_holds (column n l)
+
+  pub atom_tabled : AreTabled tree back (IsLive live) table (which + 1) (one which) (one v)
+  atom_tabled test same = atom_alike (IsStep tree back false) (IsLive live) test which v (atom_there test same)
+
+  module _ (held : List Bool) (part : IsPart tree live c true held) where
+    is_held : (n : ℕ) → IsLive live n → value_holds (v n) ≡ true → IsLive held n
+    is_held n l h = part.narrowed.each n ∙ ap (λ b. b && value_holds (shown c n)) l ∙ ap value_holds (column n l) ∙ h
+
+    -- the next part may begin a step on from where the atom holds
+    pub atom_leads : (next : List Bool) → AreOnward tree back held next → LeadsOn tree back live next table (which + 1) (one which) (one v)
+    atom_leads next on = record {
+      asked = on.asked;
+      alike = λ test same q s g. after_atom (IsStep tree back false) (IsLive live) (IsLive next) test which v (atom_there test same)
+          (λ n m l h step. on.covers n m (is_held n l h) step) q s g;
+      never = λ s g. never_atom (IsStep tree back false) (IsLive live) (IsLive next) v (λ n m l h step. on.covers n m (is_held n l h) step) s g;
+    }
+
+    pub atom_never : list_any (λ b. b) held ≡ false → IsNever (IsStep tree back false) (IsLive live) (one v)
+    atom_never none = never_one (IsStep tree back false) (IsLive live) v (λ n l h. none_live held none n (is_held n l h))
+
+    pub atom_ends : list_any (λ b. b) held ≡ false → EndsHere tree back live (one v)
+    atom_ends none s = never_there (IsStep tree back false) (IsLive live) v (λ n l h. none_live held none n (is_held n l h)) s
+
+-- an atom that is asked for nowhere holds nowhere
+module _ (tree : SearchedTree) (back : Bool) (v : ℕ → Value) (live : List Bool) (none : list_any (λ b. b) live ≡ false) where
+  pub none_onward : AreAsked tree live → AreOnward tree back live live
+  none_onward asked = record { asked = asked; covers = λ n m l step. absurd (none_live live none n l) }
+
+  pub none_leads : (table : AtomTable) (which : ℕ) → AreAsked tree live → LeadsOn tree back live live table (which + 1) (one which) (one v)
+  none_leads table which asked = record {
+    asked = asked;
+    alike = λ test same q s g. after_atom (IsStep tree back false) (IsLive live) (IsLive live) test which v (λ n l. absurd (none_live live none n l))
+        (λ n m l h step. absurd (none_live live none n l)) q s g;
+    never = λ s g. never_atom (IsStep tree back false) (IsLive live) (IsLive live) v (λ n m l h step. absurd (none_live live none n l)) s g;
+  }
+
+  pub none_ends : EndsHere tree back live (one v)
+  none_ends s = never_there (IsStep tree back false) (IsLive live) v (λ n l h. none_live live none n l) s
 
 -- the tree of a game
 
@@ -440,18 +518,18 @@ answer_there true P o e h = h
 answer_there false P o e h = cc
 
 greatest_is : (tree : SearchedTree) → IsTree tree.game.nodes
-    → (back primary : Bool) (extent : Extent) (table : AtomTable) (p : Pattern ℕ) (r : Pattern (ℕ → Value)) → Tabled (holds_in table) (IsAsked tree) p r
-    → (n : ℕ) → IsAsked tree n → (o : Option ℕ)
+    → (back primary : Bool) (extent : Extent) (table : AtomTable) (p : Pattern ℕ) (r : Pattern (ℕ → Value))
+    → (n : ℕ) → IsAsked tree n → AreSpelledAlike tree back primary (holds_in table) p r n → (o : Option ℕ)
     → IsGreatest (λ len. Line (holds_in table) (Edge back primary (spots_in tree)) p n len × (values.allows (limits_in extent) len ≡ true)) o
     → as_number (option_map pos o) ≡ line_of tree back primary extent r n
-greatest_is tree is_tree true primary Any table p r tabled n asked o g = lines_are_theirs tree is_tree true primary
-    (shapes.joined primary (spots_in tree)) (spots_join tree primary is_tree) Any (holds_in table) p r tabled n asked o g
-greatest_is tree is_tree false primary Any table p r tabled n asked o g = lines_are_theirs tree is_tree false primary
-    (shapes.joined primary (spots_in tree)) (spots_join tree primary is_tree) Any (holds_in table) p r tabled n asked o g
-greatest_is tree is_tree true primary (Within least most) table p r tabled n asked o g = lines_are_theirs tree is_tree true primary
-    (shapes.joined primary (spots_in tree)) (spots_join tree primary is_tree) (Within least most) (holds_in table) p r tabled n asked o g
-greatest_is tree is_tree false primary (Within least most) table p r tabled n asked o g = lines_are_theirs tree is_tree false primary
-    (shapes.joined primary (spots_in tree)) (spots_join tree primary is_tree) (Within least most) (holds_in table) p r tabled n asked o g
+greatest_is tree is_tree true primary Any table p r n asked alike o g = spelled_lines_are_theirs tree is_tree true primary
+    (shapes.joined primary (spots_in tree)) (spots_join tree primary is_tree) Any (holds_in table) p r n asked alike o g
+greatest_is tree is_tree false primary Any table p r n asked alike o g = spelled_lines_are_theirs tree is_tree false primary
+    (shapes.joined primary (spots_in tree)) (spots_join tree primary is_tree) Any (holds_in table) p r n asked alike o g
+greatest_is tree is_tree true primary (Within least most) table p r n asked alike o g = spelled_lines_are_theirs tree is_tree true primary
+    (shapes.joined primary (spots_in tree)) (spots_join tree primary is_tree) (Within least most) (holds_in table) p r n asked alike o g
+greatest_is tree is_tree false primary (Within least most) table p r n asked alike o g = spelled_lines_are_theirs tree is_tree false primary
+    (shapes.joined primary (spots_in tree)) (spots_join tree primary is_tree) (Within least most) (holds_in table) p r n asked alike o g
 
 abbrev Wanted : AtomTable → Pattern ℕ → ℕ → Option ℕ → List Spot → Bool → Bool → Option Limits → Type 0
 Wanted table p n o xs x y z = IsGreatest (λ len. Line (holds_in table) (Edge x y xs) p n len × (values.allows z len ≡ true)) o
@@ -460,11 +538,11 @@ Wanted table p n o xs x y z = IsGreatest (λ len. Line (holds_in table) (Edge x 
 pub line_value_is : (tree : SearchedTree) → IsTree tree.game.nodes
     → (back primary : Bool) (extent : Extent) (spots : List Spot) (b q : Bool) (l : Option Limits)
     → spots ≡ map (spot_at tree) (numbers tree.game.nodes) → b ≡ back → q ≡ primary → l ≡ limits_in extent
-    → (table : AtomTable) (p : Pattern ℕ) (r : Pattern (ℕ → Value)) → Tabled (holds_in table) (IsAsked tree) p r → (n : ℕ) → IsAsked tree n → (o : Option ℕ)
+    → (table : AtomTable) (p : Pattern ℕ) (r : Pattern (ℕ → Value)) → (n : ℕ) → IsAsked tree n → AreSpelledAlike tree back primary (holds_in table) p r n → (o : Option ℕ)
     → AnswerAt (shapes.is_searched spots n) (λ len. Line (holds_in table) (Edge b q spots) p n len × (values.allows l len ≡ true)) o
     → as_number (option_map pos o) ≡ line_of tree back primary extent r n
-line_value_is tree is_tree back primary extent spots b q l are is_back is_primary is_limits table p r tabled n asked o answer =
-    greatest_is tree is_tree back primary extent table p r tabled n asked o
+line_value_is tree is_tree back primary extent spots b q l are is_back is_primary is_limits table p r n asked alike o answer =
+    greatest_is tree is_tree back primary extent table p r n asked alike o
     (subst (λ x. Wanted table p n o (spots_in tree) back primary x) is_limits
     (subst (λ x. Wanted table p n o (spots_in tree) back x l) is_primary
     (subst (λ x. Wanted table p n o (spots_in tree) x q l) is_back (subst (λ x. Wanted table p n o x b q l) are
@@ -523,10 +601,17 @@ pub looks_in : (tree : SearchedTree) (l : OneLine) (before now later atoms : ℕ
 looks_in tree l before now later atoms spots is count h more =
     omega (arith, line_costs (length tree.game.nodes) l, h, more, looks_within tree atoms spots is, ap (λ a. a * length tree.game.nodes) count)
 
+same_words : {A : Type 0} (d : A) (j m : ℕ) → get_or (replicate j d) m d ≡ d
+same_words d zero zero = refl
+same_words d zero (suc m) = refl
+same_words d (suc j) zero = refl
+same_words d (suc j) (suc m) = same_words d j m
+
 pub numbers_are : (tree : SearchedTree) → IsTree tree.game.nodes
     → (e : Names) (l : OneLine) (spots : List Spot) (b q : Bool) (limits : Option Limits) → spots ≡ map (spot_at tree) (numbers tree.game.nodes)
     → b ≡ (out-Line l).back → q ≡ (out-Line l).primary → limits ≡ limits_in (out-Line l).extent → (table : AtomTable) (p : Pattern ℕ) → p ≡ parts_numbered 0 (parts_tree (out-Line l).parts)
-    → AreTabled tree table (0 + parts_atoms (parts_tree (out-Line l).parts)) (parts_numbered 0 (parts_tree (out-Line l).parts)) (pattern tree [] e (parts_tree (out-Line l).parts))
+    → AreTabled tree (out-Line l).back (IsAsked tree) table (0 + parts_atoms (parts_tree (out-Line l).parts))
+    (parts_numbered 0 (parts_tree (out-Line l).parts)) (pattern tree [] e (parts_tree (out-Line l).parts))
     → (wide : List (Option ℤ)) (found : List (Option ℕ)) → wide ≡ map (option_map pos) found → (n : ℕ) → IsAsked tree n
     → AnswerAt (shapes.is_searched spots n) (λ len. Line (holds_in table) (Edge b q spots) p n len × (values.allows limits len ≡ true)) (get_or found n None)
     → as_number (get_or wide n None) ≡ line_value tree [] e (line_tree l) n
@@ -534,13 +619,21 @@ unfolding value out-Line Carrier.out
 numbers_are tree is_tree e (Line' back primary extent cs) spots b q limits are is_back is_primary is_limits table p is tabled wide found is_wide n asked answer =
     ap as_number (ap (λ xs. get_or xs n None) is_wide ∙ get_or-map (option_map pos) found n None)
     ∙ line_value_is tree is_tree back primary extent spots b q limits are is_back is_primary is_limits table p (pattern tree [] e (parts_tree cs))
-    (subst (λ x. Tabled (holds_in table) (IsAsked tree) x (pattern tree [] e (parts_tree cs))) (sym is) (tabled (holds_in table) (λ a m h. refl))) n asked (get_or found n None) answer
+    n asked (alike_on tree back primary (holds_in table) p (pattern tree [] e (parts_tree cs))
+    (subst (λ x. AreAlike (IsStep tree back false) (IsAsked tree) (holds_in table) x (pattern tree [] e (parts_tree cs))) (sym is) (tabled (holds_in table) (λ a m h. refl))) n asked)
+    (get_or found n None) answer
 
-same_words : (d j m : ℕ) → get_or (replicate j d) m d ≡ d
-same_words d zero zero = refl
-same_words d zero (suc m) = refl
-same_words d (suc j) zero = refl
-same_words d (suc j) (suc m) = same_words d j m
+-- where a line's pattern is never spelled it has no number
+pub no_line : (tree : SearchedTree) → IsTree tree.game.nodes → (e : Names) (l : OneLine) (wide : List (Option ℤ)) (k : ℕ) → wide ≡ replicate k None
+    → IsNever (IsStep tree (out-Line l).back false) (IsAsked tree) (pattern tree [] e (parts_tree (out-Line l).parts)) → (n : ℕ) → IsAsked tree n
+    → as_number (get_or wide n None) ≡ line_value tree [] e (line_tree l) n
+unfolding value out-Line Carrier.out
+no_line tree is_tree e (Line' back primary extent cs) wide k is never n asked =
+    ap as_number (ap (λ xs. get_or xs n None) is ∙ same_words None k n)
+    ∙ spelled_lines_are_theirs tree is_tree back primary (shapes.joined primary (spots_in tree)) (spots_join tree primary is_tree) extent
+    (λ a m. false) nothing (pattern tree [] e (parts_tree cs)) n asked
+    (λ w goes. (λ x. absurd cc, λ x. absurd (never (n ∷ w) (asked, along_wider tree back primary n w goes) x)))
+    None (λ len x. let none : n ∷ x.0.0 ≡ [] = x.0.3 in absurd cc)
 
 count_words : (d j : ℕ) → length (replicate j d) ≡ j
 count_words d zero = refl
@@ -552,13 +645,48 @@ table_clear table k is a n h = ap (λ ws. holds ws a n) is ∙ ap (λ w. bit_at 
 pub table_nodes : (table : AtomTable) (k n : ℕ) → words_of table ≡ replicate k 0 → k ≡ n → nodes_of table ≡ n
 table_nodes table k n is same = ap length is ∙ count_words 0 k ∙ same
 
-pub atom_form : (tree : SearchedTree) (e : Names) (table : AtomTable) (first : ℕ) (b : BodyTree) (f : FilterTree) → b ≡ atom f → AreTabled tree table (first + 1) (one first) (one (value tree [] e f))
-    → AreTabled tree table (first + body_atoms b) (body_numbered first b) (body_pattern tree [] e b)
+pub atom_form : (tree : SearchedTree) (back : Bool) (e : Names) (In : ℕ → Type 0) (table : AtomTable) (first : ℕ) (b : BodyTree) (f : FilterTree) → b ≡ atom f
+    → AreTabled tree back In table (first + 1) (one first) (one (value tree [] e f)) → AreTabled tree back In table (first + body_atoms b) (body_numbered first b) (body_pattern tree [] e b)
 unfolding value
-atom_form tree e table first b f is h = subst (λ x. AreTabled tree table (first + body_atoms x) (body_numbered first x) (body_pattern tree [] e x)) (sym is) h
+atom_form tree back e In table first b f is h = subst (λ x. AreTabled tree back In table (first + body_atoms x) (body_numbered first x) (body_pattern tree [] e x)) (sym is) h
+
+pub never_form : (tree : SearchedTree) (back : Bool) (e : Names) (In : ℕ → Type 0) (b : BodyTree) (f : FilterTree) → b ≡ atom f
+    → IsNever (IsStep tree back false) In (one (value tree [] e f)) → IsNever (IsStep tree back false) In (body_pattern tree [] e b)
+unfolding value
+never_form tree back e In b f is h = subst (λ x. IsNever (IsStep tree back false) In (body_pattern tree [] e x)) (sym is) h
+
+-- a row goes on as long as each atom holds somewhere
+pub not_some : (met some : Bool) → met ≡ true → (met && some) ≡ false → some ≡ false
+not_some true some e f = f
+not_some false some e f = cc
+
+pub leads_form : (tree : SearchedTree) (back : Bool) (e : Names) (old new : List Bool) (table : AtomTable) (first : ℕ) (b : BodyTree) (f : FilterTree) → b ≡ atom f
+    → LeadsOn tree back old new table (first + 1) (one first) (one (value tree [] e f)) → LeadsOn tree back old new table (first + body_atoms b) (body_numbered first b) (body_pattern tree [] e b)
+unfolding value
+leads_form tree back e old new table first b f is h = subst (λ x. LeadsOn tree back old new table (first + body_atoms x) (body_numbered first x) (body_pattern tree [] e x)) (sym is) h
+
+pub ends_form : (tree : SearchedTree) (back : Bool) (e : Names) (live : List Bool) (b : BodyTree) (f : FilterTree) → b ≡ atom f
+    → EndsHere tree back live (one (value tree [] e f)) → EndsHere tree back live (body_pattern tree [] e b)
+unfolding value
+ends_form tree back e live b f is h = subst (λ x. EndsHere tree back live (body_pattern tree [] e x)) (sym is) h
+
+pub group_tabled : (tree : SearchedTree) (back : Bool) (e : Names) (In : ℕ → Type 0) (table : AtomTable) (first : ℕ) (b : BodyTree) (cs : PartTrees) → b ≡ group cs
+    → AreTabled tree back In table (first + parts_atoms cs) (parts_numbered first cs) (pattern tree [] e cs)
+    → AreTabled tree back In table (first + body_atoms b) (body_numbered first b) (body_pattern tree [] e b)
+unfolding value
+group_tabled tree back e In table first b cs is h = subst (λ x. AreTabled tree back In table (first + body_atoms x) (body_numbered first x) (body_pattern tree [] e x)) (sym is) h
+
+pub group_never : (tree : SearchedTree) (back : Bool) (e : Names) (In : ℕ → Type 0) (b : BodyTree) (cs : PartTrees) → b ≡ group cs
+    → IsNever (IsStep tree back false) In (pattern tree [] e cs) → IsNever (IsStep tree back false) In (body_pattern tree [] e b)
+unfolding value
+group_never tree back e In b cs is h = subst (λ x. IsNever (IsStep tree back false) In (body_pattern tree [] e x)) (sym is) h
 
 -- numbers of another type, one by one
 pub wide_more : (xs : List (Option ℕ)) (i : ℕ) (d : Option ℕ) (y : Option ℤ) (before later : List (Option ℤ)) → i < length xs → y ≡ option_map pos (get_or xs i d) → later ≡ before ++ y ∷ []
     → before ≡ map (option_map pos) (take i xs) → later ≡ map (option_map pos) (take (i + 1) xs)
 wide_more xs i d y before later below is more had =
     more ∙ ap₂ (λ l x. l ++ x ∷ []) had is ∙ sym (ap (map (option_map pos)) (take_more xs i d below) ∙ map_snoc (option_map pos) (take i xs) (get_or xs i d))
+
+pub if_ok_map : {T E : Type 0} (r : Result T E) (p q : T → Type 0) → ((x : T) → p x → q x) → IfOk r p → IfOk r q
+if_ok_map (Ok x) p q f h = f x h
+if_ok_map (Err e) p q f h = tt

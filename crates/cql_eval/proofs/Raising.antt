@@ -70,7 +70,7 @@ module _ (nodes : List Node) (tree : IsTree nodes) where
       (λ other. up_at n c m (node_at nodes m).parent (λ q less below. up_within i n c q (omega (arith, h, less)) p below) p b other refl)
       (equal_or m n)
 
-  below_up : (n c m : ℕ) → (node_at nodes c).parent ≡ Some n → is_below nodes c m ≡ true → is_below nodes n m ≡ true
+  pub below_up : (n c m : ℕ) → (node_at nodes c).parent ≡ Some n → is_below nodes c m ≡ true → is_below nodes n m ≡ true
   below_up n c m p b = up_within (m + 1) n c m (omega arith) p b
 
   -- what is below n comes by a child

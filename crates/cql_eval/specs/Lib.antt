@@ -1,8 +1,10 @@
 pub mod Asked
+pub mod Attacked
 pub mod Classes
 pub mod Columns
 pub mod Costs
 pub mod FlatTrees
 pub mod Hits
 pub mod LineAtoms
+pub mod SpelledParts
 pub mod Trees

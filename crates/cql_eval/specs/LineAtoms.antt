@@ -8,9 +8,8 @@ use Rattle.cql_lines.specs.declared.shape.Limits.{Limits}
 use Rattle.cql_lines.specs.declared.shape.Spot.{Spot}
 use Rattle.cql_lines.specs.declared.table.AtomTable.{AtomTable}
 use Rattle.cql_syntax.specs.Meaning.{marked}
-use Rattle.cql_syntax.specs.TabledLines.{Tabled, IsAsked}
+use Rattle.cql_syntax.specs.TabledLines.{IsAsked}
 use Rattle.cql_syntax.specs.Trees.{PartTrees, no_parts, more_parts, BodyTree, atom, group}
-use Rattle.cql_syntax.specs.Values.{Value}
 use Rattle.cql_syntax.specs.TreeOf.{parts_tree}
 use Rattle.cql_syntax.specs.declared.tree.Line.{Line as OneLine, out-Line}
 use Rattle.cql_syntax.specs.declared.extents.Extent.{Extent}
@@ -74,8 +73,3 @@ pub record IsFilledIn (old new : AtomTable) (first past : ℕ) : Type 0 where
   pub nodes : nodes_of new ≡ nodes_of old
   pub before : (a n : ℕ) → a < first → holds_in new a n ≡ holds_in old a n
   pub after : (a n : ℕ) → past ≤ a → holds_in new a n ≡ holds_in old a n
-
--- Whatever agrees with the table on the atoms below a number has for each atom of the pattern the searched nodes at which its filter holds.
-abbrev pub AreTabled : SearchedTree → AtomTable → ℕ → Pattern ℕ → Pattern (ℕ → Value) → Type 0
-AreTabled tree table past p r =
-    (test : ℕ → ℕ → Bool) → ((a n : ℕ) → a < past → test a n ≡ holds_in table a n) → Tabled test (IsAsked tree) p r

@@ -1,5 +1,5 @@
 //! Columns that are made of the columns of parts.
-ghost use Rattle.std.specs.Prelude.{◌≡◌, ◌<◌, ◌&&◌, length, map, true, not, IfOk};
+ghost use Rattle.std.specs.Prelude.{◌≡◌, ◌<◌, ◌&&◌, length, map, true, not, IfOk, OnOk};
 ghost use Rattle.cq_position.specs.Games.{node_at};
 ghost use Rattle.cql_syntax.specs.Values as spec;
 ghost use Rattle.cql_values.specs.Asked.{of_value};
@@ -7,7 +7,8 @@ ghost use Rattle.cql_values.specs.Shown.{meant, terms_meant};
 ghost use Rattle.cql_values.specs.Trees.{searched_tree};
 ghost use Rattle.cql_eval.specs.Columns.{AreAsked, AreTruths, AreValues, IsNumbered, shown, all_shown, terms_shown};
 
-use crate::filter_column::FilterColumn;
+use crate::filter_column::{FilterColumn, blank_truths, blank_values};
+use crate::spans::{asked_end, end_of, first_asked, first_live};
 use cq_geometry::Compass;
 use cq_outside::NoMemory;
 use cql_syntax::{Chain, Kind, Pair, Unary};
@@ -26,12 +27,40 @@ pub(crate) fn negated(
 ) -> Result<Vec<bool>, NoMemory>
     ensures { IfOk result (λ truths. AreTruths truths.items live.now (λ n. spec.as_truth (not (spec.holds (shown column.now n))))) }
 {
-    let mut truths = Vec::with_capacity(alloc, live.len())?;
-    for n in 0..live.len() {
-        let fails = live[n] && !column.at(n).holds();
-        truths.push(fails)?;
+    let end = end_of(live);
+    let mut truths = blank_truths(alloc, end)?;
+    for n in first_live(live)..end {
+        truths[n] = fails(live[n], column, n);
     }
     Ok(truths)
+}
+
+fn fails(asked: bool, column: &FilterColumn, n: usize) -> bool
+    ensures { result ≡ (asked && not (spec.holds (shown column.now n))) }
+{
+    asked && !column.at(n).holds()
+}
+
+/// Where a column holds.
+pub(crate) fn held(
+    alloc: Global,
+    column: &FilterColumn,
+    live: &[bool],
+) -> Result<Vec<bool>, NoMemory>
+    ensures { IfOk result (λ truths. AreTruths truths.items live.now (λ n. spec.as_truth (spec.holds (shown column.now n)))) }
+{
+    let end = end_of(live);
+    let mut truths = blank_truths(alloc, end)?;
+    for n in first_live(live)..end {
+        truths[n] = holds_at(live[n], column, n);
+    }
+    Ok(truths)
+}
+
+fn holds_at(asked: bool, column: &FilterColumn, n: usize) -> bool
+    ensures { result ≡ (asked && spec.holds (shown column.now n)) }
+{
+    asked && column.at(n).holds()
 }
 
 /// Of the nodes of a set those at which a column has a number.
@@ -61,10 +90,10 @@ pub(crate) fn chosen(
     ensures { IfOk result (λ truths. AreTruths truths.items live.now
         (λ n. spec.if_of (shown first.now n) (shown second.now n) (shown third.now n))) }
 {
-    let mut truths = Vec::with_capacity(alloc, live.len())?;
-    for n in 0..live.len() {
-        let truth = is_chosen(first, second, third, n);
-        truths.push(truth)?;
+    let end = end_of(live);
+    let mut truths = blank_truths(alloc, end)?;
+    for n in first_live(live)..end {
+        truths[n] = is_chosen(first, second, third, n);
     }
     Ok(truths)
 }
@@ -88,10 +117,10 @@ pub(crate) fn unary_values(
     ensures { IfOk result (λ values. AreValues values.items live.now
         (λ n. of_value (node_at game.now.nodes n).position.men word (shown column.now n))) }
 {
-    let mut values = Vec::with_capacity(alloc, game.len() as usize)?;
-    for n in 0..game.len() {
-        let value = unary_value(live[n as usize], word, game, column, n);
-        values.push(value)?;
+    let end = asked_end(live, game.len());
+    let mut values = blank_values(alloc, end as usize)?;
+    for n in first_asked(live, game.len())..end {
+        values[n as usize] = unary_value(live[n as usize], word, game, column, n);
     }
     Ok(values)
 }
@@ -119,10 +148,10 @@ pub(crate) fn reached_values(
     ensures { IfOk result (λ values. AreValues values.items live.now
         (λ n. spec.reached_of directions.now least most (shown column.now n))) }
 {
-    let mut values = Vec::with_capacity(alloc, live.len())?;
-    for n in 0..live.len() {
-        let value = reached_value(live[n], directions, least, most, column.at(n));
-        values.push(value)?;
+    let end = end_of(live);
+    let mut values = blank_values(alloc, end)?;
+    for n in first_live(live)..end {
+        values[n] = reached_value(live[n], directions, least, most, column.at(n));
     }
     Ok(values)
 }
@@ -151,10 +180,10 @@ pub(crate) fn pair_values(
     ensures { IfOk result (λ values. AreValues values.items live.now
         (λ n. spec.pair_of (node_at game.now.nodes n).position.men pair (shown first.now n) (shown second.now n))) }
 {
-    let mut values = Vec::with_capacity(alloc, game.len() as usize)?;
-    for n in 0..game.len() {
-        let value = pair_value(live[n as usize], pair, game, first, second, n);
-        values.push(value)?;
+    let end = asked_end(live, game.len());
+    let mut values = blank_values(alloc, end as usize)?;
+    for n in first_asked(live, game.len())..end {
+        values[n as usize] = pair_value(live[n as usize], pair, game, first, second, n);
     }
     Ok(values)
 }
@@ -192,16 +221,17 @@ pub(crate) fn chain_values(
 ) -> Result<Vec<Value>, NoMemory>
     ensures { IfOk result (λ values. AreValues values.items live.now (λ n. spec.chain_of chain (all_shown columns.now n))) }
 {
-    let mut values = Vec::with_capacity(alloc, live.len())?;
-    for n in 0..live.len() {
-        let value = chain_value(alloc, live[n], chain, columns, n)?;
-        values.push(value)?;
+    let end = end_of(live);
+    let mut values = blank_values(alloc, end)?;
+    let mut row = Vec::with_capacity(alloc, columns.len())?;
+    for n in first_live(live)..end {
+        values[n] = chain_value(&mut row, live[n], chain, columns, n)?;
     }
     Ok(values)
 }
 
 fn chain_value(
-    alloc: Global,
+    row: &mut Vec<Value>,
     asked: bool,
     chain: Chain,
     columns: &[FilterColumn],
@@ -212,8 +242,8 @@ fn chain_value(
     if !asked {
         return Ok(Value::Truth(false));
     }
-    let values = values_at(alloc, columns, n)?;
-    Ok(chain_of(chain, values.as_slice()))
+    put_values(row, columns, n)?;
+    Ok(chain_of(chain, row.as_slice()))
 }
 
 /// Any of the columns of some filters of a kind.
@@ -225,16 +255,17 @@ pub(crate) fn any_values(
 ) -> Result<Vec<Value>, NoMemory>
     ensures { IfOk result (λ values. AreValues values.items live.now (λ n. spec.any_of kind (all_shown columns.now n))) }
 {
-    let mut values = Vec::with_capacity(alloc, live.len())?;
-    for n in 0..live.len() {
-        let value = any_value(alloc, live[n], kind, columns, n)?;
-        values.push(value)?;
+    let end = end_of(live);
+    let mut values = blank_values(alloc, end)?;
+    let mut row = Vec::with_capacity(alloc, columns.len())?;
+    for n in first_live(live)..end {
+        values[n] = any_value(&mut row, live[n], kind, columns, n)?;
     }
     Ok(values)
 }
 
 fn any_value(
-    alloc: Global,
+    row: &mut Vec<Value>,
     asked: bool,
     kind: Kind,
     columns: &[FilterColumn],
@@ -245,19 +276,19 @@ fn any_value(
     if !asked {
         return Ok(Value::Truth(false));
     }
-    let values = values_at(alloc, columns, n)?;
-    Ok(any_of(kind, values.as_slice()))
+    put_values(row, columns, n)?;
+    Ok(any_of(kind, row.as_slice()))
 }
 
-// The values of columns at a node.
-fn values_at(alloc: Global, columns: &[FilterColumn], n: usize) -> Result<Vec<Value>, NoMemory>
-    ensures { IfOk result (λ values. map meant values.items ≡ all_shown columns.now n) }
+// Writes the values of columns at a node in place of what was there.
+fn put_values(row: &mut Vec<Value>, columns: &[FilterColumn], n: usize) -> Result<(), NoMemory>
+    ensures { OnOk result (map meant row.new.items ≡ all_shown columns.now n) }
 {
-    let mut values = Vec::new(alloc);
+    row.clear();
     for column in columns {
-        values.push(column.at(n))?;
+        row.push(column.at(n))?;
     }
-    Ok(values)
+    Ok(())
 }
 
 /// The sums of columns, each of which is added, or subtracted where it says so.
@@ -268,16 +299,17 @@ pub(crate) fn sum_values(
 ) -> Result<Vec<Value>, NoMemory>
     ensures { IfOk result (λ values. AreValues values.items live.now (λ n. spec.total_of (terms_shown terms.now n))) }
 {
-    let mut values = Vec::with_capacity(alloc, live.len())?;
-    for n in 0..live.len() {
-        let value = sum_value(alloc, live[n], terms, n)?;
-        values.push(value)?;
+    let end = end_of(live);
+    let mut values = blank_values(alloc, end)?;
+    let mut row = Vec::with_capacity(alloc, terms.len())?;
+    for n in first_live(live)..end {
+        values[n] = sum_value(&mut row, live[n], terms, n)?;
     }
     Ok(values)
 }
 
 fn sum_value(
-    alloc: Global,
+    row: &mut Vec<(bool, Value)>,
     asked: bool,
     terms: &[(bool, FilterColumn)],
     n: usize,
@@ -287,21 +319,21 @@ fn sum_value(
     if !asked {
         return Ok(Value::Truth(false));
     }
-    let values = terms_at(alloc, terms, n)?;
-    Ok(total(values.as_slice()))
+    put_terms(row, terms, n)?;
+    Ok(total(row.as_slice()))
 }
 
-// The values of terms at a node.
-fn terms_at(
-    alloc: Global,
+// Writes the values of terms at a node in place of what was there.
+fn put_terms(
+    row: &mut Vec<(bool, Value)>,
     terms: &[(bool, FilterColumn)],
     n: usize,
-) -> Result<Vec<(bool, Value)>, NoMemory>
-    ensures { IfOk result (λ values. terms_meant values.items ≡ terms_shown terms.now n) }
+) -> Result<(), NoMemory>
+    ensures { OnOk result (terms_meant row.new.items ≡ terms_shown terms.now n) }
 {
-    let mut values = Vec::new(alloc);
+    row.clear();
     for term in terms {
-        values.push((term.0, term.1.at(n)))?;
+        row.push((term.0, term.1.at(n)))?;
     }
-    Ok(values)
+    Ok(())
 }

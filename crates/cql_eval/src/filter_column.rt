@@ -1,11 +1,13 @@
 //! What a filter gives at each node.
-ghost use Rattle.std.specs.Prelude.{◌≡◌, get_or, false, None};
+ghost use Rattle.std.specs.Prelude.{◌≡◌, get_or, length, false, None, IfOk};
 ghost use Rattle.cql_values.specs.declared.value.Value.TheVariants.{Truth};
 ghost use Rattle.cql_eval.specs.Columns.{kept_at};
 
+use cq_outside::NoMemory;
 use cql_values::value::Value;
+use std::alloc::Global;
 
-/// What a filter gives at each node: a list has an entry for each node of the game.
+/// What a filter gives at each node: a list may end past the last node that is asked for.
 #[derive(Drop)]
 pub enum FilterColumn {
     Truths(Vec<bool>),
@@ -31,6 +33,33 @@ impl FilterColumn {
             FilterColumn::Same(value) => *value,
         }
     }
+}
+
+/// So many truths, to be written over.
+pub(crate) fn blank_truths(alloc: Global, nodes: usize) -> Result<Vec<bool>, NoMemory>
+    ensures { IfOk result (λ truths. length truths.items ≡ nodes) }
+{
+    let mut truths = Vec::with_capacity(alloc, nodes)?;
+    truths.resize(nodes, false)?;
+    Ok(truths)
+}
+
+/// So many sets, to be written over.
+pub(crate) fn blank_sets(alloc: Global, nodes: usize) -> Result<Vec<u64>, NoMemory>
+    ensures { IfOk result (λ sets. length sets.items ≡ nodes) }
+{
+    let mut sets = Vec::with_capacity(alloc, nodes)?;
+    sets.resize(nodes, 0)?;
+    Ok(sets)
+}
+
+/// So many values, to be written over.
+pub(crate) fn blank_values(alloc: Global, nodes: usize) -> Result<Vec<Value>, NoMemory>
+    ensures { IfOk result (λ values. length values.items ≡ nodes) }
+{
+    let mut values = Vec::with_capacity(alloc, nodes)?;
+    values.resize(nodes, Value::Truth(false))?;
+    Ok(values)
 }
 
 /// The truth at a node, false past the end.

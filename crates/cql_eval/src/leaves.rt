@@ -9,6 +9,8 @@ ghost use Rattle.cql_values.specs.Shown.{meant};
 ghost use Rattle.cql_values.specs.Trees.{searched_tree};
 ghost use Rattle.cql_eval.specs.Columns.{AreAsked, AreSets, AreValues};
 
+use crate::filter_column::{blank_sets, blank_values};
+use crate::spans::{asked_end, first_asked};
 use cq_outside::NoMemory;
 use cq_position::Man;
 use cql_syntax::{Designator, Plain};
@@ -31,10 +33,10 @@ pub(crate) fn standing_sets(
         (λ n. meaning.standing_of (node_at game.now.nodes n).position.men (Some d.now))) }
 {
     let men = listed_men(alloc, d.men)?;
-    let mut sets = Vec::with_capacity(alloc, game.len() as usize)?;
-    for n in 0..game.len() {
-        let set = standing_set(live[n as usize], d, &men, game, n);
-        sets.push(set)?;
+    let end = asked_end(live, game.len());
+    let mut sets = blank_sets(alloc, end as usize)?;
+    for n in first_asked(live, game.len())..end {
+        sets[n as usize] = standing_set(live[n as usize], d, &men, game, n);
     }
     Ok(sets)
 }
@@ -64,10 +66,10 @@ pub(crate) fn word_values(
     requires asked { AreAsked (searched_tree game.now variations) live.now }
     ensures { IfOk result (λ values. AreValues values.items live.now (meaning.word_of (searched_tree game.now variations) word)) }
 {
-    let mut values = Vec::with_capacity(alloc, game.len() as usize)?;
-    for n in 0..game.len() {
-        let value = word_value(alloc, live[n as usize], word, game, variations, n)?;
-        values.push(value)?;
+    let end = asked_end(live, game.len());
+    let mut values = blank_values(alloc, end as usize)?;
+    for n in first_asked(live, game.len())..end {
+        values[n as usize] = word_value(alloc, live[n as usize], word, game, variations, n)?;
     }
     Ok(values)
 }

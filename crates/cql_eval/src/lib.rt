@@ -4,6 +4,7 @@
 //! `cql_syntax/specs/Meaning` has the meaning, `specs/Columns` what a column promises.
 #![tactic(auto)]
 
+mod attacks;
 pub mod column;
 mod combine;
 mod evaluate;
@@ -15,8 +16,11 @@ mod nodes;
 mod order;
 mod patterns;
 mod query;
+mod spans;
 mod squares;
 mod tree;
 
 pub use column::Column;
-pub use query::{columns, hit_columns};
+pub use narrow::keep_true;
+pub use order::{SORTS, class_of};
+pub use query::{columns, hit_columns, hit_columns_at};

@@ -6,6 +6,7 @@ ghost use Rattle.cql_values.specs.declared.value.Value.TheVariants.{Truth, Set, 
 ghost use Rattle.cql_eval.specs.Columns.{is_so, shown, AreKept, IsNarrowed, IsNumbered};
 
 use crate::filter_column::{FilterColumn, number_at, set_at, truth_at, value_at};
+use crate::spans::{end_of, first_live};
 use cql_values::value::Value;
 
 /// Leaves those nodes of a set at which a column holds, or those at which it doesn't.
@@ -22,10 +23,17 @@ pub(crate) fn narrow(left: &mut [bool], column: &FilterColumn, want: bool)
     }
 }
 
+/// Leaves those nodes of a set at which a truth is given that is true.
+pub fn keep_true(left: &mut [bool], truths: &[bool])
+    ensures { AreKept (λ n. get_or truths.now n false) left.old left.new }
+{
+    keep_by_truths(left, truths, true);
+}
+
 fn keep_by_truths(left: &mut [bool], truths: &[bool], want: bool)
     ensures { AreKept (λ n. is_so want (holds (meant (Truth (get_or truths.now n false))))) left.old left.new }
 {
-    for n in 0..left.len() {
+    for n in first_live(left)..end_of(left) {
         left[n] = kept_by_truths(left[n], truths, n, want);
     }
 }
@@ -39,7 +47,7 @@ fn kept_by_truths(asked: bool, truths: &[bool], n: usize, want: bool) -> bool
 fn keep_by_sets(left: &mut [bool], sets: &[u64], want: bool)
     ensures { AreKept (λ n. is_so want (holds (meant (Set (get_or sets.now n 0))))) left.old left.new }
 {
-    for n in 0..left.len() {
+    for n in first_live(left)..end_of(left) {
         left[n] = kept_by_sets(left[n], sets, n, want);
     }
 }
@@ -53,7 +61,7 @@ fn kept_by_sets(asked: bool, sets: &[u64], n: usize, want: bool) -> bool
 fn keep_by_numbers(left: &mut [bool], numbers: &[Option<i64>], want: bool)
     ensures { AreKept (λ n. is_so want (holds (meant (Number (get_or numbers.now n None))))) left.old left.new }
 {
-    for n in 0..left.len() {
+    for n in first_live(left)..end_of(left) {
         left[n] = kept_by_numbers(left[n], numbers, n, want);
     }
 }
@@ -67,7 +75,7 @@ fn kept_by_numbers(asked: bool, numbers: &[Option<i64>], n: usize, want: bool) -
 fn keep_by_values(left: &mut [bool], values: &[Value], want: bool)
     ensures { AreKept (λ n. is_so want (holds (meant (get_or values.now n (Truth false))))) left.old left.new }
 {
-    for n in 0..left.len() {
+    for n in first_live(left)..end_of(left) {
         left[n] = kept_by_values(left[n], values, n, want);
     }
 }
@@ -83,7 +91,7 @@ pub(crate) fn keep_numbered(left: &mut [bool], column: &FilterColumn)
     ensures len { length left.new ≡ length left.old }
     ensures nodes { IsNumbered left.old column.now left.new }
 {
-    for n in 0..left.len() {
+    for n in first_live(left)..end_of(left) {
         left[n] = has_number(left[n], column, n);
     }
 }

@@ -1,5 +1,5 @@
 //! Sets of nodes: a truth for each node of a game.
-ghost use Rattle.std.specs.Prelude.{◌≡◌, ℕ, ◌+◌, ◌≤◌, length, map, IfOk, OnOk, if◌then◌else◌};
+ghost use Rattle.std.specs.Prelude.{◌≡◌, ℕ, ◌+◌, ◌≤◌, length, map, count_by, IfOk, OnOk, if◌then◌else◌};
 ghost use Rattle.std.specs.List.{list_any};
 ghost use Rattle.cq_position.specs.Games.{is_searched as is_searched_in, numbers};
 ghost use Rattle.cq_position.specs.Search.{nodes_in};
@@ -46,6 +46,15 @@ pub(crate) fn all_nodes(alloc: Global, game: &Game, variations: bool) -> Result<
         all.push(there)?;
     }
     Ok(all)
+}
+
+/// Takes a step for each node of a set.
+pub(crate) fn tick_nodes<L: Ledger>(live: &[bool], steps: &mut Steps<L>)
+    ensures { steps.new ≡ steps.old + count_by (λ b. b) live.now }
+{
+    for n in 0..live.len() {
+        tick_if(steps, live[n]);
+    }
 }
 
 fn tick_if<L: Ledger>(steps: &mut Steps<L>, there: bool)

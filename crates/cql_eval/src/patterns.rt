@@ -1,5 +1,5 @@
 //! The pattern of a line, its tree, and the table of its atoms.
-ghost use Rattle.std.specs.Prelude.{◌≡◌, ℕ, ◌+◌, ◌<◌, ◌≤◌, ◌&&◌, length, map, false, pos, option_map, None, IfOk, OnOk};
+ghost use Rattle.std.specs.Prelude.{◌≡◌, ℕ, ◌+◌, ◌<◌, ◌≤◌, ◌&&◌, length, map, replicate, false, pos, option_map, None, IfOk, OnOk};
 ghost use Rattle.std.specs.List.{range_with_len};
 ghost use Rattle.cq_position.specs.Games.{IsTree, numbers};
 ghost use Rattle.cql_lines.specs.PatternTrees.{pattern_tree};
@@ -190,6 +190,17 @@ pub(crate) fn wide_numbers(
         wide.push(wide_number(*number))?;
     }
     Ok(wide)
+}
+
+/// No number at any node.
+pub(crate) fn no_numbers(alloc: Global, game: &Game) -> Result<Vec<Option<i64>>, NoMemory>
+    ensures { IfOk result (λ numbers. numbers.items ≡ replicate (length game.now.nodes) None) }
+{
+    let mut numbers = Vec::new(alloc);
+    for _k in 0..game.len() {
+        numbers.push(None)?;
+    }
+    Ok(numbers)
 }
 
 fn wide_number(number: Option<u32>) -> Option<i64>

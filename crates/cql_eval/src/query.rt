@@ -1,8 +1,9 @@
 //! The column of a query.
-ghost use Rattle.std.specs.Prelude.{◌≡◌, ℕ, ◌+◌, ◌≤◌, ◌<◌, ◌&&◌, ◌++◌, [], length, map, get_or, false, true, None, IfOk, OnOk, if◌then◌else◌};
+ghost use Rattle.std.specs.Prelude.{◌≡◌, ℕ, ◌+◌, ◌≤◌, ◌<◌, ◌&&◌, ◌++◌, [], length, map, get_or, count_by, false, true, None, IfOk, OnOk, if◌then◌else◌};
 ghost use Rattle.std.specs.List.{range_with_len};
 ghost use Rattle.cq_position.specs.Games.{IsTree};
 ghost use Rattle.cq_position.specs.Search.{nodes_in};
+ghost use Rattle.cql_syntax.specs.Hits.{is_hit};
 ghost use Rattle.cql_syntax.specs.Meaning.{value};
 ghost use Rattle.cql_syntax.specs.TreeOf.{filter_tree, filters_tree};
 ghost use Rattle.cql_syntax.specs.Values.{holds, amount};
@@ -18,7 +19,7 @@ use crate::combine::numbered;
 use crate::evaluate::{evaluate, left_by};
 use crate::filter_column::FilterColumn;
 use crate::narrow::keep_numbered;
-use crate::nodes::{narrowed, same, searched_nodes};
+use crate::nodes::{narrowed, same, searched_nodes, tick_nodes};
 use crate::order::SORTS;
 use cq_outside::{NoMemory, Steps};
 use cql_syntax::{Filter, FlatQuery, Form};
@@ -80,14 +81,59 @@ pub fn hit_columns<L: Ledger>(
     ensures most { steps.new ≤ steps.old + length (nodes_in (searched_tree game.now query.now.variations))
         + filters_cost (length game.now.nodes) (filters_tree query.now.items) }
 {
+    let all = searched_nodes(alloc, game, query.variations, steps)?;
+    let column = columns_of(alloc, query, game, &all, steps)?;
+    Ok(column)
+}
+
+/// The same at the searched nodes of a set alone: at other nodes nothing holds.
+///
+/// Each node of the set is a step, and so is each look at the atoms of a line.
+pub fn hit_columns_at<L: Ledger>(
+    alloc: Global,
+    query: &FlatQuery,
+    game: &Game,
+    live: &[bool],
+    steps: &mut Steps<L>,
+) -> Result<Column, NoMemory>
+    requires { AreAsked (searched_tree game.now query.now.variations) live.now }
+    ensures hits { IfOk result (λ column. (n : ℕ) → get_or (hits_of column) n false
+        ≡ (is_live live.now n && is_hit (searched_tree game.now query.now.variations) (filters_tree query.now.items) n)) }
+    ensures keys { IfOk result (λ column. AreKeysAtHits (searched_tree game.now query.now.variations) (filters_tree query.now.items)
+        (hits_of column) (keys_of column)) }
+    ensures nodes { IfOk result (λ column. length (hits_of column) ≡ length game.now.nodes) }
+    ensures least { OnOk result (steps.old + count_by (λ b. b) live.now ≤ steps.new) }
+    ensures most { steps.new ≤ steps.old + count_by (λ b. b) live.now
+        + filters_cost (length game.now.nodes) (filters_tree query.now.items) }
+{
+    tick_nodes(live, steps);
+    let column = columns_of(alloc, query, game, live, steps)?;
+    Ok(column)
+}
+
+// What the items give at the nodes of a set.
+fn columns_of<L: Ledger>(
+    alloc: Global,
+    query: &FlatQuery,
+    game: &Game,
+    live: &[bool],
+    steps: &mut Steps<L>,
+) -> Result<Column, NoMemory>
+    requires { AreAsked (searched_tree game.now query.now.variations) live.now }
+    ensures left { IfOk result (λ column. IsLeft (searched_tree game.now query.now.variations) live.now
+        (is_hit (searched_tree game.now query.now.variations) (filters_tree query.now.items)) (hits_of column)) }
+    ensures keys { IfOk result (λ column. AreKeysAtHits (searched_tree game.now query.now.variations) (filters_tree query.now.items)
+        (hits_of column) (keys_of column)) }
+    ensures cost { steps.new ≤ steps.old + filters_cost (length game.now.nodes) (filters_tree query.now.items) }
+    ensures rises { steps.old ≤ steps.new }
+{
     // A game's nodes are a tree.
     prove!(game.is_tree());
     let names = Names::new(alloc);
     let variations = query.variations;
-    let all = searched_nodes(alloc, game, variations, steps)?;
     let items = &query.items;
     let mut left = left_by(
-        alloc, SORTS, true, items, game, variations, &names, &all, steps,
+        alloc, SORTS, true, items, game, variations, &names, live, steps,
     )?;
     let mut keys = Vec::new(alloc);
     for item in items.as_slice() {

@@ -9,6 +9,7 @@ ghost use Rattle.cql_eval.specs.Columns.{shown, AreKept};
 
 use crate::filter_column::{FilterColumn, set_at, truth_at};
 use crate::nodes::same;
+use crate::spans::{end_of, first_live};
 use cq_geometry::Square;
 use cq_outside::NoMemory;
 use cql_values::sets::has_square;
@@ -91,23 +92,24 @@ fn has_one(value: Value, square: Square) -> bool
 
 /// The nodes of a set that are not settled by what a column has at some of them.
 pub(crate) fn unsettled(
-    alloc: Global,
     every: bool,
-    left: &[bool],
+    left: Vec<bool>,
     there: &[bool],
     column: &FilterColumn,
-) -> Result<Vec<bool>, NoMemory>
-    ensures { IfOk result (λ later. AreLeft every (λ n. spec.holds (shown column.now n)) left.now there.now later.items) }
+) -> Vec<bool>
+    requires { length there.now ≡ length left.items }
+    ensures { AreLeft every (λ n. spec.holds (shown column.now n)) left.items there.now result.items }
 {
-    let mut later = same(alloc, left)?;
+    let mut later = left;
     settle(every, &mut later, there, column);
-    Ok(later)
+    later
 }
 
 fn settle(every: bool, left: &mut [bool], there: &[bool], column: &FilterColumn)
+    requires { length there.now ≡ length left.old }
     ensures { AreLeft every (λ n. spec.holds (shown column.now n)) left.old there.now left.new }
 {
-    for n in 0..left.len() {
+    for n in first_live(there)..end_of(there) {
         left[n] = keeps(every, left[n], truth_at(there, n), column, n);
     }
 }

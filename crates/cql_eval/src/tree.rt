@@ -3,6 +3,7 @@ ghost use Rattle.std.specs.Prelude.{◌≡◌, ℕ, ◌<◌, ◌||◌, length, g
 ghost use Rattle.cq_position.specs.Games.{IsTree, node_at};
 ghost use Rattle.cql_values.specs.Trees.{searched_tree};
 ghost use Rattle.cql_eval.specs.Columns.{AreAsked};
+ghost use Rattle.cql_eval.specs.SpelledParts.{AreOnward, AreReached};
 ghost use Rattle.cql_eval.specs.Trees.{IsBelowLive, IsAboveLive, AreChildrenOfLive, AreParentsOfLive, AreBeforeLive, is_below_live, flag_of, IsRaised, AreRaised, AreLowered, HasParents};
 
 use crate::filter_column::truth_at;
@@ -23,7 +24,7 @@ pub(crate) fn below(
     requires asked { AreAsked (searched_tree game.now variations) live.now }
     ensures { IfOk result (λ wide. IsBelowLive (searched_tree game.now variations) live.now wide.items) }
 {
-    let mut wide = Vec::new(alloc);
+    let mut wide = Vec::with_capacity(alloc, game.len() as usize)?;
     for k in 0..game.len() {
         let there = is_wide(game, variations, live, &wide, k);
         wide.push(there)?;
@@ -83,7 +84,7 @@ pub(crate) fn lowered(alloc: Global, game: &Game, set: &[bool]) -> Result<Vec<bo
     requires tree { IsTree game.now.nodes }
     ensures { IfOk result (λ found. AreLowered game.now.nodes set.now found.items) }
 {
-    let mut found = Vec::new(alloc);
+    let mut found = Vec::with_capacity(alloc, game.len() as usize)?;
     for k in 0..game.len() {
         let there = is_under(game, set, &found, k);
         found.push(there)?;
@@ -118,7 +119,7 @@ pub(crate) fn with_parents(game: &Game, set: &[bool], start: Vec<bool>) -> Vec<b
 pub(crate) fn none(alloc: Global, game: &Game) -> Result<Vec<bool>, NoMemory>
     ensures { IfOk result (λ set. set.items ≡ replicate (length game.now.nodes) false) }
 {
-    let mut set = Vec::new(alloc);
+    let mut set = Vec::with_capacity(alloc, game.len() as usize)?;
     for _k in 0..game.len() {
         set.push(false)?;
     }
@@ -151,7 +152,7 @@ pub(crate) fn children(
     requires asked { AreAsked (searched_tree game.now variations) live.now }
     ensures { IfOk result (λ wide. AreChildrenOfLive (searched_tree game.now variations) live.now wide.items) }
 {
-    let mut wide = Vec::new(alloc);
+    let mut wide = Vec::with_capacity(alloc, game.len() as usize)?;
     for k in 0..game.len() {
         let there = is_searched(game, variations, k) && is_flagged(game.parent(k), live);
         wide.push(there)?;
@@ -194,10 +195,50 @@ pub(crate) fn of_parents(alloc: Global, game: &Game, set: &[bool]) -> Result<Vec
     ensures { IfOk result (λ found. (n : ℕ) → n < length game.now.nodes
         → get_or found.items n false ≡ flag_of set.now (node_at game.now.nodes n).parent) }
 {
-    let mut found = Vec::new(alloc);
+    let mut found = Vec::with_capacity(alloc, game.len() as usize)?;
     for k in 0..game.len() {
         let there = is_flagged(game.parent(k), set);
         found.push(there)?;
     }
     Ok(found)
+}
+
+/// The nodes that a step of a line leads to from those that are asked for: down or, with `back`, up.
+#[tactic(auto, using(crate::proofs::SpelledAlike::children_onward, crate::proofs::SpelledAlike::parents_onward))]
+pub(crate) fn onward(
+    alloc: Global,
+    game: &Game,
+    variations: bool,
+    back: bool,
+    live: &[bool],
+) -> Result<Vec<bool>, NoMemory>
+    requires tree { IsTree game.now.nodes }
+    requires asked { AreAsked (searched_tree game.now variations) live.now }
+    ensures { IfOk result (λ next. AreOnward (searched_tree game.now variations) back live.now next.items) }
+{
+    if back {
+        parents(alloc, game, variations, live)
+    } else {
+        children(alloc, game, variations, live)
+    }
+}
+
+/// All nodes on ways of a line from those that are asked for: down or, with `back`, up.
+#[tactic(auto, using(crate::proofs::SpelledAlike::below_reached, crate::proofs::SpelledAlike::above_reached))]
+pub(crate) fn reached(
+    alloc: Global,
+    game: &Game,
+    variations: bool,
+    back: bool,
+    live: &[bool],
+) -> Result<Vec<bool>, NoMemory>
+    requires tree { IsTree game.now.nodes }
+    requires asked { AreAsked (searched_tree game.now variations) live.now }
+    ensures { IfOk result (λ wide. AreReached (searched_tree game.now variations) back live.now wide.items) }
+{
+    if back {
+        above(alloc, game, variations, live)
+    } else {
+        below(alloc, game, variations, live)
+    }
 }

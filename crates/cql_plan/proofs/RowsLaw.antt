@@ -174,10 +174,6 @@ pub row_given : (tree : SearchedTree) (nodes : List ℕ) (rows : List (List (Opt
     → AreRowsFrom tree nodes rows k (item_numbers item) → row ≡ get_or rows k [] → IsRowOf tree nodes row part
 row_given tree nodes rows k item part at least text row is are given = subst (λ r. IsRowOf tree nodes r part) (sym given) (sort_row tree nodes rows k item part at least text is are).1
 
-pub entries_inside : (tree : SearchedTree) (nodes : List ℕ) (row : List (Option ℤ)) (f : FilterTree) → IsRowOf tree nodes row f → All (λ n. n < length tree.game.nodes) nodes
-    → All (λ n. n < length row) nodes
-entries_inside tree nodes row f is inside = λ i d below. omega (arith, inside i d below, is.count)
-
 pub entries_there : (tree : SearchedTree) (nodes : List ℕ) (row : List (Option ℤ)) (item part : FilterTree) (at : ℕ) (least : Bool) (text : List ℕ)
     → item ≡ filter_at at (sort least text part) → IsRowOf tree nodes row part
     → All (λ n. holds (value tree [] [] item n) ≡ true) nodes → All (λ n. is_some (get_or row n None) ≡ true) nodes

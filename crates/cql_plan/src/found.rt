@@ -1,12 +1,13 @@
 //! The hits of a query in a game, and the keys of its sort items over them, from the query's column.
-ghost use Rattle.std.specs.Prelude.{◌≡◌, ◌≢◌, ◌+◌, ◌<◌, ◌++◌, ◌∷◌, [], length, map, get_or, true, Some, None, is_some, All, AllPairs, IfOk, OnOk, if◌then◌else◌};
+ghost use Rattle.std.specs.Prelude.{◌≡◌, ◌≢◌, ◌+◌, ◌<◌, ◌++◌, ◌∷◌, [], length, map, true, Some, All, AllPairs, IfOk, OnOk, if◌then◌else◌};
 ghost use Rattle.cql_eval.specs.Hits.{hits_of, keys_of, hit_column, item_numbers, AreKeysAtHits};
-ghost use Rattle.cql_syntax.specs.Hits.{hits_in, all_keys, item_keys, chosen as chosen_of};
+ghost use Rattle.cql_syntax.specs.Hits.{hits_in, all_keys, item_keys};
 ghost use Rattle.cql_syntax.specs.TreeOf.{filter_tree, filters_tree};
 ghost use Rattle.cql_values.specs.Trees.{searched_tree};
 ghost use Rattle.cql_plan.specs.Items.{item_holds};
-ghost use Rattle.cql_plan.specs.Rows.{key_in, AreRowsFrom};
+ghost use Rattle.cql_plan.specs.Rows.{AreRowsFrom};
 
+use crate::keys::key_over;
 use cq_outside::NoMemory;
 use cql_eval::Column;
 use cql_syntax::{Filter, FlatQuery, Form};
@@ -54,7 +55,8 @@ fn push_if(found: &mut Vec<u32>, there: bool, node: u32) -> Result<(), NoMemory>
 /// One key for each sort item over the hits, the first item foremost: its greatest value there, or with `min` the least. Over no nodes
 /// there are no keys.
 pub(crate) fn keys(alloc: Global, told: &Told, nodes: &[u32]) -> Result<Vec<i64>, NoMemory>
-    requires { nodes.now ≡ hits_in (searched_tree told.now.game.now told.now.query.now.variations) (filters_tree told.now.query.now.items) }
+    requires { nodes.now
+        ≡ hits_in (searched_tree told.now.game.now told.now.query.now.variations) (filters_tree told.now.query.now.items) }
     ensures keys { IfOk result (λ keys. nodes.now ≢ [] → map Some keys.items
         ≡ all_keys (searched_tree told.now.game.now told.now.query.now.variations) nodes.now (filters_tree told.now.query.now.items)) }
     ensures none { IfOk result (λ keys. nodes.now ≡ [] → keys.items ≡ []) }
@@ -73,7 +75,6 @@ pub(crate) fn keys(alloc: Global, told: &Told, nodes: &[u32]) -> Result<Vec<i64>
 #[tactic(auto, unfolding(cql_syntax::specs::Meaning::value))]
 fn add_key(keys: &mut Vec<i64>, item: &Filter, told: &Told, nodes: &[u32]) -> Result<(), NoMemory>
     requires some { 0 < length nodes.now }
-    requires inside { All (λ n. n < length told.now.game.now.nodes) nodes.now }
     requires holds { All (λ n. item_holds (searched_tree told.now.game.now told.now.query.now.variations) n item.now ≡ true) nodes.now }
     requires rows { AreRowsFrom (searched_tree told.now.game.now told.now.query.now.variations) nodes.now (keys_of told.now.column)
         (length keys.old.items) (item_numbers (filter_tree item.now)) }
@@ -90,33 +91,4 @@ fn add_key(keys: &mut Vec<i64>, item: &Filter, told: &Told, nodes: &[u32]) -> Re
         }
         _ => Ok(()),
     }
-}
-
-// The greatest entry of a row at some nodes, at each of which it has one, or the least.
-fn key_over(row: &[Option<i64>], least: bool, nodes: &[u32]) -> i64
-    requires some { 0 < length nodes.now }
-    requires inside { All (λ n. n < length row.now) nodes.now }
-    requires values { All (λ n. is_some (get_or row.now n None) ≡ true) nodes.now }
-    ensures { Some result ≡ key_in least row.now nodes.now }
-{
-    let mut key = entry_at(row, nodes[0]);
-    for k in 1..nodes.len() {
-        let value = entry_at(row, nodes[k]);
-        key = chosen(least, key, value);
-    }
-    key
-}
-
-fn entry_at(row: &[Option<i64>], n: u32) -> i64
-    requires inside { n < length row.now }
-    requires value { is_some (get_or row.now n None) ≡ true }
-    ensures { get_or row.now n None ≡ Some result }
-{
-    row[n as usize].unwrap()
-}
-
-fn chosen(least: bool, a: i64, b: i64) -> i64
-    ensures { result ≡ chosen_of least a b }
-{
-    if least { a.min(b) } else { a.max(b) }
 }

@@ -4,12 +4,14 @@
 #![tactic(auto)]
 
 mod found;
+mod keys;
 pub mod laws;
 mod needs;
 mod plan;
 mod shared;
 mod verdict;
 
+pub use keys::key_over;
 pub use plan::Plan;
 pub use plan::matching::{match_game, may_hold};
 pub use verdict::Verdict;

@@ -12,7 +12,7 @@ use Rattle.cq_position.specs.Search.{SearchedTree, IsStep, Along, IsPath, paths}
 use Rattle.cq_position.proofs.Paths.{paths_law}
 use Rattle.cq_position.proofs.WaysUp.{searched_up, parent_before}
 use Rattle.cql_syntax.specs.Meaning.{allows, line_of}
-use Rattle.cql_syntax.specs.TabledLines.{AreParents, Joins, Tabled, Searched, IsAsked, LinesAreTheirs}
+use Rattle.cql_syntax.specs.TabledLines.{AreParents, Joins, Tabled, Searched, IsAsked, AreSpelledAlike, LinesAreTheirs, SpelledLinesAreTheirs}
 use Rattle.cql_syntax.specs.Values.{Value, as_number, holds}
 use Rattle.cql_syntax.specs.declared.extents.Extent.{Extent}
 
@@ -120,7 +120,11 @@ module _ (tree : SearchedTree) (is_tree : IsTree tree.game.nodes) (back primary 
   all_reached n [] s a = (s, tt)
   all_reached n (m ∷ w) s a = (s, all_reached m w (step_searched tree is_tree back primary n m s.0 a.0, step_inside tree is_tree back primary n m a.0) a.1)
 
-  module _ (extent : Extent) (table : ℕ → ℕ → Bool) (p : Pattern ℕ) (r : Pattern (ℕ → Value)) (is : Tabled table (IsAsked tree) p r) (n : ℕ) (s : IsAsked tree n) where
+  alike_of : (table : ℕ → ℕ → Bool) (p : Pattern ℕ) (r : Pattern (ℕ → Value)) → Tabled table (IsAsked tree) p r
+      → (n : ℕ) → IsAsked tree n → AreSpelledAlike tree back primary table p r n
+  alike_of table p r is n s w goes = (to_values table (IsAsked tree) p r is (n ∷ w) (all_reached n w s goes), from_values table (IsAsked tree) p r is (n ∷ w) (all_reached n w s goes))
+
+  module _ (extent : Extent) (table : ℕ → ℕ → Bool) (p : Pattern ℕ) (r : Pattern (ℕ → Value)) (n : ℕ) (s : IsAsked tree n) (is : AreSpelledAlike tree back primary table p r n) where
     abbrev test : List ℕ → Bool
     test w = allows extent (length w) && spells (λ v m. holds (v m)) r w
 
@@ -133,7 +137,7 @@ module _ (tree : SearchedTree) (is_tree : IsTree tree.game.nodes) (back primary 
           (paths_law tree is_tree back primary n (n ∷ w)).1 (record { later = w; begins = refl; goes = goes }),
           same,
           ap₂ (λ a b. a && b) (ap (allows extent) same ∙ l.1)
-              ((spelling_law (λ v m. holds (v m)) r (n ∷ w)).1 (to_values table (IsAsked tree) p r is (n ∷ w) (all_reached n w s goes) l.0.3)),
+              ((spelling_law (λ v m. holds (v m)) r (n ∷ w)).1 ((is w goes).0 l.0.3)),
         )
 
     reached : (len : ℕ) → IsListed test (paths tree back primary n) len → Line table Edge p n len × (allows extent len ≡ true)
@@ -143,7 +147,7 @@ module _ (tree : SearchedTree) (is_tree : IsTree tree.game.nodes) (back primary 
         let same : length (n ∷ w) ≡ len = ap length (sym path.begins) ∙ l.2 in
         let passes = ap test (sym path.begins) ∙ l.3 in
         let spelled = (spelling_law (λ v m. holds (v m)) r (n ∷ w)).0 (right (allows extent (length (n ∷ w))) (spells (λ v m. holds (v m)) r (n ∷ w)) passes) in (
-          (w, follow_of n w s.0 path.goes, sym same, from_values table (IsAsked tree) p r is (n ∷ w) (all_reached n w s path.goes) spelled),
+          (w, follow_of n w s.0 path.goes, sym same, (is w path.goes).1 spelled),
           ap (allows extent) (sym same) ∙ left (allows extent (length (n ∷ w))) (spells (λ v m. holds (v m)) r (n ∷ w)) passes,
         )
 
@@ -152,6 +156,11 @@ module _ (tree : SearchedTree) (is_tree : IsTree tree.game.nodes) (back primary 
         (one_greatest (λ len. Line table Edge p n len × (allows extent len ≡ true)) (IsListed test (paths tree back primary n)) o (longest test (paths tree back primary n)) listed reached g
         (greatest_listed test (paths tree back primary n)))
 
+pub spelled_lines_are_theirs : SpelledLinesAreTheirs
+spelled_lines_are_theirs tree is_tree back primary above are extent table p r n s is o g =
+    value_is tree is_tree back primary (Joins above back) (steps_of tree back primary above are) extent table p r n s is o g
+
 pub lines_are_theirs : LinesAreTheirs
 lines_are_theirs tree is_tree back primary above are extent table p r is n s o g =
-    value_is tree is_tree back primary (Joins above back) (steps_of tree back primary above are) extent table p r is n s o g
+    spelled_lines_are_theirs tree is_tree back primary above are extent table p r n s
+    (alike_of tree is_tree back primary (Joins above back) (steps_of tree back primary above are) table p r is n s) o g

@@ -1,10 +1,10 @@
 -- Lines whose atoms are answered by a table.
-use Rattle.std.specs.Prelude.{◌≡◌, ℕ, ◌<◌, Bool, true, false, Option, Some, length, pos, option_map}
+use Rattle.std.specs.Prelude.{◌≡◌, ◌↔◌, ℕ, ◌<◌, Bool, true, false, List, ◌∷◌, Option, Some, length, pos, option_map}
 use Rattle.cq_outside.specs.Greatest.{IsGreatest}
-use Rattle.cq_outside.specs.Spelling.{Pattern, one, nothing, joined, repeated}
+use Rattle.cq_outside.specs.Spelling.{Pattern, one, nothing, joined, repeated, Spells}
 use Rattle.cq_outside.specs.Ways.{Line}
 use Rattle.cq_position.specs.Games.{IsTree, node_at, is_first_child, is_searched}
-use Rattle.cq_position.specs.Search.{SearchedTree}
+use Rattle.cq_position.specs.Search.{SearchedTree, IsStep, Along}
 use Rattle.cql_syntax.specs.Meaning.{line_of, allows}
 use Rattle.cql_syntax.specs.Values.{Value, holds, as_number}
 use Rattle.cql_syntax.specs.declared.extents.Extent.{Extent}
@@ -43,5 +43,20 @@ LinesAreTheirs =
     (tree : SearchedTree) → IsTree tree.game.nodes → (back primary : Bool) (above : ℕ → Option ℕ) → AreParents tree primary above
     → (extent : Extent) (table : ℕ → ℕ → Bool) (p : Pattern ℕ) (r : Pattern (ℕ → Value)) → Tabled table (IsAsked tree) p r
     → (n : ℕ) → IsAsked tree n → (o : Option ℕ)
+    → IsGreatest (λ len. Line table (Joins above back) p n len × (allows extent len ≡ true)) o
+    → as_number (option_map pos o) ≡ line_of tree back primary extent r n
+
+-- on each path from a node a pattern of numbers spells by a table what one of values spells
+abbrev pub AreSpelledAlike : SearchedTree → (back primary : Bool) → (ℕ → ℕ → Bool) → Pattern ℕ → Pattern (ℕ → Value) → ℕ → Type 0
+AreSpelledAlike tree back primary table p r n =
+    (w : List ℕ) → Along (IsStep tree back primary) n w → Spells table p (n ∷ w) ↔ Spells (λ v m. holds (v m)) r (n ∷ w)
+
+-- The same where the table's pattern and that of the values spell the same paths from the node: what the table has elsewhere doesn't
+-- matter.
+abbrev pub SpelledLinesAreTheirs : Type 0
+SpelledLinesAreTheirs =
+    (tree : SearchedTree) → IsTree tree.game.nodes → (back primary : Bool) (above : ℕ → Option ℕ) → AreParents tree primary above
+    → (extent : Extent) (table : ℕ → ℕ → Bool) (p : Pattern ℕ) (r : Pattern (ℕ → Value))
+    → (n : ℕ) → IsAsked tree n → AreSpelledAlike tree back primary table p r n → (o : Option ℕ)
     → IsGreatest (λ len. Line table (Joins above back) p n len × (allows extent len ≡ true)) o
     → as_number (option_map pos o) ≡ line_of tree back primary extent r n

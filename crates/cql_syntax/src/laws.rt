@@ -11,7 +11,7 @@ ghost use Rattle.cql_syntax.specs.Meaning.{Names, value};
 ghost use Rattle.cql_syntax.specs.NumberRows.{NumberRows, ComparisonRows};
 ghost use Rattle.cql_syntax.specs.PositionRows.{WordRows, HeaderRows, LogicRows, TreeRows};
 ghost use Rattle.cql_syntax.specs.SetRows.{SetRows, DirectionRows};
-ghost use Rattle.cql_syntax.specs.TabledLines.{LinesAreTheirs};
+ghost use Rattle.cql_syntax.specs.TabledLines.{LinesAreTheirs, SpelledLinesAreTheirs};
 ghost use Rattle.cql_syntax.specs.TreeLists.{AreInverse, AreTreesOfEach, EndsAlike, filters_from, filters_of, parts_from, parts_of, terms_from, terms_of};
 ghost use Rattle.cql_syntax.specs.Trees.{FilterTree};
 ghost use Rattle.cql_syntax.specs.Values.{Value, is_of_kind};
@@ -80,6 +80,12 @@ pub fn lines_are_tested_by_splits()
 #[tactic(auto, using(crate::proofs::TabledLines::lines_are_theirs))]
 pub fn tables_give_their_lines()
     ensures { LinesAreTheirs }
+{}
+
+/// The same, where a table's pattern spells on the paths from a node what the filters spell there.
+#[tactic(auto, using(crate::proofs::TabledLines::spelled_lines_are_theirs))]
+pub fn spelled_tables_give_their_lines()
+    ensures { SpelledLinesAreTheirs }
 {}
 
 /// The value of a filter is of the filter's kind.

@@ -13,6 +13,13 @@ impl Column {
         self.hits[node as usize]
     }
 
+    /// Whether all items hold, node by node.
+    pub fn into_hits(self) -> Vec<bool>
+        ensures { result.items ≡ hits_of self }
+    {
+        self.hits
+    }
+
     /// How many sort items the query has.
     pub fn sorts(&self) -> usize
         ensures { result ≡ length (keys_of self.now) }

@@ -1,30 +1,36 @@
 //! The numbers of a line.
-ghost use Rattle.std.specs.Prelude.{◌≡◌, ◌+◌, ◌≤◌, [], length, get_or, None, IfOk, OnOk, true};
+ghost use Rattle.std.specs.Prelude.{◌≡◌, ℕ, ◌+◌, ◌<◌, ◌≤◌, ◌&&◌, ◌||◌, not, [], length, get_or, None, IfOk, OnOk, true, false};
 ghost use Rattle.cq_position.specs.Games.{IsTree};
 ghost use Rattle.cql_syntax.specs.Meaning as meaning;
 ghost use Rattle.cql_syntax.specs.TreeOf.{body_tree, filter_tree, line_tree, parts_tree};
 ghost use Rattle.cql_syntax.specs.Values.{as_number};
 ghost use Rattle.cql_values.specs.Trees.{searched_tree};
 ghost use Rattle.cql_eval.specs.Columns.{AreAsked, Where};
-ghost use Rattle.cql_eval.specs.Costs.{line_cost, parts_cost, body_cost, parts_atoms, body_atoms};
-ghost use Rattle.cql_eval.specs.FlatTrees.{IsFlatLine, AreFlatParts, IsFlatBody};
+ghost use Rattle.cql_eval.specs.Costs.{filter_cost, line_cost, parts_cost, body_cost, parts_atoms, body_atoms};
+ghost use Rattle.cql_eval.specs.FlatTrees.{IsFlat, IsFlatLine, AreFlatParts, IsFlatBody};
 ghost use Rattle.cql_lines.specs.Tables.{atoms_of, nodes_of};
+ghost use Rattle.cq_outside.specs.Spelling.{one};
 ghost use Rattle.cql_eval.specs.LineAtoms as spec;
-ghost use Rattle.cql_eval.specs.LineAtoms.{AreAllAsked, AreTabled, HasRoom, IsFilledIn};
+ghost use Rattle.cql_eval.specs.LineAtoms.{HasRoom, IsFilledIn};
+ghost use Rattle.cql_eval.specs.SpelledParts as spelled;
+ghost use Rattle.cql_eval.specs.SpelledParts.{AreTabled, IsLive, IsNever, LeadsOn, EndsHere};
+ghost use Rattle.cql_syntax.specs.TabledLines.{IsAsked};
+ghost use Rattle.cq_position.specs.Search.{IsStep};
 
 use super::evaluate;
-use crate::nodes::all_nodes;
-use crate::patterns::{empty_table, parts_pattern, put_column, shape_of, wide_numbers};
+use crate::nodes::{all_nodes, any_live, part_of, same};
+use crate::patterns::{empty_table, no_numbers, parts_pattern, put_column, shape_of, wide_numbers};
+use crate::tree::{onward, reached};
 use cq_outside::{NoMemory, Steps};
 use cql_lines::{AtomTable, Automaton, line_values};
-use cql_syntax::{Body, Constituents, Line};
+use cql_syntax::{Body, Constituent, Constituents, Filter, Line, Mark};
 use cql_values::names::Names;
 use pgn_tree::Game;
 use std::alloc::Global;
 use std::sync::ledger::Ledger;
 
-/// The greatest length of a path from each node that a line's pattern spells: its atoms are asked for at all searched nodes, and the
-/// automaton of its pattern then answers all nodes at once.
+/// The greatest length of a path from each node that a line's pattern spells. Its atoms are asked for where they may begin on a path, one
+/// after the other, and the automaton of its pattern then answers all nodes at once.
 #[cycle(evaluate)]
 pub(super) fn line_numbers<L: Ledger>(
     alloc: Global,
@@ -45,7 +51,13 @@ pub(super) fn line_numbers<L: Ledger>(
 {
     prove!(has_flat_parts(line));
     let parts = &line.parts;
-    let table = filled_table(alloc, parts, game, variations, names, steps)?;
+    let mut met = true;
+    let table = filled_table(
+        alloc, parts, game, variations, line.back, names, &mut met, steps,
+    )?;
+    if !met {
+        return no_numbers(alloc, game);
+    }
     let mut atoms = 0;
     let pattern = parts_pattern(alloc, parts, &mut atoms)?;
     let automaton = Automaton::build(alloc, &pattern)?;
@@ -73,21 +85,27 @@ fn has_flat_parts(line: &Line) -> bool
     true
 }
 
-// The table of the atoms of parts in a row, each of which is asked for at all searched nodes.
+// The table of the atoms of parts in a row that may begin at all searched nodes. Where the row isn't met at the end, no path is spelled.
 #[cycle(evaluate)]
+#[tactic(auto, using(crate::proofs::SpelledAlike::all_tabled, crate::proofs::SpelledAlike::all_never))]
 fn filled_table<L: Ledger>(
     alloc: Global,
     parts: &Constituents,
     game: &Game,
     variations: bool,
+    back: bool,
     names: &Names,
+    met: &mut bool,
     steps: &mut Steps<L>,
 ) -> Result<AtomTable, NoMemory>
     requires tree { IsTree game.now.nodes }
     requires flat { AreFlatParts (parts_tree parts.now) }
     requires few { parts_atoms (parts_tree parts.now) ≤ 64 }
-    ensures value { IfOk result (λ table. AreTabled (searched_tree game.now variations) table (0 + parts_atoms (parts_tree parts.now))
-        (spec.parts_numbered 0 (parts_tree parts.now))
+    ensures value { IfOk result (λ table. AreTabled (searched_tree game.now variations) back (IsAsked (searched_tree game.now variations))
+        table (0 + parts_atoms (parts_tree parts.now)) (spec.parts_numbered 0 (parts_tree parts.now))
+        (meaning.pattern (searched_tree game.now variations) [] names.now (parts_tree parts.now))) }
+    ensures never { OnOk result (met.old ≡ true → met.new ≡ false
+        → IsNever (IsStep (searched_tree game.now variations) back false) (IsAsked (searched_tree game.now variations))
         (meaning.pattern (searched_tree game.now variations) [] names.now (parts_tree parts.now))) }
     ensures atoms { IfOk result (λ table. atoms_of table ≡ parts_atoms (parts_tree parts.now)) }
     ensures nodes { IfOk result (λ table. nodes_of table ≡ length game.now.nodes) }
@@ -97,12 +115,13 @@ fn filled_table<L: Ledger>(
     let all = all_nodes(alloc, game, variations)?;
     let mut table = empty_table(alloc, parts, game)?;
     put_parts(
-        alloc, parts, 0, &mut table, game, variations, names, &all, steps,
+        alloc, parts, 0, &mut table, game, variations, back, names, &all, met, steps,
     )?;
     Ok(table)
 }
 
-// Puts the atoms of parts in a row into a table, with the numbers from the first on, and answers the number after them.
+// Puts the atoms of parts in a row that begins at the nodes of a set into a table, with the numbers from the first on, and answers the
+// number after them. Where an atom of the row itself holds nowhere, the row isn't met.
 #[cycle(evaluate)]
 #[tactic(auto, unfolding(crate::specs::Costs::filter_cost))]
 fn put_parts<L: Ledger>(
@@ -112,31 +131,244 @@ fn put_parts<L: Ledger>(
     table: &mut AtomTable,
     game: &Game,
     variations: bool,
+    back: bool,
     names: &Names,
-    all: &[bool],
+    live: &[bool],
+    met: &mut bool,
     steps: &mut Steps<L>,
 ) -> Result<u32, NoMemory>
     requires tree { IsTree game.now.nodes }
-    requires all { AreAllAsked (searched_tree game.now variations) all.now }
+    requires asked { AreAsked (searched_tree game.now variations) live.now }
     requires flat { AreFlatParts (parts_tree parts.now) }
     requires room { HasRoom (length game.now.nodes) first (first + parts_atoms (parts_tree parts.now)) table.old }
     ensures next { IfOk result (λ next. next ≡ first + parts_atoms (parts_tree parts.now)) }
-    ensures value { OnOk result (AreTabled (searched_tree game.now variations) table.new (first + parts_atoms (parts_tree parts.now))
-        (spec.parts_numbered first (parts_tree parts.now))
+    ensures value { OnOk result (AreTabled (searched_tree game.now variations) back (IsLive live.now)
+        table.new (first + parts_atoms (parts_tree parts.now)) (spec.parts_numbered first (parts_tree parts.now))
+        (meaning.pattern (searched_tree game.now variations) [] names.now (parts_tree parts.now))) }
+    ensures never { OnOk result (met.old ≡ true → met.new ≡ false
+        → IsNever (IsStep (searched_tree game.now variations) back false) (IsLive live.now)
         (meaning.pattern (searched_tree game.now variations) [] names.now (parts_tree parts.now))) }
     ensures others { OnOk result (IsFilledIn table.old table.new first (first + parts_atoms (parts_tree parts.now))) }
     ensures cost { steps.new ≤ steps.old + parts_cost (length game.now.nodes) (parts_tree parts.now) }
     ensures rises { steps.old ≤ steps.new }
 {
     let mut at = first;
+    let mut starts = same(alloc, live)?;
     for part in parts.as_slice() {
-        at = put_body(
-            alloc, &part.body, at, table, game, variations, names, all, steps,
+        at = put_part(
+            alloc,
+            part,
+            at,
+            table,
+            game,
+            variations,
+            back,
+            names,
+            &mut starts,
+            met,
+            steps,
         )?;
     }
     Ok(at)
 }
 
+// Puts the atoms of a part that may begin at the nodes of a set, which becomes that of the nodes at which the next part may begin.
+#[cycle(evaluate)]
+fn put_part<L: Ledger>(
+    alloc: Global,
+    part: &Constituent,
+    first: u32,
+    table: &mut AtomTable,
+    game: &Game,
+    variations: bool,
+    back: bool,
+    names: &Names,
+    starts: &mut Vec<bool>,
+    met: &mut bool,
+    steps: &mut Steps<L>,
+) -> Result<u32, NoMemory>
+    requires tree { IsTree game.now.nodes }
+    requires asked { AreAsked (searched_tree game.now variations) starts.old.items }
+    requires flat { IsFlatBody (body_tree part.now.body) }
+    requires room { HasRoom (length game.now.nodes) first (first + body_atoms (body_tree part.now.body)) table.old }
+    ensures next { IfOk result (λ next. next ≡ first + body_atoms (body_tree part.now.body)) }
+    ensures leads { OnOk result (LeadsOn (searched_tree game.now variations) back starts.old.items starts.new.items
+        table.new (first + body_atoms (body_tree part.now.body))
+        (meaning.marked part.now.mark (spec.body_numbered first (body_tree part.now.body)))
+        (meaning.marked part.now.mark (meaning.body_pattern (searched_tree game.now variations) [] names.now (body_tree part.now.body)))) }
+    ensures ends { OnOk result (met.old ≡ true → met.new ≡ false → EndsHere (searched_tree game.now variations) back starts.old.items
+        (meaning.marked part.now.mark (meaning.body_pattern (searched_tree game.now variations) [] names.now (body_tree part.now.body)))) }
+    ensures others { OnOk result (IsFilledIn table.old table.new first (first + body_atoms (body_tree part.now.body))) }
+    ensures cost { steps.new ≤ steps.old + body_cost (length game.now.nodes) (body_tree part.now.body) }
+    ensures rises { steps.old ≤ steps.new }
+{
+    match part.mark {
+        Mark::Once => put_once(
+            alloc, &part.body, first, table, game, variations, back, names, starts, met, steps,
+        ),
+        _ => put_marked(
+            alloc, part, first, table, game, variations, back, names, starts, met, steps,
+        ),
+    }
+}
+
+// Puts the atoms of a part with any mark: they are asked for at all nodes on ways from where it may begin.
+#[cycle(evaluate)]
+fn put_marked<L: Ledger>(
+    alloc: Global,
+    part: &Constituent,
+    first: u32,
+    table: &mut AtomTable,
+    game: &Game,
+    variations: bool,
+    back: bool,
+    names: &Names,
+    starts: &mut Vec<bool>,
+    met: &mut bool,
+    steps: &mut Steps<L>,
+) -> Result<u32, NoMemory>
+    requires tree { IsTree game.now.nodes }
+    requires asked { AreAsked (searched_tree game.now variations) starts.old.items }
+    requires flat { IsFlatBody (body_tree part.now.body) }
+    requires room { HasRoom (length game.now.nodes) first (first + body_atoms (body_tree part.now.body)) table.old }
+    ensures next { IfOk result (λ next. next ≡ first + body_atoms (body_tree part.now.body)) }
+    ensures leads { OnOk result (LeadsOn (searched_tree game.now variations) back starts.old.items starts.new.items
+        table.new (first + body_atoms (body_tree part.now.body))
+        (meaning.marked part.now.mark (spec.body_numbered first (body_tree part.now.body)))
+        (meaning.marked part.now.mark (meaning.body_pattern (searched_tree game.now variations) [] names.now (body_tree part.now.body)))) }
+    ensures ends { OnOk result (met.old ≡ true → met.new ≡ false → EndsHere (searched_tree game.now variations) back starts.old.items
+        (meaning.marked part.now.mark (meaning.body_pattern (searched_tree game.now variations) [] names.now (body_tree part.now.body)))) }
+    ensures others { OnOk result (IsFilledIn table.old table.new first (first + body_atoms (body_tree part.now.body))) }
+    ensures cost { steps.new ≤ steps.old + body_cost (length game.now.nodes) (body_tree part.now.body) }
+    ensures rises { steps.old ≤ steps.new }
+{
+    let wide = reached(alloc, game, variations, back, starts)?;
+    let mut inner = true;
+    let next = put_body(
+        alloc, &part.body, first, table, game, variations, back, names, &wide, &mut inner, steps,
+    )?;
+    let needed = is_needed(part.mark);
+    *starts = wide;
+    *met = goes_on(*met, inner, needed);
+    Ok(next)
+}
+
+fn is_needed(mark: Mark) -> bool
+    ensures { result ≡ spelled.is_needed mark }
+{
+    match mark {
+        Mark::Once => true,
+        Mark::Star => false,
+        Mark::Plus => true,
+        Mark::Maybe => false,
+        Mark::Times(least, _) => least != 0,
+    }
+}
+
+// Whether a row is still met after a part, which is met or needn't stand.
+fn goes_on(met: bool, inner: bool, needed: bool) -> bool
+    ensures { result ≡ (met && (inner || not needed)) }
+{
+    met && (inner || !needed)
+}
+
+fn both(met: bool, some: bool) -> bool
+    ensures { result ≡ (met && some) }
+{
+    met && some
+}
+
+// Puts the atoms of a part that stands once.
+#[cycle(evaluate)]
+#[tactic(auto, unfolding(cql_syntax::specs::Meaning::value, crate::specs::Costs::filter_cost, crate::specs::FlatTrees::unflat))]
+fn put_once<L: Ledger>(
+    alloc: Global,
+    body: &Body,
+    first: u32,
+    table: &mut AtomTable,
+    game: &Game,
+    variations: bool,
+    back: bool,
+    names: &Names,
+    starts: &mut Vec<bool>,
+    met: &mut bool,
+    steps: &mut Steps<L>,
+) -> Result<u32, NoMemory>
+    requires tree { IsTree game.now.nodes }
+    requires asked { AreAsked (searched_tree game.now variations) starts.old.items }
+    requires flat { IsFlatBody (body_tree body.now) }
+    requires room { HasRoom (length game.now.nodes) first (first + body_atoms (body_tree body.now)) table.old }
+    ensures next { IfOk result (λ next. next ≡ first + body_atoms (body_tree body.now)) }
+    ensures leads { OnOk result (LeadsOn (searched_tree game.now variations) back starts.old.items starts.new.items
+        table.new (first + body_atoms (body_tree body.now)) (spec.body_numbered first (body_tree body.now))
+        (meaning.body_pattern (searched_tree game.now variations) [] names.now (body_tree body.now))) }
+    ensures ends { OnOk result (met.old ≡ true → met.new ≡ false → EndsHere (searched_tree game.now variations) back starts.old.items
+        (meaning.body_pattern (searched_tree game.now variations) [] names.now (body_tree body.now))) }
+    ensures others { OnOk result (IsFilledIn table.old table.new first (first + body_atoms (body_tree body.now))) }
+    ensures cost { steps.new ≤ steps.old + body_cost (length game.now.nodes) (body_tree body.now) }
+    ensures rises { steps.old ≤ steps.new }
+{
+    match body {
+        Body::Atom(filter) => {
+            let behind = put_atom(
+                alloc, filter, first, table, game, variations, back, names, starts, met, steps,
+            )?;
+            *starts = behind;
+            Ok(first + 1)
+        }
+        Body::Group(parts) => {
+            let next = put_parts(
+                alloc, parts, first, table, game, variations, back, names, starts, met, steps,
+            )?;
+            *starts = reached(alloc, game, variations, back, starts)?;
+            Ok(next)
+        }
+    }
+}
+
+// Puts an atom that stands once, and answers where the next part may begin; where it holds nowhere, the row isn't met.
+#[cycle(evaluate)]
+fn put_atom<L: Ledger>(
+    alloc: Global,
+    filter: &Filter,
+    first: u32,
+    table: &mut AtomTable,
+    game: &Game,
+    variations: bool,
+    back: bool,
+    names: &Names,
+    live: &[bool],
+    met: &mut bool,
+    steps: &mut Steps<L>,
+) -> Result<Vec<bool>, NoMemory>
+    requires tree { IsTree game.now.nodes }
+    requires asked { AreAsked (searched_tree game.now variations) live.now }
+    requires flat { IsFlat (filter_tree filter.now) }
+    requires room { HasRoom (length game.now.nodes) first (first + 1) table.old }
+    ensures leads { IfOk result (λ behind. LeadsOn (searched_tree game.now variations) back live.now behind.items
+        table.new (first + 1) (one first) (one (meaning.value (searched_tree game.now variations) [] names.now (filter_tree filter.now)))) }
+    ensures ends { OnOk result (met.old ≡ true → met.new ≡ false → EndsHere (searched_tree game.now variations) back live.now
+        (one (meaning.value (searched_tree game.now variations) [] names.now (filter_tree filter.now)))) }
+    ensures others { OnOk result (IsFilledIn table.old table.new first (first + 1)) }
+    ensures cost { steps.new ≤ steps.old + filter_cost (length game.now.nodes) (filter_tree filter.now) }
+    ensures rises { steps.old ≤ steps.new }
+{
+    if !any_live(live) {
+        *met = false;
+        return same(alloc, live);
+    }
+    let column = evaluate(alloc, filter, game, variations, names, live, steps)?;
+    put_column(table, first, &column, game, live);
+    let held = part_of(alloc, game, variations, live, &column, true)?;
+    if !any_live(&held) {
+        *met = false;
+        return Ok(held);
+    }
+    let behind = onward(alloc, game, variations, back, &held)?;
+    Ok(behind)
+}
+
+// Puts the atoms of what may begin at any node of a set, again and again.
 #[cycle(evaluate)]
 #[tactic(auto, unfolding(cql_syntax::specs::Meaning::value, crate::specs::Costs::filter_cost, crate::specs::FlatTrees::unflat))]
 fn put_body<L: Ledger>(
@@ -146,17 +378,22 @@ fn put_body<L: Ledger>(
     table: &mut AtomTable,
     game: &Game,
     variations: bool,
+    back: bool,
     names: &Names,
-    all: &[bool],
+    live: &[bool],
+    met: &mut bool,
     steps: &mut Steps<L>,
 ) -> Result<u32, NoMemory>
     requires tree { IsTree game.now.nodes }
-    requires all { AreAllAsked (searched_tree game.now variations) all.now }
+    requires asked { AreAsked (searched_tree game.now variations) live.now }
     requires flat { IsFlatBody (body_tree body.now) }
     requires room { HasRoom (length game.now.nodes) first (first + body_atoms (body_tree body.now)) table.old }
     ensures next { IfOk result (λ next. next ≡ first + body_atoms (body_tree body.now)) }
-    ensures value { OnOk result (AreTabled (searched_tree game.now variations) table.new (first + body_atoms (body_tree body.now))
-        (spec.body_numbered first (body_tree body.now))
+    ensures value { OnOk result (AreTabled (searched_tree game.now variations) back (IsLive live.now)
+        table.new (first + body_atoms (body_tree body.now)) (spec.body_numbered first (body_tree body.now))
+        (meaning.body_pattern (searched_tree game.now variations) [] names.now (body_tree body.now))) }
+    ensures never { OnOk result (met.old ≡ true → met.new ≡ false
+        → IsNever (IsStep (searched_tree game.now variations) back false) (IsLive live.now)
         (meaning.body_pattern (searched_tree game.now variations) [] names.now (body_tree body.now))) }
     ensures others { OnOk result (IsFilledIn table.old table.new first (first + body_atoms (body_tree body.now))) }
     ensures cost { steps.new ≤ steps.old + body_cost (length game.now.nodes) (body_tree body.now) }
@@ -164,12 +401,15 @@ fn put_body<L: Ledger>(
 {
     match body {
         Body::Atom(filter) => {
-            let column = evaluate(alloc, filter, game, variations, names, all, steps)?;
-            put_column(table, first, &column, game, all);
+            let column = evaluate(alloc, filter, game, variations, names, live, steps)?;
+            put_column(table, first, &column, game, live);
+            let held = part_of(alloc, game, variations, live, &column, true)?;
+            let some = any_live(&held);
+            *met = both(*met, some);
             Ok(first + 1)
         }
         Body::Group(parts) => put_parts(
-            alloc, parts, first, table, game, variations, names, all, steps,
+            alloc, parts, first, table, game, variations, back, names, live, met, steps,
         ),
     }
 }

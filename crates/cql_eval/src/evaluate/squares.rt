@@ -11,6 +11,7 @@ ghost use Rattle.cql_eval.specs.Costs.{filter_cost};
 ghost use Rattle.cql_eval.specs.FlatTrees.{IsFlat};
 
 use super::evaluate;
+use crate::attacks::{attack_truths, attacked_part};
 use crate::filter_column::FilterColumn;
 use crate::nodes::{any_live, same};
 use crate::squares::{decided, having, unsettled, wanted_squares};
@@ -46,6 +47,10 @@ pub(super) fn square_truths<L: Ledger>(
     ensures cost { steps.new ≤ steps.old + 64 * filter_cost (length game.now.nodes) (filter_tree asked.now) }
     ensures rises { steps.old ≤ steps.new }
 {
+    match attacked_part(every, name, asked) {
+        Some(d) => return attack_truths(alloc, squares, d, game, variations, live),
+        None => {}
+    }
     let mut left = same(alloc, live)?;
     let wanted = wanted_squares(live, squares);
     for number in 0..64 {
@@ -94,6 +99,6 @@ fn square_turn<L: Ledger>(
     }
     let inner = names.with(alloc, name, square)?;
     let column = evaluate(alloc, asked, game, variations, &inner, &there, steps)?;
-    let later = unsettled(alloc, every, &left, &there, &column)?;
+    let later = unsettled(every, left, &there, &column);
     Ok(later)
 }

@@ -4,9 +4,11 @@ use Rattle.cq_shards.specs.declared.state.BatchFault.TheVariants.{ReadFault, Arc
 use Rattle.cq_shards.specs.Answers.{query_in}
 use Rattle.cq_run.specs.Promise.{source_view, sink_view, sinks_of}
 use Rattle.cq_run.specs.Writing.{stand_of}
+use Rattle.cq_run.proofs.AllRounds.{finished_all}
+use Rattle.cq_run.proofs.AnswerPromise.{asked_of}
 use Rattle.cq_run.proofs.GameByGame.{tally_with}
 use Rattle.cq_run.proofs.Reached.{place_of}
-use Rattle.cq_run.proofs.Rounds.{loop_of, loop_on, Rounds, no_rounds, round_turns, round_starves, round_unread, round_too_long, round_ends, finished_all, few_rounds, turn_starves, turn_few, answers_are, turn_done, turn_fails, turn_wants}
+use Rattle.cq_run.proofs.Rounds.{loop_of, loop_on, Rounds, no_rounds, round_turns, round_starves, round_unread, round_too_long, round_ends, few_rounds, turn_starves, turn_few, answers_are, turn_done, turn_fails, turn_wants}
 use Rattle.cq_run.proofs.all_games.answer_all.Goals as goal
 
 pub loop-turn-init : goal.loop-turn-init
@@ -40,7 +42,7 @@ returns-in-Ok-None-clause-answers g c =
     let is = c.in-Ok-None.is ∙ ap Ok c.in-Ok-None.field-0-is in
     let says = rw is at c.next.ensures.says in
     let counts = rw is at c.next.ensures.cause in
-    finished_all c.write_rest.result _ _ _ was.known.outcomes
+    finished_all c.write_rest.result (asked_of _ (query_in c.args.plan.now) (sym c.has_sort_item-sorted.ensures)) _ _ was.known.outcomes
     (round_ends c.archives_come_in_batches.ensures _ loop c.next.new.self after was says counts)
     (c.write_rest.ensures was.known.outcomes c.has_sort_item-sorted.result out err (sym c.has_sort_item-sorted.ensures) was.found)
 

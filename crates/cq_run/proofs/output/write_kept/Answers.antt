@@ -1,40 +1,15 @@
-use Rattle.std.proofs.Common.{◌<◌, ◌≤◌, length, refl, ◌∙◌, subst, rules}
-use Rattle.std.proofs.lemmas.List.{take_all}
-use Rattle.cq_outside.specs.Faults.{Rose}
-use Rattle.cq_outside.specs.Flow.{Grew}
+use Rattle.std.proofs.Common.{subst}
+use Rattle.cq_shards.specs.Answers.{query_in}
 use Rattle.cq_run.specs.Exports.{exports_of}
-use Rattle.cq_run.proofs.Kept.{in_order, more_written, part_written}
-use Rattle.cq_run.proofs.Sinks.{unwritten}
+use Rattle.cq_run.specs.Promise.{sink_view}
+use Rattle.cq_run.specs.Writing.{WritesText}
+use Rattle.cq_run.proofs.Kept.{in_order, kept_written}
 use Rattle.cq_run.proofs.output.write_kept.Goals as goal
-
-pub loop-i-init : goal.loop-i-init
-loop-i-init g c = (unwritten (g.O.Sink.taken c.args.out.now), refl)
-
-pub loop-i-preserved : goal.loop-i-preserved
-loop-i-preserved g c =
-    let taken = g.O.Sink.taken in
-    let inside : c.loop-i.i < length c.in_ok-ordered.ordered.items = search rules in (
-      more_written c.in_ok-ordered.ordered.items c.loop-i.i c.index.result.now (taken c.args.out.now) (taken c.loop-i.out) (taken c.write_all_of.new.sink) c.text.result.now
-          (record { inside = inside; is = c.index.ensures; texts = c.text.ensures }) c.loop-i.invariant.0 c.in-Ok.ensures.ok,
-      c.in-Ok.ensures.cause.same ∙ c.loop-i.invariant.1,
-    )
-
-pub returns-in-Err : goal.returns-in-Err
-returns-in-Err g c =
-    let taken = g.O.Sink.taken in
-    let inside : c.loop-i.i < length c.in_ok-ordered.ordered.items = search rules in (
-      c.in_ok-ordered.ordered.items,
-      in_order c.args.kept.items c.in_ok-ordered.ordered.items c.query.result.now c.args.plan.now.query c.query.ensures c.in_ok-ordered.ensures.same c.in_ok-ordered.ensures.order,
-      part_written c.in_ok-ordered.ordered.items c.loop-i.i c.index.result.now (taken c.args.out.now) (taken c.loop-i.out) (taken c.write_all_of.new.sink) c.text.result.now
-          c.in-Err.ensures.err.0 (record { inside = inside; is = c.index.ensures; texts = c.text.ensures }) c.loop-i.invariant.0 c.in-Err.ensures.err.1,
-      subst (λ n. Rose n (g.O.Sink.faults c.write_all_of.new.sink)) c.loop-i.invariant.1 c.in-Err.ensures.cause.failed,
-    )
 
 pub returns : goal.returns
 returns g c =
-    let all : length c.in_ok-ordered.ordered.items ≤ c.loop-i.i = search rules in (
-      c.in_ok-ordered.ordered.items,
-      in_order c.args.kept.items c.in_ok-ordered.ordered.items c.query.result.now c.args.plan.now.query c.query.ensures c.in_ok-ordered.ensures.same c.in_ok-ordered.ensures.order,
-      subst (λ xs. Grew (g.O.Sink.taken c.args.out.now) (g.O.Sink.taken c.loop-i.out) (exports_of xs)) (take_all c.loop-i.i c.in_ok-ordered.ordered.items all) c.loop-i.invariant.0,
-      c.loop-i.invariant.1,
-    )
+    let out = sink_view g.O.Sink.taken g.O.Sink.faults in
+    let ordered = c.in_ok-ordered.ordered.items in
+    kept_written (query_in c.args.plan.now) c.args.kept.items ordered (out c.args.out.now) (out c.write_texts.new.out) c.write_texts.result
+    (in_order c.args.kept.items ordered c.query.result.now c.args.plan.now.query c.query.ensures c.in_ok-ordered.ensures.same c.in_ok-ordered.ensures.order)
+    (subst (λ xs. WritesText (exports_of xs) (out c.args.out.now) (out c.write_texts.new.out) c.write_texts.result) c.as_slice.ensures.value c.write_texts.ensures)

@@ -1,5 +1,7 @@
 use Rattle.std.proofs.Common.{ap, ◌∙◌, Err}
 use Rattle.cq_shards.specs.Answers.{query_in}
+use Rattle.cq_run.specs.AllGames.{texts_of}
+use Rattle.cq_run.specs.Answer.{summary_of}
 use Rattle.cq_run.specs.Promise.{sink_view, sinks_of}
 use Rattle.cq_run.specs.Writing.{stand_of}
 use Rattle.cq_run.proofs.GameByGame.{unordered, unkept, ordered_all, ended}
@@ -12,7 +14,7 @@ returns-in-Ok g c = λ rs sorted first second sorts found.
     let err = sink_view g.E.Sink.taken g.E.Sink.faults in
     let sinks = sinks_of first (out c.args.out.now) second (err c.args.err.now) in
     let kept = sinks_of first (out c.write_kept.new.out) second (err c.args.err.now) in
-    ended c.write_summary.result query rs kept (err c.write_summary.new.err) c.args.tally
+    ended c.write_summary.result (texts_of query) rs kept (err c.write_summary.new.err) c.args.tally.refused (summary_of c.args.tally)
     (ordered_all sorted query rs sinks (out c.write_kept.new.out) (stand_of c.args.tally c.args.kept.items) sorts found c.in-Ok.ensures)
     c.write_summary.ensures
 

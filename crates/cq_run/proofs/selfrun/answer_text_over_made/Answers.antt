@@ -1,6 +1,7 @@
 use Rattle.std.proofs.Common.{Err, ap, ◌∙◌, refl, subst}
 use Rattle.cql_syntax.specs.TreeOf.{query_tree}
 use Rattle.cql_syntax.specs.declared.fault.QueryFault.{QueryFault}
+use Rattle.cq_report.specs.Queries.{query_line}
 use Rattle.cq_run.specs.Promise.{sink_view, sinks_of}
 use Rattle.cq_run.specs.Run.{RefusesQuery, text_accepted, text_refused, text_out_of_memory}
 use Rattle.cq_run.proofs.selfrun.answer_text_over_made.Goals as goal
@@ -15,7 +16,8 @@ returns-in-Err-Fault g c = λ desk.
     let is = c.in-Err-Fault.is ∙ ap Err c.in-Err-Fault.field-0-is in
     let faulty = rw is at c.read_query.ensures in
     text_refused c.in-Err-Fault.fault faulty
-    (subst (λ (f : QueryFault). RefusesQuery f c.refuse_query.result (sinks_of out out (err c.args.err.now) (err c.refuse_query.new.err))) c.in-Err-Fault.fault-is (c.refuse_query.ensures out)) refl
+    (subst (λ (f : QueryFault). RefusesQuery (query_line f) c.refuse_query.result (sinks_of out out (err c.args.err.now) (err c.refuse_query.new.err)))
+    c.in-Err-Fault.fault-is (c.refuse_query.ensures out)) refl
 
 pub returns-in-Err-NoMemory : goal.returns-in-Err-NoMemory
 returns-in-Err-NoMemory g c = λ desk. text_out_of_memory refl (record { desk = refl; sinks = record { out = refl; err = refl } })

@@ -1,6 +1,7 @@
 use Rattle.std.proofs.Common.{Err, ap, ◌∙◌, refl, subst}
 use Rattle.cql_syntax.specs.TreeOf.{query_tree}
 use Rattle.cql_syntax.specs.declared.fault.QueryFault.{QueryFault}
+use Rattle.cq_report.specs.Queries.{query_line}
 use Rattle.cq_run.specs.Promise.{sink_view, sinks_of}
 use Rattle.cq_run.specs.Run.{RefusesQuery, text_accepted, text_refused}
 use Rattle.cq_run.proofs.top_call.answer_text.Goals as goal
@@ -15,4 +16,5 @@ returns-in-Err-Fault g c =
     let is = c.in-Err-Fault.is ∙ ap Err c.in-Err-Fault.field-0-is in
     let faulty = rw is at c.read_query.ensures in
     text_refused c.in-Err-Fault.fault faulty
-    (subst (λ (f : QueryFault). RefusesQuery f c.refuse_query.result (sinks_of out out (err c.args.err.now) (err c.refuse_query.new.err))) c.in-Err-Fault.fault-is (c.refuse_query.ensures out)) refl
+    (subst (λ (f : QueryFault). RefusesQuery (query_line f) c.refuse_query.result (sinks_of out out (err c.args.err.now) (err c.refuse_query.new.err)))
+    c.in-Err-Fault.fault-is (c.refuse_query.ensures out)) refl

@@ -1,4 +1,4 @@
-use Rattle.std.proofs.Common.{◌≡◌, ◌+◌, length, All, [], ℕ}
+use Rattle.std.proofs.Common.{◌≡◌, ◌+◌, length, All, []}
 use Rattle.cq_board.specs.Seats.{IsSeatOf, drawn, HasEnded}
 use Rattle.cq_shards.specs.Finders.{IsFreshFinder, IsUnusedMark}
 use Rattle.cq_shards.proofs.first.finders_of.Given as goal

@@ -1,17 +1,20 @@
+use Rattle.std.proofs.Common.{sym, ◌∙◌}
 use Rattle.cql_eval.specs.Hits.{hits_of}
+use Rattle.cq_shared.proofs.After.{cost_live}
 use Rattle.cq_shared.proofs.Telling.{told_by, cost_is}
 use Rattle.cq_shared.proofs.asking.truths_at.Goals as goal
 
 pub returns-clause-told : goal.returns-clause-told
 returns-clause-told g c =
-    told_by c.args.game.now c.args.part.now c.args.live.now (hits_of c.in_ok-column.column) c.in_ok-truths.truths.items c.requires.asked c.args.part.now.single.one
-    c.in_ok-column.ensures.hits c.in_ok-truths.ensures
+    told_by c.args.game.now c.args.part.now c.args.live.now (hits_of c.in_ok-column.column) c.into_hits.result.items c.args.part.now.single.one
+    c.in_ok-column.ensures.hits c.into_hits.ensures
 
 pub returns-clause-cost : goal.returns-clause-cost
-returns-clause-cost g c = cost_is c.args.game.now c.args.part.now _ _ c.hit_columns.ensures.most c.args.part.now.single.one
+returns-clause-cost g c =
+    cost_live c.args.live.now _ _ _ (sym c.any_live.ensures ∙ c.if-not-any_live.false)
+    (cost_is c.args.game.now c.args.part.now c.args.live.now _ _ c.requires.asked c.hit_columns_at.ensures.most c.args.part.now.single.one)
 
 pub returns-in_err-column-clause-cost : goal.returns-in_err-column-clause-cost
-returns-in_err-column-clause-cost g c = cost_is c.args.game.now c.args.part.now _ _ c.hit_columns.ensures.most c.args.part.now.single.one
-
-pub returns-in_err-truths-clause-cost : goal.returns-in_err-truths-clause-cost
-returns-in_err-truths-clause-cost g c = cost_is c.args.game.now c.args.part.now _ _ c.hit_columns.ensures.most c.args.part.now.single.one
+returns-in_err-column-clause-cost g c =
+    cost_live c.args.live.now _ _ _ (sym c.any_live.ensures ∙ c.if-not-any_live.false)
+    (cost_is c.args.game.now c.args.part.now c.args.live.now _ _ c.requires.asked c.hit_columns_at.ensures.most c.args.part.now.single.one)

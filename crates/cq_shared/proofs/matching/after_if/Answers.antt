@@ -14,9 +14,9 @@ returns-clause-left g c =
     (eq-eqb c.args.part.now.class c.args.class c.if-part-class.false) c.in_ok-later.ensures.left
 
 pub returns-clause-cost : goal.returns-clause-cost
-returns-clause-cost g c =
-    omega (arith, c.after.ensures.cost, cost_taken (is_class c.args.class) c.args.game.now c.args.part.now (eq-eqb c.args.part.now.class c.args.class c.if-part-class.false))
+returns-clause-cost g c = λ want admits.
+    omega (arith, c.after.ensures.cost want admits, cost_taken (is_class c.args.class) want c.args.game.now c.args.part.now (eq-eqb c.args.part.now.class c.args.class c.if-part-class.false))
 
 pub returns-in_err-later-clause-cost : goal.returns-in_err-later-clause-cost
-returns-in_err-later-clause-cost g c =
-    omega (arith, c.after.ensures.cost, cost_taken (is_class c.args.class) c.args.game.now c.args.part.now (eq-eqb c.args.part.now.class c.args.class c.if-part-class.false))
+returns-in_err-later-clause-cost g c = λ want admits.
+    omega (arith, c.after.ensures.cost want admits, cost_taken (is_class c.args.class) want c.args.game.now c.args.part.now (eq-eqb c.args.part.now.class c.args.class c.if-part-class.false))

@@ -1,9 +1,9 @@
-use Rattle.std.proofs.Common.{◌+◌, ◌≤◌}
-use Rattle.cq_shared.specs.Matching.{is_before, costs_if, AreLeft}
+use Rattle.cq_shared.specs.Matching.{is_before, AreLeft}
+use Rattle.cq_shared.specs.Wanted.{TakeAtMost}
 use Rattle.cq_shared.proofs.matching.left_by.Given as goal
 
 abbrev pub invariant-loop-class : goal.invariant-loop-class
 invariant-loop-class g l = record {
   left : AreLeft (is_before l.class) l.game l.parts l.fn.began.items l.left.items;
-  cost : l.steps ≤ l.fn.steps + costs_if (is_before l.class) l.game l.parts;
+  cost : TakeAtMost (is_before l.class) l.game l.parts l.fn.began.items l.fn.steps l.steps;
 }

@@ -1,6 +1,7 @@
-use Rattle.std.proofs.Common.{arith}
+use Rattle.std.proofs.Common.{arith, take}
 use Rattle.cq_shared.specs.Matching.{is_class}
-use Rattle.cq_shared.proofs.After.{left_more, cost_more, narrowed_fewer}
+use Rattle.cq_shared.specs.Wanted.{both}
+use Rattle.cq_shared.proofs.After.{left_more, cost_more, narrowed_fewer, still_admits}
 use Rattle.cq_shared.proofs.Sorting.{rows_more}
 use Rattle.cq_shared.proofs.matching.sorted_by.Goals as goal
 
@@ -16,25 +17,32 @@ loop-k-preserved g c =
       rows = rows_more c.args.game.now c.loop-k.later.items later parts c.loop-k.rows.items c.push.new.self.items k p c.in_ok-sorted.sorted.row c.loop-k-test.true c.index-parts-k.is
           (narrowed_fewer (is_class 5) c.args.game.now p c.loop-k.later.items later c.in_ok-sorted.ensures.left) c.loop-k.invariant.rows c.in_ok-sorted.ensures.row
           c.in_ok-push.ensures.items;
-      cost = omega (arith, c.loop-k.invariant.cost, c.after_sort_if.ensures.cost, cost_more (is_class 5) c.args.game.now parts k p c.loop-k-test.true c.index-parts-k.is);
+      cost = λ want admits. omega (
+        arith,
+        c.loop-k.invariant.cost want admits,
+        c.after_sort_if.ensures.cost want
+            (still_admits (is_class 5) c.args.game.now (take c.loop-k.k c.args.parts.now) c.args.left.items c.loop-k.later.items want c.index-parts-k.result c.loop-k.invariant.left
+            (admits c.loop-k.k c.index-parts-k.result c.loop-k-test.true c.index-parts-k.is)),
+        cost_more (both (is_class 5) want) c.args.game.now c.args.parts.now c.loop-k.k c.index-parts-k.result c.loop-k-test.true c.index-parts-k.is,
+      );
     }
 
 pub returns-in_err-sorted-clause-cost : goal.returns-in_err-sorted-clause-cost
-returns-in_err-sorted-clause-cost g c =
-    omega (
-      arith,
-      c.loop-k.invariant.cost,
-      c.after_sort_if.ensures.cost,
-      cost_more
-          (is_class 5) c.args.game.now c.args.parts.now c.loop-k.k c.index-parts-k.result c.loop-k-test.true c.index-parts-k.is,
-    )
+returns-in_err-sorted-clause-cost g c = λ want admits. omega (
+  arith,
+  c.loop-k.invariant.cost want admits,
+  c.after_sort_if.ensures.cost want
+      (still_admits (is_class 5) c.args.game.now (take c.loop-k.k c.args.parts.now) c.args.left.items c.loop-k.later.items want c.index-parts-k.result c.loop-k.invariant.left
+      (admits c.loop-k.k c.index-parts-k.result c.loop-k-test.true c.index-parts-k.is)),
+  cost_more (both (is_class 5) want) c.args.game.now c.args.parts.now c.loop-k.k c.index-parts-k.result c.loop-k-test.true c.index-parts-k.is,
+)
 
 pub returns-in_err-push-clause-cost : goal.returns-in_err-push-clause-cost
-returns-in_err-push-clause-cost g c =
-    omega (
-      arith,
-      c.loop-k.invariant.cost,
-      c.after_sort_if.ensures.cost,
-      cost_more
-          (is_class 5) c.args.game.now c.args.parts.now c.loop-k.k c.index-parts-k.result c.loop-k-test.true c.index-parts-k.is,
-    )
+returns-in_err-push-clause-cost g c = λ want admits. omega (
+  arith,
+  c.loop-k.invariant.cost want admits,
+  c.after_sort_if.ensures.cost want
+      (still_admits (is_class 5) c.args.game.now (take c.loop-k.k c.args.parts.now) c.args.left.items c.loop-k.later.items want c.index-parts-k.result c.loop-k.invariant.left
+      (admits c.loop-k.k c.index-parts-k.result c.loop-k-test.true c.index-parts-k.is)),
+  cost_more (both (is_class 5) want) c.args.game.now c.args.parts.now c.loop-k.k c.index-parts-k.result c.loop-k-test.true c.index-parts-k.is,
+)

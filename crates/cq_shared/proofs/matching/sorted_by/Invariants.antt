@@ -1,10 +1,13 @@
-use Rattle.std.proofs.Common.{◌+◌, ◌≤◌, take, drop}
+use Rattle.std.proofs.Common.{Bool, ◌+◌, ◌≤◌, take, drop}
 use Rattle.cq_shared.specs.Matching.{is_class, costs_if, AreLeft, HaveRows}
+use Rattle.cq_shared.specs.Wanted.{both, AdmitsAll}
+use Rattle.cq_shared.specs.declared.part.Part.{Part}
 use Rattle.cq_shared.proofs.matching.sorted_by.Given as goal
 
 abbrev pub invariant-loop-k : goal.invariant-loop-k
 invariant-loop-k g l = record {
   left : AreLeft (is_class 5) l.game (take l.k l.parts) l.fn.left.items l.later.items;
   rows : HaveRows l.game l.later.items (take l.k l.parts) l.rows.items;
-  cost : l.steps + costs_if (is_class 5) l.game (drop l.k l.parts) ≤ l.fn.steps + costs_if (is_class 5) l.game l.parts;
+  cost : (want : Part → Bool) → AdmitsAll want l.fn.left.items l.parts
+      → l.steps + costs_if (both (is_class 5) want) l.game (drop l.k l.parts) ≤ l.fn.steps + costs_if (both (is_class 5) want) l.game l.parts;
 }

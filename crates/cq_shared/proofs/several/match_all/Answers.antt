@@ -8,7 +8,7 @@ use Rattle.cq_shared.specs.Verdicts.{nodes_of, keys_of, HaveKeys}
 use Rattle.cq_shared.proofs.After.{all_still_ready}
 use Rattle.cq_shared.proofs.Begun.{begun_ready}
 use Rattle.cq_shared.proofs.Makings.{plan_trees}
-use Rattle.cq_shared.proofs.Whole.{plan_lent, are_found, costs_are, hits_of_all}
+use Rattle.cq_shared.proofs.Whole.{plan_lent, are_found, hits_of_all, first_cost, both_cost, all_cost, asked_cost}
 use Rattle.cq_shared.proofs.several.match_all.Goals as goal
 
 pub left_by-requires : goal.left_by-requires
@@ -43,26 +43,61 @@ returns-clause-keys g c =
     subst (λ qs. IfOk c.found_all.result (λ v. HaveKeys c.args.game.now qs (nodes_of v) (keys_of v))) (ap (map (λ a. asked_query a)) c.as_slice-askers.ensures.value
     ∙ sym (plan_trees c.args.plan.now.askers.items)) c.found_all.ensures.keys
 
+pub returns-clause-asked : goal.returns-clause-asked
+returns-clause-asked g c =
+    let plan = plan_lent c.args.plan.now.parts.items c.as_slice-parts.result.now c.args.plan.now.askers.items c.as_slice-askers.result.now c.as_slice-parts.ensures.value
+    c.as_slice-askers.ensures.value (record { are = c.args.plan.now.askers_are; same = c.args.plan.now.parts_are }) in
+    let cost = both_cost c.args.game.now c.as_slice-parts.result.now c.as_slice-askers.result.now c.in_ok-began.began.items c.in_ok-left.left.items _ _ _
+    plan.are c.in_ok-began.ensures plan.same c.in_ok-left.ensures.left c.left_by.ensures.cost
+    c.sorted_by.ensures.cost in
+    let same = ap (asked_cost c.args.game.now) c.as_slice-askers.ensures.value in
+    omega (arith, cost, same)
+
 pub returns-clause-most : goal.returns-clause-most
 returns-clause-most g c =
     let plan = plan_lent c.args.plan.now.parts.items c.as_slice-parts.result.now c.args.plan.now.askers.items c.as_slice-askers.result.now c.as_slice-parts.ensures.value
     c.as_slice-askers.ensures.value (record { are = c.args.plan.now.askers_are; same = c.args.plan.now.parts_are }) in
-    let cost = costs_are c.args.game.now c.as_slice-parts.result.now c.as_slice-askers.result.now plan.same in
+    let cost = all_cost c.args.game.now c.as_slice-parts.result.now c.as_slice-askers.result.now _ _
+    (both_cost c.args.game.now c.as_slice-parts.result.now c.as_slice-askers.result.now c.in_ok-began.began.items c.in_ok-left.left.items _ _ _
+    plan.are c.in_ok-began.ensures plan.same c.in_ok-left.ensures.left c.left_by.ensures.cost
+    c.sorted_by.ensures.cost) in
     let same = ap (λ xs. plan_cost c.args.game.now (plan_parts (map (λ a. query_of a.plan) xs))) c.as_slice-askers.ensures.value in
-    omega (arith, c.left_by.ensures.cost, c.sorted_by.ensures.cost, cost, same)
+    omega (arith, cost, same)
+
+pub returns-in_err-left-clause-asked : goal.returns-in_err-left-clause-asked
+returns-in_err-left-clause-asked g c =
+    let plan = plan_lent c.args.plan.now.parts.items c.as_slice-parts.result.now c.args.plan.now.askers.items c.as_slice-askers.result.now c.as_slice-parts.ensures.value
+    c.as_slice-askers.ensures.value (record { are = c.args.plan.now.askers_are; same = c.args.plan.now.parts_are }) in
+    let cost = first_cost c.args.game.now c.as_slice-parts.result.now c.as_slice-askers.result.now c.in_ok-began.began.items _ _ plan.are c.in_ok-began.ensures plan.same c.left_by.ensures.cost in
+    let same = ap (asked_cost c.args.game.now) c.as_slice-askers.ensures.value in
+    omega (arith, cost, same)
 
 pub returns-in_err-left-clause-most : goal.returns-in_err-left-clause-most
 returns-in_err-left-clause-most g c =
     let plan = plan_lent c.args.plan.now.parts.items c.as_slice-parts.result.now c.args.plan.now.askers.items c.as_slice-askers.result.now c.as_slice-parts.ensures.value
     c.as_slice-askers.ensures.value (record { are = c.args.plan.now.askers_are; same = c.args.plan.now.parts_are }) in
-    let cost = costs_are c.args.game.now c.as_slice-parts.result.now c.as_slice-askers.result.now plan.same in
+    let cost = all_cost c.args.game.now c.as_slice-parts.result.now c.as_slice-askers.result.now _ _
+    (first_cost c.args.game.now c.as_slice-parts.result.now c.as_slice-askers.result.now c.in_ok-began.began.items _ _ plan.are c.in_ok-began.ensures plan.same c.left_by.ensures.cost) in
     let same = ap (λ xs. plan_cost c.args.game.now (plan_parts (map (λ a. query_of a.plan) xs))) c.as_slice-askers.ensures.value in
-    omega (arith, c.left_by.ensures.cost, cost, same)
+    omega (arith, cost, same)
+
+pub returns-in_err-sorted-clause-asked : goal.returns-in_err-sorted-clause-asked
+returns-in_err-sorted-clause-asked g c =
+    let plan = plan_lent c.args.plan.now.parts.items c.as_slice-parts.result.now c.args.plan.now.askers.items c.as_slice-askers.result.now c.as_slice-parts.ensures.value
+    c.as_slice-askers.ensures.value (record { are = c.args.plan.now.askers_are; same = c.args.plan.now.parts_are }) in
+    let cost = both_cost c.args.game.now c.as_slice-parts.result.now c.as_slice-askers.result.now c.in_ok-began.began.items c.in_ok-left.left.items _ _ _
+    plan.are c.in_ok-began.ensures plan.same c.in_ok-left.ensures.left c.left_by.ensures.cost
+    c.sorted_by.ensures.cost in
+    let same = ap (asked_cost c.args.game.now) c.as_slice-askers.ensures.value in
+    omega (arith, cost, same)
 
 pub returns-in_err-sorted-clause-most : goal.returns-in_err-sorted-clause-most
 returns-in_err-sorted-clause-most g c =
     let plan = plan_lent c.args.plan.now.parts.items c.as_slice-parts.result.now c.args.plan.now.askers.items c.as_slice-askers.result.now c.as_slice-parts.ensures.value
     c.as_slice-askers.ensures.value (record { are = c.args.plan.now.askers_are; same = c.args.plan.now.parts_are }) in
-    let cost = costs_are c.args.game.now c.as_slice-parts.result.now c.as_slice-askers.result.now plan.same in
+    let cost = all_cost c.args.game.now c.as_slice-parts.result.now c.as_slice-askers.result.now _ _
+    (both_cost c.args.game.now c.as_slice-parts.result.now c.as_slice-askers.result.now c.in_ok-began.began.items c.in_ok-left.left.items _ _ _
+    plan.are c.in_ok-began.ensures plan.same c.in_ok-left.ensures.left c.left_by.ensures.cost
+    c.sorted_by.ensures.cost) in
     let same = ap (λ xs. plan_cost c.args.game.now (plan_parts (map (λ a. query_of a.plan) xs))) c.as_slice-askers.ensures.value in
-    omega (arith, c.left_by.ensures.cost, c.sorted_by.ensures.cost, cost, same)
+    omega (arith, cost, same)

@@ -1,16 +1,15 @@
-use Rattle.std.proofs.Common.{◌∙◌, arith, false}
+use Rattle.std.proofs.Common.{false, refl}
 use Rattle.cql_values.specs.Shown.{meant}
 use Rattle.cql_values.specs.declared.value.Value.TheVariants.{Truth}
-use Rattle.cql_eval.proofs.Filling.{filled_more, filled_all, any_default}
+use Rattle.cql_eval.proofs.Filling.{put_none, put_more, put_all}
 use Rattle.cql_eval.proofs.combine.pair_values.Goals as goal
+
+pub loop-n-init : goal.loop-n-init
+loop-n-init c = put_none meant (Truth false) c.args.live.now _ _ _ _ c.in_ok-values.ensures c.asked_end-end.ensures.none c.first_asked-n.ensures.none
 
 pub loop-n-preserved : goal.loop-n-preserved
 loop-n-preserved c =
-    filled_more meant (Truth false) c.args.live.now _ c.loop-n.n c.loop-n.values.items c.push.new.self.items c.pair_value-value.result c.in_ok-push.ensures.items
-    (λ asked. c.pair_value-value.ensures
-    (any_default c.args.live.now c.loop-n.n _ false (omega (arith, c.loop-n-test.true, c.len-n-end.ensures.len, c.requires.asked.count)) ∙ asked))
-    c.loop-n.invariant
+    put_more meant (Truth false) c.args.live.now _ _ c.loop-n.n c.loop-n.values.items _ c.pair_value.result c.loop-n-test.true refl c.pair_value.ensures c.loop-n.invariant
 
 pub returns : goal.returns
-returns c = filled_all meant (Truth false) c.args.live.now _ c.loop-n.n c.loop-n.values.items
-    (omega (arith, c.loop-n-test.false, c.len-n-end.ensures.len, c.requires.asked.count)) c.loop-n.invariant
+returns c = put_all meant (Truth false) c.args.live.now _ _ c.loop-n.n c.loop-n.values.items c.loop-n-test.false c.loop-n.invariant

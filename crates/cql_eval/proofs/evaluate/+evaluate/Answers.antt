@@ -1,7 +1,7 @@
 use Rattle.std.proofs.Common.{◌+◌, rules, map, ◌≡◌, [], ◌∷◌, ◌∙◌, ap, ap₂, sym, subst, arith, refl, length, not, true, false}
-use Rattle.std.specs.Prelude.{option_map, pos, IfOk, ◌<◌}
+use Rattle.std.specs.Prelude.{option_map, pos, IfOk, OnOk, ◌<◌}
 use Rattle.std.specs.List.{list_all, list_any}
-use Rattle.cql_syntax.specs.Meaning.{value, values, unary_of}
+use Rattle.cql_syntax.specs.Meaning.{value, values, unary_of, marked, body_pattern}
 use Rattle.cql_syntax.specs.TreeOf.{filter_tree, form_tree, filters_tree, terms_tree, line_tree, parts_tree, body_tree, played_tree}
 use Rattle.cql_syntax.specs.Trees.{filter_at, unary, square, if_, atom}
 use Rattle.cql_syntax.specs.declared.tree.Line.{out-Line}
@@ -10,10 +10,15 @@ use Rattle.cql_values.specs.Trees.{searched_tree}
 use Rattle.cql_values.proofs.Evaluated.{word_here}
 use Rattle.cql_eval.specs.Columns.{AreAsked, IsColumn, shown}
 use Rattle.cql_eval.proofs.ClassLaw.{left_taken, left_passed, cost_taken, is_left_begun, is_left_then, is_left_same, so_begun, so_more, so_whole, so_none, so_all, so_no, class_left, class_end, truth_left, class_cost_more, class_cost_within, cost_next, cost_later, cost_all}
+use Rattle.std.proofs.Math.Path.{fun_ext}
+use Rattle.cql_eval.specs.Columns.{AreTruths}
+use Rattle.cql_eval.proofs.AttackLaw.{attack_is}
 use Rattle.cql_eval.proofs.Chains.{left_begun, if_open, square_more, square_end, turn_all, turn_stop, unary_form, square_form, if_form}
 use Rattle.cql_eval.specs.Classes.{is_of, is_before, are_so, IsLeft}
 use Rattle.cql_eval.specs.Costs.{filter_cost, parts_atoms, body_atoms}
-use Rattle.cql_eval.specs.LineAtoms.{spot_at}
+use Rattle.cql_eval.specs.LineAtoms.{spot_at, body_numbered}
+use Rattle.cql_eval.specs.SpelledParts.{IsLive, EndsHere}
+use Rattle.cql_eval.proofs.SpelledAlike.{wide_leads_at, wide_ends_at, group_leads_at, leads_at, ends_at, onward_at, not_met, group_ends}
 use Rattle.cql_lines.specs.PatternTrees.{pattern_tree}
 use Rattle.cql_lines.specs.Tables.{atoms_of}
 use Rattle.cql_lines.specs.Trees.{spots_of}
@@ -25,7 +30,7 @@ use Rattle.cql_eval.proofs.Lives.{none_live}
 use Rattle.cql_eval.proofs.Wanting.{wanted_same, wanted_kept, turn_skip}
 use Rattle.cql_eval.proofs.FindLaw.{find_is}
 use Rattle.cql_eval.proofs.FlatLaw.{filter_flat, term_flat, no_family}
-use Rattle.cql_eval.proofs.LinesLaw.{few_atoms, few_places, atoms_below, table_begun, table_more, table_all, filled_all, at_all, atom_tabled, atom_form, line_flat, numbers_are, parts_cost_more, parts_cost_within, atoms_within, looks_in}
+use Rattle.cql_eval.proofs.LinesLaw.{few_atoms, few_places, atoms_below, table_begun, table_more, table_all, ends_all, filled_all, at_all, atom_tabled, atom_leads, atom_ends, none_onward, none_leads, none_ends, atom_form, leads_form, ends_form, group_tabled, group_never, never_form, atom_never, not_some, if_ok_map, no_line, line_flat, numbers_are, parts_cost_more, parts_cost_within, atoms_within, looks_in}
 use Rattle.cql_eval.proofs.UnaryLaws.{find_up_is, child_holds_is, parent_holds_is}
 use Rattle.cql_eval.proofs.FormLaws.{chain_form, any_form}
 use Rattle.cql_eval.proofs.MoveLaw.{move_is, part_is, no_part_is}
@@ -180,16 +185,23 @@ squares::square_truths-returns-clause-value g t c = λ n l.
     c.loop-number.number c.loop-number.left.items c.in_ok-truths.truths.items
     (omega (arith, c.loop-number-test.false, c.loop-number.auto.number-end)) c.requires.asked c.loop-number.invariant.left c.in_ok-truths.ensures n l
 
+pub squares::square_truths-returns-in-Some-clause-value : goal.squares::square_truths-returns-in-Some-clause-value
+squares::square_truths-returns-in-Some-clause-value g t c =
+    subst (λ v. IfOk c.attack_truths.result (λ truths. AreTruths truths.items c.args.live.now v))
+    (fun_ext (λ n. attack_is (searched_tree c.args.game.now c.args.variations) c.args.names.now c.args.name.now c.in-Some.d.now c.args.every
+    (shown c.args.squares.now n) (filter_tree c.args.asked.now) n c.in-Some.ensures.some c.in-Some.ensures.each))
+    c.attack_truths.ensures
+
 pub squares::square_turn-returns-clause-value : goal.squares::square_turn-returns-clause-value
 squares::square_turn-returns-clause-value g t c =
     turn_all (searched_tree c.args.game.now c.args.variations) c.args.every (shown c.args.squares.now)
     (value (searched_tree c.args.game.now c.args.variations) [] ((c.args.name.now, c.args.square) ∷ c.args.names.now)
     (filter_tree c.args.asked.now)) c.args.square c.args.left.items c.in_ok-there.there.items
-    c.deref.result.now c.deref-3.result.now c.deref-4.result.now c.deref-5.result.now c.in_ok-later.later.items c.in_ok-column.column
-    c.deref.ensures.value c.deref-3.ensures.value c.deref-4.ensures.value c.deref-5.ensures.value c.in_ok-there.ensures
+    c.deref.result.now c.deref-3.result.now c.args.left.items c.deref-4.result.now c.unsettled-later.result.items c.in_ok-column.column
+    c.deref.ensures.value c.deref-3.ensures.value refl c.deref-4.ensures.value c.in_ok-there.ensures
     (subst (λ e. IsColumn c.in_ok-column.column c.deref-3.result.now
     (value (searched_tree c.args.game.now c.args.variations) [] e
-    (filter_tree c.args.asked.now))) c.in_ok-inner.ensures c.in_ok-column.ensures.value) c.in_ok-later.ensures
+    (filter_tree c.args.asked.now))) c.in_ok-inner.ensures c.in_ok-column.ensures.value) c.unsettled-later.ensures
 
 pub squares::square_turn-returns-then-not-any_live-clause-value : goal.squares::square_turn-returns-then-not-any_live-clause-value
 squares::square_turn-returns-then-not-any_live-clause-value g t c =
@@ -324,50 +336,64 @@ chains::terms_of-returns-in_err-column-clause-cost g t c =
 -- lines
 
 pub lines::put_parts-loop-part-init : goal.lines::put_parts-loop-part-init
-lines::put_parts-loop-part-init g t c = record {
-  table = table_begun (searched_tree c.args.game.now c.args.variations) c.args.names.now c.args.first c.as_slice-part-items.result.now _;
-  cost = omega arith;
-  rises = omega arith;
-  flat = λ i k h e. part_flat c.as_slice-part-items.result.now i k (parts_tree c.args.parts.now) h e c.as_slice-part-items.ensures.tree c.requires.flat;
-  room = λ k h e. part_room (searched_tree c.args.game.now c.args.variations) c.args.names.now c.args.first c.as_slice-part-items.result.now 0 k c.args.first
-      (length c.args.game.now.nodes) _ _ (parts_tree c.args.parts.now)
-      (table_begun (searched_tree c.args.game.now c.args.variations) c.args.names.now c.args.first c.as_slice-part-items.result.now _) h e c.as_slice-part-items.ensures.tree c.requires.room;
-}
+lines::put_parts-loop-part-init g t c =
+    let begun = table_begun (searched_tree c.args.game.now c.args.variations) c.args.back c.args.names.now c.args.first c.as_slice-part-items.result.now c.args.live.now c.in_ok-starts.starts.items _ _
+    c.requires.asked c.in_ok-starts.ensures in
+    record {
+      table = begun;
+      asked = begun.asked;
+      cost = omega arith;
+      rises = omega arith;
+      flat = λ i k h e. part_flat c.as_slice-part-items.result.now i k (parts_tree c.args.parts.now) h e c.as_slice-part-items.ensures.tree c.requires.flat;
+      room = λ k h e. part_room (searched_tree c.args.game.now c.args.variations) c.args.back c.args.names.now c.args.first c.as_slice-part-items.result.now 0 k c.args.first
+          (length c.args.game.now.nodes) c.args.live.now c.in_ok-starts.starts.items _ _ _ _ (parts_tree c.args.parts.now) begun h e c.as_slice-part-items.ensures.tree c.requires.room;
+    }
 
 pub lines::put_parts-loop-part-preserved : goal.lines::put_parts-loop-part-preserved
 lines::put_parts-loop-part-preserved g t c =
-    let more = table_more (searched_tree c.args.game.now c.args.variations) c.args.names.now c.args.first c.as_slice-part-items.result.now c.loop-part.part-index c.part-item.result
-    c.loop-part.at c.in_ok-at.at _ c.loop-part.table c.put_body.new.table c.loop-part-test.true c.part-item.is
-    c.in_ok-at.ensures.next c.in_ok-at.ensures.value c.in_ok-at.ensures.others c.loop-part.invariant.table in
+    let more = table_more (searched_tree c.args.game.now c.args.variations) c.args.back c.args.names.now c.args.first c.as_slice-part-items.result.now c.loop-part.part-index c.part-item.result
+    c.loop-part.at c.in_ok-at.at c.args.live.now c.loop-part.starts.items c.put_part.new.starts.items _ c.loop-part.met c.put_part.new.met _ c.loop-part.table c.put_part.new.table
+    c.loop-part-test.true c.part-item.is c.in_ok-at.ensures.next c.in_ok-at.ensures.leads c.in_ok-at.ensures.ends c.in_ok-at.ensures.others c.loop-part.invariant.table in
     record {
       table = more;
+      asked = more.asked;
       cost = parts_cost_more (length c.args.game.now.nodes) c.as_slice-part-items.result.now c.loop-part.part-index c.part-item.result _ c.loop-part.steps
-          c.put_body.new.steps c.loop-part-test.true c.part-item.is c.loop-part.invariant.cost c.put_body.ensures.cost;
-      rises = omega (arith, c.loop-part.invariant.rises, c.put_body.ensures.rises);
+          c.put_part.new.steps c.loop-part-test.true c.part-item.is c.loop-part.invariant.cost c.put_part.ensures.cost;
+      rises = omega (arith, c.loop-part.invariant.rises, c.put_part.ensures.rises);
       flat = c.loop-part.invariant.flat;
-      room = λ k h e. part_room (searched_tree c.args.game.now c.args.variations) c.args.names.now c.args.first c.as_slice-part-items.result.now (c.loop-part.part-index + 1) k
-          c.in_ok-at.at (length c.args.game.now.nodes) _ c.put_body.new.table (parts_tree c.args.parts.now) more h e c.as_slice-part-items.ensures.tree c.requires.room;
+      room = λ k h e. part_room (searched_tree c.args.game.now c.args.variations) c.args.back c.args.names.now c.args.first c.as_slice-part-items.result.now (c.loop-part.part-index + 1) k
+          c.in_ok-at.at (length c.args.game.now.nodes) c.args.live.now c.put_part.new.starts.items _ c.put_part.new.met _ c.put_part.new.table (parts_tree c.args.parts.now)
+          more h e c.as_slice-part-items.ensures.tree c.requires.room;
     }
 
 pub lines::put_parts-returns-clause-next : goal.lines::put_parts-returns-clause-next
 lines::put_parts-returns-clause-next g t c =
-    at_all (searched_tree c.args.game.now c.args.variations) c.args.names.now c.args.first c.as_slice-part-items.result.now c.loop-part.part-index c.loop-part.at _ c.loop-part.table
-    (parts_tree c.args.parts.now) (omega (arith, c.loop-part-test.false)) c.as_slice-part-items.ensures.tree c.loop-part.invariant.table
+    at_all (searched_tree c.args.game.now c.args.variations) c.args.back c.args.names.now c.args.first c.as_slice-part-items.result.now c.loop-part.part-index
+    c.loop-part.at c.args.live.now c.loop-part.starts.items _ c.loop-part.met
+    _ c.loop-part.table (parts_tree c.args.parts.now) (omega (arith, c.loop-part-test.false)) c.as_slice-part-items.ensures.tree c.loop-part.invariant.table
 
 pub lines::put_parts-returns-clause-value : goal.lines::put_parts-returns-clause-value
 lines::put_parts-returns-clause-value g t c =
-    table_all (searched_tree c.args.game.now c.args.variations) c.args.names.now c.args.first c.as_slice-part-items.result.now c.loop-part.part-index c.loop-part.at _ c.loop-part.table
-    (parts_tree c.args.parts.now) (omega (arith, c.loop-part-test.false)) c.as_slice-part-items.ensures.tree c.loop-part.invariant.table
+    table_all (searched_tree c.args.game.now c.args.variations) c.args.back c.args.names.now c.args.first c.as_slice-part-items.result.now c.loop-part.part-index
+    c.loop-part.at c.args.live.now c.loop-part.starts.items _ c.loop-part.met
+    _ c.loop-part.table (parts_tree c.args.parts.now) (omega (arith, c.loop-part-test.false)) c.as_slice-part-items.ensures.tree c.loop-part.invariant.table
+
+pub lines::put_parts-returns-clause-never : goal.lines::put_parts-returns-clause-never
+lines::put_parts-returns-clause-never g t c =
+    ends_all (searched_tree c.args.game.now c.args.variations) c.args.back c.args.names.now c.args.first c.as_slice-part-items.result.now c.loop-part.part-index
+    c.loop-part.at c.args.live.now c.loop-part.starts.items _ c.loop-part.met
+    _ c.loop-part.table (parts_tree c.args.parts.now) (omega (arith, c.loop-part-test.false)) c.as_slice-part-items.ensures.tree c.loop-part.invariant.table
 
 pub lines::put_parts-returns-clause-others : goal.lines::put_parts-returns-clause-others
 lines::put_parts-returns-clause-others g t c =
-    filled_all (searched_tree c.args.game.now c.args.variations) c.args.names.now c.args.first c.as_slice-part-items.result.now c.loop-part.part-index c.loop-part.at _ c.loop-part.table
-    (parts_tree c.args.parts.now) (omega (arith, c.loop-part-test.false)) c.as_slice-part-items.ensures.tree c.loop-part.invariant.table
+    filled_all (searched_tree c.args.game.now c.args.variations) c.args.back c.args.names.now c.args.first c.as_slice-part-items.result.now c.loop-part.part-index
+    c.loop-part.at c.args.live.now c.loop-part.starts.items _ c.loop-part.met
+    _ c.loop-part.table (parts_tree c.args.parts.now) (omega (arith, c.loop-part-test.false)) c.as_slice-part-items.ensures.tree c.loop-part.invariant.table
 
 pub lines::put_parts-returns-in_err-at-clause-cost : goal.lines::put_parts-returns-in_err-at-clause-cost
 lines::put_parts-returns-in_err-at-clause-cost g t c =
     parts_cost_within (length c.args.game.now.nodes) c.as_slice-part-items.result.now c.loop-part.part-index c.part-item.result _ c.loop-part.steps
-    c.put_body.new.steps (parts_tree c.args.parts.now) c.loop-part-test.true c.part-item.is c.loop-part.invariant.cost c.put_body.ensures.cost
+    c.put_part.new.steps (parts_tree c.args.parts.now) c.loop-part-test.true c.part-item.is c.loop-part.invariant.cost c.put_part.ensures.cost
     c.as_slice-part-items.ensures.tree
 
 pub lines::put_body-put_column-requires-clause-atom : goal.lines::put_body-put_column-requires-clause-atom
@@ -379,13 +405,105 @@ lines::put_body-put_column-requires-clause-atom g t c =
 pub lines::put_body-put_column-requires-clause-clear : goal.lines::put_body-put_column-requires-clause-clear
 lines::put_body-put_column-requires-clause-clear g t c = λ n. c.requires.room.clear c.args.first n (omega arith)
 
-pub lines::put_body-returns-in_ok-column-in-Atom-clause-value : goal.lines::put_body-returns-in_ok-column-in-Atom-clause-value
-lines::put_body-returns-in_ok-column-in-Atom-clause-value g t c =
-    atom_form (searched_tree c.args.game.now c.args.variations) c.args.names.now c.put_column.new.table c.args.first (body_tree c.args.body.now) (filter_tree c.deref.result.now)
+pub lines::put_body-returns-in_ok-held-in-Atom-clause-value : goal.lines::put_body-returns-in_ok-held-in-Atom-clause-value
+lines::put_body-returns-in_ok-held-in-Atom-clause-value g t c =
+    atom_form (searched_tree c.args.game.now c.args.variations) c.args.back c.args.names.now
+    (IsLive c.args.live.now) c.put_column.new.table c.args.first (body_tree c.args.body.now) (filter_tree c.deref.result.now)
     (ap body_tree c.in-Atom.is ∙ ap (λ p. atom (filter_tree p)) (sym c.deref.ensures))
-    (atom_tabled (searched_tree c.args.game.now c.args.variations) c.put_column.new.table c.args.first c.in_ok-column-in-Atom.column
-    (value (searched_tree c.args.game.now c.args.variations) [] c.args.names.now (filter_tree c.deref.result.now)) c.args.all.now c.args.all.now c.requires.all refl
+    (atom_tabled (searched_tree c.args.game.now c.args.variations) c.args.back c.put_column.new.table c.args.first c.in_ok-column-in-Atom.column
+    (value (searched_tree c.args.game.now c.args.variations) [] c.args.names.now (filter_tree c.deref.result.now)) c.args.live.now c.requires.asked
     c.in_ok-column-in-Atom.ensures.value c.put_column.ensures.put)
+
+pub lines::put_body-returns-in_ok-held-in-Atom-clause-never : goal.lines::put_body-returns-in_ok-held-in-Atom-clause-never
+lines::put_body-returns-in_ok-held-in-Atom-clause-never g t c =
+    λ b m. never_form (searched_tree c.args.game.now c.args.variations) c.args.back c.args.names.now (IsLive c.args.live.now)
+    (body_tree c.args.body.now) (filter_tree c.deref.result.now) (ap body_tree c.in-Atom.is ∙ ap (λ p. atom (filter_tree p)) (sym c.deref.ensures))
+    (atom_never (searched_tree c.args.game.now c.args.variations) c.args.back c.put_column.new.table c.args.first c.in_ok-column-in-Atom.column
+    (value (searched_tree c.args.game.now c.args.variations) [] c.args.names.now (filter_tree c.deref.result.now)) c.args.live.now c.requires.asked
+    c.in_ok-column-in-Atom.ensures.value c.put_column.ensures.put c.in_ok-held-in-Atom.held.items c.in_ok-held-in-Atom.ensures
+    (ap (list_any (λ x. x)) (sym c.deref-in-Atom.ensures.value) ∙ sym c.any_live-some.ensures ∙ not_some _ _ b (sym c.both.ensures ∙ m)))
+
+pub lines::put_marked-returns-clause-leads : goal.lines::put_marked-returns-clause-leads
+lines::put_marked-returns-clause-leads g t c =
+    wide_leads_at (searched_tree c.args.game.now c.args.variations) c.requires.tree c.args.back c.args.starts.now.items c.deref.result.now c.in_ok-wide.wide.items
+    c.deref-2.result.now c.deref.ensures.value c.deref-2.ensures.value
+    c.requires.asked c.in_ok-wide.ensures c.put_body.new.table (c.args.first + body_atoms (body_tree c.args.part.now.body)) (body_numbered c.args.first (body_tree c.args.part.now.body))
+    (body_pattern (searched_tree c.args.game.now c.args.variations) [] c.args.names.now (body_tree c.args.part.now.body)) c.args.part.now.mark c.in_ok-next.ensures.value
+
+pub lines::put_marked-returns-clause-ends : goal.lines::put_marked-returns-clause-ends
+lines::put_marked-returns-clause-ends g t c =
+    λ b m. let parts = not_met _ _ _ b (sym c.goes_on.ensures ∙ m) in
+    wide_ends_at (searched_tree c.args.game.now c.args.variations) c.requires.tree c.args.back c.args.starts.now.items c.deref.result.now c.in_ok-wide.wide.items
+    c.deref-2.result.now c.deref.ensures.value c.deref-2.ensures.value
+    c.requires.asked c.in_ok-wide.ensures c.put_body.new.table (c.args.first + body_atoms (body_tree c.args.part.now.body)) (body_numbered c.args.first (body_tree c.args.part.now.body))
+    (body_pattern (searched_tree c.args.game.now c.args.variations) [] c.args.names.now (body_tree c.args.part.now.body)) c.args.part.now.mark
+    (sym c.is_needed-needed.ensures ∙ parts.1) (c.in_ok-next.ensures.never refl parts.0)
+
+pub lines::put_once-returns-in_ok-behind-in-Atom-clause-leads : goal.lines::put_once-returns-in_ok-behind-in-Atom-clause-leads
+lines::put_once-returns-in_ok-behind-in-Atom-clause-leads g t c =
+    leads_at (searched_tree c.args.game.now c.args.variations) c.args.back c.args.starts.now.items c.deref-in-Atom.result.now c.in_ok-behind-in-Atom.behind.items
+    c.deref-in-Atom.ensures.value c.put_atom.new.table (c.args.first + body_atoms (body_tree c.args.body.now)) (body_numbered c.args.first (body_tree c.args.body.now))
+    (body_pattern (searched_tree c.args.game.now c.args.variations) [] c.args.names.now (body_tree c.args.body.now))
+    (leads_form (searched_tree c.args.game.now c.args.variations) c.args.back c.args.names.now c.deref-in-Atom.result.now c.in_ok-behind-in-Atom.behind.items
+    c.put_atom.new.table c.args.first (body_tree c.args.body.now) (filter_tree c.deref.result.now)
+    (ap body_tree c.in-Atom.is ∙ ap (λ p. atom (filter_tree p)) (sym c.deref.ensures)) c.in_ok-behind-in-Atom.ensures.leads)
+
+pub lines::put_once-returns-in_ok-behind-in-Atom-clause-ends : goal.lines::put_once-returns-in_ok-behind-in-Atom-clause-ends
+lines::put_once-returns-in_ok-behind-in-Atom-clause-ends g t c =
+    λ b m. ends_at (searched_tree c.args.game.now c.args.variations) c.args.back c.args.starts.now.items c.deref-in-Atom.result.now c.deref-in-Atom.ensures.value
+    (body_pattern (searched_tree c.args.game.now c.args.variations) [] c.args.names.now (body_tree c.args.body.now))
+    (ends_form (searched_tree c.args.game.now c.args.variations) c.args.back c.args.names.now c.deref-in-Atom.result.now (body_tree c.args.body.now) (filter_tree c.deref.result.now)
+    (ap body_tree c.in-Atom.is ∙ ap (λ p. atom (filter_tree p)) (sym c.deref.ensures)) (c.in_ok-behind-in-Atom.ensures.ends b m))
+
+pub lines::put_once-returns-in_ok-starts-in-Group-clause-leads : goal.lines::put_once-returns-in_ok-starts-in-Group-clause-leads
+lines::put_once-returns-in_ok-starts-in-Group-clause-leads g t c =
+    group_leads_at (searched_tree c.args.game.now c.args.variations) c.requires.tree c.args.back c.args.starts.now.items c.deref-in-Group-2.result.now
+    c.in_ok-starts-in-Group.field-0.items c.deref-in-Group.result.now
+    c.deref-in-Group-2.ensures.value c.deref-in-Group.ensures.value c.requires.asked c.in_ok-starts-in-Group.ensures c.put_parts.new.table
+    (c.args.first + body_atoms (body_tree c.args.body.now)) (body_numbered c.args.first (body_tree c.args.body.now))
+    (body_pattern (searched_tree c.args.game.now c.args.variations) [] c.args.names.now (body_tree c.args.body.now))
+    (group_tabled (searched_tree c.args.game.now c.args.variations) c.args.back c.args.names.now
+    (IsLive c.deref-in-Group.result.now) c.put_parts.new.table c.args.first (body_tree c.args.body.now) (parts_tree c.in-Group.parts)
+    (ap body_tree c.in-Group.is) c.in_ok-next-in-Group.ensures.value)
+
+pub lines::put_once-returns-in_ok-starts-in-Group-clause-ends : goal.lines::put_once-returns-in_ok-starts-in-Group-clause-ends
+lines::put_once-returns-in_ok-starts-in-Group-clause-ends g t c =
+    λ b m. ends_at (searched_tree c.args.game.now c.args.variations) c.args.back c.args.starts.now.items c.deref-in-Group.result.now c.deref-in-Group.ensures.value
+    (body_pattern (searched_tree c.args.game.now c.args.variations) [] c.args.names.now (body_tree c.args.body.now))
+    (group_ends (searched_tree c.args.game.now c.args.variations) c.requires.tree c.args.back c.deref-in-Group.result.now
+    (body_pattern (searched_tree c.args.game.now c.args.variations) [] c.args.names.now (body_tree c.args.body.now))
+    (group_never (searched_tree c.args.game.now c.args.variations) c.args.back c.args.names.now (IsLive c.deref-in-Group.result.now)
+    (body_tree c.args.body.now) (parts_tree c.in-Group.parts) (ap body_tree c.in-Group.is)
+    (c.in_ok-next-in-Group.ensures.never b m)))
+
+pub lines::put_part-returns-in-Once-clause-ends : goal.lines::put_part-returns-in-Once-clause-ends
+lines::put_part-returns-in-Once-clause-ends g t c =
+    subst (λ m. OnOk c.put_once.result (c.args.met.now ≡ true → c.put_once.new.met ≡ false → EndsHere (searched_tree c.args.game.now c.args.variations) c.args.back c.args.starts.now.items
+    (marked m (body_pattern (searched_tree c.args.game.now c.args.variations) [] c.args.names.now (body_tree c.args.part.now.body))))) (sym c.in-Once.is) c.put_once.ensures.ends
+
+pub lines::put_atom-returns-clause-leads : goal.lines::put_atom-returns-clause-leads
+lines::put_atom-returns-clause-leads g t c =
+    atom_leads (searched_tree c.args.game.now c.args.variations) c.args.back c.put_column.new.table c.args.first c.in_ok-column.column
+    (value (searched_tree c.args.game.now c.args.variations) [] c.args.names.now (filter_tree c.args.filter.now))
+    c.args.live.now c.requires.asked c.in_ok-column.ensures.value c.put_column.ensures.put c.in_ok-held.held.items c.in_ok-held.ensures c.in_ok-behind.behind.items
+    (onward_at (searched_tree c.args.game.now c.args.variations) c.args.back c.in_ok-held.held.items c.deref-2.result.now c.in_ok-behind.behind.items c.deref-2.ensures.value c.in_ok-behind.ensures)
+
+pub lines::line_numbers-returns-then-not-met-clause-value : goal.lines::line_numbers-returns-then-not-met-clause-value
+lines::line_numbers-returns-then-not-met-clause-value g t c =
+    if_ok_map c.no_numbers.result _ _
+    (λ numbers is n l. no_line (searched_tree c.args.game.now c.args.variations) c.requires.tree c.args.names.now c.args.line.now numbers.items (length c.args.game.now.nodes) is
+    (c.in_ok-table.ensures.never refl c.if-not-met.true) n
+    (c.requires.asked.searched n l, let inside = live_below c.args.live.now n l in omega (arith, inside, c.requires.asked.count))) c.no_numbers.ensures
+
+pub lines::line_numbers-returns-then-not-met-clause-cost : goal.lines::line_numbers-returns-then-not-met-clause-cost
+lines::line_numbers-returns-then-not-met-clause-cost g t c =
+    atoms_within (length c.args.game.now.nodes) c.args.line.now _ c.filled_table.new.steps c.filled_table.ensures.cost
+
+pub lines::put_atom-put_column-requires-clause-atom : goal.lines::put_atom-put_column-requires-clause-atom
+lines::put_atom-put_column-requires-clause-atom g t c = omega (arith, c.requires.room.atoms)
+
+pub lines::put_atom-put_column-requires-clause-clear : goal.lines::put_atom-put_column-requires-clause-clear
+lines::put_atom-put_column-requires-clause-clear g t c = λ n. c.requires.room.clear c.args.first n (omega arith)
 
 pub lines::line_numbers-parts_pattern-requires : goal.lines::line_numbers-parts_pattern-requires
 lines::line_numbers-parts_pattern-requires g t c = omega (arith, few_atoms _ (line_flat c.args.line.now c.requires.flat).0)

@@ -5,7 +5,7 @@ use Rattle.cql_syntax.specs.Values.{holds}
 use Rattle.cql_values.specs.Trees.{searched_tree}
 use Rattle.cql_eval.specs.Asked.{AreWanted}
 use Rattle.cql_eval.specs.Classes.{is_of, is_before, are_so, cost_of, IsLeft}
-use Rattle.cql_eval.specs.Columns.{Where, shown, all_shown, terms_shown}
+use Rattle.cql_eval.specs.Columns.{AreAsked, Where, shown, all_shown, terms_shown}
 use Rattle.cql_eval.specs.Costs.{filter_cost, filters_cost, terms_cost, parts_cost, body_atoms}
 use Rattle.cql_eval.specs.FlatTrees.{IsFlat, IsFlatBody}
 use Rattle.cql_eval.specs.LineAtoms.{HasRoom}
@@ -67,7 +67,8 @@ invariant-squares::square_truths-loop-number g l = record {
 
 abbrev pub invariant-lines::put_parts-loop-part : goal.invariant-lines::put_parts-loop-part
 invariant-lines::put_parts-loop-part g l = record {
-  table : TableSoFar (searched_tree l.game l.variations) l.names l.first l.part-items l.part-index l.at l.fn.table l.table;
+  table : TableSoFar (searched_tree l.game l.variations) l.back l.names l.first l.part-items l.part-index l.at l.live l.starts.items l.fn.met l.met l.fn.table l.table;
+  asked : AreAsked (searched_tree l.game l.variations) l.starts.items;
   cost : l.steps + parts_cost (length l.game.nodes) (part_trees (drop l.part-index l.part-items))
       ≤ l.fn.steps + parts_cost (length l.game.nodes) (part_trees l.part-items);
   rises : l.fn.steps ≤ l.steps;

@@ -1,93 +1,24 @@
-use Rattle.std.proofs.Common.{rules, ap, map, arith, length, ◌∙◌, ◌+◌}
-use Rattle.cq_position.specs.Search.{nodes_in}
-use Rattle.cql_syntax.specs.TreeOf.{filter_tree, filters_tree}
+use Rattle.std.proofs.Common.{sym, subst}
+use Rattle.cql_syntax.specs.Hits.{is_hit}
+use Rattle.cql_syntax.specs.TreeOf.{filters_tree}
 use Rattle.cql_values.specs.Trees.{searched_tree}
-use Rattle.cql_eval.specs.Classes.{is_of, is_before, cost_of}
-use Rattle.cql_eval.proofs.ClassLaw.{class_cost_more, class_cost_within, cost_later, cost_all}
-use Rattle.cql_eval.proofs.FlatLaw.{items_flat, filter_flat}
-use Rattle.cql_eval.proofs.HitsLaw.{all_asked, hits_are, rows_begun, rows_more, rows_all}
-use Rattle.cql_eval.proofs.SortsLaw.{sorted_begun, sorted_more, sorted_within, sorted_items, sorted_cost}
+use Rattle.cql_eval.specs.Classes.{IsLeft}
+use Rattle.cql_eval.specs.Columns.{AreAsked}
+use Rattle.cql_eval.specs.Hits.{hits_of}
+use Rattle.cql_eval.proofs.HitsLaw.{all_asked, hits_whole}
 use Rattle.cql_eval.proofs.query.hit_columns.Goals as goal
 
-pub loop-item-init : goal.loop-item-init
-loop-item-init g c = record {
-  items = sorted_begun (searched_tree c.args.game.now c.args.query.now.variations) c.in_ok-all.all.items c.deref.result.now c.in_ok-left.left.items _
-      (filters_tree c.args.query.now.items) c.as_slice-item-items.result.now (search rules) (search rules) c.in_ok-left.ensures.left;
-  keys = rows_begun (searched_tree c.args.game.now c.args.query.now.variations) c.as_slice-item-items.result.now c.in_ok-left.left.items (map (λ row. row.items) c.new-keys.result.items)
-      (ap (map (λ row. row.items)) c.new-keys.ensures.items);
-  most = omega (arith, c.searched_nodes.ensures.most, c.left_by.ensures.cost);
-  least = omega (arith, c.in_ok-all.ensures.exact, c.left_by.ensures.rises);
-}
-
-pub loop-item-preserved : goal.loop-item-preserved
-loop-item-preserved g c = record {
-  items = sorted_more (searched_tree c.args.game.now c.args.query.now.variations) c.in_ok-all.all.items c.loop-item.left.items c.deref_mut.result.now c.sort_by.new.left
-      (filters_tree c.args.query.now.items) c.as_slice-item-items.result.now c.loop-item.item-index c.item-item.result
-      c.loop-item.left.len c.loop-item-test.true c.item-item.is (omega (arith, c.sort_by.ensures.len, c.deref_mut.ensures.len)) c.deref_mut.ensures.value
-      c.loop-item.invariant.items c.in_ok-sort_by.ensures.left;
-  keys = rows_more
-      (searched_tree c.args.game.now c.args.query.now.variations) c.as_slice-item-items.result.now c.loop-item.item-index c.item-item.result c.loop-item.left.items c.deref_mut.result.now _
-      (map (λ row. row.items) c.loop-item.keys.items) (map (λ row. row.items) c.sort_by.new.keys.items) c.loop-item-test.true c.item-item.is
-      c.deref_mut.ensures.value c.loop-item.invariant.items.asked
-      (sorted_within (searched_tree c.args.game.now c.args.query.now.variations) c.loop-item.left.items c.deref_mut.result.now c.sort_by.new.left _ c.loop-item.left.len
-      (omega (arith, c.sort_by.ensures.len, c.deref_mut.ensures.len)) c.deref_mut.ensures.value
-      c.in_ok-sort_by.ensures.left)
-      c.in_ok-sort_by.ensures.keys c.loop-item.invariant.keys;
-  most = class_cost_more (is_of 5) (length c.args.game.now.nodes) c.as_slice-item-items.result.now c.loop-item.item-index c.item-item.result _ c.loop-item.steps c.sort_by.new.steps
-      c.loop-item-test.true c.item-item.is c.loop-item.invariant.most c.sort_by.ensures.cost;
-  least = omega (arith, c.loop-item.invariant.least, c.sort_by.ensures.rises);
-}
-
-pub left_by-requires-clause-asked : goal.left_by-requires-clause-asked
-left_by-requires-clause-asked g c = search (rules, all_asked (searched_tree c.args.game.now c.args.query.now.variations) c.in_ok-all.all.items c.in_ok-all.ensures.nodes)
-
-pub left_by-requires-clause-flat : goal.left_by-requires-clause-flat
-left_by-requires-clause-flat g c = items_flat (filters_tree c.args.query.now.items) c.args.query.now.flat c.args.query.now.accepted
-
-pub sort_by-requires-clause-flat : goal.sort_by-requires-clause-flat
-sort_by-requires-clause-flat g c =
-    filter_flat c.as_slice-item-items.result.now c.loop-item.item-index c.item-item.result (filters_tree c.args.query.now.items) c.loop-item-test.true c.item-item.is
-    c.as_slice-item-items.ensures.tree (items_flat (filters_tree c.args.query.now.items) c.args.query.now.flat c.args.query.now.accepted)
-
-pub returns-in_err-sort_by-clause-most : goal.returns-in_err-sort_by-clause-most
-returns-in_err-sort_by-clause-most g c =
-    let within = class_cost_within (is_of 5) (length c.args.game.now.nodes) c.as_slice-item-items.result.now c.loop-item.item-index c.item-item.result _ c.loop-item.steps
-    c.sort_by.new.steps (filters_tree c.args.query.now.items) c.loop-item-test.true c.item-item.is c.loop-item.invariant.most
-    c.sort_by.ensures.cost c.as_slice-item-items.ensures.tree in
-    omega (
-      arith,
-      within,
-      sorted_cost (length c.args.game.now.nodes) c.as_slice-item-items.result.now
-          (filters_tree c.args.query.now.items) c.as_slice-item-items.ensures.tree,
-      ap
-          (cost_of (is_of 5) (length c.args.game.now.nodes)) c.as_slice-item-items.ensures.tree,
-    )
+pub columns_of-requires : goal.columns_of-requires
+columns_of-requires g c =
+    let tree = searched_tree c.args.game.now c.args.query.now.variations in
+    subst (AreAsked tree) (sym c.deref.ensures.value) (all_asked tree c.in_ok-all.all.items c.in_ok-all.ensures.nodes)
 
 pub returns-clause-hits : goal.returns-clause-hits
 returns-clause-hits g c =
-    hits_are (searched_tree c.args.game.now c.args.query.now.variations) c.in_ok-all.all.items c.loop-item.left.items c.as_slice-item-items.result.now c.loop-item.item-index
-    (filters_tree c.args.query.now.items)
-    c.in_ok-all.ensures.nodes (omega (arith, c.loop-item-test.false)) c.as_slice-item-items.ensures.tree
-    (sorted_items (searched_tree c.args.game.now c.args.query.now.variations) c.in_ok-all.all.items c.loop-item.left.items
-    (filters_tree c.args.query.now.items) c.as_slice-item-items.result.now c.loop-item.item-index
-    (omega (arith, c.loop-item-test.false)) c.as_slice-item-items.ensures.tree c.loop-item.invariant.items)
+    let tree = searched_tree c.args.game.now c.args.query.now.variations in
+    let items = filters_tree c.args.query.now.items in
+    hits_whole tree c.in_ok-all.all.items (hits_of c.in_ok-column.column) items c.in_ok-all.ensures.nodes
+    (subst (λ l. IsLeft tree l (is_hit tree items) (hits_of c.in_ok-column.column)) c.deref.ensures.value c.in_ok-column.ensures.left)
 
-pub returns-clause-keys : goal.returns-clause-keys
-returns-clause-keys g c =
-    rows_all (searched_tree c.args.game.now c.args.query.now.variations) c.as_slice-item-items.result.now c.loop-item.item-index (filters_tree c.args.query.now.items) c.loop-item.left.items
-    (map (λ row. row.items) c.loop-item.keys.items) (omega (arith, c.loop-item-test.false)) c.as_slice-item-items.ensures.tree c.loop-item.invariant.keys
-
-pub returns-clause-most : goal.returns-clause-most
-returns-clause-most g c =
-    omega (arith, c.loop-item.invariant.most, sorted_cost (length c.args.game.now.nodes) c.as_slice-item-items.result.now (filters_tree c.args.query.now.items) c.as_slice-item-items.ensures.tree)
-
-pub returns-in_err-left-clause-most : goal.returns-in_err-left-clause-most
-returns-in_err-left-clause-most g c =
-    omega (
-      arith,
-      c.searched_nodes.ensures.most,
-      c.left_by.ensures.cost,
-      cost_later (length c.args.game.now.nodes) 5 6
-          (filters_tree c.args.query.now.items) (omega arith),
-      cost_all (length c.args.game.now.nodes) (filters_tree c.args.query.now.items),
-    )
+pub returns-clause-nodes : goal.returns-clause-nodes
+returns-clause-nodes g c = c.in_ok-column.ensures.left.asked.count

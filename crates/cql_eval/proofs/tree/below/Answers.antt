@@ -5,7 +5,7 @@ use Rattle.cql_eval.proofs.tree.below.Goals as goal
 
 pub loop-k-init : goal.loop-k-init
 loop-k-init c =
-    widened_none (searched_tree c.args.game.now c.args.variations) c.args.live.now c.new-wide.result.items c.new-wide.ensures.items
+    widened_none (searched_tree c.args.game.now c.args.variations) c.args.live.now c.in_ok-wide.wide.items c.in_ok-wide.ensures.items
 
 pub loop-k-preserved : goal.loop-k-preserved
 loop-k-preserved c =

@@ -3,7 +3,7 @@ use Rattle.cql_eval.proofs.Lowering.{lowered_none, lowered_more, lowered_all}
 use Rattle.cql_eval.proofs.tree.lowered.Goals as goal
 
 pub loop-k-init : goal.loop-k-init
-loop-k-init c = lowered_none c.args.game.now.nodes c.args.set.now c.new-found.result.items c.new-found.ensures.items
+loop-k-init c = lowered_none c.args.game.now.nodes c.args.set.now c.in_ok-found.found.items c.in_ok-found.ensures.items
 
 pub loop-k-preserved : goal.loop-k-preserved
 loop-k-preserved c =

@@ -5,7 +5,7 @@ use Rattle.cql_eval.specs.Hits.{keys_of}
 use Rattle.cql_syntax.specs.TreeOf.{filter_tree, form_tree}
 use Rattle.cql_syntax.specs.Trees.{filter_at}
 use Rattle.cql_plan.specs.Rows.{key_in}
-use Rattle.cql_plan.proofs.RowsLaw.{sort_row, row_given, entries_inside, entries_there, key_added}
+use Rattle.cql_plan.proofs.RowsLaw.{sort_row, row_given, entries_there, key_added}
 use Rattle.cql_plan.proofs.found.add_key.Goals as goal
 
 pub row-row-requires : goal.row-row-requires
@@ -13,16 +13,6 @@ row-row-requires c =
     let there = sort_row (searched_tree c.args.told.now.game.now c.args.told.now.query.now.variations) c.args.nodes.now (keys_of c.args.told.now.column) (length c.args.keys.now.items)
     (filter_tree c.args.item.now) _ c.args.item.now.at _ _ (ap (λ form. filter_at c.args.item.now.at (form_tree form)) c.in-Sort.is) c.requires.rows in
     omega (arith, there.0, c.len.ensures)
-
-pub key_over-key-requires-clause-inside : goal.key_over-key-requires-clause-inside
-key_over-key-requires-clause-inside c =
-    let many : c.len.result ≡ length c.args.keys.now.items = omega (arith, c.len.ensures) in
-    let tree = searched_tree c.args.told.now.game.now c.args.told.now.query.now.variations in
-    entries_inside tree c.args.nodes.now c.row-row.result.now _
-    (row_given tree c.args.nodes.now (keys_of c.args.told.now.column) (length c.args.keys.now.items) (filter_tree c.args.item.now) _ c.args.item.now.at _ _ c.row-row.result.now
-    (ap (λ form. filter_at c.args.item.now.at (form_tree form)) c.in-Sort.is) c.requires.rows
-    (c.row-row.ensures ∙ ap (λ k. get_or (keys_of c.args.told.now.column) k []) many))
-    c.requires.inside
 
 pub key_over-key-requires-clause-values : goal.key_over-key-requires-clause-values
 key_over-key-requires-clause-values c =

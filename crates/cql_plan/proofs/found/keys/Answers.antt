@@ -1,10 +1,9 @@
-use Rattle.std.proofs.Common.{◌≡◌, ◌∙◌, ◌++◌, ◌+◌, ◌<◌, true, All, sym, ap, subst, map, length, drop, append_assoc, Some}
+use Rattle.std.proofs.Common.{◌≡◌, ◌∙◌, ◌++◌, ◌+◌, true, All, sym, ap, subst, map, length, drop, append_assoc, Some}
 use Rattle.cql_values.specs.Trees.{searched_tree}
 use Rattle.cql_eval.specs.Hits.{hits_of, keys_of, sort_numbers, item_numbers}
 use Rattle.cql_syntax.specs.Hits.{is_hit, all_keys}
 use Rattle.cql_syntax.specs.TreeOf.{filter_tree, filters_tree, filter_trees}
 use Rattle.cql_plan.specs.Rows.{AreRowsFrom}
-use Rattle.cql_plan.proofs.Items.{hits_are_inside}
 use Rattle.cql_plan.proofs.ItemsHeld.{item_at_hits}
 use Rattle.cql_plan.proofs.Needed.{hits_hit}
 use Rattle.cql_plan.proofs.RowsLaw.{rows_there, rows_split, hits_told, filters_left}
@@ -22,11 +21,6 @@ loop-item-init c =
           (sym (ap length c.new-keys.ensures.items))
           (subst (λ fs. AreRowsFrom tree c.args.nodes.now (keys_of c.args.told.now.column) 0 (sort_numbers fs)) (sym c.as_slice-item-items.ensures.tree) there);
     }
-
-pub add_key-requires-clause-inside : goal.add_key-requires-clause-inside
-add_key-requires-clause-inside c =
-    let tree = searched_tree c.args.told.now.game.now c.args.told.now.query.now.variations in
-    subst (All (λ n. n < length tree.game.nodes)) (sym c.requires) (hits_are_inside tree (filters_tree c.args.told.now.query.now.items))
 
 pub add_key-requires-clause-holds : goal.add_key-requires-clause-holds
 add_key-requires-clause-holds c =

@@ -1,4 +1,4 @@
-use Rattle.std.proofs.Common.{◌+◌, ◌-◌, ◌++◌, List, ℕ, length, take, drop, ap, subst, ◌∙◌, arith, rules}
+use Rattle.std.proofs.Common.{◌-◌, ◌++◌, List, ℕ, length, take, drop, ap, subst, ◌∙◌, arith, rules}
 use Rattle.std.proofs.lemmas.List.{append_assoc, length-drop, take-append-drop, take_all}
 use Rattle.cq_shards.specs.Windows.{Shows}
 use Rattle.cq_shards.proofs.Streams.{on_one}

@@ -1,0 +1,4 @@
+cql() mate
+%%
+cql() check
+%%

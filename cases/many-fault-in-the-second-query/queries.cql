@@ -1,0 +1,5 @@
+cql() check
+%%
+cql() echo
+%%
+cql() !

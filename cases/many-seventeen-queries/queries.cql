@@ -1,0 +1,33 @@
+cql() mate
+%%
+cql() mate
+%%
+cql() mate
+%%
+cql() mate
+%%
+cql() mate
+%%
+cql() mate
+%%
+cql() mate
+%%
+cql() mate
+%%
+cql() mate
+%%
+cql() mate
+%%
+cql() mate
+%%
+cql() mate
+%%
+cql() mate
+%%
+cql() mate
+%%
+cql() mate
+%%
+cql() mate
+%%
+cql() mate

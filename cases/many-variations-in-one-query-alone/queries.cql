@@ -1,0 +1,5 @@
+cql() check
+%%
+cql(variations) check
+%%
+cql(variations matchstring "mate") mate check

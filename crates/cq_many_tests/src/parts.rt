@@ -1,0 +1,176 @@
+//! The parts of several queries, and what they find in small games.
+ghost use Rattle.std.specs.Prelude.{◌≡◌, Bool, ℕ, ◌+◌, ◌<◌, ◌≤◌, [], ◌∷◌, length, IfOk};
+ghost use Rattle.cq_position.specs.Search.{nodes_in};
+ghost use Rattle.cql_syntax.specs.Trees.{filter_at, plain};
+ghost use Rattle.cql_syntax.specs.declared.leaves.Plain.TheVariants.{Wtm};
+ghost use Rattle.cql_values.specs.Trees.{searched_tree};
+ghost use Rattle.cq_shared.specs.Plans.{queries_of, plan_parts};
+ghost use Rattle.cq_shared.specs.Verdicts.{nodes_of};
+
+use cq_outside::{NoMemory, Refusal, Steps};
+use cq_shared::{SharedPlan, Verdicts, match_all};
+use cql_kinds::check;
+use cql_lexer::query_tokens;
+use cql_parser::{parse, spelled_queries_have_no_any, tokens_of_a_text_are_ended};
+use cql_syntax::{QueryFault, TypedQuery};
+use pgn_reader::read_game;
+use pgn_tree::Game;
+use std::alloc::Global;
+use std::marker::Brand;
+use std::process::Abort;
+use std::sync::ledger::{Blank, Ledger};
+use std::test::Fail;
+
+fn query_of(alloc: Global, text: &[u8]) -> Result<TypedQuery, Refusal<QueryFault>> {
+    tokens_of_a_text_are_ended();
+    spelled_queries_have_no_any();
+    let tokens = query_tokens(alloc, text)?;
+    let query = parse(alloc, tokens.as_slice())?;
+    check(&query)
+}
+
+/// The queries that some texts are.
+pub(crate) fn read_queries(
+    alloc: Global,
+    texts: &[&[u8]],
+) -> Result<Vec<TypedQuery>, Refusal<QueryFault>> {
+    let mut queries = Vec::new(alloc);
+    for text in texts {
+        queries.push(query_of(alloc, *text)?)?;
+    }
+    Ok(queries)
+}
+
+/// Their plan.
+pub(crate) fn plan_of<R: Abort>(
+    rt: &R,
+    alloc: Global,
+    texts: &[&[u8]],
+) -> Result<SharedPlan, Refusal<QueryFault>> {
+    let queries = read_queries(alloc, texts)?;
+    assert!(rt; !queries.is_empty());
+    assert!(rt; queries.len() <= 16);
+    Ok(SharedPlan::make(alloc, queries.as_slice())?)
+}
+
+// What is found in a game. The steps, which proofs alone count, are none for queries without a part, and at most one a searched node
+// for queries that have the one part `wtm`, however many they are.
+fn stepped<L: Ledger>(
+    alloc: Global,
+    plan: &SharedPlan,
+    game: &Game,
+    steps: &mut Steps<L>,
+) -> Result<Verdicts, NoMemory>
+    ensures count { IfOk result (λ v. length (nodes_of v) ≡ length (queries_of plan.now)) }
+    ensures none { length (plan_parts (queries_of plan.now)) ≡ 0 → steps.new ≤ steps.old }
+    ensures wtm { (variations : Bool) (at : ℕ)
+        → plan_parts (queries_of plan.now) ≡ record { variations = variations; filter = filter_at at (plain Wtm) } ∷ []
+        → steps.new ≤ steps.old + length (nodes_in (searched_tree game.now variations)) }
+{
+    match_all(alloc, plan, game, steps)
+}
+
+fn counted<L: Ledger>(
+    alloc: Global,
+    plan: &SharedPlan,
+    game: &Game,
+    blank: Blank,
+) -> Result<Verdicts, NoMemory>
+    requires { (blank.name ≡ L.name) × (blank.parts ≡ L.parts) × (0 < blank.parts) }
+    ensures { IfOk result (λ v. length (nodes_of v) ≡ length (queries_of plan.now)) }
+{
+    let mut steps = Steps::<L>::new(blank);
+    stepped(alloc, plan, game, &mut steps)
+}
+
+fn found(alloc: Global, plan: &SharedPlan, game: &Game) -> Result<Verdicts, NoMemory>
+    ensures { IfOk result (λ v. length (nodes_of v) ≡ length (queries_of plan.now)) }
+{
+    counted::<Brand>(alloc, plan, game, Blank::new(1))
+}
+
+const WTM: &[u8] = b"cql() wtm";
+
+const SIXTEEN: [&[u8]; 16] = [WTM; 16];
+
+const COMMENTS: &[u8] = b"cql() comment \"a\" comment \"b\"";
+
+const GAME: &[u8] = b"[FEN \"7k/P7/8/8/8/8/8/K7 w - - 0 1\"]\n1. a8=Q Kh7 *\n";
+
+/// The nodes at which a query hits in the game, and its keys.
+type Found<'a> = (&'a [u32], &'a [i64]);
+
+/// Queries, how many different parts they have, and what is found of the first and of the last of them.
+type Row<'a> = (&'a [&'a [u8]], u32, Found<'a>, Found<'a>);
+
+static ROWS: [Row<'static>; 7] = [
+    (
+        &[b"cql() wtm check", b"cql() check wtm"],
+        2,
+        (&[], &[]),
+        (&[], &[]),
+    ),
+    (
+        &[WTM, b"cql(variations) wtm"],
+        2,
+        (&[0, 2], &[]),
+        (&[0, 2], &[]),
+    ),
+    (
+        &[b"cql() {btm check}", b"cql() (check and btm)  Qa8"],
+        3,
+        (&[1], &[]),
+        (&[1], &[]),
+    ),
+    (
+        &[b"cql() sort \"p\" ply sort min \"p\" ply", b"cql() Qa8"],
+        3,
+        (&[0, 1, 2], &[2, 0]),
+        (&[1, 2], &[]),
+    ),
+    (
+        &[
+            b"cql() mate sort \"p\" ply",
+            b"cql() wtm sort \"p\" ply Qa8",
+        ],
+        4,
+        (&[], &[]),
+        (&[2], &[2]),
+    ),
+    (&[COMMENTS], 0, (&[0, 1, 2], &[]), (&[0, 1, 2], &[])),
+    (&SIXTEEN, 1, (&[0, 2], &[]), (&[0, 2], &[])),
+];
+
+fn expect<R: Abort>(rt: &R, alloc: Global, row: &Row<'_>) -> Result<(), Fail> {
+    let (texts, parts, first, last) = row;
+    let plan = plan_of(rt, alloc, *texts)?;
+    let game = read_game(alloc, GAME, 0, true)?;
+    let verdicts = found(alloc, &plan, &game)?;
+    let count = plan.len();
+    assert!(rt; count >= 1);
+    let said = (count as usize, plan.parts());
+    assert_eq!(rt; said, (texts.len(), *parts), "of {texts:?}");
+    let said = (verdicts.nodes(0), verdicts.keys(0));
+    assert_eq!(rt; said, *first, "the first of {texts:?}");
+    let said = (verdicts.nodes(count - 1), verdicts.keys(count - 1));
+    assert_eq!(rt; said, *last, "the last of {texts:?}");
+    Ok(())
+}
+
+#[test]
+fn several_queries_have_their_parts_hits_and_keys(rt: HostRuntime) -> Result<(), Fail> {
+    for row in ROWS.iter() {
+        expect(&rt, rt.alloc(), row)?;
+    }
+    Ok(())
+}
+
+#[test]
+fn a_plan_has_its_queries(rt: HostRuntime) -> Result<(), Fail> {
+    let plan = plan_of(&rt, rt.alloc(), &[WTM, COMMENTS])?;
+    assert!(rt; plan.len() == 2);
+    let first = plan.query(0).query.items.len();
+    let second = plan.query(1).query.items.len();
+    assert_eq!(rt; (first, second), (1, 2));
+    Ok(())
+}

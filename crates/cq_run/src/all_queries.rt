@@ -1,0 +1,120 @@
+//! Answering several queries over one reading of an archive.
+ghost use Rattle.std.specs.Prelude.{◌≡◌, ◌≤◌, ◌^◌, false, length};
+ghost use Rattle.cq_shared.specs.Plans.{queries_of, trees_of};
+ghost use Rattle.cq_run.specs.ManyQueries.{texts_of_all};
+ghost use Rattle.cq_run.specs.Promise.{AnswerPromise, source_view, sink_view, sinks_of};
+
+use crate::keeping::{keep_batch, none_kept};
+use crate::laws::archives_come_in_batches;
+use crate::outputs::write_outputs;
+use crate::status::Status;
+use crate::tally::Tally;
+use cq_outside::{Gate, Refusal, Sink, Source};
+use cq_shards::laws::ordered_answers_stand_beside_their_games;
+use cq_shards::{BatchFault, Batches, run_many};
+use cq_shared::SharedPlan;
+use cq_words::Settings;
+use cql_syntax::TypedQuery;
+use std::alloc::Global;
+use std::thread::Threads;
+
+/// Answers 1 to 16 queries over the archive that `source` has left, read once: batch by batch, as `answer` reads it, the games of each
+/// by `settings.workers` workers, from 1 to 64, in threads of `rt`, of the first `settings.limit` bytes, from 1 to 2^40. All these
+/// ranges are conditions, and so is that not the first match alone is asked for.
+///
+/// The fault lines of a batch are written before the next one is asked for. The games that match are kept until all are answered: then
+/// `out` takes for each query, in order, the line `query I bytes W`, with its number, from 1, and the length of its exports, and then
+/// these, as `answer` writes them for it alone. After that `err` takes the last line of each query's report, in order.
+///
+/// Answers:
+/// - `Done` or `DoneWithRefusals`: both sinks have taken all, and no game is faulty, or some.
+/// - `ReadFault`: a read failed, and no other count rose. Written are the fault lines of the batches that were full by then, and nothing
+///   to `out`.
+/// - `ArchiveTooLong`: one byte more than the limit was read, and no count rose. Written is as much as after a failed read.
+/// - `WriteFault`: a write to one sink failed, and no other count rose. Each sink has taken a prefix of its text.
+/// - `NoMemory`: no memory was found, and no count rose. Each sink has taken a prefix of its text.
+///
+/// The clause `AnswerPromise` says each of these exactly; no other status is given.
+pub fn answer_many<R: Threads + Sync, S: Source, O: Sink, E: Sink, G: Gate + Sync>(
+    rt: &R,
+    alloc: Global,
+    queries: &[TypedQuery],
+    settings: Settings,
+    source: &mut S,
+    out: &mut O,
+    err: &mut E,
+    gate: &G,
+) -> Status
+    requires few { (1 ≤ length queries.now) × (length queries.now ≤ 16) }
+    requires workers { (1 ≤ settings.workers) × (settings.workers ≤ 64) }
+    requires limit { (1 ≤ settings.limit) × (settings.limit ≤ 2 ^ 40) }
+    requires all { settings.first ≡ false }
+    ensures answers { AnswerPromise (texts_of_all (trees_of queries.now)) result (record {
+      limit = settings.limit;
+      source = source_view S.left S.faults source.old;
+      source_after = source_view S.left S.faults source.new;
+      sinks = sinks_of (sink_view O.taken O.faults out.old) (sink_view O.taken O.faults out.new)
+          (sink_view E.taken E.faults err.old) (sink_view E.taken E.faults err.new);
+    }) }
+    ensures next { S.follows source.old source.new }
+{
+    archives_come_in_batches();
+    let Ok(plan) = SharedPlan::make(alloc, queries) else {
+        return Status::NoMemory;
+    };
+    answer_each(rt, alloc, &plan, settings, source, out, err, gate)
+}
+
+// Answers the queries of a plan: the games of one batch after the other, what is to be written of them before the next batch is asked for.
+fn answer_each<R: Threads + Sync, S: Source, O: Sink, E: Sink, G: Gate + Sync>(
+    rt: &R,
+    alloc: Global,
+    plan: &SharedPlan,
+    settings: Settings,
+    source: &mut S,
+    out: &mut O,
+    err: &mut E,
+    gate: &G,
+) -> Status
+    requires few { (1 ≤ length (trees_of (queries_of plan.now))) × (length (trees_of (queries_of plan.now)) ≤ 16) }
+    requires workers { (1 ≤ settings.workers) × (settings.workers ≤ 64) }
+    requires limit { (1 ≤ settings.limit) × (settings.limit ≤ 2 ^ 40) }
+    ensures answers { AnswerPromise (texts_of_all (trees_of (queries_of plan.now))) result (record {
+      limit = settings.limit;
+      source = source_view S.left S.faults source.old;
+      source_after = source_view S.left S.faults source.new;
+      sinks = sinks_of (sink_view O.taken O.faults out.old) (sink_view O.taken O.faults out.new)
+          (sink_view E.taken E.faults err.old) (sink_view E.taken E.faults err.new);
+    }) }
+    ensures next { S.follows source.old source.new }
+{
+    archives_come_in_batches();
+    ordered_answers_stand_beside_their_games();
+    let Ok(mut kept) = none_kept(alloc, plan.len()) else {
+        return Status::NoMemory;
+    };
+    let mut batches = Batches::new(alloc, settings.limit);
+    let mut tally = Tally {
+        games: 0,
+        matched: 0,
+        refused: 0,
+    };
+    for _turn in 0..settings.limit + 3 {
+        let batch = match batches.next(source) {
+            Ok(Some(batch)) => batch,
+            Ok(None) => return write_outputs(alloc, plan, tally, kept, out, err),
+            Err(Refusal::Fault(BatchFault::ReadFault)) => return Status::ReadFault,
+            Err(Refusal::Fault(BatchFault::ArchiveTooLong)) => return Status::ArchiveTooLong,
+            Err(Refusal::NoMemory) => return Status::NoMemory,
+        };
+        let Ok(answers) = run_many(rt, alloc, plan, &batch, settings.workers, gate) else {
+            return Status::NoMemory;
+        };
+        match keep_batch(alloc, answers, &mut tally, &mut kept, out, err) {
+            Ok(()) => {}
+            Err(Refusal::Fault(_)) => return Status::WriteFault,
+            Err(Refusal::NoMemory) => return Status::NoMemory,
+        }
+    }
+    unreachable!()
+}

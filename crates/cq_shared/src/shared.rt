@@ -1,0 +1,9 @@
+//! What threads share, or hand over.
+
+use crate::plan::SharedPlan;
+use crate::verdicts::Verdicts;
+use cq_outside::Shared;
+
+impl Shared for SharedPlan {}
+
+impl Shared for Verdicts {}
