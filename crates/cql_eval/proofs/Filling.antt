@@ -111,6 +111,18 @@ told_more test k items later x is new had = record {
       (split_last n k h);
 }
 
+-- a list that reaches so far has an entry there, whatever stands for one past the end
+pub any_default : {A : Type 0} (l : List A) (k : ℕ) (d e : A) → k < length l → get_or l k d ≡ get_or l k e
+any_default [] k d e h = absurd (omega (arith, h))
+any_default (x ∷ l) zero d e h = refl
+any_default (x ∷ l) (suc k) d e h = any_default l k d e (omega (arith, h))
+
+-- the same of nodes of a set
+pub told_asked : (live : List Bool) (test : ℕ → Bool) (k : ℕ) (items later : List Bool) (d x : Bool) → k < length live → later ≡ items ++ x ∷ [] → x ≡ (get_or live k d && test k)
+    → Told (λ n. get_or live n false && test n) k items → Told (λ n. get_or live n false && test n) (k + 1) later
+told_asked live test k items later d x low is new had =
+    told_more (λ n. get_or live n false && test n) k items later x is (new ∙ ap (λ b. b && test k) (any_default live k d false low)) had
+
 pub both_left : (a b : Bool) → (a && b) ≡ true → a ≡ true
 both_left true b e = refl
 both_left false b e = e
@@ -138,9 +150,3 @@ numbered_all live c k items end had = record {
 
 pub narrowed_asked : (tree : SearchedTree) (live left : List Bool) (c : FilterColumn) (want : Bool) → AreAsked tree live → IsNarrowed live c want left → AreAsked tree left
 narrowed_asked tree live left c want asked is = is.asked tree asked
-
--- a list that reaches so far has an entry there, whatever stands for one past the end
-pub any_default : {A : Type 0} (l : List A) (k : ℕ) (d e : A) → k < length l → get_or l k d ≡ get_or l k e
-any_default [] k d e h = absurd (omega (arith, h))
-any_default (x ∷ l) zero d e h = refl
-any_default (x ∷ l) (suc k) d e h = any_default l k d e (omega (arith, h))

@@ -623,13 +623,24 @@ numbers_are tree is_tree e (Line' back primary extent cs) spots b q limits are i
     (subst (λ x. AreAlike (IsStep tree back false) (IsAsked tree) (holds_in table) x (pattern tree [] e (parts_tree cs))) (sym is) (tabled (holds_in table) (λ a m h. refl))) n asked)
     (get_or found n None) answer
 
+nothing_at : (xs : List (Option ℤ)) (n : ℕ) → xs ≡ [] → get_or xs n None ≡ None
+nothing_at [] zero is = refl
+nothing_at [] (suc n) is = refl
+nothing_at (x ∷ xs) n is = cc
+
+-- an atom that is put where its column holds
+pub held_put : (tree : SearchedTree) (live : List Bool) (c : FilterColumn) (held shown_held : List Bool) (which count : ℕ) (table : AtomTable) → IsPart tree live c true held
+    → shown_held ≡ held → ((n : ℕ) → n < count → holds_in table which n ≡ is_live shown_held n) → (n : ℕ) → n < count
+    → holds_in table which n ≡ (is_live live n && value_holds (shown c n))
+held_put tree live c held shown_held which count table part same put n h = put n h ∙ ap (λ l. is_live l n) same ∙ part.narrowed.each n
+
 -- where a line's pattern is never spelled it has no number
-pub no_line : (tree : SearchedTree) → IsTree tree.game.nodes → (e : Names) (l : OneLine) (wide : List (Option ℤ)) (k : ℕ) → wide ≡ replicate k None
+pub no_line : (tree : SearchedTree) → IsTree tree.game.nodes → (e : Names) (l : OneLine) (wide : List (Option ℤ)) → wide ≡ []
     → IsNever (IsStep tree (out-Line l).back false) (IsAsked tree) (pattern tree [] e (parts_tree (out-Line l).parts)) → (n : ℕ) → IsAsked tree n
     → as_number (get_or wide n None) ≡ line_value tree [] e (line_tree l) n
 unfolding value out-Line Carrier.out
-no_line tree is_tree e (Line' back primary extent cs) wide k is never n asked =
-    ap as_number (ap (λ xs. get_or xs n None) is ∙ same_words None k n)
+no_line tree is_tree e (Line' back primary extent cs) wide is never n asked =
+    ap as_number (nothing_at wide n is)
     ∙ spelled_lines_are_theirs tree is_tree back primary (shapes.joined primary (spots_in tree)) (spots_join tree primary is_tree) extent
     (λ a m. false) nothing (pattern tree [] e (parts_tree cs)) n asked
     (λ w goes. (λ x. absurd cc, λ x. absurd (never (n ∷ w) (asked, along_wider tree back primary n w goes) x)))

@@ -1,18 +1,23 @@
 -- What is asked of a move, part by part.
-use Rattle.std.proofs.Common.{◌≡◌, ℕ, ◌+◌, ◌≤◌, Bool, true, List, [], length, get_or, Option, Some, None, option_map, refl, sym, ap, ap₂, ◌∙◌, subst, arith}
+use Rattle.std.proofs.Common.{◌≡◌, ℕ, ◌+◌, ◌≤◌, ◌&&◌, ◌||◌, not, Bool, true, false, List, [], length, get_or, Option, Some, None, option_map, refl, sym, ap, ap₂, ◌∙◌, subst, arith}
+use Rattle.std.specs.Prelude.{is_some, if◌then◌else◌}
 use Rattle.std.specs.declared.alloc.Global.{Global}
 use Rattle.std.specs.declared.boxed.Box.{Box}
-use Rattle.cq_position.specs.Led.{led_to}
+use Rattle.cq_position.specs.Games.{Node, node_at}
+use Rattle.cq_position.specs.Led.{PlainLed, led, led_to, led_from, taken_square}
+use Rattle.cq_position.specs.Legal.{is_none}
+use Rattle.cq_position.specs.declared.moves.Move.{Move}
 use Rattle.cq_position.specs.Search.{SearchedTree}
-use Rattle.cql_syntax.specs.Meaning.{Names, value, meets_all, before, played_value, written_value}
+use Rattle.cql_syntax.specs.Meaning.{Names, value, meets, meets_all, goal_if, before, played_value, written_value}
 use Rattle.cql_syntax.specs.TreeOf.{filter_tree, played_tree, held_tree, written_tree}
 use Rattle.cql_syntax.specs.Trees.{WrittenTree, move_of}
-use Rattle.cql_syntax.specs.Values.{as_truth}
+use Rattle.cql_syntax.specs.Values.{Value, as_truth}
 use Rattle.cql_syntax.specs.declared.tree.Filter.{Filter}
 use Rattle.cql_syntax.specs.declared.tree.Played.{Played, Played', out-Played, outs-Played', Held-Played-origin, view-Played-origin, None', Some'}
 use Rattle.cql_eval.specs.Columns.{is_live, shown, IsColumn, Where}
 use Rattle.cql_eval.specs.Costs.{filter_cost, played_cost, written_cost}
 use Rattle.cql_eval.specs.FlatTrees.{unflat, IsFlat, IsFlatMove, IsFlatPart}
+use Rattle.cql_eval.specs.Promoting.{ArePromoting, is_promotion}
 use Rattle.cql_eval.specs.Trees.{AreBeforeLive}
 use Rattle.cql_eval.specs.declared.filter_column.FilterColumn.{FilterColumn}
 
@@ -68,7 +73,58 @@ move_is tree e p live wide first third origin goal taken promoted covers is is_t
     (c (before tree n) (ap (λ s. is_live s (before tree n)) is_too ∙ there)) (d n l)
     ∙ sym (move_value tree e p n))
 
--- a part that is written
+-- what isn't a promotion meets nothing that asks for one
+all_fail : (a b c d : Bool) → d ≡ false → (a && b && c && d) ≡ false
+all_fail a b c true e = cc
+all_fail true true true false e = refl
+all_fail true true false false e = refl
+all_fail true false c false e = refl
+all_fail false b c false e = refl
+
+unmet : (promoted : Bool) (goal : ℕ) (x : Value) → promoted ≡ false → meets (Some x) (goal_if promoted goal) ≡ false
+unmet true goal x e = cc
+unmet false goal x e = refl
+
+if_unmet : (null : Bool) (l : PlainLed) → l.promoted ≡ false → (a b c : Option Value) (x : Value) → meets_all (if null then None else Some l) a b c (Some x) ≡ false
+if_unmet true l away a b c x = refl
+if_unmet false l away a b c x = all_fail (meets a (Some l.origin)) (meets b (Some l.goal)) (meets c l.taken) _ (unmet l.promoted l.goal x away)
+
+unpromoted : (nodes : List Node) (o : Option Move) (parent : Option ℕ) → is_promotion o ≡ false → (a b c : Option Value) (x : Value)
+    → meets_all (led_from nodes o parent) a b c (Some x) ≡ false
+unfolding led
+unpromoted nodes None parent away a b c x = refl
+unpromoted nodes (Some m) None away a b c x = refl
+unpromoted nodes (Some m) (Some p) away a b c x =
+    if_unmet m.null (record { origin = m.from; goal = m.to; taken = taken_square (node_at nodes p).position m; promoted = not (is_none m.promotion) }) away a b c x
+
+-- where a promotion is asked for no other move holds
+only_promoted : (tree : SearchedTree) (e : Names) (p : Played) (n : ℕ) → is_some (out-Played p).promoted ≡ true → is_promotion (node_at tree.game.nodes n).led_by ≡ false
+    → played_value tree [] e (played_tree p) n ≡ false
+unfolding value
+only_promoted tree e p n asked away = move_value tree e p n ∙ by_part (out-Played p).promoted asked
+  where
+    by_part : (w : Option (Box Filter Global)) → is_some w ≡ true → meets_all (led_to tree.game.nodes n) (written_value tree [] e (origin_of p) (before tree n))
+        (written_value tree [] e (goal_of p) n) (written_value tree [] e (taken_of p) (before tree n)) (written_value tree [] e (written_tree w) n) ≡ false
+    by_part None is = cc
+    by_part (Some f) is = unpromoted tree.game.nodes (node_at tree.game.nodes n).led_by (node_at tree.game.nodes n).parent away _ _ _ _
+
+left_out : (there wanted promoted : Bool) → there ≡ (true && (not wanted || promoted)) → there ≡ false → (wanted ≡ true) × (promoted ≡ false)
+left_out true wanted promoted is away = cc
+left_out false true false is away = (refl, refl)
+left_out false true true is away = cc
+left_out false false promoted is away = cc
+
+-- what holds is found among the nodes that are looked at
+pub met_is : (tree : SearchedTree) (e : Names) (p : Played) (live some : List Bool) (wanted found met : Bool) (n : ℕ) → wanted ≡ is_some (out-Played p).promoted
+    → ArePromoting tree wanted live some → is_live live n ≡ true → found ≡ (is_live some n && met)
+    → (is_live some n ≡ true → as_truth met ≡ as_truth (played_value tree [] e (played_tree p) n)) → as_truth found ≡ as_truth (played_value tree [] e (played_tree p) n)
+met_is tree e p live some wanted found met n asks looked l is there = by_look (is_live some n) refl
+  where
+    by_look : (b : Bool) → is_live some n ≡ b → as_truth found ≡ as_truth (played_value tree [] e (played_tree p) n)
+    by_look true in_ = ap as_truth (is ∙ ap (λ x. x && met) in_) ∙ there in_
+    by_look false out_ =
+        let why = left_out (is_live some n) wanted _ (looked.each n ∙ ap (λ x. x && (not wanted || is_promotion (node_at tree.game.nodes n).led_by)) l) out_ in
+        ap as_truth (is ∙ ap (λ x. x && met) out_ ∙ sym (only_promoted tree e p n (sym asks ∙ why.0) why.1))
 
 pub part_is : (tree : SearchedTree) (e : Names) (live : List Bool) (w : Option (Box Filter Global)) (boxed : Box Filter Global) (f : Filter) (c : FilterColumn) → w ≡ Some boxed → f ≡ boxed.value
     → IsColumn c live (value tree [] e (filter_tree f)) → IsPartColumn tree e live (Some c) (written_tree w)

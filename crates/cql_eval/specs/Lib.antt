@@ -6,5 +6,6 @@ pub mod Costs
 pub mod FlatTrees
 pub mod Hits
 pub mod LineAtoms
+pub mod Promoting
 pub mod SpelledParts
 pub mod Trees

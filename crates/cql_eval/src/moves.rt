@@ -1,22 +1,66 @@
 //! Whether the moves to nodes are as columns ask.
-ghost use Rattle.std.specs.Prelude.{◌≡◌, ℕ, ◌<◌, length, get_or, true, option_map, Option, IfOk};
-ghost use Rattle.cq_position.specs.Games.{IsTree};
+ghost use Rattle.std.specs.Prelude.{◌≡◌, ℕ, ◌<◌, ◌&&◌, length, get_or, false, option_map, Option, IfOk};
+ghost use Rattle.cq_position.specs.Games.{IsTree, node_at};
 ghost use Rattle.cq_position.specs.Led.{led_to as led_to_in};
 ghost use Rattle.cql_syntax.specs.Meaning as meaning;
-ghost use Rattle.cql_syntax.specs.Values.{as_truth};
 ghost use Rattle.cql_values.specs.Shown.{meant};
 ghost use Rattle.cql_values.specs.Trees.{searched_tree};
-ghost use Rattle.cql_eval.specs.Columns.{AreAsked, AreTruths, shown};
+ghost use Rattle.cql_eval.specs.Columns.{AreAsked, AreKept, is_live, shown};
+ghost use Rattle.cql_eval.specs.Promoting.{ArePromoting, is_promotion};
 
 use crate::filter_column::FilterColumn;
+use crate::nodes::same;
+use crate::spans::{asked_end, first_asked};
 use cq_outside::NoMemory;
+use cq_position::Promotion;
 use cql_values::led::{before, led_to, meets_all};
 use cql_values::value::Value;
 use pgn_tree::Game;
 use std::alloc::Global;
 
-/// Whether the move to a node is as columns ask in each part that is written: the first and the third at the node before, the others at the
-/// node itself.
+/// The nodes of a set or, where promotions alone are wanted, those of them to which one led.
+pub(crate) fn promoting(
+    alloc: Global,
+    game: &Game,
+    variations: bool,
+    wanted: bool,
+    live: &[bool],
+) -> Result<Vec<bool>, NoMemory>
+    requires asked { AreAsked (searched_tree game.now variations) live.now }
+    ensures { IfOk result (λ some. ArePromoting (searched_tree game.now variations) wanted live.now some.items) }
+{
+    let mut some = same(alloc, live)?;
+    if wanted {
+        keep_promotions(&mut some, game);
+    }
+    Ok(some)
+}
+
+// Leaves those nodes of a set to which a promotion led.
+fn keep_promotions(left: &mut [bool], game: &Game)
+    requires { length left.old ≡ length game.now.nodes }
+    ensures { AreKept (λ n. is_promotion (node_at game.now.nodes n).led_by) left.old left.new }
+{
+    for n in first_asked(left, game.len())..asked_end(left, game.len()) {
+        left[n as usize] = is_promoted(left[n as usize], game, n);
+    }
+}
+
+fn is_promoted(asked: bool, game: &Game, n: u32) -> bool
+    requires { n < length game.now.nodes }
+    ensures { result ≡ (asked && is_promotion (node_at game.now.nodes n).led_by) }
+{
+    if !asked {
+        return false;
+    }
+    match game.move_to(n) {
+        Some(m) => m.promotion != Promotion::None,
+        None => false,
+    }
+}
+
+/// Whether a node is of a set, and the move to it is as columns ask in each part that is written: the first and the third at the node
+/// before, the others at the node itself.
 pub(crate) fn moves_met(
     alloc: Global,
     game: &Game,
@@ -29,11 +73,12 @@ pub(crate) fn moves_met(
 ) -> Result<Vec<bool>, NoMemory>
     requires tree { IsTree game.now.nodes }
     requires asked { AreAsked (searched_tree game.now variations) live.now }
-    ensures { IfOk result (λ truths. AreTruths truths.items live.now (λ n. as_truth (meaning.meets_all (led_to_in game.now.nodes n)
+    ensures { IfOk result (λ truths. (n : ℕ) → get_or truths.items n false
+        ≡ (is_live live.now n && meaning.meets_all (led_to_in game.now.nodes n)
         (option_map (λ c. shown c (meaning.before (searched_tree game.now variations) n)) origin.now)
         (option_map (λ c. shown c n) goal.now)
         (option_map (λ c. shown c (meaning.before (searched_tree game.now variations) n)) taken.now)
-        (option_map (λ c. shown c n) promoted.now)))) }
+        (option_map (λ c. shown c n) promoted.now))) }
 {
     let mut truths = Vec::with_capacity(alloc, game.len() as usize)?;
     for n in 0..game.len() {
@@ -64,11 +109,11 @@ fn is_met(
 ) -> bool
     requires tree { IsTree game.now.nodes }
     requires node { n < length game.now.nodes }
-    ensures { asked ≡ true → result ≡ meaning.meets_all (led_to_in game.now.nodes n)
+    ensures { result ≡ (asked && meaning.meets_all (led_to_in game.now.nodes n)
         (option_map (λ c. shown c (meaning.before (searched_tree game.now variations) n)) origin.now)
         (option_map (λ c. shown c n) goal.now)
         (option_map (λ c. shown c (meaning.before (searched_tree game.now variations) n)) taken.now)
-        (option_map (λ c. shown c n) promoted.now) }
+        (option_map (λ c. shown c n) promoted.now)) }
 {
     if !asked {
         return false;

@@ -1,5 +1,5 @@
 //! The pattern of a line, its tree, and the table of its atoms.
-ghost use Rattle.std.specs.Prelude.{◌≡◌, ℕ, ◌+◌, ◌<◌, ◌≤◌, ◌&&◌, length, map, replicate, false, pos, option_map, None, IfOk, OnOk};
+ghost use Rattle.std.specs.Prelude.{◌≡◌, ℕ, ◌+◌, ◌<◌, ◌≤◌, length, map, false, pos, option_map, None, IfOk, OnOk};
 ghost use Rattle.std.specs.List.{range_with_len};
 ghost use Rattle.cq_position.specs.Games.{IsTree, numbers};
 ghost use Rattle.cql_lines.specs.PatternTrees.{pattern_tree};
@@ -7,14 +7,12 @@ ghost use Rattle.cql_lines.specs.Tables.{atoms_of, nodes_of, holds_in};
 ghost use Rattle.cql_lines.specs.Trees.{spots_of, goes_back, is_primary, limits_of};
 ghost use Rattle.cql_syntax.specs.Meaning as meaning;
 ghost use Rattle.cql_syntax.specs.TreeOf.{body_tree, parts_tree};
-ghost use Rattle.cql_syntax.specs.Values.{holds};
 ghost use Rattle.cql_values.specs.Trees.{searched_tree};
-ghost use Rattle.cql_eval.specs.Columns.{is_live, shown};
+ghost use Rattle.cql_eval.specs.Columns.{is_live};
 ghost use Rattle.cql_eval.specs.Costs as costs;
 ghost use Rattle.cql_eval.specs.LineAtoms as spec;
 ghost use Rattle.cql_eval.specs.LineAtoms.{HasRoom, IsPut, IsFilledIn, limits_in, spot_at};
 
-use crate::filter_column::FilterColumn;
 use cq_outside::NoMemory;
 use cql_lines::{AtomTable, Pattern, Patterns, Shape};
 use cql_syntax::{Body, Constituents, Extent, Mark};
@@ -140,32 +138,18 @@ pub(crate) fn empty_table(
     Ok(table)
 }
 
-/// The atom of a number holds from now on where a column does, at the nodes of a set.
-pub(crate) fn put_column(
-    table: &mut AtomTable,
-    atom: u32,
-    column: &FilterColumn,
-    game: &Game,
-    live: &[bool],
-)
+/// The atom of a number holds from now on at the nodes of a set.
+pub(crate) fn put_nodes(table: &mut AtomTable, atom: u32, game: &Game, set: &[bool])
     requires atom { atom < atoms_of table.old }
     requires nodes { nodes_of table.old ≡ length game.now.nodes }
-    requires live { length live.now ≡ length game.now.nodes }
+    requires set { length set.now ≡ length game.now.nodes }
     requires clear { (n : ℕ) → holds_in table.old atom n ≡ false }
-    ensures put { (n : ℕ) → n < length game.now.nodes
-        → holds_in table.new atom n ≡ (is_live live.now n && holds (shown column.now n)) }
+    ensures put { (n : ℕ) → n < length game.now.nodes → holds_in table.new atom n ≡ is_live set.now n }
     ensures others { IsFilledIn table.old table.new atom (atom + 1) }
 {
     for n in 0..game.len() {
-        let there = holds_there(live[n as usize], column, n as usize);
-        put_if(table, atom, n, there);
+        put_if(table, atom, n, set[n as usize]);
     }
-}
-
-fn holds_there(asked: bool, column: &FilterColumn, n: usize) -> bool
-    ensures { result ≡ (asked && holds (shown column.now n)) }
-{
-    asked && column.at(n).holds()
 }
 
 fn put_if(table: &mut AtomTable, atom: u32, node: u32, there: bool)
@@ -190,17 +174,6 @@ pub(crate) fn wide_numbers(
         wide.push(wide_number(*number))?;
     }
     Ok(wide)
-}
-
-/// No number at any node.
-pub(crate) fn no_numbers(alloc: Global, game: &Game) -> Result<Vec<Option<i64>>, NoMemory>
-    ensures { IfOk result (λ numbers. numbers.items ≡ replicate (length game.now.nodes) None) }
-{
-    let mut numbers = Vec::new(alloc);
-    for _k in 0..game.len() {
-        numbers.push(None)?;
-    }
-    Ok(numbers)
 }
 
 fn wide_number(number: Option<u32>) -> Option<i64>

@@ -19,7 +19,7 @@ ghost use Rattle.cq_position.specs.Search.{IsStep};
 
 use super::evaluate;
 use crate::nodes::{all_nodes, any_live, part_of, same};
-use crate::patterns::{empty_table, no_numbers, parts_pattern, put_column, shape_of, wide_numbers};
+use crate::patterns::{empty_table, parts_pattern, put_nodes, shape_of, wide_numbers};
 use crate::tree::{onward, reached};
 use cq_outside::{NoMemory, Steps};
 use cql_lines::{AtomTable, Automaton, line_values};
@@ -56,7 +56,8 @@ pub(super) fn line_numbers<L: Ledger>(
         alloc, parts, game, variations, line.back, names, &mut met, steps,
     )?;
     if !met {
-        return no_numbers(alloc, game);
+        // A column that ends before a node has no number there.
+        return Ok(Vec::new(alloc));
     }
     let mut atoms = 0;
     let pattern = parts_pattern(alloc, parts, &mut atoms)?;
@@ -358,8 +359,8 @@ fn put_atom<L: Ledger>(
         return same(alloc, live);
     }
     let column = evaluate(alloc, filter, game, variations, names, live, steps)?;
-    put_column(table, first, &column, game, live);
     let held = part_of(alloc, game, variations, live, &column, true)?;
+    put_nodes(table, first, game, &held);
     if !any_live(&held) {
         *met = false;
         return Ok(held);
@@ -402,8 +403,8 @@ fn put_body<L: Ledger>(
     match body {
         Body::Atom(filter) => {
             let column = evaluate(alloc, filter, game, variations, names, live, steps)?;
-            put_column(table, first, &column, game, live);
             let held = part_of(alloc, game, variations, live, &column, true)?;
+            put_nodes(table, first, game, &held);
             let some = any_live(&held);
             *met = both(*met, some);
             Ok(first + 1)

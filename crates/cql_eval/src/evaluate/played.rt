@@ -11,7 +11,7 @@ ghost use Rattle.cql_eval.specs.FlatTrees.{IsFlatMove, IsFlatPart};
 
 use super::evaluate;
 use crate::filter_column::FilterColumn;
-use crate::moves::moves_met;
+use crate::moves::{moves_met, promoting};
 use crate::tree::befores;
 use cq_outside::{NoMemory, Steps};
 use cql_syntax::{Filter, Played};
@@ -21,7 +21,7 @@ use std::alloc::Global;
 use std::sync::ledger::Ledger;
 
 /// Whether the move that led to a node is as it is asked for: where it came from and what it took is asked at the node before, its goal and
-/// what it became at the node itself.
+/// what it became at the node itself. Where a promotion is asked for, no other move is looked at.
 #[cycle(evaluate)]
 #[tactic(auto, unfolding(cql_syntax::specs::Meaning::value, crate::specs::Costs::filter_cost, crate::specs::FlatTrees::unflat))]
 pub(super) fn played_truths<L: Ledger>(
@@ -41,9 +41,12 @@ pub(super) fn played_truths<L: Ledger>(
     ensures cost { steps.new ≤ steps.old + played_cost (length game.now.nodes) (played_tree played.now) }
     ensures rises { steps.old ≤ steps.new }
 {
-    let wide = befores(alloc, game, variations, live)?;
+    let promotes = played.promoted.is_some();
+    let some = promoting(alloc, game, variations, promotes, live)?;
+    let some = some.as_slice();
+    let wide = befores(alloc, game, variations, some)?;
     let origin = written_column(alloc, &played.origin, game, variations, names, &wide, steps)?;
-    let goal = written_column(alloc, &played.goal, game, variations, names, live, steps)?;
+    let goal = written_column(alloc, &played.goal, game, variations, names, some, steps)?;
     let taken = written_column(alloc, &played.taken, game, variations, names, &wide, steps)?;
     let promoted = written_column(
         alloc,
@@ -51,11 +54,11 @@ pub(super) fn played_truths<L: Ledger>(
         game,
         variations,
         names,
-        live,
+        some,
         steps,
     )?;
     let truths = moves_met(
-        alloc, game, variations, &origin, &goal, &taken, &promoted, live,
+        alloc, game, variations, &origin, &goal, &taken, &promoted, some,
     )?;
     Ok(truths)
 }

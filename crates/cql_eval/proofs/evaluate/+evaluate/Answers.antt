@@ -16,6 +16,7 @@ use Rattle.cql_eval.proofs.AttackLaw.{attack_is}
 use Rattle.cql_eval.proofs.Chains.{left_begun, if_open, square_more, square_end, turn_all, turn_stop, unary_form, square_form, if_form}
 use Rattle.cql_eval.specs.Classes.{is_of, is_before, are_so, IsLeft}
 use Rattle.cql_eval.specs.Costs.{filter_cost, parts_atoms, body_atoms}
+use Rattle.cql_eval.specs.Promoting.{ArePromoting}
 use Rattle.cql_eval.specs.LineAtoms.{spot_at, body_numbered}
 use Rattle.cql_eval.specs.SpelledParts.{IsLive, EndsHere}
 use Rattle.cql_eval.proofs.SpelledAlike.{wide_leads_at, wide_ends_at, group_leads_at, leads_at, ends_at, onward_at, not_met, group_ends}
@@ -30,10 +31,10 @@ use Rattle.cql_eval.proofs.Lives.{none_live}
 use Rattle.cql_eval.proofs.Wanting.{wanted_same, wanted_kept, turn_skip}
 use Rattle.cql_eval.proofs.FindLaw.{find_is}
 use Rattle.cql_eval.proofs.FlatLaw.{filter_flat, term_flat, no_family}
-use Rattle.cql_eval.proofs.LinesLaw.{few_atoms, few_places, atoms_below, table_begun, table_more, table_all, ends_all, filled_all, at_all, atom_tabled, atom_leads, atom_ends, none_onward, none_leads, none_ends, atom_form, leads_form, ends_form, group_tabled, group_never, never_form, atom_never, not_some, if_ok_map, no_line, line_flat, numbers_are, parts_cost_more, parts_cost_within, atoms_within, looks_in}
+use Rattle.cql_eval.proofs.LinesLaw.{held_put, few_atoms, few_places, atoms_below, table_begun, table_more, table_all, ends_all, filled_all, at_all, atom_tabled, atom_leads, atom_ends, none_onward, none_leads, none_ends, atom_form, leads_form, ends_form, group_tabled, group_never, never_form, atom_never, not_some, if_ok_map, no_line, line_flat, numbers_are, parts_cost_more, parts_cost_within, atoms_within, looks_in}
 use Rattle.cql_eval.proofs.UnaryLaws.{find_up_is, child_holds_is, parent_holds_is}
 use Rattle.cql_eval.proofs.FormLaws.{chain_form, any_form}
-use Rattle.cql_eval.proofs.MoveLaw.{move_is, part_is, no_part_is}
+use Rattle.cql_eval.proofs.MoveLaw.{met_is, move_is, part_is, no_part_is}
 use Rattle.cql_eval.proofs.LinesLaw.{part_flat, part_room}
 use Rattle.cql_eval.proofs.evaluate.+evaluate.Goals as goal
 
@@ -396,32 +397,35 @@ lines::put_parts-returns-in_err-at-clause-cost g t c =
     c.put_part.new.steps (parts_tree c.args.parts.now) c.loop-part-test.true c.part-item.is c.loop-part.invariant.cost c.put_part.ensures.cost
     c.as_slice-part-items.ensures.tree
 
-pub lines::put_body-put_column-requires-clause-atom : goal.lines::put_body-put_column-requires-clause-atom
-lines::put_body-put_column-requires-clause-atom g t c =
+pub lines::put_body-put_nodes-requires-clause-atom : goal.lines::put_body-put_nodes-requires-clause-atom
+lines::put_body-put_nodes-requires-clause-atom g t c =
     let form : body_tree c.args.body.now ≡ atom (filter_tree c.deref.result.now) =
     ap body_tree c.in-Atom.is ∙ ap (λ p. atom (filter_tree p)) (sym c.deref.ensures) in
     omega (arith, c.requires.room.atoms, ap body_atoms form)
 
-pub lines::put_body-put_column-requires-clause-clear : goal.lines::put_body-put_column-requires-clause-clear
-lines::put_body-put_column-requires-clause-clear g t c = λ n. c.requires.room.clear c.args.first n (omega arith)
+pub lines::put_body-put_nodes-requires-clause-clear : goal.lines::put_body-put_nodes-requires-clause-clear
+lines::put_body-put_nodes-requires-clause-clear g t c = λ n. c.requires.room.clear c.args.first n (omega arith)
 
 pub lines::put_body-returns-in_ok-held-in-Atom-clause-value : goal.lines::put_body-returns-in_ok-held-in-Atom-clause-value
 lines::put_body-returns-in_ok-held-in-Atom-clause-value g t c =
     atom_form (searched_tree c.args.game.now c.args.variations) c.args.back c.args.names.now
-    (IsLive c.args.live.now) c.put_column.new.table c.args.first (body_tree c.args.body.now) (filter_tree c.deref.result.now)
+    (IsLive c.args.live.now) c.put_nodes.new.table c.args.first (body_tree c.args.body.now) (filter_tree c.deref.result.now)
     (ap body_tree c.in-Atom.is ∙ ap (λ p. atom (filter_tree p)) (sym c.deref.ensures))
-    (atom_tabled (searched_tree c.args.game.now c.args.variations) c.args.back c.put_column.new.table c.args.first c.in_ok-column-in-Atom.column
+    (atom_tabled (searched_tree c.args.game.now c.args.variations) c.args.back c.put_nodes.new.table c.args.first c.in_ok-column-in-Atom.column
     (value (searched_tree c.args.game.now c.args.variations) [] c.args.names.now (filter_tree c.deref.result.now)) c.args.live.now c.requires.asked
-    c.in_ok-column-in-Atom.ensures.value c.put_column.ensures.put)
+    c.in_ok-column-in-Atom.ensures.value
+    (held_put _ c.args.live.now c.in_ok-column-in-Atom.column c.in_ok-held-in-Atom.held.items c.deref-in-Atom.result.now _ _ c.put_nodes.new.table c.in_ok-held-in-Atom.ensures c.deref-in-Atom.ensures.value c.put_nodes.ensures.put))
 
 pub lines::put_body-returns-in_ok-held-in-Atom-clause-never : goal.lines::put_body-returns-in_ok-held-in-Atom-clause-never
 lines::put_body-returns-in_ok-held-in-Atom-clause-never g t c =
     λ b m. never_form (searched_tree c.args.game.now c.args.variations) c.args.back c.args.names.now (IsLive c.args.live.now)
     (body_tree c.args.body.now) (filter_tree c.deref.result.now) (ap body_tree c.in-Atom.is ∙ ap (λ p. atom (filter_tree p)) (sym c.deref.ensures))
-    (atom_never (searched_tree c.args.game.now c.args.variations) c.args.back c.put_column.new.table c.args.first c.in_ok-column-in-Atom.column
+    (atom_never (searched_tree c.args.game.now c.args.variations) c.args.back c.put_nodes.new.table c.args.first c.in_ok-column-in-Atom.column
     (value (searched_tree c.args.game.now c.args.variations) [] c.args.names.now (filter_tree c.deref.result.now)) c.args.live.now c.requires.asked
-    c.in_ok-column-in-Atom.ensures.value c.put_column.ensures.put c.in_ok-held-in-Atom.held.items c.in_ok-held-in-Atom.ensures
-    (ap (list_any (λ x. x)) (sym c.deref-in-Atom.ensures.value) ∙ sym c.any_live-some.ensures ∙ not_some _ _ b (sym c.both.ensures ∙ m)))
+    c.in_ok-column-in-Atom.ensures.value
+    (held_put _ c.args.live.now c.in_ok-column-in-Atom.column c.in_ok-held-in-Atom.held.items c.deref-in-Atom.result.now _ _ c.put_nodes.new.table c.in_ok-held-in-Atom.ensures c.deref-in-Atom.ensures.value c.put_nodes.ensures.put)
+    c.in_ok-held-in-Atom.held.items c.in_ok-held-in-Atom.ensures
+    (ap (list_any (λ x. x)) (sym c.deref-in-Atom-2.ensures.value) ∙ sym c.any_live-some.ensures ∙ not_some _ _ b (sym c.both.ensures ∙ m)))
 
 pub lines::put_marked-returns-clause-leads : goal.lines::put_marked-returns-clause-leads
 lines::put_marked-returns-clause-leads g t c =
@@ -483,27 +487,28 @@ lines::put_part-returns-in-Once-clause-ends g t c =
 
 pub lines::put_atom-returns-clause-leads : goal.lines::put_atom-returns-clause-leads
 lines::put_atom-returns-clause-leads g t c =
-    atom_leads (searched_tree c.args.game.now c.args.variations) c.args.back c.put_column.new.table c.args.first c.in_ok-column.column
+    atom_leads (searched_tree c.args.game.now c.args.variations) c.args.back c.put_nodes.new.table c.args.first c.in_ok-column.column
     (value (searched_tree c.args.game.now c.args.variations) [] c.args.names.now (filter_tree c.args.filter.now))
-    c.args.live.now c.requires.asked c.in_ok-column.ensures.value c.put_column.ensures.put c.in_ok-held.held.items c.in_ok-held.ensures c.in_ok-behind.behind.items
-    (onward_at (searched_tree c.args.game.now c.args.variations) c.args.back c.in_ok-held.held.items c.deref-2.result.now c.in_ok-behind.behind.items c.deref-2.ensures.value c.in_ok-behind.ensures)
+    c.args.live.now c.requires.asked c.in_ok-column.ensures.value
+    (held_put _ c.args.live.now c.in_ok-column.column c.in_ok-held.held.items c.deref.result.now _ _ c.put_nodes.new.table c.in_ok-held.ensures c.deref.ensures.value c.put_nodes.ensures.put)
+    c.in_ok-held.held.items c.in_ok-held.ensures c.in_ok-behind.behind.items
+    (onward_at (searched_tree c.args.game.now c.args.variations) c.args.back c.in_ok-held.held.items c.deref-3.result.now c.in_ok-behind.behind.items c.deref-3.ensures.value c.in_ok-behind.ensures)
 
 pub lines::line_numbers-returns-then-not-met-clause-value : goal.lines::line_numbers-returns-then-not-met-clause-value
 lines::line_numbers-returns-then-not-met-clause-value g t c =
-    if_ok_map c.no_numbers.result _ _
-    (λ numbers is n l. no_line (searched_tree c.args.game.now c.args.variations) c.requires.tree c.args.names.now c.args.line.now numbers.items (length c.args.game.now.nodes) is
+    λ n l. no_line (searched_tree c.args.game.now c.args.variations) c.requires.tree c.args.names.now c.args.line.now c.new.result.items c.new.ensures.items
     (c.in_ok-table.ensures.never refl c.if-not-met.true) n
-    (c.requires.asked.searched n l, let inside = live_below c.args.live.now n l in omega (arith, inside, c.requires.asked.count))) c.no_numbers.ensures
+    (c.requires.asked.searched n l, let inside = live_below c.args.live.now n l in omega (arith, inside, c.requires.asked.count))
 
 pub lines::line_numbers-returns-then-not-met-clause-cost : goal.lines::line_numbers-returns-then-not-met-clause-cost
 lines::line_numbers-returns-then-not-met-clause-cost g t c =
     atoms_within (length c.args.game.now.nodes) c.args.line.now _ c.filled_table.new.steps c.filled_table.ensures.cost
 
-pub lines::put_atom-put_column-requires-clause-atom : goal.lines::put_atom-put_column-requires-clause-atom
-lines::put_atom-put_column-requires-clause-atom g t c = omega (arith, c.requires.room.atoms)
+pub lines::put_atom-put_nodes-requires-clause-atom : goal.lines::put_atom-put_nodes-requires-clause-atom
+lines::put_atom-put_nodes-requires-clause-atom g t c = omega (arith, c.requires.room.atoms)
 
-pub lines::put_atom-put_column-requires-clause-clear : goal.lines::put_atom-put_column-requires-clause-clear
-lines::put_atom-put_column-requires-clause-clear g t c = λ n. c.requires.room.clear c.args.first n (omega arith)
+pub lines::put_atom-put_nodes-requires-clause-clear : goal.lines::put_atom-put_nodes-requires-clause-clear
+lines::put_atom-put_nodes-requires-clause-clear g t c = λ n. c.requires.room.clear c.args.first n (omega arith)
 
 pub lines::line_numbers-parts_pattern-requires : goal.lines::line_numbers-parts_pattern-requires
 lines::line_numbers-parts_pattern-requires g t c = omega (arith, few_atoms _ (line_flat c.args.line.now c.requires.flat).0)
@@ -637,10 +642,13 @@ evaluate-returns-in-Any-clause-value g t c =
 
 pub played::played_truths-returns-clause-value : goal.played::played_truths-returns-clause-value
 played::played_truths-returns-clause-value g t c = λ n l.
-    c.in_ok-truths.ensures n l
-    ∙ move_is (searched_tree c.args.game.now c.args.variations) c.args.names.now c.args.played.now c.args.live.now c.in_ok-wide.wide.items c.deref.result.now c.deref-2.result.now
+    let looked : ArePromoting (searched_tree c.args.game.now c.args.variations) c.is_some-promotes.result c.args.live.now c.as_slice-some.result.now
+    = subst (ArePromoting (searched_tree c.args.game.now c.args.variations) c.is_some-promotes.result c.args.live.now) (sym c.as_slice-some.ensures.value) c.in_ok-some.ensures in
+    met_is (searched_tree c.args.game.now c.args.variations) c.args.names.now c.args.played.now c.args.live.now c.as_slice-some.result.now c.is_some-promotes.result
+    _ _ n c.is_some-promotes.ensures looked l (c.in_ok-truths.ensures n)
+    (move_is (searched_tree c.args.game.now c.args.variations) c.args.names.now c.args.played.now c.as_slice-some.result.now c.in_ok-wide.wide.items c.deref.result.now c.deref-2.result.now
     c.in_ok-origin.origin c.in_ok-goal.goal c.in_ok-taken.taken c.in_ok-promoted.promoted c.in_ok-wide.ensures c.deref.ensures.value c.deref-2.ensures.value
-    c.in_ok-origin.ensures.value c.in_ok-goal.ensures.value c.in_ok-taken.ensures.value c.in_ok-promoted.ensures.value n l
+    c.in_ok-origin.ensures.value c.in_ok-goal.ensures.value c.in_ok-taken.ensures.value c.in_ok-promoted.ensures.value n)
 
 pub played::written_column-returns-in_ok-column-in-Some-clause-value : goal.played::written_column-returns-in_ok-column-in-Some-clause-value
 played::written_column-returns-in_ok-column-in-Some-clause-value g t c =
