@@ -9,11 +9,11 @@ use Rattle.cq_run.specs.Queries.{IsQuery, IsQueryFault}
 use Rattle.cq_run.specs.declared.query_files.ManyFault.{ManyFault}
 use Rattle.cq_run.specs.declared.query_files.ManyFault.TheVariants.{TooLong, TooMany, Faulty}
 
--- the bytes of a file of queries
+-- the most bytes that a file of queries may have
 abbrev pub most_in_file : ℕ
 most_in_file = 1048576
 
--- its queries
+-- the most queries that it may have
 abbrev pub most_queries : ℕ
 most_queries = 16
 

@@ -9,7 +9,7 @@ pub enum Status {
     Done,
     /// All games that were asked for are answered, and some are refused.
     DoneWithRefusals,
-    /// The query is faulty.
+    /// The query is faulty or, of a file of queries, one of them; or the file has too many bytes or queries.
     QueryRefused,
     /// The words are not those of a command.
     WordsRefused,

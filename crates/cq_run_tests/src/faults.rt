@@ -15,7 +15,7 @@ type Row<'a> = (&'a str, &'a str, &'a str, Failing<'a>, (Status, usize));
 
 const INITIAL: &str = "cql() initial";
 
-static ROWS: [Row<'static>; 5] = [
+static ROWS: [Row<'static>; 8] = [
     (
         "run",
         INITIAL,
@@ -36,6 +36,27 @@ static ROWS: [Row<'static>; 5] = [
         "*",
         (&[], &[1], &[], &[]),
         (Status::ReadFault, 0),
+    ),
+    (
+        "many",
+        INITIAL,
+        "*",
+        (&[1], &[], &[], &[]),
+        (Status::OpenFault, 0),
+    ),
+    (
+        "many",
+        INITIAL,
+        "*",
+        (&[], &[1], &[], &[]),
+        (Status::ReadFault, 0),
+    ),
+    (
+        "many",
+        INITIAL,
+        "*",
+        (&[], &[], &[1], &[]),
+        (Status::WriteFault, 0),
     ),
     (
         "eval",
@@ -77,14 +98,14 @@ fn part_of_exports(alloc: Global, count: usize) -> Result<Bytes, NoMemory> {
     Bytes::from_slice(alloc, &all[..count.min(all.len())])
 }
 
-// The words of a mode: the query's file or its text, standard input, and so many workers.
+// The words of a mode: the query's file or, of `eval`, its text, standard input, and so many workers.
 fn words_of<'a>(
     alloc: Global,
     mode: &'a str,
     query: &'a str,
     workers: &'a str,
 ) -> Result<Vec<String>, AllocError> {
-    let asked = if mode == "run" { "q.cql" } else { query };
+    let asked = if mode == "eval" { query } else { "q.cql" };
     texts_of(alloc, &[mode, asked, "-", "--workers", workers])
 }
 

@@ -71,15 +71,16 @@ fn expect<R: Threads + Sync + Abort>(
     Ok(())
 }
 
-/// A query and two archives: a game that it finds, and one that is faulty.
-static FILES: [(&str, &str); 3] = [
+/// A query, two queries, and two archives: a game that the first finds, and one that is faulty.
+static FILES: [(&str, &str); 4] = [
     ("q.cql", "cql() Ka1"),
+    ("two.cql", "cql() Ka1\n%%\ncql() mate\n"),
     ("-", "[FEN \"8/8/8/8/8/8/8/K1k5 w - - 0 1\"]\n*\n"),
     ("faulty.pgn", "1. e5 *\n"),
 ];
 
 /// Words that write no game, their status, and the texts of both sinks.
-static MODES: [(&[&str], Status, &str, &str); 6] = [
+static MODES: [(&[&str], Status, &str, &str); 7] = [
     (&["check", "q.cql"], Status::Done, "ok\n", ""),
     (
         &["explain", "q.cql"],
@@ -98,6 +99,12 @@ static MODES: [(&[&str], Status, &str, &str); 6] = [
         Status::DoneWithRefusals,
         "",
         "game 1 byte 3: illegal move\ngames 1 matched 0 refused 1\n",
+    ),
+    (
+        &["many", "two.cql", "faulty.pgn"],
+        Status::DoneWithRefusals,
+        "query 1 bytes 0\nquery 2 bytes 0\n",
+        "game 1 byte 3: illegal move\ngames 1 matched 0 refused 1\ngames 1 matched 0 refused 1\n",
     ),
     (
         &["eval", "cql() echo"],
@@ -137,6 +144,22 @@ fn one_worker_and_four_write_the_same(rt: HostRuntime) -> Result<(), Fail> {
     expect(&rt, alloc, &one, &FILES, want)?;
     let four = ["eval", "cql() Ka1", "-", "--workers", "4"];
     expect(&rt, alloc, &four, &FILES, want)
+}
+
+#[test]
+fn each_query_of_a_file_has_its_exports(rt: HostRuntime) -> Result<(), Fail> {
+    let alloc = rt.alloc();
+    let text = written(alloc, ("8/8/8/8/8/8/8/K1k5 w - - 0 1", "*", "{CQL} *"))?;
+    let mut out = Bytes::new(alloc);
+    out.push_all(b"query 1 bytes 151\n")?;
+    out.push_all(text.as_slice())?;
+    out.push_all(b"query 2 bytes 0\n")?;
+    let want = (
+        Status::Done,
+        out.as_slice(),
+        "games 1 matched 1 refused 0\ngames 1 matched 0 refused 0\n",
+    );
+    expect(&rt, alloc, &["many", "two.cql"], &FILES, want)
 }
 
 /// The query that a text is.

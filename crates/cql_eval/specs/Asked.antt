@@ -5,7 +5,7 @@ use Rattle.cql_syntax.specs.Values.{Value, has}
 use Rattle.cql_values.specs.Asked.{settles}
 use Rattle.cql_eval.specs.Columns.{is_live}
 
--- those at which this square is of the set
+-- the nodes of a set at which a value has square s
 pub record AreHaving (x : ℕ → Value) (s : ℕ) (left there : List Bool) : Type 0 where
   pub count : length there ≡ length left
   pub each : (n : ℕ) → is_live there n ≡ (is_live left n && has (x n) s)
@@ -15,7 +15,7 @@ pub record AreUnsettled (every : Bool) (x : ℕ → Value) (asked : ℕ → Bool
   pub count : length later ≡ length left
   pub each : (n : ℕ) → is_live later n ≡ (is_live left n && not (settles every (has (x n)) (λ t. asked n) s))
 
--- those of a set that are not settled, where the squares are theirs and a column has what is asked
+-- the nodes of a set that a square does not settle, from those of them at which it is tried and from what is asked of it there
 pub record AreLeft (every : Bool) (asked : ℕ → Bool) (left there later : List Bool) : Type 0 where
   pub count : length later ≡ length left
   pub each : (n : ℕ) → is_live later n ≡ (is_live left n && not (is_live there n && (if every then not (asked n) else asked n)))

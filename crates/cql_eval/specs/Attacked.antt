@@ -1,4 +1,4 @@
--- What is asked of a square, where it is whether a man on it attacks a square of a designator, as the private functions give it.
+-- Filters that ask whether a man on the square of a name attacks a man of a designator.
 use Rattle.std.specs.Prelude.{◌≡◌, ℕ, ◌<◌, ◌∷◌, [], ◌&&◌, ◌==◌, List, Some}
 use Rattle.std.specs.List.{list_any}
 use Rattle.cq_geometry.specs.Squares.{squares}

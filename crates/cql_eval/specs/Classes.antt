@@ -1,4 +1,4 @@
--- In what order filters are asked: those that cost least come first.
+-- In what order filters are asked: class by class, by their outermost form, a guess at what they cost.
 use Rattle.std.specs.Prelude.{◌≡◌, ℕ, ◌+◌, ◌&&◌, ◌||◌, ◌==◌, nat_lt, not, Bool, true, false, List, [], if◌then◌else◌}
 use Rattle.cq_position.specs.Search.{SearchedTree}
 use Rattle.cql_syntax.specs.Meaning.{Names, value}
@@ -40,7 +40,7 @@ is_of class f = filter_class f == class
 abbrev pub is_before : ℕ → FilterTree → Bool
 is_before class f = nat_lt (filter_class f) class
 
--- a filter that is taken holds, or doesn't, as it is wanted
+-- a filter that passes a test holds or, where `want` is false, doesn't; of others nothing is asked
 abbrev pub is_so_if : (FilterTree → Bool) → SearchedTree → Names → Bool → FilterTree → ℕ → Bool
 is_so_if taken tree e want f n = not (taken f) || is_so want (holds (value tree [] e f n))
 

@@ -36,7 +36,7 @@ all_shown columns n = map (λ c. shown c n) columns
 abbrev pub terms_shown : List (Bool × FilterColumn) → ℕ → List (Bool × Value)
 terms_shown terms n = map (λ term. (term.0, shown term.1 n)) terms
 
--- at each node that is asked for it is so
+-- a statement about nodes is true of each that is asked for
 abbrev pub Where : List Bool → (ℕ → Type 0) → Type 0
 Where live P = (n : ℕ) → is_live live n ≡ true → P n
 
@@ -53,7 +53,7 @@ AreSets sets live v = Where live (λ n. meant (Set (get_or sets n 0)) ≡ v n)
 abbrev pub AreValues : List Kept → List Bool → (ℕ → Value) → Type 0
 AreValues values live v = Where live (λ n. meant (get_or values n (Truth false)) ≡ v n)
 
--- whether it is as it is wanted that something holds
+-- whether a truth is the one that is wanted
 abbrev pub is_so : Bool → Bool → Bool
 is_so want b = if want then b else not b
 
@@ -73,7 +73,7 @@ pub record IsNumbered (live : List Bool) (c : FilterColumn) (left : List Bool) :
   pub count : length left ≡ length live
   pub each : (n : ℕ) → is_live left n ≡ (is_live live n && is_some (amount (shown c n)))
 
--- the same as the part at which it holds, of a game's nodes that are asked for
+-- of a game's nodes that are asked for those at which a column holds, or doesn't
 pub record IsPart (tree : SearchedTree) (live : List Bool) (c : FilterColumn) (want : Bool) (left : List Bool) : Type 0 where
   pub asked : AreAsked tree left
   pub narrowed : IsNarrowed live c want left

@@ -42,17 +42,18 @@ abbrev pub Leads : SearchedTree → Bool → ℕ → ℕ → Type 0
 Leads tree true n m = is_below tree.game.nodes m n ≡ true
 Leads tree false n m = (is_below tree.game.nodes n m ≡ true) × IsAsked tree m
 
--- the nodes that a step leads to from those of a set
+-- searched nodes, among them all that a step leads to from those of a set
 pub record AreOnward (tree : SearchedTree) (back : Bool) (live next : List Bool) : Type 0 where
   pub asked : AreAsked tree next
   pub covers : (n m : ℕ) → IsLive live n → IsStep tree back false n m → IsLive next m
 
--- the nodes that ways lead to from those of a set
+-- searched nodes, among them all that ways lead to from those of a set
 pub record AreReached (tree : SearchedTree) (back : Bool) (live wide : List Bool) : Type 0 where
   pub asked : AreAsked tree wide
   pub covers : (n m : ℕ) → IsLive live n → Leads tree back n m → IsLive wide m
 
--- A part of a row is asked for where it may begin: whatever follows it need be right only on ways from where it may follow.
+-- What a part of a row and all that follows it spell on ways from the nodes of one set is right where what follows is right on ways from
+-- those of the next set.
 pub record LeadsOn (tree : SearchedTree) (back : Bool) (old new : List Bool) (table : AtomTable) (past : ℕ) (p : Pattern ℕ)
     (r : Pattern (ℕ → Value)) : Type 0 where
   pub asked : AreAsked tree new
@@ -62,7 +63,7 @@ pub record LeadsOn (tree : SearchedTree) (back : Bool) (old new : List Bool) (ta
   pub never : (s : Pattern (ℕ → Value)) → IsNever (IsStep tree back false) (IsLive new) s
       → IsNever (IsStep tree back false) (IsLive old) (joined r s)
 
--- a way that begins so isn't spelled, whatever follows the part
+-- no way from the nodes of a set is spelled by a part, whatever follows it
 abbrev pub EndsHere : SearchedTree → Bool → List Bool → Pattern (ℕ → Value) → Type 0
 EndsHere tree back live r = (s : Pattern (ℕ → Value)) → IsNever (IsStep tree back false) (IsLive live) (joined r s)
 

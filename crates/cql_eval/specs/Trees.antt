@@ -17,29 +17,29 @@ abbrev pub is_below_live : SearchedTree → (live wide : List Bool) → ℕ → 
 is_below_live tree live wide k =
     is_searched tree.variations tree.game.nodes k && (is_live live k || flag_of wide (node_at tree.game.nodes k).parent)
 
--- all searched nodes below a node that is asked for
+-- searched nodes, among them all below a node that is asked for
 pub record IsBelowLive (tree : SearchedTree) (live wide : List Bool) : Type 0 where
   pub asked : AreAsked tree wide
   pub covers : (n k : ℕ) → is_live live n ≡ true → k < length tree.game.nodes → is_below tree.game.nodes n k ≡ true
       → Searched tree k → is_live wide k ≡ true
 
--- all nodes on the way up from a node that is asked for
+-- searched nodes, among them all on the way up from a node that is asked for
 pub record IsAboveLive (tree : SearchedTree) (live wide : List Bool) : Type 0 where
   pub asked : AreAsked tree wide
   pub covers : (n m : ℕ) → is_live live n ≡ true → is_below tree.game.nodes m n ≡ true → is_live wide m ≡ true
 
--- all searched children of a node that is asked for
+-- searched nodes, among them all children of a node that is asked for
 pub record AreChildrenOfLive (tree : SearchedTree) (live wide : List Bool) : Type 0 where
   pub asked : AreAsked tree wide
   pub covers : (n k : ℕ) → is_live live n ≡ true → (node_at tree.game.nodes k).parent ≡ Some n → k < length tree.game.nodes
       → Searched tree k → is_live wide k ≡ true
 
--- the parent of each node that is asked for
+-- searched nodes, among them the parent of each node that is asked for
 pub record AreParentsOfLive (tree : SearchedTree) (live wide : List Bool) : Type 0 where
   pub asked : AreAsked tree wide
   pub covers : (n p : ℕ) → is_live live n ≡ true → (node_at tree.game.nodes n).parent ≡ Some p → is_live wide p ≡ true
 
--- the node before each node that is asked for
+-- searched nodes, among them the node before each node that is asked for
 pub record AreBeforeLive (tree : SearchedTree) (live wide : List Bool) : Type 0 where
   pub asked : AreAsked tree wide
   pub covers : (n : ℕ) → is_live live n ≡ true → is_live wide (before tree n) ≡ true

@@ -11,8 +11,8 @@ pub(crate) const CLASSES: u32 = 6;
 /// The class of the sort items, the last.
 pub const SORTS: u32 = 5;
 
-/// The class of a filter, by what it costs to ask: the lowest least. What is the same at all nodes, words and designators, what has
-/// parts, lines, squares that are tried one by one, sort items.
+/// The class of a filter, by its outermost form, a guess at what it costs: what is the same at all nodes, words and designators, what
+/// has parts, lines, squares that are tried one by one, sort items.
 #[tactic(auto, unfolding(crate::specs::Classes::form_class))]
 pub fn class_of(filter: &Filter) -> u32
     ensures { result ≡ filter_class (filter_tree filter.now) }

@@ -62,8 +62,8 @@ pub fn columns<L: Ledger>(
     Ok(Column { hits: left, keys })
 }
 
-/// Where all items of a query hold in a game, and the values of its sort items there alone: those that cost least are asked first, each
-/// where those before it hold, and the sort items last.
+/// Where all items of a query hold in a game, and the values of its sort items there alone. The items are asked class by class, each where
+/// those before it hold, and the sort items last.
 ///
 /// Each searched node is a step, and so is each look at the atoms of a line.
 pub fn hit_columns<L: Ledger>(

@@ -6,7 +6,7 @@ use crate::drawn::DRAWN;
 use crate::games::GAMES;
 use crate::queries::{FORMS, PAGES};
 use cq_outside::{NoMemory, Refusal, Steps};
-use cql_eval::{Column, columns};
+use cql_eval::{Column, columns, hit_columns};
 use cql_kinds::check;
 use cql_lexer::query_tokens;
 use cql_parser::{parse, spelled_queries_have_no_any, tokens_of_a_text_are_ended};
@@ -44,6 +44,19 @@ fn counted<L: Ledger>(
     columns(alloc, query, game, &mut steps)
 }
 
+fn counted_hits<L: Ledger>(
+    alloc: Global,
+    query: &FlatQuery,
+    game: &Game,
+    blank: Blank,
+) -> Result<Column, NoMemory>
+    requires { (blank.name ≡ L.name) × (blank.parts ≡ L.parts) × (0 < blank.parts) }
+    ensures { IfOk result (λ column. length (hits_of column) ≡ length game.now.nodes) }
+{
+    let mut steps = Steps::<L>::new(blank);
+    hit_columns(alloc, query, game, &mut steps)
+}
+
 const GAME: &[u8] = b"[White \"A\"]\n[WhiteElo \"2300\"]\n\n\
 1. e4 e5 (1... c5 2. Nf3 d6 (2... Nc6 3. Bb5 a6) 3. d4 cxd4) 2. Nf3 Nc6 3. Bb5 a6 {why} 4. Bxc6 dxc6 5. O-O f6 6. d4 exd4 7. Nxd4 c5 \
 8. Nb3 Qxd1 9. Rxd1 Bg4 10. f3 Be6 11. Nc3 Bd6 12. Be3 b6 13. a4 O-O-O (13... Kf7 14. Rxd6) 14. a5 Kb7 15. e5 Be7 \
@@ -75,14 +88,23 @@ pub(crate) fn found(alloc: Global, query: &FlatQuery, game: &Game) -> Result<Col
     counted::<Brand>(alloc, query, game, Blank::new(1))
 }
 
-// Compares the column of a query with the plain evaluator at each node of a game.
+// The same, with the values of sort items at the hits alone.
+fn hits_found(alloc: Global, query: &FlatQuery, game: &Game) -> Result<Column, NoMemory>
+    ensures { IfOk result (λ column. length (hits_of column) ≡ length game.now.nodes) }
+{
+    counted_hits::<Brand>(alloc, query, game, Blank::new(1))
+}
+
+// Compares the columns of a query with the plain evaluator at each node of a game.
 fn compare<R: Abort>(rt: &R, alloc: Global, text: &[u8], game: &[u8]) -> Result<(), Fail> {
     let query = flat_query(alloc, text)?;
     let game = read_game(alloc, game, 0, true)?;
     let column = found(alloc, &query, &game)?;
+    let hits = hits_found(alloc, &query, &game)?;
     for node in 0..game.len() {
-        let expected = holds_plainly(alloc, &query, &game, node)?;
-        assert_eq!(rt; column.hit(node), expected, "{text:?} at {node}");
+        let held = holds_plainly(alloc, &query, &game, node)?;
+        let answered = (column.hit(node), hits.hit(node));
+        assert_eq!(rt; answered, (held, held), "{text:?} at {node}");
     }
     Ok(())
 }

@@ -73,8 +73,8 @@ pub(super) fn none_holds<L: Ledger>(
     Ok(left)
 }
 
-/// Of the nodes of a set those at which each filter of a class before `past` holds, or each doesn't: class by class, those that cost
-/// least first, each filter where those before it leave something open.
+/// Of the nodes of a set those at which each filter of a class before `past` holds, or each doesn't: class by class, each filter where
+/// those before it leave something open.
 #[cycle(evaluate)]
 pub(crate) fn left_by<L: Ledger>(
     alloc: Global,
