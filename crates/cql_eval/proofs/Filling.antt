@@ -117,11 +117,29 @@ any_default [] k d e h = absurd (omega (arith, h))
 any_default (x ∷ l) zero d e h = refl
 any_default (x ∷ l) (suc k) d e h = any_default l k d e (omega (arith, h))
 
+-- the same of a list that is written over
+pub record ToldTo (test : ℕ → Bool) (end k : ℕ) (items : List Bool) : Type 0 where
+  pub count : length items ≡ end
+  pub each : (n : ℕ) → n < k → get_or items n false ≡ test n
+
+pub put_told : (test : ℕ → Bool) (end k : ℕ) (items later : List Bool) (x : Bool) → k < end → later ≡ slice_set items k x → x ≡ test k → ToldTo test end k items
+    → ToldTo test end (k + 1) later
+put_told test end k items later x low is new had = record {
+  count = ap length is ∙ length-set items k x ∙ had.count;
+  each = λ n h. ap (λ l. get_or l n false) is ∙ ⊎_elim
+      (λ less. get_or-set_other items k n x false (λ e. omega (arith, less, e)) ∙ had.each n less)
+      (λ same. ap (λ i. get_or (slice_set items k x) i false) same ∙ get_or-set_same items k x false (omega (arith, low, had.count)) ∙ new ∙ ap test (sym same))
+      (split_last n k h);
+}
+
+pub told_whole : (test : ℕ → Bool) (end k : ℕ) (items : List Bool) → end ≡ k → ToldTo test end k items → Told test k items
+told_whole test end k items same had = record { count = had.count ∙ same; each = had.each }
+
 -- the same of nodes of a set
-pub told_asked : (live : List Bool) (test : ℕ → Bool) (k : ℕ) (items later : List Bool) (d x : Bool) → k < length live → later ≡ items ++ x ∷ [] → x ≡ (get_or live k d && test k)
-    → Told (λ n. get_or live n false && test n) k items → Told (λ n. get_or live n false && test n) (k + 1) later
-told_asked live test k items later d x low is new had =
-    told_more (λ n. get_or live n false && test n) k items later x is (new ∙ ap (λ b. b && test k) (any_default live k d false low)) had
+pub put_asked : (live : List Bool) (test : ℕ → Bool) (end k : ℕ) (items later : List Bool) (d x : Bool) → k < length live → k < end → later ≡ slice_set items k x
+    → x ≡ (get_or live k d && test k) → ToldTo (λ n. get_or live n false && test n) end k items → ToldTo (λ n. get_or live n false && test n) end (k + 1) later
+put_asked live test end k items later d x inside low is new had =
+    put_told (λ n. get_or live n false && test n) end k items later x low is (new ∙ ap (λ b. b && test k) (any_default live k d false inside)) had
 
 pub both_left : (a b : Bool) → (a && b) ≡ true → a ≡ true
 both_left true b e = refl

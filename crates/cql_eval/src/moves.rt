@@ -8,7 +8,7 @@ ghost use Rattle.cql_values.specs.Trees.{searched_tree};
 ghost use Rattle.cql_eval.specs.Columns.{AreAsked, AreKept, is_live, shown};
 ghost use Rattle.cql_eval.specs.Promoting.{ArePromoting, is_promotion};
 
-use crate::filter_column::FilterColumn;
+use crate::filter_column::{FilterColumn, blank_truths};
 use crate::nodes::same;
 use crate::spans::{asked_end, first_asked};
 use cq_outside::NoMemory;
@@ -80,9 +80,9 @@ pub(crate) fn moves_met(
         (option_map (λ c. shown c (meaning.before (searched_tree game.now variations) n)) taken.now)
         (option_map (λ c. shown c n) promoted.now))) }
 {
-    let mut truths = Vec::with_capacity(alloc, game.len() as usize)?;
+    let mut truths = blank_truths(alloc, game.len() as usize)?;
     for n in 0..game.len() {
-        let met = is_met(
+        truths[n as usize] = is_met(
             live[n as usize],
             game,
             variations,
@@ -92,7 +92,6 @@ pub(crate) fn moves_met(
             promoted,
             n,
         );
-        truths.push(met)?;
     }
     Ok(truths)
 }

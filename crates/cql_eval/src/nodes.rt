@@ -7,7 +7,7 @@ ghost use Rattle.cql_values.specs.Trees.{searched_tree};
 ghost use Rattle.cql_eval.specs.Columns.{IsNarrowed, AreAsked, IsPart};
 ghost use Rattle.cql_eval.specs.LineAtoms.{AreAllAsked};
 
-use crate::filter_column::FilterColumn;
+use crate::filter_column::{FilterColumn, blank_truths};
 use crate::narrow::narrow;
 use cq_outside::{NoMemory, Steps};
 use cql_values::walks::is_searched;
@@ -40,10 +40,9 @@ pub(crate) fn searched_nodes<L: Ledger>(
 pub(crate) fn all_nodes(alloc: Global, game: &Game, variations: bool) -> Result<Vec<bool>, NoMemory>
     ensures { IfOk result (λ all. AreAllAsked (searched_tree game.now variations) all.items) }
 {
-    let mut all = Vec::with_capacity(alloc, game.len() as usize)?;
+    let mut all = blank_truths(alloc, game.len() as usize)?;
     for k in 0..game.len() {
-        let there = is_searched(game, variations, k);
-        all.push(there)?;
+        all[k as usize] = is_searched(game, variations, k);
     }
     Ok(all)
 }

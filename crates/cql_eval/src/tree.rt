@@ -6,7 +6,7 @@ ghost use Rattle.cql_eval.specs.Columns.{AreAsked};
 ghost use Rattle.cql_eval.specs.SpelledParts.{AreOnward, AreReached};
 ghost use Rattle.cql_eval.specs.Trees.{IsBelowLive, IsAboveLive, AreChildrenOfLive, AreParentsOfLive, AreBeforeLive, is_below_live, flag_of, IsRaised, AreRaised, AreLowered, HasParents};
 
-use crate::filter_column::truth_at;
+use crate::filter_column::{blank_truths, truth_at};
 use crate::nodes::same;
 use cq_outside::NoMemory;
 use cql_values::walks::is_searched;
@@ -152,10 +152,9 @@ pub(crate) fn children(
     requires asked { AreAsked (searched_tree game.now variations) live.now }
     ensures { IfOk result (λ wide. AreChildrenOfLive (searched_tree game.now variations) live.now wide.items) }
 {
-    let mut wide = Vec::with_capacity(alloc, game.len() as usize)?;
+    let mut wide = blank_truths(alloc, game.len() as usize)?;
     for k in 0..game.len() {
-        let there = is_searched(game, variations, k) && is_flagged(game.parent(k), live);
-        wide.push(there)?;
+        wide[k as usize] = is_searched(game, variations, k) && is_flagged(game.parent(k), live);
     }
     Ok(wide)
 }

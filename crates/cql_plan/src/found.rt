@@ -1,5 +1,5 @@
 //! The hits of a query in a game, and the keys of its sort items over them, from the query's column.
-ghost use Rattle.std.specs.Prelude.{◌≡◌, ◌≢◌, ◌+◌, ◌<◌, ◌++◌, ◌∷◌, [], length, map, true, Some, All, AllPairs, IfOk, OnOk, if◌then◌else◌};
+ghost use Rattle.std.specs.Prelude.{◌≡◌, ◌≢◌, ◌+◌, ◌<◌, ◌++◌, [], length, map, true, Some, All, AllPairs, IfOk, OnOk};
 ghost use Rattle.cql_eval.specs.Hits.{hits_of, keys_of, hit_column, item_numbers, AreKeysAtHits};
 ghost use Rattle.cql_syntax.specs.Hits.{hits_in, all_keys, item_keys};
 ghost use Rattle.cql_syntax.specs.TreeOf.{filter_tree, filters_tree};
@@ -11,6 +11,7 @@ use crate::keys::key_over;
 use cq_outside::NoMemory;
 use cql_eval::Column;
 use cql_syntax::{Filter, FlatQuery, Form};
+use cql_values::walks::push_if;
 use pgn_tree::Game;
 use std::alloc::Global;
 
@@ -40,16 +41,6 @@ pub(crate) fn hits(alloc: Global, told: &Told) -> Result<Vec<u32>, NoMemory>
         push_if(&mut found, there, k)?;
     }
     Ok(found)
-}
-
-// Adds a node where it is asked.
-fn push_if(found: &mut Vec<u32>, there: bool, node: u32) -> Result<(), NoMemory>
-    ensures { OnOk result (found.new.items ≡ found.old.items ++ (if there then node ∷ [] else [])) }
-{
-    if there {
-        found.push(node)?;
-    }
-    Ok(())
 }
 
 /// One key for each sort item over the hits, the first item foremost: its greatest value there, or with `min` the least. Over no nodes

@@ -93,8 +93,8 @@ pub fn both(a: bool, b: bool) -> bool
     a && b
 }
 
-// Adds a node where it is asked.
-fn push_if(nodes: &mut Vec<u32>, there: bool, node: u32) -> Result<(), NoMemory>
+/// Adds a node to a list where it is asked.
+pub fn push_if(nodes: &mut Vec<u32>, there: bool, node: u32) -> Result<(), NoMemory>
     ensures { OnOk result (nodes.new.items ≡ nodes.old.items ++ (if there then node ∷ [] else [])) }
 {
     if there {

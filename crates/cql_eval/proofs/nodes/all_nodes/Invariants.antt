@@ -1,6 +1,7 @@
+use Rattle.std.specs.Prelude.{length}
 use Rattle.cq_position.specs.Games.{is_searched}
-use Rattle.cql_eval.proofs.Filling.{Told}
+use Rattle.cql_eval.proofs.Filling.{ToldTo}
 use Rattle.cql_eval.proofs.nodes.all_nodes.Given as goal
 
 abbrev pub invariant-loop-k : goal.invariant-loop-k
-invariant-loop-k l = Told (is_searched l.variations l.game.nodes) l.k l.all.items
+invariant-loop-k l = ToldTo (is_searched l.variations l.game.nodes) (length l.game.nodes) l.k l.all.items

@@ -1,8 +1,8 @@
-use Rattle.std.specs.Prelude.{◌&&◌}
+use Rattle.std.specs.Prelude.{◌&&◌, length}
 use Rattle.cq_position.specs.Games.{is_searched, node_at}
 use Rattle.cql_eval.specs.Trees.{flag_of}
-use Rattle.cql_eval.proofs.Filling.{Told}
+use Rattle.cql_eval.proofs.Filling.{ToldTo}
 use Rattle.cql_eval.proofs.tree.children.Given as goal
 
 abbrev pub invariant-loop-k : goal.invariant-loop-k
-invariant-loop-k l = Told (λ k. is_searched l.variations l.game.nodes k && flag_of l.live (node_at l.game.nodes k).parent) l.k l.wide.items
+invariant-loop-k l = ToldTo (λ k. is_searched l.variations l.game.nodes k && flag_of l.live (node_at l.game.nodes k).parent) (length l.game.nodes) l.k l.wide.items
