@@ -56,6 +56,10 @@ is_of q p = is_among q p.askers.items
 abbrev pub meets : Game → ℕ → ℕ → Part → Bool
 meets game q n p = not (is_of q p) || part_holds game p n
 
+-- the class of sort items
+abbrev pub sort_class : ℕ
+sort_class = 5
+
 -- the part is of a class, or of one before it
 abbrev pub is_class : ℕ → Part → Bool
 is_class c p = p.class == c
@@ -122,7 +126,7 @@ pub record IsNarrowedIf (taken : Part → Bool) (game : Game) (p : Part) (left l
 
 -- the numbers of a sort item, at the nodes that are left to the queries that have it
 pub record HasRow (game : Game) (left : List Nodes) (p : Part) (row : List (Option ℤ)) : Type 0 where
-  pub each : p.class ≡ 5 → (q n : ℕ) → is_of q p ≡ true → is_left left q n ≡ true
+  pub each : p.class ≡ sort_class → (q n : ℕ) → is_of q p ≡ true → is_left left q n ≡ true
       → get_or row n None ≡ sort_number (tree_for game p) (shown p.single).filter n
 
 -- a row for each part, in order

@@ -10,7 +10,7 @@ use Rattle.cql_syntax.specs.Trees.{FilterTree, filter_at, FormTree, sort, QueryT
 use Rattle.cq_shared.specs.Askers.{asked_query}
 use Rattle.cq_shared.specs.Beginning.{begins}
 use Rattle.cq_shared.specs.Known.{all_shown}
-use Rattle.cq_shared.specs.Matching.{is_left, sort_number, tree_for}
+use Rattle.cq_shared.specs.Matching.{is_left, sort_class, sort_number, tree_for}
 use Rattle.cq_shared.specs.Parts.{parts_in, top_parts, are_at}
 use Rattle.cq_shared.specs.Places.{is_among}
 use Rattle.cq_shared.specs.Singles.{shown}
@@ -68,4 +68,4 @@ pub record IsFoundBy (game : Game) (parts : List Part) (a : Asker) (nodes : Node
   pub count : length rows ≡ length parts
   pub each : (k : ℕ) (p : Part) (r : Row) → p ≡ get_or parts k p → r ≡ get_or rows k r → k < length parts
       → is_among k a.numbers.items ≡ true
-      → p.class ≡ 5 → Where nodes.there.items (λ n. get_or r.numbers.items n None ≡ sort_number (tree_for game p) (shown p.single).filter n)
+      → p.class ≡ sort_class → Where nodes.there.items (λ n. get_or r.numbers.items n None ≡ sort_number (tree_for game p) (shown p.single).filter n)

@@ -3,7 +3,7 @@ ghost use Rattle.std.specs.Prelude.{◌≡◌, ℕ, ◌+◌, ◌<◌, ◌≤◌,
 ghost use Rattle.std.specs.List.{list_any};
 ghost use Rattle.cql_eval.specs.Columns.{AreAsked};
 ghost use Rattle.cql_eval.specs.Hits.{hits_of, keys_of};
-ghost use Rattle.cq_shared.specs.Matching.{tree_for, part_cost, cost_at, IsTold, IsRowAt};
+ghost use Rattle.cq_shared.specs.Matching.{tree_for, sort_class, part_cost, cost_at, IsTold, IsRowAt};
 ghost use Rattle.cq_shared.specs.Singles.{shown};
 
 use crate::part::Part;
@@ -41,7 +41,7 @@ pub(crate) fn numbers_at<L: Ledger>(
     steps: &mut Steps<L>,
 ) -> Result<Vec<Option<i64>>, NoMemory>
     requires asked { AreAsked (tree_for game.now part.now) live.now }
-    requires sort { part.now.class ≡ 5 }
+    requires sort { part.now.class ≡ sort_class }
     ensures told { IfOk result (λ row. IsRowAt game.now part.now live.now row.items) }
     ensures cost { steps.new ≤ steps.old + cost_at live.now (part_cost game.now (shown part.now.single)) }
 {

@@ -1,6 +1,6 @@
 //! One game against all parts of a plan.
 ghost use Rattle.std.specs.Prelude.{◌≡◌, true, map, is_some, IfOk};
-ghost use Rattle.cq_shared.specs.Matching.{is_before, is_class, AreLeft, AreReady, IsReady, IsNarrowedBy, IsNarrowedIf, HasRow, HaveRows};
+ghost use Rattle.cq_shared.specs.Matching.{sort_class, is_before, is_class, AreLeft, AreReady, IsReady, IsNarrowedBy, IsNarrowedIf, HasRow, HaveRows};
 ghost use Rattle.cq_shared.specs.Wanted.{TakesAtMost, TakeAtMost};
 
 use crate::asking::{numbers_at, truths_at};
@@ -22,8 +22,8 @@ pub(crate) fn left_by<L: Ledger>(
     steps: &mut Steps<L>,
 ) -> Result<Vec<Nodes>, NoMemory>
     requires ready { AreReady game.now began.items parts.now }
-    ensures left { IfOk result (λ left. AreLeft (is_before 5) game.now parts.now began.items left.items) }
-    ensures cost { TakeAtMost (is_before 5) game.now parts.now began.items steps.old steps.new }
+    ensures left { IfOk result (λ left. AreLeft (is_before sort_class) game.now parts.now began.items left.items) }
+    ensures cost { TakeAtMost (is_before sort_class) game.now parts.now began.items steps.old steps.new }
 {
     let mut left = began;
     for class in 0..SORTS {
@@ -98,9 +98,9 @@ pub(crate) fn sorted_by<L: Ledger>(
     steps: &mut Steps<L>,
 ) -> Result<Sorted, NoMemory>
     requires ready { AreReady game.now left.items parts.now }
-    ensures left { IfOk result (λ s. AreLeft (is_class 5) game.now parts.now left.items s.left.items) }
+    ensures left { IfOk result (λ s. AreLeft (is_class sort_class) game.now parts.now left.items s.left.items) }
     ensures rows { IfOk result (λ s. HaveRows game.now s.left.items parts.now s.rows.items) }
-    ensures cost { TakeAtMost (is_class 5) game.now parts.now left.items steps.old steps.new }
+    ensures cost { TakeAtMost (is_class sort_class) game.now parts.now left.items steps.old steps.new }
 {
     let mut later = left;
     let mut rows = Vec::new(alloc);
@@ -121,9 +121,9 @@ fn after_sort_if<L: Ledger>(
     steps: &mut Steps<L>,
 ) -> Result<SortedBy, NoMemory>
     requires ready { IsReady game.now left.items part.now }
-    ensures left { IfOk result (λ s. IsNarrowedIf (is_class 5) game.now part.now left.items s.left.items) }
+    ensures left { IfOk result (λ s. IsNarrowedIf (is_class sort_class) game.now part.now left.items s.left.items) }
     ensures row { IfOk result (λ s. HasRow game.now s.left.items part.now s.row.numbers.items) }
-    ensures cost { TakesAtMost (is_class 5) game.now part.now left.items steps.old steps.new }
+    ensures cost { TakesAtMost (is_class sort_class) game.now part.now left.items steps.old steps.new }
 {
     if part.class != SORTS {
         let row = Row {
@@ -144,7 +144,7 @@ fn after_sort<L: Ledger>(
     steps: &mut Steps<L>,
 ) -> Result<SortedBy, NoMemory>
     requires ready { IsReady game.now left.items part.now }
-    requires sort { part.now.class ≡ 5 }
+    requires sort { part.now.class ≡ sort_class }
     ensures left { IfOk result (λ s. IsNarrowedBy game.now part.now left.items s.left.items) }
     ensures row { IfOk result (λ s. HasRow game.now s.left.items part.now s.row.numbers.items) }
     ensures cost { TakesAtMost (λ p. true) game.now part.now left.items steps.old steps.new }
