@@ -14,7 +14,7 @@ use Rattle.cql_syntax.specs.Meaning.{value}
 use Rattle.cql_syntax.specs.TreeOf.{filters_tree}
 use Rattle.cql_syntax.specs.Trees.{FilterTree, filter_at, FormTree, designator, number, name, plain, tagged, outcome, elo, unary, direction, chain, sum_of, pair, if_, square, line, played, transform, sort, comment, any, FilterTrees, no_filters, more_filters}
 use Rattle.cql_syntax.specs.Values.{holds}
-use Rattle.cq_shared.specs.Matching.{tree_for, holds_at, part_holds, part_cost, sort_number, IsTold, IsRowAt, IsUnion, IsNarrowedBy, HasRow}
+use Rattle.cq_shared.specs.Matching.{tree_for, holds_at, part_holds, part_cost, sort_number, IsTold, IsRowAt, CoversWanted, IsNarrowedBy, HasRow}
 use Rattle.cq_shared.specs.Parts.{first_of, alone, is_single}
 use Rattle.cq_shared.specs.Singles.{shown}
 use Rattle.cq_shared.specs.declared.nodes.Nodes.{Nodes}
@@ -210,10 +210,10 @@ and_first : (p q : Bool) → (p && q) ≡ true → p ≡ true
 and_first true q e = refl
 and_first false q e = e
 
-pub has_row : (game : Game) (p : Part) (left later : List Nodes) (live : List Bool) (row : List (Option ℤ)) → IsRowAt game p live row → IsUnion p left live → IsNarrowedBy game p left later
+pub has_row : (game : Game) (p : Part) (left later : List Nodes) (live : List Bool) (row : List (Option ℤ)) → IsRowAt game p live row → CoversWanted p left live → IsNarrowedBy game p left later
     → HasRow game later p row
-has_row game p left later live row is union by = record {
-  each = λ class q n has there. is.each n (union.each q n has (and_first _ _ (sym (by.each q n) ∙ there)));
+has_row game p left later live row is covers by = record {
+  each = λ class q n has there. is.each n (covers.each q n has (and_first _ _ (sym (by.each q n) ∙ there)));
 }
 
 pub no_row : (game : Game) (p : Part) (left : List Nodes) (row : List (Option ℤ)) → (p.class ≡ 5 → ⊥) → HasRow game left p row

@@ -1,6 +1,7 @@
 //! One game against all parts of a plan.
 ghost use Rattle.std.specs.Prelude.{◌≡◌, true, map, is_some, IfOk};
-ghost use Rattle.cq_shared.specs.Matching.{sort_class, is_before, is_class, AreLeft, AreReady, IsReady, IsNarrowedBy, IsNarrowedIf, HasRow, HaveRows};
+ghost use Rattle.cq_shared.specs.Matching.{sort_class, is_before, is_class, AreLeft, AreReady, IsReady};
+ghost use Rattle.cq_shared.specs.Matching.{IsNarrowedBy, IsNarrowedIf, HasRow, HaveRows};
 ghost use Rattle.cq_shared.specs.Wanted.{TakesAtMost, TakeAtMost};
 
 use crate::asking::{numbers_at, truths_at};
@@ -13,7 +14,8 @@ use pgn_tree::Game;
 use std::alloc::Global;
 use std::sync::ledger::Ledger;
 
-/// The nodes that are left to each query after all parts but the sort items: those that cost least are asked first.
+/// The nodes that are left to each query after all parts but the sort items. Parts are asked in the order of their classes, a guess at
+/// what they cost.
 pub(crate) fn left_by<L: Ledger>(
     alloc: Global,
     parts: &[Part],
