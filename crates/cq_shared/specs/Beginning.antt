@@ -8,7 +8,7 @@ use Rattle.cq_shared.specs.Matching.{is_left}
 use Rattle.cq_shared.specs.declared.nodes.Nodes.{Nodes}
 use Rattle.cq_shared.specs.declared.part.Asker.{Asker}
 
--- the query is asked at a node at first
+-- n is one of these nodes of query q
 abbrev pub begins : Game → QueryTree → ℕ → Bool
 begins game q n = nat_lt n (length game.nodes) && (query_passes q game && is_searched q.variations game.nodes n)
 

@@ -23,7 +23,7 @@ use Rattle.cq_shared.specs.declared.part.Part.{Part}
 abbrev pub nodes_there : Game → List Bool → List ℕ
 nodes_there game there = filter (is_live there) (numbers game.nodes)
 
--- a query is asked at a node at first, and all its flat items hold there
+-- a query is asked at the node at first, and all its flat items hold there
 abbrev pub is_found : Game → QueryTree → ℕ → Bool
 is_found game q n = begins game q n && is_hit (tree_of q game) (flat_query q).items n
 

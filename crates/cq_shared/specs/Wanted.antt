@@ -9,7 +9,7 @@ use Rattle.cq_shared.specs.Parts.{PartTree, same_part, parts_in}
 use Rattle.cq_shared.specs.declared.nodes.Nodes.{Nodes}
 use Rattle.cq_shared.specs.declared.part.Part.{Part}
 
--- if a query with the part still wants a node, the test is true of the part; and so of each part
+-- The test is true of the part if a query that has the part still wants a node. `AdmitsAll` says it of each part.
 abbrev pub Admits : (Part → Bool) → List Nodes → Part → Type 0
 Admits want left p = IsWanted p left → want p ≡ true
 
@@ -19,7 +19,7 @@ AdmitsAll want left parts = (k : ℕ) (p : Part) → k < length parts → p ≡ 
 abbrev pub both : (Part → Bool) → (Part → Bool) → Part → Bool
 both taken want p = taken p && want p
 
--- for each such test the steps are at most the cost of the parts that are taken and of which it is true
+-- For each such test the steps rise by at most the cost of the parts that are taken and of which the test is true.
 abbrev pub TakesAtMost : (Part → Bool) → Game → Part → List Nodes → ℕ → ℕ → Type 0
 TakesAtMost taken game p left before now =
     (want : Part → Bool) → Admits want left p → now ≤ before + cost_if (both taken want) game p
