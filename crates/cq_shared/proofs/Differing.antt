@@ -63,18 +63,14 @@ AddsNew ps seen = with_parts seen ps ≡ seen ++ filter (is_new seen) (different
 one_more : (p : PartTree) (ps seen : List PartTree) (there : Bool) → list_any (λ s. same_part s p) seen ≡ there → ((seen : List PartTree) → AddsNew ps seen) → AddsNew (p ∷ ps) seen
 unfolding with_parts with_part different
 one_more p ps seen true there each =
-    ap (λ b. with_parts (if b then seen else seen ++ p ∷ []) ps) there ∙ each seen
-    ∙ ap (λ l. seen ++ l) (
-      filter_twice (λ r. not (same_part p r)) (is_new seen) (is_new seen) (λ r. new_where_seen seen p r there) (different ps)
-      ∙ sym (ap (λ b. let l = filter (is_new seen) (other_than p (different ps)) in cond (not b) (p ∷ l) l) there)
-    )
+    let here = ap (λ b. let l = filter (is_new seen) (other_than p (different ps)) in cond (not b) (p ∷ l) l) there in
+    let same = filter_twice (λ r. not (same_part p r)) (is_new seen) (is_new seen) (λ r. new_where_seen seen p r there) (different ps) in
+    ap (λ b. with_parts (if b then seen else seen ++ p ∷ []) ps) there ∙ each seen ∙ ap (λ l. seen ++ l) (same ∙ sym here)
 one_more p ps seen false there each =
+    let here = ap (λ b. let l = filter (is_new seen) (other_than p (different ps)) in cond (not b) (p ∷ l) l) there in
+    let fewer = filter_twice (λ r. not (same_part p r)) (is_new seen) (is_new (seen ++ p ∷ [])) (new_with seen p) (different ps) in
     ap (λ b. with_parts (if b then seen else seen ++ p ∷ []) ps) there ∙ each (seen ++ p ∷ [])
-    ∙ append_assoc seen (p ∷ []) (filter (is_new (seen ++ p ∷ [])) (different ps))
-    ∙ ap (λ l. seen ++ l) (
-      ap (λ l. p ∷ l) (filter_twice (λ r. not (same_part p r)) (is_new seen) (is_new (seen ++ p ∷ [])) (new_with seen p) (different ps))
-      ∙ sym (ap (λ b. let l = filter (is_new seen) (other_than p (different ps)) in cond (not b) (p ∷ l) l) there)
-    )
+    ∙ append_assoc seen (p ∷ []) (filter (is_new (seen ++ p ∷ [])) (different ps)) ∙ ap (λ l. seen ++ l) (ap (λ l. p ∷ l) fewer ∙ sym here)
 
 adds_new : (ps seen : List PartTree) → AddsNew ps seen
 unfolding with_parts different

@@ -90,7 +90,8 @@ fn after<L: Ledger>(
 {
     let live = wanted_nodes(alloc, part, game, left.as_slice())?;
     let asked = asked_at(alloc, part, game, live.as_slice(), steps)?;
-    let later = narrowed(alloc, part, game, left, live.as_slice(), asked.truths.as_slice())?;
+    let truths = asked.truths;
+    let later = narrowed(alloc, part, game, left, live.as_slice(), truths.as_slice())?;
     let row = Row {
         numbers: asked.numbers,
     };
