@@ -1,5 +1,5 @@
 //! What a part gives at the nodes that are asked for.
-ghost use Rattle.std.specs.Prelude.{◌≡◌, ℕ, ◌+◌, ◌<◌, ◌≤◌, [], length, map, get_or, false, true, None, is_some, IfOk, if◌then◌else◌};
+ghost use Rattle.std.specs.Prelude.{◌≡◌, ℕ, ◌+◌, ◌<◌, ◌≤◌, [], length, get_or, false, None, IfOk, if◌then◌else◌};
 ghost use Rattle.std.specs.List.{list_any};
 ghost use Rattle.cql_eval.specs.Columns.{AreAsked};
 ghost use Rattle.cql_eval.specs.Hits.{hits_of, keys_of, AreKeysAtHits};
@@ -15,7 +15,7 @@ use pgn_tree::Game;
 use std::alloc::Global;
 use std::sync::ledger::Ledger;
 
-/// What a part gives at the nodes that are asked for. Where there are none it isn't looked at.
+/// What a part gives at the nodes that are asked for. Where there are none, it isn't looked at.
 pub(crate) fn asked_at<L: Ledger>(
     alloc: Global,
     part: &Part,
