@@ -7,7 +7,8 @@ use Rattle.std.proofs.lemmas.List.{take_more, drop_all}
 use Rattle.cql_syntax.specs.TreeOf.{filter_tree}
 use Rattle.cql_syntax.specs.declared.tree.Filter.{Filter}
 use Rattle.cq_shared.specs.Alone.{stands_alone}
-use Rattle.cq_shared.specs.Parts.{PartTree, parts_with, with_part, with_parts, is_at, are_at, Keeps}
+use Rattle.cq_shared.specs.Known.{with_part, with_parts}
+use Rattle.cq_shared.specs.Parts.{PartTree, parts_with, is_at, are_at, Keeps}
 use Rattle.cq_shared.specs.Singles.{part_tree}
 use Rattle.cq_shared.specs.Places.{is_among}
 use Rattle.cq_shared.proofs.Gaining.{asked_more}

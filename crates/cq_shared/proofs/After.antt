@@ -9,7 +9,7 @@ use Rattle.cq_position.specs.Games.{Game}
 use Rattle.cq_shared.specs.declared.part.Part.{Part}
 use Rattle.cq_shared.specs.declared.nodes.Nodes.{Nodes}
 use Rattle.cq_shared.specs.Known.{all_shown}
-use Rattle.cq_shared.specs.Matching.{is_left, meets, meets_if, is_class, is_before, cost_if, costs_if, part_cost, plan_cost, cost_at, AreLeft, AreReady, IsReady, IsUnion, IsNarrowedBy, IsNarrowedIf}
+use Rattle.cq_shared.specs.Matching.{is_left, meets, meets_if, is_class, is_before, cost_if, costs_if, part_cost, plan_cost, cost_at, AreLeft, AreReady, IsReady, CoversWanted, IsNarrowedBy, IsNarrowedIf}
 use Rattle.cq_shared.specs.Parts.{PartTree}
 use Rattle.cq_shared.specs.Singles.{shown}
 use Rattle.cq_shared.specs.Wanted.{both, Admits, TakesAtMost}
@@ -205,10 +205,10 @@ cost_some game test (p ∷ ps) = by (test p) (filter test ps) (cost_some game te
 pub cost_taken : (taken want : Part → Bool) (game : Game) (p : Part) → taken p ≡ true → cost_if (both taken want) game p ≡ cost_if (both (λ p. true) want) game p
 cost_taken taken want game p is = ap (λ b. if b && want p then part_cost game (shown p.single) else 0) is
 
-pub cost_wanted : (game : Game) (p : Part) (left : List Nodes) (live : List Bool) (before now : ℕ) → now ≤ before + cost_at live (part_cost game (shown p.single)) → IsUnion p left live
+pub cost_wanted : (game : Game) (p : Part) (left : List Nodes) (live : List Bool) (before now : ℕ) → now ≤ before + cost_at live (part_cost game (shown p.single)) → CoversWanted p left live
     → TakesAtMost (λ p. true) game p left before now
-cost_wanted game p left live before now cost union = λ want admits.
-    let less = at_most (list_any (λ b. b) live) (want p) (λ some. admits (union.some some)) in
+cost_wanted game p left live before now cost covers = λ want admits.
+    let less = at_most (list_any (λ b. b) live) (want p) (λ some. admits (covers.some some)) in
     omega (arith, cost, less)
   where
     at_most : (a b : Bool) → (a ≡ true → b ≡ true) → (if a then part_cost game (shown p.single) else 0) ≤ (if b then part_cost game (shown p.single) else 0)

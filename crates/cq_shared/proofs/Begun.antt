@@ -1,4 +1,4 @@
--- The nodes with which queries begin, query by query.
+-- The nodes at which queries are asked at first, query by query.
 use Rattle.std.proofs.Common.{◌≡◌, ℕ, zero, suc, ◌+◌, ◌<◌, ◌≤◌, Bool, true, false, ◌&&◌, List, [], ◌∷◌, ◌++◌, length, take, map, get_or, refl, sym, ap, ◌∙◌, subst, arith, nat_lt, length-append, ⊎_elim}
 use Rattle.std.specs.List.{list_any}
 use Rattle.std.proofs.lemmas.Bool.{cases_lt, lt-ltb, le-ltb, and_parts, and_from, or_left, or_right, ltb-true}
@@ -12,7 +12,7 @@ use Rattle.cql_syntax.specs.Unplaced.{same_unplaced}
 use Rattle.cq_shared.specs.Askers.{asked_query, AreAskers}
 use Rattle.cq_shared.specs.Beginning.{begins, HaveBegun}
 use Rattle.cq_shared.specs.Known.{all_shown}
-use Rattle.cq_shared.specs.Matching.{is_left, is_of, AreReady}
+use Rattle.cq_shared.specs.Matching.{is_left, is_asked_by, AreReady}
 use Rattle.cq_shared.specs.Parts.{PartTree, query_parts, parts_in, parts_with, same_part}
 use Rattle.cq_shared.specs.Singles.{shown}
 use Rattle.cq_shared.specs.Wanted.{AdmitsAll, has_part, is_asked_in}
@@ -131,7 +131,7 @@ begun_ready game parts askers began are had = λ k p low reads. record {
         let l = there_below began q n there in let low : q < length askers = omega (arith, l, had.count) in
         let a = one_of askers q low in (a, sym (had.each q a.asker low a.reads n) ∙ there)
 
-    search_at : (k : ℕ) (p : Part) → k < length parts → p ≡ get_or parts k p → (q n : ℕ) → is_of q p ≡ true → is_left began q n ≡ true
+    search_at : (k : ℕ) (p : Part) → k < length parts → p ≡ get_or parts k p → (q n : ℕ) → is_asked_by q p ≡ true → is_left began q n ≡ true
         → is_searched p.single.query.variations game.nodes n ≡ true
     search_at k p low reads q n has there =
         let b = begun q n there in

@@ -1,10 +1,9 @@
 -- The keys of sort items, by the rows of parts that are the same.
-use Rattle.std.proofs.Common.{◌≡◌, ℕ, suc, ◌+◌, ◌<◌, ◌≤◌, ◌&&◌, Bool, true, List, [], ◌∷◌, ◌++◌, length, map, take, drop, get_or, All, Option, None, Some, ℤ, refl, sym, ap, ap₂, ◌∙◌, subst, arith, append_assoc}
+use Rattle.std.proofs.Common.{◌≡◌, ℕ, suc, ◌+◌, ◌<◌, ◌≤◌, ◌&&◌, Bool, true, List, [], ◌∷◌, ◌++◌, length, map, drop, get_or, All, Option, None, Some, ℤ, refl, sym, ap, ap₂, ◌∙◌, subst, arith, append_assoc}
 use Rattle.std.specs.Prelude.{fold, ◌==◌}
 use Rattle.std.specs.List.{list_all}
 use Rattle.std.proofs.lemmas.Bool.{and_parts, and_from}
-use Rattle.std.proofs.lemmas.List.{take_more, take_all, drop_all, append-nil, drop_more}
-use Rattle.std.proofs.lemmas.List.Sums.{fold-append}
+use Rattle.std.proofs.lemmas.List.{drop_all, append-nil, drop_more}
 use Rattle.cq_position.specs.Search.{SearchedTree}
 use Rattle.cql_eval.specs.Classes.{form_class, filter_class}
 use Rattle.cql_plan.specs.Rows.{key_in}

@@ -1,6 +1,7 @@
 pub mod Adding
 pub mod After
 pub mod Begun
+pub mod Differing
 pub mod Gaining
 pub mod Keyed
 pub mod Makings

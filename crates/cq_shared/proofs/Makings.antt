@@ -12,13 +12,14 @@ use Rattle.cql_syntax.specs.Trees.{FilterTree, FilterTrees, QueryTree}
 use Rattle.cql_syntax.specs.declared.tree.Filter.{Filter}
 use Rattle.cql_syntax.specs.declared.typed.TypedQuery.{TypedQuery}
 use Rattle.cq_shared.specs.Askers.{asked_query, IsAsker, AreAskers}
-use Rattle.cq_shared.specs.Known.{all_shown, is_asked}
-use Rattle.cq_shared.specs.Parts.{PartTree, query_parts, top_parts, top_sorts, parts_with, parts_in, parts_in_all, are_at, with_part, with_parts, different, equal_part, equal_parts, Keeps}
+use Rattle.cq_shared.specs.Known.{all_shown, is_asked, with_part, with_parts}
+use Rattle.cq_shared.specs.Parts.{PartTree, query_parts, top_parts, top_sorts, parts_with, parts_in, parts_in_all, are_at, different, equal_part, equal_parts, Keeps}
 use Rattle.cq_shared.specs.Places.{is_among}
 use Rattle.cq_shared.specs.Plans.{trees_of, plan_parts}
 use Rattle.cq_shared.specs.declared.part.Part.{Part}
 use Rattle.cq_shared.specs.declared.part.Asker.{Asker}
 use Rattle.cql_syntax.proofs.SameSound.{same_law}
+use Rattle.cq_shared.proofs.Differing.{all_different}
 use Rattle.cq_shared.proofs.Gaining.{shown_length}
 use Rattle.cq_shared.proofs.Seeking.{all_kept}
 
@@ -46,7 +47,9 @@ all_in_more [] q = append-nil (parts_in q)
 all_in_more (x ∷ qs) q = ap (λ ps. parts_in x ++ ps) (all_in_more qs q) ∙ sym (append_assoc (parts_in x) (parts_in_all qs) (parts_in q))
 
 pub different_more : (qs : List QueryTree) (q : QueryTree) → different (parts_in_all (qs ++ q ∷ [])) ≡ with_parts (different (parts_in_all qs)) (parts_in q)
-different_more qs q = ap different (all_in_more qs q) ∙ with_both [] (parts_in_all qs) (parts_in q)
+different_more qs q =
+    sym (all_different (parts_in_all (qs ++ q ∷ []))) ∙ ap (with_parts []) (all_in_more qs q) ∙ with_both [] (parts_in_all qs) (parts_in q)
+    ∙ ap (λ ps. with_parts ps (parts_in q)) (all_different (parts_in_all qs))
 
 -- the test of equal parts
 
@@ -164,7 +167,7 @@ pub trees_none : (queries : List TypedQuery) (askers : List Asker) → askers �
 trees_none queries askers none = ap (λ xs. map (λ a. asked_query a) xs) none
 
 pub parts_none : (parts : List Part) (askers : List Asker) → parts ≡ [] → askers ≡ [] → all_shown parts ≡ different (parts_in_all (map (λ a. asked_query a) askers))
-unfolding with_parts
+unfolding different
 parts_none parts askers is none = ap all_shown is ∙ sym (ap (λ xs. different (parts_in_all (map (λ a. asked_query a) xs))) none)
 
 pub askers_none : (parts : List Part) (askers : List Asker) → parts ≡ [] → askers ≡ [] → AreAskers parts askers

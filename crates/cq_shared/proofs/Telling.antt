@@ -1,5 +1,5 @@
 -- What a part tells at the nodes that are asked for.
-use Rattle.std.proofs.Common.{◌≡◌, ℕ, zero, suc, ◌+◌, ◌<◌, ◌≤◌, Bool, true, false, ◌&&◌, List, [], ◌∷◌, length, map, get_or, Option, None, Some, ℤ, refl, sym, ap, ◌∙◌, cond, subst, arith}
+use Rattle.std.proofs.Common.{◌≡◌, ℕ, zero, suc, ◌+◌, ◌<◌, ◌≤◌, Bool, true, false, ◌&&◌, List, [], ◌∷◌, length, get_or, Option, None, Some, ℤ, refl, sym, ap, ◌∙◌, cond, subst, arith}
 use Rattle.std.specs.Prelude.{is_some, count_by, if◌then◌else◌}
 use Rattle.std.specs.List.{list_any, filter, range_with_len}
 use Rattle.std.proofs.lemmas.List.Sums.{sum_by-cons}
@@ -14,10 +14,9 @@ use Rattle.cql_syntax.specs.Meaning.{value}
 use Rattle.cql_syntax.specs.TreeOf.{filters_tree}
 use Rattle.cql_syntax.specs.Trees.{FilterTree, filter_at, FormTree, designator, number, name, plain, tagged, outcome, elo, unary, direction, chain, sum_of, pair, if_, square, line, played, transform, sort, comment, any, FilterTrees, no_filters, more_filters}
 use Rattle.cql_syntax.specs.Values.{holds}
-use Rattle.cq_shared.specs.Matching.{tree_for, holds_at, part_holds, part_cost, sort_number, IsTold, IsRowAt, IsUnion, IsNarrowedBy, HasRow}
+use Rattle.cq_shared.specs.Matching.{tree_for, holds_at, part_holds, part_cost, sort_number, IsTold, IsRowAt}
 use Rattle.cq_shared.specs.Parts.{first_of, alone, is_single}
 use Rattle.cq_shared.specs.Singles.{shown}
-use Rattle.cq_shared.specs.declared.nodes.Nodes.{Nodes}
 use Rattle.cq_shared.specs.declared.part.Part.{Part}
 
 -- nodes that are asked for
@@ -189,32 +188,3 @@ row_by game p live hits keys row one class class_is is are given = record {
     by : (n : ℕ) → is_live live n ≡ true → (b : Bool) → get_or hits n false ≡ b → (if b then get_or (get_or keys 0 []) n None else None) ≡ sort_number tree f n
     by n there true e = (one_row tree (filters_tree p.single.query.items) hits keys one sorts are).numbers n e
     by n there false e = none_if (sort_number tree f n) (sym (has n there) ∙ e)
-
--- a sort item holds where its row has a number
-some_at : (row : List (Option ℤ)) (n : ℕ) → get_or (map is_some row) n false ≡ is_some (get_or row n None)
-some_at [] zero = refl
-some_at [] (suc n) = refl
-some_at (x ∷ row) zero = refl
-some_at (x ∷ row) (suc n) = some_at row n
-
-pub told_by_row : (game : Game) (p : Part) (live truths : List Bool) (row : List (Option ℤ)) → p.class ≡ 5 → p.class ≡ filter_class (first_of (filters_tree p.single.query.items))
-    → IsRowAt game p live row → truths ≡ map is_some row → IsTold game p live truths
-unfolding holds_at
-told_by_row game p live truths row class class_is is same = record {
-  each = λ n there. ap (λ l. get_or l n false) same ∙ some_at row n ∙ ap is_some (is.each n there)
-      ∙ sym (sort_has (tree_for game p) (first_of (filters_tree p.single.query.items)) n (sym class_is ∙ class));
-}
-
--- the row is that of what is left
-and_first : (p q : Bool) → (p && q) ≡ true → p ≡ true
-and_first true q e = refl
-and_first false q e = e
-
-pub has_row : (game : Game) (p : Part) (left later : List Nodes) (live : List Bool) (row : List (Option ℤ)) → IsRowAt game p live row → IsUnion p left live → IsNarrowedBy game p left later
-    → HasRow game later p row
-has_row game p left later live row is union by = record {
-  each = λ class q n has there. is.each n (union.each q n has (and_first _ _ (sym (by.each q n) ∙ there)));
-}
-
-pub no_row : (game : Game) (p : Part) (left : List Nodes) (row : List (Option ℤ)) → (p.class ≡ 5 → ⊥) → HasRow game left p row
-no_row game p left row other = record { each = λ class q n has there. absurd (other class) }

@@ -10,7 +10,7 @@ use Rattle.cq_shared.specs.Places.{is_among}
 use Rattle.cq_shared.specs.declared.part.Part.{Part}
 use Rattle.cq_shared.specs.declared.nodes.Nodes.{Nodes}
 use Rattle.cql_eval.specs.Columns.{is_live, AreAsked, AreKept}
-use Rattle.cq_shared.specs.Matching.{is_left, is_of, meets, part_holds, tree_for, IsReady, IsUnion, IsTold, IsNarrowedBy}
+use Rattle.cq_shared.specs.Matching.{is_left, is_asked_by, meets, part_holds, tree_for, IsReady, CoversWanted, IsTold, IsNarrowedBy}
 
 pub record Told (test : ℕ → Bool) (k : ℕ) (items : List Bool) : Type 0 where
   pub count : length items ≡ k
@@ -95,7 +95,7 @@ wanted t (x ∷ xs) q among is = ⊎_elim
 
 pub are_united : (game : Game) (p : Part) (left : List Nodes) (k : ℕ) (live : List Bool) → length game.nodes ≤ k → k ≤ length game.nodes → IsReady game left p
     → Told (λ n. list_any (λ q. is_left left q n) p.askers.items) k live
-    → AreAsked (tree_for game p) live × IsUnion p left live
+    → AreAsked (tree_for game p) live × CoversWanted p left live
 are_united game p left k live high low ready had = (
   record {
     count = had.count ∙ omega (arith, high, low);
@@ -159,10 +159,10 @@ by_truth true false b t told = refl
 by_truth true true b t told = told refl refl
 
 pub narrowed_more : (game : Game) (p : Part) (left later now : List Nodes) (live truths : List Bool) (k : ℕ) (x y : Nodes)
-    → IsTold game p live truths → IsUnion p left live → k < length left → x ≡ get_or left k x
-    → ((n : ℕ) → get_or y.there.items n false ≡ (get_or x.there.items n false && (not (is_of k p) || get_or truths n false))) → now ≡ later ++ y ∷ []
+    → IsTold game p live truths → CoversWanted p left live → k < length left → x ≡ get_or left k x
+    → ((n : ℕ) → get_or y.there.items n false ≡ (get_or x.there.items n false && (not (is_asked_by k p) || get_or truths n false))) → now ≡ later ++ y ∷ []
     → AreNarrowed game p left later k → AreNarrowed game p left now (k + 1)
-narrowed_more game p left later now live truths k x y told union inside at made more had = record {
+narrowed_more game p left later now live truths k x y told covers inside at made more had = record {
   count = ap length more ∙ length-append later (y ∷ []) ∙ ap (λ i. i + 1) had.count;
   each = λ q n less. ⊎_elim
       (λ before. ap (λ l. is_left l q n) more ∙ left_before later y q n (omega (arith, before, had.count)) ∙ had.each q n before)
@@ -172,20 +172,20 @@ narrowed_more game p left later now live truths k x y told union inside at made 
   where
     here : (n : ℕ) → is_left now k n ≡ (is_left left k n && meets game k n p)
     here n =
-        ap (λ l. is_left l k n) more ∙ left_last later y k n (sym had.count) ∙ made n ∙ ap (λ b. b && (not (is_of k p) || get_or truths n false)) (sym (left_here left x k n inside at))
-        ∙ by_truth (is_left left k n) (is_of k p) (get_or truths n false) (part_holds game p n) (λ has there. told.each n (union.each k n has there))
+        ap (λ l. is_left l k n) more ∙ left_last later y k n (sym had.count) ∙ made n ∙ ap (λ b. b && (not (is_asked_by k p) || get_or truths n false)) (sym (left_here left x k n inside at))
+        ∙ by_truth (is_left left k n) (is_asked_by k p) (get_or truths n false) (part_holds game p n) (λ has there. told.each n (covers.each k n has there))
 
 -- the next query's nodes, where those of the queries before are there
 pub narrowed_next : (game : Game) (p : Part) (left ys more later now : List Nodes) (live truths : List Bool) (x y : Nodes) (len : ℕ) (wants : Bool)
-    → IsTold game p live truths → IsUnion p left live → left ≡ ys ++ x ∷ more → len ≡ length later → wants ≡ is_of len p
+    → IsTold game p live truths → CoversWanted p left live → left ≡ ys ++ x ∷ more → len ≡ length later → wants ≡ is_asked_by len p
     → ((n : ℕ) → get_or y.there.items n false ≡ (get_or x.there.items n false && (not wants || get_or truths n false))) → now ≡ later ++ y ∷ []
     → AreNarrowed game p left later (length ys) → AreNarrowed game p left now (length (ys ++ x ∷ []))
-narrowed_next game p left ys more later now live truths x y len wants told union is len_is has made added had =
+narrowed_next game p left ys more later now live truths x y len wants told covers is len_is has made added had =
     subst (AreNarrowed game p left now) (sym (length-append ys (x ∷ [])))
-    (narrowed_more game p left later now live truths (length ys) x y told union
+    (narrowed_more game p left later now live truths (length ys) x y told covers
     (let e : length left ≡ length ys + length (x ∷ more) = ap length is ∙ length-append ys (x ∷ more) in omega (arith, e))
     (sym (ap (λ l. get_or l (length ys) x) is ∙ get_or-append_seam ys x more x))
-    (λ n. made n ∙ ap (λ b. get_or x.there.items n false && (not b || get_or truths n false)) (has ∙ ap (λ j. is_of j p) (len_is ∙ had.count))) added had)
+    (λ n. made n ∙ ap (λ b. get_or x.there.items n false && (not b || get_or truths n false)) (has ∙ ap (λ j. is_asked_by j p) (len_is ∙ had.count))) added had)
 
 pub narrowed_all : (game : Game) (p : Part) (left later : List Nodes) (k : ℕ) → k ≡ length left → AreNarrowed game p left later k → IsNarrowedBy game p left later
 narrowed_all game p left later k all had = record {

@@ -1,10 +1,15 @@
 -- What is found of all queries, and what all parts cost.
-use Rattle.std.proofs.Common.{◌≡◌, ℕ, suc, ◌+◌, ◌<◌, ◌≤◌, ◌&&◌, true, List, [], ◌∷◌, ◌++◌, length, map, take, get_or, ℤ, refl, sym, ap, ap₂, ◌∙◌, subst, arith, Bool}
-use Rattle.std.specs.List.{filter}
+use Rattle.std.proofs.Common.{◌≡◌, ℕ, suc, ◌+◌, ◌<◌, ◌≤◌, ◌&&◌, true, List, [], ◌∷◌, ◌++◌, length, map, take, get_or, ℤ, refl, sym, ap, ap₂, ◌∙◌, subst, arith, Bool, All, AllPairs}
+use Rattle.std.specs.Prelude.{slice_index_or}
+use Rattle.std.specs.List.{filter, range_with_len}
 use Rattle.std.proofs.lemmas.List.{take_more, take_all}
-use Rattle.cq_position.specs.Games.{Game}
+use Rattle.std.proofs.lemmas.List.Elements.{All-map}
+use Rattle.std.proofs.lemmas.List.FromFn.{length-range_with_len, get_or-range_with_len}
+use Rattle.std.proofs.lemmas.List.Kept.{AllPairs-filter}
+use Rattle.cq_position.specs.Games.{Game, numbers, is_searched, searched}
 use Rattle.cql_plan.specs.Plans.{query_of}
-use Rattle.cql_syntax.specs.Hits.{hits}
+use Rattle.cql_syntax.specs.Hits.{hits, is_hit, tree_of}
+use Rattle.cql_syntax.specs.Trees.{QueryTree}
 use Rattle.cq_shared.specs.Askers.{asked_query, AreAskers}
 use Rattle.cq_shared.specs.Beginning.{HaveBegun}
 use Rattle.cq_shared.specs.Known.{all_shown}
@@ -64,6 +69,26 @@ found_more game askers q a found later f low reads more nodes keyed had =
 
 pub found_all : (game : Game) (askers : List Asker) (q : ℕ) (found : List Found) → length askers ≤ q → AllFound game (take q askers) found → AllFound game askers found
 found_all game askers q found past had = subst (λ xs. AllFound game xs found) (take_all q askers past) had
+
+-- hits increase
+
+range_increases : (n : ℕ) → AllPairs (λ i j. i < j) (range_with_len 0 n)
+range_increases n = λ i j d before below.
+    let inside : j < n = omega (arith, below, length-range_with_len 0 n) in
+    omega (arith, before, get_or-range_with_len 0 n i d (omega (arith, before, inside)), get_or-range_with_len 0 n j d inside)
+
+hits_increase : (q : QueryTree) (game : Game) → AllPairs (λ m n. m < n) (hits q game)
+unfolding hits searched
+hits_increase q game =
+    let kept = is_searched q.variations game.nodes in
+    AllPairs-filter (λ m n. m < n) (is_hit (tree_of q game) q.items) (filter kept (numbers game.nodes))
+    (AllPairs-filter (λ m n. m < n) kept (numbers game.nodes) (range_increases (length game.nodes)))
+
+pub all_increase : (game : Game) (askers : List Asker) (found : List Found) → nodes_in_all found ≡ map (λ a. hits (asked_query a) game) askers
+    → All (λ nodes. AllPairs (λ m n. m < n) nodes) (nodes_in_all found)
+all_increase game askers found is =
+    subst (All (λ nodes. AllPairs (λ m n. m < n) nodes)) (sym is)
+    (All-map (λ nodes. AllPairs (λ m n. m < n) nodes) (λ a. hits (asked_query a) game) askers (λ i d below. hits_increase (asked_query (slice_index_or askers i d)) game))
 
 -- all classes of parts
 

@@ -1,4 +1,4 @@
--- The nodes with which queries begin.
+-- The nodes at which a query is asked at first: the searched nodes of a game that has what the query needs.
 use Rattle.std.specs.Prelude.{◌≡◌, ℕ, ◌<◌, ◌&&◌, nat_lt, Bool, List, get_or, length}
 use Rattle.cq_position.specs.Games.{Game, is_searched}
 use Rattle.cql_plan.specs.Needs.{query_passes}
@@ -8,7 +8,7 @@ use Rattle.cq_shared.specs.Matching.{is_left}
 use Rattle.cq_shared.specs.declared.nodes.Nodes.{Nodes}
 use Rattle.cq_shared.specs.declared.part.Asker.{Asker}
 
--- a searched node of a game that has what the query needs
+-- n is one of these nodes of query q
 abbrev pub begins : Game → QueryTree → ℕ → Bool
 begins game q n = nat_lt n (length game.nodes) && (query_passes q game && is_searched q.variations game.nodes n)
 

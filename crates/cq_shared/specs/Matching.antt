@@ -1,4 +1,4 @@
--- Several queries over one game: each different part is asked once, where some query that has it still wants it.
+-- Several queries over one game: each different part is asked at most once, at the nodes that the queries that have it still want.
 use Rattle.std.specs.Prelude.{◌≡◌, ℕ, zero, suc, ◌+◌, ◌<◌, ◌&&◌, ◌||◌, ◌==◌, nat_lt, not, Bool, true, false, List, [], ◌∷◌, Option, None, ℤ, get_or, length, if◌then◌else◌}
 use Rattle.std.specs.List.{list_all, sum_by, list_any}
 use Rattle.cq_position.specs.Games.{Game, is_searched}
@@ -49,12 +49,16 @@ is_left (x ∷ xs) zero n = get_or x.there.items n false
 is_left (x ∷ xs) (suc q) n = is_left xs q n
 
 -- query q has the part
-abbrev pub is_of : ℕ → Part → Bool
-is_of q p = is_among q p.askers.items
+abbrev pub is_asked_by : ℕ → Part → Bool
+is_asked_by q p = is_among q p.askers.items
 
--- query q has not the part, or the part holds
+-- the part holds, or query q doesn't have it
 abbrev pub meets : Game → ℕ → ℕ → Part → Bool
-meets game q n p = not (is_of q p) || part_holds game p n
+meets game q n p = not (is_asked_by q p) || part_holds game p n
+
+-- the class of sort items
+abbrev pub sort_class : ℕ
+sort_class = 5
 
 -- the part is of a class, or of one before it
 abbrev pub is_class : ℕ → Part → Bool
@@ -80,9 +84,9 @@ pub record AreLeft (taken : Part → Bool) (game : Game) (parts : List Part) (be
 
 -- each query that has the part has left nodes of the game alone, and searched ones
 pub record IsReady (game : Game) (left : List Nodes) (p : Part) : Type 0 where
-  pub searched : (q n : ℕ) → is_of q p ≡ true → is_left left q n ≡ true
+  pub searched : (q n : ℕ) → is_asked_by q p ≡ true → is_left left q n ≡ true
       → is_searched p.single.query.variations game.nodes n ≡ true
-  pub inside : (q n : ℕ) → is_of q p ≡ true → is_left left q n ≡ true → n < length game.nodes
+  pub inside : (q n : ℕ) → is_asked_by q p ≡ true → is_left left q n ≡ true → n < length game.nodes
 
 abbrev pub AreReady : Game → List Nodes → List Part → Type 0
 AreReady game left parts = (k : ℕ) (p : Part) → k < length parts → p ≡ get_or parts k p → IsReady game left p
@@ -91,12 +95,12 @@ AreReady game left parts = (k : ℕ) (p : Part) → k < length parts → p ≡ g
 pub record IsWanted (p : Part) (left : List Nodes) : Type 0 where
   pub query : ℕ
   pub node : ℕ
-  pub has : is_of query p ≡ true
+  pub has : is_asked_by query p ≡ true
   pub there : is_left left query node ≡ true
 
--- all nodes that a query with the part still wants are there, and none where no query wants one
-pub record IsUnion (p : Part) (left : List Nodes) (live : List Bool) : Type 0 where
-  pub each : (q n : ℕ) → is_of q p ≡ true → is_left left q n ≡ true → is_live live n ≡ true
+-- Every node that a query with the part still wants is in the set, and if the set has a node, some query still wants one.
+pub record CoversWanted (p : Part) (left : List Nodes) (live : List Bool) : Type 0 where
+  pub each : (q n : ℕ) → is_asked_by q p ≡ true → is_left left q n ≡ true → is_live live n ≡ true
   pub some : list_any (λ b. b) live ≡ true → IsWanted p left
 
 -- a cost, where some node is there
@@ -122,7 +126,7 @@ pub record IsNarrowedIf (taken : Part → Bool) (game : Game) (p : Part) (left l
 
 -- the numbers of a sort item, at the nodes that are left to the queries that have it
 pub record HasRow (game : Game) (left : List Nodes) (p : Part) (row : List (Option ℤ)) : Type 0 where
-  pub each : p.class ≡ 5 → (q n : ℕ) → is_of q p ≡ true → is_left left q n ≡ true
+  pub each : p.class ≡ sort_class → (q n : ℕ) → is_asked_by q p ≡ true → is_left left q n ≡ true
       → get_or row n None ≡ sort_number (tree_for game p) (shown p.single).filter n
 
 -- a row for each part, in order

@@ -1,7 +1,7 @@
 -- The parts of a query: its top items, in which each chain of `and` and each brace list is replaced by its own parts, and then its sort
 -- items. A comment is no part.
-use Rattle.std.specs.Prelude.{◌≡◌, ℕ, zero, suc, ◌&&◌, Bool, true, false, List, [], ◌∷◌, ◌++◌, map, if◌then◌else◌}
-use Rattle.std.specs.List.{list_any}
+use Rattle.std.specs.Prelude.{◌≡◌, ℕ, zero, suc, ◌&&◌, Bool, true, false, List, [], ◌∷◌, ◌++◌, map, not}
+use Rattle.std.specs.List.{filter}
 use Rattle.cql_syntax.specs.Flat.{flat_query}
 use Rattle.cql_syntax.specs.Leaves.{same_flag}
 use Rattle.cql_syntax.specs.Same.{same_filter}
@@ -72,18 +72,14 @@ equal_parts [] [] = true
 equal_parts (p ∷ ps) (r ∷ rs) = equal_part p r && equal_parts ps rs
 equal_parts ps rs = false
 
--- with a part, where none that is the same is there
-unfoldable pub with_part : List PartTree → PartTree → List PartTree
-with_part seen p = if list_any (λ r. same_part r p) seen then seen else seen ++ p ∷ []
-
--- with those parts that are different from all before them
-unfoldable pub with_parts : List PartTree → List PartTree → List PartTree
-with_parts seen [] = seen
-with_parts seen (p ∷ ps) = with_parts (with_part seen p) ps
+-- those parts that are not the same as this one
+abbrev pub other_than : PartTree → List PartTree → List PartTree
+other_than p ps = filter (λ r. not (same_part p r)) ps
 
 -- the different ones of some parts, each where it first stands
-abbrev pub different : List PartTree → List PartTree
-different ps = with_parts [] ps
+unfoldable pub different : List PartTree → List PartTree
+different [] = []
+different (p ∷ ps) = p ∷ other_than p (different ps)
 
 -- the first of some filters
 abbrev pub first_of : FilterTrees → FilterTree

@@ -10,7 +10,7 @@ use Rattle.cql_syntax.specs.Trees.{FilterTree, filter_at, FormTree, sort, QueryT
 use Rattle.cq_shared.specs.Askers.{asked_query}
 use Rattle.cq_shared.specs.Beginning.{begins}
 use Rattle.cq_shared.specs.Known.{all_shown}
-use Rattle.cq_shared.specs.Matching.{is_left, sort_number, tree_for}
+use Rattle.cq_shared.specs.Matching.{is_left, sort_class, sort_number, tree_for}
 use Rattle.cq_shared.specs.Parts.{parts_in, top_parts, are_at}
 use Rattle.cq_shared.specs.Places.{is_among}
 use Rattle.cq_shared.specs.Singles.{shown}
@@ -23,7 +23,7 @@ use Rattle.cq_shared.specs.declared.part.Part.{Part}
 abbrev pub nodes_there : Game → List Bool → List ℕ
 nodes_there game there = filter (is_live there) (numbers game.nodes)
 
--- a query begins with a node, and all its flat items hold there
+-- a query is asked at the node at first, and all its flat items hold there
 abbrev pub is_found : Game → QueryTree → ℕ → Bool
 is_found game q n = begins game q n && is_hit (tree_of q game) (flat_query q).items n
 
@@ -67,5 +67,5 @@ pub record IsFoundBy (game : Game) (parts : List Part) (a : Asker) (nodes : Node
   pub left : (n : ℕ) → is_live nodes.there.items n ≡ is_found game (asked_query a) n
   pub count : length rows ≡ length parts
   pub each : (k : ℕ) (p : Part) (r : Row) → p ≡ get_or parts k p → r ≡ get_or rows k r → k < length parts
-      → is_among k a.numbers.items ≡ true
-      → p.class ≡ 5 → Where nodes.there.items (λ n. get_or r.numbers.items n None ≡ sort_number (tree_for game p) (shown p.single).filter n)
+      → is_among k a.numbers.items ≡ true → p.class ≡ sort_class
+      → Where nodes.there.items (λ n. get_or r.numbers.items n None ≡ sort_number (tree_for game p) (shown p.single).filter n)

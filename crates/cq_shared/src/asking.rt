@@ -1,62 +1,69 @@
 //! What a part gives at the nodes that are asked for.
-ghost use Rattle.std.specs.Prelude.{◌≡◌, ℕ, ◌+◌, ◌<◌, ◌≤◌, [], length, map, get_or, false, true, None, is_some, IfOk, if◌then◌else◌};
+ghost use Rattle.std.specs.Prelude.{◌≡◌, ℕ, ◌+◌, ◌<◌, ◌≤◌, [], length, get_or, false, None, IfOk, if◌then◌else◌};
 ghost use Rattle.std.specs.List.{list_any};
 ghost use Rattle.cql_eval.specs.Columns.{AreAsked};
-ghost use Rattle.cql_eval.specs.Hits.{hits_of, keys_of};
-ghost use Rattle.cq_shared.specs.Matching.{tree_for, part_cost, cost_at, IsTold, IsRowAt};
+ghost use Rattle.cql_eval.specs.Hits.{hits_of, keys_of, AreKeysAtHits};
+ghost use Rattle.cql_syntax.specs.TreeOf.{filters_tree};
+ghost use Rattle.cq_shared.specs.Matching.{tree_for, sort_class, part_cost, cost_at, IsTold, IsRowAt};
 ghost use Rattle.cq_shared.specs.Singles.{shown};
 
+use crate::nodes::Asked;
 use crate::part::Part;
 use cq_outside::{NoMemory, Steps};
-use cql_eval::{Column, hit_columns_at};
+use cql_eval::{Column, SORTS, hit_columns_at};
 use pgn_tree::Game;
 use std::alloc::Global;
 use std::sync::ledger::Ledger;
 
-/// Whether a part holds, at the nodes that are asked for. Where there are none it isn't looked at.
-pub(crate) fn truths_at<L: Ledger>(
+/// What a part gives at the nodes that are asked for. Where there are none, it isn't looked at.
+pub(crate) fn asked_at<L: Ledger>(
     alloc: Global,
     part: &Part,
     game: &Game,
     live: &[bool],
     steps: &mut Steps<L>,
-) -> Result<Vec<bool>, NoMemory>
+) -> Result<Asked, NoMemory>
     requires asked { AreAsked (tree_for game.now part.now) live.now }
-    ensures told { IfOk result (λ truths. IsTold game.now part.now live.now truths.items) }
+    ensures told { IfOk result (λ a. IsTold game.now part.now live.now a.truths.items) }
+    ensures row { IfOk result (λ a. part.now.class ≡ sort_class → IsRowAt game.now part.now live.now a.numbers.items) }
     ensures cost { steps.new ≤ steps.old + cost_at live.now (part_cost game.now (shown part.now.single)) }
 {
     if !any_live(live) {
-        return Ok(Vec::new(alloc));
+        return Ok(Asked {
+            truths: Vec::new(alloc),
+            numbers: Vec::new(alloc),
+        });
     }
     let column = hit_columns_at(alloc, &part.single.query, game, live, steps)?;
-    Ok(column.into_hits())
-}
-
-/// The numbers of a sort item at the nodes that are asked for. Where there are none it isn't looked at.
-pub(crate) fn numbers_at<L: Ledger>(
-    alloc: Global,
-    part: &Part,
-    game: &Game,
-    live: &[bool],
-    steps: &mut Steps<L>,
-) -> Result<Vec<Option<i64>>, NoMemory>
-    requires asked { AreAsked (tree_for game.now part.now) live.now }
-    requires sort { part.now.class ≡ 5 }
-    ensures told { IfOk result (λ row. IsRowAt game.now part.now live.now row.items) }
-    ensures cost { steps.new ≤ steps.old + cost_at live.now (part_cost game.now (shown part.now.single)) }
-{
-    if !any_live(live) {
-        return Ok(Vec::new(alloc));
-    }
-    let column = hit_columns_at(alloc, &part.single.query, game, live, steps)?;
-    let numbers = row(alloc, &column, game)?;
-    Ok(numbers)
+    let numbers = numbers_of(alloc, part, &column, game)?;
+    let truths = column.into_hits();
+    Ok(Asked { truths, numbers })
 }
 
 fn any_live(live: &[bool]) -> bool
     ensures { result ≡ list_any (λ b. b) live.now }
 {
     live.iter().any(|there| *there)
+}
+
+// The numbers of a sort item, by its column; of another part there are none.
+fn numbers_of(
+    alloc: Global,
+    part: &Part,
+    column: &Column,
+    game: &Game,
+) -> Result<Vec<Option<i64>>, NoMemory>
+    requires hits { length (hits_of column.now) ≡ length game.now.nodes }
+    requires keys { AreKeysAtHits (tree_for game.now part.now) (filters_tree part.now.single.query.items) (hits_of column.now)
+        (keys_of column.now) }
+    ensures { IfOk result (λ row. part.now.class ≡ sort_class → (n : ℕ) → get_or row.items n None
+        ≡ (if get_or (hits_of column.now) n false then get_or (get_or (keys_of column.now) 0 []) n None else None)) }
+{
+    if part.class != SORTS {
+        return Ok(Vec::new(alloc));
+    }
+    let numbers = row(alloc, column, game)?;
+    Ok(numbers)
 }
 
 // The numbers of the first sort item of a column, node by node.

@@ -1,4 +1,4 @@
-//! The nodes with which queries begin.
+//! The nodes at which queries are asked at first.
 ghost use Rattle.std.specs.Prelude.{◌≡◌, ℕ, ◌<◌, ◌&&◌, length, get_or, false, IfOk};
 ghost use Rattle.cq_position.specs.Games as games;
 ghost use Rattle.cq_shared.specs.Askers.{asked_query};

@@ -1,5 +1,5 @@
 //! What is found of each query in a game.
-ghost use Rattle.std.specs.Prelude.{◌≡◌, ◌++◌, ◌∷◌, ◌<◌, [], length, map, IfOk, OnOk, if◌then◌else◌};
+ghost use Rattle.std.specs.Prelude.{◌≡◌, ◌++◌, ◌∷◌, ◌<◌, [], length, map, All, AllPairs, IfOk, OnOk, if◌then◌else◌};
 ghost use Rattle.cql_eval.specs.Columns.{is_live};
 ghost use Rattle.cql_syntax.specs.Hits.{hits as hits_of};
 ghost use Rattle.cq_shared.specs.Askers.{asked_query, AreAskers};
@@ -29,6 +29,7 @@ pub(crate) fn found_all(
     requires found { AreFound game.now askers.now sorted.now.left.items }
     requires rows { HaveRows game.now sorted.now.left.items parts.now sorted.now.rows.items }
     ensures nodes { IfOk result (λ v. nodes_of v ≡ map (λ a. hits_of (asked_query a) game.now) askers.now) }
+    ensures increasing { IfOk result (λ v. All (λ nodes. AllPairs (λ m n. m < n) nodes) (nodes_of v)) }
     ensures keys { IfOk result (λ v. HaveKeys game.now (map (λ a. asked_query a) askers.now) (nodes_of v) (keys_of v)) }
     ensures count { IfOk result (λ v. length (keys_of v) ≡ length (nodes_of v)) }
 {

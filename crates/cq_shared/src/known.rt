@@ -3,8 +3,8 @@ ghost use Rattle.std.specs.Prelude.{◌≡◌, ℕ, ◌<◌, ◌++◌, ◌∷◌
 ghost use Rattle.std.specs.List.{list_all, list_any};
 ghost use Rattle.cql_syntax.specs.TreeOf.{filter_tree};
 ghost use Rattle.cq_shared.specs.Alone.{stands_alone};
-ghost use Rattle.cq_shared.specs.Known.{all_shown, is_asked};
-ghost use Rattle.cq_shared.specs.Parts.{with_part, with_parts, parts_with, same_part, is_at, are_at, Keeps};
+ghost use Rattle.cq_shared.specs.Known.{all_shown, is_asked, with_part, with_parts};
+ghost use Rattle.cq_shared.specs.Parts.{parts_with, same_part, is_at, are_at, Keeps};
 ghost use Rattle.cq_shared.specs.Places.{IsTable, place_of, is_among};
 ghost use Rattle.cq_shared.specs.Singles.{shown};
 

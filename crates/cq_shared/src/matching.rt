@@ -1,11 +1,12 @@
 //! One game against all parts of a plan.
-ghost use Rattle.std.specs.Prelude.{◌≡◌, true, map, is_some, IfOk};
-ghost use Rattle.cq_shared.specs.Matching.{is_before, is_class, AreLeft, AreReady, IsReady, IsNarrowedBy, IsNarrowedIf, HasRow, HaveRows};
+ghost use Rattle.std.specs.Prelude.{true, IfOk};
+ghost use Rattle.cq_shared.specs.Matching.{sort_class, is_before, is_class, AreLeft, AreReady, IsReady};
+ghost use Rattle.cq_shared.specs.Matching.{IsNarrowedBy, IsNarrowedIf, HasRow, HaveRows};
 ghost use Rattle.cq_shared.specs.Wanted.{TakesAtMost, TakeAtMost};
 
-use crate::asking::{numbers_at, truths_at};
+use crate::asking::asked_at;
 use crate::narrowing::{narrowed, wanted_nodes};
-use crate::nodes::{Nodes, Row, Sorted, SortedBy};
+use crate::nodes::{Narrowed, Nodes, Row, Sorted};
 use crate::part::Part;
 use cq_outside::{NoMemory, Steps};
 use cql_eval::SORTS;
@@ -13,7 +14,8 @@ use pgn_tree::Game;
 use std::alloc::Global;
 use std::sync::ledger::Ledger;
 
-/// The nodes that are left to each query after all parts but the sort items: those that cost least are asked first.
+/// The nodes that are left to each query after all parts but the sort items. Parts are asked in the order of their classes, a guess at
+/// what they cost.
 pub(crate) fn left_by<L: Ledger>(
     alloc: Global,
     parts: &[Part],
@@ -22,8 +24,8 @@ pub(crate) fn left_by<L: Ledger>(
     steps: &mut Steps<L>,
 ) -> Result<Vec<Nodes>, NoMemory>
     requires ready { AreReady game.now began.items parts.now }
-    ensures left { IfOk result (λ left. AreLeft (is_before 5) game.now parts.now began.items left.items) }
-    ensures cost { TakeAtMost (is_before 5) game.now parts.now began.items steps.old steps.new }
+    ensures left { IfOk result (λ left. AreLeft (is_before sort_class) game.now parts.now began.items left.items) }
+    ensures cost { TakeAtMost (is_before sort_class) game.now parts.now began.items steps.old steps.new }
 {
     let mut left = began;
     for class in 0..SORTS {
@@ -69,24 +71,31 @@ fn after_if<L: Ledger>(
         return Ok(left);
     }
     let later = after(alloc, part, game, left, steps)?;
-    Ok(later)
+    Ok(later.left)
 }
 
-// The nodes that are left to each query after a part. It is asked once, at the nodes that some query that has it still wants.
+// The nodes that are left to each query after a part, and if it is a sort item, its row. It is asked at most once, at the nodes that
+// some query that has it still wants.
 fn after<L: Ledger>(
     alloc: Global,
     part: &Part,
     game: &Game,
     left: Vec<Nodes>,
     steps: &mut Steps<L>,
-) -> Result<Vec<Nodes>, NoMemory>
+) -> Result<Narrowed, NoMemory>
     requires ready { IsReady game.now left.items part.now }
-    ensures left { IfOk result (λ later. IsNarrowedBy game.now part.now left.items later.items) }
+    ensures left { IfOk result (λ n. IsNarrowedBy game.now part.now left.items n.left.items) }
+    ensures row { IfOk result (λ n. HasRow game.now n.left.items part.now n.row.numbers.items) }
     ensures cost { TakesAtMost (λ p. true) game.now part.now left.items steps.old steps.new }
 {
     let live = wanted_nodes(alloc, part, game, left.as_slice())?;
-    let truths = truths_at(alloc, part, game, live.as_slice(), steps)?;
-    narrowed(alloc, part, game, left, live.as_slice(), truths.as_slice())
+    let asked = asked_at(alloc, part, game, live.as_slice(), steps)?;
+    let truths = asked.truths;
+    let later = narrowed(alloc, part, game, left, live.as_slice(), truths.as_slice())?;
+    let row = Row {
+        numbers: asked.numbers,
+    };
+    Ok(Narrowed { left: later, row })
 }
 
 /// The nodes that are left to each query after the sort items, and the numbers of these there.
@@ -98,9 +107,9 @@ pub(crate) fn sorted_by<L: Ledger>(
     steps: &mut Steps<L>,
 ) -> Result<Sorted, NoMemory>
     requires ready { AreReady game.now left.items parts.now }
-    ensures left { IfOk result (λ s. AreLeft (is_class 5) game.now parts.now left.items s.left.items) }
+    ensures left { IfOk result (λ s. AreLeft (is_class sort_class) game.now parts.now left.items s.left.items) }
     ensures rows { IfOk result (λ s. HaveRows game.now s.left.items parts.now s.rows.items) }
-    ensures cost { TakeAtMost (is_class 5) game.now parts.now left.items steps.old steps.new }
+    ensures cost { TakeAtMost (is_class sort_class) game.now parts.now left.items steps.old steps.new }
 {
     let mut later = left;
     let mut rows = Vec::new(alloc);
@@ -119,51 +128,18 @@ fn after_sort_if<L: Ledger>(
     game: &Game,
     left: Vec<Nodes>,
     steps: &mut Steps<L>,
-) -> Result<SortedBy, NoMemory>
+) -> Result<Narrowed, NoMemory>
     requires ready { IsReady game.now left.items part.now }
-    ensures left { IfOk result (λ s. IsNarrowedIf (is_class 5) game.now part.now left.items s.left.items) }
+    ensures left { IfOk result (λ s. IsNarrowedIf (is_class sort_class) game.now part.now left.items s.left.items) }
     ensures row { IfOk result (λ s. HasRow game.now s.left.items part.now s.row.numbers.items) }
-    ensures cost { TakesAtMost (is_class 5) game.now part.now left.items steps.old steps.new }
+    ensures cost { TakesAtMost (is_class sort_class) game.now part.now left.items steps.old steps.new }
 {
     if part.class != SORTS {
         let row = Row {
             numbers: Vec::new(alloc),
         };
-        return Ok(SortedBy { left, row });
+        return Ok(Narrowed { left, row });
     }
-    let sorted = after_sort(alloc, part, game, left, steps)?;
+    let sorted = after(alloc, part, game, left, steps)?;
     Ok(sorted)
-}
-
-// The same for a sort item.
-fn after_sort<L: Ledger>(
-    alloc: Global,
-    part: &Part,
-    game: &Game,
-    left: Vec<Nodes>,
-    steps: &mut Steps<L>,
-) -> Result<SortedBy, NoMemory>
-    requires ready { IsReady game.now left.items part.now }
-    requires sort { part.now.class ≡ 5 }
-    ensures left { IfOk result (λ s. IsNarrowedBy game.now part.now left.items s.left.items) }
-    ensures row { IfOk result (λ s. HasRow game.now s.left.items part.now s.row.numbers.items) }
-    ensures cost { TakesAtMost (λ p. true) game.now part.now left.items steps.old steps.new }
-{
-    let live = wanted_nodes(alloc, part, game, left.as_slice())?;
-    let numbers = numbers_at(alloc, part, game, live.as_slice(), steps)?;
-    let truths = given(alloc, numbers.as_slice())?;
-    let later = narrowed(alloc, part, game, left, live.as_slice(), truths.as_slice())?;
-    let row = Row { numbers };
-    Ok(SortedBy { left: later, row })
-}
-
-// Which numbers there are.
-fn given(alloc: Global, numbers: &[Option<i64>]) -> Result<Vec<bool>, NoMemory>
-    ensures { IfOk result (λ truths. truths.items ≡ map is_some numbers.now) }
-{
-    let truths = numbers
-        .iter()
-        .map(|number| number.is_some())
-        .collect(alloc)?;
-    Ok(truths)
 }

@@ -2,7 +2,7 @@
 ghost use Rattle.std.specs.Prelude.{◌≡◌, ℕ, ◌<◌, ◌&&◌, ◌||◌, not, length, true, false, get_or, IfOk};
 ghost use Rattle.std.specs.List.{list_any};
 ghost use Rattle.cql_eval.specs.Columns.{AreAsked};
-ghost use Rattle.cq_shared.specs.Matching.{tree_for, is_left, is_of, IsReady, IsUnion, IsTold, IsNarrowedBy};
+ghost use Rattle.cq_shared.specs.Matching.{tree_for, is_left, is_asked_by, IsReady, CoversWanted, IsTold, IsNarrowedBy};
 
 use crate::nodes::Nodes;
 use crate::part::Part;
@@ -19,7 +19,7 @@ pub(crate) fn wanted_nodes(
     left: &[Nodes],
 ) -> Result<Vec<bool>, NoMemory>
     requires ready { IsReady game.now left.now part.now }
-    ensures { IfOk result (λ live. AreAsked (tree_for game.now part.now) live.items × IsUnion part.now left.now live.items) }
+    ensures { IfOk result (λ live. AreAsked (tree_for game.now part.now) live.items × CoversWanted part.now left.now live.items) }
 {
     let mut live = Vec::with_capacity(alloc, game.len() as usize)?;
     for n in 0..game.len() {
@@ -52,7 +52,7 @@ fn is_left(left: &[Nodes], q: usize, n: usize) -> bool
 
 // Whether a query has the part.
 fn has(part: &Part, q: usize) -> bool
-    ensures { result ≡ is_of q part.now }
+    ensures { result ≡ is_asked_by q part.now }
 {
     part.askers.iter().any(|asker| *asker as usize == q)
 }
@@ -74,7 +74,7 @@ pub(crate) fn narrowed(
     truths: &[bool],
 ) -> Result<Vec<Nodes>, NoMemory>
     requires told { IsTold game.now part.now live.now truths.now }
-    requires union { IsUnion part.now left.items live.now }
+    requires covers { CoversWanted part.now left.items live.now }
     ensures { IfOk result (λ later. IsNarrowedBy game.now part.now left.items later.items) }
 {
     let mut later = Vec::with_capacity(alloc, left.len())?;

@@ -19,9 +19,16 @@ pub(crate) struct Sorted {
     pub(crate) rows: Vec<Row>,
 }
 
-/// The nodes that are left to each query after one sort item, and its row.
+/// The nodes that are left to each query after one part, and if this is a sort item, its row.
 #[derive(Drop)]
-pub(crate) struct SortedBy {
+pub(crate) struct Narrowed {
     pub(crate) left: Vec<Nodes>,
     pub(crate) row: Row,
+}
+
+/// Whether a part holds, and if it is a sort item, its numbers, a place for each node.
+#[derive(Drop)]
+pub(crate) struct Asked {
+    pub(crate) truths: Vec<bool>,
+    pub(crate) numbers: Vec<Option<i64>>,
 }

@@ -8,7 +8,7 @@ use crate::single::Single;
 use cql_plan::Plan;
 use cql_syntax::Filter;
 
-/// A part, its class by what it costs to ask, and the numbers of the queries that have it, each as often as the query has it.
+/// A part, its class, a guess at what it costs to ask, and the numbers of the queries that have it, each as often as the query has it.
 #[derive(Drop)]
 pub(crate) struct Part {
     pub(crate) single: Single,

@@ -1,5 +1,5 @@
 //! The hits of several queries in one game, and their keys.
-ghost use Rattle.std.specs.Prelude.{◌≡◌, ◌+◌, ◌≤◌, length, map, IfOk};
+ghost use Rattle.std.specs.Prelude.{◌≡◌, ◌+◌, ◌<◌, ◌≤◌, length, map, All, AllPairs, IfOk};
 ghost use Rattle.cql_syntax.specs.Hits.{hits};
 ghost use Rattle.cq_shared.specs.Matching.{plan_cost};
 ghost use Rattle.cq_shared.specs.Plans.{queries_of, trees_of, plan_parts};
@@ -18,8 +18,8 @@ use std::sync::ledger::Ledger;
 
 /// The hits of each query of a plan in a game, and its keys.
 ///
-/// Each different part is asked at most once, and not at all where no query that has it still wants a node. So the steps are at most
-/// those of the different parts, each as the only item of a query.
+/// The steps are at most the cost of those different parts that some query has whose needs the game meets, and so at most that of all
+/// different parts. A part costs what it takes as the only item of a query.
 pub fn match_all<L: Ledger>(
     alloc: Global,
     plan: &SharedPlan,
@@ -27,6 +27,7 @@ pub fn match_all<L: Ledger>(
     steps: &mut Steps<L>,
 ) -> Result<Verdicts, NoMemory>
     ensures nodes { IfOk result (λ v. nodes_of v ≡ map (λ q. hits q game.now) (trees_of (queries_of plan.now))) }
+    ensures increasing { IfOk result (λ v. All (λ nodes. AllPairs (λ m n. m < n) nodes) (nodes_of v)) }
     ensures keys { IfOk result (λ v. HaveKeys game.now (trees_of (queries_of plan.now)) (nodes_of v) (keys_of v)) }
     ensures count { IfOk result (λ v. length (keys_of v) ≡ length (nodes_of v)) }
     ensures asked { steps.new ≤ steps.old

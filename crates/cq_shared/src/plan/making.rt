@@ -6,8 +6,8 @@ ghost use Rattle.cql_syntax.specs.Flat.{flat_query};
 ghost use Rattle.cql_syntax.specs.TreeOf.{filter_tree, query_tree};
 ghost use Rattle.cq_shared.specs.Alone.{stands_alone};
 ghost use Rattle.cq_shared.specs.Askers.{asked_query, IsAsker};
-ghost use Rattle.cq_shared.specs.Known.{all_shown, is_asked};
-ghost use Rattle.cq_shared.specs.Parts.{parts_in, parts_with, top_parts, with_parts, Keeps};
+ghost use Rattle.cq_shared.specs.Known.{all_shown, is_asked, with_parts};
+ghost use Rattle.cq_shared.specs.Parts.{parts_in, parts_with, top_parts, Keeps};
 ghost use Rattle.cq_shared.specs.Places.{IsTable, is_among};
 ghost use Rattle.cq_shared.specs.Plans.{queries_of, trees_of, plan_parts};
 

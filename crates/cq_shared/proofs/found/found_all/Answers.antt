@@ -1,7 +1,7 @@
 use Rattle.std.proofs.Common.{sym, subst, arith, rules}
 use Rattle.cq_shared.specs.Reading.{IsFoundBy}
 use Rattle.cq_shared.proofs.Readings.{found_by}
-use Rattle.cq_shared.proofs.Whole.{found_none, found_more, found_all, keys_count}
+use Rattle.cq_shared.proofs.Whole.{found_none, found_more, found_all, all_increase, keys_count}
 use Rattle.cq_shared.proofs.found.found_all.Goals as goal
 
 pub loop-q-init : goal.loop-q-init
@@ -21,4 +21,9 @@ loop-q-preserved c =
 pub returns : goal.returns
 returns c =
     let all = found_all c.args.game.now c.args.askers.now c.loop-q.q c.loop-q.found.items (omega (arith, c.loop-q-test.false)) c.loop-q.invariant in
-    record { nodes = all.nodes; keys = all.keys; count = keys_count c.loop-q.found.items }
+    record {
+      nodes = all.nodes;
+      increasing = all_increase c.args.game.now c.args.askers.now c.loop-q.found.items all.nodes;
+      keys = all.keys;
+      count = keys_count c.loop-q.found.items;
+    }

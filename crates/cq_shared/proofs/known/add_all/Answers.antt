@@ -1,8 +1,8 @@
 use Rattle.std.proofs.Common.{◌≡◌, ◌∙◌, true, ap, subst, refl}
 use Rattle.std.specs.Prelude.{◌==◌}
 use Rattle.cql_syntax.specs.TreeOf.{filter_tree}
-use Rattle.cq_shared.specs.Known.{all_shown, is_asked}
-use Rattle.cq_shared.specs.Parts.{is_at, with_part}
+use Rattle.cq_shared.specs.Known.{all_shown, is_asked, with_part}
+use Rattle.cq_shared.specs.Parts.{is_at}
 use Rattle.cq_shared.specs.Singles.{part_tree}
 use Rattle.cq_shared.proofs.Adding.{one_stands, added_parts, added_numbers, added_all, none_at, none_asked, keeps_more, asked_push}
 use Rattle.cq_shared.proofs.Seeking.{keeps_same, keeps_then}

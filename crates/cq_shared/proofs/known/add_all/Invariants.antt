@@ -1,8 +1,8 @@
 use Rattle.std.proofs.Common.{◌≡◌, ℕ, ◌&&◌, ◌||◌, true, take, drop, map}
 use Rattle.std.specs.Prelude.{◌==◌}
 use Rattle.cql_syntax.specs.TreeOf.{filter_tree}
-use Rattle.cq_shared.specs.Known.{all_shown, is_asked}
-use Rattle.cq_shared.specs.Parts.{with_parts, parts_with, are_at, Keeps}
+use Rattle.cq_shared.specs.Known.{all_shown, is_asked, with_parts}
+use Rattle.cq_shared.specs.Parts.{parts_with, are_at, Keeps}
 use Rattle.cq_shared.specs.Places.{IsTable, is_among}
 use Rattle.cq_shared.proofs.known.add_all.Given as goal
 

@@ -10,7 +10,7 @@ returns-then-part-class-clause-left g c =
 
 pub returns-clause-left : goal.returns-clause-left
 returns-clause-left g c =
-    narrowed_taken (is_class c.args.class) c.args.game.now c.args.part.now c.args.left.items c.in_ok-later.later.items
+    narrowed_taken (is_class c.args.class) c.args.game.now c.args.part.now c.args.left.items c.in_ok-later.later.left.items
     (eq-eqb c.args.part.now.class c.args.class c.if-part-class.false) c.in_ok-later.ensures.left
 
 pub returns-clause-cost : goal.returns-clause-cost

@@ -14,7 +14,7 @@ loop-nodes-preserved c =
     let is = was.0 ∙ ap (λ l. ys ++ l) c.in-Some.ensures.steps.0 in (
       is ∙ sym (append_assoc ys (nodes ∷ []) more),
       narrowed_next c.args.game.now c.args.part.now c.args.left.items ys more c.loop-nodes.later.items c.push.new.self.items c.args.live.now c.args.truths.now nodes
-          c.narrowed_if.result c.len-query.result c.has-wants.result c.requires.told c.requires.union is (search rules) c.has-wants.ensures c.narrowed_if.ensures
+          c.narrowed_if.result c.len-query.result c.has-wants.result c.requires.told c.requires.covers is (search rules) c.has-wants.ensures c.narrowed_if.ensures
           c.in_ok-push.ensures.items was.1,
     )
 

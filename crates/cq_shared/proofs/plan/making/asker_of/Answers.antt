@@ -2,8 +2,8 @@ use Rattle.std.proofs.Common.{◌∙◌, ap, map}
 use Rattle.std.specs.List.{list_all}
 use Rattle.cql_syntax.specs.TreeOf.{filter_tree, query_tree}
 use Rattle.cq_shared.specs.Alone.{stands_alone}
-use Rattle.cq_shared.specs.Known.{all_shown}
-use Rattle.cq_shared.specs.Parts.{parts_with, with_parts}
+use Rattle.cq_shared.specs.Known.{all_shown, with_parts}
+use Rattle.cq_shared.specs.Parts.{parts_with}
 use Rattle.cq_shared.proofs.Makings.{asker_by}
 use Rattle.cq_shared.proofs.plan.making.asker_of.Goals as goal
 

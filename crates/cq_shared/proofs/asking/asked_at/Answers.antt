@@ -1,28 +1,19 @@
 use Rattle.std.proofs.Common.{sym, ◌∙◌}
 use Rattle.cql_eval.specs.Hits.{hits_of, keys_of}
-use Rattle.cql_values.specs.Trees.{searched_tree}
-use Rattle.cql_syntax.specs.TreeOf.{filters_tree}
 use Rattle.cq_shared.proofs.After.{cost_live}
-use Rattle.cq_shared.proofs.Telling.{row_by, one_row, cost_is}
-use Rattle.cq_shared.proofs.asking.numbers_at.Goals as goal
-
-pub row-requires-clause-some : goal.row-requires-clause-some
-row-requires-clause-some g c =
-    let p = c.args.part.now in
-    (one_row (searched_tree c.args.game.now p.single.query.variations) (filters_tree p.single.query.items) (hits_of c.in_ok-column.column) (keys_of c.in_ok-column.column) p.single.one
-    (sym p.class_is ∙ c.requires.sort) c.in_ok-column.ensures.keys).some
-
-pub row-requires-clause-numbers : goal.row-requires-clause-numbers
-row-requires-clause-numbers g c =
-    let p = c.args.part.now in
-    (one_row (searched_tree c.args.game.now p.single.query.variations) (filters_tree p.single.query.items) (hits_of c.in_ok-column.column) (keys_of c.in_ok-column.column) p.single.one
-    (sym p.class_is ∙ c.requires.sort) c.in_ok-column.ensures.keys).count
+use Rattle.cq_shared.proofs.Telling.{told_by, row_by, cost_is}
+use Rattle.cq_shared.proofs.asking.asked_at.Goals as goal
 
 pub returns-clause-told : goal.returns-clause-told
 returns-clause-told g c =
+    told_by c.args.game.now c.args.part.now c.args.live.now (hits_of c.in_ok-column.column) c.into_hits-truths.result.items c.args.part.now.single.one
+    c.in_ok-column.ensures.hits c.into_hits-truths.ensures
+
+pub returns-clause-row : goal.returns-clause-row
+returns-clause-row g c = λ class.
     let p = c.args.part.now in
     row_by c.args.game.now p c.args.live.now (hits_of c.in_ok-column.column) (keys_of c.in_ok-column.column) c.in_ok-numbers.numbers.items p.single.one
-    c.requires.sort p.class_is c.in_ok-column.ensures.hits c.in_ok-column.ensures.keys c.in_ok-numbers.ensures
+    class p.class_is c.in_ok-column.ensures.hits c.in_ok-column.ensures.keys (c.in_ok-numbers.ensures class)
 
 pub returns-clause-cost : goal.returns-clause-cost
 returns-clause-cost g c =
