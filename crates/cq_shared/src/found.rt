@@ -1,5 +1,5 @@
 //! What is found of each query in a game.
-ghost use Rattle.std.specs.Prelude.{◌≡◌, ◌++◌, ◌∷◌, ◌<◌, [], length, map, All, AllPairs, IfOk, OnOk, if◌then◌else◌};
+ghost use Rattle.std.specs.Prelude.{◌≡◌, ◌<◌, length, map, All, AllPairs, IfOk};
 ghost use Rattle.cql_eval.specs.Columns.{is_live};
 ghost use Rattle.cql_syntax.specs.Hits.{hits as hits_of};
 ghost use Rattle.cq_shared.specs.Askers.{asked_query, AreAskers};
@@ -14,6 +14,7 @@ use crate::part::{Asker, Part};
 use crate::verdicts::{Found, Verdicts};
 use cq_outside::NoMemory;
 use cql_plan::laws::games_with_a_hit_pass;
+use cql_values::walks::push_if;
 use pgn_tree::Game;
 use std::alloc::Global;
 
@@ -72,14 +73,4 @@ fn hits(alloc: Global, nodes: &Nodes, game: &Game) -> Result<Vec<u32>, NoMemory>
         push_if(&mut found, there, n)?;
     }
     Ok(found)
-}
-
-// Adds a node where it is asked.
-fn push_if(found: &mut Vec<u32>, there: bool, node: u32) -> Result<(), NoMemory>
-    ensures { OnOk result (found.new.items ≡ found.old.items ++ (if there then node ∷ [] else [])) }
-{
-    if there {
-        found.push(node)?;
-    }
-    Ok(())
 }
