@@ -3,8 +3,9 @@ ghost use Rattle.std.specs.Prelude.{◌≡◌, ◌<◌, length, true, Some, IfOk
 ghost use Rattle.cq_position.specs.Games.{IsTree, node_at};
 ghost use Rattle.cq_symmetry.specs.Images.{is_in};
 ghost use Rattle.cql_syntax.specs.Meaning as meaning;
-ghost use Rattle.cql_syntax.specs.Values.{as_squares};
+ghost use Rattle.cql_syntax.specs.Values.{as_squares, count};
 ghost use Rattle.cql_values.specs.Asked.{AreTheMen};
+ghost use Rattle.cql_values.specs.Counts.{moves_on};
 ghost use Rattle.cql_values.specs.Shown.{meant};
 ghost use Rattle.cql_values.specs.Trees.{searched_tree};
 ghost use Rattle.cql_eval.specs.Columns.{AreAsked, AreSets, AreValues};
@@ -14,7 +15,9 @@ use crate::spans::{asked_end, first_asked};
 use cq_outside::NoMemory;
 use cq_position::Man;
 use cql_syntax::{Designator, Plain};
+use cql_values::counts::counts;
 use cql_values::names::Names;
+use cql_values::numbers::counted;
 use cql_values::value::Value;
 use cql_values::words::{listed_men, standing_of, word_at};
 use pgn_tree::Game;
@@ -54,8 +57,46 @@ fn standing_set(asked: bool, d: &Designator, men: &[Man], game: &Game, n: u32) -
     }
 }
 
-/// The values of a word.
+/// The values of a word. Those that count moves on the way to a node are counted in one pass over the game.
 pub(crate) fn word_values(
+    alloc: Global,
+    word: Plain,
+    game: &Game,
+    variations: bool,
+    live: &[bool],
+) -> Result<Vec<Value>, NoMemory>
+    requires tree { IsTree game.now.nodes }
+    requires asked { AreAsked (searched_tree game.now variations) live.now }
+    ensures { IfOk result (λ values. AreValues values.items live.now (meaning.word_of (searched_tree game.now variations) word)) }
+{
+    match word {
+        Plain::Ply => counted_values(alloc, false, game, variations, live),
+        Plain::Depth => counted_values(alloc, true, game, variations, live),
+        _ => values_one_by_one(alloc, word, game, variations, live),
+    }
+}
+
+fn counted_values(
+    alloc: Global,
+    variations_alone: bool,
+    game: &Game,
+    variations: bool,
+    live: &[bool],
+) -> Result<Vec<Value>, NoMemory>
+    requires tree { IsTree game.now.nodes }
+    requires asked { AreAsked (searched_tree game.now variations) live.now }
+    ensures { IfOk result (λ values. AreValues values.items live.now (λ n. count (moves_on variations_alone game.now.nodes n))) }
+{
+    let counts = counts(alloc, game, variations_alone)?;
+    let end = asked_end(live, game.len());
+    let mut values = blank_values(alloc, end as usize)?;
+    for n in first_asked(live, game.len())..end {
+        values[n as usize] = counted(counts[n as usize]);
+    }
+    Ok(values)
+}
+
+fn values_one_by_one(
     alloc: Global,
     word: Plain,
     game: &Game,

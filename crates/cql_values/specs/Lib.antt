@@ -1,4 +1,5 @@
 pub mod Asked
+pub mod Counts
 pub mod Names
 pub mod Shown
 pub mod Squares

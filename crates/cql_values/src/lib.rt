@@ -5,6 +5,7 @@
 #![tactic(auto)]
 
 pub mod combine;
+pub mod counts;
 pub mod headers;
 pub mod led;
 pub mod names;

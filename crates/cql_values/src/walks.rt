@@ -131,8 +131,8 @@ fn is_node(found: Option<u32>, n: u32) -> bool
     }
 }
 
-// Whether a node other than the root is not the first child of its parent.
-fn begins_variation(game: &Game, n: u32) -> bool
+/// Whether a node other than the root is not the first child of its parent.
+pub fn begins_variation(game: &Game, n: u32) -> bool
     requires { n < length game.now.nodes }
     ensures { result ≡ search_of.begins_variation game.now.nodes n }
 {

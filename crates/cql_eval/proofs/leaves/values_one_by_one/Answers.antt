@@ -2,7 +2,7 @@ use Rattle.std.proofs.Common.{false, refl}
 use Rattle.cql_values.specs.Shown.{meant}
 use Rattle.cql_values.specs.declared.value.Value.TheVariants.{Truth}
 use Rattle.cql_eval.proofs.Filling.{put_none, put_more, put_all}
-use Rattle.cql_eval.proofs.leaves.word_values.Goals as goal
+use Rattle.cql_eval.proofs.leaves.values_one_by_one.Goals as goal
 
 pub loop-n-init : goal.loop-n-init
 loop-n-init c = put_none meant (Truth false) c.args.live.now _ _ _ _ c.in_ok-values.ensures c.asked_end-end.ensures.none c.first_asked-n.ensures.none

@@ -4,7 +4,7 @@ use Rattle.cql_values.specs.declared.value.Value.TheVariants.{Truth}
 use Rattle.cql_values.specs.Trees.{searched_tree}
 use Rattle.std.specs.Prelude.{false}
 use Rattle.cql_eval.proofs.Filling.{FilledTo}
-use Rattle.cql_eval.proofs.leaves.word_values.Given as goal
+use Rattle.cql_eval.proofs.leaves.values_one_by_one.Given as goal
 
 abbrev pub invariant-loop-n : goal.invariant-loop-n
 invariant-loop-n l = FilledTo meant (Truth false) l.live (word_of (searched_tree l.game l.variations) l.word) l.end l.n l.values.items
