@@ -95,6 +95,20 @@ ARCHIVES = {
 }
 # the moves of a game that has nearly as many positions as a game may have
 MOVES = 65532 * 4
+# questions that follow the tree of a game, each over such a game
+WALKS = (
+    "cql() ply > 99999",
+    "cql() depth > 99",
+    "cql() find mate",
+    "cql() find <-- mate",
+    "cql() child terminal",
+    "cql() parent mate",
+    "cql() square x in [Kk] {find {x attacks p}}",
+    "cql() move promote A",
+    "cql() (line --> mainline*) > 99999",
+    "cql() (line <-- .*) > 99999",
+    'cql() sort "ply" ply mate',
+)
 # one kind of token: what stands before, what is repeated, what stands behind
 QUERIES = {
     "not": (b"cql() ", b"not ", b"check"),
@@ -148,6 +162,8 @@ def archives():
     moves = functools.partial(repeated, ARCHIVES["moves"])
     yield "65,532 moves", "cql() mate", moves, MOVES
     yield "all marked", "cql() wtm or btm", moves, MOVES
+    for text in WALKS:
+        yield text, text, moves, MOVES
 
 
 def sizes(binary, measure):
