@@ -26,7 +26,8 @@ module _ {X : Type 0} (f : X → List ℕ) where
       omega (arith, length-drop 1 all, l, length-append (map f kept) (f word ∷ map f rest))
 
   -- where none is still to come, all are kept
-  pub all_kept : (all : List (List ℕ)) (kept items : List X) (len : ℕ) → drop 1 all ≡ map f kept ++ map f items → len ≡ length items → (0 < len → IsSome {T = X} None) → map f kept ≡ drop 1 all
+  pub all_kept : (all : List (List ℕ)) (kept items : List X) (len : ℕ) → drop 1 all ≡ map f kept ++ map f items → len ≡ length items → (0 < len → IsSome {T = X} None)
+      → map f kept ≡ drop 1 all
   all_kept all kept [] len e l h = sym (e ∙ append-nil (map f kept))
   all_kept all kept (x ∷ xs) len e l h = absurd (true≢false (sym (h (omega (arith, l)))))
 

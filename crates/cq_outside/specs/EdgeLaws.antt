@@ -5,24 +5,28 @@ use Rattle.cq_outside.specs.declared.edge.Current.{Current}
 use Rattle.cq_outside.specs.declared.edge.Current.TheVariants.{Nothing, Input, File}
 use Rattle.cq_outside.specs.Edge.{RealDesk, left_of, with_left, ReadsOn}
 
-abbrev desk : ℕ → ℕ → Option ℕ → Option (List ℕ) → Current (Option (List ℕ)) → RealDesk
+-- the bytes that are left, where they are told
+abbrev Left : Type 0
+Left = Option (List ℕ)
+
+abbrev desk : ℕ → ℕ → Option ℕ → Left → Current Left → RealDesk
 desk reads opens openings input current =
     record { read_faults = reads; open_faults = opens; openings = openings; input = input; current = current }
 
-with_its_own : (r o : ℕ) (n : Option ℕ) (i : Option (List ℕ)) (c : Current (Option (List ℕ)))
+with_its_own : (r o : ℕ) (n : Option ℕ) (i : Left) (c : Current Left)
     → desk r o n i c ≡ with_left (desk r o n i c) (left_of (desk r o n i c))
 with_its_own r o n i Nothing = refl
 with_its_own r o n i Input = refl
 with_its_own r o n i (File left) = refl
 
 -- what is left at last is what was said last
-with_last : (r o q m : ℕ) (n : Option ℕ) (i a b : Option (List ℕ)) (c : Current (Option (List ℕ)))
+with_last : (r o q m : ℕ) (n : Option ℕ) (i a b : Left) (c : Current Left)
     → with_left (record (with_left (desk q o n i c) a) { read_faults = m }) b ≡ with_left (desk m o n i c) b
 with_last r o q m n i a b Nothing = refl
 with_last r o q m n i a b Input = refl
 with_last r o q m n i a b (File left) = refl
 
-with_same_opens : (r o : ℕ) (n : Option ℕ) (i a : Option (List ℕ)) (c : Current (Option (List ℕ))) → (with_left (desk r o n i c) a).open_faults ≡ o
+with_same_opens : (r o : ℕ) (n : Option ℕ) (i a : Left) (c : Current Left) → (with_left (desk r o n i c) a).open_faults ≡ o
 with_same_opens r o n i a Nothing = refl
 with_same_opens r o n i a Input = refl
 with_same_opens r o n i a (File left) = refl
