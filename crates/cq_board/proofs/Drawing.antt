@@ -84,5 +84,6 @@ draws_counted (worker ∷ workers) next lists next_after lists_after draws =
 pub reached_is_sound : (workers : List ℕ) (next : ℕ) (lists : List (List ℕ)) (next_after : ℕ) (lists_after : List (List ℕ)) → IsFirst next lists
     → AreDraws workers next lists next_after lists_after → (next_after ≡ length workers) × IsSound next_after lists_after
 reached_is_sound workers next lists next_after lists_after first draws = (
-    (let z = first.zero_next in let e = draws_counted workers next lists next_after lists_after draws in omega arith),
-    draws_stay_sound workers next lists next_after lists_after (first_is_sound next lists first) draws)
+  (let z = first.zero_next in let e = draws_counted workers next lists next_after lists_after draws in omega arith),
+  draws_stay_sound workers next lists next_after lists_after (first_is_sound next lists first) draws,
+)

@@ -52,7 +52,11 @@ pub fn run_batch<R: Threads + Sync, G: Gate + Sync>(
 }
 
 // A worker at each seat.
-fn workers_of(alloc: Global, board: &WorkBoard, seats: Vec<ClaimSeat>) -> Result<Vec<Worker>, NoMemory>
+fn workers_of(
+    alloc: Global,
+    board: &WorkBoard,
+    seats: Vec<ClaimSeat>,
+) -> Result<Vec<Worker>, NoMemory>
     requires { All (λ s. IsSeatOf board.now s × (drawn s ≡ []) × (HasEnded s → ⊥)) seats.items }
     ensures fresh { IfOk result (λ slots. All (IsFresh board.now) slots.items) }
     ensures count { IfOk result (λ slots. length slots.items ≡ length seats.items) }
