@@ -7,7 +7,7 @@ use Rattle.pgn_cut.specs.declared.span.Span.{Span}
 use Rattle.pgn_pieces.specs.Pieces.{piece_bytes}
 use Rattle.pgn_pieces.specs.declared.piece.Piece.{Piece}
 
--- the bytes of a piece are cut into these games of its archive: those of the first piece as they are, and those of any other after one space
+-- the bytes of a piece are cut into these games of its archive: those of the first piece as they are, any others after one space
 abbrev pub IsCutInto : List ℕ → (bytes : List ℕ) → (offset : ℕ) → List Span → Type 0
 IsCutInto archive bytes zero games = cut bytes ≡ games
 IsCutInto archive bytes (suc before) games = AreMovedGames before (space ∷ bytes) archive (cut (space ∷ bytes)) games

@@ -82,8 +82,8 @@ impl Notes {
         Ok(())
     }
 
-    /// The comment of a text more: its words with single spaces between them, in which a closing brace becomes a closing parenthesis. A text
-    /// without words adds nothing.
+    /// The comment of a text more: its words with single spaces between them, in which a closing brace becomes a closing parenthesis. A
+    /// text without words adds nothing.
     pub fn add_comment(&mut self, text: &[u8]) -> Result<(), NoMemory>
         ensures ok { OnOk result (self.new ≡ record self.old {
           comments = self.old.comments ++ comment_of (words (without_braces text.now));

@@ -19,7 +19,9 @@ pub invariant_of-self-else-is_err-2 : goal.invariant_of-self-else-is_err-2
 invariant_of-self-else-is_err-2 c =
     kept_grown c.self.inside.text.items c.push_words.new.text.items c.self.inside.ends.items c.push.new.self.items c.args.text.now
     (when_ok c.push_words.result c.if-is_err.ensures.value c.push_words.ensures.ok)
-    (λ same. c.if-len-end.false (let len = c.len.ensures in let end = c.len-end.ensures in let before = c.self.inside.text.ok.0 in let after = c.push_words.new.text.ok.0 in omega (arith, len, end, same, before, after)))
+    (λ same. c.if-len-end.false
+    (let len = c.len.ensures in let end = c.len-end.ensures in let before = c.self.inside.text.ok.0 in let after = c.push_words.new.text.ok.0 in
+    omega (arith, len, end, same, before, after)))
     (pushed c.push.result c.push.new.self.items (c.self.inside.ends.items ++ c.len-2.result ∷ []) c.self.inside.ends.items c.if-is_err-2.ensures.value c.push.ensures.items
     ∙ ap (λ n. c.self.inside.ends.items ++ n ∷ []) (c.len-2.ensures ∙ c.push_words.new.text.ok.0))
     c.self.invariant
@@ -28,7 +30,9 @@ pub returns-clause-ok : goal.returns-clause-ok
 returns-clause-ok c =
     grown c.self.inside.text.items c.push_words.new.text.items c.self.inside.ends.items c.push.new.self.items c.args.text.now
     (when_ok c.push_words.result c.if-is_err.ensures.value c.push_words.ensures.ok)
-    (λ same. c.if-len-end.false (let len = c.len.ensures in let end = c.len-end.ensures in let before = c.self.inside.text.ok.0 in let after = c.push_words.new.text.ok.0 in omega (arith, len, end, same, before, after)))
+    (λ same. c.if-len-end.false
+    (let len = c.len.ensures in let end = c.len-end.ensures in let before = c.self.inside.text.ok.0 in let after = c.push_words.new.text.ok.0 in
+    omega (arith, len, end, same, before, after)))
     (pushed c.push.result c.push.new.self.items (c.self.inside.ends.items ++ c.len-2.result ∷ []) c.self.inside.ends.items c.if-is_err-2.ensures.value c.push.ensures.items
     ∙ ap (λ n. c.self.inside.ends.items ++ n ∷ []) (c.len-2.ensures ∙ c.push_words.new.text.ok.0))
     c.self.invariant.ends_stand

@@ -20,23 +20,27 @@ index-requires c =
 
 pub slice_bounds-result-count : goal.slice_bounds-result-count
 slice_bounds-result-count c =
-    in_order c.self.inside.text.items c.self.inside.ends.items c.self.invariant.ends_stand c.args.i c.start_of-start.result c.index.result.now (low c.self.inside.text.items c.self.inside.ends.items c.args.self.now c.args.i c.self.view_is c.requires)
+    in_order c.self.inside.text.items c.self.inside.ends.items c.self.invariant.ends_stand c.args.i c.start_of-start.result c.index.result.now
+    (low c.self.inside.text.items c.self.inside.ends.items c.args.self.now c.args.i c.self.view_is c.requires)
     (c.start_of-start.ensures ∙ ap (λ e. start_of 0 e c.args.i) c.as_slice.ensures.value) c.index.ensures
 
 pub slice_bounds-result-start : goal.slice_bounds-result-start
 slice_bounds-result-start c =
-    in_order c.self.inside.text.items c.self.inside.ends.items c.self.invariant.ends_stand c.args.i c.start_of-start.result c.index.result.now (low c.self.inside.text.items c.self.inside.ends.items c.args.self.now c.args.i c.self.view_is c.requires)
+    in_order c.self.inside.text.items c.self.inside.ends.items c.self.invariant.ends_stand c.args.i c.start_of-start.result c.index.result.now
+    (low c.self.inside.text.items c.self.inside.ends.items c.args.self.now c.args.i c.self.view_is c.requires)
     (c.start_of-start.ensures ∙ ap (λ e. start_of 0 e c.args.i) c.as_slice.ensures.value) c.index.ensures
 
 pub slice_bounds-result-end : goal.slice_bounds-result-end
 slice_bounds-result-end c =
     subst (λ t. c.index.result.now ≤ length t) (sym c.deref.ensures.value)
-    (in_text c.self.inside.text.items c.self.inside.ends.items c.self.invariant.ends_stand c.args.i c.start_of-start.result c.index.result.now (low c.self.inside.text.items c.self.inside.ends.items c.args.self.now c.args.i c.self.view_is c.requires)
+    (in_text c.self.inside.text.items c.self.inside.ends.items c.self.invariant.ends_stand c.args.i c.start_of-start.result c.index.result.now
+    (low c.self.inside.text.items c.self.inside.ends.items c.args.self.now c.args.i c.self.view_is c.requires)
     (c.start_of-start.ensures ∙ ap (λ e. start_of 0 e c.args.i) c.as_slice.ensures.value) c.index.ensures)
 
 pub returns : goal.returns
 returns c =
     ap (λ t. take (c.index.result.now - c.start_of-start.result) (drop c.start_of-start.result t)) c.deref.ensures.value
-    ∙ part_is c.self.inside.text.items c.self.inside.ends.items c.self.invariant.ends_stand c.args.i c.start_of-start.result c.index.result.now (low c.self.inside.text.items c.self.inside.ends.items c.args.self.now c.args.i c.self.view_is c.requires)
+    ∙ part_is c.self.inside.text.items c.self.inside.ends.items c.self.invariant.ends_stand c.args.i c.start_of-start.result c.index.result.now
+    (low c.self.inside.text.items c.self.inside.ends.items c.args.self.now c.args.i c.self.view_is c.requires)
     (c.start_of-start.ensures ∙ ap (λ e. start_of 0 e c.args.i) c.as_slice.ensures.value) c.index.ensures
     ∙ ap (λ l. get_or l c.args.i []) c.self.view_is
