@@ -1,5 +1,5 @@
-use Rattle.pgn_reader.proofs.Split.{split_alike}
-use Rattle.pgn_reader.proofs.laws.split_games_are_read_alike.Goals as goal
+use Rattle.pgn_laws.proofs.Split.{split_alike}
+use Rattle.pgn_laws.proofs.laws.split_games_are_read_alike.Goals as goal
 
 pub returns : goal.returns
 returns c = λ archive before game after is.

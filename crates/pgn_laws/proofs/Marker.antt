@@ -18,7 +18,7 @@ use Rattle.pgn_lexer.specs.declared.token.TokenKind.TheVariants.{Symbol, Star, N
 use Rattle.pgn_cut.specs.Cut.{is_result, marks, nest}
 use Rattle.pgn_cut.specs.OneGame.{token_depth, IsEndedByMarker}
 use Rattle.pgn_reader.specs.declared.fault.Reason.TheVariants.{NagRange}
-use Rattle.pgn_reader.specs.Marker.{nested, depth_after, EndsWithItsMarker}
+use Rattle.pgn_laws.specs.Marker.{nested, depth_after, EndsWithItsMarker}
 use Rattle.pgn_reader.specs.Words.{Word, annotates, ends, means_nothing, out_of_place, sense, sense_of, sense_of_symbol, sense_of_marker, sense_of_glyph, result_of_text, word_of, words_of}
 
 -- tokens nest alike for the reader and the cut

@@ -13,7 +13,7 @@ use Rattle.pgn_reader.specs.declared.fault.GameFault.{GameFault}
 use Rattle.pgn_reader.specs.Elsewhere.{moved, AreSameTokens}
 use Rattle.pgn_reader.specs.Verdict.{IsRead}
 use Rattle.pgn_reader.specs.Words.{Word, word_of, words_of}
-use Rattle.pgn_reader.specs.Split.{IsReadAlike, AreReadAlike}
+use Rattle.pgn_laws.specs.Split.{IsReadAlike, AreReadAlike}
 use Rattle.pgn_reader.proofs.Elsewhere.{decided}
 
 -- the bytes after the space are those of the archive
