@@ -1,6 +1,6 @@
 use Rattle.std.proofs.Common.{[], sym, ◌∙◌}
 use Rattle.std.proofs.lemmas.List.{append-nil}
-use Rattle.cq_many_tests.proofs.workers.batch_of.Goals as goal
+use Rattle.cq_shared_tests.proofs.workers.batch_of.Goals as goal
 
 pub of-requires-clause-spans : goal.of-requires-clause-spans
 of-requires-clause-spans g c =
