@@ -13,6 +13,9 @@ module _ (n : ℕ) where
   abbrev looks : List ℕ → ℕ
   looks atoms = sum_by (λ around. n * 64 ^ around) atoms
 
+  none : (p : ℕ) → 0 * p ≡ looks []
+  none p = let e : 0 * p ≡ 0 = grind arith in e
+
   both : (x y p : ℕ) (u v : List ℕ) → x * p ≡ looks u → y * p ≡ looks v → (x + y) * p ≡ looks (u ++ v)
   both x y p u v first second =
       let e : (x + y) * p ≡ x * p + y * p = grind arith in
@@ -49,13 +52,13 @@ module _ (n : ℕ) where
     filter_sum d (filter_at at f) = form_sum d f
 
     form_sum : (d : ℕ) (f : FormTree) → form_cost n f * 64 ^ d ≡ looks (form_atoms d f)
-    form_sum d (designator x) = refl
-    form_sum d (number k) = refl
-    form_sum d (name text) = refl
-    form_sum d (plain word) = refl
-    form_sum d (tagged field text) = refl
-    form_sum d (outcome o) = refl
-    form_sum d (elo whose) = refl
+    form_sum d (designator x) = none (64 ^ d)
+    form_sum d (number k) = none (64 ^ d)
+    form_sum d (name text) = none (64 ^ d)
+    form_sum d (plain word) = none (64 ^ d)
+    form_sum d (tagged field text) = none (64 ^ d)
+    form_sum d (outcome o) = none (64 ^ d)
+    form_sum d (elo whose) = none (64 ^ d)
     form_sum d (unary u f) = filter_sum d f
     form_sum d (direction way m k f) = filter_sum d f
     form_sum d (chain c fs) = filters_sum d fs
@@ -69,18 +72,18 @@ module _ (n : ℕ) where
         (squared (filter_cost n b) d ∙ filter_sum (d + 1) b)
     form_sum d (line l) = line_sum d l
     form_sum d (played p) = played_sum d p
-    form_sum d (transform t f) = refl
+    form_sum d (transform t f) = none (64 ^ d)
     form_sum d (sort least text f) = filter_sum d f
-    form_sum d (comment text) = refl
+    form_sum d (comment text) = none (64 ^ d)
     form_sum d (any kind fs) = filters_sum d fs
 
     filters_sum : (d : ℕ) (fs : FilterTrees) → filters_cost n fs * 64 ^ d ≡ looks (filters_atoms d fs)
-    filters_sum d no_filters = refl
+    filters_sum d no_filters = none (64 ^ d)
     filters_sum d (more_filters f fs) =
         both (filter_cost n f) (filters_cost n fs) (64 ^ d) (filter_atoms d f) (filters_atoms d fs) (filter_sum d f) (filters_sum d fs)
 
     terms_sum : (d : ℕ) (ts : TermTrees) → terms_cost n ts * 64 ^ d ≡ looks (terms_atoms d ts)
-    terms_sum d no_terms = refl
+    terms_sum d no_terms = none (64 ^ d)
     terms_sum d (more_terms minus f ts) =
         both (filter_cost n f) (terms_cost n ts) (64 ^ d) (filter_atoms d f) (terms_atoms d ts) (filter_sum d f) (terms_sum d ts)
 
@@ -93,11 +96,11 @@ module _ (n : ℕ) where
         (written_atoms d taken) (written_atoms d promoted) (written_sum d origin) (written_sum d goal) (written_sum d taken) (written_sum d promoted)
 
     written_sum : (d : ℕ) (w : WrittenTree) → written_cost n w * 64 ^ d ≡ looks (written_atoms d w)
-    written_sum d left_out = refl
+    written_sum d left_out = none (64 ^ d)
     written_sum d (written f) = filter_sum d f
 
     row_sum : (d : ℕ) (cs : PartTrees) → (parts_atoms cs * n + parts_cost n cs) * 64 ^ d ≡ looks (row_atoms d cs)
-    row_sum d no_parts = refl
+    row_sum d no_parts = let e : (0 * n + 0) * 64 ^ d ≡ 0 = grind arith in e
     row_sum d (more_parts body mark cs) =
         row (body_atoms body) (parts_atoms cs) (body_cost n body) (parts_cost n cs) (64 ^ d) (inner_atoms d body) (row_atoms d cs) (inner_sum d body) (row_sum d cs)
 
