@@ -13,6 +13,7 @@ from collections.abc import Callable
 from dataclasses import dataclass
 from pathlib import Path
 
+import answers
 import pytest
 
 TOP = Path(__file__).resolve().parent.parent.parent
@@ -85,3 +86,11 @@ def asked(room: Path) -> Asking:
         return Answer(done.returncode, done.stdout, done.stderr.decode("utf-8", "surrogateescape"))
 
     return run
+
+
+@pytest.fixture
+def archives(room: Path) -> Path:
+    """The room with one.pgn, two.pgn, an archive whose name begins with a dash, and q.cql."""
+    for name, data in {"one.pgn": answers.ONE, "two.pgn": answers.TWO, "-odd.pgn": answers.ONE, "q.cql": answers.QUERY.encode()}.items():
+        (room / name).write_bytes(data)
+    return room

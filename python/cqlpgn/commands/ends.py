@@ -8,6 +8,7 @@ import signal
 import sys
 from collections.abc import Callable, Iterator, Sequence
 from types import FrameType
+from typing import TextIO
 
 from ..errors import Error
 
@@ -28,17 +29,20 @@ class Failed(BaseException):
 
 def tell(*words: object) -> None:
     """Writes a line to standard error; the command ends with status 6 where that fails."""
-    try:
-        print(*words, file=sys.stderr, flush=True)
-    except (OSError, ValueError, AttributeError) as fault:
-        raise Failed from fault
+    _write(sys.stderr, *words)
 
 
 def say(*words: object) -> None:
     """Writes a line to standard output; the command ends with status 6 where that fails."""
+    _write(sys.stdout, *words)
+
+
+def _write(stream: TextIO | None, *words: object) -> None:
+    if stream is None:
+        raise Failed
     try:
-        print(*words, flush=True)
-    except (OSError, ValueError, AttributeError) as fault:
+        print(*words, file=stream, flush=True)
+    except (OSError, ValueError) as fault:
         raise Failed from fault
 
 
@@ -64,9 +68,16 @@ def status_of(main: Main, words: Sequence[str]) -> int:
         with signals():
             try:
                 return main(words)
+            except SystemExit as end:
+                return end.code if isinstance(end.code, int) else 0
             except Error as fault:
                 tell(fault)
                 return fault.status
+            except BrokenPipeError:
+                return 6
+            except OSError as fault:
+                tell(fault.strerror or fault)
+                return 6
             except MemoryError:
                 tell("there was not enough memory")
                 return 7
@@ -79,8 +90,18 @@ def status_of(main: Main, words: Sequence[str]) -> int:
         return 6
 
 
+def _fill(number: int) -> None:
+    """Gives a standard stream that is closed a file that can't be read, or written, in its place, so that no other file gets its number."""
+    try:
+        os.fstat(number)
+    except OSError:
+        os.dup2(os.open(os.devnull, os.O_RDONLY if number else os.O_WRONLY), number)
+
+
 def run(main: Main) -> None:
     """Ends the process as the command says; what is left in the streams is dropped where they fail."""
+    for number in range(3):
+        _fill(number)
     for stream in (sys.stdout, sys.stderr):
         if stream is not None and hasattr(stream, "reconfigure"):
             stream.reconfigure(errors="surrogateescape" if stream is sys.stdout else "backslashreplace")

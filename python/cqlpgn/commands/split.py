@@ -5,8 +5,8 @@ from __future__ import annotations
 import argparse
 import re
 import sys
-from collections.abc import Sequence
-from typing import BinaryIO
+from collections.abc import Callable, Sequence
+from typing import IO, BinaryIO
 
 from ..errors import NotFound, Unreadable
 from ..files import Replacing
@@ -23,14 +23,16 @@ def parser() -> argparse.ArgumentParser:
         "Puts what `cqlpgn many` has written, and standard input brings, into a file for each query: the games of the first one go to "
         "PREFIX01.pgn, those of the second to PREFIX02.pgn. A query that found nothing has an empty file. The files appear together, when "
         "all was read; those of these names that were there stand until then.",
-        "The exit status is 0 where each query has its file; 3 for words that are not as above; 5 where what was read is not, or not to its "
-        "end, what `cqlpgn many` writes; 6 where a file could not be written.",
+        "The exit status is 0 where each query has its file; 3 for words that are not as above; 5 where what was read is not, or not to "
+        "its end, what `cqlpgn many` writes; 6 where a file could not be written.",
     )
-    made.add_argument("prefix", metavar="PREFIX", help="the beginning of the files' names; one that ends in / is a folder, which must be there")
+    made.add_argument(
+        "prefix", metavar="PREFIX", help="the beginning of the files' names; one that ends in / is a folder, which must be there"
+    )
     return made
 
 
-def copied(source: BinaryIO, file: BinaryIO, size: int) -> int:
+def copied(source: IO[bytes], file: BinaryIO, size: int) -> int:
     """How many bytes of so many were there to be copied."""
     left = size
     while left:
@@ -42,18 +44,18 @@ def copied(source: BinaryIO, file: BinaryIO, size: int) -> int:
     return size - left
 
 
-def split(source: BinaryIO, prefix: str, files: Replacing) -> int:
-    """How many queries were read. Raises `Unreadable` where that is not what `cqlpgn many` writes."""
+def split(source: IO[bytes], files: Sequence[BinaryIO] | Callable[[int], BinaryIO]) -> int:
+    """How many queries were read; the games of each go to its file. Raises `Unreadable` where that is not what `cqlpgn many` writes."""
     number = 0
     while line := source.readline(AT_ONCE):
         number += 1
         said = LINE.fullmatch(line)
         if not said or int(said.group(1)) != number:
             raise Unreadable(f"cqlpgn-split: a line `query {number} bytes ..` was to come, as `cqlpgn many` writes it")
-        name, size = f"{prefix}{number:02}.pgn", int(said.group(2))
-        came = copied(source, files.open(name), size)
+        size = int(said.group(2))
+        came = copied(source, files(number) if callable(files) else files[number - 1], size)
         if came < size:
-            raise Unreadable(f"cqlpgn-split: {name}: of {size} bytes only {came} came")
+            raise Unreadable(f"cqlpgn-split: query {number}: of {size} bytes only {came} came")
     return number
 
 
@@ -62,7 +64,7 @@ def main(words: Sequence[str]) -> int:
     if sys.stdin is None:
         raise NotFound("cqlpgn-split: standard input is closed")
     with Replacing() as files:
-        if not split(sys.stdin.buffer, prefix, files):
+        if not split(sys.stdin.buffer, lambda number: files.open(f"{prefix}{number:02}.pgn")):
             raise Unreadable("cqlpgn-split: nothing came: the report of cqlpgn says why")
         files.commit()
     return 0
