@@ -204,8 +204,6 @@ SLIPS = [
         r"\bsquare\b.*\Z",
     ),
 ]
-# Where several patterns fit, the one that says more is asked first.
-FIRST = ["cql mate", "flipcolor (check Qh5)", 'date "1972"', "sort elo", 'player "Tal" or "Keres"', "#N != 2", "[Qq] == 0"]
 
 
 @dataclass(frozen=True)
@@ -249,8 +247,8 @@ def foreign(word: str) -> str | None:
 
 def slip(said: str, before: str, onward: str) -> Slip | None:
     """The row that a fault is of, by what is said, and by the line before and from its byte; None where it is of none."""
-    rows = sorted(SLIPS, key=lambda row: FIRST.index(row.written) if row.written in FIRST else len(FIRST))
-    for row in rows:
+    # where several rows fit, the one that asks for more is meant
+    for row in sorted(SLIPS, key=lambda row: (not row.onward, -len(row.before))):
         if said.startswith(row.said) and re.match(row.onward, onward) and re.search(row.before, before):
             return row
     return None

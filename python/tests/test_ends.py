@@ -142,7 +142,9 @@ def test_closed_standard_input(room: Path, options: str) -> None:
 
 
 def children(number: int) -> list[int]:
-    return [int(word) for word in Path(f"/proc/{number}/task/{number}/children").read_text().split()]
+    """What a process has started, from any thread."""
+    threads = Path(f"/proc/{number}/task").iterdir()
+    return [int(word) for thread in threads for word in (thread / "children").read_text().split()]
 
 
 def has_ended(number: int) -> bool:
@@ -162,7 +164,7 @@ def test_signals_end_what_was_started(room: Path, kind: signal.Signals, options:
     with subprocess.Popen([*OVER, *options, QUERY, "waits.pgn"], stdout=subprocess.DEVNULL, stderr=subprocess.PIPE) as command:
         started: list[int] = []
         for _turn in range(600):
-            started = [child for child in children(command.pid) if b"/QUERY" not in Path(f"/proc/{child}/cmdline").read_bytes()]
+            started = children(command.pid)
             names = [Path(f"/proc/{child}/cmdline").read_bytes().split(b"\0") for child in started]
             if any(b"run" in words and b"-" in words for words in names):
                 break

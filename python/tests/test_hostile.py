@@ -81,7 +81,8 @@ def test_a_zip_cut_off(asked: Asking, room: Path, cut: int) -> None:
 
 @pytest.mark.parametrize("kind", ["gz", "xz", "bz2"])
 def test_rubbish_after_the_end(asked: Asking, room: Path, kind: str) -> None:
-    packer: Callable[[bytes], bytes] = {"gz": gzip.compress, "xz": lzma.compress, "bz2": bz2.compress}[kind]
+    packers: dict[str, Callable[[bytes], bytes]] = {"gz": gzip.compress, "xz": lzma.compress, "bz2": bz2.compress}
+    packer = packers[kind]
     packed = packer(ONE)
     (room / f"a.{kind}").write_bytes(packed + b"rubbish")
     assert is_told(asked("cqlpgn-over", QUERY, f"a.{kind}"))

@@ -48,10 +48,11 @@ def test_rows_of_several_archives(asked: Asking, room: Path) -> None:
     equal = [f"{found},equal.pgn.gz,{game}" for found, game in enumerate((1, 3, 5, 8, 10, 11), 2)]
     rows = ["found,archive,game", "1,one.pgn,2", *equal, "8,two.pgn,3"]
     names = ["one.pgn", "equal.pgn.gz", "two.pgn"]
-    for options in ([], ["-j", "3"]):
-        answer = asked("cqlpgn-over", *options, "--number", "-c", QUERY, *names)
+    choices: list[list[str]] = [[], ["-j", "3"]]
+    for options in choices:
+        answer = asked("cqlpgn-over", "--number", "-c", *options, QUERY, *names)
         assert (answer.status, answer.out.decode().splitlines()) == (1, rows)
-        assert asked("cqlpgn-over", *options, "--number", "-o", "out.pgn", QUERY, *names).status == 1
+        assert asked("cqlpgn-over", "--number", "-o", "out.pgn", *options, QUERY, *names).status == 1
         assert (room / "out.pgn.csv").read_text().splitlines() == rows
         assert (room / "out.pgn").read_bytes().count(b"[Event ") == 8
     answer = asked("cqlpgn-over", "--number", "-c", QUERY, data=EQUAL)
