@@ -192,6 +192,11 @@ def test_twins_are_games_of_their_own() -> None:
     assert '[Twin "c Continued Move h1 c1"]' in getattr(made[2], "text")
 
 
+def test_a_twin_without_its_part_of_the_solution_is_named() -> None:
+    made = outcomes("1.Rh8#", "#1", ("Kb6", "Rh1"), ("Kb8",), twins={"a": "", "b": "Move b8 a8"})
+    assert [type(one) for one in made] == [Game, NoSolution]
+
+
 def test_a_twin_may_have_another_stipulation_or_side() -> None:
     text = "a)\n1.Rh8#\nb)\n1.Kc8 Rh7 2.Kb8 Rh8#\n"
     made = outcomes(text, "#1", ("Kb6", "Rh1"), ("Kb8",), twins={"b": "Stipulation h#2"})
@@ -261,6 +266,12 @@ def test_a_text_that_would_become_a_forest_is_refused(rest: str, monkeypatch: py
         moves(text, "#99", ("Kd7", "Qa3", "Bb6"), ("Kh2", "Pg5"))
     with pytest.raises(TooLarge, match="more than 300 moves"):
         moves("1.Kd6 g4 2.Q~ g3+ 3.K~ Kh3 4.Q~ Kh2 5.K~ Kg2", "#99", ("Kd7", "Qa3"), ("Kh2", "Pg5"))
+
+
+def test_brackets_may_not_be_open_without_end() -> None:
+    assert moves("1.Qe3 " + "( ) " * 1000) == "1. Qe3 *"
+    with pytest.raises(TooLarge, match="more than 100 open brackets"):
+        moves("1.Qe3 " + "( " * 1000)
 
 
 def test_a_line_may_not_be_endless() -> None:

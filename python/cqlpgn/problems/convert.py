@@ -13,7 +13,7 @@ from .records import Record
 from .solution import Reader
 from .tokens import plain
 from .tree import Node, arrange
-from .writing import game
+from .writing import game, printable
 
 MATE = re.compile(r"(?P<kind>[hsr]?)#(?P<count>\d{1,3})(?P<half>\.5)?")
 NAMES = {"": "direct", "h": "help", "s": "self", "r": "reflex", "+": "study", "=": "study"}
@@ -156,11 +156,14 @@ class Converter:
         except ProblemFault as fault:
             yield Left(fault, record.line)
             return
-        for part in parts(text, DUPLEX in " ".join(record.options).lower()):
+        found = parts(text, DUPLEX in " ".join(record.options).lower())
+        for part in found:
             try:
                 yield self._game(part, asked)
             except ProblemFault as fault:
                 yield Left(fault, self._line(text, part, fault), part.letter)
+        for letter in sorted(set(record.twins) - {part.letter for part in found} - {"a"}):
+            yield Left(NoSolution("of this twin"), record.line, printable(letter)[:20])
 
     def _orthodox(self) -> None:
         """Refuses what other rules than those of chess are said of."""

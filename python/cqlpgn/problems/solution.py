@@ -28,6 +28,7 @@ SQUARE = re.compile("[a-h][1-8]")
 # More than ten times what any solution of a collection takes.
 MOST_MOVES = 20_000
 MOST_PLIES = 2_000
+MOST_BRACKETS = 100
 
 Make = Callable[[Node], list[Node]]
 
@@ -183,6 +184,8 @@ class Reader:
     def _take_bracket(self, kind: str) -> None:
         """What stands in brackets begins where the line is, and the line goes on from there."""
         tree = self.tree
+        if kind == "open" and len(self.open) == MOST_BRACKETS:
+            raise TooLarge(f"more than {MOST_BRACKETS} open brackets")
         if kind == "open":
             self.open.append((tree.plies[:], tree.ply, tree.fresh))
         elif self.open:
