@@ -24,6 +24,7 @@ NAMES = {"#": "`#n`", "h#": "`h#n`", "s#": "`s#n`", "r#": "`r#n`", "+": "`+`", "
 
 
 def kind(record: Record) -> str:
+    """The kind of what the record asks for."""
     try:
         return stipulation(BY_BLACK.sub("", record.stipulation)).kind
     except OtherStipulation:
@@ -69,6 +70,7 @@ def table(columns: dict[str, Counter[str]]) -> None:
 
 
 def main(names: list[str]) -> None:
+    """Prints the tables of these files."""
     columns: dict[str, Counter[str]] = defaultdict(Counter)
     lengths: dict[str, list[str]] = defaultdict(list)
     largest = 0

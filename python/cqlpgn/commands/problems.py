@@ -108,6 +108,7 @@ def write(output: BinaryIO, text: str) -> None:
 
 
 def main(words: Sequence[str]) -> int:
+    """Converts the files that the words name; the answer is the status."""
     asked = parser().parse_args(words)
     report = Report()
     if asked.output is None:

@@ -21,12 +21,14 @@ def last_rank(square: int) -> bool:
 
 
 def _only(nodes: list[Node]) -> list[Node]:
+    """The one node that there is."""
     if len(nodes) != 1:
         raise AmbiguousMove() if nodes else IllegalMove()
     return nodes
 
 
 def _candidates(board: Board, written: Written) -> list[Move]:
+    """The legal moves that may be meant; a pawn promotes to a queen where no man is said."""
     if written.castling:
         move = board.castling(written.castling.count("-") == 2)
         return [move] if move else []

@@ -47,6 +47,7 @@ class Unread:
 
 
 def _yaml() -> Any:
+    """The module, which is asked for where records are read, since it may be missing."""
     try:
         import yaml
     except ImportError as fault:
@@ -71,8 +72,8 @@ def _value(yaml: Any, events: Iterator[Any], event: Any, lines: dict[str, int], 
     while not isinstance(event := next(events), yaml.MappingEndEvent):
         name = _value(yaml, events, event, lines, depth + 1)
         event = next(events)
-        if not isinstance(name, str):
-            raise NotARecord("a name that is no text")
+        if not isinstance(name, str) or name in mapping:
+            raise NotARecord("a name that stands twice or is no text")
         if isinstance(event, yaml.ScalarEvent) and event.style == "|":
             lines[name] = event.start_mark.line + 1
         mapping[name] = _value(yaml, events, event, lines, depth + 1)

@@ -158,6 +158,7 @@ class Reader:
         self.words = []
 
     def _take(self, token: Token) -> None:
+        """Takes a word as what its kind means here."""
         if token.kind in ("number", "move", "any", "pawn", "close"):
             self._say()
         if token.kind in MOVES or token.kind == "word" and self.wanted is not None and ELSE.match(token.text):
@@ -177,6 +178,7 @@ class Reader:
             self._take_word(token)
 
     def _take_mark(self, text: str) -> None:
+        """A sign as `!` belongs to all moves of the last token."""
         for node in self.tree.fresh:
             if node.move:
                 node.glyph(GLYPHS.get(text, 1 if text[0] == "!" else 2))
@@ -193,6 +195,7 @@ class Reader:
             self.wanted, self.beside = None, False
 
     def _take_word(self, token: Token) -> None:
+        """A word that says how the text goes on, or one of a comment."""
         text = token.text
         if token.kind == "word" and BUT.match(text):
             self.refuting = True
@@ -214,6 +217,7 @@ class Reader:
         return not any(captures_by_files(node.board, token.text) for node in nodes)
 
     def _take_move(self, token: Token) -> None:
+        """A move, at the ply that its number or its place says."""
         beside = self.beside or token.kind in ("promotion", "target")
         beside = beside or self.wanted is None and self.refuting and not self.threatening
         ply = self.tree.ply if beside else self.tree.ply + (2 if self.threatening else 1)
@@ -227,6 +231,7 @@ class Reader:
         self.wanted, self.beside, self.threatening = None, False, False
 
     def _place(self, token: Token, ply: int, beside: bool) -> None:
+        """Places what a token of moves stands for."""
         text, written = token.text, token.written
         if token.kind == "pawn":
             self.tree.place(ply, beside, partial(meant_by_files, text=text))
@@ -255,6 +260,7 @@ class Reader:
             self.tree.place(ply, True, partial(meant, written=other))
 
     def _place_move(self, written: Written, ply: int, beside: bool) -> None:
+        """Places one written move; after a comma it may be the next one of the line."""
         try:
             self.tree.place(ply, beside, partial(meant, written=written))
         except ProblemFault:

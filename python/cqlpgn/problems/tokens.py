@@ -85,6 +85,7 @@ def man_named(name: str | None) -> str:
 
 
 def _written(found: re.Match[str]) -> Written:
+    """What a move says."""
     said = {name: text or "" for name, text in found.groupdict().items()}
     before, square = said["before"], said["square"]
     return Written(
@@ -100,11 +101,13 @@ def _written(found: re.Match[str]) -> Written:
 
 
 def _any_of(found: re.Match[str]) -> Written:
+    """What `S~` or `Sd~` says of its men."""
     man, file = man_named(found["aman"]), found["afile"] or ""
     return Written(man=man or ("P" if file else ""), file=file, rank=found["arank2"] or found["arank"] or "")
 
 
 def _token(found: re.Match[str]) -> Token:
+    """The word that the pattern has found: the last group to be closed is that of its kind, but for a sign behind a move."""
     kind, text, at = found.lastgroup or "", found[0].strip(), found.start()
     if kind in ("move", "sign"):
         return Token("move", text, at, _written(found))
