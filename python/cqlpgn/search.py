@@ -54,7 +54,7 @@ def found(query: str | bytes, archives: Names) -> Iterator[Found]:
     for archive in all_archives(_names(archives)):
         if isinstance(archive, Error):
             raise archive
-        with tempfile.TemporaryFile() as room:
+        with tempfile.NamedTemporaryFile() as room:
             source = origins.kept(archive, room)
             for number, game in zip(origins.numbers(source, text), origins.games(source, text)):
                 yield Found(archive.name, number, game)
