@@ -8,6 +8,7 @@ PAGE is README.md, CONTRIBUTING.md or a file of docs/; without it all of them ar
 - a line of code that begins with `$ ` is a command (`> ` goes on with it), and the lines below it are what it writes:
   first to standard output, then to standard error. Each page has a folder of its own with the files of examples/;
 - a line of code that begins with `cql(` is a query, up to three spaces, and must have no fault;
+- a block of code whose first line names a file of crates/ in a comment shows lines of that file, one after the other;
 - the rows of a table are checked by what its head says (TABLES, below).
 
 A block of code that needs one of the programs of OPTIONAL is left out where it is missing, and a line says so.
@@ -74,6 +75,18 @@ def try_blocks(page, text, room):
         for line in block:
             if line.startswith("cql("):
                 is_query(page, re.split(r" {3,}", line)[0])
+        named = re.fullmatch(r"(?://|--) (crates/\S+)", block[0])
+        if named:
+            compare("%s: lines of %s" % (page, named[1]), "\n".join(block[1:]) in source(named[1]), True)
+
+
+def source(name):
+    """a file of the repository, empty where it is not there"""
+    path = os.path.join(TOP, name)
+    if not os.path.isfile(path):
+        return ""
+    with open(path, encoding="utf-8") as f:
+        return f.read()
 
 
 def said_of(text):
@@ -188,6 +201,40 @@ def word_row(page, row):
         is_query(page, text)
 
 
+def rule_row(page, row):
+    """a rule, the file where it stands, definitions that the file declares"""
+    text = source(row[1])
+    for name in codes(row[2]):
+        declared = re.search(r"^\s*(?:abbrev |unfoldable )?pub (?:record |data )?%s\b" % re.escape(name), text, re.M)
+        compare("%s: %s declares %s" % (page, row[1], name), bool(declared), True)
+
+
+def sign_row(page, row):
+    """a sign, what it means, an example, the file where that stands"""
+    for text in codes(row[2]):
+        compare("%s: %s has %s" % (page, row[3], text), text in source(row[3]), True)
+
+
+def crates_below():
+    """of each crate those of the repository that crates.txt has after it"""
+    rows = [line.split(":") for line in source("crates.txt").splitlines() if not line.startswith("#") and ":" in line]
+    names = {name.split()[0] for name, _ in rows}
+    return {name.split()[0]: names & set(below.split()) for name, below in rows}
+
+
+def crate_row(page, row):
+    """a crate, what it may stand on, what it may not know, how many crates stand on it"""
+    below = crates_below()
+    name = codes(row[0])[0]
+    above, new = set(), {name}
+    while new:
+        above |= new
+        new = {crate for crate in below if below[crate] & above} - above
+    compare("%s: crates above %s" % (page, name), row[3], str(len(above) - 1))
+    if codes(row[1]):
+        compare("%s: what %s stands on" % (page, name), sorted(below.get(name, {"no such crate"}) - set(codes(row[1]))), [])
+
+
 TABLES = {
     ("What is sought", "Query", "Found"): found_row,
     ("What is sought", "Query", "Games"): count_row,
@@ -200,6 +247,9 @@ TABLES = {
     ("Written", "Finds", "What it asks", "Meant", "Finds"): slip_row,
     ("Word", "Means", "Example"): word_row,
     ("Word", "Holds where", "Example"): word_row,
+    ("Rule", "File", "Definition"): rule_row,
+    ("Sign", "Is read", "Example", "Where"): sign_row,
+    ("Crate", "May stand on", "May not know", "Crates above"): crate_row,
 }
 
 
