@@ -40,6 +40,7 @@ install:
 	done
 	install -d $(SHARE)/man/man7
 	contrib/manual docs/LANGUAGE.md > $(SHARE)/man/man7/cql.7
+	contrib/manual docs/ARCHIVE.md > $(SHARE)/man/man7/pgn-archive.7
 	install -D -m 644 contrib/completion/cqlpgn.bash $(SHARE)/bash-completion/completions/cqlpgn
 	install -D -m 644 contrib/completion/_cqlpgn $(SHARE)/zsh/$(ZSH)/_cqlpgn
 	install -D -m 644 contrib/completion/cqlpgn.fish $(SHARE)/fish/vendor_completions.d/cqlpgn.fish
@@ -52,7 +53,7 @@ install:
 
 # Takes away what install has put, wherever the completion for zsh went, and the folders of others that it leaves empty.
 uninstall:
-	rm -f $(BIN)/pgnpieces $(SHARE)/man/man1/pgnpieces.1 $(SHARE)/man/man7/cql.7
+	rm -f $(BIN)/pgnpieces $(SHARE)/man/man1/pgnpieces.1 $(SHARE)/man/man7/cql.7 $(SHARE)/man/man7/pgn-archive.7
 	for name in cqlpgn cqlpgn-over cqlpgn-split cqlpgn-diagrams; do \
 	  rm -f $(BIN)/$$name $(SHARE)/man/man1/$$name.1; \
 	  rm -f $(SHARE)/bash-completion/completions/$$name $(SHARE)/fish/vendor_completions.d/$$name.fish; \
