@@ -47,7 +47,7 @@ install:
 	install -D -m 644 contrib/vim/syntax/cql.vim $(SHARE)/vim/vimfiles/syntax/cql.vim
 	install -D -m 644 contrib/vim/ftdetect/cql.vim $(SHARE)/vim/vimfiles/ftdetect/cql.vim
 	install -d $(SHARE)/doc/cqlpgn/docs $(SHARE)/doc/cqlpgn/examples
-	install -m 644 README.md LICENSE-MIT LICENSE-APACHE $(SHARE)/doc/cqlpgn
+	install -m 644 README.md CHANGELOG.md LICENSE-MIT LICENSE-APACHE $(SHARE)/doc/cqlpgn
 	install -m 644 docs/*.md $(SHARE)/doc/cqlpgn/docs
 	install -m 644 examples/* $(SHARE)/doc/cqlpgn/examples
 
@@ -71,7 +71,7 @@ deb:
 	@test -x $(PROGRAM) -a -x $(PIECES) || { echo "make build comes first"; exit 1; }
 	rm -rf out/deb
 	mkdir -p out/deb/cqlpgn/crates/cqlpgn/out out/deb/cqlpgn/crates/pgnpieces/out
-	cp -r Makefile README.md LICENSE-MIT LICENSE-APACHE debian docs examples view contrib many out/deb/cqlpgn
+	cp -r Makefile README.md CHANGELOG.md LICENSE-MIT LICENSE-APACHE debian docs examples view contrib many out/deb/cqlpgn
 	cp $(PROGRAM) out/deb/cqlpgn/crates/cqlpgn/out/cqlpgn
 	cp $(PIECES) out/deb/cqlpgn/crates/pgnpieces/out/pgnpieces
 	cd out/deb/cqlpgn && env -u PROGRAM -u PIECES dpkg-buildpackage -us -uc -b

@@ -289,6 +289,8 @@ if __name__ == "__main__":
         compare("tables that no page has", sorted(set(TABLES) - met), [])
         shown = read(TOP, "README.md").replace(b"\\|", b"|")
         cookbook = [case for case in CASES if case.name.startswith("cookbook-")]
+        versions = [re.search(r"\d+\.\d+\.\d+", source(name))[0] for name in ("CHANGELOG.md", "debian/changelog")]
+        compare("the version of CHANGELOG.md and of debian/changelog", versions[0], versions[1])
         compare(
             "the cookbook's cases that README has not", [c.name for c in cookbook if c.query.strip() not in shown], []
         )
