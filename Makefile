@@ -53,14 +53,14 @@ install:
 
 # Takes away what install has put, wherever the completion for zsh went, and the folders of others that it leaves empty.
 uninstall:
-	rm -f $(BIN)/pgnpieces $(SHARE)/man/man1/pgnpieces.1 $(SHARE)/man/man7/cql.7 $(SHARE)/man/man7/pgn-archive.7
+	rm -f $(BIN)/pgnpieces $(SHARE)/man/man1/pgnpieces.1 $(SHARE)/man/man7/cql.7
 	for name in cqlpgn cqlpgn-over cqlpgn-split cqlpgn-diagrams; do \
 	  rm -f $(BIN)/$$name $(SHARE)/man/man1/$$name.1; \
 	  rm -f $(SHARE)/bash-completion/completions/$$name $(SHARE)/fish/vendor_completions.d/$$name.fish; \
 	done
 	rm -f $(SHARE)/zsh/site-functions/_cqlpgn $(SHARE)/zsh/vendor-completions/_cqlpgn
 	rm -f $(SHARE)/zsh/$(ZSH)/_cqlpgn $(SHARE)/vim/vimfiles/syntax/cql.vim $(SHARE)/vim/vimfiles/ftdetect/cql.vim
-	rm -rf $(SHARE)/cqlpgn $(SHARE)/doc/cqlpgn
+	rm -rf $(SHARE)/cqlpgn $(SHARE)/doc/cqlpgn $(SHARE)/man/man7/pgn-archive.7
 	for folder in bash-completion/completions fish/vendor_completions.d zsh/site-functions zsh/vendor-completions \
 	  vim/vimfiles/syntax vim/vimfiles/ftdetect; do \
 	  [ ! -d $(SHARE)/$$folder ] || (cd $(SHARE) && rmdir -p --ignore-fail-on-non-empty $$folder); \
@@ -71,9 +71,10 @@ deb:
 	@test -x $(PROGRAM) -a -x $(PIECES) || { echo "make build comes first"; exit 1; }
 	rm -rf out/deb
 	mkdir -p out/deb/cqlpgn/crates/cqlpgn/out out/deb/cqlpgn/crates/pgnpieces/out
-	cp -r Makefile README.md CHANGELOG.md LICENSE-MIT LICENSE-APACHE debian docs examples view contrib many out/deb/cqlpgn
+	cp -r Makefile README.md LICENSE-MIT LICENSE-APACHE debian docs examples view contrib many out/deb/cqlpgn
 	cp $(PROGRAM) out/deb/cqlpgn/crates/cqlpgn/out/cqlpgn
 	cp $(PIECES) out/deb/cqlpgn/crates/pgnpieces/out/pgnpieces
+	cp CHANGELOG.md out/deb/cqlpgn
 	cd out/deb/cqlpgn && env -u PROGRAM -u PIECES dpkg-buildpackage -us -uc -b
 	mv out/deb/cqlpgn_*.deb out/
 	rm -rf out/deb
