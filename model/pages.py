@@ -2,6 +2,7 @@
 """What the pages show, beside the program and the cases.
 
     python3 model/pages.py BINARY [PAGE..]
+    python3 model/pages.py --above             writes how many crates stand on each one into docs/ARCHITECTURE.md
 
 PAGE is README.md, CONTRIBUTING.md or a file of docs/; without it all of them are gone through:
 
@@ -222,15 +223,22 @@ def crates_below():
     return {name.split()[0]: names & set(below.split()) for name, below in rows}
 
 
+def above(name):
+    """how many crates stand on one"""
+    below = crates_below()
+    found, new = set(), {name}
+    while new:
+        found |= new
+        new = {crate for crate in below if below[crate] & found} - found
+    return str(len(found) - 1)
+
+
 def crate_row(page, row):
     """a crate, what it may stand on, what it may not know, how many crates stand on it"""
     below = crates_below()
     name = codes(row[0])[0]
-    above, new = set(), {name}
-    while new:
-        above |= new
-        new = {crate for crate in below if below[crate] & above} - above
-    compare("%s: crates above %s" % (page, name), row[3], str(len(above) - 1))
+    rows_of_crates.add(name)
+    compare("%s: crates above %s" % (page, name), row[3], above(name))
     if codes(row[1]):
         compare("%s: what %s stands on" % (page, name), sorted(below.get(name, {"no such crate"}) - set(codes(row[1]))), [])
 
@@ -253,7 +261,21 @@ TABLES = {
 }
 
 
-met = set()
+CRATES = "docs/ARCHITECTURE.md"
+
+
+def write_above():
+    """puts the numbers into the table of crates"""
+    text = source(CRATES)
+    for head, rows in tables_of(text):
+        for row in rows if TABLES.get(head) is crate_row else []:
+            line = "| %s |" % " | ".join(row)
+            text = text.replace(line, "| %s | %s |" % (" | ".join(row[:3]), above(codes(row[0])[0])))
+    with open(os.path.join(TOP, CRATES), "w", encoding="utf-8") as f:
+        f.write(text)
+
+
+met, rows_of_crates = set(), set()
 
 
 def try_page(page):
@@ -278,6 +300,8 @@ def try_page(page):
 if __name__ == "__main__":
     if len(sys.argv) < 2:
         sys.exit(__doc__)
+    if sys.argv[1] == "--above":
+        sys.exit(write_above())
     BINARY = os.path.abspath(sys.argv[1])
     CASES = all_cases()
     pages = sys.argv[2:] or ["README.md", "CONTRIBUTING.md"] + sorted(
@@ -289,6 +313,8 @@ if __name__ == "__main__":
         compare("tables that no page has", sorted(set(TABLES) - met), [])
         shown = read(TOP, "README.md").replace(b"\\|", b"|")
         cookbook = [case for case in CASES if case.name.startswith("cookbook-")]
+        crates = {crate for crate in crates_below() if not crate.endswith("_tests")}
+        compare("crates without a row in " + CRATES, sorted(crates - rows_of_crates), [])
         versions = [re.search(r"\d+\.\d+\.\d+", source(name))[0] for name in ("CHANGELOG.md", "debian/changelog")]
         compare("the version of CHANGELOG.md and of debian/changelog", versions[0], versions[1])
         compare(
