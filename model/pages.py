@@ -8,7 +8,7 @@ PAGE is README.md, CONTRIBUTING.md or a file of docs/; without it all of them ar
 
 - a line of code that begins with `$ ` is a command (`> ` goes on with it), and the lines below it are what it writes:
   first to standard output, then to standard error. Each page has a folder of its own with the files of examples/;
-- a line of code that begins with `cql(` is a query, up to three spaces, and must have no fault;
+- a line of code that begins with `cql(` is a query, up to three spaces, with the lines set in below it, and must have no fault;
 - a block of code whose first line names a file of crates/ in a comment shows lines of that file, one after the other;
 - the rows of a table are checked by what its head says (TABLES, below).
 
@@ -73,9 +73,8 @@ def try_blocks(page, text, room):
             )
             got = (done.stdout + done.stderr).decode("utf-8", "replace").strip("\n")
             compare("%s: %s" % (page, command), got, wanted)
-        for line in block:
-            if line.startswith("cql("):
-                is_query(page, re.split(r" {3,}", line)[0])
+        for query in re.findall(r"^cql\(.*(?:\n +.*)*", "\n".join(block), re.M):
+            is_query(page, re.sub(r"\n +", " ", re.sub(r"(?<=\S) {3,}.*", "", query)))
         named = re.fullmatch(r"(?://|--) (crates/\S+)", block[0])
         if named:
             compare("%s: lines of %s" % (page, named[1]), "\n".join(block[1:]) in source(named[1]), True)
