@@ -48,6 +48,7 @@ module _ (n : ℕ) where
 
   mutual
     unfolding filter_cost filter_atoms
+
     filter_sum : (d : ℕ) (f : FilterTree) → filter_cost n f * 64 ^ d ≡ looks (filter_atoms d f)
     filter_sum d (filter_at at f) = form_sum d f
 
