@@ -1,0 +1,4 @@
+pub mod Strings
+pub mod Values
+pub mod Moves
+pub mod Json

@@ -1,0 +1,10 @@
+//! The text of a game as JSON (RFC 8259).
+//!
+//! `specs/Strings` says how a text is written as a JSON string, and `specs/Json` what is written of a game.
+#![tactic(auto)]
+
+mod game;
+mod node;
+mod strings;
+
+pub use game::json_line;
