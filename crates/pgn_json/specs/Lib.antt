@@ -1,4 +1,6 @@
 pub mod Strings
+pub mod Bytes
 pub mod Values
+pub mod Left
 pub mod Moves
 pub mod Json

@@ -1,5 +1,5 @@
 -- Objects and arrays of JSON (RFC 8259, sections 4 and 5), without white space.
-use Rattle.std.specs.Prelude.{ℕ, List, [], ◌∷◌, ◌++◌, codes}
+use Rattle.std.specs.Prelude.{ℕ, ◌==◌, List, [], ◌∷◌, ◌++◌, codes, length, if◌then◌else◌}
 use Rattle.std.specs.List.{flat_map}
 
 -- a value or a member after another
@@ -27,5 +27,4 @@ member name value = plain name ++ (codes ":" ++ value)
 
 -- a member with an array, if there are values
 abbrev pub array_member : List ℕ → List (List ℕ) → List (List ℕ)
-array_member name [] = []
-array_member name (value ∷ values) = member name (array (value ∷ values)) ∷ []
+array_member name values = if length values == 0 then [] else member name (array values) ∷ []

@@ -1,10 +1,13 @@
 //! The text of a game as JSON (RFC 8259).
 //!
-//! `specs/Strings` says how a text is written as a JSON string, and `specs/Json` what is written of a game.
+//! `specs/Strings` says how a text is written as a JSON string, `specs/Values` how objects and arrays are, and `specs/Json` what is
+//! written of a game.
 #![tactic(auto)]
 
 mod game;
 mod node;
+mod notes;
+mod plies;
 mod strings;
 
 pub use game::json_line;

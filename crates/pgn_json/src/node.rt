@@ -1,15 +1,25 @@
-//! The nodes of a game.
+//! A node of a game.
+ghost use Rattle.std.specs.Prelude.{◌≡◌, ◌<◌, ◌++◌, length, codes, decimal, OnOk};
+ghost use Rattle.std.specs.List.{flat_map};
+ghost use Rattle.cq_position.specs.FenText.{fen_of};
+ghost use Rattle.cq_position.specs.Games.{node_at};
+ghost use Rattle.cq_position.specs.Legal.{Leads};
+ghost use Rattle.cq_position.specs.Search as search_of;
+ghost use Rattle.cq_san.specs.Writing.{san_text};
+ghost use Rattle.pgn_json.specs.Json as json;
+ghost use Rattle.pgn_json.specs.Moves as moves;
+ghost use Rattle.pgn_json.specs.Values.{member, next, plain};
 
-use crate::strings::push_string;
+use crate::notes::{is_marked, push_notes, push_number};
 use cq_geometry::{Square, file, rank};
 use cq_outside::{Bytes, NoMemory};
-use cq_position::{Move, Promotion, fen_text};
+use cq_position::{Move, Position, Promotion, fen_text};
 use cq_san::san_text_to;
-use itoa::Buffer;
 use pgn_tree::Game;
 use std::alloc::Global;
 
-/// Adds a node and the number of moves on the way to it. A node that is marked has its position.
+/// Adds a node that is not the start, given its ply.
+#[tactic(auto, unfolding(crate::specs::Json::node_text))]
 pub(crate) fn push_node(
     line: &mut Bytes,
     alloc: Global,
@@ -17,43 +27,86 @@ pub(crate) fn push_node(
     k: u32,
     ply: u32,
     mark: &[u8],
-) -> Result<(), NoMemory> {
-    let (Some(parent), Some(m)) = (game.parent(k), game.move_to(k)) else {
-        return Ok(());
-    };
+) -> Result<(), NoMemory>
+    requires start { 0 < k }
+    requires node { k < length game.now.nodes }
+    requires ply { ply ≡ search_of.ply game.now.nodes k }
+    ensures { OnOk result (line.new ≡ line.old ++ json.node_text mark.now game.now.nodes k) }
+{
+    let (parent, m) = step_to(game, k);
     push_place(line, parent, ply)?;
-    push_move(line, game, parent, m, k)?;
+    push_move(line, game.position(parent), m, game.position(k))?;
     push_notes(line, game, k)?;
-    if is_marked(game, k, mark) {
-        push_position(line, alloc, game, k, b",\"fen\":\"")?;
-    }
-    line.push_all(b"}")
+    push_fen(line, alloc, game, k, mark)?;
+    line.push_all(b"}")?;
+    Ok(())
 }
 
-// Adds the number of a node's parent and its ply.
-fn push_place(line: &mut Bytes, parent: u32, ply: u32) -> Result<(), NoMemory> {
+// The number of the node before a node, and the move that led from there.
+fn step_to(game: &Game, k: u32) -> (u32, Move)
+    requires start { 0 < k }
+    requires node { k < length game.now.nodes }
+    ensures parent { result.0 ≡ json.parent_of (node_at game.now.nodes k) }
+    ensures led { result.1 ≡ json.move_of (node_at game.now.nodes k) }
+    ensures low { result.0 < length game.now.nodes }
+    ensures leads { Leads (node_at game.now.nodes result.0).position result.1 (node_at game.now.nodes k).position }
+{
+    prove!(game.is_tree());
+    (parent_of(game, k), move_of(game, k))
+}
+
+fn parent_of(game: &Game, k: u32) -> u32
+    requires { k < length game.now.nodes }
+    ensures { result ≡ json.parent_of (node_at game.now.nodes k) }
+{
+    game.parent(k).unwrap_or(0)
+}
+
+fn move_of(game: &Game, k: u32) -> Move
+    requires { k < length game.now.nodes }
+    ensures { result ≡ json.move_of (node_at game.now.nodes k) }
+{
+    game.move_to(k).unwrap_or_default()
+}
+
+// Begins an object with the number of a node's parent and its ply.
+fn push_place(line: &mut Bytes, parent: u32, ply: u32) -> Result<(), NoMemory>
+    ensures { OnOk result (line.new ≡ line.old
+        ++ (codes "{" ++ (member (codes "parent") (decimal parent) ++ next (member (codes "ply") (decimal ply))))) }
+{
     push_number(line, b"{\"parent\":", u64::from(parent))?;
     push_number(line, b",\"ply\":", u64::from(ply))
 }
 
-// Adds the move to a node, as UCI has it and in Standard Algebraic Notation.
+// Adds a move that leads from a position to another, as UCI and as Standard Algebraic Notation have it.
 fn push_move(
     line: &mut Bytes,
-    game: &Game,
-    parent: u32,
+    position: &Position,
     m: Move,
-    k: u32,
-) -> Result<(), NoMemory> {
+    after: &Position,
+) -> Result<(), NoMemory>
+    requires { Leads position.now m after.now }
+    ensures { OnOk result (line.new ≡ line.old
+        ++ (next (member (codes "uci") (plain (moves.uci_text m))) ++ next (member (codes "san") (plain (san_text position.now m))))) }
+{
+    push_uci(line, &m)?;
+    let san = san_text_to(position, m, after);
+    push_plain(line, b",\"san\":\"", san.as_bytes())
+}
+
+// Adds a move as UCI has it.
+fn push_uci(line: &mut Bytes, m: &Move) -> Result<(), NoMemory>
+    ensures { OnOk result (line.new ≡ line.old ++ next (member (codes "uci") (plain (moves.uci_text m.now)))) }
+{
     line.push_all(b",\"uci\":\"")?;
     push_squares(line, m)?;
-    line.push_all(b"\",\"san\":\"")?;
-    let san = san_text_to(game.position(parent), m, game.position(k));
-    line.push_all(san.as_bytes())?;
     line.push_all(b"\"")
 }
 
 // Adds the squares of a move and what the man becomes; four zeros for a null move.
-fn push_squares(line: &mut Bytes, m: Move) -> Result<(), NoMemory> {
+fn push_squares(line: &mut Bytes, m: &Move) -> Result<(), NoMemory>
+    ensures { OnOk result (line.new ≡ line.old ++ moves.uci_text m.now) }
+{
     if m.null {
         return line.push_all(b"0000");
     }
@@ -62,12 +115,16 @@ fn push_squares(line: &mut Bytes, m: Move) -> Result<(), NoMemory> {
     line.push_all(promotion_letter(m.promotion))
 }
 
-fn push_square(line: &mut Bytes, square: Square) -> Result<(), NoMemory> {
+fn push_square(line: &mut Bytes, square: Square) -> Result<(), NoMemory>
+    ensures { OnOk result (line.new ≡ line.old ++ moves.square_text square) }
+{
     line.push_all(&[b'a' + file(square), b'1' + rank(square)])
 }
 
 // The letter of what a man becomes.
-fn promotion_letter(promotion: Promotion) -> &'static [u8] {
+fn promotion_letter(promotion: Promotion) -> &'static [u8]
+    ensures { result.now ≡ moves.promotion_letter promotion }
+{
     match promotion {
         Promotion::None => b"",
         Promotion::Q => b"q",
@@ -77,71 +134,41 @@ fn promotion_letter(promotion: Promotion) -> &'static [u8] {
     }
 }
 
-/// Adds the glyphs and the comments of a node, where there are any.
-pub(crate) fn push_notes(line: &mut Bytes, game: &Game, k: u32) -> Result<(), NoMemory> {
-    push_nags(line, game.nags(k))?;
-    push_comments(line, game, k)
-}
-
-// Adds glyphs, where there are any.
-fn push_nags(line: &mut Bytes, nags: &[u8]) -> Result<(), NoMemory> {
-    if nags.is_empty() {
-        return Ok(());
-    }
-    line.push_all(b",\"nags\":[")?;
-    for i in 0..nags.len() {
-        push_number(line, comma_after(i), u64::from(nags[i]))?;
-    }
-    line.push_all(b"]")
-}
-
-// Adds the comments of a node, where there are any.
-fn push_comments(line: &mut Bytes, game: &Game, k: u32) -> Result<(), NoMemory> {
-    if game.comments(k) == 0 {
-        return Ok(());
-    }
-    line.push_all(b",\"comments\":[")?;
-    for i in 0..game.comments(k) {
-        line.push_all(comma_after(i))?;
-        push_string(line, game.comment(k, i))?;
-    }
-    line.push_all(b"]")
-}
-
-/// Whether a node has the comment that marks; with no bytes all nodes are marked.
-pub(crate) fn is_marked(game: &Game, k: u32, mark: &[u8]) -> bool {
-    if mark.is_empty() {
-        return true;
-    }
-    for i in 0..game.comments(k) {
-        if game.comment(k, i) == mark {
-            return true;
-        }
-    }
-    false
-}
-
-/// Adds a name and the position of a node.
-pub(crate) fn push_position(
+// Adds the position of a node that is marked.
+fn push_fen(
     line: &mut Bytes,
     alloc: Global,
     game: &Game,
     k: u32,
-    name: &[u8],
-) -> Result<(), NoMemory> {
-    line.push_all(name)?;
-    let fen = fen_text(alloc, game.position(k))?;
-    line.push_all(fen.as_slice())?;
+    mark: &[u8],
+) -> Result<(), NoMemory>
+    requires { k < length game.now.nodes }
+    ensures { OnOk result (line.new ≡ line.old ++ flat_map next (json.fen_members mark.now (node_at game.now.nodes k))) }
+{
+    if !is_marked(game, k, mark) {
+        return Ok(());
+    }
+    push_position(line, alloc, b",\"fen\":\"", game.position(k))
+}
+
+/// Adds a text that ends with a quote, the text of a position, and a quote.
+pub(crate) fn push_position(
+    line: &mut Bytes,
+    alloc: Global,
+    before: &[u8],
+    position: &Position,
+) -> Result<(), NoMemory>
+    ensures { OnOk result (line.new ≡ line.old ++ (before.now ++ (fen_of position.now ++ codes "\""))) }
+{
+    let fen = fen_text(alloc, position)?;
+    push_plain(line, before, fen.as_slice())
+}
+
+/// Adds a text that ends with a quote, a text that needs no escape, and a quote.
+pub(crate) fn push_plain(line: &mut Bytes, before: &[u8], text: &[u8]) -> Result<(), NoMemory>
+    ensures { OnOk result (line.new ≡ line.old ++ (before.now ++ (text.now ++ codes "\""))) }
+{
+    line.push_all(before)?;
+    line.push_all(text)?;
     line.push_all(b"\"")
-}
-
-/// Adds a name and a number.
-pub(crate) fn push_number(line: &mut Bytes, name: &[u8], number: u64) -> Result<(), NoMemory> {
-    line.push_all(name)?;
-    line.push_all(Buffer::new().format(number).as_bytes())
-}
-
-/// What stands before an element of a list: a comma, but before the first.
-pub(crate) fn comma_after(i: usize) -> &'static [u8] {
-    if i == 0 { b"" } else { b"," }
 }
