@@ -3,3 +3,5 @@ pub mod Left
 pub mod PlyCounts
 pub mod Steps
 pub mod Joined
+pub mod OneReading
+pub mod ReadBack

@@ -1,5 +1,6 @@
 pub mod Strings
 pub mod Bytes
+pub mod Grammar
 pub mod Values
 pub mod Left
 pub mod Moves
