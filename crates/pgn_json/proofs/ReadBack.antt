@@ -39,7 +39,10 @@ numbered c low =
     let last_digit = digit_value-digit_char (c % 16) (omega (arith, small)) in
     record {
       spells = by_number (record {
-        first = 48; second = 48; third = digit_char (c / 16); fourth = digit_char (c % 16);
+        first = 48;
+        second = 48;
+        third = digit_char (c / 16);
+        fourth = digit_char (c % 16);
         digits = (omega arith, omega arith, omega (arith, high_digit, few), omega (arith, last_digit, small));
         written = refl;
         number = omega (arith, high_digit, last_digit, whole);
@@ -52,16 +55,36 @@ short c letter spells encoded is = subst (λ x. IsEscape x (escape x)) (sym is) 
 
 escaped : (c : ℕ) → c < 256 → IsEscape c (escape c)
 unfolding encode_utf8
-escaped c low = elim (cases_eq c 34) [ inl e ↦ short c 34 (by_letter 34 refl refl) refl e | inr a ↦
-    elim (cases_eq c 92) [ inl e ↦ short c 92 (by_letter 92 refl refl) refl e | inr b ↦
-    elim (cases_eq c 8) [ inl e ↦ short c 8 (by_letter 98 refl refl) refl e | inr d ↦
-    elim (cases_eq c 9) [ inl e ↦ short c 9 (by_letter 116 refl refl) refl e | inr f ↦
-    elim (cases_eq c 10) [ inl e ↦ short c 10 (by_letter 110 refl refl) refl e | inr g ↦
-    elim (cases_eq c 12) [ inl e ↦ short c 12 (by_letter 102 refl refl) refl e | inr h ↦
-    elim (cases_eq c 13) [ inl e ↦ short c 13 (by_letter 114 refl refl) refl e | inr i ↦
-    let none : short_letter c ≡ 0 = rw (ne_eqb c 34 a, ne_eqb c 92 b, ne_eqb c 8 d, ne_eqb c 9 f, ne_eqb c 10 g, ne_eqb c 12 h, ne_eqb c 13 i) refl in
-    subst (λ n. IsEscape c (if n == 0 then number_text c else 92 ∷ n ∷ [])) (sym none) (numbered c low)
-    ] ] ] ] ] ] ]
+escaped c low = elim (cases_eq c 34) [
+  | inl e ↦ short c 34 (by_letter 34 refl refl) refl e
+  | inr a ↦
+      elim (cases_eq c 92) [
+        | inl e ↦ short c 92 (by_letter 92 refl refl) refl e
+        | inr b ↦
+            elim (cases_eq c 8) [
+              | inl e ↦ short c 8 (by_letter 98 refl refl) refl e
+              | inr d ↦
+                  elim (cases_eq c 9) [
+                    | inl e ↦ short c 9 (by_letter 116 refl refl) refl e
+                    | inr f ↦
+                        elim (cases_eq c 10) [
+                          | inl e ↦ short c 10 (by_letter 110 refl refl) refl e
+                          | inr g ↦
+                              elim (cases_eq c 12) [
+                                | inl e ↦ short c 12 (by_letter 102 refl refl) refl e
+                                | inr h ↦
+                                    elim (cases_eq c 13) [
+                                      | inl e ↦ short c 13 (by_letter 114 refl refl) refl e
+                                      | inr i ↦
+                                          let none : short_letter c ≡ 0 = rw (ne_eqb c 34 a, ne_eqb c 92 b, ne_eqb c 8 d, ne_eqb c 9 f, ne_eqb c 10 g, ne_eqb c 12 h, ne_eqb c 13 i) refl in
+                                          subst (λ n. IsEscape c (if n == 0 then number_text c else 92 ∷ n ∷ [])) (sym none) (numbered c low)
+                                    ]
+                              ]
+                        ]
+                  ]
+            ]
+      ]
+]
 
 few_escaped : (c : ℕ) → is_escaped c ≡ true → c < 256
 few_escaped c is = elim (cases_lt c 256) [
@@ -99,8 +122,7 @@ pub read_back : (text : List ℕ) → (json : List ℕ) × (encode_utf8_all json
 unfolding encode_utf8
 read_back text =
     let cs = characters text in
-    let string : IsString cs (34 ∷ (flat_map spelling cs ++ 34 ∷ [])) = record { inside = flat_map spelling cs; between = refl; spelled = all_spelled cs } in
-    (
+    let string : IsString cs (34 ∷ (flat_map spelling cs ++ 34 ∷ [])) = record { inside = flat_map spelling cs; between = refl; spelled = all_spelled cs } in (
       34 ∷ (flat_map spelling cs ++ 34 ∷ []),
       ap (λ l. 34 ∷ l) (encodes-append (flat_map spelling cs) (34 ∷ []) ∙ ap (λ l. l ++ 34 ∷ []) (all_encoded cs)),
       record { string = string; alone = λ ds other. one_string _ ds cs other string },

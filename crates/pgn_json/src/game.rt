@@ -135,12 +135,7 @@ fn push_mark(line: &mut Bytes, game: &Game, mark: &[u8]) -> Result<(), NoMemory>
 }
 
 // Adds the nodes but the start.
-fn push_nodes(
-    line: &mut Bytes,
-    alloc: Global,
-    game: &Game,
-    mark: &[u8],
-) -> Result<(), NoMemory>
+fn push_nodes(line: &mut Bytes, alloc: Global, game: &Game, mark: &[u8]) -> Result<(), NoMemory>
     ensures { OnOk result (line.new ≡ line.old
         ++ next (member (codes "nodes") (array (map (json.node_text mark.now game.now.nodes) (drop 1 (numbers game.now.nodes)))))) }
 {

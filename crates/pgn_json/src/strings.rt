@@ -112,7 +112,14 @@ fn push_escape(line: &mut Bytes, b: u8) -> Result<(), NoMemory>
         b'\n' => line.push_all(b"\\n"),
         0x0c => line.push_all(b"\\f"),
         b'\r' => line.push_all(b"\\r"),
-        _ => line.push_all(&[b'\\', b'u', b'0', b'0', hex_digit(b / 16), hex_digit(b % 16)]),
+        _ => line.push_all(&[
+            b'\\',
+            b'u',
+            b'0',
+            b'0',
+            hex_digit(b / 16),
+            hex_digit(b % 16),
+        ]),
     }
 }
 
