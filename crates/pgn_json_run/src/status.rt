@@ -1,4 +1,6 @@
 //! How a call of the program ends.
+ghost use Rattle.std.specs.Prelude.{◌≡◌};
+ghost use Rattle.pgn_json_run.specs.Status.{exit_code};
 
 /// How a call ended.
 #[derive(Clone, Copy, Debug, PartialEq, Eq)]
@@ -23,7 +25,9 @@ pub enum Status {
 
 impl Status {
     /// The program's exit status, by the numbers that `cqlpgn` has.
-    pub fn exit_code(self) -> u8 {
+    pub fn exit_code(self) -> u8
+        ensures { result ≡ exit_code self }
+    {
         match self {
             Status::Done => 0,
             Status::DoneWithRefusals => 1,
