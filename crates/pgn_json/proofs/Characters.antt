@@ -1,12 +1,12 @@
 -- The characters of a text, and its bytes.
-use Rattle.std.proofs.Common.{◌≡◌, ℕ, suc, ◌<◌, ◌≤◌, Bool, true, false, List, [], ◌∷◌, ◌++◌, length, get_or, refl, ap, ap₂, ◌∙◌, sym, arith, inl, inr, append-nil, append_assoc, IsUtf8}
+use Rattle.std.proofs.Common.{◌≡◌, ℕ, suc, ◌<◌, ◌≤◌, false, List, [], ◌∷◌, ◌++◌, length, get_or, refl, ap, ap₂, ◌∙◌, sym, arith, inl, inr, append-nil, IsUtf8}
 use Rattle.std.proofs.lemmas.Bool.{or_parts, cases_lt, false_from_ne_true, le-ltb, ne_eqb}
 use Rattle.std.proofs.lemmas.Grind.{flat_map-append}
 use Rattle.std.proofs.lemmas.Str.{IsUtf8-from_is_utf8, is_utf8-from_IsUtf8, chars-encodes, encode_ascii, inside_one}
 use Rattle.std.specs.List.{flat_map, list_any}
 use Rattle.std.specs.Prelude.{chars, if◌then◌else◌}
 use Rattle.std.specs.Str.{is_utf8}
-use lib.Utf8.{scalars, encode, encodes}
+use lib.Utf8.{encode, encodes}
 use Rattle.pgn_json.specs.Bytes.{byte_text}
 use Rattle.pgn_json.specs.Strings.{character_text, characters, escape, is_escaped}
 

@@ -1,14 +1,14 @@
 -- A string is read back.
-use Rattle.std.proofs.Common.{◌≡◌, ℕ, ◌+◌, ◌*◌, ◌/◌, ◌%◌, ◌<◌, ◌≤◌, ◌==◌, ◌||◌, ◌&&◌, not, nat_lt, Bool, true, false, List, [], ◌∷◌, ◌++◌, refl, ap, ap₂, ◌∙◌, sym, subst, arith, inl, inr, append-nil}
+use Rattle.std.proofs.Common.{◌≡◌, ℕ, ◌+◌, ◌/◌, ◌%◌, ◌<◌, ◌==◌, ◌||◌, ◌&&◌, not, nat_lt, Bool, true, false, List, [], ◌∷◌, ◌++◌, refl, ap, ap₂, ◌∙◌, sym, subst, arith, inl, inr, append-nil}
 use Rattle.std.proofs.Math.Nat.{div-add-mod, mod-lt}
-use Rattle.std.proofs.lemmas.Bool.{cases_eq, cases_lt, ltb-true, ne_eqb, or_parts, lt-ltb, le-ltb, eqb-true}
+use Rattle.std.proofs.lemmas.Bool.{cases_eq, cases_lt, ne_eqb, or_parts, lt-ltb, le-ltb}
 use Rattle.std.proofs.lemmas.Str.{digit_value-digit_char, encode_ascii, encodes-append}
-use Rattle.std.specs.Char.{digit_char, digit_value}
+use Rattle.std.specs.Char.{digit_char}
 use Rattle.std.specs.List.{flat_map}
 use Rattle.std.specs.Prelude.{if◌then◌else◌, encode_utf8}
 use Rattle.std.specs.Str.{encode_utf8_all}
 use lib.Utf8.{encode, encodes, low_scalar}
-use Rattle.pgn_json.specs.Grammar.{IsNumber, IsReadAs, IsString, Spells, unescaped, by_letter, by_number, SpellsAll}
+use Rattle.pgn_json.specs.Grammar.{IsReadAs, IsString, Spells, unescaped, by_letter, by_number, SpellsAll}
 use Rattle.pgn_json.specs.Strings.{character_text, characters, escape, is_escaped, short_letter, string_text}
 use Rattle.pgn_json.proofs.OneReading.{one_string}
 

@@ -1,5 +1,5 @@
 -- The move to a node leads there.
-use Rattle.std.proofs.Common.{◌≡◌, ℕ, ◌<◌, List, length, ap, sym, subst, arith}
+use Rattle.std.proofs.Common.{ℕ, ◌<◌, List, length, ap, sym, subst, arith}
 use Rattle.std.specs.Option.{unwrap_or}
 use Rattle.cq_position.specs.Games.{Node, node_at, IsTree}
 use Rattle.cq_position.specs.Legal.{Leads}

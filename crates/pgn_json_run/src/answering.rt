@@ -1,9 +1,7 @@
 //! What is written of each game.
 
-use crate::job::Job;
 use crate::status::Status;
-use cq_outside::{Sink, write_all_of};
-use cq_outside::{Refusal};
+use cq_outside::{Refusal, Sink, write_all_of};
 use cq_report::{fault_line, summary_line};
 use pgn_json::json_line;
 use pgn_reader::read_game;
@@ -19,7 +17,7 @@ pub(crate) struct Tally {
 /// Writes the line of a game, or of its fault.
 pub(crate) fn answer_game<O: Sink, E: Sink>(
     alloc: Global,
-    job: &Job,
+    mark: &[u8],
     bytes: &[u8],
     start: u64,
     first: bool,
@@ -29,7 +27,7 @@ pub(crate) fn answer_game<O: Sink, E: Sink>(
 ) -> Result<(), Status> {
     tally.games += 1;
     match read_game(alloc, bytes, start, first) {
-        Ok(game) => match json_line(alloc, &game, tally.games, start, job.mark.as_slice()) {
+        Ok(game) => match json_line(alloc, &game, tally.games, start, mark) {
             Ok(line) => match write_all_of(out, line.as_slice()) {
                 Ok(()) => Ok(()),
                 Err(_) => Err(Status::WriteFault),

@@ -1,7 +1,6 @@
 //! The games of the archive that a source has left.
 
 use crate::answering::{Tally, answer_game, write_summary};
-use crate::job::Job;
 use crate::status::Status;
 use cq_outside::{Sink, Source, read_piece};
 use pgn_cut::{Cutter, Span};
@@ -44,7 +43,7 @@ fn pass(alloc: Global, window: &mut Window, place: u64) -> Result<(), Status> {
 // The answers of games in the window.
 fn answer_spans<O: Sink, E: Sink>(
     alloc: Global,
-    job: &Job,
+    mark: &[u8],
     window: &Window,
     spans: &[Span],
     tally: &mut Tally,
@@ -53,8 +52,20 @@ fn answer_spans<O: Sink, E: Sink>(
 ) -> Result<(), Status> {
     for i in 0..spans.len() {
         let span = spans[i];
-        let (start, end) = ((span.start - window.from) as usize, (span.end - window.from) as usize);
-        answer_game(alloc, job, &window.bytes[start..end], span.start, span.first, tally, out, err)?;
+        let (start, end) = (
+            (span.start - window.from) as usize,
+            (span.end - window.from) as usize,
+        );
+        answer_game(
+            alloc,
+            mark,
+            &window.bytes[start..end],
+            span.start,
+            span.first,
+            tally,
+            out,
+            err,
+        )?;
     }
     Ok(())
 }
@@ -62,13 +73,17 @@ fn answer_spans<O: Sink, E: Sink>(
 /// Writes the games of the archive that `source` has left.
 pub(crate) fn answer_all<S: Source, O: Sink, E: Sink>(
     alloc: Global,
-    job: &Job,
+    mark: &[u8],
+    limit: u64,
     source: &mut S,
     out: &mut O,
     err: &mut E,
 ) -> Status {
-    let mut tally = Tally { games: 0, refused: 0 };
-    match answer_each(alloc, job, source, &mut tally, out, err) {
+    let mut tally = Tally {
+        games: 0,
+        refused: 0,
+    };
+    match answer_each(alloc, mark, limit, source, &mut tally, out, err) {
         Ok(()) => write_summary(alloc, &tally, err),
         Err(status) => status,
     }
@@ -76,21 +91,25 @@ pub(crate) fn answer_all<S: Source, O: Sink, E: Sink>(
 
 fn answer_each<S: Source, O: Sink, E: Sink>(
     alloc: Global,
-    job: &Job,
+    mark: &[u8],
+    limit: u64,
     source: &mut S,
     tally: &mut Tally,
     out: &mut O,
     err: &mut E,
 ) -> Result<(), Status> {
     let mut cutter = Cutter::new();
-    let mut window = Window { bytes: Vec::new(alloc), from: 0 };
+    let mut window = Window {
+        bytes: Vec::new(alloc),
+        from: 0,
+    };
     let mut buffer = match vec![in alloc; 0u8; ROOM] {
         Ok(buffer) => buffer,
         Err(_) => return Err(Status::NoMemory),
     };
     let mut taken = 0u64;
-    for _turn in 0..job.limit + 3 {
-        let room = ROOM.min((job.limit + 1 - taken) as usize);
+    for _turn in 0..limit + 3 {
+        let room = ROOM.min((limit + 1 - taken) as usize);
         let n = match read_piece(source, &mut buffer[..room]) {
             Ok(n) => n,
             Err(_) => return Err(Status::ReadFault),
@@ -98,16 +117,20 @@ fn answer_each<S: Source, O: Sink, E: Sink>(
         taken += n as u64;
         grow(&mut window, &buffer[..n])?;
         let mut spans = Vec::new(alloc);
-        let cut = if n == 0 { cutter.finish(&mut spans) } else { cutter.feed(&buffer[..n], &mut spans) };
+        let cut = if n == 0 {
+            cutter.finish(&mut spans)
+        } else {
+            cutter.feed(&buffer[..n], &mut spans)
+        };
         match cut {
             Ok(()) => {}
             Err(_) => return Err(Status::NoMemory),
         }
-        answer_spans(alloc, job, &window, spans.as_slice(), tally, out, err)?;
+        answer_spans(alloc, mark, &window, spans.as_slice(), tally, out, err)?;
         if n == 0 {
             return Ok(());
         }
-        if taken > job.limit {
+        if taken > limit {
             return Err(Status::ArchiveTooLong);
         }
         pass(alloc, &mut window, cutter.open_at().unwrap_or(taken))?;

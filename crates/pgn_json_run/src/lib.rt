@@ -5,6 +5,7 @@ mod answering;
 mod games;
 mod job;
 mod line;
+mod mark;
 mod status;
 mod top_call;
 mod words;

@@ -1,6 +1,7 @@
 //! The top call.
 
 use crate::games::answer_all;
+use crate::mark::single_spaced;
 use crate::status::Status;
 use crate::words::read_words;
 use cq_outside::{Desk, NoMemory, OpenFault, Refusal, Sink, write_all_of};
@@ -22,8 +23,11 @@ pub fn run<D: Desk, O: Sink, E: Sink>(
         Err(Refusal::Fault(_)) => return refuse_words(err),
         Err(Refusal::NoMemory) => return Status::NoMemory,
     };
+    let Ok(mark) = single_spaced(alloc, job.mark.as_slice()) else {
+        return Status::NoMemory;
+    };
     match desk.open(alloc, job.archive.as_slice()) {
-        Ok(()) => answer_all(alloc, &job, desk, out, err),
+        Ok(()) => answer_all(alloc, mark.as_slice(), job.limit, desk, out, err),
         Err(OpenFault::Failed) => Status::OpenFault,
         Err(OpenFault::NoMemory) => Status::NoMemory,
     }

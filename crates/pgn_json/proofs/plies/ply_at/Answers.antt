@@ -1,5 +1,4 @@
-use Rattle.std.proofs.Common.{◌≡◌, ◌<◌, sym, ◌∙◌, arith}
-use Rattle.cq_position.specs.Search.{ply}
+use Rattle.std.proofs.Common.{◌<◌, sym, ◌∙◌, arith}
 use Rattle.pgn_json.proofs.PlyCounts.{ply_low, ply_root, ply_step}
 use Rattle.pgn_json.proofs.plies.ply_at.Goals as goal
 
