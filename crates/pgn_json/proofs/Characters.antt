@@ -43,9 +43,9 @@ spelled text u =
     ap (flat_map byte_text) (sym u.1.1) ∙ all_characters u.0 ∙ ap (flat_map character_text) (sym chosen)
 
 -- and all else is Latin-1
-pub unspelled : (text : List ℕ) → (IsUtf8 text → ⊥) → characters text ≡ text
+pub latin : (text : List ℕ) → (IsUtf8 text → ⊥) → characters text ≡ text
 unfolding characters
-unspelled text not_so = ap (λ b. if b then chars text else text) (false_from_ne_true (is_utf8 text) (λ is. not_so (IsUtf8-from_is_utf8 text is)))
+latin text not_so = ap (λ b. if b then chars text else text) (false_from_ne_true (is_utf8 text) (λ is. not_so (IsUtf8-from_is_utf8 text is)))
 
 -- a text of which nothing is escaped stands as it is
 pub unescaped : (text : List ℕ) → list_any is_escaped text ≡ false → flat_map byte_text text ≡ text

@@ -19,7 +19,7 @@ pub(crate) fn push_string(line: &mut Bytes, text: &[u8]) -> Result<(), NoMemory>
 }
 
 // Adds the characters of a text: those of its UTF-8, or else a letter of Latin-1 for each byte.
-#[tactic(auto, unfolding(crate::specs::Strings::characters), using(crate::proofs::Characters::spelled, crate::proofs::Characters::unspelled))]
+#[tactic(auto, unfolding(crate::specs::Strings::characters), using(crate::proofs::Characters::spelled, crate::proofs::Characters::latin))]
 fn push_characters(line: &mut Bytes, text: &[u8]) -> Result<(), NoMemory>
     ensures { OnOk result (line.new ≡ line.old ++ flat_map character_text (characters text.now)) }
 {
