@@ -14,6 +14,8 @@ from typing import IO, BinaryIO
 
 from .errors import STATUS_WORDS, Error, NotFound, Stopped, Unreadable
 
+# what a pipe holds, so that two programs seldom wait for one another
+BUFFER = 1 << 20
 COUNTS = re.compile(r"games (\d+) matched (\d+) refused (\d+)")
 FAULTY_GAME = re.compile(r"game (\d+) byte (\d+): (.*)")
 
@@ -102,7 +104,7 @@ class Process:
         try:
             call = [program or executable(), *(f"/proc/self/fd/{file}" if word == self.QUERY else word for word in words)]
             source = subprocess.PIPE if blocks is not None else stdin
-            self._process = subprocess.Popen(call, stdin=source, stdout=out, stderr=err, pass_fds=(file,))
+            self._process = subprocess.Popen(call, stdin=source, stdout=out, stderr=err, pass_fds=(file,), bufsize=BUFFER, pipesize=BUFFER)
         except OSError as fault:
             raise NotFound(f"{call[0]}: {fault.strerror}") from fault
         finally:
