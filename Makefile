@@ -30,7 +30,7 @@ install:
 	install -d $(DESTDIR)$(MODULES)
 	cd python && find cqlpgn -name '*.py' -o -name py.typed | xargs -I{} install -D -m 644 {} $(DESTDIR)$(MODULES)/{}
 	for name in $(COMMANDS); do \
-	  sed '1s|.*|#!$(PYTHON)|; s|^sys.path.insert.*|sys.path.insert(0, "$(MODULES)")|' python/bin/$$name > $(BIN)/$$name; \
+	  sed '1s|.*|#!$(PYTHON)|; s|, which stands beside this folder||; s|^sys.path.insert.*|sys.path.insert(0, "$(MODULES)")|' python/bin/$$name > $(BIN)/$$name; \
 	  chmod 755 $(BIN)/$$name; \
 	done
 	install -D view/diagrams $(SHARE)/cqlpgn/view/diagrams
@@ -64,6 +64,7 @@ install:
 uninstall:
 	rm -f $(BIN)/pgnpieces $(SHARE)/man/man1/pgnpieces.1 $(SHARE)/man/man7/cql.7
 	rm -rf $(DESTDIR)$(MODULES)/cqlpgn
+	[ ! -d $(DESTDIR)$(MODULES) ] || (cd $(DESTDIR)$(PREFIX) && rmdir -p --ignore-fail-on-non-empty $(MODULES:$(PREFIX)/%=%))
 	for name in cqlpgn $(COMMANDS) cqlpgn-diagrams; do \
 	  rm -f $(BIN)/$$name $(SHARE)/man/man1/$$name.1; \
 	  rm -f $(SHARE)/bash-completion/completions/$$name $(SHARE)/fish/vendor_completions.d/$$name.fish; \

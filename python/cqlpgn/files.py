@@ -11,6 +11,7 @@ from types import TracebackType
 from typing import BinaryIO
 
 from .errors import Error, Stopped
+from .signals import unbroken
 
 STANDARD_INPUT = "-"
 
@@ -72,8 +73,9 @@ class Replacing:
                 file = open(target, "wb")
                 self._open.append((file, None, target))
                 return file
-            number, beside = tempfile.mkstemp(".new", ".cqlpgn-", os.path.dirname(target))
-            self._open.append((os.fdopen(number, "wb"), beside, target))
+            with unbroken():
+                number, beside = tempfile.mkstemp(".new", ".cqlpgn-", os.path.dirname(target))
+                self._open.append((os.fdopen(number, "wb"), beside, target))
             os.chmod(beside, mode)
         except (OSError, ValueError) as fault:
             raise Stopped(f"{shown(name)}: {getattr(fault, 'strerror', None) or fault}", 6) from fault
@@ -87,12 +89,13 @@ class Replacing:
                 file.flush()
                 if beside is not None:
                     os.fsync(file.fileno())
-            while self._open:
-                file, beside, name = self._open[0]
-                file.close()
-                if beside is not None:
-                    os.rename(beside, name)
-                del self._open[0]
+            with unbroken():
+                while self._open:
+                    file, beside, name = self._open[0]
+                    file.close()
+                    if beside is not None:
+                        os.rename(beside, name)
+                    del self._open[0]
         except OSError as fault:
             raise Stopped(f"{shown(name)}: {fault.strerror}", 6) from fault
 

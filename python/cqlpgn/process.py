@@ -13,6 +13,7 @@ from types import TracebackType
 from typing import IO, BinaryIO
 
 from .errors import STATUS_WORDS, Error, NotFound, Stopped, Unreadable
+from .signals import unbroken
 
 # what a pipe holds, so that two programs seldom wait for one another
 BUFFER = 1 << 20
@@ -104,7 +105,11 @@ class Process:
         try:
             call = [program or executable(), *(f"/proc/self/fd/{file}" if word == self.QUERY else word for word in words)]
             source = subprocess.PIPE if blocks is not None else stdin
-            self._process = subprocess.Popen(call, stdin=source, stdout=out, stderr=err, pass_fds=(file,), bufsize=BUFFER, pipesize=BUFFER)
+            with unbroken():
+                self._process = subprocess.Popen(
+                    call, stdin=source, stdout=out, stderr=err, pass_fds=(file,), bufsize=BUFFER, pipesize=BUFFER
+                )
+                _running.add(self)
         except OSError as fault:
             raise NotFound(f"{call[0]}: {fault.strerror}") from fault
         finally:
@@ -160,11 +165,22 @@ class Process:
     def __exit__(self, _kind: type[BaseException] | None, _value: BaseException | None, _trace: TracebackType | None) -> None:
         self._process.kill()
         self._process.wait()
+        _running.discard(self)
         if self._thread is not None:
             self._thread.join(5)
         for stream in (self._process.stdout, self._process.stderr):
             if stream is not None:
                 stream.close()
+
+
+# those that were started and have not ended
+_running: set[Process] = set()
+
+
+def end_all() -> None:
+    """Ends whatever runs, at once."""
+    for process in list(_running):
+        process.kill()
 
 
 def _in_memory(data: bytes) -> int:

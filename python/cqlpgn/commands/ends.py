@@ -2,25 +2,16 @@
 
 from __future__ import annotations
 
-import contextlib
 import os
-import signal
 import sys
-from collections.abc import Callable, Iterator, Sequence
-from types import FrameType
+from collections.abc import Callable, Sequence
 from typing import TextIO
 
 from ..errors import Error
+from ..process import end_all
+from ..signals import Ended, raised
 
 Main = Callable[[Sequence[str]], int]
-
-
-class Ended(BaseException):
-    """A signal has asked the command to end; what was begun is undone on the way out."""
-
-    def __init__(self, number: int) -> None:
-        super().__init__(number)
-        self.status = 128 + number
 
 
 class Failed(BaseException):
@@ -46,26 +37,10 @@ def _write(stream: TextIO | None, *words: object) -> None:
         raise Failed from fault
 
 
-def _end(number: int, _frame: FrameType | None) -> None:
-    raise Ended(number)
-
-
-@contextlib.contextmanager
-def signals() -> Iterator[None]:
-    """Within it, SIGTERM, SIGHUP and SIGINT raise `Ended`."""
-    kinds = (signal.SIGTERM, signal.SIGHUP, signal.SIGINT)
-    before = [signal.signal(kind, _end) for kind in kinds]
-    try:
-        yield
-    finally:
-        for kind, handler in zip(kinds, before):
-            signal.signal(kind, handler)
-
-
 def status_of(main: Main, words: Sequence[str]) -> int:
     """The status of a command, whatever it raises on its way; an error of the package is told in a line."""
     try:
-        with signals():
+        with raised():
             try:
                 return main(words)
             except SystemExit as end:
@@ -85,6 +60,7 @@ def status_of(main: Main, words: Sequence[str]) -> int:
                 tell("the text is nested too deep")
                 return 3
     except Ended as end:
+        end_all()
         return end.status
     except (Failed, BrokenPipeError):
         return 6
