@@ -40,13 +40,13 @@ def start(
 
 
 def kept(archive: Archive, room: IO[bytes]) -> Archive:
-    """An archive that can be read several times: standard input is copied into the open file `room`."""
+    """An archive that can be read several times: standard input is copied into the open file `room`, which has a name."""
     if archive.path != STANDARD_INPUT:
         return archive
     for block in archive.blocks():
         room.write(block)
     room.flush()
-    return Archive(archive.name, f"/proc/self/fd/{room.fileno()}")
+    return Archive(archive.name, room.name)
 
 
 def units(source: BinaryIO) -> Iterator[bytes]:
@@ -152,7 +152,7 @@ def _one_by_one(archive: Archive, silent: bytes) -> Iterator[int]:
         for block in archive.blocks():
             file.write(block)
         file.flush()
-        for number, begin, length in _places(f"/proc/self/fd/{file.fileno()}", file):
+        for number, begin, length in _places(file):
             file.seek(begin)
             # a space before it, since some bytes mean something else at the beginning of an archive
             text = (b" " if begin else b"") + file.read(length)
@@ -168,7 +168,7 @@ def _one_by_one(archive: Archive, silent: bytes) -> Iterator[int]:
         yield equal[0]
 
 
-def _places(_name: str, file: IO[bytes]) -> Iterator[tuple[int, int, int]]:
+def _places(file: IO[bytes]) -> Iterator[tuple[int, int, int]]:
     """Number, first byte and length of each game of an archive, as pgnpieces cuts it."""
     file.seek(0)
     with Process([STANDARD_INPUT, "1"], program=executable("PGNPIECES", "pgnpieces"), stdin=os.dup(file.fileno())) as process:

@@ -6,6 +6,7 @@ import os
 import re
 import shutil
 import subprocess
+import tempfile
 import threading
 from collections.abc import Iterable, Iterator, Sequence
 from dataclasses import dataclass
@@ -83,8 +84,8 @@ def raise_for(status: int, name: str) -> None:
 class Process:
     """A run of cqlpgn, or of another program, whose standard input is fed from a thread where there are blocks to feed.
 
-    `words` are those after the program's name; the word `QUERY` among them becomes the name of a file with the bytes of `query`, which
-    is in memory alone. At the end of the `with` nothing of it is left, whatever ended it.
+    `words` are those after the program's name; the word `QUERY` among them becomes the name of a file with the bytes of `query`, in
+    memory alone where that can be. At the end of the `with` nothing of it is left, whatever ended it.
     """
 
     QUERY = "/QUERY/"
@@ -101,9 +102,14 @@ class Process:
     ) -> None:
         self._fault: BaseException | None = None
         self._thread: threading.Thread | None = None
-        file = _in_memory(query)
+        call = [program or executable()]
+        file, name = _in_memory(query)
+        self._room = None if name else tempfile.NamedTemporaryFile(suffix=".cql")
         try:
-            call = [program or executable(), *(f"/proc/self/fd/{file}" if word == self.QUERY else word for word in words)]
+            if self._room is not None:
+                self._room.write(query)
+                self._room.flush()
+            call += [name or self._room_name if word == self.QUERY else word for word in words]
             source = subprocess.PIPE if blocks is not None else stdin
             with unbroken():
                 self._process = subprocess.Popen(
@@ -117,6 +123,10 @@ class Process:
         if blocks is not None:
             self._thread = threading.Thread(target=self._feed, args=(blocks,), daemon=True)
             self._thread.start()
+
+    @property
+    def _room_name(self) -> str:
+        return "" if self._room is None else self._room.name
 
     def _feed(self, blocks: Iterable[bytes]) -> None:
         to = self._process.stdin
@@ -159,6 +169,11 @@ class Process:
         """Ends it at once, from any thread."""
         self._process.kill()
 
+    def clear(self) -> None:
+        """Removes its file with the query, if it has one."""
+        if self._room is not None:
+            self._room.close()
+
     def __enter__(self) -> Process:
         return self
 
@@ -166,6 +181,7 @@ class Process:
         self._process.kill()
         self._process.wait()
         _running.discard(self)
+        self.clear()
         if self._thread is not None:
             self._thread.join(5)
         for stream in (self._process.stdout, self._process.stderr):
@@ -181,14 +197,16 @@ def end_all() -> None:
     """Ends whatever runs, at once."""
     for process in list(_running):
         process.kill()
+        process.clear()
 
 
-def _in_memory(data: bytes) -> int:
-    """The number of a file that is in memory alone and has these bytes."""
+def _in_memory(data: bytes) -> tuple[int, str]:
+    """Number and name of a file that is in memory alone and has these bytes; the name is empty where no folder has such names."""
     file = os.memfd_create("query")
     with os.fdopen(os.dup(file), "wb") as to:
         to.write(data)
-    return file
+    name = f"/proc/self/fd/{file}"
+    return file, name if os.path.exists(name) else ""
 
 
 def asked(words: Sequence[str], query: bytes = b"") -> tuple[int, bytes, str]:

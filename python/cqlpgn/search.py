@@ -58,7 +58,7 @@ def _sources(query: str | bytes, archives: Names) -> Iterator[tuple[bytes, Archi
     for archive in all_archives(_names(archives)):
         if isinstance(archive, Error):
             raise archive
-        with tempfile.TemporaryFile() as room:
+        with tempfile.NamedTemporaryFile() as room:
             yield text, archive, origins.kept(archive, room)
 
 

@@ -98,6 +98,16 @@ def test_places() -> None:
     assert faults.caret(long)[0][faults.caret(long)[1].index("^") :].startswith("echo")
 
 
+def test_without_files_in_memory(monkeypatch: pytest.MonkeyPatch, room: Path) -> None:
+    """Where files have no names in /proc, as in a bare chroot."""
+    exists = os.path.exists
+    monkeypatch.setattr(os.path, "exists", lambda name: not str(name).startswith("/proc") and exists(name))
+    monkeypatch.setattr("tempfile.tempdir", str(room))
+    assert package.check("cql() check") is None
+    assert isinstance(package.check("cql() echo"), package.Fault)
+    assert list(room.iterdir()) == []
+
+
 def test_no_fault() -> None:
     assert package.check("cql() check") is None
     assert package.check(b'cql() player "M\xfcller"') is None or package.check(b'cql() player "M\xfcller"') is not None

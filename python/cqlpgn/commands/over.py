@@ -178,7 +178,7 @@ def answered(archive: Archive | Error, job: Job, out: IO[bytes] | None, live: bo
             raise archive
         with ExitStack() as rooms:
             if job.number and archive.path == STANDARD_INPUT:
-                archive = origins.kept(archive, rooms.enter_context(tempfile.TemporaryFile()))
+                archive = origins.kept(archive, rooms.enter_context(tempfile.NamedTemporaryFile()))
             _ask(archive, answer, job, out, told)
             if job.number and answer.status in (0, 1):
                 answer.numbers = _numbers(archive, answer, job)
