@@ -25,6 +25,15 @@ class Tree:
         fields = game.start.split(" ")
         self._black, self._first = fields[1] == "b", int(fields[5])
 
+    def in_text_order(self, at: int = 0) -> Iterator[Node]:
+        """The positions after one as they stand in the text of a game: a move, what was played in its place, and what came after it."""
+        while children := self.children[at]:
+            yield children[0]
+            for other in children[1:]:
+                yield other
+                yield from self.in_text_order(other.number)
+            at = children[0].number
+
     def number(self, node: Node, due: bool) -> str:
         """The number before a move, as `12.` or, if it is due, `12...`; Black's has none otherwise."""
         half = node.ply - 1 + self._black
@@ -105,13 +114,13 @@ def has_mark(marks: Iterable[str]) -> Callable[[list[str]], bool]:
 
 
 def matches(tree: Tree, marks: Iterable[str], first: int) -> Iterator[Match]:
-    """The marked positions of a game, numbered from `first` on, in the order of the tree."""
+    """The marked positions of a game, numbered from `first` on, in the order of the text."""
     wanted = set(marks)
     is_marked = has_mark(wanted)
     if is_marked(tree.game.comments):
         yield Match(first, tree, None, [comment for comment in tree.game.comments if comment not in wanted])
         first += 1
-    for node in tree.nodes:
+    for node in tree.in_text_order():
         if is_marked(node.comments):
             yield Match(first, tree, node, [comment for comment in node.comments if comment not in wanted])
             first += 1
