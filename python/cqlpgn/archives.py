@@ -61,6 +61,12 @@ class Archive:
         """The file itself, which for a plain archive is all of it. Raises `NotFound`."""
         return _opened(self.path, self.name)
 
+    def look(self) -> None:
+        """Raises `NotFound` where the file can't be opened, and `Unreadable` where what unpacks it is not installed."""
+        self.open().close()
+        if _ending(self.path) == ".zst":
+            _zstandard(self.name)
+
     def blocks(self, progress: bool = False) -> Iterator[bytes]:
         """The bytes of the archive, unpacked, in blocks of bounded size. Raises `NotFound`, and `Unreadable` where it can't be
         unpacked to its end."""
@@ -86,7 +92,7 @@ class Archive:
                     raise EOFError
                 yield from _read(inside, file, told)
         elif _ending(self.path) == ".zst":
-            yield from _frames(file, _zstandard(), told)
+            yield from _frames(file, _zstandard(self.name), told)
         elif _ending(self.path) in PACKED:
             yield from _streams(file, _bz2 if _ending(self.path) == ".bz2" else _xz, told)
         else:
@@ -101,11 +107,11 @@ def _xz() -> _Unpacking:
     return lzma.LZMADecompressor(lzma.FORMAT_AUTO, MOST_WINDOW)
 
 
-def _zstandard() -> Any:
+def _zstandard(name: str) -> Any:
     try:
         import zstandard
     except ImportError as fault:
-        raise Unreadable("python3-zstandard, which unpacks it, is not installed") from fault
+        raise Unreadable(f"{shown(name)}: python3-zstandard, which unpacks it, is not installed") from fault
     return zstandard.ZstdDecompressor(max_window_size=MOST_WINDOW)
 
 
@@ -113,8 +119,6 @@ def _unpacking(archive: Archive, fault: Exception) -> str:
     name = shown(archive.name)
     if archive.member is not None and archive.member.flag_bits & 1:
         return f"{name}: is encrypted"
-    if isinstance(fault, Unreadable):
-        return f"{name}: {fault.reason}"
     if archive.is_plain:
         return f"{name}: could not be read to its end"
     return f"{name}: could not be unpacked to its end; the lines above are of its first part"

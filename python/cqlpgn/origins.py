@@ -35,7 +35,7 @@ def start(
     if archive.is_plain and not progress:
         with archive.open() as file:
             return Process(words, query, out=out, err=err, stdin=file)
-    archive.open().close()
+    archive.look()
     return Process(words, query, blocks=archive.blocks(progress), out=out, err=err)
 
 

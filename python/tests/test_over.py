@@ -116,6 +116,13 @@ def test_packed_by_zstandard(over: Over, room: Path) -> None:
     assert over(QUERY, "cut.zst").status == 5
 
 
+def test_what_unpacks_it_is_not_installed(over: Over, room: Path) -> None:
+    (room / "one.pgn.zst").write_bytes(b"packed")
+    (room / "zstandard.py").write_text("raise ImportError\n")
+    lines = ["one.pgn.zst: python3-zstandard, which unpacks it, is not installed", LINES[0], "all archives: games 3 matched 1 refused 0"]
+    assert over(QUERY, "one.pgn.zst", "one.pgn", PYTHONPATH=str(room)) == Answer(5, found(ONE), "\n".join([*lines, ""]))
+
+
 def test_members_of_a_zip(over: Over, room: Path) -> None:
     with zipfile.ZipFile("both.zip", "w") as file:
         file.writestr("a [1].pgn", ONE)

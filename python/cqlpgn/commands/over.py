@@ -91,11 +91,16 @@ def parser() -> argparse.ArgumentParser:
         metavar="QUERY ARCHIVE",
         nargs="*",
         help="QUERY is a query's text, `cql(..) ..`, or the name of a file with one. Of an ARCHIVE that is a folder all archives in it "
-        "are asked; "
-        "one whose name ends in .gz, .bz2, .xz or .zst is unpacked on the way; of a .zip each file *.pgn is an archive of its own. "
-        "Without one, "
-        "or with `-`, standard input is one",
+        "are asked; one whose name ends in .gz, .bz2, .xz or .zst is unpacked on the way; of a .zip each file *.pgn is an archive of its "
+        "own. Without one, or with `-`, standard input is one",
     )
+    _add_outputs(made)
+    _add_others(made)
+    return made
+
+
+def _add_outputs(made: argparse.ArgumentParser) -> None:
+    """The options that say what is written, and where."""
     made.add_argument("-o", metavar="FILE", dest="out", help="the games go to FILE, which is made when all is answered, with status 0 or 1")
     made.add_argument("--keep-partial", action="store_true", help="with -o: FILE is made with any status, of what was found")
     made.add_argument("-c", dest="count", action="store_true", help="counts alone: no games are written")
@@ -112,6 +117,10 @@ def parser() -> argparse.ArgumentParser:
         help="rows `found,archive,game`: which game of which archive each game is; in FILE.csv beside the FILE of -o, or with -c on "
         "standard output",
     )
+
+
+def _add_others(made: argparse.ArgumentParser) -> None:
+    """The options that say what is asked, and how."""
     made.add_argument(
         "--many",
         metavar="FILE",
@@ -128,7 +137,6 @@ def parser() -> argparse.ArgumentParser:
     )
     made.add_argument("--workers", metavar="N", help="is handed on to cqlpgn")
     made.add_argument("--limit", metavar="B", help="is handed on to cqlpgn")
-    return made
 
 
 def refuse_together(made: argparse.ArgumentParser, flags: argparse.Namespace) -> None:
@@ -349,6 +357,7 @@ def tell_end(done: Sequence[Answer], queries: int, flags: argparse.Namespace) ->
 
 
 def tell_table(done: Sequence[Answer], totals: Sequence[Counts]) -> None:
+    """A row for each archive, or for each of its queries, with the seconds it took, and one for all."""
     rows = [["archive", "games", "matched", "refused", "seconds"]]
     for answer in done:
         if not answer.counts:
@@ -363,6 +372,7 @@ def tell_table(done: Sequence[Answer], totals: Sequence[Counts]) -> None:
 
 
 def status_of(done: Sequence[Answer], flags: argparse.Namespace) -> int:
+    """The greatest status of all; with -q whether anything was found."""
     worst = max((answer.status for answer in done), default=0)
     if not flags.quiet:
         return worst
@@ -372,6 +382,7 @@ def status_of(done: Sequence[Answer], flags: argparse.Namespace) -> int:
 
 
 def job_of(flags: argparse.Namespace, text: bytes) -> Job:
+    """What is asked, by the options and the bytes of the query."""
     options = [word for name in ("workers", "limit") if (value := getattr(flags, name)) is not None for word in (f"--{name}", value)]
     if flags.first or flags.quiet:
         options.append("--first")
@@ -381,6 +392,7 @@ def job_of(flags: argparse.Namespace, text: bytes) -> Job:
 
 
 def without_marks(job: Job) -> bytes:
+    """The query, or each of several, without its marks."""
     if job.mode == "run":
         return query.without_marks(job.query)
     return b"\n%%\n".join(query.without_marks(piece) for _, piece in query.pieces(job.query))
