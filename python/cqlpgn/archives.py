@@ -11,6 +11,7 @@ import sys
 import zipfile
 from collections.abc import Callable, Iterable, Iterator
 from dataclasses import dataclass
+from io import BufferedReader
 from typing import Any, BinaryIO, Protocol, cast
 
 from .errors import Error, NotFound, Unreadable
@@ -57,7 +58,7 @@ class Archive:
         """Whether the program can read the file itself."""
         return self.member is None and _ending(self.path) not in PACKED
 
-    def open(self) -> BinaryIO:
+    def open(self) -> BufferedReader:
         """The file itself, which for a plain archive is all of it. Raises `NotFound`."""
         return _opened(self.path, self.name)
 
@@ -81,7 +82,7 @@ class Archive:
             # over the bytes of anybody the readers of Python's library raise what their formats bring along
             raise Unreadable(_unpacking(self, fault)) from fault
 
-    def _unpacked(self, file: BinaryIO, told: _Progress) -> Iterator[bytes]:
+    def _unpacked(self, file: BufferedReader, told: _Progress) -> Iterator[bytes]:
         if self.member is not None:
             with zipfile.ZipFile(file) as packed, packed.open(self.member) as inside:
                 yield from _read(inside, file, told)
@@ -96,7 +97,9 @@ class Archive:
         elif _ending(self.path) in PACKED:
             yield from _streams(file, _bz2 if _ending(self.path) == ".bz2" else _xz, told)
         else:
-            yield from _read(file, file, told)
+            while block := file.read1(BLOCK):
+                told.update(len(block))
+                yield block
 
 
 def _bz2() -> _Unpacking:
@@ -181,11 +184,11 @@ def _read(source: Any, file: BinaryIO, told: _Progress) -> Iterator[bytes]:
         yield block
 
 
-def _frames(file: BinaryIO, unpacker: Any, told: _Progress) -> Iterator[bytes]:
+def _frames(file: BufferedReader, unpacker: Any, told: _Progress) -> Iterator[bytes]:
     """What zstd's frames unpack to. A few bytes are unpacked at a time, since all that they give comes at once; a stream that reads by
     itself would not tell an end that is cut off."""
     inside = unpacker.decompressobj()
-    while data := file.read(BLOCK):
+    while data := file.read1(BLOCK):
         told.update(len(data))
         for at in range(0, len(data), PIECE):
             piece = data[at : at + PIECE]
@@ -197,19 +200,19 @@ def _frames(file: BinaryIO, unpacker: Any, told: _Progress) -> Iterator[bytes]:
         raise EOFError
 
 
-def _streams(file: BinaryIO, begin: Callable[[], _Unpacking], told: _Progress) -> Iterator[bytes]:
+def _streams(file: BufferedReader, begin: Callable[[], _Unpacking], told: _Progress) -> Iterator[bytes]:
     """What streams one after the other unpack to; after the last one nothing may come but zero bytes."""
     inside, data = begin(), b""
     while True:
         if inside.eof:
-            data = inside.unused_data or file.read(BLOCK)
+            data = inside.unused_data or file.read1(BLOCK)
             while data and not data.strip(b"\0"):
-                data = file.read(BLOCK)
+                data = file.read1(BLOCK)
             if not data:
                 return
             inside = begin()
         elif inside.needs_input:
-            data = file.read(BLOCK)
+            data = file.read1(BLOCK)
             told.update(len(data))
             if not data:
                 raise EOFError
@@ -219,7 +222,7 @@ def _streams(file: BinaryIO, begin: Callable[[], _Unpacking], told: _Progress) -
             yield block
 
 
-def _opened(path: str, name: str | None = None) -> BinaryIO:
+def _opened(path: str, name: str | None = None) -> BufferedReader:
     try:
         if path == STANDARD_INPUT:
             return os.fdopen(os.dup(0), "rb")
