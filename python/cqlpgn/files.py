@@ -121,7 +121,8 @@ def _mode_of(target: str) -> int | None:
 
 
 def standard_output() -> BinaryIO:
-    """Standard output, for bytes. Raises `Stopped` where it is closed."""
+    """Standard output, for bytes, which are to be flushed. It has a buffer whatever PYTHONUNBUFFERED says: without one a write may take a
+    part and say nothing. Raises `Stopped` where it is closed."""
     if sys.stdout is None:
         raise Stopped("standard output is closed")
-    return sys.stdout.buffer
+    return open(1, "wb", closefd=False)
