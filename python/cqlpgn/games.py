@@ -13,7 +13,7 @@ from itertools import chain
 from typing import IO, Any, NamedTuple
 
 from .archives import Archive
-from .errors import Error
+from .errors import Error, Unreadable
 from .files import STANDARD_INPUT, shown
 from .process import Process, executable, raise_for
 
@@ -123,7 +123,11 @@ def read(archive: Archive, mark: str = MARK, err: int | IO[bytes] | None = subpr
             first = next(blocks, b"")
             _refuse_many(first, archive.name)
             return Reader(chain([first], blocks), archive.name, mark, err, options)
-        _refuse_many(os.pread(file.fileno(), 100, 0), archive.name)
+        try:
+            first = os.pread(file.fileno(), 100, 0)
+        except OSError as fault:
+            raise Unreadable(f"{shown(archive.name)}: could not be read to its end") from fault
+        _refuse_many(first, archive.name)
         return Reader(None, archive.name, mark, err, options, file)
 
 
