@@ -47,13 +47,14 @@ install:
 	done
 	install -d $(SHARE)/man/man7
 	contrib/manual docs/LANGUAGE.md > $(SHARE)/man/man7/cql.7
+	contrib/manual docs/ARCHIVE.md > $(SHARE)/man/man7/pgn-archive.7
 	install -D -m 644 contrib/completion/cqlpgn.bash $(SHARE)/bash-completion/completions/cqlpgn
 	install -D -m 644 contrib/completion/_cqlpgn $(SHARE)/zsh/$(ZSH)/_cqlpgn
 	install -D -m 644 contrib/completion/cqlpgn.fish $(SHARE)/fish/vendor_completions.d/cqlpgn.fish
 	install -D -m 644 contrib/vim/syntax/cql.vim $(SHARE)/vim/vimfiles/syntax/cql.vim
 	install -D -m 644 contrib/vim/ftdetect/cql.vim $(SHARE)/vim/vimfiles/ftdetect/cql.vim
 	install -d $(SHARE)/doc/cqlpgn/docs $(SHARE)/doc/cqlpgn/examples
-	install -m 644 README.md LICENSE-MIT LICENSE-APACHE $(SHARE)/doc/cqlpgn
+	install -m 644 README.md CHANGELOG.md LICENSE-MIT LICENSE-APACHE $(SHARE)/doc/cqlpgn
 	install -m 644 docs/*.md $(SHARE)/doc/cqlpgn/docs
 	install -m 644 examples/* $(SHARE)/doc/cqlpgn/examples
 
@@ -68,7 +69,7 @@ uninstall:
 	done
 	rm -f $(SHARE)/zsh/site-functions/_cqlpgn $(SHARE)/zsh/vendor-completions/_cqlpgn
 	rm -f $(SHARE)/zsh/$(ZSH)/_cqlpgn $(SHARE)/vim/vimfiles/syntax/cql.vim $(SHARE)/vim/vimfiles/ftdetect/cql.vim
-	rm -rf $(SHARE)/cqlpgn $(SHARE)/doc/cqlpgn
+	rm -rf $(SHARE)/cqlpgn $(SHARE)/doc/cqlpgn $(SHARE)/man/man7/pgn-archive.7
 	for folder in bash-completion/completions fish/vendor_completions.d zsh/site-functions zsh/vendor-completions \
 	  vim/vimfiles/syntax vim/vimfiles/ftdetect; do \
 	  [ ! -d $(SHARE)/$$folder ] || (cd $(SHARE) && rmdir -p --ignore-fail-on-non-empty $$folder); \
@@ -82,6 +83,7 @@ deb:
 	cp -r Makefile README.md LICENSE-MIT LICENSE-APACHE debian docs examples contrib many python out/deb/cqlpgn
 	cp $(PROGRAM) out/deb/cqlpgn/crates/cqlpgn/out/cqlpgn
 	cp $(PIECES) out/deb/cqlpgn/crates/pgnpieces/out/pgnpieces
+	cp CHANGELOG.md out/deb/cqlpgn
 	cd out/deb/cqlpgn && env -u PROGRAM -u PIECES dpkg-buildpackage -us -uc -b
 	mv out/deb/cqlpgn_*.deb out/
 	rm -rf out/deb

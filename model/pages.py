@@ -2,12 +2,14 @@
 """What the pages show, beside the program and the cases.
 
     python3 model/pages.py BINARY [PAGE..]
+    python3 model/pages.py --above             writes how many crates stand on each one into docs/ARCHITECTURE.md
 
 PAGE is README.md, CONTRIBUTING.md or a file of docs/; without it all of them are gone through:
 
 - a line of code that begins with `$ ` is a command (`> ` goes on with it), and the lines below it are what it writes:
   first to standard output, then to standard error. Each page has a folder of its own with the files of examples/;
-- a line of code that begins with `cql(` is a query, up to three spaces, and must have no fault;
+- a line of code that begins with `cql(` is a query, up to three spaces, with the lines set in below it, and must have no fault;
+- a block of code whose first line names a file of crates/ in a comment shows lines of that file, one after the other;
 - the rows of a table are checked by what its head says (TABLES, below).
 
 A block of code that needs one of the programs of OPTIONAL is left out where it is missing, and a line says so.
@@ -71,9 +73,20 @@ def try_blocks(page, text, room):
             )
             got = (done.stdout + done.stderr).decode("utf-8", "replace").strip("\n")
             compare("%s: %s" % (page, command), got, wanted)
-        for line in block:
-            if line.startswith("cql("):
-                is_query(page, re.split(r" {3,}", line)[0])
+        for query in re.findall(r"^cql\(.*(?:\n +.*)*", "\n".join(block), re.M):
+            is_query(page, re.sub(r"\n +", " ", re.sub(r"(?<=\S) {3,}.*", "", query)))
+        named = re.fullmatch(r"(?://|--) (crates/\S+)", block[0])
+        if named:
+            compare("%s: lines of %s" % (page, named[1]), "\n".join(block[1:]) in source(named[1]), True)
+
+
+def source(name):
+    """a file of the repository, empty where it is not there"""
+    path = os.path.join(TOP, name)
+    if not os.path.isfile(path):
+        return ""
+    with open(path, encoding="utf-8") as f:
+        return f.read()
 
 
 def said_of(text):
@@ -188,6 +201,47 @@ def word_row(page, row):
         is_query(page, text)
 
 
+def rule_row(page, row):
+    """a rule, the file where it stands, definitions that the file declares"""
+    text = source(row[1])
+    for name in codes(row[2]):
+        declared = re.search(r"^\s*(?:abbrev |unfoldable )?pub (?:record |data )?%s\b" % re.escape(name), text, re.M)
+        compare("%s: %s declares %s" % (page, row[1], name), bool(declared), True)
+
+
+def sign_row(page, row):
+    """a sign, what it means, an example, the file where that stands"""
+    for text in codes(row[2]):
+        compare("%s: %s has %s" % (page, row[3], text), text in source(row[3]), True)
+
+
+def crates_below():
+    """of each crate those of the repository that crates.txt has after it"""
+    rows = [line.split(":") for line in source("crates.txt").splitlines() if not line.startswith("#") and ":" in line]
+    names = {name.split()[0] for name, _ in rows}
+    return {name.split()[0]: names & set(below.split()) for name, below in rows}
+
+
+def above(name):
+    """how many crates stand on one"""
+    below = crates_below()
+    found, new = set(), {name}
+    while new:
+        found |= new
+        new = {crate for crate in below if below[crate] & found} - found
+    return str(len(found) - 1)
+
+
+def crate_row(page, row):
+    """a crate, what it may stand on, what it may not know, how many crates stand on it"""
+    below = crates_below()
+    name = codes(row[0])[0]
+    rows_of_crates.add(name)
+    compare("%s: crates above %s" % (page, name), row[3], above(name))
+    if codes(row[1]):
+        compare("%s: what %s stands on" % (page, name), sorted(below.get(name, {"no such crate"}) - set(codes(row[1]))), [])
+
+
 TABLES = {
     ("What is sought", "Query", "Found"): found_row,
     ("What is sought", "Query", "Games"): count_row,
@@ -200,10 +254,27 @@ TABLES = {
     ("Written", "Finds", "What it asks", "Meant", "Finds"): slip_row,
     ("Word", "Means", "Example"): word_row,
     ("Word", "Holds where", "Example"): word_row,
+    ("Rule", "File", "Definition"): rule_row,
+    ("Sign", "Is read", "Example", "Where"): sign_row,
+    ("Crate", "May stand on", "May not know", "Crates above"): crate_row,
 }
 
 
-met = set()
+CRATES = "docs/ARCHITECTURE.md"
+
+
+def write_above():
+    """puts the numbers into the table of crates"""
+    text = source(CRATES)
+    for head, rows in tables_of(text):
+        for row in rows if TABLES.get(head) is crate_row else []:
+            line = "| %s |" % " | ".join(row)
+            text = text.replace(line, "| %s | %s |" % (" | ".join(row[:3]), above(codes(row[0])[0])))
+    with open(os.path.join(TOP, CRATES), "w", encoding="utf-8") as f:
+        f.write(text)
+
+
+met, rows_of_crates = set(), set()
 
 
 def try_page(page):
@@ -230,6 +301,8 @@ def try_page(page):
 if __name__ == "__main__":
     if len(sys.argv) < 2:
         sys.exit(__doc__)
+    if sys.argv[1] == "--above":
+        sys.exit(write_above())
     BINARY = os.path.abspath(sys.argv[1])
     CASES = all_cases()
     pages = sys.argv[2:] or ["README.md", "CONTRIBUTING.md"] + sorted(
@@ -241,6 +314,10 @@ if __name__ == "__main__":
         compare("tables that no page has", sorted(set(TABLES) - met), [])
         shown = read(TOP, "README.md").replace(b"\\|", b"|")
         cookbook = [case for case in CASES if case.name.startswith("cookbook-")]
+        crates = {crate for crate in crates_below() if not crate.endswith("_tests")}
+        compare("crates without a row in " + CRATES, sorted(crates - rows_of_crates), [])
+        versions = [re.search(r"\d+\.\d+\.\d+", source(name))[0] for name in ("CHANGELOG.md", "debian/changelog")]
+        compare("the version of CHANGELOG.md and of debian/changelog", versions[0], versions[1])
         compare(
             "the cookbook's cases that README has not", [c.name for c in cookbook if c.query.strip() not in shown], []
         )

@@ -4,7 +4,7 @@
 # A line tells of each crate when it is begun, and how long it took. What a crate said stands in its out/build.log, which is shown where the
 # crate fails. A run that was broken off goes on where it stood.
 cd "$(dirname "$0")/.." || exit 1
-command -v rt > /dev/null || { echo "rt is not on the path: README says, under \"The kit\", where it comes from" >&2; exit 1; }
+command -v rt > /dev/null || { echo "rt is not on the path: README says, under \"Installing it\", where it comes from" >&2; exit 1; }
 
 # Each pair of a crate and one below it, as crates.txt has them: tsort gives the crates lowest first.
 pairs() {
