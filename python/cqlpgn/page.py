@@ -173,13 +173,24 @@ def _digest(text: str) -> str:
     return "'sha256-" + base64.b64encode(hashlib.sha256(text.encode()).digest()).decode() + "'"
 
 
+def own_file(name: str) -> str:
+    """The text of a file that lies beside this module."""
+    return resources.files(__package__).joinpath(name).read_text(encoding="utf-8")
+
+
+def _template() -> str:
+    """The page without its games; the men, the style and the script of the boards are those of the desk too."""
+    parts = {"@BOARDS_STYLE@": "boards.css", "@BOARDS_SCRIPT@": "boards.js", "@MEN@": "men.svg"}
+    return re.sub("|".join(parts), lambda name: own_file(parts[name.group()]), own_file("page.html"))
+
+
 def document(sections: Iterable[Section], style: Style) -> Iterator[str]:
     """The page, in pieces. Its style and its script are told by their digests, so that nothing else in it can be either."""
     listed = list(sections)
     games = sum(len(section.games) for section in listed)
     count = sum(len(matches) for section in listed for _, matches in section.games)
     contents, articles = ("", _exercises(listed, style)) if style.exercises else _games(listed, style)
-    text = resources.files(__package__).joinpath("page.html").read_text(encoding="utf-8")
+    text = _template()
     sheet, script = (re.findall(rf"<{tag}>(.*?)</{tag}>", text, re.S)[0] for tag in ("style", "script"))
     kinds = ["exercises"] * style.exercises + ["coordinates"] * style.coordinates + [f"by{style.per_page}"]
     parts = {

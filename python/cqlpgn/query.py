@@ -102,6 +102,17 @@ def without_marks(query: bytes, comments: bool = True, mark: bytes = b'""') -> b
     return bytes(out)
 
 
+def mark_of(query: bytes) -> bytes:
+    """The comment that a query without faults gives to each position that matches, its words with single spaces; of several texts of
+    `matchstring` the last one counts."""
+    mark, before = b"CQL", b""
+    for token in tokens(query):
+        if token.kind == "text" and before == b"matchstring":
+            mark = token.bytes[1:-1]
+        before = token.bytes if token.kind != "file" else b""
+    return b" ".join(mark.split())
+
+
 def pieces(queries: bytes) -> list[tuple[int, bytes]]:
     """The queries of a file that is cut at each line `%%`, each with its first byte in the file."""
     found, begin = [], 0

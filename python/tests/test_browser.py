@@ -125,7 +125,7 @@ def test_keys_and_clicks(asked: Asking, room: Path, browser: Browser) -> None:
 
 def test_turned_boards_and_coordinates(asked: Asking, room: Path, browser: Browser) -> None:
     browser.go(made(asked, room, "--exercises", "--flip", "side-to-move", "--coordinates"))
-    script = "figures.forEach(drawFigure); return figures.map(f => [f.dataset.turned || '', f.querySelector('text').textContent])"
+    script = "figures().forEach(drawFigure); return figures().map(f => [f.dataset.turned || '', f.querySelector('text').textContent])"
     first = browser.run(script)
     assert {tuple(pair) for pair in first} == {("", "a"), ("1", "h")}
     assert browser.all("figure details[open]") == []
