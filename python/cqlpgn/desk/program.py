@@ -3,7 +3,9 @@
 from __future__ import annotations
 
 import asyncio
+import contextlib
 import os
+import signal
 from asyncio.subprocess import DEVNULL, PIPE, Process
 from collections.abc import Sequence
 from typing import Any
@@ -33,10 +35,17 @@ async def start(program: str, words: Sequence[str], text: bytes, **pipes: Any) -
         os.close(file)
 
 
+def kill(process: Process) -> None:
+    """Ends a process. Its own `kill` would first ask whether it has ended, and take the answer from who waits for it."""
+    if process.returncode is None:
+        with contextlib.suppress(ProcessLookupError):
+            os.kill(process.pid, signal.SIGKILL)
+
+
 async def end(process: Process) -> None:
     """Ends a process, if it has not ended, and waits for it."""
     if process.returncode is None:
-        process.kill()
+        kill(process)
         # its pipes are read to their end: asyncio does not see that a process has ended whose output waits to be read
         await process.communicate()
     if process.stdin is not None:

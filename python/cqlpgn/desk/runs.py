@@ -14,7 +14,7 @@ from ..files import shown
 from ..process import Counts, FaultyGame, in_words, read_line
 from .folder import Held
 from .found import Found, Full, Parted, Room
-from .program import MEND, PIECE, QUERY, end, start
+from .program import MEND, PIECE, QUERY, end, kill, start
 
 MOST_FAULTS = 1000
 OVER = ("done", "stopped", "failed")
@@ -121,7 +121,7 @@ class Run:
         pipe, blocks = process.stdin, joined(archive.blocks())
         assert pipe is not None
         try:
-            while block := await asyncio.to_thread(next, blocks, b""):
+            while block := await asyncio.to_thread(lambda: next(blocks, b"")):
                 pipe.write(block)
                 await pipe.drain()
                 self._read = before + archive.at
@@ -145,7 +145,7 @@ class Run:
                 self._changed(self)
         except (OSError, Full) as fault:
             self._fail(f"what was found can't be kept: {getattr(fault, 'strerror', None) or fault}")
-            process.kill()
+            kill(process)
 
     async def _listen(self, process: Process, name: str) -> None:
         """Reads the report: a line for each faulty game, then the counts of each query."""
