@@ -28,7 +28,7 @@ install:
 	install -D $(PROGRAM) $(BIN)/cqlpgn
 	install -D $(PIECES) $(BIN)/pgnpieces
 	install -d $(DESTDIR)$(MODULES)
-	cd python && find cqlpgn -name '*.py' -o -name py.typed -o -name '*.html' | xargs -I{} install -D -m 644 {} $(DESTDIR)$(MODULES)/{}
+	cd python && find cqlpgn -type f ! -path '*/__pycache__/*' | xargs -I{} install -D -m 644 {} $(DESTDIR)$(MODULES)/{}
 	for name in $(COMMANDS); do \
 	  sed '1s|.*|#!$(PYTHON)|; s|, which stands beside this folder||; s|^sys.path.insert.*|sys.path.insert(0, "$(MODULES)")|' python/bin/$$name > $(BIN)/$$name; \
 	  chmod 755 $(BIN)/$$name; \
@@ -51,6 +51,7 @@ install:
 	install -D -m 644 contrib/completion/cqlpgn.bash $(SHARE)/bash-completion/completions/cqlpgn
 	install -D -m 644 contrib/completion/_cqlpgn $(SHARE)/zsh/$(ZSH)/_cqlpgn
 	install -D -m 644 contrib/completion/cqlpgn.fish $(SHARE)/fish/vendor_completions.d/cqlpgn.fish
+	install -D -m 644 contrib/cqlpgn-desk.desktop $(SHARE)/applications/cqlpgn-desk.desktop
 	install -D -m 644 contrib/vim/syntax/cql.vim $(SHARE)/vim/vimfiles/syntax/cql.vim
 	install -D -m 644 contrib/vim/ftdetect/cql.vim $(SHARE)/vim/vimfiles/ftdetect/cql.vim
 	install -d $(SHARE)/doc/cqlpgn/docs $(SHARE)/doc/cqlpgn/examples
@@ -69,9 +70,10 @@ uninstall:
 	done
 	rm -f $(SHARE)/zsh/site-functions/_cqlpgn $(SHARE)/zsh/vendor-completions/_cqlpgn
 	rm -f $(SHARE)/zsh/$(ZSH)/_cqlpgn $(SHARE)/vim/vimfiles/syntax/cql.vim $(SHARE)/vim/vimfiles/ftdetect/cql.vim
+	rm -f $(SHARE)/applications/cqlpgn-desk.desktop
 	rm -rf $(SHARE)/cqlpgn $(SHARE)/doc/cqlpgn $(SHARE)/man/man7/pgn-archive.7
 	for folder in bash-completion/completions fish/vendor_completions.d zsh/site-functions zsh/vendor-completions \
-	  vim/vimfiles/syntax vim/vimfiles/ftdetect; do \
+	  vim/vimfiles/syntax vim/vimfiles/ftdetect applications; do \
 	  [ ! -d $(SHARE)/$$folder ] || (cd $(SHARE) && rmdir -p --ignore-fail-on-non-empty $$folder); \
 	done
 
@@ -85,7 +87,7 @@ deb:
 	cp $(PIECES) out/deb/cqlpgn/crates/pgnpieces/out/pgnpieces
 	cp CHANGELOG.md out/deb/cqlpgn
 	cd out/deb/cqlpgn && env -u PROGRAM -u PIECES dpkg-buildpackage -us -uc -b
-	mv out/deb/cqlpgn_*.deb out/
+	mv out/deb/cqlpgn*.deb out/
 	rm -rf out/deb
 
 test:

@@ -1,4 +1,4 @@
-# Completion of cqlpgn, cqlpgn-over, cqlpgn-split, cqlpgn-problems, cqlpgn-rows and cqlpgn-diagrams for bash:
+# Completion of cqlpgn, cqlpgn-over, cqlpgn-split, cqlpgn-problems, cqlpgn-rows, cqlpgn-diagrams and cqlpgn-desk for bash:
 # `source contrib/completion/cqlpgn.bash` in ~/.bashrc, where `make install` or the package has not put it where bash-completion finds it.
 
 _cqlpgn_files() {
@@ -90,9 +90,19 @@ _cqlpgn_rows() {
     esac
 }
 
+_cqlpgn_desk() {
+    local word=${COMP_WORDS[COMP_CWORD]}
+    COMPREPLY=()
+    case $word in
+        -*) mapfile -t COMPREPLY < <(compgen -W '--port --runs --no-browser --help' -- "$word") ;;
+        *) mapfile -t COMPREPLY < <(compgen -d -- "$word") ;;
+    esac
+}
+
 complete -o filenames -F _cqlpgn cqlpgn
 complete -o filenames -F _cqlpgn_over cqlpgn-over
 complete -o nospace -F _cqlpgn_split cqlpgn-split
 complete -o filenames -F _cqlpgn_problems cqlpgn-problems
 complete -o filenames -F _cqlpgn_diagrams cqlpgn-diagrams
 complete -o filenames -F _cqlpgn_rows cqlpgn-rows
+complete -o filenames -F _cqlpgn_desk cqlpgn-desk

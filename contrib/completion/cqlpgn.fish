@@ -1,4 +1,4 @@
-# Completion of cqlpgn, cqlpgn-over, cqlpgn-split, cqlpgn-problems and cqlpgn-diagrams for fish:
+# Completion of cqlpgn, cqlpgn-over, cqlpgn-split, cqlpgn-problems, cqlpgn-rows, cqlpgn-diagrams and cqlpgn-desk for fish:
 # the file lies in ~/.config/fish/completions.
 
 function __cqlpgn_place --description 'is the word before the cursor this one, counted from 1 and without options'
@@ -67,3 +67,10 @@ complete -c cqlpgn-rows -l mark -x -d 'the comment of a marked position'
 complete -c cqlpgn-rows -l index -r -d 'where the games came from'
 complete -c cqlpgn-rows -s o -r -d 'where the rows go'
 complete -c cqlpgn-rows -l help -d 'explains the words'
+
+complete -c cqlpgn-desk -f
+complete -c cqlpgn-desk -n '__cqlpgn_place 1' -a '(__fish_complete_directories)' -d 'where the archives are'
+complete -c cqlpgn-desk -l port -x -d 'a port of this machine'
+complete -c cqlpgn-desk -l runs -x -d 'how many runs go at once'
+complete -c cqlpgn-desk -l no-browser -d 'the address is printed alone'
+complete -c cqlpgn-desk -l help -d 'explains the words'

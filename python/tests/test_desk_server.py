@@ -228,6 +228,21 @@ def test_processes_end_with_their_page(served: Served) -> None:
     asyncio.run(ends())
 
 
+def test_two_pages_do_not_mix(served: Served) -> None:
+    async def two() -> None:
+        async with Line(served) as one, Line(served) as other:
+            first, second = await one.over("cql() mate", "games.pgn"), await other.over("cql() stalemate", "games.pgn")
+            assert (first["found"], second["found"]) == ([8], [1])
+            for run, line, count in ((first, one, 8), (second, other, 1)):
+                assert len(await line.ask("rows", run=run["run"], query=0, first=0, count=20)) == count
+            for do in ("games", "rows"):
+                assert str(await one.ask(do, run=second["run"], query=0, first=0, count=20)).startswith("refused")
+            async with one.http.get(f"{served.address}save/{one.page}/{second['run']}/0/pgn") as answer:
+                assert answer.status == 404
+
+    asyncio.run(two())
+
+
 def test_twenty_runs_at_once(served: Served) -> None:
     async def twenty() -> None:
         lines = [Line(served) for _ in range(20)]

@@ -93,7 +93,7 @@ async function judge(query, update) {
   if (!fault) return update(found.warnings.map(w => spot(query, w, "warning")));
   const place = placeOf(query, fault.byte);
   if (fault.reason === "unexpected end") end = editor.setBookmark(place, { widget: element("span", { className: "end", textContent: "…" }) });
-  say(`${sentence(fault.reason)}${fault.hint ? ` · ${fault.hint}` : ""} · line ${fault.line}, byte ${fault.byte}`, "bad");
+  say(`${sentence(fault.reason)}${fault.hint ? ` · ${fault.hint.replaceAll("`", "")}` : ""} · line ${fault.line}, byte ${fault.byte}`, "bad");
   update([spot(query, fault, "error")]);
 }
 
