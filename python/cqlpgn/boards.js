@@ -176,7 +176,8 @@ document.addEventListener("click", event => {
   if (figure) go(figure);
 });
 document.addEventListener("keydown", event => {
-  if (event.ctrlKey || event.altKey || event.metaKey || event.target.closest("input, textarea, select, .CodeMirror, .setting")) return;
+  if (event.ctrlKey || event.altKey || event.metaKey) return;
+  if (event.target.closest("input, textarea, select, .CodeMirror, .setting")) return;
   const keys = { j: () => step(1), k: () => step(-1), Escape: close, f() {
     turned = !turned;
     drawAgain();

@@ -28,10 +28,12 @@ if not os.path.exists("/usr/share/javascript/codemirror/lib/codemirror.js"):
 
 SCRIPT = "<script>window.hit = 1</script><img src=x onerror='window.hit = 2'>"
 HOSTILE = (
-    f'[White "{SCRIPT}"]\n[Black "javascript:window.hit=3"]\n[Event "\\"><svg onload=window.hit=4>"]\n\n1. f3 {{{SCRIPT}}} e5 2. g4 Qh4# 0-1\n\n'
+    f'[White "{SCRIPT}"]\n[Black "javascript:window.hit=3"]\n[Event "\\"><svg onload=window.hit=4>"]\n\n1. f3 '
+    f"{{{SCRIPT}}} e5 2. g4 Qh4# 0-1\n\n"
     '[White "line\u2028separator \u202eright to left"]\n[Black "back\\\\slash \\" quote \' &lt;b&gt;"]\n\n1. f3 e5 2. g4 Qh4# 0-1\n\n'
     f'[White "{"x" * 200_000}"]\n[Black "long"]\n\n1. f3 e5 2. g4 {{{"y " * 100_000}}} 2... Qh4# 0-1\n\n'
-    f'[White "A"]\n[Annotator "</p></article></main><script>window.hit=5</script>"]\n\n1. f3 $139 e5 2. g4 {"(2. g3 " * 30 + ")" * 30} 2... Qh4# 0-1\n\n'
+    f'[White "A"]\n[Annotator "</p></article></main><script>window.hit=5</script>"]\n\n'
+    f'1. f3 $139 e5 2. g4 {"(2. g3 " * 30 + ")" * 30} 2... Qh4# 0-1\n\n'
 )
 ODD = b'[White "M\xfcller \xff\xfe\x80"]\n[Black "\xe2\x80"]\n\n1. f3 e5 2. g4 Qh4# 0-1\n\n'
 LONG = '[White "endless"]\n\n' + " ".join(f"{n}. Nf3 Nf6 {n + 1}. Ng1 Ng8" for n in range(1, 400, 2)) + " *\n\n"
@@ -84,7 +86,9 @@ class Browser:
     def choose(self, *names: str) -> None:
         """Chooses archives, as a click on each would."""
         self.run(
-            "for (const box of document.querySelectorAll('#archives input')) if (box.checked !== arguments[0].includes(box.value)) box.click()", names
+            "for (const box of document.querySelectorAll('#archives input'))"
+            "  if (box.checked !== arguments[0].includes(box.value)) box.click()",
+            names,
         )
 
     def ask(self, query: str, *names: str) -> None:
@@ -93,7 +97,10 @@ class Browser:
         self.write(query)
         self.choose(*names)
         self.click("#run")
-        self.until("return document.querySelector('#links a').getAttribute('href') !== arguments[0] && !document.querySelector('#report').hidden", before)
+        self.until(
+            "return document.querySelector('#links a').getAttribute('href') !== arguments[0] && !document.querySelector('#report').hidden",
+            before,
+        )
 
     def ended(self) -> None:
         self.until("return !document.getElementById('report').hidden && document.getElementById('progress').hidden", seconds=240)
@@ -139,7 +146,12 @@ def browser(one: Browser, served: Served) -> Iterator[Browser]:
 
 @pytest.mark.parametrize(
     ("query", "byte", "marked"),
-    [("cql()\n// Müller 🙂\nmate echo", 27, "echo"), ("cql() #check", 7, "check"), ("cql() mate !", 11, "!"), ("cql() mate\n%%\ncql() Kf1 x", 24, "x")],
+    [
+        ("cql()\n// Müller 🙂\nmate echo", 27, "echo"),
+        ("cql() #check", 7, "check"),
+        ("cql() mate !", 11, "!"),
+        ("cql() mate\n%%\ncql() Kf1 x", 24, "x"),
+    ],
 )
 def test_a_fault_is_marked_at_its_byte(browser: Browser, query: str, byte: int, marked: str) -> None:
     browser.write(query)
@@ -216,8 +228,11 @@ def test_boards_before_the_end_and_stop(served: Served, browser: Browser) -> Non
     browser.run(row + ".click()")
     browser.until(f"return document.querySelector('article[data-place=\"{games - 1}\"] figure svg')")
     browser.run("document.activeElement.blur()")
-    browser.press("k" * 15)
-    browser.until(f"const f = document.querySelector('figure.at'); return f && Number(f.closest('article').dataset.place) <= {games - 12}")
+    # where games must be brought first, a key that comes meanwhile is dropped
+    browser.until(
+        "document.body.dispatchEvent(new KeyboardEvent('keydown', {key: 'k', bubbles: true})); const f = document.querySelector('figure.at');"
+        f"return f && Number(f.closest('article').dataset.place) <= {games - 12}"
+    )
 
 
 def test_the_process_ends_with_the_tab(served: Served) -> None:
@@ -262,6 +277,7 @@ def test_a_position_is_set(browser: Browser) -> None:
     browser.driver.find_element("id", "fen").send_keys("7k/8/6K1/8/8/8/8/5Q2 w - - 0 1")
     assert browser.text("designators") == "Qf1 Kg6 kh8 #(A | a) == 3 wtm"
     browser.write("cql() ")
+    browser.run(EDITOR + "c.setCursor(0, 6)")
     browser.click("#insert")
     browser.ask(browser.value(), "games.pgn")
     browser.ended()
@@ -278,7 +294,9 @@ def test_several_queries_archives_and_faults(browser: Browser) -> None:
     assert first == "14 games, 14 positions" and "29 games of 2 archives" in browser.text("how")
     browser.click("#faults summary")
     browser.until("return document.querySelector('#faults li button')").click()
-    shown = browser.until("const p = document.querySelector('#faults pre'); return p.querySelector('mark') && [p.textContent, p.querySelector('mark').textContent]")
+    shown = browser.until(
+        "const p = document.querySelector('#faults pre'), m = p.querySelector('mark'); return m && [p.textContent, m.textContent]"
+    )
     assert "1. e4 e5 2. Ke3 *" in shown[0] and shown[1] == "K"
 
 
@@ -320,23 +338,30 @@ def test_a_game_with_many_positions(browser: Browser) -> None:
     browser.ask("cql() wtm", "long.pgn")
     browser.ended()
     browser.until("return document.querySelector('#found figure svg')")
-    assert browser.count("#articles figure") == 200 and "more positions" in browser.run("return document.querySelector('article').textContent")
+    assert browser.count("#articles figure") == 200 and "more positions" in browser.run(
+        "return document.querySelector('article').textContent"
+    )
 
 
 @pytest.mark.parametrize("dark", [False, True])
 def test_a_narrow_page(browser: Browser, dark: bool) -> None:
     features = [{"name": "prefers-color-scheme", "value": "dark" if dark else "light"}]
     browser.driver.execute_cdp_cmd("Emulation.setEmulatedMedia", {"features": features})
-    browser.driver.execute_cdp_cmd("Emulation.setDeviceMetricsOverride", {"width": 400, "height": 800, "deviceScaleFactor": 1, "mobile": False})
+    browser.driver.execute_cdp_cmd(
+        "Emulation.setDeviceMetricsOverride", {"width": 400, "height": 800, "deviceScaleFactor": 1, "mobile": False}
+    )
     try:
         browser.ask("cql() mate", "famous.pgn")
         browser.ended()
         browser.until("return document.querySelector('#found figure svg')")
         browser.click("[data-pane=setting]")
-        wide = "return [...document.querySelectorAll('body *')].filter(e => e.getBoundingClientRect().right > 401 && !e.closest('.CodeMirror')).length"
-        assert browser.run("return document.documentElement.scrollWidth") <= 400 and browser.run(wide) == 0
+        wide = (
+            "return [...document.querySelectorAll('body *')].filter(e => e.getBoundingClientRect().right > 401"
+            "  && !e.closest('.CodeMirror, #archives')).map(e => e.outerHTML)"
+        )
         if shots := os.environ.get("SHOTS"):
             browser.driver.save_screenshot(os.path.join(shots, f"narrow-{'dark' if dark else 'light'}.png"))
+        assert browser.run("return document.documentElement.scrollWidth") <= 400 and browser.run(wide) == []
     finally:
         browser.driver.execute_cdp_cmd("Emulation.clearDeviceMetricsOverride", {})
         browser.driver.execute_cdp_cmd("Emulation.setEmulatedMedia", {"features": []})
@@ -346,9 +371,11 @@ ATTACK = """<!DOCTYPE html><body><script>
 const at = "%s", out = window.out = {};
 fetch(at).then(r => r.text()).then(t => out.fetch = t.length, () => out.fetch = "refused");
 fetch(at, {mode: "no-cors"}).then(r => out.blind = r.type, () => out.blind = "refused");
-const s = new WebSocket(at.replace("http", "ws") + "socket"); s.onopen = () => out.socket = "open"; s.onerror = () => out.socket = "refused";
+const s = new WebSocket(at.replace("http", "ws") + "socket");
+s.onopen = () => out.socket = "open"; s.onerror = () => out.socket = "refused";
 const i = document.createElement("iframe"); i.src = at; document.body.append(i);
-const j = document.createElement("script"); j.src = at + "cql.js"; j.onload = () => out.script = "loaded"; j.onerror = () => out.script = "refused";
+const j = document.createElement("script"); j.src = at + "cql.js";
+j.onload = () => out.script = "loaded"; j.onerror = () => out.script = "refused";
 document.body.append(j);
 </script>"""
 

@@ -19,6 +19,14 @@ pytest.importorskip("aiohttp")
 if not os.path.exists("/usr/share/javascript/codemirror/lib/codemirror.js"):
     pytest.skip("libjs-codemirror is not installed", allow_module_level=True)
 PROGRAMS = {"CQLPGN": "cqlpgn", "PGNJSON": "pgnjson"}
+OUTSIDE = (
+    ["../outside0/secret.pgn", "link.pgn", "linked/secret.pgn", "inner/../../outside0/secret.pgn", "/etc/passwd", "pipe.pgn", "folder.pgn"]
+    + ["none.pgn", "x\0.pgn", "", "a" * 5000 + ".pgn", "\udcff.pgn", "small.pgn\n.pgn", "mine.cql"]
+)
+NO_MESSAGES = (
+    ["", "5", "[]", "{}", '{"n": 1}', '{"n": 1, "do": "answer"}', '{"n": 1, "do": "run"}', '{"n": 1, "do": "check", "query": 5}', "[" * 100_000]
+    + ['{"n":1,"do":"games","run":1,"query":0,"first":"a","count":1}', '{"n":true,"do":"stop"}', '{"n":1,"do":["stop"]}']
+)
 EXAMPLES = ("games.pgn", "famous.pgn", "themes.pgn")
 
 
@@ -89,20 +97,29 @@ def test_what_each_answer_says_to_the_browser(served: Served) -> None:
 def test_no_script_reads_a_text_as_html() -> None:
     folder = TOP / "python" / "cqlpgn"
     for path in [folder / "boards.js", *(folder / "desk" / "static").glob("*.js")]:
-        assert not [word for word in ("innerHTML", "outerHTML", "insertAdjacentHTML", "document.write", "eval(") if word in path.read_text()]
+        assert not [
+            word for word in ("innerHTML", "outerHTML", "insertAdjacentHTML", "document.write", "eval(") if word in path.read_text()
+        ]
 
 
 def test_no_path_leads_out(served: Served) -> None:
     page = f"/{served.token}/"
-    for path in ("../../etc/passwd", "%2e%2e/%2e%2e/etc/passwd", "..%2fserver.py", "desk.js/../server.py", "server.py", "%00", "desk.js%00.css"):
+    for path in (
+        "../../etc/passwd",
+        "%2e%2e/%2e%2e/etc/passwd",
+        "..%2fserver.py",
+        "desk.js/../server.py",
+        "server.py",
+        "%00",
+        "desk.js%00.css",
+    ):
         assert served.get(page + path) in (400, 403, 404), path
 
     async def names() -> None:
         async with Line(served) as line:
             listed = {archive["name"] for archive in line.hello["archives"]}
             assert listed == {"broken.pgn.gz", "cut.pgn.gz", "inner/large.pgn", "small.pgn", "packed.pgn.gz", "several.zip", *EXAMPLES}
-            for name in ("../outside0/secret.pgn", "link.pgn", "linked/secret.pgn", "inner/../../outside0/secret.pgn", "/etc/passwd", "pipe.pgn",
-                         "folder.pgn", "none.pgn", "x\0.pgn", "", "a" * 5000 + ".pgn", "\udcff.pgn", "small.pgn\n.pgn", "mine.cql"):  # fmt: skip
+            for name in OUTSIDE:
                 assert str(await line.begin("cql() mate", name)).startswith("refused"), name
                 assert str(await line.ask("at", archive=name, byte=0)).startswith("refused"), name
             for name in ("link.cql", "../outside0/secret.cql", "linked/secret.cql", "small.pgn", "none.cql"):
@@ -116,12 +133,15 @@ def test_no_path_leads_out(served: Served) -> None:
 def test_messages(served: Served) -> None:
     async def messages() -> None:
         async with Line(served) as line:
-            for text in ("", "5", "[]", "{}", '{"n": 1}', '{"n": 1, "do": "answer"}', '{"n": 1, "do": "run"}', '{"n": 1, "do": "check", "query": 5}',
-                         '{"n":1,"do":"games","run":1,"query":0,"first":"a","count":1}', '{"n":true,"do":"stop"}', "[" * 100_000, '{"n":1,"do":["stop"]}'):  # fmt: skip
+            for text in NO_MESSAGES:
                 await line.socket.send_str(text)
                 assert "refused" in await line.socket.receive_json(timeout=30), text[:50]
             fault = (await line.ask("check", query="cql()\n// Müller\u2028\nmate echo"))["fault"]
-            assert (fault["byte"], fault["reason"], fault["line"]) == (len("cql()\n// Müller\u2028\nmate ".encode()), "outside profile echo", 3)
+            assert (fault["byte"], fault["reason"], fault["line"]) == (
+                len("cql()\n// Müller\u2028\nmate ".encode()),
+                "outside profile echo",
+                3,
+            )
             assert (await line.ask("check", query="cql() \0"))["fault"]["reason"] == "bad byte"
             assert (await line.ask("check", query=" " * 70_000))["fault"]["reason"] == "query too long"
             assert (await line.ask("check", query="cql() mate\n%%\ncql() echo"))["fault"]["byte"] == 20
@@ -178,11 +198,23 @@ def test_filter_and_what_is_saved(served: Served, tmp_path: Path) -> None:
             rows = await line.ask("rows", first=0, count=9, **which)
             assert 0 < left < run["found"][0] and len(rows) == left and all("Morphy" in row[1] + row[2] for row in rows)
             assert await line.ask("filter", text="", **which) == run["found"][0]
-            for form, lines in {"pgn": b"{CQL}", "csv": b"\n", "json": b"\n", "epd": b"\n", "page": b"<figure", "sheet": b"<figure"}.items():
+            for form, lines in {
+                "pgn": b"{CQL}",
+                "csv": b"\n",
+                "json": b"\n",
+                "epd": b"\n",
+                "page": b"<figure",
+                "sheet": b"<figure",
+            }.items():
                 async with line.http.get(f"{served.address}save/{line.page}/{run['run']}/0/{form}") as answer:
                     data = await answer.read()
                     assert data.count(lines) == run["marked"][0] + (form == "csv"), form
-            for path in (f"save/{line.page}/{run['run']}/1/pgn", f"save/{line.page}/0/0/pgn", f"save/x/{run['run']}/0/pgn", f"save/{line.page}/{run['run']}/0/exe"):
+            for path in (
+                f"save/{line.page}/{run['run']}/1/pgn",
+                f"save/{line.page}/0/0/pgn",
+                f"save/x/{run['run']}/0/pgn",
+                f"save/{line.page}/{run['run']}/0/exe",
+            ):
                 async with line.http.get(served.address + path) as answer:
                     assert answer.status == 404, path
 

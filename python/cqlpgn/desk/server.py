@@ -99,12 +99,12 @@ class Desk:
     async def _front(self, _request: web.Request) -> web.StreamResponse:
         return web.Response(text=self._html, content_type="text/html")
 
-    async def _page(self, name: str) -> Page:
+    async def _page(self, name: str, is_back: bool) -> Page:
         """The page of this name that has come back, or a new one. One that is loaded again may be heard before its old line is seen to
         end; one that was doubled in the browser has the same name, and becomes a page of its own."""
         page = self._pages.get(name)
-        for _ in range(10):
-            if page and page.line is not None:
+        for _ in range(100):
+            if is_back and page and page.line is not None:
                 await asyncio.sleep(0.05)
         if not page or page.is_gone or page.line is not None:
             page = Page(self.shared)
@@ -126,7 +126,7 @@ class Desk:
             raise web.HTTPServiceUnavailable()
         socket = web.WebSocketResponse(heartbeat=20, max_msg_size=1 << 20, compress=False)
         await socket.prepare(request)
-        page = await self._page(request.query.get("page", ""))
+        page = await self._page(request.query.get("page", ""), "back" in request.query)
         page.line = socket
         if away := self._away.pop(page.name, None):
             away.cancel()

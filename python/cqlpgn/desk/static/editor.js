@@ -33,6 +33,7 @@ const before = () => editor.getRange({ line: editor.getCursor().line, ch: 0 }, e
 
 export function take(query) {
   editor.setValue(query);
+  editor.setCursor(editor.lineCount(), 0);
   editor.focus();
   if (innerWidth < 992) scrollTo({ top: 0 });
 }

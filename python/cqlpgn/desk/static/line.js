@@ -11,18 +11,28 @@ export function element(name, words = {}, ...parts) {
   return made;
 }
 
-export function connect(listener) {
+// A page that comes back says so, as the server may not have seen yet that its old line has ended. A tab that is doubled brings the name of
+// the other one along, which is still there: it does not come back, and becomes a page of its own.
+export function connect(listener, isBack = sessionStorage.getItem("left") === "1") {
   const there = new URL("socket", location.href);
   there.protocol = "ws:";
   there.searchParams.set("page", sessionStorage.getItem("page") || "");
+  if (isBack) there.searchParams.set("back", "1");
+  sessionStorage.removeItem("left");
   socket = new WebSocket(there);
   socket.onmessage = event => hear(JSON.parse(event.data), listener);
   socket.onclose = () => {
     lost("The desk has ended. Start cqlpgn-desk again, and open the address that it prints.");
     for (const [, badly] of waiting.values()) badly(new Error("the desk has ended"));
     waiting.clear();
-    setTimeout(connect, 2000, listener);
+    setTimeout(connect, 2000, listener, true);
   };
+  onpagehide = () => {
+    sessionStorage.setItem("left", "1");
+    socket.onclose = null;
+    socket.close();
+  };
+  onpageshow = event => { if (event.persisted) connect(listener, true); };
 }
 
 // Asks the server; the answer is what it gives, and a refusal an error.
