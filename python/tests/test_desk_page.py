@@ -230,8 +230,8 @@ def test_boards_before_the_end_and_stop(served: Served, browser: Browser) -> Non
     browser.run("document.activeElement.blur()")
     # where games must be brought first, a key that comes meanwhile is dropped
     browser.until(
-        "document.body.dispatchEvent(new KeyboardEvent('keydown', {key: 'k', bubbles: true})); const f = document.querySelector('figure.at');"
-        f"return f && Number(f.closest('article').dataset.place) <= {games - 12}"
+        "document.body.dispatchEvent(new KeyboardEvent('keydown', {key: 'k', bubbles: true}));"
+        f"const f = document.querySelector('figure.at'); return f && Number(f.closest('article').dataset.place) <= {games - 12}"
     )
 
 

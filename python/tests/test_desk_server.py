@@ -19,14 +19,25 @@ pytest.importorskip("aiohttp")
 if not os.path.exists("/usr/share/javascript/codemirror/lib/codemirror.js"):
     pytest.skip("libjs-codemirror is not installed", allow_module_level=True)
 PROGRAMS = {"CQLPGN": "cqlpgn", "PGNJSON": "pgnjson"}
-OUTSIDE = (
-    ["../outside0/secret.pgn", "link.pgn", "linked/secret.pgn", "inner/../../outside0/secret.pgn", "/etc/passwd", "pipe.pgn", "folder.pgn"]
-    + ["none.pgn", "x\0.pgn", "", "a" * 5000 + ".pgn", "\udcff.pgn", "small.pgn\n.pgn", "mine.cql"]
-)
-NO_MESSAGES = (
-    ["", "5", "[]", "{}", '{"n": 1}', '{"n": 1, "do": "answer"}', '{"n": 1, "do": "run"}', '{"n": 1, "do": "check", "query": 5}', "[" * 100_000]
-    + ['{"n":1,"do":"games","run":1,"query":0,"first":"a","count":1}', '{"n":true,"do":"stop"}', '{"n":1,"do":["stop"]}']
-)
+OUTSIDE = [
+    "../outside0/secret.pgn",
+    "link.pgn",
+    "linked/secret.pgn",
+    "inner/../../outside0/secret.pgn",
+    "/etc/passwd",
+    "pipe.pgn",
+    "folder.pgn",
+] + ["none.pgn", "x\0.pgn", "", "a" * 5000 + ".pgn", "\udcff.pgn", "small.pgn\n.pgn", "mine.cql"]
+NO_MESSAGES = [
+    "",
+    "5",
+    "[]",
+    "{}",
+    '{"n": 1}',
+    '{"n": 1, "do": "answer"}',
+    '{"n": 1, "do": "run"}',
+    '{"n": 1, "do": "check", "query": 5}',
+] + ["[" * 100_000, '{"n":1,"do":"games","run":1,"query":0,"first":"a","count":1}', '{"n":true,"do":"stop"}', '{"n":1,"do":["stop"]}']
 EXAMPLES = ("games.pgn", "famous.pgn", "themes.pgn")
 
 
