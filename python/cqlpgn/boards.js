@@ -170,7 +170,8 @@ document.addEventListener("click", event => {
     event.target.textContent = "copied";
     return;
   }
-  const article = event.target.closest("article"), match = move && move.dataset.match && article.querySelector(`[id="${move.dataset.match}"]`);
+  const article = event.target.closest("article");
+  const match = move && move.dataset.match && article.querySelector(`[id="${move.dataset.match}"]`);
   if (match) return go(match);
   if (move && !move.dataset.match) return show(article, movesOf(article).indexOf(move));
   if (figure) go(figure);

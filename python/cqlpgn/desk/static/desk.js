@@ -40,7 +40,8 @@ function list(archives) {
   const isChosen = a => before.has(a.name);
   if (!archives.some(isChosen)) before.add(archives.length ? archives[0].name : "");
   $("archives").lastElementChild.replaceChildren(...archives.map(a => element("label", {},
-    element("input", { type: "checkbox", value: a.name, checked: isChosen(a), onchange: choice }), ` ${a.name} `, element("span", { className: "soft" }, bytes(a.size)))));
+    element("input", { type: "checkbox", value: a.name, checked: isChosen(a), onchange: choice }),
+    ` ${a.name} `, element("span", { className: "soft" }, bytes(a.size)))));
   choice();
   if (!archives.length) say("There is no archive (*.pgn, also .gz .bz2 .xz .zst, or *.zip) in this folder.");
 }
@@ -120,11 +121,13 @@ function went() {
   const read = `${bytes(run.read)} of ${bytes(run.size)}`, seconds = `${run.seconds.toFixed(1)} s`;
   const name = run.archives.length === 1 ? run.archives[0] : `${run.archives.length} archives`;
   const none = !run.found.some(Boolean) && !/variations/.test(run.query);
-  const late = run.found.length > 1 ? " · of several queries the games come at the end" : run.sorts ? " · sorted games come at the end" : "";
+  const late = run.found.length > 1 ? " · of several queries the games come at the end"
+    : run.sorts ? " · sorted games come at the end" : "";
   return {
     waiting: "waits for other runs to end",
     reading: `${run.archives.length > 1 ? `${run.reading} · ` : ""}${read} · ${seconds}${late}`,
-    done: `${count(run.games, "game", "games")} of ${name} read in ${seconds}${none ? " · cql(variations) searches the variations too" : ""}`,
+    done: `${count(run.games, "game", "games")} of ${name} read in ${seconds}`
+      + (none ? " · cql(variations) searches the variations too" : ""),
     stopped: `stopped after ${read}`,
     failed: "",
   }[run.state];
@@ -155,7 +158,10 @@ function tell(state) {
   if (!$("filter").value) grow(found);
 }
 
-function where() { $("where").textContent = here && run ? `match ${here.toLocaleString("en")} of ${run.marked[which].toLocaleString("en")}` : ""; }
+function where() {
+  const told = n => n.toLocaleString("en");
+  $("where").textContent = here && run ? `match ${told(here)} of ${told(run.marked[which])}` : "";
+}
 
 // The games that were left out, each with the text around its fault when it is asked for.
 async function faulty() {
@@ -168,7 +174,8 @@ async function faulty() {
       const [before, after] = await ask("at", { archive: fault.archive, byte: fault.byte }).catch(refusal => [refusal.message, ""]);
       shown.replaceChildren(before, element("mark", {}, after.slice(0, 1) || "…"), after.slice(1));
     };
-    return element("li", {}, element("button", { type: "button", onclick: look }, `${fault.archive}: game ${fault.game}, byte ${fault.byte}: ${fault.reason}`), shown);
+    const told = `${fault.archive}: game ${fault.game}, byte ${fault.byte}: ${fault.reason}`;
+    return element("li", {}, element("button", { type: "button", onclick: look }, told), shown);
   }));
 }
 

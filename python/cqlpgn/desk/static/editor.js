@@ -11,7 +11,8 @@ export function edit(known, start) {
   words = known;
   defineQuery(words.map(w => w.word));
   editor = CodeMirror.fromTextArea($("query"), {
-    mode: "cql", theme: "desk", lineWrapping: true, viewportMargin: Infinity, matchBrackets: true, autoCloseBrackets: "()[]{}", screenReaderLabel: "Query",
+    mode: "cql", theme: "desk", lineWrapping: true, viewportMargin: Infinity, matchBrackets: true, autoCloseBrackets: "()[]{}",
+    screenReaderLabel: "Query",
     extraKeys: { "Ctrl-Enter": start, "Cmd-Enter": start, "Ctrl-Space": complete, Tab: false, "Shift-Tab": false },
     lint: { getAnnotations: judge, async: true, delay: 200, tooltips: false },
   });
@@ -21,7 +22,10 @@ export function edit(known, start) {
     const head = text().match(HEAD);
     $("variations").checked = !!head && /\bvariations\b/.test(head[2].replace(/"[^"]*"/g, ""));
   });
-  editor.getWrapperElement().addEventListener("mousemove", event => { clearTimeout(hovering); hovering = setTimeout(hover, 150, event.clientX, event.clientY); });
+  editor.getWrapperElement().addEventListener("mousemove", event => {
+    clearTimeout(hovering);
+    hovering = setTimeout(hover, 150, event.clientX, event.clientY);
+  });
   editor.on("cursorActivity", () => explainWord(editor.getCursor()));
   $("variations").onchange = () => vary($("variations").checked);
   editor.setValue(sessionStorage.getItem("query") || "cql() ");
@@ -88,7 +92,10 @@ async function judge(query, update) {
   if (end) end.clear();
   end = null;
   const fault = found.fault;
-  if (/^\s*(cql\s*\(\s*\)\s*)?$/.test(query)) { say("Write what must stand on the board, or take a query from the cookbook"); return update([]); }
+  if (/^\s*(cql\s*\(\s*\)\s*)?$/.test(query)) {
+    say("Write what must stand on the board, or take a query from the cookbook");
+    return update([]);
+  }
   if (!fault && found.warnings.length) say(`Ready to run · ${found.warnings.map(w => w.reason).join(" · ")}`, "good");
   else if (!fault) say("Ready to run", "good");
   if (!fault) return update(found.warnings.map(w => spot(query, w, "warning")));
@@ -107,7 +114,8 @@ function sentence(reason) {
   const kind = reason.match(/^kind mismatch, wanted (\w+), found (\w+)/);
   if (kind) return `A ${kind[1]} is wanted here, and this is a ${kind[2]}`;
   const name = reason.match(/^(outside profile|unknown name) (.*)/);
-  if (name) return name[1] === "unknown name" ? `“${name[2]}” is no word of the language` : `“${name[2]}” is a word of CQL 6 that is not in this profile`;
+  if (name && name[1] === "unknown name") return `“${name[2]}” is no word of the language`;
+  if (name) return `“${name[2]}” is a word of CQL 6 that is not in this profile`;
   if (reason === "unexpected end") return "The query is not complete";
   return reason[0].toUpperCase() + reason.slice(1);
 }

@@ -54,7 +54,9 @@ export function own(names) {
   })));
 }
 
-export function asked(queries) { fill("asked", queries.map(query => recipe(query.replace(/\s+/g, " ").slice(0, 90), query, () => take(query)))); }
+export function asked(queries) {
+  fill("asked", queries.map(query => recipe(query.replace(/\s+/g, " ").slice(0, 90), query, () => take(query))));
+}
 
 // Saves the query under the name beside the button; the second click on the same name writes over what is there.
 export function keeping(text) {

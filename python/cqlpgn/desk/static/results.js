@@ -165,7 +165,8 @@ function choose(place) {
   open(place);
 }
 
-const edge = new IntersectionObserver(entries => entries.forEach(e => e.isIntersecting && more(e.target.id === "after" ? 1 : -1)), { rootMargin: "1200px" });
+const edge = new IntersectionObserver(entries => entries.forEach(e => e.isIntersecting && more(e.target.id === "after" ? 1 : -1)),
+  { rootMargin: "1200px" });
 ends.forEach(e => edge.observe(e));
 new ResizeObserver(fill).observe($("list"));
 $("list").addEventListener("scroll", fill);

@@ -3,8 +3,9 @@ import { $, element } from "./line.js";
 import { insert } from "./editor.js";
 
 const MEN = "KQRBNPkqrbnpAa_";
-const NAMES = { K: "white king", Q: "white queen", R: "white rook", B: "white bishop", N: "white knight", P: "white pawn", k: "black king", q: "black queen",
-  r: "black rook", b: "black bishop", n: "black knight", p: "black pawn", A: "any white man", a: "any black man", _: "no man" };
+const NAMES = { K: "white king", Q: "white queen", R: "white rook", B: "white bishop", N: "white knight", P: "white pawn", k: "black king",
+  q: "black queen", r: "black rook", b: "black bishop", n: "black knight", p: "black pawn", A: "any white man", a: "any black man",
+  _: "no man" };
 const SIGNS = { A: "A", a: "a", _: "·" };
 const squareName = s => "abcdefgh"[s % 8] + (1 + (s >> 3));
 const men = new Map();       // square: man
@@ -14,9 +15,10 @@ let man = "K", at = 4;
 // A man as a picture, or as its letter.
 function sign(letter) {
   if (SIGNS[letter]) return element("span", { className: letter === "a" ? "letter black" : "letter" }, SIGNS[letter]);
-  const picture = document.createElementNS("http://www.w3.org/2000/svg", "svg"), use = document.createElementNS("http://www.w3.org/2000/svg", "use");
+  const [picture, use] = ["svg", "use"].map(name => document.createElementNS("http://www.w3.org/2000/svg", name));
   picture.setAttribute("viewBox", "0 0 1 1");
-  for (const [key, value] of Object.entries({ class: letter < "a" ? "w" : "b", href: "#" + letter.toUpperCase(), width: 1, height: 1 })) use.setAttribute(key, value);
+  const words = { class: letter < "a" ? "w" : "b", href: "#" + letter.toUpperCase(), width: 1, height: 1 };
+  for (const [key, value] of Object.entries(words)) use.setAttribute(key, value);
   picture.append(use);
   return picture;
 }
@@ -24,18 +26,23 @@ function sign(letter) {
 // What finds the position: each man on its square, those that stand on one of several, the side to move, and that there are no others.
 export function designators() {
   const one = [...men].sort(([a], [b]) => a - b).map(([square, letter]) => letter + squareName(square));
-  const several = [...groups].filter(([, squares]) => squares.size).map(([letter, squares]) =>
-    squares.size === 1 ? letter + squareName([...squares][0]) : `${letter}[${[...squares].sort((a, b) => a - b).map(squareName).join(",")}]`);
-  const standing = [...men.values()].filter(letter => letter !== "_").length + [...groups].filter(([letter, s]) => s.size && letter !== "_").length;
+  const several = [...groups].filter(([, squares]) => squares.size).map(([letter, squares]) => {
+    const names = [...squares].sort((a, b) => a - b).map(squareName);
+    return names.length === 1 ? letter + names[0] : `${letter}[${names.join(",")}]`;
+  });
+  const loose = [...groups].filter(([letter, squares]) => squares.size && letter !== "_").length;
+  const standing = [...men.values()].filter(letter => letter !== "_").length + loose;
   return [...one, ...several, $("exact").checked ? `#(A | a) == ${standing}` : "", $("mover").value].filter(Boolean).join(" ");
 }
 
 function show() {
   for (const cell of $("squares").querySelectorAll("button")) {
-    const square = Number(cell.dataset.square), here = men.get(square), loose = [...groups].filter(([, squares]) => squares.has(square)).map(([letter]) => letter);
+    const square = Number(cell.dataset.square), here = men.get(square);
+    const loose = [...groups].filter(([, squares]) => squares.has(square)).map(([letter]) => letter);
     cell.replaceChildren(...(here ? [sign(here)] : loose.map(sign)));
     cell.classList.toggle("loose", !here && loose.length > 0);
-    cell.setAttribute("aria-label", [squareName(square), ...(here ? [NAMES[here]] : loose.map(letter => `perhaps ${NAMES[letter]}`))].join(" "));
+    const said = here ? [NAMES[here]] : loose.map(letter => `perhaps ${NAMES[letter]}`);
+    cell.setAttribute("aria-label", [squareName(square), ...said].join(" "));
     cell.tabIndex = square === at ? 0 : -1;
   }
   for (const choice of $("palette").children) choice.setAttribute("aria-checked", choice.dataset.man === man);
@@ -73,7 +80,10 @@ function move(event) {
   const by = { ArrowLeft: -1, ArrowRight: 1, ArrowUp: 8, ArrowDown: -8 }[event.key];
   if (by && at + by >= 0 && at + by < 64 && !(Math.abs(by) === 1 && (at >> 3) !== ((at + by) >> 3))) at += by;
   else if (NAMES[event.key]) men.set(at, event.key);
-  else if (event.key === "Delete" || event.key === "Backspace") { men.delete(at); for (const squares of groups.values()) squares.delete(at); }
+  else if (event.key === "Delete" || event.key === "Backspace") {
+    men.delete(at);
+    for (const squares of groups.values()) squares.delete(at);
+  }
   else return;
   event.preventDefault();
   show();
@@ -85,7 +95,8 @@ export function set() {
     const rank = element("div", { role: "row" });
     rank.setAttribute("role", "row");
     for (let file = 0; file < 8; file++) {
-      const cell = element("button", { type: "button", className: (row + file) % 2 ? "light" : "dark", onclick: () => put(row * 8 + file) });
+      const kind = (row + file) % 2 ? "light" : "dark";
+      const cell = element("button", { type: "button", className: kind, onclick: () => put(row * 8 + file) });
       cell.setAttribute("role", "gridcell");
       cell.dataset.square = row * 8 + file;
       rank.append(cell);
@@ -102,7 +113,13 @@ export function set() {
   $("squares").addEventListener("keydown", move);
   $("fen").oninput = () => read($("fen").value);
   $("exact").onchange = $("mover").onchange = show;
-  $("empty-board").onclick = () => { men.clear(); groups.clear(); $("fen").value = ""; $("fen-fault").textContent = ""; $("exact").checked = false; $("mover").value = ""; show(); };
+  $("empty-board").onclick = () => {
+    men.clear();
+    groups.clear();
+    $("fen").value = $("mover").value = $("fen-fault").textContent = "";
+    $("exact").checked = false;
+    show();
+  };
   $("insert").onclick = () => insert(designators());
   show();
 }
