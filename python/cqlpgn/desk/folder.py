@@ -112,9 +112,9 @@ class Folder:
         ]
 
     def around(self, name: str, byte: int) -> tuple[bytes, bytes]:
-        """The bytes before and from a byte of an archive, or of the member of a `.zip` whose name is after a colon."""
-        path, _, _ = name.rpartition(":") if ":" in name and not name.lower().endswith(ENDINGS[1:]) else (name, "", "")
-        several = self.open(path if path.lower().endswith(".zip") else name)
+        """The bytes before and from a byte of an archive, or of the member of a `.zip`, whose name stands after a colon."""
+        colon = name.lower().find(".zip:") + len(".zip")
+        several = self.open(name[:colon] if colon >= len(".zip") else name)
         try:
             for archive in several:
                 if archive.name == name:
