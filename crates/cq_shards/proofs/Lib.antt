@@ -15,12 +15,10 @@ pub mod Filling
 pub mod Braces
 pub mod Found
 pub mod Counting
-pub mod Drains
-pub mod AnswerDraws
+pub mod CrewDraws
+pub mod Makings
 pub mod RowAnswers
-pub mod RowDraws
 pub mod Takings
 pub mod Beside
-pub mod FinderDraws
 pub mod FinderAnswers
 pub mod UpToFirst

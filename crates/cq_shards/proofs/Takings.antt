@@ -14,7 +14,7 @@ use Rattle.cq_shards.specs.Many.{AreManyOf}
 use Rattle.cq_shards.specs.Rows.{AreRowsOf, AreTakenOff, IsRowIn, answers_back, rows_at}
 use Rattle.cq_shards.specs.Work.{size}
 use Rattle.cq_shards.proofs.Counting.{answers_more}
-use Rattle.cq_shards.proofs.Drains.{made_more}
+use Rattle.cq_shards.proofs.Makings.{made_more}
 
 -- lists with one last element more are the same where the lists and the elements are
 snoc_same : {X : Type 0} (xs ys : List X) (a b : X) → xs ++ a ∷ [] ≡ ys ++ b ∷ [] → (xs ≡ ys) × (a ≡ b)

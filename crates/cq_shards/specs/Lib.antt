@@ -11,6 +11,8 @@ pub mod Order
 pub mod Comparing
 pub mod OrderRows
 pub mod Answers
+pub mod Made
+pub mod Crew
 pub mod Work
 pub mod Rows
 pub mod Many

@@ -4,11 +4,13 @@
 mod answering;
 mod answers;
 mod batch;
+mod crew;
 mod cutting;
 mod finding;
 mod first;
 mod kept;
 pub mod laws;
+mod maker;
 mod making;
 mod many;
 mod order;
