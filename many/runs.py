@@ -11,6 +11,7 @@ A run has a folder, which each machine that answers pieces must see under the sa
     .N.*         what is left of a try that was ended
 """
 
+import contextlib
 import json
 import os
 import re
@@ -18,12 +19,18 @@ import shutil
 import subprocess
 import sys
 import tempfile
+import threading
 from collections import namedtuple
 
 Piece = namedtuple("Piece", "number offset length first games")
 FAULT = re.compile(rb"game (\d+) byte (\d+): ([^\n]*)\n")
 COUNTS = re.compile(rb"games (\d+) matched (\d+) refused (\d+)\n")
 BLOCK = 1 << 20
+
+
+# what runs in the threads of this process, and whether it is to end
+running = set()
+ended = threading.Event()
 
 
 class NoAnswer(Exception):
@@ -107,13 +114,32 @@ def feed(archive, piece, to):
     return True
 
 
+@contextlib.contextmanager
+def answering(program):
+    """Within it the program is among those that `end` ends."""
+    running.add(program)
+    try:
+        if ended.is_set():
+            program.kill()
+        yield
+    finally:
+        running.discard(program)
+
+
+def end():
+    """ends what runs in the threads of this process, and has nothing more begin"""
+    ended.set()
+    for program in list(running):
+        program.kill()
+
+
 def ask(words, archive, piece, out, err):
     """the exit status of the program after a piece, and whether it took all bytes"""
     try:
         program = subprocess.Popen(words, stdin=subprocess.PIPE, stdout=out, stderr=err, bufsize=0)
     except OSError as fault:
         raise NoAnswer("piece %d: %s: %s" % (piece.number, words[0], fault.strerror), 4) from fault
-    with program:
+    with program, answering(program):
         try:
             taken = feed(archive, piece, program.stdin)
         except OSError as fault:

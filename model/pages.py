@@ -286,7 +286,7 @@ def try_page(page):
         os.mkdir(os.path.join(room, "bin"))
         os.symlink(BINARY, os.path.join(room, "bin", "cqlpgn"))
         for name in ("cqlpgn-over", "cqlpgn-split"):
-            os.symlink(os.path.join(TOP, "contrib", name), os.path.join(room, "bin", name))
+            os.symlink(os.path.join(TOP, "python", "bin", name), os.path.join(room, "bin", name))
         os.symlink(os.path.join(TOP, "view", "diagrams"), os.path.join(room, "bin", "cqlpgn-diagrams"))
         try_blocks(page, text, room)
     for head, rows in tables_of(text):

@@ -33,10 +33,15 @@ _cqlpgn_over() {
     COMPREPLY=()
     case $before in
         -o) _cqlpgn_files pgn "$word"; return ;;
-        --workers | --limit) return ;;
+        --many | --check) _cqlpgn_files 'cql|txt' "$word"; return ;;
+        -j) mapfile -t COMPREPLY < <(compgen -W '2 4 8 16' -- "$word"); return ;;
+        --workers) mapfile -t COMPREPLY < <(compgen -W '1 2 4 8 16 32 64' -- "$word"); return ;;
+        --limit) return ;;
     esac
     case $word in
-        -*) mapfile -t COMPREPLY < <(compgen -W '-o -c -p --workers --limit --help' -- "$word") ;;
+        -*)
+            mapfile -t COMPREPLY < <(compgen -W '-o -c -q -p -j --keep-partial --first --number --many --summary --check --workers \
+                --limit --help' -- "$word") ;;
         *) _cqlpgn_files 'cql|pgn|gz|bz2|xz|zst|zip' "$word" ;;
     esac
 }
