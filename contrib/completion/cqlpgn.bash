@@ -1,5 +1,5 @@
-# Completion of cqlpgn, cqlpgn-over, cqlpgn-split and cqlpgn-diagrams for bash: `source contrib/completion/cqlpgn.bash` in ~/.bashrc,
-# where `make install` or the package has not put it where bash-completion finds it.
+# Completion of cqlpgn, cqlpgn-over, cqlpgn-split, cqlpgn-problems and cqlpgn-diagrams for bash:
+# `source contrib/completion/cqlpgn.bash` in ~/.bashrc, where `make install` or the package has not put it where bash-completion finds it.
 
 _cqlpgn_files() {
     # files whose names end so, and folders
@@ -51,6 +51,16 @@ _cqlpgn_split() {
     [ "$COMP_CWORD" != 1 ] || mapfile -t COMPREPLY < <(compgen -d -S / -- "${COMP_WORDS[1]}")
 }
 
+_cqlpgn_problems() {
+    local word=${COMP_WORDS[COMP_CWORD]} before=${COMP_WORDS[COMP_CWORD - 1]}
+    COMPREPLY=()
+    case $before:$word in
+        -o:*) _cqlpgn_files pgn "$word" ;;
+        *:-*) mapfile -t COMPREPLY < <(compgen -W '-o --strict --help' -- "$word") ;;
+        *) _cqlpgn_files 'olv|yaml|yml|txt' "$word" ;;
+    esac
+}
+
 _cqlpgn_diagrams() {
     local word=${COMP_WORDS[COMP_CWORD]} before=${COMP_WORDS[COMP_CWORD - 1]}
     COMPREPLY=()
@@ -64,4 +74,5 @@ _cqlpgn_diagrams() {
 complete -o filenames -F _cqlpgn cqlpgn
 complete -o filenames -F _cqlpgn_over cqlpgn-over
 complete -o nospace -F _cqlpgn_split cqlpgn-split
+complete -o filenames -F _cqlpgn_problems cqlpgn-problems
 complete -o filenames -F _cqlpgn_diagrams cqlpgn-diagrams

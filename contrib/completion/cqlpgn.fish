@@ -1,4 +1,5 @@
-# Completion of cqlpgn, cqlpgn-over, cqlpgn-split and cqlpgn-diagrams for fish: the file lies in ~/.config/fish/completions.
+# Completion of cqlpgn, cqlpgn-over, cqlpgn-split, cqlpgn-problems and cqlpgn-diagrams for fish:
+# the file lies in ~/.config/fish/completions.
 
 function __cqlpgn_place --description 'is the word before the cursor this one, counted from 1 and without options'
     set -l words (commandline -opc | string match -v -- '-*')
@@ -43,6 +44,10 @@ complete -c cqlpgn-over -l help -d 'explains the words'
 complete -c cqlpgn-split -f
 complete -c cqlpgn-split -n '__cqlpgn_place 1' -a '(__fish_complete_directories)' -d 'where the files go'
 complete -c cqlpgn-split -l help -d 'explains the words'
+
+complete -c cqlpgn-problems -s o -r -d 'where the games go'
+complete -c cqlpgn-problems -l strict -d 'status 1 where something is left out'
+complete -c cqlpgn-problems -l help -d 'explains the words'
 
 complete -c cqlpgn-diagrams -l tex -d 'a text for LaTeX'
 complete -c cqlpgn-diagrams -l mark -x -d 'the comment of a marked position'
