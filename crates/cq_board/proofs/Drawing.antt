@@ -1,5 +1,5 @@
 -- The first state of the draws is sound, and a draw leads from a sound state to a sound one.
-use Rattle.std.proofs.Common.{ltb-true, ltb-false, lt-ltb, le-ltb, ◌≡◌, ◌≢◌, ◌⊎◌, inl, inr, ⊎_elim, ℕ, suc, ◌+◌, ◌<◌, List, [], ◌∷◌, ◌++◌, set, Bool, true, false, ◌==◌, refl, sym, ap, ◌∙◌, subst, arith}
+use Rattle.std.proofs.Common.{ltb-true, ltb-false, lt-ltb, le-ltb, ◌≡◌, ◌≢◌, ◌⊎◌, inl, inr, ⊎_elim, ℕ, suc, ◌+◌, ◌<◌, List, [], ◌∷◌, ◌++◌, length, set, Bool, true, false, ◌==◌, refl, sym, ap, ◌∙◌, subst, arith}
 use Rattle.std.proofs.lemmas.Bool.Decides.{eqb_tells}
 use Rattle.std.proofs.lemmas.List.Sums.{sum_by_push, sum_by-cons}
 use Rattle.std.specs.Prelude.{nat_lt}
@@ -7,7 +7,7 @@ use Rattle.std.specs.List.Sorted.{IsStrictlyIncreasing}
 use mathlib.Core.Option.{some}
 use lib.ListN.{get_elem?}
 use Rattle.atomic_table.proofs.Lists.{at_set}
-use Rattle.cq_board.specs.Draws.{times, times_in, once_below, IsDrawnOnce, IsSound, IsFirst, IsDraw}
+use Rattle.cq_board.specs.Draws.{times, times_in, once_below, AreDraws, IsDrawnOnce, IsSound, IsFirst, IsDraw}
 use Rattle.cq_board.proofs.Increasing.{rising, increasing, one_if, rising_push}
 use Rattle.cq_board.proofs.Totals.{sum_set, one_of_sum}
 
@@ -65,3 +65,25 @@ first_is_sound next lists first = record {
   increasing = λ worker list at. subst IsStrictlyIncreasing (sym (first.empty worker list at)) (λ k within. absurd (omega arith));
   once = λ x. none_in x lists first.empty ∙ sym (ap one_if (ap (λ n. nat_lt x n) first.zero_next ∙ le-ltb x 0 (omega arith)));
 }
+
+-- every list of draws leads from a sound state to a sound one
+pub draws_stay_sound : (workers : List ℕ) (next : ℕ) (lists : List (List ℕ)) (next_after : ℕ) (lists_after : List (List ℕ)) → IsSound next lists
+    → AreDraws workers next lists next_after lists_after → IsSound next_after lists_after
+draws_stay_sound [] next lists next_after lists_after sound draws =
+    subst (λ l. IsSound next_after l) (sym draws.1) (subst (λ n. IsSound n lists) (sym draws.0) sound)
+draws_stay_sound (worker ∷ workers) next lists next_after lists_after sound draws =
+    draws_stay_sound workers draws.0 draws.1 next_after lists_after (draw_stays_sound worker next lists draws.0 draws.1 sound draws.2) draws.3
+
+-- as many numbers are drawn as there are draws
+draws_counted : (workers : List ℕ) (next : ℕ) (lists : List (List ℕ)) (next_after : ℕ) (lists_after : List (List ℕ)) → AreDraws workers next lists next_after lists_after
+    → next_after ≡ next + length workers
+draws_counted [] next lists next_after lists_after draws = let e = draws.0 in omega arith
+draws_counted (worker ∷ workers) next lists next_after lists_after draws =
+    let e = draws.2.one_more in let f = draws_counted workers draws.0 draws.1 next_after lists_after draws.3 in omega arith
+
+pub reached_is_sound : (workers : List ℕ) (next : ℕ) (lists : List (List ℕ)) (next_after : ℕ) (lists_after : List (List ℕ)) → IsFirst next lists
+    → AreDraws workers next lists next_after lists_after → (next_after ≡ length workers) × IsSound next_after lists_after
+reached_is_sound workers next lists next_after lists_after first draws = (
+  (let z = first.zero_next in let e = draws_counted workers next lists next_after lists_after draws in omega arith),
+  draws_stay_sound workers next lists next_after lists_after (first_is_sound next lists first) draws,
+)

@@ -38,3 +38,10 @@ pub record IsDraw (worker next : ℕ) (lists : List (List ℕ)) (next_after : �
   pub has : get_elem? lists worker ≡ some list
   pub drawn : lists_after ≡ slice_set lists worker (list ++ next ∷ [])
   pub one_more : next_after ≡ next + 1
+
+-- These events, in their order, lead from one state to another: each is told by the worker that draws
+abbrev pub AreDraws : List ℕ → ℕ → List (List ℕ) → ℕ → List (List ℕ) → Type 0
+AreDraws [] next lists next_after lists_after = (next_after ≡ next) × (lists_after ≡ lists)
+AreDraws (worker ∷ workers) next lists next_after lists_after =
+    (next_between : ℕ) × (lists_between : List (List ℕ)) × IsDraw worker next lists next_between lists_between
+    × AreDraws workers next_between lists_between next_after lists_after

@@ -7,7 +7,7 @@ use Rattle.std.specs.Ordering.{eq_by_cmp, nat_cmp}
 use Rattle.std.specs.Cmp.{eq_by_cmp_equiv}
 use Rattle.std.specs.Cmp.Lexicographic.{slice_cmp, nat_list_cmp_total}
 use Rattle.std.specs.FinMap.{find, get, entries, get-entries, insert, from_entries, get-from_entries, get-insert, same_map, from_entries_push, slice_cmp-IsAntisymmetric, nat_cmp-IsAntisymmetric, IsAntisymmetric}
-use Rattle.cq_outside.specs.Told.{Files, Told, Opens, bytes_of}
+use Rattle.cq_outside.specs.Told.{Files, Opens, bytes_of}
 use Rattle.cq_outside.specs.MemSource.{FailingSource}
 use Rattle.cq_outside.specs.MemDesk.{FailingDesk, FailingFile, FailingFiles, bytes_by_name, told_of}
 

@@ -1,5 +1,6 @@
 pub mod Digits
 pub mod Entries
+pub mod GivenWords
 pub mod GreatestLaw
 pub mod Growth
 pub mod Moves

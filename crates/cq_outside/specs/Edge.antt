@@ -1,15 +1,17 @@
 -- What contracts see of the real edge: a desk over the real files, and a sink over a real stream.
-use Rattle.std.specs.Prelude.{◌≡◌, ℕ, ◌<◌, ◌⊎◌, List, [], length, codes, Option, Some, Result, Ok, Err, OnOk, OnErr, IsUtf8}
+use Rattle.std.specs.Prelude.{◌≡◌, ℕ, ◌+◌, ◌<◌, ◌≤◌, ◌⊎◌, List, [], length, codes, Option, None, Some, Result, Ok, Err, IsUtf8}
 use Rattle.cq_outside.specs.declared.faults.Failed.{Failed}
 use Rattle.cq_outside.specs.declared.faults.OpenFault.{OpenFault}
 use Rattle.cq_outside.specs.declared.edge.Current.{Current}
 use Rattle.cq_outside.specs.declared.edge.Current.TheVariants.{Nothing, Input, File}
 
--- A desk over the real files: how many reads and opens have failed, the bytes left of standard input, and what is open,
--- a file with the bytes left of it. Bytes are known where their reader tells them.
+-- A desk over the real files: how many reads and opens have failed, how many openings the system was asked for, where it
+-- tells, the bytes left of standard input, and what is open, a file with the bytes left of it. Bytes are known where their
+-- reader tells them.
 pub record RealDesk : Type 0 where
   pub read_faults : ℕ
   pub open_faults : ℕ
+  pub openings : Option ℕ
   pub input : Option (List ℕ)
   pub current : Current (Option (List ℕ))
 
@@ -21,9 +23,27 @@ left_of desk = elim desk.current [ Nothing ↦ Some [] | Input ↦ desk.input | 
 abbrev pub with_left : RealDesk → Option (List ℕ) → RealDesk
 with_left desk left = elim desk.current [
   | Nothing ↦ desk
-  | Input ↦ record { read_faults = desk.read_faults; open_faults = desk.open_faults; input = left; current = Input }
-  | File _ ↦ record { read_faults = desk.read_faults; open_faults = desk.open_faults; input = desk.input; current = File left }
+  | Input ↦ record desk { input = left; current = Input }
+  | File _ ↦ record desk { current = File left }
 ]
+
+-- a desk after some list of reads, none included: the count of faults did not fall, and of all else only the bytes left of
+-- what is open may have changed
+abbrev pub ReadsOn : RealDesk → RealDesk → Type 0
+ReadsOn before now =
+    (before.read_faults ≤ now.read_faults) × (now ≡ with_left (record before { read_faults = now.read_faults }) (left_of now))
+
+-- one more was counted, where it is told
+abbrev pub IsOneMore : Option ℕ → Option ℕ → Type 0
+IsOneMore None now = now ≡ None
+IsOneMore (Some before) now = now ≡ Some (before + 1)
+
+-- Once a name was opened, the system was asked for one opening more; for standard input, and for a name that is no text, it
+-- was asked for none.
+pub record IsAskedOnce (name : List ℕ) (before now : Option ℕ) : Type 0 where
+  pub file : IsUtf8 name → (name ≡ codes "-" → ⊥) → IsOneMore before now
+  pub input : name ≡ codes "-" → now ≡ before
+  pub no_text : (IsUtf8 name → ⊥) → now ≡ before
 
 -- what is open once a name was opened: standard input for `-`, for any other name a file
 abbrev pub IsOpened : List ℕ → Current (Option (List ℕ)) → Type 0

@@ -1,5 +1,6 @@
 pub mod Calls
 pub mod Edge
+pub mod EdgeLaws
 pub mod Faults
 pub mod Flow
 pub mod Greatest
@@ -14,3 +15,4 @@ pub mod Text
 pub mod Told
 pub mod Within
 pub mod Ways
+pub mod Words

@@ -1,5 +1,5 @@
 -- A desk of files in memory that gives its bytes in pieces, and some of whose calls fail.
-use Rattle.std.specs.Prelude.{◌≡◌, ℕ, ◌∷◌, [], ◌++◌, Bool, ◌||◌, if◌then◌else◌, List, map, Option, None, Some, is_none, refl}
+use Rattle.std.specs.Prelude.{◌≡◌, ℕ, ◌∷◌, [], ◌++◌, Bool, ◌||◌, if◌then◌else◌, List, map, None, Some, is_none, refl}
 use Rattle.std.specs.Coded.{Coded, code_by, coded×, coded_list, coded_ℕ}
 use Rattle.std.specs.Ordering.{nat_cmp}
 use Rattle.std.specs.Cmp.Lexicographic.{slice_cmp}

@@ -1,20 +1,25 @@
 //! The words of a command.
+ghost use Rattle.std.specs.Prelude.{map, IfOk, OnErr};
+ghost use Rattle.std.specs.String.{string_bytes};
+ghost use Rattle.cq_outside.specs.Words.{Given, AreWordsOf, MayWantMemory};
+
 use crate::faults::NoMemory;
-use std::env;
-use std::io::ErrorKind;
-use std::rt::Env;
+use crate::system::{Words, WordsFault};
 
 /// The words after the program's name. Words that are no text are none that a program takes, as no words are.
-pub fn command_words(rt: &(impl Env + AllocGlobal)) -> Result<Vec<String>, NoMemory> {
+pub fn command_words<W: Words + AllocGlobal>(rt: &W) -> Result<Vec<String>, NoMemory>
+    ensures words { IfOk result (λ words. (given : Given) × W.gave given × AreWordsOf (map string_bytes words.items) given) }
+    ensures memory { OnErr result ((given : Given) × W.gave given × MayWantMemory given) }
+{
     let mut words = Vec::new(rt.alloc());
-    match env::args(rt) {
-        Ok(args) => {
-            for word in args.skip(1) {
-                words.push(word)?;
-            }
-            Ok(words)
-        }
-        Err(fault) if fault.kind() == ErrorKind::OutOfMemory => Err(NoMemory),
-        Err(_) => Ok(words),
+    let mut given = match rt.words_once() {
+        Ok(given) => given,
+        Err(WordsFault::NoText) => return Ok(words),
+        Err(WordsFault::NoMemory) => return Err(NoMemory),
+    };
+    let _name = given.next();
+    while let Some(word) = given.next() {
+        words.push(word)?;
     }
+    Ok(words)
 }

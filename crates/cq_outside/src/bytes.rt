@@ -58,6 +58,13 @@ impl Bytes {
         })
     }
 
+    /// These bytes, which are handed over and not copied. Takes no memory.
+    pub fn from_vec(bytes: Vec<u8>) -> Bytes
+        ensures { result ≡ bytes.items }
+    {
+        Bytes { bytes }
+    }
+
     /// How many bytes there are.
     pub fn len(&self) -> usize
         ensures { result ≡ length self.now }

@@ -2,7 +2,7 @@
 //! readers and the writer that they stand on tell theirs. Each call answers what one call of the system gave.
 ghost use Rattle.std.specs.Prelude.{◌≡◌, ◌≤◌, ◌<◌, None, length, codes, IfOk, IfSome, IsOk, IsNone, OnOk, OnErr, IsUtf8};
 ghost use Rattle.std.specs.Io.KnownBytes.{ReadConsumes, WriteAppends};
-ghost use Rattle.cq_outside.specs.Edge.{left_of, with_left, IsOpened, IsReadOf, IsOpenedBy, IsWriteOf};
+ghost use Rattle.cq_outside.specs.Edge.{left_of, with_left, IsAskedOnce, IsOneMore, IsOpened, IsReadOf, IsOpenedBy, IsWriteOf, ReadsOn};
 ghost use Rattle.cq_outside.specs.Faults.{HasCause, counted};
 ghost use Rattle.cq_outside.specs.declared.edge.Current.TheVariants.{Nothing};
 
@@ -27,8 +27,8 @@ enum Current<F> {
 }
 
 /// A desk over the real files, which opens the name `-` as standard input. A name that is not UTF-8 has no
-/// file. Contracts see its counts of faults, each of which stops at the last value of a `u64`, what is open, and the
-/// bytes left of it and of standard input, where their readers tell them.
+/// file. Contracts see its counts of faults, each of which stops at the last value of a `u64`, how many openings its files were
+/// asked for, where they tell, what is open, and the bytes left of it and of standard input, where their readers tell them.
 #[derive(Drop)]
 pub struct FileDesk<R: Folder, I: Reader> {
     files: R,
@@ -47,6 +47,7 @@ impl<R: Folder, I: Reader> Model for FileDesk<R, I> {
     ghost view = { λ d. record {
       read_faults = d.read_faults;
       open_faults = d.open_faults;
+      openings = R.openings d.files;
       input = I.left d.input;
       current = elim d.current [ Nothing ↦ Nothing | Input ↦ Input | File file ↦ File (R.File.left file) ];
     } };
@@ -56,7 +57,13 @@ impl<R: Folder, I: Reader> FileDesk<R, I> {
     /// A desk on which nothing is open, over the runtime's files and its standard input. It takes no memory, and so
     /// is never refused.
     pub fn new(_alloc: Global, files: R, input: I) -> Result<FileDesk<R, I>, NoMemory>
-        ensures { result ≡ Ok (record { read_faults = 0; open_faults = 0; input = I.left input; current = Nothing }) }
+        ensures { result ≡ Ok (record {
+          read_faults = 0;
+          open_faults = 0;
+          openings = R.openings files;
+          input = I.left input;
+          current = Nothing;
+        }) }
     {
         Ok(FileDesk {
             files,
@@ -73,7 +80,7 @@ impl<R: Folder, I: Reader> Source for FileDesk<R, I> {
 
     ghost faults = { λ d. d.read_faults };
 
-    ghost follows = { λ s t. (s.read_faults ≤ t.read_faults) × (t.open_faults ≡ s.open_faults) };
+    ghost follows = { ReadsOn };
 
     fn read(&mut self, buf: &mut [u8]) -> Result<usize, Failed>
         ensures bound { IfOk result (λ n. n ≤ length buf.old) }
@@ -94,11 +101,11 @@ impl<R: Folder, I: Reader> Source for FileDesk<R, I> {
         Err(Failed)
     }
 
-    ghost use Rattle.std.proofs.Common.{refl, ◌∙◌, le_refl, le_trans};
+    ghost use Rattle.cq_outside.specs.EdgeLaws.{follows_itself, follows_on};
 
-    ghost follows_same = { λ s. (le_refl s.read_faults, refl) };
+    ghost follows_same = { follows_itself };
 
-    ghost follows_on = { λ s t u f g. (le_trans f.0 g.0, g.1 ∙ f.1) };
+    ghost follows_on = { follows_on };
 
     ghost never_falls = { λ s t f. f.0 };
 }
@@ -114,7 +121,12 @@ impl<R: Folder, I: Reader> Desk for FileDesk<R, I> {
         ensures failed { OnErr result (result ≡ Err OpenFault.Failed) }
         ensures cause { HasCause self.old.open_faults self.new.open_faults result }
         ensures opened { OnOk result (IsOpened name.now self.new.current) }
-        ensures same { self.new ≡ record self.old { open_faults = counted self.old.open_faults result; current = self.new.current } }
+        ensures same { self.new ≡ record self.old {
+          open_faults = counted self.old.open_faults result;
+          openings = self.new.openings;
+          current = self.new.current;
+        } }
+        ensures asked { IsAskedOnce name.now self.old.openings self.new.openings }
         ensures kept { OnErr result (self.new.current ≡ self.old.current) }
         ensures gave { IsOpenedBy R.opened R.refused name.now self.new result }
     {
@@ -122,7 +134,7 @@ impl<R: Folder, I: Reader> Desk for FileDesk<R, I> {
             self.current = Current::Input;
             return Ok(());
         }
-        if let Some(file) = file_named(&self.files, name) {
+        if let Some(file) = file_named(&mut self.files, name) {
             self.current = Current::File(file);
             return Ok(());
         }
@@ -131,16 +143,19 @@ impl<R: Folder, I: Reader> Desk for FileDesk<R, I> {
     }
 
     ghost use Rattle.std.proofs.Common.{refl};
+    ghost use Rattle.cq_outside.specs.EdgeLaws.{same_open_faults};
 
     ghost keeps_told = { λ s t f. refl };
 
-    ghost keeps_open_faults = { λ s t f. f.1 };
+    ghost keeps_open_faults = { same_open_faults };
 }
 
 // The file of this name, opened for reading. A name that is not UTF-8 has none.
-fn file_named<R: Folder>(files: &R, name: &[u8]) -> Option<R::File>
+fn file_named<R: Folder>(files: &mut R, name: &[u8]) -> Option<R::File>
     ensures opened { IfSome result (λ file. IsUtf8 name.now × R.opened name.now (R.File.left file)) }
     ensures refused { IsNone result → IsUtf8 name.now → R.refused name.now }
+    ensures text { IsUtf8 name.now → IsOneMore (R.openings files.old) (R.openings files.new) }
+    ensures no_text { (IsUtf8 name.now → ⊥) → R.openings files.new ≡ R.openings files.old }
 {
     let path = str::from_utf8(name).ok()?;
     files.open_file(path).ok()

@@ -1,14 +1,19 @@
-//! What the real edge asks of the system: one read, one write, one opening of a file. What such a call gave is a relation of
-//! which only the call itself tells, so whoever is generic over these traits can't pretend that the system failed, or
-//! that it opened a file of another name.
-ghost use Rattle.std.specs.Prelude.{◌≤◌, List, ℕ, Option, Result, length, IfOk, OnErr};
+//! What the real edge asks of the system: one read, one write, one opening of a file, and the words of the process. What such a
+//! call gave is a relation of which only the call itself tells, so whoever is generic over these traits can't pretend that the
+//! system failed, that it opened a file of another name, or that it gave other words.
+ghost use Rattle.std.specs.Prelude.{◌≤◌, List, ℕ, None, Option, Result, length, map, Ok, Err, IfOk, OnErr, MatchResult};
 ghost use Rattle.std.specs.Io.KnownBytes.{ReadConsumes, WriteAppends};
+ghost use Rattle.std.specs.String.{string_bytes};
+ghost use Rattle.std.specs.Vec.Iter.{into_iter_items};
+ghost use Rattle.cq_outside.specs.Edge.{IsOneMore};
 ghost use Rattle.cq_outside.specs.declared.faults.Failed.{Failed as Failure};
+ghost use Rattle.cq_outside.specs.declared.system.WordsFault.{WordsFault as Fault};
 
 use crate::faults::Failed;
-use std::fs;
-use std::io::{Read, Write};
-use std::rt::Files;
+use std::env::Args;
+use std::io::{ErrorKind, Read, Write};
+use std::rt::{Env, Files};
+use std::{env, fs};
 
 /// A stream of the system that is read.
 pub trait Reader: Drop {
@@ -70,10 +75,14 @@ pub trait Folder: Drop {
     /// No file of this name could be opened.
     ghost refused: { List ℕ → Type 0 };
 
+    /// How many openings the folder was asked for, where it tells.
+    ghost openings: { Self → Option ℕ };
+
     /// Opens the file of this name for reading.
-    fn open_file(&self, name: &str) -> Result<Self::File, Failed>
+    fn open_file(&mut self, name: &str) -> Result<Self::File, Failed>
         ensures opened { IfOk result (λ file. opened name.now (Self.File.left file)) }
-        ensures refused { OnErr result (refused name.now) };
+        ensures refused { OnErr result (refused name.now) }
+        ensures counted { IsOneMore (openings self.old) (openings self.new) };
 }
 
 impl<R: Files + Drop> Folder for R {
@@ -83,7 +92,39 @@ impl<R: Files + Drop> Folder for R {
 
     ghost refused = { λ _. Unit {0} };
 
-    fn open_file(&self, name: &str) -> Result<R::File, Failed> {
+    ghost openings = { λ _. None };
+
+    fn open_file(&mut self, name: &str) -> Result<R::File, Failed> {
         fs::open(self, name).map_err(|_| Failed)
+    }
+}
+
+/// Why the system gives no words.
+#[derive(Clone, Copy, Debug, PartialEq, Eq)]
+pub enum WordsFault {
+    /// A word is no text.
+    NoText,
+    /// No memory was found.
+    NoMemory,
+}
+
+/// The words of the process.
+pub trait Words {
+    /// What one call gave: the program's name with the words after it, or why there are none.
+    ghost gave: { Result (List (List ℕ)) Fault → Type 0 };
+
+    /// The program's name, and then the words after it.
+    fn words_once(&self) -> Result<Args, WordsFault>
+        ensures gave { MatchResult result (λ words. gave (Ok (map string_bytes (into_iter_items words)))) (λ fault. gave (Err fault)) };
+}
+
+impl<R: Env + AllocGlobal> Words for R {
+    ghost gave = { λ _. Unit {0} };
+
+    fn words_once(&self) -> Result<Args, WordsFault> {
+        env::args(self).map_err(|fault| match fault.kind() {
+            ErrorKind::OutOfMemory => WordsFault::NoMemory,
+            _ => WordsFault::NoText,
+        })
     }
 }

@@ -11,3 +11,5 @@ mod first_rows;
 mod prefixes;
 #[cfg(test)]
 mod rows;
+#[cfg(test)]
+mod workers;

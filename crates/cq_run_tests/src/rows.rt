@@ -120,9 +120,9 @@ static MODES: [(&[&str], Status, &str, &str); 7] = [
     ),
 ];
 
-// No clause says when a call may run out of memory, so these rows refuse a program that always does.
+// No clause says when a call may run out of memory, so with ample memory these rows refuse a program that always does.
 #[test]
-fn each_mode_is_answered(rt: HostRuntime) -> Result<(), Fail> {
+fn always_out_of_memory(rt: HostRuntime) -> Result<(), Fail> {
     let alloc = rt.alloc();
     for (words, status, out, err) in MODES.iter() {
         let want = (*status, out.as_bytes(), *err);

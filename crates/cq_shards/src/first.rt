@@ -9,7 +9,7 @@ use crate::answering::answer_at;
 use crate::answers::GameAnswer;
 use crate::batch::Batch;
 use crate::order::{in_order, is_match};
-use cq_board::{Board, ClaimSeat};
+use cq_board::{Board as WorkBoard, ClaimSeat};
 use cq_first::{FirstBoard, FirstSeat};
 use cq_outside::{Gate, NoMemory};
 use cql_plan::Plan;
@@ -44,7 +44,7 @@ pub fn run_first<R: Threads + Sync, G: Gate + Sync>(
     requires { (1 ≤ workers) × (workers ≤ 64) }
     ensures { IfOk result (λ answers. AnswersUpToFirst (query_in plan.now) batch.now answers.items) }
 {
-    let (board, seats) = Board::make(alloc, u64::from(batch.len()), workers)?;
+    let (board, seats) = WorkBoard::make(alloc, u64::from(batch.len()), workers)?;
     let (first, marks) = FirstBoard::make(alloc, u64::from(batch.len()), workers)?;
     let mut slots = finders_of(alloc, &board, &first, seats, marks)?;
     thread::for_each_mut(
@@ -60,7 +60,7 @@ pub fn run_first<R: Threads + Sync, G: Gate + Sync>(
 // A worker at each pair of seats.
 fn finders_of(
     alloc: Global,
-    board: &Board,
+    board: &WorkBoard,
     first: &FirstBoard,
     seats: Vec<ClaimSeat>,
     marks: Vec<FirstSeat>,
@@ -92,7 +92,7 @@ fn finders_of(
 fn draw_all<G: Gate>(
     alloc: Global,
     plan: &Plan,
-    board: &Board,
+    board: &WorkBoard,
     first: &FirstBoard,
     batch: &Batch,
     me: u64,
@@ -162,7 +162,7 @@ fn tell(first: &FirstBoard, mark: &mut FirstSeat, number: u64, matched: bool)
 fn gathered(
     alloc: Global,
     plan: &Plan,
-    board: Board,
+    board: WorkBoard,
     first: FirstBoard,
     batch: &Batch,
     slots: Vec<Finder>,

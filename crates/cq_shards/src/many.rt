@@ -9,7 +9,7 @@ ghost use Rattle.cq_shards.specs.Rows.{AreRowsOf, AreTakenOff, IsFreshForRows, I
 use crate::answers::GameAnswer;
 use crate::batch::Batch;
 use crate::rows::{GameRow, row_at};
-use cq_board::{Board, ClaimSeat};
+use cq_board::{Board as WorkBoard, ClaimSeat};
 use cq_outside::{Gate, NoMemory};
 use cq_shared::SharedPlan;
 use std::alloc::Global;
@@ -68,7 +68,7 @@ pub fn run_many<R: Threads + Sync, G: Gate + Sync>(
     requires { (1 ≤ workers) × (workers ≤ 64) }
     ensures { IfOk result (λ many. AreManyOf (trees_of (queries_of plan.now)) batch.now (answers_in many)) }
 {
-    let (board, seats) = Board::make(alloc, u64::from(batch.len()), workers)?;
+    let (board, seats) = WorkBoard::make(alloc, u64::from(batch.len()), workers)?;
     let mut slots = workers_of(alloc, &board, seats)?;
     thread::for_each_mut(
         rt,
@@ -83,7 +83,7 @@ pub fn run_many<R: Threads + Sync, G: Gate + Sync>(
 // A worker at each seat.
 fn workers_of(
     alloc: Global,
-    board: &Board,
+    board: &WorkBoard,
     seats: Vec<ClaimSeat>,
 ) -> Result<Vec<RowWorker>, NoMemory>
     requires { All (λ s. IsSeatOf board.now s × (drawn s ≡ []) × (HasEnded s → ⊥)) seats.items }
@@ -106,7 +106,7 @@ fn workers_of(
 fn draw_all<G: Gate>(
     alloc: Global,
     plan: &SharedPlan,
-    board: &Board,
+    board: &WorkBoard,
     batch: &Batch,
     me: u64,
     worker: &mut RowWorker,
@@ -137,7 +137,7 @@ fn draw_all<G: Gate>(
 fn gathered(
     alloc: Global,
     plan: &SharedPlan,
-    board: Board,
+    board: WorkBoard,
     batch: &Batch,
     slots: Vec<RowWorker>,
 ) -> Result<Vec<GameRow>, NoMemory>

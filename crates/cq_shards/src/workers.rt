@@ -7,7 +7,7 @@ ghost use Rattle.cq_shards.specs.Work.{IsFresh, IsThrough};
 use crate::answering::answer_at;
 use crate::answers::GameAnswer;
 use crate::batch::Batch;
-use cq_board::{Board, ClaimSeat};
+use cq_board::{Board as WorkBoard, ClaimSeat};
 use cq_outside::{Gate, NoMemory};
 use cql_plan::Plan;
 use std::alloc::Global;
@@ -40,7 +40,7 @@ pub fn run_batch<R: Threads + Sync, G: Gate + Sync>(
     requires { (1 ≤ workers) × (workers ≤ 64) }
     ensures { IfOk result (λ answers. AreAnswersOf (query_in plan.now) batch.now answers.items) }
 {
-    let (board, seats) = Board::make(alloc, u64::from(batch.len()), workers)?;
+    let (board, seats) = WorkBoard::make(alloc, u64::from(batch.len()), workers)?;
     let mut slots = workers_of(alloc, &board, seats)?;
     thread::for_each_mut(
         rt,
@@ -52,7 +52,11 @@ pub fn run_batch<R: Threads + Sync, G: Gate + Sync>(
 }
 
 // A worker at each seat.
-fn workers_of(alloc: Global, board: &Board, seats: Vec<ClaimSeat>) -> Result<Vec<Worker>, NoMemory>
+fn workers_of(
+    alloc: Global,
+    board: &WorkBoard,
+    seats: Vec<ClaimSeat>,
+) -> Result<Vec<Worker>, NoMemory>
     requires { All (λ s. IsSeatOf board.now s × (drawn s ≡ []) × (HasEnded s → ⊥)) seats.items }
     ensures fresh { IfOk result (λ slots. All (IsFresh board.now) slots.items) }
     ensures count { IfOk result (λ slots. length slots.items ≡ length seats.items) }
@@ -73,7 +77,7 @@ fn workers_of(alloc: Global, board: &Board, seats: Vec<ClaimSeat>) -> Result<Vec
 fn draw_all<G: Gate>(
     alloc: Global,
     plan: &Plan,
-    board: &Board,
+    board: &WorkBoard,
     batch: &Batch,
     me: u64,
     worker: &mut Worker,
@@ -104,7 +108,7 @@ fn draw_all<G: Gate>(
 fn gathered(
     alloc: Global,
     plan: &Plan,
-    board: Board,
+    board: WorkBoard,
     batch: &Batch,
     slots: Vec<Worker>,
 ) -> Result<Vec<GameAnswer>, NoMemory>

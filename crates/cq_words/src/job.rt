@@ -4,11 +4,20 @@ use cq_outside::Bytes;
 /// The most workers.
 pub(crate) const WORKERS_LIMIT: u64 = 64;
 
+/// The number of workers where none is given.
+pub(crate) const DEFAULT_WORKERS: u64 = 4;
+
 /// The greatest seed.
 pub(crate) const SEED_LIMIT: u64 = 4_294_967_295;
 
+/// The seed where none is given.
+pub(crate) const DEFAULT_SEED: u64 = 1;
+
 /// The most games that an archive is made of.
 pub(crate) const GAMES_LIMIT: u64 = 100_000;
+
+/// How many games an archive is made of where no number is given.
+pub(crate) const DEFAULT_GAMES: u64 = 100;
 
 /// The greatest limit of an archive's bytes, which stands where no limit is given.
 pub(crate) const BYTES_LIMIT: u64 = 1_099_511_627_776;

@@ -3,7 +3,10 @@ ghost use Rattle.std.specs.Prelude.{◌≡◌, ◌≤◌, IfSome, IfOk, option_m
 ghost use Rattle.clap.specs.Words.{first_of, found_of, rows_of};
 ghost use Rattle.cq_words.specs.Jobs.{archive_in, has_more, is_given, is_set, many_settings_in, number_of, number_or, self_run_settings_in, settings_in, workers_in};
 
-use crate::job::{BYTES_LIMIT, GAMES_LIMIT, SEED_LIMIT, SelfRunSettings, Settings, WORKERS_LIMIT};
+use crate::job::{
+    BYTES_LIMIT, DEFAULT_GAMES, DEFAULT_SEED, DEFAULT_WORKERS, GAMES_LIMIT, SEED_LIMIT,
+    SelfRunSettings, Settings, WORKERS_LIMIT,
+};
 use clap::ArgMatches;
 use cq_outside::{Bytes, NoMemory};
 use std::alloc::Global;
@@ -60,7 +63,7 @@ fn workers_in(matches: &ArgMatches<'_>) -> Option<u32>
     ensures value { result ≡ workers_in (rows_of (found_of matches.now)) }
     ensures bounds { IfSome result (λ number. (1 ≤ number) × (number ≤ 64)) }
 {
-    Some(number_in(matches, "workers", 1, WORKERS_LIMIT, 4)? as u32)
+    Some(number_in(matches, "workers", 1, WORKERS_LIMIT, DEFAULT_WORKERS)? as u32)
 }
 
 // The settings of `run` and `eval`; none where an option is given that they don't take.
@@ -101,8 +104,8 @@ pub(crate) fn self_run_settings_in(matches: &ArgMatches<'_>) -> Option<SelfRunSe
         return None;
     }
     let workers = workers_in(matches)?;
-    let seed = number_in(matches, "seed", 0, SEED_LIMIT, 1)? as u32;
-    let games = number_in(matches, "games", 0, GAMES_LIMIT, 100)? as u32;
+    let seed = number_in(matches, "seed", 0, SEED_LIMIT, DEFAULT_SEED)? as u32;
+    let games = number_in(matches, "games", 0, GAMES_LIMIT, DEFAULT_GAMES)? as u32;
     Some(SelfRunSettings {
         seed,
         games,

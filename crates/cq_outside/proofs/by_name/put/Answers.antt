@@ -1,4 +1,4 @@
-use Rattle.std.proofs.Common.{◌≡◌, ◌≢◌, ◌<◌, All, List, ℕ, [], length, take, get_or, ap, subst, ◌∙◌, sym, OnErr, rules}
+use Rattle.std.proofs.Common.{◌≡◌, ◌≢◌, ◌<◌, All, List, ℕ, [], length, take, get_or, ap, subst, ◌∙◌}
 use Rattle.std.specs.FinMap.{from_entries}
 use Rattle.cq_outside.proofs.Entries.{replaced, added}
 use Rattle.cq_outside.proofs.by_name.put.Goals as goal

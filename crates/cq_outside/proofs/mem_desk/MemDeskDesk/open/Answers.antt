@@ -1,4 +1,4 @@
-use Rattle.std.proofs.Common.{◌≡◌, ap, ◌∙◌, sym, Some, rules}
+use Rattle.std.proofs.Common.{ap, rules}
 use Rattle.cq_outside.specs.MemSource.{FailingSource}
 use Rattle.cq_outside.specs.MemDesk.{FailingDesk, files_of}
 use Rattle.cq_outside.proofs.Entries.{opened_tells}
