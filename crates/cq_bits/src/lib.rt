@@ -1,5 +1,4 @@
-//! Sets of squares as numbers of 64 bits: slides in the eight directions, what the men of a set attack,
-//! which men attack a set, and what lies between two sets.
+//! Attacks by bitboards: what the men of a set attack, which men attack a set, and what lies between two sets.
 #![tactic(auto)]
 
 pub mod attacking;

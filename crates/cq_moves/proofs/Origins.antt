@@ -15,7 +15,9 @@ use Rattle.cq_position.specs.Attacks.{attacks, attacks_as, is_occupied, is_pawn_
 use Rattle.cq_position.specs.Legal.{goes_as, reaches, castles, castling_goal, pawn_moves}
 use Rattle.cq_position.proofs.Attackers.{open_both_ways, orthogonal_both_ways, diagonal_both_ways}
 use Rattle.cq_moves.specs.Candidates.{is_ahead, may_come}
+use Rattle.cq_moves.specs.Mover.{is_free}
 use Rattle.cq_moves.proofs.Boards.{same_man-is}
+use Rattle.cq_moves.proofs.Targets.{own_reaches}
 use Rattle.cq_moves.proofs.Candidates.{pawn_goes, four_parts, first_of}
 
 -- steps lead back
@@ -150,3 +152,58 @@ module _ (p : Board) (a b : ℕ) (h : a < 64) (k : b < 64) where
   seen_attacks Rook king pawn st = seen_as p.side Rook pawn (same_man-is (man_at p.men a) (man_of p.side Rook) st)
   seen_attacks Bishop king pawn st = seen_as p.side Bishop pawn (same_man-is (man_at p.men a) (man_of p.side Bishop) st)
   seen_attacks Knight king pawn st = seen_as p.side Knight pawn (same_man-is (man_at p.men a) (man_of p.side Knight) st)
+
+-- where a man of a piece goes, whatever its side
+as_king : (p : Board) (a b : ℕ) (side : Side) → goes_as (man_of side King) p a b ≡ (attacks p.men a b || castles p a b true || castles p a b false)
+as_king p a b White = refl
+as_king p a b Black = refl
+
+as_pawn : (p : Board) (a b : ℕ) (side : Side) → goes_as (man_of side Pawn) p a b ≡ pawn_moves p a b
+as_pawn p a b White = refl
+as_pawn p a b Black = refl
+
+as_other : (p : Board) (a b : ℕ) (side : Side) (piece : Piece) → (piece ≡ King → ⊥) → (piece ≡ Pawn → ⊥) → goes_as (man_of side piece) p a b ≡ attacks p.men a b
+as_other p a b side King king pawn = absurd (king refl)
+as_other p a b side Pawn king pawn = absurd (pawn refl)
+as_other p a b White Queen king pawn = refl
+as_other p a b White Rook king pawn = refl
+as_other p a b White Bishop king pawn = refl
+as_other p a b White Knight king pawn = refl
+as_other p a b Black Queen king pawn = refl
+as_other p a b Black Rook king pawn = refl
+as_other p a b Black Bishop king pawn = refl
+as_other p a b Black Knight king pawn = refl
+
+standing : (p : Board) (a b : ℕ) (piece : Piece) → stands p.men a (man_of p.side piece) ≡ true → goes_as (man_at p.men a) p a b ≡ goes_as (man_of p.side piece) p a b
+standing p a b piece st = ap (λ m. goes_as m p a b) (same_man-is (man_at p.men a) (man_of p.side piece) st)
+
+pub king_goes_as : (p : Board) (a b : ℕ) → stands p.men a (man_of p.side King) ≡ true
+    → goes_as (man_at p.men a) p a b ≡ (attacks p.men a b || castles p a b true || castles p a b false)
+king_goes_as p a b st = standing p a b King st ∙ as_king p a b p.side
+
+pub pawn_goes_as : (p : Board) (a b : ℕ) → stands p.men a (man_of p.side Pawn) ≡ true → goes_as (man_at p.men a) p a b ≡ pawn_moves p a b
+pawn_goes_as p a b st = standing p a b Pawn st ∙ as_pawn p a b p.side
+
+pub other_goes_as : (p : Board) (a b : ℕ) (piece : Piece) → (piece ≡ King → ⊥) → (piece ≡ Pawn → ⊥)
+    → stands p.men a (man_of p.side piece) ≡ true → goes_as (man_at p.men a) p a b ≡ attacks p.men a b
+other_goes_as p a b piece king pawn st = standing p a b piece st ∙ as_other p a b p.side piece king pawn
+
+-- a man of a piece of the side to move reaches a square where it goes there and the square is free
+own : (side : Side) (piece : Piece) → is_of_side side (man_of side piece) ≡ true
+own White King = refl
+own White Queen = refl
+own White Rook = refl
+own White Bishop = refl
+own White Knight = refl
+own White Pawn = refl
+own Black King = refl
+own Black Queen = refl
+own Black Rook = refl
+own Black Bishop = refl
+own Black Knight = refl
+own Black Pawn = refl
+
+pub piece_reaches : (p : Board) (a b : ℕ) (piece : Piece) → stands p.men a (man_of p.side piece) ≡ true
+    → (goes_as (man_at p.men a) p a b && is_free p b) ≡ reaches p a b
+piece_reaches p a b piece st =
+    own_reaches p a b (ap (is_of_side p.side) (same_man-is (man_at p.men a) (man_of p.side piece) st) ∙ own p.side piece)

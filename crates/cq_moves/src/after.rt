@@ -1,5 +1,7 @@
 //! The men on the board after a move.
-ghost use Rattle.std.specs.Prelude.{◌≡◌};
+ghost use Rattle.std.specs.Prelude.{◌≡◌, slice_set};
+ghost use Rattle.cq_position.specs.declared.men.Man.TheVariants.{Empty};
+ghost use Rattle.cq_position.specs.Board.{man_at};
 ghost use Rattle.cq_position.specs.Legal as legal;
 
 use crate::castling::{is_castling, move_rook};
@@ -24,9 +26,29 @@ pub fn men_after(position: &Position, m: &Move) -> Men
     men
 }
 
-// The man goes to its goal.
+// The man goes to its goal. Few become another there.
 #[inline]
 fn men_moved(position: &Position, m: &Move) -> Men
+    ensures { result ≡ legal.men_moved position.now m.now }
+{
+    match m.promotion {
+        Promotion::None => men_carried(position, m),
+        _ => men_promoted(position, m),
+    }
+}
+
+// The man goes to its goal as what it is.
+#[inline]
+fn men_carried(position: &Position, m: &Move) -> Men
+    ensures { result ≡ slice_set (slice_set position.now.men m.now.from Empty) m.now.to (man_at position.now.men m.now.from) }
+{
+    let mut men = *position.men();
+    men.carry(m.from, m.to);
+    men
+}
+
+// The man goes to its goal and becomes what the move says.
+fn men_promoted(position: &Position, m: &Move) -> Men
     ensures { result ≡ legal.men_moved position.now m.now }
 {
     let man = promoted(position.side(), m.promotion, position.at(m.from));

@@ -14,7 +14,7 @@ use crate::mover::{Mover, Origin};
 use cq_geometry::{Square, Step, rank};
 use cq_position::attacks::{is_occupied, squares_attacked};
 use cq_position::home::castling_goal;
-use cq_position::{Man, Piece, Position, Side, is_of_side, king_of, man_of, opponent};
+use cq_position::{Man, Piece, Position, Side, is_of_side, man_of, opponent};
 use cq_sets::mark;
 
 /// The squares to which a man goes: bit k of the answer is square k.
@@ -36,7 +36,7 @@ pub(crate) fn free_squares(position: &Position) -> u64
 {
     let side = position.side();
     let men = position.men();
-    !men.squares_of_side(side) & !men.squares_of(king_of(opponent(side)))
+    !men.squares_of_side(side) & !men.squares_of_piece(opponent(side), Piece::King)
 }
 
 // The squares to which such a man on the square goes, whatever stands there.

@@ -1,9 +1,10 @@
 //! Whether a move is legal.
-ghost use Rattle.std.specs.Prelude.{◌≡◌, ◌↔◌, ◌<◌, IsTrue, true, false};
+ghost use Rattle.std.specs.Prelude.{◌≡◌, ◌↔◌, ◌<◌, ◌||◌, IsTrue, true, false};
 ghost use Rattle.cq_position.specs.Attacks as attack;
 ghost use Rattle.cq_position.specs.Bitboards.{IsBitboard};
-ghost use Rattle.cq_position.specs.Board.{Board, stands};
+ghost use Rattle.cq_position.specs.Board.{Board, man_at, stands};
 ghost use Rattle.cq_position.specs.Men.{man_of};
+ghost use Rattle.cq_position.specs.declared.men.Piece.TheVariants.{King};
 ghost use Rattle.cq_position.specs.Legal.{Legal};
 ghost use Rattle.cq_position.specs.King.{IsKingSquare};
 ghost use Rattle.cq_position.specs.Legal as legal;
@@ -12,7 +13,9 @@ ghost use Rattle.cq_moves.specs.Candidates.{may_come};
 ghost use Rattle.cq_moves.specs.Mover as mover;
 
 use crate::after::men_after;
-use crate::reach::{attacks, promotion_is_right, reaches};
+use crate::castling::castles;
+use crate::going::free_squares;
+use crate::reach::{attacks, pawn_moves, promotion_is_right, reaches};
 use cq_geometry::Square;
 use cq_position::attacks::is_attacked;
 use cq_position::king::king_square;
@@ -36,27 +39,54 @@ pub fn is_legal_seen(position: &Position, piece: Piece, seen: u64, m: &Move) -> 
     requires null { m.now.null ≡ false }
     ensures { result ≡ legality.legal_test position.now m.now }
 {
-    reaches(
-        position,
-        attacks_goal(position, piece, seen, m),
-        m.from,
-        m.to,
-    ) && promotion_is_right(position, m)
+    reaches_seen(position, piece, seen, m)
+        && promotion_is_right(position, m)
         && is_safe(position, king_square(position, position.side()), m)
 }
 
-// Whether the man attacks the goal: all but pawns and kings at home are seen from there exactly where they do.
-fn attacks_goal(position: &Position, piece: Piece, seen: u64, m: &Move) -> bool
+// Whether the man goes to the goal, which holds none of its own men and no king.
+#[inline]
+fn reaches_seen(position: &Position, piece: Piece, seen: u64, m: &Move) -> bool
     requires seen { IsBitboard seen (may_come position.now.side piece (attack.is_occupied position.now.men) m.now.to) }
     requires piece { stands position.now.men m.now.from (man_of position.now.side piece) ≡ true }
-    ensures { result ≡ attack.attacks position.now.men m.now.from m.now.to }
+    ensures reaches { result ≡ legal.reaches position.now m.now.from m.now.to }
+    ensures board { m.now.to < 64 }
+{
+    prove!(m.to.number() < 64);
+    goes_seen(position, piece, seen, m) && is_free(position, m.to)
+}
+
+// Whether the man goes to the goal, whatever stands there: all but pawns and kings are seen from there exactly where they attack it.
+#[inline]
+fn goes_seen(position: &Position, piece: Piece, seen: u64, m: &Move) -> bool
+    requires seen { IsBitboard seen (may_come position.now.side piece (attack.is_occupied position.now.men) m.now.to) }
+    requires piece { stands position.now.men m.now.from (man_of position.now.side piece) ≡ true }
+    ensures { result ≡ legal.goes_as (man_at position.now.men m.now.from) position.now m.now.from m.now.to }
 {
     match piece {
-        Piece::King | Piece::Pawn => {
-            attacks(position, attacks_from(position, m.from), m.from, m.to)
-        }
+        Piece::King => king_goes(position, m),
+        Piece::Pawn => pawn_moves(position, m.from, m.to),
         _ => comes(position, piece, seen, m),
     }
+}
+
+// Whether the king steps or castles so.
+fn king_goes(position: &Position, m: &Move) -> bool
+    requires { stands position.now.men m.now.from (man_of position.now.side King) ≡ true }
+    ensures { result ≡ (attack.attacks position.now.men m.now.from m.now.to
+        || legal.castles position.now m.now.from m.now.to true || legal.castles position.now m.now.from m.now.to false) }
+{
+    attacks(position, attacks_from(position, m.from), m.from, m.to)
+        || castles(position, m.from, m.to, true)
+        || castles(position, m.from, m.to, false)
+}
+
+// Whether the square holds no man of the side to move and no king.
+#[inline]
+fn is_free(position: &Position, square: Square) -> bool
+    ensures { result ≡ mover.is_free position.now square }
+{
+    free_squares(position) >> square.number() & 1 == 1
 }
 
 // Whether the move goes from a square of the set.
@@ -67,7 +97,7 @@ fn comes(position: &Position, piece: Piece, seen: u64, m: &Move) -> bool
     ensures board { m.now.from < 64 }
     ensures goal { m.now.to < 64 }
 {
-    let _goal = m.to.number();
+    prove!(m.to.number() < 64);
     seen >> m.from.number() & 1 == 1
 }
 
@@ -95,11 +125,8 @@ pub(crate) fn is_safe(position: &Position, king: Square, m: &Move) -> bool
     requires moves { legal.is_pseudo_legal position.now m.now ≡ true }
     ensures { result ≡ legality.is_safe position.now m.now }
 {
-    !is_attacked(
-        &men_after(position, m),
-        opponent(position.side()),
-        king_after(king, m),
-    )
+    let men = men_after(position, m);
+    !is_attacked(&men, opponent(position.side()), king_after(king, m))
 }
 
 // Where the king stands after the move.

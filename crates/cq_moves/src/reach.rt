@@ -52,7 +52,7 @@ pub fn origins_to(position: &Position, piece: Piece, goal: Square) -> u64
     ensures kept { IsPosition position.now }
     ensures goal { goal < 64 }
 {
-    let _there = position.at(goal);
+    prove!(goal.number() < 64);
     let side = position.side();
     match piece {
         Piece::King => squares_attacked(king_of(side), position.men(), goal)
@@ -93,7 +93,7 @@ fn goes(man: Man, position: &Position, attacked: bool, from: Square, to: Square)
 
 // Whether a pawn steps or captures so.
 #[inline]
-fn pawn_moves(position: &Position, from: Square, to: Square) -> bool
+pub(crate) fn pawn_moves(position: &Position, from: Square, to: Square) -> bool
     ensures { result ≡ legal.pawn_moves position.now from to }
 {
     let side = position.side();

@@ -1,12 +1,12 @@
 //! Which squares the men attack.
-ghost use Rattle.std.specs.Prelude.{◌≡◌, ◌&&◌, ◌||◌, ◌<◌};
+ghost use Rattle.std.specs.Prelude.{◌≡◌, ◌&&◌, ◌||◌};
 ghost use Rattle.cq_geometry.specs.Lines as lines;
 ghost use Rattle.cq_position.specs.Attacks as attack;
 ghost use Rattle.cq_sets.specs.Bitboards.{IsBitboard};
 
 use crate::king::king_square;
 use crate::men::{Man, Side, king_of, opponent};
-pub use crate::outward::is_attacked;
+pub use crate::outward::{is_attacked, slanted_men, straight_men};
 use crate::planes::Men;
 use crate::position::{Position, stands};
 use cq_geometry::{Square, between, files_apart, rank};
@@ -82,7 +82,6 @@ pub fn is_occupied(men: &Men, square: Square) -> bool
 /// The squares that a man attacks from a square of this board: bit k of the answer is square k.
 #[tactic(auto, using(cq_sets::proofs::Marked::marks_none))]
 pub fn squares_attacked(man: Man, men: &Men, from: Square) -> u64
-    requires { from < 64 }
     ensures { IsBitboard result (attack.attacks_as man (attack.is_occupied men.now) from) }
 {
     match man {
@@ -99,7 +98,6 @@ pub fn squares_attacked(man: Man, men: &Men, from: Square) -> u64
 
 /// The squares that a queen on a square attacks: bit k of the answer is square k (FIDE Laws of Chess, articles 3.4 and 3.5).
 pub fn queen_squares(men: &Men, from: Square) -> u64
-    requires { from < 64 }
     ensures { IsBitboard result (λ to.
         (lines.is_orthogonal from to || lines.is_diagonal from to) && lines.is_open (attack.is_occupied men.now) from to) }
 {
@@ -109,7 +107,6 @@ pub fn queen_squares(men: &Men, from: Square) -> u64
 // The squares that a rook on a square attacks.
 #[tactic(auto, using(crate::proofs::Attackers::empty_seen))]
 fn rook_squares(men: &Men, from: Square) -> u64
-    requires { from < 64 }
     ensures { IsBitboard result (λ to. lines.is_orthogonal from to && lines.is_open (attack.is_occupied men.now) from to) }
 {
     straight_squares(from, men.squares_of(Man::Empty))
@@ -118,7 +115,6 @@ fn rook_squares(men: &Men, from: Square) -> u64
 // The squares that a bishop on a square attacks.
 #[tactic(auto, using(crate::proofs::Attackers::empty_seen))]
 fn bishop_squares(men: &Men, from: Square) -> u64
-    requires { from < 64 }
     ensures { IsBitboard result (λ to. lines.is_diagonal from to && lines.is_open (attack.is_occupied men.now) from to) }
 {
     slanted_squares(from, men.squares_of(Man::Empty))
@@ -127,7 +123,6 @@ fn bishop_squares(men: &Men, from: Square) -> u64
 /// The squares that a pawn of a side on a square attacks: the two diagonally in front of it (FIDE Laws of Chess, article 3.7.3).
 #[inline]
 pub(crate) fn pawn_squares(side: Side, from: Square) -> u64
-    requires { from < 64 }
     ensures { IsBitboard result (attack.is_pawn_attack side from) }
 {
     match side {

@@ -1,7 +1,7 @@
 //! Where the kings stand.
 ghost use Rattle.cq_position.specs.King.{IsKingSquare};
 
-use crate::men::{Side, king_of};
+use crate::men::{Piece, Side};
 use crate::position::Position;
 use cq_geometry::Square;
 use cq_sets::lowest_square;
@@ -10,5 +10,5 @@ use cq_sets::lowest_square;
 pub fn king_square(position: &Position, side: Side) -> Square
     ensures { IsKingSquare position.now.men side result }
 {
-    lowest_square(position.men().squares_of(king_of(side)))
+    lowest_square(position.men().squares_of_piece(side, Piece::King))
 }

@@ -28,6 +28,25 @@ pub enum Man {
     Empty,
 }
 
+impl Man {
+    /// Each man in the order of the type, the empty square last.
+    pub const ALL: [Man; 13] = [
+        Man::K,
+        Man::Q,
+        Man::R,
+        Man::B,
+        Man::N,
+        Man::P,
+        Man::BlackK,
+        Man::BlackQ,
+        Man::BlackR,
+        Man::BlackB,
+        Man::BlackN,
+        Man::BlackP,
+        Man::Empty,
+    ];
+}
+
 /// What a man is, whatever its side (FIDE Laws of Chess, article 2.2).
 #[derive(Clone, Copy, Debug, PartialEq, Eq)]
 pub enum Piece {

@@ -1,5 +1,5 @@
 //! Whether a square is attacked, by the sets of men that attack it as seen from the square.
-ghost use Rattle.std.specs.Prelude.{◌≡◌, ◌&&◌, ◌<◌};
+ghost use Rattle.std.specs.Prelude.{◌≡◌, ◌&&◌};
 ghost use Rattle.cq_geometry.specs.Lines as lines;
 ghost use Rattle.cq_geometry.specs.Steps as steps;
 ghost use Rattle.cq_sets.specs.Bitboards.{IsBitboard};
@@ -10,7 +10,7 @@ ghost use Rattle.cq_position.specs.Men as men_spec;
 ghost use Rattle.cq_position.specs.Outward.{is_straight, is_slanted, knight_of, some_man};
 
 use crate::attacks::pawn_squares;
-use crate::men::{Man, Piece, Side, king_of, man_of, opponent};
+use crate::men::{Man, Piece, Side, opponent};
 use crate::planes::Men;
 use cq_geometry::Square;
 use cq_sets::{
@@ -23,7 +23,6 @@ use cq_sets::{
 pub fn is_attacked(men: &Men, by: Side, square: Square) -> bool
     ensures { result ≡ attack.is_attacked men.now by square }
 {
-    let _board = square.number();
     is_attacked_straight(men, by, square)
         || is_attacked_aslant(men, by, square)
         || is_attacked_by_knight(men, by, square)
@@ -42,7 +41,6 @@ macro_rules! meets_seen {
 // Whether a rook or queen of the side attacks the square. Most squares have none on their lines, so these are asked first.
 #[inline]
 fn is_attacked_straight(men: &Men, by: Side, square: Square) -> bool
-    requires { square < 64 }
     ensures { result ≡ some_man (λ a. is_straight by (man_at men.now a))
         (λ a. lines.is_orthogonal square a && lines.is_open (attack.is_occupied men.now) square a) }
 {
@@ -56,7 +54,6 @@ fn is_attacked_straight(men: &Men, by: Side, square: Square) -> bool
 // Whether a bishop or queen of the side attacks the square, where one stands on its diagonals.
 #[inline]
 fn is_attacked_aslant(men: &Men, by: Side, square: Square) -> bool
-    requires { square < 64 }
     ensures { result ≡ some_man (λ a. is_slanted by (man_at men.now a))
         (λ a. lines.is_diagonal square a && lines.is_open (attack.is_occupied men.now) square a) }
 {
@@ -70,11 +67,10 @@ fn is_attacked_aslant(men: &Men, by: Side, square: Square) -> bool
 // Whether a knight of the side attacks the square.
 #[inline]
 fn is_attacked_by_knight(men: &Men, by: Side, square: Square) -> bool
-    requires { square < 64 }
     ensures { result ≡ some_man (λ a. board.stands men.now a (knight_of by)) (steps.is_knight_step square) }
 {
     meets(
-        men.squares_of(man_of(by, Piece::Knight)),
+        men.squares_of_piece(by, Piece::Knight),
         knight_steps(square),
     )
 }
@@ -82,12 +78,11 @@ fn is_attacked_by_knight(men: &Men, by: Side, square: Square) -> bool
 // Whether a pawn of the side attacks the square: a pawn of the other side would attack it from there.
 #[inline]
 fn is_attacked_by_pawn(men: &Men, by: Side, square: Square) -> bool
-    requires { square < 64 }
     ensures { result ≡ some_man (λ a. board.stands men.now a (men_spec.pawn_of by))
         (attack.is_pawn_attack (men_spec.opponent by) square) }
 {
     meets(
-        men.squares_of(man_of(by, Piece::Pawn)),
+        men.squares_of_piece(by, Piece::Pawn),
         pawn_squares(opponent(by), square),
     )
 }
@@ -95,24 +90,23 @@ fn is_attacked_by_pawn(men: &Men, by: Side, square: Square) -> bool
 // Whether the king of the side attacks the square.
 #[inline]
 fn is_attacked_by_king(men: &Men, by: Side, square: Square) -> bool
-    requires { square < 64 }
     ensures { result ≡ some_man (λ a. board.stands men.now a (men_spec.king_of by)) (steps.is_king_step square) }
 {
-    meets(men.squares_of(king_of(by)), king_steps(square))
+    meets(men.squares_of_piece(by, Piece::King), king_steps(square))
 }
 
-// The rooks and queens of a side.
+/// The squares of a side's rooks and queens: bit k of the answer is square k.
 #[inline]
-fn straight_men(men: &Men, by: Side) -> u64
+pub fn straight_men(men: &Men, by: Side) -> u64
     ensures { IsBitboard result (λ a. is_straight by (man_at men.now a)) }
 {
-    men.squares_of(man_of(by, Piece::Queen)) | men.squares_of(man_of(by, Piece::Rook))
+    men.squares_of_piece(by, Piece::Queen) | men.squares_of_piece(by, Piece::Rook)
 }
 
-// The bishops and queens of a side.
+/// The squares of a side's bishops and queens: bit k of the answer is square k.
 #[inline]
-fn slanted_men(men: &Men, by: Side) -> u64
+pub fn slanted_men(men: &Men, by: Side) -> u64
     ensures { IsBitboard result (λ a. is_slanted by (man_at men.now a)) }
 {
-    men.squares_of(man_of(by, Piece::Queen)) | men.squares_of(man_of(by, Piece::Bishop))
+    men.squares_of_piece(by, Piece::Queen) | men.squares_of_piece(by, Piece::Bishop)
 }

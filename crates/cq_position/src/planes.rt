@@ -6,10 +6,10 @@ ghost use Rattle.cq_sets.specs.Planes.{IsWith};
 ghost use Rattle.cq_position.specs.declared.men.Man.TheVariants.{Empty};
 ghost use Rattle.cq_position.specs.Board.{man_at};
 ghost use Rattle.cq_position.specs.Board as board;
-ghost use Rattle.cq_position.specs.Men.{man_number, is_of_side};
-ghost use Rattle.cq_position.specs.Planes.{man_numbered};
+ghost use Rattle.cq_position.specs.Men.{man_number, man_of as man_of_piece, is_of_side};
+ghost use Rattle.cq_position.specs.Planes.{man_numbered, IsMoved};
 
-use crate::men::{Man, Side};
+use crate::men::{Man, Piece, Side, man_of};
 use cq_geometry::Square;
 use std::marker::Model;
 
@@ -90,7 +90,7 @@ impl Men {
     pub fn listed(&self) -> [Man; 64]
         ensures { result ≡ self.now }
     {
-        let _ones = self.ones;
+        let _ones = self.ones; // read for the proof alone
         let mut listed = [Man::Empty; 64];
         for number in 0..64 {
             listed[usize::from(number)] = self.at(Square::new(number));
@@ -123,6 +123,17 @@ impl Men {
         self.eights = with_bit(self.eights, square, digit(number, 3));
     }
 
+    /// Takes what stands on a square to another, in place of what stood there, and leaves the first one empty.
+    #[inline]
+    pub fn carry(&mut self, from: Square, to: Square)
+        ensures { self.new ≡ slice_set (slice_set self.old from Empty) to (man_at self.old from) }
+    {
+        self.ones = moved_bit(self.ones, from, to, 0);
+        self.twos = moved_bit(self.twos, from, to, 0);
+        self.fours = moved_bit(self.fours, from, to, 1);
+        self.eights = moved_bit(self.eights, from, to, 1);
+    }
+
     /// The squares of a side's men: bit k of the answer is square k.
     #[inline]
     pub fn squares_of_side(&self, side: Side) -> u64
@@ -131,6 +142,18 @@ impl Men {
         match side {
             Side::White => !(self.eights | self.fours & self.twos),
             Side::Black => self.fours & self.twos | self.eights & !self.fours,
+        }
+    }
+
+    /// The squares of a side's men that are such a piece: bit k of the answer is square k.
+    // A side at a time, so that the man's number is known where the piece is.
+    #[inline]
+    pub fn squares_of_piece(&self, side: Side, piece: Piece) -> u64
+        ensures { IsBitboard result (λ square. board.stands self.now square (man_of_piece side piece)) }
+    {
+        match side {
+            Side::White => self.squares_of(man_of(Side::White, piece)),
+            Side::Black => self.squares_of(man_of(Side::Black, piece)),
         }
     }
 
@@ -217,6 +240,17 @@ fn with_bit(word: u64, square: Square, bit: u8) -> u64
     } else {
         word & !(1 << square.number())
     }
+}
+
+// The word whose bit at one square has gone to another, and this one has taken its place.
+#[inline]
+fn moved_bit(word: u64, from: Square, to: Square, left: u8) -> u64
+    requires { left < 2 }
+    ensures word { IsMoved word from to left result }
+    ensures from { from < 64 }
+    ensures to { to < 64 }
+{
+    with_bit(with_bit(word, from, left), to, bit(word, from))
 }
 
 // The squares at which a word has this bit.

@@ -108,7 +108,7 @@ impl Position {
         ensures board { square < 64 }
         ensures kept { IsPosition self.now }
     {
-        let _board = square.number();
+        prove!(square.number() < 64);
         self.men.at(square)
     }
 
@@ -192,7 +192,7 @@ pub fn stands(men: &Men, square: Square, man: Man) -> bool
 pub fn material(position: &Position, man: Man) -> u32
     ensures { result ≡ count_of man position.now.men }
 {
-    let _kept = position.side();
+    prove!(position.is_position());
     position.men().squares_of(man).count_ones()
 }
 

@@ -251,7 +251,7 @@ fn check_sign(position: &Position) -> &'static str
     requires { attack.in_check position.now.men position.now.side ≡ true }
     ensures { result.now ≡ writing.sign_of position.now }
 {
-    let _side = position.side();
+    prove!(position.is_position());
     if is_mate(position) { "#" } else { "+" }
 }
 

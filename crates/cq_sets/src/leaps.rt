@@ -1,5 +1,5 @@
 //! The steps of kings and knights, and those aslant of pawns.
-ghost use Rattle.std.specs.Prelude.{◌<◌, ◌+◌, ◌&&◌, ◌==◌};
+ghost use Rattle.std.specs.Prelude.{◌+◌, ◌&&◌, ◌==◌};
 ghost use Rattle.cq_geometry.specs.Squares.{rank_of};
 ghost use Rattle.cq_geometry.specs.Steps.{files_apart, is_king_step, is_knight_step};
 ghost use Rattle.cq_sets.specs.Bitboards.{IsBitboard};
@@ -13,7 +13,6 @@ const NOT_G_OR_H_FILE: u64 = 0x3f3f_3f3f_3f3f_3f3f;
 
 /// The squares a king's step away.
 pub fn king_steps(from: Square) -> u64
-    requires { from < 64 }
     ensures { IsBitboard result (is_king_step from) }
 {
     let king = 1 << from.number();
@@ -24,7 +23,6 @@ pub fn king_steps(from: Square) -> u64
 
 /// The squares a knight's step away.
 pub fn knight_steps(from: Square) -> u64
-    requires { from < 64 }
     ensures { IsBitboard result (is_knight_step from) }
 {
     let knight = 1 << from.number();
@@ -36,7 +34,6 @@ pub fn knight_steps(from: Square) -> u64
 /// The squares one rank up on the files beside a square's.
 #[inline]
 pub fn steps_up(from: Square) -> u64
-    requires { from < 64 }
     ensures { IsBitboard result (λ to. (rank_of to == rank_of from + 1) && (files_apart from to == 1)) }
 {
     let square = 1 << from.number();
@@ -46,7 +43,6 @@ pub fn steps_up(from: Square) -> u64
 /// The squares one rank down on the files beside a square's.
 #[inline]
 pub fn steps_down(from: Square) -> u64
-    requires { from < 64 }
     ensures { IsBitboard result (λ to. (rank_of from == rank_of to + 1) && (files_apart from to == 1)) }
 {
     let square = 1 << from.number();

@@ -1,4 +1,4 @@
-//! Sets of squares as words of 64 bits: bit k is the square k.
+//! Bitboards: a set of squares as a word of 64 bits, in which bit k is the square k, and how such a set slides and steps.
 //!
 //! `specs/Bitboards` says of which squares a word is the set, `specs/Sets` what a set reaches as it slides, and `specs/Planes` which list
 //! of 64 four words keep together.

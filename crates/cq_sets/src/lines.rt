@@ -10,7 +10,6 @@ use cq_geometry::Square;
 /// The other squares of a square's file and rank.
 #[inline]
 pub fn straight_lines(from: Square) -> u64
-    requires { from < 64 }
     ensures { IsBitboard result (is_orthogonal from) }
 {
     STRAIGHT_LINES[usize::from(from.number())]
@@ -19,7 +18,6 @@ pub fn straight_lines(from: Square) -> u64
 /// The other squares of a square's diagonals.
 #[inline]
 pub fn slanted_lines(from: Square) -> u64
-    requires { from < 64 }
     ensures { IsBitboard result (is_diagonal from) }
 {
     SLANTED_LINES[usize::from(from.number())]
@@ -41,28 +39,27 @@ macro_rules! seen_along {
 /// The squares along a square's file and rank, up to and with the first on each side that is not empty.
 #[inline]
 pub fn straight_squares(from: Square, empty: u64) -> u64
-    requires { from < 64 }
     ensures { (occupied : ℕ → Bool) → IsBitboard empty (λ k. not (occupied k)) →
         IsBitboard result (λ to. is_orthogonal from to && is_open occupied from to) }
 {
+    prove!(from.number() < 64);
     seen_along!(from, empty; (0, 1), (0, -1), (-1, 0), (1, 0))
 }
 
 /// The squares along a square's diagonals, up to and with the first on each side that is not empty.
 #[inline]
 pub fn slanted_squares(from: Square, empty: u64) -> u64
-    requires { from < 64 }
     ensures { (occupied : ℕ → Bool) → IsBitboard empty (λ k. not (occupied k)) →
         IsBitboard result (λ to. is_diagonal from to && is_open occupied from to) }
 {
+    prove!(from.number() < 64);
     seen_along!(from, empty; (1, 1), (-1, 1), (1, -1), (-1, -1))
 }
 
 // The squares from a square in a direction, up to and with the first that is not empty.
 #[inline]
 fn seen<const DF: i8, const DR: i8>(from: Square, empty: u64) -> u64
-    requires direction { IsDirection DF DR }
-    requires board { from < 64 }
+    requires { IsDirection DF DR }
     ensures { (occupied : ℕ → Bool) → IsBitboard empty (λ k. not (occupied k)) →
         IsBitboard result (contains (seen occupied (ray_from DF DR from))) }
 {

@@ -5,7 +5,7 @@ use Rattle.cq_moves.proofs.going.free_squares.Goals as goal
 pub returns : goal.returns
 returns c =
     let own = rw (c.men-men.ensures.men, c.side-side.ensures.side) at c.squares_of_side.ensures in
-    let king = rw (c.king_of.ensures, c.opponent.ensures, c.side-side.ensures.side, c.men-men.ensures.men) at c.squares_of.ensures in
+    let king = rw (c.opponent.ensures, c.side-side.ensures.side, c.men-men.ensures.men) at c.squares_of_piece.ensures in
     let one : c.squares_of_side.result < 2 ^ 64 = search rules in
-    let two : c.squares_of.result < 2 ^ 64 = search rules in
+    let two : c.squares_of_piece.result < 2 ^ 64 = search rules in
     marks_and _ _ _ _ (marks_not _ _ one own) (marks_not _ _ two king)

@@ -6,4 +6,4 @@ pub returns : goal.returns
 returns c =
     let p = c.args.position.now in
     let fits : c.squares_of.result < 2 ^ 64 = search rules in
-    counted c.squares_of.result p.men c.args.man c.side-kept.ensures.kept.whole fits (rw c.men.ensures.men at c.squares_of.ensures)
+    counted c.squares_of.result p.men c.args.man c.is_position.ensures.kept.whole fits (rw c.men.ensures.men at c.squares_of.ensures)

@@ -8,5 +8,5 @@ use Rattle.cq_san.proofs.reading.piece_move.Goals as goal
 pub returns : goal.returns
 returns c =
     subst (IsAnswer c.args.position.now (Moved c.args.parts.now))
-    (sym (c.only_from.ensures ∙ ap (λ squares. only (map (move_from c.args.parts.now) squares)) (c.deref.ensures.0 ∙ c.origins.ensures)))
+    (sym (c.only_from.ensures ∙ ap (λ squares. only (map (move_from c.args.parts.now) squares)) (c.deref.ensures.0 ∙ c.origins-found.ensures)))
     (by_origins c.args.position.now c.args.parts.now c.is_position.ensures.kept.whole)
