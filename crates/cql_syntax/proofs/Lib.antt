@@ -5,6 +5,7 @@ pub mod Weighing
 mod NumberRows
 mod PositionRows
 mod LineRows
+mod LongestPaths
 mod FamilyRows
 mod FaultRows
 mod HitRows

@@ -13,6 +13,7 @@ pub mod Kinds
 pub mod Leaves
 pub mod Limits
 pub mod LineRows
+pub mod LongestPaths
 pub mod Meaning
 pub mod NumberRows
 pub mod Occurrences

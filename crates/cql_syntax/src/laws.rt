@@ -7,6 +7,7 @@ ghost use Rattle.cql_syntax.specs.FamilyRows.{FamilyRows, DropRows, ImageRows};
 ghost use Rattle.cql_syntax.specs.HitRows.{HitRows};
 ghost use Rattle.cql_syntax.specs.Kinds.{filter_kind};
 ghost use Rattle.cql_syntax.specs.LineRows.{LineRows, MoveRows};
+ghost use Rattle.cql_syntax.specs.LongestPaths.{LinesAreLongestPaths};
 ghost use Rattle.cql_syntax.specs.Meaning.{Names, value};
 ghost use Rattle.cql_syntax.specs.NumberRows.{NumberRows, ComparisonRows};
 ghost use Rattle.cql_syntax.specs.PositionRows.{WordRows, HeaderRows, LogicRows, TreeRows};
@@ -73,6 +74,12 @@ pub fn hits_are_as_worked()
 #[tactic(auto, using(cq_outside::proofs::SpellingLaw::spelling_law))]
 pub fn lines_are_tested_by_splits()
     ensures { TestIsSpelling (ℕ → Value) }
+{}
+
+/// The value of a line at a node is the greatest length of the paths from there that its pattern spells and its extent allows.
+#[tactic(auto, using(crate::proofs::LongestPaths::lines_are_longest_paths))]
+pub fn lines_are_longest_paths()
+    ensures { LinesAreLongestPaths }
 {}
 
 /// Where a table has for each atom of a line the searched nodes at which its filter holds, the greatest allowed length of a way that the
