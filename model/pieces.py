@@ -62,6 +62,8 @@ def tables():
     for archive in (b"", b" ", b"*", b"* ", b"*%\n*", b"{no game}", b"1. e4 * {and} 1. d4 *\n\n;end"):
         for least in (1, 2, 5, 100):
             compare_table(repr(archive), archive, least)
+    # one read closes many thousand games
+    compare_table("200,000 games", b"* " * 200_000, 1000)
     draw = random.Random(1)
     parts = [b"*", b" * ", b"\n", b"%", b"\n%*\n", b"[A \"*\"]\n", b"1. e4 ", b"(", b")", b"{*}", b";*\n", b"1-0\n", b"\xef\xbb\xbf", b"\"", b"\r\n"]
     for _turn in range(200):

@@ -2,6 +2,7 @@
 use Rattle.std.specs.Prelude.{◌≡◌, ℕ, ◌<◌, ◌&&◌, ◌||◌, ◌⊎◌, not, Bool, true, false, List, ◌∷◌, ◌++◌, length}
 use Rattle.std.specs.List.{AllByRecursion}
 use Rattle.cq_outside.specs.Text.{is_white}
+use Rattle.pgn_lexer.specs.Bytes.{left_bracket}
 use Rattle.pgn_lexer.specs.Lexemes.{first_at}
 use Rattle.pgn_lexer.specs.declared.token.LexemeKind.{LexemeKind}
 use Rattle.pgn_lexer.specs.declared.token.LexemeKind.TheVariants.{Token}
@@ -22,7 +23,7 @@ pub record IsPair (run : List ℕ) : Type 0 where
   pub name : List ℕ
   pub text : List ℕ
   pub closing : List ℕ
-  pub spelled : run ≡ 91 ∷ name ++ (text ++ closing)
+  pub spelled : run ≡ left_bracket ∷ name ++ (text ++ closing)
   pub words : AreWords name
   pub value : IsFoundAs (Token Text) (first_at false name (length name)) text
   pub closes : IsFoundAs (Token Close) (first_at (first_at false name (length name)) text (length text)) closing

@@ -2,6 +2,7 @@
 ghost use Rattle.std.specs.Prelude.{◌≡◌, ◌+◌, ◌*◌, ◌<◌, ◌≤◌, ◌^◌, ◌++◌, ◌==◌, ℕ, Bool, true, false, List, [], ◌∷◌, None, Some, length, slice_index, take, drop, OnOk, OnErr, IfOk, ◌-◌};
 ghost use Rattle.std.specs.List.{AllByRecursion};
 ghost use Rattle.std.specs.Option.{option_to_list};
+ghost use Rattle.pgn_lexer.specs.Bytes.{ends_line};
 ghost use Rattle.pgn_lexer.specs.Lexemes.{Lexeme as ALexeme};
 ghost use Rattle.pgn_lexer.specs.declared.token.LexemeKind.TheVariants.{Token};
 ghost use Rattle.pgn_lexer.specs.declared.token.TokenKind.TheVariants.{BadByte};
@@ -286,7 +287,7 @@ impl Cutter {
         requires place { self.old.place + length run.now < 2 ^ 62 }
         ensures game { self.new.game ≡ self.old.game }
         ensures rest { self.old.state ≡ Between → IsBetween self.new (self.old.place + length run.now)
-            (slice_index run.now (length run.now - 1) == 10) }
+            (ends_line (slice_index run.now (length run.now - 1))) }
     {
         self.place += run.len() as u64;
         self.at = self.place;

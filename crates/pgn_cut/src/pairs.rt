@@ -1,5 +1,6 @@
 //! Tag pairs, each at once.
-ghost use Rattle.std.specs.Prelude.{◌≡◌, ◌+◌, ◌-◌, ◌<◌, ◌≤◌, ◌==◌, length, take, drop, slice_index, IfSome};
+ghost use Rattle.std.specs.Prelude.{◌≡◌, ◌+◌, ◌-◌, ◌<◌, ◌≤◌, length, take, drop, slice_index, IfSome};
+ghost use Rattle.pgn_lexer.specs.Bytes.{ends_line, left_bracket};
 ghost use Rattle.pgn_lexer.specs.declared.token.LexemeKind.{LexemeKind as AKind};
 ghost use Rattle.pgn_lexer.specs.declared.token.LexemeKind.TheVariants.{Token};
 ghost use Rattle.pgn_lexer.specs.declared.token.TokenKind.TheVariants.{Close, Text};
@@ -14,7 +15,7 @@ use pgn_lexer::{LexemeKind, TokenKind};
 fn lexeme_at(bytes: &[u8], at: usize) -> Option<Found>
     requires { (0 < at) × (at ≤ length bytes.now) }
     ensures some { IfSome result (λ f. (0 < f.taken) × (at + f.taken ≤ length bytes.now)) }
-    ensures found { IfSome result (λ f. IsFound (slice_index bytes.now (at - 1) == 10) (take f.taken (drop at bytes.now)) f) }
+    ensures found { IfSome result (λ f. IsFound (ends_line (slice_index bytes.now (at - 1))) (take f.taken (drop at bytes.now)) f) }
 {
     let rest = &bytes[at..];
     if rest.is_empty() {
@@ -27,7 +28,7 @@ fn lexeme_at(bytes: &[u8], at: usize) -> Option<Found>
 fn text_len(bytes: &[u8], at: usize) -> Option<usize>
     requires { (0 < at) × (at ≤ length bytes.now) }
     ensures some { IfSome result (λ n. (0 < n) × (at + n ≤ length bytes.now)) }
-    ensures found { IfSome result (λ n. IsFoundAs (Token Text) (slice_index bytes.now (at - 1) == 10) (take n (drop at bytes.now))) }
+    ensures found { IfSome result (λ n. IsFoundAs (Token Text) (ends_line (slice_index bytes.now (at - 1))) (take n (drop at bytes.now))) }
 {
     let found = lexeme_at(bytes, at)?;
     match found.kind {
@@ -40,7 +41,7 @@ fn text_len(bytes: &[u8], at: usize) -> Option<usize>
 fn closing_len(bytes: &[u8], at: usize) -> Option<usize>
     requires { (0 < at) × (at ≤ length bytes.now) }
     ensures some { IfSome result (λ n. (0 < n) × (at + n ≤ length bytes.now)) }
-    ensures found { IfSome result (λ n. IsFoundAs (Token Close) (slice_index bytes.now (at - 1) == 10) (take n (drop at bytes.now))) }
+    ensures found { IfSome result (λ n. IsFoundAs (Token Close) (ends_line (slice_index bytes.now (at - 1))) (take n (drop at bytes.now))) }
 {
     let found = lexeme_at(bytes, at)?;
     match found.kind {
@@ -52,7 +53,7 @@ fn closing_len(bytes: &[u8], at: usize) -> Option<usize>
 /// How many bytes at the start of some, which begin with a bracket, are a tag pair, where they are one with a name.
 pub(crate) fn pair_len(bytes: &[u8]) -> Option<usize>
     requires some { 0 < length bytes.now }
-    requires bracket { slice_index bytes.now 0 ≡ 91 }
+    requires bracket { slice_index bytes.now 0 ≡ left_bracket }
     ensures within { IfSome result (λ n. n ≤ length bytes.now) }
     ensures pair { IfSome result (λ n. IsPair (take n bytes.now)) }
 {

@@ -14,7 +14,8 @@ use Rattle.pgn_lexer.specs.Grammar.{Lacks}
 use Rattle.pgn_lexer.specs.Lexemes.{first_at}
 use Rattle.pgn_lexer.specs.declared.token.LexemeKind.TheVariants.{Token}
 use Rattle.pgn_lexer.specs.declared.token.TokenKind.TheVariants.{Comment}
-use Rattle.pgn_reader.specs.Words.{Word, remarks, sense, body_of, without_braces}
+use Rattle.pgn_reader.specs.Words.{Word, remarks, sense, body_of}
+use Rattle.pgn_tree.specs.Words.{without_braces}
 use Rattle.pgn_export.specs.Words.{opened, closed, comment_words}
 use Rattle.pgn_export.proofs.Glued.{Glued, Tell, Said, said_none, said_some, said_more, begun, ended}
 use Rattle.pgn_export.proofs.Told.{told, told_one}

@@ -1,5 +1,5 @@
 //! The lexemes of a text, one after the other.
-ghost use Rattle.std.specs.Prelude.{◌≡◌, ◌+◌, ◌<◌, ◌≤◌, ℕ, [], ◌∷◌, length, IfNone, IfSome};
+ghost use Rattle.std.specs.Prelude.{◌≡◌, ◌+◌, ◌<◌, ◌≤◌, ℕ, [], ◌∷◌, take, drop, length, IfNone, IfSome};
 ghost use Rattle.pgn_lexer.specs.Lexemes.{first_at, lexemes_at};
 ghost use Rattle.pgn_lexer.specs.Shown.{shown};
 
@@ -37,6 +37,7 @@ pub fn next_lexeme(bytes: &[u8], at: usize, first: bool) -> Option<Lexeme<'_>>
     ensures none { IfNone result ((start : ℕ) → lexemes_at start first bytes.now at ≡ []) }
     ensures next { IfSome result (λ l. (start : ℕ) →
         lexemes_at start first bytes.now at ≡ shown start l ∷ lexemes_at start first bytes.now (l.at + length l.text.now)) }
+    ensures text { IfSome result (λ l. l.text.now ≡ take (length l.text.now) (drop l.at bytes.now)) }
     ensures within { IfSome result (λ l. (at ≤ l.at) × (0 < length l.text.now) × (l.at + length l.text.now ≤ length bytes.now)) }
 {
     let at = at + white_len(&bytes[at..]);

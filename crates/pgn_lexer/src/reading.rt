@@ -1,7 +1,7 @@
 //! The longest reading at a place.
 ghost use Rattle.std.specs.Prelude.{◌≡◌, false, ◌+◌, ◌-◌, ◌<◌, ◌≤◌, ◌==◌, length, drop, slice_index};
 ghost use Rattle.std.specs.List.{prefix_len, position_or_len};
-ghost use Rattle.pgn_lexer.specs.Bytes.{continues_symbol};
+ghost use Rattle.pgn_lexer.specs.Bytes.{backslash, continues_symbol};
 ghost use Rattle.pgn_lexer.specs.Readings.{token, comment, line_comment, escape_line, is_special, body_len, text, symbol, nag, good_suffix, poor_suffix, null_move, single, reading};
 
 use crate::token::{LexemeKind, Reading, TokenKind};
@@ -111,7 +111,7 @@ pub fn plain_len(bytes: &[u8]) -> usize
 fn after_backslash(rest: &[u8], at: usize) -> usize
     requires { at < length rest.now }
     ensures within { (at < result) × (result ≤ length rest.now) }
-    ensures goes_on { slice_index rest.now at ≡ 92 →
+    ensures goes_on { slice_index rest.now at ≡ backslash →
         body_len false (drop at rest.now) ≡ (result - at) + body_len false (drop result rest.now) }
 {
     match rest.get(at + 1) {

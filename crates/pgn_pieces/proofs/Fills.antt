@@ -16,11 +16,11 @@ use Rattle.pgn_pieces.specs.declared.state.OpenPiece.{OpenPiece}
 pub end_append : (from : ℕ) (xs ys : List Span) → end_of from (xs ++ ys) ≡ end_of (end_of from xs) ys
 end_append from xs ys = fold-append (λ (place : ℕ) (game : Span). game.end) from xs ys
 
-long_end : (least from : ℕ) (games : List Span) (long : IsLongEnough least from games) → end_of from games ≡ long.last.end
+pub long_end : (least from : ℕ) (games : List Span) (long : IsLongEnough least from games) → end_of from games ≡ long.last.end
 long_end least from games long = ap (end_of from) long.are ∙ end_append from long.fewer (long.last ∷ [])
 
 -- a piece ends where the next begins
-next_from : (least : ℕ) (here : Place) (p : Piece) (games : List Span) → IsLongEnough least here.from games
+pub next_from : (least : ℕ) (here : Place) (p : Piece) (games : List Span) → IsLongEnough least here.from games
     → p ≡ piece_to here (end_of here.from games) (length games) → (after p).from ≡ end_of here.from games
 next_from least here p games long is =
     let e = long_end least here.from games long in

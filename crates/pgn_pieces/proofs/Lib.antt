@@ -1,3 +1,4 @@
 pub mod Fills
 pub mod Streams
 pub mod Covers
+pub mod Apart

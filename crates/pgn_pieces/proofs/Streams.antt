@@ -110,6 +110,15 @@ takes_bytes was now bytes text longer news least taken feeds adds = record {
       };
 }
 
+-- lines that were gathered by themselves are added to a text
+pub adds_after : (least : ℕ) (was now : OpenPiece) (games : List Span) (none lines text longer : List ℕ) → none ≡ [] → AddsGames least was now games none lines
+    → longer ≡ text ++ lines → AddsGames least was now games text longer
+adds_after least was now games none lines text longer none_is adds is = record {
+  more = adds.more;
+  lines = is ∙ ap (λ (l : List ℕ). text ++ l) (adds.lines ∙ ap (λ (l : List ℕ). l ++ table adds.more) none_is);
+  shows = adds.shows;
+}
+
 pub comes_to_end : (was : Pieces) (last : OpenPiece) (text mid longer : List ℕ) (news : List Span)
     → ((front : List ℕ) → CutterStands was.cutter front → cut front ≡ closed front ++ news) → AddsGames was.least was.open_piece last news text mid
     → longer ≡ mid ++ table (last_piece last.here was.taken last.games) → ComesToEnd was text longer

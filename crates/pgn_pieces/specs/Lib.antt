@@ -1,3 +1,4 @@
 pub mod Pieces
 pub mod Table
 pub mod State
+pub mod Apart

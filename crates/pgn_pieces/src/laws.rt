@@ -1,10 +1,11 @@
 //! Laws of the pieces, for the crates above. Each is proved for all archives; to call one costs nothing.
-ghost use Rattle.std.specs.Prelude.{◌≡◌, ℕ, List, []};
-ghost use Rattle.std.specs.List.{flat_map};
+ghost use Rattle.std.specs.Prelude.{◌≡◌, ◌<◌, ℕ, List, []};
+ghost use Rattle.std.specs.List.{flat_map, AllByRecursion};
+ghost use Rattle.pgn_pieces.specs.Apart.{HasItsGames};
 ghost use Rattle.pgn_pieces.specs.Pieces.{ArePieces, piece_bytes};
 ghost use Rattle.pgn_pieces.specs.declared.piece.Piece.{Piece as APiece};
 
-use pgn_cut::games_stand_apart;
+use pgn_cut::{archives_split, games_stand_apart};
 
 /// The pieces of an archive, one after the other, are the archive. One without a byte has no piece.
 pub fn pieces_cover_their_archive()
@@ -12,5 +13,14 @@ pub fn pieces_cover_their_archive()
         flat_map (piece_bytes archive) pieces ≡ archive }
     ensures none { (least : ℕ) (pieces : List APiece) → ArePieces least [] pieces → pieces ≡ [] }
 {
+    games_stand_apart();
+}
+
+/// Each piece, cut by itself, has exactly its games, with the numbers that it says: the first as it is, any other after one space.
+pub fn pieces_have_their_games()
+    ensures { (least : ℕ) (archive : List ℕ) (pieces : List APiece) → 0 < least → ArePieces least archive pieces →
+        AllByRecursion (HasItsGames archive) pieces }
+{
+    archives_split();
     games_stand_apart();
 }

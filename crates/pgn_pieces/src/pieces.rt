@@ -1,5 +1,5 @@
 //! The pieces of an archive that comes bit by bit.
-ghost use Rattle.std.specs.Prelude.{◌≡◌, ◌+◌, ◌++◌, ◌<◌, ◌≤◌, ◌^◌, [], ◌∷◌, ℕ, List, length, OnOk, IfOk};
+ghost use Rattle.std.specs.Prelude.{◌≡◌, ◌+◌, ◌++◌, ◌<◌, ◌≤◌, ◌^◌, [], ◌∷◌, ℕ, List, length, OnOk, OnErr, IfOk};
 ghost use Rattle.pgn_cut.specs.Spans.{AreInOrder};
 ghost use Rattle.pgn_pieces.specs.Pieces.{last_piece};
 ghost use Rattle.pgn_pieces.specs.Table.{table};
@@ -96,17 +96,23 @@ impl Pieces {
     }
 
     /// Takes the next bytes of the archive, and adds the lines of the pieces that are long enough with them. Fails only when out of
-    /// memory. All bytes together are fewer than 2^62.
+    /// memory, and then nothing is taken or added. All bytes together are fewer than 2^62.
     pub fn feed(&mut self, bytes: &[u8], text: &mut Bytes) -> Result<(), NoMemory>
         requires { (front : List ℕ) × (pieces : List APiece) × Stands self.old front pieces × (length front + length bytes.now < 2 ^ 62) }
         ensures takes { OnOk result (TakesBytes self.old self.new bytes.now text.old text.new) }
+        ensures unchanged { OnErr result ((self.new ≡ self.old) × (text.new ≡ text.old)) }
         ensures least { self.new.least ≡ self.old.least }
     {
         closed_games_stay();
         games_stand_apart();
+        let mut cutter = self.cutter;
         let mut games = Vec::new(self.alloc);
-        self.cutter.feed(bytes, &mut games)?;
-        self.open_piece = add_all(self.open_piece, games.as_slice(), self.least, text)?;
+        cutter.feed(bytes, &mut games)?;
+        let mut lines = Bytes::new(self.alloc);
+        let open_piece = add_all(self.open_piece, games.as_slice(), self.least, &mut lines)?;
+        text.push_all(lines.as_slice())?;
+        self.cutter = cutter;
+        self.open_piece = open_piece;
         self.taken += bytes.len() as u64;
         Ok(())
     }

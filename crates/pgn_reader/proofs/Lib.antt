@@ -16,8 +16,8 @@ pub mod Ends
 pub mod Symbols
 pub mod Strings
 pub mod Low
-pub mod Slices
 pub mod Tokens
+pub mod Streamed
 pub mod Follows
 pub mod Building
 pub mod Verdicts
@@ -25,6 +25,4 @@ pub mod Limit
 pub mod Located
 pub mod OneOutcome
 pub mod Elsewhere
-pub mod Split
-pub mod Marker
 pub mod FirstFen

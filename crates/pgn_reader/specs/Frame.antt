@@ -5,6 +5,7 @@ use Rattle.cq_position.specs.Board.{Board}
 use Rattle.cq_position.specs.Moves.{null_move}
 use Rattle.cq_position.specs.Continuations.{Played, Continuations, none, played}
 use Rattle.cq_position.specs.Comments.{words, comment_of}
+use Rattle.pgn_tree.specs.Notes.{Noted}
 use Rattle.pgn_reader.specs.Line.{Place}
 
 -- a node and the level of its parent; the root's children have the level 0
@@ -16,11 +17,6 @@ pub record Row : Type 0 where
 unfoldable pub rows : ℕ → Continuations → List Row
 rows level none = []
 rows level (played move next others) = record { level = level; move = move } ∷ (rows (level + 1) next ++ rows level others)
-
--- the glyphs and the comments of a move
-pub record Noted : Type 0 where
-  pub nags : List ℕ
-  pub comments : List (List ℕ)
 
 -- Where a line stands, the levels of its last move and of the next, and the last move, none before the first of a variation; at the root
 -- the null move stands for it. The glyphs and comments are the last move's, or wait for the first. Then the nodes of its earlier moves, of

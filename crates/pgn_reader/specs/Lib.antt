@@ -7,7 +7,6 @@ pub mod Standing
 pub mod Faults
 pub mod Verdict
 pub mod Frame
-pub mod Inside
 pub mod RowInside
 pub mod LineInside
 pub mod Machine
@@ -16,7 +15,5 @@ pub mod Shown
 pub mod Reading
 pub mod Building
 pub mod Elsewhere
-pub mod Split
-pub mod Marker
 pub mod Preface
 pub mod PrefaceInside

@@ -1,29 +1,30 @@
 -- What reading the tokens of a game answers, as the private functions give it.
-use Rattle.std.specs.Prelude.{◌≡◌, ◌≤◌, List, None, Result, Ok, Err}
+use Rattle.std.specs.Prelude.{◌≡◌, ◌≤◌, ℕ, Bool, List, None, Result, Ok, Err}
 use Rattle.cq_position.specs.declared.games.GameResult.{GameResult}
 use Rattle.cq_position.specs.Games.{Game}
 use Rattle.pgn_reader.specs.declared.token_machine.Phase.{Phase}
 use Rattle.pgn_reader.specs.declared.token_machine.Phase.TheVariants.{Ended}
 use Rattle.pgn_reader.specs.declared.token_machine.Reader.{Reader}
-use Rattle.pgn_reader.specs.declared.all_tokens.TokenFault.{TokenFault}
-use Rattle.pgn_reader.specs.Words.{Word}
+use Rattle.pgn_reader.specs.declared.fault.GameFault.{GameFault}
+use Rattle.pgn_reader.specs.Words.{Word, words_of}
 use Rattle.pgn_reader.specs.Tags.{Tags, result_of_tags}
 use Rattle.pgn_reader.specs.Standing.{fault_at_end}
-use Rattle.pgn_reader.specs.Faults.{IsFault}
-use Rattle.pgn_reader.specs.Machine.{run, first}
+use Rattle.pgn_reader.specs.Verdict.{HasTokenFault}
+use Rattle.pgn_reader.specs.Machine.{run, first as start_state}
 use Rattle.pgn_reader.specs.Arranged.{standing_of, game_shown}
 use Rattle.pgn_reader.specs.Shown.{head_of, shown, moves_in}
 use Rattle.pgn_reader.specs.Limits.{most_moves}
 
 -- all tokens were read, and a game ends with them
 pub record IsWhole (ts : List Word) (r : Reader) : Type 0 where
-  pub is_run : run first ts ≡ shown r
+  pub is_run : run start_state ts ≡ shown r
   pub few : moves_in (shown r) ≤ most_moves
   pub ends : fault_at_end (standing_of (shown r)) ≡ None
 
-abbrev pub IsReading : List Word → Result Reader TokenFault → Type 0
-IsReading ts (Ok r) = IsWhole ts r
-IsReading ts (Err f) = IsFault ts f.index f.reason
+-- what is read of the bytes of a game, of which there are not too many
+abbrev pub IsReading : (start : ℕ) → (first : Bool) → (bytes : List ℕ) → Result Reader GameFault → Type 0
+IsReading start first bytes (Ok r) = IsWhole (words_of start first bytes) r
+IsReading start first bytes (Err f) = HasTokenFault start first bytes f
 
 -- the result of the marker, or without one that of the tags
 abbrev pub ending_by : Phase → Tags → GameResult

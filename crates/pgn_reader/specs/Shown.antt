@@ -9,9 +9,12 @@ use Rattle.pgn_reader.specs.declared.token_machine.Phase.{Phase}
 use Rattle.pgn_reader.specs.declared.token_machine.Phase.TheVariants.{Movetext, Opened, Named, Valued, Ended}
 use Rattle.pgn_reader.specs.Words.{Sense}
 use Rattle.pgn_lexer.specs.declared.token.TokenKind.{TokenKind}
-use Rattle.pgn_reader.specs.Standing.{movetext_fault}
+use Rattle.pgn_lexer.specs.declared.token.LexemeKind.{LexemeKind}
+use Rattle.pgn_lexer.specs.declared.token.LexemeKind.TheVariants.{EscapeLine, Token}
+use Rattle.pgn_reader.specs.Standing.{fault_at, movetext_fault}
 use Rattle.pgn_reader.specs.Frame.{Frame, place}
-use Rattle.pgn_reader.specs.Machine.{Head, State, opened, named, valued, at, ended, stuck, on_sense}
+use Rattle.pgn_reader.specs.Machine.{Head, State, opened, named, valued, at, ended, stuck, feed, on_sense}
+use Rattle.pgn_reader.specs.Arranged.{standing_of}
 use Rattle.pgn_reader.specs.Limits.{most_moves}
 
 abbrev pub head_of : Reader → Head
@@ -39,6 +42,13 @@ abbrev pub Steps : State → Option Reason → State → Result (Unit {0}) (Refu
 Steps next reason s (Ok done) = (next ≡ s) × (moves_in s ≤ most_moves)
 Steps next reason s (Err (Fault found)) = (reason ≡ Some found) × (found ≢ TooManyPositions → next ≡ stuck)
 Steps next reason s (Err NoMemory) = Unit {0}
+
+-- the step of a lexeme: that of its token, or none
+abbrev pub StepsOver : State → LexemeKind → List ℕ → State → Result (Unit {0}) (Refusal Reason) → Type 0
+StepsOver before EscapeLine text s (Ok done) = (before ≡ s) × (moves_in s ≤ most_moves)
+StepsOver before EscapeLine text s (Err found) = ⊥
+StepsOver before (Token kind) text s result =
+    Steps (feed before (record { kind = kind; text = text })) (fault_at (standing_of before) (record { kind = kind; text = text })) s result
 
 -- a step of the movetext, by what a token means there
 abbrev pub IsSenseStep : Reader → TokenKind → Sense → Reader → Result (Unit {0}) (Refusal Reason) → Type 0

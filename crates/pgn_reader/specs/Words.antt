@@ -5,7 +5,7 @@ use Rattle.std.specs.Str.{bytes_eq}
 use Rattle.std.specs.Char.{is_ascii_digit}
 use Rattle.cq_position.specs.declared.games.GameResult.{GameResult}
 use Rattle.cq_position.specs.declared.games.GameResult.TheVariants.{White, Black, Draw, Open as Undecided}
-use Rattle.pgn_lexer.specs.Bytes.{right_brace, right_paren}
+use Rattle.pgn_tree.specs.Words.{without_braces}
 use Rattle.pgn_lexer.specs.declared.token.Token.{Token}
 use Rattle.pgn_lexer.specs.declared.token.TokenKind.{TokenKind}
 use Rattle.pgn_lexer.specs.declared.token.TokenKind.TheVariants.{Open, Close, Text, Symbol, Period, Star, LeftParen, RightParen, Nag, Null, Comment, LineComment, BadByte, UnclosedComment, UnclosedText}
@@ -58,10 +58,6 @@ sense_of_symbol text = if list_all is_ascii_digit text then means_nothing else s
 -- section 8.2.4: glyphs are numbered up to 255
 unfoldable pub sense_of_glyph : ℕ → Sense
 sense_of_glyph n = if nat_lt n glyph_numbers then annotates n else out_of_place NagRange
-
--- A comment is kept between braces, so that a closing brace in it becomes a closing parenthesis. Only a line comment can hold one.
-abbrev pub without_braces : List ℕ → List ℕ
-without_braces text = map (λ b. if b == right_brace then right_paren else b) text
 
 -- what stands between the braces of a comment
 unfoldable pub body_of : List ℕ → List ℕ

@@ -1,39 +1,16 @@
 //! Reading the tokens of a game.
-ghost use Rattle.std.specs.Prelude.{◌≡◌, ◌-◌, map, take, drop, length, IfOk, [], ◌∷◌};
-ghost use Rattle.pgn_reader.specs.Words.{word_of};
+ghost use Rattle.std.specs.Prelude.{◌≡◌, ◌<◌, ◌≤◌, ◌^◌, length, IfOk};
+ghost use Rattle.pgn_reader.specs.Limits.{longest, most_moves};
 ghost use Rattle.pgn_reader.specs.Standing.{fault_at_end};
 ghost use Rattle.pgn_reader.specs.Arranged.{standing_of};
-ghost use Rattle.pgn_reader.specs.Shown.{shown};
+ghost use Rattle.pgn_reader.specs.Shown.{shown, moves_in, IsLow, StepsOver};
 ghost use Rattle.pgn_reader.specs.Reading.{IsReading};
 
-use crate::fault::Reason;
+use crate::fault::{GameFault, Reason};
 use crate::token_machine::{Phase, Reader};
 use cq_outside::{NoMemory, Refusal};
-use pgn_lexer::Token;
+use pgn_lexer::{Lexeme, LexemeKind, next_lexeme};
 use std::alloc::Global;
-
-/// A fault at a token, or after the last one.
-#[derive(Clone, Copy)]
-pub struct TokenFault {
-    pub index: usize,
-    pub reason: Reason,
-}
-
-// The bytes of a token of a text whose first byte has the place `start`.
-fn text_of<'a>(bytes: &'a [u8], start: u64, token: &Token) -> &'a [u8]
-    ensures { result.now ≡ take token.now.len (drop (token.now.at - start) bytes.now) }
-{
-    let from = token.at.saturating_sub(start) as usize;
-    if from >= bytes.len() {
-        return b"";
-    }
-    let rest = &bytes[from..];
-    if token.len as usize >= rest.len() {
-        rest
-    } else {
-        &rest[..token.len as usize]
-    }
-}
 
 // Why the end is a fault, where it is one.
 fn fault_at_end(reader: &Reader) -> Option<Reason>
@@ -52,29 +29,46 @@ fn fault_at_end(reader: &Reader) -> Option<Reason>
     }
 }
 
-/// What the tokens tell, or their first fault.
+// Reads a lexeme; an escape line is passed over.
+fn read_lexeme(reader: &mut Reader, alloc: Global, lexeme: &Lexeme) -> Result<(), Refusal<Reason>>
+    requires low { IsLow (shown reader.old) }
+    requires few { moves_in (shown reader.old) ≤ most_moves }
+    ensures { StepsOver (shown reader.old) lexeme.now.kind lexeme.now.text.now (shown reader.new) result }
+{
+    match lexeme.kind {
+        LexemeKind::EscapeLine => Ok(()),
+        LexemeKind::Token(kind) => reader.feed(alloc, kind, lexeme.text),
+    }
+}
+
+/// What the tokens of a game tell, or their first fault. Each is read off the bytes as it is asked for.
 pub fn read_tokens(
     alloc: Global,
     bytes: &[u8],
     start: u64,
-    tokens: &[Token],
-) -> Result<Result<Reader, TokenFault>, NoMemory>
-    ensures { IfOk result (IsReading (map (word_of start bytes.now) tokens.now)) }
+    first: bool,
+) -> Result<Result<Reader, GameFault>, NoMemory>
+    requires size { length bytes.now ≤ longest }
+    requires place { start < 2 ^ 62 }
+    ensures { IfOk result (IsReading start first bytes.now) }
 {
     let mut reader = Reader::new(alloc);
-    for (index, token) in tokens.iter().enumerate() {
-        let text = text_of(bytes, start, token);
-        match reader.feed(alloc, token.kind, text) {
-            Ok(()) => {}
-            Err(Refusal::Fault(reason)) => return Ok(Err(TokenFault { index, reason })),
+    let mut at = 0;
+    while let Some(lexeme) = next_lexeme(bytes, at, first) {
+        match read_lexeme(&mut reader, alloc, &lexeme) {
+            Ok(()) => at = lexeme.at + lexeme.text.len(),
+            Err(Refusal::Fault(reason)) => {
+                let byte = start + lexeme.at as u64;
+                return Ok(Err(GameFault { byte, reason }));
+            }
             Err(Refusal::NoMemory) => return Err(NoMemory),
         }
     }
     match fault_at_end(&reader) {
-        Some(reason) => Ok(Err(TokenFault {
-            index: tokens.len(),
-            reason,
-        })),
+        Some(reason) => {
+            let byte = start + bytes.len() as u64;
+            Ok(Err(GameFault { byte, reason }))
+        }
         None => Ok(Ok(reader)),
     }
 }

@@ -1,20 +1,10 @@
 //! Laws of reading, for the crates above. Each is proved for all bytes; to call one costs nothing.
-ghost use Rattle.std.specs.Prelude.{◌≡◌, ◌+◌, ◌-◌, ◌∷◌, ◌++◌, ◌↔◌, ℕ, Bool, List, Result, take};
+ghost use Rattle.std.specs.Prelude.{◌≡◌, ◌+◌, ◌↔◌, ℕ, Bool, List, Result, take};
 ghost use Rattle.cq_position.specs.Games.{Game};
-ghost use Rattle.pgn_cut.specs.Cut.{cut};
-ghost use Rattle.pgn_cut.specs.OneGame.{IsGameOfCut};
-ghost use Rattle.pgn_cut.specs.Seams.{spaced_rest};
-ghost use Rattle.pgn_cut.specs.declared.span.Span.{Span as ASpan};
-ghost use Rattle.pgn_reader.specs.Split.{AreReadAlike};
 ghost use Rattle.pgn_reader.specs.declared.fault.GameFault.{GameFault};
 ghost use Rattle.pgn_reader.specs.Elsewhere.{moved, AreSameTokens};
-ghost use Rattle.pgn_reader.specs.Marker.{EndsWithItsMarker};
 ghost use Rattle.pgn_reader.specs.Limits.{longest};
 ghost use Rattle.pgn_reader.specs.Verdict.{IsRead};
-ghost use Rattle.pgn_reader.specs.Words.{words_of};
-
-use pgn_cut::{archives_split, games_end_once, games_stand_apart};
-use pgn_lexer::tokens_stand_apart;
 
 /// All bytes are read as something: they spell one game, or have a first fault.
 #[tactic(auto, using(crate::proofs::Verdicts::verdict))]
@@ -42,21 +32,3 @@ pub fn first_bytes_decide()
     ensures { (start : ℕ) (first : Bool) (bytes : List ℕ) (outcome : Result Game GameFault) →
         IsRead start first (take (longest + 1) bytes) outcome ↔ IsRead start first bytes outcome }
 {}
-
-/// In a game of a cut no token stands after the marker of a result outside variations, as the reader tells markers and variations.
-pub fn markers_end_games()
-    ensures { (start : ℕ) (first : Bool) (bytes : List ℕ) → IsGameOfCut start first bytes → EndsWithItsMarker (words_of start first bytes) }
-{
-    games_end_once();
-    tokens_stand_apart();
-}
-
-/// The games after a seam are read as before: where an archive splits after a game, and what follows is cut with one space before it, each
-/// game there is the same, or has the same fault so many bytes further on.
-pub fn split_games_are_read_alike()
-    ensures { (archive : List ℕ) (before : List ASpan) (game : ASpan) (after : List ASpan) → cut archive ≡ before ++ game ∷ after →
-        AreReadAlike (game.end - 1) (spaced_rest archive game.end) archive (cut (spaced_rest archive game.end)) after }
-{
-    games_stand_apart();
-    archives_split();
-}

@@ -6,7 +6,6 @@ mod build;
 mod fault;
 mod laws;
 mod line;
-mod notes;
 mod preface;
 mod row;
 mod shared;
@@ -15,8 +14,5 @@ mod token_machine;
 mod whole_game;
 
 pub use fault::{GameFault, Reason};
-pub use laws::{
-    first_bytes_decide, games_have_one_outcome, games_have_outcomes, markers_end_games,
-    split_games_are_read_alike, tokens_decide,
-};
+pub use laws::{first_bytes_decide, games_have_one_outcome, games_have_outcomes, tokens_decide};
 pub use whole_game::read_game;

@@ -1,13 +1,13 @@
 //! A line that is being read.
 ghost use Rattle.std.specs.Prelude.{◌≡◌, ◌<◌, ◌+◌, ◌^◌, ◌++◌, OnOk, IfOk};
-ghost use Rattle.pgn_reader.specs.Inside.{HasNoBrace};
+ghost use Rattle.pgn_tree.specs.Words.{without_braces};
 ghost use Rattle.pgn_reader.specs.Frame.{begin, begin_game, advance, with_last_kept, with_variations_kept, annotated, remarked, with_variation, node_of_last, whole};
 ghost use Rattle.pgn_reader.specs.LineInside.{backwards};
 
-use crate::notes::Notes;
 use crate::row::Row;
 use cq_outside::NoMemory;
 use cq_position::{Move, Position};
+use pgn_tree::Notes;
 use std::alloc::Global;
 use std::marker::Model;
 use std::mem;
@@ -97,9 +97,8 @@ impl Line {
     }
 
     /// One comment more.
-    pub fn add_comment(&mut self, text: Vec<u8>) -> Result<(), NoMemory>
-        requires { HasNoBrace text.items }
-        ensures { OnOk result (self.new ≡ remarked self.old text.items) }
+    pub fn add_comment(&mut self, text: &[u8]) -> Result<(), NoMemory>
+        ensures { OnOk result (self.new ≡ remarked self.old (without_braces text.now)) }
     {
         self.notes.add_comment(text)
     }

@@ -1,8 +1,8 @@
 //! A node that is being read.
 ghost use Rattle.std.specs.Prelude.{◌≡◌};
 
-use crate::notes::Notes;
 use cq_position::{Move, Position};
+use pgn_tree::Notes;
 use std::marker::Model;
 
 /// A node, and the level of its parent in the tree; that of the root's children is 0.
@@ -61,10 +61,10 @@ impl Row {
         &self.position
     }
 
-    /// Its glyphs and comments.
-    pub fn notes(&self) -> &Notes
-        ensures { result.now ≡ record { nags = self.now.move.nags; comments = self.now.move.comments } }
+    /// Its glyphs and comments alone.
+    pub fn into_notes(self) -> Notes
+        ensures { result ≡ record { nags = self.move.nags; comments = self.move.comments } }
     {
-        &self.notes
+        self.notes
     }
 }

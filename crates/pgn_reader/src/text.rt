@@ -2,9 +2,8 @@
 ghost use Rattle.std.specs.Prelude.{◌≡◌, ◌<◌, ◌≤◌, ◌+◌, ◌-◌, ◌∷◌, length, take, drop, slice_index, IfOk};
 ghost use Rattle.std.specs.List.{list_all};
 ghost use Rattle.std.specs.Char.{is_ascii_digit};
-ghost use Rattle.pgn_reader.specs.Words.{result_of_text, without_braces};
+ghost use Rattle.pgn_reader.specs.Words.{result_of_text};
 ghost use Rattle.pgn_reader.specs.Tags.{unescaped, value_of};
-ghost use Rattle.pgn_reader.specs.Inside.{HasNoBrace};
 
 use cq_outside::NoMemory;
 use cq_position::GameResult;
@@ -51,18 +50,6 @@ pub fn after_first(text: &[u8]) -> &[u8]
     ensures { result.now ≡ drop 1 text.now }
 {
     if text.is_empty() { b"" } else { &text[1..] }
-}
-
-/// The text of a comment, in which a closing brace becomes a closing parenthesis.
-pub fn without_braces(alloc: Global, text: &[u8]) -> Result<Vec<u8>, NoMemory>
-    ensures value { IfOk result (λ v. v.items ≡ without_braces text.now) }
-    ensures clean { IfOk result (λ v. HasNoBrace v.items) }
-{
-    let clean: Vec<u8> = text
-        .iter()
-        .map(|b| if *b == b'}' { b')' } else { *b })
-        .collect(alloc)?;
-    Ok(clean)
 }
 
 // The place of the next byte that stands for itself: a backslash before a quote or a backslash is passed over.

@@ -6,8 +6,8 @@ ghost use Rattle.cq_position.specs.Legal.{Leads};
 ghost use Rattle.cq_position.specs.Games.{with_tag};
 ghost use Rattle.cq_san.specs.San.{san};
 ghost use Rattle.pgn_lexer.specs.declared.token.TokenKind.{TokenKind as TokenKindValue};
-ghost use Rattle.pgn_reader.specs.Words.{plays, remarks, ends, opens, closes, means_nothing, out_of_place, sense_of, sense_of_symbol, sense_of_glyph, body_of, line_body_of, without_braces};
-ghost use Rattle.pgn_reader.specs.Inside.{HasNoBrace};
+ghost use Rattle.pgn_reader.specs.Words.{plays, remarks, ends, opens, closes, means_nothing, out_of_place, sense_of, sense_of_symbol, sense_of_glyph, body_of, line_body_of};
+ghost use Rattle.pgn_tree.specs.Words.{without_braces};
 ghost use Rattle.pgn_reader.specs.Tags.{start_of, value_of, unescaped};
 ghost use Rattle.pgn_reader.specs.Limits.{most_moves};
 ghost use Rattle.pgn_reader.specs.Line.{led_to};
@@ -19,7 +19,7 @@ ghost use Rattle.pgn_reader.specs.Shown.{shown, moves_in, IsSenseStep, Steps, Is
 use crate::fault::Reason;
 use crate::line::Line;
 use crate::preface::Preface;
-use crate::text::{after_first, are_digits, inside, result_of_text, value_of, without_braces};
+use crate::text::{after_first, are_digits, inside, result_of_text, value_of};
 use cq_moves::{pass, play};
 use cq_outside::{Bytes, NoMemory, Refusal};
 use cq_position::{GameResult, Move, Position};
@@ -30,6 +30,9 @@ use std::mem;
 
 /// How many variations may be open.
 const MOST_LEVELS: usize = 100;
+
+/// The greatest number of a glyph.
+const GREATEST_GLYPH: u32 = 255;
 
 /// How many moves a game may have, as it has at most 65,536 positions.
 const MOST_MOVES: u32 = 65535;
@@ -102,7 +105,7 @@ fn marker_reason(kind: TokenKind) -> Reason
     ensures { marker_fault kind ≡ Some result }
 {
     match kind {
-        TokenKind::Nag(glyph) if glyph > 255 => Reason::NagRange,
+        TokenKind::Nag(glyph) if glyph > GREATEST_GLYPH => Reason::NagRange,
         _ => tag_reason(kind),
     }
 }
@@ -152,7 +155,7 @@ impl Reader {
         requires few { self.old.moves ≤ most_moves }
         ensures { IsSenseStep self.old (TokenKind.Nag glyph) (sense_of_glyph glyph) self.new result }
     {
-        if glyph > 255 {
+        if glyph > GREATEST_GLYPH {
             return Err(Refusal::Fault(Reason::NagRange));
         }
         self.line.add_nag(glyph as u8)?;
@@ -161,13 +164,12 @@ impl Reader {
     }
 
     // A comment.
-    fn read_comment(&mut self, alloc: Global, body: &[u8]) -> Result<(), Refusal<Reason>>
+    fn read_comment(&mut self, body: &[u8]) -> Result<(), Refusal<Reason>>
         requires phase { self.old.phase ≡ Phase.Movetext }
         requires few { self.old.moves ≤ most_moves }
         ensures { (kind : TokenKindValue) → IsSenseStep self.old kind (remarks (without_braces body.now)) self.new result }
     {
-        let text = without_braces(alloc, body)?;
-        self.line.add_comment(text)?;
+        self.line.add_comment(body)?;
         Ok(())
     }
 
@@ -289,8 +291,8 @@ impl Reader {
             TokenKind::LeftParen => self.open_variation(alloc),
             TokenKind::RightParen => self.end_variation(),
             TokenKind::Nag(glyph) => self.read_glyph(glyph),
-            TokenKind::Comment => self.read_comment(alloc, inside(text)),
-            TokenKind::LineComment => self.read_comment(alloc, after_first(text)),
+            TokenKind::Comment => self.read_comment(inside(text)),
+            TokenKind::LineComment => self.read_comment(after_first(text)),
             TokenKind::Open | TokenKind::Close | TokenKind::Text => {
                 self.read_misplaced(kind, Reason::BadTag)
             }

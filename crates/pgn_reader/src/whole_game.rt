@@ -1,12 +1,12 @@
 //! Reading a game.
-ghost use Rattle.std.specs.Prelude.{◌≡◌, ◌<◌, ◌+◌, ◌^◌, List, length, slice_get, Err, IfOk};
+ghost use Rattle.std.specs.Prelude.{◌≡◌, ◌<◌, ◌+◌, ◌^◌, List, length, Err, IfOk};
 ghost use Rattle.pgn_reader.specs.Words.{Word};
 ghost use Rattle.pgn_reader.specs.Tags.{result_of_tags};
 ghost use Rattle.pgn_reader.specs.Reading.{IsWhole, ending_by, game_of};
 ghost use Rattle.cq_outside.specs.declared.faults.Refusal.TheVariants.{Fault as IsFault};
 ghost use Rattle.pgn_reader.specs.declared.fault.Reason.TheVariants.{GameTooLong as IsTooLong};
 ghost use Rattle.pgn_reader.specs.Limits.{longest};
-ghost use Rattle.pgn_reader.specs.Verdict.{place_or, IsVerdict};
+ghost use Rattle.pgn_reader.specs.Verdict.{IsVerdict};
 
 use crate::all_tokens::read_tokens;
 use crate::build::game_of_rows;
@@ -15,22 +15,11 @@ use crate::text::result_of_text;
 use crate::token_machine::{Phase, Reader};
 use cq_outside::{NoMemory, Refusal};
 use cq_position::GameResult;
-use pgn_lexer::{Token, tokens};
 use pgn_tree::{Game, Tags};
 use std::alloc::Global;
 
 /// How many bytes a game may have.
 const LONGEST: usize = 1 << 24;
-
-// The place of a token, or of the first byte after the game.
-fn place_or(end: u64, tokens: &[Token], index: usize) -> u64
-    ensures { result ≡ place_or end (slice_get tokens.now index) }
-{
-    match tokens.get(index) {
-        Some(token) => token.at,
-        None => end,
-    }
-}
 
 // The result of the marker, or without one that of the tags.
 fn ending_of(reader: &Reader) -> GameResult
@@ -59,10 +48,10 @@ fn into_game(alloc: Global, reader: Reader) -> Result<Game, NoMemory>
     ensures { IfOk result (λ g. g ≡ game_of reader) }
 {
     let ending = ending_of(&reader);
-    // Read for what every position meets: the moves of the game lead from it.
-    let _kept = reader.preface.start().is_position();
+    // What every position meets: the moves of the game lead from it.
+    prove!(reader.preface.start().is_position());
     let rows = reader.line.into_rows()?;
-    game_of_rows(alloc, reader.preface.into_tags(), ending, &rows)
+    game_of_rows(alloc, reader.preface.into_tags(), ending, rows)
 }
 
 /// The game that its bytes spell (PGN standard, sections 8.1 and 8.2), or their first fault.
@@ -90,12 +79,8 @@ pub fn read_game(
             reason: Reason::GameTooLong,
         }));
     }
-    let tokens = tokens(alloc, bytes, start, first)?;
-    match read_tokens(alloc, bytes, start, &tokens)? {
+    match read_tokens(alloc, bytes, start, first)? {
         Ok(reader) => Ok(into_game(alloc, reader)?),
-        Err(fault) => Err(Refusal::Fault(GameFault {
-            byte: place_or(start + bytes.len() as u64, &tokens, fault.index),
-            reason: fault.reason,
-        })),
+        Err(fault) => Err(Refusal::Fault(fault)),
     }
 }

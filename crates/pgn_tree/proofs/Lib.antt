@@ -7,8 +7,9 @@ pub mod Linking
 pub mod Linked
 pub mod Changed
 pub mod Words
+pub mod Parts
 pub mod Causes
-pub mod Notes
+pub mod NodeNotes
 pub mod DownPath
 pub mod Men
 pub mod Single

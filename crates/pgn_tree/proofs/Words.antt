@@ -1,17 +1,17 @@
 -- The words of a text come off its front.
-use Rattle.std.proofs.Common.{◌≡◌, ℕ, ◌<◌, ◌≤◌, true, false, cond, not, ◌==◌, List, [], ◌∷◌, ◌++◌, length, take, drop, Some, None, refl, sym, ap, ◌∙◌, arith, append_assoc, length-append, append-nil, eqb-true}
+use Rattle.std.proofs.Common.{◌≡◌, ◌≢◌, ℕ, ◌<◌, ◌≤◌, Bool, true, false, cond, not, ◌==◌, List, [], ◌∷◌, ◌++◌, length, take, drop, map, Some, None, refl, sym, ap, ap₂, ◌∙◌, arith, append_assoc, length-append, append-nil, eqb-true}
 use Rattle.std.proofs.lemmas.Bool.{false_from_ne_true, eq-eqb}
-use Rattle.std.specs.List.{position, slice_split, filter, join_with_byte}
+use Rattle.std.specs.List.{All, position, slice_split, onto_first, filter, join_with_byte}
 use Rattle.std.specs.Option.{unwrap_or}
 use Rattle.std.proofs.lemmas.List.{take-append-drop}
+use Rattle.std.proofs.lemmas.List.Elements.{All-head, All-tail, All-cons, All-nil}
+use Rattle.std.proofs.lemmas.List.Splits.{slice_split-cons_yes, slice_split-cons_no}
+use Rattle.std.proofs.Math.Seq.{take-append_seam}
 use Rattle.cq_outside.specs.Text.{is_white}
 use Rattle.cq_position.specs.Comments.{words, comment_of}
 use Rattle.cq_position.specs.Fen.{is_not_empty}
 use Rattle.cq_position.proofs.Splitting.{kept_parts, cuts_alone, first_of_kept}
-use Rattle.std.specs.Prelude.{slice_set}
-use Rattle.cq_position.specs.Games.{Node, no_node, node_at, with_node, with_comment}
-use Rattle.pgn_tree.proofs.Linking.{set_same}
-use Rattle.pgn_tree.specs.Words.{with_word}
+use Rattle.pgn_tree.specs.Words.{without_brace, without_braces, Begins}
 
 pub white_alone : (t : List ℕ) → None ≡ position (λ b. not (is_white b)) t → words t ≡ []
 unfolding words kept_parts
@@ -54,45 +54,99 @@ shorter_after t i e =
 pub cut_here : (t : List ℕ) (i n : ℕ) → (k : ℕ) × (drop k t ≡ take n (drop i t) ++ drop n (drop i t))
 cut_here t i n = (i, sym (take-append-drop n (drop i t)))
 
--- a text and more words
-unfoldable pub with_words : List ℕ → List (List ℕ) → List ℕ
-with_words text [] = text
-with_words text (word ∷ more) = with_words (with_word text word) more
+-- a word after a space, and the next
+unfoldable pub spaced : List (List ℕ) → List ℕ
+spaced [] = []
+spaced (w ∷ ws) = 32 ∷ (w ++ spaced ws)
 
--- joined one after another, they are joined by spaces
-pub with_first : (text word : List ℕ) → length text ≡ 0 → with_word text word ≡ word
-with_first text word none = ap (λ n. cond (n == 0) word ((text ++ 32 ∷ []) ++ word)) none
+-- joined by spaces
+joined : (w : List ℕ) (ws : List (List ℕ)) → join_with_byte 32 (w ∷ ws) ≡ w ++ spaced ws
+unfolding spaced
+joined w [] = sym (append-nil w)
+joined w (v ∷ vs) = ap (λ x. w ++ 32 ∷ x) (joined v vs)
 
-with_more : (b : ℕ) (bs word : List ℕ) → with_word (b ∷ bs) word ≡ b ∷ ((bs ++ 32 ∷ []) ++ word)
-with_more b bs word =
-    ap (λ t. cond t word (b ∷ ((bs ++ 32 ∷ []) ++ word))) (false_from_ne_true (length (b ∷ bs) == 0) (λ e. let f = eqb-true (length (b ∷ bs)) 0 e in omega (arith, f)))
+-- white space has no braces in it and gets none
+same_white : (b : ℕ) → is_white (without_brace b) ≡ is_white b
+same_white b = by (b == 125) refl
+  where
+    by : (t : Bool) → (b == 125) ≡ t → is_white (cond t 41 b) ≡ is_white b
+    by true is = ap is_white (sym (eqb-true b 125 is))
+    by false is = refl
 
-onto_joined : (a w : List ℕ) (ws : List (List ℕ)) → join_with_byte 32 ((a ++ w) ∷ ws) ≡ a ++ join_with_byte 32 (w ∷ ws)
-onto_joined a w [] = refl
-onto_joined a w (v ∷ vs) = append_assoc a w (32 ∷ join_with_byte 32 (v ∷ vs))
+onto_first_clean : (b : ℕ) (ws : List (List ℕ)) → onto_first (without_brace b) (map without_braces ws) ≡ map without_braces (onto_first b ws)
+onto_first_clean b [] = refl
+onto_first_clean b (w ∷ ws) = refl
 
-joined_from : (b : ℕ) (bs : List ℕ) (ws : List (List ℕ)) → with_words (b ∷ bs) ws ≡ join_with_byte 32 ((b ∷ bs) ∷ ws)
-unfolding with_words
-joined_from b bs [] = refl
-joined_from b bs (w ∷ ws) = ap (λ t. with_words t ws) (with_more b bs w) ∙ joined_from b ((bs ++ 32 ∷ []) ++ w) ws
-    ∙ onto_joined (b ∷ (bs ++ 32 ∷ [])) w ws ∙ append_assoc (b ∷ bs) (32 ∷ []) (join_with_byte 32 (w ∷ ws))
+parts_clean : (t : List ℕ) → slice_split is_white (without_braces t) ≡ map without_braces (slice_split is_white t)
+parts_clean [] = refl
+parts_clean (b ∷ bs) = by (is_white b) refl (parts_clean bs)
+  where
+    by : (t : Bool) → is_white b ≡ t → slice_split is_white (without_braces bs) ≡ map without_braces (slice_split is_white bs)
+        → slice_split is_white (without_brace b ∷ without_braces bs) ≡ map without_braces (slice_split is_white (b ∷ bs))
+    by true is rest = slice_split-cons_yes is_white (without_brace b) (without_braces bs) (same_white b ∙ is) ∙ ap (λ x. [] ∷ x) rest
+        ∙ ap (map without_braces) (sym (slice_split-cons_yes is_white b bs is))
+    by false is rest = slice_split-cons_no is_white (without_brace b) (without_braces bs) (same_white b ∙ is) ∙ ap (onto_first (without_brace b)) rest
+        ∙ onto_first_clean b (slice_split is_white bs) ∙ ap (map without_braces) (sym (slice_split-cons_no is_white b bs is))
 
-joined_by : (ws : List (List ℕ)) → ((w : List ℕ) (more : List (List ℕ)) → ws ≡ w ∷ more → 0 < length w) → with_words [] ws ≡ join_with_byte 32 ws
-unfolding with_words
-joined_by [] some_ = refl
-joined_by ([] ∷ ws) some_ = absurd (let h = some_ [] ws refl in omega (arith, h))
-joined_by ((b ∷ bs) ∷ ws) some_ = joined_from b bs ws
+kept_clean : (ws : List (List ℕ)) → filter is_not_empty (map without_braces ws) ≡ map without_braces (filter is_not_empty ws)
+kept_clean [] = refl
+kept_clean ([] ∷ ws) = kept_clean ws
+kept_clean ((b ∷ bs) ∷ ws) = ap (λ x. without_braces (b ∷ bs) ∷ x) (kept_clean ws)
 
-pub words_joined : (t : List ℕ) → with_words [] (words t) ≡ join_with_byte 32 (words t)
-words_joined t = joined_by (words t) (λ w more e. word_length t w more e)
+words_clean : (t : List ℕ) → words (without_braces t) ≡ map without_braces (words t)
+unfolding words
+words_clean t = ap (filter is_not_empty) (parts_clean t) ∙ kept_clean (slice_split is_white t)
 
-pub word_added : (text : List ℕ) (word : List ℕ) (more all : List (List ℕ)) → all ≡ word ∷ more → with_words text all ≡ with_words (with_word text word) more
-unfolding with_words
-word_added text word more all is = ap (with_words text) is
+-- what is left to be added after the first words
+abbrev pub left : List ℕ → List ℕ
+left rest = spaced (map without_braces (words rest))
 
-pub none_added : (text : List ℕ) (all : List (List ℕ)) → all ≡ [] → with_words text all ≡ text
-unfolding with_words
-none_added text all is = ap (with_words text) is
+pub none_left : (t : List ℕ) → words t ≡ [] → left t ≡ []
+unfolding spaced
+none_left t none = ap (λ ws. spaced (map without_braces ws)) none
+
+pub none_joined : (old t : List ℕ) → words t ≡ [] → old ≡ old ++ join_with_byte 32 (words (without_braces t))
+none_joined old t none = sym (append-nil old) ∙ ap (λ ws. old ++ join_with_byte 32 ws) (sym (words_clean t ∙ ap (map without_braces) none))
+
+pub first_joined : (old now t word rest : List ℕ) → words t ≡ word ∷ words rest → now ≡ old ++ without_braces word
+    → now ++ left rest ≡ old ++ join_with_byte 32 (words (without_braces t))
+first_joined old now t word rest is grown =
+    ap (λ x. x ++ left rest) grown ∙ append_assoc old (without_braces word) (left rest)
+    ∙ ap (λ x. old ++ x) (sym (ap (join_with_byte 32) (words_clean t ∙ ap (map without_braces) is) ∙ joined (without_braces word) (map without_braces (words rest))))
+
+pub next_joined : (now next t word rest : List ℕ) → words t ≡ word ∷ words rest → next ≡ now ++ 32 ∷ without_braces word → next ++ left rest ≡ now ++ left t
+unfolding spaced
+next_joined now next t word rest is grown =
+    ap (λ x. x ++ left rest) grown ∙ append_assoc now (32 ∷ without_braces word) (left rest)
+    ∙ ap (λ ws. now ++ spaced (map without_braces ws)) (sym is)
+
+pub all_joined : (now all t : List ℕ) → words t ≡ [] → now ++ left t ≡ all → now ≡ all
+all_joined now all t none is = sym (append-nil now) ∙ ap (λ x. now ++ x) (sym (none_left t none)) ∙ is
+
+-- a text that begins with another goes on doing so
+pub begins_on : (front text more : List ℕ) → Begins front text → Begins text more → Begins front more
+begins_on front text more a b = (a.0 ++ b.0, b.1 ∙ ap (λ x. x ++ b.0) a.1 ∙ append_assoc front a.0 b.0)
+
+pub begins_same : (front text : List ℕ) → text ≡ front → Begins front text
+begins_same front text is = ([], is ∙ sym (append-nil front))
+
+pub cut_back : (front text : List ℕ) → Begins front text → take (length front) text ≡ front
+cut_back front text begins = ap (take (length front)) begins.1 ∙ take-append_seam front begins.0
+
+-- no closing brace is left
+pub no_brace_left : (t : List ℕ) → All (λ b. b ≢ 125) (without_braces t)
+no_brace_left [] = All-nil (λ b. b ≢ 125)
+no_brace_left (b ∷ bs) = All-cons (λ b. b ≢ 125) (without_brace b) (without_braces bs) (by (b == 125) refl) (no_brace_left bs)
+  where
+    by : (t : Bool) → (b == 125) ≡ t → cond t 41 b ≢ 125
+    by true is e = absurd (omega (arith, e))
+    by false is e = absurd (let f : true ≡ false = sym (eq-eqb b 125 e) ∙ is in cc)
+
+-- where there is none, nothing changes
+pub brace_free : (t : List ℕ) → All (λ b. b ≢ 125) t → without_braces t ≡ t
+brace_free [] free = refl
+brace_free (b ∷ bs) free =
+    ap₂ (λ x xs. x ∷ xs) (ap (λ t. cond t 41 b) (false_from_ne_true (b == 125) (λ e. All-head (λ b. b ≢ 125) b bs free (eqb-true b 125 e)))) (brace_free bs (All-tail (λ b. b ≢ 125) b bs free))
 
 longer_joined : (w : List ℕ) (ws : List (List ℕ)) → length w ≤ length (join_with_byte 32 (w ∷ ws))
 longer_joined w [] = omega arith
@@ -103,20 +157,12 @@ none_by : (ws : List (List ℕ)) → ((w : List ℕ) (more : List (List ℕ)) �
 none_by [] some_ none = refl
 none_by (w ∷ ws) some_ none = absurd (let h = some_ w ws refl in let longer = longer_joined w ws in omega (arith, h, longer, none))
 
-pub no_comment : (t comment : List ℕ) → comment ≡ join_with_byte 32 (words t) → true ≡ (length comment == 0) → comment_of (words t) ≡ []
-no_comment t comment is empty = none_by (words t) (λ w more e. word_length t w more e) (ap length (sym is) ∙ eqb-true (length comment) 0 (sym empty))
+pub no_comment : (t : List ℕ) → length (join_with_byte 32 (words t)) ≡ 0 → comment_of (words t) ≡ []
+no_comment t none = none_by (words t) (λ w more e. word_length t w more e) none
 
 some_by : (ws : List (List ℕ)) → (length (join_with_byte 32 ws) ≡ 0 → ⊥) → comment_of ws ≡ join_with_byte 32 ws ∷ []
 some_by [] some_ = absurd (some_ refl)
 some_by (w ∷ ws) some_ = refl
 
-pub one_comment : (t comment : List ℕ) → comment ≡ join_with_byte 32 (words t) → false ≡ (length comment == 0) → comment_of (words t) ≡ comment ∷ []
-one_comment t comment is some_ =
-    some_by (words t) (λ none. (let e : false ≡ true = some_ ∙ eq-eqb (length comment) 0 (ap length is ∙ none) in cc))
-    ∙ ap (λ c. c ∷ []) (sym is)
-
--- without words a node stays as it is
-pub same_node : (nodes : List Node) (k : ℕ) (t : List ℕ) → comment_of (words t) ≡ [] → nodes ≡ with_node nodes k (with_comment t)
-same_node nodes k t none =
-    sym (ap (slice_set nodes k) (ap (λ c. record (node_at nodes k) { comments = (node_at nodes k).comments ++ c }) none
-    ∙ ap (λ c. record (node_at nodes k) { comments = c }) (append-nil (node_at nodes k).comments)) ∙ set_same nodes k no_node)
+pub one_comment : (t : List ℕ) → (length (join_with_byte 32 (words t)) ≡ 0 → ⊥) → comment_of (words t) ≡ join_with_byte 32 (words t) ∷ []
+one_comment t some_ = some_by (words t) some_

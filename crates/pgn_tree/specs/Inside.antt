@@ -10,7 +10,7 @@ tags_inside t = map {B = List ℕ × List ℕ} (λ e. (e.0.items, e.1)) t.pairs.
 
 abbrev pub node_inside : NodeInside → Linked
 node_inside n = record {
-  node = record { parent = n.parent; led_by = n.led_by; position = n.position; nags = n.nags.items; comments = n.comments.items };
+  node = record { parent = n.parent; led_by = n.led_by; position = n.position; nags = n.notes.nags; comments = n.notes.comments };
   first_child = n.first_child;
   last_child = n.last_child;
   next_sibling = n.next_sibling;

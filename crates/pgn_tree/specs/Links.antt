@@ -54,9 +54,6 @@ pub record IsKept (items : List Linked) : Type 0 where
 abbrev pub with_linked : List Linked → ℕ → (Linked → Linked) → List Linked
 with_linked items n change = slice_set items n (change (linked_at items n))
 
-abbrev pub with_kept_comment : List ℕ → Linked → Linked
-with_kept_comment comment x = record x { node = record x.node { comments = x.node.comments ++ comment ∷ [] } }
-
 abbrev pub with_first_child : ℕ → Linked → Linked
 with_first_child k x = record x { first_child = Some k }
 

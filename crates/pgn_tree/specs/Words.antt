@@ -1,6 +1,22 @@
--- How a comment grows by its words, as the private functions give it.
-use Rattle.std.specs.Prelude.{ℕ, List, [], ◌∷◌, ◌++◌, length, ◌==◌, if◌then◌else◌}
+-- The text of a comment, and how a text grows by it.
+use Rattle.std.specs.Prelude.{◌≡◌, ℕ, List, ◌++◌, map, ◌==◌, if◌then◌else◌}
+use Rattle.cq_position.specs.Comments.{closing_brace}
 
--- a text and one more word, after a space where it isn't the first
-abbrev pub with_word : List ℕ → List ℕ → List ℕ
-with_word text word = if length text == 0 then word else (text ++ 32 ∷ []) ++ word
+-- the byte between the words of a comment
+abbrev pub space : ℕ
+space = 32
+
+-- `)`
+abbrev pub closing_parenthesis : ℕ
+closing_parenthesis = 41
+
+abbrev pub without_brace : ℕ → ℕ
+without_brace b = if b == closing_brace then closing_parenthesis else b
+
+-- A comment is kept between braces, so that a closing brace in it becomes a closing parenthesis.
+abbrev pub without_braces : List ℕ → List ℕ
+without_braces text = map without_brace text
+
+-- a text begins with another one
+abbrev pub Begins : List ℕ → List ℕ → Type 0
+Begins front text = (more : List ℕ) × (text ≡ front ++ more)

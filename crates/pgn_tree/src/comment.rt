@@ -1,24 +1,28 @@
 //! The words of a comment.
-ghost use Rattle.std.specs.Prelude.{◌≡◌, ◌<◌, ℕ, [], ◌∷◌, ◌++◌, drop, length, IfOk, OnOk, IfSome, MatchOption, not, position};
+ghost use Rattle.std.specs.Prelude.{◌≡◌, ◌<◌, ℕ, [], ◌∷◌, ◌++◌, drop, length, OnOk, IfSome, MatchOption, not, position};
 ghost use Rattle.cq_outside.specs.Text.{is_white};
 ghost use Rattle.std.specs.List.{join_with_byte};
 ghost use Rattle.cq_position.specs.Comments.{words};
-ghost use Rattle.pgn_tree.specs.Words.{with_word};
+ghost use Rattle.pgn_tree.specs.Words.{space, without_brace, without_braces, Begins};
 
-use cq_outside::{Bytes, NoMemory, is_white};
-use std::alloc::Global;
+use cq_outside::{NoMemory, is_white};
 
-/// The words of a text with single spaces between them.
-pub fn single_spaced(alloc: Global, text: &[u8]) -> Result<Bytes, NoMemory>
-    ensures { IfOk result (λ comment. comment ≡ join_with_byte 32 (words text.now)) }
+/// Adds the words of a comment to a text, with single spaces between them, in which a closing brace becomes a closing parenthesis. Where it
+/// fails, some of that may stand there.
+pub fn push_words(text: &mut Vec<u8>, comment: &[u8]) -> Result<(), NoMemory>
+    ensures ok { OnOk result (text.new.items ≡ text.old.items ++ join_with_byte space (words (without_braces comment.now))) }
+    ensures front { Begins text.old.items text.new.items }
 {
-    let mut comment = Bytes::new(alloc);
-    let mut rest = text;
+    let Some((word, rest)) = first_word(comment) else {
+        return Ok(());
+    };
+    push_word(text, word)?;
+    let mut rest = rest;
     while let Some((word, later)) = first_word(rest) {
-        add_word(&mut comment, word)?;
+        push_next_word(text, word)?;
         rest = later;
     }
-    Ok(comment)
+    Ok(())
 }
 
 /// The first word of a text, which white space ends, and what comes after it in the text; None where the text has no word.
@@ -48,13 +52,29 @@ fn place_of_white(text: &[u8]) -> Option<usize>
     text.iter().position(|b| is_white(*b))
 }
 
-// Adds a word, after a space where it isn't the first.
-fn add_word(comment: &mut Bytes, word: &[u8]) -> Result<(), NoMemory>
-    ensures { OnOk result (comment.new ≡ with_word comment.old word.now) }
+// Adds a word after a space.
+fn push_next_word(text: &mut Vec<u8>, word: &[u8]) -> Result<(), NoMemory>
+    ensures ok { OnOk result (text.new.items ≡ text.old.items ++ space ∷ without_braces word.now) }
+    ensures front { Begins text.old.items text.new.items }
 {
-    if comment.is_empty() {
-        return comment.push_all(word);
+    text.push(b' ')?;
+    push_word(text, word)
+}
+
+// Adds a word.
+fn push_word(text: &mut Vec<u8>, word: &[u8]) -> Result<(), NoMemory>
+    ensures ok { OnOk result (text.new.items ≡ text.old.items ++ without_braces word.now) }
+    ensures front { Begins text.old.items text.new.items }
+{
+    for b in word.iter() {
+        text.push(without_brace(*b))?;
     }
-    comment.push_all(b" ")?;
-    comment.push_all(word)
+    Ok(())
+}
+
+// A byte of a comment: a closing brace would end it, and becomes a closing parenthesis.
+fn without_brace(b: u8) -> u8
+    ensures { result ≡ without_brace b }
+{
+    if b == b'}' { b')' } else { b }
 }

@@ -8,9 +8,10 @@ ghost use Rattle.cq_position.specs.Games.{most_positions, node_at, bare_node, wi
 ghost use Rattle.cq_position.specs.Men.{man_number};
 ghost use Rattle.cq_position.specs.Search.{IsDownPath, has_man, has_man_in};
 ghost use Rattle.pgn_tree.specs.Links.{linked_at, with_link, linked};
+ghost use Rattle.pgn_tree.specs.Notes.{noted_node};
 
-use crate::comment::single_spaced;
 use crate::node::Node;
+use crate::notes::Notes;
 use crate::tags::Tags;
 use cq_outside::NoMemory;
 use cq_position::{GameResult, Man, Move, Position};
@@ -55,8 +56,22 @@ impl Game {
     ) -> Result<Game, NoMemory>
         ensures { IfOk result (λ g. g ≡ record { tags = tags; result = ending; nodes = bare_node None None start ∷ [] }) }
     {
+        Game::of_root(alloc, tags, ending, start, Notes::new(alloc))
+    }
+
+    /// A game of the starting position alone, with its notes.
+    pub fn of_root(
+        alloc: Global,
+        tags: Tags,
+        ending: GameResult,
+        start: Position,
+        notes: Notes,
+    ) -> Result<Game, NoMemory>
+        ensures { IfOk result (λ g. g ≡ record { tags = tags; result = ending; nodes = noted_node None None start notes ∷ [] }) }
+    {
+        prove!(notes.are_kept());
         let mut nodes = Vec::new(alloc);
-        nodes.push(Node::new(alloc, None, None, start, true))?;
+        nodes.push(Node::new(None, None, start, notes, true))?;
         Ok(Game {
             alloc,
             tags,
@@ -204,10 +219,30 @@ impl Game {
         ensures number { IfOk result (λ k. k ≡ length self.old.nodes) }
         ensures err { OnErr result (self.new ≡ self.old) }
     {
+        self.add_noted_node(parent, m, p, Notes::new(self.alloc))
+    }
+
+    /// The same of a node with its notes.
+    pub fn add_noted_node(
+        &mut self,
+        parent: u32,
+        m: Move,
+        p: Position,
+        notes: Notes,
+    ) -> Result<u32, NoMemory>
+        requires node { parent < length self.old.nodes }
+        requires preorder { Contains (way_up self.old.nodes (length self.old.nodes - 1)) parent }
+        requires leads { Leads (node_at self.old.nodes parent).position m p }
+        requires few { length self.old.nodes < most_positions }
+        ensures ok { OnOk result (self.new ≡ record self.old { nodes = self.old.nodes ++ noted_node (Some parent) (Some m) p notes ∷ [] }) }
+        ensures number { IfOk result (λ k. k ≡ length self.old.nodes) }
+        ensures err { OnErr result (self.new ≡ self.old) }
+    {
+        prove!(notes.are_kept());
         let number = self.nodes.len() as u32;
         let main = begins_main_line(&self.nodes[parent as usize]);
         self.nodes
-            .push(Node::new(self.alloc, Some(parent), Some(m), p, main))?;
+            .push(Node::new(Some(parent), Some(m), p, notes, main))?;
         link(&mut self.nodes, parent, number);
         Ok(number)
     }
@@ -237,11 +272,7 @@ impl Game {
         ensures ok { OnOk result (self.new ≡ record self.old { nodes = with_node self.old.nodes k (with_comment text.now) }) }
         ensures err { OnErr result (self.new ≡ self.old) }
     {
-        let comment = single_spaced(self.alloc, text)?;
-        if comment.is_empty() {
-            return Ok(());
-        }
-        self.nodes[k as usize].add_comment(comment)
+        self.nodes[k as usize].add_comment(text)
     }
 
     /// The numbers of the nodes of the main line: the root, and the first children that follow it.

@@ -4,13 +4,16 @@
 #![tactic(auto)]
 
 mod comment;
+mod comments;
 mod game;
 pub mod laws;
 mod node;
+mod notes;
 mod shared;
 mod tags;
 
 pub use comment::first_word;
 pub use cq_position::GameResult;
 pub use game::Game;
+pub use notes::Notes;
 pub use tags::Tags;

@@ -1,15 +1,17 @@
 //! A node of a game.
-ghost use Rattle.std.specs.Prelude.{◌≡◌, ◌<◌, [], ◌∷◌, ◌++◌, length, slice_index_or, IfOk, OnOk, OnErr, IsOk};
-ghost use Rattle.cq_position.specs.Games.{bare_node, with_nag};
-ghost use Rattle.pgn_tree.specs.Links.{IsSameLinked, unlinked, with_first_child, with_kept_comment, with_last_child, with_next_sibling};
+ghost use Rattle.std.specs.Prelude.{◌≡◌, ◌<◌, [], length, slice_index_or, IfOk, OnOk, OnErr, IsOk};
+ghost use Rattle.cq_position.specs.Games.{with_nag, with_comment};
+ghost use Rattle.pgn_tree.specs.Links.{IsSameLinked, unlinked, with_first_child, with_last_child, with_next_sibling};
+ghost use Rattle.pgn_tree.specs.Notes.{noted_node};
+ghost use Rattle.pgn_tree.specs.Words.{without_braces};
 
-use cq_outside::{Bytes, NoMemory};
+use crate::notes::Notes;
+use cq_outside::NoMemory;
 use cq_position::{Move, Position};
-use smallvec::SmallVec;
 use std::alloc::Global;
 use std::marker::Model;
 
-/// A node and its links. Without a comment and with at most four numeric annotation glyphs it takes no memory but for itself.
+/// A node and its links.
 #[derive(Drop)]
 pub struct Node {
     parent: Option<u32>,
@@ -19,12 +21,10 @@ pub struct Node {
     main: bool,
     led_by: Option<Move>,
     position: Position,
-    nags: SmallVec<u8, 4>,
-    comments: Vec<Bytes>,
+    notes: Notes,
 }
 
 impl Model for Node {
-    ghost use Rattle.std.specs.Prelude.{◌≤◌};
     ghost use Rattle.pgn_tree.specs.Links.{Linked};
 
     ghost Value = { Linked };
@@ -32,20 +32,18 @@ impl Model for Node {
     ghost use Rattle.pgn_tree.specs.Inside.{node_inside};
 
     ghost view = { node_inside };
-
-    ghost invariant = { λ n. 4 ≤ n.nags.capacity };
 }
 
 impl Node {
-    /// A node without numeric annotation glyphs, comments, children and siblings.
+    /// A node without children and siblings.
     pub fn new(
-        alloc: Global,
         parent: Option<u32>,
         led_by: Option<Move>,
         position: Position,
+        notes: Notes,
         main: bool,
     ) -> Node
-        ensures { result ≡ unlinked (bare_node parent led_by position) main }
+        ensures { result ≡ unlinked (noted_node parent led_by position notes) main }
     {
         Node {
             parent,
@@ -55,8 +53,7 @@ impl Node {
             main,
             led_by,
             position,
-            nags: SmallVec::new(alloc),
-            comments: Vec::new(alloc),
+            notes,
         }
     }
 
@@ -113,14 +110,14 @@ impl Node {
     pub fn nags(&self) -> &[u8]
         ensures { result.now ≡ self.now.node.nags }
     {
-        self.nags.as_slice()
+        self.notes.nags()
     }
 
     /// How many comments it has.
     pub fn comments(&self) -> usize
         ensures { result ≡ length self.now.node.comments }
     {
-        self.comments.len()
+        self.notes.comments()
     }
 
     /// Comment number `i`, counted from 0.
@@ -128,7 +125,7 @@ impl Node {
         requires { i < length self.now.node.comments }
         ensures { result.now ≡ slice_index_or self.now.node.comments i [] }
     {
-        self.comments[i].as_slice()
+        self.notes.comment(i)
     }
 
     /// Sets the first child.
@@ -159,26 +156,22 @@ impl Node {
         ensures place { IsSameLinked self.old self.new }
         ensures room { length self.old.node.nags < 4 → IsOk result }
     {
-        self.nags.push(nag)?;
-        Ok(())
+        self.notes.add_nag(nag)
     }
 
-    /// Adds a comment.
-    pub fn add_comment(&mut self, comment: Bytes) -> Result<(), NoMemory>
-        ensures ok { OnOk result (self.new ≡ with_kept_comment comment self.old) }
+    /// Adds the comment of a text, if it has a word; a closing brace becomes a closing parenthesis.
+    pub fn add_comment(&mut self, text: &[u8]) -> Result<(), NoMemory>
+        ensures ok { OnOk result (self.new ≡ record self.old { node = with_comment (without_braces text.now) self.old.node }) }
         ensures err { OnErr result (self.new ≡ self.old) }
         ensures place { IsSameLinked self.old self.new }
     {
-        self.comments.push(comment)?;
-        Ok(())
+        self.notes.add_comment(text)
     }
 
     /// The same node again.
     pub fn copy(&self, alloc: Global) -> Result<Node, NoMemory>
         ensures { IfOk result (λ n. n ≡ self.now) }
     {
-        let mut nags = SmallVec::new(alloc);
-        nags.extend_from_slice(self.nags.as_slice())?;
         Ok(Node {
             parent: self.parent,
             first_child: self.first_child,
@@ -187,19 +180,7 @@ impl Node {
             main: self.main,
             led_by: self.led_by,
             position: self.position,
-            nags,
-            comments: copy_comments(alloc, self.comments.as_slice())?,
+            notes: self.notes.copy(alloc)?,
         })
     }
-}
-
-// The same comments again. None take no memory.
-fn copy_comments(alloc: Global, comments: &[Bytes]) -> Result<Vec<Bytes>, NoMemory>
-    ensures { IfOk result (λ copied. copied.items ≡ comments.now) }
-{
-    let mut copied = Vec::with_capacity(alloc, comments.len())?;
-    for comment in comments {
-        copied.push(Bytes::from_slice(alloc, comment.as_slice())?)?;
-    }
-    Ok(copied)
 }

@@ -55,7 +55,7 @@ impl Tags {
         ensures value { result ≡ true }
         ensures names { HaveDistinctNames self.now }
     {
-        // What a type keeps is known where its value is read.
+        // read for the proof alone
         let _len = self.len();
         true
     }

@@ -1,46 +1,32 @@
-use Rattle.std.proofs.Common.{◌≡◌, get_or, take, map, sym, ap, ◌∙◌, subst}
-use Rattle.pgn_lexer.specs.declared.token.Token.{Token}
-use Rattle.pgn_lexer.specs.declared.token.TokenKind.TheVariants.{Open}
-use Rattle.pgn_reader.specs.Words.{Word, word_of}
-use Rattle.pgn_reader.specs.Faults.{IsFault}
-use Rattle.pgn_reader.specs.Machine.{feed}
+use Rattle.std.proofs.Common.{◌+◌, sym, ◌∙◌, subst}
 use Rattle.pgn_reader.specs.Shown.{shown}
-use Rattle.pgn_reader.proofs.Tokens.{low_here, run_on, fault_step, end_in_loop, whole_in_loop}
+use Rattle.pgn_reader.specs.Verdict.{HasTokenFault}
+use Rattle.pgn_reader.proofs.Streamed.{read_none, low_so_far, read_on, read_refused, read_whole, read_to_fault}
 use Rattle.pgn_reader.proofs.all_tokens.read_tokens.Goals as goal
 
-abbrev nothing_there : Token
-nothing_there = record { at = 0; len = 0; kind = Open }
+pub loop-lexeme-init : goal.loop-lexeme-init
+loop-lexeme-init c = read_none c.args.start c.args.first c.args.bytes.now (shown c.new-reader.result) c.new-reader.ensures
 
-pub feed-requires-clause-low : goal.feed-requires-clause-low
-feed-requires-clause-low c =
-    low_here (take c.loop-index.index (map (word_of c.args.start c.args.bytes.now) c.args.tokens.now)) (shown c.loop-index.reader) c.loop-index.invariant.stands
+pub read_lexeme-requires-clause-low : goal.read_lexeme-requires-clause-low
+read_lexeme-requires-clause-low c = low_so_far c.args.start c.args.first c.args.bytes.now c.loop-lexeme.at (shown c.loop-lexeme.reader) c.loop-lexeme.invariant
+
+pub loop-lexeme-preserved : goal.loop-lexeme-preserved
+loop-lexeme-preserved c =
+    read_on c.args.start c.args.first c.args.bytes.now c.loop-lexeme.at c.loop-lexeme.reader c.in-Some.lexeme (shown c.read_lexeme.new.reader) c.in-Ok.field-0
+    (c.in-Some.ensures.next c.args.start) c.in-Some.ensures.text c.in-Some.ensures.within.2 c.loop-lexeme.invariant c.in-Ok.ensures
 
 pub returns-in-Err-Fault : goal.returns-in-Err-Fault
 returns-in-Err-Fault c =
-    let token : Token = get_or c.args.tokens.now c.loop-index.index nothing_there in
-    let read : Word = record { kind = token.kind; text = c.text_of-text.result.now } in
-    let same : read ≡ word_of c.args.start c.args.bytes.now token = ap {B = Word} (λ t. record { kind = token.kind; text = t }) c.text_of-text.ensures in
-    subst (IsFault (map (word_of c.args.start c.args.bytes.now) c.args.tokens.now) c.loop-index.index) (sym c.in-Err-Fault.reason-is)
-    (fault_step (word_of c.args.start c.args.bytes.now) c.args.tokens.now c.loop-index.index nothing_there read c.loop-index.reader (shown c.feed.new.self) c.in-Err-Fault.field-0 c.in-Err-Fault.reason
-    same c.loop-index-test.true c.loop-index.invariant.stands c.loop-index.invariant.few c.in-Err-Fault.field-0-is c.in-Err-Fault.ensures)
+    subst (λ reason. HasTokenFault c.args.start c.args.first c.args.bytes.now (record { byte = c.args.start + c.in-Some.lexeme.at; reason = reason })) (sym c.in-Err-Fault.reason-is)
+    (read_refused c.args.start c.args.first c.args.bytes.now c.loop-lexeme.at c.loop-lexeme.reader c.in-Some.lexeme (shown c.read_lexeme.new.reader) c.in-Err-Fault.field-0 c.in-Err-Fault.reason
+    (c.in-Some.ensures.next c.args.start) c.in-Some.ensures.text c.requires.size c.loop-lexeme.invariant c.in-Err-Fault.field-0-is c.in-Err-Fault.ensures)
 
-pub loop-index-preserved : goal.loop-index-preserved
-loop-index-preserved c =
-    let token : Token = get_or c.args.tokens.now c.loop-index.index nothing_there in
-    let read : Word = record { kind = token.kind; text = c.text_of-text.result.now } in
-    let same : read ≡ word_of c.args.start c.args.bytes.now token = ap {B = Word} (λ t. record { kind = token.kind; text = t }) c.text_of-text.ensures in
-    record {
-      stands = run_on (word_of c.args.start c.args.bytes.now) c.args.tokens.now c.loop-index.index nothing_there (shown c.loop-index.reader) (shown c.feed.new.self)
-          c.loop-index-test.true c.loop-index.invariant.stands (ap (feed (shown c.loop-index.reader)) (sym same) ∙ c.in-Ok.ensures.0);
-      few = c.in-Ok.ensures.1;
-    }
-
-pub returns-in-Some : goal.returns-in-Some
-returns-in-Some c =
-    end_in_loop (word_of c.args.start c.args.bytes.now) c.args.tokens.now c.loop-index.index c.loop-index.reader c.in-Some.reason c.loop-index-test.false c.loop-index.invariant.stands
-    c.loop-index.invariant.few (sym c.fault_at_end.ensures ∙ c.in-Some.is)
+pub returns-in-Some-fault_at_end : goal.returns-in-Some-fault_at_end
+returns-in-Some-fault_at_end c =
+    read_to_fault c.args.start c.args.first c.args.bytes.now c.loop-lexeme.at c.loop-lexeme.reader c.loop-lexeme.invariant (c.in_default.ensures.none c.args.start)
+    c.in-Some-fault_at_end.reason c.requires.size (sym c.fault_at_end.ensures ∙ c.in-Some-fault_at_end.is)
 
 pub returns-in-None : goal.returns-in-None
 returns-in-None c =
-    whole_in_loop (word_of c.args.start c.args.bytes.now) c.args.tokens.now c.loop-index.index c.loop-index.reader c.loop-index-test.false c.loop-index.invariant.stands
-    c.loop-index.invariant.few (sym c.fault_at_end.ensures ∙ c.in-None.is)
+    read_whole c.args.start c.args.first c.args.bytes.now c.loop-lexeme.at c.loop-lexeme.reader c.loop-lexeme.invariant (c.in_default.ensures.none c.args.start)
+    (sym c.fault_at_end.ensures ∙ c.in-None.is)

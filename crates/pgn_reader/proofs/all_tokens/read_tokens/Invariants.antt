@@ -1,11 +1,10 @@
-use Rattle.std.proofs.Common.{◌≡◌, ◌≤◌, take, map}
-use Rattle.pgn_reader.specs.Words.{word_of}
-use Rattle.pgn_reader.specs.Machine.{run, first}
-use Rattle.pgn_reader.specs.Shown.{shown, moves_in}
+use Rattle.std.proofs.Common.{◌-◌, length}
+use Rattle.pgn_reader.specs.Shown.{shown}
+use Rattle.pgn_reader.proofs.Streamed.{IsReadTo}
 use Rattle.pgn_reader.proofs.all_tokens.read_tokens.Given as goal
 
-abbrev pub invariant-loop-index : goal.invariant-loop-index
-invariant-loop-index l = record {
-  stands : run first (take l.index (map (word_of l.fn.start l.fn.bytes) l.fn.tokens)) ≡ shown l.reader;
-  few : moves_in (shown l.reader) ≤ 65535;
-}
+abbrev pub invariant-loop-lexeme : goal.invariant-loop-lexeme
+invariant-loop-lexeme l = IsReadTo l.fn.start l.fn.first l.fn.bytes l.at (shown l.reader)
+
+abbrev pub decreases-loop-lexeme : goal.decreases-loop-lexeme
+decreases-loop-lexeme l = length l.fn.bytes - l.at

@@ -1,7 +1,7 @@
-use Rattle.std.proofs.Common.{[], ◌∷◌, ◌++◌, drop}
+use Rattle.std.proofs.Common.{[], ◌∷◌, ◌++◌}
 use Rattle.pgn_reader.specs.Arranged.{nodes_by}
 use Rattle.pgn_reader.proofs.Building.{IsBuilt}
 use Rattle.pgn_reader.proofs.build.add_rows.Given as goal
 
 abbrev pub invariant-loop-row : goal.invariant-loop-row
-invariant-loop-row l = IsBuilt l.fn.game l.game l.way.items (drop l.row-index l.fn.rows) (l.fn.game.nodes ++ nodes_by (0 ∷ []) 1 l.fn.rows)
+invariant-loop-row l = IsBuilt l.fn.game l.game l.way.items l.row-iterator.rest.items (l.fn.game.nodes ++ nodes_by (0 ∷ []) 1 l.fn.rows.rest.items)

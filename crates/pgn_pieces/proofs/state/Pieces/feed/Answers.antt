@@ -2,7 +2,7 @@ use Rattle.std.proofs.Common.{◌≡◌, List, ◌++◌, length, drop, refl, ap,
 use Rattle.std.proofs.lemmas.List.{length-append}
 use Rattle.pgn_cut.specs.Cut.{closed}
 use Rattle.pgn_cut.specs.declared.span.Span.{Span}
-use Rattle.pgn_pieces.proofs.Streams.{takes_bytes, fed, fed_in_order}
+use Rattle.pgn_pieces.proofs.Streams.{takes_bytes, adds_after, fed, fed_in_order}
 use Rattle.pgn_pieces.proofs.state.Pieces.feed.Goals as goal
 
 pub add_all-requires : goal.add_all-requires
@@ -22,10 +22,11 @@ add_all-requires c =
 
 pub returns-clause-takes : goal.returns-clause-takes
 returns-clause-takes c =
-    takes_bytes c.args.self.now _ c.args.bytes.now c.args.text.now c.add_all.new.text c.as_slice.result.now refl refl
+    takes_bytes c.args.self.now _ c.args.bytes.now c.args.text.now c.push_all.new.self c.as_slice.result.now refl refl
     (λ front stands. (
       c.in_ok-feed.ensures.stands front stands,
       fed c.closed_games_stay.ensures.grow front c.args.bytes.now c.as_slice.result.now (c.as_slice.ensures.value ∙ c.in_ok-feed.ensures.games front stands
           ∙ ap (λ (l : List Span). l ++ drop (length (closed front)) (closed (front ++ c.args.bytes.now))) c.new-games.ensures.items),
     ))
-    c.in_ok-self.ensures
+    (adds_after c.args.self.now.least c.args.self.now.open_piece c.in_ok-open_piece.open_piece c.as_slice.result.now c.new-lines.result c.add_all.new.text c.args.text.now c.push_all.new.self
+    c.new-lines.ensures c.in_ok-open_piece.ensures (c.in_ok-push_all.ensures.ok ∙ ap (λ (l : List _). c.args.text.now ++ l) c.as_slice-2.ensures))

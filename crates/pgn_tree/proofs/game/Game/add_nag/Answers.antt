@@ -2,7 +2,7 @@ use Rattle.std.proofs.Common.{List, ap, ◌∙◌, arith}
 use Rattle.std.proofs.lemmas.Result.{on_ok_weaker}
 use Rattle.cq_position.specs.Games.{Node, Game, with_nag, with_node}
 use Rattle.pgn_tree.proofs.Changed.{kept_set, within_items, nodes_set}
-use Rattle.pgn_tree.proofs.Notes.{nag_notes}
+use Rattle.pgn_tree.proofs.NodeNotes.{nag_notes}
 use Rattle.pgn_tree.proofs.game.Game.add_nag.Goals as goal
 
 pub invariant_of-self : goal.invariant_of-self

@@ -1,0 +1,13 @@
+-- What contracts see of notes.
+use Rattle.std.specs.Prelude.{ℕ, ◌<◌, ◌≤◌, List, All}
+use Rattle.cq_position.specs.Games.{glyph_numbers}
+use Rattle.pgn_tree.specs.declared.notes.Notes.TheInside.{Inside}
+use Rattle.pgn_tree.specs.Notes.{Noted}
+
+abbrev pub notes_inside : Inside → Noted
+notes_inside n = record { nags = n.nags.items; comments = n.comments }
+
+-- they have room for four glyphs, each of which is a byte
+pub record IsInside (n : Inside) : Type 0 where
+  pub room : 4 ≤ n.nags.capacity
+  pub bytes : All (λ nag. nag < glyph_numbers) n.nags.items
