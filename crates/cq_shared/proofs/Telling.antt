@@ -7,7 +7,7 @@ use Rattle.cq_position.specs.Games.{Game, is_searched, searched}
 use Rattle.cq_position.specs.Search.{SearchedTree, nodes_in}
 use Rattle.cql_eval.specs.Classes.{form_class, filter_class}
 use Rattle.cql_eval.specs.Columns.{is_live, AreAsked}
-use Rattle.cql_eval.specs.Costs.{filter_cost, filters_cost}
+use Rattle.cql_eval.specs.Costs.{filter_cost, filters_cost, searched_len}
 use Rattle.cql_eval.specs.Hits.{AreKeysAtHits}
 use Rattle.cql_syntax.specs.Hits.{is_hit}
 use Rattle.cql_syntax.specs.Meaning.{value}
@@ -58,11 +58,11 @@ count_asked tree live asked =
     (λ n there. ap (is_searched tree.variations tree.game.nodes) (let e : 0 + n ≡ n = omega arith in e) ∙ asked.searched n there))
 
 pub cost_is : (game : Game) (p : Part) (live : List Bool) (before now : ℕ) → AreAsked (tree_for game p) live
-    → now ≤ before + count_by (λ b. b) live + filters_cost (length game.nodes) (filters_tree p.single.query.items)
+    → now ≤ before + count_by (λ b. b) live + filters_cost (searched_len (tree_for game p)) (filters_tree p.single.query.items)
     → is_single (filters_tree p.single.query.items) ≡ true → now ≤ before + part_cost game (shown p.single)
 unfolding part_cost
 cost_is game p live before now asked cost one =
-    omega (arith, cost, count_asked (tree_for game p) live asked, cost_alone (length game.nodes) (filters_tree p.single.query.items) one)
+    omega (arith, cost, count_asked (tree_for game p) live asked, cost_alone (searched_len (tree_for game p)) (filters_tree p.single.query.items) one)
 
 hit_alone : (tree : SearchedTree) (fs : FilterTrees) (n : ℕ) → is_single fs ≡ true → is_hit tree fs n ≡ holds (value tree [] [] (first_of fs) n)
 unfolding value

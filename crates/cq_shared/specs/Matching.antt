@@ -2,9 +2,9 @@
 use Rattle.std.specs.Prelude.{◌≡◌, ℕ, zero, suc, ◌+◌, ◌<◌, ◌&&◌, ◌||◌, ◌==◌, nat_lt, not, Bool, true, false, List, [], ◌∷◌, Option, None, ℤ, get_or, length, if◌then◌else◌}
 use Rattle.std.specs.List.{list_all, sum_by, list_any}
 use Rattle.cq_position.specs.Games.{Game, is_searched}
-use Rattle.cq_position.specs.Search.{SearchedTree, nodes_in}
+use Rattle.cq_position.specs.Search.{SearchedTree}
 use Rattle.cql_eval.specs.Columns.{is_live}
-use Rattle.cql_eval.specs.Costs.{filter_cost}
+use Rattle.cql_eval.specs.Costs.{filter_cost, searched_len}
 use Rattle.cql_eval.specs.Hits.{number_at}
 use Rattle.cql_syntax.specs.Meaning.{value}
 use Rattle.cql_syntax.specs.Trees.{FilterTree, filter_at, FormTree, sort}
@@ -37,7 +37,8 @@ sort_number tree (filter_at at f) n = form_number tree f n
 
 -- what a part takes at most as the only item: a step for each searched node, and what its lines cost
 unfoldable pub part_cost : Game → PartTree → ℕ
-part_cost game p = length (nodes_in (searched_tree game p.variations)) + filter_cost (length game.nodes) p.filter
+part_cost game p =
+    searched_len (searched_tree game p.variations) + filter_cost (searched_len (searched_tree game p.variations)) p.filter
 
 abbrev pub plan_cost : Game → List PartTree → ℕ
 plan_cost game ps = sum_by (part_cost game) ps

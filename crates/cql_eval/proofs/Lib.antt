@@ -1,6 +1,7 @@
 pub mod AttackLaw
 pub mod Chains
 pub mod ClassLaw
+pub mod CostSums
 pub mod Costing
 pub mod Filling
 pub mod FindLaw
@@ -9,6 +10,8 @@ pub mod FormLaws
 pub mod Gathering
 pub mod HitsLaw
 pub mod Keeping
+pub mod LineAtoms
+pub mod LineTables
 pub mod LinesLaw
 pub mod Lives
 pub mod Lowering

@@ -179,7 +179,8 @@ module _ (tree : SearchedTree) (is_tree : IsTree tree.game.nodes) where
 
   -- one part
 
-  module _ (back : Bool) (old wide : List Bool) (asked : AreAsked tree old) (reached : AreReached tree back old wide) (table : AtomTable) (past : ℕ) (p : Pattern ℕ) (r : Pattern (ℕ → Value)) where
+  module _ {L : Type 0} {own : _} (back : Bool) (old wide : List Bool) (asked : AreAsked tree old) (reached : AreReached tree back old wide) (table : AtomTable L own) (past : ℕ) (p : Pattern ℕ)
+      (r : Pattern (ℕ → Value)) where
     in_wide : (n : ℕ) → ReachedFrom tree back (IsLive old) n → IsLive wide n
     in_wide n from = reached.covers from.0 n from.1 from.2
 
@@ -244,7 +245,7 @@ not_met false i n e f = cc
 
 -- where all searched nodes are asked for
 
-pub all_tabled : (tree : SearchedTree) (back : Bool) (all : List Bool) (table : AtomTable) (past : ℕ) (p : Pattern ℕ) (r : Pattern (ℕ → Value)) → AreAllAsked tree all
+pub all_tabled : {L : Type 0} {own : _} (tree : SearchedTree) (back : Bool) (all : List Bool) (table : AtomTable L own) (past : ℕ) (p : Pattern ℕ) (r : Pattern (ℕ → Value)) → AreAllAsked tree all
     → AreTabled tree back (IsLive all) table past p r → AreTabled tree back (IsAsked tree) table past p r
 all_tabled tree back all table past p r every f test same = alike_wider (IsStep tree back false) (IsAsked tree) (IsLive all) (λ n asked. every.covers n asked) test p r (f test same)
 
@@ -254,23 +255,27 @@ all_never tree back all r every f = never_wider (IsStep tree back false) (IsAske
 
 -- the same, where sets are given by others that are equal to them
 
-pub wide_leads_at : (tree : SearchedTree) → IsTree tree.game.nodes → (back : Bool) (old given wide shown : List Bool) → given ≡ old → shown ≡ wide → AreAsked tree old → AreReached tree back given wide
-    → (table : AtomTable) (past : ℕ) (p : Pattern ℕ) (r : Pattern (ℕ → Value)) (m : Mark) → AreTabled tree back (IsLive shown) table past p r
+pub wide_leads_at : {L : Type 0} {own : _} (tree : SearchedTree) → IsTree tree.game.nodes → (back : Bool) (old given wide shown : List Bool) → given ≡ old → shown ≡ wide → AreAsked tree old
+    → AreReached tree back given wide
+    → (table : AtomTable L own) (past : ℕ) (p : Pattern ℕ) (r : Pattern (ℕ → Value)) (m : Mark) → AreTabled tree back (IsLive shown) table past p r
     → LeadsOn tree back old wide table past (marked m p) (marked m r)
 wide_leads_at tree is_tree back old given wide shown is same asked reached table past p r m tabled =
     wide_leads tree is_tree back old wide asked (subst (λ l. AreReached tree back l wide) is reached) table past p r m (subst (λ l. AreTabled tree back (IsLive l) table past p r) same tabled)
 
-pub wide_ends_at : (tree : SearchedTree) → IsTree tree.game.nodes → (back : Bool) (old given wide shown : List Bool) → given ≡ old → shown ≡ wide → AreAsked tree old → AreReached tree back given wide
-    → (table : AtomTable) (past : ℕ) (p : Pattern ℕ) (r : Pattern (ℕ → Value)) (m : Mark) → is_needed m ≡ true → IsNever (IsStep tree back false) (IsLive shown) r → EndsHere tree back old (marked m r)
+pub wide_ends_at : {L : Type 0} {own : _} (tree : SearchedTree) → IsTree tree.game.nodes → (back : Bool) (old given wide shown : List Bool) → given ≡ old → shown ≡ wide → AreAsked tree old
+    → AreReached tree back given wide
+    → (table : AtomTable L own) (past : ℕ) (p : Pattern ℕ) (r : Pattern (ℕ → Value)) (m : Mark) → is_needed m ≡ true → IsNever (IsStep tree back false) (IsLive shown) r → EndsHere tree back old
+    (marked m r)
 wide_ends_at tree is_tree back old given wide shown is same asked reached table past p r m needed never =
     wide_ends tree is_tree back old wide asked (subst (λ l. AreReached tree back l wide) is reached) table past p r m needed (subst (λ l. IsNever (IsStep tree back false) (IsLive l) r) same never)
 
-pub group_leads_at : (tree : SearchedTree) → IsTree tree.game.nodes → (back : Bool) (old given wide shown : List Bool) → given ≡ old → shown ≡ old → AreAsked tree old → AreReached tree back given wide
-    → (table : AtomTable) (past : ℕ) (p : Pattern ℕ) (r : Pattern (ℕ → Value)) → AreTabled tree back (IsLive shown) table past p r → LeadsOn tree back old wide table past p r
+pub group_leads_at : {L : Type 0} {own : _} (tree : SearchedTree) → IsTree tree.game.nodes → (back : Bool) (old given wide shown : List Bool) → given ≡ old → shown ≡ old → AreAsked tree old
+    → AreReached tree back given wide
+    → (table : AtomTable L own) (past : ℕ) (p : Pattern ℕ) (r : Pattern (ℕ → Value)) → AreTabled tree back (IsLive shown) table past p r → LeadsOn tree back old wide table past p r
 group_leads_at tree is_tree back old given wide shown is same asked reached table past p r tabled =
     group_leads tree is_tree back old wide asked (subst (λ l. AreReached tree back l wide) is reached) table past p r (subst (λ l. AreTabled tree back (IsLive l) table past p r) same tabled)
 
-pub leads_at : (tree : SearchedTree) (back : Bool) (old given new : List Bool) → given ≡ old → (table : AtomTable) (past : ℕ) (p : Pattern ℕ) (r : Pattern (ℕ → Value))
+pub leads_at : {L : Type 0} {own : _} (tree : SearchedTree) (back : Bool) (old given new : List Bool) → given ≡ old → (table : AtomTable L own) (past : ℕ) (p : Pattern ℕ) (r : Pattern (ℕ → Value))
     → LeadsOn tree back given new table past p r → LeadsOn tree back old new table past p r
 leads_at tree back old given new is table past p r h = subst (λ l. LeadsOn tree back l new table past p r) is h
 

@@ -50,11 +50,11 @@ are_so taken tree e want (more_filters f fs) n = is_so_if taken tree e want f n 
 
 -- what the filters cost that are taken
 abbrev pub cost_if : (FilterTree → Bool) → ℕ → FilterTree → ℕ
-cost_if taken nodes f = if taken f then filter_cost nodes f else 0
+cost_if taken searched f = if taken f then filter_cost searched f else 0
 
 unfoldable pub cost_of : (FilterTree → Bool) → ℕ → FilterTrees → ℕ
-cost_of taken nodes no_filters = 0
-cost_of taken nodes (more_filters f fs) = cost_if taken nodes f + cost_of taken nodes fs
+cost_of taken searched no_filters = 0
+cost_of taken searched (more_filters f fs) = cost_if taken searched f + cost_of taken searched fs
 
 -- of a game's nodes that are asked for those that pass a test
 pub record IsLeft (tree : SearchedTree) (live : List Bool) (test : ℕ → Bool) (left : List Bool) : Type 0 where

@@ -1,4 +1,5 @@
 pub mod Asked
+pub mod AtomsAround
 pub mod Attacked
 pub mod Classes
 pub mod Columns

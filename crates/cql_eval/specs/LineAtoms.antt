@@ -50,25 +50,25 @@ spot_at tree n = record {
 }
 
 -- no atom from k on holds anywhere yet
-abbrev pub AreClearFrom : AtomTable → ℕ → Type 0
+abbrev pub AreClearFrom : {L : Type 0} {own : _} → AtomTable L own → ℕ → Type 0
 AreClearFrom table k = (a n : ℕ) → k ≤ a → holds_in table a n ≡ false
 
 -- the atoms from the first on, below another, may be put into a table of so many nodes
-pub record HasRoom (count first past : ℕ) (table : AtomTable) : Type 0 where
+pub record HasRoom {L : Type 0} {own : _} (count first past : ℕ) (table : AtomTable L own) : Type 0 where
   pub few : past ≤ 64
   pub atoms : past ≤ atoms_of table
   pub nodes : nodes_of table ≡ count
   pub clear : AreClearFrom table first
 
 -- an atom holds at a node where it is put there, and all else is as it was
-pub record IsPut (which node : ℕ) (there : Bool) (old new : AtomTable) : Type 0 where
+pub record IsPut {L : Type 0} {own : _} (which node : ℕ) (there : Bool) (old new : AtomTable L own) : Type 0 where
   pub atoms : atoms_of new ≡ atoms_of old
   pub nodes : nodes_of new ≡ nodes_of old
   pub here : holds_in new which node ≡ (there || holds_in old which node)
   pub others : (a n : ℕ) → ((a ≡ which) × (n ≡ node) → ⊥) → holds_in new a n ≡ holds_in old a n
 
 -- the other atoms of a table, and its size, are as they were
-pub record IsFilledIn (old new : AtomTable) (first past : ℕ) : Type 0 where
+pub record IsFilledIn {L : Type 0} {own : _} (old new : AtomTable L own) (first past : ℕ) : Type 0 where
   pub atoms : atoms_of new ≡ atoms_of old
   pub nodes : nodes_of new ≡ nodes_of old
   pub before : (a n : ℕ) → a < first → holds_in new a n ≡ holds_in old a n

@@ -29,11 +29,12 @@ abbrev pub IsNever : (ℕ → ℕ → Type 0) → (ℕ → Type 0) → Pattern (
 IsNever Step In r = (w : List ℕ) → IsWay Step In w → Spells (λ v m. holds (v m)) r w → ⊥
 
 -- a test agrees with a table on the atoms below a number
-abbrev pub Agrees : (ℕ → ℕ → Bool) → AtomTable → ℕ → Type 0
+abbrev pub Agrees : {L : Type 0} {own : _} → (ℕ → ℕ → Bool) → AtomTable L own → ℕ → Type 0
 Agrees test table past = (a n : ℕ) → a < past → test a n ≡ holds_in table a n
 
 -- Whatever agrees with the table on the atoms below a number spells on the ways that begin at some nodes what the values spell.
-abbrev pub AreTabled : SearchedTree → Bool → (ℕ → Type 0) → AtomTable → ℕ → Pattern ℕ → Pattern (ℕ → Value) → Type 0
+abbrev pub AreTabled :
+    {L : Type 0} {own : _} → SearchedTree → Bool → (ℕ → Type 0) → AtomTable L own → ℕ → Pattern ℕ → Pattern (ℕ → Value) → Type 0
 AreTabled tree back In table past p r =
     (test : ℕ → ℕ → Bool) → Agrees test table past → AreAlike (IsStep tree back false) In test p r
 
@@ -54,8 +55,8 @@ pub record AreReached (tree : SearchedTree) (back : Bool) (live wide : List Bool
 
 -- What a part of a row and all that follows it spell on ways from the nodes of one set is right where what follows is right on ways from
 -- those of the next set.
-pub record LeadsOn (tree : SearchedTree) (back : Bool) (old new : List Bool) (table : AtomTable) (past : ℕ) (p : Pattern ℕ)
-    (r : Pattern (ℕ → Value)) : Type 0 where
+pub record LeadsOn {L : Type 0} {own : _} (tree : SearchedTree) (back : Bool) (old new : List Bool) (table : AtomTable L own) (past : ℕ)
+    (p : Pattern ℕ) (r : Pattern (ℕ → Value)) : Type 0 where
   pub asked : AreAsked tree new
   pub alike : (test : ℕ → ℕ → Bool) → Agrees test table past → (q : Pattern ℕ) (s : Pattern (ℕ → Value))
       → AreAlike (IsStep tree back false) (IsLive new) test q s

@@ -8,7 +8,7 @@ ghost use Rattle.cql_syntax.specs.Values as spec;
 ghost use Rattle.cql_values.specs.Trees.{searched_tree};
 ghost use Rattle.cql_eval.specs.Asked.{AreUnsettled};
 ghost use Rattle.cql_eval.specs.Columns.{AreAsked, AreTruths, IsColumn, Where, shown, all_shown, terms_shown};
-ghost use Rattle.cql_eval.specs.Costs.{filter_cost, filters_cost, terms_cost, played_cost, written_cost, line_cost};
+ghost use Rattle.cql_eval.specs.Costs.{filter_cost, filters_cost, terms_cost, played_cost, written_cost, line_cost, searched_len};
 ghost use Rattle.cql_eval.specs.FlatTrees.{IsFlat, AreFlat, AreFlatTerms, IsFlatMove, IsFlatPart, IsFlatLine};
 
 mod chains;
@@ -59,7 +59,7 @@ pub(crate) fn evaluate<L: Ledger>(
     requires flat { IsFlat (filter_tree f.now) }
     ensures value { IfOk result (λ c. IsColumn c live.now
         (meaning.value (searched_tree game.now variations) [] names.now (filter_tree f.now))) }
-    ensures cost { steps.new ≤ steps.old + filter_cost (length game.now.nodes) (filter_tree f.now) }
+    ensures cost { steps.new ≤ steps.old + filter_cost (searched_len (searched_tree game.now variations)) (filter_tree f.now) }
     ensures rises { steps.old ≤ steps.new }
 {
     if !any_live(live) {
@@ -171,7 +171,7 @@ fn unary_column<L: Ledger>(
     requires flat { IsFlat (filter_tree part.now) }
     ensures value { IfOk result (λ c. IsColumn c live.now (meaning.unary_of (searched_tree game.now variations) word
         (meaning.value (searched_tree game.now variations) [] names.now (filter_tree part.now)))) }
-    ensures cost { steps.new ≤ steps.old + filter_cost (length game.now.nodes) (filter_tree part.now) }
+    ensures cost { steps.new ≤ steps.old + filter_cost (searched_len (searched_tree game.now variations)) (filter_tree part.now) }
     ensures rises { steps.old ≤ steps.new }
 {
     match word {
@@ -234,7 +234,7 @@ fn chain_column<L: Ledger>(
     requires flat { AreFlat (filters_tree parts.now) }
     ensures value { IfOk result (λ c. IsColumn c live.now
         (λ n. spec.chain_of chain (meaning.values (searched_tree game.now variations) [] names.now (filters_tree parts.now) n))) }
-    ensures cost { steps.new ≤ steps.old + filters_cost (length game.now.nodes) (filters_tree parts.now) }
+    ensures cost { steps.new ≤ steps.old + filters_cost (searched_len (searched_tree game.now variations)) (filters_tree parts.now) }
     ensures rises { steps.old ≤ steps.new }
 {
     match chain {
@@ -272,7 +272,7 @@ fn any_column<L: Ledger>(
     requires flat { AreFlat (filters_tree parts.now) }
     ensures value { IfOk result (λ c. IsColumn c live.now
         (λ n. spec.any_of kind (meaning.values (searched_tree game.now variations) [] names.now (filters_tree parts.now) n))) }
-    ensures cost { steps.new ≤ steps.old + filters_cost (length game.now.nodes) (filters_tree parts.now) }
+    ensures cost { steps.new ≤ steps.old + filters_cost (searched_len (searched_tree game.now variations)) (filters_tree parts.now) }
     ensures rises { steps.old ≤ steps.new }
 {
     match kind {

@@ -9,6 +9,7 @@ pub mod column;
 mod combine;
 mod evaluate;
 pub mod filter_column;
+pub mod laws;
 mod leaves;
 mod moves;
 mod narrow;

@@ -19,10 +19,11 @@ use cql_syntax::{Body, Constituents, Extent, Mark};
 use cql_values::walks::{is_first_child, is_searched};
 use pgn_tree::Game;
 use std::alloc::Global;
+use std::sync::ledger::Ledger;
 
 /// The pattern of parts in a row, whose atoms have the numbers from the next on.
 #[cycle(pattern)]
-#[tactic(auto, using(crate::proofs::LinesLaw::next_few))]
+#[tactic(auto, using(crate::proofs::LineAtoms::next_few))]
 pub(crate) fn parts_pattern(
     alloc: Global,
     parts: &Constituents,
@@ -121,11 +122,11 @@ fn push_node(shape: &mut Shape, game: &Game, variations: bool, k: u32) -> Result
 }
 
 /// A table for the atoms of parts in a row at the nodes of a game; none of them holds anywhere.
-pub(crate) fn empty_table(
+pub(crate) fn empty_table<L: Ledger>(
     alloc: Global,
     parts: &Constituents,
     game: &Game,
-) -> Result<AtomTable, NoMemory>
+) -> Result<AtomTable<L>, NoMemory>
     requires tree { IsTree game.now.nodes }
     requires few { costs.parts_atoms (parts_tree parts.now) ≤ 64 }
     ensures atoms { IfOk result (λ table. atoms_of table ≡ costs.parts_atoms (parts_tree parts.now)) }
@@ -139,7 +140,7 @@ pub(crate) fn empty_table(
 }
 
 /// The atom of a number holds from now on at the nodes of a set.
-pub(crate) fn put_nodes(table: &mut AtomTable, atom: u32, game: &Game, set: &[bool])
+pub(crate) fn put_nodes<L: Ledger>(table: &mut AtomTable<L>, atom: u32, game: &Game, set: &[bool])
     requires atom { atom < atoms_of table.old }
     requires nodes { nodes_of table.old ≡ length game.now.nodes }
     requires set { length set.now ≡ length game.now.nodes }
@@ -152,7 +153,7 @@ pub(crate) fn put_nodes(table: &mut AtomTable, atom: u32, game: &Game, set: &[bo
     }
 }
 
-fn put_if(table: &mut AtomTable, atom: u32, node: u32, there: bool)
+fn put_if<L: Ledger>(table: &mut AtomTable<L>, atom: u32, node: u32, there: bool)
     requires atom { atom < atoms_of table.old }
     requires node { node < nodes_of table.old }
     ensures { IsPut atom node there table.old table.new }

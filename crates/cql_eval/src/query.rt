@@ -10,7 +10,7 @@ ghost use Rattle.cql_syntax.specs.Values.{holds, amount};
 ghost use Rattle.cql_values.specs.Trees.{searched_tree};
 ghost use Rattle.cql_eval.specs.Classes.{is_of, is_so_if, cost_if, IsLeft};
 ghost use Rattle.cql_eval.specs.Columns.{AreAsked, is_live, shown};
-ghost use Rattle.cql_eval.specs.Costs.{filter_cost, filters_cost};
+ghost use Rattle.cql_eval.specs.Costs.{filter_cost, filters_cost, searched_len};
 ghost use Rattle.cql_eval.specs.FlatTrees.{IsFlat};
 ghost use Rattle.cql_eval.specs.Hits.{hits_of, keys_of, hit_column, key_columns, key_row_of, item_numbers, AreKeysAtHits};
 
@@ -45,7 +45,7 @@ pub fn columns<L: Ledger>(
     ensures nodes { IfOk result (λ column. length (hits_of column) ≡ length game.now.nodes) }
     ensures least { OnOk result (steps.old + length (nodes_in (searched_tree game.now query.now.variations)) ≤ steps.new) }
     ensures most { steps.new ≤ steps.old + length (nodes_in (searched_tree game.now query.now.variations))
-        + filters_cost (length game.now.nodes) (filters_tree query.now.items) }
+        + filters_cost (searched_len (searched_tree game.now query.now.variations)) (filters_tree query.now.items) }
 {
     // A game's nodes are a tree.
     prove!(game.is_tree());
@@ -79,7 +79,7 @@ pub fn hit_columns<L: Ledger>(
     ensures nodes { IfOk result (λ column. length (hits_of column) ≡ length game.now.nodes) }
     ensures least { OnOk result (steps.old + length (nodes_in (searched_tree game.now query.now.variations)) ≤ steps.new) }
     ensures most { steps.new ≤ steps.old + length (nodes_in (searched_tree game.now query.now.variations))
-        + filters_cost (length game.now.nodes) (filters_tree query.now.items) }
+        + filters_cost (searched_len (searched_tree game.now query.now.variations)) (filters_tree query.now.items) }
 {
     let all = searched_nodes(alloc, game, query.variations, steps)?;
     let column = columns_of(alloc, query, game, &all, steps)?;
@@ -104,7 +104,7 @@ pub fn hit_columns_at<L: Ledger>(
     ensures nodes { IfOk result (λ column. length (hits_of column) ≡ length game.now.nodes) }
     ensures least { OnOk result (steps.old + count_by (λ b. b) live.now ≤ steps.new) }
     ensures most { steps.new ≤ steps.old + count_by (λ b. b) live.now
-        + filters_cost (length game.now.nodes) (filters_tree query.now.items) }
+        + filters_cost (searched_len (searched_tree game.now query.now.variations)) (filters_tree query.now.items) }
 {
     tick_nodes(live, steps);
     let column = columns_of(alloc, query, game, live, steps)?;
@@ -124,7 +124,8 @@ fn columns_of<L: Ledger>(
         (is_hit (searched_tree game.now query.now.variations) (filters_tree query.now.items)) (hits_of column)) }
     ensures keys { IfOk result (λ column. AreKeysAtHits (searched_tree game.now query.now.variations) (filters_tree query.now.items)
         (hits_of column) (keys_of column)) }
-    ensures cost { steps.new ≤ steps.old + filters_cost (length game.now.nodes) (filters_tree query.now.items) }
+    ensures cost { steps.new ≤ steps.old
+        + filters_cost (searched_len (searched_tree game.now query.now.variations)) (filters_tree query.now.items) }
     ensures rises { steps.old ≤ steps.new }
 {
     // A game's nodes are a tree.
@@ -166,7 +167,7 @@ fn sort_by<L: Ledger>(
         (is_so_if (is_of 5) (searched_tree game.now variations) [] true (filter_tree item.now)) left.new) }
     ensures keys { OnOk result (map (λ row. row.items) keys.new.items ≡ map (λ row. row.items) keys.old.items
         ++ map (key_row_of (searched_tree game.now variations) left.old) (item_numbers (filter_tree item.now))) }
-    ensures cost { steps.new ≤ steps.old + cost_if (is_of 5) (length game.now.nodes) (filter_tree item.now) }
+    ensures cost { steps.new ≤ steps.old + cost_if (is_of 5) (searched_len (searched_tree game.now variations)) (filter_tree item.now) }
     ensures rises { steps.old ≤ steps.new }
 {
     match &item.form {
@@ -205,7 +206,7 @@ fn narrowed_by<L: Ledger>(
         ≡ (is_live left.now n && holds (value (searched_tree game.now variations) [] [] (filter_tree item.now) n))) }
     ensures keys { OnOk result (map (λ row. row.items) keys.new.items ≡ map (λ row. row.items) keys.old.items
         ++ map (key_row_of (searched_tree game.now variations) asked.now) (item_numbers (filter_tree item.now))) }
-    ensures cost { steps.new ≤ steps.old + filter_cost (length game.now.nodes) (filter_tree item.now) }
+    ensures cost { steps.new ≤ steps.old + filter_cost (searched_len (searched_tree game.now variations)) (filter_tree item.now) }
     ensures rises { steps.old ≤ steps.new }
 {
     match &item.form {

@@ -8,7 +8,7 @@ use Rattle.cql_lines.specs.Tables.{atoms_of, nodes_of}
 use Rattle.cql_lines.specs.Trees.{spots_of}
 
 -- at most 64 rules, whose atoms the table has, and a table of the nodes of the tree, of which there are no more than there may be
-pub record Fit (rules : List Rule) (table : AtomTable) (shape : Shape) : Type 0 where
+pub record Fit {L : Type 0} {g : _} (rules : List Rule) (table : AtomTable L g) (shape : Shape) : Type 0 where
   pub count : length rules ≤ 64
   pub atoms : (i : ℕ) (r : Rule) → slice_get rules i ≡ Some r → r.atom < atoms_of table
   pub words : nodes_of table ≡ length (spots_of shape)

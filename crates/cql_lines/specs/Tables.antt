@@ -4,20 +4,20 @@ use Rattle.std.specs.Int.{bit_at}
 use Rattle.cql_lines.specs.declared.table.AtomTable.{AtomTable}
 
 -- how many atoms it has
-abbrev pub atoms_of : AtomTable → ℕ
+abbrev pub atoms_of : {L : Type 0} {g : _} → AtomTable L g → ℕ
 atoms_of table = table.atoms
 
 -- for each node a word with a bit for each atom
-abbrev pub words_of : AtomTable → List ℕ
+abbrev pub words_of : {L : Type 0} {g : _} → AtomTable L g → List ℕ
 words_of table = table.words.items
 
 -- a word has a bit for each atom
 abbrev pub holds : List ℕ → ℕ → ℕ → Bool
 holds words a n = bit_at (get_or words n 0) a == 1
 
-abbrev pub nodes_of : AtomTable → ℕ
+abbrev pub nodes_of : {L : Type 0} {g : _} → AtomTable L g → ℕ
 nodes_of table = length (words_of table)
 
 -- whether an atom holds at a node
-abbrev pub holds_in : AtomTable → ℕ → ℕ → Bool
+abbrev pub holds_in : {L : Type 0} {g : _} → AtomTable L g → ℕ → ℕ → Bool
 holds_in table a n = holds (words_of table) a n

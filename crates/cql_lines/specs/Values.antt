@@ -23,7 +23,7 @@ AnswerAt false P o = o ≡ None
 
 -- At a searched node the greatest length of those paths from it that the pattern spells and whose length the limits allow, or none where
 -- there is no such path; none at another node.
-abbrev pub IsValueAt : AtomTable → Shape → Pattern ℕ → ℕ → Option ℕ → Type 0
+abbrev pub IsValueAt : {L : Type 0} {g : _} → AtomTable L g → Shape → Pattern ℕ → ℕ → Option ℕ → Type 0
 IsValueAt table shape p n value =
     AnswerAt
     (is_searched (spots_of shape) n)

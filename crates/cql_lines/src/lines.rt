@@ -21,7 +21,7 @@ use std::sync::ledger::Ledger;
 pub fn line_values<L: Ledger>(
     alloc: Global,
     automaton: &Automaton,
-    table: &AtomTable,
+    table: &AtomTable<L>,
     shape: &Shape,
     steps: &mut Steps<L>,
 ) -> Result<Vec<Option<u32>>, NoMemory>

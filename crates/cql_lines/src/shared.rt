@@ -4,9 +4,10 @@ use crate::automaton::Automaton;
 use crate::shape::Shape;
 use crate::table::AtomTable;
 use cq_outside::Shared;
+use std::sync::ledger::Ledger;
 
 impl Shared for Automaton {}
 
-impl Shared for AtomTable {}
+impl<L: Ledger + Send + Sync> Shared for AtomTable<L> {}
 
 impl Shared for Shape {}

@@ -2,14 +2,18 @@
 ghost use Rattle.std.specs.Prelude.{◌≤◌, length};
 ghost use Rattle.cql_lines.specs.Limits.{most_nodes};
 
+use std::marker::PhantomData;
+use std::sync::ledger::Ledger;
+
 mod looks;
 
 /// Which atoms hold at which nodes: for each node a word with a bit for each atom. The words are private to this module, which
-/// reads one only where it counts a step.
+/// reads one only where it counts a step, by a counter of the table's own ledger.
 #[derive(Drop)]
-pub struct AtomTable {
+pub struct AtomTable<L: Ledger> {
     atoms: u32,
     words: Vec<u64>,
+    counted_by: PhantomData<L>,
     ghost few: { atoms ≤ 64 },
     ghost nodes: { length words.items ≤ most_nodes },
 }

@@ -55,7 +55,7 @@ fn line(alloc: Global, parts: &[Often]) -> Result<Pattern, NoMemory>
 fn looked_up<L: Ledger>(
     alloc: Global,
     parts: &[Often],
-    table: &AtomTable,
+    table: &AtomTable<L>,
     shape: &Shape,
     steps: &mut Steps<L>,
 ) -> Result<Vec<Option<u32>>, NoMemory>
@@ -69,33 +69,41 @@ fn looked_up<L: Ledger>(
     line_values(alloc, &automaton, table, shape, steps)
 }
 
-fn looked_up_from<L: Ledger>(
+/// At which nodes the atoms hold: for each atom a list of nodes, or each of 64 atoms at every eighth node.
+#[derive(Clone, Copy)]
+enum Held<'a> {
+    At(&'a [&'a [u32]]),
+    EveryEighth,
+}
+
+fn looked_up_from<L: Ledger, R: Abort>(
+    rt: &R,
     alloc: Global,
     parts: &[Often],
-    table: &AtomTable,
+    held: &Held<'_>,
     shape: &Shape,
     blank: Blank,
 ) -> Result<Vec<Option<u32>>, NoMemory>
-    requires parts { length parts.now ≤ 64 }
-    requires atoms { atoms_of table.now ≡ length parts.now }
-    requires nodes { nodes_of table.now ≡ length (spots_of shape.now) }
     requires blank { (blank.name ≡ L.name) × (blank.parts ≡ L.parts) × (0 < blank.parts) }
 {
+    let table = match held {
+        Held::At(nodes) => table_of::<L, R>(rt, alloc, nodes)?,
+        Held::EveryEighth => every_eighth::<L, R>(rt, alloc)?,
+    };
+    assert!(rt; parts.len() <= 64 && table.atoms() as usize == parts.len());
+    assert!(rt; table.nodes() == shape.len());
     let mut steps = Steps::<L>::new(blank);
-    looked_up(alloc, parts, table, shape, &mut steps)
+    looked_up(alloc, parts, &table, shape, &mut steps)
 }
 
-fn values(
+fn values<R: Abort>(
+    rt: &R,
     alloc: Global,
     parts: &[Often],
-    table: &AtomTable,
+    held: &Held<'_>,
     shape: &Shape,
-) -> Result<Vec<Option<u32>>, NoMemory>
-    requires parts { length parts.now ≤ 64 }
-    requires atoms { atoms_of table.now ≡ length parts.now }
-    requires nodes { nodes_of table.now ≡ length (spots_of shape.now) }
-{
-    looked_up_from::<Brand>(alloc, parts, table, shape, Blank::new(1))
+) -> Result<Vec<Option<u32>>, NoMemory> {
+    looked_up_from::<Brand, R>(rt, alloc, parts, held, shape, Blank::new(1))
 }
 
 // A searched node more, after its parent.
@@ -173,7 +181,7 @@ fn path_of_four<R: Abort>(
     Ok(shape)
 }
 
-fn put_all<R: Abort>(rt: &R, table: &mut AtomTable, atom: u32, nodes: &[u32]) {
+fn put_all<L: Ledger, R: Abort>(rt: &R, table: &mut AtomTable<L>, atom: u32, nodes: &[u32]) {
     for node in nodes {
         assert!(rt; atom < table.atoms());
         assert!(rt; *node < table.nodes() as u32);
@@ -181,7 +189,11 @@ fn put_all<R: Abort>(rt: &R, table: &mut AtomTable, atom: u32, nodes: &[u32]) {
     }
 }
 
-fn table_of<R: Abort>(rt: &R, alloc: Global, held: &[&[u32]]) -> Result<AtomTable, NoMemory> {
+fn table_of<L: Ledger, R: Abort>(
+    rt: &R,
+    alloc: Global,
+    held: &[&[u32]],
+) -> Result<AtomTable<L>, NoMemory> {
     assert!(rt; held.len() <= 3);
     let mut table = AtomTable::new(alloc, held.len() as u32, 4)?;
     for atom in 0..held.len() {
@@ -194,10 +206,7 @@ fn table_of<R: Abort>(rt: &R, alloc: Global, held: &[&[u32]]) -> Result<AtomTabl
 fn lines_have_their_greatest_lengths(rt: HostRuntime) -> Result<(), Fail> {
     for (parts, held, back, extent, want) in ROWS.iter() {
         let shape = path_of_four(&rt, rt.alloc(), *back, *extent)?;
-        let table = table_of(&rt, rt.alloc(), held)?;
-        assert!(rt; parts.len() <= 64 && table.atoms() as usize == parts.len());
-        assert!(rt; table.nodes() == shape.len());
-        let found = values(rt.alloc(), parts, &table, &shape)?;
+        let found = values(&rt, rt.alloc(), parts, &Held::At(held), &shape)?;
         for (value, length) in found.iter().zip(want.iter()) {
             assert_eq!(rt; value.unwrap_or(0), *length);
         }
@@ -207,7 +216,7 @@ fn lines_have_their_greatest_lengths(rt: HostRuntime) -> Result<(), Fail> {
 }
 
 // A table of 64 atoms and 65,536 nodes: at each node those atoms hold that leave the same remainder by 8.
-fn every_eighth<R: Abort>(rt: &R, alloc: Global) -> Result<AtomTable, NoMemory> {
+fn every_eighth<L: Ledger, R: Abort>(rt: &R, alloc: Global) -> Result<AtomTable<L>, NoMemory> {
     let mut table = AtomTable::new(alloc, 64, 65_536)?;
     for node in 0..65_536 {
         for k in 0..8 {
@@ -224,7 +233,6 @@ fn every_eighth<R: Abort>(rt: &R, alloc: Global) -> Result<AtomTable, NoMemory> 
 // children a node the nodes 0, 1, 3, 7, 15 and so on hold the atoms 0, 1, 3, 7 and then 7 again.
 #[test]
 fn large_trees_have_their_lines(rt: HostRuntime) -> Result<(), Fail> {
-    let table = every_eighth(&rt, rt.alloc())?;
     let parts = [Often::Any; 64];
     for (children, longest) in [(1, 64), (2, 17)] {
         let mut shape = Shape::new(rt.alloc(), false, false);
@@ -232,8 +240,7 @@ fn large_trees_have_their_lines(rt: HostRuntime) -> Result<(), Fail> {
         for node in 0..65_535 {
             grow(&rt, &mut shape, node / children, node % children == 0)?;
         }
-        assert!(rt; table.atoms() == 64 && table.nodes() == shape.len());
-        let found = values(rt.alloc(), &parts, &table, &shape)?;
+        let found = values(&rt, rt.alloc(), &parts, &Held::EveryEighth, &shape)?;
         assert_eq!(rt; found.first().copied(), Some(Some(longest)));
         assert_eq!(rt; found.last().copied(), Some(Some(1)));
     }

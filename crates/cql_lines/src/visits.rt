@@ -36,7 +36,7 @@ fn pass_up<R: Row>(shape: &Shape, node: usize, rows: &mut [R], own: &R, count: u
 fn visit_down<L: Ledger, R: Row>(
     rules: &[Rule],
     first: u64,
-    table: &AtomTable,
+    table: &AtomTable<L>,
     shape: &Shape,
     node: usize,
     rows: &mut [R],
@@ -88,7 +88,7 @@ fn longest_down<L: Ledger, R: Row>(
     alloc: Global,
     rules: &[Rule],
     first: u64,
-    table: &AtomTable,
+    table: &AtomTable<L>,
     shape: &Shape,
     steps: &mut Steps<L>,
 ) -> Result<Vec<Option<u32>>, AllocError>
@@ -131,7 +131,7 @@ fn row_above<R: Row>(shape: &Shape, node: usize, rows: &[R]) -> R
 fn visit_up<L: Ledger, R: Row>(
     rules: &[Rule],
     first: u64,
-    table: &AtomTable,
+    table: &AtomTable<L>,
     shape: &Shape,
     node: usize,
     rows: &mut [R],
@@ -166,7 +166,7 @@ fn longest_up<L: Ledger, R: Row>(
     alloc: Global,
     rules: &[Rule],
     first: u64,
-    table: &AtomTable,
+    table: &AtomTable<L>,
     shape: &Shape,
     steps: &mut Steps<L>,
 ) -> Result<Vec<Option<u32>>, AllocError>
@@ -197,7 +197,7 @@ pub fn longest<L: Ledger, R: Row>(
     alloc: Global,
     rules: &[Rule],
     first: u64,
-    table: &AtomTable,
+    table: &AtomTable<L>,
     shape: &Shape,
     steps: &mut Steps<L>,
 ) -> Result<Vec<Option<u32>>, AllocError>

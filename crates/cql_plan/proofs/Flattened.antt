@@ -1,7 +1,7 @@
 -- A query by its flat items.
 use Rattle.std.proofs.Common.{◌≡◌, ℕ, Bool, true, [], sym, ap, ap₂, ◌∙◌}
 use Rattle.cq_position.specs.Games.{Game}
-use Rattle.cql_eval.specs.Costs.{filters_cost}
+use Rattle.cql_eval.specs.Costs.{filters_cost, searched_len}
 use Rattle.cql_values.specs.Trees.{searched_tree}
 use Rattle.cql_syntax.specs.Flat.{flat_query}
 use Rattle.cql_syntax.specs.Hits.{hits, hits_in, keys, all_keys, tree_of}
@@ -45,8 +45,9 @@ module _ (q : QueryTree) (game : Game) (variations : Bool) (items : FilterTrees)
       ap₂ (λ v fs. all_keys (searched_tree game v) (hits_in (searched_tree game v) fs) fs) searched (filters_are items (flat_query q).items same)
       ∙ keys_same q game
 
-  pub costs_are : (nodes : ℕ) → same_filters items (flat_query q).items ≡ true → filters_cost nodes items ≡ filters_cost nodes (flat_query q).items
-  costs_are nodes same = ap (filters_cost nodes) (filters_are items (flat_query q).items same)
+  pub costs_are : same_filters items (flat_query q).items ≡ true → variations ≡ q.variations
+      → filters_cost (searched_len (searched_tree game variations)) items ≡ filters_cost (searched_len (searched_tree game q.variations)) (flat_query q).items
+  costs_are same searched = ap₂ (λ v fs. filters_cost (searched_len (searched_tree game v)) fs) searched (filters_are items (flat_query q).items same)
 
 -- where the query has a hit, its flat items pass
 pub flat_passes : (q : QueryTree) (game : Game) → (hits q game ≡ [] → ⊥) → all_pass (tree_of q game) (flat_query q).items ≡ true

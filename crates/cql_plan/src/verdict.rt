@@ -1,7 +1,7 @@
 //! What a query finds in a game.
 ghost use Rattle.std.specs.Prelude.{◌≡◌, ◌≢◌, ◌+◌, ◌<◌, ◌≤◌, [], true, false, length, map, Some, All, AllPairs, IfOk, OnOk};
 ghost use Rattle.cq_position.specs.Search.{nodes_in};
-ghost use Rattle.cql_eval.specs.Costs.{filters_cost};
+ghost use Rattle.cql_eval.specs.Costs.{filters_cost, searched_len};
 ghost use Rattle.cql_syntax.specs.Hits.{hits_in, all_keys};
 ghost use Rattle.cql_syntax.specs.TreeOf.{filters_tree};
 ghost use Rattle.cql_values.specs.Trees.{searched_tree};
@@ -62,7 +62,7 @@ pub(crate) fn find<L: Ledger>(
     ensures least { all_pass (searched_tree game.now query.now.variations) (filters_tree query.now.items) ≡ true
         → OnOk result (steps.old + length (nodes_in (searched_tree game.now query.now.variations)) ≤ steps.new) }
     ensures most { steps.new ≤ steps.old + length (nodes_in (searched_tree game.now query.now.variations))
-        + filters_cost (length game.now.nodes) (filters_tree query.now.items) }
+        + filters_cost (searched_len (searched_tree game.now query.now.variations)) (filters_tree query.now.items) }
 {
     if !all_needed(&query.items, query.variations, game) {
         return Ok(Verdict {

@@ -8,7 +8,7 @@ ghost use Rattle.cql_syntax.specs.Values as spec;
 ghost use Rattle.cql_values.specs.Trees.{searched_tree};
 ghost use Rattle.cql_eval.specs.Classes.{is_of, is_before, is_so_if, are_so, cost_if, cost_of, IsLeft};
 ghost use Rattle.cql_eval.specs.Columns.{AreAsked, AreTruths, Where, all_shown, terms_shown};
-ghost use Rattle.cql_eval.specs.Costs.{filters_cost, terms_cost};
+ghost use Rattle.cql_eval.specs.Costs.{filters_cost, terms_cost, searched_len};
 ghost use Rattle.cql_eval.specs.FlatTrees.{IsFlat, AreFlat, AreFlatTerms};
 
 use super::evaluate;
@@ -39,7 +39,7 @@ pub(super) fn all_hold<L: Ledger>(
     requires flat { AreFlat (filters_tree filters.now) }
     ensures value { IfOk result (λ truths. AreTruths truths.items live.now
         (λ n. spec.all_hold (meaning.values (searched_tree game.now variations) [] names.now (filters_tree filters.now) n))) }
-    ensures cost { steps.new ≤ steps.old + filters_cost (length game.now.nodes) (filters_tree filters.now) }
+    ensures cost { steps.new ≤ steps.old + filters_cost (searched_len (searched_tree game.now variations)) (filters_tree filters.now) }
     ensures rises { steps.old ≤ steps.new }
 {
     let left = left_by(
@@ -64,7 +64,7 @@ pub(super) fn none_holds<L: Ledger>(
     requires flat { AreFlat (filters_tree filters.now) }
     ensures value { IfOk result (λ truths. AreTruths truths.items live.now (λ n. spec.as_truth (not
         (list_any spec.holds (meaning.values (searched_tree game.now variations) [] names.now (filters_tree filters.now) n))))) }
-    ensures cost { steps.new ≤ steps.old + filters_cost (length game.now.nodes) (filters_tree filters.now) }
+    ensures cost { steps.new ≤ steps.old + filters_cost (searched_len (searched_tree game.now variations)) (filters_tree filters.now) }
     ensures rises { steps.old ≤ steps.new }
 {
     let left = left_by(
@@ -92,7 +92,8 @@ pub(crate) fn left_by<L: Ledger>(
     requires flat { AreFlat (filters_tree filters.now) }
     ensures left { IfOk result (λ left. IsLeft (searched_tree game.now variations) live.now
         (are_so (is_before past) (searched_tree game.now variations) names.now want (filters_tree filters.now)) left.items) }
-    ensures cost { steps.new ≤ steps.old + cost_of (is_before past) (length game.now.nodes) (filters_tree filters.now) }
+    ensures cost { steps.new ≤ steps.old
+        + cost_of (is_before past) (searched_len (searched_tree game.now variations)) (filters_tree filters.now) }
     ensures rises { steps.old ≤ steps.new }
 {
     let mut left = same(alloc, live)?;
@@ -123,7 +124,8 @@ fn ask_class<L: Ledger>(
     ensures len { length left.new ≡ length left.old }
     ensures left { OnOk result (IsLeft (searched_tree game.now variations) left.old
         (are_so (is_of class) (searched_tree game.now variations) names.now want (filters_tree filters.now)) left.new) }
-    ensures cost { steps.new ≤ steps.old + cost_of (is_of class) (length game.now.nodes) (filters_tree filters.now) }
+    ensures cost { steps.new ≤ steps.old
+        + cost_of (is_of class) (searched_len (searched_tree game.now variations)) (filters_tree filters.now) }
     ensures rises { steps.old ≤ steps.new }
 {
     for filter in filters.as_slice() {
@@ -153,7 +155,8 @@ fn ask_if<L: Ledger>(
     ensures len { length left.new ≡ length left.old }
     ensures left { OnOk result (IsLeft (searched_tree game.now variations) left.old
         (is_so_if (is_of class) (searched_tree game.now variations) names.now want (filter_tree filter.now)) left.new) }
-    ensures cost { steps.new ≤ steps.old + cost_if (is_of class) (length game.now.nodes) (filter_tree filter.now) }
+    ensures cost { steps.new ≤ steps.old
+        + cost_if (is_of class) (searched_len (searched_tree game.now variations)) (filter_tree filter.now) }
     ensures rises { steps.old ≤ steps.new }
 {
     if !is_of_class(filter, class) {
@@ -181,7 +184,7 @@ pub(super) fn columns_of<L: Ledger>(
     requires flat { AreFlat (filters_tree filters.now) }
     ensures value { IfOk result (λ columns. Where live.now (λ n. all_shown columns.items n
         ≡ meaning.values (searched_tree game.now variations) [] names.now (filters_tree filters.now) n)) }
-    ensures cost { steps.new ≤ steps.old + filters_cost (length game.now.nodes) (filters_tree filters.now) }
+    ensures cost { steps.new ≤ steps.old + filters_cost (searched_len (searched_tree game.now variations)) (filters_tree filters.now) }
     ensures rises { steps.old ≤ steps.new }
 {
     let mut columns = Vec::new(alloc);
@@ -209,7 +212,7 @@ pub(super) fn terms_of<L: Ledger>(
     requires flat { AreFlatTerms (terms_tree terms.now) }
     ensures value { IfOk result (λ columns. Where live.now (λ n. terms_shown columns.items n
         ≡ meaning.term_values (searched_tree game.now variations) [] names.now (terms_tree terms.now) n)) }
-    ensures cost { steps.new ≤ steps.old + terms_cost (length game.now.nodes) (terms_tree terms.now) }
+    ensures cost { steps.new ≤ steps.old + terms_cost (searched_len (searched_tree game.now variations)) (terms_tree terms.now) }
     ensures rises { steps.old ≤ steps.new }
 {
     let mut columns = Vec::new(alloc);

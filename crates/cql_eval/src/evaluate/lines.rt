@@ -6,7 +6,7 @@ ghost use Rattle.cql_syntax.specs.TreeOf.{body_tree, filter_tree, line_tree, par
 ghost use Rattle.cql_syntax.specs.Values.{as_number};
 ghost use Rattle.cql_values.specs.Trees.{searched_tree};
 ghost use Rattle.cql_eval.specs.Columns.{AreAsked, Where};
-ghost use Rattle.cql_eval.specs.Costs.{filter_cost, line_cost, parts_cost, body_cost, parts_atoms, body_atoms};
+ghost use Rattle.cql_eval.specs.Costs.{filter_cost, line_cost, parts_cost, body_cost, parts_atoms, body_atoms, searched_len};
 ghost use Rattle.cql_eval.specs.FlatTrees.{IsFlat, IsFlatLine, AreFlatParts, IsFlatBody};
 ghost use Rattle.cql_lines.specs.Tables.{atoms_of, nodes_of};
 ghost use Rattle.cq_outside.specs.Spelling.{one};
@@ -46,7 +46,7 @@ pub(super) fn line_numbers<L: Ledger>(
     requires flat { IsFlatLine (line_tree line.now) }
     ensures value { IfOk result (λ numbers. Where live.now (λ n. as_number (get_or numbers.items n None)
         ≡ meaning.line_value (searched_tree game.now variations) [] names.now (line_tree line.now) n)) }
-    ensures cost { steps.new ≤ steps.old + line_cost (length game.now.nodes) (line_tree line.now) }
+    ensures cost { steps.new ≤ steps.old + line_cost (searched_len (searched_tree game.now variations)) (line_tree line.now) }
     ensures rises { steps.old ≤ steps.new }
 {
     prove!(has_flat_parts(line));
@@ -98,7 +98,7 @@ fn filled_table<L: Ledger>(
     names: &Names,
     met: &mut bool,
     steps: &mut Steps<L>,
-) -> Result<AtomTable, NoMemory>
+) -> Result<AtomTable<L>, NoMemory>
     requires tree { IsTree game.now.nodes }
     requires flat { AreFlatParts (parts_tree parts.now) }
     requires few { parts_atoms (parts_tree parts.now) ≤ 64 }
@@ -110,7 +110,7 @@ fn filled_table<L: Ledger>(
         (meaning.pattern (searched_tree game.now variations) [] names.now (parts_tree parts.now))) }
     ensures atoms { IfOk result (λ table. atoms_of table ≡ parts_atoms (parts_tree parts.now)) }
     ensures nodes { IfOk result (λ table. nodes_of table ≡ length game.now.nodes) }
-    ensures cost { steps.new ≤ steps.old + parts_cost (length game.now.nodes) (parts_tree parts.now) }
+    ensures cost { steps.new ≤ steps.old + parts_cost (searched_len (searched_tree game.now variations)) (parts_tree parts.now) }
     ensures rises { steps.old ≤ steps.new }
 {
     let all = all_nodes(alloc, game, variations)?;
@@ -129,7 +129,7 @@ fn put_parts<L: Ledger>(
     alloc: Global,
     parts: &Constituents,
     first: u32,
-    table: &mut AtomTable,
+    table: &mut AtomTable<L>,
     game: &Game,
     variations: bool,
     back: bool,
@@ -150,7 +150,7 @@ fn put_parts<L: Ledger>(
         → IsNever (IsStep (searched_tree game.now variations) back false) (IsLive live.now)
         (meaning.pattern (searched_tree game.now variations) [] names.now (parts_tree parts.now))) }
     ensures others { OnOk result (IsFilledIn table.old table.new first (first + parts_atoms (parts_tree parts.now))) }
-    ensures cost { steps.new ≤ steps.old + parts_cost (length game.now.nodes) (parts_tree parts.now) }
+    ensures cost { steps.new ≤ steps.old + parts_cost (searched_len (searched_tree game.now variations)) (parts_tree parts.now) }
     ensures rises { steps.old ≤ steps.new }
 {
     let mut at = first;
@@ -179,7 +179,7 @@ fn put_part<L: Ledger>(
     alloc: Global,
     part: &Constituent,
     first: u32,
-    table: &mut AtomTable,
+    table: &mut AtomTable<L>,
     game: &Game,
     variations: bool,
     back: bool,
@@ -200,7 +200,7 @@ fn put_part<L: Ledger>(
     ensures ends { OnOk result (met.old ≡ true → met.new ≡ false → EndsHere (searched_tree game.now variations) back starts.old.items
         (meaning.marked part.now.mark (meaning.body_pattern (searched_tree game.now variations) [] names.now (body_tree part.now.body)))) }
     ensures others { OnOk result (IsFilledIn table.old table.new first (first + body_atoms (body_tree part.now.body))) }
-    ensures cost { steps.new ≤ steps.old + body_cost (length game.now.nodes) (body_tree part.now.body) }
+    ensures cost { steps.new ≤ steps.old + body_cost (searched_len (searched_tree game.now variations)) (body_tree part.now.body) }
     ensures rises { steps.old ≤ steps.new }
 {
     match part.mark {
@@ -219,7 +219,7 @@ fn put_marked<L: Ledger>(
     alloc: Global,
     part: &Constituent,
     first: u32,
-    table: &mut AtomTable,
+    table: &mut AtomTable<L>,
     game: &Game,
     variations: bool,
     back: bool,
@@ -240,7 +240,7 @@ fn put_marked<L: Ledger>(
     ensures ends { OnOk result (met.old ≡ true → met.new ≡ false → EndsHere (searched_tree game.now variations) back starts.old.items
         (meaning.marked part.now.mark (meaning.body_pattern (searched_tree game.now variations) [] names.now (body_tree part.now.body)))) }
     ensures others { OnOk result (IsFilledIn table.old table.new first (first + body_atoms (body_tree part.now.body))) }
-    ensures cost { steps.new ≤ steps.old + body_cost (length game.now.nodes) (body_tree part.now.body) }
+    ensures cost { steps.new ≤ steps.old + body_cost (searched_len (searched_tree game.now variations)) (body_tree part.now.body) }
     ensures rises { steps.old ≤ steps.new }
 {
     let wide = reached(alloc, game, variations, back, starts)?;
@@ -286,7 +286,7 @@ fn put_once<L: Ledger>(
     alloc: Global,
     body: &Body,
     first: u32,
-    table: &mut AtomTable,
+    table: &mut AtomTable<L>,
     game: &Game,
     variations: bool,
     back: bool,
@@ -306,7 +306,7 @@ fn put_once<L: Ledger>(
     ensures ends { OnOk result (met.old ≡ true → met.new ≡ false → EndsHere (searched_tree game.now variations) back starts.old.items
         (meaning.body_pattern (searched_tree game.now variations) [] names.now (body_tree body.now))) }
     ensures others { OnOk result (IsFilledIn table.old table.new first (first + body_atoms (body_tree body.now))) }
-    ensures cost { steps.new ≤ steps.old + body_cost (length game.now.nodes) (body_tree body.now) }
+    ensures cost { steps.new ≤ steps.old + body_cost (searched_len (searched_tree game.now variations)) (body_tree body.now) }
     ensures rises { steps.old ≤ steps.new }
 {
     match body {
@@ -333,7 +333,7 @@ fn put_atom<L: Ledger>(
     alloc: Global,
     filter: &Filter,
     first: u32,
-    table: &mut AtomTable,
+    table: &mut AtomTable<L>,
     game: &Game,
     variations: bool,
     back: bool,
@@ -351,7 +351,7 @@ fn put_atom<L: Ledger>(
     ensures ends { OnOk result (met.old ≡ true → met.new ≡ false → EndsHere (searched_tree game.now variations) back live.now
         (one (meaning.value (searched_tree game.now variations) [] names.now (filter_tree filter.now)))) }
     ensures others { OnOk result (IsFilledIn table.old table.new first (first + 1)) }
-    ensures cost { steps.new ≤ steps.old + filter_cost (length game.now.nodes) (filter_tree filter.now) }
+    ensures cost { steps.new ≤ steps.old + filter_cost (searched_len (searched_tree game.now variations)) (filter_tree filter.now) }
     ensures rises { steps.old ≤ steps.new }
 {
     if !any_live(live) {
@@ -376,7 +376,7 @@ fn put_body<L: Ledger>(
     alloc: Global,
     body: &Body,
     first: u32,
-    table: &mut AtomTable,
+    table: &mut AtomTable<L>,
     game: &Game,
     variations: bool,
     back: bool,
@@ -397,7 +397,7 @@ fn put_body<L: Ledger>(
         → IsNever (IsStep (searched_tree game.now variations) back false) (IsLive live.now)
         (meaning.body_pattern (searched_tree game.now variations) [] names.now (body_tree body.now))) }
     ensures others { OnOk result (IsFilledIn table.old table.new first (first + body_atoms (body_tree body.now))) }
-    ensures cost { steps.new ≤ steps.old + body_cost (length game.now.nodes) (body_tree body.now) }
+    ensures cost { steps.new ≤ steps.old + body_cost (searched_len (searched_tree game.now variations)) (body_tree body.now) }
     ensures rises { steps.old ≤ steps.new }
 {
     match body {

@@ -6,7 +6,7 @@ ghost use Rattle.cql_syntax.specs.TreeOf.{filter_tree, played_tree, written_tree
 ghost use Rattle.cql_syntax.specs.Values.{as_truth};
 ghost use Rattle.cql_values.specs.Trees.{searched_tree};
 ghost use Rattle.cql_eval.specs.Columns.{AreAsked, AreTruths, Where, shown};
-ghost use Rattle.cql_eval.specs.Costs.{played_cost, written_cost};
+ghost use Rattle.cql_eval.specs.Costs.{played_cost, written_cost, searched_len};
 ghost use Rattle.cql_eval.specs.FlatTrees.{IsFlatMove, IsFlatPart};
 
 use super::evaluate;
@@ -38,7 +38,7 @@ pub(super) fn played_truths<L: Ledger>(
     requires flat { IsFlatMove (played_tree played.now) }
     ensures value { IfOk result (λ truths. AreTruths truths.items live.now
         (λ n. as_truth (meaning.played_value (searched_tree game.now variations) [] names.now (played_tree played.now) n))) }
-    ensures cost { steps.new ≤ steps.old + played_cost (length game.now.nodes) (played_tree played.now) }
+    ensures cost { steps.new ≤ steps.old + played_cost (searched_len (searched_tree game.now variations)) (played_tree played.now) }
     ensures rises { steps.old ≤ steps.new }
 {
     let promotes = played.promoted.is_some();
@@ -80,7 +80,7 @@ fn written_column<L: Ledger>(
     requires flat { IsFlatPart (written_tree written.now) }
     ensures value { IfOk result (λ column. Where live.now (λ n. option_map (λ c. shown c n) column
         ≡ meaning.written_value (searched_tree game.now variations) [] names.now (written_tree written.now) n)) }
-    ensures cost { steps.new ≤ steps.old + written_cost (length game.now.nodes) (written_tree written.now) }
+    ensures cost { steps.new ≤ steps.old + written_cost (searched_len (searched_tree game.now variations)) (written_tree written.now) }
     ensures rises { steps.old ≤ steps.new }
 {
     match written {

@@ -7,7 +7,7 @@ ghost use Rattle.cql_syntax.specs.Values as spec;
 ghost use Rattle.cql_values.specs.Trees.{searched_tree};
 ghost use Rattle.cql_eval.specs.Asked.{AreUnsettled, AreWanted};
 ghost use Rattle.cql_eval.specs.Columns.{AreAsked, AreTruths, shown};
-ghost use Rattle.cql_eval.specs.Costs.{filter_cost};
+ghost use Rattle.cql_eval.specs.Costs.{filter_cost, searched_len};
 ghost use Rattle.cql_eval.specs.FlatTrees.{IsFlat};
 
 use super::evaluate;
@@ -44,7 +44,7 @@ pub(super) fn square_truths<L: Ledger>(
     ensures value { IfOk result (λ truths. AreTruths truths.items live.now (λ n. spec.square_of every (shown squares.now n)
         (λ s. spec.holds (meaning.value (searched_tree game.now variations) []
         ((name.now, s) ∷ names.now) (filter_tree asked.now) n)))) }
-    ensures cost { steps.new ≤ steps.old + 64 * filter_cost (length game.now.nodes) (filter_tree asked.now) }
+    ensures cost { steps.new ≤ steps.old + 64 * filter_cost (searched_len (searched_tree game.now variations)) (filter_tree asked.now) }
     ensures rises { steps.old ≤ steps.new }
 {
     match attacked_part(every, name, asked) {
@@ -87,7 +87,7 @@ fn square_turn<L: Ledger>(
     ensures value { IfOk result (λ later. AreUnsettled every (shown squares.now)
         (λ n. spec.holds (meaning.value (searched_tree game.now variations) []
         ((name.now, square) ∷ names.now) (filter_tree asked.now) n)) square left.items later.items) }
-    ensures cost { steps.new ≤ steps.old + filter_cost (length game.now.nodes) (filter_tree asked.now) }
+    ensures cost { steps.new ≤ steps.old + filter_cost (searched_len (searched_tree game.now variations)) (filter_tree asked.now) }
     ensures rises { steps.old ≤ steps.new }
 {
     if !has_square(wanted, square) {

@@ -7,18 +7,23 @@ ghost use Rattle.cql_lines.specs.Tables.{atoms_of, nodes_of, words_of, holds_in}
 use crate::table::AtomTable;
 use cq_outside::{NoMemory, Steps};
 use std::alloc::Global;
+use std::marker::PhantomData;
 use std::sync::ledger::Ledger;
 
-impl AtomTable {
+impl<L: Ledger> AtomTable<L> {
     /// A table of at most 64 atoms and 65,536 nodes, in which no atom holds anywhere.
-    pub fn new(alloc: Global, atoms: u32, nodes: u32) -> Result<AtomTable, NoMemory>
+    pub fn new(alloc: Global, atoms: u32, nodes: u32) -> Result<AtomTable<L>, NoMemory>
         requires atoms { atoms ≤ 64 }
         requires nodes { nodes ≤ most_nodes }
         ensures atoms { IfOk result (λ table. atoms_of table ≡ atoms) }
         ensures bits { IfOk result (λ table. words_of table ≡ replicate nodes 0) }
     {
         let words = vec![in alloc; 0; nodes as usize]?;
-        Ok(AtomTable { atoms, words })
+        Ok(AtomTable {
+            atoms,
+            words,
+            counted_by: PhantomData,
+        })
     }
 
     /// From now on the atom holds at the node.
@@ -35,8 +40,8 @@ impl AtomTable {
         self.words[node as usize] = word;
     }
 
-    /// Whether an atom holds at a node: one step.
-    pub fn look<L: Ledger>(&self, atom: u32, node: u32, steps: &mut Steps<L>) -> bool
+    /// Whether an atom holds at a node: one step of the counter.
+    pub fn look(&self, atom: u32, node: u32, steps: &mut Steps<L>) -> bool
         requires atom { atom < atoms_of self.now }
         requires node { node < nodes_of self.now }
         ensures held { result ≡ holds_in self.now atom node }
@@ -47,7 +52,7 @@ impl AtomTable {
     }
 
     /// All atoms that hold at a node.
-    pub(crate) fn held<L: Ledger>(&self, node: usize, steps: &mut Steps<L>) -> u64
+    pub(crate) fn held(&self, node: usize, steps: &mut Steps<L>) -> u64
         requires node { node < nodes_of self.now }
         ensures held { (a : ℕ) → a < atoms_of self.now → is_set result a ≡ holds_in self.now a node }
         ensures cost { steps.new ≡ steps.old + atoms_of self.now }

@@ -1,7 +1,7 @@
 //! How a plan is made, and the match of one game.
 ghost use Rattle.std.specs.Prelude.{◌≡◌, ◌≢◌, ◌+◌, ◌<◌, ◌≤◌, [], true, false, length, map, Some, All, AllPairs, IfOk, OnOk};
 ghost use Rattle.cq_position.specs.Search.{nodes_in};
-ghost use Rattle.cql_eval.specs.Costs.{filters_cost};
+ghost use Rattle.cql_eval.specs.Costs.{filters_cost, searched_len};
 ghost use Rattle.cql_syntax.specs.Flat.{flat_query};
 ghost use Rattle.cql_syntax.specs.Hits.{hits, keys};
 ghost use Rattle.cql_syntax.specs.TreeOf.{query_tree};
@@ -69,7 +69,8 @@ pub fn match_game<L: Ledger>(
     ensures least { query_passes (query_tree (query_of plan.now).query) game.now ≡ true
         → OnOk result (steps.old + length (nodes_in (searched_tree game.now (query_of plan.now).query.variations)) ≤ steps.new) }
     ensures most { steps.new ≤ steps.old + length (nodes_in (searched_tree game.now (query_of plan.now).query.variations))
-        + filters_cost (length game.now.nodes) (flat_query (query_tree (query_of plan.now).query)).items }
+        + filters_cost (searched_len (searched_tree game.now (query_of plan.now).query.variations))
+        (flat_query (query_tree (query_of plan.now).query)).items }
 {
     find(alloc, &plan.flat, game, steps)
 }

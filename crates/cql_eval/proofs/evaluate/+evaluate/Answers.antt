@@ -15,7 +15,7 @@ use Rattle.cql_eval.specs.Columns.{AreTruths}
 use Rattle.cql_eval.proofs.AttackLaw.{attack_is}
 use Rattle.cql_eval.proofs.Chains.{left_begun, if_open, square_more, square_end, turn_all, turn_stop, unary_form, square_form, if_form}
 use Rattle.cql_eval.specs.Classes.{is_of, is_before, are_so, IsLeft}
-use Rattle.cql_eval.specs.Costs.{filter_cost, parts_atoms, body_atoms}
+use Rattle.cql_eval.specs.Costs.{filter_cost, parts_atoms, body_atoms, searched_len}
 use Rattle.cql_eval.specs.Promoting.{ArePromoting}
 use Rattle.cql_eval.specs.LineAtoms.{spot_at, body_numbered}
 use Rattle.cql_eval.specs.SpelledParts.{IsLive, EndsHere}
@@ -31,11 +31,14 @@ use Rattle.cql_eval.proofs.Lives.{none_live}
 use Rattle.cql_eval.proofs.Wanting.{wanted_same, wanted_kept, turn_skip}
 use Rattle.cql_eval.proofs.FindLaw.{find_is}
 use Rattle.cql_eval.proofs.FlatLaw.{filter_flat, term_flat, no_family}
-use Rattle.cql_eval.proofs.LinesLaw.{held_put, few_atoms, few_places, atoms_below, table_begun, table_more, table_all, ends_all, filled_all, at_all, atom_tabled, atom_leads, atom_ends, none_onward, none_leads, none_ends, atom_form, leads_form, ends_form, group_tabled, group_never, never_form, atom_never, not_some, if_ok_map, no_line, line_flat, numbers_are, parts_cost_more, parts_cost_within, atoms_within, looks_in}
+use Rattle.cql_eval.proofs.LineAtoms.{few_atoms, few_places, atoms_below}
+use Rattle.cql_eval.proofs.LineTables.{table_begun, table_more, table_all, ends_all, filled_all, at_all, atom_tabled, atom_leads, atom_ends, none_onward, none_leads, none_ends, atom_form, leads_form, ends_form, group_tabled, group_never, never_form, atom_never, not_some}
+use Rattle.cql_eval.proofs.LinesLaw.{held_put, if_ok_map, no_line, line_flat, numbers_are, parts_cost_more, parts_cost_within, atoms_within, looks_in}
 use Rattle.cql_eval.proofs.UnaryLaws.{find_up_is, child_holds_is, parent_holds_is}
 use Rattle.cql_eval.proofs.FormLaws.{chain_form, any_form}
 use Rattle.cql_eval.proofs.MoveLaw.{met_is, move_is, part_is, no_part_is}
-use Rattle.cql_eval.proofs.LinesLaw.{part_flat, part_room}
+use Rattle.cql_eval.proofs.LineAtoms.{part_flat}
+use Rattle.cql_eval.proofs.LineTables.{part_room}
 use Rattle.cql_eval.proofs.evaluate.+evaluate.Goals as goal
 
 pub chains::all_hold-returns-clause-value : goal.chains::all_hold-returns-clause-value
@@ -44,10 +47,11 @@ chains::all_hold-returns-clause-value g t c = λ n l.
     (so_all (searched_tree c.args.game.now c.args.variations) c.args.names.now true (filters_tree c.args.filters.now)) n l
 
 pub chains::all_hold-returns-clause-cost : goal.chains::all_hold-returns-clause-cost
-chains::all_hold-returns-clause-cost g t c = omega (arith, c.left_by.ensures.cost, cost_all (length c.args.game.now.nodes) (filters_tree c.args.filters.now))
+chains::all_hold-returns-clause-cost g t c = omega (arith, c.left_by.ensures.cost, cost_all (searched_len (searched_tree c.args.game.now c.args.variations)) (filters_tree c.args.filters.now))
 
 pub chains::all_hold-returns-in_err-left-clause-cost : goal.chains::all_hold-returns-in_err-left-clause-cost
-chains::all_hold-returns-in_err-left-clause-cost g t c = omega (arith, c.left_by.ensures.cost, cost_all (length c.args.game.now.nodes) (filters_tree c.args.filters.now))
+chains::all_hold-returns-in_err-left-clause-cost g t c =
+    omega (arith, c.left_by.ensures.cost, cost_all (searched_len (searched_tree c.args.game.now c.args.variations)) (filters_tree c.args.filters.now))
 
 pub chains::none_holds-returns-clause-value : goal.chains::none_holds-returns-clause-value
 chains::none_holds-returns-clause-value g t c = λ n l.
@@ -55,10 +59,11 @@ chains::none_holds-returns-clause-value g t c = λ n l.
     (so_no (searched_tree c.args.game.now c.args.variations) c.args.names.now (filters_tree c.args.filters.now)) n l
 
 pub chains::none_holds-returns-clause-cost : goal.chains::none_holds-returns-clause-cost
-chains::none_holds-returns-clause-cost g t c = omega (arith, c.left_by.ensures.cost, cost_all (length c.args.game.now.nodes) (filters_tree c.args.filters.now))
+chains::none_holds-returns-clause-cost g t c = omega (arith, c.left_by.ensures.cost, cost_all (searched_len (searched_tree c.args.game.now c.args.variations)) (filters_tree c.args.filters.now))
 
 pub chains::none_holds-returns-in_err-left-clause-cost : goal.chains::none_holds-returns-in_err-left-clause-cost
-chains::none_holds-returns-in_err-left-clause-cost g t c = omega (arith, c.left_by.ensures.cost, cost_all (length c.args.game.now.nodes) (filters_tree c.args.filters.now))
+chains::none_holds-returns-in_err-left-clause-cost g t c =
+    omega (arith, c.left_by.ensures.cost, cost_all (searched_len (searched_tree c.args.game.now c.args.variations)) (filters_tree c.args.filters.now))
 
 pub chains::left_by-loop-class-init : goal.chains::left_by-loop-class-init
 chains::left_by-loop-class-init g t c = record {
@@ -73,7 +78,13 @@ chains::left_by-loop-class-preserved g t c = record {
   left = class_left (searched_tree c.args.game.now c.args.variations) c.args.names.now c.args.want c.loop-class.class
       (filters_tree c.args.filters.now) c.args.live.now c.loop-class.left.items c.deref_mut.result.now c.ask_class.new.left
       c.loop-class.left.len (omega (arith, c.ask_class.ensures.len, c.deref_mut.ensures.len)) c.deref_mut.ensures.value c.loop-class.invariant.left c.in_ok-ask_class.ensures.left;
-  cost = omega (arith, c.loop-class.invariant.cost, c.ask_class.ensures.cost, cost_next (length c.args.game.now.nodes) c.loop-class.class (filters_tree c.args.filters.now));
+  cost = omega (
+    arith,
+    c.loop-class.invariant.cost,
+    c.ask_class.ensures.cost,
+    cost_next (searched_len (searched_tree c.args.game.now c.args.variations)) c.loop-class.class (filters_tree
+        c.args.filters.now),
+  );
   rises = omega (arith, c.loop-class.invariant.rises, c.ask_class.ensures.rises);
 }
 
@@ -85,7 +96,12 @@ chains::left_by-returns-clause-left g t c =
 
 pub chains::left_by-returns-clause-cost : goal.chains::left_by-returns-clause-cost
 chains::left_by-returns-clause-cost g t c =
-    omega (arith, c.loop-class.invariant.cost, cost_later (length c.args.game.now.nodes) c.loop-class.class c.args.past (filters_tree c.args.filters.now) (omega (arith, c.loop-class.auto.class-end)))
+    omega (
+      arith,
+      c.loop-class.invariant.cost,
+      cost_later (searched_len (searched_tree c.args.game.now c.args.variations)) c.loop-class.class c.args.past (filters_tree c.args.filters.now)
+          (omega (arith, c.loop-class.auto.class-end)),
+    )
 
 pub chains::left_by-returns-in_err-ask_class-clause-cost : goal.chains::left_by-returns-in_err-ask_class-clause-cost
 chains::left_by-returns-in_err-ask_class-clause-cost g t c =
@@ -93,8 +109,8 @@ chains::left_by-returns-in_err-ask_class-clause-cost g t c =
       arith,
       c.loop-class.invariant.cost,
       c.ask_class.ensures.cost,
-      cost_next (length c.args.game.now.nodes) c.loop-class.class (filters_tree c.args.filters.now),
-      cost_later (length c.args.game.now.nodes) (c.loop-class.class + 1) c.args.past (filters_tree c.args.filters.now) (omega (arith, c.loop-class-test.true)),
+      cost_next (searched_len (searched_tree c.args.game.now c.args.variations)) c.loop-class.class (filters_tree c.args.filters.now),
+      cost_later (searched_len (searched_tree c.args.game.now c.args.variations)) (c.loop-class.class + 1) c.args.past (filters_tree c.args.filters.now) (omega (arith, c.loop-class-test.true)),
     )
 
 pub chains::ask_class-loop-filter-init : goal.chains::ask_class-loop-filter-init
@@ -114,7 +130,8 @@ chains::ask_class-loop-filter-preserved g t c = record {
       (λ n. so_more (is_of c.args.class)
       (searched_tree c.args.game.now c.args.variations) c.args.names.now c.args.want c.as_slice-filter-items.result.now c.loop-filter.filter-index
       c.filter-item.result n c.loop-filter-test.true c.filter-item.is);
-  cost = class_cost_more (is_of c.args.class) (length c.args.game.now.nodes) c.as_slice-filter-items.result.now c.loop-filter.filter-index c.filter-item.result _ c.loop-filter.steps c.ask_if.new.steps
+  cost = class_cost_more (is_of c.args.class) (searched_len (searched_tree c.args.game.now c.args.variations)) c.as_slice-filter-items.result.now c.loop-filter.filter-index c.filter-item.result
+      _ c.loop-filter.steps c.ask_if.new.steps
       c.loop-filter-test.true c.filter-item.is c.loop-filter.invariant.cost c.ask_if.ensures.cost;
   rises = omega (arith, c.loop-filter.invariant.rises, c.ask_if.ensures.rises);
   flat = c.loop-filter.invariant.flat;
@@ -131,7 +148,7 @@ chains::ask_class-returns-clause-left g t c =
 pub chains::ask_class-returns-in_err-ask_if-clause-cost : goal.chains::ask_class-returns-in_err-ask_if-clause-cost
 chains::ask_class-returns-in_err-ask_if-clause-cost g t c =
     class_cost_within (is_of c.args.class)
-    (length c.args.game.now.nodes) c.as_slice-filter-items.result.now c.loop-filter.filter-index c.filter-item.result _ c.loop-filter.steps c.ask_if.new.steps
+    (searched_len (searched_tree c.args.game.now c.args.variations)) c.as_slice-filter-items.result.now c.loop-filter.filter-index c.filter-item.result _ c.loop-filter.steps c.ask_if.new.steps
     (filters_tree c.args.filters.now)
     c.loop-filter-test.true c.filter-item.is c.loop-filter.invariant.cost c.ask_if.ensures.cost c.as_slice-filter-items.ensures.tree
 
@@ -148,11 +165,13 @@ chains::ask_if-returns-clause-left g t c =
 
 pub chains::ask_if-returns-clause-cost : goal.chains::ask_if-returns-clause-cost
 chains::ask_if-returns-clause-cost g t c =
-    cost_taken (is_of c.args.class) (length c.args.game.now.nodes) (filter_tree c.args.filter.now) _ _ (sym c.is_of_class.ensures ∙ c.if-not-is_of_class.false) c.evaluate.ensures.cost
+    cost_taken (is_of c.args.class) (searched_len (searched_tree c.args.game.now c.args.variations)) (filter_tree c.args.filter.now) _ _ (sym c.is_of_class.ensures ∙
+    c.if-not-is_of_class.false) c.evaluate.ensures.cost
 
 pub chains::ask_if-returns-in_err-column-clause-cost : goal.chains::ask_if-returns-in_err-column-clause-cost
 chains::ask_if-returns-in_err-column-clause-cost g t c =
-    cost_taken (is_of c.args.class) (length c.args.game.now.nodes) (filter_tree c.args.filter.now) _ _ (sym c.is_of_class.ensures ∙ c.if-not-is_of_class.false) c.evaluate.ensures.cost
+    cost_taken (is_of c.args.class) (searched_len (searched_tree c.args.game.now c.args.variations)) (filter_tree c.args.filter.now) _ _ (sym c.is_of_class.ensures ∙
+    c.if-not-is_of_class.false) c.evaluate.ensures.cost
 
 pub squares::square_truths-loop-number-init : goal.squares::square_truths-loop-number-init
 squares::square_truths-loop-number-init g t c = record {
@@ -174,7 +193,7 @@ squares::square_truths-loop-number-preserved g t c =
       wanted = wanted_kept c.args.every
           (shown c.args.squares.now) _ c.new-square.result c.loop-number.left.items c.in_ok-left-2.left.items c.wanted_squares-wanted.result
           c.loop-number.invariant.wanted c.in_ok-left-2.ensures.value;
-      cost = square_cost (filter_cost (length c.args.game.now.nodes)
+      cost = square_cost (filter_cost (searched_len (searched_tree c.args.game.now c.args.variations))
           (filter_tree c.args.asked.now)) c.loop-number.number _ c.loop-number.steps c.square_turn.new.steps c.loop-number-test.true c.loop-number.invariant.cost c.square_turn.ensures.cost;
       rises = omega (arith, c.loop-number.invariant.rises, c.square_turn.ensures.rises);
     }
@@ -287,7 +306,7 @@ chains::columns_of-loop-filter-preserved g t c = record {
   left = columns_more (searched_tree c.args.game.now c.args.variations) c.args.names.now c.args.live.now c.as_slice-filter-items.result.now c.loop-filter.filter-index c.filter-item.result
       c.loop-filter.columns.items c.push.new.self.items c.in_ok-column.column c.loop-filter-test.true c.filter-item.is c.loop-filter.invariant.left
       c.in_ok-column.ensures.value c.in_ok-push.ensures.items;
-  cost = cost_more (length c.args.game.now.nodes) c.as_slice-filter-items.result.now c.loop-filter.filter-index c.filter-item.result _ c.loop-filter.steps
+  cost = cost_more (searched_len (searched_tree c.args.game.now c.args.variations)) c.as_slice-filter-items.result.now c.loop-filter.filter-index c.filter-item.result _ c.loop-filter.steps
       c.evaluate.new.steps c.loop-filter-test.true c.filter-item.is c.loop-filter.invariant.cost c.evaluate.ensures.cost;
   rises = omega (arith, c.loop-filter.invariant.rises, c.evaluate.ensures.rises);
   flat = c.loop-filter.invariant.flat;
@@ -300,7 +319,7 @@ chains::columns_of-returns-clause-value g t c =
 
 pub chains::columns_of-returns-in_err-column-clause-cost : goal.chains::columns_of-returns-in_err-column-clause-cost
 chains::columns_of-returns-in_err-column-clause-cost g t c =
-    cost_within (length c.args.game.now.nodes) c.as_slice-filter-items.result.now c.loop-filter.filter-index c.filter-item.result _ c.loop-filter.steps
+    cost_within (searched_len (searched_tree c.args.game.now c.args.variations)) c.as_slice-filter-items.result.now c.loop-filter.filter-index c.filter-item.result _ c.loop-filter.steps
     c.evaluate.new.steps (filters_tree c.args.filters.now) c.loop-filter-test.true c.filter-item.is c.loop-filter.invariant.cost
     c.evaluate.ensures.cost c.as_slice-filter-items.ensures.tree
 
@@ -317,7 +336,7 @@ chains::terms_of-loop-term-preserved g t c = record {
   left = terms_more (searched_tree c.args.game.now c.args.variations) c.args.names.now c.args.live.now c.as_slice-term-items.result.now c.loop-term.term-index c.term-item.result
       c.loop-term.columns.items c.push.new.self.items c.in_ok-column.column c.loop-term-test.true c.term-item.is c.loop-term.invariant.left
       c.in_ok-column.ensures.value c.in_ok-push.ensures.items;
-  cost = terms_cost_more (length c.args.game.now.nodes) c.as_slice-term-items.result.now c.loop-term.term-index c.term-item.result _ c.loop-term.steps
+  cost = terms_cost_more (searched_len (searched_tree c.args.game.now c.args.variations)) c.as_slice-term-items.result.now c.loop-term.term-index c.term-item.result _ c.loop-term.steps
       c.evaluate.new.steps c.loop-term-test.true c.term-item.is c.loop-term.invariant.cost c.evaluate.ensures.cost;
   rises = omega (arith, c.loop-term.invariant.rises, c.evaluate.ensures.rises);
   flat = c.loop-term.invariant.flat;
@@ -330,7 +349,7 @@ chains::terms_of-returns-clause-value g t c =
 
 pub chains::terms_of-returns-in_err-column-clause-cost : goal.chains::terms_of-returns-in_err-column-clause-cost
 chains::terms_of-returns-in_err-column-clause-cost g t c =
-    terms_cost_within (length c.args.game.now.nodes) c.as_slice-term-items.result.now c.loop-term.term-index c.term-item.result _ c.loop-term.steps
+    terms_cost_within (searched_len (searched_tree c.args.game.now c.args.variations)) c.as_slice-term-items.result.now c.loop-term.term-index c.term-item.result _ c.loop-term.steps
     c.evaluate.new.steps (terms_tree c.args.terms.now) c.loop-term-test.true c.term-item.is c.loop-term.invariant.cost
     c.evaluate.ensures.cost c.as_slice-term-items.ensures.tree
 
@@ -358,7 +377,7 @@ lines::put_parts-loop-part-preserved g t c =
     record {
       table = more;
       asked = more.asked;
-      cost = parts_cost_more (length c.args.game.now.nodes) c.as_slice-part-items.result.now c.loop-part.part-index c.part-item.result _ c.loop-part.steps
+      cost = parts_cost_more (searched_len (searched_tree c.args.game.now c.args.variations)) c.as_slice-part-items.result.now c.loop-part.part-index c.part-item.result _ c.loop-part.steps
           c.put_part.new.steps c.loop-part-test.true c.part-item.is c.loop-part.invariant.cost c.put_part.ensures.cost;
       rises = omega (arith, c.loop-part.invariant.rises, c.put_part.ensures.rises);
       flat = c.loop-part.invariant.flat;
@@ -393,7 +412,7 @@ lines::put_parts-returns-clause-others g t c =
 
 pub lines::put_parts-returns-in_err-at-clause-cost : goal.lines::put_parts-returns-in_err-at-clause-cost
 lines::put_parts-returns-in_err-at-clause-cost g t c =
-    parts_cost_within (length c.args.game.now.nodes) c.as_slice-part-items.result.now c.loop-part.part-index c.part-item.result _ c.loop-part.steps
+    parts_cost_within (searched_len (searched_tree c.args.game.now c.args.variations)) c.as_slice-part-items.result.now c.loop-part.part-index c.part-item.result _ c.loop-part.steps
     c.put_part.new.steps (parts_tree c.args.parts.now) c.loop-part-test.true c.part-item.is c.loop-part.invariant.cost c.put_part.ensures.cost
     c.as_slice-part-items.ensures.tree
 
@@ -414,7 +433,8 @@ lines::put_body-returns-in_ok-held-in-Atom-clause-value g t c =
     (atom_tabled (searched_tree c.args.game.now c.args.variations) c.args.back c.put_nodes.new.table c.args.first c.in_ok-column-in-Atom.column
     (value (searched_tree c.args.game.now c.args.variations) [] c.args.names.now (filter_tree c.deref.result.now)) c.args.live.now c.requires.asked
     c.in_ok-column-in-Atom.ensures.value
-    (held_put _ c.args.live.now c.in_ok-column-in-Atom.column c.in_ok-held-in-Atom.held.items c.deref-in-Atom.result.now _ _ c.put_nodes.new.table c.in_ok-held-in-Atom.ensures c.deref-in-Atom.ensures.value c.put_nodes.ensures.put))
+    (held_put _ c.args.live.now c.in_ok-column-in-Atom.column c.in_ok-held-in-Atom.held.items c.deref-in-Atom.result.now _ _ c.put_nodes.new.table c.in_ok-held-in-Atom.ensures
+    c.deref-in-Atom.ensures.value c.put_nodes.ensures.put))
 
 pub lines::put_body-returns-in_ok-held-in-Atom-clause-never : goal.lines::put_body-returns-in_ok-held-in-Atom-clause-never
 lines::put_body-returns-in_ok-held-in-Atom-clause-never g t c =
@@ -423,7 +443,8 @@ lines::put_body-returns-in_ok-held-in-Atom-clause-never g t c =
     (atom_never (searched_tree c.args.game.now c.args.variations) c.args.back c.put_nodes.new.table c.args.first c.in_ok-column-in-Atom.column
     (value (searched_tree c.args.game.now c.args.variations) [] c.args.names.now (filter_tree c.deref.result.now)) c.args.live.now c.requires.asked
     c.in_ok-column-in-Atom.ensures.value
-    (held_put _ c.args.live.now c.in_ok-column-in-Atom.column c.in_ok-held-in-Atom.held.items c.deref-in-Atom.result.now _ _ c.put_nodes.new.table c.in_ok-held-in-Atom.ensures c.deref-in-Atom.ensures.value c.put_nodes.ensures.put)
+    (held_put _ c.args.live.now c.in_ok-column-in-Atom.column c.in_ok-held-in-Atom.held.items c.deref-in-Atom.result.now _ _ c.put_nodes.new.table c.in_ok-held-in-Atom.ensures
+    c.deref-in-Atom.ensures.value c.put_nodes.ensures.put)
     c.in_ok-held-in-Atom.held.items c.in_ok-held-in-Atom.ensures
     (ap (list_any (λ x. x)) (sym c.deref-in-Atom-2.ensures.value) ∙ sym c.any_live-some.ensures ∙ not_some _ _ b (sym c.both.ensures ∙ m)))
 
@@ -502,7 +523,7 @@ lines::line_numbers-returns-then-not-met-clause-value g t c =
 
 pub lines::line_numbers-returns-then-not-met-clause-cost : goal.lines::line_numbers-returns-then-not-met-clause-cost
 lines::line_numbers-returns-then-not-met-clause-cost g t c =
-    atoms_within (length c.args.game.now.nodes) c.args.line.now _ c.filled_table.new.steps c.filled_table.ensures.cost
+    atoms_within (searched_len (searched_tree c.args.game.now c.args.variations)) c.args.line.now _ c.filled_table.new.steps c.filled_table.ensures.cost
 
 pub lines::put_atom-put_nodes-requires-clause-atom : goal.lines::put_atom-put_nodes-requires-clause-atom
 lines::put_atom-put_nodes-requires-clause-atom g t c = omega (arith, c.requires.room.atoms)
@@ -566,16 +587,20 @@ lines::line_numbers-returns-in_err-values-clause-cost g t c =
     c.filled_table.ensures.cost c.line_values.ensures.cost
 
 pub lines::line_numbers-returns-in_err-shape-clause-cost : goal.lines::line_numbers-returns-in_err-shape-clause-cost
-lines::line_numbers-returns-in_err-shape-clause-cost g t c = atoms_within (length c.args.game.now.nodes) c.args.line.now _ c.filled_table.new.steps c.filled_table.ensures.cost
+lines::line_numbers-returns-in_err-shape-clause-cost g t c =
+    atoms_within (searched_len (searched_tree c.args.game.now c.args.variations)) c.args.line.now _ c.filled_table.new.steps c.filled_table.ensures.cost
 
 pub lines::line_numbers-returns-in_err-pattern-clause-cost : goal.lines::line_numbers-returns-in_err-pattern-clause-cost
-lines::line_numbers-returns-in_err-pattern-clause-cost g t c = atoms_within (length c.args.game.now.nodes) c.args.line.now _ c.filled_table.new.steps c.filled_table.ensures.cost
+lines::line_numbers-returns-in_err-pattern-clause-cost g t c =
+    atoms_within (searched_len (searched_tree c.args.game.now c.args.variations)) c.args.line.now _ c.filled_table.new.steps c.filled_table.ensures.cost
 
 pub lines::line_numbers-returns-in_err-automaton-clause-cost : goal.lines::line_numbers-returns-in_err-automaton-clause-cost
-lines::line_numbers-returns-in_err-automaton-clause-cost g t c = atoms_within (length c.args.game.now.nodes) c.args.line.now _ c.filled_table.new.steps c.filled_table.ensures.cost
+lines::line_numbers-returns-in_err-automaton-clause-cost g t c =
+    atoms_within (searched_len (searched_tree c.args.game.now c.args.variations)) c.args.line.now _ c.filled_table.new.steps c.filled_table.ensures.cost
 
 pub lines::line_numbers-returns-in_err-table-clause-cost : goal.lines::line_numbers-returns-in_err-table-clause-cost
-lines::line_numbers-returns-in_err-table-clause-cost g t c = atoms_within (length c.args.game.now.nodes) c.args.line.now _ c.filled_table.new.steps c.filled_table.ensures.cost
+lines::line_numbers-returns-in_err-table-clause-cost g t c =
+    atoms_within (searched_len (searched_tree c.args.game.now c.args.variations)) c.args.line.now _ c.filled_table.new.steps c.filled_table.ensures.cost
 
 -- where no node is asked for
 
@@ -661,12 +686,12 @@ played::written_column-returns-in-None-clause-value g t c =
 
 pub chains::columns_of-returns-in_err-push-clause-cost : goal.chains::columns_of-returns-in_err-push-clause-cost
 chains::columns_of-returns-in_err-push-clause-cost g t c =
-    cost_within (length c.args.game.now.nodes) c.as_slice-filter-items.result.now c.loop-filter.filter-index c.filter-item.result _ c.loop-filter.steps
+    cost_within (searched_len (searched_tree c.args.game.now c.args.variations)) c.as_slice-filter-items.result.now c.loop-filter.filter-index c.filter-item.result _ c.loop-filter.steps
     c.evaluate.new.steps (filters_tree c.args.filters.now) c.loop-filter-test.true c.filter-item.is c.loop-filter.invariant.cost
     c.evaluate.ensures.cost c.as_slice-filter-items.ensures.tree
 
 pub chains::terms_of-returns-in_err-push-clause-cost : goal.chains::terms_of-returns-in_err-push-clause-cost
 chains::terms_of-returns-in_err-push-clause-cost g t c =
-    terms_cost_within (length c.args.game.now.nodes) c.as_slice-term-items.result.now c.loop-term.term-index c.term-item.result _ c.loop-term.steps
+    terms_cost_within (searched_len (searched_tree c.args.game.now c.args.variations)) c.as_slice-term-items.result.now c.loop-term.term-index c.term-item.result _ c.loop-term.steps
     c.evaluate.new.steps (terms_tree c.args.terms.now) c.loop-term-test.true c.term-item.is c.loop-term.invariant.cost
     c.evaluate.ensures.cost c.as_slice-term-items.ensures.tree

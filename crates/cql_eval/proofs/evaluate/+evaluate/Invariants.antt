@@ -6,20 +6,20 @@ use Rattle.cql_values.specs.Trees.{searched_tree}
 use Rattle.cql_eval.specs.Asked.{AreWanted}
 use Rattle.cql_eval.specs.Classes.{is_of, is_before, are_so, cost_of, IsLeft}
 use Rattle.cql_eval.specs.Columns.{AreAsked, Where, shown, all_shown, terms_shown}
-use Rattle.cql_eval.specs.Costs.{filter_cost, filters_cost, terms_cost, parts_cost, body_atoms}
+use Rattle.cql_eval.specs.Costs.{filter_cost, filters_cost, terms_cost, parts_cost, body_atoms, searched_len}
 use Rattle.cql_eval.specs.FlatTrees.{IsFlat, IsFlatBody}
 use Rattle.cql_eval.specs.LineAtoms.{HasRoom}
 use Rattle.cql_syntax.specs.declared.tree.Constituent.{Constituent}
 use Rattle.cql_syntax.specs.declared.tree.Filter.{Filter}
 use Rattle.cql_syntax.specs.declared.tree.Term.{Term}
 use Rattle.cql_eval.proofs.Chains.{LeftOf, unsettled_by}
-use Rattle.cql_eval.proofs.LinesLaw.{TableSoFar}
+use Rattle.cql_eval.proofs.LineTables.{TableSoFar}
 use Rattle.cql_eval.proofs.evaluate.+evaluate.Given as goal
 
 abbrev pub invariant-chains::left_by-loop-class : goal.invariant-chains::left_by-loop-class
 invariant-chains::left_by-loop-class g l = record {
   left : IsLeft (searched_tree l.game l.variations) l.live (are_so (is_before l.class) (searched_tree l.game l.variations) l.names l.want (filters_tree l.filters)) l.left.items;
-  cost : l.steps ≤ l.fn.steps + cost_of (is_before l.class) (length l.game.nodes) (filters_tree l.filters);
+  cost : l.steps ≤ l.fn.steps + cost_of (is_before l.class) (searched_len (searched_tree l.game l.variations)) (filters_tree l.filters);
   rises : l.fn.steps ≤ l.steps;
 }
 
@@ -28,8 +28,8 @@ invariant-chains::ask_class-loop-filter g l = record {
   len : length l.left ≡ length l.fn.left;
   left : IsLeft (searched_tree l.game l.variations) l.fn.left
       (are_so (is_of l.class) (searched_tree l.game l.variations) l.names l.want (filter_trees (take l.filter-index l.filter-items))) l.left;
-  cost : l.steps + cost_of (is_of l.class) (length l.game.nodes) (filter_trees (drop l.filter-index l.filter-items))
-      ≤ l.fn.steps + cost_of (is_of l.class) (length l.game.nodes) (filter_trees l.filter-items);
+  cost : l.steps + cost_of (is_of l.class) (searched_len (searched_tree l.game l.variations)) (filter_trees (drop l.filter-index l.filter-items))
+      ≤ l.fn.steps + cost_of (is_of l.class) (searched_len (searched_tree l.game l.variations)) (filter_trees l.filter-items);
   rises : l.fn.steps ≤ l.steps;
   flat : (i : ℕ) (f : Filter) → i < length l.filter-items → f ≡ get_or l.filter-items i f → IsFlat (filter_tree f);
 }
@@ -38,8 +38,8 @@ abbrev pub invariant-chains::columns_of-loop-filter : goal.invariant-chains::col
 invariant-chains::columns_of-loop-filter g l = record {
   left : Where l.live (λ n. all_shown l.columns.items n
       ≡ values (searched_tree l.game l.variations) [] l.names (filter_trees (take l.filter-index l.filter-items)) n);
-  cost : l.steps + filters_cost (length l.game.nodes) (filter_trees (drop l.filter-index l.filter-items))
-      ≤ l.fn.steps + filters_cost (length l.game.nodes) (filter_trees l.filter-items);
+  cost : l.steps + filters_cost (searched_len (searched_tree l.game l.variations)) (filter_trees (drop l.filter-index l.filter-items))
+      ≤ l.fn.steps + filters_cost (searched_len (searched_tree l.game l.variations)) (filter_trees l.filter-items);
   rises : l.fn.steps ≤ l.steps;
   flat : (i : ℕ) (f : Filter) → i < length l.filter-items → f ≡ get_or l.filter-items i f → IsFlat (filter_tree f);
 }
@@ -48,8 +48,8 @@ abbrev pub invariant-chains::terms_of-loop-term : goal.invariant-chains::terms_o
 invariant-chains::terms_of-loop-term g l = record {
   left : Where l.live (λ n. terms_shown l.columns.items n
       ≡ term_values (searched_tree l.game l.variations) [] l.names (term_trees (take l.term-index l.term-items)) n);
-  cost : l.steps + terms_cost (length l.game.nodes) (term_trees (drop l.term-index l.term-items))
-      ≤ l.fn.steps + terms_cost (length l.game.nodes) (term_trees l.term-items);
+  cost : l.steps + terms_cost (searched_len (searched_tree l.game l.variations)) (term_trees (drop l.term-index l.term-items))
+      ≤ l.fn.steps + terms_cost (searched_len (searched_tree l.game l.variations)) (term_trees l.term-items);
   rises : l.fn.steps ≤ l.steps;
   flat : (i : ℕ) (t : Term) → i < length l.term-items → t ≡ get_or l.term-items i t → IsFlat (filter_tree t.filter);
 }
@@ -60,8 +60,8 @@ invariant-squares::square_truths-loop-number g l = record {
       (unsettled_by l.every (shown l.squares)
       (λ n s. holds (value (searched_tree l.game l.variations) [] ((l.name, s) ∷ l.names) (filter_tree l.asked) n)) l.number) l.left.items;
   wanted : AreWanted (shown l.squares) l.left.items l.wanted;
-  cost : l.steps + (64 - l.number) * filter_cost (length l.game.nodes) (filter_tree l.asked)
-      ≤ l.fn.steps + 64 * filter_cost (length l.game.nodes) (filter_tree l.asked);
+  cost : l.steps + (64 - l.number) * filter_cost (searched_len (searched_tree l.game l.variations)) (filter_tree l.asked)
+      ≤ l.fn.steps + 64 * filter_cost (searched_len (searched_tree l.game l.variations)) (filter_tree l.asked);
   rises : l.fn.steps ≤ l.steps;
 }
 
@@ -69,8 +69,8 @@ abbrev pub invariant-lines::put_parts-loop-part : goal.invariant-lines::put_part
 invariant-lines::put_parts-loop-part g l = record {
   table : TableSoFar (searched_tree l.game l.variations) l.back l.names l.first l.part-items l.part-index l.at l.live l.starts.items l.fn.met l.met l.fn.table l.table;
   asked : AreAsked (searched_tree l.game l.variations) l.starts.items;
-  cost : l.steps + parts_cost (length l.game.nodes) (part_trees (drop l.part-index l.part-items))
-      ≤ l.fn.steps + parts_cost (length l.game.nodes) (part_trees l.part-items);
+  cost : l.steps + parts_cost (searched_len (searched_tree l.game l.variations)) (part_trees (drop l.part-index l.part-items))
+      ≤ l.fn.steps + parts_cost (searched_len (searched_tree l.game l.variations)) (part_trees l.part-items);
   rises : l.fn.steps ≤ l.steps;
   flat : (i : ℕ) (c : Constituent) → i < length l.part-items → c ≡ get_or l.part-items i c → IsFlatBody (body_tree c.body);
   room : (c : Constituent) → l.part-index < length l.part-items → c ≡ get_or l.part-items l.part-index c

@@ -2,7 +2,7 @@ use Rattle.std.proofs.Common.{◌∙◌, arith}
 use Rattle.cql_lines.specs.PatternTrees.{patterns_in}
 use Rattle.cql_lines.proofs.Lists.{sequence_tree}
 use Rattle.cql_syntax.specs.TreeOf.{parts_tree}
-use Rattle.cql_eval.proofs.LinesLaw.{pattern_begun, pattern_more, pattern_all, next_all}
+use Rattle.cql_eval.proofs.LineAtoms.{pattern_begun, pattern_more, pattern_all, next_all}
 use Rattle.cql_eval.proofs.patterns.+pattern.Goals as goal
 
 pub parts_pattern-loop-part-init : goal.parts_pattern-loop-part-init

@@ -1,5 +1,5 @@
 use Rattle.cql_lines.specs.PatternTrees.{patterns_in}
-use Rattle.cql_eval.proofs.LinesLaw.{PatternSoFar}
+use Rattle.cql_eval.proofs.LineAtoms.{PatternSoFar}
 use Rattle.cql_eval.proofs.patterns.+pattern.Given as goal
 
 abbrev pub invariant-parts_pattern-loop-part : goal.invariant-parts_pattern-loop-part

@@ -2,6 +2,7 @@ use Rattle.std.proofs.Common.{rules, ◌∙◌, ◌++◌, ap, map, arith, length
 use Rattle.cq_position.specs.Search.{nodes_in}
 use Rattle.cql_syntax.specs.TreeOf.{filter_tree, filters_tree}
 use Rattle.cql_values.specs.Trees.{searched_tree}
+use Rattle.cql_eval.specs.Costs.{searched_len}
 use Rattle.cql_eval.specs.Hits.{key_column, item_numbers}
 use Rattle.cql_eval.proofs.Costing.{cost_more, cost_within}
 use Rattle.cql_eval.proofs.FlatLaw.{items_flat, filter_flat}
@@ -30,7 +31,7 @@ loop-item-preserved g c = record {
       ∙ ap (λ rows. map (λ row. row.items) c.loop-item.keys.items ++ rows)
       (rows_same (searched_tree c.args.game.now c.args.query.now.variations) c.in_ok-all.all.items _ c.in_ok-all.ensures.nodes (search rules) (item_numbers (filter_tree c.item-item.result))))
       c.loop-item.invariant.keys;
-  most = cost_more (length c.args.game.now.nodes) c.as_slice-item-items.result.now c.loop-item.item-index c.item-item.result _ c.loop-item.steps
+  most = cost_more (searched_len (searched_tree c.args.game.now c.args.query.now.variations)) c.as_slice-item-items.result.now c.loop-item.item-index c.item-item.result _ c.loop-item.steps
       c.narrowed_by.new.steps c.loop-item-test.true c.item-item.is c.loop-item.invariant.most c.narrowed_by.ensures.cost;
   least = omega (arith, c.loop-item.invariant.least, c.narrowed_by.ensures.rises);
 }
@@ -51,7 +52,7 @@ narrowed_by-requires-clause-flat g c =
 
 pub returns-in_err-left-2-clause-most : goal.returns-in_err-left-2-clause-most
 returns-in_err-left-2-clause-most g c =
-    cost_within (length c.args.game.now.nodes) c.as_slice-item-items.result.now c.loop-item.item-index c.item-item.result _ c.loop-item.steps
+    cost_within (searched_len (searched_tree c.args.game.now c.args.query.now.variations)) c.as_slice-item-items.result.now c.loop-item.item-index c.item-item.result _ c.loop-item.steps
     c.narrowed_by.new.steps (filters_tree c.args.query.now.items) c.loop-item-test.true c.item-item.is c.loop-item.invariant.most
     c.narrowed_by.ensures.cost c.as_slice-item-items.ensures.tree
 

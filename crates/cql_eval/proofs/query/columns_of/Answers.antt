@@ -1,6 +1,7 @@
 use Rattle.std.proofs.Common.{rules, ap, map, arith, length, ◌∙◌, ◌+◌}
 use Rattle.cql_syntax.specs.TreeOf.{filter_tree, filters_tree}
 use Rattle.cql_values.specs.Trees.{searched_tree}
+use Rattle.cql_eval.specs.Costs.{searched_len}
 use Rattle.cql_eval.specs.Classes.{is_of, is_before, cost_of}
 use Rattle.cql_eval.proofs.ClassLaw.{class_cost_more, class_cost_within, cost_later, cost_all}
 use Rattle.cql_eval.proofs.FlatLaw.{items_flat, filter_flat}
@@ -32,7 +33,8 @@ loop-item-preserved g c = record {
       (omega (arith, c.sort_by.ensures.len, c.deref_mut.ensures.len)) c.deref_mut.ensures.value
       c.in_ok-sort_by.ensures.left)
       c.in_ok-sort_by.ensures.keys c.loop-item.invariant.keys;
-  most = class_cost_more (is_of 5) (length c.args.game.now.nodes) c.as_slice-item-items.result.now c.loop-item.item-index c.item-item.result _ c.loop-item.steps c.sort_by.new.steps
+  most = class_cost_more (is_of 5) (searched_len (searched_tree c.args.game.now c.args.query.now.variations)) c.as_slice-item-items.result.now c.loop-item.item-index c.item-item.result _
+      c.loop-item.steps c.sort_by.new.steps
       c.loop-item-test.true c.item-item.is c.loop-item.invariant.most c.sort_by.ensures.cost;
   least = omega (arith, c.loop-item.invariant.least, c.sort_by.ensures.rises);
 }
@@ -47,16 +49,17 @@ sort_by-requires-clause-flat g c =
 
 pub returns-in_err-sort_by-clause-cost : goal.returns-in_err-sort_by-clause-cost
 returns-in_err-sort_by-clause-cost g c =
-    let within = class_cost_within (is_of 5) (length c.args.game.now.nodes) c.as_slice-item-items.result.now c.loop-item.item-index c.item-item.result _ c.loop-item.steps
+    let within = class_cost_within (is_of 5) (searched_len (searched_tree c.args.game.now c.args.query.now.variations)) c.as_slice-item-items.result.now c.loop-item.item-index
+    c.item-item.result _ c.loop-item.steps
     c.sort_by.new.steps (filters_tree c.args.query.now.items) c.loop-item-test.true c.item-item.is c.loop-item.invariant.most
     c.sort_by.ensures.cost c.as_slice-item-items.ensures.tree in
     omega (
       arith,
       within,
-      sorted_cost (length c.args.game.now.nodes) c.as_slice-item-items.result.now
+      sorted_cost (searched_len (searched_tree c.args.game.now c.args.query.now.variations)) c.as_slice-item-items.result.now
           (filters_tree c.args.query.now.items) c.as_slice-item-items.ensures.tree,
       ap
-          (cost_of (is_of 5) (length c.args.game.now.nodes)) c.as_slice-item-items.ensures.tree,
+          (cost_of (is_of 5) (searched_len (searched_tree c.args.game.now c.args.query.now.variations))) c.as_slice-item-items.ensures.tree,
     )
 
 pub returns-clause-left : goal.returns-clause-left
@@ -75,14 +78,19 @@ returns-clause-keys g c =
 
 pub returns-clause-cost : goal.returns-clause-cost
 returns-clause-cost g c =
-    omega (arith, c.loop-item.invariant.most, sorted_cost (length c.args.game.now.nodes) c.as_slice-item-items.result.now (filters_tree c.args.query.now.items) c.as_slice-item-items.ensures.tree)
+    omega (
+      arith,
+      c.loop-item.invariant.most,
+      sorted_cost (searched_len (searched_tree c.args.game.now c.args.query.now.variations)) c.as_slice-item-items.result.now (filters_tree
+          c.args.query.now.items) c.as_slice-item-items.ensures.tree,
+    )
 
 pub returns-in_err-left-clause-cost : goal.returns-in_err-left-clause-cost
 returns-in_err-left-clause-cost g c =
     omega (
       arith,
       c.left_by.ensures.cost,
-      cost_later (length c.args.game.now.nodes) 5 6
+      cost_later (searched_len (searched_tree c.args.game.now c.args.query.now.variations)) 5 6
           (filters_tree c.args.query.now.items) (omega arith),
-      cost_all (length c.args.game.now.nodes) (filters_tree c.args.query.now.items),
+      cost_all (searched_len (searched_tree c.args.game.now c.args.query.now.variations)) (filters_tree c.args.query.now.items),
     )

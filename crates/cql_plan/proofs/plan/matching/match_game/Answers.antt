@@ -42,6 +42,6 @@ returns-clause-most g c =
     omega (
       arith,
       c.find.ensures.most,
-      costs_are (query_tree plan.query.query) c.args.game.now plan.flat.variations (filters_tree plan.flat.items) (length c.args.game.now.nodes) plan.items,
+      costs_are (query_tree plan.query.query) c.args.game.now plan.flat.variations (filters_tree plan.flat.items) plan.items plan.variations,
       ap (λ v. length (nodes_in (searched_tree c.args.game.now v))) plan.variations,
     )
