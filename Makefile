@@ -22,26 +22,23 @@ build:
 	@bash scripts/build.sh
 
 # Installs what `make build` has built, with manual pages, completion for bash, zsh and fish, a syntax file for vim, the Python package
-# with its commands, the page of boards, and the scripts for many machines.
+# with its commands, and the scripts for many machines.
 install:
 	@test -x $(PROGRAM) -a -x $(PIECES) || { echo "make build comes first"; exit 1; }
 	install -D $(PROGRAM) $(BIN)/cqlpgn
 	install -D $(PIECES) $(BIN)/pgnpieces
 	install -d $(DESTDIR)$(MODULES)
-	cd python && find cqlpgn -name '*.py' -o -name py.typed | xargs -I{} install -D -m 644 {} $(DESTDIR)$(MODULES)/{}
+	cd python && find cqlpgn -type f ! -path '*/__pycache__/*' | xargs -I{} install -D -m 644 {} $(DESTDIR)$(MODULES)/{}
 	for name in $(COMMANDS); do \
 	  sed '1s|.*|#!$(PYTHON)|; s|, which stands beside this folder||; s|^sys.path.insert.*|sys.path.insert(0, "$(MODULES)")|' python/bin/$$name > $(BIN)/$$name; \
 	  chmod 755 $(BIN)/$$name; \
 	done
-	install -D view/diagrams $(SHARE)/cqlpgn/view/diagrams
-	install -m 644 view/*.py view/page.html $(SHARE)/cqlpgn/view
 	install -d $(SHARE)/cqlpgn/many
 	install $(filter-out %.py,$(wildcard many/*)) $(SHARE)/cqlpgn/many
 	install -m 644 many/*.py $(SHARE)/cqlpgn/many
-	ln -sf ../share/cqlpgn/view/diagrams $(BIN)/cqlpgn-diagrams
 	install -D -m 644 docs/cqlpgn.1 $(SHARE)/man/man1/cqlpgn.1
 	install -m 644 docs/pgnpieces.1 $(SHARE)/man/man1/pgnpieces.1
-	for name in $(COMMANDS) cqlpgn-diagrams; do \
+	for name in $(COMMANDS); do \
 	  if [ -f docs/$$name.1 ]; then install -m 644 docs/$$name.1 $(SHARE)/man/man1; else \
 	  echo '.so man1/cqlpgn.1' > $(SHARE)/man/man1/$$name.1; fi; \
 	  mkdir -p $(SHARE)/bash-completion/completions $(SHARE)/fish/vendor_completions.d; \
@@ -54,6 +51,7 @@ install:
 	install -D -m 644 contrib/completion/cqlpgn.bash $(SHARE)/bash-completion/completions/cqlpgn
 	install -D -m 644 contrib/completion/_cqlpgn $(SHARE)/zsh/$(ZSH)/_cqlpgn
 	install -D -m 644 contrib/completion/cqlpgn.fish $(SHARE)/fish/vendor_completions.d/cqlpgn.fish
+	install -D -m 644 contrib/cqlpgn-desk.desktop $(SHARE)/applications/cqlpgn-desk.desktop
 	install -D -m 644 contrib/vim/syntax/cql.vim $(SHARE)/vim/vimfiles/syntax/cql.vim
 	install -D -m 644 contrib/vim/ftdetect/cql.vim $(SHARE)/vim/vimfiles/ftdetect/cql.vim
 	install -d $(SHARE)/doc/cqlpgn/docs $(SHARE)/doc/cqlpgn/examples
@@ -66,15 +64,16 @@ uninstall:
 	rm -f $(BIN)/pgnpieces $(SHARE)/man/man1/pgnpieces.1 $(SHARE)/man/man7/cql.7
 	rm -rf $(DESTDIR)$(MODULES)/cqlpgn
 	[ ! -d $(DESTDIR)$(MODULES) ] || (cd $(DESTDIR)$(PREFIX) && rmdir -p --ignore-fail-on-non-empty $(MODULES:$(PREFIX)/%=%))
-	for name in cqlpgn $(COMMANDS) cqlpgn-diagrams; do \
+	for name in cqlpgn $(COMMANDS); do \
 	  rm -f $(BIN)/$$name $(SHARE)/man/man1/$$name.1; \
 	  rm -f $(SHARE)/bash-completion/completions/$$name $(SHARE)/fish/vendor_completions.d/$$name.fish; \
 	done
 	rm -f $(SHARE)/zsh/site-functions/_cqlpgn $(SHARE)/zsh/vendor-completions/_cqlpgn
 	rm -f $(SHARE)/zsh/$(ZSH)/_cqlpgn $(SHARE)/vim/vimfiles/syntax/cql.vim $(SHARE)/vim/vimfiles/ftdetect/cql.vim
+	rm -f $(SHARE)/applications/cqlpgn-desk.desktop
 	rm -rf $(SHARE)/cqlpgn $(SHARE)/doc/cqlpgn $(SHARE)/man/man7/pgn-archive.7
 	for folder in bash-completion/completions fish/vendor_completions.d zsh/site-functions zsh/vendor-completions \
-	  vim/vimfiles/syntax vim/vimfiles/ftdetect; do \
+	  vim/vimfiles/syntax vim/vimfiles/ftdetect applications; do \
 	  [ ! -d $(SHARE)/$$folder ] || (cd $(SHARE) && rmdir -p --ignore-fail-on-non-empty $$folder); \
 	done
 
@@ -83,12 +82,12 @@ deb:
 	@test -x $(PROGRAM) -a -x $(PIECES) || { echo "make build comes first"; exit 1; }
 	rm -rf out/deb
 	mkdir -p out/deb/cqlpgn/crates/cqlpgn/out out/deb/cqlpgn/crates/pgnpieces/out
-	cp -r Makefile README.md LICENSE-MIT LICENSE-APACHE debian docs examples view contrib many python out/deb/cqlpgn
+	cp -r Makefile README.md LICENSE-MIT LICENSE-APACHE debian docs examples contrib many python out/deb/cqlpgn
 	cp $(PROGRAM) out/deb/cqlpgn/crates/cqlpgn/out/cqlpgn
 	cp $(PIECES) out/deb/cqlpgn/crates/pgnpieces/out/pgnpieces
 	cp CHANGELOG.md out/deb/cqlpgn
 	cd out/deb/cqlpgn && env -u PROGRAM -u PIECES dpkg-buildpackage -us -uc -b
-	mv out/deb/cqlpgn_*.deb out/
+	mv out/deb/cqlpgn*.deb out/
 	rm -rf out/deb
 
 test:

@@ -285,9 +285,11 @@ def try_page(page):
         os.symlink(".", os.path.join(room, "examples"))
         os.mkdir(os.path.join(room, "bin"))
         os.symlink(BINARY, os.path.join(room, "bin", "cqlpgn"))
-        for name in ("cqlpgn-over", "cqlpgn-split"):
+        for name in ("pgnpieces", "pgnjson"):
+            built = os.environ.get(name.upper(), os.path.join(TOP, "crates", name, "out", name))
+            os.symlink(os.path.abspath(built), os.path.join(room, "bin", name))
+        for name in os.listdir(os.path.join(TOP, "python", "bin")):
             os.symlink(os.path.join(TOP, "python", "bin", name), os.path.join(room, "bin", name))
-        os.symlink(os.path.join(TOP, "view", "diagrams"), os.path.join(room, "bin", "cqlpgn-diagrams"))
         try_blocks(page, text, room)
     for head, rows in tables_of(text):
         check = TABLES.get(head)

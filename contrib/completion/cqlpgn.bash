@@ -1,4 +1,4 @@
-# Completion of cqlpgn, cqlpgn-over, cqlpgn-split, cqlpgn-problems and cqlpgn-diagrams for bash:
+# Completion of cqlpgn, cqlpgn-over, cqlpgn-split, cqlpgn-problems, cqlpgn-rows, cqlpgn-diagrams and cqlpgn-desk for bash:
 # `source contrib/completion/cqlpgn.bash` in ~/.bashrc, where `make install` or the package has not put it where bash-completion finds it.
 
 _cqlpgn_files() {
@@ -64,10 +64,38 @@ _cqlpgn_problems() {
 _cqlpgn_diagrams() {
     local word=${COMP_WORDS[COMP_CWORD]} before=${COMP_WORDS[COMP_CWORD - 1]}
     COMPREPLY=()
-    case $before in --mark | --title) return ;; esac
+    case $before in
+        --mark | --title) return ;;
+        --flip) mapfile -t COMPREPLY < <(compgen -W 'never side-to-move' -- "$word"); return ;;
+        --per-page) mapfile -t COMPREPLY < <(compgen -W '8 12' -- "$word"); return ;;
+        -o) _cqlpgn_files 'html|tex' "$word"; return ;;
+    esac
     case $word in
-        -*) mapfile -t COMPREPLY < <(compgen -W '--tex --mark --title --help' -- "$word") ;;
-        *) _cqlpgn_files pgn "$word" ;;
+        -*)
+            mapfile -t COMPREPLY < <(compgen -W '--tex --exercises --mark --title --flip --coordinates --per-page -o --help' -- "$word") ;;
+        *) _cqlpgn_files 'pgn|gz|bz2|xz|zst' "$word" ;;
+    esac
+}
+
+_cqlpgn_rows() {
+    local word=${COMP_WORDS[COMP_CWORD]} before=${COMP_WORDS[COMP_CWORD - 1]}
+    COMPREPLY=()
+    case $before in
+        --mark | --columns) return ;;
+        --index | -o) _cqlpgn_files csv "$word"; return ;;
+    esac
+    case $word in
+        -*) mapfile -t COMPREPLY < <(compgen -W '--csv --json --epd --columns --mark --index -o --help' -- "$word") ;;
+        *) _cqlpgn_files 'pgn|gz|bz2|xz|zst' "$word" ;;
+    esac
+}
+
+_cqlpgn_desk() {
+    local word=${COMP_WORDS[COMP_CWORD]}
+    COMPREPLY=()
+    case $word in
+        -*) mapfile -t COMPREPLY < <(compgen -W '--port --runs --no-browser --help' -- "$word") ;;
+        *) mapfile -t COMPREPLY < <(compgen -d -- "$word") ;;
     esac
 }
 
@@ -76,3 +104,5 @@ complete -o filenames -F _cqlpgn_over cqlpgn-over
 complete -o nospace -F _cqlpgn_split cqlpgn-split
 complete -o filenames -F _cqlpgn_problems cqlpgn-problems
 complete -o filenames -F _cqlpgn_diagrams cqlpgn-diagrams
+complete -o filenames -F _cqlpgn_rows cqlpgn-rows
+complete -o filenames -F _cqlpgn_desk cqlpgn-desk

@@ -1,4 +1,4 @@
-# Completion of cqlpgn, cqlpgn-over, cqlpgn-split, cqlpgn-problems and cqlpgn-diagrams for fish:
+# Completion of cqlpgn, cqlpgn-over, cqlpgn-split, cqlpgn-problems, cqlpgn-rows, cqlpgn-diagrams and cqlpgn-desk for fish:
 # the file lies in ~/.config/fish/completions.
 
 function __cqlpgn_place --description 'is the word before the cursor this one, counted from 1 and without options'
@@ -52,4 +52,25 @@ complete -c cqlpgn-problems -l help -d 'explains the words'
 complete -c cqlpgn-diagrams -l tex -d 'a text for LaTeX'
 complete -c cqlpgn-diagrams -l mark -x -d 'the comment of a marked position'
 complete -c cqlpgn-diagrams -l title -x -d 'the title'
+complete -c cqlpgn-diagrams -l exercises -d 'boards alone'
+complete -c cqlpgn-diagrams -l flip -x -a 'never side-to-move' -d 'turned boards'
+complete -c cqlpgn-diagrams -l coordinates -d 'at the edges'
+complete -c cqlpgn-diagrams -l per-page -x -a '8 12' -d 'boards of a printed page'
+complete -c cqlpgn-diagrams -s o -r -d 'where the page goes'
 complete -c cqlpgn-diagrams -l help -d 'explains the words'
+
+complete -c cqlpgn-rows -l csv -d CSV
+complete -c cqlpgn-rows -l json -d 'lines of JSON'
+complete -c cqlpgn-rows -l epd -d EPD
+complete -c cqlpgn-rows -l columns -x -d 'the columns'
+complete -c cqlpgn-rows -l mark -x -d 'the comment of a marked position'
+complete -c cqlpgn-rows -l index -r -d 'where the games came from'
+complete -c cqlpgn-rows -s o -r -d 'where the rows go'
+complete -c cqlpgn-rows -l help -d 'explains the words'
+
+complete -c cqlpgn-desk -f
+complete -c cqlpgn-desk -n '__cqlpgn_place 1' -a '(__fish_complete_directories)' -d 'where the archives are'
+complete -c cqlpgn-desk -l port -x -d 'a port of this machine'
+complete -c cqlpgn-desk -l runs -x -d 'how many runs go at once'
+complete -c cqlpgn-desk -l no-browser -d 'the address is printed alone'
+complete -c cqlpgn-desk -l help -d 'explains the words'

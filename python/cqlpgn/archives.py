@@ -231,10 +231,11 @@ def _opened(path: str, name: str | None = None) -> BufferedReader:
         raise NotFound(f"{shown(name or path)}: could not be opened") from fault
 
 
-def _members(path: str) -> list[zipfile.ZipInfo]:
-    """The games in a `.zip`, each as a file of its own, in the order of its directory."""
+def members(archive: Archive) -> list[zipfile.ZipInfo]:
+    """The games in a `.zip`, each as a file of its own, in the order of its directory. Raises `NotFound` and `Unreadable`."""
+    path = archive.path
     try:
-        with _opened(path) as file, zipfile.ZipFile(file) as packed:
+        with archive.open() as file, zipfile.ZipFile(file) as packed:
             found = [member for member in packed.infolist() if member.filename.lower().endswith(".pgn")]
     except (Error, MemoryError):
         raise
@@ -285,15 +286,15 @@ def archives(names: Iterable[str]) -> Iterator[Archive | Error]:
             yield Archive(name, name)
         else:
             try:
-                yield from _named(name, _members(name))
+                yield from named(name, members(Archive(name, name)))
             except Error as fault:
                 yield fault
 
 
-def _named(path: str, members: list[zipfile.ZipInfo]) -> Iterator[Archive]:
+def named(path: str, found: list[zipfile.ZipInfo]) -> Iterator[Archive]:
     """The members of a `.zip`; of two that have one name the second is told as `NAME (2)`."""
     seen: dict[str, int] = {}
-    for member in members:
+    for member in found:
         seen[member.filename] = seen.get(member.filename, 0) + 1
         again = f" ({seen[member.filename]})" if seen[member.filename] > 1 else ""
         yield Archive(f"{path}:{member.filename}{again}", path, member)

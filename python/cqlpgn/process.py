@@ -16,6 +16,8 @@ from typing import IO, BinaryIO
 from .errors import STATUS_WORDS, Error, NotFound, Stopped, Unreadable
 from .signals import unbroken
 
+# what a pipe holds, so that two programs seldom wait for one another
+BUFFER = 1 << 20
 COUNTS = re.compile(r"games (\d+) matched (\d+) refused (\d+)")
 FAULTY_GAME = re.compile(r"game (\d+) byte (\d+): (.*)")
 
@@ -110,7 +112,9 @@ class Process:
             call += [name or self._room_name if word == self.QUERY else word for word in words]
             source = subprocess.PIPE if blocks is not None else stdin
             with unbroken():
-                self._process = subprocess.Popen(call, stdin=source, stdout=out, stderr=err, pass_fds=(file,))
+                self._process = subprocess.Popen(
+                    call, stdin=source, stdout=out, stderr=err, pass_fds=(file,), bufsize=BUFFER, pipesize=BUFFER
+                )
                 _running.add(self)
         except OSError as fault:
             raise NotFound(f"{call[0]}: {fault.strerror}") from fault

@@ -83,22 +83,34 @@ def sees_missing_tags(query: bytes) -> bool:
     return False
 
 
-def without_marks(query: bytes, comments: bool = True) -> bytes:
-    """A query without faults, with an empty text of `matchstring`: it finds the same games and adds no mark. With `comments=False` its
-    items `comment` add nothing either, so that the games are written as they were read."""
+def without_marks(query: bytes, comments: bool = True, mark: bytes = b'""') -> bytes:
+    """A query without faults, with an empty text of `matchstring`, or another one: it finds the same games and adds no mark. With
+    `comments=False` its items `comment` add nothing either, so that the games are written as they were read."""
     out, at, head, is_given, before = bytearray(), 0, -1, False, b""
     for token in tokens(query):
         out += query[at : token.at]
         is_mark = token.kind == "text" and before == b"matchstring"
         is_given = is_given or is_mark
-        out += b'""' if is_mark or token.kind == "text" and before == b"comment" and not comments else token.bytes
+        is_said = token.kind == "text" and before == b"comment" and not comments
+        out += mark if is_mark else b'""' if is_said else token.bytes
         if head < 0 and token.bytes == b"(":
             head = len(out)
         at, before = token.end, b"" if token.kind == "file" else token.bytes
     out += query[at:]
     if not is_given:
-        out[head:head] = b'matchstring "" '
+        out[head:head] = b"matchstring " + mark + b" "
     return bytes(out)
+
+
+def mark_of(query: bytes) -> bytes:
+    """The comment that a query without faults gives to each position that matches, its words with single spaces; of several texts of
+    `matchstring` the last one counts."""
+    mark, before = b"CQL", b""
+    for token in tokens(query):
+        if token.kind == "text" and before == b"matchstring":
+            mark = token.bytes[1:-1]
+        before = token.bytes if token.kind != "file" else b""
+    return b" ".join(mark.split())
 
 
 def pieces(queries: bytes) -> list[tuple[int, bytes]]:

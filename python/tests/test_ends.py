@@ -101,8 +101,8 @@ def test_what_is_read_is_not_written(asked: Asking, room: Path) -> None:
     assert ((room / "one.pgn").read_bytes(), (room / "two.pgn").read_bytes(), (room / "q.cql").read_bytes()) == (ONE, TWO, QUERY.encode())
 
 
-@pytest.mark.parametrize("command", ["cqlpgn-over", "cqlpgn-split"])
-@pytest.mark.parametrize(("words", "stream"), [(["--help"], "stdout"), (["--unknown"], "stderr"), ([], "stderr")])
+@pytest.mark.parametrize("command", ["cqlpgn-over", "cqlpgn-split", "cqlpgn-rows", "cqlpgn-diagrams"])
+@pytest.mark.parametrize(("words", "stream"), [(["--help"], "stdout"), (["--unknown"], "stderr"), (["a", "b", "c", "-x"], "stderr")])
 @pytest.mark.parametrize("kind", ["full", "closed"])
 def test_streams_that_take_nothing(command: str, words: list[str], stream: str, kind: str) -> None:
     """A command that has something to say to a stream that takes nothing ends with 6."""
@@ -172,3 +172,37 @@ def test_signals_end_what_was_started(room: Path, kind: signal.Signals, options:
     os.close(held)
     assert started and all(has_ended(child) for child in started)
     assert ((room / "out.pgn").read_bytes(), left(room)) == (OLD, ["out.pgn", "waits.pgn"])
+
+
+@pytest.mark.usefixtures("pgnjson")
+@pytest.mark.parametrize("command", ["cqlpgn-rows", "cqlpgn-diagrams"])
+def test_rows_and_boards_that_are_not_taken(room: Path, command: str) -> None:
+    (room / "long.pgn").write_bytes(b"1. e4 {CQL} e5 {CQL} *\n" * 5000)
+    for redirect in (">/dev/full", ">&-", "| head -c 10 > begin; exit ${PIPESTATUS[0]}"):
+        call = f"{sys.executable} {BIN / command} long.pgn {redirect}"
+        done = subprocess.run(["bash", "-c", call], stdin=subprocess.DEVNULL, capture_output=True, check=False)
+        assert (done.returncode, b"Traceback" in done.stderr) == (6, False)
+    done = subprocess.run(["bash", "-c", f"exec {sys.executable} {BIN / command} <&-"], capture_output=True, check=False)
+    assert (done.returncode, b"Traceback" in done.stderr, b"could not be read to its end" in done.stderr) == (5, False, True)
+
+
+@pytest.mark.usefixtures("pgnjson")
+@pytest.mark.parametrize("kind", [signal.SIGTERM, signal.SIGINT])
+@pytest.mark.parametrize("command", ["cqlpgn-rows", "cqlpgn-diagrams"])
+def test_signals_end_rows_and_boards(room: Path, command: str, kind: signal.Signals) -> None:
+    (room / "out").write_bytes(OLD)
+    os.mkfifo("waits.pgn")
+    held = os.open("waits.pgn", os.O_RDWR)
+    os.write(held, b"1. e4 {CQL} *\n")
+    with subprocess.Popen([sys.executable, str(BIN / command), "-o", "out", "waits.pgn"], stderr=subprocess.PIPE) as run:
+        started: list[int] = []
+        for _turn in range(600):
+            started = children(run.pid)
+            if any(b"--mark" in Path(f"/proc/{child}/cmdline").read_bytes() for child in started):
+                break
+            time.sleep(0.05)
+        run.send_signal(kind)
+        assert run.wait(20) == 128 + kind
+    os.close(held)
+    assert started and all(has_ended(child) for child in started)
+    assert ((room / "out").read_bytes(), left(room)) == (OLD, ["out", "waits.pgn"])

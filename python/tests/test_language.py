@@ -26,3 +26,10 @@ def test_no_mark_of_markdown_is_left_in_the_manual_page() -> None:
     call = [sys.executable, str(TOP / "contrib" / "manual"), str(TOP / "docs" / "LANGUAGE.md")]
     page = subprocess.run(call, capture_output=True, check=True).stdout
     assert [mark for mark in (b"`", b"**", b"|--") if mark in page] == []
+
+
+def test_the_words_of_the_desk() -> None:
+    """What the desk offers is what the pages say: contrib/desk-words writes it anew."""
+    pages = [str(TOP / page) for page in ("README.md", "docs/RECIPES.md", "docs/LANGUAGE.md")]
+    made = subprocess.run([sys.executable, str(TOP / "contrib" / "desk-words"), *pages], capture_output=True, check=True).stdout
+    assert made == (TOP / "python" / "cqlpgn" / "desk" / "words.json").read_bytes()

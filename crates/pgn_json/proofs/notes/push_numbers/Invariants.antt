@@ -1,0 +1,8 @@
+use Rattle.std.proofs.Common.{◌≡◌, ◌++◌, map, drop, decimal}
+use Rattle.pgn_json.specs.Left.{left}
+use Rattle.pgn_json.specs.Values.{separated}
+use Rattle.pgn_json.proofs.notes.push_numbers.Given as goal
+
+-- what is written, and what is left, is all
+abbrev pub invariant-loop-i : goal.invariant-loop-i
+invariant-loop-i l = l.line ++ left l.i (map decimal (drop l.i l.numbers)) ≡ l.fn.line ++ separated (map decimal l.fn.numbers)

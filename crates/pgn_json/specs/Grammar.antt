@@ -1,0 +1,48 @@
+-- How a JSON string spells its characters (RFC 8259, section 7). A text is the codes of its characters.
+use Rattle.std.specs.Prelude.{◌≡◌, ℕ, ◌+◌, ◌-◌, ◌*◌, ◌<◌, ◌≤◌, ◌==◌, ◌&&◌, not, nat_lt, Bool, true, List, [], ◌∷◌, ◌++◌, Option, Some, None, if◌then◌else◌}
+use Rattle.std.specs.Char.{IsScalar, digit_value}
+
+-- %x20-21 / %x23-5B / %x5D-10FFFF: all but the control characters, the quote and the backslash
+abbrev pub is_unescaped : ℕ → Bool
+is_unescaped c = not (nat_lt c 32) && (not (c == 34) && not (c == 92))
+
+-- the character that a letter after a backslash stands for: a quote, a backslash, a slash, b, f, n, r or t
+abbrev pub letter_meaning : ℕ → Option ℕ
+letter_meaning letter =
+    if letter == 34 then Some 34 else if letter == 92 then Some 92 else if letter == 47 then Some 47 else if letter == 98 then Some 8
+    else if letter == 102 then Some 12 else if letter == 110 then Some 10 else if letter == 114 then Some 13
+    else if letter == 116 then Some 9 else None
+
+-- `\u` and four hexadecimal digits, of either case, write a number
+pub record IsNumber (n : ℕ) (text : List ℕ) : Type 0 where
+  pub first : ℕ
+  pub second : ℕ
+  pub third : ℕ
+  pub fourth : ℕ
+  pub digits : (digit_value first < 16) × (digit_value second < 16) × (digit_value third < 16) × (digit_value fourth < 16)
+  pub written : text ≡ 92 ∷ 117 ∷ first ∷ second ∷ third ∷ fourth ∷ []
+  pub number : n ≡ 4096 * digit_value first + 256 * digit_value second + 16 * digit_value third + digit_value fourth
+
+-- a text that spells a character: itself; a backslash and a letter; its number; or, from U+10000 on, the numbers of its two surrogates
+pub data Spells (c : ℕ) (text : List ℕ) : Type 0 where
+  unescaped : is_unescaped c ≡ true → text ≡ c ∷ [] → Spells c text
+  by_letter : (letter : ℕ) → letter_meaning letter ≡ Some c → text ≡ 92 ∷ letter ∷ [] → Spells c text
+  by_number : IsNumber c text → IsScalar c → Spells c text
+  by_surrogates : (high low : ℕ) (front back : List ℕ) → IsNumber high front → IsNumber low back → (55296 ≤ high) × (high < 56320)
+      → (56320 ≤ low) × (low < 57344) → c ≡ 65536 + 1024 * (high - 55296) + (low - 56320) → text ≡ front ++ back → Spells c text
+
+-- a text that spells characters, one after the other
+abbrev pub SpellsAll : List ℕ → List ℕ → Type 0
+SpellsAll [] text = text ≡ []
+SpellsAll (c ∷ cs) text = (front : List ℕ) × (rest : List ℕ) × (text ≡ front ++ rest) × Spells c front × SpellsAll cs rest
+
+-- a string: its characters, between quotes
+pub record IsString (cs text : List ℕ) : Type 0 where
+  pub inside : List ℕ
+  pub between : text ≡ 34 ∷ (inside ++ 34 ∷ [])
+  pub spelled : SpellsAll cs inside
+
+-- a text is read as these characters, and as no others
+pub record IsReadAs (text cs : List ℕ) : Type 0 where
+  pub string : IsString cs text
+  pub alone : (ds : List ℕ) → IsString ds text → ds ≡ cs

@@ -1,0 +1,16 @@
+//! The top call of `pgnjson`: the games of an archive as lines of JSON.
+#![tactic(auto)]
+
+mod answering;
+mod games;
+mod job;
+mod line;
+mod mark;
+mod status;
+mod top_call;
+mod words;
+
+pub use job::{Job, WordsRefused};
+pub use status::Status;
+pub use top_call::{answer_command, run};
+pub use words::read_words;

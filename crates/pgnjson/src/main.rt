@@ -1,0 +1,16 @@
+//! `pgnjson`: the games of an archive as lines of JSON.
+#![tactic(auto)]
+
+use cq_outside::{FileDesk, StdSink, command_words};
+use pgn_json_run::answer_command;
+use std::process::ExitCode;
+
+// The real things are made here and handed over; what is done with them is the contract of `answer_command`.
+fn main(rt: HostRuntime) -> ExitCode {
+    let alloc = rt.alloc();
+    let mut desk = FileDesk::new(alloc, rt, rt.stdin()).unwrap();
+    let mut out = StdSink::new(alloc, rt.stdout()).unwrap();
+    let mut err = StdSink::new(alloc, rt.stderr()).unwrap();
+    let words = command_words(&rt);
+    ExitCode::from(answer_command(alloc, words, &mut desk, &mut out, &mut err))
+}

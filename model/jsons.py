@@ -1,0 +1,136 @@
+#!/usr/bin/env python3
+"""pgnjson as a process: its lines beside those of the model, read again by Python's json, and each exit status.
+
+    python3 jsons.py BINARY [SEED [COUNT]]
+
+BINARY is the built program. COUNT archives are drawn from the SEED, 300 from seed 1 if it is not said. The last line counts the cases:
+'N passed, M failed'. It takes a minute.
+"""
+
+import gzip
+import json
+import os
+import subprocess
+import sys
+import tempfile
+
+import fuzz
+import json_lines
+import pgn
+
+TOP = os.path.join(os.path.dirname(os.path.abspath(__file__)), "..")
+BINARY = os.path.abspath(sys.argv[1])
+SEED, COUNT = int(sys.argv[2]) if len(sys.argv) > 2 else 1, int(sys.argv[3]) if len(sys.argv) > 3 else 300
+USAGE = b"usage: pgnjson [--mark TEXT] [--workers N] [--limit B] [ARCHIVE]\n"
+SMALL = 1 << 20
+# texts as they are met in tags and comments: UTF-8, Latin-1, parts of characters, and what has to be escaped
+TEXTS = [
+    b"M\xc3\xbcller \xe2\x82\xac \xf0\x9f\x98\x80",
+    b"M\xfcller",
+    b"M\xc3\xbcller M\xfcller",
+    b"\xed\xa0\x80 \xc0\xaf \xf4\x90\x80\x80",
+    b"\xf0\x9f\x98",
+    bytes(b for b in range(1, 256) if b not in b'\n"\\}'),
+    b"\x00\x01\x1f\x7f\xc2\x80\xe2\x80\xa8",
+    rb'\"quoted\" \\ /',
+    b"\xef\xbb\xbf",
+    b"</script><!-- {",
+]
+passed, failed = 0, 0
+
+
+def compare(name, got, want):
+    global passed, failed
+    if got == want:
+        passed += 1
+    else:
+        failed += 1
+        print("DIFFERS", name, "\n got ", str(got)[:500], "\n want", str(want)[:500])
+
+
+def asked(*words, data=b"", **options):
+    """(status, out, err) of the program"""
+    done = subprocess.run([BINARY, *words], input=data, capture_output=True, check=False, timeout=60, **options)
+    return done.returncode, done.stdout, done.stderr
+
+
+def compare_lines(name, archive, mark=None):
+    words = [] if mark is None else ["--mark=" + mark]
+    got = asked(*words, data=archive)
+    compare(f"{name} {words}", got, json_lines.answer(archive, b"CQL" if mark is None else mark.encode()))
+    for line in got[1].splitlines():
+        json.loads(line)
+
+
+def read(path):
+    with (gzip.open if path.endswith(".gz") else open)(path, "rb") as file:
+        return file.read()
+
+
+def archives():
+    for name in sorted(os.listdir(os.path.join(TOP, "examples"))):
+        if name.endswith(".pgn"):
+            yield name, read(os.path.join(TOP, "examples", name))
+    for case in sorted(os.listdir(os.path.join(TOP, "cases"))):
+        for name in ("archive.pgn", "archive.pgn.gz", "out"):
+            path = os.path.join(TOP, "cases", case, name)
+            if os.path.exists(path):
+                archive = read(path)
+                if len(archive) < SMALL:
+                    yield case + "/" + name, archive
+
+
+def lines():
+    for name, archive in archives():
+        for mark in (None, "", " mate "):
+            compare_lines(name, archive, mark)
+    for text in TEXTS:
+        archive = b'[Event "%s"]\n{%s} 1. e4 {%s} {CQL} (1. -- $3 {CQL}) e5 *\n' % (text, text, text)
+        for mark in (None, "", "CQL"):
+            compare_lines(repr(text), archive, mark)
+    for archive in (b"", b" \n", b"*", b"{CQL} *", b"{A  B} 1. e4 {A\nB} *", b"1. e4 {-x} *", b"{no game}"):
+        for mark in (None, "", "A B", "\tA  B ", "-x"):
+            compare_lines(repr(archive), archive, mark)
+
+
+def drawn():
+    fuzz.RANDOM.seed(SEED)
+    for number in range(COUNT):
+        archive = fuzz.random_archive()
+        compare_lines(f"drawn {number} from {SEED}", archive, fuzz.RANDOM.choice((None, "", "CQL")))
+
+
+def statuses():
+    with tempfile.TemporaryDirectory() as folder:
+        name = os.path.join(folder, "a.pgn")
+        with open(name, "wb") as file:
+            file.write(b"1. e4 *\n1. d5 *\n")
+        compare("a file", asked(name), json_lines.answer(b"1. e4 *\n1. d5 *\n"))
+        compare("64 workers", asked(name, "--workers", "64"), json_lines.answer(b"1. e4 *\n1. d5 *\n"))
+        wrong = (("--workers", "0"), ("--workers", "65"), ("--limit", "0"), ("--limit", "1099511627777"), ("a", "b"), ("--help",), ("--mark",))
+        for words in wrong:
+            compare(f"the words {words}", asked(*words), (3, b"", USAGE))
+        compare("no such file", asked(os.path.join(folder, "b.pgn")), (4, b"", b""))
+        compare("a folder", asked(folder), (5, b"", b""))
+        compare("the limit itself", asked("--limit", "16", name)[0], 1)
+        compare("a byte above the limit", asked("--limit", "15", name)[0], 8)
+    for words in ((), ("-",)):
+        with open("/dev/full", "wb") as full:
+            done = subprocess.run([BINARY, *words], input=b"*", stdout=full, stderr=subprocess.PIPE, check=False, timeout=60)
+        compare("a full device", (done.returncode, done.stderr), (6, b""))
+
+
+def long_games():
+    """games of as many bytes as may be, and of one more"""
+    rest = b"1. e4 *"
+    for length, status in ((pgn.MOST_BYTES, 0), (pgn.MOST_BYTES + 1, 1)):
+        archive = b"{" + b"x\xe9" * ((length - len(rest) - 2) // 2) + b"x" * ((length - len(rest) - 2) % 2) + b"}" + rest
+        compare("a long game", (len(archive), asked(data=archive)[0]), (length, status))
+
+
+lines()
+drawn()
+statuses()
+long_games()
+print(f"{passed} passed, {failed} failed")
+sys.exit(failed > 0)

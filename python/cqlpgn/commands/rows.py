@@ -1,0 +1,87 @@
+"""cqlpgn-rows: a row for each marked position."""
+
+from __future__ import annotations
+
+import argparse
+import os
+import tempfile
+from collections.abc import Iterator, Sequence
+
+from .. import games, rows
+from ..archives import Archive
+from ..errors import Stopped
+from ..files import STANDARD_INPUT, Replacing, refuse_inputs, shown, standard_output
+from ..games import MARK, Reader
+from .ends import run, tell
+from .words import Parser
+
+EPILOG = """Columns: {columns}; any other name is a tag, as White. Where FILE.csv stands beside FILE, as `cqlpgn-over --number` has
+written it, archive and game are of the archive that the game came from; else `archive` is FILE, and `game` is empty. The exit status is
+0; 1 where a game was refused; 3 for words that are not as above; 4 where a file could not be opened; 5 where one could not be read; 6 where
+a write failed. CQLPGN's reader pgnjson is named by PGNJSON, if it is not the one on the path."""
+
+
+def parser() -> argparse.ArgumentParser:
+    told = ", ".join(f"{name} ({said})" for name, said in rows.COLUMNS.items())
+    made = Parser("cqlpgn-rows", "Writes a row for each marked position of the games that cqlpgn has written.", EPILOG.format(columns=told))
+    made.add_argument("file", metavar="FILE", nargs="?", default=STANDARD_INPUT, help="the games, packed or not; `-` is standard input")
+    kinds = made.add_mutually_exclusive_group()
+    for kind, said in {"csv": "CSV (what is written if nothing else is said)", "json": "a line of JSON for each row", "epd": "EPD"}.items():
+        kinds.add_argument(f"--{kind}", dest="kind", action="store_const", const=kind, default="csv", help=said)
+    made.add_argument("--columns", metavar="NAME,..", help="the columns, in this order; with --epd they are comments (none)")
+    made.add_argument(
+        "--mark", metavar="TEXT", default=MARK, help="the comment of a marked position (CQL); it is the query's `matchstring`"
+    )
+    made.add_argument("--index", metavar="FILE", help="another file than FILE.csv says where the games came from")
+    made.add_argument("-o", dest="out", metavar="FILE", help="the rows go to FILE, which is made at the end, with status 0 or 1")
+    return made
+
+
+def index_of(flags: argparse.Namespace) -> dict[int, tuple[str, int]]:
+    name = flags.index or flags.file + ".csv"
+    if not flags.index and (flags.file == STANDARD_INPUT or not os.path.exists(name)):
+        return {}
+    try:
+        with open(name, encoding="utf-8", errors="surrogateescape", newline="") as file:
+            return rows.read_index(file, name)
+    except OSError as fault:
+        raise Stopped(f"{shown(name)}: {fault.strerror}", 4) from fault
+
+
+def all_rows(reader: Reader, flags: argparse.Namespace) -> Iterator[rows.Position]:
+    index, mark = index_of(flags), " ".join(flags.mark.split())
+    for game in reader:
+        archive, number = index.get(game.number, (shown(flags.file), None))
+        yield from rows.positions(game, mark, archive, number)
+
+
+def main(words: Sequence[str]) -> int:
+    flags = parser().parse_args(words)
+    columns = flags.columns.split(",") if flags.columns else [] if flags.kind == "epd" else rows.USUAL
+    refuse_inputs([flags.out] if flags.out is not None else [], [flags.file])
+    source = Archive(flags.file, flags.file)
+    with Replacing() as files, tempfile.TemporaryFile() as report, games.read(source, flags.mark, err=report) as reader:
+        to = files.open(flags.out) if flags.out is not None else standard_output()
+        count = 0
+
+        def counted() -> Iterator[rows.Position]:
+            nonlocal count
+            for row in all_rows(reader, flags):
+                count += 1
+                yield row
+
+        for text in rows.WRITERS[flags.kind](counted(), columns):
+            to.write(text.encode("utf-8", "surrogateescape"))
+        to.flush()
+        report.seek(0)
+        for line in report:
+            if not line.startswith(b"games "):
+                tell(f"{shown(flags.file)}: {line.decode().rstrip()}")
+        files.commit()
+    if not count:
+        tell(f"{shown(flags.file)}: no position has the comment {{{flags.mark}}}; --mark names another one")
+    return reader.status
+
+
+def entry() -> None:
+    run(main)

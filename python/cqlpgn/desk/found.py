@@ -1,0 +1,158 @@
+"""What a run has found: the games in a file without a name, as the program wrote them, and where each one ends.
+
+The file holds whole games alone, so that it can be read, shown and saved while the run goes on. In memory there are sixteen bytes for each
+game, whatever its length."""
+
+from __future__ import annotations
+
+import os
+import re
+import tempfile
+from array import array
+from collections.abc import Callable, Iterator, Sequence
+from typing import Any
+
+from ..boards import UNKNOWN
+
+MOST_BYTES = 1 << 33
+BLOCK = 1 << 18
+MOST_LETTERS = 80
+TAG = re.compile(rb'^\[(White|Black|Event|Date|Result) "((?:[^"\\\n]|\\.)*)"\]', re.M)
+
+
+class Full(Exception):
+    """There is no place for more of what is found."""
+
+
+class Room:
+    """How much all runs together keep, on a disk: in a folder for temporary files that lie longer, as others may be memory."""
+
+    def __init__(self, most: int = MOST_BYTES) -> None:
+        self.left = most
+        self.folder = "/var/tmp" if os.access("/var/tmp", os.W_OK) else None
+
+    def take(self, count: int) -> None:
+        if count > self.left:
+            raise Full("what was found by all pages together fills the place for it; close some of them")
+        self.left -= count
+
+
+def text_of(value: bytes) -> str:
+    """The letters of a tag: UTF-8, or else Latin-1, as pgnjson has them."""
+    plain = re.sub(rb"\\(.)", rb"\1", value)
+    try:
+        return plain.decode()
+    except UnicodeDecodeError:
+        return plain.decode("latin-1")
+
+
+def shortened(text: str, most: int) -> str:
+    return text if len(text) <= most else text[:most] + "…"
+
+
+def tags_of(game: bytes) -> dict[str, str]:
+    """The tags of a game by which it is listed and filtered."""
+    return {tag.decode(): text_of(value) for tag, value in TAG.findall(game, 0, game.find(b"\n\n"))}
+
+
+class Found:
+    """The games that one query has found. `mark` is the comment of the positions that match; without one nothing is counted."""
+
+    def __init__(self, mark: bytes, room: Room) -> None:
+        self.mark, self._room = mark.decode("utf-8", "replace"), room
+        self._pattern = re.compile(rb"\{" + rb"\s+".join(map(re.escape, mark.split())) + rb"\}") if mark else None
+        self._file = tempfile.TemporaryFile(buffering=0, dir=room.folder)
+        # after each game: the bytes of the file, and the marked positions, so far
+        self.ends, self.marks = array("Q", [0]), array("Q", [0])
+        self._rest = bytearray()
+        # the first game of each archive
+        self._archives: list[tuple[int, str]] = []
+
+    def __len__(self) -> int:
+        return len(self.ends) - 1
+
+    def begin(self, archive: str) -> None:
+        """What is taken from now on comes from this archive; a game that was not whole is dropped."""
+        self._rest.clear()
+        self._archives.append((len(self), archive))
+
+    def archive_of(self, number: int) -> str:
+        return next((name for first, name in reversed(self._archives) if first <= number), "")
+
+    def take(self, data: bytes) -> None:
+        """Keeps what the program has written; a game is tags, an empty line, moves, an empty line, and has no other empty line."""
+        self._rest += data
+        begin = 0
+        while (tags := self._rest.find(b"\n\n", begin)) >= 0 and (last := self._rest.find(b"\n\n", tags + 2)) >= 0:
+            marks = len(self._pattern.findall(self._rest, tags, last)) if self._pattern else 0
+            self.ends.append(self.ends[-1] + last + 2 - begin)
+            self.marks.append(self.marks[-1] + marks)
+            begin = last + 2
+        self._room.take(begin)
+        with memoryview(self._rest)[:begin] as whole:
+            written = 0
+            while written < begin:
+                written += os.write(self._file.fileno(), whole[written:])
+        del self._rest[:begin]
+
+    def close(self) -> None:
+        """Gives back the place that it takes."""
+        self._room.left += self.ends[-1]
+        self._file.close()
+
+    def bytes_of(self, first: int, count: int) -> list[bytes]:
+        """The games from the first one named, as many as there are up to the count."""
+        first, last = max(0, min(first, len(self))), max(0, min(first + count, len(self)))
+        begin = self.ends[first]
+        data = os.pread(self._file.fileno(), self.ends[last] - begin, begin)
+        return [data[self.ends[n] - begin : self.ends[n + 1] - begin] for n in range(first, last)]
+
+    def blocks(self) -> Iterator[bytes]:
+        """All games found so far, in blocks."""
+        at, end = 0, self.ends[-1]
+        while at < end:
+            block = os.pread(self._file.fileno(), min(BLOCK, end - at), at)
+            at += len(block)
+            yield block
+
+    def row(self, number: int) -> list[Any]:
+        """What the list of games says of one: number, players, event and date, result, how many positions are marked, archive."""
+        tags = {tag: "" if text in UNKNOWN else shortened(text, MOST_LETTERS) for tag, text in tags_of(self.bytes_of(number, 1)[0]).items()}
+        where = ", ".join(filter(None, (tags.get("Event"), tags.get("Date", "").replace(".??", ""))))
+        marks = self.marks[number + 1] - self.marks[number]
+        return [number, tags.get("White", ""), tags.get("Black", ""), where, tags.get("Result", ""), marks, self.archive_of(number)]
+
+    def with_text(self, text: str) -> Sequence[int]:
+        """The numbers of the games that have a text in their players, event or date, whatever its capitals."""
+        wanted, numbers = text.lower(), array("Q")
+        for first in range(0, len(self), 1000):
+            for number, game in enumerate(self.bytes_of(first, 1000), first):
+                if any(wanted in value.lower() for tag, value in tags_of(game).items() if tag != "Result"):
+                    numbers.append(number)
+        return numbers
+
+
+class Parted:
+    """What `cqlpgn many` writes, parted as it comes: a line with the number of a query and how many bytes its games have, and these."""
+
+    LINE = re.compile(rb"query (\d+) bytes (\d+)\n")
+
+    def __init__(self, takers: Sequence[Callable[[bytes], None]]) -> None:
+        self._takers = takers
+        self._head, self._query, self._left = bytearray(), 0, 0
+
+    def take(self, data: bytes) -> None:
+        at = 0
+        while at < len(data):
+            if self._left:
+                piece = data[at : at + self._left]
+                self._takers[self._query](piece)
+                self._left -= len(piece)
+                at += len(piece)
+            else:
+                end = data.find(b"\n", at) + 1 or len(data)
+                self._head += data[at:end]
+                at = end
+                if said := self.LINE.fullmatch(self._head):
+                    self._query, self._left = int(said[1]) - 1, int(said[2])
+                    self._head.clear()

@@ -1,0 +1,135 @@
+"""A text for LaTeX: boards in rows, each with its players, what is to move and how the game went on; or exercises with their solutions."""
+
+from __future__ import annotations
+
+import unicodedata
+from collections.abc import Iterable, Iterator
+from dataclasses import dataclass
+
+from .boards import Match
+
+ON = 12  # so many moves of both sides, at most, are printed of what came after
+SOLUTION = 6
+LONGEST = 200  # so many letters of a comment
+SIGNS = {"\\": r"\textbackslash{}", "~": r"\textasciitilde{}", "^": r"\textasciicircum{}", "…": r"\dots{}", "–": "--", "—": "---"}
+SIGNS |= {"“": "``", "”": "''", "‘": "`", "’": "'", "-": "{-}", '"': "''", "<": r"\textless{}", ">": r"\textgreater{}", "`": "{`}"}
+HEAD = r"""% pdflatex, or lualatex for letters that are not of the Latin alphabet
+\documentclass[a4paper,10pt]{article}
+\usepackage{iftex}
+\ifPDFTeX
+  \usepackage[T1]{fontenc}
+  \usepackage[utf8]{inputenc}
+  \usepackage{lmodern}
+  \newcommand\letter[2]{#2}
+\else
+  \usepackage{fontspec}
+  \IfFontExistsTF{DejaVu Serif}{\setmainfont{DejaVu Serif}[Scale=0.9]}{\IfFontExistsTF{CMU Serif}{\setmainfont{CMU Serif}}{%
+  \IfFontExistsTF{FreeSerif}{\setmainfont{FreeSerif}}{\IfFontExistsTF{Libertinus Serif}{\setmainfont{Libertinus Serif}}{}}}}
+  \newcommand\letter[2]{\iffontchar\font"#1\char"#1 \else#2\fi}
+\fi
+\usepackage[margin=1.8cm,top=1.5cm,bottom=1.6cm]{geometry}
+\usepackage{chessboard}
+\setchessboard{boardfontsize=@SIZE@,showmover=false,label=@LABEL@,pgfstyle=straightmove,color=black!60,shortenend=0.3em}
+\newcommand\match[3]{\begin{minipage}[t]{@WIDTH@\linewidth}\centering
+  \chessboard[#1,setfen=#2]\par\smallskip\footnotesize #3\par\end{minipage}}
+\setlength\parindent{0pt}
+\begin{document}
+\begin{center}\large @TITLE@\end{center}
+"""
+
+
+@dataclass(frozen=True)
+class Style:
+    """How boards are laid out: how many are on a page (8 or 12), whether they have coordinates, whether those with Black to move are
+    turned, and whether they are exercises, with their solutions at the end."""
+
+    per_page: int = 8
+    coordinates: bool = False
+    turned: bool = False
+    exercises: bool = False
+
+    @property
+    def columns(self) -> int:
+        return 2 if self.per_page == 8 else 3
+
+
+def plain(text: str) -> str:
+    """A text with LaTeX's signs written out, so that no control sequence comes of it. A letter beyond Latin is taken from the font, and
+    where that lacks it, it is written without its marks, or as `?`."""
+    out = []
+    for letter in unicodedata.normalize("NFC", text):
+        if letter in SIGNS:
+            out.append(SIGNS[letter])
+        elif letter in "#$%&_{}":
+            out.append("\\" + letter)
+        elif letter <= "\x7f" or "\xc0" <= letter <= "\u017e" and letter not in "\u0138\u0149\u017f":
+            out.append(letter if letter >= " " and letter != "\x7f" else " ")
+        elif unicodedata.category(letter)[0] in "CZ":
+            out.append(" " if unicodedata.category(letter) == "Zs" else "")
+        else:
+            less = unicodedata.normalize("NFKD", letter).encode("ascii", "ignore").decode()
+            less = "".join(SIGNS.get(sign, "\\" + sign if sign in "#$%&_{}" else sign) for sign in less) or "?"
+            out.append(rf"\letter{{{ord(letter):X}}}{{{less}}}")
+    return "".join(out)
+
+
+def _moves(match: Match, most: int) -> str:
+    return " ".join(plain(word) for word in match.went_on(most))
+
+
+def _names(match: Match) -> str:
+    return " -- ".join(plain(player) for player in match.tree.players)
+
+
+def _caption(match: Match, style: Style) -> str:
+    if style.exercises:
+        return rf"\textbf{{{match.number}}}\quad {match.side}"
+    comments = " ".join(rf"\emph{{{plain(comment[:LONGEST])}}}" for comment in match.comments)
+    where = plain(", ".join(match.tree.where))
+    led = plain(match.led)
+    said = f"{match.side}; {led}. {comments} {_moves(match, ON)}"
+    return rf"\textbf{{{match.number}}}\quad \textbf{{{_names(match)}}}\par {where}\par {said}"
+
+
+def _board(match: Match, style: Style) -> str:
+    keys = [] if match.is_white or not style.turned else ["inverse"]
+    if match.arrow and not style.exercises:
+        keys.append(f"markmoves={{{match.arrow[0]}-{match.arrow[1]}}}")
+    return f"\\match{{{','.join(keys)}}}{{{match.fen}}}{{{_caption(match, style)}}}"
+
+
+def _rows(matches: list[Match], style: Style) -> Iterator[str]:
+    """The boards in rows, numbered across; a page has so many."""
+    for first in range(0, len(matches), style.columns):
+        row = "\\hfill\n".join(_board(match, style) for match in matches[first : first + style.columns])
+        filled = "\\hfill\\null" if first + style.columns > len(matches) else ""
+        yield row + filled + "\\par\n"
+        yield "\\newpage\n" if (first + style.columns) % style.per_page == 0 and first + style.columns < len(matches) else "\\vfill\n"
+
+
+def _solutions(matches: Iterable[Match]) -> Iterator[str]:
+    yield "\\clearpage\n\\begin{center}\\large Solutions\\end{center}\n"
+    for match in matches:
+        where = plain(", ".join(match.tree.where))
+        said = "".join(f" {plain(comment)}" for comment in match.comments)
+        yield rf"\textbf{{{match.number}}} {_moves(match, SOLUTION)}{said} \hfill {{\footnotesize {_names(match)}, {where}}}\par" + "\n"
+
+
+def document(files: Iterable[tuple[str, list[Match]]], style: Style) -> Iterator[str]:
+    """The text, in pieces: of each file its title and its boards."""
+    parts = {"@SIZE@": "15pt" if style.per_page == 8 else "13pt", "@LABEL@": "true" if style.coordinates else "false"}
+    parts |= {"@WIDTH@": "0.48" if style.columns == 2 else "0.31"}
+    every: list[Match] = []
+    for place, (title, matches) in enumerate(files):
+        if place:
+            yield f"\\clearpage\n\\begin{{center}}\\large {plain(title)}\\end{{center}}\n"
+        else:
+            head = HEAD
+            for name, value in {**parts, "@TITLE@": plain(title)}.items():
+                head = head.replace(name, value)
+            yield head
+        yield from _rows(matches, style)
+        every += matches
+    if style.exercises and every:
+        yield from _solutions(every)
+    yield "\\end{document}\n"

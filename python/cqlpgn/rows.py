@@ -1,0 +1,153 @@
+"""Rows: one for each marked position, as CSV, as lines of JSON, or as EPD."""
+
+from __future__ import annotations
+
+import csv
+import io
+import json
+from collections.abc import Callable, Iterable, Iterator, Sequence
+from operator import attrgetter
+from typing import NamedTuple
+
+from .errors import Unreadable
+from .files import shown
+from .games import Game, Node
+
+# How each column is told of in the help of the command.
+COLUMNS = {
+    "archive": "the name of the archive",
+    "game": "the number of the game in the archive, from 1, where that is known",
+    "found": "the number of the game in the file, from 1",
+    "ply": "moves from the start, null moves included",
+    "move": "the number of the move that led there, or of the next one at the start",
+    "side": "the side to move, w or b",
+    "san": "the move that led there",
+    "uci": "the same move as squares",
+    "fen": "the position",
+    "depth": "how many of the moves to there begin a variation",
+    "mainline": "1 on the main line, else 0",
+    "comments": "what else is said of the position",
+}
+USUAL = ["archive", "game", "found", "ply", "move", "side", "san", "uci", "fen", "depth", "mainline"]
+# What a spreadsheet takes for a formula begins so.
+FORMULA = ("=", "+", "-", "@", "\t", "\r")
+
+
+class Position(NamedTuple):
+    """A marked position of a game, as a row: its archive and the number of its game there are None where they are not known."""
+
+    archive: str | None
+    game: int | None
+    found: int
+    ply: int
+    move: int
+    side: str
+    san: str
+    uci: str
+    fen: str
+    depth: int
+    mainline: int
+    comments: str
+    tags: dict[str, str]
+
+
+def _position(game: Game, node: Node, mark: str, archive: str | None, number: int | None) -> Position:
+    fen = node.fen or ""
+    fields = fen.split(" ")
+    side, comments = fields[1], node.comments
+    # after a move of Black the number is that of the next one
+    move = int(fields[5]) - (side == "w")
+    said = "; ".join(comment for comment in comments if comment != mark) if len(comments) > 1 or mark not in comments else ""
+    mainline = int(node.depth == 0)
+    return Position(archive, number, game.number, node.ply, move, side, node.san, node.uci, fen, node.depth, mainline, said, game.tags)
+
+
+def _start(game: Game, mark: str, archive: str | None, number: int | None) -> Position:
+    fields = game.start.split(" ")
+    comments = "; ".join(comment for comment in game.comments if comment != mark)
+    return Position(archive, number, game.number, 0, int(fields[5]), fields[1], "", "", game.start, 0, 1, comments, game.tags)
+
+
+def positions(game: Game, mark: str, archive: str | None = None, number: int | None = None) -> Iterator[Position]:
+    """The marked positions of a game; archive and number are where it came from, if that is known."""
+    if game.is_start_marked:
+        yield _start(game, mark, archive, number)
+    for node in game.marked():
+        yield _position(game, node, mark, archive, number)
+
+
+def read_index(lines: Iterable[str], name: str) -> dict[int, tuple[str, int]]:
+    """Where the games of a file came from, by their numbers in it, as `cqlpgn-over --number` writes it. Raises `Unreadable`."""
+    rows = csv.reader(lines)
+    found = {}
+    try:
+        if next(rows, None) != ["found", "archive", "game"]:
+            raise ValueError
+        for place, archive, game in rows:
+            found[int(place)] = (archive, int(game))
+    except (ValueError, csv.Error) as fault:
+        raise Unreadable(f"{shown(name)}: has no rows `found,archive,game`") from fault
+    return found
+
+
+Value = str | int | None
+
+
+def _values(row: Position, columns: Sequence[str]) -> list[Value]:
+    return [getattr(row, column) if column in COLUMNS else row.tags.get(column) for column in columns]
+
+
+def _cells(columns: Sequence[str]) -> Callable[[Position], list[Value]]:
+    """The cells of a row of CSV. What an archive brings in, and a null move, may begin as a formula does; the others can't."""
+    plain = [column in COLUMNS and column not in ("archive", "san", "comments") for column in columns]
+    guarded = [number for number, is_plain in enumerate(plain) if not is_plain]
+
+    fields = attrgetter(*columns) if len(columns) > 1 and all(column in COLUMNS for column in columns) else None
+
+    def cells(row: Position) -> list[Value]:
+        values = list(fields(row)) if fields else _values(row, columns)
+        for number in guarded:
+            value = values[number]
+            if isinstance(value, str) and value.startswith(FORMULA):
+                values[number] = "'" + value
+        return values
+
+    return cells
+
+
+def as_csv(rows: Iterable[Position], columns: Sequence[str]) -> Iterator[str]:
+    """The rows as CSV (RFC 4180) with a first line of names, some at a time. A cell that a spreadsheet would take for a formula has a `'`
+    before it."""
+    text = io.StringIO()
+    writer = csv.writer(text)
+    writer.writerow(["'" + column if column.startswith(FORMULA) else column for column in columns])
+    cells = _cells(columns)
+    for row in rows:
+        writer.writerow(cells(row))
+        if text.tell() > 1 << 16:
+            yield text.getvalue()
+            text.seek(0)
+            text.truncate()
+    yield text.getvalue()
+
+
+def as_json(rows: Iterable[Position], columns: Sequence[str]) -> Iterator[str]:
+    """The rows as lines of JSON, each an object with the columns."""
+    for row in rows:
+        yield json.dumps(dict(zip(columns, _values(row, columns))), ensure_ascii=False, separators=(",", ":")) + "\n"
+
+
+def _text(value: object) -> str:
+    """A text of EPD, which has no quotes and no control characters."""
+    return "".join(" " if letter < " " else letter for letter in str(value)).replace('"', "'")
+
+
+def as_epd(rows: Iterable[Position], columns: Sequence[str]) -> Iterator[str]:
+    """The rows as EPD: the position, `id` with where it is from, and each column that was asked for as a comment c0, c1, .."""
+    for row in rows:
+        where = f"{row.archive or 'game'} {row.game or row.found}, ply {row.ply}"
+        said = "".join(f' c{number} "{_text(value)}";' for number, value in enumerate(_values(row, columns)) if value is not None)
+        yield f'{" ".join(row.fen.split(" ")[:4])} id "{_text(where)}";{said}\n'
+
+
+WRITERS = {"csv": as_csv, "json": as_json, "epd": as_epd}
