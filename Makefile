@@ -2,6 +2,7 @@
 PREFIX ?= /usr/local
 PROGRAM ?= crates/cqlpgn/out/cqlpgn
 PIECES ?= crates/pgnpieces/out/pgnpieces
+JSON ?= crates/pgnjson/out/pgnjson
 BIN = $(DESTDIR)$(PREFIX)/bin
 SHARE = $(DESTDIR)$(PREFIX)/share
 # The interpreter of the commands in Python, and where their package goes: where this interpreter looks below PREFIX, if anywhere.
@@ -17,16 +18,17 @@ ZSH ?= site-functions
 demo:
 	@bash scripts/demo.sh
 
-# Proves the two programs and all below them, crate by crate, and builds them.
+# Proves the three programs and all below them, crate by crate, and builds them.
 build:
 	@bash scripts/build.sh
 
 # Installs what `make build` has built, with manual pages, completion for bash, zsh and fish, a syntax file for vim, the Python package
 # with its commands, and the scripts for many machines.
 install:
-	@test -x $(PROGRAM) -a -x $(PIECES) || { echo "make build comes first"; exit 1; }
+	@test -x $(PROGRAM) -a -x $(PIECES) -a -x $(JSON) || { echo "make build comes first"; exit 1; }
 	install -D $(PROGRAM) $(BIN)/cqlpgn
 	install -D $(PIECES) $(BIN)/pgnpieces
+	install -D $(JSON) $(BIN)/pgnjson
 	install -d $(DESTDIR)$(MODULES)
 	cd python && find cqlpgn -type f ! -path '*/__pycache__/*' | xargs -I{} install -D -m 644 {} $(DESTDIR)$(MODULES)/{}
 	for name in $(COMMANDS); do \
@@ -37,11 +39,10 @@ install:
 	install $(filter-out %.py,$(wildcard many/*)) $(SHARE)/cqlpgn/many
 	install -m 644 many/*.py $(SHARE)/cqlpgn/many
 	install -D -m 644 docs/cqlpgn.1 $(SHARE)/man/man1/cqlpgn.1
-	install -m 644 docs/pgnpieces.1 $(SHARE)/man/man1/pgnpieces.1
-	for name in $(COMMANDS); do \
-	  if [ -f docs/$$name.1 ]; then install -m 644 docs/$$name.1 $(SHARE)/man/man1; else \
-	  echo '.so man1/cqlpgn.1' > $(SHARE)/man/man1/$$name.1; fi; \
-	  mkdir -p $(SHARE)/bash-completion/completions $(SHARE)/fish/vendor_completions.d; \
+	install -m 644 docs/pgnpieces.1 docs/pgnjson.1 $(SHARE)/man/man1
+	install -m 644 $(COMMANDS:%=docs/%.1) $(SHARE)/man/man1
+	mkdir -p $(SHARE)/bash-completion/completions $(SHARE)/fish/vendor_completions.d
+	for name in pgnjson $(COMMANDS); do \
 	  ln -sf cqlpgn $(SHARE)/bash-completion/completions/$$name; \
 	  ln -sf cqlpgn.fish $(SHARE)/fish/vendor_completions.d/$$name.fish; \
 	done
@@ -61,10 +62,10 @@ install:
 
 # Takes away what install has put, wherever the completion for zsh went, and the folders of others that it leaves empty.
 uninstall:
-	rm -f $(BIN)/pgnpieces $(SHARE)/man/man1/pgnpieces.1 $(SHARE)/man/man7/cql.7
+	rm -f $(SHARE)/man/man7/cql.7
 	rm -rf $(DESTDIR)$(MODULES)/cqlpgn
 	[ ! -d $(DESTDIR)$(MODULES) ] || (cd $(DESTDIR)$(PREFIX) && rmdir -p --ignore-fail-on-non-empty $(MODULES:$(PREFIX)/%=%))
-	for name in cqlpgn $(COMMANDS); do \
+	for name in cqlpgn pgnpieces pgnjson $(COMMANDS); do \
 	  rm -f $(BIN)/$$name $(SHARE)/man/man1/$$name.1; \
 	  rm -f $(SHARE)/bash-completion/completions/$$name $(SHARE)/fish/vendor_completions.d/$$name.fish; \
 	done
@@ -79,14 +80,15 @@ uninstall:
 
 # A Debian package of what `make build` has built, in out/. It needs debhelper and dpkg-dev.
 deb:
-	@test -x $(PROGRAM) -a -x $(PIECES) || { echo "make build comes first"; exit 1; }
+	@test -x $(PROGRAM) -a -x $(PIECES) -a -x $(JSON) || { echo "make build comes first"; exit 1; }
 	rm -rf out/deb
-	mkdir -p out/deb/cqlpgn/crates/cqlpgn/out out/deb/cqlpgn/crates/pgnpieces/out
+	mkdir -p $(patsubst %,out/deb/cqlpgn/crates/%/out,cqlpgn pgnpieces pgnjson)
 	cp -r Makefile README.md LICENSE-MIT LICENSE-APACHE debian docs examples contrib many python out/deb/cqlpgn
 	cp $(PROGRAM) out/deb/cqlpgn/crates/cqlpgn/out/cqlpgn
 	cp $(PIECES) out/deb/cqlpgn/crates/pgnpieces/out/pgnpieces
+	cp $(JSON) out/deb/cqlpgn/crates/pgnjson/out/pgnjson
 	cp CHANGELOG.md out/deb/cqlpgn
-	cd out/deb/cqlpgn && env -u PROGRAM -u PIECES dpkg-buildpackage -us -uc -b
+	cd out/deb/cqlpgn && env -u PROGRAM -u PIECES -u JSON dpkg-buildpackage -us -uc -b
 	mv out/deb/cqlpgn*.deb out/
 	rm -rf out/deb
 

@@ -22,7 +22,7 @@ below() {
     done
 }
 
-mapfile -t all < <({ below cqlpgn; below pgnpieces; } | awk '!seen[$0]++')
+mapfile -t all < <({ below cqlpgn; below pgnpieces; below pgnjson; } | awk '!seen[$0]++')
 echo "${#all[@]} crates, up to an hour the first time on four processors"
 number=0
 for crate in "${all[@]}"; do
@@ -30,8 +30,8 @@ for crate in "${all[@]}"; do
     printf '%2d of %d  %-14s' "$number" "${#all[@]}" "$crate"
     from=$SECONDS
     mkdir -p "crates/$crate/out"
-    # a program is run once it is built: without words it writes its usage, and ends with status 3
-    case $crate in cqlpgn | pgnpieces) verb=run good=3 ;; *) verb=lib good=0 ;; esac
+    # a program is run once it is built: without words it writes its usage, and ends with status 3, but pgnjson, which reads nothing then
+    case $crate in cqlpgn | pgnpieces) verb=run good=3 ;; pgnjson) verb=run good=0 ;; *) verb=lib good=0 ;; esac
     (cd "crates/$crate" && rt "$verb" > out/build.log 2>&1 < /dev/null)
     status=$?
     if [ "$status" -ne "$good" ]; then
@@ -41,4 +41,4 @@ for crate in "${all[@]}"; do
     fi
     echo " $((SECONDS - from)) s"
 done
-ls -l crates/cqlpgn/out/cqlpgn crates/pgnpieces/out/pgnpieces
+ls -l crates/cqlpgn/out/cqlpgn crates/pgnpieces/out/pgnpieces crates/pgnjson/out/pgnjson

@@ -1,5 +1,4 @@
-# Completion of cqlpgn, cqlpgn-over, cqlpgn-split, cqlpgn-problems, cqlpgn-rows, cqlpgn-diagrams and cqlpgn-desk for bash:
-# `source contrib/completion/cqlpgn.bash` in ~/.bashrc, where `make install` or the package has not put it where bash-completion finds it.
+# Completion of cqlpgn, pgnjson and the commands of the Python package for bash: `source contrib/completion/cqlpgn.bash` in ~/.bashrc, where `make install` or the package has not put it where bash-completion finds it.
 
 _cqlpgn_files() {
     # files whose names end so, and folders
@@ -99,7 +98,19 @@ _cqlpgn_desk() {
     esac
 }
 
+_pgnjson() {
+    local word=${COMP_WORDS[COMP_CWORD]} before=${COMP_WORDS[COMP_CWORD - 1]}
+    COMPREPLY=()
+    case $before:$word in
+        --workers:*) mapfile -t COMPREPLY < <(compgen -W '1 2 4 8 16 32 64' -- "$word") ;;
+        --mark:* | --limit:*) ;;
+        *:-*) mapfile -t COMPREPLY < <(compgen -W '--mark --workers --limit' -- "$word") ;;
+        *) _cqlpgn_files pgn "$word" ;;
+    esac
+}
+
 complete -o filenames -F _cqlpgn cqlpgn
+complete -o filenames -F _pgnjson pgnjson
 complete -o filenames -F _cqlpgn_over cqlpgn-over
 complete -o nospace -F _cqlpgn_split cqlpgn-split
 complete -o filenames -F _cqlpgn_problems cqlpgn-problems

@@ -71,7 +71,7 @@ FOREIGN = [
 NAME, KIND, TOKEN, BYTE = "unknown name", "kind mismatch", "unexpected token", "bad byte"
 SLIPS = [
     Slip("Pc", "Pc1-8", "a file is written with its ranks", NAME, r"[KQRBNPkqrbnpAa_.][a-h]\b"),
-    Slip("P7", "Pa-h7", "and a rank with its files", NAME, r"[KQRBNPkqrbnpAa_.][1-8]\b"),
+    Slip("P7", "Pa-h7", "a rank is written with its files", NAME, r"[KQRBNPkqrbnpAa_.][1-8]\b"),
     Slip(
         "Kf1-h2",
         "Kf-h1-2",
@@ -79,7 +79,7 @@ SLIPS = [
         KIND,
         r"[KQRBNPkqrbnpAa_.][a-h][1-8]-[a-h][1-8]",
     ),
-    Slip("[KQ]d1-h1", "[KQ]d-h1", "the same", KIND, r"\[\w+\][a-h][1-8]-[a-h][1-8]"),
+    Slip("[KQ]d1-h1", "[KQ]d-h1", "the files first, then the ranks", KIND, r"\[\w+\][a-h][1-8]-[a-h][1-8]"),
     Slip("[Ra1,Rh1]", "R[a1,h1]", "men stand in one pair of brackets, squares in another", BYTE, r"\[[A-Za-z_.][a-h][1-8],"),
     Slip("Q on f7", "Qf7", "man and square are written as one word", NAME, r"on\b"),
     Slip(
@@ -89,11 +89,20 @@ SLIPS = [
         NAME,
         r"[KQRBN][a-h]?[1-8]?x[a-h][1-8]",
     ),
+    Slip("queen f7", "Qf7", "men are letters, capitals for White", NAME, r"(king|queen|rook|bishop|knight|pawn)s?\b"),
+    Slip(
+        "Bxh7+",
+        "move from B to h7 capture a check",
+        "a query has no moves in the notation of games; a check is `check`",
+        "unexpected end",
+        r"",
+        r"\b[KQRBN]?[a-h]?[1-8]?x?[a-h][1-8]\+\s*\Z",
+    ),
     Slip("no Q", "not Q", "the word is `not`", NAME, r"no\b"),
     Slip(
         "Mate", "mate", "words are written in small letters", NAME, r"(?=[a-z]*[A-Z])(?i:check|mate|stalemate|wtm|btm|find|flipcolor|not)\b"
     ),
-    Slip("CQL() mate", "cql() mate", "the first word too", TOKEN, r"(?!cql)(?i:cql)\b"),
+    Slip("CQL() mate", "cql() mate", "the first word is written in small letters too", TOKEN, r"(?!cql)(?i:cql)\b"),
     Slip("cql mate", "cql() mate", "the parentheses must be there, though they are empty", TOKEN, r"", r"^\s*cql\s+\Z"),
     Slip(
         "cql() variations mate",
@@ -106,16 +115,31 @@ SLIPS = [
     Slip("mate /* in the corner */", "mate // in the corner", "a note begins with `//` and ends with its line", BYTE, r"/\*"),
     Slip("comment 'mate'", 'comment "mate"', 'texts stand in `"`', BYTE, r"'"),
     Slip("(wtm result 1-0)", "{wtm result 1-0}", "parentheses hold one filter, braces a list", TOKEN, r"", r"\(\s*\w+\s*\Z"),
-    Slip("flipcolor (check Qh5)", "flipcolor {check Qh5}", "the same", TOKEN, r"", r"\b(flip\w*|shift\w*|rotate90|not)\s*\(\s*\w+\s*\Z"),
+    Slip(
+        "flipcolor (check Qh5)",
+        "flipcolor {check Qh5}",
+        "parentheses hold one filter, braces a list, here too",
+        TOKEN,
+        r"",
+        r"\b(flip\w*|shift\w*|rotate90|not)\s*\(\s*\w+\s*\Z",
+    ),
     Slip("check & mate", "check and mate", "`&` is of squares; of positions it is `and`, or nothing at all", KIND, r"\w+\s*[&|]"),
     Slip("A > a", "power A > power a", "compare numbers: `#A` counts men, `power A` their worth", KIND, r"\S+\s*[<>]=?\s*[A-Za-z\[]"),
-    Slip("[Qq] == 0", "#[Qq] == 0", "the same: how many is `#`", KIND, r"\S+\s*([<>]=?|==)\s*\d"),
+    Slip("[Qq] == 0", "#[Qq] == 0", "compare numbers: how many men is `#`", KIND, r"\S+\s*([<>]=?|==)\s*\d"),
+    Slip(
+        "#check >= 3",
+        "initial find { check child find { check child find check } }",
+        "`#` counts squares of one position; what comes several times is found by `find` within `find`",
+        KIND,
+        r"(check|mate|stalemate)\b",
+        r"#\s*\Z",
+    ),
     Slip("#N = 2", "#N == 2", "equal is `==`", BYTE, r"="),
     Slip("#N != 2", "not #N == 2", "unequal is the opposite of equal", BYTE, r"!="),
     Slip("3 <= ply <= 5", "3 <= ply ply <= 5", "one comparison at a time", TOKEN, r"([<>]=?|==)", r"([<>]=?|==)\s*\w+\s*\Z"),
     Slip("power A - power a < -3", "power A - power a < 0 - 3", "a number has no sign", TOKEN, r"-\s*\d", r"[<>=]\s*\Z"),
     Slip('elo > "2500"', "elo > 2500", "numbers stand without quotes", TOKEN, r'"\d+"', r"[<>=]\s*\Z"),
-    Slip('result "1-0"', "result 1-0", "so do results", TOKEN, r'"', r"\bresult\s*\Z"),
+    Slip('result "1-0"', "result 1-0", "results stand without quotes", TOKEN, r'"', r"\bresult\s*\Z"),
     Slip("result draw", "result 1/2-1/2", "a result is written as in the archive", TOKEN, r"[A-Za-z]", r"\bresult\s*\Z"),
     Slip(
         "player Fischer", 'player "Fischer"', "names stand in quotes", TOKEN, r"[A-Za-z]", r"\b(player|event|site)(\s+(white|black))?\s*\Z"
@@ -130,6 +154,14 @@ SLIPS = [
         r"\b(or|and)\s*\Z",
     ),
     Slip('date "1972"', "year == 1972", "of the date there is the year alone, a number", TOKEN, r"", r"\bdate\s*\Z"),
+    Slip(
+        'eco "B90"',
+        "Pe4 pc5 ply == 2",
+        "an opening is the position that it leads to; `pgn-extract` asks for codes (docs/RECIPES.md)",
+        TOKEN,
+        r"",
+        r"\b(?i:eco)\s*\Z",
+    ),
     Slip("sort elo", 'sort "rating" elo', "a sort item has a name", TOKEN, r'[^"]', r"\bsort\s+(min\s+)?\Z"),
     Slip(
         'flipcolor sort "pawns" #P',
@@ -193,7 +225,7 @@ SLIPS = [
         "move from Ke1 to [c1,g1] or move from ke8 to [c8,g8]",
         "there is no such word, so it is taken for a name",
         NAME,
-        r"castling\b",
+        r"castl(ing|ed)\b",
     ),
     Slip(
         "square x in N { x attacks k } x attacks q",

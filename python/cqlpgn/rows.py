@@ -76,18 +76,38 @@ def positions(game: Game, mark: str, archive: str | None = None, number: int | N
         yield _position(game, node, mark, archive, number)
 
 
-def read_index(lines: Iterable[str], name: str) -> dict[int, tuple[str, int]]:
-    """Where the games of a file came from, by their numbers in it, as `cqlpgn-over --number` writes it. Raises `Unreadable`."""
-    rows = csv.reader(lines)
-    found = {}
-    try:
-        if next(rows, None) != ["found", "archive", "game"]:
-            raise ValueError
-        for place, archive, game in rows:
-            found[int(place)] = (archive, int(game))
-    except (ValueError, csv.Error) as fault:
-        raise Unreadable(f"{shown(name)}: has no rows `found,archive,game`") from fault
-    return found
+class Index:
+    """Where the games of a file came from, as `cqlpgn-over --number` writes it: rows `found,archive,game`, the first of them ascending; `game`
+    is empty where it is not known. It is read as it is asked, by ascending numbers. Raises `Unreadable`."""
+
+    def __init__(self, lines: Iterable[str], name: str) -> None:
+        self._rows, self._name = csv.reader(lines), name
+        self._place = 0
+        self._origin: tuple[str, int | None] = ("", None)
+        if self._next() != ["found", "archive", "game"]:
+            raise self._fault()
+
+    def _fault(self) -> Unreadable:
+        return Unreadable(f"{shown(self._name)}: has no rows `found,archive,game`")
+
+    def _next(self) -> list[str] | None:
+        try:
+            return next(self._rows, None)
+        except (ValueError, csv.Error) as fault:
+            raise self._fault() from fault
+
+    def origin(self, found: int) -> tuple[str, int | None] | None:
+        """Archive and number there of the game with this number in the file; None where there is no row of it."""
+        while self._place < found and (row := self._next()) is not None:
+            try:
+                place, archive, game = row
+                before, self._place = self._place, int(place)
+                self._origin = (archive, int(game) if game else None)
+            except ValueError as fault:
+                raise self._fault() from fault
+            if self._place <= before:
+                raise self._fault()
+        return self._origin if self._place == found else None
 
 
 Value = str | int | None

@@ -14,12 +14,12 @@ def words(kind: str) -> set[str]:
     """The words that vim's syntax file has of a kind, or of the others."""
     text = (TOP / "contrib" / "vim" / "syntax" / "cql.vim").read_text("ascii")
     rows = [row.split()[2:] for row in text.splitlines() if row.startswith("syn keyword")]
-    return {word for own, *some in rows if (own == "cqlKept") == (kind == "cqlKept") for word in some}
+    return {word for own, *some in rows if (own == "cqlReserved") == (kind == "cqlReserved") for word in some}
 
 
 def test_the_words_of_vim() -> None:
     query: Any = importlib.import_module("query")
-    assert (words("cqlWord"), words("cqlKept")) == (query.WORDS, query.RESERVED)
+    assert (words("cqlWord"), words("cqlReserved")) == (query.WORDS, query.RESERVED)
 
 
 def test_no_mark_of_markdown_is_left_in_the_manual_page() -> None:

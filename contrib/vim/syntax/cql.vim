@@ -3,7 +3,7 @@ if exists("b:current_syntax")
   finish
 endif
 
-" Names of the language that this program keeps back stand as errors, as the program refuses them.
+" Reserved names stand as errors, as the program refuses them.
 syn match cqlOperator "-->\|<--\|<=\|>=\|==\|[-<>+*?#|&~(){},]"
 syn match cqlNumber "\<\d\{1,9}\>"
 syn match cqlName "\<[A-Za-z_][A-Za-z0-9_]*\>"
@@ -16,9 +16,9 @@ syn keyword cqlLine line primary move from to capture promote sort comment
 syn keyword cqlSet attacks attackedby between light dark
 syn keyword cqlWay up down left right northeast northwest southeast southwest diagonal orthogonal anydirection
 syn keyword cqlFamily flip rotate90 flipvertical fliphorizontal flipcolor shift shifthorizontal shiftvertical
-syn keyword cqlKept echo loop while function persistent dictionary string message ray pin xray rotate45 virtualmainline makesquare
-syn keyword cqlKept colortype type piece distance legal pseudolegal passedpawns isolatedpawns silent quiet gamenumber nestban
-syn keyword cqlKept singlecolor lastposition firstmatch
+syn keyword cqlReserved echo loop while function persistent dictionary string message ray pin xray rotate45 virtualmainline makesquare
+syn keyword cqlReserved colortype type piece distance legal pseudolegal passedpawns isolatedpawns silent quiet gamenumber nestban
+syn keyword cqlReserved singlecolor lastposition firstmatch
 " A designator: men, squares, or men and then squares.
 syn match cqlSquares "\v(<[KQRBNPkqrbnpAa_]|\.|\[[KQRBNPkqrbnpAa_.]+\])([a-h](-[a-h])?[1-8](-[1-8])?|\[[a-h1-8,-]+\])?[A-Za-z0-9_]@!"
 syn match cqlSquares "\v<[a-h](-[a-h])?[1-8](-[1-8])?[A-Za-z0-9_]@!|\[[a-h][a-h1-8,-]*\]"
@@ -38,7 +38,7 @@ hi def link cqlLine Statement
 hi def link cqlSet Keyword
 hi def link cqlWay Type
 hi def link cqlFamily Function
-hi def link cqlKept Error
+hi def link cqlReserved Error
 hi def link cqlSquares Constant
 hi def link cqlResult Constant
 hi def link cqlText String

@@ -6,6 +6,7 @@ import argparse
 import os
 import tempfile
 from collections.abc import Iterator, Sequence
+from contextlib import ExitStack
 
 from .. import games, rows
 from ..archives import Archive
@@ -37,22 +38,24 @@ def parser() -> argparse.ArgumentParser:
     return made
 
 
-def index_of(flags: argparse.Namespace) -> dict[int, tuple[str, int]]:
+def index_of(flags: argparse.Namespace, stack: ExitStack) -> rows.Index | None:
+    """Where the games came from, if that is told anywhere; the file is open as long as the stack."""
     name = flags.index or flags.file + ".csv"
     if not flags.index and (flags.file == STANDARD_INPUT or not os.path.exists(name)):
-        return {}
+        return None
     try:
-        with open(name, encoding="utf-8", errors="surrogateescape", newline="") as file:
-            return rows.read_index(file, name)
+        return rows.Index(stack.enter_context(open(name, encoding="utf-8", errors="surrogateescape", newline="")), name)
     except OSError as fault:
         raise Stopped(f"{shown(name)}: {fault.strerror}", 4) from fault
 
 
 def all_rows(reader: Reader, flags: argparse.Namespace) -> Iterator[rows.Position]:
-    index, mark = index_of(flags), " ".join(flags.mark.split())
-    for game in reader:
-        archive, number = index.get(game.number, (shown(flags.file), None))
-        yield from rows.positions(game, mark, archive, number)
+    mark, unknown = " ".join(flags.mark.split()), (shown(flags.file), None)
+    with ExitStack() as stack:
+        index = index_of(flags, stack)
+        for game in reader:
+            archive, number = index and index.origin(game.number) or unknown
+            yield from rows.positions(game, mark, archive, number)
 
 
 def main(words: Sequence[str]) -> int:

@@ -59,7 +59,7 @@ class Found:
     """The games that one query has found. `mark` is the comment of the positions that match; without one nothing is counted."""
 
     def __init__(self, mark: bytes, room: Room) -> None:
-        self.mark, self._room = mark.decode("utf-8", "replace"), room
+        self.mark, self._room, self.folder = mark.decode("utf-8", "replace"), room, room.folder
         self._pattern = re.compile(rb"\{" + rb"\s+".join(map(re.escape, mark.split())) + rb"\}") if mark else None
         self._file = tempfile.TemporaryFile(buffering=0, dir=room.folder)
         # after each game: the bytes of the file, and the marked positions, so far
@@ -107,9 +107,16 @@ class Found:
         data = os.pread(self._file.fileno(), self.ends[last] - begin, begin)
         return [data[self.ends[n] - begin : self.ends[n + 1] - begin] for n in range(first, last)]
 
-    def blocks(self) -> Iterator[bytes]:
-        """All games found so far, in blocks."""
-        at, end = 0, self.ends[-1]
+    def origins(self, count: int) -> Iterator[tuple[int, str]]:
+        """The first so many games, each by its number from 1, with its archive."""
+        ends = [first for first, _ in self._archives[1:]] + [count]
+        for (first, name), end in zip(self._archives, ends):
+            for number in range(first, min(end, count)):
+                yield number + 1, name
+
+    def blocks(self, count: int) -> Iterator[bytes]:
+        """The first so many games, in blocks."""
+        at, end = 0, self.ends[count]
         while at < end:
             block = os.pread(self._file.fileno(), min(BLOCK, end - at), at)
             at += len(block)

@@ -5,11 +5,14 @@ from __future__ import annotations
 
 import asyncio
 import contextlib
+import csv
 import os
 import sys
+import tempfile
 from asyncio.subprocess import DEVNULL, PIPE, Process
 from collections.abc import AsyncGenerator, Iterator
 from dataclasses import dataclass
+from typing import IO
 
 from .found import Found
 from .program import end
@@ -29,7 +32,7 @@ class Form:
     words: tuple[str, ...] = ()
 
 
-COLUMNS = ("--columns", "found,ply,move,side,san,uci,fen,depth,mainline,White,Black,Event,Site,Date,Result")
+COLUMNS = ("--columns", "archive,found,ply,move,side,san,uci,fen,depth,mainline,White,Black,Event,Site,Date,Result")
 FORMS = {
     "pgn": Form("found.pgn", "application/x-chess-pgn"),
     "csv": Form("found.csv", "text/csv", "rows", ("--csv", *COLUMNS)),
@@ -49,16 +52,32 @@ async def _feed(process: Process, blocks: Iterator[bytes]) -> None:
     process.stdin.close()
 
 
+def _index(found: Found, count: int) -> IO[str]:
+    """Of which archive the first so many games are, as cqlpgn-rows reads it; a file without a name."""
+    file = tempfile.TemporaryFile("w", encoding="utf-8", errors="surrogateescape", newline="", dir=found.folder)
+    rows = csv.writer(file)
+    rows.writerow(["found", "archive", "game"])
+    rows.writerows((number, name, "") for number, name in found.origins(count))
+    file.flush()
+    return file
+
+
 async def saved(found: Found, form: Form) -> AsyncGenerator[bytes, None]:
-    """The file in pieces; the process ends with whoever takes them."""
+    """The file in pieces; the process ends with whoever takes them. What is found meanwhile is not in it."""
+    count = len(found)
     if not form.command:
-        for block in found.blocks():
+        for block in found.blocks(count):
             yield block
         return
     words = [sys.executable, "-B", "-c", BEGIN.format(form.command), *form.words, f"--mark={found.mark or NEVER}", "-"]
-    environment = os.environ | {"PYTHONPATH": PACKAGE}
-    process = await asyncio.create_subprocess_exec(*words, stdin=PIPE, stdout=PIPE, stderr=DEVNULL, env=environment)
-    feeding = asyncio.ensure_future(_feed(process, found.blocks()))
+    with await asyncio.to_thread(_index, found, count) as index:
+        number = index.fileno()
+        words += [f"--index=/proc/self/fd/{number}"] * (form.command == "rows")
+        environment = os.environ | {"PYTHONPATH": PACKAGE}
+        process = await asyncio.create_subprocess_exec(
+            *words, stdin=PIPE, stdout=PIPE, stderr=DEVNULL, env=environment, pass_fds=[number]
+        )
+    feeding = asyncio.ensure_future(_feed(process, found.blocks(count)))
     assert process.stdout is not None
     try:
         while data := await process.stdout.read(1 << 16):
