@@ -1,0 +1,3 @@
+pub mod Made
+pub mod Numbered
+pub mod Crew
