@@ -29,8 +29,8 @@ fn query_of(alloc: Global, text: &[u8]) -> Result<TypedQuery, Refusal<QueryFault
     check(&query)
 }
 
-/// The queries that some texts are.
-pub(crate) fn read_queries(
+// The queries that some texts are.
+fn read_queries(
     alloc: Global,
     texts: &[&[u8]],
 ) -> Result<Vec<TypedQuery>, Refusal<QueryFault>> {
