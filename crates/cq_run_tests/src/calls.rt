@@ -36,7 +36,11 @@ pub(crate) fn texts_of(alloc: Global, words: &[&str]) -> Result<Vec<String>, All
 }
 
 /// The words of a job, and so many workers.
-pub(crate) fn job_of(alloc: Global, job: &[&str], workers: &str) -> Result<Vec<String>, AllocError> {
+pub(crate) fn job_of(
+    alloc: Global,
+    job: &[&str],
+    workers: &str,
+) -> Result<Vec<String>, AllocError> {
     let mut texts = texts_of(alloc, job)?;
     texts.push(String::from_str(alloc, "--workers")?)?;
     texts.push(String::from_str(alloc, workers)?)?;

@@ -110,12 +110,6 @@ fn read_query(alloc: Global, text: &[u8]) -> Result<TypedQuery, Refusal<QueryFau
     check(&query)
 }
 
-const FIRST: Settings = Settings {
-    workers: 4,
-    limit: 1_099_511_627_776,
-    first: true,
-};
-
 // The status of the query over a source, its export and its report.
 fn over_source<R: Threads + Sync>(
     rt: &R,
@@ -125,8 +119,14 @@ fn over_source<R: Threads + Sync>(
     let query = read_query(alloc, QUERY.as_bytes())?;
     let mut out = SureSink::new(alloc, 4096)?;
     let mut err = SureSink::new(alloc, 4096)?;
-    let gate = &OpenGate;
-    let status = answer(rt, alloc, &query, FIRST, source, &mut out, &mut err, gate);
+    let settings = Settings {
+        workers: 4,
+        limit: 1_099_511_627_776,
+        first: true,
+    };
+    let status = answer(
+        rt, alloc, &query, settings, source, &mut out, &mut err, &OpenGate,
+    );
     Ok((status, out, err))
 }
 

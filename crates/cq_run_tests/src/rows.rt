@@ -69,7 +69,11 @@ fn expect<R: Threads + Sync + Abort>(rt: &R, alloc: Global, row: &Row<'_>) -> Re
     let found = status_of(rt, alloc, texts, &mut desk, &mut out, &mut err, &OpenGate);
     assert_eq!(rt;
         (found, out.taken(), err.taken()),
-        (*status, Some(out_text.as_bytes()), Some(err_text.as_bytes())),
+        (
+            *status,
+            Some(out_text.as_bytes()),
+            Some(err_text.as_bytes())
+        ),
         "{words:?}"
     );
     Ok(())

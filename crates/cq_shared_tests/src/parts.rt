@@ -30,10 +30,7 @@ fn query_of(alloc: Global, text: &[u8]) -> Result<TypedQuery, Refusal<QueryFault
 }
 
 // The queries that some texts are.
-fn read_queries(
-    alloc: Global,
-    texts: &[&[u8]],
-) -> Result<Vec<TypedQuery>, Refusal<QueryFault>> {
+fn read_queries(alloc: Global, texts: &[&[u8]]) -> Result<Vec<TypedQuery>, Refusal<QueryFault>> {
     let mut queries = Vec::new(alloc);
     for text in texts {
         queries.push(query_of(alloc, *text)?)?;

@@ -36,7 +36,11 @@ static OPTIONS: [(&[u8], bool, u32, &[u8]); 2] = [
 fn the_last_match_string_counts(rt: HostRuntime) -> Result<(), Fail> {
     for (text, variations, at, match_text) in OPTIONS.iter() {
         let query = parsed(rt.alloc(), text)?;
-        let told = (query.variations, query.match_at, query.match_text.as_slice());
+        let told = (
+            query.variations,
+            query.match_at,
+            query.match_text.as_slice(),
+        );
         assert_eq!(rt; told, (*variations, *at, *match_text));
     }
     Ok(())

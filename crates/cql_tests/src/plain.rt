@@ -1,4 +1,6 @@
 //! The plain evaluator at the start, by hand.
+ghost use Rattle.std.specs.Prelude.{◌<◌, length};
+
 use crate::parser::query_of;
 use cq_geometry::Square;
 use cq_outside::{Bytes, NoMemory};
@@ -15,12 +17,14 @@ fn start_game(alloc: Global) -> Result<Game, NoMemory> {
     Game::new(alloc, Tags::new(alloc), GameResult::Open, Position::start())
 }
 
-// Whether the first item holds, and the number that it is; nothing where there is no item.
+// Whether the first item holds at the root, and the number that it is; nothing where there is no item.
 fn answers(
     alloc: Global,
     query: &Query,
     game: &Game,
-) -> Result<Option<(bool, Option<i64>)>, NoMemory> {
+) -> Result<Option<(bool, Option<i64>)>, NoMemory>
+    requires { 0 < length game.now.nodes }
+{
     let Some(first) = query.items.as_slice().first() else {
         return Ok(None);
     };

@@ -1,8 +1,6 @@
 //! Lines of reports, with numbers that no run comes to.
 use cq_outside::Bytes;
-use cq_report::{
-    fault_line, head_line, made_line, numbered_query_line, query_line, summary_line,
-};
+use cq_report::{fault_line, head_line, made_line, numbered_query_line, query_line, summary_line};
 use cql_syntax::{QueryFault, QueryReason};
 use pgn_reader::{GameFault, Reason};
 use std::test::Fail;

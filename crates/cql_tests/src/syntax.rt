@@ -132,7 +132,11 @@ fn expect_pair<R: Abort>(rt: &R, alloc: Global, pair: &Pair<'_>) -> Result<(), F
         (Some(f), Some(g)) => Some((same_filter(f, g), same_unplaced(f, g))),
         _ => None,
     };
-    assert_eq!(rt; found, Some((*same, *but_for_places)), "{items:?} and {others:?}");
+    assert_eq!(rt;
+        found,
+        Some((*same, *but_for_places)),
+        "{items:?} and {others:?}"
+    );
     Ok(())
 }
 
