@@ -77,6 +77,12 @@ def ways_in(folder):
     for workers in ("1", "4", "64"):
         words = ["eval", QUERY, "a.pgn", "--workers", workers]
         compare("%s workers" % workers, process(words, folder=folder), want)
+    others = process(["eval", QUERY, "one.pgn"], folder=folder)
+    compare("a file beside others", others, program.run_eval(QUERY, b"1. e4 *\n"))
+    with open(os.path.join(folder, "long.pgn"), "wb") as f:
+        f.write(b'[FEN "8/8/8/8/8/8/8/K1k5 w - - 0 1"]\n*\n' * 5000)
+    long = process(["eval", "cql() Qa1", "long.pgn"], folder=folder)
+    compare("a file of several pieces", long, (0, b"", b"games 5000 matched 0 refused 0\n"))
 
 
 def done_and_refused(folder):
@@ -107,6 +113,7 @@ def failures(folder):
     for words in (
         ["run", "none.cql", "a.pgn"],
         ["eval", QUERY, "none.pgn"],
+        ["eval", QUERY, ""],
         ["check", "none.cql"],
         ["explain", "none.cql"],
     ):

@@ -272,6 +272,7 @@ FLAT = [
     (b'sort min "x" ply', b'(sort min "x" ply)'),
     (b"wtm not check", b"wtm\n(not check)"),
     (b"1 + 2", b"(+ 1 2)"),
+    (b"1 - 2 + 3", b"(+ (- 1 2) 3)"),
     (b"1 - 2 + 3 - 4", b"(- (+ (- 1 2) 3) 4)"),
     (b"1 - (2 + 3)", b"(- 1 (+ 2 3))"),
     (

@@ -26,6 +26,8 @@ OPENED = "1. e4 e5 2. Nf3 *"
 FOUND = [
     ("cql() Ka1", '[FEN "8/8/8/8/8/8/8/K1k5 w - - 0 1"]\n*\n', "{CQL} *", "8/8/8/8/8/8/8/K1k5 w - - 0 1"),
     ("cql() Nf3", OPENED, "1. e4 e5 2. Nf3 {CQL} *"),
+    ("cql() Pe4 pe7", "1. e4 e5 *", "1. e4 {CQL} 1... e5 *"),
+    ('cql() Pe4 pe7 sort "p" power A', "1. e4 e5 *", "1. e4 {CQL} 1... e5 *"),
     ("cql() Qf7", ITALIAN, "1. e4 e5 2. Bc4 Nc6 3. Qh5 Nf6 4. Qxf7# {CQL} 1-0"),
     ("cql() Qa8", '[FEN "7k/P7/8/8/8/8/8/K7 w - - 0 1"]\n1. a8Q *', "1. a8=Q+ {CQL} *", "7k/P7/8/8/8/8/8/K7 w - - 0 1"),
     ("cql(variations) Pd4", "1. e4 (1. d4) e5 *", "1. e4 (1. d4 {CQL}) 1... e5 *"),
@@ -280,6 +282,13 @@ def malicious(workers):
         yield [mode, asked, "-", "--workers", workers], files, (status, "", report)
 
 
+def found_by(workers):
+    """a game that is found, from standard input by its name"""
+    query, archive, movetext, fen = FOUND[0]
+    words = ["eval", query, "-", "--workers", workers]
+    yield words, {"-": archive}, (0, exported(movetext, fen), "games 1 matched 1 refused 0\n")
+
+
 def first_matches(workers):
     """the second of the games is faulty"""
     for games, first, limit, status, is_written, last in FIRST:
@@ -304,6 +313,7 @@ def rows():
     yield from archives()
     yield from words_and_files()
     for workers in ("1", "4"):
+        yield from found_by(workers)
         yield from malicious(workers)
         yield from first_matches(workers)
     yield from queries()

@@ -212,6 +212,16 @@ def several(name, text, archive, out, err, status):
 NO_MATE = "games 1 matched 1 refused 0\ngames 1 matched 0 refused 0\n"
 ONE_OF_TWO = "query 1 bytes 118\n" + exported("1. e4 e5 2. Nf3 {CQL} *") + "query 2 bytes 0\n"
 several("two queries", "cql() Nf3\n%%\ncql() mate\n", SHORT_GAME, ONE_OF_TWO, NO_MATE, 0)
+FIRST_OF_TWO = "query 1 bytes 230\n" + exported("1. d4 {CQL} *") + exported("1. d4 {CQL} 1... d5 {CQL} *")
+SECOND_OF_TWO = "query 2 bytes 325\n" + exported("{X} 1. d4 d5 {X} *") + exported("{X} 1. d4 *") + exported("{X} 1. e4 *")
+several(
+    "a mark and a sort item of one query alone",
+    'cql() Pd4\n%%\ncql(matchstring "X") wtm sort "p" ply',
+    "1. d4 *\n1. e5 *\n1. e4 *\n1. d4 d5 *\n",
+    FIRST_OF_TWO + SECOND_OF_TWO,
+    "game 2 byte 11: illegal move\ngames 4 matched 2 refused 1\ngames 4 matched 3 refused 1\n",
+    1,
+)
 several("a fault of the second query", "cql() check\n%%\ncql() echo", SHORT_GAME, "", "query 2 byte 6: outside profile echo\n", 2)
 several("seventeen queries", "cql() check\n%%\n" * 16 + "cql() check", SHORT_GAME, "", "queries too many\n", 2)
 several("nothing between two separators", "cql() check\n%%\n%%\ncql() mate", "", "", "query 2 byte 0: unexpected end\n", 2)

@@ -1,8 +1,8 @@
 //! Failures of the outside: each run by 1 and by 4 workers, over a desk and sinks in memory.
-use crate::rows::{texts_of, written};
+use crate::calls::{job_of, status_of, written};
 use cq_outside::{Bytes, Calls, MemDesk, MemSink, NoMemory, OpenGate};
-use cq_run::{Status, run};
-use std::alloc::{AllocError, Global};
+use cq_run::Status;
+use std::alloc::Global;
 use std::process::Abort;
 use std::test::Fail;
 use std::thread::Threads;
@@ -10,79 +10,99 @@ use std::thread::Threads;
 /// The calls that fail: openings, reads of the query's file, and writes to the first sink and to the second.
 type Failing<'a> = (&'a [u64], &'a [u64], &'a [u64], &'a [u64]);
 
-/// A mode, a query and an archive, and the calls that fail; then the status, and how many bytes of the exports are written.
-type Row<'a> = (&'a str, &'a str, &'a str, Failing<'a>, (Status, usize));
+/// Words, an archive, and the calls that fail; then the status, how many bytes of the exports are written, and the report.
+type Row<'a> = (
+    &'a [&'a str],
+    &'a str,
+    Failing<'a>,
+    (Status, usize, &'a str),
+);
 
-const INITIAL: &str = "cql() initial";
+/// The query's file, which each of the games below matches.
+const QUERY: &[u8] = b"cql() initial";
 
-static ROWS: [Row<'static>; 8] = [
+const RUN: &[&str] = &["run", "q.cql", "-"];
+
+const MANY: &[&str] = &["many", "q.cql", "-"];
+
+const EVAL: &[&str] = &["eval", "cql() initial", "-"];
+
+const REPORT: &str = "games 3 matched 3 refused 0\n";
+
+/// The export of a game has 102 bytes.
+static ROWS: [Row<'static>; 15] = [
+    (RUN, "*", (&[1], &[], &[], &[]), (Status::OpenFault, 0, "")),
+    (RUN, "*", (&[2], &[], &[], &[]), (Status::OpenFault, 0, "")),
+    (RUN, "*", (&[], &[1], &[], &[]), (Status::ReadFault, 0, "")),
+    (MANY, "*", (&[1], &[], &[], &[]), (Status::OpenFault, 0, "")),
+    (MANY, "*", (&[], &[1], &[], &[]), (Status::ReadFault, 0, "")),
     (
-        "run",
-        INITIAL,
-        "*",
-        (&[1], &[], &[], &[]),
-        (Status::OpenFault, 0),
-    ),
-    (
-        "run",
-        INITIAL,
-        "*",
-        (&[2], &[], &[], &[]),
-        (Status::OpenFault, 0),
-    ),
-    (
-        "run",
-        INITIAL,
-        "*",
-        (&[], &[1], &[], &[]),
-        (Status::ReadFault, 0),
-    ),
-    (
-        "many",
-        INITIAL,
-        "*",
-        (&[1], &[], &[], &[]),
-        (Status::OpenFault, 0),
-    ),
-    (
-        "many",
-        INITIAL,
-        "*",
-        (&[], &[1], &[], &[]),
-        (Status::ReadFault, 0),
-    ),
-    (
-        "many",
-        INITIAL,
+        MANY,
         "*",
         (&[], &[], &[1], &[]),
-        (Status::WriteFault, 0),
+        (Status::WriteFault, 0, ""),
     ),
     (
-        "eval",
-        "cql() echo",
+        &["eval", "cql() echo", "-"],
         "*",
         (&[], &[], &[], &[1]),
-        (Status::WriteFault, 0),
+        (Status::WriteFault, 0, ""),
     ),
     (
-        "eval",
-        INITIAL,
-        "*\n*\n*\n",
+        &["eval"],
+        "*",
+        (&[], &[], &[], &[8]),
+        (Status::WriteFault, 0, "usage: "),
+    ),
+    (
+        EVAL,
+        "* * *",
+        (&[], &[], &[1], &[]),
+        (Status::WriteFault, 0, ""),
+    ),
+    (
+        EVAL,
+        "* * *",
+        (&[], &[], &[101], &[]),
+        (Status::WriteFault, 100, ""),
+    ),
+    (
+        EVAL,
+        "* * *",
         (&[], &[], &[200], &[]),
-        (Status::WriteFault, 199),
+        (Status::WriteFault, 199, ""),
+    ),
+    (
+        EVAL,
+        "* * *",
+        (&[], &[], &[], &[1]),
+        (Status::WriteFault, 306, ""),
+    ),
+    (
+        EVAL,
+        "* * *",
+        (&[], &[], &[], &[28]),
+        (Status::WriteFault, 306, "games 3 matched 3 refused 0"),
+    ),
+    (
+        EVAL,
+        "* * *",
+        (&[], &[], &[], &[]),
+        (Status::Done, 306, REPORT),
+    ),
+    // A failed write is the last: the other fault is not told.
+    (
+        EVAL,
+        "1. e5 *\n* 1. e6 *\n",
+        (&[], &[], &[10], &[]),
+        (Status::WriteFault, 9, "game 1 byte 3: illegal move\n"),
     ),
 ];
 
-// A desk with a query's file and an archive, which is standard input too.
-fn desk_with(
-    alloc: Global,
-    query: &str,
-    archive: &str,
-    fails: Failing<'_>,
-) -> Result<MemDesk, NoMemory> {
+// A desk with the query's file and an archive, which is standard input too.
+fn desk_with(alloc: Global, archive: &str, fails: Failing<'_>) -> Result<MemDesk, NoMemory> {
     let mut desk = MemDesk::new(alloc, Calls::of(alloc, fails.0)?);
-    desk.add(b"q.cql", query.as_bytes(), 65_536, fails.1)?;
+    desk.add(b"q.cql", QUERY, 65_536, fails.1)?;
     desk.add(b"-", archive.as_bytes(), 65_536, &[])?;
     Ok(desk)
 }
@@ -98,48 +118,34 @@ fn part_of_exports(alloc: Global, count: usize) -> Result<Bytes, NoMemory> {
     Bytes::from_slice(alloc, &all[..count.min(all.len())])
 }
 
-// The words of a mode: the query's file or, of `eval`, its text, standard input, and so many workers.
-fn words_of<'a>(
-    alloc: Global,
-    mode: &'a str,
-    query: &'a str,
-    workers: &'a str,
-) -> Result<Vec<String>, AllocError> {
-    let asked = if mode == "eval" { query } else { "q.cql" };
-    texts_of(alloc, &[mode, asked, "-", "--workers", workers])
-}
-
 // Asks that a row comes out as it should, by so many workers.
-fn expect_row<R: Threads + Sync + Abort>(
+fn expect<R: Threads + Sync + Abort>(
     rt: &R,
     alloc: Global,
     row: &Row<'_>,
     workers: &str,
 ) -> Result<(), Fail> {
-    let (mode, query, archive, fails, want) = *row;
-    let mut desk = desk_with(alloc, query, archive, fails)?;
+    let (words, archive, fails, want) = *row;
+    let mut desk = desk_with(alloc, archive, fails)?;
     let mut out = MemSink::new(alloc, 4096, 1, Calls::of(alloc, fails.2)?)?;
     let mut err = MemSink::new(alloc, 4096, 1, Calls::of(alloc, fails.3)?)?;
-    let words = words_of(alloc, mode, query, workers)?;
-    let words = words.as_slice();
-    let status = run(rt, alloc, words, &mut desk, &mut out, &mut err, &OpenGate);
+    let texts = job_of(alloc, words, workers)?;
+    let texts = texts.as_slice();
+    let status = status_of(rt, alloc, texts, &mut desk, &mut out, &mut err, &OpenGate);
     let text = part_of_exports(alloc, want.1)?;
-    let answered = (status, out.taken(), err.taken());
-    let wanted = (want.0, Some(text.as_slice()), Some(b"".as_slice()));
     assert_eq!(rt;
-        answered,
-        wanted,
-        "{mode:?} by {workers:?} workers, where {fails:?} fail"
+        (status, out.taken(), err.taken()),
+        (want.0, Some(text.as_slice()), Some(want.2.as_bytes())),
+        "{words:?} by {workers:?} workers, where {fails:?} fail"
     );
     Ok(())
 }
 
 #[test]
 fn failures_have_their_status(rt: HostRuntime) -> Result<(), Fail> {
-    let alloc = rt.alloc();
     for row in ROWS.iter() {
-        expect_row(&rt, alloc, row, "1")?;
-        expect_row(&rt, alloc, row, "4")?;
+        expect(&rt, rt.alloc(), row, "1")?;
+        expect(&rt, rt.alloc(), row, "4")?;
     }
     Ok(())
 }

@@ -1,6 +1,8 @@
-//! Tests of the top call: each mode over the forms in memory, and failures of the outside.
+//! Tests of the top call: each mode once, workers at the gate, and failures of the outside.
 #![tactic(auto)]
 
+#[cfg(test)]
+mod calls;
 #[cfg(test)]
 mod failing;
 #[cfg(test)]

@@ -1,8 +1,8 @@
 //! Calls of the outside that fail at each place in turn: the status is that of the cause, and each sink has taken all of its text, what
 //! the full batches before a failed read give, or a prefix.
-use crate::rows::{texts_of, written};
+use crate::calls::{status_of, texts_of, written};
 use cq_outside::{Bytes, Calls, MemDesk, MemSink, NoMemory, OpenGate};
-use cq_run::{Status, run};
+use cq_run::Status;
 use std::alloc::Global;
 use std::process::Abort;
 use std::test::Fail;
@@ -15,20 +15,20 @@ const MOST_CALLS: u64 = 8192;
 const PIECE: usize = 65_536;
 
 /// How many bytes of an archive fill its batches, and how many are due on the two sinks then.
-type Full = (usize, usize, usize);
+pub(crate) type Full = (usize, usize, usize);
 
 /// An archive that a query is asked over, and what it writes where nothing fails.
 #[derive(Drop)]
-struct Case {
-    words: Vec<String>,
-    archive: Bytes,
-    out: Bytes,
-    err: Bytes,
-    full: Vec<Full>,
+pub(crate) struct Case {
+    pub(crate) words: Vec<String>,
+    pub(crate) archive: Bytes,
+    pub(crate) out: Bytes,
+    pub(crate) err: Bytes,
+    pub(crate) full: Vec<Full>,
 }
 
 /// The numbers of the calls that fail: of a read, and of a write to the first sink and to the second. No call has the number 0.
-type Failing = (u64, u64, u64);
+pub(crate) type Failing = (u64, u64, u64);
 
 // ---- the archives
 
@@ -113,8 +113,8 @@ fn three_batches(alloc: Global) -> Result<Case, NoMemory> {
 
 // ---- one run
 
-// The status of a case where these calls fail, and its sinks. A read gives and a write takes at most so many bytes.
-fn answered<R: Threads + Sync + Abort>(
+/// The status of a case where these calls fail, and its sinks. A read gives and a write takes at most so many bytes.
+pub(crate) fn answered<R: Threads + Sync + Abort>(
     rt: &R,
     alloc: Global,
     case: &Case,
@@ -130,12 +130,12 @@ fn answered<R: Threads + Sync + Abort>(
     let mut out = MemSink::new(alloc, 1024, taken, Calls::of(alloc, &[outs])?)?;
     let mut err = MemSink::new(alloc, 1024, taken, Calls::of(alloc, &[errs])?)?;
     let words = case.words.as_slice();
-    let status = run(rt, alloc, words, &mut desk, &mut out, &mut err, &OpenGate);
+    let status = status_of(rt, alloc, words, &mut desk, &mut out, &mut err, &OpenGate);
     Ok((status, out, err))
 }
 
 // The status of a case where nothing fails.
-fn status_of(case: &Case) -> Status {
+fn whole_status(case: &Case) -> Status {
     if case.full.is_empty() {
         Status::Done
     } else {
@@ -155,8 +155,8 @@ fn is_part(sink: &MemSink, text: &Bytes, count: Option<usize>) -> bool {
     right && text.as_slice().starts_with(taken)
 }
 
-// Asks that a run has this status, and that so many bytes are taken.
-fn expect<R: Threads + Sync + Abort>(
+/// Asks that a run has this status, and that so many bytes are taken.
+pub(crate) fn expect<R: Threads + Sync + Abort>(
     rt: &R,
     case: &Case,
     ran: &(Status, MemSink, MemSink),
@@ -200,7 +200,7 @@ fn expect_prefixes<R: Threads + Sync + Abort>(
         expect(rt, case, &ran, Status::WriteFault, counts)?;
     } else {
         let all = (Some(case.out.len()), Some(case.err.len()));
-        expect(rt, case, &ran, status_of(case), all)?;
+        expect(rt, case, &ran, whole_status(case), all)?;
     }
     Ok(failed)
 }
@@ -232,7 +232,7 @@ fn expect_batches<R: Threads + Sync + Abort>(
         expect(rt, case, &ran, Status::ReadFault, counts)?;
     } else {
         let all = (Some(case.out.len()), Some(case.err.len()));
-        expect(rt, case, &ran, status_of(case), all)?;
+        expect(rt, case, &ran, whole_status(case), all)?;
     }
     Ok(failed)
 }

@@ -1,34 +1,41 @@
 //! The program has as many workers as it is told, and each of them tells the gate that was handed in.
-use crate::rows::{desk_of, texts_of};
+use crate::calls::{desk_of, job_of, status_of};
 use cq_outside::{Gate, SureSink};
-use cq_run::{Status, run};
+use cq_run::Status;
 use std::alloc::Global;
 use std::process::Abort;
 use std::sync::atomic::{AtomicU32, Ordering};
 use std::test::Fail;
 use std::thread::Threads;
 
-/// How often a worker at the gate looks for the other one.
-const MOST_LOOKS: u32 = 1_000_000_000;
-
 /// How many games each of these jobs has.
 const GAMES: u32 = 8;
 
-/// A gate that counts the games that the first worker enters, and those of all others. It can hold the one that comes first until
-/// another worker has come.
+/// How often the worker that comes first looks for another one, where one has to come.
+const MOST_LOOKS: u32 = 1_000_000_000;
+
+/// How often each worker looks, at each game, for one that should not be there. A thread that is started begins within a few
+/// milliseconds, and these are more, so that one worker too many would have a game.
+const LOOKS_AT_A_GAME: u32 = 20_000_000;
+
+/// A gate that holds the worker that comes first until another has come, where the program is told more than one, and counts its calls.
 #[derive(Drop)]
 struct Meeting {
-    holds: bool,
+    /// How many workers the program is told.
+    told: u64,
     enters: AtomicU32,
+    leaves: AtomicU32,
     by_first: AtomicU32,
     by_others: AtomicU32,
+    /// How many calls were of a worker too many.
+    beyond: AtomicU32,
     /// How many workers were held until no other could be waited for.
     alone: AtomicU32,
 }
 
-// Looks until there is a count; whether there came to be one.
-fn comes(count: &AtomicU32) -> bool {
-    for _look in 0..MOST_LOOKS {
+// Looks so often until there is a count; whether there came to be one.
+fn comes(count: &AtomicU32, looks: u32) -> bool {
+    for _look in 0..looks {
         if count.load(Ordering::Relaxed) > 0 {
             return true;
         }
@@ -36,20 +43,39 @@ fn comes(count: &AtomicU32) -> bool {
     false
 }
 
+fn add_if(count: &AtomicU32, counts: bool) {
+    if counts {
+        count.fetch_add(1, Ordering::Relaxed);
+    }
+}
+
 impl Meeting {
-    fn new(holds: bool) -> Meeting {
+    fn new(told: u64) -> Meeting {
         Meeting {
-            holds,
+            told,
             enters: AtomicU32::new(0),
+            leaves: AtomicU32::new(0),
             by_first: AtomicU32::new(0),
             by_others: AtomicU32::new(0),
+            beyond: AtomicU32::new(0),
             alone: AtomicU32::new(0),
         }
+    }
+
+    // How many calls of both kinds there were, how many of them by a worker too many, and how many workers waited in vain.
+    fn counts(&self) -> [u32; 4] {
+        [
+            self.enters.load(Ordering::Relaxed),
+            self.leaves.load(Ordering::Relaxed),
+            self.beyond.load(Ordering::Relaxed),
+            self.alone.load(Ordering::Relaxed),
+        ]
     }
 }
 
 impl Gate for Meeting {
     fn enter(&self, worker: u64, _shard: u64) {
+        add_if(&self.beyond, worker >= self.told);
         let (own, other) = if worker == 0 {
             (&self.by_first, &self.by_others)
         } else {
@@ -57,12 +83,16 @@ impl Gate for Meeting {
         };
         own.fetch_add(1, Ordering::Relaxed);
         let comes_first = self.enters.fetch_add(1, Ordering::Relaxed) == 0;
-        if comes_first && self.holds && !comes(other) {
-            self.alone.fetch_add(1, Ordering::Relaxed);
+        if comes_first && self.told > 1 {
+            add_if(&self.alone, !comes(other, MOST_LOOKS));
         }
+        comes(&self.beyond, LOOKS_AT_A_GAME);
     }
 
-    fn leave(&self, _worker: u64, _shard: u64, _text: &[u8]) {}
+    fn leave(&self, worker: u64, _shard: u64, _text: &[u8]) {
+        add_if(&self.beyond, worker >= self.told);
+        self.leaves.fetch_add(1, Ordering::Relaxed);
+    }
 }
 
 /// A query, two queries, and an archive of as many games, of which none matches.
@@ -74,55 +104,41 @@ static FILES: [(&str, &str); 3] = [
 
 /// Words of each mode that answers games.
 static JOBS: [&[&str]; 6] = [
-    &["run", "q.cql", "games.pgn", "--workers"],
-    &["eval", "cql() mate", "games.pgn", "--workers"],
-    &[
-        "eval",
-        "cql() mate sort \"p\" ply",
-        "games.pgn",
-        "--workers",
-    ],
-    &["eval", "cql() mate", "games.pgn", "--first", "--workers"],
-    &["selfrun", "cql() mate", "--games", "8", "--workers"],
-    &["many", "two.cql", "games.pgn", "--workers"],
+    &["run", "q.cql", "games.pgn"],
+    &["eval", "cql() mate", "games.pgn"],
+    &["eval", "cql() mate sort \"p\" ply", "games.pgn"],
+    &["eval", "cql() mate", "games.pgn", "--first"],
+    &["selfrun", "cql() mate", "--games", "8"],
+    &["many", "two.cql", "games.pgn"],
 ];
 
-// Runs a job by so many workers at a gate.
-fn enter_all<R: Threads + Sync + Abort>(
+// Asks that so many workers enter and leave each game of a job once, none of them a worker too many.
+fn expect<R: Threads + Sync + Abort>(
     rt: &R,
     alloc: Global,
     job: &[&str],
     workers: &str,
-    gate: &Meeting,
+    told: u64,
 ) -> Result<(), Fail> {
     let mut desk = desk_of(alloc, &FILES)?;
     let mut out = SureSink::new(alloc, 4096)?;
     let mut err = SureSink::new(alloc, 4096)?;
-    let mut words = texts_of(alloc, job)?;
-    words.push(String::from_str(alloc, workers)?)?;
-    let status = run(
-        rt,
-        alloc,
-        words.as_slice(),
-        &mut desk,
-        &mut out,
-        &mut err,
-        gate,
+    let words = job_of(alloc, job, workers)?;
+    let words = words.as_slice();
+    let gate = Meeting::new(told);
+    let status = status_of(rt, alloc, words, &mut desk, &mut out, &mut err, &gate);
+    assert_eq!(rt;
+        (status, gate.counts()),
+        (Status::Done, [GAMES, GAMES, 0, 0]),
+        "{job:?} by {workers} workers"
     );
-    assert_eq!(rt; status, Status::Done, "{job:?}");
     Ok(())
 }
 
 #[test]
 fn two_workers_enter_games_of_each_job(rt: HostRuntime) -> Result<(), Fail> {
     for job in JOBS.iter() {
-        let gate = Meeting::new(true);
-        enter_all(&rt, rt.alloc(), job, "2", &gate)?;
-        let entered = (
-            gate.enters.load(Ordering::Relaxed),
-            gate.alone.load(Ordering::Relaxed),
-        );
-        assert_eq!(&rt; entered, (GAMES, 0), "{job:?}");
+        expect(&rt, rt.alloc(), job, "2", 2)?;
     }
     Ok(())
 }
@@ -130,13 +146,7 @@ fn two_workers_enter_games_of_each_job(rt: HostRuntime) -> Result<(), Fail> {
 #[test]
 fn one_worker_enters_all_games_of_each_job(rt: HostRuntime) -> Result<(), Fail> {
     for job in JOBS.iter() {
-        let gate = Meeting::new(false);
-        enter_all(&rt, rt.alloc(), job, "1", &gate)?;
-        let entered = (
-            gate.by_first.load(Ordering::Relaxed),
-            gate.by_others.load(Ordering::Relaxed),
-        );
-        assert_eq!(&rt; entered, (GAMES, 0), "{job:?}");
+        expect(&rt, rt.alloc(), job, "1", 1)?;
     }
     Ok(())
 }

@@ -1,8 +1,6 @@
-//! Tests of several queries at once: their parts, their answers by several workers, and what is written of them.
+//! Tests of several queries at once: their parts, and their answers by several workers.
 #![tactic(auto)]
 
-#[cfg(test)]
-mod answers;
 #[cfg(test)]
 mod parts;
 #[cfg(test)]

@@ -29,11 +29,8 @@ fn query_of(alloc: Global, text: &[u8]) -> Result<TypedQuery, Refusal<QueryFault
     check(&query)
 }
 
-/// The queries that some texts are.
-pub(crate) fn read_queries(
-    alloc: Global,
-    texts: &[&[u8]],
-) -> Result<Vec<TypedQuery>, Refusal<QueryFault>> {
+// The queries that some texts are.
+fn read_queries(alloc: Global, texts: &[&[u8]]) -> Result<Vec<TypedQuery>, Refusal<QueryFault>> {
     let mut queries = Vec::new(alloc);
     for text in texts {
         queries.push(query_of(alloc, *text)?)?;

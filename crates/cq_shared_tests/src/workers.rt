@@ -15,13 +15,13 @@ use std::test::Fail;
 use std::thread::Threads;
 
 /// A query, and one that has another mark and sorts the games.
-pub(crate) const QUERIES: [&[u8]; 2] = [b"cql() Pd4", b"cql(matchstring \"X\") wtm sort \"p\" ply"];
+const QUERIES: [&[u8]; 2] = [b"cql() Pd4", b"cql(matchstring \"X\") wtm sort \"p\" ply"];
 
 /// A faulty game among three others.
-pub(crate) const ARCHIVE: &[u8] = b"1. d4 *\n1. e5 *\n1. e4 *\n1. d4 d5 *\n";
+const ARCHIVE: &[u8] = b"1. d4 *\n1. e5 *\n1. e4 *\n1. d4 d5 *\n";
 
-/// The text of a game in export format whose tags have their defaults; nothing where it has no movetext.
-pub(crate) fn export_of(alloc: Global, movetext: &[u8]) -> Result<Bytes, NoMemory> {
+// The text of a game in export format whose tags have their defaults; nothing where it has no movetext.
+fn export_of(alloc: Global, movetext: &[u8]) -> Result<Bytes, NoMemory> {
     let mut text = Bytes::new(alloc);
     if movetext.is_empty() {
         return Ok(text);

@@ -19,20 +19,21 @@ fn a_rook_slides_up_to_the_first_man(rt: HostRuntime) {
     );
 }
 
+static POSITIONS: [&[u8]; 3] = [
+    b"r3k2r/p1ppqpb1/bn2pnp1/3PN3/1p2P3/2N2Q1p/PPPBBPPP/R3K2R w KQkq - 0 1",
+    b"8/2p5/3p4/KP5r/1R3p1k/8/4P1P1/8 w - - 0 1",
+    b"rnbq1k1r/pp1Pbppp/2p5/8/2B5/8/PPP1NnPP/RNBQK2R w KQ - 1 8",
+];
+
 #[test]
 fn attacks_of_sets_are_those_of_their_squares(rt: HostRuntime) -> Result<(), Fail> {
-    for fen in [
-        b"r3k2r/p1ppqpb1/bn2pnp1/3PN3/1p2P3/2N2Q1p/PPPBBPPP/R3K2R w KQkq - 0 1".as_slice(),
-        b"8/2p5/3p4/KP5r/1R3p1k/8/4P1P1/8 w - - 0 1".as_slice(),
-        b"rnbq1k1r/pp1Pbppp/2p5/8/2B5/8/PPP1NnPP/RNBQK2R w KQ - 1 8".as_slice(),
-    ] {
+    for fen in POSITIONS.iter() {
         let position = read_fen(fen)?;
-        let mut all = 0;
         for number in 0..64 {
             let one = attacks_from(&position, Square::new(number));
             assert_eq!(rt; attacked(&position, 1 << number), one);
-            all |= one;
         }
+        let all = attacked_one_by_one(&position, BitSet64::MAX);
         assert_eq!(rt; attacked(&position, BitSet64::MAX), all);
     }
     Ok(())
@@ -126,6 +127,28 @@ fn between_pair_by_pair(from: BitSet64, to: BitSet64) -> BitSet64 {
     all
 }
 
+// Whether the squares that a set attacks are those that its men attack, one after the other.
+fn is_attacked_so(position: &Position, set: BitSet64) -> bool {
+    attacked(position, set) == attacked_one_by_one(position, set)
+}
+
+// Whether the squares between two sets are those between their squares, pair by pair.
+fn is_between_so(from: BitSet64, to: BitSet64) -> bool {
+    between_all(from, to) == between_pair_by_pair(from, to)
+}
+
+// Whether this is so of the men of both sides.
+fn agrees(position: &Position) -> bool {
+    let white = men_of(position, Side::White);
+    let black = men_of(position, Side::Black);
+    for set in [white, black, white | black, !white] {
+        if !is_attacked_so(position, set) {
+            return false;
+        }
+    }
+    is_between_so(white, black) && is_between_so(black, !white)
+}
+
 #[test]
 fn sets_in_200_positions_from_play(rt: HostRuntime) {
     let mut position = Position::start();
@@ -133,21 +156,6 @@ fn sets_in_200_positions_from_play(rt: HostRuntime) {
     for _ in 0..200 {
         number = number.wrapping_mul(1_664_525).wrapping_add(1_013_904_223);
         position = walked(&position, number >> 16);
-        let white = men_of(&position, Side::White);
-        let black = men_of(&position, Side::Black);
-        for set in [white, black, white | black, !white] {
-            assert_eq!(rt;
-                attacked(&position, set),
-                attacked_one_by_one(&position, set)
-            );
-        }
-        assert_eq!(rt;
-            between_all(white, black),
-            between_pair_by_pair(white, black)
-        );
-        assert_eq!(rt;
-            between_all(black, !white),
-            between_pair_by_pair(black, !white)
-        );
+        assert!(rt; agrees(&position));
     }
 }

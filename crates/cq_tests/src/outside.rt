@@ -1,5 +1,5 @@
 use cq_outside::{
-    Bytes, Calls, Desk, Failed, FileDesk, Gate, MemDesk, MemSink, MemSource, OpenFault, OpenGate,
+    Bytes, Calls, Desk, Failed, FileDesk, Gate, MemDesk, MemSink, MemSource, NoMemory, OpenFault, OpenGate,
     Sink, Source, StdSink, SureDesk, SureSink, SureSource, decimal_up_to, digits_len, is_white,
     read_piece, read_up_to, white_len, write_all_of,
 };
@@ -29,29 +29,28 @@ fn numbers_are_written_in_decimal(rt: HostRuntime) -> Result<(), Fail> {
 fn white_space_is_tab_to_carriage_return_and_the_space(rt: HostRuntime) {
     for b in 0..=255 {
         let white = b"\t\n\x0b\x0c\r ".contains(&b);
-        assert_eq!(rt; is_white(b), white, "at {b}");
-        assert_eq!(rt;
-            white_len(&[b, b, b'x']),
-            if white { 2 } else { 0 },
-            "at {b}"
-        );
+        let len = if white { 2 } else { 0 };
+        let told = (is_white(b), white_len(&[b, b, b'x']));
+        assert_eq!(rt; told, (white, len), "at {b}");
     }
 }
 
+/// A text, how many digits it begins with, and the number that they are, at most 256.
+static DIGITS: [(&[u8], usize, u32); 6] = [
+    (b"", 0, 0),
+    (b"x1", 0, 0),
+    (b"007x", 3, 7),
+    (b"256", 3, 256),
+    (b"257 ", 3, 256),
+    (b"99999999999999999999999", 23, 256),
+];
+
 #[test]
 fn digits_are_read_up_to_a_bound(rt: HostRuntime) {
-    let rows = [
-        (b"".as_slice(), 0, 0),
-        (b"x1", 0, 0),
-        (b"007x", 3, 7),
-        (b"256", 3, 256),
-        (b"257 ", 3, 256),
-        (b"99999999999999999999999", 23, 256),
-    ];
-    for (text, len, number) in rows {
+    for (text, len, number) in DIGITS.iter() {
         let digits = digits_len(text);
-        assert_eq!(rt; digits, len, "in {text:?}");
-        assert_eq!(rt; decimal_up_to(256, &text[..digits]), number, "in {text:?}");
+        let told = (digits, decimal_up_to(256, &text[..digits]));
+        assert_eq!(rt; told, (*len, *number), "in {text:?}");
     }
 }
 
@@ -72,84 +71,122 @@ fn an_input_is_read_up_to_one_byte_more_than_the_limit(rt: HostRuntime) -> Resul
     Ok(())
 }
 
+// What so many reads answer, each of four bytes at most, and the bytes that they gave. None is a read that fails.
+fn read_in_turn<S: Source>(
+    alloc: Global,
+    source: &mut S,
+    times: usize,
+) -> Result<(Vec<Option<usize>>, Bytes), NoMemory> {
+    let mut answers = Vec::new(alloc);
+    let mut bytes = Bytes::new(alloc);
+    for _turn in 0..times {
+        let mut buffer = [0; 4];
+        let moved = source.read(&mut buffer).ok();
+        bytes.push_all(&buffer[..moved.unwrap_or(0)])?;
+        answers.push(moved)?;
+    }
+    Ok((answers, bytes))
+}
+
+/// The longest piece of a source of five bytes, its reads that fail, and what its reads answer in turn.
+static READS: [(usize, &[u64], &[Option<usize>]); 6] = [
+    (2, &[], &[Some(2), Some(2), Some(1), Some(0)]),
+    (3, &[], &[Some(3), Some(2), Some(0)]),
+    (usize::MAX, &[], &[Some(4), Some(1), Some(0)]),
+    (3, &[0, 4], &[Some(3), Some(2), Some(0), None, Some(0)]),
+    (3, &[1], &[None, Some(3), Some(2), Some(0)]),
+    (
+        2,
+        &[4, 1, 2, 4],
+        &[None, None, Some(2), None, Some(2), Some(1), Some(0)],
+    ),
+];
+
 #[test]
 fn a_source_in_memory_gives_pieces_and_fails_at_given_reads(rt: HostRuntime) -> Result<(), Fail> {
-    // None is a read that fails.
-    let rows = [
-        (
-            2,
-            [].as_slice(),
-            [Some(2), Some(2), Some(1), Some(0)].as_slice(),
-        ),
-        (3, &[], &[Some(3), Some(2), Some(0)]),
-        (usize::MAX, &[], &[Some(4), Some(1), Some(0)]),
-        (3, &[0, 4], &[Some(3), Some(2), Some(0), None, Some(0)]),
-        (3, &[1], &[None, Some(3), Some(2), Some(0)]),
-        (
-            2,
-            &[4, 1, 2, 4],
-            &[None, None, Some(2), None, Some(2), Some(1), Some(0)],
-        ),
-    ];
-    for (piece, fails, answers) in rows {
-        let mut source = MemSource::new(rt.alloc(), b"abcde", piece, fails)?;
-        let mut bytes = Bytes::new(rt.alloc());
-        for answer in answers {
-            let mut buffer = [0; 4];
-            let moved = source.read(&mut buffer).ok();
-            assert_eq!(rt; moved, *answer, "at {piece} {fails:?}");
-            bytes.push_all(&buffer[..moved.unwrap_or(0)])?;
-        }
-        assert_eq!(rt; bytes.as_slice(), b"abcde".as_slice());
+    for (piece, fails, want) in READS.iter() {
+        assert!(rt; *piece >= 1);
+        let mut source = MemSource::new(rt.alloc(), b"abcde", *piece, fails)?;
+        let (answers, bytes) = read_in_turn(rt.alloc(), &mut source, want.len())?;
+        let told = (answers.as_slice(), bytes.as_slice());
+        assert_eq!(rt; told, (*want, b"abcde".as_slice()), "at {piece}");
     }
     Ok(())
 }
+
+// What so many writes of seven bytes answer. None is a write that fails.
+fn written_in_turn<S: Sink>(
+    alloc: Global,
+    sink: &mut S,
+    times: usize,
+) -> Result<Vec<Option<usize>>, NoMemory> {
+    let mut answers = Vec::new(alloc);
+    for _turn in 0..times {
+        answers.push(sink.write(b"games 0").ok())?;
+    }
+    Ok(answers)
+}
+
+/// The writes that fail of a sink that takes three bytes a write, what its writes answer in turn, and what it has taken then: nothing
+/// is told once more than its room of seven was taken.
+static WRITES: [(&[u64], &[Option<usize>], Option<&[u8]>); 3] = [
+    (&[], &[Some(3), Some(3), Some(3)], None),
+    (&[2, 9], &[Some(3), None, Some(3)], Some(b"gamgam")),
+    (&[1, 1, 3], &[None, Some(3), None], Some(b"gam")),
+];
 
 #[test]
 fn a_sink_in_memory_takes_pieces_and_fails_at_given_writes(rt: HostRuntime) -> Result<(), Fail> {
     let alloc = rt.alloc();
-    // None is a write that fails; nothing is told once more than the room was taken.
-    let rows = [
-        ([].as_slice(), [Some(3), Some(3), Some(3)].as_slice(), None),
-        (
-            &[2, 9],
-            &[Some(3), None, Some(3)],
-            Some(b"gamgam".as_slice()),
-        ),
-        (&[1, 1, 3], &[None, Some(3), None], Some(b"gam".as_slice())),
-    ];
-    for (fails, answers, taken) in rows {
+    for (fails, want, taken) in WRITES.iter() {
         let mut sink = MemSink::new(alloc, 7, 3, Calls::of(alloc, fails)?)?;
-        for answer in answers {
-            assert_eq!(rt; sink.write(b"games 0").ok(), *answer, "at {fails:?}");
-        }
-        assert!(rt; sink.taken() == taken);
+        let answers = written_in_turn(alloc, &mut sink, want.len())?;
+        assert_eq!(rt; (answers.as_slice(), sink.taken()), (*want, *taken));
     }
     Ok(())
 }
 
-#[test]
-fn a_desk_in_memory_fails_at_given_openings_and_reads(rt: HostRuntime) -> Result<(), Fail> {
-    let alloc = rt.alloc();
+// What a desk answers to openings in turn.
+fn opened_in_turn<D: Desk>(
+    alloc: Global,
+    desk: &mut D,
+    names: &[&[u8]],
+) -> Result<Vec<Result<(), OpenFault>>, NoMemory> {
+    let mut answers = Vec::new(alloc);
+    for name in names {
+        answers.push(desk.open(alloc, name))?;
+    }
+    Ok(answers)
+}
+
+static OPENINGS: [&[u8]; 4] = [b"a.pgn", b"a.pgn", b"b.pgn", b"a.pgn"];
+
+/// The second opening fails, and there is no file `b.pgn`.
+static OPENED: [Result<(), OpenFault>; 4] = [
+    Ok(()),
+    Err(OpenFault::Failed),
+    Err(OpenFault::Failed),
+    Ok(()),
+];
+
+// A desk with a file whose second read fails, and whose second opening does.
+fn failing_desk(alloc: Global) -> Result<MemDesk, NoMemory> {
     let mut desk = MemDesk::new(alloc, Calls::of(alloc, &[2])?);
     desk.add(b"a.pgn", b"none", 1, &[])?;
     desk.add(b"a.pgn", b"abc", 2, &[2])?;
-    let opened = [
-        desk.open(alloc, b"a.pgn"),
-        desk.open(alloc, b"a.pgn"),
-        desk.open(alloc, b"b.pgn"),
-        desk.open(alloc, b"a.pgn"),
-    ];
-    let failed = Err(OpenFault::Failed);
-    assert_eq!(rt; opened, [Ok(()), failed, failed, Ok(())]);
-    let mut buffer = [0; 4];
-    let read = [
-        desk.read(&mut buffer),
-        desk.read(&mut buffer),
-        desk.read(&mut buffer),
-        desk.read(&mut buffer),
-    ];
-    assert_eq!(rt; read, [Ok(2), Err(Failed), Ok(1), Ok(0)]);
+    Ok(desk)
+}
+
+#[test]
+fn a_desk_in_memory_fails_at_given_openings_and_reads(rt: HostRuntime) -> Result<(), Fail> {
+    let mut desk = failing_desk(rt.alloc())?;
+    let opened = opened_in_turn(rt.alloc(), &mut desk, &OPENINGS)?;
+    let (read, _) = read_in_turn(rt.alloc(), &mut desk, 4)?;
+    let want = [Some(2), None, Some(1), Some(0)];
+    assert_eq!(rt;
+        (opened.as_slice(), read.as_slice()),
+        (OPENED.as_slice(), want.as_slice())
+    );
     Ok(())
 }
 
@@ -170,22 +207,19 @@ fn a_sink_in_memory_tells_what_fits_its_room(rt: HostRuntime) -> Result<(), Fail
     Ok(())
 }
 
-// What a desk has in a file, up to 100 bytes.
-fn opened<D: Desk>(alloc: Global, desk: &mut D, name: &[u8]) -> Result<Bytes, Fail> {
-    desk.open(alloc, name)?;
-    Ok(read_up_to(desk, alloc, 100)?)
-}
+/// A name, and the bytes that are read: those that were added last, or none.
+static FILES: [(&[u8], &[u8]); 2] = [(b"a.pgn", b"second"), (b"none.pgn", b"")];
 
 #[test]
 fn a_desk_in_memory_opens_the_files_that_were_added(rt: HostRuntime) -> Result<(), Fail> {
-    let alloc = rt.alloc();
-    let mut desk = SureDesk::new(alloc);
+    let mut desk = SureDesk::new(rt.alloc());
     desk.add(b"a.pgn", b"first")?;
     desk.add(b"a.pgn", b"second")?;
-    let added = opened(alloc, &mut desk, b"a.pgn")?;
-    let other = opened(alloc, &mut desk, b"none.pgn")?;
-    let texts = (added.as_slice(), other.as_slice());
-    assert_eq!(rt; texts, (b"second".as_slice(), b"".as_slice()));
+    for (name, want) in FILES.iter() {
+        desk.open(rt.alloc(), name)?;
+        let (_, bytes) = read_in_turn(rt.alloc(), &mut desk, 3)?;
+        assert_eq!(rt; bytes.as_slice(), *want);
+    }
     Ok(())
 }
 
@@ -195,40 +229,11 @@ fn the_open_gate_does_nothing() {
     OpenGate.leave(0, 0, b"text");
 }
 
+// What the program's desk reads of real files and of standard input, its rows as a process show.
 #[test]
-fn a_desk_reads_a_real_file_and_standard_input(rt: HostRuntime) -> Result<(), Fail> {
-    let alloc = rt.alloc();
-    let name = "cq_outside_desk_test.pgn";
-    fs::write(&rt, name, "in a file")?;
-    let mut desk = FileDesk::new(alloc, rt, b"in a pipe".as_slice())?;
-    let unopened = read_piece(&mut desk, &mut [0; 4])?;
-    let file = opened(alloc, &mut desk, name.as_bytes())?;
-    let pipe = opened(alloc, &mut desk, b"-")?;
-    fs::remove_file(&rt, name)?;
-    let read = (unopened, file.as_slice(), pipe.as_slice());
-    let want = (0, b"in a file".as_slice(), b"in a pipe".as_slice());
-    assert_eq!(rt; read, want);
-    Ok(())
-}
-
-#[test]
-fn a_desk_opens_the_real_file_of_the_name_given(rt: HostRuntime) -> Result<(), Fail> {
-    let alloc = rt.alloc();
-    let (first, second) = ("cq_outside_first_test.pgn", "cq_outside_second_test.pgn");
-    fs::write(&rt, first, "in the first")?;
-    fs::write(&rt, second, "in the second")?;
-    let mut desk = FileDesk::new(alloc, rt, b"".as_slice())?;
-    let read = (
-        opened(alloc, &mut desk, second.as_bytes())?,
-        opened(alloc, &mut desk, first.as_bytes())?,
-    );
-    fs::remove_file(&rt, first)?;
-    fs::remove_file(&rt, second)?;
-    let texts = (read.0.as_slice(), read.1.as_slice());
-    assert_eq!(rt;
-        texts,
-        (b"in the second".as_slice(), b"in the first".as_slice())
-    );
+fn a_desk_that_opened_no_file_has_no_byte(rt: HostRuntime) -> Result<(), Fail> {
+    let mut desk = FileDesk::new(rt.alloc(), rt, b"in a pipe".as_slice())?;
+    assert_eq!(rt; read_piece(&mut desk, &mut [0; 4]), Ok(0));
     Ok(())
 }
 

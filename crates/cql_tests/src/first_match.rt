@@ -1,17 +1,19 @@
 //! Batches up to their first match, by one and by many workers.
 use crate::plans::plan_of;
+use crate::workers::batch_of;
 use cq_outside::{Bytes, Gate, NoMemory, OpenGate};
 use cq_shards::{Answer, Batch, run_first};
 use cql_plan::Plan;
-use pgn_cut::cut_whole;
 use std::alloc::Global;
 use std::process::Abort;
 use std::sync::atomic::{AtomicU32, Ordering};
 use std::test::Fail;
 use std::thread::Threads;
 
-/// How many games a batch has.
+/// How many games a batch has, and the number of the first.
 const GAMES: u32 = 300;
+
+const FIRST: u64 = 1000;
 
 // An archive, of which those games whose number is among some match, and every tenth is faulty.
 fn archive_of(alloc: Global, matches: &[u32]) -> Result<Bytes, NoMemory> {
@@ -27,14 +29,6 @@ fn archive_of(alloc: Global, matches: &[u32]) -> Result<Bytes, NoMemory> {
         archive.push_all(game)?;
     }
     Ok(archive)
-}
-
-// The batch of all games of an archive, which are numbered from 1,000 on.
-fn batch_of<R: Abort>(rt: &R, alloc: Global, archive: &[u8]) -> Result<Batch, NoMemory> {
-    assert!(rt; archive.len() < 1 << 20);
-    let spans = cut_whole(alloc, archive)?;
-    assert!(rt; spans.len() <= 300);
-    Batch::of(alloc, archive, spans.as_slice(), 1000)
 }
 
 // Asks for the answers of the first `count` games in order, the last of them a match where some game is one.
@@ -56,7 +50,7 @@ fn expect<R: Threads + Sync + Abort>(
         let is_last = number + 1 == count;
         assert_eq!(rt;
             (answer.index, is_match),
-            (1000 + number as u64, has_match && is_last)
+            (FIRST + number as u64, has_match && is_last)
         );
     }
     Ok(())
@@ -75,7 +69,7 @@ fn a_batch_ends_with_its_first_match(rt: HostRuntime) -> Result<(), Fail> {
     ];
     for (matches, count) in rows {
         let archive = archive_of(alloc, matches)?;
-        let batch = batch_of(&rt, alloc, archive.as_slice())?;
+        let batch = batch_of(&rt, alloc, archive.as_slice(), FIRST)?;
         for workers in [1, 2, 3, 4, 64] {
             expect(
                 &rt,
@@ -114,7 +108,7 @@ fn a_skipped_game_is_not_read(rt: HostRuntime) -> Result<(), Fail> {
     let alloc = rt.alloc();
     let plan = plan_of(alloc, b"cql() mate")?;
     let archive = archive_of(alloc, &[40])?;
-    let batch = batch_of(&rt, alloc, archive.as_slice())?;
+    let batch = batch_of(&rt, alloc, archive.as_slice(), FIRST)?;
     let gate = Counts {
         enters: AtomicU32::new(0),
         leaves: AtomicU32::new(0),

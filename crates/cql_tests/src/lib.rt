@@ -4,8 +4,6 @@
 #[cfg(test)]
 mod first_match;
 #[cfg(test)]
-mod kinds;
-#[cfg(test)]
 mod lexer;
 #[cfg(test)]
 mod parser;
@@ -17,8 +15,6 @@ mod plans;
 mod played;
 #[cfg(test)]
 mod reports;
-#[cfg(test)]
-mod rewrite;
 #[cfg(test)]
 mod shards;
 #[cfg(test)]

@@ -3,20 +3,22 @@ use cq_symmetry::{Family, Mapping, SquarePart, changes_light, image, image_compa
 
 fn may_be_shared<T: Send + Sync>(_value: &T) {}
 
+/// A family, and how many mappings it has.
+static FAMILIES: [(Family, u32); 8] = [
+    (Family::Flip, 8),
+    (Family::Rotate90, 4),
+    (Family::FlipVertical, 2),
+    (Family::FlipHorizontal, 2),
+    (Family::FlipColor, 2),
+    (Family::Shift, 15 * 15),
+    (Family::ShiftHorizontal, 15),
+    (Family::ShiftVertical, 15),
+];
+
 #[test]
 fn families_have_as_many_mappings(rt: HostRuntime) {
-    let cases = [
-        (Family::Flip, 8),
-        (Family::Rotate90, 4),
-        (Family::FlipVertical, 2),
-        (Family::FlipHorizontal, 2),
-        (Family::FlipColor, 2),
-        (Family::Shift, 15 * 15),
-        (Family::ShiftHorizontal, 15),
-        (Family::ShiftVertical, 15),
-    ];
-    for (family, members) in cases {
-        assert_eq!(rt; size(family), members, "{family:?}");
+    for (family, members) in FAMILIES.iter() {
+        assert_eq!(rt; size(*family), *members, "{family:?}");
     }
 }
 

@@ -1,29 +1,39 @@
+//! The words of the language and its signs.
 use cql_syntax::{Plain, Sign, Word, is_reserved, mark_number, sign_of, word_number, word_of};
+
+/// A word, its number where the language has it, and whether it is reserved.
+static WORDS: [(&[u8], Option<u16>, bool); 11] = [
+    (b"cql", Some(0), false),
+    (b"input", Some(1), false),
+    (b"output", Some(2), false),
+    (b"check", Some(5), false),
+    (b"result", Some(19), false),
+    (b"up", Some(45), false),
+    (b"comment", Some(68), false),
+    (b"move", Some(69), false),
+    (b"promote", Some(73), false),
+    (b"echo", None, true),
+    (b"", None, false),
+];
 
 #[test]
 fn words_have_the_numbers_of_their_places(rt: HostRuntime) {
-    let rows = [
-        (b"cql".as_slice(), Some(0)),
-        (b"input".as_slice(), Some(1)),
-        (b"output".as_slice(), Some(2)),
-        (b"check".as_slice(), Some(5)),
-        (b"result".as_slice(), Some(19)),
-        (b"up".as_slice(), Some(45)),
-        (b"comment".as_slice(), Some(68)),
-        (b"move".as_slice(), Some(69)),
-        (b"promote".as_slice(), Some(73)),
-        (b"echo".as_slice(), None),
-        (b"".as_slice(), None),
-    ];
-    for (text, number) in rows {
-        assert_eq!(rt; word_number(text), number, "at {text:?}");
+    for (text, number, reserved) in WORDS.iter() {
+        let told = (word_number(text), is_reserved(text));
+        assert_eq!(rt; told, (*number, *reserved), "at {text:?}");
     }
-    assert!(rt; is_reserved(b"echo"));
-    assert!(rt; !is_reserved(b"move"));
-    assert_eq!(rt; word_of(5), Some(Word::Plain(Plain::Check)));
-    assert_eq!(rt; word_of(74), None);
-    assert_eq!(rt; mark_number(b"<--"), Some(1));
-    assert_eq!(rt; sign_of(1), Some(Sign::BackArrow));
-    assert_eq!(rt; Word::Plain(Plain::Check).text(), b"check".as_slice());
-    assert_eq!(rt; Sign::BackArrow.text(), b"<--".as_slice());
+}
+
+#[test]
+fn numbers_have_their_words_and_signs(rt: HostRuntime) {
+    let word = Word::Plain(Plain::Check);
+    assert_eq!(rt; (word_of(5), word_of(74)), (Some(word), None));
+    assert_eq!(rt;
+        (mark_number(b"<--"), sign_of(1)),
+        (Some(1), Some(Sign::BackArrow))
+    );
+    assert_eq!(rt;
+        (word.text(), Sign::BackArrow.text()),
+        (b"check".as_slice(), b"<--".as_slice())
+    );
 }

@@ -1,9 +1,9 @@
-//! Workers side by side at one batch, and archives of several batches.
-ghost use Rattle.std.specs.Prelude.{◌≤◌, ◌<◌, ◌^◌, length};
+//! Workers side by side at one batch, and how many games the batches of an archive have.
+ghost use Rattle.std.specs.Prelude.{◌≤◌};
 
 use crate::plans::plan_of;
 use cq_outside::{Bytes, Gate, MemSource, NoMemory, OpenGate, Refusal};
-use cq_shards::{Batch, BatchFault, Batches, in_order, run_batch};
+use cq_shards::{Batch, BatchFault, Batches, run_batch};
 use cql_plan::Plan;
 use pgn_cut::cut_whole;
 use std::alloc::Global;
@@ -33,15 +33,13 @@ fn push_export(text: &mut Bytes, number: u32) -> Result<(), NoMemory> {
     text.push_all(b"} {CQL} *\n\n")
 }
 
-// An archive of so many games, and the exports of all of them.
-fn archive_of(alloc: Global, games: u32) -> Result<(Bytes, Bytes), NoMemory> {
+// An archive of so many games.
+fn archive_of(alloc: Global, games: u32) -> Result<Bytes, NoMemory> {
     let mut archive = Bytes::new(alloc);
-    let mut text = Bytes::new(alloc);
     for number in 0..games {
         push_game(&mut archive, number)?;
-        push_export(&mut text, number)?;
     }
-    Ok((archive, text))
+    Ok(archive)
 }
 
 // ---- two workers at a gate
@@ -153,12 +151,19 @@ impl Gate for Watch {
     }
 }
 
-// The batch of all games of an archive.
-fn batch_of<R: Abort>(rt: &R, alloc: Global, archive: &[u8]) -> Result<Batch, NoMemory> {
+/// The batch of all games of an archive, of which the first has this number.
+pub(crate) fn batch_of<R: Abort>(
+    rt: &R,
+    alloc: Global,
+    archive: &[u8],
+    first: u64,
+) -> Result<Batch, NoMemory>
+    requires { first ≤ 1000 }
+{
     assert!(rt; archive.len() < 1 << 20);
     let spans = cut_whole(alloc, archive)?;
-    assert!(rt; spans.len() <= 64);
-    Batch::of(alloc, archive, spans.as_slice(), 0)
+    assert!(rt; spans.len() <= 300);
+    Batch::of(alloc, archive, spans.as_slice(), first)
 }
 
 // Asks that two workers enter and leave each game of a batch once.
@@ -168,8 +173,8 @@ fn expect_both<R: Threads + Sync + Abort>(
     plan: &Plan,
     at_enter: bool,
 ) -> Result<(), Fail> {
-    let (archive, _) = archive_of(alloc, WATCHED)?;
-    let batch = batch_of(rt, alloc, archive.as_slice())?;
+    let archive = archive_of(alloc, WATCHED)?;
+    let batch = batch_of(rt, alloc, archive.as_slice(), 0)?;
     let watch = Watch::new(alloc, at_enter)?;
     let answers = run_batch(rt, alloc, plan, &batch, 2, &watch)?;
     assert_eq!(rt; (answers.len(), watch.calls()), (64, (64, 64, 0)));
@@ -192,7 +197,7 @@ fn one_worker_takes_the_rest(rt: HostRuntime) -> Result<(), Fail> {
 fn an_empty_batch_has_no_answers(rt: HostRuntime) -> Result<(), Fail> {
     let alloc = rt.alloc();
     let plan = plan_of(alloc, b"cql() initial")?;
-    let batch = batch_of(&rt, alloc, b"")?;
+    let batch = batch_of(&rt, alloc, b"", 0)?;
     let answers = run_batch(&rt, alloc, &plan, &batch, 64, &OpenGate)?;
     assert_eq!(rt; (batch.len(), answers.len()), (0, 0));
     Ok(())
@@ -200,124 +205,72 @@ fn an_empty_batch_has_no_answers(rt: HostRuntime) -> Result<(), Fail> {
 
 // ---- batch after batch
 
-/// How many games an archive has, how many bytes of it one read gives at most, how many workers answer, and how many games its
-/// batches have.
-type Row<'a> = (u32, usize, u32, &'a [u32]);
-
-static ROWS: [Row<'static>; 5] = [
-    (1023, 65_536, 1, &[1023]),
-    (1024, 4096, 2, &[1024]),
-    (1025, 1, 3, &[1024, 1]),
-    (2048, 7, 4, &[1024, 1024]),
-    (2049, 65_536, 64, &[1024, 1024, 1]),
+/// How many games an archive has, how many bytes of it one read gives at most, and how many games its batches have. That their games are
+/// answered in order by any number of workers, the process's rows show.
+static ROWS: [(u32, usize, &[u32]); 5] = [
+    (1023, 65_536, &[1023]),
+    (1024, 4096, &[1024]),
+    (1025, 1, &[1024, 1]),
+    (2048, 7, &[1024, 1024]),
+    (2049, 65_536, &[1024, 1024, 1]),
 ];
 
-// How many games the batches of a source have, and the exports of its games, in order.
-fn answered<R: Threads + Sync>(
-    rt: &R,
-    alloc: Global,
-    plan: &Plan,
-    source: MemSource,
-    workers: u32,
-) -> Result<(Vec<u32>, Bytes), Refusal<BatchFault>>
-    requires { (1 ≤ workers) × (workers ≤ 64) }
-{
+// How many games the batches of a source have.
+fn sizes_of(alloc: Global, source: MemSource) -> Result<Vec<u32>, Refusal<BatchFault>> {
     let mut source = source;
     let mut batches = Batches::new(alloc, 1 << 40);
     let mut sizes = Vec::new(alloc);
-    let mut text = Bytes::new(alloc);
     for _turn in 0..8 {
         let batch = match batches.next(&mut source) {
             Ok(Some(batch)) => batch,
-            Ok(None) => return Ok((sizes, text)),
+            Ok(None) => return Ok(sizes),
             Err(refusal) => return Err(refusal),
         };
         sizes.push(batch.len())?;
-        push_answers(rt, alloc, plan, &batch, workers, &mut text)?;
     }
     Err(Refusal::Fault(BatchFault::ArchiveTooLong))
 }
 
-// Adds the exports of the games of a batch, in order.
-fn push_answers<R: Threads + Sync>(
+// Asks that an archive that comes in pieces of so many bytes has batches of these sizes.
+fn expect<R: Abort>(
     rt: &R,
     alloc: Global,
-    plan: &Plan,
-    batch: &Batch,
-    workers: u32,
-    text: &mut Bytes,
-) -> Result<(), NoMemory>
-    requires { (1 ≤ workers) × (workers ≤ 64) }
-{
-    let answers = run_batch(rt, alloc, plan, batch, workers, &OpenGate)?;
-    for answer in in_order(alloc, answers)?.iter() {
-        text.push_all(answer.text())?;
-    }
-    Ok(())
-}
-
-// Asks that an archive that comes in pieces of so many bytes has batches of these sizes, and that so many workers give these exports.
-fn expect<R: Threads + Sync + Abort>(
-    rt: &R,
-    alloc: Global,
-    plan: &Plan,
     archive: &[u8],
-    row: Row<'_>,
-    want: &[u8],
+    piece: usize,
+    games: &[u32],
 ) -> Result<(), Fail> {
-    let (_, piece, workers, games) = row;
     assert!(rt; piece >= 1);
-    assert!(rt; workers >= 1);
-    assert!(rt; workers <= 64);
     let source = MemSource::new(alloc, archive, piece, &[])?;
-    let (sizes, text) = answered(rt, alloc, plan, source, workers)?;
-    let found = (sizes.as_slice(), text.as_slice() == want);
-    assert_eq!(rt;
-        found,
-        (games, true),
-        "pieces of {piece} bytes, {workers} workers"
-    );
+    let sizes = sizes_of(alloc, source)?;
+    assert_eq!(rt; sizes.as_slice(), games, "in pieces of {piece} bytes");
     Ok(())
 }
 
 #[test]
-fn batches_have_their_games_and_answers(rt: HostRuntime) -> Result<(), Fail> {
-    let alloc = rt.alloc();
-    let plan = plan_of(alloc, b"cql() initial")?;
-    for row in ROWS.iter() {
-        let (archive, text) = archive_of(alloc, row.0)?;
-        expect(&rt, alloc, &plan, archive.as_slice(), *row, text.as_slice())?;
+fn batches_have_their_games(rt: HostRuntime) -> Result<(), Fail> {
+    for (count, piece, games) in ROWS.iter() {
+        let archive = archive_of(rt.alloc(), *count)?;
+        expect(&rt, rt.alloc(), archive.as_slice(), *piece, games)?;
     }
     Ok(())
+}
+
+// Five games, of which the second has more than 16 MiB.
+fn long_archive(alloc: Global) -> Result<Bytes, NoMemory> {
+    let mut archive = Bytes::from_slice(alloc, b"{0} *\n{")?;
+    for _ in 0..4096 {
+        archive.push_all(&[b'a'; 4096])?;
+    }
+    archive.push_all(b"} *\n{2} *\n{3} *\n{4} *\n")?;
+    Ok(archive)
 }
 
 // Of a game that is too long no more is kept than shows this, and that fills its batch.
 #[test]
 fn a_long_game_fills_its_batch(rt: HostRuntime) -> Result<(), Fail> {
-    let alloc = rt.alloc();
-    let plan = plan_of(alloc, b"cql() initial")?;
-    let mut archive = Bytes::new(alloc);
-    let mut text = Bytes::new(alloc);
-    push_game(&mut archive, 0)?;
-    push_export(&mut text, 0)?;
-    archive.push_all(b"{")?;
-    for _ in 0..4096 {
-        archive.push_all(&[b'a'; 4096])?;
-    }
-    archive.push_all(b"} *\n")?;
-    for number in 2..5 {
-        push_game(&mut archive, number)?;
-        push_export(&mut text, number)?;
-    }
-    for (piece, workers) in [(4096, 1), (65_536, 4)] {
-        expect(
-            &rt,
-            alloc,
-            &plan,
-            archive.as_slice(),
-            (5, piece, workers, &[2, 3]),
-            text.as_slice(),
-        )?;
+    let archive = long_archive(rt.alloc())?;
+    for piece in [4096, 65_536] {
+        expect(&rt, rt.alloc(), archive.as_slice(), piece, &[2, 3])?;
     }
     Ok(())
 }
