@@ -1,7 +1,7 @@
 use cq_outside::{
-    Bytes, Calls, Desk, Failed, FileDesk, Gate, MemDesk, MemSink, MemSource, NoMemory, OpenFault, OpenGate,
-    Sink, Source, StdSink, SureDesk, SureSink, SureSource, decimal_up_to, digits_len, is_white,
-    read_piece, read_up_to, white_len, write_all_of,
+    Bytes, Calls, Desk, Failed, FileDesk, Gate, MemDesk, MemSink, MemSource, NoMemory, OpenFault,
+    OpenGate, Sink, Source, StdSink, SureDesk, SureSink, SureSource, decimal_up_to, digits_len,
+    is_white, read_piece, read_up_to, white_len, write_all_of,
 };
 use std::alloc::Global;
 use std::fs;

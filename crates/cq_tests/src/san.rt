@@ -104,10 +104,7 @@ static READ: [(&[u8], &[Text<'static>]); 9] = [
     ),
     (
         b"r3k2r/8/8/8/8/8/8/R3K2R b KQkq - 0 1",
-        &[
-            (b"0-0", Ok(*b"e8g8 ")),
-            (b"O-O-O", Ok(*b"e8c8 ")),
-        ],
+        &[(b"0-0", Ok(*b"e8g8 ")), (b"O-O-O", Ok(*b"e8c8 "))],
     ),
     (
         b"1r5k/P7/8/8/8/8/8/4K3 w - - 0 1",
@@ -168,26 +165,9 @@ fn rewritten(position: &Position, text: &[u8]) -> Result<ArrayString<8>, SanFaul
 
 /// Positions with texts, and how the moves that these mean are written.
 static WRITTEN: [(&[u8], &[(&[u8], &str)]); 4] = [
-    (
-        START,
-        &[
-            (b"e2e4", "e4"),
-            (b"Ng1-f3", "Nf3"),
-            (b"--", "--"),
-        ],
-    ),
-    (
-        b"4r2k/8/8/8/4N3/8/8/1N2K3 w - - 0 1",
-        &[
-            (b"Nd2", "Nd2"),
-        ],
-    ),
-    (
-        b"7k/P7/8/8/8/8/8/K7 w - - 0 1",
-        &[
-            (b"a8Q", "a8=Q+"),
-        ],
-    ),
+    (START, &[(b"e2e4", "e4"), (b"Ng1-f3", "Nf3"), (b"--", "--")]),
+    (b"4r2k/8/8/8/4N3/8/8/1N2K3 w - - 0 1", &[(b"Nd2", "Nd2")]),
+    (b"7k/P7/8/8/8/8/8/K7 w - - 0 1", &[(b"a8Q", "a8=Q+")]),
     (
         b"r3k2r/8/8/3pP3/8/8/8/R3K2R w KQkq d6 0 1",
         &[

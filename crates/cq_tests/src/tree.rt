@@ -38,7 +38,6 @@ fn notes_of(alloc: Global, glyph: u8, comment: &[u8]) -> Result<Notes, NoMemory>
 }
 
 // A game whose side to move passes, with notes at both nodes.
-#[tactic(auto, using(crate::proofs::Roots::on_its_way))]
 fn passed_game(alloc: Global) -> Result<Game, NoMemory> {
     let start = Position::start();
     let notes = notes_of(alloc, 14, b"\tone  two\n")?;
