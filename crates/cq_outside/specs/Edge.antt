@@ -5,33 +5,41 @@ use Rattle.cq_outside.specs.declared.faults.OpenFault.{OpenFault}
 use Rattle.cq_outside.specs.declared.edge.Current.{Current}
 use Rattle.cq_outside.specs.declared.edge.Current.TheVariants.{Nothing, Input, File}
 
+-- a stream that is read: the bytes that are left of it, and how many reads it was asked for, each where its reader tells
+pub record Stream : Type 0 where
+  pub left : Option (List ℕ)
+  pub reads : Option ℕ
+
 -- A desk over the real files: how many reads and opens have failed, how many openings the system was asked for, where it
--- tells, the bytes left of standard input, and what is open, a file with the bytes left of it. Bytes are known where their
--- reader tells them.
+-- tells, standard input, and what is open, a file with its stream.
 pub record RealDesk : Type 0 where
   pub read_faults : ℕ
   pub open_faults : ℕ
   pub openings : Option ℕ
-  pub input : Option (List ℕ)
-  pub current : Current (Option (List ℕ))
+  pub input : Stream
+  pub current : Current Stream
+
+-- the stream that is open: where nothing is open, one that is at its end and tells no reads
+abbrev pub open_stream : RealDesk → Stream
+open_stream desk = elim desk.current [ Nothing ↦ record { left = Some []; reads = None } | Input ↦ desk.input | File stream ↦ stream ]
 
 -- the bytes that are left of what is open, where its reader tells them: none where nothing is open
 abbrev pub left_of : RealDesk → Option (List ℕ)
-left_of desk = elim desk.current [ Nothing ↦ Some [] | Input ↦ desk.input | File left ↦ left ]
+left_of desk = (open_stream desk).left
 
--- the same desk once these bytes are left of what is open
-abbrev pub with_left : RealDesk → Option (List ℕ) → RealDesk
-with_left desk left = elim desk.current [
+-- the same desk once what is open is this stream
+abbrev pub with_stream : RealDesk → Stream → RealDesk
+with_stream desk stream = elim desk.current [
   | Nothing ↦ desk
-  | Input ↦ record desk { input = left; current = Input }
-  | File _ ↦ record desk { current = File left }
+  | Input ↦ record desk { input = stream; current = Input }
+  | File _ ↦ record desk { current = File stream }
 ]
 
--- a desk after some list of reads, none included: the count of faults did not fall, and of all else only the bytes left of
--- what is open may have changed
+-- a desk after some list of reads, none included: the count of faults did not fall, and of all else only the stream that is
+-- open may have changed
 abbrev pub ReadsOn : RealDesk → RealDesk → Type 0
 ReadsOn before now =
-    (before.read_faults ≤ now.read_faults) × (now ≡ with_left (record before { read_faults = now.read_faults }) (left_of now))
+    (before.read_faults ≤ now.read_faults) × (now ≡ with_stream (record before { read_faults = now.read_faults }) (open_stream now))
 
 -- one more was counted, where it is told
 abbrev pub IsOneMore : Option ℕ → Option ℕ → Type 0
@@ -46,14 +54,14 @@ pub record IsAskedOnce (name : List ℕ) (before now : Option ℕ) : Type 0 wher
   pub no_text : (IsUtf8 name → ⊥) → now ≡ before
 
 -- what is open once a name was opened: standard input for `-`, for any other name a file
-abbrev pub IsOpened : List ℕ → Current (Option (List ℕ)) → Type 0
+abbrev pub IsOpened : List ℕ → Current Stream → Type 0
 IsOpened name Nothing = ⊥
 IsOpened name Input = name ≡ codes "-"
 IsOpened name (File _) = name ≡ codes "-" → ⊥
 
--- what reads of a stream give, by the bytes left of it; what writes give, by the bytes that it holds and those that are written
+-- what reads of a stream give; what writes give, by the bytes that the stream holds and those that are written
 abbrev pub Reads : Type 1
-Reads = Option (List ℕ) → Result ℕ Failed → Type 0
+Reads = Stream → Result ℕ Failed → Type 0
 
 abbrev pub Writes : Type 1
 Writes = Option (List ℕ) → List ℕ → Result ℕ Failed → Type 0
@@ -61,16 +69,16 @@ Writes = Option (List ℕ) → List ℕ → Result ℕ Failed → Type 0
 -- A read of the desk answers what the one read gave of what is open; where nothing is open there is nothing to read.
 abbrev pub IsReadOf : Reads → Reads → RealDesk → Result ℕ Failed → Type 0
 IsReadOf of_input of_file desk result =
-    elim desk.current [ Nothing ↦ result ≡ Ok 0 | Input ↦ of_input desk.input result | File left ↦ of_file left result ]
+    elim desk.current [ Nothing ↦ result ≡ Ok 0 | Input ↦ of_input desk.input result | File stream ↦ of_file stream result ]
 
 -- what is open is standard input, or the file that was opened by this name
-abbrev pub IsFileOf : (List ℕ → Option (List ℕ) → Type 0) → List ℕ → Current (Option (List ℕ)) → Type 0
+abbrev pub IsFileOf : (List ℕ → Stream → Type 0) → List ℕ → Current Stream → Type 0
 IsFileOf opened name Nothing = ⊥
 IsFileOf opened name Input = name ≡ codes "-"
-IsFileOf opened name (File left) = opened name left
+IsFileOf opened name (File stream) = opened name stream
 
 -- A name could be opened, or the system refused the file of this name; a name that is no text names no file.
-abbrev pub IsOpenedBy : (List ℕ → Option (List ℕ) → Type 0) → (List ℕ → Type 0) → List ℕ → RealDesk
+abbrev pub IsOpenedBy : (List ℕ → Stream → Type 0) → (List ℕ → Type 0) → List ℕ → RealDesk
     → Result (Unit {0}) OpenFault → Type 0
 IsOpenedBy opened refused name desk (Ok _) = IsFileOf opened name desk.current
 IsOpenedBy opened refused name desk (Err _) = IsUtf8 name → refused name

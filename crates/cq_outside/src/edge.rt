@@ -2,7 +2,7 @@
 //! readers and the writer that they stand on tell theirs. Each call answers what one call of the system gave.
 ghost use Rattle.std.specs.Prelude.{◌≡◌, ◌≤◌, ◌<◌, None, length, codes, IfOk, IfSome, IsOk, IsNone, OnOk, OnErr, IsUtf8};
 ghost use Rattle.std.specs.Io.KnownBytes.{ReadConsumes, WriteAppends};
-ghost use Rattle.cq_outside.specs.Edge.{left_of, with_left, IsAskedOnce, IsOneMore, IsOpened, IsReadOf, IsOpenedBy, IsWriteOf, ReadsOn};
+ghost use Rattle.cq_outside.specs.Edge.{left_of, open_stream, with_stream, IsAskedOnce, IsOneMore, IsOpened, IsReadOf, IsOpenedBy, IsWriteOf, ReadsOn};
 ghost use Rattle.cq_outside.specs.Faults.{HasCause, counted};
 ghost use Rattle.cq_outside.specs.declared.edge.Current.TheVariants.{Nothing};
 
@@ -28,7 +28,8 @@ enum Current<F> {
 
 /// A desk over the real files, which opens the name `-` as standard input. A name that is not UTF-8 has no
 /// file. Contracts see its counts of faults, each of which stops at the last value of a `u64`, how many openings its files were
-/// asked for, where they tell, what is open, and the bytes left of it and of standard input, where their readers tell them.
+/// asked for, where they tell, what is open, and of it and of standard input the bytes left and how many reads were asked for,
+/// where their readers tell them.
 #[derive(Drop)]
 pub struct FileDesk<R: Folder, I: Reader> {
     files: R,
@@ -48,8 +49,12 @@ impl<R: Folder, I: Reader> Model for FileDesk<R, I> {
       read_faults = d.read_faults;
       open_faults = d.open_faults;
       openings = R.openings d.files;
-      input = I.left d.input;
-      current = elim d.current [ Nothing ↦ Nothing | Input ↦ Input | File file ↦ File (R.File.left file) ];
+      input = record { left = I.left d.input; reads = I.reads d.input };
+      current = elim d.current [
+        | Nothing ↦ Nothing
+        | Input ↦ Input
+        | File file ↦ File (record { left = R.File.left file; reads = R.File.reads file })
+      ];
     } };
 }
 
@@ -61,7 +66,7 @@ impl<R: Folder, I: Reader> FileDesk<R, I> {
           read_faults = 0;
           open_faults = 0;
           openings = R.openings files;
-          input = I.left input;
+          input = record { left = I.left input; reads = I.reads input };
           current = Nothing;
         }) }
     {
@@ -86,7 +91,8 @@ impl<R: Folder, I: Reader> Source for FileDesk<R, I> {
         ensures bound { IfOk result (λ n. n ≤ length buf.old) }
         ensures bytes { ReadConsumes (left_of self.old) (left_of self.new) result buf.new }
         ensures cause { HasCause self.old.read_faults self.new.read_faults result }
-        ensures same { self.new ≡ with_left (record self.old { read_faults = counted self.old.read_faults result }) (left_of self.new) }
+        ensures same { self.new ≡ with_stream (record self.old { read_faults = counted self.old.read_faults result }) (open_stream self.new) }
+        ensures asked { IsOneMore (open_stream self.old).reads (open_stream self.new).reads }
         ensures gave { IsReadOf I.gave R.File.gave self.old result }
     {
         let moved = match &mut self.current {
@@ -152,7 +158,8 @@ impl<R: Folder, I: Reader> Desk for FileDesk<R, I> {
 
 // The file of this name, opened for reading. A name that is not UTF-8 has none.
 fn file_named<R: Folder>(files: &mut R, name: &[u8]) -> Option<R::File>
-    ensures opened { IfSome result (λ file. IsUtf8 name.now × R.opened name.now (R.File.left file)) }
+    ensures opened { IfSome result (λ file. IsUtf8 name.now
+        × R.opened name.now (record { left = R.File.left file; reads = R.File.reads file })) }
     ensures refused { IsNone result → IsUtf8 name.now → R.refused name.now }
     ensures text { IsUtf8 name.now → IsOneMore (R.openings files.old) (R.openings files.new) }
     ensures no_text { (IsUtf8 name.now → ⊥) → R.openings files.new ≡ R.openings files.old }

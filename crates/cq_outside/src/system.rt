@@ -5,7 +5,7 @@ ghost use Rattle.std.specs.Prelude.{◌≤◌, List, ℕ, None, Option, Result, 
 ghost use Rattle.std.specs.Io.KnownBytes.{ReadConsumes, WriteAppends};
 ghost use Rattle.std.specs.String.{string_bytes};
 ghost use Rattle.std.specs.Vec.Iter.{into_iter_items};
-ghost use Rattle.cq_outside.specs.Edge.{IsOneMore};
+ghost use Rattle.cq_outside.specs.Edge.{IsOneMore, Stream};
 ghost use Rattle.cq_outside.specs.declared.faults.Failed.{Failed as Failure};
 ghost use Rattle.cq_outside.specs.declared.system.WordsFault.{WordsFault as Fault};
 
@@ -20,18 +20,24 @@ pub trait Reader: Drop {
     /// The bytes that are left, where the reader tells them.
     ghost left: { Self → Option (List ℕ) };
 
-    /// What one read gave of a reader with these bytes left.
-    ghost gave: { Option (List ℕ) → Result ℕ Failure → Type 0 };
+    /// How many reads the reader was asked for, where it tells.
+    ghost reads: { Self → Option ℕ };
+
+    /// What one read gave of a reader in this state.
+    ghost gave: { Stream → Result ℕ Failure → Type 0 };
 
     /// Reads once, some bytes to the start of `buf`. An interrupted read has failed, as any other error does.
     fn read_once(&mut self, buf: &mut [u8]) -> Result<usize, Failed>
         ensures bound { IfOk result (λ n. n ≤ length buf.old) }
         ensures bytes { ReadConsumes (left self.old) (left self.new) result buf.new }
-        ensures gave { gave (left self.old) result };
+        ensures gave { gave (record { left = left self.old; reads = reads self.old }) result }
+        ensures counted { IsOneMore (reads self.old) (reads self.new) };
 }
 
 impl<I: Read + Drop> Reader for I {
     ghost left = { I.remaining };
+
+    ghost reads = { λ _. None };
 
     ghost gave = { λ _ _. Unit {0} };
 
@@ -69,8 +75,8 @@ impl<W: Write + Drop> Writer for W {
 pub trait Folder: Drop {
     type File: Reader;
 
-    /// A file of this name was opened, and these bytes are left of it where its reader tells them.
-    ghost opened: { List ℕ → Option (List ℕ) → Type 0 };
+    /// A file of this name was opened, in this state.
+    ghost opened: { List ℕ → Stream → Type 0 };
 
     /// No file of this name could be opened.
     ghost refused: { List ℕ → Type 0 };
@@ -80,7 +86,7 @@ pub trait Folder: Drop {
 
     /// Opens the file of this name for reading.
     fn open_file(&mut self, name: &str) -> Result<Self::File, Failed>
-        ensures opened { IfOk result (λ file. opened name.now (Self.File.left file)) }
+        ensures opened { IfOk result (λ file. opened name.now (record { left = Self.File.left file; reads = Self.File.reads file })) }
         ensures refused { OnErr result (refused name.now) }
         ensures counted { IsOneMore (openings self.old) (openings self.new) };
 }

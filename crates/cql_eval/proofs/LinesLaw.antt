@@ -199,11 +199,11 @@ line_costs nodes (Line' back primary extent cs) = refl
 pub atoms_within : (nodes : ℕ) (l : OneLine) (before now : ℕ) → now ≤ before + parts_cost nodes (parts_tree (out-Line l).parts) → now ≤ before + line_cost nodes (line_tree l)
 atoms_within nodes l before now h = omega (arith, line_costs nodes l, h)
 
-pub looks_in : (tree : SearchedTree) (l : OneLine) (before now later atoms : ℕ) (spots : List Spot)
+pub looks_within : (tree : SearchedTree) (l : OneLine) (before now later atoms : ℕ) (spots : List Spot)
     → spots ≡ map (spot_at tree) (numbers tree.game.nodes) → atoms ≡ parts_atoms (parts_tree (out-Line l).parts)
     → now ≤ before + parts_cost (searched_len tree) (parts_tree (out-Line l).parts) → later ≤ now + atoms * searched_count spots
     → later ≤ before + line_cost (searched_len tree) (line_tree l)
-looks_in tree l before now later atoms spots is count h more =
+looks_within tree l before now later atoms spots is count h more =
     omega (arith, line_costs (searched_len tree) l, h, more, ap (λ k. atoms * k) (spots_searched tree spots is), ap (λ a. a * searched_len tree) count)
 
 same_words : {A : Type 0} (d : A) (j m : ℕ) → get_or (replicate j d) m d ≡ d

@@ -4,8 +4,8 @@ ghost use Rattle.cql_syntax.specs.Trees.{FilterTrees};
 ghost use Rattle.cql_eval.specs.AtomsAround.{looks_in};
 ghost use Rattle.cql_eval.specs.Costs.{filters_cost};
 
-/// What filters cost at most is a sum over the atoms of their lines: for each a look at each searched node, 64 times for each `square`
-/// around it.
+/// What flat filters cost at most is a sum over the atoms of their lines: for each a look at each searched node, 64 times for each
+/// `square` around it. The equation holds of all filters, but a family counts nothing in it, and flat filters have none.
 #[tactic(auto, using(crate::proofs::CostSums::costs_are_looks))]
 pub fn costs_are_sums()
     ensures { (searched : ℕ) (items : FilterTrees) → filters_cost searched items ≡ looks_in searched items }

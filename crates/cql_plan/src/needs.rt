@@ -13,6 +13,7 @@ use cq_position::{Man, Position};
 use cql_syntax::{Chain, Designator, Filter, Filters, Form, Kind};
 use cql_values::headers::{has_text, is_result};
 use cql_values::walks::is_searched;
+use cql_values::words::has_man;
 use pgn_tree::Game;
 
 /// Whether a game has what each of the items of a query needs. Its positions are looked at only where men are needed, up to the first in
@@ -83,11 +84,14 @@ fn one_stands(designator: &Designator, look: &Look) -> bool
     some_stands(designator.men, look)
 }
 
+// How many men there are: the empty square is the last of the list.
+const TWELVE: usize = 12;
+
 // Whether one of some men stands in a searched position.
 fn some_stands(men: u16, look: &Look) -> bool
     ensures { result ≡ spec.one_stands (searched_tree look.now.game.now look.now.variations) men }
 {
-    for man in &MEN {
+    for man in &Man::ALL[..TWELVE] {
         if needed_stands(men, *man, look) {
             return true;
         }
@@ -126,26 +130,4 @@ fn stands_on(position: &Position, man: Man) -> bool
     ensures { result ≡ stands_in position.now (man_number man) }
 {
     position.men().squares_of(man) != 0
-}
-
-// The men, by their numbers.
-const MEN: [Man; 12] = [
-    Man::K,
-    Man::Q,
-    Man::R,
-    Man::B,
-    Man::N,
-    Man::P,
-    Man::BlackK,
-    Man::BlackQ,
-    Man::BlackR,
-    Man::BlackB,
-    Man::BlackN,
-    Man::BlackP,
-];
-
-fn has_man(men: u16, man: Man) -> bool
-    ensures { result ≡ is_in men (man_number man) }
-{
-    men >> (man as u16) & 1 == 1
 }

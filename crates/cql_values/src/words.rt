@@ -36,7 +36,7 @@ fn squares_of_some(men: &Men, wanted: u16) -> u64
     ensures { IsBitboard result (λ s. is_in wanted (man_number (man_at men.now s))) }
 {
     let mut mask = 0;
-    for man in &MEN {
+    for man in &Man::ALL {
         mask |= squares_if(men, wanted, *man);
     }
     mask
@@ -58,7 +58,7 @@ pub fn listed_men(alloc: Global, wanted: u16) -> Result<Vec<Man>, NoMemory>
     ensures { IfOk result (λ listed. AreTheMen wanted listed.items) }
 {
     let mut listed = Vec::new(alloc);
-    for man in &MEN {
+    for man in &Man::ALL {
         let there = has_man(wanted, *man);
         list_if(&mut listed, there, *man)?;
     }
@@ -92,28 +92,13 @@ fn squares_of_all(men: &Men, listed: &[Man]) -> u64
     mask
 }
 
-fn has_man(men: u16, man: Man) -> bool
+/// Whether a set of men, whose bit k is man k, has a man.
+#[inline]
+pub fn has_man(men: u16, man: Man) -> bool
     ensures { result ≡ is_in men (man_number man) }
 {
     men >> (man as u16) & 1 == 1
 }
-
-// Each man, the empty square among them, by its number.
-const MEN: [Man; 13] = [
-    Man::K,
-    Man::Q,
-    Man::R,
-    Man::B,
-    Man::N,
-    Man::P,
-    Man::BlackK,
-    Man::BlackQ,
-    Man::BlackR,
-    Man::BlackB,
-    Man::BlackN,
-    Man::BlackP,
-    Man::Empty,
-];
 
 /// What a filter that is one word gives.
 pub fn word_at(

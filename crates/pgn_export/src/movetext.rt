@@ -19,8 +19,8 @@ use cq_san::san_text_to;
 use itoa::Buffer;
 use pgn_tree::{Game, first_word};
 
-/// The marker of a result.
-pub(crate) fn result_text(ending: GameResult) -> &'static [u8]
+/// The marker of a result, which ends the movetext (PGN standard, section 8.2.6).
+pub fn result_text(ending: GameResult) -> &'static [u8]
     ensures { result.now ≡ movetext.result_text ending }
 {
     match ending {

@@ -14,7 +14,7 @@ use Rattle.pgn_pieces.specs.Apart.{IsCutInto, HasItsGames}
 use Rattle.pgn_pieces.specs.Pieces.{end_of, IsLongEnough, piece_to, piece_bytes, after, start, last_piece, AreFull, ArePieces}
 use Rattle.pgn_pieces.specs.declared.piece.Piece.{Piece}
 use Rattle.pgn_pieces.specs.declared.piece.Place.{Place}
-use Rattle.pgn_pieces.proofs.Fills.{end_append, long_end, next_from, full_end}
+use Rattle.pgn_pieces.proofs.Fills.{end_append, long_end, next_from, full_end, order_after, end_not_before}
 use Rattle.pgn_pieces.proofs.Streams.{Order}
 
 -- what the law of seams says
@@ -196,9 +196,20 @@ module _ (seams : Seams) (order : Order) (archive : List ℕ) where
   )
   last_apart stop behind rest are first is_behind (inr none) = rw (le-ltb stop.from (length archive) none) tt
 
-  pub pieces_apart : (least : ℕ) (pieces : List Piece) → 0 < least → ArePieces least archive pieces → AllByRecursion (HasItsGames archive) pieces
-  pieces_apart least pieces some are =
+  -- pieces are asked to have a byte at least, since the last games would else be short of none
+  some_least : (least : ℕ) (pieces : List Piece) → ArePieces least archive pieces → 0 < least
+  some_least least pieces are =
       let f = are.fill in
+      let ends : end_of 0 f.taken ≡ are.stop.from = full_end least start f.taken are.full are.stop f.full in
+      let later : AreInOrder (end_of 0 f.taken) (length archive) f.rest = order_after 0 (length archive) f.taken f.rest (subst (AreInOrder 0 (length archive)) f.are (order archive)) in
+      let low = end_not_before are.stop.from (length archive) f.rest (subst (λ k. AreInOrder k (length archive) f.rest) ends later) in
+      let short = f.short in
+      omega (arith, low, short)
+
+  pub pieces_apart : (least : ℕ) (pieces : List Piece) → ArePieces least archive pieces → AllByRecursion (HasItsGames archive) pieces
+  pieces_apart least pieces are =
+      let f = are.fill in
+      let some = some_least least pieces are in
       subst AreApart (sym are.are)
       (full_apart least some start f.taken are.full are.stop [] f.rest (last_piece are.stop (length archive) (length f.rest)) f.full f.are refl (inl (refl, refl))
       (λ behind are_behind first is_behind. last_apart are.stop behind f.rest are_behind first is_behind (cases_lt are.stop.from (length archive))))

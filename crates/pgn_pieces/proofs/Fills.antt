@@ -173,3 +173,9 @@ order_after from to (x ∷ xs) ys order = order_after x.end to xs ys order.2
 pub order_before : (from to : ℕ) (xs ys : List Span) → AreInOrder from to (xs ++ ys) → AreInOrder from to xs
 order_before from to [] ys order = tt
 order_before from to (x ∷ xs) ys order = (order.0, order.1, order_before x.end to xs ys order.2)
+
+-- games in order end where they are counted from, or later
+pub end_not_before : (from to : ℕ) (games : List Span) → AreInOrder from to games → from ≤ end_of from games
+end_not_before from to [] order = omega arith
+end_not_before from to (g ∷ gs) order =
+    let begins = order.0 in let some = order.1.0 in let rest = end_not_before g.end to gs order.2 in omega (arith, begins, some, rest)

@@ -1,5 +1,5 @@
 //! Laws of the pieces, for the crates above. Each is proved for all archives; to call one costs nothing.
-ghost use Rattle.std.specs.Prelude.{◌≡◌, ◌<◌, ℕ, List, []};
+ghost use Rattle.std.specs.Prelude.{◌≡◌, ℕ, List, []};
 ghost use Rattle.std.specs.List.{flat_map, AllByRecursion};
 ghost use Rattle.pgn_pieces.specs.Apart.{HasItsGames};
 ghost use Rattle.pgn_pieces.specs.Pieces.{ArePieces, piece_bytes};
@@ -18,7 +18,7 @@ pub fn pieces_cover_their_archive()
 
 /// Each piece, cut by itself, has exactly its games, with the numbers that it says: the first as it is, any other after one space.
 pub fn pieces_have_their_games()
-    ensures { (least : ℕ) (archive : List ℕ) (pieces : List APiece) → 0 < least → ArePieces least archive pieces →
+    ensures { (least : ℕ) (archive : List ℕ) (pieces : List APiece) → ArePieces least archive pieces →
         AllByRecursion (HasItsGames archive) pieces }
 {
     archives_split();

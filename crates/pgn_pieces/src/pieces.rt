@@ -117,16 +117,19 @@ impl Pieces {
         Ok(())
     }
 
-    /// Adds the lines of the last pieces, at the archive's end. Fails only when out of memory.
+    /// Adds the lines of the last pieces, at the archive's end. Fails only when out of memory, and then nothing is added.
     pub fn finish(mut self, text: &mut Bytes) -> Result<(), NoMemory>
         requires { (front : List ℕ) × (pieces : List APiece) × Stands self front pieces × (length front < 2 ^ 62) }
-        ensures { OnOk result (ComesToEnd self text.old text.new) }
+        ensures ends { OnOk result (ComesToEnd self text.old text.new) }
+        ensures unchanged { OnErr result (text.new ≡ text.old) }
     {
         closed_games_stay();
         games_stand_apart();
         let mut games = Vec::new(self.alloc);
         self.cutter.finish(&mut games)?;
-        let last = add_all(self.open_piece, games.as_slice(), self.least, text)?;
-        last.push_last(self.taken, text)
+        let mut lines = Bytes::new(self.alloc);
+        let last = add_all(self.open_piece, games.as_slice(), self.least, &mut lines)?;
+        last.push_last(self.taken, &mut lines)?;
+        text.push_all(lines.as_slice())
     }
 }

@@ -1,11 +1,22 @@
 //! The words of a comment.
-ghost use Rattle.std.specs.Prelude.{◌≡◌, ◌<◌, ℕ, [], ◌∷◌, ◌++◌, drop, length, OnOk, IfSome, MatchOption, not, position};
+ghost use Rattle.std.specs.Prelude.{◌≡◌, ◌<◌, ℕ, [], ◌∷◌, ◌++◌, drop, length, OnOk, IfOk, IfSome, MatchOption, not, position};
 ghost use Rattle.cq_outside.specs.Text.{is_white};
 ghost use Rattle.std.specs.List.{join_with_byte};
 ghost use Rattle.cq_position.specs.Comments.{words};
 ghost use Rattle.pgn_tree.specs.Words.{space, without_brace, without_braces, Begins};
 
-use cq_outside::{NoMemory, is_white};
+use cq_outside::{Bytes, NoMemory, is_white};
+use std::alloc::Global;
+
+/// The words of a text with single spaces between them, in which a closing brace becomes a closing parenthesis: the comment that a node
+/// keeps of the text. A text without a word has none, and gives no bytes.
+pub fn single_spaced(alloc: Global, comment: &[u8]) -> Result<Bytes, NoMemory>
+    ensures { IfOk result (λ spaced. spaced ≡ join_with_byte space (words (without_braces comment.now))) }
+{
+    let mut spaced = Vec::new(alloc);
+    push_words(&mut spaced, comment)?;
+    Ok(Bytes::from_vec(spaced))
+}
 
 /// Adds the words of a comment to a text, with single spaces between them, in which a closing brace becomes a closing parenthesis. Where it
 /// fails, some of that may stand there.

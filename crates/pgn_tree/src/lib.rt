@@ -12,7 +12,7 @@ mod notes;
 mod shared;
 mod tags;
 
-pub use comment::first_word;
+pub use comment::{first_word, single_spaced};
 pub use cq_position::GameResult;
 pub use game::Game;
 pub use notes::Notes;

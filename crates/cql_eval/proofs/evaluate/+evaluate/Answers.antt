@@ -33,7 +33,7 @@ use Rattle.cql_eval.proofs.FindLaw.{find_is}
 use Rattle.cql_eval.proofs.FlatLaw.{filter_flat, term_flat, no_family}
 use Rattle.cql_eval.proofs.LineAtoms.{few_atoms, few_places, atoms_below}
 use Rattle.cql_eval.proofs.LineTables.{table_begun, table_more, table_all, ends_all, filled_all, at_all, atom_tabled, atom_leads, atom_ends, none_onward, none_leads, none_ends, atom_form, leads_form, ends_form, group_tabled, group_never, never_form, atom_never, not_some}
-use Rattle.cql_eval.proofs.LinesLaw.{held_put, if_ok_map, no_line, line_flat, numbers_are, parts_cost_more, parts_cost_within, atoms_within, looks_in}
+use Rattle.cql_eval.proofs.LinesLaw.{held_put, if_ok_map, no_line, line_flat, numbers_are, parts_cost_more, parts_cost_within, atoms_within, looks_within}
 use Rattle.cql_eval.proofs.UnaryLaws.{find_up_is, child_holds_is, parent_holds_is}
 use Rattle.cql_eval.proofs.FormLaws.{chain_form, any_form}
 use Rattle.cql_eval.proofs.MoveLaw.{met_is, move_is, part_is, no_part_is}
@@ -570,19 +570,19 @@ lines::line_numbers-returns-clause-value g t c = λ n l.
 
 pub lines::line_numbers-returns-clause-cost : goal.lines::line_numbers-returns-clause-cost
 lines::line_numbers-returns-clause-cost g t c =
-    looks_in (searched_tree c.args.game.now c.args.variations) c.args.line.now _ c.filled_table.new.steps c.line_values.new.steps (atoms_of c.in_ok-table.table) (spots_of c.in_ok-shape.shape)
+    looks_within (searched_tree c.args.game.now c.args.variations) c.args.line.now _ c.filled_table.new.steps c.line_values.new.steps (atoms_of c.in_ok-table.table) (spots_of c.in_ok-shape.shape)
     c.in_ok-shape.ensures.spots (omega (arith, c.in_ok-table.ensures.atoms, c.in_ok-pattern.ensures.next))
     c.filled_table.ensures.cost c.line_values.ensures.cost
 
 pub lines::line_numbers-returns-in_err-numbers-clause-cost : goal.lines::line_numbers-returns-in_err-numbers-clause-cost
 lines::line_numbers-returns-in_err-numbers-clause-cost g t c =
-    looks_in (searched_tree c.args.game.now c.args.variations) c.args.line.now _ c.filled_table.new.steps c.line_values.new.steps (atoms_of c.in_ok-table.table) (spots_of c.in_ok-shape.shape)
+    looks_within (searched_tree c.args.game.now c.args.variations) c.args.line.now _ c.filled_table.new.steps c.line_values.new.steps (atoms_of c.in_ok-table.table) (spots_of c.in_ok-shape.shape)
     c.in_ok-shape.ensures.spots (omega (arith, c.in_ok-table.ensures.atoms, c.in_ok-pattern.ensures.next))
     c.filled_table.ensures.cost c.line_values.ensures.cost
 
 pub lines::line_numbers-returns-in_err-values-clause-cost : goal.lines::line_numbers-returns-in_err-values-clause-cost
 lines::line_numbers-returns-in_err-values-clause-cost g t c =
-    looks_in (searched_tree c.args.game.now c.args.variations) c.args.line.now _ c.filled_table.new.steps c.line_values.new.steps (atoms_of c.in_ok-table.table) (spots_of c.in_ok-shape.shape)
+    looks_within (searched_tree c.args.game.now c.args.variations) c.args.line.now _ c.filled_table.new.steps c.line_values.new.steps (atoms_of c.in_ok-table.table) (spots_of c.in_ok-shape.shape)
     c.in_ok-shape.ensures.spots (omega (arith, c.in_ok-table.ensures.atoms, c.in_ok-pattern.ensures.next))
     c.filled_table.ensures.cost c.line_values.ensures.cost
 

@@ -10,7 +10,7 @@ returns-in-Err g c = λ least count faults left was at_end within cut. read_lost
 pub returns-in-Ok-write_all_of : goal.returns-in-Ok-write_all_of
 returns-in-Ok-write_all_of g c = λ least count faults left was at_end within cut.
     table_written least count was _ _ c.args.pieces c.finish.new.text at_end within cut refl refl
-    (subst (λ (t : List ℕ). ComesToEnd c.args.pieces t c.finish.new.text) c.new-text.ensures c.in-Ok.ensures)
+    (subst (λ (t : List ℕ). ComesToEnd c.args.pieces t c.finish.new.text) c.new-text.ensures c.in-Ok.ensures.ends)
     (subst (Grew (g.O.Sink.taken c.args.out.now) (g.O.Sink.taken c.write_all_of.new.sink)) c.as_slice.ensures c.in-Ok-write_all_of.ensures.ok)
     c.in-Ok-write_all_of.ensures.cause.same
 
@@ -18,6 +18,6 @@ pub returns : goal.returns
 returns g c = λ least count faults left was at_end within cut.
     let part = c.in-Err-write_all_of.ensures.err in
     table_failed least count was _ _ c.args.pieces c.finish.new.text at_end cut refl refl
-    (subst (λ (t : List ℕ). ComesToEnd c.args.pieces t c.finish.new.text) c.new-text.ensures c.in-Ok.ensures)
+    (subst (λ (t : List ℕ). ComesToEnd c.args.pieces t c.finish.new.text) c.new-text.ensures c.in-Ok.ensures.ends)
     (part.0, subst (λ (t : List ℕ). Grew (g.O.Sink.taken c.args.out.now) (g.O.Sink.taken c.write_all_of.new.sink) (take part.0 t)) c.as_slice.ensures part.1)
     c.in-Err-write_all_of.ensures.cause.failed

@@ -1,7 +1,9 @@
-use Rattle.std.proofs.Common.{◌≡◌, List, ◌++◌, length, drop, ap, ◌∙◌}
+use Rattle.std.proofs.Common.{◌≡◌, List, ◌++◌, length, drop, refl, sym, ap, ◌∙◌, append_assoc}
 use Rattle.pgn_cut.specs.Cut.{cut, closed}
 use Rattle.pgn_cut.specs.declared.span.Span.{Span}
-use Rattle.pgn_pieces.proofs.Streams.{comes_to_end, ended, ended_in_order, on_ok}
+use Rattle.pgn_pieces.specs.Pieces.{last_piece}
+use Rattle.pgn_pieces.specs.Table.{table}
+use Rattle.pgn_pieces.proofs.Streams.{adds_after, comes_to_end, ended, ended_in_order, on_ok}
 use Rattle.pgn_pieces.proofs.state.Pieces.finish.Goals as goal
 
 pub add_all-requires : goal.add_all-requires
@@ -18,10 +20,15 @@ add_all-requires c =
       );
     }
 
-pub returns : goal.returns
-returns c =
-    on_ok c.push_last.result (λ adds.
-    comes_to_end c.args.self c.in_ok-last.last c.args.text.now c.add_all.new.text c.push_last.new.text c.as_slice.result.now
+pub returns-clause-ends : goal.returns-clause-ends
+returns-clause-ends c =
+    let lines = c.args.text.now ++ c.add_all.new.text in
+    on_ok c.push_all.result (λ added.
+    comes_to_end c.args.self c.in_ok-last.last c.args.text.now lines c.push_all.new.self c.as_slice.result.now
     (λ front stands. ended c.closed_games_stay.ensures.whole front c.as_slice.result.now
     (c.as_slice.ensures.value ∙ c.in_ok-finish.ensures.games front stands ∙ ap (λ (l : List Span). l ++ drop (length (closed front)) (cut front)) c.new-games.ensures.items))
-    c.in_ok-last.ensures adds) c.push_last.ensures
+    (adds_after c.args.self.least c.args.self.open_piece c.in_ok-last.last c.as_slice.result.now c.new-lines.result c.add_all.new.text c.args.text.now lines c.new-lines.ensures
+    c.in_ok-last.ensures refl)
+    (added ∙ ap (λ (l : List _). c.args.text.now ++ l) (c.as_slice-2.ensures ∙ c.in_ok-push_last.ensures)
+    ∙ sym (append_assoc c.args.text.now c.add_all.new.text (table (last_piece c.in_ok-last.last.here c.args.self.taken c.in_ok-last.last.games)))))
+    c.push_all.ensures.ok
