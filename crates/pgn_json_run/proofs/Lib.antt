@@ -1,2 +1,5 @@
+pub mod Entries
 pub mod Numbers
+pub mod Opening
 pub mod Refusals
+pub mod Writings

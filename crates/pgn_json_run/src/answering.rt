@@ -1,62 +1,59 @@
-//! What is written of each game.
+//! Writing the games of the archive that a source has left.
+ghost use Rattle.std.specs.Prelude.{◌≤◌, ◌^◌};
+ghost use Rattle.pgn_json_run.specs.Texts.{WritesSummary};
+ghost use Rattle.pgn_json_run.specs.Writing.{Says, pipe_of, view_of};
 
 use crate::status::Status;
-use cq_outside::{Refusal, Sink, write_all_of};
-use cq_report::{fault_line, summary_line};
-use pgn_json::json_line;
-use pgn_reader::read_game;
+use crate::taking::GameWriter;
+use cq_batches::laws::archives_come_in_batches;
+use cq_batches::{BatchFault, Ended, take_batches};
+use cq_outside::{Refusal, Sink, Source, write_all_of};
+use cq_report::summary_line;
+use pgn_reader::first_bytes_decide;
 use std::alloc::Global;
 
-/// How many games there are so far, and how many of them are faulty.
-#[derive(Clone, Copy)]
-pub(crate) struct Tally {
-    pub(crate) games: u64,
-    pub(crate) refused: u64,
-}
-
-/// Writes the line of a game, or of its fault.
-pub(crate) fn answer_game<O: Sink, E: Sink>(
+/// Writes the games of the archive that `source` has left, of which so many bytes are the limit, from 1 to 2^40, and a report over them.
+pub(crate) fn answer_all<S: Source, O: Sink, E: Sink>(
     alloc: Global,
     mark: &[u8],
-    bytes: &[u8],
-    start: u64,
-    first: bool,
-    tally: &mut Tally,
+    limit: u64,
+    source: &mut S,
     out: &mut O,
     err: &mut E,
-) -> Result<(), Status> {
-    tally.games += 1;
-    match read_game(alloc, bytes, start, first) {
-        Ok(game) => match json_line(alloc, &game, tally.games, start, mark) {
-            Ok(line) => match write_all_of(out, line.as_slice()) {
-                Ok(()) => Ok(()),
-                Err(_) => Err(Status::WriteFault),
-            },
-            Err(_) => Err(Status::NoMemory),
-        },
-        Err(Refusal::NoMemory) => Err(Status::NoMemory),
-        Err(Refusal::Fault(fault)) => {
-            tally.refused += 1;
-            match fault_line(alloc, tally.games, &fault) {
-                Ok(line) => match write_all_of(err, line.as_slice()) {
-                    Ok(()) => Ok(()),
-                    Err(_) => Err(Status::WriteFault),
-                },
-                Err(_) => Err(Status::NoMemory),
-            }
-        }
+) -> Status
+    requires { (1 ≤ limit) × (limit ≤ 2 ^ 40) }
+    ensures says { Says result limit mark.now
+        (pipe_of S.left S.faults O.taken O.faults E.taken E.faults source.old out.old err.old)
+        (pipe_of S.left S.faults O.taken O.faults E.taken E.faults source.new out.new err.new) }
+    ensures next { S.follows source.old source.new }
+{
+    first_bytes_decide();
+    archives_come_in_batches();
+    let mut writer = GameWriter {
+        alloc,
+        mark,
+        faulty: 0,
+    };
+    match take_batches(alloc, limit, source, &mut writer, out, err) {
+        Ok(Ended::All(games)) => write_summary(alloc, games, writer.faulty, err),
+        Ok(Ended::Early(status)) => status,
+        Err(Refusal::Fault(BatchFault::ReadFault)) => Status::ReadFault,
+        Err(Refusal::Fault(BatchFault::ArchiveTooLong)) => Status::ArchiveTooLong,
+        Err(Refusal::NoMemory) => Status::NoMemory,
     }
 }
 
-/// Writes the last line of the report.
-pub(crate) fn write_summary<E: Sink>(alloc: Global, tally: &Tally, err: &mut E) -> Status {
-    let (games, refused) = (tally.games, tally.refused);
-    match summary_line(alloc, games, games - refused, refused) {
-        Ok(line) => match write_all_of(err, line.as_slice()) {
-            Ok(()) if refused == 0 => Status::Done,
-            Ok(()) => Status::DoneWithRefusals,
-            Err(_) => Status::WriteFault,
-        },
-        Err(_) => Status::NoMemory,
+// Writes the last line of the report.
+fn write_summary<E: Sink>(alloc: Global, games: u64, faulty: u64, err: &mut E) -> Status
+    requires { faulty ≤ games }
+    ensures { WritesSummary games faulty (view_of E.taken E.faults err.old) (view_of E.taken E.faults err.new) result }
+{
+    let Ok(line) = summary_line(alloc, games, games - faulty, faulty) else {
+        return Status::NoMemory;
+    };
+    match write_all_of(err, line.as_slice()) {
+        Ok(()) if faulty == 0 => Status::Done,
+        Ok(()) => Status::DoneWithRefusals,
+        Err(_) => Status::WriteFault,
     }
 }

@@ -2,11 +2,11 @@
 #![tactic(auto)]
 
 mod answering;
-mod games;
 mod job;
 mod line;
-mod mark;
 mod status;
+mod taking;
+mod texts;
 mod top_call;
 mod words;
 

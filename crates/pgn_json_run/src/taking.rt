@@ -1,0 +1,45 @@
+//! Writing what there is of each batch of games.
+ghost use Rattle.std.specs.Prelude.{◌≡◌};
+ghost use Rattle.pgn_json_run.specs.Texts.{HasStopped, HasTaken};
+ghost use Rattle.pgn_json_run.specs.Writing.{sinks_of};
+
+use crate::status::Status;
+use crate::texts::batch_texts;
+use cq_batches::{Batch, Taker};
+use cq_outside::{Sink, write_all_of};
+use std::alloc::Global;
+
+/// Writes the games of batches, and counts the faulty ones.
+#[derive(Drop)]
+pub(crate) struct GameWriter<'a> {
+    pub(crate) alloc: Global,
+    pub(crate) mark: &'a [u8],
+    pub(crate) faulty: u64,
+}
+
+impl<'a, O: Sink, E: Sink> Taker<O, E> for GameWriter<'a> {
+    type Stop = Status;
+
+    ghost has_taken = { λ was now games. (now.taker.mark ≡ was.taker.mark) × HasTaken was.taker.mark.now
+        (sinks_of O.taken O.faults E.taken E.faults was.out was.err) (sinks_of O.taken O.faults E.taken E.faults now.out now.err)
+        now.taker.faulty games };
+
+    ghost has_stopped = { λ was now games batch status. HasStopped was.taker.mark.now
+        (sinks_of O.taken O.faults E.taken E.faults was.out was.err) (sinks_of O.taken O.faults E.taken E.faults now.out now.err)
+        games batch status };
+
+    fn take(&mut self, batch: &Batch, out: &mut O, err: &mut E) -> Option<Status> {
+        let Ok(texts) = batch_texts(self.alloc, self.mark, batch) else {
+            return Some(Status::NoMemory);
+        };
+        self.faulty += texts.faulty;
+        match write_all_of(out, texts.lines.as_slice()) {
+            Ok(()) => {}
+            Err(_) => return Some(Status::WriteFault),
+        }
+        match write_all_of(err, texts.faults.as_slice()) {
+            Ok(()) => None,
+            Err(_) => Some(Status::WriteFault),
+        }
+    }
+}

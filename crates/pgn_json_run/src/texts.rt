@@ -1,0 +1,61 @@
+//! What is written of games.
+ghost use Rattle.std.specs.Prelude.{◌≡◌, ◌+◌, ◌++◌, ◌<◌, ◌≤◌, ◌^◌, ◌∷◌, [], List, Some, length, slice_get, IfOk, OnOk};
+ghost use Rattle.cq_batches.specs.Games.{games_of, number_of};
+ghost use Rattle.cq_batches.specs.declared.kept.KeptGame.{KeptGame as AGame};
+ghost use Rattle.pgn_json_run.specs.Texts.{AreTextsOf};
+
+use cq_batches::Batch;
+use cq_outside::{Bytes, NoMemory, Refusal};
+use cq_report::fault_line;
+use pgn_json::json_line;
+use pgn_reader::read_game;
+use std::alloc::Global;
+
+/// What is written of some games: the lines of those that are read, and the lines of the faulty ones, and how many these are.
+#[derive(Drop)]
+pub(crate) struct Texts {
+    pub(crate) lines: Bytes,
+    pub(crate) faults: Bytes,
+    pub(crate) faulty: u64,
+}
+
+/// What is written of the games of a batch.
+pub(crate) fn batch_texts(alloc: Global, mark: &[u8], batch: &Batch) -> Result<Texts, NoMemory>
+    ensures { IfOk result (AreTextsOf mark.now (number_of batch.now + 1) (games_of batch.now)) }
+{
+    let mut all = Texts {
+        lines: Bytes::new(alloc),
+        faults: Bytes::new(alloc),
+        faulty: 0,
+    };
+    for place in 0..u64::from(batch.len()) {
+        let texts = game_texts(alloc, mark, batch, place)?;
+        all.lines.push_all(texts.lines.as_slice())?;
+        all.faults.push_all(texts.faults.as_slice())?;
+        all.faulty += texts.faulty;
+    }
+    Ok(all)
+}
+
+// What is written of the game with this number in a batch.
+fn game_texts(alloc: Global, mark: &[u8], batch: &Batch, place: u64) -> Result<Texts, NoMemory>
+    requires { place < length (games_of batch.now) }
+    ensures { IfOk result (λ texts. (game : AGame) × (slice_get (games_of batch.now) place ≡ Some game)
+        × AreTextsOf mark.now (number_of batch.now + place + 1) (game ∷ []) texts) }
+{
+    let game = batch.game(place);
+    let number = batch.index() + place + 1;
+    match read_game(alloc, game.bytes.as_slice(), game.start, game.first) {
+        Ok(read) => Ok(Texts {
+            lines: json_line(alloc, &read, number, game.start, mark)?,
+            faults: Bytes::new(alloc),
+            faulty: 0,
+        }),
+        Err(Refusal::Fault(fault)) => Ok(Texts {
+            lines: Bytes::new(alloc),
+            faults: fault_line(alloc, number, &fault)?,
+            faulty: 1,
+        }),
+        Err(Refusal::NoMemory) => Err(NoMemory),
+    }
+}
