@@ -122,4 +122,3 @@ given_begins laws front k m low =
     let parts : m ≡ length full + (m - length full) = omega (arith, low) in
     let taken : take m (full ++ more) ≡ full ++ take (m - length full) more = ap (λ n. take n (full ++ more)) parts ∙ take-append-add full more (m - length full) in
     (flat (take (m - length full) more), ap (λ l. flat (take m l)) are ∙ ap flat taken ∙ flat_map-append (λ (b : KeptGames). b) full (take (m - length full) more))
-

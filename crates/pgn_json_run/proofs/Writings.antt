@@ -230,8 +230,7 @@ pub broke : Decide → Laws → (limit : ℕ) (mark : List ℕ) (was now : Pipe)
 broke decide laws limit mark was now count AreRead Others whole_ =
     let taken = whole_.taken.1 in
     let front = whole_.front in
-    let n = kept_count 1 (whole front) taken.entries taken.are in
-    (
+    let n = kept_count 1 (whole front) taken.entries taken.are in (
       record {
         front = front;
         entries = taken.entries;

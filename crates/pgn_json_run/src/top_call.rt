@@ -64,10 +64,24 @@ pub fn run<D: Desk, O: Sink, E: Sink>(
 // Writes the usage line.
 fn refuse_words<E: Sink>(err: &mut E) -> Status
     ensures { (told : Option Told) (open_faults : ℕ) (left : Option (List ℕ)) (read_faults : ℕ) (out : SinkView) → RefusesWords result
-        (record { told = told; open_faults = open_faults; pipe_ = record { left = left; read_faults = read_faults;
-          sinks = record { out = out; err = view_of E.taken E.faults err.old } } })
-        (record { told = told; open_faults = open_faults; pipe_ = record { left = left; read_faults = read_faults;
-          sinks = record { out = out; err = view_of E.taken E.faults err.new } } }) }
+        (record {
+          told = told;
+          open_faults = open_faults;
+          pipe_ = record {
+            left = left;
+            read_faults = read_faults;
+            sinks = record { out = out; err = view_of E.taken E.faults err.old };
+          };
+        })
+        (record {
+          told = told;
+          open_faults = open_faults;
+          pipe_ = record {
+            left = left;
+            read_faults = read_faults;
+            sinks = record { out = out; err = view_of E.taken E.faults err.new };
+          };
+        }) }
 {
     match write_all_of(err, USAGE) {
         Ok(()) => Status::WordsRefused,

@@ -34,16 +34,15 @@ returns-in-Err g c = λ was games taken index.
 pub returns-in-Ok-write_all_of-2 : goal.returns-in-Ok-write_all_of-2
 returns-in-Ok-write_all_of-2 g c = λ was games taken index.
     let sinks = sinks_of g.O.Sink.taken g.O.Sink.faults g.E.Sink.taken g.E.Sink.faults in
-    let batch = c.args.batch.now in
-    (
+    let batch = c.args.batch.now in (
       taken.0,
       taken_on was.taker.mark.now (sinks was.out was.err) (sinks c.args.out.now c.args.err.now) (sinks c.write_all_of.new.sink c.write_all_of-2.new.sink)
-      c.args.self.now.faulty _ games (games_of batch) (number_of batch) c.in-Ok.texts
-      (record { taken = taken.1; index = index; texts = subst (λ m. AreTextsOf m.now (number_of batch + 1) (games_of batch) c.in-Ok.texts) taken.0 c.in-Ok.ensures })
-      (subst (Grew (g.O.Sink.taken c.args.out.now) (g.O.Sink.taken c.write_all_of.new.sink)) c.as_slice.ensures c.in-Ok-write_all_of.ensures.ok)
-      c.in-Ok-write_all_of.ensures.cause.same
-      (subst (Grew (g.E.Sink.taken c.args.err.now) (g.E.Sink.taken c.write_all_of-2.new.sink)) c.as_slice-2.ensures c.in-Ok-write_all_of-2.ensures.ok)
-      c.in-Ok-write_all_of-2.ensures.cause.same refl,
+          c.args.self.now.faulty _ games (games_of batch) (number_of batch) c.in-Ok.texts
+          (record { taken = taken.1; index = index; texts = subst (λ m. AreTextsOf m.now (number_of batch + 1) (games_of batch) c.in-Ok.texts) taken.0 c.in-Ok.ensures })
+          (subst (Grew (g.O.Sink.taken c.args.out.now) (g.O.Sink.taken c.write_all_of.new.sink)) c.as_slice.ensures c.in-Ok-write_all_of.ensures.ok)
+          c.in-Ok-write_all_of.ensures.cause.same
+          (subst (Grew (g.E.Sink.taken c.args.err.now) (g.E.Sink.taken c.write_all_of-2.new.sink)) c.as_slice-2.ensures c.in-Ok-write_all_of-2.ensures.ok)
+          c.in-Ok-write_all_of-2.ensures.cause.same refl,
     )
 
 pub returns : goal.returns
