@@ -74,9 +74,7 @@ async def saved(found: Found, form: Form) -> AsyncGenerator[bytes, None]:
         number = index.fileno()
         words += [f"--index=/proc/self/fd/{number}"] * (form.command == "rows")
         environment = os.environ | {"PYTHONPATH": PACKAGE}
-        process = await asyncio.create_subprocess_exec(
-            *words, stdin=PIPE, stdout=PIPE, stderr=DEVNULL, env=environment, pass_fds=[number]
-        )
+        process = await asyncio.create_subprocess_exec(*words, stdin=PIPE, stdout=PIPE, stderr=DEVNULL, env=environment, pass_fds=[number])
     feeding = asyncio.ensure_future(_feed(process, found.blocks(count)))
     assert process.stdout is not None
     try:
