@@ -47,6 +47,21 @@ cql() find {check R attacks k}
 cql() initial #(A | a) <= 4
 cql() Pe4
 cql() { #R == 1 #r == 1 #[QBNqbn] == 0 }
+cql() flipcolor square y in [QRB] square x in [qr] { move to y k & between(y x) not between(y k) & ~_ y attacks k }
+cql() square x in N square y in [rqk] square z in [rqk] { x attacks y x attacks z not (y & z) }
+cql() child { move from A square y in A { move to y } }
+cql() square x in A square y in a { move from x to y }
+cql() shift flip { Pa2 Pb3 Pc2 }
+cql() flip shift { Kg1 Pf2 Pg2 Ph2 }
+cql() shift flip { mate Pa2 Pb3 Pc2 }
+cql() square x in . square y in . { move from x to y parent find <-- move from y to x }
+cql() square x in . square y in . { move from x to y child child move from y to x }
+cql() flipcolor square x in ~_ & . square y in _ { move to x parent { a & x } N & x attacks k }
+cql() flipcolor square x in [BRQ] square y in [qrbnp] { x attacks y between(y k) & _ }
+cql() flipcolor { square x in [RBQ] square y in [qrbn] { x attacks y #(between(x k) & a) == 1 y & between(x k) } }
+cql() flipcolor square x in [RBQ] square y in [RBQ] { x attacks y y attacks k & between(x k) }
+cql() flipcolor square x in [QRBN] { move to x parent parent move from x square y in _ attackedby x { move from y parent parent move to y } }
+cql() flipcolor square x in A { btm move to x x attackedby r x attackedby b }
 QUERIES
 
 [ -n "$other" ] || exit 0

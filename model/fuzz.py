@@ -3,10 +3,10 @@
 
     python3 fuzz.py BINARY MODE SEED COUNT
 
-MODE is `archives` (random and mutated archives), `queries` (random queries over small games), `explained` (the same queries by
+MODE is `archives` (random and mutated archives), `queries` (random queries over small games), `squares` (queries with one to three
+`square`, as players write them, with `find`, `child`, `parent` and families around them), `explained` (the same queries as `queries` by
 `explain`), `many` (files of such queries, which have parts in common) or `texts` (mutated query texts and texts near the limits, by
-`check`). Differences land in the folder out/ beside this
-file. pypy3 is several times faster than python3 here."""
+`check`). Differences land in the folder out/ beside this file. pypy3 is several times faster than python3 here."""
 
 
 import os
@@ -391,12 +391,12 @@ def small_archive():
     return b
 
 
-def good_query(arch):
+def good_query(arch, draw=None):
     """a query that tells nodes apart, where one is found soon"""
     gs = [g for g in program.games_of(arch) if not isinstance(g, tuple)]
     best = None
     for _ in range(1 if chance(0.12) else 8):
-        t = random_query()
+        t = (draw or random_query)()
         q = query.read_query(t.encode("utf-8"))
         tot = hit = 0
         for g in gs:
@@ -702,6 +702,57 @@ def random_query():
     if chance(0.15):
         items.insert(RANDOM.randint(0, len(items)), 'comment "%s"' % one_of("c", "a b", "", "x  y"))
     return head + " " + " ".join(items)
+
+
+def square_of(names):
+    """a set in which names stand, or a designator"""
+    name = RANDOM.choice(names)
+    return one_of(name, name, name, "(%s & %s)" % (name, random_designator()), "(%s | %s)" % (name, random_designator()), random_designator())
+
+
+def square_part(names, depth):
+    """what is asked of squares, in the words of a player"""
+    f, g = (lambda: square_of(names)), (lambda: RANDOM.choice(names))
+    k = RANDOM.randrange(17)
+    if k < 4:
+        return "move %s" % one_of("from %s to %s" % (g(), g()), "from " + g(), "to " + g(), "to %s capture ." % g(), "from %s to %s" % (f(), f()))
+    if k < 7:
+        return "(%s %s %s)" % (f(), one_of("attacks", "attackedby"), f())
+    if k == 7:
+        return "(%s & between(%s %s))" % (f(), f(), f())
+    if k == 8:
+        return "#(%s) %s %d" % (f(), one_of(">", "==", "<", ">="), RANDOM.randint(0, 2))
+    if k == 9:
+        return "not " + square_part(names, depth)
+    if k == 10:
+        return random_designator()
+    if k == 11:
+        return "(%s)" % f()
+    if k == 12:
+        return "(%s or %s)" % (square_part(names, depth), square_part(names, depth))
+    if k == 13:
+        return "if %s then %s else %s" % (square_part(names, 0), square_part(names, 0), square_part(names, 0))
+    if k == 14 and depth > 0:
+        return "(line --> {%s} --> {%s})" % (square_part(names, depth - 1), square_part(names, depth - 1))
+    words = " ".join(one_of("find", "find <--", "child", "parent") for _ in range(RANDOM.choice([1, 1, 2])))
+    body = " ".join(square_part(names, depth - 1) for _ in range(RANDOM.choice([1, 1, 2]))) if depth > 0 else square_part(names, 0)
+    return "%s { %s }" % (words, body) if depth > 0 else square_part(names, 0)
+
+
+def squares_query():
+    """one to three `square` in one another, with words of the tree and families around them"""
+    names, text = [], ""
+    for _ in range(RANDOM.choice([1, 2, 2, 2, 3])):
+        name = RANDOM.choice(NAMES)
+        within = random_designator() if not names or chance(0.8) else square_of(names)
+        text += "square %s%s in %s " % (one_of("", "", "", "", "all "), name, within)
+        if chance(0.2):
+            text += one_of("find ", "child ", "parent ", "find <-- ", "flipcolor ", "not ")
+        names.append(name)
+    text += "{ %s }" % " ".join(square_part(names, 2) for _ in range(RANDOM.choice([1, 2, 3])))
+    for _ in range(RANDOM.choice([0, 0, 1, 1, 2])):
+        text = one_of("find ", "child ", "parent ", "find <-- ", "flipcolor ", "flip ", "flipcolor flip ", "shifthorizontal ") + "{ %s }" % text
+    return one_of("cql() ", "cql(variations) ") + text
 
 
 QUERY_SOUP = (
@@ -1012,6 +1063,9 @@ def random_case(mode):
         return queries_file(archive), archive
     if mode == "archives":
         return random_man_query(), random_archive()
+    if mode == "squares":
+        archive = small_archive()
+        return good_query(archive, squares_query), archive
     if mode in ("queries", "explained"):
         archive = small_archive()
         return designators() if chance(0.05) else good_query(archive), archive

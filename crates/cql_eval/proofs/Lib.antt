@@ -7,6 +7,9 @@ pub mod Filling
 pub mod FindLaw
 pub mod FlatLaw
 pub mod FormLaws
+mod CoverForms
+mod CoverLaw
+mod FreeLaw
 pub mod Gathering
 pub mod HitsLaw
 pub mod Keeping

@@ -49,7 +49,7 @@ pub move_costs : (nodes : ℕ) (p : Played) → played_cost nodes (played_tree p
 unfolding filter_cost
 move_costs nodes p = ap (played_cost nodes) (parts_are p)
 
-move_value : (tree : SearchedTree) (e : Names) (p : Played) (n : ℕ) → played_value tree [] e (played_tree p) n
+pub move_value : (tree : SearchedTree) (e : Names) (p : Played) (n : ℕ) → played_value tree [] e (played_tree p) n
     ≡ meets_all (led_to tree.game.nodes n) (written_value tree [] e (origin_of p) (before tree n)) (written_value tree [] e (goal_of p) n)
     (written_value tree [] e (taken_of p) (before tree n)) (written_value tree [] e (promoted_of p) n)
 unfolding value

@@ -4,6 +4,7 @@ pub mod Attacked
 pub mod Classes
 pub mod Columns
 pub mod Costs
+pub mod Covers
 pub mod FlatTrees
 pub mod Hits
 pub mod LineAtoms

@@ -12,6 +12,7 @@ ghost use Rattle.cql_eval.specs.Costs.{filter_cost, filters_cost, terms_cost, pl
 ghost use Rattle.cql_eval.specs.FlatTrees.{IsFlat, AreFlat, AreFlatTerms, IsFlatMove, IsFlatPart, IsFlatLine};
 
 mod chains;
+mod covers;
 mod lines;
 mod played;
 mod squares;
@@ -38,7 +39,7 @@ use cql_values::words::directions;
 use lines::line_numbers;
 use pgn_tree::Game;
 use played::played_truths;
-use squares::square_truths;
+use squares::asked_truths;
 use std::alloc::Global;
 use std::sync::ledger::Ledger;
 
@@ -118,7 +119,7 @@ pub(crate) fn evaluate<L: Ledger>(
         }
         Form::Square(every, name, squares, asked) => {
             let squares = evaluate(alloc, squares, game, variations, names, live, steps)?;
-            let truths = square_truths(
+            let truths = asked_truths(
                 alloc,
                 *every,
                 name.as_slice(),

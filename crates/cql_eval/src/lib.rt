@@ -7,8 +7,10 @@
 mod attacks;
 pub mod column;
 mod combine;
+mod covers;
 mod evaluate;
 pub mod filter_column;
+mod free;
 pub mod laws;
 mod leaves;
 mod moves;

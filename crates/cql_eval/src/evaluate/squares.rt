@@ -8,11 +8,15 @@ ghost use Rattle.cql_values.specs.Trees.{searched_tree};
 ghost use Rattle.cql_eval.specs.Asked.{AreUnsettled, AreWanted};
 ghost use Rattle.cql_eval.specs.Columns.{AreAsked, AreTruths, shown};
 ghost use Rattle.cql_eval.specs.Costs.{filter_cost, searched_len};
+ghost use Rattle.cql_eval.specs.Covers.{AreWorthTrying};
 ghost use Rattle.cql_eval.specs.FlatTrees.{IsFlat};
 
+use super::covers::cover;
 use super::evaluate;
 use crate::attacks::{attack_truths, attacked_part};
+use crate::covers::sets_of;
 use crate::filter_column::FilterColumn;
+use crate::free::only_name;
 use crate::nodes::{any_live, same};
 use crate::squares::{decided, having, unsettled, wanted_squares};
 use cq_geometry::Square;
@@ -24,9 +28,76 @@ use pgn_tree::Game;
 use std::alloc::Global;
 use std::sync::ledger::Ledger;
 
+/// Whether what is asked of a square holds of every square of a set, or of some: of some, where only those squares are tried with which it
+/// may hold.
+#[cycle(evaluate)]
+pub(super) fn asked_truths<L: Ledger>(
+    alloc: Global,
+    every: bool,
+    name: &[u8],
+    squares: &FilterColumn,
+    asked: &Filter,
+    game: &Game,
+    variations: bool,
+    names: &Names,
+    live: &[bool],
+    steps: &mut Steps<L>,
+) -> Result<Vec<bool>, NoMemory>
+    requires tree { IsTree game.now.nodes }
+    requires asked { AreAsked (searched_tree game.now variations) live.now }
+    requires flat { IsFlat (filter_tree asked.now) }
+    ensures value { IfOk result (λ truths. AreTruths truths.items live.now (λ n. spec.square_of every (shown squares.now n)
+        (λ s. spec.holds (meaning.value (searched_tree game.now variations) []
+        ((name.now, s) ∷ names.now) (filter_tree asked.now) n)))) }
+    ensures cost { steps.new ≤ steps.old + 64 * filter_cost (searched_len (searched_tree game.now variations)) (filter_tree asked.now) }
+    ensures rises { steps.old ≤ steps.new }
+{
+    if every {
+        return square_truths(
+            alloc, every, name, squares, asked, game, variations, names, live, steps,
+        );
+    }
+    let sets = covered_sets(
+        alloc, name, squares, asked, game, variations, names, live, steps,
+    )?;
+    let worth = FilterColumn::Sets(sets);
+    let truths = square_truths(
+        alloc, every, name, &worth, asked, game, variations, names, live, steps,
+    )?;
+    Ok(truths)
+}
+
+// Of the squares of a column those with which what is asked may hold.
+#[cycle(evaluate)]
+fn covered_sets<L: Ledger>(
+    alloc: Global,
+    name: &[u8],
+    squares: &FilterColumn,
+    asked: &Filter,
+    game: &Game,
+    variations: bool,
+    names: &Names,
+    live: &[bool],
+    steps: &mut Steps<L>,
+) -> Result<Vec<u64>, NoMemory>
+    requires tree { IsTree game.now.nodes }
+    requires asked { AreAsked (searched_tree game.now variations) live.now }
+    requires flat { IsFlat (filter_tree asked.now) }
+    ensures worth { IfOk result (λ sets. AreWorthTrying (shown squares.now) live.now (λ n s. spec.holds (meaning.value (searched_tree game.now variations) []
+        ((name.now, s) ∷ names.now) (filter_tree asked.now) n)) sets.items) }
+    ensures cost { steps.new ≡ steps.old }
+{
+    let mut sets = sets_of(alloc, live, squares)?;
+    let opened = only_name(alloc, name)?;
+    cover(
+        alloc, &opened, name, asked, game, variations, names, live, &mut sets, steps,
+    )?;
+    Ok(sets)
+}
+
 /// Whether what is asked of a square holds of every square of a set, or of some.
 #[cycle(evaluate)]
-pub(super) fn square_truths<L: Ledger>(
+fn square_truths<L: Ledger>(
     alloc: Global,
     every: bool,
     name: &[u8],

@@ -1,14 +1,14 @@
-use Rattle.std.proofs.Common.{◌+◌, rules, map, ◌≡◌, [], ◌∷◌, ◌∙◌, ap, ap₂, sym, subst, arith, refl, length, not, true, false}
+use Rattle.std.proofs.Common.{◌+◌, map, ◌≡◌, [], ◌∷◌, ◌∙◌, ap, ap₂, sym, subst, arith, refl, length, true, false}
 use Rattle.std.specs.Prelude.{option_map, pos, IfOk, OnOk, ◌<◌}
-use Rattle.std.specs.List.{list_all, list_any}
-use Rattle.cql_syntax.specs.Meaning.{value, values, unary_of, marked, body_pattern}
-use Rattle.cql_syntax.specs.TreeOf.{filter_tree, form_tree, filters_tree, terms_tree, line_tree, parts_tree, body_tree, played_tree}
+use Rattle.std.specs.List.{list_any}
+use Rattle.cql_syntax.specs.Meaning.{value, marked, body_pattern}
+use Rattle.cql_syntax.specs.TreeOf.{filter_tree, form_tree, filters_tree, terms_tree, parts_tree, body_tree}
 use Rattle.cql_syntax.specs.Trees.{filter_at, unary, square, if_, atom}
 use Rattle.cql_syntax.specs.declared.tree.Line.{out-Line}
 use Rattle.cql_syntax.specs.Values.{holds, square_of}
 use Rattle.cql_values.specs.Trees.{searched_tree}
 use Rattle.cql_values.proofs.Evaluated.{word_here}
-use Rattle.cql_eval.specs.Columns.{AreAsked, IsColumn, shown}
+use Rattle.cql_eval.specs.Columns.{IsColumn, shown}
 use Rattle.cql_eval.proofs.ClassLaw.{left_taken, left_passed, cost_taken, is_left_begun, is_left_then, is_left_same, so_begun, so_more, so_whole, so_none, so_all, so_no, class_left, class_end, truth_left, class_cost_more, class_cost_within, cost_next, cost_later, cost_all}
 use Rattle.std.proofs.Math.Path.{fun_ext}
 use Rattle.cql_eval.specs.Columns.{AreTruths}
@@ -26,7 +26,7 @@ use Rattle.cql_lines.specs.Trees.{spots_of}
 use Rattle.std.proofs.lemmas.List.FromFn.{length-map-range_with_len}
 use Rattle.cql_eval.proofs.Costing.{cost_more, cost_within, terms_cost_more, terms_cost_within, square_cost}
 use Rattle.cql_eval.proofs.Gathering.{columns_begun, columns_more, columns_all, terms_begun, terms_more, terms_all}
-use Rattle.cql_eval.proofs.Filling.{narrowed_asked, live_below}
+use Rattle.cql_eval.proofs.Filling.{live_below}
 use Rattle.cql_eval.proofs.Lives.{none_live}
 use Rattle.cql_eval.proofs.Wanting.{wanted_same, wanted_kept, turn_skip}
 use Rattle.cql_eval.proofs.FindLaw.{find_is}
@@ -39,6 +39,11 @@ use Rattle.cql_eval.proofs.FormLaws.{chain_form, any_form}
 use Rattle.cql_eval.proofs.MoveLaw.{met_is, move_is, part_is, no_part_is}
 use Rattle.cql_eval.proofs.LineAtoms.{part_flat}
 use Rattle.cql_eval.proofs.LineTables.{part_room}
+use Rattle.cql_syntax.specs.Trees.{pair}
+use Rattle.cql_eval.specs.declared.filter_column.FilterColumn.TheVariants.{Sets}
+use Rattle.cql_eval.specs.Covers.{AreCut, AreWorthTrying, MayHold}
+use Rattle.cql_eval.proofs.CoverLaw.{cut_same, cut_then}
+use Rattle.cql_eval.proofs.CoverForms.{tried_same, worth_trying, written_sets, inner_cut, turned_cut, move_cut, pair_cut, one_of_sets, one_of_all, common_cut, all_cut, square_cut, own_cut}
 use Rattle.cql_eval.proofs.evaluate.+evaluate.Goals as goal
 
 pub chains::all_hold-returns-clause-value : goal.chains::all_hold-returns-clause-value
@@ -695,3 +700,116 @@ chains::terms_of-returns-in_err-push-clause-cost g t c =
     terms_cost_within (searched_len (searched_tree c.args.game.now c.args.variations)) c.as_slice-term-items.result.now c.loop-term.term-index c.term-item.result _ c.loop-term.steps
     c.evaluate.new.steps (terms_tree c.args.terms.now) c.loop-term-test.true c.term-item.is c.loop-term.invariant.cost
     c.evaluate.ensures.cost c.as_slice-term-items.ensures.tree
+
+-- the squares that are worth trying
+
+pub covers::cover-returns-then-is_own-clause-cut : goal.covers::cover-returns-then-is_own-clause-cut
+covers::cover-returns-then-is_own-clause-cut g t c =
+    own_cut (searched_tree c.args.game.now c.args.variations) c.args.live.now c.args.opened.now c.args.names.now c.args.name.now (filter_tree c.args.asked.now)
+    c.args.sets.now c.cover_set.new.sets (c.is_own.ensures c.if-is_own.true) c.in_ok-cover_set.ensures.cut
+
+pub covers::cover-returns-in_ok-cover_square-in-Square-clause-cut : goal.covers::cover-returns-in_ok-cover_square-in-Square-clause-cut
+covers::cover-returns-in_ok-cover_square-in-Square-clause-cut g t c =
+    square_cut (searched_tree c.args.game.now c.args.variations) c.args.live.now c.args.opened.now c.args.names.now c.args.name.now (filter_tree c.args.asked.now)
+    (filter_tree c.in-Square.field-2.value) (filter_tree c.deref.result.now) c.args.asked.now.at c.in-Square.every c.as_slice-inner.result.now c.args.sets.now c.cover_square.new.sets
+    (ap (λ form. filter_at c.args.asked.now.at (form_tree form)) c.in-Square.is
+    ∙ sym (ap₂ (λ x p. filter_at c.args.asked.now.at (square c.in-Square.every x (filter_tree c.in-Square.field-2.value) (filter_tree p))) c.as_slice-inner.ensures c.deref.ensures))
+    c.in_ok-cover_square-in-Square.ensures.cut
+
+pub covers::cover-returns-in-Played-clause-cut : goal.covers::cover-returns-in-Played-clause-cut
+covers::cover-returns-in-Played-clause-cut g t c =
+    move_cut (searched_tree c.args.game.now c.args.variations) c.args.live.now c.args.opened.now c.args.names.now c.args.name.now (filter_tree c.args.asked.now)
+    c.args.asked.now.at c.in-Played.played c.is_own_part-origin.result c.is_own_part-goal.result c.is_own_part-taken.result c.args.sets.now c.cut_moves.new.sets
+    (ap (λ form. filter_at c.args.asked.now.at (form_tree form)) c.in-Played.is)
+    c.is_own_part-origin.ensures c.is_own_part-goal.ensures c.is_own_part-taken.ensures c.cut_moves.ensures
+
+pub covers::cover_chain-returns-clause-cut : goal.covers::cover_chain-returns-clause-cut
+covers::cover_chain-returns-clause-cut g t c =
+    all_cut (searched_tree c.args.game.now c.args.variations) c.args.live.now c.args.opened.now c.args.names.now c.args.name.now c.args.chain (filters_tree c.args.parts.now)
+    c.args.sets.now c.cover_all.new.sets (c.is_all.ensures c.if-not-is_all.false) c.in_ok-cover_all.ensures.cut
+
+pub covers::cover_all-loop-class-init : goal.covers::cover_all-loop-class-init
+covers::cover_all-loop-class-init g t c = record { cut = cut_same c.args.live.now _ c.args.sets.now; cost = refl }
+
+pub covers::cover_all-loop-class-preserved : goal.covers::cover_all-loop-class-preserved
+covers::cover_all-loop-class-preserved g t c = record {
+  cut = cut_then c.args.live.now _ c.args.sets.now c.loop-class.sets c.cover_class.new.sets c.loop-class.invariant.cut c.in_ok-cover_class.ensures.cut;
+  cost = c.cover_class.ensures.cost ∙ c.loop-class.invariant.cost;
+}
+
+pub covers::cover_class-loop-part-init : goal.covers::cover_class-loop-part-init
+covers::cover_class-loop-part-init g t c = record {
+  cut = cut_same c.args.live.now _ c.args.sets.now;
+  cost = refl;
+  flat = λ i f h e. filter_flat c.as_slice-part-items.result.now i f (filters_tree c.args.parts.now) h e c.as_slice-part-items.ensures.tree c.requires.flat;
+}
+
+pub covers::cover_class-loop-part-preserved : goal.covers::cover_class-loop-part-preserved
+covers::cover_class-loop-part-preserved g t c = record {
+  cut = one_of_all (searched_tree c.args.game.now c.args.variations) c.args.live.now c.args.opened.now c.args.names.now c.args.name.now c.as_slice-part-items.result.now c.loop-part.part-index
+      c.part-item.result (filters_tree c.args.parts.now) c.args.sets.now c.loop-part.sets c.cover_if.new.sets c.loop-part-test.true c.part-item.is c.as_slice-part-items.ensures.tree
+      c.loop-part.invariant.cut c.in_ok-cover_if.ensures.cut;
+  cost = c.cover_if.ensures.cost ∙ c.loop-part.invariant.cost;
+  flat = c.loop-part.invariant.flat;
+}
+
+pub covers::cover_common-returns-clause-cut : goal.covers::cover_common-returns-clause-cut
+covers::cover_common-returns-clause-cut g t c =
+    common_cut (searched_tree c.args.game.now c.args.variations) c.args.live.now c.args.opened.now c.args.names.now c.args.name.now c.args.chain (filters_tree c.args.parts.now)
+    c.args.sets.now c.cover_each.new.sets (c.is_intersection.ensures c.if-not-is_intersection.false) c.in_ok-cover_each.ensures.cut
+
+pub covers::cover_each-loop-part-init : goal.covers::cover_each-loop-part-init
+covers::cover_each-loop-part-init g t c = record {
+  cut = cut_same c.args.live.now _ c.args.sets.now;
+  cost = refl;
+  flat = λ i f h e. filter_flat c.as_slice-part-items.result.now i f (filters_tree c.args.parts.now) h e c.as_slice-part-items.ensures.tree c.requires.flat;
+}
+
+pub covers::cover_each-loop-part-preserved : goal.covers::cover_each-loop-part-preserved
+covers::cover_each-loop-part-preserved g t c = record {
+  cut = one_of_sets (searched_tree c.args.game.now c.args.variations) c.args.live.now c.args.opened.now c.args.names.now c.args.name.now c.as_slice-part-items.result.now c.loop-part.part-index
+      c.part-item.result (filters_tree c.args.parts.now) c.args.sets.now c.loop-part.sets c.cover_set.new.sets c.loop-part-test.true c.part-item.is c.as_slice-part-items.ensures.tree
+      c.loop-part.invariant.cut c.in_ok-cover_set.ensures.cut;
+  cost = c.cover_set.ensures.cost ∙ c.loop-part.invariant.cost;
+  flat = c.loop-part.invariant.flat;
+}
+
+pub covers::cover_set-returns-in_ok-cover_related-in-Pair-clause-cut : goal.covers::cover_set-returns-in_ok-cover_related-in-Pair-clause-cut
+covers::cover_set-returns-in_ok-cover_related-in-Pair-clause-cut g t c =
+    pair_cut (searched_tree c.args.game.now c.args.variations) c.args.live.now c.args.opened.now c.args.names.now c.args.name.now (filter_tree c.args.asked.now)
+    (filter_tree c.deref.result.now) (filter_tree c.deref-in-Pair.result.now) c.args.asked.now.at c.in-Pair.pair c.args.sets.now c.cover_set.new.sets c.cover_related.new.sets
+    (ap (λ form. filter_at c.args.asked.now.at (form_tree form)) c.in-Pair.is
+    ∙ sym (ap₂ (λ p q. filter_at c.args.asked.now.at (pair c.in-Pair.pair (filter_tree p) (filter_tree q))) c.deref.ensures c.deref-in-Pair.ensures))
+    (c.is_attack.ensures c.if-not-is_attack.false) c.in_ok-cover_set-in-Pair.ensures.cut c.in_ok-cover_related-in-Pair.ensures.cut
+
+pub covers::cover-returns-in_ok-cover_related-in-Pair-clause-cut : goal.covers::cover-returns-in_ok-cover_related-in-Pair-clause-cut
+covers::cover-returns-in_ok-cover_related-in-Pair-clause-cut g t c =
+    turned_cut (searched_tree c.args.game.now c.args.variations) c.args.live.now c.args.opened.now c.args.names.now c.args.name.now (filter_tree c.args.asked.now)
+    (filter_tree c.deref-in-Pair-2.result.now) (filter_tree c.deref-in-Pair.result.now) c.args.asked.now.at c.in-Pair.pair c.turned-other.result c.args.sets.now c.cover_related.new.sets
+    (ap (λ form. filter_at c.args.asked.now.at (form_tree form)) c.in-Pair.is
+    ∙ sym (ap₂ (λ p q. filter_at c.args.asked.now.at (pair c.in-Pair.pair (filter_tree p) (filter_tree q))) c.deref-in-Pair-2.ensures c.deref-in-Pair.ensures))
+    (c.is_attack.ensures c.if-not-is_attack.false) c.turned-other.ensures.attacks c.turned-other.ensures.attacked (c.is_own-in-Pair.ensures c.if-not-is_own.false)
+    c.in_ok-cover_related-in-Pair.ensures.cut
+
+pub covers::cover_square-returns-clause-cut : goal.covers::cover_square-returns-clause-cut
+covers::cover_square-returns-clause-cut g t c =
+    let other = c.is_other.ensures c.if-not-is_other.false in
+    inner_cut (searched_tree c.args.game.now c.args.variations) c.args.live.now c.args.opened.now _ c.args.names.now c.args.name.now c.args.inner.now (filter_tree c.args.part.now)
+    c.args.every c.args.sets.now c.cover.new.sets other.0 other.1 (c.in_ok-wider.ensures ∙ ap (λ k. (c.args.inner.now, k) ∷ c.args.opened.now) c.new.ensures) c.in_ok-cover.ensures.cut
+
+pub squares::covered_sets-returns-clause-worth : goal.squares::covered_sets-returns-clause-worth
+squares::covered_sets-returns-clause-worth g t c =
+    subst (AreWorthTrying (shown c.args.squares.now) c.args.live.now
+    (λ n s. holds (value (searched_tree c.args.game.now c.args.variations) [] ((c.args.name.now, s) ∷ c.args.names.now) (filter_tree c.args.asked.now) n)))
+    (sym (written_sets c.in_ok-sets.sets.len c.cover.new.sets c.in_ok-sets.sets.items (omega (arith, c.cover.ensures.len, c.deref_mut.ensures.len))))
+    (worth_trying (searched_tree c.args.game.now c.args.variations) c.args.live.now c.in_ok-opened.opened c.args.names.now c.args.name.now (filter_tree c.args.asked.now) (shown c.args.squares.now)
+    c.in_ok-sets.sets.items c.cover.new.sets c.in_ok-opened.ensures c.in_ok-sets.ensures
+    (subst (λ old. AreCut c.args.live.now (MayHold c.in_ok-opened.opened c.args.names.now c.args.name.now
+    (λ e. value (searched_tree c.args.game.now c.args.variations) [] e (filter_tree c.args.asked.now))) old c.cover.new.sets) c.deref_mut.ensures.value c.in_ok-cover.ensures.cut))
+
+pub squares::asked_truths-returns-clause-value : goal.squares::asked_truths-returns-clause-value
+squares::asked_truths-returns-clause-value g t c = λ n l.
+    c.in_ok-truths.ensures.value n l
+    ∙ tried_same c.args.every (shown c.args.squares.now n) (shown (Sets c.in_ok-sets.sets) n)
+    (λ s. holds (value (searched_tree c.args.game.now c.args.variations) [] ((c.args.name.now, s) ∷ c.args.names.now) (filter_tree c.args.asked.now) n)) c.if-every.false
+    (λ s. c.in_ok-sets.ensures.worth.within n s l) (λ s. c.in_ok-sets.ensures.worth.keeps n s l)

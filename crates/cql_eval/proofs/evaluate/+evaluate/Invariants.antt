@@ -1,12 +1,13 @@
 use Rattle.std.specs.Prelude.{◌≡◌, ℕ, ◌<◌, get_or, [], ◌∷◌, take, drop, length, ◌+◌, ◌-◌, ◌*◌, ◌≤◌}
 use Rattle.cql_syntax.specs.Meaning.{value, values, term_values}
 use Rattle.cql_syntax.specs.TreeOf.{filter_tree, filter_trees, filters_tree, term_trees, part_trees, body_tree}
-use Rattle.cql_syntax.specs.Values.{holds}
+use Rattle.cql_syntax.specs.Values.{holds, all_hold, intersection_of}
 use Rattle.cql_values.specs.Trees.{searched_tree}
 use Rattle.cql_eval.specs.Asked.{AreWanted}
 use Rattle.cql_eval.specs.Classes.{is_of, is_before, are_so, cost_of, IsLeft}
 use Rattle.cql_eval.specs.Columns.{AreAsked, Where, shown, all_shown, terms_shown}
 use Rattle.cql_eval.specs.Costs.{filter_cost, filters_cost, terms_cost, parts_cost, body_atoms, searched_len}
+use Rattle.cql_eval.specs.Covers.{AreCut, MayHave, MayHold}
 use Rattle.cql_eval.specs.FlatTrees.{IsFlat, IsFlatBody}
 use Rattle.cql_eval.specs.LineAtoms.{HasRoom}
 use Rattle.cql_syntax.specs.declared.tree.Constituent.{Constituent}
@@ -63,6 +64,29 @@ invariant-squares::square_truths-loop-number g l = record {
   cost : l.steps + (64 - l.number) * filter_cost (searched_len (searched_tree l.game l.variations)) (filter_tree l.asked)
       ≤ l.fn.steps + 64 * filter_cost (searched_len (searched_tree l.game l.variations)) (filter_tree l.asked);
   rises : l.fn.steps ≤ l.steps;
+}
+
+abbrev pub invariant-covers::cover_all-loop-class : goal.invariant-covers::cover_all-loop-class
+invariant-covers::cover_all-loop-class g l = record {
+  cut : AreCut l.live (MayHold l.opened l.names l.name
+      (λ e n. all_hold (values (searched_tree l.game l.variations) [] e (filters_tree l.parts) n))) l.fn.sets l.sets;
+  cost : l.steps ≡ l.fn.steps;
+}
+
+abbrev pub invariant-covers::cover_class-loop-part : goal.invariant-covers::cover_class-loop-part
+invariant-covers::cover_class-loop-part g l = record {
+  cut : AreCut l.live (MayHold l.opened l.names l.name
+      (λ e n. all_hold (values (searched_tree l.game l.variations) [] e (filters_tree l.parts) n))) l.fn.sets l.sets;
+  cost : l.steps ≡ l.fn.steps;
+  flat : (i : ℕ) (f : Filter) → i < length l.part-items → f ≡ get_or l.part-items i f → IsFlat (filter_tree f);
+}
+
+abbrev pub invariant-covers::cover_each-loop-part : goal.invariant-covers::cover_each-loop-part
+invariant-covers::cover_each-loop-part g l = record {
+  cut : AreCut l.live (MayHave l.opened l.names l.name
+      (λ e n. intersection_of (values (searched_tree l.game l.variations) [] e (filters_tree l.parts) n))) l.fn.sets l.sets;
+  cost : l.steps ≡ l.fn.steps;
+  flat : (i : ℕ) (f : Filter) → i < length l.part-items → f ≡ get_or l.part-items i f → IsFlat (filter_tree f);
 }
 
 abbrev pub invariant-lines::put_parts-loop-part : goal.invariant-lines::put_parts-loop-part

@@ -1,0 +1,468 @@
+//! Squares that are worth trying: of the squares of sets those with which what is asked may hold.
+ghost use Rattle.std.specs.Prelude.{◌≡◌, ◌⊎◌, ℕ, [], ◌∷◌, length, true, false, OnOk};
+ghost use Rattle.cq_position.specs.Games.{IsTree, node_at};
+ghost use Rattle.cql_syntax.specs.Meaning as meaning;
+ghost use Rattle.cql_syntax.specs.TreeOf.{filter_tree, filters_tree};
+ghost use Rattle.cql_syntax.specs.Values as spec;
+ghost use Rattle.cql_syntax.specs.declared.leaves.Pair.TheVariants.{Attacks, AttackedBy};
+ghost use Rattle.cql_values.specs.Trees.{searched_tree};
+ghost use Rattle.cql_eval.specs.Columns.{AreAsked};
+ghost use Rattle.cql_eval.specs.Covers.{AreCut, IsFree, MayHave, MayHold};
+ghost use Rattle.cql_eval.specs.FlatTrees.{IsFlat, AreFlat};
+
+use super::evaluate;
+use crate::covers::{cut, cut_moves, cut_related, cut_where_fails, with_squares};
+use crate::free::{
+    is_all, is_attack, is_free, is_intersection, is_other, is_own, is_own_part, turned,
+};
+use crate::order::{SORTS, is_of_class};
+use cq_geometry::Square;
+use cq_outside::{NoMemory, Steps};
+use cql_syntax::{Chain, Filter, Filters, Form, Pair};
+use cql_values::names::Names;
+use pgn_tree::Game;
+use std::alloc::Global;
+use std::sync::ledger::Ledger;
+
+/// Leaves those squares of sets with which what is asked may hold.
+#[cycle(evaluate)]
+#[tactic(auto, unfolding(cql_syntax::specs::Meaning::value, crate::specs::FlatTrees::unflat))]
+pub(super) fn cover<L: Ledger>(
+    alloc: Global,
+    opened: &Names,
+    name: &[u8],
+    asked: &Filter,
+    game: &Game,
+    variations: bool,
+    names: &Names,
+    live: &[bool],
+    sets: &mut [u64],
+    steps: &mut Steps<L>,
+) -> Result<(), NoMemory>
+    requires tree { IsTree game.now.nodes }
+    requires asked { AreAsked (searched_tree game.now variations) live.now }
+    requires count { length sets.old ≡ length live.now }
+    requires flat { IsFlat (filter_tree asked.now) }
+    ensures cut { OnOk result (AreCut live.now (MayHold opened.now names.now name.now
+        (λ e. meaning.value (searched_tree game.now variations) [] e (filter_tree asked.now))) sets.old sets.new) }
+    ensures len { length sets.new ≡ length sets.old }
+    ensures cost { steps.new ≡ steps.old }
+{
+    if is_free(opened, asked) {
+        return cover_free(
+            alloc, opened, name, asked, game, variations, names, live, sets, steps,
+        );
+    }
+    if is_own(name, asked) {
+        cover_set(
+            alloc, opened, name, asked, game, variations, names, live, sets, steps,
+        )?;
+        return Ok(());
+    }
+    match &asked.form {
+        Form::Chain(chain, parts) => cover_chain(
+            alloc, opened, name, *chain, parts, game, variations, names, live, sets, steps,
+        ),
+        Form::Square(every, inner, _, part) => {
+            let inner = inner.as_slice();
+            cover_square(
+                alloc, opened, name, *every, inner, part, game, variations, names, live, sets,
+                steps,
+            )?;
+            Ok(())
+        }
+        Form::Played(played) => {
+            let origin = is_own_part(name, &played.origin);
+            let goal = is_own_part(name, &played.goal);
+            let taken = is_own_part(name, &played.taken);
+            cut_moves(sets, live, game, variations, origin, goal, taken);
+            Ok(())
+        }
+        Form::Pair(pair, first, second) => {
+            if !is_attack(*pair) {
+                return Ok(());
+            }
+            if !is_own(name, second) {
+                return Ok(());
+            }
+            let other = turned(*pair);
+            cover_related(
+                alloc, opened, name, other, first, game, variations, names, live, sets, steps,
+            )?;
+            Ok(())
+        }
+        _ => Ok(()),
+    }
+}
+
+// Of a filter in which no name that is open stands.
+#[cycle(evaluate)]
+fn cover_free<L: Ledger>(
+    alloc: Global,
+    opened: &Names,
+    name: &[u8],
+    asked: &Filter,
+    game: &Game,
+    variations: bool,
+    names: &Names,
+    live: &[bool],
+    sets: &mut [u64],
+    steps: &mut Steps<L>,
+) -> Result<(), NoMemory>
+    requires tree { IsTree game.now.nodes }
+    requires asked { AreAsked (searched_tree game.now variations) live.now }
+    requires count { length sets.old ≡ length live.now }
+    requires flat { IsFlat (filter_tree asked.now) }
+    requires free { IsFree opened.now (filter_tree asked.now) }
+    ensures cut { OnOk result (AreCut live.now (MayHold opened.now names.now name.now
+        (λ e. meaning.value (searched_tree game.now variations) [] e (filter_tree asked.now))) sets.old sets.new) }
+    ensures len { length sets.new ≡ length sets.old }
+    ensures cost { steps.new ≡ steps.old }
+{
+    let some = with_squares(alloc, game, variations, live, sets)?;
+    let column = evaluate(alloc, asked, game, variations, names, &some, steps)?;
+    cut_where_fails(sets, &some, &column);
+    Ok(())
+}
+
+// Of the filters of a chain: of those that must all hold.
+#[cycle(evaluate)]
+fn cover_chain<L: Ledger>(
+    alloc: Global,
+    opened: &Names,
+    name: &[u8],
+    chain: Chain,
+    parts: &Filters,
+    game: &Game,
+    variations: bool,
+    names: &Names,
+    live: &[bool],
+    sets: &mut [u64],
+    steps: &mut Steps<L>,
+) -> Result<(), NoMemory>
+    requires tree { IsTree game.now.nodes }
+    requires asked { AreAsked (searched_tree game.now variations) live.now }
+    requires count { length sets.old ≡ length live.now }
+    requires flat { AreFlat (filters_tree parts.now) }
+    ensures cut { OnOk result (AreCut live.now (MayHold opened.now names.now name.now
+        (λ e n. spec.chain_of chain (meaning.values (searched_tree game.now variations) [] e (filters_tree parts.now) n))) sets.old sets.new) }
+    ensures len { length sets.new ≡ length sets.old }
+    ensures cost { steps.new ≡ steps.old }
+{
+    if !is_all(chain) {
+        return Ok(());
+    }
+    cover_all(
+        alloc, opened, name, parts, game, variations, names, live, sets, steps,
+    )?;
+    Ok(())
+}
+
+// Of filters that must all hold, class by class.
+#[cycle(evaluate)]
+fn cover_all<L: Ledger>(
+    alloc: Global,
+    opened: &Names,
+    name: &[u8],
+    parts: &Filters,
+    game: &Game,
+    variations: bool,
+    names: &Names,
+    live: &[bool],
+    sets: &mut [u64],
+    steps: &mut Steps<L>,
+) -> Result<(), NoMemory>
+    requires tree { IsTree game.now.nodes }
+    requires asked { AreAsked (searched_tree game.now variations) live.now }
+    requires count { length sets.old ≡ length live.now }
+    requires flat { AreFlat (filters_tree parts.now) }
+    ensures cut { OnOk result (AreCut live.now (MayHold opened.now names.now name.now
+        (λ e n. spec.all_hold (meaning.values (searched_tree game.now variations) [] e (filters_tree parts.now) n))) sets.old sets.new) }
+    ensures len { length sets.new ≡ length sets.old }
+    ensures cost { steps.new ≡ steps.old }
+{
+    for class in 0..SORTS {
+        cover_class(
+            alloc, opened, name, class, parts, game, variations, names, live, sets, steps,
+        )?;
+    }
+    Ok(())
+}
+
+// Of the filters of a class.
+#[cycle(evaluate)]
+fn cover_class<L: Ledger>(
+    alloc: Global,
+    opened: &Names,
+    name: &[u8],
+    class: u32,
+    parts: &Filters,
+    game: &Game,
+    variations: bool,
+    names: &Names,
+    live: &[bool],
+    sets: &mut [u64],
+    steps: &mut Steps<L>,
+) -> Result<(), NoMemory>
+    requires tree { IsTree game.now.nodes }
+    requires asked { AreAsked (searched_tree game.now variations) live.now }
+    requires count { length sets.old ≡ length live.now }
+    requires flat { AreFlat (filters_tree parts.now) }
+    ensures cut { OnOk result (AreCut live.now (MayHold opened.now names.now name.now
+        (λ e n. spec.all_hold (meaning.values (searched_tree game.now variations) [] e (filters_tree parts.now) n))) sets.old sets.new) }
+    ensures len { length sets.new ≡ length sets.old }
+    ensures cost { steps.new ≡ steps.old }
+{
+    for part in parts.as_slice() {
+        cover_if(
+            alloc, opened, name, class, part, game, variations, names, live, sets, steps,
+        )?;
+    }
+    Ok(())
+}
+
+// Of one filter, if it is of the class.
+#[cycle(evaluate)]
+fn cover_if<L: Ledger>(
+    alloc: Global,
+    opened: &Names,
+    name: &[u8],
+    class: u32,
+    part: &Filter,
+    game: &Game,
+    variations: bool,
+    names: &Names,
+    live: &[bool],
+    sets: &mut [u64],
+    steps: &mut Steps<L>,
+) -> Result<(), NoMemory>
+    requires tree { IsTree game.now.nodes }
+    requires asked { AreAsked (searched_tree game.now variations) live.now }
+    requires count { length sets.old ≡ length live.now }
+    requires flat { IsFlat (filter_tree part.now) }
+    ensures cut { OnOk result (AreCut live.now (MayHold opened.now names.now name.now
+        (λ e. meaning.value (searched_tree game.now variations) [] e (filter_tree part.now))) sets.old sets.new) }
+    ensures len { length sets.new ≡ length sets.old }
+    ensures cost { steps.new ≡ steps.old }
+{
+    if !is_of_class(part, class) {
+        return Ok(());
+    }
+    cover(
+        alloc, opened, name, part, game, variations, names, live, sets, steps,
+    )
+}
+
+// Of what is asked of some square under another name, whatever that square is.
+#[cycle(evaluate)]
+fn cover_square<L: Ledger>(
+    alloc: Global,
+    opened: &Names,
+    name: &[u8],
+    every: bool,
+    inner: &[u8],
+    part: &Filter,
+    game: &Game,
+    variations: bool,
+    names: &Names,
+    live: &[bool],
+    sets: &mut [u64],
+    steps: &mut Steps<L>,
+) -> Result<(), NoMemory>
+    requires tree { IsTree game.now.nodes }
+    requires asked { AreAsked (searched_tree game.now variations) live.now }
+    requires count { length sets.old ≡ length live.now }
+    requires flat { IsFlat (filter_tree part.now) }
+    ensures cut { OnOk result ((x : meaning.Names → ℕ → spec.Value) → AreCut live.now (MayHold opened.now names.now name.now
+        (λ e n. spec.square_of every (x e n) (λ s. spec.holds (meaning.value (searched_tree game.now variations) []
+        ((inner.now, s) ∷ e) (filter_tree part.now) n)))) sets.old sets.new) }
+    ensures len { length sets.new ≡ length sets.old }
+    ensures cost { steps.new ≡ steps.old }
+{
+    if !is_other(every, inner, name) {
+        return Ok(());
+    }
+    let wider = opened.with(alloc, inner, Square::new(0))?;
+    cover(
+        alloc, &wider, name, part, game, variations, names, live, sets, steps,
+    )?;
+    Ok(())
+}
+
+// Leaves those squares of sets that what is asked may have among its squares.
+#[cycle(evaluate)]
+#[tactic(auto, unfolding(cql_syntax::specs::Meaning::value, crate::specs::FlatTrees::unflat))]
+fn cover_set<L: Ledger>(
+    alloc: Global,
+    opened: &Names,
+    name: &[u8],
+    asked: &Filter,
+    game: &Game,
+    variations: bool,
+    names: &Names,
+    live: &[bool],
+    sets: &mut [u64],
+    steps: &mut Steps<L>,
+) -> Result<(), NoMemory>
+    requires tree { IsTree game.now.nodes }
+    requires asked { AreAsked (searched_tree game.now variations) live.now }
+    requires count { length sets.old ≡ length live.now }
+    requires flat { IsFlat (filter_tree asked.now) }
+    ensures cut { OnOk result (AreCut live.now (MayHave opened.now names.now name.now
+        (λ e. meaning.value (searched_tree game.now variations) [] e (filter_tree asked.now))) sets.old sets.new) }
+    ensures len { length sets.new ≡ length sets.old }
+    ensures cost { steps.new ≡ steps.old }
+{
+    if is_free(opened, asked) {
+        return cover_free_set(
+            alloc, opened, name, asked, game, variations, names, live, sets, steps,
+        );
+    }
+    match &asked.form {
+        Form::Chain(chain, parts) => cover_common(
+            alloc, opened, name, *chain, parts, game, variations, names, live, sets, steps,
+        ),
+        Form::Pair(pair, first, second) => {
+            if !is_attack(*pair) {
+                return Ok(());
+            }
+            cover_set(
+                alloc, opened, name, first, game, variations, names, live, sets, steps,
+            )?;
+            cover_related(
+                alloc, opened, name, *pair, second, game, variations, names, live, sets, steps,
+            )?;
+            Ok(())
+        }
+        _ => Ok(()),
+    }
+}
+
+// Of a set in which no name that is open stands.
+#[cycle(evaluate)]
+fn cover_free_set<L: Ledger>(
+    alloc: Global,
+    opened: &Names,
+    name: &[u8],
+    asked: &Filter,
+    game: &Game,
+    variations: bool,
+    names: &Names,
+    live: &[bool],
+    sets: &mut [u64],
+    steps: &mut Steps<L>,
+) -> Result<(), NoMemory>
+    requires tree { IsTree game.now.nodes }
+    requires asked { AreAsked (searched_tree game.now variations) live.now }
+    requires count { length sets.old ≡ length live.now }
+    requires flat { IsFlat (filter_tree asked.now) }
+    requires free { IsFree opened.now (filter_tree asked.now) }
+    ensures cut { OnOk result (AreCut live.now (MayHave opened.now names.now name.now
+        (λ e. meaning.value (searched_tree game.now variations) [] e (filter_tree asked.now))) sets.old sets.new) }
+    ensures len { length sets.new ≡ length sets.old }
+    ensures cost { steps.new ≡ steps.old }
+{
+    let some = with_squares(alloc, game, variations, live, sets)?;
+    let column = evaluate(alloc, asked, game, variations, names, &some, steps)?;
+    cut(sets, &some, &column);
+    Ok(())
+}
+
+// Of the squares that some sets have in common.
+#[cycle(evaluate)]
+fn cover_common<L: Ledger>(
+    alloc: Global,
+    opened: &Names,
+    name: &[u8],
+    chain: Chain,
+    parts: &Filters,
+    game: &Game,
+    variations: bool,
+    names: &Names,
+    live: &[bool],
+    sets: &mut [u64],
+    steps: &mut Steps<L>,
+) -> Result<(), NoMemory>
+    requires tree { IsTree game.now.nodes }
+    requires asked { AreAsked (searched_tree game.now variations) live.now }
+    requires count { length sets.old ≡ length live.now }
+    requires flat { AreFlat (filters_tree parts.now) }
+    ensures cut { OnOk result (AreCut live.now (MayHave opened.now names.now name.now
+        (λ e n. spec.chain_of chain (meaning.values (searched_tree game.now variations) [] e (filters_tree parts.now) n))) sets.old sets.new) }
+    ensures len { length sets.new ≡ length sets.old }
+    ensures cost { steps.new ≡ steps.old }
+{
+    if !is_intersection(chain) {
+        return Ok(());
+    }
+    cover_each(
+        alloc, opened, name, parts, game, variations, names, live, sets, steps,
+    )?;
+    Ok(())
+}
+
+// Of sets, each of which has the squares.
+#[cycle(evaluate)]
+fn cover_each<L: Ledger>(
+    alloc: Global,
+    opened: &Names,
+    name: &[u8],
+    parts: &Filters,
+    game: &Game,
+    variations: bool,
+    names: &Names,
+    live: &[bool],
+    sets: &mut [u64],
+    steps: &mut Steps<L>,
+) -> Result<(), NoMemory>
+    requires tree { IsTree game.now.nodes }
+    requires asked { AreAsked (searched_tree game.now variations) live.now }
+    requires count { length sets.old ≡ length live.now }
+    requires flat { AreFlat (filters_tree parts.now) }
+    ensures cut { OnOk result (AreCut live.now (MayHave opened.now names.now name.now
+        (λ e n. spec.intersection_of (meaning.values (searched_tree game.now variations) [] e (filters_tree parts.now) n))) sets.old sets.new) }
+    ensures len { length sets.new ≡ length sets.old }
+    ensures cost { steps.new ≡ steps.old }
+{
+    for part in parts.as_slice() {
+        cover_set(
+            alloc, opened, name, part, game, variations, names, live, sets, steps,
+        )?;
+    }
+    Ok(())
+}
+
+// Of the squares whose men attack a set in which no name that is open stands, or are attacked from it.
+#[cycle(evaluate)]
+fn cover_related<L: Ledger>(
+    alloc: Global,
+    opened: &Names,
+    name: &[u8],
+    pair: Pair,
+    second: &Filter,
+    game: &Game,
+    variations: bool,
+    names: &Names,
+    live: &[bool],
+    sets: &mut [u64],
+    steps: &mut Steps<L>,
+) -> Result<(), NoMemory>
+    requires tree { IsTree game.now.nodes }
+    requires asked { AreAsked (searched_tree game.now variations) live.now }
+    requires count { length sets.old ≡ length live.now }
+    requires flat { IsFlat (filter_tree second.now) }
+    requires attack { (pair ≡ Attacks) ⊎ (pair ≡ AttackedBy) }
+    ensures cut { OnOk result ((v : meaning.Names → ℕ → spec.Value) → AreCut live.now (MayHave opened.now names.now name.now
+        (λ e n. spec.pair_of (node_at game.now.nodes n).position.men pair (v e n)
+        (meaning.value (searched_tree game.now variations) [] e (filter_tree second.now) n))) sets.old sets.new) }
+    ensures len { length sets.new ≡ length sets.old }
+    ensures cost { steps.new ≡ steps.old }
+{
+    if !is_free(opened, second) {
+        return Ok(());
+    }
+    let some = with_squares(alloc, game, variations, live, sets)?;
+    let column = evaluate(alloc, second, game, variations, names, &some, steps)?;
+    cut_related(sets, &some, game, variations, pair, &column);
+    Ok(())
+}
