@@ -2,6 +2,7 @@
 
 from __future__ import annotations
 
+import re
 from collections.abc import Callable, Iterable, Iterator
 from dataclasses import dataclass
 from functools import cached_property
@@ -10,6 +11,10 @@ from .games import Game, Node
 
 SUFFIXES = {1: "!", 2: "?", 3: "!!", 4: "??", 5: "!?", 6: "?!"}
 UNKNOWN = ("", "?", "????.??.??", "-")
+# what cqlpgn-problems writes as the event of a problem's game
+STIPULATION = re.compile(r"(?:direct|help|self|reflex|study) ([^ ]{1,20})\.( by Black)?")
+SOLUTION = 6  # moves of both sides, at most, of an exercise's solution
+SOLVED = 400  # words, at most, of a problem's solution
 STANDARD = "rnbqkbnr/pppppppp/8/8/8/8/PPPPPPPP/RNBQKBNR w KQkq - 0 1"
 
 
@@ -42,8 +47,10 @@ class Tree:
 
     @cached_property
     def players(self) -> list[str]:
-        """White and Black, or the event where neither is known."""
+        """White and Black, or the event where neither is known; of a problem composers and keywords, as far as they are known."""
         both = [self.game.tags.get(side, "?") for side in ("White", "Black")]
+        if self.stipulation:
+            return [told for told in both if told not in UNKNOWN]
         event = self.game.tags.get("Event", "?")
         return [event] if both == ["?", "?"] and event not in UNKNOWN else both
 
@@ -54,6 +61,18 @@ class Tree:
         if len(self.players) == 1:
             values = values[1:]
         return [value.replace(".??", "") for value in values if value not in UNKNOWN]
+
+    @cached_property
+    def stipulation(self) -> str:
+        """What is to be done, as `#2`, where the game is the solution of a problem; else empty."""
+        told = STIPULATION.fullmatch(self.game.tags.get("Event", ""))
+        return told[1].replace(",", ".") + (told[2] or "") if told else ""
+
+    @cached_property
+    def composers(self) -> str:
+        """Who composed a problem; empty where that is not known."""
+        white = self.game.tags.get("White", "?")
+        return "" if white in UNKNOWN else white
 
 
 def moved(node: Node) -> str:
@@ -93,6 +112,19 @@ class Match:
         """The squares from and to of the move that led there; None at the start and after a null move."""
         return None if self.node is None or self.node.is_null else (self.node.uci[:2], self.node.uci[2:4])
 
+    @property
+    def is_problem(self) -> bool:
+        """Whether it is the diagram of a problem."""
+        return self.node is None and bool(self.tree.stipulation)
+
+    def solution(self, text: Callable[[str], str], comment: Callable[[str], str]) -> str:
+        """How an exercise is solved: some moves, and of a problem variations too, with what is said of them. `text` and `comment` write a
+        move and a comment."""
+        if not self.is_problem:
+            return " ".join(map(text, self.went_on(SOLUTION)))
+        words = Solution(self.tree, text, comment).line(0, True)
+        return " ".join(words if len(words) <= SOLVED else [*words[:SOLVED], text("…")])
+
     def went_on(self, most: int) -> list[str]:
         """So many of the moves that came after, at most, by first children; the last word is an ellipsis where more came, and else the
         result, if it is the end of the main line."""
@@ -105,6 +137,28 @@ class Match:
             at, due = node.number, False
         end = "…" if self.tree.children[at] else self.tree.game.result if depth == 0 else ""
         return [*words, end] if end else words
+
+
+class Solution:
+    """The words of a tree of moves; `text` and `comment` write a move and a comment."""
+
+    def __init__(self, tree: Tree, text: Callable[[str], str], comment: Callable[[str], str]) -> None:
+        self._tree, self._text, self._comment = tree, text, comment
+
+    def _said(self, node: Node, due: bool) -> list[str]:
+        return [self._text(self._tree.number(node, due) + moved(node)), *map(self._comment, node.comments)]
+
+    def line(self, at: int, due: bool) -> list[str]:
+        """What came after a position; the variations of a move stand after it, in parentheses."""
+        words: list[str] = []
+        while children := self._tree.children[at]:
+            words += self._said(children[0], due)
+            for other in children[1:]:
+                inner = [*self._said(other, True), *self.line(other.number, bool(other.comments))]
+                words += ["(" + inner[0], *inner[1:-1], inner[-1] + ")"] if len(inner) > 1 else [f"({inner[0]})"]
+            due = len(children) > 1 or bool(children[0].comments)
+            at = children[0].number
+        return words
 
 
 def has_mark(marks: Iterable[str]) -> Callable[[list[str]], bool]:

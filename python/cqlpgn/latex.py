@@ -9,7 +9,6 @@ from dataclasses import dataclass
 from .boards import Match
 
 ON = 12  # so many moves of both sides, at most, are printed of what came after
-SOLUTION = 6
 LONGEST = 200  # so many letters of a comment
 SIGNS = {"\\": r"\textbackslash{}", "~": r"\textasciitilde{}", "^": r"\textasciicircum{}", "…": r"\dots{}", "–": "--", "—": "---"}
 SIGNS |= {"“": "``", "”": "''", "‘": "`", "’": "'", "-": "{-}", '"': "''", "<": r"\textless{}", ">": r"\textgreater{}", "`": "{`}"}
@@ -82,6 +81,9 @@ def _names(match: Match) -> str:
 
 
 def _caption(match: Match, style: Style) -> str:
+    if style.exercises and match.is_problem:
+        composers = rf"\par {plain(match.tree.composers)}" if match.tree.composers else ""
+        return rf"\textbf{{{match.number}}}\quad {plain(match.tree.stipulation)}{composers}"
     if style.exercises:
         return rf"\textbf{{{match.number}}}\quad {match.side}"
     comments = " ".join(rf"\emph{{{plain(comment[:LONGEST])}}}" for comment in match.comments)
@@ -112,7 +114,8 @@ def _solutions(matches: Iterable[Match]) -> Iterator[str]:
     for match in matches:
         where = plain(", ".join(match.tree.where))
         said = "".join(f" {plain(comment)}" for comment in match.comments)
-        yield rf"\textbf{{{match.number}}} {_moves(match, SOLUTION)}{said} \hfill {{\footnotesize {_names(match)}, {where}}}\par" + "\n"
+        moves = match.solution(plain, lambda comment: rf"\emph{{{plain(comment[:LONGEST])}}}")
+        yield rf"\textbf{{{match.number}}} {moves}{said} \hfill {{\footnotesize {_names(match)}, {where}}}\par" + "\n"
 
 
 def document(files: Iterable[tuple[str, list[Match]]], style: Style) -> Iterator[str]:

@@ -12,7 +12,7 @@ from importlib import resources
 
 from .boards import STANDARD, SUFFIXES, UNKNOWN, Match, Tree, moved
 from .games import Node
-from .latex import SOLUTION, Style
+from .latex import Style
 
 FILES = "abcdefgh"
 SQUARES = "ABCDEFGHIJKLMNOPQRSTUVWXYZabcdefghijklmnopqrstuvwxyz0123456789+-"
@@ -68,7 +68,17 @@ def printed(match: Match) -> str:
 def solution(match: Match) -> str:
     said = "".join(f" <em>{isolated(comment)}</em>" for comment in match.comments)
     where = ", ".join([players(match.tree), *map(isolated, match.tree.where)])
-    return f"<details><summary>solution</summary>{escape(' '.join(match.went_on(SOLUTION)))}{said}<br><small>{where}</small></details>"
+    moves = match.solution(escape, lambda comment: f"<em>{isolated(comment)}</em>")
+    return f"<details><summary>solution</summary>{moves}{said}<br><small>{where}</small></details>"
+
+
+def exercise(match: Match) -> str:
+    """What stands below the board of an exercise: its number, and of a problem its stipulation and who composed it."""
+    stipulation = f"<strong>{match.number}</strong>"
+    if not match.is_problem:
+        return stipulation
+    composers = match.tree.composers
+    return f"{stipulation} {isolated(match.tree.stipulation)}" + (f" · {isolated(composers)}" if composers else "")
 
 
 class Writer:
@@ -160,7 +170,7 @@ def _exercises(sections: list[Section], style: Style) -> str:
     for section in sections:
         if len(sections) > 1:
             out.append(f"<h1>{isolated(section.title)}</h1>\n")
-        boards = [figure(match, f"<strong>{match.number}</strong>", style) for _, matches in section.games for match in matches]
+        boards = [figure(match, exercise(match), style) for _, matches in section.games for match in matches]
         out.append(f'<article class="exercises">\n<div class="boards">\n{"".join(boards)}</div>\n</article>\n')
     return "".join(out)
 

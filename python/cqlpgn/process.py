@@ -111,7 +111,7 @@ class Process:
                 self._room.flush()
             call += [name or self._room_name if word == self.QUERY else word for word in words]
             source = subprocess.PIPE if blocks is not None else stdin
-            with unbroken():
+            with unbroken(), _starting:
                 self._process = subprocess.Popen(
                     call, stdin=source, stdout=out, stderr=err, pass_fds=(file,), bufsize=BUFFER, pipesize=BUFFER
                 )
@@ -189,12 +189,14 @@ class Process:
                 stream.close()
 
 
-# those that were started and have not ended
+# those that were started and have not ended; one is started at a time, so that none is between its start and its place here
 _running: set[Process] = set()
+_starting = threading.Lock()
 
 
 def end_all() -> None:
-    """Ends whatever runs, at once."""
+    """Ends whatever runs, at once; from then on nothing is started."""
+    _starting.acquire()
     for process in list(_running):
         process.kill()
         process.clear()

@@ -151,6 +151,14 @@ def has_ended(number: int) -> bool:
         return True
 
 
+def all_end(started: list[int]) -> bool:
+    """Whether processes were started and end; one that was killed does so when its turn comes."""
+    end = time.monotonic() + 10
+    while not all(map(has_ended, started)) and time.monotonic() < end:
+        time.sleep(0.05)
+    return bool(started) and all(map(has_ended, started))
+
+
 @pytest.mark.parametrize("kind", [signal.SIGTERM, signal.SIGINT, signal.SIGHUP])
 @pytest.mark.parametrize("options", [["-o", "out.pgn"], ["-j", "2", "-o", "out.pgn"], ["--number", "-o", "out.pgn"], []])
 def test_signals_end_what_was_started(room: Path, kind: signal.Signals, options: list[str]) -> None:
@@ -169,8 +177,8 @@ def test_signals_end_what_was_started(room: Path, kind: signal.Signals, options:
         command.send_signal(kind)
         assert command.wait(20) == 128 + kind
         assert command.stderr is not None and command.stderr.read() == b""
+    assert all_end(started)
     os.close(held)
-    assert started and all(has_ended(child) for child in started)
     assert ((room / "out.pgn").read_bytes(), left(room)) == (OLD, ["out.pgn", "waits.pgn"])
 
 
@@ -203,6 +211,6 @@ def test_signals_end_rows_and_boards(room: Path, command: str, kind: signal.Sign
             time.sleep(0.05)
         run.send_signal(kind)
         assert run.wait(20) == 128 + kind
+    assert all_end(started)
     os.close(held)
-    assert started and all(has_ended(child) for child in started)
     assert ((room / "out").read_bytes(), left(room)) == (OLD, ["out", "waits.pgn"])

@@ -102,7 +102,7 @@ def told(fault: Fault) -> dict[str, Any]:
 
 
 class Page:
-    """`line` is its socket, None while it is away. Of its runs the last one is kept."""
+    """`line` is its socket, None while it is away; what it is told first is the answer to its coming. Of its runs the last one is kept."""
 
     def __init__(self, shared: Shared) -> None:
         self.shared, self.name = shared, secrets.token_urlsafe(16)
@@ -112,7 +112,7 @@ class Page:
         self._shown: dict[int, Sequence[int]] = {}  # of a query the numbers of the games that a filter leaves
         self._due: asyncio.TimerHandle | None = None
         self._one_by_one = asyncio.Lock()
-        self.is_gone = False
+        self.is_gone = self.is_greeted = False
         self._answers: dict[str, Callable[[Words], Awaitable[Any]]] = {
             "check": self._check,
             "explain": self._explain,
@@ -141,6 +141,7 @@ class Page:
         folder = self.shared.folder
         there, saved = await asyncio.to_thread(folder.archives), await asyncio.to_thread(folder.queries)
         run = self.run.words() if self.run else None
+        self.is_greeted = True
         said = {"page": self.name, "folder": folder.path, "archives": there, "queries": saved, "history": self.shared.history, "run": run}
         await self.send(said | library)
 
@@ -156,7 +157,7 @@ class Page:
 
     def _tell(self) -> None:
         self._due = None
-        if self.run:
+        if self.run and self.is_greeted:
             self.shared.keep(self.send({"run": self.run.words()}))
 
     async def end(self) -> None:

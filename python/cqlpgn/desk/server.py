@@ -127,7 +127,7 @@ class Desk:
         socket = web.WebSocketResponse(heartbeat=20, max_msg_size=1 << 20, compress=False)
         await socket.prepare(request)
         page = await self._page(request.query.get("page", ""), "back" in request.query)
-        page.line = socket
+        page.line, page.is_greeted = socket, False
         if away := self._away.pop(page.name, None):
             away.cancel()
         self.seen.set()
