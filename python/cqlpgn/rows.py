@@ -77,8 +77,8 @@ def positions(game: Game, mark: str, archive: str | None = None, number: int | N
 
 
 class Index:
-    """Where the games of a file came from, as `cqlpgn-over --number` writes it: rows `found,archive,game`, the first of them ascending; `game`
-    is empty where it is not known. It is read as it is asked, by ascending numbers. Raises `Unreadable`."""
+    """Where the games of a file came from, as `cqlpgn-over --number` writes it: rows `found,archive,game` by ascending numbers `found`;
+    `game` is empty where it is not known. It is read as it is asked, by ascending numbers. Raises `Unreadable`."""
 
     def __init__(self, lines: Iterable[str], name: str) -> None:
         self._rows, self._name = csv.reader(lines), name

@@ -19,10 +19,13 @@ GAME = b'[White "A"]\n\n1. f3 e5 2. g4 Qh4# 0-1\n\n'
 
 
 class Served:
-    """A desk that serves a folder."""
+    """A desk that serves a folder. `changed` is Python that sets its bounds otherwise, where a test would take too long or too much."""
 
-    def __init__(self, folder: Path, **environment: str) -> None:
-        words = [sys.executable, str(BIN / "cqlpgn-desk"), "--no-browser", "--runs", "2", str(folder)]
+    def __init__(self, folder: Path, changed: str = "", **environment: str) -> None:
+        self.folder = folder
+        program = f"import sys; sys.path.insert(0, {str(BIN.parent)!r}); {changed}; from cqlpgn.commands.desk import entry; entry()"
+        command = ["-c", program] if changed else [str(BIN / "cqlpgn-desk")]
+        words = [sys.executable, *command, "--no-browser", "--runs", "2", str(folder)]
         self.process = subprocess.Popen(words, stdout=subprocess.PIPE, stderr=subprocess.PIPE, env={**os.environ, **environment})
         assert self.process.stdout is not None
         found = re.search(r"((http://127\.0\.0\.1:(\d+))/(.*)/)", self.process.stdout.readline().decode())

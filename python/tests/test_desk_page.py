@@ -251,9 +251,12 @@ def test_rows_are_those_of_cqlpgn_rows(browser: Browser, asked: Asking, room: Pa
     saved = {form: urllib.request.urlopen(link).read() for form, link in links.items()}
     assert saved["pgn"].count(b"{CQL}") == int(browser.text("sum").split()[2])
     columns = next(csv.reader(io.StringIO(saved["csv"].decode())))
+    games = saved["pgn"].count(b"[Event ")
+    (room / "index").write_text("found,archive,game\n" + "".join(f"{number},famous.pgn,\n" for number in range(1, games + 1)))
     for form in ("csv", "json"):
-        assert saved[form] == asked("cqlpgn-rows", f"--{form}", "--columns", ",".join(columns), data=saved["pgn"]).out
-    assert saved["epd"] == asked("cqlpgn-rows", "--epd", data=saved["pgn"]).out
+        words = (f"--{form}", "--index", "index", "--columns", ",".join(columns))
+        assert saved[form] == asked("cqlpgn-rows", *words, data=saved["pgn"]).out
+    assert saved["epd"] == asked("cqlpgn-rows", "--epd", "--index", "index", data=saved["pgn"]).out
 
 
 def test_a_position_is_set(browser: Browser) -> None:

@@ -4,7 +4,9 @@ and libjs-codemirror."""
 from __future__ import annotations
 
 import asyncio
+import csv
 import gzip
+import io
 import os
 import time
 import zipfile
@@ -230,6 +232,76 @@ def test_filter_and_what_is_saved(served: Served, tmp_path: Path) -> None:
                     assert answer.status == 404, path
 
     asyncio.run(saved())
+
+
+def test_rows_of_several_archives_name_them(served: Served) -> None:
+    async def rows() -> None:
+        async with Line(served) as line:
+            run = await line.over("cql() mate", "small.pgn", "packed.pgn.gz", "several.zip")
+            for form, first in {"csv": "small.pgn", "json": '{"archive":"small.pgn"', "epd": ""}.items():
+                async with line.http.get(f"{served.address}save/{line.page}/{run['run']}/0/{form}") as answer:
+                    text = await answer.text()
+                    assert first in text and "several.zip:b.pgn" in text, form
+                    if form == "csv":
+                        names = [row[0] for row in csv.reader(io.StringIO(text, newline=""))][1:]
+                        assert names == ["small.pgn"] + ["packed.pgn.gz"] * 3 + ["several.zip:a.pgn", "several.zip:b.pgn"]
+
+    asyncio.run(rows())
+
+
+def test_zstandard(served: Served) -> None:
+    zstandard = pytest.importorskip("zstandard")
+    folder = served.folder
+    (folder / "packed.pgn.zst").write_bytes(zstandard.ZstdCompressor().compress(GAME * 4))
+    (folder / "cut.pgn.zst").write_bytes(zstandard.ZstdCompressor().compress(GAME * 4)[:-5])
+
+    async def zst() -> None:
+        async with Line(served) as line:
+            assert (await line.over("cql() mate", "packed.pgn.zst"))["found"] == [4]
+            assert "cut.pgn.zst" in (await line.over("cql() mate", "cut.pgn.zst"))["troubles"][0]
+
+    try:
+        asyncio.run(zst())
+    finally:
+        for name in ("packed.pgn.zst", "cut.pgn.zst"):
+            (folder / name).unlink()
+
+
+def test_a_full_disk(tmp_path: Path) -> None:
+    """What was found until there was no more place stands, and the page is told why it is not all."""
+    (tmp_path / "games.pgn").write_bytes(GAME * 100_000)
+    changed = "import cqlpgn.desk.found as found; found.Room.__init__.__defaults__ = (100_000,)"
+    desk = Served(tmp_path, changed, **{variable: program(variable, name) for variable, name in PROGRAMS.items()})
+
+    async def full() -> None:
+        async with Line(desk) as line:
+            run = await line.over("cql() mate", "games.pgn")
+            assert run["state"] == "failed" and "fills the place" in run["troubles"][0] and len(run["troubles"]) == 1
+            assert len(await line.ask("rows", run=run["run"], query=0, first=0, count=9)) == min(9, run["found"][0])
+            assert (await line.over("cql() Pa8", "games.pgn"))["state"] == "done"
+
+    asyncio.run(full())
+    assert "Traceback" not in desk.close()
+
+
+def test_what_was_found_is_kept_for_a_while(tmp_path: Path) -> None:
+    (tmp_path / "games.pgn").write_bytes(GAME)
+    changed = "import cqlpgn.desk.server as server; server.GRACE, server.KEPT = 0.1, 4.0"
+    desk = Served(tmp_path, changed, **{variable: program(variable, name) for variable, name in PROGRAMS.items()})
+
+    async def kept() -> None:
+        async with Line(desk) as line:
+            assert (await line.over("cql() mate", "games.pgn"))["found"] == [1]
+            page = line.page
+        await asyncio.sleep(1)
+        async with Line(desk, page) as again:
+            assert again.page == page and again.hello["run"]["found"] == [1]
+        await asyncio.sleep(6)
+        async with Line(desk, page) as late:
+            assert late.page != page and late.hello["run"] is None
+
+    asyncio.run(kept())
+    assert "Traceback" not in desk.close()
 
 
 def test_saved_queries(served: Served) -> None:

@@ -110,6 +110,20 @@ def test_exercises(asked: Asking) -> None:
     assert "\\textbf{1} 1...e5 2.Nf3 {-}{-} 3.Bc4 1{-}0" in text.partition("Solutions")[2]
 
 
+def test_a_sheet_of_problems(asked: Asking, room: Path) -> None:
+    """A problem has its stipulation below the board, and its variations among the solutions."""
+    games = (TOP / "python" / "tests" / "data" / "problems" / "sample.pgn").read_text()
+    marked = re.sub(r"^(\[(?:SetUp|FEN)[^\n]*\]\n(?:\[[^\n]*\]\n)*\n)", r"\1{CQL} ", games, flags=re.M)
+    read = page(asked("cqlpgn-diagrams", "--exercises", data=marked.encode()))
+    told = " ".join(text for open_, text in read.text if "figcaption" in open_)
+    assert "1 #5 · Loyd, Samuel" in re.sub(r"\s+", " ", told) and "s#1" in told and "h#2" in told
+    solved = "".join(text for open_, text in read.text if "details" in open_)
+    assert "1.Qe3! zugzwang (1.Qc5? zugzwang 1...g1=Q (1...Kh1 2.Qg1#) (1...Kg3! but) 2.Qxg1#) 1...g1=Q (1...g1=R 2.Qxg1#)" in solved
+    text = asked("cqlpgn-diagrams", "--exercises", "--tex", data=marked.encode()).out.decode()
+    assert "\\textbf{1}\\quad \\#5\\par Loyd, Samuel" in text
+    assert "(1...{-}{-} \\emph{threat} 2.Rd5" in text.partition("Solutions")[2]
+
+
 def test_latex(asked: Asking) -> None:
     text = asked("cqlpgn-diagrams", "--tex", "--coordinates", data=GAME * 3 + PROMOTION).out.decode()
     assert (text.count("\n\\match{") + text.count("\\hfill\n\\match{"), text.count("\\newpage"), "label=true" in text) == (11 + 5, 1, True)

@@ -123,6 +123,10 @@ def test_packed_and_index(asked: Asking, room: Path) -> None:
     assert len(table(asked("cqlpgn-rows", "a.pgn.gz"))) == 6
     (room / "index").write_text("found,archive,game\r\n1,old.pgn,77\r\n")
     assert table(asked("cqlpgn-rows", "--index", "index", "a.pgn.gz"))[1][:3] == ["old.pgn", "77", "1"]
+    (room / "index").write_text("found,archive,game\r\n1,old.pgn,\r\n")
+    assert table(asked("cqlpgn-rows", "--index", "index", "a.pgn.gz"))[1][:3] == ["old.pgn", "", "1"]
+    (room / "index").write_text("found,archive,game\r\n0,old.pgn,1\r\n")
+    assert asked("cqlpgn-rows", "--index", "index", "a.pgn.gz").status == 5
     (room / "index").write_text("no index\n")
     assert asked("cqlpgn-rows", "--index", "index", "a.pgn.gz").status == 5
     (room / "index").write_text("found,archive,game\r\n1,old.pgn," + "9" * 5000 + "\r\n")
