@@ -148,6 +148,13 @@ def slip_row(page, row):
         compare("%s: how many positions are found by %s" % (page, text), str(found), wanted)
 
 
+def faster_row(page, row):
+    """two queries that find and mark the same, each with what it costs"""
+    slow, fast = [answer_over(queries(cell)[0], "famous.pgn", "games.pgn", "themes.pgn") for cell in row[:2]]
+    # games.pgn has a faulty game, so a query without a fault ends with 1
+    compare("%s: what is found by %s" % (page, row[1]), (fast.returncode, fast.stdout), (1, slow.stdout))
+
+
 def query_fault_row(page, row):
     """a step, a reason, where it stands, an example with its byte: a case has it"""
     reason = re.match(r"[a-z ]*[a-z]", row[1]).group()
@@ -252,6 +259,7 @@ TABLES = {
     ("Status", "Means", "What to do"): status_row,
     ("Written", "What is said", "Meant", "Why"): refused_row,
     ("Written", "Finds", "What it asks", "Meant", "Finds"): slip_row,
+    ("Written", "The same, faster", "Times", "Then", "Why"): faster_row,
     ("Word", "Means", "Example"): word_row,
     ("Word", "Holds where", "Example"): word_row,
     ("Rule", "File", "Definition"): rule_row,
