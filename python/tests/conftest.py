@@ -15,6 +15,7 @@ from pathlib import Path
 
 import answers
 import pytest
+from processes import PATIENCE
 
 TOP = Path(__file__).resolve().parent.parent.parent
 BIN = TOP / "python" / "bin"
@@ -82,7 +83,7 @@ def asked(room: Path) -> Asking:
     def run(command: str, *words: str | bytes, data: bytes = b"", **environment: str) -> Answer:
         env = {**os.environ, **environment}
         call: list[str | bytes] = [sys.executable, str(BIN / command), *words]
-        done = subprocess.run(call, input=data, capture_output=True, env=env, check=False, timeout=120)
+        done = subprocess.run(call, input=data, capture_output=True, env=env, check=False, timeout=PATIENCE)
         return Answer(done.returncode, done.stdout, done.stderr.decode("utf-8", "surrogateescape"))
 
     return run

@@ -8,12 +8,12 @@ import signal
 import socket
 import subprocess
 import sys
-import time
 from pathlib import Path
 from types import TracebackType
 from typing import Any
 
 from conftest import BIN
+from processes import PATIENCE, becomes
 
 GAME = b'[White "A"]\n\n1. f3 e5 2. g4 Qh4# 0-1\n\n'
 
@@ -37,16 +37,13 @@ class Served:
         with open(f"/proc/{self.process.pid}/task/{self.process.pid}/children", encoding="ascii") as file:
             return [int(word) for word in file.read().split()]
 
-    def no_children(self, seconds: float) -> bool:
-        """Whether they have all ended within so many seconds."""
-        end = time.monotonic() + seconds
-        while self.children() and time.monotonic() < end:
-            time.sleep(0.05)
-        return not self.children()
+    def no_children(self) -> bool:
+        """Whether they all end."""
+        return becomes(lambda: not self.children())
 
     def raw(self, text: str) -> int:
         """The status of what is sent byte by byte, so that no client mends it."""
-        with socket.create_connection(("127.0.0.1", self.port), timeout=10) as line:
+        with socket.create_connection(("127.0.0.1", self.port), timeout=PATIENCE) as line:
             line.sendall(text.encode("latin-1"))
             answer = line.recv(65536).decode("latin-1")
             return int(answer.split()[1]) if answer else 0
@@ -58,7 +55,7 @@ class Served:
     def close(self) -> str:
         """Ends it, as a terminal does, and gives what it has said of troubles."""
         self.process.send_signal(signal.SIGTERM)
-        _, said = self.process.communicate(timeout=30)
+        _, said = self.process.communicate(timeout=PATIENCE)
         assert self.process.returncode == 0
         return said.decode()
 
@@ -77,7 +74,7 @@ class Line:
         self.http = aiohttp.ClientSession()
         address = self.desk.address.replace("http", "ws") + "socket?page=" + self.page
         self.socket = await self.http.ws_connect(address, origin=self.desk.origin)
-        self.hello = await self.socket.receive_json(timeout=30)
+        self.hello = await self.socket.receive_json(timeout=PATIENCE)
         self.page = self.hello["page"]
         return self
 
@@ -89,7 +86,7 @@ class Line:
         """The answer, or as a text beginning with `refused: ` why there is none."""
         self.number += 1
         await self.socket.send_json({"n": self.number, "do": do} | words)
-        while (answer := await self.socket.receive_json(timeout=60)).get("n") != self.number:
+        while (answer := await self.socket.receive_json(timeout=PATIENCE)).get("n") != self.number:
             self.run = answer["run"]
         return "refused: " + answer["refused"] if "refused" in answer else answer["is"]
 
@@ -101,7 +98,7 @@ class Line:
     async def until(self, *states: str) -> dict[str, Any]:
         """Waits until the run is in one of the states, and gives what is said of it."""
         while not self.run or self.run["state"] not in states:
-            self.run = (await self.socket.receive_json(timeout=120))["run"]
+            self.run = (await self.socket.receive_json(timeout=PATIENCE))["run"]
         return self.run
 
     async def over(self, query: str, *archives: str, first: bool = False) -> dict[str, Any]:

@@ -5,14 +5,14 @@ from __future__ import annotations
 
 import base64
 import shutil
-import time
-from collections.abc import Iterator
+from collections.abc import Callable, Iterator
 from pathlib import Path
 from typing import Any
 
 import pytest
 from answers import found
 from conftest import TOP, Asking
+from processes import PATIENCE, becomes
 from test_diagrams import HOSTILE
 
 pytestmark = [
@@ -58,10 +58,13 @@ class Browser:
 
     def go(self, page: Path) -> None:
         self.driver.get(page.as_uri())
-        time.sleep(0.5)
 
     def all(self, selector: str) -> list[Any]:
         found: list[Any] = self.driver.find_elements("css selector", selector)
+        return found
+
+    def text(self, selector: str) -> str:
+        found: str = self.all(selector)[0].text
         return found
 
     def run(self, script: str, *words: object) -> Any:
@@ -70,13 +73,15 @@ class Browser:
     def press(self, *keys: str) -> None:
         for key in keys:
             self.all("body")[0].send_keys(key)
-            time.sleep(0.2)
 
     def click(self, element: Any) -> None:
         self.run("arguments[0].scrollIntoView({block: 'center'})", element)
-        time.sleep(0.2)
         element.click()
-        time.sleep(0.2)
+
+    def shows(self, wanted: object, told: Callable[[], object]) -> None:
+        """What is told of the page is what is wanted, or becomes so: boards are drawn as they come into view."""
+        becomes(lambda: told() == wanted)
+        assert told() == wanted
 
     def errors(self) -> list[str]:
         return [entry["message"] for entry in self.driver.get_log("browser") if entry["level"] == "SEVERE"]
@@ -91,6 +96,7 @@ def browser() -> Iterator[Browser]:
         options.add_argument(word)
     options.set_capability("goog:loggingPrefs", {"browser": "ALL"})
     driver = webdriver.Chrome(service=service.Service(shutil.which("chromedriver")), options=options)
+    driver.set_script_timeout(PATIENCE)
     yield Browser(driver)
     driver.quit()
 
@@ -107,18 +113,20 @@ def test_keys_and_clicks(asked: Asking, room: Path, browser: Browser) -> None:
     boards = len(browser.all("figure"))
     assert boards == len(browser.all(".moves b")) == 21
     browser.press("j", "j", "j")
-    assert (browser.all("#n")[0].text, browser.run(IN_VIEW, "figure.at"), len(browser.all(".moves b.at"))) == ("3 of 21", True, 1)
+    browser.shows(("3 of 21", True, 1), lambda: (browser.text("#n"), browser.run(IN_VIEW, "figure.at"), len(browser.all(".moves b.at"))))
     assert browser.run(MEN, "figure.at") == men_of(browser.all("figure.at")[0].get_attribute("data-fen"))
     browser.press("k", "f")
-    assert browser.all("#n")[0].text == "2 of 21"
-    assert browser.run("return document.querySelector('figure.at svg .d').getAttribute('d').slice(0, 4)") == "M7 0"
+    dark = "return document.querySelector('figure.at svg .d').getAttribute('d').slice(0, 4)"
+    browser.shows(("2 of 21", "M7 0"), lambda: (browser.text("#n"), browser.run(dark)))
     browser.press("f")
     browser.click(browser.all(".moves b")[4])
-    assert (browser.all("#n")[0].text, browser.run(IN_VIEW, "figure.at")) == ("5 of 21", True)
+    browser.shows(("5 of 21", True), lambda: (browser.text("#n"), browser.run(IN_VIEW, "figure.at")))
+    browser.run("document.querySelector('#g3').scrollIntoView()")
+    assert becomes(lambda: browser.all("#g3 .moves u"))
     browser.click(browser.all("#g3 .moves u")[0])
-    assert browser.run(IN_VIEW, "aside svg")
+    browser.shows(True, lambda: browser.run(IN_VIEW, "aside svg"))
     browser.press("\ue014", "\ue00c")
-    assert not browser.run(IN_VIEW, "aside svg")
+    browser.shows(False, lambda: browser.run(IN_VIEW, "aside svg"))
     assert browser.run(DIFFERENT) == [True, 0]
     assert browser.errors() == []
 
@@ -130,7 +138,8 @@ def test_turned_boards_and_coordinates(asked: Asking, room: Path, browser: Brows
     assert {tuple(pair) for pair in first} == {("", "a"), ("1", "h")}
     assert browser.all("figure details[open]") == []
     browser.click(browser.all("figure summary")[1])
-    assert "1-0" in browser.all("figure details[open]")[0].text
+    browser.shows(1, lambda: len(browser.all("figure details[open]")))
+    assert "1-0" in browser.text("figure details[open]")
     assert browser.errors() == []
 
 
@@ -153,6 +162,6 @@ def test_a_hostile_archive(asked: Asking, room: Path, browser: Browser) -> None:
     for move in browser.all(".moves u, .moves b"):
         browser.click(move)
     assert browser.run("return document.querySelectorAll('img, article script').length") == 0
-    assert "<img src=x onerror=alert(1)>" in browser.all(".moves em")[0].text
+    assert "<img src=x onerror=alert(1)>" in browser.text(".moves em")
     head = browser.run("return getComputedStyle(document.querySelector('h2 bdi')).unicodeBidi")
-    assert (head, browser.all("h2 small")[0].text, browser.errors()) == ("isolate", "1-0", [])
+    assert (head, browser.text("h2 small"), browser.errors()) == ("isolate", "1-0", [])

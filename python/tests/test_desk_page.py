@@ -4,6 +4,7 @@ desk's address. It wants chromium, chromium-driver, python3-selenium, python3-ai
 from __future__ import annotations
 
 import csv
+import gzip
 import http.server
 import io
 import os
@@ -18,6 +19,7 @@ from typing import Any
 import pytest
 from conftest import TOP, Asking, program
 from desks import GAME, Served
+from processes import PATIENCE, becomes
 
 webdriver = pytest.importorskip("selenium.webdriver")
 pytest.importorskip("aiohttp")
@@ -46,7 +48,8 @@ def served(tmp_path_factory: pytest.TempPathFactory) -> Iterator[Served]:
     folder = tmp_path_factory.mktemp("games")
     for name in ("games.pgn", "famous.pgn"):
         (folder / name).write_bytes((TOP / "examples" / name).read_bytes())
-    (folder / "large.pgn").write_bytes((GAME + b"1. e4 e5 2. Nf3 Nc6 3. Bb5 a6 4. Bxc6 dxc6 5. O-O f6 *\n\n" * 5) * 100_000)
+    games = (GAME + b"1. e4 e5 2. Nf3 Nc6 3. Bb5 a6 4. Bxc6 dxc6 5. O-O f6 *\n\n" * 5) * 100_000
+    (folder / "large.pgn.gz").write_bytes(gzip.compress(games) * 100)  # so that no program is through before it is stopped
     (folder / "hostile.pgn").write_bytes(HOSTILE.encode() + ODD)
     (folder / "long.pgn").write_bytes(LONG.encode())
     (folder / NAMED).write_bytes(ODD)
@@ -65,12 +68,13 @@ class Browser:
         options.set_capability("goog:loggingPrefs", {"browser": "ALL"})
         service = pytest.importorskip("selenium.webdriver.chrome.service").Service(shutil.which("chromedriver"))
         self.driver: Any = webdriver.Chrome(service=service, options=options)
+        self.driver.set_script_timeout(PATIENCE)
 
     def run(self, script: str, *words: object) -> Any:
         return self.driver.execute_script(script, *words)
 
-    def until(self, script: str, *words: object, seconds: float = 60) -> Any:
-        end = time.monotonic() + seconds
+    def until(self, script: str, *words: object) -> Any:
+        end = time.monotonic() + PATIENCE
         while not (value := self.run(script, *words)):
             assert time.monotonic() < end, (script, words, self.text("fault"), self.errors())
             time.sleep(0.05)
@@ -103,7 +107,7 @@ class Browser:
         )
 
     def ended(self) -> None:
-        self.until("return !document.getElementById('report').hidden && document.getElementById('progress').hidden", seconds=240)
+        self.until("return !document.getElementById('report').hidden && document.getElementById('progress').hidden")
 
     def click(self, selector: str) -> None:
         self.driver.find_element("css selector", selector).click()
@@ -212,14 +216,14 @@ def test_runs_do_not_mix(browser: Browser) -> None:
 
 
 def test_boards_before_the_end_and_stop(served: Served, browser: Browser) -> None:
-    browser.ask("cql() mate", "large.pgn")
+    browser.ask("cql() mate", "large.pgn.gz")
     browser.until("return document.querySelector('#found figure svg')")
     assert served.children() and browser.text("run") == "Stop"
     browser.driver.refresh()  # a page that is loaded again finds its run
     browser.until("return document.querySelector('#found figure svg')")
     assert browser.value() == "cql() mate"
     browser.until("return document.getElementById('run').textContent === 'Run' || document.getElementById('run').click()")
-    assert served.no_children(10)
+    assert served.no_children()
     games = int(browser.text("count").replace(",", ""))
     assert browser.count("article") <= 70
     browser.run("const l = document.getElementById('list'); l.scrollTop = l.scrollHeight")
@@ -238,10 +242,11 @@ def test_boards_before_the_end_and_stop(served: Served, browser: Browser) -> Non
 def test_the_process_ends_with_the_tab(served: Served) -> None:
     other = Browser()
     other.open(served.address)
-    other.ask("cql() flip shift { Ka1 Qb2 kh8 }", "large.pgn")
+    other.ask("cql() flip shift { Ka1 Qb2 kh8 }", "large.pgn.gz")
     other.until("return document.getElementById('how').textContent.includes(' of ')")
+    assert served.children()
     other.driver.quit()
-    assert served.no_children(30)
+    assert served.no_children()
 
 
 def test_rows_are_those_of_cqlpgn_rows(browser: Browser, asked: Asking, room: Path) -> None:
@@ -402,9 +407,7 @@ def test_a_hostile_page(served: Served) -> None:
     try:
         for name in ("127.0.0.1", "evil.example"):
             other.driver.get(f"http://{name}:{evil.server_address[1]}/")
-            end = time.monotonic() + 60
-            while len(other.run("return window.out")) < 4 and time.monotonic() < end:
-                time.sleep(0.1)
+            assert becomes(lambda: len(other.run("return window.out")) == 4)
             assert other.run("return window.out") == dict.fromkeys(("fetch", "blind", "socket", "script"), "refused")
             other.driver.switch_to.frame(0)
             assert not other.run("return document.querySelector('#ask')")

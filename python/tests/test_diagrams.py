@@ -13,6 +13,7 @@ from pathlib import Path
 import pytest
 from answers import found
 from conftest import TOP, Answer, Asking
+from processes import PATIENCE
 
 pytestmark = pytest.mark.usefixtures("pgnjson", "room")
 GAME = b'[White "A"]\n[Black "B"]\n\n1. e4 {CQL} {a note} e5 (1... c5 {other}) 2. Nf3 {CQL} -- {CQL} 3. Bc4 1-0\n'
@@ -138,6 +139,22 @@ def test_what_is_no_move_is_refused(asked: Asking) -> None:
     assert (answer.status, boards(answer)) == (1, [])
 
 
+def test_variations_within_variations(asked: Asking) -> None:
+    """A hundred levels are shown, and more are refused where the archive is read, so that nothing here is deeper."""
+
+    def nested(levels: int) -> bytes:
+        return b"1. e4 " + b"(1. d4 " * levels + b"{CQL} " + b")" * levels + b" e5 {CQL} *\n\n"
+
+    choices: list[list[str]] = [[], ["--exercises"], ["--tex"], ["--tex", "--exercises"]]
+    for words in choices:
+        answer = asked("cqlpgn-diagrams", *words, data=nested(100))
+        assert (answer.status, answer.err) == (0, "")
+        assert "--tex" in words or len(boards(answer)) == 2
+        answer = asked("cqlpgn-diagrams", *words, data=nested(3000) + GAME)
+        assert (answer.status, answer.lines) == (1, ["-: game 1 byte 706: too deep"])
+        assert "--tex" in words or len(boards(answer)) == 3
+
+
 def test_no_script_of_an_archive(asked: Asking) -> None:
     """What an archive has is text within `bdi`, and the page's policy lets no script run but its own."""
     choices: list[list[str]] = [[], ["--exercises"], ["--title", "<script>alert(1)</script>\u202e"]]
@@ -178,7 +195,7 @@ def test_the_text_is_set(asked: Asking, room: Path, engine: str) -> None:
     choices: list[list[str]] = [[], ["--exercises", "--per-page", "12"]]
     for words in choices:
         (room / "a.tex").write_bytes(asked("cqlpgn-diagrams", "--tex", *words, data=HOSTILE + names + GAME * 5).out)
-        done = subprocess.run([engine, "-interaction=nonstopmode", "a.tex"], capture_output=True, check=False, timeout=500)
+        done = subprocess.run([engine, "-interaction=nonstopmode", "a.tex"], capture_output=True, check=False, timeout=6 * PATIENCE)
         said = done.stdout.decode("utf-8", "replace")
         if "not found" in said and "chessboard.sty" in said:
             pytest.skip("the package chessboard is not installed")

@@ -7,12 +7,12 @@ import resource
 import signal
 import subprocess
 import sys
-import time
 from pathlib import Path
 
 import pytest
 from answers import ONE, QUERY, TWO, found
 from conftest import BIN, Answer, Asking
+from processes import PATIENCE, all_end, becomes, children, words_of
 
 pytestmark = pytest.mark.usefixtures("cqlpgn", "archives")
 OVER = [sys.executable, str(BIN / "cqlpgn-over")]
@@ -138,27 +138,6 @@ def test_closed_standard_input(room: Path, options: str) -> None:
     assert (done.returncode in (4, 5), b"Traceback" in done.stderr, left(room)) == (True, False, [])
 
 
-def children(number: int) -> list[int]:
-    """What a process has started, from any thread."""
-    threads = Path(f"/proc/{number}/task").iterdir()
-    return [int(word) for thread in threads for word in (thread / "children").read_text().split()]
-
-
-def has_ended(number: int) -> bool:
-    try:
-        return Path(f"/proc/{number}/stat").read_text().rpartition(")")[2].split()[0] == "Z"
-    except FileNotFoundError:
-        return True
-
-
-def all_end(started: list[int]) -> bool:
-    """Whether processes were started and end; one that was killed does so when its turn comes."""
-    end = time.monotonic() + 10
-    while not all(map(has_ended, started)) and time.monotonic() < end:
-        time.sleep(0.05)
-    return bool(started) and all(map(has_ended, started))
-
-
 @pytest.mark.parametrize("kind", [signal.SIGTERM, signal.SIGINT, signal.SIGHUP])
 @pytest.mark.parametrize("options", [["-o", "out.pgn"], ["-j", "2", "-o", "out.pgn"], ["--number", "-o", "out.pgn"], []])
 def test_signals_end_what_was_started(room: Path, kind: signal.Signals, options: list[str]) -> None:
@@ -167,15 +146,10 @@ def test_signals_end_what_was_started(room: Path, kind: signal.Signals, options:
     os.mkfifo("waits.pgn")
     held = os.open("waits.pgn", os.O_RDWR)
     with subprocess.Popen([*OVER, *options, QUERY, "waits.pgn"], stdout=subprocess.DEVNULL, stderr=subprocess.PIPE) as command:
-        started: list[int] = []
-        for _turn in range(600):
-            started = children(command.pid)
-            names = [Path(f"/proc/{child}/cmdline").read_bytes().split(b"\0") for child in started]
-            if any(b"run" in words and b"-" in words for words in names):
-                break
-            time.sleep(0.05)
+        assert becomes(lambda: any({"run", "-"} <= set(words_of(child)) for child in children(command.pid)))
+        started = children(command.pid)
         command.send_signal(kind)
-        assert command.wait(20) == 128 + kind
+        assert command.wait(PATIENCE) == 128 + kind
         assert command.stderr is not None and command.stderr.read() == b""
     assert all_end(started)
     os.close(held)
@@ -203,14 +177,10 @@ def test_signals_end_rows_and_boards(room: Path, command: str, kind: signal.Sign
     held = os.open("waits.pgn", os.O_RDWR)
     os.write(held, b"1. e4 {CQL} *\n")
     with subprocess.Popen([sys.executable, str(BIN / command), "-o", "out", "waits.pgn"], stderr=subprocess.PIPE) as run:
-        started: list[int] = []
-        for _turn in range(600):
-            started = children(run.pid)
-            if any(b"--mark" in Path(f"/proc/{child}/cmdline").read_bytes() for child in started):
-                break
-            time.sleep(0.05)
+        assert becomes(lambda: any("--mark" in word for child in children(run.pid) for word in words_of(child)))
+        started = children(run.pid)
         run.send_signal(kind)
-        assert run.wait(20) == 128 + kind
+        assert run.wait(PATIENCE) == 128 + kind
     assert all_end(started)
     os.close(held)
     assert ((room / "out").read_bytes(), left(room)) == (OLD, ["out", "waits.pgn"])

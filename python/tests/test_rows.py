@@ -6,7 +6,7 @@ import csv
 import gzip
 import io
 import json
-import time
+import os
 from pathlib import Path
 from typing import Any
 
@@ -14,6 +14,7 @@ import cqlpgn as package
 import pytest
 from answers import model
 from conftest import TOP, Answer, Asking
+from processes import children, has_ended
 
 pytestmark = pytest.mark.usefixtures("cqlpgn", "pgnjson", "room")
 ARCHIVES = ["games.pgn", "famous.pgn", "themes.pgn", "positions.pgn"]
@@ -57,11 +58,12 @@ def test_comments_of_an_archive_are_no_hits(room: Path) -> None:
 
 def test_a_stream(room: Path) -> None:
     (room / "long.pgn").write_bytes(b"1. f3 e5 2. g4 Qh4# 0-1\n" * 50000)
-    begin, stream = time.monotonic(), package.search("cql() mate", "long.pgn")
+    stream = package.search("cql() mate", "long.pgn")
     assert next(stream).game_number == 1
-    first = time.monotonic() - begin
+    # more is found than pipes hold, so the programs wait until it is taken
+    assert not all(map(has_ended, children(os.getpid())))
     assert sum(1 for _ in stream) == 49999
-    assert first < (time.monotonic() - begin) / 2
+    assert all(map(has_ended, children(os.getpid())))
 
 
 def table(answer: Answer) -> list[list[str]]:
