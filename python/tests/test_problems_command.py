@@ -9,6 +9,7 @@ from pathlib import Path
 import pytest
 
 from conftest import Asking
+from processes import PATIENCE
 
 SAMPLES = Path(__file__).resolve().parent / "data" / "problems"
 MATE = b'algebraic: {white: [Kb6, Rh1], black: [Kb8]}\nstipulation: "#1"\n'
@@ -20,7 +21,7 @@ def sample(name: str) -> bytes:
 
 def answered(program: str, query: str, archive: str) -> tuple[bytes, str]:
     """What the program finds, and the last line of its report."""
-    done = subprocess.run([program, "eval", query, archive], capture_output=True, check=False, timeout=60)
+    done = subprocess.run([program, "eval", query, archive], capture_output=True, check=False, timeout=PATIENCE)
     return done.stdout, done.stderr.decode().splitlines()[-1]
 
 

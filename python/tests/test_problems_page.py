@@ -6,6 +6,7 @@ import re
 import subprocess
 
 from conftest import TOP
+from processes import PATIENCE
 
 PAGE = (TOP / "docs" / "PROBLEMS.md").read_text(encoding="utf-8")
 
@@ -23,5 +24,5 @@ def test_the_page_has_twenty_themes_with_a_query_each() -> None:
 
 def test_the_program_accepts_each_query_of_the_page(cqlpgn: str) -> None:
     for query in queries():
-        done = subprocess.run([cqlpgn, "check", "-"], input=query.encode(), capture_output=True, check=False, timeout=60)
+        done = subprocess.run([cqlpgn, "check", "-"], input=query.encode(), capture_output=True, check=False, timeout=PATIENCE)
         assert (done.returncode, done.stdout) == (0, b"ok\n"), query
