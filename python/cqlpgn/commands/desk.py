@@ -21,6 +21,7 @@ EPILOG = """The page is served to this machine alone, and to whoever knows the a
 packed (gz, bz2, xz, zst, zip). Nothing is written into FOLDER but the queries that are saved. Ctrl+C ends the desk and all that it has
 started. The exit status is 0; 3 for words that are not as above; 4 where the folder, a program or a package of Debian is not there, or the
 port is taken. CQLPGN and PGNJSON name the programs, if they are not those on the path."""
+WAITING = 4096  # connections that may wait while the desk has much to do; the system resets what comes beyond
 
 
 def parser() -> argparse.ArgumentParser:
@@ -59,7 +60,7 @@ async def serve(flags: argparse.Namespace, program: str) -> None:
     for kind in (signal.SIGINT, signal.SIGTERM, signal.SIGHUP):
         asyncio.get_running_loop().add_signal_handler(kind, over.set)
     try:
-        await web.TCPSite(runner, "127.0.0.1", flags.port, shutdown_timeout=3.0).start()
+        await web.TCPSite(runner, "127.0.0.1", flags.port, shutdown_timeout=3.0, backlog=WAITING).start()
     except (OSError, OverflowError) as fault:
         await runner.cleanup()
         raise NotFound(f"port {flags.port} can't be had: {getattr(fault, 'strerror', None) or fault}") from fault
