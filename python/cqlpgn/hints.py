@@ -99,6 +99,16 @@ SLIPS = [
         r"\b[KQRBN]?[a-h]?[1-8]?x?[a-h][1-8]\+\s*\Z",
     ),
     Slip("no Q", "not Q", "the word is `not`", NAME, r"no\b"),
+    Slip("O-O", "move from Ke1 to g1", "castling is the king's move; here one name minus another was read", KIND, r"O-O(-O)?\b"),
+    Slip("checkmate", "mate", "the word is `mate`", NAME, r"(?i:checkmate)\b"),
+    Slip(
+        "mate in 2",
+        "child child child mate",
+        "only a mate that was played can be asked; it comes three half-moves later",
+        TOKEN,
+        r"in\s*\d",
+        r"\bmate\s*\Z",
+    ),
     Slip(
         "Mate", "mate", "words are written in small letters", NAME, r"(?=[a-z]*[A-Z])(?i:check|mate|stalemate|wtm|btm|find|flipcolor|not)\b"
     ),
@@ -111,6 +121,7 @@ SLIPS = [
         TOKEN,
         r"(variations|matchstring|input|output)\b",
     ),
+    Slip("Qf7, Bc4", "Qf7 Bc4", "nothing but white space stands between items", TOKEN, r","),
     Slip("mate; check", "mate check", "nothing but white space stands between items", BYTE, r";"),
     Slip("mate /* in the corner */", "mate // in the corner", "a note begins with `//` and ends with its line", BYTE, r"/\*"),
     Slip("comment 'mate'", 'comment "mate"', 'texts stand in `"`', BYTE, r"'"),
@@ -124,6 +135,7 @@ SLIPS = [
         r"\b(flip\w*|shift\w*|rotate90|not)\s*\(\s*\w+\s*\Z",
     ),
     Slip("check & mate", "check and mate", "`&` is of squares; of positions it is `and`, or nothing at all", KIND, r"\w+\s*[&|]"),
+    Slip("WhiteElo > 2500", "elo white > 2500", "the ratings are `elo white` and `elo black`", KIND, r"(White|Black)Elo\b"),
     Slip("A > a", "power A > power a", "compare numbers: `#A` counts men, `power A` their worth", KIND, r"\S+\s*[<>]=?\s*[A-Za-z\[]"),
     Slip("[Qq] == 0", "#[Qq] == 0", "compare numbers: how many men is `#`", KIND, r"\S+\s*([<>]=?|==)\s*\d"),
     Slip(
@@ -253,6 +265,13 @@ ACCEPTED = [
         r"(?<![\w\]-])[KQRBNPkqrbnp]\s+[a-h][1-8](?![\w-])",
         "a man anywhere, and a square, which always holds; a man on it is `Qf7`",
     ),
+    Meaning(
+        "1. e4",
+        r"(?<![\w.-])\d+\.+\s*[KQRBN]?[a-h]?[1-8]?x?[a-h][1-8](?![\w-])",
+        "a number, any square, and men or a square, as they stand; an opening is a position, as `ply == 1 Pe4`",
+    ),
+    Meaning("0-0", r"(?<![\w-])0-0(-0)?(?![\w-])", "a number, which always holds; castling is a move, as `move from Ke1 to g1`"),
+    Meaning("1-0", r"(?<![\w-])(?<!result\s)(?<!\s\s)(1-0|0-1)(?![\w-])", "a number, which always holds; the result is asked by `result 1-0`"),
     Meaning(
         "find 3 check", r"\bfind\s+(<--\s*)?\d", "finds a number, which always holds; how many positions in a row is the value of `line`"
     ),
