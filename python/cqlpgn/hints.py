@@ -87,7 +87,7 @@ SLIPS = [
         "move from Q to f7 capture a",
         "a query has no moves in the notation of games; `Nf3` is a knight on f3",
         NAME,
-        r"[KQRBN][a-h]?[1-8]?x[a-h][1-8]",
+        r"([KQRBN][a-h]?[1-8]?|[a-h])x[a-h][1-8]",
     ),
     Slip("queen f7", "Qf7", "men are letters, capitals for White", NAME, r"(king|queen|rook|bishop|knight|pawn)s?\b"),
     Slip(
@@ -96,9 +96,10 @@ SLIPS = [
         "a query has no moves in the notation of games; a check is `check`",
         "unexpected end",
         r"",
-        r"\b[KQRBN]?[a-h]?[1-8]?x?[a-h][1-8]\+\s*\Z",
+        r"\b[KQRBN]?[a-h]?[1-8]?x?[a-h][1-8][+#]\s*\Z",
     ),
     Slip("no Q", "not Q", "the word is `not`", NAME, r"no\b"),
+    Slip("e8=Q", "move to e8 promote Q", "a query has no moves in the notation of games", BYTE, r"=\s*[QRBN]\b", r"\b[a-h][18]\s*\Z"),
     Slip("O-O", "move from Ke1 to g1", "castling is the king's move; here one name minus another was read", KIND, r"O-O(-O)?\b"),
     Slip("checkmate", "mate", "the word is `mate`", NAME, r"(?i:checkmate)\b"),
     Slip(
@@ -156,6 +157,15 @@ SLIPS = [
     Slip(
         "player Fischer", 'player "Fischer"', "names stand in quotes", TOKEN, r"[A-Za-z]", r"\b(player|event|site)(\s+(white|black))?\s*\Z"
     ),
+    Slip(
+        'player = "Fischer"',
+        'player "Fischer"',
+        "nothing stands between `player` and the name",
+        BYTE,
+        r"=",
+        r"\b(player|event|site)(\s+(white|black))?\s*\Z",
+    ),
+    Slip("white wins", "result 1-0", "a result is written as in the archive", TOKEN, r"(white|black)\s+(wins?|won)\b"),
     Slip('white "Fischer"', 'player white "Fischer"', "`white` and `black` stand after `player` and `elo`", TOKEN, r"(white|black)\b"),
     Slip(
         'player "Tal" or "Keres"',
@@ -271,7 +281,9 @@ ACCEPTED = [
         "a number, any square, and men or a square, as they stand; an opening is a position, as `ply == 1 Pe4`",
     ),
     Meaning("0-0", r"(?<![\w-])0-0(-0)?(?![\w-])", "a number, which always holds; castling is a move, as `move from Ke1 to g1`"),
-    Meaning("1-0", r"(?<![\w-])(?<!result\s)(?<!\s\s)(1-0|0-1)(?![\w-])", "a number, which always holds; the result is asked by `result 1-0`"),
+    Meaning(
+        "1-0", r"(?<![\w-])(?<!result\s)(?<!\s\s)(1-0|0-1)(?![\w-])", "a number, which always holds; the result is asked by `result 1-0`"
+    ),
     Meaning(
         "find 3 check", r"\bfind\s+(<--\s*)?\d", "finds a number, which always holds; how many positions in a row is the value of `line`"
     ),
