@@ -30,6 +30,9 @@ def test_a_signal(room: Path, kind: signal.Signals, engine: list[str]) -> None:
         assert becomes(lambda: (room / "started").exists() and (room / "started").read_text().endswith("\n"))
         started = int((room / "started").read_text())
         command.send_signal(kind)
-        out, err = command.communicate(timeout=PATIENCE)
+        try:
+            out, err = command.communicate(timeout=PATIENCE)
+        finally:
+            command.kill()
     assert (command.returncode, out, err) == (128 + kind, b"", b"")
     assert (all_end([started]), list((room / "files").iterdir())) == (True, [])
