@@ -64,7 +64,7 @@ def line(game, number, byte, mark):
 
 def answer(archive, mark=b"CQL"):
     """(status, out, err)"""
-    mark = b" ".join(pgn.words(mark))
+    mark = b" ".join(pgn.words(mark)).replace(b"}", b")")
     out, err, refused, number = [], [], 0, 0
     for number, span in enumerate(pgn.cut(archive), 1):
         game = pgn.read_game(archive, span)

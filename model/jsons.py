@@ -1,5 +1,5 @@
 #!/usr/bin/env python3
-"""pgnjson as a process: its lines beside those of the model, read again by Python's json, and each exit status.
+"""pgnjson as a process: its lines beside those of the model, read again by Python's json, and its exit statuses but that of no memory.
 
     python3 jsons.py BINARY [SEED [COUNT]]
 
@@ -88,8 +88,8 @@ def lines():
         archive = b'[Event "%s"]\n{%s} 1. e4 {%s} {CQL} (1. -- $3 {CQL}) e5 *\n' % (text, text, text)
         for mark in (None, "", "CQL"):
             compare_lines(repr(text), archive, mark)
-    for archive in (b"", b" \n", b"*", b"{CQL} *", b"{A  B} 1. e4 {A\nB} *", b"1. e4 {-x} *", b"{no game}"):
-        for mark in (None, "", "A B", "\tA  B ", "-x"):
+    for archive in (b"", b" \n", b"*", b"{CQL} *", b"{A  B} 1. e4 {A\nB} *", b"1. e4 {-x} *", b"1. e4 ; A}B\n*", b"{no game}"):
+        for mark in (None, "", "A B", "\tA  B ", "-x", "A}B"):
             compare_lines(repr(archive), archive, mark)
 
 

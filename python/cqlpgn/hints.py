@@ -87,7 +87,7 @@ SLIPS = [
         "move from Q to f7 capture a",
         "a query has no moves in the notation of games; `Nf3` is a knight on f3",
         NAME,
-        r"[KQRBN][a-h]?[1-8]?x[a-h][1-8]",
+        r"([KQRBN][a-h]?[1-8]?|[a-h])x[a-h][1-8]",
     ),
     Slip("queen f7", "Qf7", "men are letters, capitals for White", NAME, r"(king|queen|rook|bishop|knight|pawn)s?\b"),
     Slip(
@@ -96,9 +96,20 @@ SLIPS = [
         "a query has no moves in the notation of games; a check is `check`",
         "unexpected end",
         r"",
-        r"\b[KQRBN]?[a-h]?[1-8]?x?[a-h][1-8]\+\s*\Z",
+        r"\b[KQRBN]?[a-h]?[1-8]?x?[a-h][1-8][+#]\s*\Z",
     ),
     Slip("no Q", "not Q", "the word is `not`", NAME, r"no\b"),
+    Slip("e8=Q", "move to e8 promote Q", "a query has no moves in the notation of games", BYTE, r"=\s*[QRBN]\b", r"\b[a-h][18]\s*\Z"),
+    Slip("O-O", "move from Ke1 to g1", "castling is the king's move; here one name minus another was read", KIND, r"O-O(-O)?\b"),
+    Slip("checkmate", "mate", "the word is `mate`", NAME, r"(?i:checkmate)\b"),
+    Slip(
+        "mate in 2",
+        "child child child mate",
+        "only a mate that was played can be asked; it comes three half-moves later",
+        TOKEN,
+        r"in\s*\d",
+        r"\bmate\s*\Z",
+    ),
     Slip(
         "Mate", "mate", "words are written in small letters", NAME, r"(?=[a-z]*[A-Z])(?i:check|mate|stalemate|wtm|btm|find|flipcolor|not)\b"
     ),
@@ -111,6 +122,7 @@ SLIPS = [
         TOKEN,
         r"(variations|matchstring|input|output)\b",
     ),
+    Slip("Qf7, Bc4", "Qf7 Bc4", "nothing but white space stands between items", TOKEN, r","),
     Slip("mate; check", "mate check", "nothing but white space stands between items", BYTE, r";"),
     Slip("mate /* in the corner */", "mate // in the corner", "a note begins with `//` and ends with its line", BYTE, r"/\*"),
     Slip("comment 'mate'", 'comment "mate"', 'texts stand in `"`', BYTE, r"'"),
@@ -124,6 +136,7 @@ SLIPS = [
         r"\b(flip\w*|shift\w*|rotate90|not)\s*\(\s*\w+\s*\Z",
     ),
     Slip("check & mate", "check and mate", "`&` is of squares; of positions it is `and`, or nothing at all", KIND, r"\w+\s*[&|]"),
+    Slip("WhiteElo > 2500", "elo white > 2500", "the ratings are `elo white` and `elo black`", KIND, r"(White|Black)Elo\b"),
     Slip("A > a", "power A > power a", "compare numbers: `#A` counts men, `power A` their worth", KIND, r"\S+\s*[<>]=?\s*[A-Za-z\[]"),
     Slip("[Qq] == 0", "#[Qq] == 0", "compare numbers: how many men is `#`", KIND, r"\S+\s*([<>]=?|==)\s*\d"),
     Slip(
@@ -144,6 +157,15 @@ SLIPS = [
     Slip(
         "player Fischer", 'player "Fischer"', "names stand in quotes", TOKEN, r"[A-Za-z]", r"\b(player|event|site)(\s+(white|black))?\s*\Z"
     ),
+    Slip(
+        'player = "Fischer"',
+        'player "Fischer"',
+        "nothing stands between `player` and the name",
+        BYTE,
+        r"=",
+        r"\b(player|event|site)(\s+(white|black))?\s*\Z",
+    ),
+    Slip("white wins", "result 1-0", "a result is written as in the archive", TOKEN, r"(white|black)\s+(wins?|won)\b"),
     Slip('white "Fischer"', 'player white "Fischer"', "`white` and `black` stand after `player` and `elo`", TOKEN, r"(white|black)\b"),
     Slip(
         'player "Tal" or "Keres"',
@@ -252,6 +274,15 @@ ACCEPTED = [
         "Q f7",
         r"(?<![\w\]-])[KQRBNPkqrbnp]\s+[a-h][1-8](?![\w-])",
         "a man anywhere, and a square, which always holds; a man on it is `Qf7`",
+    ),
+    Meaning(
+        "1. e4",
+        r"(?<![\w.-])\d+\.+\s*[KQRBN]?[a-h]?[1-8]?x?[a-h][1-8](?![\w-])",
+        "a number, any square, and men or a square, as they stand; an opening is a position, as `ply == 1 Pe4`",
+    ),
+    Meaning("0-0", r"(?<![\w-])0-0(-0)?(?![\w-])", "a number, which always holds; castling is a move, as `move from Ke1 to g1`"),
+    Meaning(
+        "1-0", r"(?<![\w-])(?<!result\s)(?<!\s\s)(1-0|0-1)(?![\w-])", "a number, which always holds; the result is asked by `result 1-0`"
     ),
     Meaning(
         "find 3 check", r"\bfind\s+(<--\s*)?\d", "finds a number, which always holds; how many positions in a row is the value of `line`"
