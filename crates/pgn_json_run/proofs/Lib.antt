@@ -1,5 +1,6 @@
 pub mod Entries
 pub mod Numbers
 pub mod Opening
+pub mod Placing
 pub mod Refusals
 pub mod Writings

@@ -4,4 +4,5 @@ pub mod Status
 pub mod Lines
 pub mod Writing
 pub mod Texts
+pub mod Making
 pub mod Promise

@@ -11,17 +11,22 @@ use cq_outside::{Refusal, Sink, Source, write_all_of};
 use cq_report::summary_line;
 use pgn_reader::first_bytes_decide;
 use std::alloc::Global;
+use std::thread::Threads;
 
 /// Writes the games of the archive that `source` has left, of which so many bytes are the limit, from 1 to 2^40, and a report over them.
-pub(crate) fn answer_all<S: Source, O: Sink, E: Sink>(
+/// The games of a batch are made by so many workers, from 1 to 64, in threads of `rt`.
+pub(crate) fn answer_all<R: Threads + Sync, S: Source, O: Sink, E: Sink>(
+    rt: &R,
     alloc: Global,
     mark: &[u8],
+    workers: u32,
     limit: u64,
     source: &mut S,
     out: &mut O,
     err: &mut E,
 ) -> Status
-    requires { (1 ≤ limit) × (limit ≤ 2 ^ 40) }
+    requires workers { (1 ≤ workers) × (workers ≤ 64) }
+    requires limit { (1 ≤ limit) × (limit ≤ 2 ^ 40) }
     ensures says { Says result limit mark.now
         (pipe_of S.left S.faults O.taken O.faults E.taken E.faults source.old out.old err.old)
         (pipe_of S.left S.faults O.taken O.faults E.taken E.faults source.new out.new err.new) }
@@ -30,8 +35,10 @@ pub(crate) fn answer_all<S: Source, O: Sink, E: Sink>(
     first_bytes_decide();
     archives_come_in_batches();
     let mut writer = GameWriter {
+        rt,
         alloc,
         mark,
+        workers,
         faulty: 0,
     };
     match take_batches(alloc, limit, source, &mut writer, out, err) {

@@ -4,6 +4,8 @@
 mod answering;
 mod job;
 mod line;
+mod making;
+mod shared;
 mod status;
 mod taking;
 mod texts;

@@ -1,5 +1,5 @@
-//! What is written of games.
-ghost use Rattle.std.specs.Prelude.{◌≡◌, ◌+◌, ◌++◌, ◌<◌, ◌≤◌, ◌^◌, ◌∷◌, [], List, Some, length, slice_get, IfOk, OnOk};
+//! What is written of a game.
+ghost use Rattle.std.specs.Prelude.{◌≡◌, ◌+◌, ◌<◌, ◌∷◌, [], Some, length, slice_get, IfOk};
 ghost use Rattle.cq_batches.specs.Games.{games_of, number_of};
 ghost use Rattle.cq_batches.specs.declared.kept.KeptGame.{KeptGame as AGame};
 ghost use Rattle.pgn_json_run.specs.Texts.{AreTextsOf};
@@ -19,26 +19,13 @@ pub(crate) struct Texts {
     pub(crate) faulty: u64,
 }
 
-/// What is written of the games of a batch.
-pub(crate) fn batch_texts(alloc: Global, mark: &[u8], batch: &Batch) -> Result<Texts, NoMemory>
-    ensures { IfOk result (AreTextsOf mark.now (number_of batch.now + 1) (games_of batch.now)) }
-{
-    let mut all = Texts {
-        lines: Bytes::new(alloc),
-        faults: Bytes::new(alloc),
-        faulty: 0,
-    };
-    for place in 0..u64::from(batch.len()) {
-        let texts = game_texts(alloc, mark, batch, place)?;
-        all.lines.push_all(texts.lines.as_slice())?;
-        all.faults.push_all(texts.faults.as_slice())?;
-        all.faulty += texts.faulty;
-    }
-    Ok(all)
-}
-
-// What is written of the game with this number in a batch.
-fn game_texts(alloc: Global, mark: &[u8], batch: &Batch, place: u64) -> Result<Texts, NoMemory>
+/// What is written of the game with this number in a batch.
+pub(crate) fn game_texts(
+    alloc: Global,
+    mark: &[u8],
+    batch: &Batch,
+    place: u64,
+) -> Result<Texts, NoMemory>
     requires { place < length (games_of batch.now) }
     ensures { IfOk result (λ texts. (game : AGame) × (slice_get (games_of batch.now) place ≡ Some game)
         × AreTextsOf mark.now (number_of batch.now + place + 1) (game ∷ []) texts) }

@@ -11,6 +11,7 @@ use crate::words::read_words;
 use cq_outside::{Desk, NoMemory, OpenFault, Refusal, Sink, write_all_of};
 use pgn_tree::single_spaced;
 use std::alloc::Global;
+use std::thread::Threads;
 
 /// The line that answers words that are refused.
 const USAGE: &[u8] = b"usage: pgnjson [--mark TEXT] [--workers N] [--limit B] [ARCHIVE]\n";
@@ -20,7 +21,8 @@ const USAGE: &[u8] = b"usage: pgnjson [--mark TEXT] [--workers N] [--limit B] [A
 /// standard input.
 ///
 /// Nodes with the comment TEXT, `CQL` if not said, have their position; a TEXT without a word stands for all nodes. The archive may have
-/// B bytes, from 1 to 2^40, which is also the limit if not said. N, from 1 to 64, is how many workers may be used; one does all the work.
+/// B bytes, from 1 to 2^40, which is also the limit if not said. N workers, from 1 to 64, 4 if not said, read the games of a batch, in
+/// threads of `rt`.
 ///
 /// `err` takes a line for each faulty game, `game N byte B: REASON`, and at the end `games G matched M refused R`: M are written, R are faulty.
 ///
@@ -35,7 +37,8 @@ const USAGE: &[u8] = b"usage: pgnjson [--mark TEXT] [--workers N] [--limit B] [A
 /// - `ArchiveTooLong`: one byte more than the limit was read; written is as much as after a failed read.
 ///
 /// The clause `Promise` says of each what was read and written, and which count rose.
-pub fn run<D: Desk, O: Sink, E: Sink>(
+pub fn run<R: Threads + Sync, D: Desk, O: Sink, E: Sink>(
+    rt: &R,
     alloc: Global,
     words: &[String],
     desk: &mut D,
@@ -55,7 +58,16 @@ pub fn run<D: Desk, O: Sink, E: Sink>(
         return Status::NoMemory;
     };
     match desk.open(alloc, job.archive.as_slice()) {
-        Ok(()) => answer_all(alloc, mark.as_slice(), job.limit, desk, out, err),
+        Ok(()) => answer_all(
+            rt,
+            alloc,
+            mark.as_slice(),
+            job.workers,
+            job.limit,
+            desk,
+            out,
+            err,
+        ),
         Err(OpenFault::Failed) => Status::OpenFault,
         Err(OpenFault::NoMemory) => Status::NoMemory,
     }
@@ -91,7 +103,8 @@ fn refuse_words<E: Sink>(err: &mut E) -> Status
 
 /// Ends the program: answers the words after its name as `run` does, and gives the exit status. Words for which there was no memory
 /// end it with 7, and nothing is opened, read or written then.
-pub fn answer_command<D: Desk, O: Sink, E: Sink>(
+pub fn answer_command<R: Threads + Sync, D: Desk, O: Sink, E: Sink>(
+    rt: &R,
     alloc: Global,
     words: Result<Vec<String>, NoMemory>,
     desk: &mut D,
@@ -103,7 +116,7 @@ pub fn answer_command<D: Desk, O: Sink, E: Sink>(
         MatchResult words (λ given. EndsWords (map string_bytes given.items) result was now) (λ _. EndsWithoutWords result was now) }
 {
     match words {
-        Ok(words) => run(alloc, words.as_slice(), desk, out, err).exit_code(),
+        Ok(words) => run(rt, alloc, words.as_slice(), desk, out, err).exit_code(),
         Err(NoMemory) => Status::NoMemory.exit_code(),
     }
 }

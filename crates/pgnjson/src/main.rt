@@ -12,5 +12,5 @@ fn main(rt: HostRuntime) -> ExitCode {
     let mut out = StdSink::new(alloc, rt.stdout()).unwrap();
     let mut err = StdSink::new(alloc, rt.stderr()).unwrap();
     let words = command_words(&rt);
-    ExitCode::from(answer_command(alloc, words, &mut desk, &mut out, &mut err))
+    ExitCode::from(answer_command(&rt, alloc, words, &mut desk, &mut out, &mut err))
 }

@@ -1,5 +1,5 @@
 use Rattle.std.proofs.Common.{◌≡◌, ◌≤◌, ◌<◌, Ok, Err, refl, ap, ◌∙◌, arith, rules}
-use Rattle.cq_outside.specs.declared.faults.Refusal.TheVariants.{Fault, NoMemory}
+use Rattle.cq_outside.specs.declared.faults.Refusal.TheVariants.{Fault}
 use Rattle.cq_batches.specs.declared.state.BatchFault.TheVariants.{ReadFault, ArchiveTooLong}
 use Rattle.cq_batches.specs.Whole.{cut_games}
 use Rattle.pgn_json_run.specs.Writing.{pipe_of, sinks_of}
@@ -9,7 +9,8 @@ use Rattle.pgn_json_run.proofs.answering.answer_all.Goals as goal
 
 pub take_batches-requires-clause-nothing : goal.take_batches-requires-clause-nothing
 take_batches-requires-clause-nothing g c =
-    (refl, no_games c.args.mark.now (sinks_of g.O.Sink.taken g.O.Sink.faults g.E.Sink.taken g.E.Sink.faults c.args.out.now c.args.err.now) 0 refl)
+    let shared = c.type_bounds.sync-R.shared in
+    ((search rules, refl {a = c.args.mark}), no_games c.args.mark.now (sinks_of g.O.Sink.taken g.O.Sink.faults g.E.Sink.taken g.E.Sink.faults c.args.out.now c.args.err.now) 0 refl)
 
 pub returns-in-Ok-All-clause-says : goal.returns-in-Ok-All-clause-says
 returns-in-Ok-All-clause-says g c =

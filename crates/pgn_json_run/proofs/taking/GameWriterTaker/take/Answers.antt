@@ -1,4 +1,4 @@
-use Rattle.std.proofs.Common.{◌≡◌, ◌+◌, ◌<◌, ◌^◌, List, ℕ, length, refl, subst, take, arith}
+use Rattle.std.proofs.Common.{◌+◌, List, ℕ, refl, subst, take, arith}
 use Rattle.cq_batches.specs.Games.{games_of, number_of}
 use Rattle.cq_outside.specs.Flow.{Grew}
 use Rattle.pgn_json_run.specs.Texts.{AreTextsOf}
@@ -6,6 +6,9 @@ use Rattle.pgn_json_run.specs.Writing.{sinks_of}
 use Rattle.pgn_json_run.proofs.Entries.{few_faulty, few_texts, kept_count}
 use Rattle.pgn_json_run.proofs.Writings.{err_failed, out_failed, taken_on}
 use Rattle.pgn_json_run.proofs.taking.GameWriterTaker.take.Goals as goal
+
+pub batch_texts-requires-sync-R : goal.batch_texts-requires-sync-R
+batch_texts-requires-sync-R g c κs within = c.requires.2.0.0
 
 pub overflow_add-self : goal.overflow_add-self
 overflow_add-self g c =
@@ -27,7 +30,7 @@ returns-in-Err g c = λ was games taken index.
     let part = c.in-Err.ensures.err in
     out_failed was.taker.mark.now (sinks was.out was.err) (sinks c.args.out.now c.args.err.now) (sinks c.write_all_of.new.sink c.args.err.now)
     c.args.self.now.faulty games (games_of batch) (number_of batch) c.in-Ok.texts
-    (record { taken = taken.1; index = index; texts = subst (λ m. AreTextsOf m.now (number_of batch + 1) (games_of batch) c.in-Ok.texts) taken.0 c.in-Ok.ensures })
+    (record { taken = taken.1; index = index; texts = subst (λ m. AreTextsOf m.now (number_of batch + 1) (games_of batch) c.in-Ok.texts) taken.0.1 c.in-Ok.ensures })
     (part.0, subst (λ (t : List ℕ). Grew (g.O.Sink.taken c.args.out.now) (g.O.Sink.taken c.write_all_of.new.sink) (take part.0 t)) c.as_slice.ensures part.1)
     c.in-Err.ensures.cause.failed refl
 
@@ -38,7 +41,7 @@ returns-in-Ok-write_all_of-2 g c = λ was games taken index.
       taken.0,
       taken_on was.taker.mark.now (sinks was.out was.err) (sinks c.args.out.now c.args.err.now) (sinks c.write_all_of.new.sink c.write_all_of-2.new.sink)
           c.args.self.now.faulty _ games (games_of batch) (number_of batch) c.in-Ok.texts
-          (record { taken = taken.1; index = index; texts = subst (λ m. AreTextsOf m.now (number_of batch + 1) (games_of batch) c.in-Ok.texts) taken.0 c.in-Ok.ensures })
+          (record { taken = taken.1; index = index; texts = subst (λ m. AreTextsOf m.now (number_of batch + 1) (games_of batch) c.in-Ok.texts) taken.0.1 c.in-Ok.ensures })
           (subst (Grew (g.O.Sink.taken c.args.out.now) (g.O.Sink.taken c.write_all_of.new.sink)) c.as_slice.ensures c.in-Ok-write_all_of.ensures.ok)
           c.in-Ok-write_all_of.ensures.cause.same
           (subst (Grew (g.E.Sink.taken c.args.err.now) (g.E.Sink.taken c.write_all_of-2.new.sink)) c.as_slice-2.ensures c.in-Ok-write_all_of-2.ensures.ok)
@@ -52,7 +55,7 @@ returns g c = λ was games taken index.
     let part = c.in-Err-write_all_of.ensures.err in
     err_failed was.taker.mark.now (sinks was.out was.err) (sinks c.args.out.now c.args.err.now) (sinks c.write_all_of.new.sink c.write_all_of-2.new.sink)
     c.args.self.now.faulty games (games_of batch) (number_of batch) c.in-Ok.texts
-    (record { taken = taken.1; index = index; texts = subst (λ m. AreTextsOf m.now (number_of batch + 1) (games_of batch) c.in-Ok.texts) taken.0 c.in-Ok.ensures })
+    (record { taken = taken.1; index = index; texts = subst (λ m. AreTextsOf m.now (number_of batch + 1) (games_of batch) c.in-Ok.texts) taken.0.1 c.in-Ok.ensures })
     (subst (Grew (g.O.Sink.taken c.args.out.now) (g.O.Sink.taken c.write_all_of.new.sink)) c.as_slice.ensures c.in-Ok-write_all_of.ensures.ok)
     c.in-Ok-write_all_of.ensures.cause.same
     (part.0, subst (λ (t : List ℕ). Grew (g.E.Sink.taken c.args.err.now) (g.E.Sink.taken c.write_all_of-2.new.sink) (take part.0 t)) c.as_slice-2.ensures part.1)

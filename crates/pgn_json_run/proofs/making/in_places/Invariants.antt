@@ -1,0 +1,9 @@
+use Rattle.std.proofs.Common.{length}
+use Rattle.pgn_json_run.proofs.Placing.{ArePlacing}
+use Rattle.pgn_json_run.proofs.making.in_places.Given as goal
+
+abbrev pub invariant-loop-game : goal.invariant-loop-game
+invariant-loop-game l = ArePlacing l.maker.mark.now l.maker.batch.now l.made.items l.places.items
+
+abbrev pub decreases-loop-game : goal.decreases-loop-game
+decreases-loop-game l = length l.made.items
