@@ -110,6 +110,8 @@ def statuses():
         wrong = (("--workers", "0"), ("--workers", "65"), ("--limit", "0"), ("--limit", "1099511627777"), ("a", "b"), ("--help",), ("--mark",))
         for words in wrong:
             compare(f"the words {words}", asked(*words), (3, b"", USAGE))
+        for words in ((b"a\xff.pgn",), ("--limit", "5", b"a\xff.pgn"), (b"--mark=\xff",)):
+            compare(f"the words {words}, no text", asked(*words), (3, b"", USAGE))
         compare("no such file", asked(os.path.join(folder, "b.pgn")), (4, b"", b""))
         compare("a folder", asked(folder), (5, b"", b""))
         compare("the limit itself", asked("--limit", "16", name)[0], 1)

@@ -9,7 +9,7 @@ use Rattle.cq_position.specs.Comments.{words}
 use Rattle.pgn_tree.specs.Words.{space, without_braces}
 use Rattle.pgn_json_run.specs.Jobs.{asked}
 use Rattle.pgn_json_run.specs.Status.{exit_code}
-use Rattle.pgn_json_run.specs.Writing.{Pipe, Says}
+use Rattle.pgn_json_run.specs.Writing.{Pipe, Says, SinkView}
 use Rattle.pgn_json_run.specs.declared.job.Job.{Job}
 use Rattle.pgn_json_run.specs.declared.status.Status.{Status}
 use Rattle.pgn_json_run.specs.declared.status.Status.TheVariants.{WordsRefused, OpenFault, WriteFault, NoMemory}
@@ -62,6 +62,23 @@ RefusesWords WriteFault was now =
     ((k : ℕ) × WritesUsage was now (take k usage_line)) × Rose was.pipe_.sinks.err.faults now.pipe_.sinks.err.faults
 RefusesWords _ was now = ⊥
 
+-- a pipe at a moment at which its sink for the report is this one, and what else the program is lent
+abbrev pub lent_with : Option Told → ℕ → Option (List ℕ) → ℕ → SinkView → SinkView → Lent
+lent_with told open_faults left read_faults out err = record {
+  told = told;
+  open_faults = open_faults;
+  pipe_ = record {
+    left = left;
+    read_faults = read_faults;
+    sinks = record { out = out; err = err };
+  };
+}
+
+-- words are refused, whatever else the program is lent
+abbrev pub RefusesAnyWords : Status → SinkView → SinkView → Type 0
+RefusesAnyWords status was now = (told : Option Told) (open_faults : ℕ) (left : Option (List ℕ)) (read_faults : ℕ) (out : SinkView)
+    → RefusesWords status (lent_with told open_faults left read_faults out was) (lent_with told open_faults left read_faults out now)
+
 -- the comment that a node keeps of a text: its words with single spaces between them, in which a closing brace is a closing parenthesis
 abbrev pub comment_of : List ℕ → List ℕ
 comment_of text = join_with_byte space (words (without_braces text))
@@ -85,3 +102,9 @@ pub record EndsWords (given : List (List ℕ)) (code : ℕ) (was now : Lent) : T
 pub record EndsWithoutWords (code : ℕ) (was now : Lent) : Type 0 where
   pub code_is : code ≡ exit_code NoMemory
   pub unmoved : now ≡ was
+
+-- the exit status is that of a status by which words are refused
+pub record EndsRefused (code : ℕ) (was now : SinkView) : Type 0 where
+  pub status : Status
+  pub code_is : code ≡ exit_code status
+  pub refused : RefusesAnyWords status was now

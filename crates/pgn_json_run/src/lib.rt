@@ -14,5 +14,5 @@ mod words;
 
 pub use job::{Job, WordsRefused};
 pub use status::Status;
-pub use top_call::{answer_command, run};
+pub use top_call::{answer_command, refuse_command, run};
 pub use words::read_words;

@@ -1,9 +1,8 @@
 //! The top call.
-ghost use Rattle.std.specs.Prelude.{ℕ, Option, List, map, MatchResult};
+ghost use Rattle.std.specs.Prelude.{map, MatchResult};
 ghost use Rattle.std.specs.String.{string_bytes};
-ghost use Rattle.cq_outside.specs.Told.{Told};
-ghost use Rattle.pgn_json_run.specs.Promise.{EndsWithoutWords, EndsWords, Promise, RefusesWords, lent};
-ghost use Rattle.pgn_json_run.specs.Writing.{SinkView, pipe_of, view_of};
+ghost use Rattle.pgn_json_run.specs.Promise.{EndsRefused, EndsWithoutWords, EndsWords, Promise, RefusesAnyWords, lent};
+ghost use Rattle.pgn_json_run.specs.Writing.{pipe_of, view_of};
 
 use crate::answering::answer_all;
 use crate::status::Status;
@@ -75,25 +74,7 @@ pub fn run<R: Threads + Sync, D: Desk, O: Sink, E: Sink>(
 
 // Writes the usage line.
 fn refuse_words<E: Sink>(err: &mut E) -> Status
-    ensures { (told : Option Told) (open_faults : ℕ) (left : Option (List ℕ)) (read_faults : ℕ) (out : SinkView) → RefusesWords result
-        (record {
-          told = told;
-          open_faults = open_faults;
-          pipe_ = record {
-            left = left;
-            read_faults = read_faults;
-            sinks = record { out = out; err = view_of E.taken E.faults err.old };
-          };
-        })
-        (record {
-          told = told;
-          open_faults = open_faults;
-          pipe_ = record {
-            left = left;
-            read_faults = read_faults;
-            sinks = record { out = out; err = view_of E.taken E.faults err.new };
-          };
-        }) }
+    ensures { RefusesAnyWords result (view_of E.taken E.faults err.old) (view_of E.taken E.faults err.new) }
 {
     match write_all_of(err, USAGE) {
         Ok(()) => Status::WordsRefused,
@@ -119,4 +100,11 @@ pub fn answer_command<R: Threads + Sync, D: Desk, O: Sink, E: Sink>(
         Ok(words) => run(rt, alloc, words.as_slice(), desk, out, err).exit_code(),
         Err(NoMemory) => Status::NoMemory.exit_code(),
     }
+}
+
+/// Ends the program that has a word which is no text: writes the usage line to `err`, and gives the exit status, 3, or 6 where `err` failed.
+pub fn refuse_command<E: Sink>(err: &mut E) -> u8
+    ensures { EndsRefused result (view_of E.taken E.faults err.old) (view_of E.taken E.faults err.new) }
+{
+    refuse_words(err).exit_code()
 }

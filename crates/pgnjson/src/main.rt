@@ -1,8 +1,9 @@
 //! `pgnjson`: the games of an archive as lines of JSON.
 #![tactic(auto)]
 
+use cq_outside::system::{Words, WordsFault};
 use cq_outside::{FileDesk, StdSink, command_words};
-use pgn_json_run::answer_command;
+use pgn_json_run::{answer_command, refuse_command};
 use std::process::ExitCode;
 
 // The real things are made here and handed over; what is done with them is the contract of `answer_command`.
@@ -11,6 +12,9 @@ fn main(rt: HostRuntime) -> ExitCode {
     let mut desk = FileDesk::new(alloc, rt, rt.stdin()).unwrap();
     let mut out = StdSink::new(alloc, rt.stdout()).unwrap();
     let mut err = StdSink::new(alloc, rt.stderr()).unwrap();
+    if let Err(WordsFault::NoText) = rt.words_once() {
+        return ExitCode::from(refuse_command(&mut err));
+    }
     let words = command_words(&rt);
     ExitCode::from(answer_command(&rt, alloc, words, &mut desk, &mut out, &mut err))
 }
