@@ -3,17 +3,17 @@ use Rattle.std.proofs.Common.{◌≡◌, ◌⊎◌, ℕ, ◌+◌, ◌^◌, ◌�
 use Rattle.std.proofs.lemmas.Bool.{cases_Bool}
 use Rattle.std.proofs.lemmas.Grind.{flat_map-append}
 use Rattle.std.proofs.lemmas.List.{take-append-drop, take_all}
+use Rattle.cq_batches.specs.declared.batch.Batch.{Batch}
+use Rattle.cq_batches.specs.declared.state.Batches.{Batches}
+use Rattle.cq_batches.specs.Kept.{KeptGames}
+use Rattle.cq_batches.specs.Games.{games_of, number_of}
+use Rattle.cq_batches.specs.Batching.{batches, full_batches, left_over, flat}
+use Rattle.cq_batches.specs.Streams.{Stands}
+use Rattle.cq_batches.specs.Whole.{closed_games, cut_games, whole, whole_spans}
+use Rattle.cq_batches.specs.Nexts.{Moves, GivesBatch, HasGivenAll, HasGivenFull}
 use Rattle.cq_outside.specs.Faults.{Rose}
 use Rattle.cq_outside.specs.Flow.{TakesAtMost}
 use Rattle.pgn_cut.specs.Cut.{cut, closed}
-use Rattle.cq_shards.specs.declared.batch.Batch.{Batch}
-use Rattle.cq_shards.specs.declared.state.Batches.{Batches}
-use Rattle.cq_shards.specs.Kept.{KeptGames}
-use Rattle.cq_shards.specs.Answers.{games_of, number_of}
-use Rattle.cq_shards.specs.Batching.{batches, full_batches, left_over, flat}
-use Rattle.cq_shards.specs.Streams.{Stands}
-use Rattle.cq_shards.specs.Whole.{closed_games, cut_games, whole, whole_spans}
-use Rattle.cq_shards.specs.Nexts.{Moves, GivesBatch, HasGivenAll, HasGivenFull}
 use Rattle.cq_shards.specs.Outcomes.{Outcome, AreKeptRead}
 use Rattle.cq_run.specs.declared.status.Status.{Status}
 use Rattle.cq_run.specs.declared.status.Status.TheVariants.{Done, DoneWithRefusals, QueryRefused, WordsRefused, OpenFault, ReadFault, WriteFault, NoMemory, ArchiveTooLong}

@@ -1,15 +1,15 @@
 -- The promise of `answer`, from what its parts answer.
 use Rattle.std.proofs.Common.{◌≡◌, ℕ, ◌+◌, ◌≤◌, List, [], ◌∷◌, ◌++◌, length, length-append, append-nil, Bool, Option, Some, None, refl, ap, sym, ◌∙◌, arith, subst, inl, inr}
 use Rattle.std.specs.Io.KnownBytes.{Consumes, IsAtEnd}
+use Rattle.cq_batches.proofs.Filling.{consumes_none}
 use Rattle.cq_outside.specs.Flow.{TakesAtMost}
 use Rattle.cql_syntax.specs.Trees.{QueryTree}
 use Rattle.pgn_cut.specs.Cut.{closed}
 use Rattle.pgn_cut.specs.Joined.{game_bytes}
 use Rattle.pgn_cut.specs.declared.span.Span.{Span}
-use Rattle.cq_shards.proofs.Filling.{consumes_none}
+use Rattle.cq_shards.specs.Outcomes.{Outcome}
 use Rattle.cq_run.specs.declared.status.Status.TheVariants.{NoMemory}
 use Rattle.cq_run.specs.AllGames.{texts_of, texts_so_far}
-use Rattle.cq_shards.specs.Outcomes.{Outcome}
 use Rattle.cq_run.specs.ByBatches.{HaveOutcomes}
 use Rattle.cq_run.specs.Outcomes.{AreRead}
 use Rattle.cq_run.specs.Promise.{SourceView, SinkView, Sinks, Texts, Wanted, Answering, MayBe, TakesTooMuch, Overruns, AnswerPromise, ReadsNoMore, WritesPrefix, sinks_of}

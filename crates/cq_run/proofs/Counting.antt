@@ -5,18 +5,19 @@ use Rattle.std.proofs.lemmas.Grind.{flat_map-append}
 use Rattle.std.proofs.lemmas.List.Concat.{length-flat_map}
 use Rattle.std.proofs.lemmas.List.Sums.{count_by-le-length}
 use Rattle.std.proofs.lemmas.List.Sorted.{sum_by-IsPermutation}
+use Rattle.cq_batches.specs.Games.{games_of, number_of}
+use Rattle.cq_batches.specs.Nexts.{GivesBatch, HasGivenAll, HasGivenFull, HasBatchCause, Moves, SaysNext}
+use Rattle.cq_batches.specs.Streams.{Stands}
+use Rattle.cq_batches.specs.declared.batch.Batch.{Batch}
+use Rattle.cq_batches.specs.declared.state.BatchFault.{BatchFault}
+use Rattle.cq_batches.specs.declared.state.BatchFault.TheVariants.{ReadFault, ArchiveTooLong}
+use Rattle.cq_batches.specs.declared.state.Batches.{Batches}
 use Rattle.cq_outside.specs.Faults.{Rose}
 use Rattle.cq_outside.specs.declared.faults.Refusal.TheVariants.{Fault}
-use Rattle.cq_shards.specs.Answers.{AnswersBatch, answers_from, found_in, games_of, number_of, text_of}
-use Rattle.cq_shards.specs.Nexts.{GivesBatch, HasGivenAll, HasGivenFull, HasBatchCause, Moves, SaysNext}
+use Rattle.cq_shards.specs.Answers.{AnswersBatch, answers_from, found_in, text_of}
 use Rattle.cq_shards.specs.Outcomes.{AreKeptRead, Outcome}
-use Rattle.cq_shards.specs.Streams.{Stands}
 use Rattle.cq_shards.specs.declared.answers.Answer.TheVariants.{Match, Miss, Refused}
 use Rattle.cq_shards.specs.declared.answers.GameAnswer.{GameAnswer}
-use Rattle.cq_shards.specs.declared.batch.Batch.{Batch}
-use Rattle.cq_shards.specs.declared.state.BatchFault.{BatchFault}
-use Rattle.cq_shards.specs.declared.state.BatchFault.TheVariants.{ReadFault, ArchiveTooLong}
-use Rattle.cq_shards.specs.declared.state.Batches.{Batches}
 use Rattle.cql_syntax.specs.Hits.{marked}
 use Rattle.cql_syntax.specs.Trees.{QueryTree}
 use Rattle.pgn_export.specs.Export.{export_text}

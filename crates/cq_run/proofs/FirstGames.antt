@@ -4,13 +4,13 @@ use Rattle.std.specs.Prelude.{count_by, if◌then◌else◌}
 use Rattle.std.specs.List.{flat_map}
 use Rattle.std.proofs.lemmas.Bool.{cases_Bool}
 use Rattle.std.proofs.lemmas.List.Sums.{sum_by-cons}
+use Rattle.cq_batches.specs.Kept.{KeptGames}
 use Rattle.cq_position.specs.Games.{Game}
 use Rattle.pgn_export.specs.Export.{export_text}
 use Rattle.cql_syntax.specs.Hits.{keys, marked}
 use Rattle.cql_syntax.specs.Trees.{QueryTree}
 use Rattle.cq_shards.specs.Answers.{answer_of, answers_from, has_match}
 use Rattle.cq_shards.specs.FirstMatch.{AreUpToFirst}
-use Rattle.cq_shards.specs.Kept.{KeptGames}
 use Rattle.cq_shards.specs.Order.{is_found, is_match as is_match_kept, values_in}
 use Rattle.cq_shards.specs.Outcomes.{AreKeptRead, Outcome}
 use Rattle.cq_shards.specs.declared.answers.Answer.TheVariants.{Miss, Match}

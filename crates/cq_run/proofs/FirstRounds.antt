@@ -3,20 +3,23 @@ use Rattle.std.proofs.Common.{◌≡◌, ℕ, ◌+◌, ◌-◌, ◌^◌, ◌≤�
 use Rattle.std.specs.Prelude.{count_by}
 use Rattle.std.proofs.lemmas.Bool.{cases_Bool}
 use Rattle.std.proofs.lemmas.List.{length-map}
+use Rattle.cq_batches.specs.Games.{games_of, number_of}
+use Rattle.cq_batches.specs.Batching.{batches}
+use Rattle.cq_batches.specs.Kept.{kept}
+use Rattle.cq_batches.specs.Nexts.{Moves, GivesBatch, HasGivenAll, HasGivenFull}
+use Rattle.cq_batches.specs.Streams.{Stands}
+use Rattle.cq_batches.specs.Whole.{closed_games}
+use Rattle.cq_batches.specs.declared.batch.Batch.{Batch}
+use Rattle.cq_batches.specs.declared.state.Batches.{Batches}
+use Rattle.cq_batches.proofs.Filling.{consumes_none}
+use Rattle.cq_batches.proofs.Streams.{count_within}
 use Rattle.cq_outside.specs.Faults.{Rose}
 use Rattle.cql_syntax.specs.Trees.{QueryTree}
 use Rattle.pgn_cut.specs.Cut.{cut, closed}
-use Rattle.cq_shards.specs.Answers.{answers_from, games_of, number_of}
-use Rattle.cq_shards.specs.Batching.{batches}
+use Rattle.cq_shards.specs.Answers.{answers_from}
 use Rattle.cq_shards.specs.FirstMatch.{AnswersUpToFirst}
-use Rattle.cq_shards.specs.Kept.{kept}
-use Rattle.cq_shards.specs.Nexts.{Moves, GivesBatch, HasGivenAll, HasGivenFull}
 use Rattle.cq_shards.specs.Outcomes.{Outcome, AreKeptRead}
-use Rattle.cq_shards.specs.Streams.{Stands}
-use Rattle.cq_shards.specs.Whole.{closed_games}
 use Rattle.cq_shards.specs.declared.answers.GameAnswer.{GameAnswer}
-use Rattle.cq_shards.specs.declared.batch.Batch.{Batch}
-use Rattle.cq_shards.specs.declared.state.Batches.{Batches}
 use Rattle.cq_run.specs.Answer.{is_match}
 use Rattle.cq_run.specs.AllGames.{texts_so_far}
 use Rattle.cq_run.specs.ByBatches.{Laws}
@@ -26,8 +29,6 @@ use Rattle.cq_run.specs.Sorts.{have_sort}
 use Rattle.cq_run.specs.Writing.{FoundSoFar, Stand, WritesSummary, stand_of}
 use Rattle.cq_run.specs.declared.status.Status.{Status}
 use Rattle.cq_run.specs.declared.status.Status.TheVariants.{ReadFault, WriteFault, NoMemory, ArchiveTooLong}
-use Rattle.cq_shards.proofs.Filling.{consumes_none}
-use Rattle.cq_shards.proofs.Streams.{count_within}
 use Rattle.cq_run.proofs.AnswerPromise.{answer_call, asked_of, none_answered as all_unanswered, none_taken, outcomes_of}
 use Rattle.cq_run.proofs.GameByGame.{answers_count, as_prefix, none_found, tally_with}
 use Rattle.cq_run.proofs.FirstGames.{UpTo, all_up, are_first, first_texts_of, none_counted, some_counted, some_of_first, up_few, up_on, up_to}

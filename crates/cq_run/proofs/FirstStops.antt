@@ -4,13 +4,13 @@ use Rattle.std.specs.List.{flat_map}
 use Rattle.std.specs.Io.KnownBytes.{Consumes}
 use Rattle.std.proofs.lemmas.Bool.{cases_Bool}
 use Rattle.std.proofs.lemmas.List.{take-append-drop, take-append-le, take_all}
+use Rattle.cq_batches.specs.Batching.{batches, full_batches, flat}
+use Rattle.cq_batches.specs.Whole.{closed_games, whole, whole_spans}
 use Rattle.cq_outside.specs.Faults.{Rose}
 use Rattle.cq_outside.specs.Flow.{Grew}
 use Rattle.cql_syntax.specs.Trees.{QueryTree}
 use Rattle.pgn_cut.specs.Cut.{cut, closed}
-use Rattle.cq_shards.specs.Batching.{batches, full_batches, flat}
 use Rattle.cq_shards.specs.Outcomes.{Outcome, AreKeptRead}
-use Rattle.cq_shards.specs.Whole.{closed_games, whole, whole_spans}
 use Rattle.cq_run.specs.Answer.{export_if, fault_lines}
 use Rattle.cq_run.specs.ByBatches.{Laws}
 use Rattle.cq_run.specs.FirstGame.{AreFirst, first_texts, some_match}

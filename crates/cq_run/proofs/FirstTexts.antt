@@ -5,16 +5,16 @@ use Rattle.std.specs.Io.KnownBytes.{Consumes}
 use Rattle.std.proofs.Math.Seq.{take-append-add}
 use Rattle.std.proofs.lemmas.Grind.{flat_map-append}
 use Rattle.std.proofs.lemmas.List.{take-append-drop}
+use Rattle.cq_batches.specs.Batching.{batches, full_batches, left_over, flat}
+use Rattle.cq_batches.specs.Filling.{IsNeeded, most_read}
+use Rattle.cq_batches.specs.Kept.{KeptGames, kept}
+use Rattle.cq_batches.specs.Whole.{closed_games, cut_games, whole, whole_spans}
 use Rattle.cq_outside.specs.Flow.{Grew}
 use Rattle.cql_syntax.specs.Trees.{QueryTree}
 use Rattle.pgn_cut.specs.Cut.{cut, closed}
 use Rattle.pgn_cut.specs.Joined.{game_bytes}
 use Rattle.pgn_cut.specs.declared.span.Span.{Span}
-use Rattle.cq_shards.specs.Batching.{batches, full_batches, left_over, flat}
-use Rattle.cq_shards.specs.Filling.{IsNeeded, most_read}
-use Rattle.cq_shards.specs.Kept.{KeptGames, kept}
 use Rattle.cq_shards.specs.Outcomes.{Outcome, AreKeptRead}
-use Rattle.cq_shards.specs.Whole.{closed_games, cut_games, whole, whole_spans}
 use Rattle.cq_shards.specs.declared.answers.GameAnswer.{GameAnswer}
 use Rattle.cq_run.specs.Answer.{export_if, fault_lines, summary_of, tally_of}
 use Rattle.cq_run.specs.AllGames.{texts_so_far}

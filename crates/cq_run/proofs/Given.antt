@@ -5,20 +5,20 @@ use Rattle.std.proofs.lemmas.Grind.{flat_map-append}
 use Rattle.std.proofs.lemmas.List.{take-append-le, take-append-drop, take_more, map-append, length-map}
 use Rattle.std.proofs.lemmas.Option.{slice_get_within, slice_get-get_or, get_or_from_slice_get}
 use Rattle.std.proofs.Math.ListN.{get_or-append}
+use Rattle.std.proofs.Math.Seq.{take-append_seam}
+use Rattle.std.proofs.lemmas.List.{take-map}
+use Rattle.cq_batches.specs.Kept.{KeptGames}
+use Rattle.cq_batches.specs.Batching.{batches, full_batches, full_from, is_full, left_over, as_last, flat}
+use Rattle.cq_batches.specs.Whole.{closed_games, cut_games, whole, whole_spans}
+use Rattle.cq_batches.specs.Kept.{kept, most_kept}
+use Rattle.cq_batches.proofs.Streams.{count_within}
 use Rattle.pgn_cut.specs.Cut.{cut, closed}
 use Rattle.pgn_cut.specs.Joined.{game_bytes}
 use Rattle.pgn_cut.specs.declared.span.Span.{Span}
 use Rattle.pgn_reader.specs.Verdict.{IsRead}
-use Rattle.cq_shards.specs.Kept.{KeptGames}
-use Rattle.cq_shards.specs.Batching.{batches, full_batches, full_from, is_full, left_over, as_last, flat}
-use Rattle.cq_shards.specs.Whole.{closed_games, cut_games, whole, whole_spans}
-use Rattle.cq_shards.specs.Kept.{kept, most_kept}
 use Rattle.cq_shards.specs.Outcomes.{Outcome, AreKeptRead}
 use Rattle.cq_run.specs.ByBatches.{HaveOutcomes, Laws}
 use Rattle.cq_run.specs.Outcomes.{AreRead}
-use Rattle.cq_shards.proofs.Streams.{count_within}
-use Rattle.std.proofs.Math.Seq.{take-append_seam}
-use Rattle.std.proofs.lemmas.List.{take-map}
 
 pub record Rest (games : KeptGames) : Type 0 where
   pub outcomes : List Outcome

@@ -5,23 +5,23 @@ use Rattle.std.proofs.lemmas.Bool.{cases_Bool}
 use Rattle.std.proofs.lemmas.List.{take_all, length-map}
 use Rattle.std.proofs.lemmas.Option.{slice_get_within}
 use Rattle.std.specs.Io.KnownBytes.{Consumes, IsAtEnd}
+use Rattle.cq_batches.specs.Games.{games_of, number_of}
+use Rattle.cq_batches.specs.declared.batch.Batch.{Batch}
+use Rattle.cq_batches.specs.declared.state.Batches.{Batches}
+use Rattle.cq_batches.specs.Batching.{batches, full_batches, left_over, as_last, flat}
+use Rattle.cq_batches.specs.Queues.{IsNextBatch, IsBatchAt}
+use Rattle.cq_batches.specs.Streams.{Stands}
+use Rattle.cq_batches.specs.Whole.{closed_games, cut_games}
+use Rattle.cq_batches.specs.Kept.{kept}
+use Rattle.cq_batches.specs.Nexts.{Moves, GivesBatch, HasGivenAll}
+use Rattle.cq_batches.proofs.Streams.{count_within}
+use Rattle.cq_batches.proofs.Filling.{consumes_none, consumes_on}
 use Rattle.cq_outside.specs.Flow.{TakesAtMost}
 use Rattle.pgn_cut.specs.Cut.{cut}
-use Rattle.cq_shards.specs.Answers.{games_of, number_of}
-use Rattle.cq_shards.specs.declared.batch.Batch.{Batch}
-use Rattle.cq_shards.specs.declared.state.Batches.{Batches}
-use Rattle.cq_shards.specs.Batching.{batches, full_batches, left_over, as_last, flat}
-use Rattle.cq_shards.specs.Queues.{IsNextBatch, IsBatchAt}
-use Rattle.cq_shards.specs.Streams.{Stands}
-use Rattle.cq_shards.specs.Whole.{closed_games, cut_games}
-use Rattle.cq_shards.specs.Kept.{kept}
-use Rattle.cq_shards.specs.Nexts.{Moves, GivesBatch, HasGivenAll}
 use Rattle.cq_shards.specs.Outcomes.{Outcome, AreKeptRead}
 use Rattle.cq_run.specs.ByBatches.{Laws}
 use Rattle.cq_run.specs.Outcomes.{HasGames}
 use Rattle.cq_run.specs.Promise.{SourceView}
-use Rattle.cq_shards.proofs.Streams.{count_within}
-use Rattle.cq_shards.proofs.Filling.{consumes_none, consumes_on}
 use Rattle.cq_run.proofs.Given.{all_batches, flat_next, full_each, full_first, full_low, full_rises, given, given_full, given_stays, last_one, reads_archive, within_first}
 
 -- how far an archive is read: the limit on its bytes, the batches, and the source as the reading began and as it is

@@ -1,14 +1,15 @@
 -- Answering one query batch by batch.
 use Rattle.std.proofs.Common.{◌≡◌, ℕ, ◌+◌, ◌^◌, ◌≤◌, ◌<◌, Bool, false, List, [], ◌++◌, length, refl, ap, ◌∙◌, arith}
+use Rattle.cq_batches.specs.Games.{number_of}
+use Rattle.cq_batches.specs.Nexts.{Moves, GivesBatch, HasGivenAll, HasGivenFull}
+use Rattle.cq_batches.specs.Streams.{Stands}
+use Rattle.cq_batches.specs.declared.batch.Batch.{Batch}
+use Rattle.cq_batches.specs.declared.state.Batches.{Batches}
 use Rattle.cq_outside.specs.Faults.{Rose}
 use Rattle.cql_syntax.specs.Trees.{QueryTree}
-use Rattle.cq_shards.specs.Answers.{AnswersBatch, answers_from, number_of}
-use Rattle.cq_shards.specs.Nexts.{Moves, GivesBatch, HasGivenAll, HasGivenFull}
+use Rattle.cq_shards.specs.Answers.{AnswersBatch, answers_from}
 use Rattle.cq_shards.specs.Outcomes.{Outcome}
-use Rattle.cq_shards.specs.Streams.{Stands}
 use Rattle.cq_shards.specs.declared.answers.GameAnswer.{GameAnswer}
-use Rattle.cq_shards.specs.declared.batch.Batch.{Batch}
-use Rattle.cq_shards.specs.declared.state.Batches.{Batches}
 use Rattle.cq_run.specs.AllGames.{texts_of, texts_so_far}
 use Rattle.cq_run.specs.ByBatches.{Laws}
 use Rattle.cq_run.specs.Promise.{Answering, SourceView, SinkView, Sinks, WritesPrefix, AnswerPromise, NoWriteFailed, OneSinkFailed, sinks_of}

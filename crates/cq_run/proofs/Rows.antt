@@ -5,18 +5,19 @@ use Rattle.std.proofs.lemmas.Bool.{cases_lt}
 use Rattle.std.proofs.lemmas.List.{ext_get_or, get_or-map, get_or-set_same, get_or-set_other, length-map, length-set, map-set}
 use Rattle.std.proofs.lemmas.List.Elements.{filter-append}
 use Rattle.std.proofs.lemmas.List.Sums.{length-filter}
+use Rattle.cq_batches.specs.Games.{games_of, number_of}
+use Rattle.cq_batches.specs.Kept.{KeptGames}
+use Rattle.cq_batches.specs.declared.batch.Batch.{Batch}
 use Rattle.cq_position.specs.Games.{Game}
 use Rattle.cql_syntax.specs.Hits.{marked, keys}
 use Rattle.cql_syntax.specs.Trees.{QueryTree}
 use Rattle.pgn_export.specs.Export.{export_text}
-use Rattle.cq_shards.specs.Answers.{AreAnswersOf, answer_of, answers_from, games_of, has_match, number_of}
-use Rattle.cq_shards.specs.Kept.{KeptGames}
+use Rattle.cq_shards.specs.Answers.{AreAnswersOf, answer_of, answers_from, has_match}
 use Rattle.cq_shards.specs.Many.{AreManyOf}
 use Rattle.cq_shards.specs.Order.{is_match as is_match_kept, values_in}
 use Rattle.cq_shards.specs.Outcomes.{AreKeptRead, Outcome}
 use Rattle.cq_shards.specs.declared.answers.Answer.TheVariants.{Match, Miss}
 use Rattle.cq_shards.specs.declared.answers.GameAnswer.{GameAnswer}
-use Rattle.cq_shards.specs.declared.batch.Batch.{Batch}
 use Rattle.cq_run.specs.Answer.{is_match}
 use Rattle.cq_run.specs.ByBatches.{HaveOneOutcome, Laws}
 use Rattle.cq_run.specs.Exports.{match_if, matches_from}

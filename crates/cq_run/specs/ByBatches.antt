@@ -1,14 +1,14 @@
 -- What answering batch by batch rests on: the laws of cuts, of batches and of reading.
 use Rattle.std.specs.Prelude.{◌≡◌, ◌↔◌, ℕ, ◌+◌, Bool, List, ◌++◌, length, take}
+use Rattle.cq_batches.specs.Batching.{flat, full_batches, left_over}
+use Rattle.cq_batches.specs.Kept.{KeptGames}
+use Rattle.cq_batches.specs.Whole.{closed_games}
 use Rattle.pgn_cut.specs.Cut.{cut, closed}
 use Rattle.pgn_cut.specs.Spans.{AreInOrder, FinishesAt}
 use Rattle.pgn_cut.specs.declared.span.Span.{Span}
 use Rattle.pgn_reader.specs.Limits.{longest}
 use Rattle.pgn_reader.specs.Verdict.{IsRead}
-use Rattle.cq_shards.specs.Batching.{flat, full_batches, left_over}
-use Rattle.cq_shards.specs.Kept.{KeptGames}
 use Rattle.cq_shards.specs.Outcomes.{Outcome}
-use Rattle.cq_shards.specs.Whole.{closed_games}
 
 -- all games have outcomes
 abbrev pub HaveOutcomes : Type 0

@@ -1,17 +1,17 @@
 -- What `answer` promises: what it answers, what out and err have taken then, and when each answer comes.
 use Rattle.std.specs.Prelude.{◌≡◌, ◌⊎◌, ℕ, ◌+◌, ◌-◌, ◌≤◌, ◌<◌, List, [], ◌∷◌, length, take, Option, None, Some}
 use Rattle.std.specs.Io.KnownBytes.{Consumes, IsAtEnd}
+use Rattle.cq_batches.specs.Filling.{most_read}
+use Rattle.cq_batches.specs.Whole.{whole_spans}
 use Rattle.cq_outside.specs.Faults.{Rose}
 use Rattle.cq_outside.specs.Flow.{Grew, TakesAtMost}
 use Rattle.cq_outside.specs.Told.{Told}
-use Rattle.cq_run.specs.declared.status.Status.{Status}
-use Rattle.cq_run.specs.declared.status.Status.TheVariants.{Done, DoneWithRefusals, ReadFault, WriteFault, NoMemory, ArchiveTooLong}
 use Rattle.cq_shards.specs.Outcomes.{Outcome}
-use Rattle.cq_run.specs.Outcomes.{AreRead, HasGames}
 use Rattle.pgn_cut.specs.Cut.{closed}
 use Rattle.pgn_cut.specs.declared.span.Span.{Span}
-use Rattle.cq_shards.specs.Filling.{most_read}
-use Rattle.cq_shards.specs.Whole.{whole_spans}
+use Rattle.cq_run.specs.declared.status.Status.{Status}
+use Rattle.cq_run.specs.declared.status.Status.TheVariants.{Done, DoneWithRefusals, ReadFault, WriteFault, NoMemory, ArchiveTooLong}
+use Rattle.cq_run.specs.Outcomes.{AreRead, HasGames}
 
 -- a source at one moment: the bytes that are left, where it tells them, and its count of faults
 pub record SourceView : Type 0 where

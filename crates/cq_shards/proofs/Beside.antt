@@ -7,14 +7,15 @@ use Rattle.std.proofs.lemmas.List.Elements.{All-head, All-tail, All-nil, All-con
 use Rattle.std.proofs.lemmas.List.Sorted.{All-permutation, sum_by-IsPermutation}
 use Rattle.std.proofs.lemmas.List.Sums.{sum_by-append}
 use Rattle.std.proofs.lemmas.Option.{slice_get_within}
+use Rattle.cq_batches.specs.declared.batch.Batch.{Batch}
+use Rattle.cq_batches.specs.declared.kept.KeptGame.{KeptGame}
+use Rattle.cq_batches.specs.Kept.{KeptGames}
+use Rattle.cq_batches.specs.Games.{games_of, number_of}
 use Rattle.cql_syntax.specs.Trees.{QueryTree}
-use Rattle.cq_shards.specs.declared.answers.GameAnswer.{GameAnswer}
-use Rattle.cq_shards.specs.declared.batch.Batch.{Batch}
-use Rattle.cq_shards.specs.declared.kept.KeptGame.{KeptGame}
-use Rattle.cq_shards.specs.Kept.{KeptGames}
-use Rattle.cq_shards.specs.Order.{AreApart, IsEarlier}
-use Rattle.cq_shards.specs.Answers.{AnswersBatch, AreAnswersOf, AreInGameOrder, IsAnswerAmong, answer_of, answers_at, answers_from, games_of, number_of}
 use Rattle.pgn_reader.specs.Verdict.{IsRead}
+use Rattle.cq_shards.specs.declared.answers.GameAnswer.{GameAnswer}
+use Rattle.cq_shards.specs.Order.{AreApart, IsEarlier}
+use Rattle.cq_shards.specs.Answers.{AnswersBatch, AreAnswersOf, AreInGameOrder, IsAnswerAmong, answer_of, answers_at, answers_from}
 use Rattle.cq_shards.specs.Outcomes.{Outcome}
 
 abbrev one_if : Bool → ℕ

@@ -5,13 +5,11 @@ use Rattle.std.proofs.lemmas.List.Elements.{All-head, All-tail}
 use Rattle.std.proofs.lemmas.List.Sums.{sum_by-append, sum_by_push, sum_by-cons}
 use Rattle.cq_board.specs.Draws.{times, once_below}
 use Rattle.cq_board.proofs.Increasing.{one_if}
+use Rattle.cq_crew.proofs.Counting.{not_same, times_more}
 use Rattle.cq_shards.specs.declared.answers.GameAnswer.{GameAnswer}
 use Rattle.cq_shards.specs.Answers.{answers_at}
 use Rattle.cq_shards.specs.Finders.{adding, matches_at}
 use Rattle.cq_shards.specs.Order.{is_match}
-
-pub times_more : (x : ℕ) (was now : List ℕ) (k : ℕ) → now ≡ was ++ k ∷ [] → times x now ≡ times x was + one_if (k == x)
-times_more x was now k more = ap (times x) more ∙ sum_by_push (λ y. one_if (y == x)) was k
 
 and_true : (p : Bool) → (p && true) ≡ p
 and_true true = refl
@@ -39,12 +37,6 @@ answers_both x xs bs now more = ap (answers_at x) more ∙ sum_by-append (λ b. 
 
 pub matches_both : (x : ℕ) (xs bs now : List GameAnswer) → now ≡ xs ++ bs → matches_at x now ≡ matches_at x xs + matches_at x bs
 matches_both x xs bs now more = ap (matches_at x) more ∙ sum_by-append (λ b. one_if ((b.index == x) && is_match b)) xs bs
-
-pub same_bool : (base k x index : ℕ) → index ≡ base + k → nat_eq index (base + x) ≡ nat_eq k x
-same_bool base k x index is = grind arith
-
-pub not_same : (k x : ℕ) → k ≢ x → nat_eq k x ≡ false
-not_same k x differ = grind arith
 
 pub same_self : (k : ℕ) → nat_eq k k ≡ true
 same_self k = eq-eqb k k refl

@@ -2,6 +2,8 @@
 use Rattle.std.proofs.Common.{◌≡◌, ℕ, ◌+◌, ◌<◌, ◌==◌, true, false, ℤ, List, [], ◌∷◌, length, get_or, map, All, AllPairs, Some, Ok, Err, refl, ap, sym, subst, ◌∙◌, cond}
 use Rattle.std.specs.Prelude.{Result, IfOk}
 use Rattle.std.proofs.lemmas.Option.{slice_get-get_or}
+use Rattle.cq_batches.specs.Kept.{KeptGames}
+use Rattle.cq_batches.specs.declared.kept.KeptGame.{KeptGame}
 use Rattle.cq_position.specs.Games.{Game}
 use Rattle.cql_plan.proofs.Items.{hits_are_inside, hits_increase}
 use Rattle.cql_syntax.specs.Hits.{hits, keys, marked, tree_of}
@@ -9,12 +11,10 @@ use Rattle.cql_syntax.specs.Trees.{QueryTree}
 use Rattle.pgn_export.specs.Export.{export_text}
 use Rattle.pgn_reader.specs.Verdict.{IsRead}
 use Rattle.cq_shards.specs.Answers.{IsAnswerAt, answer_of, has_match}
-use Rattle.cq_shards.specs.Kept.{KeptGames}
 use Rattle.cq_shards.specs.Order.{values_in}
 use Rattle.cq_shards.specs.Outcomes.{IsReadAt, Outcome}
 use Rattle.cq_shards.specs.declared.answers.Answer.TheVariants.{Miss, Match}
 use Rattle.cq_shards.specs.declared.answers.GameAnswer.{GameAnswer}
-use Rattle.cq_shards.specs.declared.kept.KeptGame.{KeptGame}
 
 pub some_in : (ns : List ℕ) → (length ns == 0) ≡ false → ns ≡ [] → ⊥
 some_in [] some none = cc

@@ -3,18 +3,19 @@ use Rattle.std.proofs.Common.{◌==◌, ◌≡◌, ℕ, ◌+◌, ◌<◌, ◌≤
 use Rattle.std.specs.List.{AllZip}
 use Rattle.std.proofs.lemmas.List.{drop_more, map-append, take_all, take_more}
 use Rattle.std.proofs.lemmas.List.Elements.{All-pop, All-push, All-nil}
+use Rattle.cq_batches.specs.declared.batch.Batch.{Batch}
+use Rattle.cq_batches.specs.Games.{games_of, number_of}
 use Rattle.cq_board.proofs.Increasing.{one_if}
+use Rattle.cq_crew.proofs.Counting.{made_more}
 use Rattle.cql_syntax.specs.Trees.{QueryTree}
 use Rattle.cq_shards.specs.declared.answers.GameAnswer.{GameAnswer}
-use Rattle.cq_shards.specs.declared.batch.Batch.{Batch}
 use Rattle.cq_shards.specs.declared.many.AnswerList.{AnswerList}
 use Rattle.cq_shards.specs.declared.rows.GameRow.{GameRow}
-use Rattle.cq_shards.specs.Answers.{AreAnswersOf, IsAnswerAmong, answer_of, answers_at, games_of, number_of}
+use Rattle.cq_shards.specs.Answers.{AreAnswersOf, IsAnswerAmong, answer_of, answers_at}
 use Rattle.cq_shards.specs.Many.{AreManyOf}
 use Rattle.cq_shards.specs.Rows.{AreRowsOf, AreTakenOff, IsRowIn, answers_back, rows_at}
 use Rattle.cq_shards.specs.Work.{size}
 use Rattle.cq_shards.proofs.Counting.{answers_more}
-use Rattle.cq_shards.proofs.Drains.{made_more}
 
 -- lists with one last element more are the same where the lists and the elements are
 snoc_same : {X : Type 0} (xs ys : List X) (a b : X) → xs ++ a ∷ [] ≡ ys ++ b ∷ [] → (xs ≡ ys) × (a ≡ b)

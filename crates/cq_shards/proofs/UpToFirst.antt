@@ -6,19 +6,21 @@ use Rattle.std.proofs.lemmas.Bool.{cases_lt}
 use Rattle.std.proofs.lemmas.List.Elements.{All-head, All-tail, All-weaker}
 use Rattle.std.proofs.lemmas.List.Sorted.{All-permutation, sum_by-IsPermutation}
 use Rattle.std.proofs.lemmas.Option.{slice_get_within}
+use Rattle.cq_batches.specs.Games.{games_of, number_of}
+use Rattle.cq_batches.specs.Kept.{KeptGames}
+use Rattle.cq_batches.specs.declared.batch.Batch.{Batch}
+use Rattle.cq_batches.specs.declared.kept.KeptGame.{KeptGame}
 use Rattle.cq_board.proofs.Increasing.{one_if}
+use Rattle.cq_crew.proofs.Counting.{not_same}
 use Rattle.cql_syntax.specs.Trees.{QueryTree}
 use Rattle.pgn_reader.specs.Verdict.{IsRead}
-use Rattle.cq_shards.specs.Answers.{IsAnswerAmong, IsAnswerOf, answer_of, answers_at, games_of, number_of}
+use Rattle.cq_shards.specs.Answers.{IsAnswerAmong, IsAnswerOf, answer_of, answers_at}
 use Rattle.cq_shards.specs.Finders.{AreFound, IsAnswerIn, matches_at}
 use Rattle.cq_shards.specs.FirstMatch.{AnswersUpToFirst, AreUpToFirst}
-use Rattle.cq_shards.specs.Kept.{KeptGames}
 use Rattle.cq_shards.specs.Order.{AreApart, IsEarlier, is_match}
 use Rattle.cq_shards.specs.declared.answers.GameAnswer.{GameAnswer}
-use Rattle.cq_shards.specs.declared.batch.Batch.{Batch}
-use Rattle.cq_shards.specs.declared.kept.KeptGame.{KeptGame}
 use Rattle.cq_shards.proofs.Beside.{NotLater, first_game, first_number, index_of, later_answer, later_pairs, none_counted, not_later}
-use Rattle.cq_shards.proofs.Counting.{answers_cons, matches_among, matches_cons, not_same, same_self}
+use Rattle.cq_shards.proofs.Counting.{answers_cons, matches_among, matches_cons, same_self}
 
 -- answers in the order of some games, of which those up to the game `word` are all there, and that one's is the first match
 pub record AreFrom (query : QueryTree) (n : ℕ) (games : KeptGames) (word : ℕ) (xs : List GameAnswer) : Type 0 where

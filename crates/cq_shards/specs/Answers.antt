@@ -1,5 +1,8 @@
 -- The answers of the games of a batch.
 use Rattle.std.specs.Prelude.{◌≡◌, ℕ, ◌+◌, ◌<◌, Bool, not, List, [], ◌∷◌, All, Some, Ok, Err, ◌==◌, count_by, length, slice_get, if◌then◌else◌}
+use Rattle.cq_batches.specs.Kept.{KeptGames}
+use Rattle.cq_batches.specs.declared.batch.Batch.{Batch}
+use Rattle.cq_batches.specs.declared.kept.KeptGame.{KeptGame}
 use Rattle.cq_position.specs.Games.{Game}
 use Rattle.pgn_export.specs.Export.{export_text}
 use Rattle.pgn_reader.specs.Verdict.{IsRead}
@@ -8,14 +11,11 @@ use Rattle.cql_plan.specs.declared.plan.Plan.{Plan}
 use Rattle.cql_syntax.specs.Hits.{hits, keys, marked}
 use Rattle.cql_syntax.specs.TreeOf.{query_tree}
 use Rattle.cql_syntax.specs.Trees.{QueryTree}
-use Rattle.cq_shards.specs.Kept.{KeptGames}
 use Rattle.cq_shards.specs.Order.{values_in}
 use Rattle.cq_shards.specs.Outcomes.{AreKeptRead, Outcome}
 use Rattle.cq_shards.specs.declared.answers.Answer.{Answer}
 use Rattle.cq_shards.specs.declared.answers.Answer.TheVariants.{Refused, Miss, Match}
 use Rattle.cq_shards.specs.declared.answers.GameAnswer.{GameAnswer}
-use Rattle.cq_shards.specs.declared.batch.Batch.{Batch}
-use Rattle.cq_shards.specs.declared.kept.KeptGame.{KeptGame}
 
 -- the query that a plan was made from
 abbrev pub query_in : Plan → QueryTree

@@ -1,18 +1,16 @@
--- Workers that look for the first match of a batch, before their first draw and after their last, as the private functions give it.
-use Rattle.std.specs.Prelude.{◌≡◌, ◌⊎◌, ℕ, ◌+◌, ◌<◌, ◌≤◌, ◌==◌, ◌&&◌, Bool, true, false, List, [], ◌∷◌, ◌++◌, All, count_by, if◌then◌else◌}
-use Rattle.cq_board.specs.declared.seat.Board.{Board}
+-- Workers that look for the first match of a batch, as the private functions give it.
+use Rattle.std.specs.Prelude.{◌≡◌, ℕ, ◌+◌, ◌<◌, ◌≤◌, ◌==◌, ◌&&◌, Bool, List, [], ◌∷◌, ◌++◌, All, Option, None, Some, count_by, if◌then◌else◌}
+use Rattle.cq_batches.specs.Games.{games_of, number_of}
+use Rattle.cq_batches.specs.declared.batch.Batch.{Batch}
 use Rattle.cq_board.specs.Draws.{times}
-use Rattle.cq_board.specs.Seats.{IsSeatOf, drawn, HasEnded}
 use Rattle.cq_first.specs.declared.seat.FirstBoard.{FirstBoard}
 use Rattle.cq_first.specs.declared.seat.FirstSeat.{FirstSeat}
 use Rattle.cq_first.specs.Seats as at_first
 use Rattle.cql_syntax.specs.Trees.{QueryTree}
-use Rattle.cq_shards.specs.Answers.{IsAnswerAmong, IsAnswerAt, answers_at, games_of, number_of}
+use Rattle.cq_shards.specs.Answers.{IsAnswerAmong, IsAnswerAt, answers_at}
 use Rattle.cq_shards.specs.Order.{is_match}
-use Rattle.cq_shards.specs.Work.{IsPast, size}
+use Rattle.cq_shards.specs.Work.{size}
 use Rattle.cq_shards.specs.declared.answers.GameAnswer.{GameAnswer}
-use Rattle.cq_shards.specs.declared.batch.Batch.{Batch}
-use Rattle.cq_shards.specs.declared.first.Finder.{Finder}
 
 -- ---- the board of matches
 
@@ -45,29 +43,18 @@ matches_at index answers = count_by (λ a. (a.index == index) && is_match a) ans
 
 -- ---- workers
 
--- a worker that has drawn nothing
-pub record IsFreshFinder (board : Board) (first : FirstBoard) (w : Finder) : Type 0 where
-  pub seat : IsSeatOf board w.seat
-  pub mark : IsMarkOf first w.mark
-  pub nothing : drawn w.seat ≡ []
-  pub may_draw : HasEnded w.seat → ⊥
-  pub none_found : found w.mark ≡ []
-  pub none_skipped : skipped w.mark ≡ []
-  pub no_answers : w.answers.items ≡ []
-  pub fed : w.starved ≡ false
-
 -- what was drawn was answered or skipped, as far as that is a game of the batch, and the matches among the answers are what was found
 pub record HasFound (query : QueryTree) (batch : Batch) (numbers founds skips : List ℕ) (answers : List GameAnswer) : Type 0 where
   pub each : All (IsAnswerIn query batch) answers
   pub drawn_ : (x : ℕ) → x < size batch → answers_at (number_of batch + x) answers + times x skips ≡ times x numbers
   pub found_ : (x : ℕ) → x < size batch → matches_at (number_of batch + x) answers ≡ times x founds
 
--- a worker that goes on no more; where it found memory, it drew until none was left
-pub record IsFinished (board : Board) (first : FirstBoard) (query : QueryTree) (batch : Batch) (w : Finder) : Type 0 where
-  pub seat : IsSeatOf board w.seat
-  pub mark : IsMarkOf first w.mark
-  pub answered : w.starved ≡ false → HasFound query batch (drawn w.seat) (found w.mark) (skipped w.mark) w.answers.items
-  pub past : w.starved ≡ false → IsPast batch (drawn w.seat)
+-- a worker with this seat at the board of matches, which is of the batch's games, answered or skipped each of these
+pub record HasSearched (first : FirstBoard) (query : QueryTree) (batch : Batch) (mark : FirstSeat) (numbers : List ℕ)
+    (answers : List GameAnswer) : Type 0 where
+  pub board : marks_below first ≡ size batch
+  pub mark_ : IsMarkOf first mark
+  pub has_found : HasFound query batch numbers (found mark) (skipped mark) answers
 
 -- a number is added, or not
 abbrev pub adding : Bool → List ℕ → ℕ → List ℕ
@@ -79,26 +66,18 @@ pub record IsTold (first : FirstBoard) (number : ℕ) (matched : Bool) (was now 
   pub founds : found now ≡ adding matched (found was) number
   pub skips : skipped now ≡ skipped was
 
--- a game is skipped
-pub record HasSkipped (number : ℕ) (was now : Finder) : Type 0 where
-  pub founds : found now.mark ≡ found was.mark
-  pub skips : skipped now.mark ≡ skipped was.mark ++ number ∷ []
-  pub same : now.answers.items ≡ was.answers.items
+-- a game is skipped, or answered
+abbrev pub IsAnsweredOrSkipped : QueryTree → Batch → ℕ → (was now : FirstSeat) → Option GameAnswer → Type 0
+IsAnsweredOrSkipped query batch number was now None = (found now ≡ found was) × (skipped now ≡ skipped was ++ number ∷ [])
+IsAnsweredOrSkipped query batch number was now (Some answer) =
+    IsAnswerAt query (number_of batch) (games_of batch) number answer
+    × (found now ≡ adding (is_match answer) (found was) number) × (skipped now ≡ skipped was)
 
--- or answered
-pub record HasAnsweredOne (query : QueryTree) (batch : Batch) (number : ℕ) (was now : Finder) : Type 0 where
-  pub answer : GameAnswer
-  pub is : IsAnswerAt query (number_of batch) (games_of batch) number answer
-  pub more : now.answers.items ≡ was.answers.items ++ answer ∷ []
-  pub founds : found now.mark ≡ adding (is_match answer) (found was.mark) number
-  pub skips : skipped now.mark ≡ skipped was.mark
-
--- a worker before and after it took a game
-pub record TookOne (first : FirstBoard) (query : QueryTree) (batch : Batch) (number : ℕ) (was now : Finder) (fed : Bool) : Type 0 where
-  pub seat : now.seat ≡ was.seat
-  pub mark : IsMarkOf first now.mark
-  pub starved : fed ≡ false → now.starved ≡ true
-  pub took : fed ≡ true → HasSkipped number was now ⊎ HasAnsweredOne query batch number was now
+-- a worker took a game
+pub record TookOne (first : FirstBoard) (query : QueryTree) (batch : Batch) (number : ℕ) (was now : FirstSeat)
+    (one : Option GameAnswer) : Type 0 where
+  pub mark : IsMarkOf first now
+  pub took : IsAnsweredOrSkipped query batch number was now one
 
 -- All workers' answers: those of the games before the first match, which has this number, and its own are there
 pub record AreFound (query : QueryTree) (batch : Batch) (word : ℕ) (answers : List GameAnswer) : Type 0 where

@@ -1,11 +1,12 @@
 -- The answers of the games of a batch up to and with the first match.
 use Rattle.std.specs.Prelude.{◌≡◌, ◌⊎◌, ℕ, ◌+◌, true, false, List, [], ◌∷◌}
+use Rattle.cq_batches.specs.Games.{games_of, number_of}
+use Rattle.cq_batches.specs.Kept.{KeptGames}
+use Rattle.cq_batches.specs.declared.batch.Batch.{Batch}
 use Rattle.cql_syntax.specs.Trees.{QueryTree}
-use Rattle.cq_shards.specs.Answers.{IsAnswerOf, games_of, number_of}
-use Rattle.cq_shards.specs.Kept.{KeptGames}
+use Rattle.cq_shards.specs.Answers.{IsAnswerOf}
 use Rattle.cq_shards.specs.Order.{is_match}
 use Rattle.cq_shards.specs.declared.answers.GameAnswer.{GameAnswer}
-use Rattle.cq_shards.specs.declared.batch.Batch.{Batch}
 
 -- In order, the answer of each game up to and with the first match, or of all games where none matches. The first game has the
 -- number `n` in the archive.

@@ -1,11 +1,3 @@
-pub mod Kept
-pub mod Batching
-pub mod Whole
-pub mod Windows
-pub mod Queues
-pub mod Streams
-pub mod Filling
-pub mod Nexts
 pub mod Outcomes
 pub mod Order
 pub mod Comparing

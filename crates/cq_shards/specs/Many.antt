@@ -1,10 +1,10 @@
 -- The answers of several queries to the games of a batch.
 use Rattle.std.specs.Prelude.{List, map}
 use Rattle.std.specs.List.{AllZip}
+use Rattle.cq_batches.specs.declared.batch.Batch.{Batch}
 use Rattle.cql_syntax.specs.Trees.{QueryTree}
 use Rattle.cq_shards.specs.Answers.{AreAnswersOf}
 use Rattle.cq_shards.specs.declared.answers.GameAnswer.{GameAnswer}
-use Rattle.cq_shards.specs.declared.batch.Batch.{Batch}
 use Rattle.cq_shards.specs.declared.many.ManyAnswers.{ManyAnswers}
 
 -- the answers of each query, in the order of the queries

@@ -1,10 +1,10 @@
 -- What games are read as.
 use Rattle.std.specs.Prelude.{◌≡◌, ℕ, List, [], ◌∷◌, Some, slice_get, Result}
+use Rattle.cq_batches.specs.Kept.{KeptGames}
+use Rattle.cq_batches.specs.declared.kept.KeptGame.{KeptGame}
 use Rattle.cq_position.specs.Games.{Game}
 use Rattle.pgn_reader.specs.declared.fault.GameFault.{GameFault}
 use Rattle.pgn_reader.specs.Verdict.{IsRead}
-use Rattle.cq_shards.specs.Kept.{KeptGames}
-use Rattle.cq_shards.specs.declared.kept.KeptGame.{KeptGame}
 
 -- what a game of an archive is read as: a game, or its first fault
 abbrev pub Outcome : Type 0

@@ -1,15 +1,14 @@
 -- The answers of games to several queries, game by game, as the private functions give them.
-use Rattle.std.specs.Prelude.{◌≡◌, ℕ, ◌+◌, ◌<◌, ◌==◌, false, List, [], ◌∷◌, ◌++◌, All, count_by}
-use Rattle.cq_board.specs.declared.seat.Board.{Board}
-use Rattle.cq_board.specs.Seats.{IsSeatOf, drawn, HasEnded}
+use Rattle.std.specs.Prelude.{◌≡◌, ℕ, ◌+◌, ◌<◌, ◌==◌, List, [], ◌∷◌, ◌++◌, All, count_by}
+use Rattle.cq_batches.specs.Games.{games_of, number_of}
+use Rattle.cq_batches.specs.Kept.{KeptGames}
+use Rattle.cq_batches.specs.declared.batch.Batch.{Batch}
+use Rattle.cq_crew.specs.Numbered.{HasMade}
 use Rattle.cql_syntax.specs.Trees.{QueryTree}
-use Rattle.cq_shards.specs.Answers.{AreAnswersOf, answer_of, games_of, number_of}
-use Rattle.cq_shards.specs.Kept.{KeptGames}
+use Rattle.cq_shards.specs.Answers.{AreAnswersOf, answer_of}
 use Rattle.cq_shards.specs.Outcomes.{IsReadAt, Outcome}
-use Rattle.cq_shards.specs.Work.{HasMade, IsPast, size}
+use Rattle.cq_shards.specs.Work.{size}
 use Rattle.cq_shards.specs.declared.answers.GameAnswer.{GameAnswer}
-use Rattle.cq_shards.specs.declared.batch.Batch.{Batch}
-use Rattle.cq_shards.specs.declared.many.RowWorker.{RowWorker}
 use Rattle.cq_shards.specs.declared.rows.GameRow.{GameRow}
 
 -- the answers of a game to some queries, the first query's last
@@ -50,16 +49,9 @@ pub record AreTakenOff (queries : List QueryTree) (batch : Batch) (rows : List G
 
 -- ---- workers
 
--- a worker that has drawn nothing
-pub record IsFreshForRows (board : Board) (w : RowWorker) : Type 0 where
-  pub seat : IsSeatOf board w.seat
-  pub nothing : drawn w.seat ≡ []
-  pub may_draw : HasEnded w.seat → ⊥
-  pub no_rows : w.rows.items ≡ []
-  pub fed : w.starved ≡ false
+abbrev pub row_index : GameRow → ℕ
+row_index r = r.index
 
--- a worker that goes on no more; where it found memory, it drew until none was left
-pub record IsThroughRows (board : Board) (queries : List QueryTree) (batch : Batch) (w : RowWorker) : Type 0 where
-  pub seat : IsSeatOf board w.seat
-  pub answered : w.starved ≡ false → HasMade (IsRowFor queries batch) (λ r. r.index) batch (drawn w.seat) w.rows.items
-  pub past : w.starved ≡ false → IsPast batch (drawn w.seat)
+-- a worker made these rows of these games
+abbrev pub HasMadeRows : List QueryTree → Batch → (numbers : List ℕ) → List GameRow → Type 0
+HasMadeRows queries batch numbers rows = HasMade (IsRowFor queries batch) row_index (number_of batch) (size batch) numbers rows

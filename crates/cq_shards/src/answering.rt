@@ -1,16 +1,17 @@
 //! The answer of one game.
 ghost use Rattle.std.specs.Prelude.{◌≡◌, ◌≢◌, ◌<◌, [], length, map, Some, IfOk, Ok, Err};
+ghost use Rattle.cq_batches.specs.Games.{games_of, number_of};
 ghost use Rattle.cql_syntax.specs.Hits.{hits, keys, marked};
 ghost use Rattle.cql_syntax.specs.TreeOf.{query_tree};
 ghost use Rattle.cql_syntax.specs.Trees.{QueryTree};
 ghost use Rattle.pgn_export.specs.Export.{export_text};
-ghost use Rattle.cq_shards.specs.Answers.{IsAnswerAt, answer_of, games_of, number_of, query_in, text_of};
+ghost use Rattle.cq_shards.specs.Answers.{IsAnswerAt, answer_of, query_in, text_of};
 ghost use Rattle.cq_shards.specs.Outcomes.{IsReadAt};
 
 use crate::answers::{Answer, GameAnswer, Keys};
-use crate::batch::Batch;
 use crate::finding::find;
 use cq_annotate::mark;
+use cq_batches::Batch;
 use cq_outside::{Bytes, NoMemory, Refusal};
 use cql_plan::Plan;
 use cql_syntax::TypedQuery;
@@ -42,7 +43,7 @@ pub(crate) fn answer_at(
     ensures { IfOk result (IsAnswerAt (query_in plan.now) (number_of batch.now) (games_of batch.now) number) }
 {
     let outcome = read_at(alloc, batch, number)?;
-    answer_read(alloc, plan, &outcome, batch.index + number)
+    answer_read(alloc, plan, &outcome, batch.index() + number)
 }
 
 /// What the game is read as that has this number in a batch.
@@ -54,7 +55,7 @@ pub(crate) fn read_at(
     requires { number < length (games_of batch.now) }
     ensures { IfOk result (IsReadAt (games_of batch.now) number) }
 {
-    let game = &batch.games[number as usize];
+    let game = batch.game(number);
     match read_game(alloc, game.bytes.as_slice(), game.start, game.first) {
         Ok(read) => Ok(Ok(read)),
         Err(Refusal::Fault(fault)) => Ok(Err(fault)),

@@ -1,19 +1,16 @@
 //! The order of answers at worked rows, and laws of it and of batches for proofs in other crates.
-ghost use Rattle.std.specs.Prelude.{◌≡◌, ◌<◌, ◌++◌, ℕ, Bool, List, length, map, Some, AllPairs};
+ghost use Rattle.std.specs.Prelude.{◌≡◌, ◌<◌, Bool, List, length, map, Some, AllPairs};
 ghost use Rattle.std.specs.List.Sorted.{IsPermutation};
+ghost use Rattle.cq_batches.specs.declared.batch.Batch.{Batch};
 ghost use Rattle.cq_position.specs.Games.{Game};
 ghost use Rattle.cql_syntax.specs.Hits.{hits, keys};
 ghost use Rattle.cql_syntax.specs.Trees.{QueryTree};
 ghost use Rattle.cq_shards.specs.declared.answers.GameAnswer.{GameAnswer};
-ghost use Rattle.cq_shards.specs.declared.batch.Batch.{Batch};
 ghost use Rattle.cq_shards.specs.Answers.{AnswersBatch, AreAnswersOf};
-ghost use Rattle.cq_shards.specs.Batching.{flat, full_batches, left_over};
-ghost use Rattle.cq_shards.specs.Kept.{KeptGames};
 ghost use Rattle.cq_shards.specs.Order.{AreApart, ComesBefore, IsEarlier, directions, values_in};
 ghost use Rattle.cq_shards.specs.OrderRows.{OrderRows};
-ghost use Rattle.cq_shards.specs.Whole.{closed_games, whole};
 
-use pgn_cut::{closed_games_stay, games_stand_apart};
+pub use cq_batches::laws::batches_stay;
 
 /// Which of two answers comes first.
 #[tactic(auto, using(crate::proofs::OrderRows::order_rows))]
@@ -42,16 +39,3 @@ pub fn ordered_answers_stand_beside_their_games()
     ensures { (query : QueryTree) (batch : Batch) (answers sorted : List GameAnswer) → AreAnswersOf query batch answers
         → IsPermutation answers sorted → (AreApart answers → AllPairs IsEarlier sorted) → AnswersBatch query batch sorted }
 {}
-
-/// The full batches of some games are the first ones of more games, and with what is left over they are all of them. The games that
-/// a prefix of an archive closes are the first ones of those that a longer prefix closes, and those of its whole batches too.
-#[tactic(auto, using(crate::proofs::Batching::full_grow, crate::proofs::Batching::all_there))]
-pub fn batches_stay()
-    ensures full { (games more : KeptGames) → (rest : List KeptGames) × (full_batches (games ++ more) ≡ full_batches games ++ rest) }
-    ensures all { (games : KeptGames) → flat (full_batches games) ++ left_over games ≡ games }
-    ensures closed { (front more : List ℕ) → (rest : KeptGames) × (closed_games (front ++ more) ≡ closed_games front ++ rest) }
-    ensures whole { (front more : List ℕ) → (rest : KeptGames) × (whole (front ++ more) ≡ whole front ++ rest) }
-{
-    closed_games_stay();
-    games_stand_apart();
-}

@@ -1,23 +1,19 @@
 //! The answers of several queries to a batch, each game of which is read once.
-ghost use Rattle.std.specs.Prelude.{◌≡◌, ◌<◌, ◌≤◌, [], length, get_or, slice_set, drop, All, IfOk};
-ghost use Rattle.cq_board.specs.Seats.{numbers_of, seats_of, IsSeatOf, drawn, HasEnded};
+ghost use Rattle.std.specs.Prelude.{◌≡◌, ◌<◌, ◌≤◌, [], length, get_or, slice_set, drop, IfOk};
+ghost use Rattle.cq_batches.specs.Games.{games_of};
 ghost use Rattle.cq_shared.specs.Plans.{queries_of, trees_of};
-ghost use Rattle.cq_shards.specs.Answers.{games_of};
 ghost use Rattle.cq_shards.specs.Many.{AreManyOf, answers_in};
-ghost use Rattle.cq_shards.specs.Rows.{AreRowsOf, AreTakenOff, IsFreshForRows, IsThroughRows};
+ghost use Rattle.cq_shards.specs.Rows.{AreRowsOf, AreTakenOff, HasMadeRows};
 
 use crate::answers::GameAnswer;
-use crate::batch::Batch;
 use crate::rows::{GameRow, row_at};
-use cq_board::{Board as WorkBoard, ClaimSeat};
+use cq_batches::Batch;
+use cq_crew::{Maker, nothing_kept, run_crew};
 use cq_outside::{Gate, NoMemory};
 use cq_shared::SharedPlan;
 use std::alloc::Global;
+use std::mem;
 use std::thread::Threads;
-use std::{mem, thread};
-
-/// The most workers.
-const MOST_WORKERS: usize = 64;
 
 /// The answers of several queries to the games of one batch.
 #[derive(Drop)]
@@ -32,12 +28,39 @@ pub(crate) struct AnswerList {
     pub(crate) answers: Vec<GameAnswer>,
 }
 
-/// A worker: its seat at the board, and a row for each game that it drew. One that is out of memory stops.
-#[derive(Drop)]
-pub(crate) struct RowWorker {
-    pub(crate) seat: ClaimSeat,
-    pub(crate) rows: Vec<GameRow>,
-    pub(crate) starved: bool,
+/// Makes a row of each game of a batch.
+#[derive_where(Clone, Copy)]
+struct RowMaker<'a, G> {
+    plan: &'a SharedPlan,
+    batch: &'a Batch,
+    gate: &'a G,
+}
+
+impl<'a, G: Gate> Maker for RowMaker<'a, G> {
+    type Made = GameRow;
+
+    type Kept = ();
+
+    ghost games = { λ maker. length (games_of maker.batch.now) };
+
+    ghost has_made = { λ maker _ numbers rows. HasMadeRows (trees_of (queries_of maker.plan.now)) maker.batch.now numbers rows };
+
+    fn len(&self) -> u64 {
+        u64::from(self.batch.len())
+    }
+
+    fn make(
+        &self,
+        alloc: Global,
+        me: u64,
+        number: u64,
+        _kept: &mut (),
+    ) -> Result<Option<GameRow>, NoMemory> {
+        self.gate.enter(me, number);
+        let row = row_at(alloc, self.plan, self.batch, number)?;
+        self.gate.leave(me, number, row.text());
+        Ok(Some(row))
+    }
 }
 
 impl ManyAnswers {
@@ -68,97 +91,10 @@ pub fn run_many<R: Threads + Sync, G: Gate + Sync>(
     requires { (1 ≤ workers) × (workers ≤ 64) }
     ensures { IfOk result (λ many. AreManyOf (trees_of (queries_of plan.now)) batch.now (answers_in many)) }
 {
-    let (board, seats) = WorkBoard::make(alloc, u64::from(batch.len()), workers)?;
-    let mut slots = workers_of(alloc, &board, seats)?;
-    thread::for_each_mut(
-        rt,
-        slots.as_mut_slice(),
-        MOST_WORKERS,
-        &|me, worker| { draw_all(alloc, plan, &board, batch, me as u64, worker, gate) },
-    );
-    let rows = gathered(alloc, plan, board, batch, slots)?;
+    let maker = RowMaker { plan, batch, gate };
+    let kept = nothing_kept(alloc, workers)?;
+    let (_, rows) = run_crew(rt, alloc, &maker, kept)?;
     by_query(alloc, plan, batch, rows)
-}
-
-// A worker at each seat.
-fn workers_of(
-    alloc: Global,
-    board: &WorkBoard,
-    seats: Vec<ClaimSeat>,
-) -> Result<Vec<RowWorker>, NoMemory>
-    requires { All (λ s. IsSeatOf board.now s × (drawn s ≡ []) × (HasEnded s → ⊥)) seats.items }
-    ensures fresh { IfOk result (λ slots. All (IsFreshForRows board.now) slots.items) }
-    ensures count { IfOk result (λ slots. length slots.items ≡ length seats.items) }
-{
-    let mut seats = seats;
-    let mut slots = Vec::with_capacity(alloc, seats.len())?;
-    while let Some(seat) = seats.pop() {
-        slots.push(RowWorker {
-            seat,
-            rows: Vec::new(alloc),
-            starved: false,
-        })?;
-    }
-    Ok(slots)
-}
-
-// Draws and answers games until the seat is answered None.
-fn draw_all<G: Gate>(
-    alloc: Global,
-    plan: &SharedPlan,
-    board: &WorkBoard,
-    batch: &Batch,
-    me: u64,
-    worker: &mut RowWorker,
-    gate: &G,
-)
-    requires numbers { numbers_of board.now ≡ length (games_of batch.now) }
-    requires fresh { IsFreshForRows board.now worker.old }
-    ensures { IsThroughRows board.now (trees_of (queries_of plan.now)) batch.now worker.new }
-{
-    for _turn in 0..u64::from(batch.len()) + 1 {
-        let Some(number) = board.claim(&mut worker.seat) else {
-            return;
-        };
-        gate.enter(me, number);
-        let Ok(row) = row_at(alloc, plan, batch, number) else {
-            worker.starved = true;
-            return;
-        };
-        gate.leave(me, number, row.text());
-        if worker.rows.push(row).is_err() {
-            worker.starved = true;
-            return;
-        }
-    }
-}
-
-// The rows of all workers, once they have ended.
-fn gathered(
-    alloc: Global,
-    plan: &SharedPlan,
-    board: WorkBoard,
-    batch: &Batch,
-    slots: Vec<RowWorker>,
-) -> Result<Vec<GameRow>, NoMemory>
-    requires numbers { numbers_of board ≡ length (games_of batch.now) }
-    requires through { All (IsThroughRows board (trees_of (queries_of plan.now)) batch.now) slots.items }
-    requires count { length slots.items ≡ seats_of board }
-    ensures { IfOk result (λ rows. AreRowsOf (trees_of (queries_of plan.now)) batch.now rows.items) }
-{
-    let mut slots = slots;
-    let mut seats = Vec::with_capacity(alloc, slots.len())?;
-    let mut rows = Vec::new(alloc);
-    while let Some(worker) = slots.pop() {
-        if worker.starved {
-            return Err(NoMemory);
-        }
-        let mut more = worker.rows;
-        rows.append(&mut more)?;
-        seats.push(worker.seat)?;
-    }
-    board.close(seats)?;
-    Ok(rows)
 }
 
 // The answers in the rows, query by query.

@@ -1,13 +1,13 @@
 //! The answers of one game to several queries.
 ghost use Rattle.std.specs.Prelude.{◌≡◌, ◌<◌, length, IfOk, Ok, Err};
+ghost use Rattle.cq_batches.specs.Games.{games_of, number_of};
 ghost use Rattle.cq_shared.specs.Plans.{queries_of, trees_of};
-ghost use Rattle.cq_shards.specs.Answers.{games_of, number_of};
 ghost use Rattle.cq_shards.specs.Rows.{IsRowAt, answers_back};
 
 use crate::answering::{answer_found, read_at, refused};
 use crate::answers::GameAnswer;
-use crate::batch::Batch;
 use crate::finding::find_all;
+use cq_batches::Batch;
 use cq_outside::NoMemory;
 use cq_shared::SharedPlan;
 use pgn_reader::GameFault;
@@ -42,7 +42,7 @@ pub(crate) fn row_at(
     ensures { IfOk result (IsRowAt (trees_of (queries_of plan.now)) (number_of batch.now) (games_of batch.now) number) }
 {
     let outcome = read_at(alloc, batch, number)?;
-    let index = batch.index + number;
+    let index = batch.index() + number;
     let answers = answers_read(alloc, plan, &outcome, index)?;
     Ok(GameRow { index, answers })
 }

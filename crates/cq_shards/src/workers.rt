@@ -1,28 +1,51 @@
-//! Workers that draw the games of a batch.
-ghost use Rattle.std.specs.Prelude.{◌≡◌, ◌≤◌, [], length, All, IfOk};
-ghost use Rattle.cq_board.specs.Seats.{numbers_of, seats_of, IsSeatOf, drawn, HasEnded};
-ghost use Rattle.cq_shards.specs.Answers.{AreAnswersOf, games_of, query_in};
-ghost use Rattle.cq_shards.specs.Work.{IsFresh, IsThrough};
+//! The answers of one query to a batch.
+ghost use Rattle.std.specs.Prelude.{◌≤◌, length, IfOk};
+ghost use Rattle.cq_batches.specs.Games.{games_of};
+ghost use Rattle.cq_shards.specs.Answers.{AreAnswersOf, query_in};
+ghost use Rattle.cq_shards.specs.Work.{HasAnswered};
 
 use crate::answering::answer_at;
 use crate::answers::GameAnswer;
-use crate::batch::Batch;
-use cq_board::{Board as WorkBoard, ClaimSeat};
+use cq_batches::Batch;
+use cq_crew::{Maker, nothing_kept, run_crew};
 use cq_outside::{Gate, NoMemory};
 use cql_plan::Plan;
 use std::alloc::Global;
-use std::thread;
 use std::thread::Threads;
 
-/// The most workers.
-const MOST_WORKERS: usize = 64;
+/// Makes the answer of each game of a batch.
+#[derive_where(Clone, Copy)]
+struct AnswerMaker<'a, G> {
+    plan: &'a Plan,
+    batch: &'a Batch,
+    gate: &'a G,
+}
 
-/// A worker: its seat at the board, and its answers so far. One that is out of memory stops.
-#[derive(Drop)]
-pub(crate) struct Worker {
-    pub(crate) seat: ClaimSeat,
-    pub(crate) answers: Vec<GameAnswer>,
-    pub(crate) starved: bool,
+impl<'a, G: Gate> Maker for AnswerMaker<'a, G> {
+    type Made = GameAnswer;
+
+    type Kept = ();
+
+    ghost games = { λ maker. length (games_of maker.batch.now) };
+
+    ghost has_made = { λ maker _ numbers answers. HasAnswered (query_in maker.plan.now) maker.batch.now numbers answers };
+
+    fn len(&self) -> u64 {
+        u64::from(self.batch.len())
+    }
+
+    fn make(
+        &self,
+        alloc: Global,
+        me: u64,
+        number: u64,
+        _kept: &mut (),
+    ) -> Result<Option<GameAnswer>, NoMemory> {
+        self.gate.enter(me, number);
+        let answer = answer_at(alloc, self.plan, self.batch, number)?;
+        self.gate.leave(me, number, answer.text());
+        Ok(Some(answer))
+    }
 }
 
 /// The answers of the games of a batch, each game's once, in any order. So many workers, from 1 to 64, which is a condition, draw the games
@@ -40,94 +63,8 @@ pub fn run_batch<R: Threads + Sync, G: Gate + Sync>(
     requires { (1 ≤ workers) × (workers ≤ 64) }
     ensures { IfOk result (λ answers. AreAnswersOf (query_in plan.now) batch.now answers.items) }
 {
-    let (board, seats) = WorkBoard::make(alloc, u64::from(batch.len()), workers)?;
-    let mut slots = workers_of(alloc, &board, seats)?;
-    thread::for_each_mut(
-        rt,
-        slots.as_mut_slice(),
-        MOST_WORKERS,
-        &|me, worker| { draw_all(alloc, plan, &board, batch, me as u64, worker, gate) },
-    );
-    gathered(alloc, plan, board, batch, slots)
-}
-
-// A worker at each seat.
-fn workers_of(
-    alloc: Global,
-    board: &WorkBoard,
-    seats: Vec<ClaimSeat>,
-) -> Result<Vec<Worker>, NoMemory>
-    requires { All (λ s. IsSeatOf board.now s × (drawn s ≡ []) × (HasEnded s → ⊥)) seats.items }
-    ensures fresh { IfOk result (λ slots. All (IsFresh board.now) slots.items) }
-    ensures count { IfOk result (λ slots. length slots.items ≡ length seats.items) }
-{
-    let mut seats = seats;
-    let mut slots = Vec::with_capacity(alloc, seats.len())?;
-    while let Some(seat) = seats.pop() {
-        slots.push(Worker {
-            seat,
-            answers: Vec::new(alloc),
-            starved: false,
-        })?;
-    }
-    Ok(slots)
-}
-
-// Draws and answers games until the seat is answered None.
-fn draw_all<G: Gate>(
-    alloc: Global,
-    plan: &Plan,
-    board: &WorkBoard,
-    batch: &Batch,
-    me: u64,
-    worker: &mut Worker,
-    gate: &G,
-)
-    requires numbers { numbers_of board.now ≡ length (games_of batch.now) }
-    requires fresh { IsFresh board.now worker.old }
-    ensures { IsThrough board.now (query_in plan.now) batch.now worker.new }
-{
-    for _turn in 0..u64::from(batch.len()) + 1 {
-        let Some(number) = board.claim(&mut worker.seat) else {
-            return;
-        };
-        gate.enter(me, number);
-        let Ok(answer) = answer_at(alloc, plan, batch, number) else {
-            worker.starved = true;
-            return;
-        };
-        gate.leave(me, number, answer.text());
-        if worker.answers.push(answer).is_err() {
-            worker.starved = true;
-            return;
-        }
-    }
-}
-
-// The answers of all workers, once they have ended.
-fn gathered(
-    alloc: Global,
-    plan: &Plan,
-    board: WorkBoard,
-    batch: &Batch,
-    slots: Vec<Worker>,
-) -> Result<Vec<GameAnswer>, NoMemory>
-    requires numbers { numbers_of board ≡ length (games_of batch.now) }
-    requires through { All (IsThrough board (query_in plan.now) batch.now) slots.items }
-    requires count { length slots.items ≡ seats_of board }
-    ensures { IfOk result (λ answers. AreAnswersOf (query_in plan.now) batch.now answers.items) }
-{
-    let mut slots = slots;
-    let mut seats = Vec::with_capacity(alloc, slots.len())?;
-    let mut answers = Vec::new(alloc);
-    while let Some(worker) = slots.pop() {
-        if worker.starved {
-            return Err(NoMemory);
-        }
-        let mut more = worker.answers;
-        answers.append(&mut more)?;
-        seats.push(worker.seat)?;
-    }
-    board.close(seats)?;
+    let maker = AnswerMaker { plan, batch, gate };
+    let kept = nothing_kept(alloc, workers)?;
+    let (_, answers) = run_crew(rt, alloc, &maker, kept)?;
     Ok(answers)
 }

@@ -1,6 +1,6 @@
 use Rattle.std.proofs.Common.{◌≡◌, ◌+◌, ◌≤◌, Ok, Err, ap, sym, subst, ◌∙◌, arith, rules}
+use Rattle.cq_batches.specs.declared.state.BatchFault.TheVariants.{ReadFault, ArchiveTooLong}
 use Rattle.cq_outside.specs.declared.faults.Refusal.TheVariants.{Fault}
-use Rattle.cq_shards.specs.declared.state.BatchFault.TheVariants.{ReadFault, ArchiveTooLong}
 use Rattle.cq_shards.specs.Answers.{query_in}
 use Rattle.cq_run.specs.Promise.{source_view, sink_view, sinks_of}
 use Rattle.cq_run.specs.Writing.{stand_of}

@@ -1,10 +1,10 @@
 use Rattle.std.proofs.Common.{◌≡◌, ◌+◌, ◌≤◌, Ok, Err, map, ap, sym, ◌∙◌, arith, rules}
 use Rattle.std.proofs.lemmas.List.{length-map}
+use Rattle.cq_batches.specs.declared.state.BatchFault.TheVariants.{ReadFault, ArchiveTooLong}
 use Rattle.cq_outside.specs.declared.faults.Refusal.TheVariants.{Fault}
 use Rattle.cql_syntax.specs.TreeOf.{query_tree}
 use Rattle.cq_shared.specs.Plans.{queries_of, trees_of}
 use Rattle.cq_shards.specs.Many.{answers_in}
-use Rattle.cq_shards.specs.declared.state.BatchFault.TheVariants.{ReadFault, ArchiveTooLong}
 use Rattle.cq_run.specs.ManyWriting.{FoundByAll}
 use Rattle.cq_run.specs.Promise.{source_view, sink_view, sinks_of}
 use Rattle.cq_run.proofs.AllRounds.{finished_all, round_ends, round_starves, round_too_long, round_turns, round_unread, turn_done, turn_fails, turn_starves, turn_wants}

@@ -1,6 +1,6 @@
 use Rattle.std.proofs.Common.{◌≡◌, ℕ, List, Some, true}
 use Rattle.std.specs.Io.KnownBytes.{IsAtEnd}
-use Rattle.cq_shards.specs.Streams.{Stands}
+use Rattle.cq_batches.specs.Streams.{Stands}
 use Rattle.cql_tests.proofs.workers.answered.Given as goal
 
 abbrev pub invariant-loop-turn : goal.invariant-loop-turn

@@ -1,0 +1,10 @@
+pub mod Limits
+pub mod Kept
+pub mod Batching
+pub mod Whole
+pub mod Windows
+pub mod Queues
+pub mod Streams
+pub mod Filling
+pub mod Nexts
+pub mod Games

@@ -1,0 +1,12 @@
+use Rattle.cq_batches.specs.Games.{number_of}
+use Rattle.cq_crew.proofs.Makings.{adds_one}
+use Rattle.cq_shards.specs.Answers.{query_in}
+use Rattle.cq_shards.specs.Work.{IsAnswerFor, index_of, size}
+use Rattle.cq_shards.proofs.Makings.{numbered_answers}
+use Rattle.cq_shards.proofs.workers.AnswerMakerMaker.make.Goals as goal
+
+pub returns : goal.returns
+returns g c =
+    let query = query_in c.args.self.now.plan.now in
+    let batch = c.args.self.now.batch.now in
+    adds_one (IsAnswerFor query batch) index_of (number_of batch) (size batch) (numbered_answers query batch) c.args.number c.in_ok-answer.answer c.in_ok-answer.ensures
