@@ -4,3 +4,6 @@ pub mod Queues
 pub mod Windows
 pub mod Streams
 pub mod Filling
+pub mod Given
+pub mod Reached
+pub mod Taking

@@ -8,3 +8,5 @@ pub mod Streams
 pub mod Filling
 pub mod Nexts
 pub mod Games
+pub mod Laws
+pub mod Rounds

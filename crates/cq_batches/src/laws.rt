@@ -2,6 +2,7 @@
 ghost use Rattle.std.specs.Prelude.{◌≡◌, ◌++◌, ℕ, List};
 ghost use Rattle.cq_batches.specs.Batching.{flat, full_batches, left_over};
 ghost use Rattle.cq_batches.specs.Kept.{KeptGames};
+ghost use Rattle.cq_batches.specs.Laws.{Laws};
 ghost use Rattle.cq_batches.specs.Whole.{closed_games, whole};
 
 use pgn_cut::{closed_games_stay, games_stand_apart};
@@ -15,6 +16,15 @@ pub fn batches_stay()
     ensures closed { (front more : List ℕ) → (rest : KeptGames) × (closed_games (front ++ more) ≡ closed_games front ++ rest) }
     ensures whole { (front more : List ℕ) → (rest : KeptGames) × (whole (front ++ more) ≡ whole front ++ rest) }
 {
+    closed_games_stay();
+    games_stand_apart();
+}
+
+// What is given of an archive in batches, piece by piece, are its games as they are cut.
+pub(crate) fn archives_come_in_batches()
+    ensures { Laws }
+{
+    batches_stay();
     closed_games_stay();
     games_stand_apart();
 }

@@ -8,10 +8,12 @@ pub mod laws;
 mod making;
 mod queue;
 mod reading;
+mod rounds;
 mod shared;
 mod state;
 mod window;
 
 pub use batch::Batch;
 pub use kept::KeptGame;
+pub use rounds::{Ended, Taker, take_batches};
 pub use state::{BatchFault, Batches};

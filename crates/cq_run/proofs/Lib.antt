@@ -10,7 +10,9 @@ mod AnswerPromise
 mod OneOutcome
 mod Reached
 mod AllRounds
+pub mod Known
 mod Rounds
+pub mod OneRounds
 mod Sorted
 mod Rows
 mod ManyRounds

@@ -1,150 +1,161 @@
--- Answering one query batch by batch.
-use Rattle.std.proofs.Common.{◌≡◌, ℕ, ◌+◌, ◌^◌, ◌≤◌, ◌<◌, Bool, false, List, [], ◌++◌, length, refl, ap, ◌∙◌, arith}
-use Rattle.cq_batches.specs.Games.{number_of}
-use Rattle.cq_batches.specs.Nexts.{Moves, GivesBatch, HasGivenAll, HasGivenFull}
-use Rattle.cq_batches.specs.Streams.{Stands}
-use Rattle.cq_batches.specs.declared.batch.Batch.{Batch}
-use Rattle.cq_batches.specs.declared.state.Batches.{Batches}
+-- The promise of `answer`, from how the batches of an archive were taken.
+use Rattle.std.proofs.Common.{◌≡◌, ◌⊎◌, ℕ, ◌+◌, ◌≤◌, ◌<◌, List, [], ◌∷◌, ◌++◌, length, take, Some, refl, ap, sym, ◌∙◌, arith, subst, inl, inr}
+use Rattle.cq_batches.specs.Rounds.{AreFirst, Reads, ReadsAll, TakesWhole}
+use Rattle.cq_batches.specs.Whole.{closed_games, cut_games, whole, whole_spans}
 use Rattle.cq_outside.specs.Faults.{Rose}
-use Rattle.cql_syntax.specs.Trees.{QueryTree}
-use Rattle.cq_shards.specs.Answers.{AnswersBatch, answers_from}
-use Rattle.cq_shards.specs.Outcomes.{Outcome}
-use Rattle.cq_shards.specs.declared.answers.GameAnswer.{GameAnswer}
-use Rattle.cq_run.specs.AllGames.{texts_of, texts_so_far}
+use Rattle.pgn_cut.specs.Cut.{cut, closed}
+use Rattle.cq_shards.specs.Outcomes.{Outcome, AreKeptRead}
+use Rattle.cq_run.specs.declared.status.Status.{Status}
+use Rattle.cq_run.specs.declared.status.Status.TheVariants.{Done, DoneWithRefusals, QueryRefused, WordsRefused, OpenFault, ReadFault, WriteFault, NoMemory, ArchiveTooLong}
 use Rattle.cq_run.specs.ByBatches.{Laws}
-use Rattle.cq_run.specs.Promise.{Answering, SourceView, SinkView, Sinks, WritesPrefix, AnswerPromise, NoWriteFailed, OneSinkFailed, sinks_of}
-use Rattle.cq_run.specs.Sorts.{have_sort}
-use Rattle.cq_run.specs.Writing.{FoundSoFar, Stand, stand_of}
-use Rattle.cq_run.specs.declared.status.Status.TheVariants.{ReadFault, WriteFault, NoMemory, ArchiveTooLong}
-use Rattle.cq_run.proofs.AllRounds as all
-use Rattle.cq_run.proofs.AnswerPromise.{answer_call, asked_of}
-use Rattle.cq_run.proofs.GameByGame.{answers_count, none_found, tally_with}
-use Rattle.cq_run.proofs.Reached.{Place, ReadsAll, moved_to, no_reads, place_of, rounds_few}
+use Rattle.cq_run.specs.Promise.{Answering, Wanted, Texts, FindsAll, Stops, Breaks, Writes, WritesPart, WritesPrefix, WritesSome, SaysOfAnswer, Suffices, AnswersAll, AnswerPromise, ReadsNoMore, NothingFails, NoWriteFailed, OneSinkFailed, IsOneOf}
+use Rattle.cq_run.specs.Takers.{Reading, StopsIn}
+use Rattle.cq_run.proofs.AnswerPromise.{may_be, not_overrun, not_too_long}
+use Rattle.cq_run.proofs.Given.{reads_archive, whole_are}
+use Rattle.cq_run.proofs.Known.{AllRead, Known, ReadOn, first_closed, read_on, takes_some}
+use Rattle.cq_run.proofs.Sinks.{some_failed}
 
--- ---- how far the archive was read and its batches were given
+-- ---- where it was stopped
 
--- a run over the games of an archive: its query, how far it has read, and what it has written, counted and kept
-pub record Loop : Type 0 where
-  pub query : QueryTree
-  pub place : Place
-  pub sinks : Sinks
-  pub stand : Stand
+-- Each sink has taken a prefix of its text, whatever games follow.
+abbrev pub WritesEver : Wanted → Answering → List Outcome → Type 0
+WritesEver wanted call outcomes = (more : List Outcome) → WritesPart (wanted.reading (outcomes ++ more)) call.sinks
 
-abbrev pub loop_of : QueryTree → Place → Sinks → Stand → Loop
-loop_of query place sinks stand = record { query = query; place = place; sinks = sinks; stand = stand }
+stops_by : Laws → (wanted : Wanted) (call : Answering) (known : Known call) → WritesEver wanted call known.outcomes
+    → AreFirst known.games (whole known.front) ⊎ (ReadsAll call.limit call.source.left call.source_after.left known.front × AreFirst known.games (cut_games known.front))
+    → Stops wanted call
+stops_by laws wanted call known writes (inl first) =
+    let on : ReadOn known.front (closed known.front) known.outcomes =
+    read_on laws known.front (closed known.front) known.games known.outcomes (first_closed laws known.front known.games first) known.are_read in
+    inl (record {
+      front = known.front;
+      outcomes = known.outcomes ++ on.more;
+      takes = known.reads.takes;
+      few = known.reads.few;
+      are_read = on.are_read;
+      holds = writes on.more;
+    })
+stops_by laws wanted call known writes (inr (all, first)) =
+    let on : ReadOn known.front (cut known.front) known.outcomes = read_on laws known.front (cut known.front) known.games known.outcomes first known.are_read in
+    let part = writes on.more in
+    inr (record {
+      archive = known.front;
+      outcomes = known.outcomes ++ on.more;
+      reads = record {
+        is = may_be call.source.left call.source_after.left known.front all.takes all.at_end;
+        within = all.within;
+        at_end = all.at_end;
+      };
+      are_read = on.are_read;
+      holds = record { texts = part.texts; are = inl part.are; writes = part.writes };
+    })
 
--- the run after a call for the next batch
-abbrev pub loop_on : Loop → Batches → SourceView → Loop
-loop_on loop now after = loop_of loop.query (moved_to loop.place now after) loop.sinks loop.stand
-
--- and after the games of a batch
-abbrev pub loop_with : Loop → Sinks → Stand → Loop
-loop_with loop sinks stand = loop_of loop.query loop.place sinks stand
-
-abbrev pub call_in : Loop → Sinks → Answering
-call_in loop sinks = answer_call loop.place.limit loop.place.source loop.place.now sinks
-
--- what was found of games with these outcomes
-abbrev pub found_in_loop : (sorted : Bool) → Loop → List Outcome → Type 0
-found_in_loop sorted loop outcomes = FoundSoFar sorted loop.query outcomes loop.sinks loop.stand
-
-abbrev pub Rounds : (sorted : Bool) → Loop → Type 0
-Rounds sorted loop = all.Rounds loop.place (found_in_loop sorted loop)
-
--- the next batch was given
-abbrev pub Turn : (sorted : Bool) → Loop → Batch → ℕ → Type 0
-Turn sorted loop = all.Turn loop.place (found_in_loop sorted loop)
-
-abbrev run_of : (sorted : Bool) (loop : Loop) → have_sort loop.query.items ≡ sorted → all.Run
-run_of sorted loop sorts = record {
-  asked = asked_of sorted loop.query sorts;
-  place = loop.place;
-  sinks = loop.sinks;
-  Found = found_in_loop sorted loop;
-  writes = λ rs found. found.writes;
-  unfailed = λ rs found. found.unfailed;
+-- no memory
+pub starves : Laws → (wanted : Wanted) (call : Answering) (known : Known call) → ReadsNoMore wanted call → WritesEver wanted call known.outcomes → NothingFails call
+    → AnswerPromise wanted NoMemory call
+starves laws wanted call known needed writes unfailed = record {
+  says = (stops_by laws wanted call known writes known.first, unfailed);
+  takes = takes_some call known.front known.reads;
+  reads_no_more = needed;
+  too_long_always = λ _. inl (inr (inr (inl refl)));
+  complete = λ _. inr (inr (inl refl));
 }
 
--- ---- the loop
-
--- before the first batch
-pub no_rounds : (sorted : Bool) (query : QueryTree) (limit : ℕ) (b : Batches) (source : SourceView) (out err : SinkView) → Stands b [] 0 → b.limit ≡ limit → b.ended ≡ false
-    → Rounds sorted (loop_of query (place_of limit b source source) (sinks_of out out err err) (stand_of (tally_with 0 0 0) []))
-no_rounds sorted query limit b source out err stands same reads = record {
-  known = record { front = []; m = 0; outcomes = []; reached = no_reads limit b source same reads; are_read = tt };
-  stands = stands;
-  counts = refl;
-  found = none_found sorted query out err;
+-- a write that failed
+pub breaks_off : Laws → (wanted : Wanted) (call : Answering) (known : Known call) → ReadsNoMore wanted call → WritesEver wanted call known.outcomes
+    → call.source_after.faults ≡ call.source.faults → OneSinkFailed call.sinks → AnswerPromise wanted WriteFault call
+breaks_off laws wanted call known needed writes counts failed = record {
+  says = (failed, counts, stops_by laws wanted call known writes known.first);
+  takes = takes_some call known.front known.reads;
+  reads_no_more = needed;
+  too_long_always = λ _. inl (inr (inl refl));
+  complete = λ all. absurd (all.no_write (some_failed call.sinks failed));
 }
 
--- ---- there are no more rounds than bytes
+-- either of them
+pub stopped : Laws → (status : Status) (wanted : Wanted) (call : Answering) (known : Known call) (texts : Texts) → ReadsNoMore wanted call
+    → (WritesPrefix call.sinks texts → WritesEver wanted call known.outcomes) → call.source_after.faults ≡ call.source.faults → StopsIn texts call.sinks status
+    → AnswerPromise wanted status call
+stopped laws WriteFault wanted call known texts needed ever counts stops = breaks_off laws wanted call known needed (ever stops.0) counts stops.1
+stopped laws NoMemory wanted call known texts needed ever counts stops = starves laws wanted call known needed (ever stops.0) (record { source = counts; sinks = stops.1 })
+stopped laws Done wanted call known texts needed ever counts stops = absurd stops
+stopped laws DoneWithRefusals wanted call known texts needed ever counts stops = absurd stops
+stopped laws QueryRefused wanted call known texts needed ever counts stops = absurd stops
+stopped laws WordsRefused wanted call known texts needed ever counts stops = absurd stops
+stopped laws OpenFault wanted call known texts needed ever counts stops = absurd stops
+stopped laws ReadFault wanted call known texts needed ever counts stops = absurd stops
+stopped laws ArchiveTooLong wanted call known texts needed ever counts stops = absurd stops
 
-pub few_rounds : Laws → (sorted : Bool) (loop : Loop) → (so : Rounds sorted loop) → so.known.m < loop.place.limit + 3
-few_rounds laws sorted loop so = rounds_few laws loop.place so.known.front so.known.m so.known.reached
+-- ---- after a fault of reading
 
--- ---- what a call for the next batch answers, after some rounds
+-- the games of the whole batches of the bytes read were answered
+pub record Broken (wanted : Wanted) (call : Answering) (AreTaken : ℕ → Type 0) : Type 0 where
+  pub front : List ℕ
+  pub outcomes : List Outcome
+  pub reads : Reads call.limit call.source.left call.source_after.left front
+  pub count : AreTaken (length front)
+  pub are_read : AreKeptRead (whole front) outcomes
+  pub writes : WritesSome (wanted.faulted outcomes) call.sinks
 
-pub round_turns : Laws → (sorted : Bool) (loop : Loop) (now : Batches) (after : SourceView) (batch : Batch) (t : ℕ) → (so : Rounds sorted loop) → t ≤ so.known.m
-    → Moves loop.place.b now loop.place.now.left after.left (GivesBatch now batch) → after.faults ≡ loop.place.now.faults
-    → Turn sorted (loop_on loop now after) batch t
-round_turns laws sorted loop now after batch t so turns moves counts =
-    all.round_turns laws loop.place (found_in_loop sorted loop) now after batch t so turns moves counts
+breaks : Laws → (wanted : Wanted) (call : Answering) (AreTaken Are : ℕ → Type 0) → (at : Broken wanted call AreTaken) → Are (length at.front) → Breaks wanted call Are
+breaks laws wanted call AreTaken Are at count = record {
+  front = at.front;
+  outcomes = at.outcomes;
+  takes = at.reads.takes;
+  few = at.reads.few;
+  are_read = reads_archive laws at.front (whole_spans at.front) at.outcomes (subst (λ gs. AreKeptRead gs at.outcomes) (whole_are laws at.front) at.are_read);
+  holds = (count, at.writes);
+}
 
-pub round_starves : Laws → (sorted : Bool) (loop : Loop) (now : Batches) (after : SourceView) (Given : List ℕ → ℕ → Type 0) → have_sort loop.query.items ≡ sorted
-    → Rounds sorted loop → Moves loop.place.b now loop.place.now.left after.left Given → after.faults ≡ loop.place.now.faults
-    → AnswerPromise (texts_of loop.query) NoMemory (answer_call loop.place.limit loop.place.source after loop.sinks)
-round_starves laws sorted loop now after Given sorts so moves counts = all.round_starves laws (run_of sorted loop sorts) now after Given so moves counts
+pub unread : Laws → (wanted : Wanted) (call : Answering) → Broken wanted call (λ n. n ≤ call.limit) → ReadsNoMore wanted call
+    → Rose call.source.faults call.source_after.faults → NoWriteFailed call.sinks → AnswerPromise wanted ReadFault call
+unread laws wanted call at needed rose unfailed = record {
+  says = (rose, unfailed, breaks laws wanted call (λ n. n ≤ call.limit) (λ n. Unit {0}) at tt);
+  takes = takes_some call at.front at.reads;
+  reads_no_more = needed;
+  too_long_always = λ much. absurd (not_overrun call.limit call.source call.source_after (record { bytes = at.front; takes = at.reads.takes; few = at.count }) much);
+  complete = λ all. absurd (all.no_read rose);
+}
 
-pub round_unread : Laws → (sorted : Bool) (loop : Loop) (now : Batches) (after : SourceView) → have_sort loop.query.items ≡ sorted → Rounds sorted loop
-    → Moves loop.place.b now loop.place.now.left after.left (HasGivenFull loop.place.b (λ n. n ≤ loop.place.b.limit)) → Rose loop.place.now.faults after.faults
-    → AnswerPromise (texts_of loop.query) ReadFault (answer_call loop.place.limit loop.place.source after loop.sinks)
-round_unread laws sorted loop now after sorts so moves rose = all.round_unread laws (run_of sorted loop sorts) now after so moves rose
+never_within : (wanted : Wanted) (call : Answering) (archive : List ℕ) → ((length archive ≤ call.limit) → ⊥) → (Suffices wanted (take call.limit archive) → ⊥)
+    → (length archive ≤ call.limit) ⊎ Suffices wanted (take call.limit archive) → ⊥
+never_within wanted call archive long never (inl few) = long few
+never_within wanted call archive long never (inr enough) = never enough
 
-pub round_too_long : Laws → (sorted : Bool) (loop : Loop) (now : Batches) (after : SourceView) → have_sort loop.query.items ≡ sorted → Rounds sorted loop
-    → Moves loop.place.b now loop.place.now.left after.left (HasGivenFull loop.place.b (λ n. loop.place.b.limit < n)) → after.faults ≡ loop.place.now.faults
-    → AnswerPromise (texts_of loop.query) ArchiveTooLong (answer_call loop.place.limit loop.place.source after loop.sinks)
-round_too_long laws sorted loop now after sorts so moves counts = all.round_too_long laws (run_of sorted loop sorts) now after so moves counts
+pub too_long : Laws → (wanted : Wanted) (call : Answering) → (at : Broken wanted call (λ n. call.limit < n)) → ReadsNoMore wanted call
+    → ((archive : List ℕ) → call.source.left ≡ Some archive → Suffices wanted (take call.limit archive) → ⊥) → NothingFails call → AnswerPromise wanted ArchiveTooLong call
+too_long laws wanted call at needed never unfailed = record {
+  says = (breaks laws wanted call (λ n. call.limit < n) (λ n. call.limit < n) at at.count, unfailed);
+  takes = takes_some call at.front at.reads;
+  reads_no_more = needed;
+  too_long_always = λ _. inl (inl refl);
+  complete = λ every. absurd (never_within wanted call every.archive
+      (λ few. not_too_long call.limit call.source call.source_after every.archive every.tells few (record { bytes = at.front; takes = at.reads.takes; long = at.count }))
+      (never every.archive every.tells) every.within);
+}
 
-pub round_ends : Laws → (sorted : Bool) (loop : Loop) (now : Batches) (after : SourceView) → (so : Rounds sorted loop)
-    → (moves : Moves loop.place.b now loop.place.now.left after.left (HasGivenAll now)) → after.faults ≡ loop.place.now.faults
-    → ReadsAll loop.place.limit loop.place.source after (so.known.front ++ moves.bytes) so.known.outcomes
-round_ends laws sorted loop now after so moves counts = all.round_ends laws loop.place (found_in_loop sorted loop) now after so moves counts
+-- ---- all games were answered
 
-pub turn_starves : Laws → (sorted : Bool) (loop : Loop) (batch : Batch) (t : ℕ) → have_sort loop.query.items ≡ sorted → Turn sorted loop batch t
-    → AnswerPromise (texts_of loop.query) NoMemory (call_in loop loop.sinks)
-turn_starves laws sorted loop batch t sorts turn = all.turn_starves laws (run_of sorted loop sorts) batch t turn
+pub finds_all : (call : Answering) (archive : List ℕ) (outcomes : List Outcome) (Holds : List Outcome → Type 0) → AllRead call archive outcomes → Holds outcomes → FindsAll call Holds
+finds_all call archive outcomes Holds all holds = record {
+  archive = archive;
+  outcomes = outcomes;
+  reads = record {
+    is = may_be call.source.left call.source_after.left archive all.reads.takes all.reads.at_end;
+    within = all.reads.within;
+    at_end = all.reads.at_end;
+  };
+  are_read = all.are_read;
+  holds = holds;
+}
 
--- the batch is answered
-
-pub turn_few : Laws → (sorted : Bool) (loop : Loop) (batch : Batch) (answers : List GameAnswer) (t : ℕ) → loop.place.limit ≤ 2 ^ 40 → Turn sorted loop batch t
-    → AnswersBatch loop.query batch answers → loop.stand.tally.games + length answers < 2 ^ 62
-turn_few laws sorted loop batch answers t low turn answered =
-    let games : loop.stand.tally.games ≡ length turn.known.outcomes = ap (λ (t : Stand). t.tally.games) turn.found.is in
-    let count : length answers ≡ length answered.outcomes = ap length answered.are ∙ answers_count loop.query (number_of batch) answered.outcomes in
-    let few = all.turn_few laws loop.place (found_in_loop sorted loop) batch t answered.outcomes low turn answered.are_read in
-    omega (arith, games, count, few)
-
-pub answers_are : (sorted : Bool) (loop : Loop) (batch : Batch) (answers : List GameAnswer) (t : ℕ) → (turn : Turn sorted loop batch t)
-    → (answered : AnswersBatch loop.query batch answers) → answers ≡ answers_from loop.query (length turn.known.outcomes) answered.outcomes
-answers_are sorted loop batch answers t turn answered = answered.are ∙ ap (λ n. answers_from loop.query n answered.outcomes) turn.index
-
-pub turn_done : (sorted : Bool) (loop : Loop) (sinks : Sinks) (stand : Stand) (batch : Batch) (answers : List GameAnswer) (t : ℕ)
-    → (turn : Turn sorted loop batch t) → (answered : AnswersBatch loop.query batch answers)
-    → FoundSoFar sorted loop.query (turn.known.outcomes ++ answered.outcomes) sinks stand
-    → (r : Rounds sorted (loop_with loop sinks stand)) × (t + 1 ≤ r.known.m)
-turn_done sorted loop sinks stand batch answers t turn answered found =
-    all.turn_done loop.place (found_in_loop sorted loop) (found_in_loop sorted (loop_with loop sinks stand)) batch t answered.outcomes turn answered.are_read found
-
-pub turn_fails : Laws → (sorted : Bool) (loop : Loop) (sinks : Sinks) (batch : Batch) (answers : List GameAnswer) (t : ℕ) → have_sort loop.query.items ≡ sorted
-    → (turn : Turn sorted loop batch t) → (answered : AnswersBatch loop.query batch answers)
-    → WritesPrefix sinks (texts_so_far sorted loop.query (turn.known.outcomes ++ answered.outcomes)) × OneSinkFailed sinks
-    → AnswerPromise (texts_of loop.query) WriteFault (call_in loop sinks)
-turn_fails laws sorted loop sinks batch answers t sorts turn answered stopped =
-    all.turn_fails laws (asked_of sorted loop.query sorts) loop.place (found_in_loop sorted loop) sinks batch t answered.outcomes turn answered.are_read stopped
-
-pub turn_wants : Laws → (sorted : Bool) (loop : Loop) (sinks : Sinks) (batch : Batch) (answers : List GameAnswer) (t : ℕ) → have_sort loop.query.items ≡ sorted
-    → (turn : Turn sorted loop batch t) → (answered : AnswersBatch loop.query batch answers)
-    → WritesPrefix sinks (texts_so_far sorted loop.query (turn.known.outcomes ++ answered.outcomes)) × NoWriteFailed sinks
-    → AnswerPromise (texts_of loop.query) NoMemory (call_in loop sinks)
-turn_wants laws sorted loop sinks batch answers t sorts turn answered stopped =
-    all.turn_wants laws (asked_of sorted loop.query sorts) loop.place (found_in_loop sorted loop) sinks batch t answered.outcomes turn answered.are_read stopped
+pub ends : (status : Status) (wanted : Wanted) (call : Answering) (archive : List ℕ) (outcomes : List Outcome) → AllRead call archive outcomes → ReadsNoMore wanted call
+    → SaysOfAnswer status wanted call → (AnswersAll wanted call → IsOneOf status (Done ∷ DoneWithRefusals ∷ NoMemory ∷ [])) → AnswerPromise wanted status call
+ends status wanted call archive outcomes all needed says complete = record {
+  says = says;
+  takes = record { bytes = archive; takes = all.reads.takes; few = let w = all.reads.within in omega (arith, w) };
+  reads_no_more = needed;
+  too_long_always = λ much.
+      absurd (not_overrun call.limit call.source call.source_after (record { bytes = archive; takes = all.reads.takes; few = all.reads.within }) much);
+  complete = complete;
+}
