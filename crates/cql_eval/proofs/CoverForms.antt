@@ -10,14 +10,15 @@ use Rattle.cq_geometry.specs.Squares.{squares}
 use Rattle.cq_position.specs.Attacks.{attacks}
 use Rattle.cq_position.specs.Led.{PlainLed, led_to}
 use Rattle.cq_position.specs.Search.{SearchedTree}
-use Rattle.cql_syntax.specs.Meaning.{Names, value, values, is_bound_to, position_at, written_value, meets, meets_all, goal_if, before}
-use Rattle.cql_syntax.specs.Trees.{FilterTree, filter_at, FilterTrees, WrittenTree, pair, square, played}
+use Rattle.cql_syntax.specs.Meaning.{Names, value, values, unary_of, is_bound_to, position_at, written_value, meets, meets_all, goal_if, before}
+use Rattle.cql_syntax.specs.Trees.{FilterTree, filter_at, FilterTrees, WrittenTree, unary, pair, square, played}
 use Rattle.cql_syntax.specs.TreeOf.{filter_tree, filter_trees, played_tree}
 use Rattle.cql_syntax.specs.Values.{Value, as_truth, squares_where, holds, has, square_of, chain_of, all_hold, intersection_of, related, pair_of}
 use Rattle.cql_syntax.specs.declared.leaves.Chain.{Chain}
 use Rattle.cql_syntax.specs.declared.leaves.Chain.TheVariants.{And, All, Intersect}
 use Rattle.cql_syntax.specs.declared.leaves.Pair.{Pair}
 use Rattle.cql_syntax.specs.declared.leaves.Pair.TheVariants.{Attacks, AttackedBy}
+use Rattle.cql_syntax.specs.declared.leaves.Unary.{Unary}
 use Rattle.cql_syntax.specs.declared.tree.Filter.{Filter}
 use Rattle.cql_syntax.specs.declared.tree.Played.{Played}
 use Rattle.cql_values.specs.Asked.{settles}
@@ -58,6 +59,12 @@ unfolding value
 square_cut tree live opened outer given f a b i every text old new is cut =
     form_cut live opened outer given (λ e. value tree [] e f) (λ e n. square_of every (value tree [] e a n) (λ s. holds (value tree [] ((text, s) ∷ e) b n))) old new
     (λ e n. ap (λ g. value tree [] e g n) is) (cut (λ e. value tree [] e a))
+
+pub unary_cut : (tree : SearchedTree) (live : List Bool) (opened outer : Names) (given : List ℕ) (f part : FilterTree) (i : ℕ) (word : Unary) (old new : List ℕ) → f ≡ filter_at i (unary word part)
+    → AreCut live (MayHold opened outer given (λ e. unary_of tree word (value tree [] e part))) old new → AreCut live (MayHold opened outer given (λ e. value tree [] e f)) old new
+unfolding value
+unary_cut tree live opened outer given f part i word old new is =
+    form_cut live opened outer given (λ e. value tree [] e f) (λ e. unary_of tree word (value tree [] e part)) old new (λ e n. ap (λ g. value tree [] e g n) is)
 
 -- chains
 pub all_cut : (tree : SearchedTree) (live : List Bool) (opened outer : Names) (given : List ℕ) (k : Chain) (fs : FilterTrees) (old new : List ℕ) → (k ≡ And) ⊎ (k ≡ All)

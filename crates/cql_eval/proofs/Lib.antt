@@ -9,6 +9,7 @@ pub mod FlatLaw
 pub mod FormLaws
 mod CoverForms
 mod CoverLaw
+mod ElsewhereLaw
 mod FreeLaw
 pub mod Gathering
 pub mod HitsLaw

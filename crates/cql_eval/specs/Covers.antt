@@ -80,6 +80,15 @@ pub record AreSetsOf (v : ℕ → Value) (live : List Bool) (sets : List ℕ) : 
   pub count : length sets ≡ length live
   pub each : (n : ℕ) → is_live live n ≡ true → is_in (get_or sets n 0) ≡ has (v n)
 
+-- squares among which are those at the nodes of a set
+pub record AreAmong (live : List Bool) (sets : List ℕ) (among : ℕ) : Type 0 where
+  pub each : (n s : ℕ) → is_live live n ≡ true → is_in (get_or sets n 0) s ≡ true → is_in among s ≡ true
+
+-- the same squares at each node of a set
+pub record AreEverywhere (live : List Bool) (set : ℕ) (sets : List ℕ) : Type 0 where
+  pub count : length sets ≡ length live
+  pub each : (n : ℕ) → is_live live n ≡ true → get_or sets n 0 ≡ set
+
 -- a square is the one that a move came from, the one that it went to, and the one on which it took a man, as far as each is asked for
 pub record IsOfMove (l : Option PlainLed) (origin goal taken : Bool) (s : ℕ) : Type 0 where
   pub led : PlainLed

@@ -7,7 +7,7 @@ ghost use Rattle.cql_syntax.specs.Values as spec;
 ghost use Rattle.cql_syntax.specs.declared.leaves.Pair.TheVariants.{Attacks, AttackedBy};
 ghost use Rattle.cql_values.specs.Trees.{searched_tree};
 ghost use Rattle.cql_eval.specs.Columns.{AreAsked, AreKept, shown};
-ghost use Rattle.cql_eval.specs.Covers.{AreCut, IsCut, AreSetsOf, IsOfMove, HasSome, IsSoRelated};
+ghost use Rattle.cql_eval.specs.Covers.{AreCut, IsCut, AreSetsOf, IsOfMove, HasSome, IsSoRelated, AreAmong, AreEverywhere};
 
 use crate::filter_column::{FilterColumn, set_at};
 use crate::nodes::same;
@@ -41,6 +41,41 @@ fn set_if(asked: bool, squares: &FilterColumn, n: usize) -> u64
     ensures { asked ≡ true → is_in result ≡ spec.has (shown squares.now n) }
 {
     if asked { squares.at(n).squares() } else { 0 }
+}
+
+/// Squares among which are those at the nodes of a set.
+pub(crate) fn any_squares(live: &[bool], sets: &[u64]) -> u64
+    ensures { AreAmong live.now sets.now result }
+{
+    let mut among = 0;
+    for n in 0..live.len() {
+        among |= set_where(live[n], sets, n);
+    }
+    among
+}
+
+fn set_where(asked: bool, sets: &[u64], n: usize) -> u64
+    ensures { asked ≡ true → result ≡ get_or sets.now n 0 }
+{
+    if asked { set_at(sets, n) } else { 0 }
+}
+
+/// The same squares at each node of a set.
+pub(crate) fn everywhere(alloc: Global, live: &[bool], set: u64) -> Result<Vec<u64>, NoMemory>
+    ensures { IfOk result (λ sets. AreEverywhere live.now set sets.items) }
+{
+    let mut sets = Vec::with_capacity(alloc, live.len())?;
+    for n in 0..live.len() {
+        let there = given_if(live[n], set);
+        sets.push(there)?;
+    }
+    Ok(sets)
+}
+
+fn given_if(asked: bool, set: u64) -> u64
+    ensures { asked ≡ true → result ≡ set }
+{
+    if asked { set } else { 0 }
 }
 
 /// The nodes of a set at which there are squares.

@@ -8,6 +8,7 @@ mod attacks;
 pub mod column;
 mod combine;
 mod covers;
+mod elsewhere;
 mod evaluate;
 pub mod filter_column;
 mod free;

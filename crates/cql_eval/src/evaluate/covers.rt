@@ -11,14 +11,18 @@ ghost use Rattle.cql_eval.specs.Covers.{AreCut, IsFree, MayHave, MayHold};
 ghost use Rattle.cql_eval.specs.FlatTrees.{IsFlat, AreFlat};
 
 use super::evaluate;
-use crate::covers::{cut, cut_moves, cut_related, cut_where_fails, with_squares};
+use crate::covers::{
+    any_squares, cut, cut_moves, cut_related, cut_where_fails, everywhere, with_squares,
+};
+use crate::elsewhere::{brought_back, looked_at, looks_elsewhere};
+use crate::filter_column::FilterColumn;
 use crate::free::{
     is_all, is_attack, is_free, is_intersection, is_other, is_own, is_own_part, turned,
 };
 use crate::order::{SORTS, is_of_class};
 use cq_geometry::Square;
 use cq_outside::{NoMemory, Steps};
-use cql_syntax::{Chain, Filter, Filters, Form, Pair};
+use cql_syntax::{Chain, Filter, Filters, Form, Pair, Unary};
 use cql_values::names::Names;
 use pgn_tree::Game;
 use std::alloc::Global;
@@ -68,6 +72,12 @@ pub(super) fn cover<L: Ledger>(
             cover_square(
                 alloc, opened, name, *every, inner, part, game, variations, names, live, sets,
                 steps,
+            )?;
+            Ok(())
+        }
+        Form::Unary(word, part) => {
+            cover_elsewhere(
+                alloc, opened, name, *word, part, game, variations, names, live, sets, steps,
             )?;
             Ok(())
         }
@@ -286,6 +296,45 @@ fn cover_square<L: Ledger>(
     cover(
         alloc, &wider, name, part, game, variations, names, live, sets, steps,
     )?;
+    Ok(())
+}
+
+// Of what a word asks at other nodes: what may hold at one of these.
+#[cycle(evaluate)]
+fn cover_elsewhere<L: Ledger>(
+    alloc: Global,
+    opened: &Names,
+    name: &[u8],
+    word: Unary,
+    part: &Filter,
+    game: &Game,
+    variations: bool,
+    names: &Names,
+    live: &[bool],
+    sets: &mut [u64],
+    steps: &mut Steps<L>,
+) -> Result<(), NoMemory>
+    requires tree { IsTree game.now.nodes }
+    requires asked { AreAsked (searched_tree game.now variations) live.now }
+    requires count { length sets.old ≡ length live.now }
+    requires flat { IsFlat (filter_tree part.now) }
+    ensures cut { OnOk result (AreCut live.now (MayHold opened.now names.now name.now
+        (λ e. meaning.unary_of (searched_tree game.now variations) word
+        (meaning.value (searched_tree game.now variations) [] e (filter_tree part.now)))) sets.old sets.new) }
+    ensures len { length sets.new ≡ length sets.old }
+    ensures cost { steps.new ≡ steps.old }
+{
+    if !looks_elsewhere(word) {
+        return Ok(());
+    }
+    let wide = looked_at(alloc, word, game, variations, live)?;
+    let wide = wide.as_slice();
+    let mut there = everywhere(alloc, wide, any_squares(live, sets))?;
+    cover(
+        alloc, opened, name, part, game, variations, names, wide, &mut there, steps,
+    )?;
+    let back = brought_back(alloc, word, game, there)?;
+    cut(sets, live, &FilterColumn::Sets(back));
     Ok(())
 }
 

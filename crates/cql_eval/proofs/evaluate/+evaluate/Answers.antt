@@ -43,7 +43,9 @@ use Rattle.cql_syntax.specs.Trees.{pair}
 use Rattle.cql_eval.specs.declared.filter_column.FilterColumn.TheVariants.{Sets}
 use Rattle.cql_eval.specs.Covers.{AreCut, AreWorthTrying, MayHold}
 use Rattle.cql_eval.proofs.CoverLaw.{cut_same, cut_then}
-use Rattle.cql_eval.proofs.CoverForms.{tried_same, worth_trying, written_sets, inner_cut, turned_cut, move_cut, pair_cut, one_of_sets, one_of_all, common_cut, all_cut, square_cut, own_cut}
+use Rattle.cql_eval.specs.Elsewhere.{AreLookedAt, AreBroughtBack}
+use Rattle.cql_eval.proofs.ElsewhereLaw.{elsewhere_cut}
+use Rattle.cql_eval.proofs.CoverForms.{unary_cut, tried_same, worth_trying, written_sets, inner_cut, turned_cut, move_cut, pair_cut, one_of_sets, one_of_all, common_cut, all_cut, square_cut, own_cut}
 use Rattle.cql_eval.proofs.evaluate.+evaluate.Goals as goal
 
 pub chains::all_hold-returns-clause-value : goal.chains::all_hold-returns-clause-value
@@ -796,6 +798,27 @@ covers::cover_square-returns-clause-cut g t c =
     let other = c.is_other.ensures c.if-not-is_other.false in
     inner_cut (searched_tree c.args.game.now c.args.variations) c.args.live.now c.args.opened.now _ c.args.names.now c.args.name.now c.args.inner.now (filter_tree c.args.part.now)
     c.args.every c.args.sets.now c.cover.new.sets other.0 other.1 (c.in_ok-wider.ensures ∙ ap (λ k. (c.args.inner.now, k) ∷ c.args.opened.now) c.new.ensures) c.in_ok-cover.ensures.cut
+
+pub covers::cover_elsewhere-returns-clause-cut : goal.covers::cover_elsewhere-returns-clause-cut
+covers::cover_elsewhere-returns-clause-cut g t c =
+    elsewhere_cut (searched_tree c.args.game.now c.args.variations) c.args.word c.args.live.now c.as_slice-wide.result.now c.args.opened.now c.args.names.now c.args.name.now
+    (λ e. value (searched_tree c.args.game.now c.args.variations) [] e (filter_tree c.args.part.now)) c.any_squares.result c.in_ok-there.there.items c.cover.new.sets c.in_ok-back.back.items
+    c.args.sets.now c.cut.new.sets (c.looks_elsewhere.ensures c.if-not-looks_elsewhere.false) c.requires.asked
+    (subst (AreLookedAt (searched_tree c.args.game.now c.args.variations) c.args.word c.args.live.now) (sym c.as_slice-wide.ensures.value) c.in_ok-wide.ensures)
+    c.any_squares.ensures c.in_ok-there.ensures
+    (subst (λ old. AreCut c.as_slice-wide.result.now (MayHold c.args.opened.now c.args.names.now c.args.name.now
+    (λ e. value (searched_tree c.args.game.now c.args.variations) [] e (filter_tree c.args.part.now))) old c.cover.new.sets) c.deref_mut.ensures.value c.in_ok-cover.ensures.cut)
+    (subst (λ left. AreBroughtBack c.args.game.now.nodes c.args.word left c.in_ok-back.back.items)
+    (written_sets c.in_ok-there.there.len c.cover.new.sets c.in_ok-there.there.items (omega (arith, c.cover.ensures.len, c.deref_mut.ensures.len))) c.in_ok-back.ensures)
+    c.cut.ensures
+
+pub covers::cover-returns-in_ok-cover_elsewhere-in-Unary-clause-cut : goal.covers::cover-returns-in_ok-cover_elsewhere-in-Unary-clause-cut
+covers::cover-returns-in_ok-cover_elsewhere-in-Unary-clause-cut g t c =
+    unary_cut (searched_tree c.args.game.now c.args.variations) c.args.live.now c.args.opened.now c.args.names.now c.args.name.now (filter_tree c.args.asked.now)
+    (filter_tree c.deref-in-Unary.result.now) c.args.asked.now.at c.in-Unary.word c.args.sets.now c.cover_elsewhere.new.sets
+    (ap (λ form. filter_at c.args.asked.now.at (form_tree form)) c.in-Unary.is
+    ∙ sym (ap (λ p. filter_at c.args.asked.now.at (unary c.in-Unary.word (filter_tree p))) c.deref-in-Unary.ensures))
+    c.in_ok-cover_elsewhere-in-Unary.ensures.cut
 
 pub squares::covered_sets-returns-clause-worth : goal.squares::covered_sets-returns-clause-worth
 squares::covered_sets-returns-clause-worth g t c =
