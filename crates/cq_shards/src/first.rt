@@ -16,7 +16,7 @@ use cql_plan::Plan;
 use std::alloc::Global;
 use std::thread::Threads;
 
-/// Makes the answer of each game of a batch, and skips those behind a match.
+/// Makes the answer of each game of a batch, except games after one that is already known to match.
 #[derive_where(Clone, Copy)]
 struct FirstMaker<'a, G> {
     plan: &'a Plan,

@@ -14,7 +14,7 @@ use cql_syntax::{Chain, Filter, Filters, Form, Pair, Played};
 use cql_values::names::Names;
 use std::alloc::Global;
 
-/// Whether no line stands in a filter, and none of some names.
+/// Whether no name of these, and no line, stands in a filter where it would change what the filter gives or takes.
 #[cycle(is_free)]
 #[tactic(auto, unfolding(cql_syntax::specs::Meaning::value, cql_syntax::specs::Contexts::designator_image, crate::specs::Costs::filter_cost))]
 pub(crate) fn is_free(opened: &Names, f: &Filter) -> bool

@@ -2,7 +2,7 @@
 use Rattle.std.specs.Prelude.{◌≡◌, ℕ, ◌+◌, ◌-◌, ◌*◌, ◌<◌, ◌≤◌, ◌==◌, ◌&&◌, not, nat_lt, Bool, true, List, [], ◌∷◌, ◌++◌, Option, Some, None, if◌then◌else◌}
 use Rattle.std.specs.Char.{IsScalar, digit_value}
 
--- %x20-21 / %x23-5B / %x5D-10FFFF: all but the control characters, the quote and the backslash
+-- %x20-21 / %x23-5B / %x5D and above: all but the control characters, the quote and the backslash
 abbrev pub is_unescaped : ℕ → Bool
 is_unescaped c = not (nat_lt c 32) && (not (c == 34) && not (c == 92))
 

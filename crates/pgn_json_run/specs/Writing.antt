@@ -101,7 +101,8 @@ AreFirstGames limit now front entries =
     ⊎ ((length front ≤ limit) × IsAtEnd now.left × AreEntries front 1 (take (length entries) (cut front)) entries)
 
 -- These first bytes were read, at most one more than the limit, and games were written, and a front of what is to be written of the next
--- ones. Nothing was read once that began: the games of the whole batches of all bytes but those of the last read were written before.
+-- ones. Nothing was read once that began: the games of the whole batches of all bytes, but for as many at their end as one read gives,
+-- were written before.
 pub record WritesSome (limit : ℕ) (mark : List ℕ) (was now : Pipe) : Type 0 where
   pub front : List ℕ
   pub entries : List Entry
