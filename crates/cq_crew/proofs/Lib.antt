@@ -1,3 +1,4 @@
 pub mod Counting
 pub mod CrewDraws
 pub mod Makings
+mod OneByOne

@@ -1,3 +1,4 @@
 pub mod Made
 pub mod Numbered
 pub mod Crew
+pub mod Starts

@@ -5,14 +5,11 @@ ghost use Rattle.cq_crew.specs.Crew.{HasWorked, IsFresh, IsThrough};
 ghost use Rattle.cq_crew.specs.Made.{AreMadeOf, those};
 
 use crate::maker::Maker;
+use crate::starting::for_each_started;
 use cq_board::{Board, ClaimSeat};
 use cq_outside::NoMemory;
 use std::alloc::Global;
-use std::thread;
 use std::thread::Threads;
-
-/// The most workers.
-const MOST_WORKERS: usize = 64;
 
 /// A worker: its seat at the board, what it keeps from game to game, and what it made so far. One that is out of memory stops.
 #[derive(Drop)]
@@ -50,10 +47,9 @@ pub fn run_crew<R: Threads + Sync, M: Maker + Sync>(
 {
     let (board, seats) = Board::make(alloc, maker.len(), kept.len() as u32)?;
     let mut slots = seated(alloc, maker, &board, seats, kept)?;
-    thread::for_each_mut(
+    for_each_started(
         rt,
         slots.as_mut_slice(),
-        MOST_WORKERS,
         &|me: usize, worker: &mut Worker<M::Kept, M::Made>|
             requires games { numbers_of board ≡ M.games maker.now }
             requires fresh { IsFresh (M.has_made maker.now) board worker.old }

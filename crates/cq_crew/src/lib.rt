@@ -3,6 +3,7 @@
 
 mod crew;
 mod maker;
+mod starting;
 
 pub use crew::{nothing_kept, run_crew};
 pub use maker::Maker;

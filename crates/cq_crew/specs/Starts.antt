@@ -1,0 +1,20 @@
+-- What a function makes of elements that are numbered from i on, as the private functions give it.
+use Rattle.std.specs.Prelude.{◌≡◌, ℕ, ◌+◌, List, [], ◌∷◌, ⊤}
+use denote.Ref.{MutBor}
+use denote.Param.Members.{Shared}
+use Rattle.std.specs.Fork.{AcceptsAt, ChangesAt}
+
+module _ {F T : Type 0} (g : Shared F (ℕ × (MutBor T × Unit {0})) ((Unit {0}) × (MutBor T × Unit {0}))) (f : F) where
+  -- it may be called with each
+  abbrev pub AcceptsFrom : ℕ → List T → Type 0
+  AcceptsFrom i [] = ⊤
+  AcceptsFrom i (x ∷ xs) = AcceptsAt g f i x × AcceptsFrom (i + 1) xs
+
+  -- a call with x left y there
+  unfoldable pub Leaves : ℕ → T → T → Type 0
+  Leaves i x y = ChangesAt g f i x y
+
+  -- a call with each left these
+  abbrev pub ChangesFrom : ℕ → List T → List T → Type 0
+  ChangesFrom i [] ys = ys ≡ []
+  ChangesFrom i (x ∷ xs) ys = (y : T) × (rest : List T) × (ys ≡ y ∷ rest) × Leaves i x y × ChangesFrom (i + 1) xs rest

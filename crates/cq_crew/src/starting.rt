@@ -1,0 +1,77 @@
+//! Starting a thread for each of some elements.
+ghost use Rattle.std.specs.Prelude.{◌≡◌, ◌+◌, ◌<◌, ◌≤◌, ◌^◌, ℕ, length};
+ghost use Rattle.std.specs.Thread.{IsSend, IsSync};
+ghost use Rattle.std.specs.Fork.{AcceptsAt, AcceptsEach, ChangesEach};
+ghost use Rattle.cq_crew.specs.Starts.{AcceptsFrom, ChangesFrom, Leaves};
+
+use std::thread;
+use std::thread::{Threads, join_mut};
+
+/// Calls `f(i, &mut all[i])` at each place, each in a thread of its own where one can be made; a call that is alone in this thread.
+///
+/// Of several the thread that starts them makes none: a new thread may be put on its starter's processor, and would wait there while the
+/// starter works.
+pub(crate) fn for_each_started<R: Threads + Sync, T: Send, F: Fn(usize, &mut T) + Sync>(
+    rt: &R,
+    all: &mut [T],
+    f: &F,
+)
+    requires accepts { AcceptsEach F.Fn f.now all.old }
+    ensures { ChangesEach F.Fn f.now all.old all.new }
+{
+    if all.len() < 2 {
+        return thread::for_each_mut(rt, all, 1, f);
+    }
+    start_all(rt, f, 0, all);
+}
+
+// Starts the calls at elements that are numbered from `i` on.
+#[cycle(starts)]
+fn start_all<R: Threads + Sync, T: Send, F: Fn(usize, &mut T) + Sync>(
+    rt: &R,
+    f: &F,
+    i: usize,
+    all: &mut [T],
+)
+    requires few { i + length all.old < 2 ^ 64 }
+    requires accepts { AcceptsFrom F.Fn f.now i all.old }
+    ensures { ChangesFrom F.Fn f.now i all.old all.new }
+{
+    if let Some((first, rest)) = all.split_first_mut() {
+        start_one(rt, f, i, first, rest);
+    }
+}
+
+// Starts the call at an element, and then those at the rest.
+#[cycle(starts)]
+fn start_one<R: Threads + Sync, T: Send, F: Fn(usize, &mut T) + Sync>(
+    rt: &R,
+    f: &F,
+    i: usize,
+    first: &mut T,
+    rest: &mut [T],
+)
+    requires few { i + 1 + length rest.old < 2 ^ 64 }
+    requires accepts { AcceptsAt F.Fn f.now i first.old }
+    requires accepts_rest { AcceptsFrom F.Fn f.now (i + 1) rest.old }
+    ensures changes { Leaves F.Fn f.now i first.old first.new }
+    ensures changes_rest { ChangesFrom F.Fn f.now (i + 1) rest.old rest.new }
+{
+    let mut one = ||
+        requires { IsSync F.row × IsSend T.row × AcceptsAt F.Fn f.now i first.now }
+        ensures { Leaves F.Fn f.entry.now i first.entry.now first.exit.now }
+    { call_at(f, i, first) };
+    let mut others = ||
+        requires { IsSync R.row × IsSync F.row × IsSend T.row × (i + 1 + length rest.now < 2 ^ 64) × AcceptsFrom F.Fn f.now (i + 1) rest.now }
+        ensures { ChangesFrom F.Fn f.entry.now (i + 1) rest.entry.now rest.exit.now }
+    { start_all(rt, f, i + 1, rest) };
+    join_mut(rt, &mut one, &mut others);
+}
+
+#[tactic(auto, unfolding(crate::specs::Starts::Leaves))]
+fn call_at<T, F: Fn(usize, &mut T)>(f: &F, i: usize, x: &mut T)
+    requires { AcceptsAt F.Fn f.now i x.old }
+    ensures { Leaves F.Fn f.now i x.old x.new }
+{
+    f(i, x);
+}
