@@ -9,7 +9,7 @@ use Rattle.std.specs.Prelude.{if◌then◌else◌, encode_utf8}
 use Rattle.std.specs.Str.{encode_utf8_all}
 use lib.Utf8.{encode, encodes, low_scalar}
 use Rattle.pgn_json.specs.Grammar.{IsReadAs, IsString, Spells, unescaped, by_letter, by_number, SpellsAll}
-use Rattle.pgn_json.specs.Strings.{character_text, characters, escape, is_escaped, short_letter, string_text}
+use Rattle.pgn_json.specs.Strings.{character_text, characters, escape, is_escaped, quoted, short_letter, string_text}
 use Rattle.pgn_json.proofs.OneReading.{one_string}
 
 abbrev spelling : ℕ → List ℕ
@@ -118,12 +118,21 @@ all_encoded : (cs : List ℕ) → encodes (flat_map spelling cs) ≡ flat_map ch
 all_encoded [] = refl
 all_encoded (c ∷ cs) = encodes-append (spelling c) (flat_map spelling cs) ∙ ap₂ (λ (x y : List ℕ). x ++ y) (one_encoded c) (all_encoded cs)
 
-pub read_back : (text : List ℕ) → (json : List ℕ) × (encode_utf8_all json ≡ string_text text) × IsReadAs json (characters text)
+-- a string that JSON reads as characters, between its quotes
+abbrev pub string_spelling : List ℕ → List ℕ
+string_spelling cs = 34 ∷ (flat_map spelling cs ++ 34 ∷ [])
+
+pub string_spelled : (cs : List ℕ) → IsString cs (string_spelling cs)
+string_spelled cs = record { inside = flat_map spelling cs; between = refl; spelled = all_spelled cs }
+
+pub string_encoded : (cs : List ℕ) → encodes (string_spelling cs) ≡ quoted cs
 unfolding encode_utf8
+string_encoded cs = ap (λ l. 34 ∷ l) (encodes-append (flat_map spelling cs) (34 ∷ []) ∙ ap (λ l. l ++ 34 ∷ []) (all_encoded cs))
+
+pub read_back : (text : List ℕ) → (json : List ℕ) × (encode_utf8_all json ≡ string_text text) × IsReadAs json (characters text)
 read_back text =
-    let cs = characters text in
-    let string : IsString cs (34 ∷ (flat_map spelling cs ++ 34 ∷ [])) = record { inside = flat_map spelling cs; between = refl; spelled = all_spelled cs } in (
-      34 ∷ (flat_map spelling cs ++ 34 ∷ []),
-      ap (λ l. 34 ∷ l) (encodes-append (flat_map spelling cs) (34 ∷ []) ∙ ap (λ l. l ++ 34 ∷ []) (all_encoded cs)),
-      record { string = string; alone = λ ds other. one_string _ ds cs other string },
+    let cs = characters text in (
+      string_spelling cs,
+      string_encoded cs,
+      record { string = string_spelled cs; alone = λ ds other. (one_string ds cs _ _ [] [] other (string_spelled cs) refl).0 },
     )

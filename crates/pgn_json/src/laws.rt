@@ -1,11 +1,42 @@
-//! Laws of the text of a game as JSON. Each is proved for all texts; to call one costs nothing.
-ghost use Rattle.std.specs.Prelude.{◌≡◌, ℕ, List};
+//! Laws of the text of a game as JSON. Each is proved for all texts and games; to call one costs nothing.
+ghost use Rattle.std.specs.Prelude.{◌≡◌, ◌<◌, ◌^◌, ℕ, true, List};
 ghost use Rattle.std.specs.Str.{encode_utf8_all};
-ghost use Rattle.pgn_json.specs.Grammar.{IsReadAs};
+ghost use Rattle.cq_position.specs.Games.{Game as PlainGame};
+ghost use Rattle.pgn_json.specs.GameValue.{json_of};
+ghost use Rattle.pgn_json.specs.Grammar.{IsReadAs, IsReadAsValue};
+ghost use Rattle.pgn_json.specs.Json.{game_text, json_text};
+ghost use Rattle.pgn_json.specs.Same.{IsKept, game_read};
 ghost use Rattle.pgn_json.specs.Strings.{characters, string_text};
+
+use pgn_tree::Game;
 
 /// The string that is written of a text is the UTF-8 of one that JSON reads as the characters of the text, and as no others.
 #[tactic(auto, using(crate::proofs::ReadBack::read_back))]
 pub fn strings_are_read_back()
     ensures { (text : List ℕ) → (json : List ℕ) × (encode_utf8_all json ≡ string_text text) × IsReadAs json (characters text) }
+{}
+
+/// Every game keeps what the laws of lines ask of one.
+pub fn games_are_kept(game: &Game) -> bool
+    ensures value { result ≡ true }
+    ensures kept { IsKept game.now.nodes }
+{
+    prove!(game.is_tree());
+    prove!(game.position(0).is_position());
+    true
+}
+
+/// A line before its end is JSON: it is read as the value of its game, and as no other.
+pub fn lines_are_json()
+    ensures { (mark : List ℕ) (number byte : ℕ) (g : PlainGame) → IsKept g.nodes → number < 2 ^ 64 → byte < 2 ^ 64 →
+        IsReadAsValue (game_text mark number byte g) (json_of mark number byte g) }
+{}
+
+/// Where two lines are the same, by whatever marks, they have the same number and place, and games with the same tags, result and nodes: the
+/// same but for the bytes that spell the characters of tags and comments.
+pub fn same_lines_have_the_same_game()
+    ensures { (mark other : List ℕ) (number number2 byte byte2 : ℕ) (g h : PlainGame) → IsKept g.nodes → IsKept h.nodes →
+        number < 2 ^ 64 → number2 < 2 ^ 64 → byte < 2 ^ 64 → byte2 < 2 ^ 64 →
+        json_text mark number byte g ≡ json_text other number2 byte2 h →
+        (number ≡ number2) × (byte ≡ byte2) × (game_read g ≡ game_read h) }
 {}

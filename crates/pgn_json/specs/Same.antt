@@ -1,0 +1,22 @@
+-- What two games with the same line have in common: all but the spelling of their texts.
+use Rattle.std.specs.Prelude.{ℕ, List, map}
+use Rattle.cq_position.specs.Games.{Node, Game, IsTree, HaveNotes, node_at}
+use Rattle.cq_position.specs.Position.{IsPosition}
+use Rattle.pgn_json.specs.Strings.{characters}
+
+-- what every game keeps of its nodes
+pub record IsKept (nodes : List Node) : Type 0 where
+  pub tree : IsTree nodes
+  pub notes : HaveNotes nodes
+  pub start : IsPosition (node_at nodes 0).position
+
+-- A game with the characters of each text in the place of its bytes. Only in this do bytes count for nothing: where they are not UTF-8, they
+-- are the same as the bytes of UTF-8 that spell the same letters of Latin-1.
+abbrev pub tag_read : List ℕ × List ℕ → List ℕ × List ℕ
+tag_read t = (characters t.0, characters t.1)
+
+abbrev pub node_read : Node → Node
+node_read n = record n { comments = map characters n.comments }
+
+abbrev pub game_read : Game → Game
+game_read g = record { tags = map tag_read g.tags; result = g.result; nodes = map node_read g.nodes }
