@@ -38,7 +38,7 @@ tag_json t = array_json (text_value t.0 ∷ text_value t.1 ∷ []) (string_text 
 notes_json : (n : Node) → HasNotes n → AreMembersJson (note_members n) (note_texts n)
 notes_json n has =
     let nags = each_json number decimal (λ i. i < 256) (λ i low. number_json i (omega (arith, low))) n.nags
-        (recursion_from_All (λ i. i < 256) n.nags has.nags) in
+    (recursion_from_All (λ i. i < 256) n.nags has.nags) in
     let comments = each_json text_value string_text (λ c. Unit {0}) (λ c can. text_json c) n.comments (any n.comments) in
     members_joined (array_member (codes "nags") (map number n.nags)) (array_member (codes "comments") (map text_value n.comments))
     (array_member_text (codes "nags") (map decimal n.nags)) (array_member_text (codes "comments") (map string_text n.comments))
@@ -67,17 +67,23 @@ node_json mark nodes k kept some_ low =
     let board = on_board before m n.position (has_position nodes kept.tree kept.start parent below) (led_to nodes k kept.tree some_ low) in
     let san = san_text before m in
     let values = (codes "parent", number parent) ∷ (codes "ply", number (ply nodes k)) ∷ (codes "uci", string (uci_text m)) ∷ (codes "san", string san)
-        ∷ (note_members n ++ fen_members mark n) in
+    ∷ (note_members n ++ fen_members mark n) in
     let texts = member (codes "parent") (decimal parent) ∷ member (codes "ply") (decimal (ply nodes k)) ∷ member (codes "uci") (plain (uci_text m))
-        ∷ member (codes "san") (plain san) ∷ (note_texts n ++ fen_texts mark n) in
+    ∷ member (codes "san") (plain san) ∷ (note_texts n ++ fen_texts mark n) in
     object_json values texts (
       member_json (codes "parent") (number parent) (decimal parent) refl (number_json parent (omega (arith, below, kept.tree.few))),
-      (member_json (codes "ply") (number (ply nodes k)) (decimal (ply nodes k)) refl
-      (number_json (ply nodes k) (omega (arith, ply_low nodes k, low, kept.tree.few))),
-      (member_json (codes "uci") (string (uci_text m)) (plain (uci_text m)) refl (plain_json (uci_text m) (uci_plain m board.0 board.1)),
-      (member_json (codes "san") (string san) (plain san) refl (plain_json san (san_plain before m board.0 board.1)),
-      members_joined (note_members n) (fen_members mark n) (note_texts n) (fen_texts mark n)
-      (notes_json n (kept.notes k no_node low)) (fens_json mark n (has_position nodes kept.tree kept.start k low))))),
+      (
+        member_json (codes "ply") (number (ply nodes k)) (decimal (ply nodes k)) refl
+            (number_json (ply nodes k) (omega (arith, ply_low nodes k, low, kept.tree.few))),
+        (
+          member_json (codes "uci") (string (uci_text m)) (plain (uci_text m)) refl (plain_json (uci_text m) (uci_plain m board.0 board.1)),
+          (
+            member_json (codes "san") (string san) (plain san) refl (plain_json san (san_plain before m board.0 board.1)),
+            members_joined (note_members n) (fen_members mark n) (note_texts n) (fen_texts mark n)
+                (notes_json n (kept.notes k no_node low)) (fens_json mark n (has_position nodes kept.tree kept.start k low)),
+          ),
+        ),
+      ),
     )
 
 -- the numbers of the nodes but the start
@@ -102,23 +108,31 @@ game_json mark place byte g kept low few =
     let node_texts = map (node_text mark g.nodes) (others g.nodes) in
     let tags = each_json tag_value tag_text (λ t. Unit {0}) (λ t can. tag_json t) g.tags (any g.tags) in
     let nodes = each_json (node_value mark g.nodes) (node_text mark g.nodes) (λ k. (0 < k) × (k < length g.nodes))
-        (λ k can. node_json mark g.nodes k kept can.0 can.1) (others g.nodes) (inner g.nodes) in
+    (λ k can. node_json mark g.nodes k kept can.0 can.1) (others g.nodes) (inner g.nodes) in
     let last_values = mark_members mark start ++ ((codes "nodes", array_of node_values) ∷ []) in
     let last_texts = mark_texts mark start ++ (member (codes "nodes") (array node_texts) ∷ []) in
     let values = (codes "game", number place) ∷ (codes "byte", number byte) ∷ (codes "tags", array_of tag_values) ∷ (codes "start", string fen)
-        ∷ (codes "result", string ending) ∷ (note_members start ++ last_values) in
+    ∷ (codes "result", string ending) ∷ (note_members start ++ last_values) in
     let texts = member (codes "game") (decimal place) ∷ member (codes "byte") (decimal byte) ∷ member (codes "tags") (array tag_texts)
-        ∷ member (codes "start") (plain fen) ∷ member (codes "result") (plain ending) ∷ (note_texts start ++ last_texts) in
+    ∷ member (codes "start") (plain fen) ∷ member (codes "result") (plain ending) ∷ (note_texts start ++ last_texts) in
     object_json values texts (
       member_json (codes "game") (number place) (decimal place) refl (number_json place low),
-      (member_json (codes "byte") (number byte) (decimal byte) refl (number_json byte few),
-      (member_json (codes "tags") (array_of tag_values) (array tag_texts) refl (array_json tag_values tag_texts tags),
-      (member_json (codes "start") (string fen) (plain fen) refl (plain_json fen (fen_plain start.position kept.start)),
-      (member_json (codes "result") (string ending) (plain ending) refl (plain_json ending (result_plain g.result)),
-      members_joined (note_members start) last_values (note_texts start) last_texts (notes_json start (kept.notes 0 no_node kept.tree.rooted))
-      (members_joined (mark_members mark start) ((codes "nodes", array_of node_values) ∷ []) (mark_texts mark start)
-      (member (codes "nodes") (array node_texts) ∷ []) (marks_json mark start)
-      (member_json (codes "nodes") (array_of node_values) (array node_texts) refl (array_json node_values node_texts nodes), tt)))))),
+      (
+        member_json (codes "byte") (number byte) (decimal byte) refl (number_json byte few),
+        (
+          member_json (codes "tags") (array_of tag_values) (array tag_texts) refl (array_json tag_values tag_texts tags),
+          (
+            member_json (codes "start") (string fen) (plain fen) refl (plain_json fen (fen_plain start.position kept.start)),
+            (
+              member_json (codes "result") (string ending) (plain ending) refl (plain_json ending (result_plain g.result)),
+              members_joined (note_members start) last_values (note_texts start) last_texts (notes_json start (kept.notes 0 no_node kept.tree.rooted))
+                  (members_joined (mark_members mark start) ((codes "nodes", array_of node_values) ∷ []) (mark_texts mark start)
+                  (member (codes "nodes") (array node_texts) ∷ []) (marks_json mark start)
+                  (member_json (codes "nodes") (array_of node_values) (array node_texts) refl (array_json node_values node_texts nodes), tt)),
+            ),
+          ),
+        ),
+      ),
     )
 
 -- it is read as the value of its game, and as no other

@@ -131,6 +131,7 @@ three m n v w ms ns a b c = ap (λ x. more_members x v ms) a ∙ ap₂ (λ x y. 
 
 mutual
   unfolding IsValue
+
   one_value : (v w : Value) (f g r s : List ℕ) → IsValue v f → IsValue w g → NoDigit r → NoDigit s → f ++ r ≡ g ++ s → (v ≡ w) × (r ≡ s)
   one_value truth truth f g r s a b i j same =
       (refl, ap (drop 4) (sym (ap (λ l. l ++ r) a) ∙ same ∙ ap (λ l. l ++ s) b))

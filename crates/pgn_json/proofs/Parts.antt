@@ -109,12 +109,11 @@ same_notes a b ms ns no_nags no_comments no_nags' no_comments' same =
     let comments = map text_value a.comments in
     let comments' = map text_value b.comments in
     let whole = sym (append_assoc (array_member (codes "nags") nags) (array_member (codes "comments") comments) ms) ∙ same
-        ∙ append_assoc (array_member (codes "nags") nags') (array_member (codes "comments") comments') ns in
+    ∙ append_assoc (array_member (codes "nags") nags') (array_member (codes "comments") comments') ns in
     let one = one_array (codes "nags") nags nags' (array_member (codes "comments") comments ++ ms) (array_member (codes "comments") comments' ++ ns)
-        (size_after (codes "comments") comments ms 4 (λ e. absurd (omega (arith, e))) no_nags)
-        (size_after (codes "comments") comments' ns 4 (λ e. absurd (omega (arith, e))) no_nags') whole in
-    let two = one_array (codes "comments") comments comments' ms ns no_comments no_comments' one.1 in
-    (
+    (size_after (codes "comments") comments ms 4 (λ e. absurd (omega (arith, e))) no_nags)
+    (size_after (codes "comments") comments' ns 4 (λ e. absurd (omega (arith, e))) no_nags') whole in
+    let two = one_array (codes "comments") comments comments' ms ns no_comments no_comments' one.1 in (
       record {
         nags = sym (numbers_back a.nags) ∙ ap (map number_in) one.0 ∙ numbers_back b.nags;
         comments =

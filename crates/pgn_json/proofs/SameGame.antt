@@ -33,8 +33,8 @@ use Rattle.pgn_json.proofs.Steps.{has_position, led_to, parent_low}
 record SameTold (nodes others : List Node) (k : ℕ) : Type 0 where
   parent : parent_of (node_at nodes k) ≡ parent_of (node_at others k)
   san :
-    san_text (node_at nodes (parent_of (node_at nodes k))).position (move_of (node_at nodes k))
-    ≡ san_text (node_at others (parent_of (node_at others k))).position (move_of (node_at others k))
+      san_text (node_at nodes (parent_of (node_at nodes k))).position (move_of (node_at nodes k))
+      ≡ san_text (node_at others (parent_of (node_at others k))).position (move_of (node_at others k))
   notes : SameNotes (node_at nodes k) (node_at others k)
 
 fen_size : (b : Bool) (v : Value) (n : ℕ) → (3 ≡ n → ⊥) → (0 ≡ n → ⊥) → size (if b then (codes "fen", v) ∷ [] else []) ≡ n → ⊥
@@ -103,12 +103,12 @@ same_value mark mark' place place' byte byte' g h same =
     let rest : note_members start ++ last_members mark g ≡ note_members start' ++ last_members mark' h
     = sym (members_back (note_members start ++ last_members mark g)) ∙ ap (drop 5) all ∙ members_back (note_members start' ++ last_members mark' h) in
     let noted = same_notes start start' (last_members mark g) (last_members mark' h)
-        (last_size mark g 4 (λ e. absurd (omega (arith, e))) (λ e. absurd (omega (arith, e))))
-        (last_size mark g 8 (λ e. absurd (omega (arith, e))) (λ e. absurd (omega (arith, e))))
-        (last_size mark' h 4 (λ e. absurd (omega (arith, e))) (λ e. absurd (omega (arith, e))))
-        (last_size mark' h 8 (λ e. absurd (omega (arith, e))) (λ e. absurd (omega (arith, e)))) rest in
+    (last_size mark g 4 (λ e. absurd (omega (arith, e))) (λ e. absurd (omega (arith, e))))
+    (last_size mark g 8 (λ e. absurd (omega (arith, e))) (λ e. absurd (omega (arith, e))))
+    (last_size mark' h 4 (λ e. absurd (omega (arith, e))) (λ e. absurd (omega (arith, e))))
+    (last_size mark' h 8 (λ e. absurd (omega (arith, e))) (λ e. absurd (omega (arith, e)))) rest in
     let last = after_one (is_marked mark start) (is_marked mark' start') (codes "marked", truth) (codes "marked", truth)
-        (nodes_member mark g ∷ []) (nodes_member mark' h ∷ []) (λ e. absurd (omega (arith, e))) (λ e. absurd (omega (arith, e))) noted.1 in
+    (nodes_member mark g ∷ []) (nodes_member mark' h ∷ []) (λ e. absurd (omega (arith, e))) (λ e. absurd (omega (arith, e))) noted.1 in
     record {
       counted = ap (λ l. number_in (member_at l 0).1) all;
       begins = ap (λ l. number_in (member_at l 1).1) all;
@@ -170,7 +170,7 @@ same_places (suc n) nodes nodes' kept kept' many start each k less low = elim (c
       let up : parent_of here ≡ child.number = ap (λ o. unwrap_or o 0) child.parent in
       let up' : parent_of there ≡ child'.number = ap (λ o. unwrap_or o 0) child'.parent in
       let before = same_places n nodes nodes' kept kept' many start each (parent_of here)
-          (omega (arith, up, child.after, less)) (omega (arith, up, child.after, low)) in
+      (omega (arith, up, child.after, less)) (omega (arith, up, child.after, low)) in
       let p = (node_at nodes (parent_of here)).position in
       let board : p ≡ (node_at nodes' (parent_of there)).position = before.position ∙ ap (λ i. (node_at nodes' i).position) told.parent in
       let leads = led_to nodes k kept.tree some_ low in
@@ -208,14 +208,20 @@ same_nodes : (mark mark' : List ℕ) (nodes nodes' : List Node) → IsKept nodes
     → map (node_value mark nodes) (others nodes) ≡ map (node_value mark' nodes') (others nodes') → map node_read nodes ≡ map node_read nodes'
 same_nodes mark mark' nodes nodes' kept kept' fen notes same =
     let many : length nodes ≡ length nodes' = omega (
-      arith, ap length same, length-map (others nodes) (node_value mark nodes), length-map (others nodes') (node_value mark' nodes'),
-      others_many nodes, others_many nodes', kept.tree.rooted, kept'.tree.rooted,
+      arith,
+      ap length same,
+      length-map (others nodes) (node_value mark nodes),
+      length-map (others nodes') (node_value mark' nodes'),
+      others_many nodes,
+      others_many nodes',
+      kept.tree.rooted,
+      kept'.tree.rooted,
     ) in
     let start = fen_same (node_at nodes 0).position (node_at nodes' 0).position kept.start kept'.start fen in
     let told : (k : ℕ) → 0 < k → k < length nodes → SameTold nodes nodes' k
     = λ k some_ low. same_told mark mark' nodes nodes' k (
-      sym (value_at (node_value mark nodes) nodes k some_ low) ∙ ap (λ l. get_or l (k - 1) truth) same
-      ∙ value_at (node_value mark' nodes') nodes' k some_ (omega (arith, low, many))
+    sym (value_at (node_value mark nodes) nodes k some_ low) ∙ ap (λ l. get_or l (k - 1) truth) same
+    ∙ value_at (node_value mark' nodes') nodes' k some_ (omega (arith, low, many))
     ) in
     let noted : (k : ℕ) → k < length nodes → SameNotes (node_at nodes k) (node_at nodes' k)
     = λ k low. elim (cases_eq k 0) [
