@@ -7,7 +7,7 @@ use Rattle.std.proofs.lemmas.List.Folds.{list_all-append}
 use Rattle.std.proofs.lemmas.Str.{encode_ascii}
 use Rattle.std.specs.List.{flat_map, list_all}
 use Rattle.std.specs.Prelude.{if◌then◌else◌, decimal}
-use lib.Utf8.{encode}
+use lib.Utf8.{encode, low_scalar, scalars}
 use Rattle.cq_position.proofs.Joined.{all_join, left_true, right_true}
 use Rattle.cq_position.specs.Board.{Board, was_passed, passant_stands, castling_right}
 use Rattle.cq_position.specs.FenText.{run_text, letter_text, run_after, rank_text, rank_texts, placement_text, side_text, right_text, castling_text, passant_text, fen_of}
@@ -45,6 +45,13 @@ all_written (c ∷ text) is =
 -- it is written as any string is
 pub plain_string : (text : List ℕ) → IsPlain text → quoted text ≡ plain text
 plain_string text is = ap (λ l. 34 ∷ l ++ 34 ∷ []) (all_written text is)
+
+-- and is of Unicode scalar values
+pub plain_legal : (text : List ℕ) → IsPlain text → scalars text ≡ true
+plain_legal [] is = refl
+plain_legal (c ∷ text) is =
+    let low = ltb-true c 128 (left_true (nat_lt c 128) _ (left_true (is_plain c) _ is)) in
+    rw (low_scalar c (omega (arith, low)), plain_legal text (right_true (is_plain c) _ is)) refl
 
 pub low_plain : (c : ℕ) → 35 ≤ c → c < 92 → is_plain c ≡ true
 low_plain c low high =

@@ -21,7 +21,8 @@ use Rattle.pgn_json.specs.Data.{Value, truth, array_of}
 use Rattle.pgn_json.specs.GameValue.{fen_members, json_of, mark_members, node_value, note_members, tag_value}
 use Rattle.pgn_json.specs.Grammar.{IsJson}
 use Rattle.pgn_json.specs.Json.{game_text, is_marked, json_text, move_of, parent_of, result_text}
-use Rattle.pgn_json.specs.Same.{IsKept, game_read, node_read, tag_read}
+use Rattle.pgn_json.specs.Kept.{IsKept}
+use Rattle.pgn_json.specs.Same.{game_read, node_read, tag_read}
 use Rattle.pgn_json.proofs.GameJson.{game_json}
 use Rattle.pgn_json.proofs.Left.{others, others_many, other_at}
 use Rattle.pgn_json.proofs.OneValue.{one_reading}

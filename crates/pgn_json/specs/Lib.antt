@@ -7,4 +7,5 @@ pub mod Left
 pub mod Moves
 pub mod Json
 pub mod GameValue
+pub mod Kept
 pub mod Same

@@ -1,14 +1,7 @@
 -- What two games with the same line have in common: all but the spelling of their texts.
 use Rattle.std.specs.Prelude.{ℕ, List, map}
-use Rattle.cq_position.specs.Games.{Node, Game, IsTree, HaveNotes, node_at}
-use Rattle.cq_position.specs.Position.{IsPosition}
+use Rattle.cq_position.specs.Games.{Node, Game}
 use Rattle.pgn_json.specs.Strings.{characters}
-
--- what every game keeps of its nodes
-pub record IsKept (nodes : List Node) : Type 0 where
-  pub tree : IsTree nodes
-  pub notes : HaveNotes nodes
-  pub start : IsPosition (node_at nodes 0).position
 
 -- A game with the characters of each text in the place of its bytes. Only in this do bytes count for nothing: where they are not UTF-8, they
 -- are the same as the bytes of UTF-8 that spell the same letters of Latin-1.

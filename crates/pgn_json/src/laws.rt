@@ -1,11 +1,12 @@
 //! Laws of the text of a game as JSON. Each is proved for all texts and games; to call one costs nothing.
 ghost use Rattle.std.specs.Prelude.{◌≡◌, ◌<◌, ◌^◌, ℕ, true, List};
-ghost use Rattle.std.specs.Str.{encode_utf8_all};
+ghost use Rattle.std.specs.Str.{encode_utf8_all, IsUtf8};
 ghost use Rattle.cq_position.specs.Games.{Game as PlainGame};
 ghost use Rattle.pgn_json.specs.GameValue.{json_of};
 ghost use Rattle.pgn_json.specs.Grammar.{IsReadAs, IsReadAsValue};
 ghost use Rattle.pgn_json.specs.Json.{game_text, json_text};
-ghost use Rattle.pgn_json.specs.Same.{IsKept, game_read};
+ghost use Rattle.pgn_json.specs.Kept.{HasByteTexts, IsKept};
+ghost use Rattle.pgn_json.specs.Same.{game_read};
 ghost use Rattle.pgn_json.specs.Strings.{characters, string_text};
 
 use pgn_tree::Game;
@@ -30,6 +31,12 @@ pub fn games_are_kept(game: &Game) -> bool
 pub fn lines_are_json()
     ensures { (mark : List ℕ) (number byte : ℕ) (g : PlainGame) → IsKept g.nodes → number < 2 ^ 64 → byte < 2 ^ 64 →
         IsReadAsValue (game_text mark number byte g) (json_of mark number byte g) }
+{}
+
+/// A line is UTF-8, where the texts of its game are of bytes.
+pub fn lines_are_utf8()
+    ensures { (mark : List ℕ) (number byte : ℕ) (g : PlainGame) → IsKept g.nodes → HasByteTexts g → number < 2 ^ 64 → byte < 2 ^ 64 →
+        IsUtf8 (json_text mark number byte g) }
 {}
 
 /// Where two lines are the same, by whatever marks, they have the same number and place, and games with the same tags, result and nodes: the
