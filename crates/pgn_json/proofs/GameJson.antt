@@ -1,11 +1,11 @@
 -- The line of a game is JSON.
-use Rattle.std.proofs.Common.{◌≡◌, ℕ, ◌^◌, ◌<◌, true, false, List, [], ◌∷◌, ◌++◌, length, map, drop, get_or, ◌-◌, refl, arith, codes, decimal}
+use Rattle.std.proofs.Common.{◌≡◌, ℕ, ◌^◌, ◌<◌, true, false, List, [], ◌∷◌, ◌++◌, length, map, ◌-◌, refl, arith, codes, decimal}
 use Rattle.std.proofs.lemmas.List.Elements.{All-from_get_or, recursion_from_All}
 use Rattle.std.proofs.lemmas.Str.{IsUtf8-append, IsUtf8-from_is_utf8, scalars-chars}
 use Rattle.std.specs.List.{AllByRecursion}
-use Rattle.std.specs.Prelude.{All, chars, encode_utf8, if◌then◌else◌}
+use Rattle.std.specs.Prelude.{All, chars, if◌then◌else◌}
 use Rattle.std.specs.Str.{IsUtf8, is_utf8}
-use lib.Utf8.{encode, low_scalar, scalars}
+use lib.Utf8.{low_scalar, scalars}
 use Rattle.cq_position.specs.FenText.{fen_of}
 use Rattle.cq_position.specs.Games.{Node, Game, node_at, no_node, numbers, HasNotes}
 use Rattle.cq_position.specs.Position.{IsPosition}
@@ -26,7 +26,7 @@ use Rattle.pgn_json.proofs.Plain.{fen_plain}
 use Rattle.pgn_json.proofs.PlainMoves.{result_plain, san_plain, uci_plain}
 use Rattle.pgn_json.proofs.PlyCounts.{ply_low}
 use Rattle.pgn_json.proofs.Steps.{has_position, led_to, parent_low}
-use Rattle.pgn_json.proofs.Written.{Writes, WritesAll, WritesMembers, array_json, array_members, each_json, member_if, member_json, members_joined, number_json, object_json, plain_json, string_json, truth_json}
+use Rattle.pgn_json.proofs.Written.{Writes, WritesAll, WritesMembers, array_json, array_members, ascii_first, each_json, member_if, member_json, members_joined, number_json, object_json, plain_json, string_json, truth_json}
 
 bytes_legal : (text : List ℕ) → AllByRecursion (λ b. b < 256) text → scalars text ≡ true
 bytes_legal [] all = refl
@@ -179,7 +179,6 @@ game_read_as mark place byte g kept low few = record {
 -- and is UTF-8
 pub line_utf8 : (mark : List ℕ) (place byte : ℕ) (g : Game) → IsKept g.nodes → HasByteTexts g → place < 2 ^ 64 → byte < 2 ^ 64
     → IsUtf8 (json_text mark place byte g)
-unfolding encode_utf8
 line_utf8 mark place byte g kept texts low few =
     let written = game_written mark place byte g kept low few in
-    IsUtf8-append (game_text mark place byte g) (codes "\n") (written.text, (written.legal texts, written.encoded)) (codes "\n", (refl, refl))
+    IsUtf8-append (game_text mark place byte g) (codes "\n") (written.text, (written.legal texts, written.encoded)) (codes "\n", (refl, ascii_first 10 [] (omega arith)))

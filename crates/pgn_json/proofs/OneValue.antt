@@ -1,6 +1,6 @@
 -- A text is one value.
-use Rattle.std.proofs.Common.{◌≡◌, ℕ, ◌<◌, List, [], ◌∷◌, ◌++◌, length, get_or, drop, refl, ap, ap₂, ◌∙◌, sym, subst, arith, inl, inr, append_assoc, ◌==◌, ◌&&◌, nat_lt}
-use Rattle.std.proofs.lemmas.Bool.{cases_lt, lt-ltb, le-ltb}
+use Rattle.std.proofs.Common.{◌≡◌, ℕ, ◌<◌, List, [], ◌∷◌, ◌++◌, get_or, drop, refl, ap, ap₂, ◌∙◌, sym, subst, arith, append_assoc, ◌==◌, nat_lt}
+use Rattle.std.proofs.lemmas.Bool.{lt-ltb}
 use Rattle.std.proofs.lemmas.Str.{encodes_same}
 use Rattle.std.specs.Char.{digit_value}
 use Rattle.std.specs.Prelude.{if◌then◌else◌}

@@ -1,15 +1,15 @@
 -- Texts of characters that stand for themselves in a string.
-use Rattle.std.proofs.Common.{◌≡◌, ℕ, zero, suc, ◌+◌, ◌/◌, ◌%◌, ◌^◌, ◌<◌, ◌≤◌, ◌==◌, ◌&&◌, ◌||◌, not, nat_lt, min, Bool, true, false, List, [], ◌∷◌, ◌++◌, length, take, drop, Option, Some, None, refl, ap, ap₂, ◌∙◌, sym, arith, codes, append-nil}
-use Rattle.std.proofs.lemmas.Bool.{and_parts, eqb-true, ltb-true, lt-ltb, le-ltb, ne_eqb}
+use Rattle.std.proofs.Common.{◌≡◌, ℕ, zero, suc, ◌+◌, ◌/◌, ◌%◌, ◌^◌, ◌<◌, ◌≤◌, ◌&&◌, ◌||◌, not, nat_lt, Bool, true, false, List, [], ◌∷◌, ◌++◌, length, take, drop, Option, Some, None, refl, ap, ap₂, ◌∙◌, sym, arith}
+use Rattle.std.proofs.lemmas.Bool.{eqb-true, ltb-true, lt-ltb, le-ltb, ne_eqb}
 use Rattle.std.proofs.lemmas.Fmt.{decimal_by_steps}
 use Rattle.std.proofs.lemmas.List.{length-take}
 use Rattle.std.proofs.lemmas.List.Folds.{list_all-append}
 use Rattle.std.proofs.lemmas.Str.{encode_ascii}
 use Rattle.std.specs.List.{flat_map, list_all}
 use Rattle.std.specs.Prelude.{if◌then◌else◌, decimal}
-use lib.Utf8.{encode, low_scalar, scalars}
+use lib.Utf8.{encode, encodes, low_scalar, scalars}
 use Rattle.cq_position.proofs.Joined.{all_join, left_true, right_true}
-use Rattle.cq_position.specs.Board.{Board, was_passed, passant_stands, castling_right}
+use Rattle.cq_position.specs.Board.{Board, was_passed, passant_stands}
 use Rattle.cq_position.specs.FenText.{run_text, letter_text, run_after, rank_text, rank_texts, placement_text, side_text, right_text, castling_text, passant_text, fen_of}
 use Rattle.cq_position.specs.Men.{letter_of_man}
 use Rattle.cq_position.specs.Position.{IsPosition}
@@ -46,7 +46,14 @@ all_written (c ∷ text) is =
 pub plain_string : (text : List ℕ) → IsPlain text → quoted text ≡ plain text
 plain_string text is = ap (λ l. 34 ∷ l ++ 34 ∷ []) (all_written text is)
 
--- and is of Unicode scalar values
+-- its bytes are its characters
+pub plain_encoded : (text : List ℕ) → IsPlain text → encodes text ≡ text
+plain_encoded [] is = refl
+plain_encoded (c ∷ text) is =
+    let low = ltb-true c 128 (left_true (nat_lt c 128) _ (left_true (is_plain c) _ is)) in
+    ap₂ (λ (x y : List ℕ). x ++ y) (encode_ascii c low) (plain_encoded text (right_true (is_plain c) _ is))
+
+-- and it is of Unicode scalar values
 pub plain_legal : (text : List ℕ) → IsPlain text → scalars text ≡ true
 plain_legal [] is = refl
 plain_legal (c ∷ text) is =

@@ -1,5 +1,5 @@
 -- Positions with the same text are the same.
-use Rattle.std.proofs.Common.{◌≡◌, ℕ, ◌+◌, ◌%◌, ◌^◌, ◌<◌, ◌≤◌, not, Bool, true, false, List, [], ◌∷◌, ◌++◌, refl, ap, ap₂, ◌∙◌, sym, arith, append_assoc, get_or, drop, decimal}
+use Rattle.std.proofs.Common.{◌≡◌, ℕ, ◌+◌, ◌%◌, ◌^◌, ◌<◌, ◌≤◌, not, true, false, List, [], ◌∷◌, ◌++◌, refl, ap, ap₂, ◌∙◌, sym, arith, append_assoc, get_or, drop, decimal}
 use Rattle.std.proofs.lemmas.Bool.{ne_eqb}
 use Rattle.std.proofs.lemmas.Fmt.{decimal_by_steps, decimal_injective}
 use Rattle.std.proofs.lemmas.List.Folds.{list_all-append}
@@ -10,7 +10,7 @@ use Rattle.cq_position.specs.Fen.{fen_meaning}
 use Rattle.cq_position.specs.FenText.{fen_of, placement_text, side_text, castling_text, passant_text}
 use Rattle.cq_position.specs.Position.{IsPosition}
 use Rattle.cq_position.specs.declared.fen.FenFault.{FenFault}
-use Rattle.cq_position.proofs.Joined.{is_not, left_true, right_true}
+use Rattle.cq_position.proofs.Joined.{is_not, right_true}
 use Rattle.cq_position.proofs.RoundTrip.{reads_back}
 
 -- the text before the number, and a position with another number

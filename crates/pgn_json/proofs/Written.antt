@@ -1,18 +1,18 @@
 -- What is written of values is JSON.
 use Rattle.std.proofs.Common.{◌≡◌, ℕ, ◌^◌, ◌<◌, Bool, true, false, List, [], ◌∷◌, ◌++◌, length, map, get_or, refl, ap, ap₂, ◌∙◌, sym, subst, arith, inl, inr, append_assoc, codes, decimal}
 use Rattle.std.proofs.lemmas.Bool.{cases_eq, ne_eqb}
-use Rattle.std.proofs.lemmas.Fmt.{decimal_is_IsNumeral, decimal_digit, first_decimal, IsAscii-decimal}
-use Rattle.std.proofs.lemmas.Str.{encodes-append, encodes-IsAscii}
+use Rattle.std.proofs.lemmas.Fmt.{decimal_is_IsNumeral, decimal_digit, first_decimal}
+use Rattle.std.proofs.lemmas.Str.{encode_ascii, encodes-append}
 use Rattle.std.specs.List.{flat_map, AllByRecursion}
-use Rattle.std.specs.Prelude.{if◌then◌else◌, encode_utf8}
+use Rattle.std.specs.Prelude.{if◌then◌else◌}
 use Rattle.std.specs.Str.{encode_utf8_all}
-use lib.Utf8.{encode, encodes, scalars}
-use Rattle.pgn_json.specs.Data.{Value, truth, number, string, array_of, object_of, Values, values_of, members_of}
+use lib.Utf8.{encodes, scalars}
+use Rattle.pgn_json.specs.Data.{Value, truth, number, string, array_of, object_of, values_of, members_of}
 use Rattle.pgn_json.specs.Grammar.{IsString, IsInteger, IsValue, AreValues, AreNextValues, AreMembers, AreNextMembers}
 use Rattle.pgn_json.specs.GameValue.{array_member}
 use Rattle.pgn_json.specs.Strings.{quoted}
 use Rattle.pgn_json.specs.Values.{next, separated, array, object, plain, member, array_member as array_member_text}
-use Rattle.pgn_json.proofs.Plain.{IsPlain, decimal_plain, plain_legal, plain_string}
+use Rattle.pgn_json.proofs.Plain.{IsPlain, decimal_plain, plain_encoded, plain_legal, plain_string}
 use Rattle.pgn_json.proofs.ReadBack.{both_legal, string_legal, string_spelling, string_spelled, string_encoded}
 
 -- The UTF-8 of a text that is such. Its characters are Unicode scalar values if a condition holds.
@@ -22,12 +22,22 @@ pub record Encodes (If : Type 0) (Is : List ℕ → Type 0) (bytes : List ℕ) :
   pub spelled : Is text
   pub legal : If → scalars text ≡ true
 
+-- an ASCII character is its own byte
+pub ascii_first : (c : ℕ) (text : List ℕ) → c < 128 → encodes (c ∷ text) ≡ c ∷ encodes text
+ascii_first c text low = ap (λ l. l ++ encodes text) (encode_ascii c low)
+
+between : (front back : ℕ) (text bytes : List ℕ) → front < 128 → back < 128 → encodes text ≡ bytes
+    → encodes (front ∷ (text ++ back ∷ [])) ≡ front ∷ (bytes ++ back ∷ [])
+between front back text bytes low few is =
+    ascii_first front (text ++ back ∷ []) low
+    ∙ ap (λ l. front ∷ l) (encodes-append text (back ∷ []) ∙ ap₂ (λ (x y : List ℕ). x ++ y) is (ascii_first back [] few))
+
 abbrev pub Writes : Type 0 → Value → List ℕ → Type 0
 Writes If v bytes = Encodes If (IsValue v) bytes
 
 pub truth_json : (If : Type 0) → Writes If truth (codes "true")
-unfolding IsValue encode_utf8
-truth_json If = record { text = codes "true"; encoded = refl; spelled = refl; legal = λ ok. refl }
+unfolding IsValue
+truth_json If = record { text = codes "true"; encoded = plain_encoded (codes "true") refl; spelled = refl; legal = λ ok. refl }
 
 integer : (n : ℕ) → n < 2 ^ 64 → IsInteger n (decimal n)
 integer n low =
@@ -42,7 +52,7 @@ pub number_json : (If : Type 0) (n : ℕ) → n < 2 ^ 64 → Writes If (number n
 unfolding IsValue
 number_json If n low = record {
   text = decimal n;
-  encoded = encodes-IsAscii (decimal n) (IsAscii-decimal n low);
+  encoded = plain_encoded (decimal n) (decimal_plain n low);
   spelled = integer n low;
   legal = λ ok. plain_legal (decimal n) (decimal_plain n low);
 }
@@ -66,8 +76,9 @@ WritesAll If [] (t ∷ texts) = ⊥
 WritesAll If (v ∷ vs) [] = ⊥
 WritesAll If (v ∷ vs) (t ∷ texts) = Writes If v t × WritesAll If vs texts
 
-next_values : (If : Type 0) (vs : List Value) (texts : List (List ℕ)) → WritesAll If vs texts → Encodes If (AreNextValues (values_of vs)) (flat_map next texts)
-unfolding IsValue encode_utf8
+next_values : (If : Type 0) (vs : List Value) (texts : List (List ℕ)) → WritesAll If vs texts
+    → Encodes If (AreNextValues (values_of vs)) (flat_map next texts)
+unfolding IsValue
 next_values If [] [] are = record { text = []; encoded = refl; spelled = refl; legal = λ ok. refl }
 next_values If [] (t ∷ texts) are = absurd are
 next_values If (v ∷ vs) [] are = absurd are
@@ -75,12 +86,15 @@ next_values If (v ∷ vs) (t ∷ texts) are =
     let more = next_values If vs texts are.1 in
     record {
       text = 44 ∷ (are.0.text ++ more.text);
-      encoded = ap (λ l. 44 ∷ l) (encodes-append are.0.text more.text ∙ ap₂ (λ (x y : List ℕ). x ++ y) are.0.encoded more.encoded);
+      encoded =
+          ascii_first 44 (are.0.text ++ more.text) (omega arith)
+          ∙ ap (λ l. 44 ∷ l) (encodes-append are.0.text more.text ∙ ap₂ (λ (x y : List ℕ). x ++ y) are.0.encoded more.encoded);
       spelled = (are.0.text, more.text, refl, are.0.spelled, more.spelled);
       legal = λ ok. both_legal are.0.text more.text (are.0.legal ok) (more.legal ok);
     }
 
-all_values : (If : Type 0) (vs : List Value) (texts : List (List ℕ)) → WritesAll If vs texts → Encodes If (AreValues (values_of vs)) (separated texts)
+all_values : (If : Type 0) (vs : List Value) (texts : List (List ℕ)) → WritesAll If vs texts
+    → Encodes If (AreValues (values_of vs)) (separated texts)
 unfolding IsValue
 all_values If [] [] are = record { text = []; encoded = refl; spelled = refl; legal = λ ok. refl }
 all_values If [] (t ∷ texts) are = absurd are
@@ -95,12 +109,12 @@ all_values If (v ∷ vs) (t ∷ texts) are =
     }
 
 pub array_json : (If : Type 0) (vs : List Value) (texts : List (List ℕ)) → WritesAll If vs texts → Writes If (array_of vs) (array texts)
-unfolding IsValue encode_utf8
+unfolding IsValue
 array_json If vs texts are =
     let inside = all_values If vs texts are in
     record {
       text = 91 ∷ (inside.text ++ 93 ∷ []);
-      encoded = ap (λ l. 91 ∷ l) (encodes-append inside.text (93 ∷ []) ∙ ap (λ l. l ++ 93 ∷ []) inside.encoded);
+      encoded = between 91 93 inside.text (separated texts) (omega arith) (omega arith) inside.encoded;
       spelled = (inside.text, refl, inside.spelled);
       legal = λ ok. both_legal inside.text (93 ∷ []) (inside.legal ok) refl;
     }
@@ -116,13 +130,13 @@ pub record WritesMember (If : Type 0) (m : List ℕ × Value) (bytes : List ℕ)
 
 pub member_json : (If : Type 0) (name : List ℕ) (v : Value) (bytes : List ℕ) → IsPlain name → Writes If v bytes
     → WritesMember If (name, v) (member name bytes)
-unfolding encode_utf8
 member_json If name v bytes is json = record {
   key = string_spelling name;
   text = json.text;
   encoded =
       encodes-append (string_spelling name) (58 ∷ json.text)
-      ∙ ap₂ (λ (x y : List ℕ). x ++ 58 ∷ y) (string_encoded name ∙ plain_string name is) json.encoded;
+      ∙ ap₂ (λ (x y : List ℕ). x ++ y) (string_encoded name ∙ plain_string name is)
+      (ascii_first 58 json.text (omega arith) ∙ ap (λ l. 58 ∷ l) json.encoded);
   named = string_spelled name;
   spelled = json.spelled;
   legal = λ ok. both_legal (string_spelling name) (58 ∷ json.text) (string_legal name (plain_legal name is)) (json.legal ok);
@@ -142,7 +156,7 @@ legal_parts key first rest a b = ap scalars (sym (append_assoc key (58 ∷ first
 
 next_members : (If : Type 0) (ms : List (List ℕ × Value)) (texts : List (List ℕ)) → WritesMembers If ms texts
     → Encodes If (AreNextMembers (members_of ms)) (flat_map next texts)
-unfolding IsValue encode_utf8
+unfolding IsValue
 next_members If [] [] are = record { text = []; encoded = refl; spelled = refl; legal = λ ok. refl }
 next_members If [] (t ∷ texts) are = absurd are
 next_members If (m ∷ ms) [] are = absurd are
@@ -151,7 +165,9 @@ next_members If (m ∷ ms) (t ∷ texts) are =
     let more = next_members If ms texts are.1 in
     record {
       text = 44 ∷ (one.key ++ 58 ∷ (one.text ++ more.text));
-      encoded = ap (λ l. 44 ∷ l) (regrouped one.key one.text more.text ∙ ap₂ (λ (x y : List ℕ). x ++ y) one.encoded more.encoded);
+      encoded =
+          ascii_first 44 (one.key ++ 58 ∷ (one.text ++ more.text)) (omega arith)
+          ∙ ap (λ l. 44 ∷ l) (regrouped one.key one.text more.text ∙ ap₂ (λ (x y : List ℕ). x ++ y) one.encoded more.encoded);
       spelled = (one.key, one.text, more.text, refl, one.named, one.spelled, more.spelled);
       legal = λ ok. legal_parts one.key one.text more.text (one.legal ok) (more.legal ok);
     }
@@ -172,20 +188,21 @@ all_members If (m ∷ ms) (t ∷ texts) are =
       legal = λ ok. legal_parts one.key one.text more.text (one.legal ok) (more.legal ok);
     }
 
-pub object_json : (If : Type 0) (ms : List (List ℕ × Value)) (texts : List (List ℕ)) → WritesMembers If ms texts → Writes If (object_of ms) (object texts)
-unfolding IsValue encode_utf8
+pub object_json : (If : Type 0) (ms : List (List ℕ × Value)) (texts : List (List ℕ)) → WritesMembers If ms texts
+    → Writes If (object_of ms) (object texts)
+unfolding IsValue
 object_json If ms texts are =
     let inside = all_members If ms texts are in
     record {
       text = 123 ∷ (inside.text ++ 125 ∷ []);
-      encoded = ap (λ l. 123 ∷ l) (encodes-append inside.text (125 ∷ []) ∙ ap (λ l. l ++ 125 ∷ []) inside.encoded);
+      encoded = between 123 125 inside.text (separated texts) (omega arith) (omega arith) inside.encoded;
       spelled = (inside.text, refl, inside.spelled);
       legal = λ ok. both_legal inside.text (125 ∷ []) (inside.legal ok) refl;
     }
 
 -- lists of them
-pub members_joined : (If : Type 0) (ms ns : List (List ℕ × Value)) (texts others : List (List ℕ)) → WritesMembers If ms texts → WritesMembers If ns others
-    → WritesMembers If (ms ++ ns) (texts ++ others)
+pub members_joined : (If : Type 0) (ms ns : List (List ℕ × Value)) (texts others : List (List ℕ)) → WritesMembers If ms texts
+    → WritesMembers If ns others → WritesMembers If (ms ++ ns) (texts ++ others)
 members_joined If [] ns [] others are more = more
 members_joined If [] ns (t ∷ texts) others are more = absurd are
 members_joined If (m ∷ ms) ns [] others are more = absurd are

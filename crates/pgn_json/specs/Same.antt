@@ -3,8 +3,8 @@ use Rattle.std.specs.Prelude.{ℕ, List, map}
 use Rattle.cq_position.specs.Games.{Node, Game}
 use Rattle.pgn_json.specs.Strings.{characters}
 
--- A game with the characters of each text in the place of its bytes. Only in this do bytes count for nothing: where they are not UTF-8, they
--- are the same as the bytes of UTF-8 that spell the same letters of Latin-1.
+-- A game with the characters of each text in the place of its bytes. So a text that is not UTF-8 is taken as the same as the UTF-8 of the
+-- same letters of Latin-1.
 abbrev pub tag_read : List ℕ × List ℕ → List ℕ × List ℕ
 tag_read t = (characters t.0, characters t.1)
 
