@@ -115,10 +115,10 @@ inner nodes =
     (omega (arith, at), omega (arith, at, low))))
 
 -- a game, whose texts are of bytes if it says so
-game_written : (mark : List ℕ) (place byte : ℕ) (g : Game) → IsKept g.nodes → place < 2 ^ 64 → byte < 2 ^ 64
-    → Writes (HasByteTexts g) (json_of mark place byte g) (game_text mark place byte g)
+game_written : (mark : List ℕ) (ordinal byte : ℕ) (g : Game) → IsKept g.nodes → ordinal < 2 ^ 64 → byte < 2 ^ 64
+    → Writes (HasByteTexts g) (json_of mark ordinal byte g) (game_text mark ordinal byte g)
 unfolding json_of game_text
-game_written mark place byte g kept low few =
+game_written mark ordinal byte g kept low few =
     let If = HasByteTexts g in
     let start = node_at g.nodes 0 in
     let fen = fen_of start.position in
@@ -129,7 +129,7 @@ game_written mark place byte g kept low few =
     let node_texts = map (node_text mark g.nodes) (others g.nodes) in
     let nodes = each_json If (node_value mark g.nodes) (node_text mark g.nodes) (λ k. (0 < k) × (k < length g.nodes))
     (λ k can. node_json If mark g.nodes k kept (λ ok. ok.comments k no_node can.1) can.0 can.1) (others g.nodes) (inner g.nodes) in
-    let first = member_json If (codes "game") (number place) (decimal place) refl (number_json If place low) in
+    let first = member_json If (codes "game") (number ordinal) (decimal ordinal) refl (number_json If ordinal low) in
     let second = member_json If (codes "byte") (number byte) (decimal byte) refl (number_json If byte few) in
     let third = member_json If (codes "tags") (array_of tag_values) (array tag_texts) refl
     (array_json If tag_values tag_texts (tags_json If g.tags (λ ok. ok.tags))) in
@@ -140,9 +140,9 @@ game_written mark place byte g kept low few =
     let last_text = member (codes "nodes") (array node_texts) in
     let last = member_json If (codes "nodes") (array_of node_values) (array node_texts) refl (array_json If node_values node_texts nodes) in
     object_json If
-    ((codes "game", number place) ∷ (codes "byte", number byte) ∷ (codes "tags", array_of tag_values) ∷ (codes "start", string fen)
+    ((codes "game", number ordinal) ∷ (codes "byte", number byte) ∷ (codes "tags", array_of tag_values) ∷ (codes "start", string fen)
     ∷ (codes "result", string ending) ∷ (note_members start ++ (mark_members mark start ++ (last_value ∷ []))))
-    (member (codes "game") (decimal place) ∷ member (codes "byte") (decimal byte) ∷ member (codes "tags") (array tag_texts)
+    (member (codes "game") (decimal ordinal) ∷ member (codes "byte") (decimal byte) ∷ member (codes "tags") (array tag_texts)
     ∷ member (codes "start") (plain fen) ∷ member (codes "result") (plain ending) ∷ (note_texts start ++ (mark_texts mark start ++ (last_text ∷ [])))) (
       first,
       (
@@ -162,23 +162,23 @@ game_written mark place byte g kept low few =
       ),
     )
 
-pub game_json : (mark : List ℕ) (place byte : ℕ) (g : Game) → IsKept g.nodes → place < 2 ^ 64 → byte < 2 ^ 64
-    → IsJson (json_of mark place byte g) (game_text mark place byte g)
-game_json mark place byte g kept low few =
-    let written = game_written mark place byte g kept low few in
+pub game_json : (mark : List ℕ) (ordinal byte : ℕ) (g : Game) → IsKept g.nodes → ordinal < 2 ^ 64 → byte < 2 ^ 64
+    → IsJson (json_of mark ordinal byte g) (game_text mark ordinal byte g)
+game_json mark ordinal byte g kept low few =
+    let written = game_written mark ordinal byte g kept low few in
     record { text = written.text; encoded = written.encoded; spelled = written.spelled }
 
 -- it is read as the value of its game, and as no other
-pub game_read_as : (mark : List ℕ) (place byte : ℕ) (g : Game) → IsKept g.nodes → place < 2 ^ 64 → byte < 2 ^ 64
-    → IsReadAsValue (game_text mark place byte g) (json_of mark place byte g)
-game_read_as mark place byte g kept low few = record {
-  value = game_json mark place byte g kept low few;
-  alone = λ w other. one_reading w (json_of mark place byte g) (game_text mark place byte g) other (game_json mark place byte g kept low few);
+pub game_read_as : (mark : List ℕ) (ordinal byte : ℕ) (g : Game) → IsKept g.nodes → ordinal < 2 ^ 64 → byte < 2 ^ 64
+    → IsReadAsValue (game_text mark ordinal byte g) (json_of mark ordinal byte g)
+game_read_as mark ordinal byte g kept low few = record {
+  value = game_json mark ordinal byte g kept low few;
+  alone = λ w other. one_reading w (json_of mark ordinal byte g) (game_text mark ordinal byte g) other (game_json mark ordinal byte g kept low few);
 }
 
 -- and is UTF-8
-pub line_utf8 : (mark : List ℕ) (place byte : ℕ) (g : Game) → IsKept g.nodes → HasByteTexts g → place < 2 ^ 64 → byte < 2 ^ 64
-    → IsUtf8 (json_text mark place byte g)
-line_utf8 mark place byte g kept texts low few =
-    let written = game_written mark place byte g kept low few in
-    IsUtf8-append (game_text mark place byte g) (codes "\n") (written.text, (written.legal texts, written.encoded)) (codes "\n", (refl, ascii_first 10 [] (omega arith)))
+pub line_utf8 : (mark : List ℕ) (ordinal byte : ℕ) (g : Game) → IsKept g.nodes → HasByteTexts g → ordinal < 2 ^ 64 → byte < 2 ^ 64
+    → IsUtf8 (json_text mark ordinal byte g)
+line_utf8 mark ordinal byte g kept texts low few =
+    let written = game_written mark ordinal byte g kept low few in
+    IsUtf8-append (game_text mark ordinal byte g) (codes "\n") (written.text, (written.legal texts, written.encoded)) (codes "\n", (refl, ascii_first 10 [] (omega arith)))

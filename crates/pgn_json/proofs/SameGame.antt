@@ -61,8 +61,8 @@ same_told mark mark' nodes nodes' k same =
     }
 
 -- what is told of a game
-record SameValue (mark mark' : List ℕ) (place place' byte byte' : ℕ) (g h : Game) : Type 0 where
-  counted : place ≡ place'
+record SameValue (mark mark' : List ℕ) (ordinal ordinal' byte byte' : ℕ) (g h : Game) : Type 0 where
+  counted : ordinal ≡ ordinal'
   begins : byte ≡ byte'
   tags : map tag_read g.tags ≡ map tag_read h.tags
   start : fen_of (node_at g.nodes 0).position ≡ fen_of (node_at h.nodes 0).position
@@ -92,10 +92,10 @@ last_members mark g = mark_members mark (node_at g.nodes 0) ++ nodes_member mark
 last_size : (mark : List ℕ) (g : Game) (n : ℕ) → (6 ≡ n → ⊥) → (5 ≡ n → ⊥) → size (last_members mark g) ≡ n → ⊥
 last_size mark g n marked nodes = size_if (is_marked mark (node_at g.nodes 0)) (codes "marked", truth) (nodes_member mark g ∷ []) n marked nodes
 
-same_value : (mark mark' : List ℕ) (place place' byte byte' : ℕ) (g h : Game) → json_of mark place byte g ≡ json_of mark' place' byte' h
-    → SameValue mark mark' place place' byte byte' g h
+same_value : (mark mark' : List ℕ) (ordinal ordinal' byte byte' : ℕ) (g h : Game) → json_of mark ordinal byte g ≡ json_of mark' ordinal' byte' h
+    → SameValue mark mark' ordinal ordinal' byte byte' g h
 unfolding json_of
-same_value mark mark' place place' byte byte' g h same =
+same_value mark mark' ordinal ordinal' byte byte' g h same =
     let start = node_at g.nodes 0 in
     let start' = node_at h.nodes 0 in
     let all = ap members_in same in
@@ -237,13 +237,13 @@ same_nodes mark mark' nodes nodes' kept kept' fen notes same =
     ∙ node_same (node_at nodes k) (node_at nodes' k) (same_places (length nodes) nodes nodes' kept kept' many start told k low low) (noted k low)
     ∙ sym (get_or-map node_read nodes' k no_node (node_read no_node) (omega (arith, low, many))))
 
-pub same_line : (mark mark' : List ℕ) (place place' byte byte' : ℕ) (g h : Game) → IsKept g.nodes → IsKept h.nodes
-    → place < 2 ^ 64 → place' < 2 ^ 64 → byte < 2 ^ 64 → byte' < 2 ^ 64 → json_text mark place byte g ≡ json_text mark' place' byte' h
-    → (place ≡ place') × (byte ≡ byte') × (game_read g ≡ game_read h)
-same_line mark mark' place place' byte byte' g h kept kept' a b c d same =
-    let text = append_cancel_right (game_text mark place byte g) (game_text mark' place' byte' h) (codes "\n") same in
-    let json = subst (IsJson (json_of mark' place' byte' h)) (sym text) (game_json mark' place' byte' h kept' b d) in
-    let value = one_reading (json_of mark place byte g) (json_of mark' place' byte' h) (game_text mark place byte g) (game_json mark place byte g kept a c) json in
-    let told = same_value mark mark' place place' byte byte' g h value in
+pub same_line : (mark mark' : List ℕ) (ordinal ordinal' byte byte' : ℕ) (g h : Game) → IsKept g.nodes → IsKept h.nodes
+    → ordinal < 2 ^ 64 → ordinal' < 2 ^ 64 → byte < 2 ^ 64 → byte' < 2 ^ 64 → json_text mark ordinal byte g ≡ json_text mark' ordinal' byte' h
+    → (ordinal ≡ ordinal') × (byte ≡ byte') × (game_read g ≡ game_read h)
+same_line mark mark' ordinal ordinal' byte byte' g h kept kept' a b c d same =
+    let text = append_cancel_right (game_text mark ordinal byte g) (game_text mark' ordinal' byte' h) (codes "\n") same in
+    let json = subst (IsJson (json_of mark' ordinal' byte' h)) (sym text) (game_json mark' ordinal' byte' h kept' b d) in
+    let value = one_reading (json_of mark ordinal byte g) (json_of mark' ordinal' byte' h) (game_text mark ordinal byte g) (game_json mark ordinal byte g kept a c) json in
+    let told = same_value mark mark' ordinal ordinal' byte byte' g h value in
     let nodes = same_nodes mark mark' g.nodes h.nodes kept kept' told.start told.notes told.nodes in
     (told.counted, told.begins, λ i. record { tags = told.tags i; result = told.result i; nodes = nodes i })

@@ -44,9 +44,9 @@ abbrev pub mark_members : List ℕ → Node → List (List ℕ × Value)
 mark_members mark n = if is_marked mark n then (codes "marked", truth) ∷ [] else []
 
 -- a game
-unfoldable pub json_of : (mark : List ℕ) → (place byte : ℕ) → Game → Value
-json_of mark place byte g = let start = node_at g.nodes 0 in object_of (
-    (codes "game", number place)
+unfoldable pub json_of : (mark : List ℕ) → (ordinal byte : ℕ) → Game → Value
+json_of mark ordinal byte g = let start = node_at g.nodes 0 in object_of (
+    (codes "game", number ordinal)
     ∷ (codes "byte", number byte)
     ∷ (codes "tags", array_of (map tag_value g.tags))
     ∷ (codes "start", string (fen_of start.position))

@@ -39,8 +39,8 @@ pub fn lines_are_utf8()
         IsUtf8 (json_text mark number byte g) }
 {}
 
-/// Where two lines are the same, by whatever marks, they have the same number and place, and games with the same tags, result and nodes: the
-/// same but for the bytes that spell the characters of tags and comments.
+/// Lines are the same, by whatever marks, only for the same number, the same place, and games with the same tags, result and nodes: the same
+/// but for the bytes that spell the characters of tags and comments.
 pub fn same_lines_have_the_same_game()
     ensures { (mark other : List ℕ) (number number2 byte byte2 : ℕ) (g h : PlainGame) → IsKept g.nodes → IsKept h.nodes →
         number < 2 ^ 64 → number2 < 2 ^ 64 → byte < 2 ^ 64 → byte2 < 2 ^ 64 →
