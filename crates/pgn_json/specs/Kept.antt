@@ -3,7 +3,7 @@ use Rattle.std.specs.Prelude.{ℕ, ◌<◌, List, All}
 use Rattle.cq_position.specs.Games.{Node, Game, IsTree, HaveNotes, node_at}
 use Rattle.cq_position.specs.Position.{IsPosition}
 
--- what every game keeps of its nodes
+-- what a game keeps of its nodes
 pub record IsKept (nodes : List Node) : Type 0 where
   pub tree : IsTree nodes
   pub notes : HaveNotes nodes

@@ -15,5 +15,5 @@ mod strings;
 pub use game::json_line;
 pub use laws::{
     games_are_kept, lines_are_json, lines_are_utf8, same_lines_have_the_same_game,
-    strings_are_read_back,
+    strings_are_read_back, texts_are_bytes,
 };
