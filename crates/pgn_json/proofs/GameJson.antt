@@ -7,7 +7,7 @@ use Rattle.std.specs.Prelude.{All, chars, if◌then◌else◌}
 use Rattle.std.specs.Str.{IsUtf8, is_utf8}
 use lib.Utf8.{low_scalar, scalars}
 use Rattle.cq_position.specs.FenText.{fen_of}
-use Rattle.cq_position.specs.Games.{Node, Game, node_at, no_node, numbers, HasNotes}
+use Rattle.cq_position.specs.Games.{Node, Game, node_at, no_node, HasNotes}
 use Rattle.cq_position.specs.Position.{IsPosition}
 use Rattle.cq_position.specs.Search.{ply}
 use Rattle.cq_san.proofs.Room.{on_board}

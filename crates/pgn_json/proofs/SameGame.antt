@@ -1,5 +1,5 @@
 -- Games with the same line.
-use Rattle.std.proofs.Common.{◌≡◌, ℕ, zero, suc, ◌+◌, ◌-◌, ◌^◌, ◌<◌, ◌==◌, ◌&&◌, nat_lt, not, Bool, true, false, List, [], ◌∷◌, ◌++◌, Some, length, map, drop, get_or, refl, ap, ◌∙◌, sym, subst, arith, inl, inr, codes}
+use Rattle.std.proofs.Common.{◌≡◌, ℕ, zero, suc, ◌-◌, ◌^◌, ◌<◌, ◌==◌, ◌&&◌, nat_lt, not, Bool, true, false, List, [], ◌∷◌, ◌++◌, Some, length, map, drop, get_or, refl, ap, ◌∙◌, sym, subst, arith, inl, inr, codes}
 use Rattle.std.proofs.lemmas.Bool.{cases_eq, true≢false}
 use Rattle.std.proofs.lemmas.List.{append_cancel_right, ext_get_or, get_or-map, length-map}
 use Rattle.std.specs.Option.{unwrap_or}
