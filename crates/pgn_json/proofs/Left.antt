@@ -8,13 +8,13 @@ use Rattle.cq_position.specs.Games.{Node, numbers}
 use Rattle.pgn_json.specs.Left.{comma_after, left}
 
 -- the nodes but the start
-abbrev others : List Node → List ℕ
+abbrev pub others : List Node → List ℕ
 others nodes = drop 1 (numbers nodes)
 
-others_many : (nodes : List Node) → length (others nodes) ≡ length nodes - 1
+pub others_many : (nodes : List Node) → length (others nodes) ≡ length nodes - 1
 others_many nodes = omega (arith, length-drop 1 (numbers nodes), length-range_with_len 0 (length nodes))
 
-other_at : (nodes : List Node) (i : ℕ) → i < length nodes - 1 → get_or (others nodes) i 0 ≡ i + 1
+pub other_at : (nodes : List Node) (i : ℕ) → i < length nodes - 1 → get_or (others nodes) i 0 ≡ i + 1
 other_at nodes i low =
     let at = get_or_after_one (numbers nodes) i 0 in
     let number = get_or-range_with_len 0 (length nodes) (1 + i) 0 (omega (arith, low)) in

@@ -5,3 +5,11 @@ pub mod Steps
 pub mod Joined
 pub mod OneReading
 pub mod ReadBack
+pub mod OneValue
+pub mod Plain
+pub mod PlainMoves
+pub mod Written
+pub mod GameJson
+pub mod Parts
+pub mod SameBoards
+pub mod SameGame

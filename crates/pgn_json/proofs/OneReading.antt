@@ -1,6 +1,5 @@
 -- A text spells one string.
-use Rattle.std.proofs.Common.{◌≡◌, ℕ, ◌+◌, ◌<◌, ◌≤◌, true, false, List, [], ◌∷◌, ◌++◌, length, get_or, drop, Some, None, refl, ap, ap₂, ◌∙◌, sym, arith, append_assoc, length-append, ⊎_elim, ◌*◌, ◌-◌}
-use Rattle.std.proofs.lemmas.List.{append_cancel_right}
+use Rattle.std.proofs.Common.{◌≡◌, ℕ, ◌+◌, ◌<◌, ◌≤◌, true, false, List, [], ◌∷◌, ◌++◌, get_or, drop, Some, None, refl, ap, ap₂, ◌∙◌, sym, arith, append_assoc, ⊎_elim, ◌*◌, ◌-◌}
 use Rattle.std.proofs.lemmas.Option.{same_Some}
 use Rattle.std.specs.Char.{IsScalar, digit_value}
 use lib.Utf8.{scalar_cases}
@@ -55,23 +54,33 @@ one_spelling c d f g r s (by_surrogates high low front back a b i j q k) (by_sur
     let two = one_number low low' back back' r s b b' one.1 in
     (q ∙ ap₂ (λ x y. 65536 + 1024 * (x - 55296) + (y - 56320)) one.0 two.0 ∙ sym q', two.1)
 
-some_text : (c : ℕ) (text : List ℕ) → Spells c text → 0 < length text
-some_text c text (unescaped p e) = omega (arith, ap length e)
-some_text c text (by_letter letter p e) = omega (arith, ap length e)
-some_text c text (by_number n p) = omega (arith, ap length n.written)
-some_text c text (by_surrogates high low front back n m i j q e) = omega (arith, ap length e, length-append front back, ap length n.written)
+-- no spelling begins with a quote
+no_quote : (c : ℕ) (f r s : List ℕ) → Spells c f → f ++ r ≡ 34 ∷ s → ⊥
+no_quote c f r s (unescaped p e) same =
+    let first = ap (λ l. get_or l 0 0) (sym (ap (λ l. l ++ r) e) ∙ same) in let e : false ≡ true = sym (ap is_unescaped first) ∙ p in cc
+no_quote c f r s (by_letter letter p e) same = absurd (omega (arith, ap (λ l. get_or l 0 0) (sym (ap (λ l. l ++ r) e) ∙ same)))
+no_quote c f r s (by_number n p) same = absurd (omega (arith, ap (λ l. get_or l 0 0) (sym (ap (λ l. l ++ r) n.written) ∙ same)))
+no_quote c f r s (by_surrogates high low front back n m i j q e) same =
+    absurd (omega (arith, ap (λ l. get_or l 0 0) (sym (ap (λ l. l ++ r) (e ∙ ap (λ l. l ++ back) n.written)) ∙ same)))
 
-all_spellings : (cs ds text other : List ℕ) → SpellsAll cs text → SpellsAll ds other → text ≡ other → cs ≡ ds
-all_spellings [] [] text other a b same = refl
-all_spellings [] (d ∷ ds) text other a b same =
-    absurd (omega (arith, some_text d b.0 b.3, length-append b.0 b.1, ap length (sym b.2 ∙ sym same ∙ a)))
-all_spellings (c ∷ cs) [] text other a b same =
-    absurd (omega (arith, some_text c a.0 a.3, length-append a.0 a.1, ap length (sym a.2 ∙ same ∙ b)))
-all_spellings (c ∷ cs) (d ∷ ds) text other a b same =
-    let one = one_spelling c d a.0 b.0 a.1 b.1 a.3 b.3 (sym a.2 ∙ same ∙ b.2) in
-    ap₂ (λ x (xs : List ℕ). x ∷ xs) one.0 (all_spellings cs ds a.1 b.1 a.4 b.4 one.1)
+all_spellings : (cs ds f g r s : List ℕ) → SpellsAll cs f → SpellsAll ds g → f ++ 34 ∷ r ≡ g ++ 34 ∷ s → (cs ≡ ds) × (r ≡ s)
+all_spellings [] [] f g r s a b same = (refl, ap (drop 1) (sym (ap (λ l. l ++ 34 ∷ r) a) ∙ same ∙ ap (λ l. l ++ 34 ∷ s) b))
+all_spellings [] (d ∷ ds) f g r s a b same =
+    absurd (no_quote d b.0 (b.1 ++ 34 ∷ s) r b.3
+    (sym (ap (λ l. l ++ 34 ∷ s) b.2 ∙ append_assoc b.0 b.1 (34 ∷ s)) ∙ sym same ∙ ap (λ l. l ++ 34 ∷ r) a))
+all_spellings (c ∷ cs) [] f g r s a b same =
+    absurd (no_quote c a.0 (a.1 ++ 34 ∷ r) s a.3
+    (sym (ap (λ l. l ++ 34 ∷ r) a.2 ∙ append_assoc a.0 a.1 (34 ∷ r)) ∙ same ∙ ap (λ l. l ++ 34 ∷ s) b))
+all_spellings (c ∷ cs) (d ∷ ds) f g r s a b same =
+    let front = ap (λ l. l ++ 34 ∷ r) a.2 ∙ append_assoc a.0 a.1 (34 ∷ r) in
+    let other = ap (λ l. l ++ 34 ∷ s) b.2 ∙ append_assoc b.0 b.1 (34 ∷ s) in
+    let one = one_spelling c d a.0 b.0 (a.1 ++ 34 ∷ r) (b.1 ++ 34 ∷ s) a.3 b.3 (sym front ∙ same ∙ other) in
+    let more = all_spellings cs ds a.1 b.1 r s a.4 b.4 one.1 in
+    (ap₂ (λ x (xs : List ℕ). x ∷ xs) one.0 more.0, more.1)
 
-pub one_string : (text cs ds : List ℕ) → IsString cs text → IsString ds text → cs ≡ ds
-one_string text cs ds a b =
-    let inside = append_cancel_right a.inside b.inside (34 ∷ []) (ap (drop 1) (sym a.between ∙ b.between)) in
-    all_spellings cs ds a.inside b.inside a.spelled b.spelled inside
+-- a string ends at its first quote that is not escaped
+pub one_string : (cs ds f g r s : List ℕ) → IsString cs f → IsString ds g → f ++ r ≡ g ++ s → (cs ≡ ds) × (r ≡ s)
+one_string cs ds f g r s a b same =
+    let front : f ++ r ≡ 34 ∷ (a.inside ++ 34 ∷ r) = ap (λ l. l ++ r) a.between ∙ ap (λ l. 34 ∷ l) (append_assoc a.inside (34 ∷ []) r) in
+    let other : g ++ s ≡ 34 ∷ (b.inside ++ 34 ∷ s) = ap (λ l. l ++ s) b.between ∙ ap (λ l. 34 ∷ l) (append_assoc b.inside (34 ∷ []) s) in
+    all_spellings cs ds a.inside b.inside r s a.spelled b.spelled (ap (drop 1) (sym front ∙ same ∙ other))

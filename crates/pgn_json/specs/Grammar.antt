@@ -1,6 +1,11 @@
--- How a JSON string spells its characters (RFC 8259, section 7). A text is the codes of its characters.
-use Rattle.std.specs.Prelude.{◌≡◌, ℕ, ◌+◌, ◌-◌, ◌*◌, ◌<◌, ◌≤◌, ◌==◌, ◌&&◌, not, nat_lt, Bool, true, List, [], ◌∷◌, ◌++◌, Option, Some, None, if◌then◌else◌}
+-- How a text spells a JSON value (RFC 8259, without white space). A text is the codes of its characters.
+use Rattle.std.specs.Prelude.{◌≡◌, ℕ, ◌+◌, ◌-◌, ◌*◌, ◌<◌, ◌≤◌, ◌==◌, ◌&&◌, not, nat_lt, Bool, true, List, [], ◌∷◌, ◌++◌, codes, get_or, length, Option, Some, None, if◌then◌else◌}
 use Rattle.std.specs.Char.{IsScalar, digit_value}
+use Rattle.std.specs.Str.{encode_utf8_all}
+use Rattle.std.specs.Str.Parse.{IsNumeral, digits_value}
+use Rattle.pgn_json.specs.Data.{Value, truth, number, string, array, object, Values, no_values, more_values, Members, no_members, more_members}
+
+-- Strings (section 7).
 
 -- %x20-21 / %x23-5B / %x5D and above: all but the control characters, the quote and the backslash
 abbrev pub is_unescaped : ℕ → Bool
@@ -46,3 +51,52 @@ pub record IsString (cs text : List ℕ) : Type 0 where
 pub record IsReadAs (text cs : List ℕ) : Type 0 where
   pub string : IsString cs text
   pub alone : (ds : List ℕ) → IsString ds text → ds ≡ cs
+
+-- Numbers (section 6), without sign, fraction and exponent: decimal digits, of which the first is no zero where there are others.
+pub record IsInteger (n : ℕ) (text : List ℕ) : Type 0 where
+  pub digits : IsNumeral 10 text
+  pub no_zero_first : get_or text 0 0 ≡ 48 → length text ≡ 1
+  pub value : digits_value 10 text ≡ n
+
+-- Values (sections 3 to 5): an array is its values between brackets, and an object its members between braces, with a comma between two; a
+-- member is a string, its name, with a colon, and a value.
+unfoldable mutual
+  pub IsValue : Value → List ℕ → Type 0
+  IsValue truth text = text ≡ codes "true"
+  IsValue (number n) text = IsInteger n text
+  IsValue (string cs) text = IsString cs text
+  IsValue (array vs) text = (inside : List ℕ) × (text ≡ codes "[" ++ (inside ++ codes "]")) × AreValues vs inside
+  IsValue (object ms) text = (inside : List ℕ) × (text ≡ codes "{" ++ (inside ++ codes "}")) × AreMembers ms inside
+
+  pub AreValues : Values → List ℕ → Type 0
+  AreValues no_values text = text ≡ []
+  AreValues (more_values v vs) text =
+      (first rest : List ℕ) × (text ≡ first ++ rest) × IsValue v first × AreNextValues vs rest
+
+  pub AreNextValues : Values → List ℕ → Type 0
+  AreNextValues no_values text = text ≡ []
+  AreNextValues (more_values v vs) text =
+      (first rest : List ℕ) × (text ≡ codes "," ++ (first ++ rest)) × IsValue v first × AreNextValues vs rest
+
+  pub AreMembers : Members → List ℕ → Type 0
+  AreMembers no_members text = text ≡ []
+  AreMembers (more_members name v ms) text =
+      (key first rest : List ℕ) × (text ≡ key ++ (codes ":" ++ (first ++ rest))) × IsString name key × IsValue v first
+      × AreNextMembers ms rest
+
+  pub AreNextMembers : Members → List ℕ → Type 0
+  AreNextMembers no_members text = text ≡ []
+  AreNextMembers (more_members name v ms) text =
+      (key first rest : List ℕ) × (text ≡ codes "," ++ (key ++ (codes ":" ++ (first ++ rest)))) × IsString name key × IsValue v first
+      × AreNextMembers ms rest
+
+-- bytes that are the UTF-8 of a text of a value (section 8.1)
+pub record IsJson (v : Value) (bytes : List ℕ) : Type 0 where
+  pub text : List ℕ
+  pub encoded : encode_utf8_all text ≡ bytes
+  pub spelled : IsValue v text
+
+-- bytes are read as this value, and as no other
+pub record IsReadAsValue (bytes : List ℕ) (v : Value) : Type 0 where
+  pub value : IsJson v bytes
+  pub alone : (w : Value) → IsJson w bytes → w ≡ v

@@ -1,7 +1,11 @@
 pub mod Strings
 pub mod Bytes
+pub mod Data
 pub mod Grammar
 pub mod Values
 pub mod Left
 pub mod Moves
 pub mod Json
+pub mod GameValue
+pub mod Kept
+pub mod Same

@@ -1,11 +1,93 @@
-//! Laws of the text of a game as JSON. Each is proved for all texts; to call one costs nothing.
-ghost use Rattle.std.specs.Prelude.{◌≡◌, ℕ, List};
-ghost use Rattle.std.specs.Str.{encode_utf8_all};
-ghost use Rattle.pgn_json.specs.Grammar.{IsReadAs};
+//! Laws of the text of a game as JSON. Each is proved for all texts and games, and changes nothing.
+ghost use Rattle.std.specs.Prelude.{◌≡◌, ◌<◌, ◌^◌, ℕ, true, List, All, length};
+ghost use Rattle.std.specs.Str.{encode_utf8_all, IsUtf8};
+ghost use Rattle.cq_position.specs.Games.{Game as PlainGame, node_at};
+ghost use Rattle.pgn_json.specs.GameValue.{json_of};
+ghost use Rattle.pgn_json.specs.Grammar.{IsReadAs, IsReadAsValue};
+ghost use Rattle.pgn_json.specs.Json.{game_text, json_text};
+ghost use Rattle.pgn_json.specs.Kept.{AreBytes, HasByteTexts, IsKept};
+ghost use Rattle.pgn_json.specs.Same.{game_read};
 ghost use Rattle.pgn_json.specs.Strings.{characters, string_text};
+
+use pgn_tree::{Game, Tags};
 
 /// The string that is written of a text is the UTF-8 of one that JSON reads as the characters of the text, and as no others.
 #[tactic(auto, using(crate::proofs::ReadBack::read_back))]
 pub fn strings_are_read_back()
     ensures { (text : List ℕ) → (json : List ℕ) × (encode_utf8_all json ≡ string_text text) × IsReadAs json (characters text) }
 {}
+
+/// Every game keeps what the laws of lines ask of it.
+pub fn games_are_kept(game: &Game) -> bool
+    ensures value { result ≡ true }
+    ensures kept { IsKept game.now.nodes }
+{
+    prove!(game.is_tree());
+    prove!(game.position(0).is_position());
+    true
+}
+
+/// The texts of every game are of bytes.
+pub fn texts_are_bytes(game: &Game) -> bool
+    ensures value { result ≡ true }
+    ensures texts { HasByteTexts game.now }
+{
+    prove!(tags_are_bytes(game.tags()));
+    for k in 0..game.len() {
+        prove!(comments_are_bytes(game, k));
+    }
+    true
+}
+
+/// A line before its end is JSON: it is read as the value of its game, and as no other.
+pub fn lines_are_json()
+    ensures { (mark : List ℕ) (number byte : ℕ) (g : PlainGame) → IsKept g.nodes → number < 2 ^ 64 → byte < 2 ^ 64 →
+        IsReadAsValue (game_text mark number byte g) (json_of mark number byte g) }
+{}
+
+/// A line is UTF-8.
+pub fn lines_are_utf8()
+    ensures { (mark : List ℕ) (number byte : ℕ) (g : PlainGame) → IsKept g.nodes → HasByteTexts g → number < 2 ^ 64 → byte < 2 ^ 64 →
+        IsUtf8 (json_text mark number byte g) }
+{}
+
+/// Lines are the same, by whatever marks, only for the same number, the same place, and games with the same tags, result and nodes: the same
+/// but for the bytes that spell the characters of tags and comments.
+pub fn same_lines_have_the_same_game()
+    ensures { (mark other : List ℕ) (number number2 byte byte2 : ℕ) (g h : PlainGame) → IsKept g.nodes → IsKept h.nodes →
+        number < 2 ^ 64 → number2 < 2 ^ 64 → byte < 2 ^ 64 → byte2 < 2 ^ 64 →
+        json_text mark number byte g ≡ json_text other number2 byte2 h →
+        (number ≡ number2) × (byte ≡ byte2) × (game_read g ≡ game_read h) }
+{}
+
+// The names and values of tags are of bytes.
+fn tags_are_bytes(tags: &Tags) -> bool
+    ensures value { result ≡ true }
+    ensures bytes { All (λ t. AreBytes t.0 × AreBytes t.1) tags.now }
+{
+    for i in 0..tags.len() {
+        prove!(is_bytes(tags.name(i)));
+        prove!(is_bytes(tags.value(i)));
+    }
+    true
+}
+
+// The comments of a node are of bytes.
+fn comments_are_bytes(game: &Game, k: u32) -> bool
+    requires { k < length game.now.nodes }
+    ensures value { result ≡ true }
+    ensures bytes { All AreBytes (node_at game.now.nodes k).comments }
+{
+    for i in 0..game.comments(k) {
+        prove!(is_bytes(game.comment(k, i)));
+    }
+    true
+}
+
+// A text is of bytes.
+fn is_bytes(text: &[u8]) -> bool
+    ensures value { result ≡ true }
+    ensures bytes { AreBytes text.now }
+{
+    true
+}

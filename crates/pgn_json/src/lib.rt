@@ -1,7 +1,8 @@
 //! The text of a game as JSON (RFC 8259).
 //!
 //! `specs/Strings` says how a text is written as a JSON string, `specs/Values` how objects and arrays are, and `specs/Json` what is
-//! written of a game. `specs/Grammar` has the strings as the standard reads them, and a law says that the characters are read back.
+//! written of a game. `specs/Grammar` has the values as the standard reads them. Laws say that a line is read as the value of its game
+//! (`specs/GameValue`), and that lines tell games apart but for the bytes of their texts (`specs/Same`).
 #![tactic(auto)]
 
 mod game;
@@ -12,4 +13,7 @@ mod plies;
 mod strings;
 
 pub use game::json_line;
-pub use laws::strings_are_read_back;
+pub use laws::{
+    games_are_kept, lines_are_json, lines_are_utf8, same_lines_have_the_same_game,
+    strings_are_read_back, texts_are_bytes,
+};
