@@ -5,16 +5,16 @@ use denote.Param.Members.{Shared}
 use Rattle.std.specs.Fork.{AcceptsAt, ChangesAt}
 
 module _ {F T : Type 0} (g : Shared F (ℕ × (MutBor T × Unit {0})) ((Unit {0}) × (MutBor T × Unit {0}))) (f : F) where
-  -- it may be called with each
+  -- it may be called at each
   abbrev pub AcceptsFrom : ℕ → List T → Type 0
   AcceptsFrom i [] = ⊤
   AcceptsFrom i (x ∷ xs) = AcceptsAt g f i x × AcceptsFrom (i + 1) xs
 
-  -- a call with x left y there
-  unfoldable pub Leaves : ℕ → T → T → Type 0
-  Leaves i x y = ChangesAt g f i x y
+  -- a call with i and a `&mut` to x may leave y there; a name that proofs keep folded
+  unfoldable pub MayLeave : ℕ → T → T → Type 0
+  MayLeave i x y = ChangesAt g f i x y
 
-  -- a call with each left these
+  -- calls at all of them may leave these
   abbrev pub ChangesFrom : ℕ → List T → List T → Type 0
   ChangesFrom i [] ys = ys ≡ []
-  ChangesFrom i (x ∷ xs) ys = (y : T) × (rest : List T) × (ys ≡ y ∷ rest) × Leaves i x y × ChangesFrom (i + 1) xs rest
+  ChangesFrom i (x ∷ xs) ys = (y : T) × (rest : List T) × (ys ≡ y ∷ rest) × MayLeave i x y × ChangesFrom (i + 1) xs rest

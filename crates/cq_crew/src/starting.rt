@@ -1,16 +1,17 @@
-//! Starting a thread for each of some elements.
+//! Calls at the elements of a slice, each in a thread of its own.
 ghost use Rattle.std.specs.Prelude.{◌≡◌, ◌+◌, ◌<◌, ◌≤◌, ◌^◌, ℕ, length};
 ghost use Rattle.std.specs.Thread.{IsSend, IsSync};
 ghost use Rattle.std.specs.Fork.{AcceptsAt, AcceptsEach, ChangesEach};
-ghost use Rattle.cq_crew.specs.Starts.{AcceptsFrom, ChangesFrom, Leaves};
+ghost use Rattle.cq_crew.specs.Starts.{AcceptsFrom, ChangesFrom, MayLeave};
 
 use std::thread;
 use std::thread::{Threads, join_mut};
 
-/// Calls `f(i, &mut all[i])` at each place, each in a thread of its own where one can be made; a call that is alone in this thread.
+/// Calls `f(i, &mut all[i])` at each place: a single call in this thread, and each of several in a new one, or, where none can be made, in
+/// this one after the calls at later places.
 ///
-/// Of several the thread that starts them makes none: a new thread may be put on its starter's processor, and would wait there while the
-/// starter works.
+/// Of several this thread makes no other: a new thread may be put on the processor of the one that starts it, and would wait there while
+/// that one works.
 pub(crate) fn for_each_started<R: Threads + Sync, T: Send, F: Fn(usize, &mut T) + Sync>(
     rt: &R,
     all: &mut [T],
@@ -54,24 +55,25 @@ fn start_one<R: Threads + Sync, T: Send, F: Fn(usize, &mut T) + Sync>(
     requires few { i + 1 + length rest.old < 2 ^ 64 }
     requires accepts { AcceptsAt F.Fn f.now i first.old }
     requires accepts_rest { AcceptsFrom F.Fn f.now (i + 1) rest.old }
-    ensures changes { Leaves F.Fn f.now i first.old first.new }
+    ensures changes { MayLeave F.Fn f.now i first.old first.new }
     ensures changes_rest { ChangesFrom F.Fn f.now (i + 1) rest.old rest.new }
 {
     let mut one = ||
         requires { IsSync F.row × IsSend T.row × AcceptsAt F.Fn f.now i first.now }
-        ensures { Leaves F.Fn f.entry.now i first.entry.now first.exit.now }
+        ensures { MayLeave F.Fn f.entry.now i first.entry.now first.exit.now }
     { call_at(f, i, first) };
     let mut others = ||
-        requires { IsSync R.row × IsSync F.row × IsSend T.row × (i + 1 + length rest.now < 2 ^ 64) × AcceptsFrom F.Fn f.now (i + 1) rest.now }
+        requires { IsSync R.row × IsSync F.row × IsSend T.row × (i + 1 + length rest.now < 2 ^ 64)
+            × AcceptsFrom F.Fn f.now (i + 1) rest.now }
         ensures { ChangesFrom F.Fn f.entry.now (i + 1) rest.entry.now rest.exit.now }
     { start_all(rt, f, i + 1, rest) };
     join_mut(rt, &mut one, &mut others);
 }
 
-#[tactic(auto, unfolding(crate::specs::Starts::Leaves))]
+#[tactic(auto, unfolding(crate::specs::Starts::MayLeave))]
 fn call_at<T, F: Fn(usize, &mut T)>(f: &F, i: usize, x: &mut T)
     requires { AcceptsAt F.Fn f.now i x.old }
-    ensures { Leaves F.Fn f.now i x.old x.new }
+    ensures { MayLeave F.Fn f.now i x.old x.new }
 {
     f(i, x);
 }

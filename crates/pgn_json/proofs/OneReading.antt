@@ -3,7 +3,7 @@ use Rattle.std.proofs.Common.{◌≡◌, ℕ, ◌+◌, ◌<◌, ◌≤◌, true,
 use Rattle.std.proofs.lemmas.Option.{same_Some}
 use Rattle.std.specs.Char.{IsScalar, digit_value}
 use lib.Utf8.{scalar_cases}
-use Rattle.pgn_json.specs.Grammar.{is_unescaped, letter_meaning, IsNumber, Spells, unescaped, by_letter, by_number, by_surrogates, SpellsAll, IsString}
+use Rattle.pgn_json.specs.Grammar.{is_unescaped, letter_meaning, IsCodeUnit, Spells, unescaped, by_letter, by_code_unit, by_surrogates, SpellsAll, IsString}
 
 -- what does not begin with a backslash is no escape
 no_backslash : (c : ℕ) (r s : List ℕ) → is_unescaped c ≡ true → c ∷ r ≡ 92 ∷ s → ⊥
@@ -12,7 +12,7 @@ no_backslash c r s plain same = let e : false ≡ true = sym (ap is_unescaped (a
 no_number : (c letter : ℕ) (r s : List ℕ) → letter_meaning letter ≡ Some c → 92 ∷ letter ∷ r ≡ 92 ∷ 117 ∷ s → ⊥
 no_number c letter r s means same = let e : None ≡ Some c = sym (ap letter_meaning (ap (λ l. get_or l 1 0) same)) ∙ means in cc
 
-one_number : (n m : ℕ) (t u r s : List ℕ) → IsNumber n t → IsNumber m u → t ++ r ≡ u ++ s → (n ≡ m) × (r ≡ s)
+one_number : (n m : ℕ) (t u r s : List ℕ) → IsCodeUnit n t → IsCodeUnit m u → t ++ r ≡ u ++ s → (n ≡ m) × (r ≡ s)
 one_number n m t u r s a b same =
     let h = sym (ap (λ l. l ++ r) a.written) ∙ same ∙ ap (λ l. l ++ s) b.written in
     let digit = λ (i : ℕ). ap (λ l. digit_value (get_or l i 0)) h in
@@ -25,27 +25,27 @@ pub one_spelling : (c d : ℕ) (f g r s : List ℕ) → Spells c f → Spells d 
 one_spelling c d f g r s (unescaped p e) (unescaped q k) same =
     let h = sym (ap (λ l. l ++ r) e) ∙ same ∙ ap (λ l. l ++ s) k in (ap (λ l. get_or l 0 0) h, ap (drop 1) h)
 one_spelling c d f g r s (unescaped p e) (by_letter letter q k) same = absurd (no_backslash c r _ p (sym (ap (λ l. l ++ r) e) ∙ same ∙ ap (λ l. l ++ s) k))
-one_spelling c d f g r s (unescaped p e) (by_number n q) same = absurd (no_backslash c r _ p (sym (ap (λ l. l ++ r) e) ∙ same ∙ ap (λ l. l ++ s) n.written))
+one_spelling c d f g r s (unescaped p e) (by_code_unit n q) same = absurd (no_backslash c r _ p (sym (ap (λ l. l ++ r) e) ∙ same ∙ ap (λ l. l ++ s) n.written))
 one_spelling c d f g r s (unescaped p e) (by_surrogates high low front back n m i j q k) same =
     absurd (no_backslash c r _ p (sym (ap (λ l. l ++ r) e) ∙ same ∙ ap (λ l. l ++ s) (k ∙ ap (λ l. l ++ back) n.written)))
 one_spelling c d f g r s (by_letter letter q k) (unescaped p e) same = absurd (no_backslash d s _ p (sym (ap (λ l. l ++ s) e) ∙ sym same ∙ ap (λ l. l ++ r) k))
 one_spelling c d f g r s (by_letter letter p e) (by_letter other q k) same =
     let h = sym (ap (λ l. l ++ r) e) ∙ same ∙ ap (λ l. l ++ s) k in
     (same_Some c d (sym p ∙ ap letter_meaning (ap (λ l. get_or l 1 0) h) ∙ q), ap (drop 2) h)
-one_spelling c d f g r s (by_letter letter p e) (by_number n q) same = absurd (no_number c letter r _ p (sym (ap (λ l. l ++ r) e) ∙ same ∙ ap (λ l. l ++ s) n.written))
+one_spelling c d f g r s (by_letter letter p e) (by_code_unit n q) same = absurd (no_number c letter r _ p (sym (ap (λ l. l ++ r) e) ∙ same ∙ ap (λ l. l ++ s) n.written))
 one_spelling c d f g r s (by_letter letter p e) (by_surrogates high low front back n m i j q k) same =
     absurd (no_number c letter r _ p (sym (ap (λ l. l ++ r) e) ∙ same ∙ ap (λ l. l ++ s) (k ∙ ap (λ l. l ++ back) n.written)))
-one_spelling c d f g r s (by_number n q) (unescaped p e) same = absurd (no_backslash d s _ p (sym (ap (λ l. l ++ s) e) ∙ sym same ∙ ap (λ l. l ++ r) n.written))
-one_spelling c d f g r s (by_number n q) (by_letter letter p e) same = absurd (no_number d letter s _ p (sym (ap (λ l. l ++ s) e) ∙ sym same ∙ ap (λ l. l ++ r) n.written))
-one_spelling c d f g r s (by_number n p) (by_number m q) same = one_number c d f g r s n m same
-one_spelling c d f g r s (by_number n p) (by_surrogates high low front back a b i j q k) same =
+one_spelling c d f g r s (by_code_unit n q) (unescaped p e) same = absurd (no_backslash d s _ p (sym (ap (λ l. l ++ s) e) ∙ sym same ∙ ap (λ l. l ++ r) n.written))
+one_spelling c d f g r s (by_code_unit n q) (by_letter letter p e) same = absurd (no_number d letter s _ p (sym (ap (λ l. l ++ s) e) ∙ sym same ∙ ap (λ l. l ++ r) n.written))
+one_spelling c d f g r s (by_code_unit n p) (by_code_unit m q) same = one_number c d f g r s n m same
+one_spelling c d f g r s (by_code_unit n p) (by_surrogates high low front back a b i j q k) same =
     let is = one_number c high f front r (back ++ s) n a (same ∙ ap (λ l. l ++ s) k ∙ append_assoc front back s) in
     absurd (no_surrogate c p (omega (arith, is.0, i.0)) (omega (arith, is.0, i.1)))
 one_spelling c d f g r s (by_surrogates high low front back n m i j q k) (unescaped p e) same =
     absurd (no_backslash d s _ p (sym (ap (λ l. l ++ s) e) ∙ sym same ∙ ap (λ l. l ++ r) (k ∙ ap (λ l. l ++ back) n.written)))
 one_spelling c d f g r s (by_surrogates high low front back n m i j q k) (by_letter letter p e) same =
     absurd (no_number d letter s _ p (sym (ap (λ l. l ++ s) e) ∙ sym same ∙ ap (λ l. l ++ r) (k ∙ ap (λ l. l ++ back) n.written)))
-one_spelling c d f g r s (by_surrogates high low front back a b i j q k) (by_number n p) same =
+one_spelling c d f g r s (by_surrogates high low front back a b i j q k) (by_code_unit n p) same =
     let is = one_number d high g front s (back ++ r) n a (sym same ∙ ap (λ l. l ++ r) k ∙ append_assoc front back r) in
     absurd (no_surrogate d p (omega (arith, is.0, i.0)) (omega (arith, is.0, i.1)))
 one_spelling c d f g r s (by_surrogates high low front back a b i j q k) (by_surrogates high' low' front' back' a' b' i' j' q' k') same =
@@ -59,7 +59,7 @@ no_quote : (c : ℕ) (f r s : List ℕ) → Spells c f → f ++ r ≡ 34 ∷ s �
 no_quote c f r s (unescaped p e) same =
     let first = ap (λ l. get_or l 0 0) (sym (ap (λ l. l ++ r) e) ∙ same) in let e : false ≡ true = sym (ap is_unescaped first) ∙ p in cc
 no_quote c f r s (by_letter letter p e) same = absurd (omega (arith, ap (λ l. get_or l 0 0) (sym (ap (λ l. l ++ r) e) ∙ same)))
-no_quote c f r s (by_number n p) same = absurd (omega (arith, ap (λ l. get_or l 0 0) (sym (ap (λ l. l ++ r) n.written) ∙ same)))
+no_quote c f r s (by_code_unit n p) same = absurd (omega (arith, ap (λ l. get_or l 0 0) (sym (ap (λ l. l ++ r) n.written) ∙ same)))
 no_quote c f r s (by_surrogates high low front back n m i j q e) same =
     absurd (omega (arith, ap (λ l. get_or l 0 0) (sym (ap (λ l. l ++ r) (e ∙ ap (λ l. l ++ back) n.written)) ∙ same)))
 

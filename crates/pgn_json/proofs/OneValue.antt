@@ -4,6 +4,7 @@ use Rattle.std.proofs.lemmas.Bool.{lt-ltb}
 use Rattle.std.proofs.lemmas.Str.{encodes_same}
 use Rattle.std.specs.Char.{digit_value}
 use Rattle.std.specs.Prelude.{if◌then◌else◌}
+use Rattle.std.specs.Str.{encode_utf8_all}
 use Rattle.std.specs.Str.Parse.{AllDigits, digits_value}
 use Rattle.pgn_json.specs.Data.{Value, truth, number, string, array, object, Values, no_values, more_values, Members, no_members, more_members}
 use Rattle.pgn_json.specs.Grammar.{IsString, IsInteger, IsValue, AreValues, AreNextValues, AreMembers, AreNextMembers, IsJson}
@@ -202,7 +203,10 @@ mutual
       (three m n v w ms ns name.0 one.0 more.0, more.1)
 
 -- bytes are one value
+pub one_spelled : (v w : Value) (text text' : List ℕ) → encode_utf8_all text ≡ encode_utf8_all text' → IsValue v text → IsValue w text' → v ≡ w
+one_spelled v w text text' encoded a b =
+    let same : text ≡ text' = encodes_same text text' encoded in
+    (one_value v w text text' [] [] a b (λ h. absurd (omega (arith, h))) (λ h. absurd (omega (arith, h))) (ap (λ l. l ++ []) same)).0
+
 pub one_reading : (v w : Value) (bytes : List ℕ) → IsJson v bytes → IsJson w bytes → v ≡ w
-one_reading v w bytes a b =
-    let same : a.text ≡ b.text = encodes_same a.text b.text (a.encoded ∙ sym b.encoded) in
-    (one_value v w a.text b.text [] [] a.spelled b.spelled (λ h. absurd (omega (arith, h))) (λ h. absurd (omega (arith, h))) (ap (λ l. l ++ []) same)).0
+one_reading v w bytes a b = one_spelled v w a.text b.text (a.encoded ∙ sym b.encoded) a.spelled b.spelled

@@ -8,7 +8,7 @@ use Rattle.std.specs.List.{flat_map}
 use Rattle.std.specs.Prelude.{if◌then◌else◌, encode_utf8}
 use Rattle.std.specs.Str.{encode_utf8_all}
 use lib.Utf8.{encode, encodes, low_scalar, scalar, scalars}
-use Rattle.pgn_json.specs.Grammar.{IsReadAs, IsString, Spells, unescaped, by_letter, by_number, SpellsAll}
+use Rattle.pgn_json.specs.Grammar.{IsReadAs, IsString, Spells, unescaped, by_letter, by_code_unit, SpellsAll}
 use Rattle.pgn_json.specs.Strings.{character_text, characters, escape, is_escaped, quoted, short_letter, string_text}
 use Rattle.pgn_json.proofs.OneReading.{one_string}
 
@@ -39,7 +39,7 @@ numbered c low =
     let high_digit = digit_value-digit_char (c / 16) (omega (arith, few)) in
     let last_digit = digit_value-digit_char (c % 16) (omega (arith, small)) in
     record {
-      spells = by_number (record {
+      spells = by_code_unit (record {
         first = 48;
         second = 48;
         third = digit_char (c / 16);

@@ -19,13 +19,12 @@ use Rattle.cq_san.specs.Writing.{san_text}
 use Rattle.cq_san.specs.declared.fault.SanFault.{SanFault}
 use Rattle.pgn_json.specs.Data.{Value, truth, array_of}
 use Rattle.pgn_json.specs.GameValue.{fen_members, json_of, mark_members, node_value, note_members, tag_value}
-use Rattle.pgn_json.specs.Grammar.{IsJson}
 use Rattle.pgn_json.specs.Json.{game_text, is_marked, json_text, move_of, parent_of, result_text}
-use Rattle.pgn_json.specs.Kept.{IsKept}
+use Rattle.pgn_json.specs.Kept.{HasKeptNodes}
 use Rattle.pgn_json.specs.Same.{game_read, node_read, tag_read}
-use Rattle.pgn_json.proofs.GameJson.{game_json}
+use Rattle.pgn_json.proofs.GameJson.{game_written}
 use Rattle.pgn_json.proofs.Left.{others, others_many, other_at}
-use Rattle.pgn_json.proofs.OneValue.{one_reading}
+use Rattle.pgn_json.proofs.OneValue.{one_spelled}
 use Rattle.pgn_json.proofs.Parts.{SameNotes, after_one, characters_in, map_back, member_at, members_back, members_in, number_in, same_notes, size, size_if, values_back, values_in}
 use Rattle.pgn_json.proofs.SameBoards.{fen_same}
 use Rattle.pgn_json.proofs.Steps.{has_position, led_to, parent_low}
@@ -149,7 +148,7 @@ one_move p m n q r kept leads other same =
     ap move_or_null (sym (written_read p m q kept leads) ∙ ap (san p) same ∙ written_read p n r kept other)
 
 -- the first n nodes are at the same places
-same_places : (n : ℕ) (nodes nodes' : List Node) → IsKept nodes → IsKept nodes' → length nodes ≡ length nodes'
+same_places : (n : ℕ) (nodes nodes' : List Node) → HasKeptNodes nodes → HasKeptNodes nodes' → length nodes ≡ length nodes'
     → (node_at nodes 0).position ≡ (node_at nodes' 0).position → ((k : ℕ) → 0 < k → k < length nodes → SameTold nodes nodes' k)
     → (k : ℕ) → k < n → k < length nodes → IsSamePlace (node_at nodes k) (node_at nodes' k)
 same_places zero nodes nodes' kept kept' many start each k less low = absurd (omega (arith, less))
@@ -204,7 +203,7 @@ value_at value nodes k some_ low =
     let at : get_or (others nodes) (k - 1) 0 ≡ k = omega (arith, other_at nodes (k - 1) (omega (arith, some_, low)), some_) in
     get_or-map value (others nodes) (k - 1) 0 truth (omega (arith, others_many nodes, some_, low)) ∙ ap value at
 
-same_nodes : (mark mark' : List ℕ) (nodes nodes' : List Node) → IsKept nodes → IsKept nodes'
+same_nodes : (mark mark' : List ℕ) (nodes nodes' : List Node) → HasKeptNodes nodes → HasKeptNodes nodes'
     → fen_of (node_at nodes 0).position ≡ fen_of (node_at nodes' 0).position → SameNotes (node_at nodes 0) (node_at nodes' 0)
     → map (node_value mark nodes) (others nodes) ≡ map (node_value mark' nodes') (others nodes') → map node_read nodes ≡ map node_read nodes'
 same_nodes mark mark' nodes nodes' kept kept' fen notes same =
@@ -237,13 +236,14 @@ same_nodes mark mark' nodes nodes' kept kept' fen notes same =
     ∙ node_same (node_at nodes k) (node_at nodes' k) (same_places (length nodes) nodes nodes' kept kept' many start told k low low) (noted k low)
     ∙ sym (get_or-map node_read nodes' k no_node (node_read no_node) (omega (arith, low, many))))
 
-pub same_line : (mark mark' : List ℕ) (ordinal ordinal' byte byte' : ℕ) (g h : Game) → IsKept g.nodes → IsKept h.nodes
+pub same_line : (mark mark' : List ℕ) (ordinal ordinal' byte byte' : ℕ) (g h : Game) → HasKeptNodes g.nodes → HasKeptNodes h.nodes
     → ordinal < 2 ^ 64 → ordinal' < 2 ^ 64 → byte < 2 ^ 64 → byte' < 2 ^ 64 → json_text mark ordinal byte g ≡ json_text mark' ordinal' byte' h
     → (ordinal ≡ ordinal') × (byte ≡ byte') × (game_read g ≡ game_read h)
 same_line mark mark' ordinal ordinal' byte byte' g h kept kept' a b c d same =
     let text = append_cancel_right (game_text mark ordinal byte g) (game_text mark' ordinal' byte' h) (codes "\n") same in
-    let json = subst (IsJson (json_of mark' ordinal' byte' h)) (sym text) (game_json mark' ordinal' byte' h kept' b d) in
-    let value = one_reading (json_of mark ordinal byte g) (json_of mark' ordinal' byte' h) (game_text mark ordinal byte g) (game_json mark ordinal byte g kept a c) json in
+    let one = game_written mark ordinal byte g kept a c in
+    let other = game_written mark' ordinal' byte' h kept' b d in
+    let value = one_spelled (json_of mark ordinal byte g) (json_of mark' ordinal' byte' h) one.text other.text (one.encoded ∙ text ∙ sym other.encoded) one.spelled other.spelled in
     let told = same_value mark mark' ordinal ordinal' byte byte' g h value in
     let nodes = same_nodes mark mark' g.nodes h.nodes kept kept' told.start told.notes told.nodes in
     (told.counted, told.begins, λ i. record { tags = told.tags i; result = told.result i; nodes = nodes i })

@@ -43,7 +43,7 @@ node_value mark nodes k = let n = node_at nodes k in object_of (
 abbrev pub mark_members : List ℕ → Node → List (List ℕ × Value)
 mark_members mark n = if is_marked mark n then (codes "marked", truth) ∷ [] else []
 
--- a game
+-- a game, with its ordinal in its archive and the place of its first byte
 unfoldable pub json_of : (mark : List ℕ) → (ordinal byte : ℕ) → Game → Value
 json_of mark ordinal byte g = let start = node_at g.nodes 0 in object_of (
     (codes "game", number ordinal)

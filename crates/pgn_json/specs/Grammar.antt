@@ -1,13 +1,13 @@
 -- How a text spells a JSON value (RFC 8259, without white space). A text is the codes of its characters.
 use Rattle.std.specs.Prelude.{◌≡◌, ℕ, ◌+◌, ◌-◌, ◌*◌, ◌<◌, ◌≤◌, ◌==◌, ◌&&◌, not, nat_lt, Bool, true, List, [], ◌∷◌, ◌++◌, codes, get_or, length, Option, Some, None, if◌then◌else◌}
 use Rattle.std.specs.Char.{IsScalar, digit_value}
-use Rattle.std.specs.Str.{encode_utf8_all}
+use Rattle.std.specs.Str.{all_scalars, encode_utf8_all}
 use Rattle.std.specs.Str.Parse.{IsNumeral, digits_value}
 use Rattle.pgn_json.specs.Data.{Value, truth, number, string, array, object, Values, no_values, more_values, Members, no_members, more_members}
 
 -- Strings (section 7).
 
--- %x20-21 / %x23-5B / %x5D and above: all but the control characters, the quote and the backslash
+-- %x20-21 / %x23-5B / %x5D-10FFFF (that codes are those of characters is asked of the whole text): all but the control characters, the quote and the backslash
 abbrev pub is_unescaped : ℕ → Bool
 is_unescaped c = not (nat_lt c 32) && (not (c == 34) && not (c == 92))
 
@@ -18,8 +18,8 @@ letter_meaning letter =
     else if letter == 102 then Some 12 else if letter == 110 then Some 10 else if letter == 114 then Some 13
     else if letter == 116 then Some 9 else None
 
--- `\u` and four hexadecimal digits, of either case, write a number
-pub record IsNumber (n : ℕ) (text : List ℕ) : Type 0 where
+-- `\u` and four hexadecimal digits, of either case: a code unit of UTF-16
+pub record IsCodeUnit (n : ℕ) (text : List ℕ) : Type 0 where
   pub first : ℕ
   pub second : ℕ
   pub third : ℕ
@@ -28,12 +28,13 @@ pub record IsNumber (n : ℕ) (text : List ℕ) : Type 0 where
   pub written : text ≡ 92 ∷ 117 ∷ first ∷ second ∷ third ∷ fourth ∷ []
   pub number : n ≡ 4096 * digit_value first + 256 * digit_value second + 16 * digit_value third + digit_value fourth
 
--- a text that spells a character: itself; a backslash and a letter; its number; or, from U+10000 on, the numbers of its two surrogates
+-- A text that spells a character: itself; a backslash and a letter; its code unit; or, from U+10000 on, those of its two surrogates. A
+-- surrogate that stands alone, which the standard's grammar lets pass though it is no character, spells none.
 pub data Spells (c : ℕ) (text : List ℕ) : Type 0 where
   unescaped : is_unescaped c ≡ true → text ≡ c ∷ [] → Spells c text
   by_letter : (letter : ℕ) → letter_meaning letter ≡ Some c → text ≡ 92 ∷ letter ∷ [] → Spells c text
-  by_number : IsNumber c text → IsScalar c → Spells c text
-  by_surrogates : (high low : ℕ) (front back : List ℕ) → IsNumber high front → IsNumber low back → (55296 ≤ high) × (high < 56320)
+  by_code_unit : IsCodeUnit c text → IsScalar c → Spells c text
+  by_surrogates : (high low : ℕ) (front back : List ℕ) → IsCodeUnit high front → IsCodeUnit low back → (55296 ≤ high) × (high < 56320)
       → (56320 ≤ low) × (low < 57344) → c ≡ 65536 + 1024 * (high - 55296) + (low - 56320) → text ≡ front ++ back → Spells c text
 
 -- a text that spells characters, one after the other
@@ -90,9 +91,10 @@ unfoldable mutual
       (key first rest : List ℕ) × (text ≡ codes "," ++ (key ++ (codes ":" ++ (first ++ rest)))) × IsString name key × IsValue v first
       × AreNextMembers ms rest
 
--- bytes that are the UTF-8 of a text of a value (section 8.1)
+-- bytes that are the UTF-8 of a text of a value (section 8.1), each of whose codes is a character's
 pub record IsJson (v : Value) (bytes : List ℕ) : Type 0 where
   pub text : List ℕ
+  pub scalars : all_scalars text ≡ true
   pub encoded : encode_utf8_all text ≡ bytes
   pub spelled : IsValue v text
 

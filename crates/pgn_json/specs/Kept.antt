@@ -3,8 +3,8 @@ use Rattle.std.specs.Prelude.{ℕ, ◌<◌, List, All}
 use Rattle.cq_position.specs.Games.{Node, Game, IsTree, HaveNotes, node_at}
 use Rattle.cq_position.specs.Position.{IsPosition}
 
--- what a game keeps of its nodes
-pub record IsKept (nodes : List Node) : Type 0 where
+-- what the type `Game` keeps of its nodes
+pub record HasKeptNodes (nodes : List Node) : Type 0 where
   pub tree : IsTree nodes
   pub notes : HaveNotes nodes
   pub start : IsPosition (node_at nodes 0).position

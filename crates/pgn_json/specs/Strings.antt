@@ -4,11 +4,11 @@ use Rattle.std.specs.Char.{digit_char}
 use Rattle.std.specs.List.{flat_map}
 use Rattle.std.specs.Str.{is_utf8}
 
--- the characters of a text: those that it spells in UTF-8, or else a letter of Latin-1 for each byte
+-- the characters of a text: those that it spells in UTF-8, or else the character of Latin-1 for each byte
 unfoldable pub characters : List ℕ → List ℕ
 characters text = if is_utf8 text then chars text else text
 
--- a quote, a backslash and the control characters have to be escaped
+-- a quote, a backslash and the control characters U+0000 to U+001F have to be escaped
 abbrev pub is_escaped : ℕ → Bool
 is_escaped c = nat_lt c 32 || (c == 34 || c == 92)
 

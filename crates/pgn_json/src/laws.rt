@@ -1,11 +1,11 @@
-//! Laws of the text of a game as JSON. Each is proved for all texts and games, and changes nothing.
+//! Laws of the text of a game as JSON. Each is proved for all texts, or for all games with what every `Game` has, and changes nothing.
 ghost use Rattle.std.specs.Prelude.{◌≡◌, ◌<◌, ◌^◌, ℕ, true, List, All, length};
 ghost use Rattle.std.specs.Str.{encode_utf8_all, IsUtf8};
 ghost use Rattle.cq_position.specs.Games.{Game as PlainGame, node_at};
 ghost use Rattle.pgn_json.specs.GameValue.{json_of};
 ghost use Rattle.pgn_json.specs.Grammar.{IsReadAs, IsReadAsValue};
 ghost use Rattle.pgn_json.specs.Json.{game_text, json_text};
-ghost use Rattle.pgn_json.specs.Kept.{AreBytes, HasByteTexts, IsKept};
+ghost use Rattle.pgn_json.specs.Kept.{AreBytes, HasByteTexts, HasKeptNodes};
 ghost use Rattle.pgn_json.specs.Same.{game_read};
 ghost use Rattle.pgn_json.specs.Strings.{characters, string_text};
 
@@ -20,7 +20,7 @@ pub fn strings_are_read_back()
 /// Every game keeps what the laws of lines ask of it.
 pub fn games_are_kept(game: &Game) -> bool
     ensures value { result ≡ true }
-    ensures kept { IsKept game.now.nodes }
+    ensures kept { HasKeptNodes game.now.nodes }
 {
     prove!(game.is_tree());
     prove!(game.position(0).is_position());
@@ -39,25 +39,26 @@ pub fn texts_are_bytes(game: &Game) -> bool
     true
 }
 
-/// A line before its end is JSON: it is read as the value of its game, and as no other.
+/// A line before its end is JSON: it is read as the value of its game, and as no other value of the kinds that `specs/Data` has.
 pub fn lines_are_json()
-    ensures { (mark : List ℕ) (number byte : ℕ) (g : PlainGame) → IsKept g.nodes → number < 2 ^ 64 → byte < 2 ^ 64 →
+    ensures { (mark : List ℕ) (number byte : ℕ) (g : PlainGame) → HasKeptNodes g.nodes → HasByteTexts g → number < 2 ^ 64 → byte < 2 ^ 64 →
         IsReadAsValue (game_text mark number byte g) (json_of mark number byte g) }
 {}
 
 /// A line is UTF-8.
 pub fn lines_are_utf8()
-    ensures { (mark : List ℕ) (number byte : ℕ) (g : PlainGame) → IsKept g.nodes → HasByteTexts g → number < 2 ^ 64 → byte < 2 ^ 64 →
+    ensures { (mark : List ℕ) (number byte : ℕ) (g : PlainGame) → HasKeptNodes g.nodes → HasByteTexts g → number < 2 ^ 64 → byte < 2 ^ 64 →
         IsUtf8 (json_text mark number byte g) }
 {}
 
-/// Lines are the same, by whatever marks, only for the same number, the same place, and games with the same tags, result and nodes: the same
-/// but for the bytes that spell the characters of tags and comments.
+/// Two lines are the same, whatever their marks, only if their games have the same number and first byte, the same result, and the same tags
+/// and nodes, but for the bytes that spell the characters of tags and comments.
 pub fn same_lines_have_the_same_game()
-    ensures { (mark other : List ℕ) (number number2 byte byte2 : ℕ) (g h : PlainGame) → IsKept g.nodes → IsKept h.nodes →
-        number < 2 ^ 64 → number2 < 2 ^ 64 → byte < 2 ^ 64 → byte2 < 2 ^ 64 →
-        json_text mark number byte g ≡ json_text other number2 byte2 h →
-        (number ≡ number2) × (byte ≡ byte2) × (game_read g ≡ game_read h) }
+    ensures { (mark other_mark : List ℕ) (number other_number byte other_byte : ℕ) (g h : PlainGame) →
+        HasKeptNodes g.nodes → HasKeptNodes h.nodes →
+        number < 2 ^ 64 → other_number < 2 ^ 64 → byte < 2 ^ 64 → other_byte < 2 ^ 64 →
+        json_text mark number byte g ≡ json_text other_mark other_number other_byte h →
+        (number ≡ other_number) × (byte ≡ other_byte) × (game_read g ≡ game_read h) }
 {}
 
 // The names and values of tags are of bytes.

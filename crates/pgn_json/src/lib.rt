@@ -1,8 +1,8 @@
 //! The text of a game as JSON (RFC 8259).
 //!
 //! `specs/Strings` says how a text is written as a JSON string, `specs/Values` how objects and arrays are, and `specs/Json` what is
-//! written of a game. `specs/Grammar` has the values as the standard reads them. Laws say that a line is read as the value of its game
-//! (`specs/GameValue`), and that lines tell games apart but for the bytes of their texts (`specs/Same`).
+//! written of a game. `specs/Data` has JSON values, and `specs/Grammar` says which texts spell them. Laws say that a line is read as the
+//! value of its game (`specs/GameValue`), and that lines tell games apart but for the bytes of their texts (`specs/Same`).
 #![tactic(auto)]
 
 mod game;
