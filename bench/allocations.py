@@ -1,10 +1,10 @@
 #!/usr/bin/env python3
-"""Refuses each request for memory in turn, in runs of every mode and of queries of each form.
+"""Refuses each request for memory in turn, in runs of every mode and of queries of each form, and in runs of pgnjson.
 
-    bench/allocations.py BINARY
+    bench/allocations.py BINARY [PGNJSON]
 
-Each run must have the status and the bytes of a run with ample memory, or status 7 and a prefix of these bytes on each stream. refuse.c beside
-this file is what refuses; cc compiles it. Outside the gate."""
+BINARY is cqlpgn, and - leaves its runs out. Each run must have the status and the bytes of a run with ample memory, or status 7 and a
+prefix of these bytes on each stream. refuse.c beside this file is what refuses; cc compiles it. Outside the gate."""
 
 import os
 import subprocess
@@ -57,6 +57,17 @@ def runs(folder):
     yield ["selfrun", "cql() mate", "--games", "3", "--workers", "2"], b""
 
 
+def json_runs():
+    """the words of each run of pgnjson, and its standard input: games of each kind, more than are made at once, and other ends"""
+    for words in ([], ["--workers", "2"], ["--mark", "", "--workers", "1"], ["--mark", "%clk x"]):
+        yield words, GAMES
+        yield words, COMPOSITE
+    yield ["--workers", "2"], b"*\n1. Ke4 *\n" * 70
+    yield ["--workers", "1"], b'[Event "' + b"x" * 70000 + b'"] *\n1. e4 *'
+    for words in (["none.pgn"], ["--workers", "0"], ["--limit", "9"]):
+        yield words, GAMES
+
+
 def run(words, data, folder, shim, number):
     """the status, out and err of a run whose request of this number is refused, and whether it was"""
     refused = os.path.join(folder, "refused")
@@ -68,31 +79,37 @@ def run(words, data, folder, shim, number):
     return (p.returncode, p.stdout, p.stderr), there
 
 
+def tried(binary, words, data, folder, shim):
+    """refuses the requests of a run in turn: how many runs were as with ample memory, ended with 7, and did something else"""
+    whole, _ = run([binary] + words, data, folder, shim, 0)
+    ample, starved, wrong, number, missed = 0, 0, 0, 0, 0
+    # workers make their requests in any order, so a few numbers more are tried
+    while missed < 5:
+        number += 1
+        got, refused = run([binary] + words, data, folder, shim, number)
+        missed = 0 if refused else missed + 1
+        if got == whole:
+            ample += refused
+        elif got[0] == 7 and whole[1].startswith(got[1]) and whole[2].startswith(got[2]):
+            starved += 1
+        else:
+            wrong += 1
+            print("WRONG", words, "request", number, got)
+    print(words, "status", whole[0], "requests", number - 5, flush=True)
+    return ample, starved, wrong
+
+
 def main():
-    binary = os.path.abspath(sys.argv[1])
-    wrong, total, ample, starved = 0, 0, 0, 0
+    counts = (0, 0, 0)
     with tempfile.TemporaryDirectory() as folder:
         shim = os.path.join(folder, "refuse.so")
         subprocess.run(["cc", "-O2", "-shared", "-fPIC", os.path.join(HERE, "refuse.c"), "-o", shim, "-ldl"], check=True)
-        for words, data in runs(folder):
-            whole, _ = run([binary] + words, data, folder, shim, 0)
-            number, missed = 0, 0
-            # workers make their requests in any order, so a few numbers more are tried
-            while missed < 5:
-                number += 1
-                got, refused = run([binary] + words, data, folder, shim, number)
-                missed = 0 if refused else missed + 1
-                total += refused
-                if got == whole:
-                    ample += refused
-                elif got[0] == 7 and whole[1].startswith(got[1]) and whole[2].startswith(got[2]):
-                    starved += 1
-                else:
-                    wrong += 1
-                    print("WRONG", words, "request", number, got)
-            print(words, "status", whole[0], "requests", number - 5, flush=True)
-    print("requests refused %d: as with ample memory %d, status 7 with prefixes %d, wrong %d" % (total, ample, starved, wrong))
-    return 1 if wrong else 0
+        for binary, its_runs in zip(sys.argv[1:], (runs(folder), json_runs())):
+            for words, data in its_runs if binary != "-" else ():
+                one = tried(os.path.abspath(binary), words, data, folder, shim)
+                counts = tuple(a + b for a, b in zip(counts, one))
+    print("requests refused %d: as with ample memory %d, status 7 with prefixes %d, wrong %d" % (sum(counts), *counts))
+    return 1 if counts[2] else 0
 
 
 if __name__ == "__main__":

@@ -5,6 +5,7 @@
     bench/hostile.py BINARY sizes             processor seconds for inputs of one size and of twice the size: at most 2.2 times as many
     bench/hostile.py BINARY steps             the same in millions of instructions, which no other work on the machine changes: valgrind
                                               counts them
+    bench/hostile.py PGNJSON json             processor seconds of pgnjson, for games of up to 2^24 bytes and half of it
 
 Nothing is kept on disk but queries. Outside the gate."""
 
@@ -196,10 +197,35 @@ def sizes(binary, measure):
     return ok
 
 
+# what stands in one long comment: letters that are escaped, that become longer, or that stay
+COMMENTS = {"quotes": b'"', "control": b"\x01", "Latin-1": b"\xe9", "UTF-8": "é".encode(), "no UTF-8 at its end": "é".encode()}
+
+
+def commented(name, size):
+    """a game of one comment and one move"""
+    rest = b"\xe9} 1. e4 *" if name.startswith("no") else b"} 1. e4 *"
+    return b"{" + repeated(COMMENTS[name], size - len(rest) - 1) + rest
+
+
+def json_sizes(binary):
+    """each game of one size and of half the size as a line, all nodes with their positions"""
+    ok = True
+    games = [(name, functools.partial(repeated, token), MOVES if name == "moves" else 1 << 24) for name, token in ARCHIVES.items()]
+    games += [(name, functools.partial(commented, name), 1 << 24) for name in COMMENTS]
+    for name, made, size in [*games, ("other tags", other_tags, 1 << 24)]:
+        half, whole = (seconds([binary, "--mark", ""], made(n), None) for n in (size // 2, size))
+        ratio = whole[0] / max(half[0], 0.01)
+        ok = ok and ratio <= 2.2 and 0 <= whole[1] <= 1
+        print("%-20s %10.3f %10.3f %6.2f  status %d" % (name, half[0], whole[0], ratio, whole[1]), flush=True)
+    return ok
+
+
 def main():
     binary, part = os.path.abspath(sys.argv[1]), sys.argv[2]
     if part == "endless":
         ok = endless(binary, int(float(sys.argv[3] if len(sys.argv) > 3 else 4) * GIB))
+    elif part == "json":
+        ok = json_sizes(binary)
     else:
         ok = sizes(binary, {"sizes": seconds, "steps": steps}[part])
     print("as it should be" if ok else "NOT as it should be")

@@ -1,45 +1,28 @@
 -- What is written of batches, one after the other, and what it comes to.
-use Rattle.std.proofs.Common.{◌≡◌, ◌⊎◌, ℕ, ◌+◌, ◌-◌, ◌<◌, ◌≤◌, List, [], ◌++◌, length, length-append, append-nil, append_assoc, map, take, drop, Option, None, Some, refl, ap, ap₂, sym, ◌∙◌, subst, inl, inr, arith}
-use Rattle.std.proofs.Math.Seq.{take-append_seam}
-use Rattle.std.proofs.lemmas.List.{length-take, take_all}
-use Rattle.std.specs.Io.KnownBytes.{Consumes, IsAtEnd}
+use Rattle.std.proofs.Common.{◌≡◌, ◌⊎◌, ℕ, ◌+◌, ◌-◌, ◌<◌, ◌≤◌, List, [], ◌++◌, length, length-append, append-nil, append_assoc, map, take, drop, Option, None, Some, refl, ap, ap₂, sym, ◌∙◌, subst, inl, inr, Err, arith}
+use Rattle.std.proofs.Math.Seq.{take-add}
+use Rattle.std.proofs.lemmas.List.{length-take, length-take-le, take-append-drop, take_all}
 use Rattle.cq_batches.specs.Batching.{left_over}
 use Rattle.cq_batches.specs.Filling.{most_read}
+use Rattle.cq_batches.specs.Games.{games_of, number_of}
 use Rattle.cq_batches.specs.Kept.{KeptGames, kept}
 use Rattle.cq_batches.specs.Laws.{Laws}
-use Rattle.cq_batches.specs.Rounds.{AreFirst, Gives, ReadsAll, TakesWhole}
+use Rattle.cq_batches.specs.Rounds.{AreFirst, Gives, HasTurned, ReadsAll, TakesWhole}
 use Rattle.cq_batches.specs.Whole.{closed_games, cut_games, whole, whole_spans}
-use Rattle.cq_outside.specs.Faults.{Rose}
+use Rattle.cq_batches.specs.declared.batch.Batch.{Batch}
 use Rattle.cq_outside.specs.Flow.{Grew}
 use Rattle.cq_report.specs.Games.{summary_line}
 use Rattle.pgn_cut.specs.Cut.{closed, cut}
 use Rattle.pgn_cut.specs.declared.span.Span.{Span}
-use Rattle.pgn_json_run.specs.Lines.{AreEntries, Entry, fault_lines, faulty, lines, summary}
-use Rattle.pgn_json_run.specs.Texts.{AreKept, AreTextsOf, HasFailed, HasStopped, HasTaken, WritesSummary}
+use Rattle.pgn_json_run.specs.Lines.{AreEntries, Entry, fault_lines, lines, summary}
+use Rattle.pgn_json_run.specs.Parts.{part_at}
+use Rattle.pgn_json_run.specs.Texts.{AnswersBatch, AnswersPart, AreKept, AreTextsOf, HasStopped, HasTaken, HasWritten, HasWrittenFront, IsCutShort, WritesSummary}
 use Rattle.pgn_json_run.specs.Writing.{AreFirstGames, NoWriteFailed, OneWriteFailed, Pipe, ReadsGames, Says, SinkView, Sinks, Writes, WritesSome, WritesWhole}
 use Rattle.pgn_json_run.specs.declared.status.Status.{Status}
 use Rattle.pgn_json_run.specs.declared.status.Status.TheVariants.{Done, DoneWithRefusals, WordsRefused, OpenFault, ReadFault, WriteFault, NoMemory, ArchiveTooLong}
 use Rattle.pgn_json_run.specs.declared.texts.Texts.{Texts}
 use Rattle.pgn_json_run.proofs.Entries.{Decide, archive_of, faults_on, first_spans, kept_count, kept_on, lines_on, faulty_on}
-
--- ---- one text after another
-
-grew_on : (a b c : Option (List ℕ)) (xs ys : List ℕ) → Grew a b xs → Grew b c ys → Grew a c (xs ++ ys)
-grew_on a b None xs ys f g = tt
-grew_on a None (Some zs) xs ys f g = absurd g
-grew_on None (Some bs) (Some zs) xs ys f g = absurd f
-grew_on (Some os) (Some bs) (Some zs) xs ys f g = g ∙ ap (λ l. l ++ ys) f ∙ append_assoc os xs ys
-
-grew_none : (a : Option (List ℕ)) → Grew a a []
-grew_none None = tt
-grew_none (Some xs) = sym (append-nil xs)
-
--- a sink that takes nothing more
-same_grew : (a b : Option (List ℕ)) (xs : List ℕ) → Grew a b xs → Grew a b (xs ++ [])
-same_grew a b xs f = subst (Grew a b) (sym (append-nil xs)) f
-
-rose_on : (a b c : ℕ) → b ≡ a → Rose b c → Rose a c
-rose_on a b c same rose = subst (λ (k : ℕ). Rose k c) same rose
+use Rattle.pgn_json_run.proofs.Grown.{grew_none, grew_on, rose_on, same_grew}
 
 -- ---- a batch
 
@@ -87,57 +70,88 @@ taken_on mark was mid now count sum games batch number t step out out_same err e
       unfailed = record { out = out_same ∙ step.taken.unfailed.out; err = err_same ∙ step.taken.unfailed.err };
     }
 
-pub out_failed : (mark : List ℕ) (was mid now : Sinks) (count : ℕ) (games batch : KeptGames) (number : ℕ) (t : Texts) → Step mark was mid count games batch number t
-    → ((k : ℕ) × Grew mid.out.taken now.out.taken (take k t.lines)) → Rose mid.out.faults now.out.faults → now.err ≡ mid.err
-    → HasFailed mark was now games batch
-out_failed mark was mid now count games batch number t step part rose same =
-    let es = step.taken.entries in
-    let ds = step.texts.entries in
+-- ---- a batch, one part after the other
+
+-- the games of a batch up to a part, and those of the part
+part_more : (games batch : KeptGames) (first : ℕ) → (games ++ take first batch) ++ take 128 (drop first batch) ≡ games ++ take (first + 128) batch
+part_more games batch first =
+    append_assoc games (take first batch) (take 128 (drop first batch)) ∙ ap (λ l. games ++ l) (sym (take-add first 128 batch))
+
+part_index : (games batch : KeptGames) (first number : ℕ) → first < length batch → number ≡ length games → number + first ≡ length (games ++ take first batch)
+part_index games batch first number less index =
+    let a = length-append games (take first batch) in
+    let b = length-take-le first batch (omega (arith, less)) in
+    omega (arith, a, b, index)
+
+pub batch_starts : (mark : List ℕ) (was now : Sinks) (count : ℕ) (games batch : KeptGames) → HasTaken mark was now count games → HasTaken mark was now count (games ++ take 0 batch)
+batch_starts mark was now count games batch taken = subst (HasTaken mark was now count) (sym (append-nil games)) taken
+
+pub batch_ends : (mark : List ℕ) (was now : Sinks) (count : ℕ) (games batch : KeptGames) (first : ℕ) → length batch ≤ first
+    → HasTaken mark was now count (games ++ take first batch) → HasTaken mark was now count (games ++ batch)
+batch_ends mark was now count games batch first all taken = subst (λ l. HasTaken mark was now count (games ++ l)) (take_all first batch all) taken
+
+-- a part more of a batch
+pub batch_more : (mark : List ℕ) (was mid now : Sinks) (count more sum : ℕ) (games : KeptGames) (batch : Batch) (first : ℕ) → first < length (games_of batch)
+    → number_of batch ≡ length games → HasTaken mark was mid count (games ++ take first (games_of batch)) → HasWritten (part_at mark batch first) mid now more → sum ≡ count + more
+    → HasTaken mark was now sum (games ++ take (first + 128) (games_of batch))
+batch_more mark was mid now count more sum games batch first less index taken written adds =
+    let part = part_at mark batch first in
+    subst (HasTaken mark was now sum) (part_more games (games_of batch) first)
+    (taken_on mark was mid now count sum (games ++ take first (games_of batch)) part.games part.before written.texts
+    (record { taken = taken; index = part_index games (games_of batch) first (number_of batch) less index; texts = written.are })
+    written.writes.out_ written.unfailed.out written.writes.err_ written.unfailed.err (adds ∙ ap (λ n. count + n) written.count_is))
+
+-- a front of a part
+split_at : (batch : KeptGames) (first : ℕ) (games rest : KeptGames) → take 128 (drop first batch) ≡ games ++ rest
+    → batch ≡ take first batch ++ (games ++ (rest ++ drop 128 (drop first batch)))
+split_at batch first games rest is =
+    sym (take-append-drop first batch)
+    ∙ ap (λ l. take first batch ++ l) (sym (take-append-drop 128 (drop first batch)) ∙ ap (λ l. l ++ drop 128 (drop first batch)) is
+    ∙ append_assoc games rest (drop 128 (drop first batch)))
+
+pub cut_short : (mark : List ℕ) (was mid now : Sinks) (count : ℕ) (games : KeptGames) (batch : Batch) (first : ℕ) → first < length (games_of batch)
+    → number_of batch ≡ length games → HasTaken mark was mid count (games ++ take first (games_of batch)) → HasWrittenFront (part_at mark batch first) mid now
+    → IsCutShort mark was now games (games_of batch)
+cut_short mark was mid now count games batch first less index taken front =
+    let all = games_of batch in
+    let place = part_index games all first (number_of batch) less index in
     record {
-      entries = es;
-      next = ds;
-      are = step.taken.are;
-      next_are = next_kept mark was mid count games batch number t step;
-      out_count = part.0;
-      err_count = 0;
+      first = take first all;
+      part = front.games;
+      rest = front.rest ++ drop 128 (drop first all);
+      split = split_at all first front.games front.rest front.split;
+      entries = taken.entries;
+      next = front.next;
+      are = taken.are;
+      next_are = subst (λ k. AreKept k front.games front.next) (omega (arith, place)) front.are;
+      out_count = front.out_count;
+      err_count = front.err_count;
       writes = record {
-        out_ = grew_on was.out.taken mid.out.taken now.out.taken (lines mark es) (take part.0 (lines mark ds)) step.taken.writes.out_
-            (subst (λ l. Grew mid.out.taken now.out.taken (take part.0 l)) step.texts.lines_ part.1);
-        err_ = same_grew was.err.taken now.err.taken (fault_lines es)
-            (subst (λ (s : SinkView). Grew was.err.taken s.taken (fault_lines es)) (sym same) step.taken.writes.err_);
+        out_ = grew_on was.out.taken mid.out.taken now.out.taken (lines mark taken.entries) (take front.out_count (lines mark front.next)) taken.writes.out_ front.writes.out_;
+        err_ = grew_on was.err.taken mid.err.taken now.err.taken (fault_lines taken.entries) (take front.err_count (fault_lines front.next)) taken.writes.err_ front.writes.err_;
       };
-      failed = inl (
-        rose_on was.out.faults mid.out.faults now.out.faults step.taken.unfailed.out rose,
-        ap (λ (s : SinkView). s.faults) same ∙ step.taken.unfailed.err,
-      );
     }
 
-pub err_failed : (mark : List ℕ) (was mid now : Sinks) (count : ℕ) (games batch : KeptGames) (number : ℕ) (t : Texts) → Step mark was mid count games batch number t
-    → Grew mid.out.taken now.out.taken t.lines → now.out.faults ≡ mid.out.faults
-    → ((k : ℕ) × Grew mid.err.taken now.err.taken (take k t.faults)) → Rose mid.err.faults now.err.faults → HasFailed mark was now games batch
-err_failed mark was mid now count games batch number t step out out_same part rose =
-    let es = step.taken.entries in
-    let ds = step.texts.entries in
-    let all : take (length (lines mark ds)) (lines mark ds) ≡ lines mark ds = take_all (length (lines mark ds)) (lines mark ds) (omega arith) in
-    record {
-      entries = es;
-      next = ds;
-      are = step.taken.are;
-      next_are = next_kept mark was mid count games batch number t step;
-      out_count = length (lines mark ds);
-      err_count = part.0;
-      writes = record {
-        out_ = subst (λ l. Grew was.out.taken now.out.taken (lines mark es ++ l)) (sym all)
-            (grew_on was.out.taken mid.out.taken now.out.taken (lines mark es) (lines mark ds) step.taken.writes.out_
-            (subst (Grew mid.out.taken now.out.taken) step.texts.lines_ out));
-        err_ = grew_on was.err.taken mid.err.taken now.err.taken (fault_lines es) (take part.0 (fault_lines ds)) step.taken.writes.err_
-            (subst (λ l. Grew mid.err.taken now.err.taken (take part.0 l)) step.texts.faults_ part.1);
-      };
-      failed = inr (
-        rose_on was.err.faults mid.err.faults now.err.faults step.taken.unfailed.err rose,
-        out_same ∙ step.taken.unfailed.out,
-      );
-    }
+none_failed : (was mid now : Sinks) → NoWriteFailed was mid → NoWriteFailed mid now → NoWriteFailed was now
+none_failed was mid now before after = record { out = after.out ∙ before.out; err = after.err ∙ before.err }
+
+one_failed : (was mid now : Sinks) → NoWriteFailed was mid → OneWriteFailed mid now → OneWriteFailed was now
+one_failed was mid now before (inl (rose, same)) = inl (rose_on was.out.faults mid.out.faults now.out.faults before.out rose, same ∙ before.err)
+one_failed was mid now before (inr (rose, same)) = inr (rose_on was.err.faults mid.err.faults now.err.faults before.err rose, same ∙ before.out)
+
+pub batch_stops : (mark : List ℕ) (was mid now : Sinks) (count : ℕ) (games : KeptGames) (batch : Batch) (first : ℕ) (status : Status) → first < length (games_of batch)
+    → number_of batch ≡ length games → HasTaken mark was mid count (games ++ take first (games_of batch)) → AnswersPart (part_at mark batch first) mid now (Err status)
+    → HasStopped mark was now games (games_of batch) status
+batch_stops mark was mid now count games batch first WriteFault less index taken (front, failed) =
+    (cut_short mark was mid now count games batch first less index taken front, one_failed was mid now taken.unfailed failed)
+batch_stops mark was mid now count games batch first NoMemory less index taken (front, same) =
+    (cut_short mark was mid now count games batch first less index taken front, none_failed was mid now taken.unfailed same)
+batch_stops mark was mid now count games batch first Done less index taken never = absurd never
+batch_stops mark was mid now count games batch first DoneWithRefusals less index taken never = absurd never
+batch_stops mark was mid now count games batch first WordsRefused less index taken never = absurd never
+batch_stops mark was mid now count games batch first OpenFault less index taken never = absurd never
+batch_stops mark was mid now count games batch first ReadFault less index taken never = absurd never
+batch_stops mark was mid now count games batch first ArchiveTooLong less index taken never = absurd never
 
 -- ---- some first games of an archive
 
@@ -170,27 +184,43 @@ needed_by laws early games es (rest, split) are =
 
 -- ---- how the reading ends
 
-pub stopped_some : Decide → Laws → (limit : ℕ) (mark : List ℕ) (was now : Pipe) (games batch : KeptGames) → Gives limit was.left now.left games batch
-    → HasFailed mark was.sinks now.sinks games batch → WritesSome limit mark was now
-stopped_some decide laws limit mark was now games batch gives failed = record {
-  front = gives.front;
-  entries = failed.entries;
-  next = failed.next;
-  reads = gives.reads.takes;
-  few = gives.reads.few;
-  are = first_by decide laws limit was now gives.front (games ++ batch) (failed.entries ++ failed.next) gives.first
-      (kept_on 1 games batch failed.entries failed.next failed.are failed.next_are);
-  needed = needed_by laws (take (length gives.front - most_read) gives.front) games failed.entries gives.needed failed.are;
-  out_count = failed.out_count;
-  err_count = failed.err_count;
-  writes = failed.writes;
-}
-
 -- the first games of those that were given
 first_part : {A : Type 0} (front : List ℕ) (games batch : KeptGames) → AreFirst (games ++ batch) (whole front) ⊎ (A × AreFirst (games ++ batch) (cut_games front))
     → AreFirst games (whole front) ⊎ (A × AreFirst games (cut_games front))
 first_part front games batch (inl (rest, split)) = inl (batch ++ rest, split ∙ append_assoc games batch rest)
 first_part front games batch (inr (all, (rest, split))) = inr (all, (batch ++ rest, split ∙ append_assoc games batch rest))
+
+-- these and more games
+first_more : (games more all : KeptGames) → AreFirst all games → AreFirst all (games ++ more)
+first_more games more all (rest, split) = (rest ++ more, ap (λ l. l ++ more) split ∙ append_assoc all rest more)
+
+-- the games of a batch up to some of them
+up_to : (games batch first part rest : KeptGames) → batch ≡ first ++ (part ++ rest) → games ++ batch ≡ ((games ++ first) ++ part) ++ rest
+up_to games batch first part rest split =
+    ap (λ l. games ++ l) split ∙ sym (append_assoc games first (part ++ rest)) ∙ sym (append_assoc (games ++ first) part rest)
+
+pub stopped_some : Decide → Laws → (limit : ℕ) (mark : List ℕ) (was now : Pipe) (games batch : KeptGames) → Gives limit was.left now.left games batch
+    → IsCutShort mark was.sinks now.sinks games batch → WritesSome limit mark was now
+stopped_some decide laws limit mark was now games batch gives cut_ =
+    let front = gives.front in
+    let given = (games ++ cut_.first) ++ cut_.part in
+    let first = first_part front given cut_.rest
+    (subst (λ l. AreFirst l (whole front) ⊎ (ReadsAll limit was.left now.left front × AreFirst l (cut_games front)))
+    (up_to games batch cut_.first cut_.part cut_.rest cut_.split) gives.first) in
+    record {
+      front = front;
+      entries = cut_.entries;
+      next = cut_.next;
+      reads = gives.reads.takes;
+      few = gives.reads.few;
+      are = first_by decide laws limit was now front given (cut_.entries ++ cut_.next) first
+          (kept_on 1 (games ++ cut_.first) cut_.part cut_.entries cut_.next cut_.are cut_.next_are);
+      needed = needed_by laws (take (length front - most_read) front) (games ++ cut_.first) cut_.entries
+          (first_more games cut_.first (whole (take (length front - most_read) front)) gives.needed) cut_.are;
+      out_count = cut_.out_count;
+      err_count = cut_.err_count;
+      writes = cut_.writes;
+    }
 
 pub taken_some : Decide → Laws → (limit : ℕ) (mark : List ℕ) (was now : Pipe) (games batch : KeptGames) (count : ℕ) → Gives limit was.left now.left games batch
     → HasTaken mark was.sinks now.sinks count games → WritesSome limit mark was now
@@ -213,10 +243,10 @@ taken_some decide laws limit mark was now games batch count gives taken = record
 
 pub stopped : Decide → Laws → (status : Status) (limit : ℕ) (mark : List ℕ) (was now : Pipe) (games batch : KeptGames) → Gives limit was.left now.left games batch
     → HasStopped mark was.sinks now.sinks games batch status → now.read_faults ≡ was.read_faults → Says status limit mark was now
-stopped decide laws WriteFault limit mark was now games batch gives failed same =
-    (inl (stopped_some decide laws limit mark was now games batch gives failed), same, failed.failed)
-stopped decide laws NoMemory limit mark was now games batch gives (count, taken) same =
-    (inl (taken_some decide laws limit mark was now games batch count gives taken), same, taken.unfailed)
+stopped decide laws WriteFault limit mark was now games batch gives (cut_, failed) same =
+    (inl (stopped_some decide laws limit mark was now games batch gives cut_), same, failed)
+stopped decide laws NoMemory limit mark was now games batch gives (cut_, unfailed) same =
+    (inl (stopped_some decide laws limit mark was now games batch gives cut_), same, unfailed)
 stopped decide laws Done limit mark was now games batch gives never same = absurd never
 stopped decide laws DoneWithRefusals limit mark was now games batch gives never same = absurd never
 stopped decide laws WordsRefused limit mark was now games batch gives never same = absurd never
@@ -343,3 +373,11 @@ pub starved : Decide → Laws → (limit : ℕ) (mark : List ℕ) (was now : Pip
     → now.read_faults ≡ was.read_faults → Says NoMemory limit mark was now
 starved decide laws limit mark was now count Others (games, gives, (others, taken)) same =
     (inl (taken_some decide laws limit mark was now games [] count gives taken), same, taken.unfailed)
+
+-- ---- a batch, as it is taken
+
+pub turned : {A : Type 0} (mark : List ℕ) (was now : Sinks) (count : ℕ) (games batch : KeptGames) (result : Option Status) → A
+    → AnswersBatch mark was now count games batch result
+    → HasTurned (λ gs. A × HasTaken mark was now count gs) (λ gs next status. HasStopped mark was now gs next status) games batch result
+turned mark was now count games batch None given answers = (given, answers)
+turned mark was now count games batch (Some status) given answers = answers

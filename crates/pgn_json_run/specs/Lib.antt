@@ -3,6 +3,8 @@ pub mod Jobs
 pub mod Status
 pub mod Lines
 pub mod Writing
+pub mod Pages
+pub mod Parts
 pub mod Texts
 pub mod Making
 pub mod Promise

@@ -1,10 +1,12 @@
 -- What is written of the games of batches, as the private functions give it.
-use Rattle.std.specs.Prelude.{◌≡◌, ℕ, ◌+◌, ◌-◌, ◌<◌, List, [], ◌∷◌, ◌++◌, length, take}
+use Rattle.std.specs.Prelude.{◌≡◌, ℕ, ◌+◌, ◌-◌, ◌<◌, List, [], ◌∷◌, ◌++◌, length, take, Option, None, Some, Result, Ok, Err}
+use Rattle.std.specs.List.{flat_map, sum_by}
 use Rattle.cq_batches.specs.Kept.{KeptGames}
 use Rattle.cq_outside.specs.Faults.{Rose}
 use Rattle.cq_outside.specs.Flow.{Grew}
 use Rattle.cq_report.specs.Games.{summary_line}
 use Rattle.pgn_json_run.specs.Lines.{Entry, fault_lines, faulty, lines}
+use Rattle.pgn_json_run.specs.Parts.{Part}
 use Rattle.pgn_json_run.specs.Writing.{NoWriteFailed, OneWriteFailed, SinkView, Sinks, Writes}
 use Rattle.pgn_json_run.specs.declared.status.Status.{Status}
 use Rattle.pgn_json_run.specs.declared.status.Status.TheVariants.{Done, DoneWithRefusals, WriteFault, NoMemory}
@@ -35,22 +37,66 @@ pub record HasTaken (mark : List ℕ) (was now : Sinks) (count : ℕ) (games : K
   pub writes : Writes was now (lines mark entries) (fault_lines entries)
   pub unfailed : NoWriteFailed was now
 
--- such games were written, and a write failed at those of the next batch
-pub record HasFailed (mark : List ℕ) (was now : Sinks) (games batch : KeptGames) : Type 0 where
+-- such games were written, and first ones of the next batch, and of some games after these a front of what is to be written of them
+pub record IsCutShort (mark : List ℕ) (was now : Sinks) (games batch : KeptGames) : Type 0 where
+  pub first : KeptGames
+  pub part : KeptGames
+  pub rest : KeptGames
+  pub split : batch ≡ first ++ (part ++ rest)
   pub entries : List Entry
   pub next : List Entry
-  pub are : AreKept 1 games entries
-  pub next_are : AreKept (1 + length games) batch next
+  pub are : AreKept 1 (games ++ first) entries
+  pub next_are : AreKept (1 + length (games ++ first)) part next
   pub out_count : ℕ
   pub err_count : ℕ
   pub writes : Writes was now (lines mark entries ++ take out_count (lines mark next)) (fault_lines entries ++ take err_count (fault_lines next))
-  pub failed : OneWriteFailed was now
 
--- it was stopped at the games of the next batch: a write failed, or no memory was found and nothing of them is written
+-- it was stopped at the games of the next batch: a write failed, or no memory was found
 abbrev pub HasStopped : List ℕ → Sinks → Sinks → KeptGames → KeptGames → Status → Type 0
-HasStopped mark was now games batch WriteFault = HasFailed mark was now games batch
-HasStopped mark was now games batch NoMemory = (count : ℕ) × HasTaken mark was now count games
+HasStopped mark was now games batch WriteFault = IsCutShort mark was now games batch × OneWriteFailed was now
+HasStopped mark was now games batch NoMemory = IsCutShort mark was now games batch × NoWriteFailed was now
 HasStopped mark was now games batch _ = ⊥
+
+-- what is written of several games, one after the other, and how many of them are faulty
+abbrev pub all_lines : List Texts → List ℕ
+all_lines texts = flat_map (λ t. t.lines) texts
+
+abbrev pub all_faults : List Texts → List ℕ
+all_faults texts = flat_map (λ t. t.faults) texts
+
+abbrev pub all_faulty : List Texts → ℕ
+all_faulty texts = sum_by (λ t. t.faulty) texts
+
+-- the games of a part were written, so many of which are faulty
+pub record HasWritten (part : Part) (was now : Sinks) (count : ℕ) : Type 0 where
+  pub texts : Texts
+  pub are : AreTextsOf part.mark (part.before + 1) part.games texts
+  pub writes : Writes was now texts.lines texts.faults
+  pub count_is : count ≡ texts.faulty
+  pub unfailed : NoWriteFailed was now
+
+-- a front of what is to be written of some first games of a part was written
+pub record HasWrittenFront (part : Part) (was now : Sinks) : Type 0 where
+  pub games : KeptGames
+  pub rest : KeptGames
+  pub split : part.games ≡ games ++ rest
+  pub next : List Entry
+  pub are : AreKept (part.before + 1) games next
+  pub out_count : ℕ
+  pub err_count : ℕ
+  pub writes : Writes was now (take out_count (lines part.mark next)) (take err_count (fault_lines next))
+
+-- what a call answers that writes a part
+abbrev pub AnswersPart : Part → Sinks → Sinks → Result ℕ Status → Type 0
+AnswersPart part was now (Ok count) = HasWritten part was now count
+AnswersPart part was now (Err WriteFault) = HasWrittenFront part was now × OneWriteFailed was now
+AnswersPart part was now (Err NoMemory) = HasWrittenFront part was now × NoWriteFailed was now
+AnswersPart part was now (Err _) = ⊥
+
+-- what a call answers that writes a batch: nothing, or why it was stopped
+abbrev pub AnswersBatch : List ℕ → Sinks → Sinks → ℕ → KeptGames → KeptGames → Option Status → Type 0
+AnswersBatch mark was now count games batch None = HasTaken mark was now count (games ++ batch)
+AnswersBatch mark was now count games batch (Some status) = HasStopped mark was now games batch status
 
 -- the last line of a report was written, by which no game is faulty or some are, or a front of it
 abbrev pub WritesSummary : (games faulty : ℕ) → SinkView → SinkView → Status → Type 0

@@ -11,6 +11,7 @@ mod taking;
 mod texts;
 mod top_call;
 mod words;
+mod writing;
 
 pub use job::{Job, WordsRefused};
 pub use status::Status;

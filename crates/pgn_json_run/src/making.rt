@@ -1,8 +1,7 @@
-//! What is written of the games of a batch, made by several workers.
-ghost use Rattle.std.specs.Prelude.{◌≡◌, ◌+◌, ◌≤◌, length, IfOk};
-ghost use Rattle.cq_batches.specs.Games.{games_of, number_of};
+//! What is written of some games of a batch, made by several workers.
+ghost use Rattle.std.specs.Prelude.{◌≡◌, ◌≤◌, length, IfOk};
 ghost use Rattle.pgn_json_run.specs.Making.{AreGameTexts, ArePlaced, HasMadeTexts};
-ghost use Rattle.pgn_json_run.specs.Texts.{AreTextsOf};
+ghost use Rattle.pgn_json_run.specs.Parts.{part_at, size};
 
 use crate::texts::{Texts, game_texts};
 use cq_batches::Batch;
@@ -11,18 +10,22 @@ use cq_outside::{Bytes, NoMemory};
 use std::alloc::Global;
 use std::thread::Threads;
 
-/// What is written of a game, and the game's number in its batch.
+/// How many games of a batch are made before they are written.
+pub(crate) const PART: u64 = 128;
+
+/// What is written of a game, and the game's number in its part of the batch.
 #[derive(Drop)]
 pub(crate) struct GameTexts {
     pub(crate) number: u64,
     pub(crate) texts: Texts,
 }
 
-/// Makes what is written of each game of a batch.
+/// Makes what is written of each game of a part of a batch: of the game with the number `first` and those after it.
 #[derive(Clone, Copy)]
-struct TextMaker<'a> {
-    mark: &'a [u8],
-    batch: &'a Batch,
+pub(crate) struct TextMaker<'a> {
+    pub(crate) mark: &'a [u8],
+    pub(crate) batch: &'a Batch,
+    pub(crate) first: u64,
 }
 
 impl<'a> Maker for TextMaker<'a> {
@@ -30,12 +33,14 @@ impl<'a> Maker for TextMaker<'a> {
 
     type Kept = ();
 
-    ghost games = { λ maker. length (games_of maker.batch.now) };
+    ghost games = { λ maker. size (part_at maker.mark.now maker.batch.now maker.first) };
 
-    ghost has_made = { λ maker _ numbers made. HasMadeTexts maker.mark.now maker.batch.now numbers made };
+    ghost has_made = { λ maker _ numbers made. HasMadeTexts (part_at maker.mark.now maker.batch.now maker.first) numbers made };
 
     fn len(&self) -> u64 {
         u64::from(self.batch.len())
+            .saturating_sub(self.first)
+            .min(PART)
     }
 
     fn make(
@@ -45,28 +50,25 @@ impl<'a> Maker for TextMaker<'a> {
         number: u64,
         _kept: &mut (),
     ) -> Result<Option<GameTexts>, NoMemory> {
-        let texts = game_texts(alloc, self.mark, self.batch, number)?;
+        let texts = game_texts(alloc, self.mark, self.batch, self.first + number)?;
         Ok(Some(GameTexts { number, texts }))
     }
 }
 
-/// What is written of the games of a batch, in their order, made by so many workers, from 1 to 64, which is a condition. They draw the
-/// games one by one, in threads of `rt`.
-pub(crate) fn batch_texts<R: Threads + Sync>(
+/// What is written of each game of a part of a batch, in their order, made by so many workers, from 1 to 64, which is a condition. They
+/// draw the games one by one, in threads of `rt`.
+pub(crate) fn part_texts<R: Threads + Sync>(
     rt: &R,
     alloc: Global,
-    mark: &[u8],
-    batch: &Batch,
+    maker: &TextMaker<'_>,
     workers: u32,
-) -> Result<Texts, NoMemory>
+) -> Result<Vec<Texts>, NoMemory>
     requires { (1 ≤ workers) × (workers ≤ 64) }
-    ensures { IfOk result (AreTextsOf mark.now (number_of batch.now + 1) (games_of batch.now)) }
+    ensures { IfOk result (λ texts. ArePlaced (part_at maker.now.mark.now maker.now.batch.now maker.now.first) texts.items) }
 {
-    let maker = TextMaker { mark, batch };
     let kept = nothing_kept(alloc, workers)?;
-    let (_, made) = run_crew(rt, alloc, &maker, kept)?;
-    let places = in_places(alloc, &maker, made)?;
-    joined(alloc, &maker, &places)
+    let (_, made) = run_crew(rt, alloc, maker, kept)?;
+    in_places(alloc, maker, made)
 }
 
 // The texts of each game at the place of its number.
@@ -74,46 +76,30 @@ fn in_places(
     alloc: Global,
     maker: &TextMaker<'_>,
     made: Vec<GameTexts>,
-) -> Result<Vec<Option<Texts>>, NoMemory>
-    requires { AreGameTexts maker.now.mark.now maker.now.batch.now made.items }
-    ensures { IfOk result (λ places. ArePlaced maker.now.mark.now maker.now.batch.now places.items) }
+) -> Result<Vec<Texts>, NoMemory>
+    requires { AreGameTexts (part_at maker.now.mark.now maker.now.batch.now maker.now.first) made.items }
+    ensures { IfOk result (λ texts. ArePlaced (part_at maker.now.mark.now maker.now.batch.now maker.now.first) texts.items) }
 {
     let mut made = made;
-    let mut places = no_texts(alloc, maker.batch)?;
+    let mut places = no_texts(alloc, maker.len())?;
     while let Some(game) = made.pop() {
-        places[game.number as usize] = Some(game.texts);
+        places[game.number as usize] = game.texts;
     }
     Ok(places)
 }
 
-// A place for each game of a batch.
-fn no_texts(alloc: Global, batch: &Batch) -> Result<Vec<Option<Texts>>, NoMemory>
-    ensures { IfOk result (λ places. length places.items ≡ length (games_of batch.now)) }
+// A place for each of so many games.
+fn no_texts(alloc: Global, games: u64) -> Result<Vec<Texts>, NoMemory>
+    requires { games ≤ 128 }
+    ensures { IfOk result (λ places. length places.items ≡ games) }
 {
-    let mut places = Vec::with_capacity(alloc, batch.len() as usize)?;
-    for _place in 0..batch.len() {
-        places.push(None)?;
+    let mut places = Vec::with_capacity(alloc, games as usize)?;
+    for _place in 0..games {
+        places.push(Texts {
+            lines: Bytes::new(alloc),
+            faults: Bytes::new(alloc),
+            faulty: 0,
+        })?;
     }
     Ok(places)
-}
-
-// The texts of all games of a batch, one after the other.
-fn joined(alloc: Global, maker: &TextMaker<'_>, places: &[Option<Texts>]) -> Result<Texts, NoMemory>
-    requires { ArePlaced maker.now.mark.now maker.now.batch.now places.now }
-    ensures { IfOk result (AreTextsOf maker.now.mark.now (number_of maker.now.batch.now + 1) (games_of maker.now.batch.now)) }
-{
-    let mut all = Texts {
-        lines: Bytes::new(alloc),
-        faults: Bytes::new(alloc),
-        faulty: 0,
-    };
-    for place in 0..u64::from(maker.batch.len()) {
-        let Some(texts) = &places[place as usize] else {
-            unreachable!()
-        };
-        all.lines.push_all(texts.lines.as_slice())?;
-        all.faults.push_all(texts.faults.as_slice())?;
-        all.faulty += texts.faulty;
-    }
-    Ok(all)
 }

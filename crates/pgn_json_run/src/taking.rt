@@ -1,13 +1,16 @@
 //! Writing what there is of each batch of games.
-ghost use Rattle.std.specs.Prelude.{◌≡◌, ◌≤◌};
+ghost use Rattle.std.specs.Prelude.{◌≡◌, ◌≤◌, length};
 ghost use Rattle.std.specs.Thread.{IsSync};
-ghost use Rattle.pgn_json_run.specs.Texts.{HasStopped, HasTaken};
-ghost use Rattle.pgn_json_run.specs.Writing.{sinks_of};
+ghost use Rattle.cq_batches.specs.Games.{games_of, number_of};
+ghost use Rattle.cq_batches.specs.Kept.{KeptGames};
+ghost use Rattle.pgn_json_run.specs.Texts.{AnswersBatch, HasStopped, HasTaken};
+ghost use Rattle.pgn_json_run.specs.Writing.{Sinks, sinks_of};
 
-use crate::making::batch_texts;
+use crate::making::{PART, TextMaker};
 use crate::status::Status;
+use crate::writing::write_part;
 use cq_batches::{Batch, Taker};
-use cq_outside::{Sink, write_all_of};
+use cq_outside::Sink;
 use std::alloc::Global;
 use std::thread::Threads;
 
@@ -35,17 +38,37 @@ impl<'a, R: Threads + Sync, O: Sink, E: Sink> Taker<O, E> for GameWriter<'a, R> 
         games batch status };
 
     fn take(&mut self, batch: &Batch, out: &mut O, err: &mut E) -> Option<Status> {
-        let Ok(texts) = batch_texts(self.rt, self.alloc, self.mark, batch, self.workers) else {
-            return Some(Status::NoMemory);
-        };
-        self.faulty += texts.faulty;
-        match write_all_of(out, texts.lines.as_slice()) {
-            Ok(()) => {}
-            Err(_) => return Some(Status::WriteFault),
-        }
-        match write_all_of(err, texts.faults.as_slice()) {
-            Ok(()) => None,
-            Err(_) => Some(Status::WriteFault),
-        }
+        write_batch(self, batch, out, err)
     }
+}
+
+// Writes what there is of a batch, some games after the other, so that little of it is held at once.
+fn write_batch<R: Threads + Sync, O: Sink, E: Sink>(
+    writer: &mut GameWriter<'_, R>,
+    batch: &Batch,
+    out: &mut O,
+    err: &mut E,
+) -> Option<Status>
+    requires { (was : Sinks) × (games : KeptGames) × (number_of batch.now ≡ length games)
+        × HasTaken writer.old.mark.now was (sinks_of O.taken O.faults E.taken E.faults out.old err.old) writer.old.faulty games }
+    ensures same { writer.new.mark ≡ writer.old.mark }
+    ensures answers { (was : Sinks) (games : KeptGames) → number_of batch.now ≡ length games
+        → HasTaken writer.old.mark.now was (sinks_of O.taken O.faults E.taken E.faults out.old err.old) writer.old.faulty games
+        → AnswersBatch writer.old.mark.now was (sinks_of O.taken O.faults E.taken E.faults out.new err.new) writer.new.faulty games
+        (games_of batch.now) result }
+{
+    let mut first = 0;
+    while first < u64::from(batch.len()) {
+        let maker = TextMaker {
+            mark: writer.mark,
+            batch,
+            first,
+        };
+        match write_part(writer.rt, writer.alloc, &maker, writer.workers, out, err) {
+            Ok(faulty) => writer.faulty += faulty,
+            Err(status) => return Some(status),
+        }
+        first += PART;
+    }
+    None
 }

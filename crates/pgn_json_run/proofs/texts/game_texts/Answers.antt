@@ -1,4 +1,4 @@
-use Rattle.std.proofs.Common.{◌≡◌, ◌+◌, Ok, Err, ap, refl, rules, subst, ◌∙◌}
+use Rattle.std.proofs.Common.{◌+◌, Ok, Err, ap, refl, rules, subst, ◌∙◌}
 use Rattle.pgn_reader.specs.Verdict.{IsRead}
 use Rattle.pgn_json_run.proofs.Entries.{text_read, text_faulty}
 use Rattle.cq_batches.specs.Games.{number_of}

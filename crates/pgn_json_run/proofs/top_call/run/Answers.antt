@@ -1,7 +1,6 @@
 use Rattle.std.proofs.Common.{Err, List, ℕ, map, refl, rules, subst, ap, ◌∙◌}
 use Rattle.std.specs.String.{string_bytes}
 use Rattle.cq_outside.specs.Told.{Opens}
-use Rattle.pgn_json_run.specs.Promise.{comment_of}
 use Rattle.pgn_json_run.proofs.Opening.{opened_and_read, unopened}
 use Rattle.pgn_json_run.proofs.top_call.run.Goals as goal
 
