@@ -8,6 +8,10 @@ mod Kept
 mod Given
 mod AnswerPromise
 mod OneOutcome
+mod Known
+mod Endings
+mod AllEndings
+mod OneBatch
 mod Reached
 mod AllRounds
 mod Rounds
