@@ -21,8 +21,8 @@ mod ManyRounds
 mod ManyEnds
 mod FirstGames
 mod FirstTexts
-mod FirstStops
-mod FirstRounds
+mod FirstEndings
+mod FirstBatch
 mod Pieces
 mod PiecesRead
 mod QueryFiles
