@@ -13,11 +13,9 @@ mod Endings
 mod AllEndings
 mod OneBatch
 mod Reached
-mod AllRounds
-mod Rounds
 mod Sorted
 mod Rows
-mod ManyRounds
+mod ManyBatch
 mod ManyEnds
 mod FirstGames
 mod FirstTexts
