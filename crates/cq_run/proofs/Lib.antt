@@ -12,7 +12,6 @@ mod Known
 mod Endings
 mod AllEndings
 mod OneBatch
-mod Reached
 mod Sorted
 mod Rows
 mod ManyBatch
