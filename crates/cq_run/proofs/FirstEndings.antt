@@ -350,7 +350,7 @@ no_games (g ∷ gs) none = absurd (omega (arith, none))
 -- nothing was read, and no batch is full
 no_batches : Laws → (k : ℕ) → AreFirst (whole (take k [])) []
 no_batches laws k =
-    let count = count_within 0 0 (cut []) (laws.order []) (omega arith) in
+    let count = count_within 0 0 (cut []) (laws.batches.order []) (omega arith) in
     let same = length-map (cut []) (kept []) in
     subst (λ gs. AreFirst (whole (take k [])) gs) (no_games (cut_games []) (omega (arith, count, same))) (cut_begins laws k [])
 

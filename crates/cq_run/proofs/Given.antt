@@ -1,18 +1,11 @@
--- The games of the batches that are given.
-use Rattle.std.proofs.Common.{◌≡◌, ℕ, ◌+◌, ◌≤◌, Bool, true, false, List, [], ◌∷◌, ◌++◌, length, length-append, append-nil, append_assoc, map, take, drop, Some, refl, ap, sym, ◌∙◌, arith}
-use Rattle.std.specs.Prelude.{slice_get, if◌then◌else◌}
-use Rattle.std.proofs.lemmas.Grind.{flat_map-append}
-use Rattle.std.proofs.lemmas.List.{take-append-le, take-append-drop, take_more, map-append, length-map}
-use Rattle.std.proofs.lemmas.Option.{slice_get_within, slice_get-get_or, get_or_from_slice_get}
-use Rattle.std.proofs.Math.ListN.{get_or-append}
+-- What the games that are kept are read as, and where those of whole batches stand.
+use Rattle.std.proofs.Common.{◌≡◌, ℕ, ◌+◌, Bool, List, [], ◌∷◌, ◌++◌, length, map, take, refl, ap, sym, ◌∙◌, arith}
 use Rattle.std.proofs.Math.Seq.{take-append_seam}
 use Rattle.std.proofs.lemmas.List.{take-map}
-use Rattle.cq_batches.specs.Kept.{KeptGames}
-use Rattle.cq_batches.specs.Batching.{batches, full_batches, full_from, is_full, left_over, as_last, flat}
-use Rattle.cq_batches.specs.Whole.{closed_games, cut_games, whole, whole_spans}
-use Rattle.cq_batches.specs.Kept.{kept, most_kept}
-use Rattle.cq_batches.proofs.Streams.{count_within}
-use Rattle.pgn_cut.specs.Cut.{cut, closed}
+use Rattle.cq_batches.specs.Batching.{left_over}
+use Rattle.cq_batches.specs.Kept.{KeptGames, kept, most_kept}
+use Rattle.cq_batches.specs.Whole.{closed_games, whole, whole_spans}
+use Rattle.pgn_cut.specs.Cut.{closed}
 use Rattle.pgn_cut.specs.Joined.{game_bytes}
 use Rattle.pgn_cut.specs.declared.span.Span.{Span}
 use Rattle.pgn_reader.specs.Verdict.{IsRead}
@@ -54,15 +47,8 @@ count_read [] (r ∷ rs) read = absurd read
 count_read (g ∷ gs) [] read = absurd read
 count_read (g ∷ gs) (r ∷ rs) read = let e = count_read gs rs read.1 in omega (arith, e)
 
--- more bytes close at least as many
-pub full_grows : Laws → (front more : List ℕ) → (rest : List KeptGames) × (full_batches (closed_games (front ++ more)) ≡ full_batches (closed_games front) ++ rest)
-full_grows laws front more =
-    let c = laws.closed_ front more in
-    let f = laws.full (closed_games front) c.0 in
-    (f.0, ap full_batches c.1 ∙ f.1)
-
 -- the games of the whole batches stand in the archive where its first closed games do
 pub whole_are : Laws → (front : List ℕ) → whole front ≡ map (kept front) (whole_spans front)
 whole_are laws front =
-    sym (take-append_seam (whole front) (left_over (closed_games front))) ∙ ap (take (length (whole front))) (laws.all (closed_games front))
+    sym (take-append_seam (whole front) (left_over (closed_games front))) ∙ ap (take (length (whole front))) (laws.batches.all (closed_games front))
     ∙ take-map (kept front) (length (whole front)) (closed front)

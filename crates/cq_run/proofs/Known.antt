@@ -17,7 +17,8 @@ use Rattle.cq_run.specs.ByBatches.{Laws}
 use Rattle.cq_run.specs.Outcomes.{AreRead, HasGames}
 use Rattle.cq_run.specs.Promise.{Answering}
 use Rattle.cq_run.specs.Takers.{Reading}
-use Rattle.cq_run.proofs.Given.{Rest, full_grows, kept_read_on, reads_archive, rest_of, whole_are}
+use Rattle.cq_batches.proofs.Given.{full_grows}
+use Rattle.cq_run.proofs.Given.{Rest, kept_read_on, reads_archive, rest_of, whole_are}
 
 pub record Known (call : Answering) : Type 0 where
   pub front : List ℕ
@@ -80,7 +81,7 @@ read_on laws archive spans games outcomes (others, are) read =
 pub first_closed : Laws → (front : List ℕ) (games : KeptGames) → AreFirst games (whole front) → AreFirst games (closed_games front)
 first_closed laws front games (rest, are) = (
   rest ++ left_over (closed_games front),
-  sym (laws.all (closed_games front)) ∙ ap (λ l. l ++ left_over (closed_games front)) are ∙ append_assoc games rest (left_over (closed_games front)),
+  sym (laws.batches.all (closed_games front)) ∙ ap (λ l. l ++ left_over (closed_games front)) are ∙ append_assoc games rest (left_over (closed_games front)),
 )
 
 pub first_spans : Laws → (front : List ℕ) (games : KeptGames) → AreFirst games (whole front) → AreFirst games (map (kept front) (whole_spans front))
@@ -89,7 +90,7 @@ first_spans laws front games (rest, are) = (rest, sym (whole_are laws front) ∙
 -- the whole batches of the first bytes are the first ones of all of them
 pub whole_first : Laws → (front more : List ℕ) → AreFirst (whole front) (whole (front ++ more))
 whole_first laws front more =
-    let f = full_grows laws front more in
+    let f = full_grows laws.batches front more in
     (flat f.0, ap flat f.1 ∙ flat_map-append (λ (x : KeptGames). x) (full_batches (closed_games front)) f.0)
 
 pub whole_begins : Laws → (k : ℕ) (front : List ℕ) → AreFirst (whole (take k front)) (whole front)
@@ -98,7 +99,7 @@ whole_begins laws k front = subst (λ f. AreFirst (whole (take k front)) (whole 
 -- and of all games
 pub cut_begins : Laws → (k : ℕ) (front : List ℕ) → AreFirst (whole (take k front)) (cut_games front)
 cut_begins laws k front =
-    let c = laws.cuts front in
+    let c = laws.batches.cuts front in
     let first = first_closed laws front (whole (take k front)) (whole_begins laws k front) in
     let last = map (kept front) c.0 in (
       first.0 ++ last,
