@@ -12,13 +12,13 @@ use Rattle.cq_shards.specs.Outcomes.{Outcome, AreKeptRead}
 use Rattle.cq_run.specs.declared.status.Status.{Status}
 use Rattle.cq_run.specs.declared.status.Status.TheVariants.{Done, DoneWithRefusals, QueryRefused, WordsRefused, OpenFault, ReadFault, WriteFault, NoMemory, ArchiveTooLong}
 use Rattle.cq_run.specs.ByBatches.{Laws}
-use Rattle.cq_run.specs.Promise.{Answering, Sinks, Writes, WritesPart, AnswersAll, AnswerPromise, ReadsNoMore, SaysOfAnswer, NoWriteFailed, IsOneOf}
+use Rattle.cq_run.specs.Promise.{Answering, Sinks, Writes, AnswersAll, AnswerPromise, ReadsNoMore, SaysOfAnswer, NoWriteFailed, IsOneOf}
 use Rattle.cq_run.specs.Status.{status_after}
 use Rattle.cq_run.specs.Takers.{Reading, StopsIn}
 use Rattle.cq_run.specs.Writing.{WritesAnswer}
 use Rattle.cq_run.proofs.AnswerPromise.{Asked, needs_all}
 use Rattle.cq_run.proofs.GameByGame.{as_prefix}
-use Rattle.cq_run.proofs.Known.{AllRead, Known, all_read, known_of, takes_some, with_none}
+use Rattle.cq_run.proofs.Known.{AllRead, all_read, known_of, takes_some, with_none}
 use Rattle.cq_run.proofs.Endings.{Broken, ends, finds_all, stopped, too_long, unread}
 use Rattle.cq_run.proofs.Sinks.{some_failed}
 

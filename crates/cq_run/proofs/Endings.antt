@@ -1,15 +1,15 @@
 -- How a call ends, from how the batches of the archive were taken.
-use Rattle.std.proofs.Common.{◌≡◌, ◌⊎◌, ℕ, ◌+◌, ◌≤◌, ◌<◌, List, [], ◌∷◌, ◌++◌, length, take, Some, refl, ap, sym, ◌∙◌, arith, subst, inl, inr}
-use Rattle.cq_batches.specs.Rounds.{AreFirst, Reads, ReadsAll, TakesWhole}
-use Rattle.cq_batches.specs.Whole.{closed_games, cut_games, whole, whole_spans}
+use Rattle.std.proofs.Common.{◌≡◌, ◌⊎◌, ℕ, ◌≤◌, ◌<◌, List, [], ◌∷◌, ◌++◌, length, take, Some, refl, arith, subst, inl, inr}
+use Rattle.cq_batches.specs.Rounds.{AreFirst, Reads, ReadsAll}
+use Rattle.cq_batches.specs.Whole.{cut_games, whole, whole_spans}
 use Rattle.cq_outside.specs.Faults.{Rose}
 use Rattle.pgn_cut.specs.Cut.{cut, closed}
 use Rattle.cq_shards.specs.Outcomes.{Outcome, AreKeptRead}
 use Rattle.cq_run.specs.declared.status.Status.{Status}
 use Rattle.cq_run.specs.declared.status.Status.TheVariants.{Done, DoneWithRefusals, QueryRefused, WordsRefused, OpenFault, ReadFault, WriteFault, NoMemory, ArchiveTooLong}
 use Rattle.cq_run.specs.ByBatches.{Laws}
-use Rattle.cq_run.specs.Promise.{Answering, Wanted, Texts, FindsAll, Stops, Breaks, Writes, WritesPart, WritesPrefix, WritesSome, SaysOfAnswer, Suffices, AnswersAll, AnswerPromise, ReadsNoMore, NothingFails, NoWriteFailed, OneSinkFailed, IsOneOf}
-use Rattle.cq_run.specs.Takers.{Reading, StopsIn}
+use Rattle.cq_run.specs.Promise.{Answering, Wanted, Texts, FindsAll, Stops, Breaks, WritesPart, WritesPrefix, WritesSome, SaysOfAnswer, Suffices, AnswersAll, AnswerPromise, ReadsNoMore, NothingFails, NoWriteFailed, OneSinkFailed, IsOneOf}
+use Rattle.cq_run.specs.Takers.{StopsIn}
 use Rattle.cq_run.proofs.AnswerPromise.{may_be, not_overrun, not_too_long}
 use Rattle.cq_run.proofs.Given.{reads_archive, whole_are}
 use Rattle.cq_run.proofs.Known.{AllRead, Known, ReadOn, first_closed, read_on, takes_some}

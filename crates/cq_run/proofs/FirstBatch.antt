@@ -1,5 +1,5 @@
 -- Taking a batch, up to the first match.
-use Rattle.std.proofs.Common.{◌≡◌, ℕ, ◌+◌, ◌^◌, ◌≤◌, ◌<◌, false, ◌++◌, length, ap, sym, ◌∙◌, arith, subst, inl, inr, List}
+use Rattle.std.proofs.Common.{◌≡◌, ◌+◌, ◌^◌, ◌≤◌, ◌<◌, false, ◌++◌, length, ap, sym, ◌∙◌, arith, subst, inl, inr, List}
 use Rattle.std.specs.Prelude.{count_by}
 use Rattle.std.proofs.lemmas.List.Sums.{count_by-le-length}
 use Rattle.cq_batches.specs.Games.{games_of, number_of}

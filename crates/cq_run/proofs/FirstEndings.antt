@@ -1,5 +1,5 @@
 -- How a call ends that answers up to the first match, from how the batches of the archive were taken.
-use Rattle.std.proofs.Common.{◌≡◌, ◌⊎◌, ℕ, ◌+◌, ◌-◌, ◌≤◌, ◌<◌, Bool, true, false, List, [], ◌∷◌, ◌++◌, length, take, Option, Some, None, Err, refl, ap, sym, ◌∙◌, arith, subst, inl, inr}
+use Rattle.std.proofs.Common.{◌≡◌, ◌⊎◌, ℕ, ◌-◌, ◌≤◌, ◌<◌, Bool, true, false, List, [], ◌∷◌, ◌++◌, length, take, Option, Some, None, Err, refl, ap, sym, ◌∙◌, arith, subst, inl, inr}
 use Rattle.std.specs.List.{flat_map}
 use Rattle.std.specs.Io.KnownBytes.{Consumes}
 use Rattle.std.proofs.lemmas.List.{take-append-le}
@@ -18,8 +18,8 @@ use Rattle.cq_run.specs.Answer.{export_if, fault_lines}
 use Rattle.cq_run.specs.ByBatches.{Laws}
 use Rattle.cq_run.specs.FirstGame.{AreFirst as AreFirstGames, first_texts, first_texts_of, some_match, up_to_first, wanted}
 use Rattle.cq_run.specs.Outcomes.{AreRead}
-use Rattle.cq_run.specs.Promise.{Answering, Sinks, SinkView, SourceView, sinks_of, Texts, Finds, Suffices, AnswersAll, AnswerPromise, NothingFails}
-use Rattle.cq_run.specs.Promise.{SaysOfAnswer, EndsEarly, IsOneOf, Unfinished, Writes, WritesPrefix, WritesAll, WritesPart, NoWriteFailed, OneSinkFailed}
+use Rattle.cq_run.specs.Promise.{Answering, Sinks, SinkView, SourceView, sinks_of, Texts, Finds, Suffices, AnswersAll, AnswerPromise}
+use Rattle.cq_run.specs.Promise.{SaysOfAnswer, EndsEarly, IsOneOf, Unfinished, Writes, WritesPrefix, WritesAll, WritesPart}
 use Rattle.cq_run.specs.Takers.{FirstStopped, FirstWritten, FoundNone, FoundOne, Reading, StopsIn, refused_of}
 use Rattle.cq_run.specs.Writing.{FoundSoFar, Stand, WritesSummary, stand_of}
 use Rattle.cq_run.proofs.FirstGames.{all_up, are_first, first_is, some_grows, texts_same, no_first}

@@ -1,5 +1,5 @@
 -- What is written up to the first match, and what is read before it.
-use Rattle.std.proofs.Common.{◌≡◌, ℕ, ◌+◌, ◌-◌, ◌≤◌, ◌<◌, true, false, List, [], ◌∷◌, ◌++◌, length, append_assoc, append-nil, take, drop, refl, ap, ap₂, sym, ◌∙◌, arith, subst, inr}
+use Rattle.std.proofs.Common.{◌≡◌, ℕ, ◌+◌, ◌-◌, ◌<◌, true, false, List, [], ◌∷◌, ◌++◌, length, append_assoc, append-nil, take, refl, ap, ap₂, sym, ◌∙◌, subst, inr}
 use Rattle.std.specs.List.{flat_map}
 use Rattle.std.specs.Io.KnownBytes.{Consumes}
 use Rattle.std.proofs.lemmas.Grind.{flat_map-append}
@@ -18,7 +18,7 @@ use Rattle.cq_run.specs.AllGames.{texts_so_far}
 use Rattle.cq_run.specs.ByBatches.{HaveOneOutcome, Laws}
 use Rattle.cq_run.specs.FirstGame.{first_export, first_texts, first_texts_of, some_match, up_to_first}
 use Rattle.cq_run.specs.Outcomes.{AreRead}
-use Rattle.cq_run.specs.Promise.{Answering, SinkView, Sinks, Texts, Suffices, ReadsNoMore, Writes, WritesPrefix, NoWriteFailed, OneSinkFailed}
+use Rattle.cq_run.specs.Promise.{Answering, SinkView, Sinks, Texts, Suffices, ReadsNoMore, Writes, WritesPrefix}
 use Rattle.cq_run.specs.Takers.{FirstWritten, refused_of}
 use Rattle.cq_run.specs.Writing.{FoundSoFar, Stand, WritesSummary, stand_of}
 use Rattle.cq_run.specs.declared.status.Status.{Status}

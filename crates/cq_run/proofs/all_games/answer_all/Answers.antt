@@ -1,4 +1,4 @@
-use Rattle.std.proofs.Common.{[], Ok, Err, ap, sym, subst, ◌∙◌, refl, rules}
+use Rattle.std.proofs.Common.{[], Ok, ap, sym, subst, ◌∙◌, refl, rules}
 use Rattle.cq_shards.specs.Answers.{query_in}
 use Rattle.cq_run.specs.Promise.{AnswerPromise, source_view, sink_view, sinks_of}
 use Rattle.cq_run.specs.Takers.{task_of}

@@ -1,4 +1,4 @@
-use Rattle.std.proofs.Common.{◌+◌, ◌≤◌, [], Ok, ap, map, sym, subst, ◌∙◌, arith, refl, rules}
+use Rattle.std.proofs.Common.{Ok, ap, map, sym, subst, ◌∙◌, arith, refl, rules}
 use Rattle.std.proofs.lemmas.List.{length-map}
 use Rattle.cql_syntax.specs.TreeOf.{query_tree}
 use Rattle.cq_shared.specs.Plans.{queries_of, trees_of}

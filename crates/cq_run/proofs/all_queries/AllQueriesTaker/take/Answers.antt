@@ -1,5 +1,5 @@
 use Rattle.std.proofs.lemmas.Fn.{says_at}
-use Rattle.std.proofs.Common.{◌++◌, refl, ◌+◌, ◌≤◌, ap, sym, ◌∙◌, arith, map, subst, Err}
+use Rattle.std.proofs.Common.{◌++◌, refl, ap, sym, ◌∙◌, arith, map, subst, Err}
 use Rattle.std.proofs.lemmas.List.{length-map}
 use Rattle.cq_batches.specs.Games.{games_of}
 use Rattle.cq_shared.specs.Plans.{queries_of, trees_of}
