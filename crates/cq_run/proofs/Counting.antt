@@ -1,25 +1,26 @@
 -- Counting what a query finds, batch by batch.
-use Rattle.std.proofs.Common.{◌≡◌, inl, inr, ℕ, ◌+◌, ◌^◌, false, ℤ, List, [], ◌∷◌, ◌++◌, length, length-append, append_assoc, append-nil, take, Some, ◌<◌, ◌≤◌, arith, refl, ap, sym, ◌∙◌, cond, subst, Ok, Err}
+use Rattle.std.proofs.Common.{◌≡◌, inl, inr, ℕ, ◌+◌, ◌^◌, ℤ, List, [], ◌∷◌, ◌++◌, length, length-append, append_assoc, append-nil, take, Some, ◌<◌, ◌≤◌, arith, refl, ap, sym, ◌∙◌, cond, subst, Ok, Err}
 use Rattle.std.specs.List.{flat_map}
 use Rattle.std.proofs.lemmas.Grind.{flat_map-append}
 use Rattle.std.proofs.lemmas.List.Concat.{length-flat_map}
 use Rattle.std.proofs.lemmas.List.Sums.{count_by-le-length}
 use Rattle.std.proofs.lemmas.List.Sorted.{sum_by-IsPermutation}
 use Rattle.cq_batches.specs.Games.{games_of, number_of}
-use Rattle.cq_batches.specs.Nexts.{GivesBatch, HasGivenAll, HasGivenFull, HasBatchCause, Moves, SaysNext}
-use Rattle.cq_batches.specs.Streams.{Stands}
+use Rattle.cq_batches.specs.Kept.{KeptGames}
+use Rattle.cq_batches.specs.Rounds.{HasRoundsCause, ReadsAll, SaysRounds}
+use Rattle.cq_batches.specs.Whole.{cut_games}
 use Rattle.cq_batches.specs.declared.batch.Batch.{Batch}
 use Rattle.cq_batches.specs.declared.state.BatchFault.{BatchFault}
 use Rattle.cq_batches.specs.declared.state.BatchFault.TheVariants.{ReadFault, ArchiveTooLong}
-use Rattle.cq_batches.specs.declared.state.Batches.{Batches}
 use Rattle.cq_outside.specs.Faults.{Rose}
 use Rattle.cq_outside.specs.declared.faults.Refusal.TheVariants.{Fault}
 use Rattle.cq_shards.specs.Answers.{AnswersBatch, answers_from, found_in, text_of}
-use Rattle.cq_shards.specs.Outcomes.{AreKeptRead, Outcome}
+use Rattle.cq_shards.specs.Outcomes.{Outcome}
 use Rattle.cq_shards.specs.declared.answers.Answer.TheVariants.{Match, Miss, Refused}
 use Rattle.cq_shards.specs.declared.answers.GameAnswer.{GameAnswer}
 use Rattle.cql_syntax.specs.Hits.{marked}
 use Rattle.cql_syntax.specs.Trees.{QueryTree}
+use Rattle.pgn_cut.specs.Cut.{cut}
 use Rattle.pgn_export.specs.Export.{export_text}
 use Rattle.pgn_reader.specs.declared.fault.GameFault.{GameFault}
 use Rattle.cq_run.specs.declared.tally.Tally.{Tally}
@@ -28,14 +29,14 @@ use Rattle.cq_run.specs.Answer.{export_if, is_match, is_refused}
 use Rattle.cq_run.specs.Exports.{AreExports, matches_from}
 use Rattle.cq_run.specs.ByBatches.{Laws}
 use Rattle.cq_run.specs.Outcomes.{HasGames}
-use Rattle.cq_run.specs.Promise.{SourceView}
 use Rattle.cq_run.specs.SelfRun.{AreTotals, totals_of}
+use Rattle.cq_run.specs.Takers.{Reading, Taken}
 use Rattle.cq_run.specs.Writing.{counted}
 use Rattle.cq_run.proofs.AnswerPromise.{may_be}
 use Rattle.cq_run.proofs.GameByGame.{InBatch, IsFound, answers_count, is_faulty, is_found, is_no_match, next_in, same_tally, tallied_more, tally_with}
 use Rattle.cq_run.proofs.Exports.{texts_same}
-use Rattle.cq_run.proofs.Given.{count_read, given, given_few, kept_read_on}
-use Rattle.cq_run.proofs.Reached.{Known, Place, Reached, all_read, moved, no_reads, place_of, rounds_few, turned}
+use Rattle.cq_run.proofs.Given.{count_read, reads_archive}
+use Rattle.cq_run.proofs.Known.{reading_on}
 
 -- ---- one game
 
@@ -104,170 +105,69 @@ same_length query outcomes exports are =
     ∙ sym (sum_by-IsPermutation (λ (a : GameAnswer). length (text_of a.what)) here are.sorted are.same)
     ∙ sym (length-flat_map (λ (a : GameAnswer). text_of a.what) are.sorted) ∙ sym (ap length are.is)
 
-abbrev pub sure : List ℕ → SourceView
-sure bytes = record { left = Some bytes; faults = 0 }
+-- what was counted of the games that were taken
+abbrev pub CountedIn : QueryTree → ℕ → Totals → KeptGames → Type 0
+CountedIn query bytes totals games = Reading games (λ outcomes. totals ≡ totals_of query bytes outcomes)
 
--- a count over an archive in memory: the query, how far it has read, and what it has found
-pub record Count : Type 0 where
-  pub query : QueryTree
-  pub archive : List ℕ
-  pub limit : ℕ
-  pub b : Batches
-  pub left : List ℕ
-  pub totals : Totals
+-- by what is asked now, which is what was asked
+pub counted_now : (was now : QueryTree) (bytes : ℕ) (totals : Totals) (games : KeptGames) → Taken was now games (λ outcomes. totals ≡ totals_of was bytes outcomes)
+    → CountedIn now bytes totals games
+counted_now was now bytes totals games taken = subst (λ q. CountedIn q bytes totals games) (sym taken.same) taken.reading
 
-abbrev pub count_of : QueryTree → List ℕ → ℕ → Batches → List ℕ → Totals → Count
-count_of query archive limit b left totals = record { query = query; archive = archive; limit = limit; b = b; left = left; totals = totals }
-
-abbrev pub place_in : Count → Place
-place_in count = place_of count.limit count.b (sure count.archive) (sure count.left)
-
--- after a call for the next batch
-abbrev pub count_on : Count → Batches → List ℕ → Count
-count_on count now after = count_of count.query count.archive count.limit now after count.totals
-
--- the games of the batches given are counted
-pub record CountedSoFar (count : Count) : Type 0 where
-  pub front : List ℕ
-  pub m : ℕ
-  pub outcomes : List Outcome
-  pub stands : Stands count.b front m
-  pub reached : Reached (place_in count) front m
-  pub are_read : AreKeptRead (given front m) outcomes
-  pub totals_ : count.totals ≡ totals_of count.query (length count.archive) outcomes
-
-pub none_counted : (query : QueryTree) (archive : List ℕ) (limit : ℕ) (b : Batches) (totals : Totals) → Stands b [] 0 → b.limit ≡ limit → b.ended ≡ false
-    → totals ≡ totals_of query (length archive) [] → CountedSoFar (count_of query archive limit b archive totals)
-none_counted query archive limit b totals stands same reads none = record {
-  front = [];
-  m = 0;
-  outcomes = [];
-  stands = stands;
-  reached = no_reads limit b (sure archive) same reads;
-  are_read = tt;
-  totals_ = none;
-}
-
--- a batch more was given
-pub record CountsTurn (count : Count) (batch : Batch) (t : ℕ) : Type 0 where
-  pub front : List ℕ
-  pub m : ℕ
-  pub turns : t ≤ m
-  pub outcomes : List Outcome
-  pub stands : Stands count.b front (m + 1)
-  pub reached : Reached (place_in count) front (m + 1)
-  pub games : given front (m + 1) ≡ given front m ++ games_of batch
-  pub are_read : AreKeptRead (given front m) outcomes
-  pub index : number_of batch ≡ length outcomes
-  pub totals_ : count.totals ≡ totals_of count.query (length count.archive) outcomes
-
-pub counts_turn : Laws → (count : Count) (now : Batches) (after : List ℕ) (batch : Batch) (t : ℕ) → (so : CountedSoFar count) → t ≤ so.m
-    → Moves count.b now (Some count.left) (Some after) (GivesBatch now batch) → CountsTurn (count_on count now after) batch t
-counts_turn laws count now after batch t so turns moves =
-    let at = moved laws (place_in count) now (sure after) so.front so.m (GivesBatch now batch) so.stands so.reached moves in
-    let gives = moves.given so.front so.m so.stands in
-    let turn = turned laws (place_in (count_on count now after)) (so.front ++ moves.bytes) so.m batch at.reached gives in
-    let read : AreKeptRead (given (so.front ++ moves.bytes) so.m) so.outcomes = subst (λ gs. AreKeptRead gs so.outcomes) (sym at.same) so.are_read in
-    record {
-      front = so.front ++ moves.bytes;
-      m = so.m;
-      turns = turns;
-      outcomes = so.outcomes;
-      stands = gives.stands;
-      reached = turn.reached;
-      games = turn.games;
-      are_read = read;
-      index = turn.index ∙ count_read (given (so.front ++ moves.bytes) so.m) so.outcomes read;
-      totals_ = so.totals_;
-    }
-
-pub turn_few : Laws → (count : Count) (batch : Batch) (answers : List GameAnswer) (t : ℕ) → count.limit ≤ 2 ^ 40 → CountsTurn count batch t
-    → AnswersBatch count.query batch answers → count.totals.tally.games + length answers < 2 ^ 62
-turn_few laws count batch answers t low turn answered =
-    let games : count.totals.tally.games ≡ length turn.outcomes = ap (λ (t : Totals). t.tally.games) turn.totals_ in
-    let before = count_read (given turn.front turn.m) turn.outcomes turn.are_read in
-    let long : length answers ≡ length answered.outcomes = ap length answered.are ∙ answers_count count.query (number_of batch) answered.outcomes in
+pub count_few : (query : QueryTree) (bytes : ℕ) (totals : Totals) (games : KeptGames) (batch : Batch) (answers : List GameAnswer) → CountedIn query bytes totals games
+    → number_of batch ≡ length games → AnswersBatch query batch answers → totals.tally.games + length answers < 2 ^ 62
+count_few query bytes totals games batch answers at index answered =
+    let counts : totals.tally.games ≡ length at.outcomes = ap (λ (t : Totals). t.tally.games) at.holds in
+    let before = count_read games at.outcomes at.are_read in
+    let long : length answers ≡ length answered.outcomes = ap length answered.are ∙ answers_count query (number_of batch) answered.outcomes in
     let read = count_read (games_of batch) answered.outcomes answered.are_read in
-    let more : length (given turn.front (turn.m + 1)) ≡ length (given turn.front turn.m ++ (games_of batch)) = ap length turn.games in
-    let parts = length-append (given turn.front turn.m) (games_of batch) in
-    let most = given_few laws turn.front (turn.m + 1) in
-    let few = turn.reached.few in
-    omega (arith, games, before, long, read, more, parts, most, few, low)
+    let most = batch.numbers in
+    omega (arith, counts, before, long, read, most, index)
 
-pub turn_counted : (count : Count) (new : Totals) (batch : Batch) (answers : List GameAnswer) (t : ℕ) → (turn : CountsTurn count batch t)
-    → (answered : AnswersBatch count.query batch answers)
-    → ((bytes : ℕ) (rs qs : List Outcome) → answers ≡ answers_from count.query (length rs) qs → count.totals ≡ totals_of count.query bytes rs
-    → new ≡ totals_of count.query bytes (rs ++ qs))
-    → (so : CountedSoFar (count_of count.query count.archive count.limit count.b count.left new)) × (t + 1 ≤ so.m)
-turn_counted count new batch answers t turn answered counts = (
-  record {
-    front = turn.front;
-    m = turn.m + 1;
-    outcomes = turn.outcomes ++ answered.outcomes;
-    stands = turn.stands;
-    reached = turn.reached;
-    are_read = subst (λ gs. AreKeptRead gs (turn.outcomes ++ answered.outcomes)) (sym turn.games)
-        (kept_read_on (given turn.front turn.m) (games_of batch) turn.outcomes answered.outcomes turn.are_read answered.are_read);
-    totals_ = counts (length count.archive) turn.outcomes answered.outcomes
-        (answered.are ∙ ap (λ n. answers_from count.query n answered.outcomes) turn.index) turn.totals_;
-  },
-  let a = turn.turns in omega (arith, a),
+-- the totals count no more than the games
+pub count_within : (query : QueryTree) (bytes : ℕ) (totals : Totals) (games : KeptGames) → CountedIn query bytes totals games
+    → (totals.tally.matched ≤ totals.tally.games) × (totals.tally.refused ≤ totals.tally.games)
+count_within query bytes totals games at = (
+  subst (λ (t : Totals). t.tally.matched ≤ t.tally.games) (sym at.holds) (count_by-le-length (is_match query) at.outcomes),
+  subst (λ (t : Totals). t.tally.refused ≤ t.tally.games) (sym at.holds) (count_by-le-length is_refused at.outcomes),
 )
 
+-- and those of a batch
+pub counted_on : (query : QueryTree) (bytes : ℕ) (totals new : Totals) (games : KeptGames) (batch : Batch) (answers : List GameAnswer)
+    → (at : CountedIn query bytes totals games) → number_of batch ≡ length games → (answered : AnswersBatch query batch answers)
+    → (answers ≡ answers_from query (length at.outcomes) answered.outcomes → totals ≡ totals_of query bytes at.outcomes
+    → new ≡ totals_of query bytes (at.outcomes ++ answered.outcomes)) → CountedIn query bytes new (games ++ games_of batch)
+counted_on query bytes totals new games batch answers at index answered counts =
+    let are = answered.are ∙ ap (λ n. answers_from query n answered.outcomes) (index ∙ count_read games at.outcomes at.are_read) in
+    reading_on games batch (λ outcomes. totals ≡ totals_of query bytes outcomes) (λ outcomes. new ≡ totals_of query bytes outcomes) at answered.outcomes answered.are_read
+    (counts are at.holds)
+
 -- all games were counted
-pub all_counted : Laws → (query : QueryTree) (archive : List ℕ) (limit : ℕ) (was now : Batches) (left after : List ℕ) (totals : Totals)
-    → CountedSoFar (count_of query archive limit was left totals) → Moves was now (Some left) (Some after) (HasGivenAll now) → AreTotals query archive totals
-all_counted laws query archive limit was now left after totals so moves =
-    let at = moved laws (place_of limit was (sure archive) (sure left)) now (sure after) so.front so.m (HasGivenAll now) so.stands so.reached moves in
-    let front = so.front ++ moves.bytes in
-    let known : Known (place_of limit now (sure archive) (sure after)) = record {
-      front = front;
-      m = so.m;
-      outcomes = so.outcomes;
-      reached = at.reached;
-      are_read = subst (λ gs. AreKeptRead gs so.outcomes) (sym at.same) so.are_read;
-    } in
-    let all = all_read laws (place_of limit now (sure archive) (sure after)) known refl (moves.given so.front so.m so.stands) in
-    let same : archive ≡ front = may_be (Some archive) (Some after) front all.takes all.at_end in
+pub all_counted : Laws → (query : QueryTree) (archive front after : List ℕ) (limit : ℕ) (totals : Totals) → ReadsAll limit (Some archive) (Some after) front
+    → CountedIn query (length archive) totals (cut_games front) → AreTotals query archive totals
+all_counted laws query archive front after limit totals reads at =
+    let same : archive ≡ front = may_be (Some archive) (Some after) front reads.takes reads.at_end in
     record {
-      outcomes = so.outcomes;
-      holds = subst (λ a. HasGames a so.outcomes) (sym same) all.are_read;
-      bytes = ap (λ (t : Totals). t.bytes) so.totals_;
-      tally = ap (λ (t : Totals). t.tally) so.totals_;
-      written = ap (λ (t : Totals). t.written) so.totals_;
-      as_run = λ exports are. ap (λ (t : Totals). t.written) so.totals_ ∙ same_length query so.outcomes exports are;
+      outcomes = at.outcomes;
+      holds = subst (λ a. HasGames a at.outcomes) (sym same) (reads_archive laws front (cut front) at.outcomes at.are_read);
+      bytes = ap (λ (t : Totals). t.bytes) at.holds;
+      tally = ap (λ (t : Totals). t.tally) at.holds;
+      written = ap (λ (t : Totals). t.written) at.holds;
+      as_run = λ exports are. ap (λ (t : Totals). t.written) at.holds ∙ same_length query at.outcomes exports are;
     }
 
 -- a source in memory never fails, and its bytes are not too many
-pub none_rose : Rose 0 0 → ⊥
+none_rose : Rose 0 0 → ⊥
 none_rose (inl less) = omega (arith, less)
 none_rose (inr last) = omega (arith, last)
 
-taken_few : (archive front rest : List ℕ) → archive ≡ front ++ rest → length front ≤ length archive
-taken_few archive front rest is = let l = length-append front rest in let e : length archive ≡ length (front ++ rest) = ap length is in omega (arith, l, e)
+none_too_long : (archive front after : List ℕ) (limit : ℕ) → archive ≡ front ++ after → length archive ≤ limit → limit < length front → ⊥
+none_too_long archive front after limit is low long =
+    let parts = length-append front after in
+    let lengths : length archive ≡ length (front ++ after) = ap length is in
+    omega (arith, parts, lengths, low, long)
 
-pub none_too_long : Laws → (count : Count) (now : Batches) (after : List ℕ) → CountedSoFar count
-    → Moves count.b now (Some count.left) (Some after) (HasGivenFull count.b (λ n. count.b.limit < n)) → length count.archive ≤ count.limit → ⊥
-none_too_long laws count now after so moves low =
-    let at = moved laws (place_in count) now (sure after) so.front so.m (HasGivenFull count.b (λ n. count.b.limit < n)) so.stands so.reached moves in
-    let long = (moves.given so.front so.m so.stands).taken in
-    let few = taken_few count.archive (so.front ++ moves.bytes) after at.reached.takes in
-    let same = so.reached.limit_ in
-    omega (arith, long, few, same, low)
-
-pub never_faults : Laws → (count : Count) (now : Batches) (after : List ℕ) (fault : BatchFault) → CountedSoFar count → length count.archive ≤ count.limit
-    → SaysNext count.b now (Some count.left) (Some after) (Err (Fault fault)) → HasBatchCause 0 0 (Err (Fault fault)) → ⊥
-never_faults laws count now after ReadFault so low says cause = none_rose cause.1
-never_faults laws count now after ArchiveTooLong so low says cause = none_too_long laws count now after so says low
-
-pub few_counts : Laws → (query : QueryTree) (archive : List ℕ) (limit : ℕ) (b : Batches) (left : List ℕ) (totals : Totals) → (so : CountedSoFar (count_of query archive limit b left totals))
-    → so.m < limit + 3
-few_counts laws query archive limit b left totals so = rounds_few laws (place_of limit b (sure archive) (sure left)) so.front so.m so.reached
-
-pub matched_few : (query : QueryTree) (archive : List ℕ) (limit : ℕ) (b : Batches) (left : List ℕ) (totals : Totals) → CountedSoFar (count_of query archive limit b left totals)
-    → totals.tally.matched ≤ totals.tally.games
-matched_few query archive limit b left totals so = subst (λ (t : Totals). t.tally.matched ≤ t.tally.games) (sym so.totals_) (count_by-le-length (is_match query) so.outcomes)
-
-pub refused_few : (query : QueryTree) (archive : List ℕ) (limit : ℕ) (b : Batches) (left : List ℕ) (totals : Totals) → CountedSoFar (count_of query archive limit b left totals)
-    → totals.tally.refused ≤ totals.tally.games
-refused_few query archive limit b left totals so = subst (λ (t : Totals). t.tally.refused ≤ t.tally.games) (sym so.totals_) (count_by-le-length is_refused so.outcomes)
+pub never_faults : {X : Type 0} (archive after : List ℕ) (limit : ℕ) (fault : BatchFault) (Taken : KeptGames → Type 0) (Stopped : KeptGames → KeptGames → X → Type 0)
+    → length archive ≤ limit → SaysRounds limit (Some archive) (Some after) Taken Stopped (Err (Fault fault)) → HasRoundsCause {X = X} 0 0 (Err (Fault fault)) → ⊥
+never_faults archive after limit ReadFault Taken Stopped low says cause = none_rose cause
+never_faults archive after limit ArchiveTooLong Taken Stopped low says cause = none_too_long archive says.front after limit says.reads.takes low says.count

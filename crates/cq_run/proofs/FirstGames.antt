@@ -17,7 +17,7 @@ use Rattle.cq_shards.specs.declared.answers.Answer.TheVariants.{Miss, Match}
 use Rattle.cq_shards.specs.declared.answers.GameAnswer.{GameAnswer}
 use Rattle.cq_run.specs.Answer.{export_if, is_match, tally_of, report_of}
 use Rattle.cq_run.specs.ByBatches.{HaveOutcomes}
-use Rattle.cq_run.specs.FirstGame.{AreFirst, first_export, some_match, up_to_first}
+use Rattle.cq_run.specs.FirstGame.{AreFirst, first_export, first_texts_of, some_match, up_to_first}
 use Rattle.cq_run.specs.Promise.{Texts}
 use Rattle.cq_run.proofs.Given.{Rest, rest_of}
 
@@ -139,9 +139,6 @@ no_first query [] none = refl
 no_first query (r ∷ rs) none = first_none (is_match query r) (some_match query rs) (export_if query r) (first_export query rs) none (no_first query rs)
 
 -- ---- the texts
-
-abbrev pub first_texts_of : QueryTree → List Outcome → Texts
-first_texts_of query rs = record { out = first_export query rs; err = report_of query (up_to_first query rs) }
 
 pub are_first : (query : QueryTree) (rs : List Outcome) → AreFirst query rs (tally_of query (up_to_first query rs)).refused (first_texts_of query rs)
 are_first query rs = record { export = refl; report = refl; count = refl }

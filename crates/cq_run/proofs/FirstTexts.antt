@@ -1,17 +1,14 @@
 -- What is written up to the first match, and what is read before it.
-use Rattle.std.proofs.Common.{◌≡◌, ℕ, ◌+◌, ◌-◌, ◌≤◌, ◌<◌, true, false, List, [], ◌∷◌, ◌++◌, length, append_assoc, append-nil, take, drop, refl, ap, ap₂, sym, ◌∙◌, arith, subst, inr}
+use Rattle.std.proofs.Common.{◌≡◌, ℕ, ◌+◌, ◌-◌, ◌<◌, true, false, List, [], ◌∷◌, ◌++◌, length, append_assoc, append-nil, take, refl, ap, ap₂, sym, ◌∙◌, subst, inr}
 use Rattle.std.specs.List.{flat_map}
 use Rattle.std.specs.Io.KnownBytes.{Consumes}
-use Rattle.std.proofs.Math.Seq.{take-append-add}
 use Rattle.std.proofs.lemmas.Grind.{flat_map-append}
-use Rattle.std.proofs.lemmas.List.{take-append-drop}
-use Rattle.cq_batches.specs.Batching.{batches, full_batches, left_over, flat}
-use Rattle.cq_batches.specs.Filling.{IsNeeded, most_read}
-use Rattle.cq_batches.specs.Kept.{KeptGames, kept}
-use Rattle.cq_batches.specs.Whole.{closed_games, cut_games, whole, whole_spans}
+use Rattle.cq_batches.specs.Filling.{most_read}
+use Rattle.cq_batches.specs.Kept.{KeptGames}
+use Rattle.cq_batches.specs.Rounds.{AreFirst}
+use Rattle.cq_batches.specs.Whole.{whole, whole_spans}
 use Rattle.cq_outside.specs.Flow.{Grew}
 use Rattle.cql_syntax.specs.Trees.{QueryTree}
-use Rattle.pgn_cut.specs.Cut.{cut, closed}
 use Rattle.pgn_cut.specs.Joined.{game_bytes}
 use Rattle.pgn_cut.specs.declared.span.Span.{Span}
 use Rattle.cq_shards.specs.Outcomes.{Outcome, AreKeptRead}
@@ -19,41 +16,20 @@ use Rattle.cq_shards.specs.declared.answers.GameAnswer.{GameAnswer}
 use Rattle.cq_run.specs.Answer.{export_if, fault_lines, summary_of, tally_of}
 use Rattle.cq_run.specs.AllGames.{texts_so_far}
 use Rattle.cq_run.specs.ByBatches.{HaveOneOutcome, Laws}
-use Rattle.cq_run.specs.FirstGame.{first_export, first_texts, some_match, up_to_first}
+use Rattle.cq_run.specs.FirstGame.{first_export, first_texts, first_texts_of, some_match, up_to_first}
 use Rattle.cq_run.specs.Outcomes.{AreRead}
-use Rattle.cq_run.specs.Promise.{SourceView, SinkView, Sinks, Texts, Suffices, ReadsNoMore, Writes, WritesPrefix, NoWriteFailed, OneSinkFailed}
+use Rattle.cq_run.specs.Promise.{Answering, SinkView, Sinks, Texts, Suffices, ReadsNoMore, Writes, WritesPrefix}
+use Rattle.cq_run.specs.Takers.{FirstWritten, refused_of}
 use Rattle.cq_run.specs.Writing.{FoundSoFar, Stand, WritesSummary, stand_of}
 use Rattle.cq_run.specs.declared.status.Status.{Status}
 use Rattle.cq_run.specs.declared.status.Status.TheVariants.{Done, DoneWithRefusals, QueryRefused, WordsRefused, OpenFault, ReadFault, WriteFault, NoMemory, ArchiveTooLong}
 use Rattle.cq_run.specs.declared.tally.Tally.{Tally}
-use Rattle.cq_run.proofs.AnswerPromise.{answer_call}
 use Rattle.cq_run.proofs.GameByGame.{both_prefix, fault_lines_on, part_more, took_more}
-use Rattle.cq_run.proofs.FirstGames.{first_is, first_texts_of, some_grows, texts_same, up_grows, up_same}
-use Rattle.cq_run.proofs.Given.{Rest, all_batches, full_first, full_grows, given, given_full, kept_read_on, reads_archive, rest_of, whole_are}
+use Rattle.cq_run.proofs.FirstGames.{first_is, some_grows, texts_same, up_grows, up_same}
+use Rattle.cq_run.proofs.Given.{reads_archive, whole_are}
 use Rattle.cq_run.proofs.Sinks.{Took, with_err, then_err, fails_after, grew_on, took_count, took_front, unwritten}
 
 -- ---- no game of the batches before was a match
-
--- the batches before were all that the bytes before the last piece fill
-abbrev pub Needed : List ℕ → ℕ → Type 0
-Needed front m = length (full_batches (closed_games (take (length front - most_read) front))) ≤ m
-
-pub needed_on : (front bytes : List ℕ) (m : ℕ) → Needed front m → IsNeeded front bytes m → Needed (front ++ bytes) m
-needed_on front [] m so step = subst (λ f. Needed f m) (sym (append-nil front)) so
-needed_on front (y ∷ ys) m so step = step (omega arith)
-
--- the games of the whole batches of the first bytes are the first ones of those given
-pub given_begins : Laws → (front : List ℕ) (k m : ℕ) → length (full_batches (closed_games (take k front))) ≤ m → (more : KeptGames) × (given front m ≡ whole (take k front) ++ more)
-given_begins laws front k m low =
-    let full = full_batches (closed_games (take k front)) in
-    let grown = full_grows laws (take k front) (drop k front) in
-    let first = full_first laws front in
-    let more = grown.0 ++ first.0 in
-    let are : batches (cut_games front) ≡ full ++ more =
-    first.1 ∙ ap (λ f. full_batches (closed_games f) ++ first.0) (sym (take-append-drop k front)) ∙ ap (λ l. l ++ first.0) grown.1 ∙ append_assoc full grown.0 first.0 in
-    let parts : m ≡ length full + (m - length full) = omega (arith, low) in
-    let taken : take m (full ++ more) ≡ full ++ take (m - length full) more = ap (λ n. take n (full ++ more)) parts ∙ take-append-add full more (m - length full) in
-    (flat (take (m - length full) more), ap (λ l. flat (take m l)) are ∙ ap flat taken ∙ flat_map-append (λ (b : KeptGames). b) full (take (m - length full) more))
 
 -- what is read of some games is what is read of the first ones, and of the others
 pub record KeptSplit (gs : KeptGames) (rs : List Outcome) : Type 0 where
@@ -82,31 +58,30 @@ one_read one archive (s ∷ ss) (q ∷ qs) (r ∷ rs) x y =
 pub none_of_both : (query : QueryTree) (rs front back : List Outcome) → rs ≡ front ++ back → some_match query rs ≡ false → some_match query front ≡ true → ⊥
 none_of_both query rs front back is none some = let e : true ≡ false = sym (some_grows query front back some) ∙ ap (some_match query) (sym is) ∙ none in cc
 
-pub not_enough : Laws → (query : QueryTree) (front : List ℕ) (k m : ℕ) (rs : List Outcome) → length (full_batches (closed_games (take k front))) ≤ m → AreKeptRead (given front m) rs
-    → some_match query rs ≡ false → Suffices (first_texts query) (take k front) → ⊥
-not_enough laws query front k m rs low read none enough =
-    let g = take k front in
-    let begins = given_begins laws front k m low in
-    let split : KeptSplit (whole g) rs = kept_split (whole g) begins.0 rs (subst (λ gs. AreKeptRead gs rs) begins.1 read) in
-    let here : AreRead g (whole_spans g) split.front = reads_archive laws g (whole_spans g) split.front (subst (λ gs. AreKeptRead gs split.front) (whole_are laws g) split.read) in
-    let same = one_read laws.one g (whole_spans g) enough.outcomes split.front enough.are_read here in
+pub not_enough : Laws → (query : QueryTree) (front : List ℕ) (games : KeptGames) (rs : List Outcome) → AreFirst (whole front) games → AreKeptRead games rs
+    → some_match query rs ≡ false → Suffices (first_texts query) front → ⊥
+not_enough laws query front games rs (more, are) read none enough =
+    let split : KeptSplit (whole front) rs = kept_split (whole front) more rs (subst (λ gs. AreKeptRead gs rs) are read) in
+    let here : AreRead front (whole_spans front) split.front =
+    reads_archive laws front (whole_spans front) split.front (subst (λ gs. AreKeptRead gs split.front) (whole_are laws front) split.read) in
+    let same = one_read laws.one front (whole_spans front) enough.outcomes split.front enough.are_read here in
     none_of_both query rs split.front split.back split.is none (ap (some_match query) (sym same) ∙ enough.early.0)
 
 -- what is kept of the games that were answered before the last piece was read
-pub record Before (query : QueryTree) (source now : SourceView) : Type 0 where
+pub record Before (query : QueryTree) (call : Answering) : Type 0 where
   pub front : List ℕ
-  pub m : ℕ
+  pub games : KeptGames
   pub outcomes : List Outcome
-  pub takes : Consumes source.left now.left front
-  pub are_read : AreKeptRead (given front m) outcomes
+  pub takes : Consumes call.source.left call.source_after.left front
+  pub are_read : AreKeptRead games outcomes
   pub none : some_match query outcomes ≡ false
-  pub needed : Needed front m
+  pub needed : AreFirst (whole (take (length front - most_read) front)) games
 
-pub no_more : Laws → (query : QueryTree) (limit : ℕ) (source now : SourceView) (sinks : Sinks) → Before query source now → ReadsNoMore (first_texts query) (answer_call limit source now sinks)
-no_more laws query limit source now sinks so = record {
+pub no_more : Laws → (query : QueryTree) (call : Answering) → Before query call → ReadsNoMore (first_texts query) call
+no_more laws query call so = record {
   front = so.front;
   takes = so.takes;
-  needed = not_enough laws query so.front (length so.front - most_read) so.m so.outcomes so.needed so.are_read so.none;
+  needed = not_enough laws query (take (length so.front - most_read) so.front) so.games so.outcomes so.needed so.are_read so.none;
 }
 
 -- ---- texts
@@ -130,17 +105,6 @@ first_prefix query rs more sinks writes =
           (took_more sinks.err.taken sinks.err_after.taken (fault_lines 1 up) (fault_lines (1 + length up) g.0 ++ last)
           (took_count sinks.err.taken sinks.err_after.taken (fault_lines 1 up) writes.err_count writes.err));
     })
-
-abbrev pub refused_of : QueryTree → List Outcome → ℕ
-refused_of query rs = (tally_of query (up_to_first query rs)).refused
-
--- what each status says of the sinks, once the last line of the report was to be written
-abbrev pub FirstWritten : (refused : ℕ) → Texts → Sinks → Status → Type 0
-FirstWritten refused texts sinks Done = (refused ≡ 0) × Writes sinks texts × NoWriteFailed sinks
-FirstWritten refused texts sinks DoneWithRefusals = (0 < refused) × Writes sinks texts × NoWriteFailed sinks
-FirstWritten refused texts sinks WriteFault = WritesPrefix sinks texts × OneSinkFailed sinks
-FirstWritten refused texts sinks NoMemory = WritesPrefix sinks texts × NoWriteFailed sinks
-FirstWritten refused texts sinks _ = ⊥
 
 abbrev pub FoundFirst : QueryTree → List Outcome → Sinks → Stand → Type 0
 FoundFirst query rs sinks stand = FoundSoFar false query (up_to_first query rs) sinks stand
@@ -209,50 +173,3 @@ pub written_more : (status : Status) (query : QueryTree) (rs qs : List Outcome) 
 written_more status query rs qs sinks some writes =
     subst (λ (t : Texts). FirstWritten (refused_of query (rs ++ qs)) t sinks status) (sym (texts_same query rs qs some))
     (subst (λ us. FirstWritten (tally_of query us).refused (first_texts_of query rs) sinks status) (sym (up_same query rs qs some)) writes)
-
--- ---- what the other games of some bytes are read as
-
-pub record ReadOn (archive : List ℕ) (spans : List Span) (rs : List Outcome) : Type 0 where
-  pub more : List Outcome
-  pub are_read : AreRead archive spans (rs ++ more)
-
-pub on_cut : Laws → (front : List ℕ) (m : ℕ) (rs : List Outcome) → AreKeptRead (given front m) rs → ReadOn front (cut front) rs
-on_cut laws front m rs read =
-    let bs = batches (cut_games front) in
-    let more = flat (drop m bs) in
-    let rest : Rest more = rest_of laws.have more in
-    let games : given front m ++ more ≡ cut_games front =
-    sym (flat_map-append (λ (x : KeptGames). x) (take m bs) (drop m bs)) ∙ ap flat (take-append-drop m bs) ∙ all_batches laws (cut_games front) in
-    record {
-      more = rest.outcomes;
-      are_read = reads_archive laws front (cut front) (rs ++ rest.outcomes)
-          (subst (λ gs. AreKeptRead gs (rs ++ rest.outcomes)) games (kept_read_on (given front m) more rs rest.outcomes read rest.are_read));
-    }
-
-pub on_whole : Laws → (front : List ℕ) (m : ℕ) (rs : List Outcome) → m ≤ length (full_batches (closed_games front)) → AreKeptRead (given front m) rs → ReadOn front (whole_spans front) rs
-on_whole laws front m rs low read =
-    let full = full_batches (closed_games front) in
-    let more = flat (drop m full) in
-    let rest : Rest more = rest_of laws.have more in
-    let games : given front m ++ more ≡ whole front =
-    ap (λ l. flat l ++ more) (given_full laws front m low) ∙ sym (flat_map-append (λ (x : KeptGames). x) (take m full) (drop m full)) ∙ ap flat (take-append-drop m full) in
-    record {
-      more = rest.outcomes;
-      are_read = reads_archive laws front (whole_spans front) (rs ++ rest.outcomes)
-          (subst (λ gs. AreKeptRead gs (rs ++ rest.outcomes)) (games ∙ whole_are laws front) (kept_read_on (given front m) more rs rest.outcomes read rest.are_read));
-    }
-
-pub on_closed : Laws → (front : List ℕ) (m : ℕ) (rs : List Outcome) → m ≤ length (full_batches (closed_games front)) → AreKeptRead (given front m) rs → ReadOn front (closed front) rs
-on_closed laws front m rs low read =
-    let full = full_batches (closed_games front) in
-    let more = flat (drop m full) ++ left_over (closed_games front) in
-    let rest : Rest more = rest_of laws.have more in
-    let games : given front m ++ more ≡ closed_games front =
-    ap (λ l. flat l ++ more) (given_full laws front m low) ∙ sym (append_assoc (flat (take m full)) (flat (drop m full)) (left_over (closed_games front)))
-    ∙ ap (λ l. l ++ left_over (closed_games front)) (sym (flat_map-append (λ (x : KeptGames). x) (take m full) (drop m full)) ∙ ap flat (take-append-drop m full))
-    ∙ laws.all (closed_games front) in
-    record {
-      more = rest.outcomes;
-      are_read = reads_archive laws front (closed front) (rs ++ rest.outcomes)
-          (subst (λ gs. AreKeptRead gs (rs ++ rest.outcomes)) games (kept_read_on (given front m) more rs rest.outcomes read rest.are_read));
-    }

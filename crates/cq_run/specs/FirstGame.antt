@@ -28,6 +28,10 @@ pub record AreFirst (query : QueryTree) (outcomes : List Outcome) (refused : ℕ
   pub report : texts.err ≡ report_of query (up_to_first query outcomes)
   pub count : refused ≡ (tally_of query (up_to_first query outcomes)).refused
 
+-- the two texts
+abbrev pub first_texts_of : QueryTree → List Outcome → Texts
+first_texts_of query outcomes = record { out = first_export query outcomes; err = report_of query (up_to_first query outcomes) }
+
 -- The sort items of the query order nothing. Games suffice where one of them matches. After a fault of reading none does.
 abbrev pub first_texts : QueryTree → Wanted
 first_texts query = record {

@@ -12,6 +12,7 @@ pub mod FirstGame
 pub mod ManyQueries
 pub mod Writing
 pub mod ManyWriting
+pub mod Takers
 pub mod SelfRun
 pub mod Run
 pub mod QueryReading

@@ -1,5 +1,9 @@
--- The exit status of each way to end.
+-- The exit status of each way to end, and how a refusal of the next batch ends a call.
 use Rattle.std.specs.Prelude.{ℕ}
+use Rattle.cq_batches.specs.declared.state.BatchFault.{BatchFault}
+use Rattle.cq_batches.specs.declared.state.BatchFault.TheVariants.{ReadFault as TheReadFault, ArchiveTooLong as TheArchiveTooLong}
+use Rattle.cq_outside.specs.declared.faults.Refusal.{Refusal}
+use Rattle.cq_outside.specs.declared.faults.Refusal.TheVariants.{Fault, NoMemory as IsNoMemory}
 use Rattle.cq_run.specs.declared.status.Status.{Status}
 use Rattle.cq_run.specs.declared.status.Status.TheVariants.{Done, DoneWithRefusals, QueryRefused, WordsRefused}
 use Rattle.cq_run.specs.declared.status.Status.TheVariants.{OpenFault, ReadFault, WriteFault, NoMemory, ArchiveTooLong}
@@ -14,3 +18,8 @@ exit_code ReadFault = 5
 exit_code WriteFault = 6
 exit_code NoMemory = 7
 exit_code ArchiveTooLong = 8
+
+abbrev pub status_after : Refusal BatchFault → Status
+status_after (Fault TheReadFault) = ReadFault
+status_after (Fault TheArchiveTooLong) = ArchiveTooLong
+status_after IsNoMemory = NoMemory

@@ -1,20 +1,70 @@
 //! Answering batch by batch.
-ghost use Rattle.std.specs.Prelude.{◌≤◌, ◌^◌, IfOk};
+ghost use Rattle.std.specs.Prelude.{◌≤◌, ◌^◌, ◌++◌, IfOk};
+ghost use Rattle.std.specs.Fn.{FnReturnsAt};
+ghost use Rattle.std.specs.Thread.{IsSync};
+ghost use Rattle.cq_batches.specs.declared.batch.Batch.{Batch};
 ghost use Rattle.cq_shards.specs.Answers.{AnswersBatch, query_in};
-ghost use Rattle.cq_run.specs.AllGames.{texts_of};
+ghost use Rattle.cq_run.specs.AllGames.{texts_of, texts_so_far};
 ghost use Rattle.cq_run.specs.Promise.{AnswerPromise, source_view, sink_view, sinks_of};
+ghost use Rattle.cq_run.specs.Takers.{Reading, StopsIn, Taken, task_of};
+ghost use Rattle.cq_run.specs.Writing.{FoundSoFar, stand_of};
 
 use crate::laws::archives_come_in_batches;
 use crate::output::{has_sort_item, write_answers, write_rest};
-use crate::status::Status;
+use crate::status::{Status, status_of};
 use crate::tally::Tally;
+use cq_batches::{Batch, Ended, Taker, take_batches};
 use cq_outside::{Gate, NoMemory, Refusal, Sink, Source};
 use cq_shards::laws::ordered_answers_stand_beside_their_games;
-use cq_shards::{Batch, BatchFault, Batches, GameAnswer, in_order, run_batch};
+use cq_shards::{GameAnswer, in_order, run_batch};
 use cq_words::Settings;
 use cql_plan::Plan;
 use std::alloc::Global;
 use std::thread::Threads;
+
+/// Answers the games of one batch after the other to the query of `plan`, and writes of them what is to be written before all are
+/// answered. The answers of a batch come by `answer`, and so from a function that says what its workers may share: a method of a trait
+/// can't send to a thread what rests on the bounds of its block.
+#[derive(Drop)]
+struct AllGames<'a, F> {
+    alloc: Global,
+    plan: &'a Plan,
+    answer: F,
+    sorted: bool,
+    tally: Tally,
+    kept: Vec<GameAnswer>,
+}
+
+impl<'a, F: Fn(&Batch) -> Result<Vec<GameAnswer>, NoMemory>, O: Sink, E: Sink> Taker<O, E>
+    for AllGames<'a, F> {
+    type Stop = Status;
+
+    ghost has_taken = { λ was now games. (F.IsAlwaysCallable now.taker.answer
+        × ((batch : Batch) (r : _) → FnReturnsAt F.Fn now.taker.answer batch r
+        → IfOk r (λ answers. AnswersBatch (query_in now.taker.plan.now) batch answers.items))) × Taken
+        (task_of (query_in was.taker.plan.now) was.taker.sorted) (task_of (query_in now.taker.plan.now) now.taker.sorted) games
+        (λ outcomes. FoundSoFar was.taker.sorted (query_in was.taker.plan.now) outcomes
+        (sinks_of (sink_view O.taken O.faults was.out) (sink_view O.taken O.faults now.out)
+        (sink_view E.taken E.faults was.err) (sink_view E.taken E.faults now.err)) (stand_of now.taker.tally now.taker.kept.items)) };
+
+    ghost has_stopped = { λ was now games batch status. Reading (games ++ batch) (λ outcomes.
+        StopsIn (texts_so_far was.taker.sorted (query_in was.taker.plan.now) outcomes)
+        (sinks_of (sink_view O.taken O.faults was.out) (sink_view O.taken O.faults now.out)
+        (sink_view E.taken E.faults was.err) (sink_view E.taken E.faults now.err)) status) };
+
+    fn take(&mut self, batch: &Batch, out: &mut O, err: &mut E) -> Option<Status> {
+        archives_come_in_batches();
+        let Ok(answers) = (self.answer)(batch) else {
+            return Some(Status::NoMemory);
+        };
+        let (tally, kept) = (&mut self.tally, &mut self.kept);
+        match write_answers(self.alloc, self.sorted, answers, tally, kept, out, err) {
+            Ok(()) => None,
+            Err(Refusal::Fault(_)) => Some(Status::WriteFault),
+            Err(Refusal::NoMemory) => Some(Status::NoMemory),
+        }
+    }
+}
 
 /// Answers the query of a plan over the archive that `source` has left: the games of one batch after the other, what is to be
 /// written of them before the next batch is asked for.
@@ -41,31 +91,27 @@ pub fn answer_all<R: Threads + Sync, S: Source, O: Sink, E: Sink, G: Gate + Sync
 {
     archives_come_in_batches();
     let sorted = has_sort_item(plan);
-    let mut batches = Batches::new(alloc, settings.limit);
-    let mut tally = Tally {
-        games: 0,
-        matched: 0,
-        refused: 0,
+    let workers = settings.workers;
+    let mut taker = AllGames {
+        alloc,
+        plan,
+        answer: |batch: &Batch| -> Result<Vec<GameAnswer>, NoMemory>
+            requires { IsSync R.row × IsSync G.row × (1 ≤ workers) × (workers ≤ 64) }
+            ensures { IfOk result (λ answers. AnswersBatch (query_in plan.entry.now) batch.now answers.items) }
+        { batch_answers(rt, alloc, plan, batch, workers, gate) },
+        sorted,
+        tally: Tally {
+            games: 0,
+            matched: 0,
+            refused: 0,
+        },
+        kept: Vec::new(alloc),
     };
-    let mut kept = Vec::new(alloc);
-    for _turn in 0..settings.limit + 3 {
-        let batch = match batches.next(source) {
-            Ok(Some(batch)) => batch,
-            Ok(None) => return write_rest(alloc, plan, tally, kept, out, err),
-            Err(Refusal::Fault(BatchFault::ReadFault)) => return Status::ReadFault,
-            Err(Refusal::Fault(BatchFault::ArchiveTooLong)) => return Status::ArchiveTooLong,
-            Err(Refusal::NoMemory) => return Status::NoMemory,
-        };
-        let Ok(answers) = batch_answers(rt, alloc, plan, &batch, settings.workers, gate) else {
-            return Status::NoMemory;
-        };
-        match write_answers(alloc, sorted, answers, &mut tally, &mut kept, out, err) {
-            Ok(()) => {}
-            Err(Refusal::Fault(_)) => return Status::WriteFault,
-            Err(Refusal::NoMemory) => return Status::NoMemory,
-        }
+    match take_batches(alloc, settings.limit, source, &mut taker, out, err) {
+        Ok(Ended::All(_)) => write_rest(alloc, plan, taker.tally, taker.kept, out, err),
+        Ok(Ended::Early(status)) => status,
+        Err(refusal) => status_of(refusal),
     }
-    unreachable!()
 }
 
 /// The answers of the games of a batch by so many workers, in the order of the games.

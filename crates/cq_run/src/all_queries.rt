@@ -1,22 +1,78 @@
 //! Answering several queries over one reading of an archive.
-ghost use Rattle.std.specs.Prelude.{◌≡◌, ◌≤◌, ◌^◌, false, length};
+ghost use Rattle.std.specs.Prelude.{◌≡◌, ◌++◌, ◌≤◌, ◌^◌, false, length, map, IfOk};
+ghost use Rattle.std.specs.Fn.{FnReturnsAt};
+ghost use Rattle.std.specs.Thread.{IsSync};
+ghost use Rattle.cq_batches.specs.declared.batch.Batch.{Batch};
 ghost use Rattle.cq_shared.specs.Plans.{queries_of, trees_of};
-ghost use Rattle.cq_run.specs.ManyQueries.{texts_of_all};
+ghost use Rattle.cq_shards.specs.Many.{AreManyOf, answers_in};
+ghost use Rattle.cq_run.specs.ManyQueries.{faults_alone, texts_of_all};
+ghost use Rattle.cq_run.specs.ManyWriting.{FoundByAll};
 ghost use Rattle.cq_run.specs.Promise.{AnswerPromise, source_view, sink_view, sinks_of};
+ghost use Rattle.cq_run.specs.Takers.{Reading, StopsIn, Taken};
 
 use crate::keeping::{keep_batch, none_kept};
 use crate::laws::archives_come_in_batches;
 use crate::outputs::write_outputs;
-use crate::status::Status;
+use crate::status::{Status, status_of};
 use crate::tally::Tally;
-use cq_outside::{Gate, Refusal, Sink, Source};
+use cq_batches::{Batch, Ended, Taker, take_batches};
+use cq_outside::{Gate, NoMemory, Refusal, Sink, Source};
 use cq_shards::laws::ordered_answers_stand_beside_their_games;
-use cq_shards::{BatchFault, Batches, run_many};
+use cq_shards::{GameAnswer, ManyAnswers, run_many};
 use cq_shared::SharedPlan;
 use cq_words::Settings;
 use cql_syntax::TypedQuery;
 use std::alloc::Global;
 use std::thread::Threads;
+
+/// Answers several queries over the games of one batch after the other, writes the lines of the faulty ones and keeps those that match.
+#[derive(Drop)]
+struct AllQueries<'a, F> {
+    alloc: Global,
+    plan: &'a SharedPlan,
+    answer: F,
+    tally: Tally,
+    kept: Vec<Vec<GameAnswer>>,
+    ghost few: { (1 ≤ length (trees_of (queries_of plan.now))) × (length (trees_of (queries_of plan.now)) ≤ 16) },
+}
+
+impl<'a, F: Fn(&Batch) -> Result<ManyAnswers, NoMemory>, O: Sink, E: Sink> Taker<O, E>
+    for AllQueries<'a, F> {
+    type Stop = Status;
+
+    ghost has_taken = { λ was now games. (F.IsAlwaysCallable now.taker.answer
+        × ((batch : Batch) (r : _) → FnReturnsAt F.Fn now.taker.answer batch r
+        → IfOk r (λ many. AreManyOf (trees_of (queries_of now.taker.plan.now)) batch (answers_in many)))) × Taken
+        (trees_of (queries_of was.taker.plan.now)) (trees_of (queries_of now.taker.plan.now)) games
+        (λ outcomes. FoundByAll (trees_of (queries_of was.taker.plan.now)) outcomes
+        (sinks_of (sink_view O.taken O.faults was.out) (sink_view O.taken O.faults now.out)
+        (sink_view E.taken E.faults was.err) (sink_view E.taken E.faults now.err))
+        now.taker.tally (map (λ row. row.items) now.taker.kept.items)) };
+
+    ghost has_stopped = { λ was now games batch status. Reading (games ++ batch) (λ outcomes. StopsIn (faults_alone outcomes)
+        (sinks_of (sink_view O.taken O.faults was.out) (sink_view O.taken O.faults now.out)
+        (sink_view E.taken E.faults was.err) (sink_view E.taken E.faults now.err)) status) };
+
+    fn take(&mut self, batch: &Batch, out: &mut O, err: &mut E) -> Option<Status> {
+        archives_come_in_batches();
+        ordered_answers_stand_beside_their_games();
+        let Ok(answers) = (self.answer)(batch) else {
+            return Some(Status::NoMemory);
+        };
+        match keep_batch(
+            self.alloc,
+            answers,
+            &mut self.tally,
+            &mut self.kept,
+            out,
+            err,
+        ) {
+            Ok(()) => None,
+            Err(Refusal::Fault(_)) => Some(Status::WriteFault),
+            Err(Refusal::NoMemory) => Some(Status::NoMemory),
+        }
+    }
+}
 
 /// Answers 1 to 16 queries over the archive that `source` has left, read once: batch by batch, as `answer` reads it, the games of each
 /// by `settings.workers` workers, from 1 to 64, in threads of `rt`, of the first `settings.limit` bytes, from 1 to 2^40. All these
@@ -89,32 +145,27 @@ fn answer_each<R: Threads + Sync, S: Source, O: Sink, E: Sink, G: Gate + Sync>(
     ensures next { S.follows source.old source.new }
 {
     archives_come_in_batches();
-    ordered_answers_stand_beside_their_games();
-    let Ok(mut kept) = none_kept(alloc, plan.len()) else {
+    let Ok(kept) = none_kept(alloc, plan.len()) else {
         return Status::NoMemory;
     };
-    let mut batches = Batches::new(alloc, settings.limit);
-    let mut tally = Tally {
-        games: 0,
-        matched: 0,
-        refused: 0,
+    let workers = settings.workers;
+    let mut taker = AllQueries {
+        alloc,
+        plan,
+        answer: |batch: &Batch| -> Result<ManyAnswers, NoMemory>
+            requires { IsSync R.row × IsSync G.row × (1 ≤ workers) × (workers ≤ 64) }
+            ensures { IfOk result (λ many. AreManyOf (trees_of (queries_of plan.entry.now)) batch.now (answers_in many)) }
+        { run_many(rt, alloc, plan, batch, workers, gate) },
+        tally: Tally {
+            games: 0,
+            matched: 0,
+            refused: 0,
+        },
+        kept,
     };
-    for _turn in 0..settings.limit + 3 {
-        let batch = match batches.next(source) {
-            Ok(Some(batch)) => batch,
-            Ok(None) => return write_outputs(alloc, plan, tally, kept, out, err),
-            Err(Refusal::Fault(BatchFault::ReadFault)) => return Status::ReadFault,
-            Err(Refusal::Fault(BatchFault::ArchiveTooLong)) => return Status::ArchiveTooLong,
-            Err(Refusal::NoMemory) => return Status::NoMemory,
-        };
-        let Ok(answers) = run_many(rt, alloc, plan, &batch, settings.workers, gate) else {
-            return Status::NoMemory;
-        };
-        match keep_batch(alloc, answers, &mut tally, &mut kept, out, err) {
-            Ok(()) => {}
-            Err(Refusal::Fault(_)) => return Status::WriteFault,
-            Err(Refusal::NoMemory) => return Status::NoMemory,
-        }
+    match take_batches(alloc, settings.limit, source, &mut taker, out, err) {
+        Ok(Ended::All(_)) => write_outputs(alloc, plan, taker.tally, taker.kept, out, err),
+        Ok(Ended::Early(status)) => status,
+        Err(refusal) => status_of(refusal),
     }
-    unreachable!()
 }

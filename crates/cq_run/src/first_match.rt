@@ -1,19 +1,71 @@
 //! Answering batch by batch up to the first match.
-ghost use Rattle.std.specs.Prelude.{◌≤◌, ◌≡◌, ◌^◌};
+ghost use Rattle.std.specs.Prelude.{◌≤◌, ◌^◌, IfOk};
+ghost use Rattle.std.specs.Fn.{FnReturnsAt};
+ghost use Rattle.std.specs.Thread.{IsSync};
+ghost use Rattle.cq_batches.specs.declared.batch.Batch.{Batch};
+ghost use Rattle.cq_shards.specs.FirstMatch.{AnswersUpToFirst};
 ghost use Rattle.cq_shards.specs.Answers.{query_in};
 ghost use Rattle.cq_run.specs.FirstGame.{first_texts};
 ghost use Rattle.cq_run.specs.Promise.{AnswerPromise, source_view, sink_view, sinks_of};
+ghost use Rattle.cq_run.specs.Takers.{FirstStopped, FoundNone, Taken};
+ghost use Rattle.cq_run.specs.Writing.{stand_of};
 
 use crate::laws::archives_come_in_batches;
 use crate::output::{write_answers, write_summary};
-use crate::status::Status;
+use crate::status::{Status, status_of};
 use crate::tally::Tally;
-use cq_outside::{Gate, Refusal, Sink, Source};
-use cq_shards::{BatchFault, Batches, run_first};
+use cq_batches::{Batch, Ended, Taker, take_batches};
+use cq_outside::{Gate, NoMemory, Refusal, Sink, Source};
+use cq_shards::{GameAnswer, run_first};
 use cq_words::Settings;
 use cql_plan::Plan;
 use std::alloc::Global;
 use std::thread::Threads;
+
+/// Answers the games of one batch after the other to the query of `plan`, up to the first that matches, and then writes the last line of
+/// the report.
+#[derive(Drop)]
+struct UpToFirst<'a, F> {
+    alloc: Global,
+    plan: &'a Plan,
+    answer: F,
+    tally: Tally,
+    kept: Vec<GameAnswer>,
+}
+
+impl<'a, F: Fn(&Batch) -> Result<Vec<GameAnswer>, NoMemory>, O: Sink, E: Sink> Taker<O, E>
+    for UpToFirst<'a, F> {
+    type Stop = Status;
+
+    ghost has_taken = { λ was now games. (F.IsAlwaysCallable now.taker.answer
+        × ((batch : Batch) (r : _) → FnReturnsAt F.Fn now.taker.answer batch r
+        → IfOk r (λ answers. AnswersUpToFirst (query_in now.taker.plan.now) batch answers.items)))
+        × Taken (query_in was.taker.plan.now) (query_in now.taker.plan.now) games
+        (FoundNone (query_in was.taker.plan.now)
+        (sinks_of (sink_view O.taken O.faults was.out) (sink_view O.taken O.faults now.out)
+        (sink_view E.taken E.faults was.err) (sink_view E.taken E.faults now.err)) (stand_of now.taker.tally now.taker.kept.items)) };
+
+    ghost has_stopped = { λ was now games batch status. FirstStopped (query_in was.taker.plan.now)
+        (sinks_of (sink_view O.taken O.faults was.out) (sink_view O.taken O.faults now.out)
+        (sink_view E.taken E.faults was.err) (sink_view E.taken E.faults now.err)) status games batch };
+
+    fn take(&mut self, batch: &Batch, out: &mut O, err: &mut E) -> Option<Status> {
+        archives_come_in_batches();
+        let Ok(answers) = (self.answer)(batch) else {
+            return Some(Status::NoMemory);
+        };
+        let (tally, kept) = (&mut self.tally, &mut self.kept);
+        match write_answers(self.alloc, false, answers, tally, kept, out, err) {
+            Ok(()) => {}
+            Err(Refusal::Fault(_)) => return Some(Status::WriteFault),
+            Err(Refusal::NoMemory) => return Some(Status::NoMemory),
+        }
+        if self.tally.matched == 0 {
+            return None;
+        }
+        Some(write_summary(self.alloc, self.tally, err))
+    }
+}
 
 /// Answers the query of a plan over the archive that `source` has left up to the first game that matches: the games of one batch after
 /// the other, what is to be written of them before the next batch is asked for, and none after the batch of that game.
@@ -39,32 +91,24 @@ pub fn answer_first<R: Threads + Sync, S: Source, O: Sink, E: Sink, G: Gate + Sy
     ensures next { S.follows source.old source.new }
 {
     archives_come_in_batches();
-    let mut batches = Batches::new(alloc, settings.limit);
-    let mut tally = Tally {
-        games: 0,
-        matched: 0,
-        refused: 0,
+    let workers = settings.workers;
+    let mut taker = UpToFirst {
+        alloc,
+        plan,
+        answer: |batch: &Batch| -> Result<Vec<GameAnswer>, NoMemory>
+            requires { IsSync R.row × IsSync G.row × (1 ≤ workers) × (workers ≤ 64) }
+            ensures { IfOk result (λ answers. AnswersUpToFirst (query_in plan.entry.now) batch.now answers.items) }
+        { run_first(rt, alloc, plan, batch, workers, gate) },
+        tally: Tally {
+            games: 0,
+            matched: 0,
+            refused: 0,
+        },
+        kept: Vec::new(alloc),
     };
-    let mut kept = Vec::new(alloc);
-    for _turn in 0..settings.limit + 3 {
-        let batch = match batches.next(source) {
-            Ok(Some(batch)) => batch,
-            Ok(None) => return write_summary(alloc, tally, err),
-            Err(Refusal::Fault(BatchFault::ReadFault)) => return Status::ReadFault,
-            Err(Refusal::Fault(BatchFault::ArchiveTooLong)) => return Status::ArchiveTooLong,
-            Err(Refusal::NoMemory) => return Status::NoMemory,
-        };
-        let Ok(answers) = run_first(rt, alloc, plan, &batch, settings.workers, gate) else {
-            return Status::NoMemory;
-        };
-        match write_answers(alloc, false, answers, &mut tally, &mut kept, out, err) {
-            Ok(()) => {}
-            Err(Refusal::Fault(_)) => return Status::WriteFault,
-            Err(Refusal::NoMemory) => return Status::NoMemory,
-        }
-        if tally.matched > 0 {
-            return write_summary(alloc, tally, err);
-        }
+    match take_batches(alloc, settings.limit, source, &mut taker, out, err) {
+        Ok(Ended::All(_)) => write_summary(alloc, taker.tally, err),
+        Ok(Ended::Early(status)) => status,
+        Err(refusal) => status_of(refusal),
     }
-    unreachable!()
 }

@@ -7,12 +7,10 @@ ghost use Rattle.cq_run.specs.Queries.{IsQuery, IsQueryFault};
 ghost use Rattle.cq_run.specs.QueryFiles.{HoldsQueries, IsManyFault};
 ghost use Rattle.cq_run.specs.declared.query_files.ManyFault.{ManyFault};
 
-use cq_shards::laws::batches_stay;
 use cql_parser::{
     faulty_tokens_spell_no_query, texts_spell_a_query_or_have_a_fault,
     tokens_have_at_most_one_fault, tokens_spell_at_most_one_query,
 };
-use pgn_cut::{closed_games_stay, games_stand_apart};
 use pgn_reader::{first_bytes_decide, games_have_one_outcome, games_have_outcomes};
 
 /// A law: every text is a query or has a fault, and not both.
@@ -57,10 +55,8 @@ pub fn files_of_queries_have_one_outcome()
 pub(crate) fn archives_come_in_batches()
     ensures { Laws }
 {
+    cq_batches::laws::archives_come_in_batches();
     games_have_outcomes();
     games_have_one_outcome();
     first_bytes_decide();
-    closed_games_stay();
-    games_stand_apart();
-    batches_stay();
 }

@@ -1,14 +1,18 @@
 //! Answering a query over an archive that is made. The exports are not written, but their bytes are counted.
 ghost use Rattle.std.specs.Prelude.{◌≡◌, ◌+◌, ◌*◌, ◌<◌, ◌≤◌, ◌^◌, ◌++◌, [], ℕ, List, length, IfOk};
+ghost use Rattle.std.specs.Fn.{FnReturnsAt};
+ghost use Rattle.std.specs.Thread.{IsSync};
+ghost use Rattle.cq_batches.specs.declared.batch.Batch.{Batch};
 ghost use Rattle.cql_syntax.specs.TreeOf.{query_tree};
 ghost use Rattle.cql_syntax.specs.Trees.{QueryTree};
 ghost use Rattle.cq_maker.specs.Made.{made};
-ghost use Rattle.cq_shards.specs.Answers.{answer_of, answers_from, query_in};
+ghost use Rattle.cq_shards.specs.Answers.{AnswersBatch, answer_of, answers_from, query_in};
 ghost use Rattle.cq_shards.specs.Outcomes.{Outcome};
 ghost use Rattle.cq_run.specs.QueryReading.{call_of};
 ghost use Rattle.cq_run.specs.Promise.{DeskView, SinkView, sink_view, sinks_of};
 ghost use Rattle.cq_run.specs.Run.{OverText, RunsMade};
 ghost use Rattle.cq_run.specs.SelfRun.{AreTotals, WritesMade, WritesTotals, totals_of};
+ghost use Rattle.cq_run.specs.Takers.{Taken};
 ghost use Rattle.cq_run.specs.Writing.{counted};
 
 use crate::all_games::batch_answers;
@@ -17,11 +21,12 @@ use crate::queries::{read_query, refuse_query};
 use crate::status::Status;
 use crate::tally::Tally;
 use crate::totals::Totals;
+use cq_batches::{Batch, Ended, Taker, take_batches};
 use cq_maker::laws::archives_are_short;
 use cq_maker::make_archive;
 use cq_outside::{Bytes, Gate, NoMemory, Refusal, Sink, SureSource, write_all_of};
 use cq_report::made_line;
-use cq_shards::{Answer, Batches, GameAnswer};
+use cq_shards::{Answer, GameAnswer};
 use cql_plan::Plan;
 use cql_syntax::TypedQuery;
 use std::alloc::Global;
@@ -98,6 +103,35 @@ fn made_totals<R: Threads + Sync, G: Gate + Sync>(
     count_archive(rt, alloc, &plan, archive, workers, gate)
 }
 
+// Answers the games of one batch after the other, and counts what is found.
+#[derive(Drop)]
+struct Counter<'a, F> {
+    plan: &'a Plan,
+    answer: F,
+    totals: Totals,
+}
+
+impl<'a, F: Fn(&Batch) -> Result<Vec<GameAnswer>, NoMemory>> Taker<(), ()> for Counter<'a, F> {
+    type Stop = NoMemory;
+
+    ghost has_taken = { λ was now games. ((F.IsAlwaysCallable now.taker.answer
+        × ((batch : Batch) (r : _) → FnReturnsAt F.Fn now.taker.answer batch r
+        → IfOk r (λ answers. AnswersBatch (query_in now.taker.plan.now) batch answers.items)))
+        × (now.taker.totals.written ≤ 2 ^ 64 * now.taker.totals.tally.games))
+        × Taken (query_in was.taker.plan.now) (query_in now.taker.plan.now) games
+        (λ outcomes. now.taker.totals ≡ totals_of (query_in was.taker.plan.now) was.taker.totals.bytes outcomes) };
+
+    ghost has_stopped = { λ was now games batch stop. Unit {0} };
+
+    fn take(&mut self, batch: &Batch, _out: &mut (), _err: &mut ()) -> Option<NoMemory> {
+        let Ok(answers) = (self.answer)(batch) else {
+            return Some(NoMemory);
+        };
+        self.totals = count_answers(self.totals, answers);
+        None
+    }
+}
+
 // What the query of a plan finds in an archive within the limit, batch by batch.
 fn count_archive<R: Threads + Sync, G: Gate + Sync>(
     rt: &R,
@@ -112,21 +146,22 @@ fn count_archive<R: Threads + Sync, G: Gate + Sync>(
     ensures { IfOk result (AreTotals (query_in plan.now) archive) }
 {
     archives_come_in_batches();
-    let mut totals = no_totals(archive.len() as u64);
+    let mut taker = Counter {
+        plan,
+        answer: |batch: &Batch| -> Result<Vec<GameAnswer>, NoMemory>
+            requires { IsSync R.row × IsSync G.row × (1 ≤ workers) × (workers ≤ 64) }
+            ensures { IfOk result (λ answers. AnswersBatch (query_in plan.entry.now) batch.now answers.items) }
+        { batch_answers(rt, alloc, plan, batch, workers, gate) },
+        totals: no_totals(archive.len() as u64),
+    };
     let mut source = SureSource::new(archive);
-    let mut batches = Batches::new(alloc, LIMIT);
-    for _turn in 0..LIMIT + 3 {
-        let batch = match batches.next(&mut source) {
-            Ok(Some(batch)) => batch,
-            Ok(None) => return Ok(totals),
-            Err(Refusal::Fault(_)) => unreachable!(),
-            Err(Refusal::NoMemory) => return Err(NoMemory),
-        };
-        let answers = batch_answers(rt, alloc, plan, &batch, workers, gate)?;
-        let after = count_answers(totals, answers);
-        totals = after;
+    let (mut out, mut err) = ((), ());
+    match take_batches(alloc, LIMIT, &mut source, &mut taker, &mut out, &mut err) {
+        Ok(Ended::All(_)) => Ok(taker.totals),
+        Ok(Ended::Early(NoMemory)) => Err(NoMemory),
+        Err(Refusal::Fault(_)) => unreachable!(),
+        Err(Refusal::NoMemory) => Err(NoMemory),
     }
-    unreachable!()
 }
 
 // Of an archive of so many bytes, before the first game.

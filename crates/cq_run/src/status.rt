@@ -1,6 +1,9 @@
 //! How a call of the program ends.
 ghost use Rattle.std.specs.Prelude.{◌≡◌};
-ghost use Rattle.cq_run.specs.Status.{exit_code};
+ghost use Rattle.cq_run.specs.Status.{exit_code, status_after};
+
+use cq_batches::BatchFault;
+use cq_outside::Refusal;
 
 /// How a call ended. The program's exit status is the place in this list, from 0.
 #[derive(Clone, Copy, Debug, PartialEq, Eq)]
@@ -31,5 +34,16 @@ impl Status {
         ensures { result ≡ exit_code self }
     {
         self as u8
+    }
+}
+
+/// How a call ends that is refused the next batch.
+pub fn status_of(refusal: Refusal<BatchFault>) -> Status
+    ensures { result ≡ status_after refusal }
+{
+    match refusal {
+        Refusal::Fault(BatchFault::ReadFault) => Status::ReadFault,
+        Refusal::Fault(BatchFault::ArchiveTooLong) => Status::ArchiveTooLong,
+        Refusal::NoMemory => Status::NoMemory,
     }
 }

@@ -1,225 +1,72 @@
-use Rattle.std.proofs.Common.{◌≡◌, ◌+◌, ◌≤◌, Ok, Err, ap, sym, subst, ◌∙◌, arith, rules}
-use Rattle.cq_batches.specs.declared.state.BatchFault.TheVariants.{ReadFault, ArchiveTooLong}
-use Rattle.cq_outside.specs.declared.faults.Refusal.TheVariants.{Fault}
+use Rattle.std.proofs.Common.{[], Ok, ap, sym, subst, ◌∙◌, refl, rules}
 use Rattle.cq_shards.specs.Answers.{query_in}
-use Rattle.cq_run.specs.Promise.{source_view, sink_view, sinks_of}
-use Rattle.cq_run.specs.Writing.{stand_of}
-use Rattle.cq_run.proofs.AllRounds.{finished_all}
-use Rattle.cq_run.proofs.AnswerPromise.{asked_of}
+use Rattle.cq_run.specs.Promise.{AnswerPromise, source_view, sink_view, sinks_of}
+use Rattle.cq_run.specs.Takers.{task_of}
+use Rattle.cq_run.specs.declared.status.Status.{Status}
+use Rattle.cq_run.specs.Writing.{FoundSoFar, stand_of}
+use Rattle.cq_run.proofs.AllEndings.{IsWritten, all_ended, all_refused, all_stopped}
+use Rattle.cq_run.proofs.AnswerPromise.{answer_call, asked_of}
 use Rattle.cq_run.proofs.GameByGame.{tally_with}
-use Rattle.cq_run.proofs.Reached.{place_of}
-use Rattle.cq_run.proofs.Rounds.{loop_of, loop_on, Rounds, no_rounds, round_turns, round_starves, round_unread, round_too_long, round_ends, few_rounds, turn_starves, turn_few, answers_are, turn_done, turn_fails, turn_wants}
+use Rattle.cq_run.proofs.Known.{reading_as}
+use Rattle.cq_run.proofs.OneBatch.{FoundIn, one_begins}
 use Rattle.cq_run.proofs.all_games.answer_all.Goals as goal
 
-pub loop-turn-init : goal.loop-turn-init
-loop-turn-init g c =
-    let source = source_view g.S.Source.left g.S.Source.faults c.args.source.now in
+pub take_batches-requires-clause-nothing : goal.take_batches-requires-clause-nothing
+take_batches-requires-clause-nothing g c =
     let out = sink_view g.O.Sink.taken g.O.Sink.faults c.args.out.now in
     let err = sink_view g.E.Sink.taken g.E.Sink.faults c.args.err.now in
-    let sorted = c.has_sort_item-sorted.result in
-    let query = query_in c.args.plan.now in
-    let limit = c.args.settings.limit in
-    let made = c.new-batches in (
-      subst (λ ks. Rounds sorted (loop_of query (place_of limit made.result source source) (sinks_of out out err err) (stand_of (tally_with 0 0 0) ks)))
-          (sym c.new-kept.ensures.items)
-          (no_rounds sorted query limit made.result source out err made.ensures.stands made.ensures.limit made.ensures.reads),
-      g.met.S.Source.follows_same c.args.source.now,
-      omega arith,
+    let task = task_of (query_in c.args.plan.now) c.has_sort_item-sorted.result in
+    let threads = c.type_bounds.sync-R.shared in
+    let gate = c.type_bounds.sync-G.shared in (
+      ((search rules), λ batch r gives. (search rules)),
+      record {
+        same = refl;
+        reading = subst (λ ks. FoundIn task (sinks_of out out err err) (stand_of (tally_with 0 0 0) ks) []) (sym c.new.ensures.items) (one_begins task out err);
+      },
     )
 
-pub returns-in-Ok-None-clause-answers : goal.returns-in-Ok-None-clause-answers
-returns-in-Ok-None-clause-answers g c =
+pub returns-in-Ok-All-clause-answers : goal.returns-in-Ok-All-clause-answers
+returns-in-Ok-All-clause-answers g c =
     let source = source_view g.S.Source.left g.S.Source.faults in
-    let out_view = sink_view g.O.Sink.taken g.O.Sink.faults in
-    let err_view = sink_view g.E.Sink.taken g.E.Sink.faults in
-    let place = place_of c.args.settings.limit c.loop-turn.batches (source c.args.source.now) (source c.loop-turn.source) in
-    let sinks = sinks_of (out_view c.args.out.now) (out_view c.loop-turn.out) (err_view c.args.err.now) (err_view c.loop-turn.err) in
-    let loop = loop_of (query_in c.args.plan.now) place sinks (stand_of c.loop-turn.tally c.loop-turn.kept.items) in
-    let after = source c.next.new.source in
-    let out = out_view c.args.out.now in
-    let err = err_view c.args.err.now in
-    let was = c.loop-turn.invariant.0 in
-    let is = c.in-Ok-None.is ∙ ap Ok c.in-Ok-None.field-0-is in
-    let says = rw is at c.next.ensures.says in
-    let counts = rw is at c.next.ensures.cause in
-    finished_all c.write_rest.result (asked_of _ (query_in c.args.plan.now) (sym c.has_sort_item-sorted.ensures)) _ _ was.known.outcomes
-    (round_ends c.archives_come_in_batches.ensures _ loop c.next.new.self after was says counts)
-    (c.write_rest.ensures was.known.outcomes c.has_sort_item-sorted.result out err (sym c.has_sort_item-sorted.ensures) was.found)
+    let out = sink_view g.O.Sink.taken g.O.Sink.faults in
+    let err = sink_view g.E.Sink.taken g.E.Sink.faults in
+    let sinks = sinks_of (out c.args.out.now) (out c.write_rest.new.out) (err c.args.err.now) (err c.write_rest.new.err) in
+    let call = answer_call c.args.settings.limit (source c.args.source.now) (source c.take_batches.new.source) sinks in
+    let sorts = sym c.has_sort_item-sorted.ensures in
+    let is = c.in-Ok-All.is ∙ ap Ok c.in-Ok-All.field-0-is in
+    let says = rw is at c.take_batches.ensures.says in
+    let cause = rw is at c.take_batches.ensures.cause in
+    let reading = says.taken.1.reading in
+    all_ended c.archives_come_in_batches.ensures c.write_rest.result (asked_of _ (query_in c.args.plan.now) sorts) call says.archive reading.outcomes says.reads cause
+    reading.are_read (c.write_rest.ensures reading.outcomes c.has_sort_item-sorted.result (out c.args.out.now) (err c.args.err.now) sorts reading.holds)
 
-pub returns-in-Ok-None-clause-next : goal.returns-in-Ok-None-clause-next
-returns-in-Ok-None-clause-next g c =
-    g.met.S.Source.follows_on c.args.source.now c.loop-turn.source c.next.new.source c.loop-turn.invariant.1 c.next.ensures.next
-
-pub returns-in-Err-Fault-ReadFault-clause-answers : goal.returns-in-Err-Fault-ReadFault-clause-answers
-returns-in-Err-Fault-ReadFault-clause-answers g c =
+pub returns-in-Ok-Early-clause-answers : goal.returns-in-Ok-Early-clause-answers
+returns-in-Ok-Early-clause-answers g c =
     let source = source_view g.S.Source.left g.S.Source.faults in
-    let out_view = sink_view g.O.Sink.taken g.O.Sink.faults in
-    let err_view = sink_view g.E.Sink.taken g.E.Sink.faults in
-    let place = place_of c.args.settings.limit c.loop-turn.batches (source c.args.source.now) (source c.loop-turn.source) in
-    let sinks = sinks_of (out_view c.args.out.now) (out_view c.loop-turn.out) (err_view c.args.err.now) (err_view c.loop-turn.err) in
-    let loop = loop_of (query_in c.args.plan.now) place sinks (stand_of c.loop-turn.tally c.loop-turn.kept.items) in
-    let after = source c.next.new.source in
-    let is : c.next.result ≡ Err (Fault ReadFault) = search rules in
-    let says = rw is at c.next.ensures.says in
-    let cause = rw is at c.next.ensures.cause in
-    round_unread c.archives_come_in_batches.ensures _ loop c.next.new.self after (sym c.has_sort_item-sorted.ensures) c.loop-turn.invariant.0 says cause.1
+    let out = sink_view g.O.Sink.taken g.O.Sink.faults in
+    let err = sink_view g.E.Sink.taken g.E.Sink.faults in
+    let sinks = sinks_of (out c.args.out.now) (out c.take_batches.new.out) (err c.args.err.now) (err c.take_batches.new.err) in
+    let call = answer_call c.args.settings.limit (source c.args.source.now) (source c.take_batches.new.source) sinks in
+    let is = c.in-Ok-Early.is ∙ ap Ok c.in-Ok-Early.field-0-is in
+    let says = rw is at c.take_batches.ensures.says in
+    let cause = rw is at c.take_batches.ensures.cause in
+    all_stopped c.archives_come_in_batches.ensures c.in-Ok-Early.status (asked_of _ (query_in c.args.plan.now) (sym c.has_sort_item-sorted.ensures)) call
+    says.0 says.1 says.2 cause says.3
 
-pub returns-in-Err-Fault-ReadFault-clause-next : goal.returns-in-Err-Fault-ReadFault-clause-next
-returns-in-Err-Fault-ReadFault-clause-next g c =
-    g.met.S.Source.follows_on c.args.source.now c.loop-turn.source c.next.new.source c.loop-turn.invariant.1 c.next.ensures.next
-
-pub returns-in-Err-Fault-ArchiveTooLong-clause-answers : goal.returns-in-Err-Fault-ArchiveTooLong-clause-answers
-returns-in-Err-Fault-ArchiveTooLong-clause-answers g c =
+pub returns-in-Err-clause-answers : goal.returns-in-Err-clause-answers
+returns-in-Err-clause-answers g c =
     let source = source_view g.S.Source.left g.S.Source.faults in
-    let out_view = sink_view g.O.Sink.taken g.O.Sink.faults in
-    let err_view = sink_view g.E.Sink.taken g.E.Sink.faults in
-    let place = place_of c.args.settings.limit c.loop-turn.batches (source c.args.source.now) (source c.loop-turn.source) in
-    let sinks = sinks_of (out_view c.args.out.now) (out_view c.loop-turn.out) (err_view c.args.err.now) (err_view c.loop-turn.err) in
-    let loop = loop_of (query_in c.args.plan.now) place sinks (stand_of c.loop-turn.tally c.loop-turn.kept.items) in
-    let after = source c.next.new.source in
-    let is : c.next.result ≡ Err (Fault ArchiveTooLong) = search rules in
-    let says = rw is at c.next.ensures.says in
-    let cause = rw is at c.next.ensures.cause in
-    round_too_long c.archives_come_in_batches.ensures _ loop c.next.new.self after (sym c.has_sort_item-sorted.ensures) c.loop-turn.invariant.0 says cause
-
-pub returns-in-Err-Fault-ArchiveTooLong-clause-next : goal.returns-in-Err-Fault-ArchiveTooLong-clause-next
-returns-in-Err-Fault-ArchiveTooLong-clause-next g c =
-    g.met.S.Source.follows_on c.args.source.now c.loop-turn.source c.next.new.source c.loop-turn.invariant.1 c.next.ensures.next
-
-pub returns-in-Err-NoMemory-clause-answers : goal.returns-in-Err-NoMemory-clause-answers
-returns-in-Err-NoMemory-clause-answers g c =
-    let source = source_view g.S.Source.left g.S.Source.faults in
-    let out_view = sink_view g.O.Sink.taken g.O.Sink.faults in
-    let err_view = sink_view g.E.Sink.taken g.E.Sink.faults in
-    let place = place_of c.args.settings.limit c.loop-turn.batches (source c.args.source.now) (source c.loop-turn.source) in
-    let sinks = sinks_of (out_view c.args.out.now) (out_view c.loop-turn.out) (err_view c.args.err.now) (err_view c.loop-turn.err) in
-    let loop = loop_of (query_in c.args.plan.now) place sinks (stand_of c.loop-turn.tally c.loop-turn.kept.items) in
-    let after = source c.next.new.source in
-    let is = c.in-Err-NoMemory.is ∙ ap Err c.in-Err-NoMemory.field-0-is in
-    let says = rw is at c.next.ensures.says in
-    let cause = rw is at c.next.ensures.cause in
-    round_starves c.archives_come_in_batches.ensures _ loop c.next.new.self after _ (sym c.has_sort_item-sorted.ensures) c.loop-turn.invariant.0 says cause
-
-pub returns-in-Err-NoMemory-clause-next : goal.returns-in-Err-NoMemory-clause-next
-returns-in-Err-NoMemory-clause-next g c =
-    g.met.S.Source.follows_on c.args.source.now c.loop-turn.source c.next.new.source c.loop-turn.invariant.1 c.next.ensures.next
-
-pub returns-in_default-clause-answers : goal.returns-in_default-clause-answers
-returns-in_default-clause-answers g c =
-    let source = source_view g.S.Source.left g.S.Source.faults in
-    let out_view = sink_view g.O.Sink.taken g.O.Sink.faults in
-    let err_view = sink_view g.E.Sink.taken g.E.Sink.faults in
-    let place = place_of c.args.settings.limit c.loop-turn.batches (source c.args.source.now) (source c.loop-turn.source) in
-    let sinks = sinks_of (out_view c.args.out.now) (out_view c.loop-turn.out) (err_view c.args.err.now) (err_view c.loop-turn.err) in
-    let loop = loop_of (query_in c.args.plan.now) place sinks (stand_of c.loop-turn.tally c.loop-turn.kept.items) in
-    let after = source c.next.new.source in
-    let is = c.in-Ok-Some.is ∙ ap Ok c.in-Ok-Some.field-0-is in
-    let says = rw is at c.next.ensures.says in
-    let counts = rw is at c.next.ensures.cause in
-    let laws = c.archives_come_in_batches.ensures in
-    let turn = round_turns laws _ loop c.next.new.self after _ c.loop-turn._turn c.loop-turn.invariant.0 c.loop-turn.invariant.2 says counts in
-    turn_starves laws _ (loop_on loop c.next.new.self after) _ _ (sym c.has_sort_item-sorted.ensures) turn
-
-pub returns-in_default-clause-next : goal.returns-in_default-clause-next
-returns-in_default-clause-next g c =
-    g.met.S.Source.follows_on c.args.source.now c.loop-turn.source c.next.new.source c.loop-turn.invariant.1 c.next.ensures.next
-
-pub write_answers-requires-clause-games : goal.write_answers-requires-clause-games
-write_answers-requires-clause-games g c =
-    let source = source_view g.S.Source.left g.S.Source.faults in
-    let out_view = sink_view g.O.Sink.taken g.O.Sink.faults in
-    let err_view = sink_view g.E.Sink.taken g.E.Sink.faults in
-    let place = place_of c.args.settings.limit c.loop-turn.batches (source c.args.source.now) (source c.loop-turn.source) in
-    let sinks = sinks_of (out_view c.args.out.now) (out_view c.loop-turn.out) (err_view c.args.err.now) (err_view c.loop-turn.err) in
-    let loop = loop_of (query_in c.args.plan.now) place sinks (stand_of c.loop-turn.tally c.loop-turn.kept.items) in
-    let after = source c.next.new.source in
-    let is = c.in-Ok-Some.is ∙ ap Ok c.in-Ok-Some.field-0-is in
-    let says = rw is at c.next.ensures.says in
-    let counts = rw is at c.next.ensures.cause in
-    let laws = c.archives_come_in_batches.ensures in
-    let turn = round_turns laws _ loop c.next.new.self after _ c.loop-turn._turn c.loop-turn.invariant.0 c.loop-turn.invariant.2 says counts in
-    let few = turn_few laws _ (loop_on loop c.next.new.self after) _ _ _ c.requires.limit.1 turn c.in-Ok.ensures in
-    omega (arith, few)
-
-pub returns-in-Err-Fault-clause-answers : goal.returns-in-Err-Fault-clause-answers
-returns-in-Err-Fault-clause-answers g c =
-    let source = source_view g.S.Source.left g.S.Source.faults in
-    let out_view = sink_view g.O.Sink.taken g.O.Sink.faults in
-    let err_view = sink_view g.E.Sink.taken g.E.Sink.faults in
-    let place = place_of c.args.settings.limit c.loop-turn.batches (source c.args.source.now) (source c.loop-turn.source) in
-    let sinks = sinks_of (out_view c.args.out.now) (out_view c.loop-turn.out) (err_view c.args.err.now) (err_view c.loop-turn.err) in
-    let loop = loop_of (query_in c.args.plan.now) place sinks (stand_of c.loop-turn.tally c.loop-turn.kept.items) in
-    let after = source c.next.new.source in
-    let out = out_view c.args.out.now in
-    let err = err_view c.args.err.now in
-    let is = c.in-Ok-Some.is ∙ ap Ok c.in-Ok-Some.field-0-is in
-    let says = rw is at c.next.ensures.says in
-    let counts = rw is at c.next.ensures.cause in
-    let laws = c.archives_come_in_batches.ensures in
-    let turn = round_turns laws _ loop c.next.new.self after _ c.loop-turn._turn c.loop-turn.invariant.0 c.loop-turn.invariant.2 says counts in
-    let answered = c.in-Ok.ensures in
-    let are = answers_are _ (loop_on loop c.next.new.self after) _ _ _ turn answered in
-    let does = c.write_answers.ensures _ turn.known.outcomes answered.outcomes out err are turn.found in
-    let new_sinks = sinks_of out (out_view c.write_answers.new.out) err (err_view c.write_answers.new.err) in
-    turn_fails laws _ (loop_on loop c.next.new.self after) new_sinks _ _ _ (sym c.has_sort_item-sorted.ensures) turn answered
-    (rw (c.in-Err-Fault.is ∙ ap Err c.in-Err-Fault.field-0-is) at does)
-
-pub returns-in-Err-Fault-clause-next : goal.returns-in-Err-Fault-clause-next
-returns-in-Err-Fault-clause-next g c =
-    g.met.S.Source.follows_on c.args.source.now c.loop-turn.source c.next.new.source c.loop-turn.invariant.1 c.next.ensures.next
-
-pub returns-in-Err-NoMemory-write_answers-clause-answers : goal.returns-in-Err-NoMemory-write_answers-clause-answers
-returns-in-Err-NoMemory-write_answers-clause-answers g c =
-    let source = source_view g.S.Source.left g.S.Source.faults in
-    let out_view = sink_view g.O.Sink.taken g.O.Sink.faults in
-    let err_view = sink_view g.E.Sink.taken g.E.Sink.faults in
-    let place = place_of c.args.settings.limit c.loop-turn.batches (source c.args.source.now) (source c.loop-turn.source) in
-    let sinks = sinks_of (out_view c.args.out.now) (out_view c.loop-turn.out) (err_view c.args.err.now) (err_view c.loop-turn.err) in
-    let loop = loop_of (query_in c.args.plan.now) place sinks (stand_of c.loop-turn.tally c.loop-turn.kept.items) in
-    let after = source c.next.new.source in
-    let out = out_view c.args.out.now in
-    let err = err_view c.args.err.now in
-    let is = c.in-Ok-Some.is ∙ ap Ok c.in-Ok-Some.field-0-is in
-    let says = rw is at c.next.ensures.says in
-    let counts = rw is at c.next.ensures.cause in
-    let laws = c.archives_come_in_batches.ensures in
-    let turn = round_turns laws _ loop c.next.new.self after _ c.loop-turn._turn c.loop-turn.invariant.0 c.loop-turn.invariant.2 says counts in
-    let answered = c.in-Ok.ensures in
-    let are = answers_are _ (loop_on loop c.next.new.self after) _ _ _ turn answered in
-    let does = c.write_answers.ensures _ turn.known.outcomes answered.outcomes out err are turn.found in
-    let new_sinks = sinks_of out (out_view c.write_answers.new.out) err (err_view c.write_answers.new.err) in
-    turn_wants laws _ (loop_on loop c.next.new.self after) new_sinks _ _ _ (sym c.has_sort_item-sorted.ensures) turn answered
-    (rw (c.in-Err-NoMemory-write_answers.is ∙ ap Err c.in-Err-NoMemory-write_answers.field-0-is) at does)
-
-pub returns-in-Err-NoMemory-write_answers-clause-next : goal.returns-in-Err-NoMemory-write_answers-clause-next
-returns-in-Err-NoMemory-write_answers-clause-next g c =
-    g.met.S.Source.follows_on c.args.source.now c.loop-turn.source c.next.new.source c.loop-turn.invariant.1 c.next.ensures.next
-
-pub loop-turn-preserved : goal.loop-turn-preserved
-loop-turn-preserved g c =
-    let source = source_view g.S.Source.left g.S.Source.faults in
-    let out_view = sink_view g.O.Sink.taken g.O.Sink.faults in
-    let err_view = sink_view g.E.Sink.taken g.E.Sink.faults in
-    let place = place_of c.args.settings.limit c.loop-turn.batches (source c.args.source.now) (source c.loop-turn.source) in
-    let sinks = sinks_of (out_view c.args.out.now) (out_view c.loop-turn.out) (err_view c.args.err.now) (err_view c.loop-turn.err) in
-    let loop = loop_of (query_in c.args.plan.now) place sinks (stand_of c.loop-turn.tally c.loop-turn.kept.items) in
-    let after = source c.next.new.source in
-    let out = out_view c.args.out.now in
-    let err = err_view c.args.err.now in
-    let is = c.in-Ok-Some.is ∙ ap Ok c.in-Ok-Some.field-0-is in
-    let says = rw is at c.next.ensures.says in
-    let counts = rw is at c.next.ensures.cause in
-    let laws = c.archives_come_in_batches.ensures in
-    let turn = round_turns laws _ loop c.next.new.self after _ c.loop-turn._turn c.loop-turn.invariant.0 c.loop-turn.invariant.2 says counts in
-    let answered = c.in-Ok.ensures in
-    let are = answers_are _ (loop_on loop c.next.new.self after) _ _ _ turn answered in
-    let does = c.write_answers.ensures _ turn.known.outcomes answered.outcomes out err are turn.found in
-    let next = turn_done _ (loop_on loop c.next.new.self after) _ _ _ _ _ turn answered (rw c.in-Ok-write_answers.is at does) in
-    (next.0, g.met.S.Source.follows_on c.args.source.now c.loop-turn.source c.next.new.source c.loop-turn.invariant.1 c.next.ensures.next, next.1)
-
-pub unreachable-requires : goal.unreachable-requires
-unreachable-requires g c =
-    let few = few_rounds c.archives_come_in_batches.ensures _ _ c.loop-turn.invariant.0 in
-    let turns = c.loop-turn.invariant.2 in
-    let over : c.args.settings.limit + 3 ≤ c.loop-turn._turn = search rules in
-    omega (arith, few, turns, over)
+    let out = sink_view g.O.Sink.taken g.O.Sink.faults in
+    let err = sink_view g.E.Sink.taken g.E.Sink.faults in
+    let sinks = sinks_of (out c.args.out.now) (out c.take_batches.new.out) (err c.args.err.now) (err c.take_batches.new.err) in
+    let call = answer_call c.args.settings.limit (source c.args.source.now) (source c.take_batches.new.source) sinks in
+    let query = query_in c.args.plan.now in
+    let sorted = c.has_sort_item-sorted.result in
+    let taker = c.take_batches.new.taker in
+    let asked = asked_of sorted query (sym c.has_sort_item-sorted.ensures) in
+    let says = rw c.in-Err.is at c.take_batches.ensures.says in
+    let cause = rw c.in-Err.is at c.take_batches.ensures.cause in
+    subst (λ s. AnswerPromise asked.wanted s call) (sym c.status_of.ensures)
+    (all_refused c.archives_come_in_batches.ensures {X = Status} c.in-Err.refusal asked call _ (λ games batch status. Unit {0})
+    (λ games taken. reading_as games (λ outcomes. FoundSoFar sorted query outcomes sinks (stand_of taker.tally taker.kept.items)) (IsWritten asked sinks)
+    (λ outcomes found. (found.writes, found.unfailed)) taken.1.reading) says cause)

@@ -3,7 +3,7 @@ use Rattle.cq_shared.specs.Plans.{queries_of, trees_of}
 use Rattle.cq_run.specs.ManyQueries.{texts_of_all}
 use Rattle.cq_run.specs.Promise.{AnswerPromise, source_view, sink_view, sinks_of}
 use Rattle.cq_run.proofs.AnswerPromise.{answer_call, none_answered}
-use Rattle.cq_run.proofs.ManyRounds.{asked_of_all, few_trees}
+use Rattle.cq_run.proofs.ManyBatch.{asked_of_all, few_trees}
 use Rattle.cq_run.proofs.all_queries.answer_many.Goals as goal
 
 pub answer_each-requires-clause-few : goal.answer_each-requires-clause-few

@@ -1,6 +1,6 @@
 use Rattle.cql_syntax.specs.TreeOf.{query_tree}
 use Rattle.cq_run.specs.Promise.{source_view, sink_view}
-use Rattle.cq_run.proofs.FirstRounds.{unanswered}
+use Rattle.cq_run.proofs.FirstEndings.{unanswered}
 use Rattle.cq_run.proofs.archives.answer.Goals as goal
 
 pub returns-in_default-clause-answers : goal.returns-in_default-clause-answers

@@ -6,7 +6,7 @@ use Rattle.cq_shards.specs.declared.answers.GameAnswer.{GameAnswer}
 use Rattle.cq_run.specs.ManyWriting.{IsRowOrdered}
 use Rattle.cq_run.specs.Promise.{sink_view, sinks_of}
 use Rattle.cq_run.specs.Writing.{FoundSoFar, stand_of}
-use Rattle.cq_run.proofs.ManyRounds.{FirstCall, first_failed, first_starved, none_kept_yet, rest_kept, rest_starved}
+use Rattle.cq_run.proofs.ManyBatch.{FirstCall, first_failed, first_starved, none_kept_yet, rest_kept, rest_starved}
 use Rattle.cq_run.proofs.Rows.{kept_at, rest_of_all}
 use Rattle.cq_run.proofs.keeping.keep_batch.Goals as goal
 

@@ -1,13 +1,12 @@
--- Answering several queries batch by batch.
-use Rattle.std.proofs.Common.{◌≡◌, ℕ, ◌+◌, ◌^◌, ◌<◌, ◌≤◌, true, false, List, [], ◌∷◌, ◌++◌, length, map, get_or, set, replicate, refl, ap, sym, ◌∙◌, arith, subst, Ok, Err}
+-- Taking a batch, where several queries are answered.
+use Rattle.std.proofs.Common.{◌≡◌, ℕ, ◌+◌, ◌^◌, ◌<◌, ◌≤◌, true, List, [], ◌∷◌, ◌++◌, length, map, get_or, set, replicate, refl, ap, sym, ◌∙◌, arith, subst, Ok, Err}
 use Rattle.std.specs.Prelude.{Result}
 use Rattle.std.proofs.lemmas.List.{length-map}
 use Rattle.std.proofs.lemmas.List.Sums.{count_by-le-length}
 use Rattle.std.proofs.lemmas.Simd.{splat_is_map}
 use Rattle.cq_batches.specs.Games.{games_of, number_of}
-use Rattle.cq_batches.specs.Streams.{Stands}
+use Rattle.cq_batches.specs.Kept.{KeptGames}
 use Rattle.cq_batches.specs.declared.batch.Batch.{Batch}
-use Rattle.cq_batches.specs.declared.state.Batches.{Batches}
 use Rattle.cq_outside.specs.Flow.{Grew}
 use Rattle.cq_outside.specs.declared.faults.Failed.{Failed}
 use Rattle.cq_outside.specs.declared.faults.Refusal.{Refusal}
@@ -20,21 +19,23 @@ use Rattle.cq_shards.specs.Answers.{answers_from}
 use Rattle.cq_shards.specs.Many.{AreManyOf}
 use Rattle.cq_shards.specs.Outcomes.{AreKeptRead, Outcome}
 use Rattle.cq_shards.specs.declared.answers.GameAnswer.{GameAnswer}
+use Rattle.cq_run.specs.declared.status.Status.{Status}
+use Rattle.cq_run.specs.declared.status.Status.TheVariants.{NoMemory}
 use Rattle.cq_run.specs.declared.tally.Tally.{Tally}
-use Rattle.cq_run.specs.AllGames.{texts_so_far, written}
+use Rattle.cq_run.specs.AllGames.{texts_so_far}
 use Rattle.cq_run.specs.Answer.{fault_lines, is_match, is_refused, tally_of}
-use Rattle.cq_run.specs.ByBatches.{Laws}
+use Rattle.cq_run.specs.ByBatches.{HaveOutcomes, Laws}
 use Rattle.cq_run.specs.Exports.{matches_from}
 use Rattle.cq_run.specs.ManyQueries.{faults_alone, texts_of_all}
 use Rattle.cq_run.specs.ManyWriting.{AreRowsOf, FoundByAll, IsRowOrdered, KeepsRest}
-use Rattle.cq_run.specs.Promise.{SinkView, SourceView, Sinks, Texts, Writes, WritesPrefix, NoWriteFailed, OneSinkFailed, sinks_of}
+use Rattle.cq_run.specs.Promise.{SinkView, Sinks, Texts, Writes, WritesPrefix, NoWriteFailed, OneSinkFailed, sinks_of}
+use Rattle.cq_run.specs.Takers.{Reading, StopsIn, Taken}
 use Rattle.cq_run.specs.Writing.{AnswersSome, FoundSoFar, Stand, stand_of}
-use Rattle.cq_run.proofs.AllRounds.{Rounds, Run, Turn, turn_few}
 use Rattle.cq_run.proofs.AnswerPromise.{Asked}
 use Rattle.cq_run.proofs.Exports.{written_none}
 use Rattle.cq_run.proofs.GameByGame.{answers_count, as_prefix, both_prefix, fault_lines_on, no_fault_lines, same_stand, tally_with, took_more}
-use Rattle.cq_run.proofs.Given.{Rest, rest_of}
-use Rattle.cq_run.proofs.Reached.{Place, no_reads, place_of}
+use Rattle.cq_run.proofs.Given.{Rest, count_read, rest_of}
+use Rattle.cq_run.proofs.Known.{reading_on}
 use Rattle.cq_run.proofs.Rows.{Keeping, all_kept, kept_of, row_at, rows_are}
 use Rattle.cq_run.proofs.Sinks.{Took, took_count, unwritten}
 use Rattle.cq_run.proofs.Sorted.{StandBeside}
@@ -58,16 +59,6 @@ asked_of_all queries = record {
   faulted = λ rs. refl;
   never = λ rs refused texts enough. enough;
   grows = faults_grow;
-}
-
-abbrev pub run_of_all : List QueryTree → Place → Sinks → Tally → List (List GameAnswer) → Run
-run_of_all queries place sinks tally kept = record {
-  asked = asked_of_all queries;
-  place = place;
-  sinks = sinks;
-  Found = λ rs. FoundByAll queries rs sinks tally kept;
-  writes = λ rs found. found.writes;
-  unfailed = λ rs found. found.unfailed;
 }
 
 -- ---- the first query's answers are written
@@ -163,28 +154,7 @@ pub none_kept_yet : (queries : List QueryTree) (before outcomes : List Outcome) 
 none_kept_yet queries before outcomes sinks tally kept found =
     (faults_grow before outcomes sinks (as_prefix sinks (faults_alone before) found.writes), found.unfailed)
 
--- ---- the loop
-
-none_matched : (queries : List QueryTree) → map (λ q. []) queries ≡ map (kept_of []) queries
-unfolding matches_from
-none_matched [] = refl
-none_matched (q ∷ qs) = ap (λ l. [] ∷ l) (none_matched qs)
-
--- before the first batch
-pub no_rounds : (queries : List QueryTree) (limit : ℕ) (b : Batches) (source : SourceView) (out err : SinkView) (kept : List (List GameAnswer)) (n : ℕ) → n ≡ length queries
-    → kept ≡ replicate n [] → Stands b [] 0 → b.limit ≡ limit → b.ended ≡ false
-    → Rounds (place_of limit b source source) (λ rs. FoundByAll queries rs (sinks_of out out err err) (tally_with 0 0 0) kept)
-no_rounds queries limit b source out err kept n count none stands same reads = record {
-  known = record { front = []; m = 0; outcomes = []; reached = no_reads limit b source same reads; are_read = tt };
-  stands = stands;
-  counts = refl;
-  found = record {
-    first = λ q qs e. refl;
-    kept_ = none ∙ splat_is_map queries n [] (sym count) ∙ none_matched queries;
-    writes = record { out = unwritten out.taken; err = subst (Grew err.taken err.taken) (sym (no_fault_lines 1)) (unwritten err.taken) };
-    unfailed = record { out = refl; err = refl };
-  };
-}
+-- ---- a batch
 
 -- there are as many as are asked
 pub few_trees : (queries : List TypedQuery) (trees : List QueryTree) → trees ≡ trees_of queries → 1 ≤ length queries → length queries ≤ 16
@@ -215,10 +185,25 @@ answered laws beside queries batch rows are =
     let rest : Rest (games_of batch) = rest_of laws.have (games_of batch) in
     record { outcomes = rest.outcomes; are_read = rest.are_read; are = rows_are laws beside queries batch rest.outcomes rows rest.are_read are }
 
+-- what was found of the games that were taken
+abbrev pub FoundInAll : List QueryTree → Sinks → Tally → List (List GameAnswer) → KeptGames → Type 0
+FoundInAll queries sinks tally kept games = Reading games (λ outcomes. FoundByAll queries outcomes sinks tally kept)
+
+-- at some games it was stopped
+abbrev pub StoppedInAll : Sinks → Status → KeptGames → Type 0
+StoppedInAll sinks status games = Reading games (λ outcomes. StopsIn (faults_alone outcomes) sinks status)
+
+-- by what is asked now, which is what was asked
+pub found_now_by_all : (was now : List QueryTree) (sinks : Sinks) (tally : Tally) (kept : List (List GameAnswer)) (games : KeptGames)
+    → Taken was now games (λ outcomes. FoundByAll was outcomes sinks tally kept) → FoundInAll now sinks tally kept games
+found_now_by_all was now sinks tally kept games taken = subst (λ qs. FoundInAll qs sinks tally kept games) (sym taken.same) taken.reading
+
 -- with the number of the batch's first game as the count of those before
-pub follows : (queries : List QueryTree) (place : Place) (sinks : Sinks) (tally : Tally) (kept : List (List GameAnswer)) (batch : Batch) (t : ℕ) (rows : List (List GameAnswer))
-    → (turn : Turn place (λ rs. FoundByAll queries rs sinks tally kept) batch t) → (a : Answered queries batch rows) → AreRowsOf queries (length turn.known.outcomes) a.outcomes rows
-follows queries place sinks tally kept batch t rows turn a = subst (λ n. AreRowsOf queries n a.outcomes rows) turn.index a.are
+pub follows : (queries : List QueryTree) (sinks : Sinks) (tally : Tally) (kept : List (List GameAnswer)) (games : KeptGames) (batch : Batch) (rows : List (List GameAnswer))
+    → (at : FoundInAll queries sinks tally kept games) → number_of batch ≡ length games → (a : Answered queries batch rows)
+    → AreRowsOf queries (length at.outcomes) a.outcomes rows
+follows queries sinks tally kept games batch rows at index a =
+    subst (λ n. AreRowsOf queries n a.outcomes rows) (index ∙ count_read games at.outcomes at.are_read) a.are
 
 first_long : (queries : List QueryTree) (n : ℕ) (outcomes : List Outcome) (rows : List (List GameAnswer)) (ordered : List GameAnswer) → 1 ≤ length queries
     → AreRowsOf queries n outcomes rows → IsRowOrdered (get_or rows 0 []) ordered → length ordered ≡ length outcomes
@@ -226,11 +211,40 @@ first_long [] n outcomes rows ordered some are sorts = absurd (omega (arith, som
 first_long (q ∷ qs) n outcomes rows ordered some are sorts =
     ap length (row_at (q ∷ qs) n outcomes rows 0 q are (omega arith) ordered sorts) ∙ answers_count q n outcomes
 
-pub many_few : Laws → (queries : List QueryTree) (place : Place) (sinks : Sinks) (tally : Tally) (kept : List (List GameAnswer)) (batch : Batch) (t : ℕ) (rows : List (List GameAnswer))
-    → place.limit ≤ 2 ^ 40 → 1 ≤ length queries → (turn : Turn place (λ rs. FoundByAll queries rs sinks tally kept) batch t) → Answered queries batch rows
+pub many_few : (queries : List QueryTree) (sinks : Sinks) (tally : Tally) (kept : List (List GameAnswer)) (games : KeptGames) (batch : Batch) (rows : List (List GameAnswer))
+    → 1 ≤ length queries → FoundInAll queries sinks tally kept games → number_of batch ≡ length games → Answered queries batch rows
     → (ordered : List GameAnswer) → IsRowOrdered (get_or rows 0 []) ordered → tally.games + length ordered < 2 ^ 62
-many_few laws queries place sinks tally kept batch t rows low some turn a ordered sorts =
-    let few = turn_few laws place (λ rs. FoundByAll queries rs sinks tally kept) batch t a.outcomes low turn a.are_read in
-    let games = (tally_few queries turn.known.outcomes sinks tally kept some turn.found).0 in
+many_few queries sinks tally kept games batch rows some at index a ordered sorts =
+    let counted = (tally_few queries at.outcomes sinks tally kept some at.holds).0 in
+    let before = count_read games at.outcomes at.are_read in
     let long = first_long queries (number_of batch) a.outcomes rows ordered some a.are sorts in
-    omega (arith, few, games, long)
+    let read = count_read (games_of batch) a.outcomes a.are_read in
+    let most = batch.numbers in
+    omega (arith, counted, before, long, read, most, index)
+
+-- no memory for its answers
+pub many_wants : HaveOutcomes → (queries : List QueryTree) (sinks : Sinks) (tally : Tally) (kept : List (List GameAnswer)) (games : KeptGames) (batch : Batch)
+    → FoundInAll queries sinks tally kept games → StoppedInAll sinks NoMemory (games ++ games_of batch)
+many_wants have queries sinks tally kept games batch at =
+    let rest : Rest (games_of batch) = rest_of have (games_of batch) in
+    reading_on games batch (λ outcomes. FoundByAll queries outcomes sinks tally kept) (λ outcomes. StopsIn (faults_alone outcomes) sinks NoMemory)
+    at rest.outcomes rest.are_read (none_kept_yet queries at.outcomes rest.outcomes sinks tally kept at.holds)
+
+none_matched : (queries : List QueryTree) → map (λ q. []) queries ≡ map (kept_of []) queries
+unfolding matches_from
+none_matched [] = refl
+none_matched (q ∷ qs) = ap (λ l. [] ∷ l) (none_matched qs)
+
+-- before the first batch
+pub many_begins : (queries : List QueryTree) (out err : SinkView) (kept : List (List GameAnswer)) (n : ℕ) → n ≡ length queries → kept ≡ replicate n []
+    → FoundInAll queries (sinks_of out out err err) (tally_with 0 0 0) kept []
+many_begins queries out err kept n count none = record {
+  outcomes = [];
+  are_read = tt;
+  holds = record {
+    first = λ q qs e. refl;
+    kept_ = none ∙ splat_is_map queries n [] (sym count) ∙ none_matched queries;
+    writes = record { out = unwritten out.taken; err = subst (Grew err.taken err.taken) (sym (no_fault_lines 1)) (unwritten err.taken) };
+    unfailed = record { out = refl; err = refl };
+  };
+}
