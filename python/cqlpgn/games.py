@@ -21,6 +21,7 @@ MARK = "CQL"
 NODE, FEN = '{"parent":', '"fen":"'
 DECODER = json.JSONDecoder()
 PARENT = re.compile(r'\{"parent":(\d+)')
+PLY = re.compile(r'\{"parent":\d+,"ply":(\d+)')
 MANY = re.compile(rb"query \d+ bytes \d+\r?\n")
 
 
@@ -70,8 +71,9 @@ class Game:
 
     @cached_property
     def _has_variations(self) -> bool:
-        last = self.line.rfind(NODE, self.at)
-        return last >= 0 and json.loads(self.line[last : self.line.rindex("]")])["ply"] != self.line.count(NODE, self.at)
+        # on one line the last position has as many moves before it as there are
+        last = PLY.match(self.line, self.line.rfind(NODE, self.at)) if NODE in self.line else None
+        return last is not None and int(last[1]) != self.line.count(NODE, self.at)
 
     def _node(self, number: int, said: dict[str, Any], depth: int) -> Node:
         nags, comments, fen = said.get("nags", []), said.get("comments", []), said.get("fen")
@@ -85,12 +87,12 @@ class Game:
 
     def marked(self) -> Iterator[Node]:
         """The marked positions but the start, in the order of the tree; the others are not read, as they may be many."""
-        line, at, number, counted = self.line, self.at, 0, self.at
+        line, at, number, counted, has_variations = self.line, self.at, 0, self.at, self._has_variations
         # within a text of JSON each quote has a backslash before it, so these are fields
         while (at := line.find(FEN, at)) >= 0:
             begin = line.rfind(NODE, 0, at)
             said, at = DECODER.raw_decode(line, begin)
-            if self._has_variations:
+            if has_variations:
                 number += line.count(NODE, counted, begin + len(NODE))
                 counted = begin + len(NODE)
                 yield self._node(number, said, self._depths[number])

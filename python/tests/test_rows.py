@@ -94,6 +94,7 @@ def test_json(asked: Asking) -> None:
         {"ply": 2, "san": "e5", "White": "=1+1", "ECO": None, "mainline": 0},
         {"ply": 3, "san": "Nf3", "White": "=1+1", "ECO": None, "mainline": 0},
     ]
+    assert answer.lines == ["-: no game has the tag ECO"]
 
 
 def test_epd(asked: Asking) -> None:
@@ -101,6 +102,12 @@ def test_epd(asked: Asking) -> None:
     assert answer.out.decode().splitlines()[4] == (
         'rnbqkbnr/pppp1ppp/8/4p3/4P3/5N2/PPPP1PPP/RNBQKB1R b KQkq - id "- 1, ply 3"; c0 "Nf3"; c1 "why, \'so\'";'
     )
+
+
+def test_an_epd_is_one_line(asked: Asking) -> None:
+    archive = '[White "a\u2028b\x85c\x7f"]\n\n1. Nf3 {CQL} *\n'.encode()
+    answer = asked("cqlpgn-rows", "--epd", "--columns", "White", data=archive)
+    assert answer.out.decode().splitlines() == ['rnbqkbnr/pppppppp/8/8/8/5N2/PPPPPPPP/RNBQKB1R b KQkq - id "- 1, ply 1"; c0 "a b c ";']
 
 
 def test_no_row_is_lost(asked: Asking, room: Path) -> None:
@@ -155,4 +162,6 @@ def test_what_has_no_rows(asked: Asking, room: Path) -> None:
     for answer in (asked("cqlpgn-rows", data=many), asked("cqlpgn-rows", "many")):
         assert (answer.status, answer.out, "`cqlpgn many` writes" in answer.err) == (5, b"", True)
     assert asked("cqlpgn-rows", "--csv", "--json").status == 3
+    for columns in ("", "fen,", ",fen"):
+        assert asked("cqlpgn-rows", "--columns", columns, data=NULL).status == 3
     assert asked("cqlpgn-rows", PGNJSON="none").status == 4
