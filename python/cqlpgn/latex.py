@@ -112,10 +112,10 @@ def _rows(matches: list[Match], style: Style) -> Iterator[str]:
 def _solutions(matches: Iterable[Match]) -> Iterator[str]:
     yield "\\clearpage\n\\begin{center}\\large Solutions\\end{center}\n"
     for match in matches:
-        where = plain(", ".join(match.tree.where))
+        where = ", ".join(filter(None, [_names(match), *map(plain, match.tree.where)]))
         said = "".join(f" {plain(comment)}" for comment in match.comments)
         moves = match.solution(plain, lambda comment: rf"\emph{{{plain(comment[:LONGEST])}}}")
-        yield rf"\textbf{{{match.number}}} {moves}{said} \hfill {{\footnotesize {_names(match)}, {where}}}\par" + "\n"
+        yield rf"\textbf{{{match.number}}} {moves}{said} \hfill {{\footnotesize {where}}}\par" + "\n"
 
 
 def document(files: Iterable[tuple[str, list[Match]]], style: Style) -> Iterator[str]:

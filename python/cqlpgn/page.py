@@ -67,7 +67,7 @@ def printed(match: Match) -> str:
 
 def solution(match: Match) -> str:
     said = "".join(f" <em>{isolated(comment)}</em>" for comment in match.comments)
-    where = ", ".join([players(match.tree), *map(isolated, match.tree.where)])
+    where = ", ".join(filter(None, [players(match.tree), *map(isolated, match.tree.where)]))
     moves = match.solution(escape, lambda comment: f"<em>{isolated(comment)}</em>")
     return f"<details><summary>solution</summary>{moves}{said}<br><small>{where}</small></details>"
 

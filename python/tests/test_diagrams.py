@@ -109,6 +109,9 @@ def test_exercises(asked: Asking) -> None:
     text = asked("cqlpgn-diagrams", "--exercises", "--tex", "--flip", "side-to-move", data=GAME).out.decode()
     assert (text.count("inverse,setfen") + text.count("{inverse}"), "markmoves={" in text, "after 1" in text) == (2, False, False)
     assert "\\textbf{1} 1...e5 2.Nf3 {-}{-} 3.Bc4 1{-}0" in text.partition("Solutions")[2]
+    bare = b"1. e4 {CQL} e5 *\n"
+    assert "{\\footnotesize ? -- ?}\\par" in asked("cqlpgn-diagrams", "--exercises", "--tex", data=bare).out.decode()
+    assert "<small><bdi>?</bdi> – <bdi>?</bdi></small></details>" in asked("cqlpgn-diagrams", "--exercises", data=bare).out.decode()
 
 
 def test_a_sheet_of_problems(asked: Asking, room: Path) -> None:
