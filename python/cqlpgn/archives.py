@@ -31,17 +31,21 @@ class _Unpacking(Protocol):
 
     @property
     def eof(self) -> bool:
+        """Whether the stream has come to its end."""
         ...
 
     @property
     def needs_input(self) -> bool:
+        """Whether it gives nothing more before it is fed."""
         ...
 
     @property
     def unused_data(self) -> bytes:
+        """What was fed and lies behind the end of the stream."""
         ...
 
     def decompress(self, data: bytes, max_length: int = -1) -> bytes:
+        """What the data unpack to, at most so many bytes, if any number is said. Raises what the library does."""
         ...
 
 
@@ -135,6 +139,7 @@ class _Progress(Protocol):
     n: Any
 
     def update(self, n: int) -> Any:
+        """So many bytes more were read."""
         ...
 
     def __enter__(self) -> Any:

@@ -49,6 +49,7 @@ class Style:
 
     @property
     def columns(self) -> int:
+        """How many boards stand in a row."""
         return 2 if self.per_page == 8 else 3
 
 

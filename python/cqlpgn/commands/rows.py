@@ -24,6 +24,7 @@ a write failed. CQLPGN's reader pgnjson is named by PGNJSON, if it is not the on
 
 
 def parser() -> argparse.ArgumentParser:
+    """The words of the command."""
     told = ", ".join(f"{name} ({said})" for name, said in rows.COLUMNS.items())
     made = Parser("cqlpgn-rows", "Writes a row for each marked position of the games that cqlpgn has written.", EPILOG.format(columns=told))
     made.add_argument("file", metavar="FILE", nargs="?", default=STANDARD_INPUT, help="the games, packed or not; `-` is standard input")
@@ -72,6 +73,7 @@ def columns_of(made: argparse.ArgumentParser, flags: argparse.Namespace) -> list
 
 
 def main(words: Sequence[str]) -> int:
+    """Writes the rows; the status is that of pgnjson. Raises `Error`."""
     made = parser()
     flags = made.parse_args(words)
     columns = columns_of(made, flags)
@@ -98,4 +100,5 @@ def main(words: Sequence[str]) -> int:
 
 
 def entry() -> None:
+    """Runs the command with the words of the process, which ends with it."""
     run(main)
