@@ -7,6 +7,7 @@ import gzip
 import io
 import json
 import os
+import subprocess
 from pathlib import Path
 from typing import Any
 
@@ -14,6 +15,7 @@ import cqlpgn as package
 import pytest
 from answers import model
 from conftest import TOP, Answer, Asking
+from cqlpgn import archives, games
 from processes import children, has_ended
 
 pytestmark = pytest.mark.usefixtures("cqlpgn", "pgnjson", "room")
@@ -108,6 +110,16 @@ def test_an_epd_is_one_line(asked: Asking) -> None:
     archive = '[White "a\u2028b\x85c\x7f"]\n\n1. Nf3 {CQL} *\n'.encode()
     answer = asked("cqlpgn-rows", "--epd", "--columns", "White", data=archive)
     assert answer.out.decode().splitlines() == ['rnbqkbnr/pppppppp/8/8/8/5N2/PPPPPPPP/RNBQKB1R b KQkq - id "- 1, ply 1"; c0 "a b c ";']
+
+
+@pytest.mark.parametrize("mark", ["", "CQL"])
+def test_marked_positions_are_those_of_the_tree(room: Path, mark: str) -> None:
+    """They are read one by one, without the others."""
+    (room / "null.pgn").write_bytes(NULL)
+    for path in [room / "null.pgn", *(TOP / "examples" / name for name in ARCHIVES)]:
+        with games.read(archives.Archive(str(path), str(path)), mark, err=subprocess.DEVNULL) as reader:
+            for game in reader:
+                assert list(game.marked()) == [node for node in game.nodes() if node.fen is not None]
 
 
 def test_no_row_is_lost(asked: Asking, room: Path) -> None:
