@@ -11,7 +11,9 @@ from .boards import Match
 ON = 12  # so many moves of both sides, at most, are printed of what came after
 LONGEST = 200  # so many letters of a comment
 SIGNS = {"\\": r"\textbackslash{}", "~": r"\textasciitilde{}", "^": r"\textasciicircum{}", "…": r"\dots{}", "–": "--", "—": "---"}
-SIGNS |= {"“": "``", "”": "''", "‘": "`", "’": "'", "-": "{-}", '"': "''", "<": r"\textless{}", ">": r"\textgreater{}", "`": "{`}"}
+SIGNS |= {"“": "``", "”": "''", "‘": "`", "’": "'", '"': "''", "<": r"\textless{}", ">": r"\textgreater{}"}
+# hyphens stay apart, and a backquote from a `!` before it: lualatex makes one sign of two, even over braces
+SIGNS |= {"-": r"{-\kern0pt}", "`": r"{\kern0pt`}"}
 HEAD = r"""% pdflatex, or lualatex for letters that are not of the Latin alphabet
 \documentclass[a4paper,10pt]{article}
 \usepackage{iftex}
