@@ -72,7 +72,7 @@ _cqlpgn_diagrams() {
     case $word in
         -*)
             mapfile -t COMPREPLY < <(compgen -W '--tex --exercises --mark --title --flip --coordinates --per-page -o --help' -- "$word") ;;
-        *) _cqlpgn_files 'pgn|gz|bz2|xz|zst' "$word" ;;
+        *) _cqlpgn_files 'pgn|gz|bz2|xz|zst|zip' "$word" ;;
     esac
 }
 
@@ -85,7 +85,7 @@ _cqlpgn_rows() {
     esac
     case $word in
         -*) mapfile -t COMPREPLY < <(compgen -W '--csv --json --epd --columns --mark --index -o --help' -- "$word") ;;
-        *) _cqlpgn_files 'pgn|gz|bz2|xz|zst' "$word" ;;
+        *) _cqlpgn_files 'pgn|gz|bz2|xz|zst|zip' "$word" ;;
     esac
 }
 

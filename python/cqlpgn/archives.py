@@ -251,6 +251,17 @@ def members(archive: Archive) -> list[zipfile.ZipInfo]:
     return found
 
 
+def single(name: str) -> Archive:
+    """The archive of a name that stands for one, of a `.zip` its one member. Raises `NotFound`, and `Unreadable` where it has several."""
+    archive = Archive(name, name)
+    if name == STANDARD_INPUT or _ending(name) != ".zip":
+        return archive
+    found = members(archive)
+    if len(found) > 1:
+        raise Unreadable(f"{shown(name)}: has {len(found)} files *.pgn in it, and one is wanted")
+    return next(named(name, found))
+
+
 def _in_folder(folder: str) -> list[str]:
     """The archives in a folder and in the folders within it, by their names."""
     found = []

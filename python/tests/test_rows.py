@@ -8,6 +8,7 @@ import io
 import json
 import os
 import subprocess
+import zipfile
 from pathlib import Path
 from typing import Any
 
@@ -142,6 +143,13 @@ def test_a_cut_off_game_is_refused(asked: Asking) -> None:
 def test_packed_and_index(asked: Asking, room: Path) -> None:
     (room / "a.pgn.gz").write_bytes(gzip.compress(NULL))
     assert len(table(asked("cqlpgn-rows", "a.pgn.gz"))) == 6
+    for members in (1, 2):
+        with zipfile.ZipFile(room / "a.zip", "w") as packed:
+            for number in range(members):
+                packed.writestr(f"{number}.pgn", NULL)
+        answer = asked("cqlpgn-rows", "a.zip")
+        assert (answer.status, len(table(answer))) == ((0, 6) if members == 1 else (5, 0))
+    assert answer.lines == ["a.zip: has 2 files *.pgn in it, and one is wanted"]
     (room / "index").write_text("found,archive,game\r\n1,old.pgn,77\r\n")
     assert table(asked("cqlpgn-rows", "--index", "index", "a.pgn.gz"))[1][:3] == ["old.pgn", "77", "1"]
     (room / "index").write_text("found,archive,game\r\n1,old.pgn,\r\n")

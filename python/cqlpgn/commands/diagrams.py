@@ -8,7 +8,7 @@ import tempfile
 from collections.abc import Iterator, Sequence
 
 from .. import boards, games, latex, page
-from ..archives import Archive
+from ..archives import single
 from ..files import STANDARD_INPUT, Replacing, refuse_inputs, shown, standard_output
 from ..games import MARK
 from ..latex import Style
@@ -50,7 +50,7 @@ class Source:
     def _read(self, name: str) -> Iterator[tuple[boards.Tree, list[boards.Match]]]:
         # pgnjson knows one mark; of several it gives every position, and the comments tell
         mark = self._marks[0] if len(self._marks) == 1 else ""
-        with tempfile.TemporaryFile() as report, games.read(Archive(name, name), mark, err=report) as reader:
+        with tempfile.TemporaryFile() as report, games.read(single(name), mark, err=report) as reader:
             for game in reader:
                 tree = boards.Tree(game)
                 found = list(boards.matches(tree, self._marks, self.count + 1))

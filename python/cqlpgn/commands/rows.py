@@ -10,7 +10,7 @@ from contextlib import ExitStack
 from itertools import chain, islice
 
 from .. import games, rows
-from ..archives import Archive
+from ..archives import single
 from ..errors import Stopped
 from ..files import STANDARD_INPUT, Replacing, refuse_inputs, shown, standard_output
 from ..games import MARK, Reader
@@ -79,7 +79,7 @@ def main(words: Sequence[str]) -> int:
     columns = columns_of(made, flags)
     unseen = set(columns) - set(rows.COLUMNS)
     refuse_inputs([flags.out] if flags.out is not None else [], [flags.file])
-    source = Archive(flags.file, flags.file)
+    source = single(flags.file)
     with Replacing() as files, tempfile.TemporaryFile() as report, games.read(source, flags.mark, err=report) as reader:
         to = files.open(flags.out) if flags.out is not None else standard_output()
         found = all_rows(reader, flags, unseen)
