@@ -42,7 +42,7 @@ install:
 	install -m 644 docs/pgnpieces.1 docs/pgnjson.1 $(SHARE)/man/man1
 	install -m 644 $(COMMANDS:%=docs/%.1) $(SHARE)/man/man1
 	mkdir -p $(SHARE)/bash-completion/completions $(SHARE)/fish/vendor_completions.d
-	for name in pgnjson $(COMMANDS); do \
+	for name in pgnjson pgnpieces $(COMMANDS); do \
 	  ln -sf cqlpgn $(SHARE)/bash-completion/completions/$$name; \
 	  ln -sf cqlpgn.fish $(SHARE)/fish/vendor_completions.d/$$name.fish; \
 	done

@@ -19,29 +19,48 @@ def games_of(b):
     return _games[b]
 
 
-def answer(q, b, first=False):
-    """(status, out, err), of all games or up to the first that matches"""
-    outs = []
-    err = bytearray()
-    gs = games_of(b)
-    refused = 0
-    for i, g in enumerate(gs):
+def export_of(q, g, hs):
+    texts = [q["match_text"]] + [f.args[0] for f in q["items"] if f.form == "comment"]
+    return export(g, {n.no: texts for n in hs})
+
+
+def order_of(q, hs, s):
+    """what a game is sorted by, the least first"""
+    return [k if f.args[0] else -k for k, f in zip(keys(q, hs, s), [f for f in q["items"] if f.form == "sort"])]
+
+
+def parts(q, b, first=False):
+    """what is written, in its order, of all games or up to the first that matches: (1, a game) and (2, a line of the report); what is
+    sorted comes when all games are read"""
+    found, number, refused = [], 0, 0
+    for number, g in enumerate(games_of(b), 1):
         if isinstance(g, tuple):
             refused += 1
-            err += b"game %d byte %d: %s\n" % (i + 1, g[1], g[2].encode())
+            yield 2, b"game %d byte %d: %s\n" % (number, g[1], g[2].encode())
             continue
         hs, s = hits(q, g)
         if hs:
-            texts = [q["match_text"]] + [f.args[0] for f in q["items"] if f.form == "comment"]
-            ks = keys(q, hs, s)
-            ks = [k if f.args[0] else -k for k, f in zip(ks, [f for f in q["items"] if f.form == "sort"])]
-            outs.append((ks, i, export(g, {n.no: texts for n in hs})))
+            order, text = order_of(q, hs, s), export_of(q, g, hs)
+            found.append((order, number, text))
+            if not order or first:
+                yield 1, text
             if first:
-                gs = gs[: i + 1]
                 break
-    outs.sort(key=lambda x: (x[0], x[1]))
-    err += b"games %d matched %d refused %d\n" % (len(gs), len(outs), refused)
-    return (1 if refused else 0, b"".join(x[2] for x in outs), bytes(err))
+    if found and found[0][0] and not first:
+        yield from ((1, text) for _, _, text in sorted(found, key=lambda one: one[:2]))
+    yield 2, b"games %d matched %d refused %d\n" % (number, len(found), refused)
+
+
+def status_of(written):
+    """the status of an answer in parts: whether a game is faulty"""
+    return int(sum(stream == 2 for stream, _ in written) > 1)
+
+
+def answer(q, b, first=False):
+    """(status, out, err)"""
+    written = list(parts(q, b, first))
+    out, err = (b"".join(text for stream, text in written if stream == wanted) for wanted in (1, 2))
+    return (status_of(written), out, err)
 
 
 USAGE = b"usage: cqlpgn MODE QUERY [ARCHIVE] [--workers N] [--seed S] [--games G] [--limit B] [--first]\n"

@@ -1,4 +1,4 @@
-# Completion of cqlpgn, pgnjson and the commands of the Python package for bash: `source contrib/completion/cqlpgn.bash` in ~/.bashrc, where `make install` or the package has not put it where bash-completion finds it.
+# Completion of cqlpgn, pgnjson, pgnpieces and the commands of the Python package for bash: `source contrib/completion/cqlpgn.bash` in ~/.bashrc, where `make install` or the package has not put it where bash-completion finds it.
 
 _cqlpgn_files() {
     # files whose names end so, and folders
@@ -72,7 +72,7 @@ _cqlpgn_diagrams() {
     case $word in
         -*)
             mapfile -t COMPREPLY < <(compgen -W '--tex --exercises --mark --title --flip --coordinates --per-page -o --help' -- "$word") ;;
-        *) _cqlpgn_files 'pgn|gz|bz2|xz|zst' "$word" ;;
+        *) _cqlpgn_files 'pgn|gz|bz2|xz|zst|zip' "$word" ;;
     esac
 }
 
@@ -85,7 +85,7 @@ _cqlpgn_rows() {
     esac
     case $word in
         -*) mapfile -t COMPREPLY < <(compgen -W '--csv --json --epd --columns --mark --index -o --help' -- "$word") ;;
-        *) _cqlpgn_files 'pgn|gz|bz2|xz|zst' "$word" ;;
+        *) _cqlpgn_files 'pgn|gz|bz2|xz|zst|zip' "$word" ;;
     esac
 }
 
@@ -109,8 +109,14 @@ _pgnjson() {
     esac
 }
 
+_pgnpieces() {
+    COMPREPLY=()
+    [ "$COMP_CWORD" != 1 ] || _cqlpgn_files pgn "${COMP_WORDS[1]}"
+}
+
 complete -o filenames -F _cqlpgn cqlpgn
 complete -o filenames -F _pgnjson pgnjson
+complete -o filenames -F _pgnpieces pgnpieces
 complete -o filenames -F _cqlpgn_over cqlpgn-over
 complete -o nospace -F _cqlpgn_split cqlpgn-split
 complete -o filenames -F _cqlpgn_problems cqlpgn-problems

@@ -1,4 +1,4 @@
-# Completion of cqlpgn, pgnjson and the commands of the Python package for fish: the file lies in ~/.config/fish/completions.
+# Completion of cqlpgn, pgnjson, pgnpieces and the commands of the Python package for fish: the file lies in ~/.config/fish/completions.
 
 function __cqlpgn_place --description 'is the word before the cursor this one, counted from 1 and without options'
     set -l words (commandline -opc | string match -v -- '-*')
@@ -28,6 +28,9 @@ complete -c cqlpgn -n '__cqlpgn_mode selfrun' -l games -x -d 'how many games'
 complete -c pgnjson -l mark -x -d 'the comment of a marked position'
 complete -c pgnjson -l workers -x -a '1 2 4 8 16 32 64' -d '1 to 64 workers'
 complete -c pgnjson -l limit -x -d 'refuses an archive of more bytes'
+
+complete -c pgnpieces -f
+complete -c pgnpieces -n '__cqlpgn_place 1' -a '(__fish_complete_suffix .pgn)' -d archive
 
 complete -c cqlpgn-over -s o -r -d 'where the games go'
 complete -c cqlpgn-over -s c -d 'counts alone'

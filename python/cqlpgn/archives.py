@@ -31,17 +31,21 @@ class _Unpacking(Protocol):
 
     @property
     def eof(self) -> bool:
+        """Whether the stream has come to its end."""
         ...
 
     @property
     def needs_input(self) -> bool:
+        """Whether it gives nothing more before it is fed."""
         ...
 
     @property
     def unused_data(self) -> bytes:
+        """What was fed and lies behind the end of the stream."""
         ...
 
     def decompress(self, data: bytes, max_length: int = -1) -> bytes:
+        """What the data unpack to, at most so many bytes, if any number is said. Raises what the library does."""
         ...
 
 
@@ -135,6 +139,7 @@ class _Progress(Protocol):
     n: Any
 
     def update(self, n: int) -> Any:
+        """So many bytes more were read."""
         ...
 
     def __enter__(self) -> Any:
@@ -244,6 +249,17 @@ def members(archive: Archive) -> list[zipfile.ZipInfo]:
     if not found:
         raise Unreadable(f"{shown(path)}: has no file *.pgn in it")
     return found
+
+
+def single(name: str) -> Archive:
+    """The archive of a name that stands for one, of a `.zip` its one member. Raises `NotFound`, and `Unreadable` where it has several."""
+    archive = Archive(name, name)
+    if name == STANDARD_INPUT or _ending(name) != ".zip":
+        return archive
+    found = members(archive)
+    if len(found) > 1:
+        raise Unreadable(f"{shown(name)}: has {len(found)} files *.pgn in it, and one is wanted")
+    return next(named(name, found))
 
 
 def _in_folder(folder: str) -> list[str]:

@@ -91,6 +91,7 @@ class Match:
 
     @property
     def fen(self) -> str:
+        """The position as FEN."""
         return self.tree.game.start if self.node is None else self.node.fen or ""
 
     @property
@@ -100,6 +101,7 @@ class Match:
 
     @property
     def side(self) -> str:
+        """Who is to move, in words."""
         return "White to move" if self.is_white else "Black to move"
 
     @property

@@ -41,11 +41,17 @@ def open_brackets(text: bytes) -> list[query.Token]:
     return found
 
 
+def _still_open(text: bytes, begin: int, piece: bytes) -> str | None:
+    """Which bracket of a query that begins at a byte of a text is open at its end."""
+    left_open = open_brackets(piece)
+    if not left_open:
+        return None
+    where = located(text, begin + left_open[-1].at, "")
+    return f"the `{left_open[-1].bytes.decode()}` in line {where.line}, column {where.column} is still open"
+
+
 def _hint(text: bytes, byte: int, reason: str) -> str | None:
     """What to write instead, where that is known, of a fault at a byte of a query."""
-    if reason == "unexpected end" and (left_open := open_brackets(text)):
-        where = located(text, left_open[-1].at, "")
-        return f"the `{left_open[-1].bytes.decode()}` in line {where.line}, column {where.column} is still open"
     begin, end = text.rfind(b"\n", 0, byte) + 1, text.find(b"\n", byte)
     line = _decoded(text[byte : end if end >= 0 else len(text)])
     word = re.match(r"[A-Za-z_]\w*", line)
@@ -69,7 +75,7 @@ def fault(text: bytes, line: str) -> Fault | None:
     begin, piece = pieces[int(said[1]) - 1] if said[1] else (0, text)
     byte, reason = int(said[2]), said[3]
     found = located(text, begin + byte, reason, begin + len(piece))
-    found.hint = _hint(piece, byte, reason)
+    found.hint = reason == "unexpected end" and _still_open(text, begin, piece) or _hint(piece, byte, reason)
     return found
 
 
@@ -86,13 +92,9 @@ def caret(found: Fault) -> list[str]:
 
 def warnings(text: bytes) -> Iterator[Fault]:
     """What a query without faults asks that may not be what is meant, each with its place."""
-    masked = bytearray(text)
     quiet = bytearray(b" " * len(text))
-    at = 0
     for token in query.tokens(text):
         quiet[token.at : token.end] = b'"' + b" " * (len(token.bytes) - 1) if token.kind in ("text", "file") else token.bytes
-        at = token.end
-    del masked, at
     plain = quiet.decode("latin-1")
     for row in hints.ACCEPTED:
         for match in re.finditer(row.pattern, plain):

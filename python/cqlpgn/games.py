@@ -8,7 +8,7 @@ import re
 import subprocess
 from collections.abc import Iterable, Iterator, Sequence
 from dataclasses import dataclass, field
-from functools import cached_property
+from functools import cached_property, lru_cache
 from itertools import chain
 from typing import IO, Any, NamedTuple
 
@@ -19,8 +19,11 @@ from .process import Process, executable, raise_for
 
 MARK = "CQL"
 NODE, FEN = '{"parent":', '"fen":"'
-DECODER = json.JSONDecoder()
 PARENT = re.compile(r'\{"parent":(\d+)')
+PLACE = re.compile(r'\{"parent":(\d+),"ply":(\d+)')
+# a node up to what is said of it
+HEAD = re.compile(r'\{"parent":(\d+),"ply":(\d+),"uci":"(\w+)","san":"([^"]+)",')
+SHORT = 200  # letters of notes that are kept, since they may come again
 MANY = re.compile(rb"query \d+ bytes \d+\r?\n")
 
 
@@ -68,10 +71,18 @@ class Game:
             depths.append(depths[parent] + (parent != number - 1))
         return depths
 
+    def _place(self, at: int) -> tuple[int, int]:
+        """Parent and ply of the node at a byte of the line; those of the start where there is none."""
+        found = PLACE.match(self.line, at) if at >= 0 else None
+        return (int(found[1]), int(found[2])) if found else (-1, 0)
+
     @cached_property
     def _has_variations(self) -> bool:
+        # all is one line where the last position came from the last but one, and is as many moves from the start as its number says
         last = self.line.rfind(NODE, self.at)
-        return last >= 0 and json.loads(self.line[last : self.line.rindex("]")])["ply"] != self.line.count(NODE, self.at)
+        parent, ply = self._place(last)
+        before, _ = self._place(self.line.rfind(NODE, self.at, last))
+        return last >= 0 and (parent != ply - 1 or before != parent - 1)
 
     def _node(self, number: int, said: dict[str, Any], depth: int) -> Node:
         nags, comments, fen = said.get("nags", []), said.get("comments", []), said.get("fen")
@@ -85,17 +96,32 @@ class Game:
 
     def marked(self) -> Iterator[Node]:
         """The marked positions but the start, in the order of the tree; the others are not read, as they may be many."""
-        line, at, number, counted = self.line, self.at, 0, self.at
+        line, at, number, counted, has_variations = self.line, self.at, 0, self.at, self._has_variations
         # within a text of JSON each quote has a backslash before it, so these are fields
         while (at := line.find(FEN, at)) >= 0:
-            begin = line.rfind(NODE, 0, at)
-            said, at = DECODER.raw_decode(line, begin)
-            if self._has_variations:
+            begin, fen = line.rfind(NODE, 0, at), at + len(FEN)
+            head = HEAD.match(line, begin)
+            assert head is not None
+            parent, ply, uci, san = head.groups()
+            said = line[head.end() : at]
+            nags, comments = _known_notes(said) if len(said) < SHORT else _notes(said)
+            at, depth = line.index('"', fen), 0
+            if has_variations:
                 number += line.count(NODE, counted, begin + len(NODE))
-                counted = begin + len(NODE)
-                yield self._node(number, said, self._depths[number])
+                counted, depth = begin + len(NODE), self._depths[number]
             else:
-                yield self._node(said["ply"], said, 0)
+                number = int(ply)
+            yield Node(number, int(parent), int(ply), uci, san, [*nags], [*comments], line[fen:at], depth)
+
+
+def _notes(said: str) -> tuple[tuple[int, ...], tuple[str, ...]]:
+    """Glyphs and comments of a node, which stand between its move and its position."""
+    read = json.loads("{" + said.rstrip(",") + "}")
+    return tuple(read.get("nags", ())), tuple(read.get("comments", ()))
+
+
+# most are the same mark
+_known_notes = lru_cache(maxsize=256)(_notes)
 
 
 def game_of(line: str) -> Game:

@@ -11,7 +11,9 @@ from .boards import Match
 ON = 12  # so many moves of both sides, at most, are printed of what came after
 LONGEST = 200  # so many letters of a comment
 SIGNS = {"\\": r"\textbackslash{}", "~": r"\textasciitilde{}", "^": r"\textasciicircum{}", "…": r"\dots{}", "–": "--", "—": "---"}
-SIGNS |= {"“": "``", "”": "''", "‘": "`", "’": "'", "-": "{-}", '"': "''", "<": r"\textless{}", ">": r"\textgreater{}", "`": "{`}"}
+SIGNS |= {"“": "``", "”": "''", "‘": "`", "’": "'", '"': "''", "<": r"\textless{}", ">": r"\textgreater{}"}
+# hyphens stay apart, and a backquote from a `!` before it: lualatex makes one sign of two, even over braces
+SIGNS |= {"-": r"{-\kern0pt}", "`": r"{\kern0pt`}"}
 HEAD = r"""% pdflatex, or lualatex for letters that are not of the Latin alphabet
 \documentclass[a4paper,10pt]{article}
 \usepackage{iftex}
@@ -49,6 +51,7 @@ class Style:
 
     @property
     def columns(self) -> int:
+        """How many boards stand in a row."""
         return 2 if self.per_page == 8 else 3
 
 
@@ -112,10 +115,10 @@ def _rows(matches: list[Match], style: Style) -> Iterator[str]:
 def _solutions(matches: Iterable[Match]) -> Iterator[str]:
     yield "\\clearpage\n\\begin{center}\\large Solutions\\end{center}\n"
     for match in matches:
-        where = plain(", ".join(match.tree.where))
+        where = ", ".join(filter(None, [_names(match), *map(plain, match.tree.where)]))
         said = "".join(f" {plain(comment)}" for comment in match.comments)
         moves = match.solution(plain, lambda comment: rf"\emph{{{plain(comment[:LONGEST])}}}")
-        yield rf"\textbf{{{match.number}}} {moves}{said} \hfill {{\footnotesize {_names(match)}, {where}}}\par" + "\n"
+        yield rf"\textbf{{{match.number}}} {moves}{said} \hfill {{\footnotesize {where}}}\par" + "\n"
 
 
 def document(files: Iterable[tuple[str, list[Match]]], style: Style) -> Iterator[str]:

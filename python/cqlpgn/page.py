@@ -45,6 +45,7 @@ def signed(node: Node) -> str:
 
 
 def figure(match: Match, caption: str, style: Style) -> str:
+    """A board with its caption, which is HTML, and in exercises its solution."""
     move = f' data-move="{signed(match.node)}"' if match.node and not style.exercises else ""
     turned = ' data-turned="1"' if style.turned and not match.is_white else ""
     return (
@@ -56,6 +57,7 @@ def figure(match: Match, caption: str, style: Style) -> str:
 
 
 def players(tree: Tree) -> str:
+    """Who played, as HTML."""
     return " – ".join(map(isolated, tree.players))
 
 
@@ -66,8 +68,9 @@ def printed(match: Match) -> str:
 
 
 def solution(match: Match) -> str:
+    """How an exercise is solved, as HTML, hidden until it is asked for."""
     said = "".join(f" <em>{isolated(comment)}</em>" for comment in match.comments)
-    where = ", ".join([players(match.tree), *map(isolated, match.tree.where)])
+    where = ", ".join(filter(None, [players(match.tree), *map(isolated, match.tree.where)]))
     moves = match.solution(escape, lambda comment: f"<em>{isolated(comment)}</em>")
     return f"<details><summary>solution</summary>{moves}{said}<br><small>{where}</small></details>"
 
@@ -123,6 +126,7 @@ class Writer:
             at = children[0].number
 
     def boards(self) -> str:
+        """The boards of the game's matches, as HTML."""
         captions = ("the start" if match.node is None else match.led.removeprefix("after ") for match in self.matches.values())
         return "".join(
             figure(match, f"<strong>{escape(caption)}</strong>", self.style) for match, caption in zip(self.matches.values(), captions)

@@ -32,6 +32,7 @@ class Token:
 
     @property
     def end(self) -> int:
+        """The first byte after it."""
         return self.at + len(self.bytes)
 
 

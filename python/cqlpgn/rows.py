@@ -6,7 +6,8 @@ import csv
 import io
 import json
 from collections.abc import Callable, Iterable, Iterator, Sequence
-from operator import attrgetter
+from itertools import islice
+from operator import itemgetter
 from typing import NamedTuple
 
 from .errors import Unreadable
@@ -30,7 +31,10 @@ COLUMNS = {
 }
 USUAL = ["archive", "game", "found", "ply", "move", "side", "san", "uci", "fen", "depth", "mainline"]
 # What a spreadsheet takes for a formula begins so.
-FORMULA = ("=", "+", "-", "@", "\t", "\r")
+FORMULA = frozenset("=+-@\t\r")
+# What ends a line, or a text, of EPD.
+WITHIN_EPD = {ord('"'): "'"} | {code: " " for code in (*range(32), *range(127, 160), 0x2028, 0x2029)}
+BATCH = 64  # rows that are written together
 
 
 class Position(NamedTuple):
@@ -113,26 +117,35 @@ class Index:
 Value = str | int | None
 
 
-def _values(row: Position, columns: Sequence[str]) -> list[Value]:
-    return [getattr(row, column) if column in COLUMNS else row.tags.get(column) for column in columns]
+def _values(columns: Sequence[str]) -> Callable[[Position], Sequence[Value]]:
+    """What gives the values of some columns of a row."""
+    places = [Position._fields.index(column if column in COLUMNS else "tags") for column in columns]
+    if len(columns) > 1 and all(column in COLUMNS for column in columns):
+        return itemgetter(*places)
+    pairs = [(place, "" if column in COLUMNS else column) for place, column in zip(places, columns)]
+    return lambda row: [row.tags.get(tag) if tag else row[place] for place, tag in pairs]  # type: ignore[misc]
 
 
-def _cells(columns: Sequence[str]) -> Callable[[Position], list[Value]]:
+def _cells(columns: Sequence[str]) -> Callable[[Position], Sequence[Value]]:
     """The cells of a row of CSV. What an archive brings in, and a null move, may begin as a formula does; the others can't."""
-    plain = [column in COLUMNS and column not in ("archive", "san", "comments") for column in columns]
-    guarded = [number for number, is_plain in enumerate(plain) if not is_plain]
+    values_of = _values(columns)
+    guarded = [number for number, column in enumerate(columns) if column not in COLUMNS or column in ("archive", "san", "comments")]
 
-    fields = attrgetter(*columns) if len(columns) > 1 and all(column in COLUMNS for column in columns) else None
-
-    def cells(row: Position) -> list[Value]:
-        values = list(fields(row)) if fields else _values(row, columns)
+    def cells(row: Position) -> Sequence[Value]:
+        values = list(values_of(row))
         for number in guarded:
             value = values[number]
-            if isinstance(value, str) and value.startswith(FORMULA):
+            if isinstance(value, str) and value[:1] in FORMULA:
                 values[number] = "'" + value
         return values
 
     return cells
+
+
+def _batches(rows: Iterable[Position]) -> Iterator[list[Position]]:
+    rest = iter(rows)
+    while batch := list(islice(rest, BATCH)):
+        yield batch
 
 
 def as_csv(rows: Iterable[Position], columns: Sequence[str]) -> Iterator[str]:
@@ -140,33 +153,34 @@ def as_csv(rows: Iterable[Position], columns: Sequence[str]) -> Iterator[str]:
     before it."""
     text = io.StringIO()
     writer = csv.writer(text)
-    writer.writerow(["'" + column if column.startswith(FORMULA) else column for column in columns])
+    writer.writerow(["'" + column if column[:1] in FORMULA else column for column in columns])
     cells = _cells(columns)
-    for row in rows:
-        writer.writerow(cells(row))
-        if text.tell() > 1 << 16:
-            yield text.getvalue()
-            text.seek(0)
-            text.truncate()
+    for batch in _batches(rows):
+        writer.writerows(map(cells, batch))
+        yield text.getvalue()
+        text.seek(0)
+        text.truncate()
     yield text.getvalue()
 
 
 def as_json(rows: Iterable[Position], columns: Sequence[str]) -> Iterator[str]:
-    """The rows as lines of JSON, each an object with the columns."""
-    for row in rows:
-        yield json.dumps(dict(zip(columns, _values(row, columns))), ensure_ascii=False, separators=(",", ":")) + "\n"
+    """The rows as lines of JSON, each an object with the columns, some at a time."""
+    encode, values_of = json.JSONEncoder(ensure_ascii=False, separators=(",", ":")).encode, _values(columns)
+    for batch in _batches(rows):
+        yield "".join(encode(dict(zip(columns, values_of(row)))) + "\n" for row in batch)
 
 
 def _text(value: object) -> str:
     """A text of EPD, which has no quotes and no control characters."""
-    return "".join(" " if letter < " " else letter for letter in str(value)).replace('"', "'")
+    return str(value).translate(WITHIN_EPD)
 
 
 def as_epd(rows: Iterable[Position], columns: Sequence[str]) -> Iterator[str]:
     """The rows as EPD: the position, `id` with where it is from, and each column that was asked for as a comment c0, c1, .."""
+    values_of = _values(columns)
     for row in rows:
         where = f"{row.archive or 'game'} {row.game or row.found}, ply {row.ply}"
-        said = "".join(f' c{number} "{_text(value)}";' for number, value in enumerate(_values(row, columns)) if value is not None)
+        said = "".join(f' c{number} "{_text(value)}";' for number, value in enumerate(values_of(row)) if value is not None)
         yield f'{" ".join(row.fen.split(" ")[:4])} id "{_text(where)}";{said}\n'
 
 

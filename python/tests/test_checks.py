@@ -110,7 +110,7 @@ def test_without_files_in_memory(monkeypatch: pytest.MonkeyPatch, room: Path) ->
 
 def test_no_fault() -> None:
     assert package.check("cql() check") is None
-    assert package.check(b'cql() player "M\xfcller"') is None or package.check(b'cql() player "M\xfcller"') is not None
+    assert package.check(b'cql() player "M\xfcller"') is None
 
 
 def warned(text: str) -> list[str]:
@@ -159,6 +159,9 @@ def test_check_of_files(asked: Asking, room: Path) -> None:
     answer = asked("cqlpgn-over", "--check", "many.cql")
     assert answer == Answer(2, b"", "many.cql: queries too many\n")
     assert asked("cqlpgn-over", "--check", "cql() check") == Answer(0, b"query: ok\n", "")
+    (room / "open.cql").write_text("cql() check\n%%\ncql() { mate\n")
+    answer = asked("cqlpgn-over", "--check", "open.cql")
+    assert (answer.status, answer.lines[3].strip()) == (2, "the `{` in line 3, column 7 is still open")
 
 
 def test_texts_from_outside() -> None:

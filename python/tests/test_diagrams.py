@@ -108,7 +108,10 @@ def test_exercises(asked: Asking) -> None:
     assert sum("details" in open_ and "1...e5 2.Nf3 -- 3.Bc4 1-0" in text for open_, text in read.text) == 1
     text = asked("cqlpgn-diagrams", "--exercises", "--tex", "--flip", "side-to-move", data=GAME).out.decode()
     assert (text.count("inverse,setfen") + text.count("{inverse}"), "markmoves={" in text, "after 1" in text) == (2, False, False)
-    assert "\\textbf{1} 1...e5 2.Nf3 {-}{-} 3.Bc4 1{-}0" in text.partition("Solutions")[2]
+    assert "\\textbf{1} 1...e5 2.Nf3 {-\\kern0pt}{-\\kern0pt} 3.Bc4 1{-\\kern0pt}0" in text.partition("Solutions")[2]
+    bare = b"1. e4 {CQL} e5 *\n"
+    assert "{\\footnotesize ? -- ?}\\par" in asked("cqlpgn-diagrams", "--exercises", "--tex", data=bare).out.decode()
+    assert "<small><bdi>?</bdi> – <bdi>?</bdi></small></details>" in asked("cqlpgn-diagrams", "--exercises", data=bare).out.decode()
 
 
 def test_a_sheet_of_problems(asked: Asking, room: Path) -> None:
@@ -122,13 +125,13 @@ def test_a_sheet_of_problems(asked: Asking, room: Path) -> None:
     assert "1.Qe3! zugzwang (1.Qc5? zugzwang 1...g1=Q (1...Kh1 2.Qg1#) (1...Kg3! but) 2.Qxg1#) 1...g1=Q (1...g1=R 2.Qxg1#)" in solved
     text = asked("cqlpgn-diagrams", "--exercises", "--tex", data=marked.encode()).out.decode()
     assert "\\textbf{1}\\quad \\#5\\par Loyd, Samuel" in text
-    assert "(1...{-}{-} \\emph{threat} 2.Rd5" in text.partition("Solutions")[2]
+    assert "(1...{-\\kern0pt}{-\\kern0pt} \\emph{threat} 2.Rd5" in text.partition("Solutions")[2]
 
 
 def test_latex(asked: Asking) -> None:
     text = asked("cqlpgn-diagrams", "--tex", "--coordinates", data=GAME * 3 + PROMOTION).out.decode()
     assert (text.count("\n\\match{") + text.count("\\hfill\n\\match{"), text.count("\\newpage"), "label=true" in text) == (11 + 5, 1, True)
-    assert "markmoves={e2-e4}" in text and "after 2...{-}{-}" in text
+    assert "markmoves={e2-e4}" in text and "after 2...{-\\kern0pt}{-\\kern0pt}" in text
     assert asked("cqlpgn-diagrams", "--tex", "--per-page", "12", data=GAME * 4).out.decode().count("\\newpage") == 0
 
 
@@ -180,7 +183,7 @@ def test_no_control_sequence_of_an_archive(asked: Asking) -> None:
     ).out.decode()
     body = text.partition("\\begin{document}")[2]
     known = {"begin", "end", "match", "textbf", "quad", "par", "emph", "textless", "textgreater", "textbackslash", "textasciicircum"}
-    known |= {"textasciitilde", "letter", "hfill", "null", "vfill", "newpage", "large", "dots"}
+    known |= {"textasciitilde", "letter", "hfill", "null", "vfill", "newpage", "large", "dots", "kern"}
     assert set(re.findall(r"\\([A-Za-z]+)", body)) <= known
     assert "\u202e" not in text and "^^" not in body and not re.search(r"(?<!\\)[#$&~_]", body.replace("\\_", ""))
     assert "\\letter{418}{?}" in text and "\\letter{1F600}{?}" in text and "\\letter{1EB7}{a}" in text

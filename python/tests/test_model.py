@@ -6,6 +6,7 @@ import subprocess
 import sys
 from pathlib import Path
 
+import cqlpgn as package
 import pytest
 from conftest import TOP
 
@@ -64,3 +65,12 @@ def test_beside_the_program(cqlpgn: str, room: Path, words: list[str | bytes]) -
     calls: list[list[str | bytes]] = [[cqlpgn], [sys.executable, str(TOP / "model" / "cqlpgn")]]
     wanted, answer = (subprocess.run([*call, *words], input=data, capture_output=True, check=False) for call in calls)
     assert (answer.returncode, answer.stdout, answer.stderr) == (wanted.returncode, wanted.stdout, wanted.stderr)
+
+
+@pytest.mark.parametrize(("query", "wanted"), [(QUERY, [1, 3, 5]), ('cql() mate sort "ply" ply', [5, 1, 3])])
+def test_where_games_came_from(monkeypatch: pytest.MonkeyPatch, room: Path, query: str, wanted: list[int]) -> None:
+    """The games and the report of the model come in the order in which the program writes them."""
+    monkeypatch.setenv("CQLPGN", str(TOP / "model" / "cqlpgn"))
+    mate, bad = "1. f3 e5 2. g4 Qh4# 0-1\n", "1. e4 e5 2. Ke3 *\n"
+    (room / "a.pgn").write_text(mate + bad + mate + bad + "1. f3 e5 2. g4 d6 3. h3 Qh4# 0-1\n")
+    assert [game.game_number for game in package.found(query, "a.pgn")] == wanted

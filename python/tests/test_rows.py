@@ -7,6 +7,8 @@ import gzip
 import io
 import json
 import os
+import subprocess
+import zipfile
 from pathlib import Path
 from typing import Any
 
@@ -14,6 +16,7 @@ import cqlpgn as package
 import pytest
 from answers import model
 from conftest import TOP, Answer, Asking
+from cqlpgn import archives, games
 from processes import children, has_ended
 
 pytestmark = pytest.mark.usefixtures("cqlpgn", "pgnjson", "room")
@@ -94,6 +97,7 @@ def test_json(asked: Asking) -> None:
         {"ply": 2, "san": "e5", "White": "=1+1", "ECO": None, "mainline": 0},
         {"ply": 3, "san": "Nf3", "White": "=1+1", "ECO": None, "mainline": 0},
     ]
+    assert answer.lines == ["-: no game has the tag ECO"]
 
 
 def test_epd(asked: Asking) -> None:
@@ -101,6 +105,22 @@ def test_epd(asked: Asking) -> None:
     assert answer.out.decode().splitlines()[4] == (
         'rnbqkbnr/pppp1ppp/8/4p3/4P3/5N2/PPPP1PPP/RNBQKB1R b KQkq - id "- 1, ply 3"; c0 "Nf3"; c1 "why, \'so\'";'
     )
+
+
+def test_an_epd_is_one_line(asked: Asking) -> None:
+    archive = '[White "a\u2028b\x85c\x7f"]\n\n1. Nf3 {CQL} *\n'.encode()
+    answer = asked("cqlpgn-rows", "--epd", "--columns", "White", data=archive)
+    assert answer.out.decode().splitlines() == ['rnbqkbnr/pppppppp/8/8/8/5N2/PPPPPPPP/RNBQKB1R b KQkq - id "- 1, ply 1"; c0 "a b c ";']
+
+
+@pytest.mark.parametrize("mark", ["", "CQL"])
+def test_marked_positions_are_those_of_the_tree(room: Path, mark: str) -> None:
+    """They are read one by one, without the others."""
+    (room / "null.pgn").write_bytes(NULL)
+    for path in [room / "null.pgn", *(TOP / "examples" / name for name in ARCHIVES)]:
+        with games.read(archives.Archive(str(path), str(path)), mark, err=subprocess.DEVNULL) as reader:
+            for game in reader:
+                assert list(game.marked()) == [node for node in game.nodes() if node.fen is not None]
 
 
 def test_no_row_is_lost(asked: Asking, room: Path) -> None:
@@ -123,6 +143,13 @@ def test_a_cut_off_game_is_refused(asked: Asking) -> None:
 def test_packed_and_index(asked: Asking, room: Path) -> None:
     (room / "a.pgn.gz").write_bytes(gzip.compress(NULL))
     assert len(table(asked("cqlpgn-rows", "a.pgn.gz"))) == 6
+    for members in (1, 2):
+        with zipfile.ZipFile(room / "a.zip", "w") as packed:
+            for number in range(members):
+                packed.writestr(f"{number}.pgn", NULL)
+        answer = asked("cqlpgn-rows", "a.zip")
+        assert (answer.status, len(table(answer))) == ((0, 6) if members == 1 else (5, 0))
+    assert answer.lines == ["a.zip: has 2 files *.pgn in it, and one is wanted"]
     (room / "index").write_text("found,archive,game\r\n1,old.pgn,77\r\n")
     assert table(asked("cqlpgn-rows", "--index", "index", "a.pgn.gz"))[1][:3] == ["old.pgn", "77", "1"]
     (room / "index").write_text("found,archive,game\r\n1,old.pgn,\r\n")
@@ -155,4 +182,6 @@ def test_what_has_no_rows(asked: Asking, room: Path) -> None:
     for answer in (asked("cqlpgn-rows", data=many), asked("cqlpgn-rows", "many")):
         assert (answer.status, answer.out, "`cqlpgn many` writes" in answer.err) == (5, b"", True)
     assert asked("cqlpgn-rows", "--csv", "--json").status == 3
+    for columns in ("", "fen,", ",fen"):
+        assert asked("cqlpgn-rows", "--columns", columns, data=NULL).status == 3
     assert asked("cqlpgn-rows", PGNJSON="none").status == 4

@@ -8,7 +8,7 @@ import tempfile
 from collections.abc import Iterator, Sequence
 
 from .. import boards, games, latex, page
-from ..archives import Archive
+from ..archives import single
 from ..files import STANDARD_INPUT, Replacing, refuse_inputs, shown, standard_output
 from ..games import MARK
 from ..latex import Style
@@ -21,6 +21,7 @@ the reader, if it is not the pgnjson on the path."""
 
 
 def parser() -> argparse.ArgumentParser:
+    """The words of the command."""
     made = Parser("cqlpgn-diagrams", "Makes a page for the browser, or a text for LaTeX, of the games that cqlpgn has written.", EPILOG)
     made.add_argument("files", metavar="MATCHES", nargs="*", help="games, packed or not; without one, or with `-`, standard input")
     made.add_argument("--tex", action="store_true", help="a text for LaTeX; lualatex has letters that pdflatex lacks")
@@ -49,7 +50,7 @@ class Source:
     def _read(self, name: str) -> Iterator[tuple[boards.Tree, list[boards.Match]]]:
         # pgnjson knows one mark; of several it gives every position, and the comments tell
         mark = self._marks[0] if len(self._marks) == 1 else ""
-        with tempfile.TemporaryFile() as report, games.read(Archive(name, name), mark, err=report) as reader:
+        with tempfile.TemporaryFile() as report, games.read(single(name), mark, err=report) as reader:
             for game in reader:
                 tree = boards.Tree(game)
                 found = list(boards.matches(tree, self._marks, self.count + 1))
@@ -62,10 +63,12 @@ class Source:
                     tell(f"{shown(name)}: {line.decode().rstrip()}")
 
     def sections(self) -> Iterator[page.Section]:
+        """The games of each file with their matches. Raises what `games.read` does."""
         for place, name in enumerate(self._files):
             yield page.Section(self._title(place, name), list(self._read(name)))
 
     def matches(self) -> Iterator[tuple[str, list[boards.Match]]]:
+        """The matches of each file with its title, likewise."""
         for section in self.sections():
             yield section.title, [match for _, found in section.games for match in found]
 
@@ -79,6 +82,7 @@ class Source:
 
 
 def main(words: Sequence[str]) -> int:
+    """Writes the page or the text; the status is the greatest one that a file had. Raises `Error`."""
     flags = parser().parse_intermixed_args(words)
     files = flags.files or [STANDARD_INPUT]
     refuse_inputs([flags.out] if flags.out is not None else [], files)
@@ -95,4 +99,5 @@ def main(words: Sequence[str]) -> int:
 
 
 def entry() -> None:
+    """Runs the command with the words of the process, which ends with it."""
     run(main)

@@ -66,10 +66,12 @@ class Job:
 
     @property
     def words(self) -> list[str]:
+        """The words of the program."""
         return [self.mode, Process.QUERY, STANDARD_INPUT, *self.options]
 
     @property
     def first(self) -> bool:
+        """Whether one game of all archives is wanted."""
         return "--first" in self.options
 
     def stop(self) -> None:
@@ -80,6 +82,7 @@ class Job:
 
 
 def parser() -> argparse.ArgumentParser:
+    """The words of the command."""
     made = Parser(
         "cqlpgn-over", "Asks one query, or a file of them, of several archives, packed or not, and says in words what went wrong.", EPILOG
     )
@@ -430,6 +433,7 @@ def ask(flags: argparse.Namespace) -> int:
 
 
 def main(words: Sequence[str]) -> int:
+    """Asks the archives, or checks files with queries; the status is the greatest one of all. Raises `Error`."""
     made = parser()
     flags = made.parse_intermixed_args(words)
     refuse_together(made, flags)
@@ -437,4 +441,5 @@ def main(words: Sequence[str]) -> int:
 
 
 def entry() -> None:
+    """Runs the command with the words of the process, which ends with it."""
     run(main)

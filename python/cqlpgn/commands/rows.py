@@ -7,9 +7,10 @@ import os
 import tempfile
 from collections.abc import Iterator, Sequence
 from contextlib import ExitStack
+from itertools import chain, islice
 
 from .. import games, rows
-from ..archives import Archive
+from ..archives import single
 from ..errors import Stopped
 from ..files import STANDARD_INPUT, Replacing, refuse_inputs, shown, standard_output
 from ..games import MARK, Reader
@@ -23,6 +24,7 @@ a write failed. CQLPGN's reader pgnjson is named by PGNJSON, if it is not the on
 
 
 def parser() -> argparse.ArgumentParser:
+    """The words of the command."""
     told = ", ".join(f"{name} ({said})" for name, said in rows.COLUMNS.items())
     made = Parser("cqlpgn-rows", "Writes a row for each marked position of the games that cqlpgn has written.", EPILOG.format(columns=told))
     made.add_argument("file", metavar="FILE", nargs="?", default=STANDARD_INPUT, help="the games, packed or not; `-` is standard input")
@@ -49,31 +51,40 @@ def index_of(flags: argparse.Namespace, stack: ExitStack) -> rows.Index | None:
         raise Stopped(f"{shown(name)}: {fault.strerror}", 4) from fault
 
 
-def all_rows(reader: Reader, flags: argparse.Namespace) -> Iterator[rows.Position]:
+def all_rows(reader: Reader, flags: argparse.Namespace, unseen: set[str]) -> Iterator[rows.Position]:
+    """The rows of all games; tags that a game has are taken out of `unseen`."""
     mark, unknown = " ".join(flags.mark.split()), (shown(flags.file), None)
     with ExitStack() as stack:
         index = index_of(flags, stack)
         for game in reader:
+            unseen.difference_update(game.tags)
             archive, number = index and index.origin(game.number) or unknown
             yield from rows.positions(game, mark, archive, number)
 
 
+def columns_of(made: argparse.ArgumentParser, flags: argparse.Namespace) -> list[str]:
+    """The columns that are wanted; ends the process where one has no name."""
+    if flags.columns is None:
+        return [] if flags.kind == "epd" else rows.USUAL
+    columns: list[str] = flags.columns.split(",")
+    if not all(columns):
+        made.error("each of the --columns has a name")
+    return columns
+
+
 def main(words: Sequence[str]) -> int:
-    flags = parser().parse_args(words)
-    columns = flags.columns.split(",") if flags.columns else [] if flags.kind == "epd" else rows.USUAL
+    """Writes the rows; the status is that of pgnjson. Raises `Error`."""
+    made = parser()
+    flags = made.parse_args(words)
+    columns = columns_of(made, flags)
+    unseen = set(columns) - set(rows.COLUMNS)
     refuse_inputs([flags.out] if flags.out is not None else [], [flags.file])
-    source = Archive(flags.file, flags.file)
+    source = single(flags.file)
     with Replacing() as files, tempfile.TemporaryFile() as report, games.read(source, flags.mark, err=report) as reader:
         to = files.open(flags.out) if flags.out is not None else standard_output()
-        count = 0
-
-        def counted() -> Iterator[rows.Position]:
-            nonlocal count
-            for row in all_rows(reader, flags):
-                count += 1
-                yield row
-
-        for text in rows.WRITERS[flags.kind](counted(), columns):
+        found = all_rows(reader, flags, unseen)
+        first = list(islice(found, 1))
+        for text in rows.WRITERS[flags.kind](chain(first, found), columns):
             to.write(text.encode("utf-8", "surrogateescape"))
         to.flush()
         report.seek(0)
@@ -81,10 +92,13 @@ def main(words: Sequence[str]) -> int:
             if not line.startswith(b"games "):
                 tell(f"{shown(flags.file)}: {line.decode().rstrip()}")
         files.commit()
-    if not count:
-        tell(f"{shown(flags.file)}: no position has the comment {{{flags.mark}}}; --mark names another one")
+    if not first:
+        tell(f"{shown(flags.file)}: no position has the comment {{{shown(flags.mark)}}}; --mark names another one")
+    for tag in sorted(unseen) if first else []:
+        tell(f"{shown(flags.file)}: no game has the tag {shown(tag)}")
     return reader.status
 
 
 def entry() -> None:
+    """Runs the command with the words of the process, which ends with it."""
     run(main)

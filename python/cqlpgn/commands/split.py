@@ -18,6 +18,7 @@ AT_ONCE = 1 << 16
 
 
 def parser() -> argparse.ArgumentParser:
+    """The words of the command."""
     made = Parser(
         "cqlpgn-split",
         "Puts what `cqlpgn many` has written, and standard input brings, into a file for each query: the games of the first one go to "
@@ -60,6 +61,7 @@ def split(source: IO[bytes], files: Sequence[BinaryIO] | Callable[[int], BinaryI
 
 
 def main(words: Sequence[str]) -> int:
+    """Writes the files of standard input; the status is 0. Raises `Error`."""
     prefix: str = parser().parse_args(words).prefix
     if sys.stdin is None:
         raise NotFound("cqlpgn-split: standard input is closed")
@@ -71,4 +73,5 @@ def main(words: Sequence[str]) -> int:
 
 
 def entry() -> None:
+    """Runs the command with the words of the process, which ends with it."""
     run(main)

@@ -16,16 +16,19 @@ class Parser(argparse.ArgumentParser):
         super().__init__(prog=name, description=description, epilog=epilog, allow_abbrev=False)
 
     def error(self, message: str) -> NoReturn:
+        """Tells the usage and what is wrong with the words; the process ends with status 3."""
         said = message.encode("utf-8", "backslashreplace").decode()
         tell(self.format_usage() + f"{self.prog}: {said}\n`{self.prog} --help` has more.")
         sys.exit(3)
 
     def exit(self, status: int = 0, message: str | None = None) -> NoReturn:
+        """Ends the process with this status, and tells the message, if there is one."""
         if message:
             tell(message.rstrip("\n"))
         sys.exit(status)
 
     def print_help(self, file: object = None) -> None:
+        """Writes the help to standard output, whatever file is given."""
         try:
             say(self.format_help().rstrip("\n"))
         except UnicodeError as fault:
