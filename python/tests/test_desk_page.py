@@ -264,6 +264,85 @@ def test_rows_are_those_of_cqlpgn_rows(browser: Browser, asked: Asking, room: Pa
     assert saved["epd"] == asked("cqlpgn-rows", "--epd", "--index", "index", data=saved["pgn"]).out
 
 
+def test_keys_in_the_list_and_in_a_game(browser: Browser) -> None:
+    browser.ask("cql() mate", "famous.pgn")
+    browser.ended()
+    last = int(browser.text("count")) - 1
+    browser.run("document.getElementById('list').focus()")
+    at = "const r = document.querySelector('.row[aria-selected=true]'); return !!r && r.dataset.place == arguments[0]"
+    for key, place in (("\ue015", 0), ("\ue015", 1), ("\ue010", last), ("\ue015", last), ("\ue013", last - 1), ("\ue011", 0)):
+        browser.press(key)
+        browser.until(at, place)
+        browser.until('return !!document.querySelector(`article[data-place="${arguments[0]}"] figure svg`)', place)
+    browser.press("j")
+    browser.until("return document.querySelector('figure.at')")
+    moves = browser.run(
+        "return document.querySelector('article:has(.at) .moves').textContent.split(/\\s+/).filter(w => /^[A-Za-z]/.test(w))"
+    )
+    seen = "return document.querySelector('aside').hidden ? '' : document.querySelector('aside span').textContent"
+    for key, move in (("\ue012", moves[-2]), ("\ue012", moves[-3]), ("\ue014", moves[-2]), ("\ue00c", "")):
+        browser.press(key)
+        browser.until(f"{seen.replace('return ', 'return (')}) === arguments[0]", move)
+
+
+def test_escape_closes_what_is_open_and_then_stops(served: Served, browser: Browser) -> None:
+    browser.ask("cql() mate", "large.pgn.gz")
+    browser.until("return document.querySelector('#found figure svg')")
+    browser.until("const u = document.querySelector('.moves u'); if (u) u.click(); return !document.querySelector('aside').hidden")
+    browser.press("\ue00c")
+    browser.until("return document.querySelector('aside').hidden")
+    assert browser.text("run") == "Stop" and served.children()
+    browser.run("document.querySelector('#archives summary').focus()")
+    browser.press(" ")
+    browser.until("return document.getElementById('archives').open")
+    browser.press("\ue00c")
+    browser.until("return !document.getElementById('archives').open")
+    assert browser.text("run") == "Stop"
+    browser.press("\ue00c")
+    browser.until("return document.getElementById('run').textContent === 'Run'")
+    assert served.no_children()
+
+
+def test_a_filter_says_what_is_left(browser: Browser) -> None:
+    browser.ask("cql() mate", "famous.pgn")
+    browser.ended()
+    games = browser.text("count")
+    browser.driver.find_element("id", "filter").send_keys("morphy")
+    browser.until(f"return document.getElementById('left').textContent.startsWith('1 of {games};')")
+    browser.until("return document.querySelectorAll('.row').length === 1 && document.querySelectorAll('#articles article').length === 1")
+    browser.ask("cql() mate", "games.pgn")
+    assert browser.text("left") == "" and browser.run("return document.getElementById('filter').value") == ""
+
+
+def test_light_or_dark(browser: Browser) -> None:
+    back = "return getComputedStyle(document.body).backgroundColor"
+    choose = "const look = document.getElementById('look'); look.value = arguments[0]; look.dispatchEvent(new Event('change'))"
+    seen = {}
+    for look in ("dark", "light", ""):
+        browser.run(choose, look)
+        browser.driver.refresh()
+        browser.until("return document.querySelector('.CodeMirror')")
+        assert browser.run("return document.getElementById('look').value") == look
+        seen[look] = browser.run(back)
+    assert seen["dark"] == "rgb(23, 24, 26)" and seen["light"] == "rgb(246, 243, 236)" and seen[""] in (seen["dark"], seen["light"])
+
+
+def test_boards_that_cannot_be_read(browser: Browser, tmp_path: Path) -> None:
+    """The page says that the program which reads the games is not there any more."""
+    (tmp_path / "games.pgn").write_bytes(GAME)
+    reader = tmp_path / "pgnjson"
+    shutil.copy(program("PGNJSON", "pgnjson"), reader)
+    desk = Served(tmp_path, CQLPGN=program("CQLPGN", "cqlpgn"), PGNJSON=str(reader))
+    try:
+        browser.open(desk.address)
+        reader.unlink()
+        browser.ask("cql() mate", "games.pgn")
+        browser.until("return document.getElementById('fault').textContent.includes('there is no program')")
+        browser.until("return document.querySelectorAll('.row').length === 1")
+    finally:
+        desk.close()
+
+
 def test_a_position_is_set(browser: Browser) -> None:
     browser.write("cql() ")
     browser.run(EDITOR + "c.setCursor(0, 6)")
@@ -305,6 +384,7 @@ def test_several_queries_archives_and_faults(browser: Browser) -> None:
     shown = browser.until(
         "const p = document.querySelector('#faults pre'), m = p.querySelector('mark'); return m && [p.textContent, m.textContent]"
     )
+    assert browser.run("return document.querySelector('#faults mark').getBoundingClientRect().bottom <= innerHeight")
     assert "1. e4 e5 2. Ke3 *" in shown[0] and shown[1] == "K"
 
 
@@ -316,6 +396,9 @@ def test_explained_kept_and_varied(browser: Browser) -> None:
     assert browser.value() == 'cql(matchstring "a)") flipcolor Ka1'
     browser.click("[data-pane=explained]")
     browser.until("return document.getElementById('explained').textContent.startsWith('(union')")
+    browser.write("cql() mate")
+    browser.until("return document.getElementById('explained').textContent.includes('mate')")
+    browser.write('cql(matchstring "a)") flipcolor Ka1')
     browser.click("[data-pane=keeping]")
     browser.driver.find_element("id", "name").send_keys("corner")
     browser.click("#keep")
