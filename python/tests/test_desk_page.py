@@ -215,6 +215,29 @@ def test_runs_do_not_mix(browser: Browser) -> None:
     browser.until("return document.querySelectorAll('.row').length === 1 && document.querySelectorAll('#articles article').length === 1")
 
 
+def test_two_tabs(served: Served, browser: Browser) -> None:
+    """Each has its own run, and keeps it when the other asks; one that is loaded again has its own again."""
+    first = browser.driver.current_window_handle
+    browser.ask("cql() mate", "games.pgn")
+    browser.ended()
+    browser.driver.switch_to.new_window("tab")
+    try:
+        browser.open(served.address)
+        browser.ask("cql() stalemate", "games.pgn")
+        browser.ended()
+        browser.until("return document.querySelectorAll('#articles article').length === 1")
+        second = browser.driver.current_window_handle
+        for tab, said in ((first, "8 games, 8 positions"), (second, "1 game, 1 position")):
+            browser.driver.switch_to.window(tab)
+            assert browser.text("sum") == said
+            browser.driver.refresh()
+            browser.until("return document.getElementById('sum').textContent === arguments[0]", said)
+            browser.until("return document.querySelectorAll('#articles article').length === arguments[0]", int(said.split()[0]))
+        browser.driver.close()
+    finally:
+        browser.driver.switch_to.window(first)
+
+
 def test_boards_before_the_end_and_stop(served: Served, browser: Browser) -> None:
     browser.ask("cql() mate", "large.pgn.gz")
     browser.until("return document.querySelector('#found figure svg')")
