@@ -164,9 +164,10 @@ function bring(from, to) {
 
 function rowOf(place, [, white, black, where, result, marks, archive]) {
   const names = white || black ? [white || "?", black || "?"] : [where || "?"];
-  const rest = [white || black ? where : "", result === "1/2-1/2" ? "½-½" : result].filter(Boolean).join(" · ");
+  const rest = [white || black ? where : "", result === "1/2-1/2" ? "½-½" : result].filter(Boolean);
   const row = element("button", { className: "row", title: archive, tabIndex: -1, onclick: () => open(place) },
-    element("span", { className: "names" }, ...names.map(name => element("span", {}, name))), element("small", {}, rest),
+    element("span", { className: "names" }, ...names.map(name => element("span", {}, name))),
+    element("small", {}, ...rest.map(text => element("span", {}, text))),
     element("b", {}, marks > 1 ? `${marks}` : ""));
   row.dataset.place = place;
   row.id = `row${place}`;
