@@ -1,13 +1,13 @@
 #!/usr/bin/env python3
 """Measures the desk in a browser: milliseconds from the click on Run to the first board, seconds to the end of the run, beside the
-program's own time over the same file, and memory.
+program's own time over the same files, and memory.
 
-    bench/desk.py ARCHIVE [QUERY] [--browsers chromium,firefox-esr] [--rounds N] [--scroll]
+    bench/desk.py ARCHIVE.. [--query TEXT] [--browsers chromium,firefox-esr] [--rounds N] [--scroll]
 
 The browsers are driven over their own lines for it (Chromium's DevTools, Firefox's BiDi), without a window, so nothing beside Debian's
 packages chromium, firefox-esr and python3-aiohttp is wanted. Each round has a page of its own; the median of the rounds is shown (3). With
 --scroll the list is then scrolled to its end, its last game is opened, and a filter is asked. The programs are CQLPGN and PGNJSON, or those
-that were built. The archive's folder is served, and only read."""
+that were built. The archives are of one folder, which is served, and only read."""
 
 from __future__ import annotations
 
@@ -53,7 +53,7 @@ QUIET = "".join(
 )
 READY = "!!document.querySelector('.CodeMirror')"
 ASK = """(() => {
-  for (const box of document.querySelectorAll("#archives input")) if (box.checked !== (box.value === %r)) box.click();
+  for (const box of document.querySelectorAll("#archives input")) if (box.checked !== %r.includes(box.value)) box.click();
   document.querySelector(".CodeMirror").CodeMirror.setValue(%r);
   return new Promise(well => setTimeout(well, 1500, true));
 })()"""
@@ -76,7 +76,8 @@ SCROLL = """(async () => {
     while (!told()) await new Promise(well => setTimeout(well, 4));
   };
   const total = Number(document.getElementById("count").textContent.replaceAll(",", ""));
-  list.scrollTop = list.scrollHeight;
+  const height = list.scrollHeight;
+  list.scrollTop = height;
   const row = () => [...document.querySelectorAll(".row")].find(r => Number(r.dataset.place) === total - 1);
   await wait(row);
   const at = performance.now();
@@ -87,7 +88,7 @@ SCROLL = """(async () => {
   filter.dispatchEvent(new Event("input"));
   await wait(() => /of/.test(document.getElementById("left").textContent));
   const left = document.getElementById("left").textContent;  // the page itself waits 250 ms for a next key
-  return [at - begun, shown - at, performance.now() - shown - 250, left, list.scrollHeight].join("|");
+  return [at - begun, shown - at, performance.now() - shown - 250, left, height].join("|");
 })()"""
 
 
@@ -198,12 +199,14 @@ def tab(browser: Browser) -> float:
     return max(sizes)
 
 
-def own_time(program: str, query: str, archive: str, rounds: int) -> float:
-    """The median of the seconds that the program alone needs, reading the file itself and writing to nobody."""
+def own_time(flags: argparse.Namespace) -> float:
+    """The median of the seconds that the program alone needs, reading the files itself and writing to nobody."""
     times = []
-    for _ in range(rounds):
+    for _ in range(flags.rounds):
         begun = time.monotonic()
-        subprocess.run([program, "eval", query, archive], stdout=subprocess.DEVNULL, stderr=subprocess.DEVNULL, check=False)
+        for archive in flags.archives:
+            call = [os.environ["CQLPGN"], "eval", flags.query, archive]
+            subprocess.run(call, stdout=subprocess.DEVNULL, stderr=subprocess.DEVNULL, check=False)
         times.append(time.monotonic() - begun)
     return statistics.median(times)
 
@@ -211,7 +214,7 @@ def own_time(program: str, query: str, archive: str, rounds: int) -> float:
 async def once(browser: Browser, address: str, server: int, flags: argparse.Namespace) -> tuple[float, float]:
     """Asks the query in a page of its own: seconds to the first board, and to the end."""
     await browser.go(address)
-    await browser.run(ASK % (os.path.basename(flags.archive), flags.query))
+    await browser.run(ASK % ([os.path.basename(archive) for archive in flags.archives], flags.query))
     before, load = tab(browser), os.getloadavg()[0]
     first, end, longest, told = (await browser.run(CLICK)).split("|")
     print(
@@ -239,8 +242,8 @@ async def measured(browser: Browser, address: str, server: int, flags: argparse.
 
 async def main() -> None:
     made = argparse.ArgumentParser()
-    made.add_argument("archive")
-    made.add_argument("query", nargs="?", default="cql() mate")
+    made.add_argument("archives", nargs="+")
+    made.add_argument("--query", default="cql() mate")
     made.add_argument("--browsers", default="chromium,firefox-esr")
     made.add_argument("--rounds", type=int, default=3)
     made.add_argument("--scroll", action="store_true")
@@ -251,7 +254,7 @@ async def main() -> None:
         sys.executable,
         os.path.join(TOP, "python", "bin", "cqlpgn-desk"),
         "--no-browser",
-        os.path.dirname(os.path.realpath(flags.archive)),
+        os.path.dirname(os.path.realpath(flags.archives[0])),
     ]
     desk = subprocess.Popen(command, stdout=subprocess.PIPE, text=True)
     assert desk.stdout is not None
@@ -259,7 +262,7 @@ async def main() -> None:
     try:
         for name in flags.browsers.split(","):
             # beside each browser, as other work on the machine comes and goes
-            alone = own_time(os.environ["CQLPGN"], flags.query, flags.archive, flags.rounds)
+            alone = own_time(flags)
             with tempfile.TemporaryDirectory(ignore_cleanup_errors=True) as profile:
                 browser = Browser(name, profile)
                 try:
@@ -273,4 +276,5 @@ async def main() -> None:
         desk.wait()
 
 
-asyncio.run(main())
+if __name__ == "__main__":
+    asyncio.run(main())
