@@ -331,7 +331,7 @@ def test_a_filter_says_what_is_left(browser: Browser) -> None:
     browser.ended()
     games = browser.text("count")
     browser.driver.find_element("id", "filter").send_keys("morphy")
-    browser.until(f"return document.getElementById('left').textContent.startsWith('1 of {games};')")
+    browser.until(f"return document.getElementById('left').textContent.startsWith('1 of {games} games')")
     browser.until("return document.querySelectorAll('.row').length === 1 && document.querySelectorAll('#articles article').length === 1")
     browser.ask("cql() mate", "games.pgn")
     assert browser.text("left") == "" and browser.run("return document.getElementById('filter').value") == ""
