@@ -116,6 +116,13 @@ const movesOf = article => [...article.querySelectorAll(".moves u, .moves b:not(
 
 function lift() { document.querySelectorAll(".at").forEach(e => e.classList.remove("at")); }
 
+// The match that was gone to last, as a game and the number of its move; -1 where it is the start, null where there is no match.
+function matched() {
+  const article = current && current.isConnected && current.closest("article");
+  return article && article.querySelector(".moves")
+    ? [article, movesOf(article).findIndex(move => move.dataset.match === current.id)] : null;
+}
+
 // Goes to a match: its board, and its move in the text.
 function go(figure) {
   current = figure;
@@ -184,8 +191,8 @@ document.addEventListener("keydown", event => {
     drawAgain();
     if (shown) show(...shown);
   } };
-  const by = { ArrowLeft: -1, ArrowRight: 1 }[event.key];
-  if (by && shown) { event.preventDefault(); show(shown[0], shown[1] + by); }
+  const by = { ArrowLeft: -1, ArrowRight: 1 }[event.key], from = by && (shown || matched());
+  if (from) { event.preventDefault(); show(from[0], from[1] + by); }
   else if (keys[event.key]) keys[event.key]();
 });
 const near = new IntersectionObserver(entries => entries.forEach(entry => {

@@ -175,7 +175,8 @@ class Reader:
 
     def __iter__(self) -> Iterator[Game]:
         for line in self.process.out:
-            yield game_of(line.decode())
+            if line.endswith(b"\n"):  # else it was ended within a line, as its status says
+                yield game_of(line.decode())
         self.status = self.process.finish()
         raise_for(self.status, shown(self._name))
 

@@ -215,6 +215,29 @@ def test_runs_do_not_mix(browser: Browser) -> None:
     browser.until("return document.querySelectorAll('.row').length === 1 && document.querySelectorAll('#articles article').length === 1")
 
 
+def test_two_tabs(served: Served, browser: Browser) -> None:
+    """Each has its own run, and keeps it when the other asks; one that is loaded again has its own again."""
+    first = browser.driver.current_window_handle
+    browser.ask("cql() mate", "games.pgn")
+    browser.ended()
+    browser.driver.switch_to.new_window("tab")
+    try:
+        browser.open(served.address)
+        browser.ask("cql() stalemate", "games.pgn")
+        browser.ended()
+        browser.until("return document.querySelectorAll('#articles article').length === 1")
+        second = browser.driver.current_window_handle
+        for tab, said in ((first, "8 games, 8 positions"), (second, "1 game, 1 position")):
+            browser.driver.switch_to.window(tab)
+            assert browser.text("sum") == said
+            browser.driver.refresh()
+            browser.until("return document.getElementById('sum').textContent === arguments[0]", said)
+            browser.until("return document.querySelectorAll('#articles article').length === arguments[0]", int(said.split()[0]))
+        browser.driver.close()
+    finally:
+        browser.driver.switch_to.window(first)
+
+
 def test_boards_before_the_end_and_stop(served: Served, browser: Browser) -> None:
     browser.ask("cql() mate", "large.pgn.gz")
     browser.until("return document.querySelector('#found figure svg')")
@@ -264,6 +287,85 @@ def test_rows_are_those_of_cqlpgn_rows(browser: Browser, asked: Asking, room: Pa
     assert saved["epd"] == asked("cqlpgn-rows", "--epd", "--index", "index", data=saved["pgn"]).out
 
 
+def test_keys_in_the_list_and_in_a_game(browser: Browser) -> None:
+    browser.ask("cql() mate", "famous.pgn")
+    browser.ended()
+    last = int(browser.text("count")) - 1
+    browser.run("document.getElementById('list').focus()")
+    at = "const r = document.querySelector('.row[aria-selected=true]'); return !!r && r.dataset.place == arguments[0]"
+    for key, place in (("\ue015", 0), ("\ue015", 1), ("\ue010", last), ("\ue015", last), ("\ue013", last - 1), ("\ue011", 0)):
+        browser.press(key)
+        browser.until(at, place)
+        browser.until('return !!document.querySelector(`article[data-place="${arguments[0]}"] figure svg`)', place)
+    browser.press("j")
+    browser.until("return document.querySelector('figure.at')")
+    moves = browser.run(
+        "return document.querySelector('article:has(.at) .moves').textContent.split(/\\s+/).filter(w => /^[A-Za-z]/.test(w))"
+    )
+    seen = "return document.querySelector('aside').hidden ? '' : document.querySelector('aside span').textContent"
+    for key, move in (("\ue012", moves[-2]), ("\ue012", moves[-3]), ("\ue014", moves[-2]), ("\ue00c", "")):
+        browser.press(key)
+        browser.until(f"{seen.replace('return ', 'return (')}) === arguments[0]", move)
+
+
+def test_escape_closes_what_is_open_and_then_stops(served: Served, browser: Browser) -> None:
+    browser.ask("cql() mate", "large.pgn.gz")
+    browser.until("return document.querySelector('#found figure svg')")
+    browser.until("const u = document.querySelector('.moves u'); if (u) u.click(); return !document.querySelector('aside').hidden")
+    browser.press("\ue00c")
+    browser.until("return document.querySelector('aside').hidden")
+    assert browser.text("run") == "Stop" and served.children()
+    browser.run("document.querySelector('#archives summary').focus()")
+    browser.press(" ")
+    browser.until("return document.getElementById('archives').open")
+    browser.press("\ue00c")
+    browser.until("return !document.getElementById('archives').open")
+    assert browser.text("run") == "Stop"
+    browser.press("\ue00c")
+    browser.until("return document.getElementById('run').textContent === 'Run'")
+    assert served.no_children()
+
+
+def test_a_filter_says_what_is_left(browser: Browser) -> None:
+    browser.ask("cql() mate", "famous.pgn")
+    browser.ended()
+    games = browser.text("count")
+    browser.driver.find_element("id", "filter").send_keys("morphy")
+    browser.until(f"return document.getElementById('left').textContent.startsWith('1 of {games} games')")
+    browser.until("return document.querySelectorAll('.row').length === 1 && document.querySelectorAll('#articles article').length === 1")
+    browser.ask("cql() mate", "games.pgn")
+    assert browser.text("left") == "" and browser.run("return document.getElementById('filter').value") == ""
+
+
+def test_light_or_dark(browser: Browser) -> None:
+    back = "return getComputedStyle(document.body).backgroundColor"
+    choose = "const look = document.getElementById('look'); look.value = arguments[0]; look.dispatchEvent(new Event('change'))"
+    seen = {}
+    for look in ("dark", "light", ""):
+        browser.run(choose, look)
+        browser.driver.refresh()
+        browser.until("return document.querySelector('.CodeMirror')")
+        assert browser.run("return document.getElementById('look').value") == look
+        seen[look] = browser.run(back)
+    assert seen["dark"] == "rgb(23, 24, 26)" and seen["light"] == "rgb(246, 243, 236)" and seen[""] in (seen["dark"], seen["light"])
+
+
+def test_boards_that_cannot_be_read(browser: Browser, tmp_path: Path) -> None:
+    """The page says that the program which reads the games is not there any more."""
+    (tmp_path / "games.pgn").write_bytes(GAME)
+    reader = tmp_path / "pgnjson"
+    shutil.copy(program("PGNJSON", "pgnjson"), reader)
+    desk = Served(tmp_path, CQLPGN=program("CQLPGN", "cqlpgn"), PGNJSON=str(reader))
+    try:
+        browser.open(desk.address)
+        reader.unlink()
+        browser.ask("cql() mate", "games.pgn")
+        browser.until("return document.getElementById('fault').textContent.includes('there is no program')")
+        browser.until("return document.querySelectorAll('.row').length === 1")
+    finally:
+        desk.close()
+
+
 def test_a_position_is_set(browser: Browser) -> None:
     browser.write("cql() ")
     browser.run(EDITOR + "c.setCursor(0, 6)")
@@ -305,6 +407,7 @@ def test_several_queries_archives_and_faults(browser: Browser) -> None:
     shown = browser.until(
         "const p = document.querySelector('#faults pre'), m = p.querySelector('mark'); return m && [p.textContent, m.textContent]"
     )
+    assert browser.run("return document.querySelector('#faults mark').getBoundingClientRect().bottom <= innerHeight")
     assert "1. e4 e5 2. Ke3 *" in shown[0] and shown[1] == "K"
 
 
@@ -316,6 +419,9 @@ def test_explained_kept_and_varied(browser: Browser) -> None:
     assert browser.value() == 'cql(matchstring "a)") flipcolor Ka1'
     browser.click("[data-pane=explained]")
     browser.until("return document.getElementById('explained').textContent.startsWith('(union')")
+    browser.write("cql() mate")
+    browser.until("return document.getElementById('explained').textContent.includes('mate')")
+    browser.write('cql(matchstring "a)") flipcolor Ka1')
     browser.click("[data-pane=keeping]")
     browser.driver.find_element("id", "name").send_keys("corner")
     browser.click("#keep")

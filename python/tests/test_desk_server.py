@@ -4,11 +4,14 @@ and libjs-codemirror."""
 from __future__ import annotations
 
 import asyncio
+import configparser
 import contextlib
 import csv
 import gzip
 import io
 import os
+import re
+import subprocess
 import time
 import zipfile
 from collections.abc import Iterator
@@ -16,6 +19,7 @@ from pathlib import Path
 
 import pytest
 from conftest import TOP, program
+from cqlpgn.desk.found import Found, Room, has_text, tags_of
 from desks import GAME, Line, Served
 from processes import PATIENCE, all_end
 
@@ -257,6 +261,65 @@ def test_rows_of_several_archives_name_them(served: Served) -> None:
     asyncio.run(rows())
 
 
+def test_games_stay_while_they_are_read() -> None:
+    """A file that is being saved is not cut short by the next run of its page; its place is given back afterwards."""
+    room = Room()
+    place, found = room.left, Found(b"CQL", room)
+    found.begin("a.pgn")
+    found.take(GAME * 3)
+    with found.held():
+        found.close()
+        assert found.bytes_of(0, 9) == [GAME] * 3 and room.left < place
+    assert room.left == place
+    found.close()
+    assert room.left == place
+
+
+@pytest.mark.parametrize("text", ["morphy", "MÜLLER", "müller", 'a"b', "k", "1858", "1-0", "\udcff", "ü", "\\"])
+def test_a_filter_finds_what_the_tags_say(text: str) -> None:
+    values = ["Morphy, Paul", "Müller", 'a\\"b', "\u212a", "back\\\\slash", "İ"]
+    games = [f'[White "{value}"]\n[Date "1858.??.??"]\n[Result "1-0"]\n\n1-0\n\n'.encode() for value in values]
+    games.append('[Event "Müller"]\n\n*\n\n'.encode("latin-1"))
+    wanted = text.lower()
+    for game in games:
+        said = [value for tag, value in tags_of(game).items() if tag != "Result"]
+        assert has_text(game, wanted) == any(wanted in value.lower() for value in said)
+
+
+def test_of_several_filters_the_last_counts(served: Served) -> None:
+    async def filters() -> None:
+        async with Line(served) as line:
+            run = await line.over("cql() mate", "inner/large.pgn")
+            which = {"run": run["run"], "query": 0}
+            for number, text in ((91, "nobody"), (92, "a")):
+                await line.socket.send_json({"n": number, "do": "filter", "text": text, **which})
+            left: dict[int, int] = {}
+            while len(left) < 2:
+                answer = await line.socket.receive_json(timeout=PATIENCE)
+                left |= {answer["n"]: answer["is"]} if "n" in answer else {}
+            assert left == {91: 0, 92: run["found"][0]}
+            assert len(await line.ask("rows", first=0, count=5, **which)) == 5
+
+    asyncio.run(filters())
+
+
+def test_a_page_that_would_be_too_long(tmp_path: Path) -> None:
+    (tmp_path / "games.pgn").write_bytes(GAME * 3)
+    changed = "import cqlpgn.desk.saving as saving; saving.MOST_ON_A_PAGE = 2"
+    desk = Served(tmp_path, changed, **{variable: program(variable, name) for variable, name in PROGRAMS.items()})
+
+    async def long() -> None:
+        async with Line(desk) as line:
+            run = await line.over("cql() mate", "games.pgn")
+            for form, title in (("page", "found"), ("sheet", "exercises")):
+                async with line.http.get(f"{desk.address}save/{line.page}/{run['run']}/0/{form}") as answer:
+                    text = await answer.text()
+                    assert f"<title>{title}: the first 2 of 3 games</title>" in text and text.count("<figure") == 2
+
+    asyncio.run(long())
+    desk.close()
+
+
 def test_zstandard(served: Served) -> None:
     zstandard = pytest.importorskip("zstandard")
     folder = served.folder
@@ -347,7 +410,9 @@ def test_processes_end_with_their_page(served: Served, grace: float) -> None:
         async with Line(desk) as line:
             await line.begin("cql() mate", "inner/huge.pgn.gz")
             await line.until("reading")
-            await line.ask("stop")
+            assert line.run is not None
+            assert str(await line.ask("stop", run=line.run["run"] - 1)).startswith("refused") and desk.children()
+            await line.ask("stop", run=line.run["run"])
             assert not desk.children() and (await line.until("stopped"))["found"][0] >= 0
             await line.begin("cql() mate", "inner/huge.pgn.gz")
             await line.until("reading")
@@ -446,3 +511,47 @@ def test_a_program_that_is_missing_or_killed(tmp_path: Path) -> None:
 
     asyncio.run(asked())
     desk.close()
+
+
+@pytest.mark.parametrize(("documents", "begun"), [("My $games", "My $games"), ("none", "home"), ("", ".")])
+def test_the_desktop_entry(tmp_path: Path, documents: str, begun: str) -> None:
+    """It opens the folder of documents; where that is not there the user's own, and where it is not known the one in which it begins."""
+    for name in ("bin", "home", "My $games"):
+        (tmp_path / name).mkdir()
+    for name, does in {"cqlpgn-desk": "pwd", "xdg-user-dir": f"echo '{documents and tmp_path / documents}'"}.items():
+        (tmp_path / "bin" / name).write_text(f"#!/bin/sh\n{does}\n")
+        (tmp_path / "bin" / name).chmod(0o755)
+    entry = configparser.ConfigParser(interpolation=None)
+    entry.read(TOP / "contrib" / "cqlpgn-desk.desktop")
+    shell, flag, quoted = entry["Desktop Entry"]["Exec"].replace("\\\\", "\\").split(" ", 2)
+    call = [shell, flag, re.sub(r"\\(.)", r"\1", quoted[1:-1])]
+    environment = {"PATH": f"{tmp_path / 'bin'}:/usr/bin:/bin", "HOME": str(tmp_path / "home")}
+    out = subprocess.run(call, cwd=tmp_path, env=environment, capture_output=True, text=True, check=True).stdout
+    assert out.strip() == str(tmp_path / begun)
+
+
+@pytest.mark.parametrize("what", ["killed", "missing"])
+def test_a_reader_of_games_that_is_missing_or_killed(tmp_path: Path, what: str) -> None:
+    """The page is told so in place of boards, and no file is taken for a whole one."""
+    (tmp_path / "games.pgn").write_bytes(GAME * 3)
+    fake = tmp_path / "pgnjson"
+    fake.write_text('#!/bin/sh\nprintf \'{"game":1,"byte"\'\nkill -9 $$\n')
+    fake.chmod(0o755)
+    desk = Served(tmp_path, CQLPGN=program("CQLPGN", "cqlpgn"), PGNJSON=str(fake))
+    if what == "missing":
+        fake.unlink()
+
+    async def asked() -> None:
+        import aiohttp
+
+        async with Line(desk) as line:
+            run = await line.over("cql() mate", "games.pgn")
+            assert (await line.ask("games", run=run["run"], query=0, first=0, count=5)).startswith("refused: ")
+            for form in ("csv", "page"):
+                with pytest.raises(aiohttp.ClientError):
+                    async with line.http.get(f"{desk.address}save/{line.page}/{run['run']}/0/{form}") as answer:
+                        await answer.read()
+            assert len(await line.ask("rows", run=run["run"], query=0, first=0, count=5)) == 3
+
+    asyncio.run(asked())
+    assert "Traceback" not in desk.close()

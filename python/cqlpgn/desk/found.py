@@ -5,6 +5,7 @@ game, whatever its length."""
 
 from __future__ import annotations
 
+import contextlib
 import os
 import re
 import tempfile
@@ -17,7 +18,7 @@ from ..boards import UNKNOWN
 MOST_BYTES = 1 << 33
 BLOCK = 1 << 18
 MOST_LETTERS = 80
-TAG = re.compile(rb'^\[(White|Black|Event|Date|Result) "((?:[^"\\\n]|\\.)*)"\]', re.M)
+TAG = re.compile(rb'^\[(White|Black|Event|Date|Result) "([^"\\\n]*(?:\\.[^"\\\n]*)*)"\]', re.M)
 
 
 class Full(Exception):
@@ -39,7 +40,7 @@ class Room:
 
 def text_of(value: bytes) -> str:
     """The letters of a tag: UTF-8, or else Latin-1, as pgnjson has them."""
-    plain = re.sub(rb"\\(.)", rb"\1", value)
+    plain = re.sub(rb"\\(.)", rb"\1", value) if b"\\" in value else value
     try:
         return plain.decode()
     except UnicodeDecodeError:
@@ -55,6 +56,15 @@ def tags_of(game: bytes) -> dict[str, str]:
     return {tag.decode(): text_of(value) for tag, value in TAG.findall(game, 0, game.find(b"\n\n"))}
 
 
+def has_text(game: bytes, wanted: str) -> bool:
+    """Whether players, event or date have a text, which is in small letters. Tags are nearly always plain; then their bytes tell where it
+    is not worth while to read them."""
+    tags = game[: game.find(b"\n\n")]
+    if tags.isascii() and b"\\" not in tags and wanted.encode("utf-8", "surrogatepass") not in tags.lower():
+        return False
+    return any(wanted in value.lower() for tag, value in tags_of(game).items() if tag != "Result")
+
+
 class Found:
     """The games that one query has found. `mark` is the comment of the positions that match; without one nothing is counted."""
 
@@ -65,6 +75,7 @@ class Found:
         # after each game: the bytes of the file, and the marked positions, so far
         self.ends, self.marks = array("Q", [0]), array("Q", [0])
         self._rest = bytearray()
+        self._readers, self._is_dropped = 0, False
         # the first game of each archive
         self._archives: list[tuple[int, str]] = []
 
@@ -95,10 +106,23 @@ class Found:
                 written += os.write(self._file.fileno(), whole[written:])
         del self._rest[:begin]
 
+    @contextlib.contextmanager
+    def held(self) -> Iterator[None]:
+        """Within, its games stay there to be read, even if the run is dropped meanwhile."""
+        self._readers += 1
+        try:
+            yield
+        finally:
+            self._readers -= 1
+            if self._is_dropped:
+                self.close()
+
     def close(self) -> None:
-        """Gives back the place that it takes."""
-        self._room.left += self.ends[-1]
-        self._file.close()
+        """Gives back the place that it takes, once nobody reads it any more."""
+        self._is_dropped = True
+        if not self._readers and not self._file.closed:
+            self._room.left += self.ends[-1]
+            self._file.close()
 
     def bytes_of(self, first: int, count: int) -> list[bytes]:
         """The games from the first one named, as many as there are up to the count."""
@@ -134,7 +158,7 @@ class Found:
         wanted, numbers = text.lower(), array("Q")
         for first in range(0, len(self), 1000):
             for number, game in enumerate(self.bytes_of(first, 1000), first):
-                if any(wanted in value.lower() for tag, value in tags_of(game).items() if tag != "Result"):
+                if has_text(game, wanted):
                     numbers.append(number)
         return numbers
 

@@ -110,6 +110,7 @@ class Page:
         self.run: Run | None = None
         self._task: asyncio.Task[Any] | None = None
         self._shown: dict[int, Sequence[int]] = {}  # of a query the numbers of the games that a filter leaves
+        self._filters = 0
         self._due: asyncio.TimerHandle | None = None
         self._one_by_one = asyncio.Lock()
         self.is_gone = self.is_greeted = False
@@ -229,7 +230,9 @@ class Page:
             self._task = self.shared.keep(run.go(self.shared.turns))
         return {"run": run.words(), "history": self.shared.history}
 
-    async def _stop(self, _words: Words) -> Any:
+    async def _stop(self, words: Words) -> Any:
+        """Ends the run that is named; the one that has come after it goes on."""
+        self.found(words.number("run"), 0)
         await self.end()
 
     def found(self, run: int, query: int) -> Found:
@@ -249,7 +252,8 @@ class Page:
     async def _games(self, words: Words) -> Any:
         """Games as the page of boards shows them, fewer where they are long."""
         found, numbers, first = self._asked_of(words, MOST_GAMES)
-        made = await asyncio.to_thread(lambda: list(articles(found, numbers))) if numbers else []
+        with found.held():
+            made = await asyncio.to_thread(lambda: list(articles(found, numbers))) if numbers else []
         return [[first + place, article] for place, article in made]
 
     async def _rows(self, words: Words) -> Any:
@@ -257,15 +261,20 @@ class Page:
         return [found.row(number) for number in numbers]
 
     async def _filter(self, words: Words) -> Any:
-        """Leaves the games with this text in players, event or date, of those found so far; tells how many."""
+        """Leaves the games with this text in players, event or date, of those found so far; tells how many. Of several texts the one counts
+        that was asked last."""
         query, text = words.number("query"), words.text("text")
         found = self.found(words.number("run"), query)
+        self._filters += 1
+        number = self._filters
         if not text:
             self._shown.pop(query, None)
             return len(found)
-        left = await asyncio.to_thread(found.with_text, text)
+        with found.held():
+            left = await asyncio.to_thread(found.with_text, text)
         self.found(words.number("run"), query)
-        self._shown[query] = left
+        if number == self._filters:
+            self._shown[query] = left
         return len(left)
 
     async def _faults(self, words: Words) -> Any:

@@ -14,6 +14,7 @@ from collections.abc import AsyncGenerator, Iterator
 from dataclasses import dataclass
 from typing import IO
 
+from ..errors import Stopped
 from .found import Found
 from .program import end
 from .shown import NEVER
@@ -22,14 +23,25 @@ BEGIN = "import sys; from cqlpgn.commands.{0} import entry; sys.argv[0] = 'cqlpg
 PACKAGE = os.path.dirname(os.path.dirname(os.path.dirname(os.path.realpath(__file__))))
 
 
+MOST_ON_A_PAGE = 5000  # games: a browser has them all at once, and so has the command
+
+
 @dataclass(frozen=True)
 class Form:
-    """The name of the file, its kind, and the command with its words; without one the games are as the program wrote them."""
+    """The name of the file, its kind, and the command with its words; without one the games are as the program wrote them. `title` is that
+    of a page, which has no more than `MOST_ON_A_PAGE` games."""
 
     name: str
     kind: str
     command: str = ""
     words: tuple[str, ...] = ()
+    title: str = ""
+
+    def call(self, count: int, there: int) -> list[str]:
+        """The command's words for so many games of those that are there."""
+        left_out = f": the first {count:,} of {there:,} games" if count < there else ""
+        title = [f"--title={self.title}{left_out}"] if self.title else []
+        return [sys.executable, "-B", "-c", BEGIN.format(self.command), *self.words, *title]
 
 
 COLUMNS = ("--columns", "archive,found,ply,move,side,san,uci,fen,depth,mainline,White,Black,Event,Site,Date,Result")
@@ -38,8 +50,8 @@ FORMS = {
     "csv": Form("found.csv", "text/csv", "rows", ("--csv", *COLUMNS)),
     "json": Form("found.jsonl", "application/jsonl", "rows", ("--json", *COLUMNS)),
     "epd": Form("found.epd", "text/plain", "rows", ("--epd",)),
-    "page": Form("found.html", "application/octet-stream", "diagrams", ("--title", "found")),
-    "sheet": Form("exercises.html", "application/octet-stream", "diagrams", ("--title", "exercises", "--exercises", "--coordinates")),
+    "page": Form("found.html", "application/octet-stream", "diagrams", (), "found"),
+    "sheet": Form("exercises.html", "application/octet-stream", "diagrams", ("--exercises", "--coordinates"), "exercises"),
 }
 
 
@@ -63,24 +75,34 @@ def _index(found: Found, count: int) -> IO[str]:
 
 
 async def saved(found: Found, form: Form) -> AsyncGenerator[bytes, None]:
-    """The file in pieces; the process ends with whoever takes them. What is found meanwhile is not in it."""
-    count = len(found)
+    """The file in pieces; the process ends with whoever takes them. What is found meanwhile is not in it. Raises `Stopped` where the
+    command ends before the file does."""
+    there = len(found)
+    count = min(there, MOST_ON_A_PAGE) if form.title else there
     if not form.command:
         for block in found.blocks(count):
             yield block
         return
-    words = [sys.executable, "-B", "-c", BEGIN.format(form.command), *form.words, f"--mark={found.mark or NEVER}", "-"]
+    call = [*form.call(count, there), f"--mark={found.mark or NEVER}", "-"]
+    async with contextlib.aclosing(_written(call, found, count, form.command == "rows")) as pieces:
+        async for data in pieces:
+            yield data
+
+
+async def _written(call: list[str], found: Found, count: int, wants_index: bool) -> AsyncGenerator[bytes, None]:
+    """What a command writes of the first so many games."""
     with await asyncio.to_thread(_index, found, count) as index:
         number = index.fileno()
-        words += [f"--index=/proc/self/fd/{number}"] * (form.command == "rows")
+        call += [f"--index=/proc/self/fd/{number}"] * wants_index
         environment = os.environ | {"PYTHONPATH": PACKAGE}
-        process = await asyncio.create_subprocess_exec(*words, stdin=PIPE, stdout=PIPE, stderr=DEVNULL, env=environment, pass_fds=[number])
+        process = await asyncio.create_subprocess_exec(*call, stdin=PIPE, stdout=PIPE, stderr=DEVNULL, env=environment, pass_fds=[number])
     feeding = asyncio.ensure_future(_feed(process, found.blocks(count)))
     assert process.stdout is not None
     try:
         while data := await process.stdout.read(1 << 16):
             yield data
-        await process.wait()
+        if await process.wait() not in (0, 1):
+            raise Stopped("the file could not be written to its end")
     finally:
         feeding.cancel()
         await end(process)

@@ -4,6 +4,7 @@ alone."""
 from __future__ import annotations
 
 import asyncio
+import contextlib
 import hmac
 import json
 import os
@@ -12,7 +13,7 @@ from collections.abc import Awaitable, Callable
 
 from aiohttp import WSMsgType, web
 
-from ..errors import NotFound
+from ..errors import Error, NotFound
 from ..page import own_file
 from .folder import Folder
 from .pages import Page, Shared
@@ -30,7 +31,7 @@ POLICY = (
 )
 GRACE = 3.0  # seconds that a run goes on without its page, as when it is loaded again
 KEPT = 600.0  # seconds that what was found is kept without its page
-MOST_ASKED, MOST_PAGES = 64, 200
+MOST_ASKED, MOST_PAGES, MOST_SAVED = 64, 200, 4
 STRANGER = "This address is not the one that cqlpgn-desk has printed.\n"
 
 Handler = Callable[[web.Request], Awaitable[web.StreamResponse]]
@@ -71,6 +72,7 @@ class Desk:
         self.token, self.host, self.seen = secrets.token_urlsafe(24), "", asyncio.Event()
         self._pages: dict[str, Page] = {}
         self._away: dict[str, Away] = {}
+        self._saving = asyncio.Semaphore(MOST_SAVED)
         self._files = files()
         self._library = json.loads(own_file("desk/words.json"))
         self._html = own_file("desk/static/desk.html").replace("@MEN@", own_file("men.svg"))
@@ -169,15 +171,17 @@ class Desk:
             raise web.HTTPNotFound() from fault
         response = web.StreamResponse(headers={"Content-Disposition": f'attachment; filename="{form.name}"'})
         response.content_type = form.kind
-        pieces = saved(found, form)
-        try:
-            await response.prepare(request)
-            async for data in pieces:
-                await response.write(data)
-        except (ConnectionResetError, OSError):
-            pass  # the download was broken off
-        finally:
-            await pieces.aclose()
+        with found.held():
+            async with self._saving, contextlib.aclosing(saved(found, form)) as pieces:
+                try:
+                    await response.prepare(request)
+                    async for data in pieces:
+                        await response.write(data)
+                except OSError:
+                    pass  # the download was broken off
+                except Error:
+                    if request.transport:
+                        request.transport.abort()  # so that what has come is not taken for the whole file
         return response
 
     def app(self) -> web.Application:

@@ -25,7 +25,7 @@ function welcome(message) {
     shelve(message.cookbook);
     keeping(text);
     set();
-    edit(message.words, start);
+    edit(message.words, start, explain);
   }
   own(message.queries);
   asked(message.history);
@@ -61,15 +61,30 @@ function tab(name) {
 }
 
 // Opens one of the panes below the query, or closes it.
-async function pane(button) {
-  const place = $(button.dataset.pane), isOpen = place.hidden;
-  place.hidden = !isOpen;
-  button.setAttribute("aria-expanded", isOpen);
-  if (!isOpen || place.id !== "explained") return;
+function pane(button) {
+  const place = $(button.dataset.pane);
+  place.hidden = !place.hidden;
+  button.setAttribute("aria-expanded", !place.hidden);
+  if (place.id === "explained") explain();
+}
+
+// Where the pane for it is open, shows what the query asks.
+async function explain() {
+  const place = $("explained");
+  if (place.hidden) return;
+  const query = text();
+  let said;
   try {
-    const answer = await ask("explain", { query: text() });
-    place.textContent = answer.fault ? "The query has a fault." : answer.text;
-  } catch (refusal) { place.textContent = refusal.message; }
+    const answer = await ask("explain", { query });
+    said = answer.fault ? "The query has a fault." : answer.text;
+  } catch (refusal) { said = refusal.message; }
+  if (query === text()) place.textContent = said;
+}
+
+// Light or dark, where one of them is chosen; other tabs of the desk follow.
+function paint() {
+  $("look").value = localStorage.getItem("look") || "";
+  document.documentElement.dataset.look = $("look").value;
 }
 
 // --- the run
@@ -86,6 +101,8 @@ async function start() {
   } catch (refusal) { say(refusal.message, "bad"); }
 }
 
+const stop = () => ask("stop", { run: run.run }).catch(refusal => say(refusal.message, "bad"));
+
 // A run has begun, or the page has come back to it.
 function begin(state) {
   clear();
@@ -100,7 +117,7 @@ function begin(state) {
 
 function clear() {
   here = which = 0;
-  $("filter").value = "";
+  $("filter").value = $("left").textContent = "";
   $("report").hidden = true;
   $("empty").hidden = false;
   $("faults").hidden = true;
@@ -172,7 +189,9 @@ async function faulty() {
     const look = async () => {
       shown.hidden = !shown.hidden;
       const [before, after] = await ask("at", { archive: fault.archive, byte: fault.byte }).catch(refusal => [refusal.message, ""]);
-      shown.replaceChildren(before, element("mark", {}, after.slice(0, 1) || "…"), after.slice(1));
+      const spot = element("mark", {}, after.slice(0, 1) || "…");
+      shown.replaceChildren(before, spot, after.slice(1));
+      spot.scrollIntoView({ block: "nearest" });
     };
     const told = `${fault.archive}: game ${fault.game}, byte ${fault.byte}: ${fault.reason}`;
     return element("li", {}, element("button", { type: "button", onclick: look }, told), shown);
@@ -187,12 +206,23 @@ around.at = figure => {
 let due;
 $("filter").oninput = () => {
   clearTimeout(due);
-  due = setTimeout(() => filter($("filter").value).catch(refusal => say(refusal.message, "bad")), 250);
+  due = setTimeout(sift, 250);
 };
+
+// Leaves the games that the filter wants, and says how many they are.
+async function sift() {
+  const wanted = $("filter").value, all = run ? run.found[which] : 0;
+  $("left").textContent = wanted ? "…" : "";
+  try {
+    const left = await filter(wanted);
+    const told = n => n.toLocaleString("en");
+    if (left !== null) $("left").textContent = wanted ? `${told(left)} of ${told(all)} games; files that are saved have all games` : "";
+  } catch (refusal) { say(refusal.message, "bad"); }
+}
 $("which").onchange = () => {
   which = Number($("which").value);
   here = 0;
-  $("filter").value = "";
+  $("filter").value = $("left").textContent = "";
   show({ run: run.run, query: which });
   tell(run);
 };
@@ -200,11 +230,26 @@ $("moves").onchange = () => document.body.classList.toggle("no-moves", !$("moves
 $("faults").ontoggle = faulty;
 $("ask").onsubmit = event => {
   event.preventDefault();
-  if (run && !over(run)) ask("stop"); else start();
+  if (run && !over(run)) stop(); else start();
 };
 document.querySelectorAll(".tabs button").forEach(b => { b.onclick = () => tab(b.dataset.to); });
 document.querySelectorAll("#panes button").forEach(b => { b.onclick = () => pane(b); });
 $("archives").ontoggle = async () => { if ($("archives").open) list(await ask("archives").catch(() => [])); };
-addEventListener("keydown", event => { if (event.key === "Escape" && run && !over(run)) ask("stop"); });
+$("look").onchange = () => {
+  localStorage.setItem("look", $("look").value);
+  paint();
+};
+addEventListener("storage", paint);
+// Escape closes what is open above the page, and else stops the run; this is asked before others hear of the key.
+addEventListener("keydown", event => {
+  if (event.key !== "Escape") return;
+  const archives = $("archives"), isOpen = archives.open && archives.contains(event.target);
+  if (isOpen) {
+    archives.open = false;
+    archives.firstElementChild.focus();
+  } else if (document.querySelector("aside").hidden && !document.querySelector(".CodeMirror-hints") && run && !over(run)) stop();
+}, true);
+addEventListener("pointerdown", event => { if (!$("archives").contains(event.target)) $("archives").open = false; });
+paint();
 tab("cookbook");
 connect(hear);

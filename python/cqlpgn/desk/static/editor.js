@@ -1,14 +1,14 @@
 // The editor: colours, words offered and explained, and each fault at its place.
 import { $, ask, element } from "./line.js";
 
-let editor, words = [], end = null, hovering;
+let editor, words = [], end = null, hovering, whenJudged;
 const HEAD = /^(\s*(?:\/\/[^\n]*\n\s*)*cql\s*\()((?:"[^"]*"|[^")])*)(?=\))/;
 
 export const text = () => editor.getValue();
 export const hasEditor = () => !!editor;
 
-export function edit(known, start) {
-  words = known;
+export function edit(known, start, judged) {
+  [words, whenJudged] = [known, judged];
   defineQuery(words.map(w => w.word));
   editor = CodeMirror.fromTextArea($("query"), {
     mode: "cql", theme: "desk", lineWrapping: true, viewportMargin: Infinity, matchBrackets: true, autoCloseBrackets: "()[]{}",
@@ -89,6 +89,7 @@ async function judge(query, update) {
   let found;
   try { found = await ask("check", { query }); } catch (refusal) { say(refusal.message, "bad"); return update([]); }
   if (query !== text()) return;
+  whenJudged();
   if (end) end.clear();
   end = null;
   const fault = found.fault;

@@ -31,6 +31,11 @@ export function shelve(cookbook) {
     const wanted = $("seek").value.toLowerCase();
     for (const b of shelves.querySelectorAll("button")) b.hidden = !(b.textContent + b.title).toLowerCase().includes(wanted);
   };
+  $("cookbook").onkeydown = event => {
+    const by = { ArrowDown: 1, ArrowUp: -1 }[event.key], all = [$("seek"), ...shelves.querySelectorAll("button:not([hidden])")];
+    const next = by && all[all.indexOf(event.target) + by];
+    if (next) { event.preventDefault(); next.focus(); }
+  };
   for (const [name, sought, fen, move] of STARTERS) {
     const found = cookbook.find(r => r.name === sought);
     if (!found) continue;

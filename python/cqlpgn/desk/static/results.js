@@ -1,19 +1,22 @@
 // What is found: the articles near the view, and the list of all games, of which the rows in view alone stand.
 import { $, ask, element } from "./line.js";
+import { say } from "./editor.js";
 
 const ROW = 52, BLOCK = 100, MOST_ARTICLES = 60, AT_ONCE = 10;
 const TALLEST = 8_000_000;  // pixels that every browser bears; a longer list is scaled
 const TAGS = new Set("article h2 small bdi p b i em span div figure figcaption strong button br".split(" "));
 const KEPT = new Set("id class title data-fen data-move data-moves data-match data-start data-turned".split(" "));
 const blocks = new Map(), rows = new Map(), ends = [$("before"), $("after")];
-let first = 0, last = 0, busy = false, total = 0, asking = null;
+let first = 0, last = 0, busy = false, total = 0, asking = null, at = -1;
 let turn = 0;  // an answer to what was asked before the last turn is dropped
-
+let sifting = 0;  // of several filters the last one counts
+let wanted = 0;  // of several games that are asked for faster than they come the last one is shown
 
 // Begins anew: `what` names the run and the query whose games are shown, null for none.
 export function begin(what) {
   asking = what;
   total = first = last = 0;
+  at = -1;
   forget();
   $("articles").replaceChildren();
   $("list").scrollTop = 0;
@@ -36,12 +39,19 @@ export function grow(games) {
   if (last < MOST_ARTICLES / 3) more(1);
 }
 
+// Leaves the games with a text, and tells how many; null where another text or another run has come meanwhile.
 export async function filter(text) {
-  if (!asking) return;
-  const mine = turn, left = await ask("filter", { ...asking, text });
-  if (mine !== turn) return;
+  if (!asking) return null;
+  const what = asking, mine = ++sifting, isOld = () => what !== asking || mine !== sifting;
+  let left;
+  try { left = await ask("filter", { ...what, text }); } catch (refusal) {
+    if (isOld()) return null;
+    throw refusal;
+  }
+  if (isOld()) return null;
   begin(asking);
   grow(left);
+  return left;
 }
 
 // An element from the server's lists: names and attributes that the page of boards has, and texts as texts.
@@ -60,7 +70,10 @@ export async function more(by) {
   if (busy || !asking || (by > 0 ? last >= total : first <= 0)) return false;
   busy = true;
   const mine = turn, from = by > 0 ? last : Math.max(0, first - AT_ONCE), shelf = $("articles");
-  const games = await ask("games", { ...asking, first: from, count: by > 0 ? AT_ONCE : first - from }).catch(() => []);
+  const games = await ask("games", { ...asking, first: from, count: by > 0 ? AT_ONCE : first - from }).catch(refusal => {
+    if (mine === turn) say(refusal.message, "bad");
+    return [];
+  });
   busy = false;
   if (mine !== turn) return more(1);
   const stay = shelf.querySelector("article:has(.at)") || (by > 0 ? shelf.lastElementChild : shelf.firstElementChild);
@@ -83,9 +96,11 @@ export async function more(by) {
 
 // Shows the game at a place of the list.
 async function open(place) {
+  const mine = ++wanted;
   if (innerWidth < 992) document.querySelector("[data-to=boards]").click();
   if (place < first || place >= last) {
     while (busy) await new Promise(well => setTimeout(well, 20));
+    if (mine !== wanted) return;
     $("articles").replaceChildren();
     first = last = place;
     await more(1);
@@ -98,9 +113,8 @@ async function open(place) {
 
 // The row of an article is the one that is marked.
 export function point(article) {
-  document.querySelectorAll(".row.at").forEach(r => r.classList.remove("at"));
-  const row = rows.get(Number(article.dataset.place));
-  if (row) row.classList.add("at");
+  at = Number(article.dataset.place);
+  fill();
 }
 
 const height = () => Math.min(total * ROW, TALLEST);
@@ -130,7 +144,11 @@ export function fill() {
     rows.set(place, rowOf(place, words));
     inner.append(rows.get(place));
   }
-  for (const [place, row] of rows) row.style.transform = `translateY(${place * ROW + shift}px)`;
+  for (const [place, row] of rows) {
+    row.style.transform = `translateY(${place * ROW + shift}px)`;
+    row.setAttribute("aria-selected", place === at);
+  }
+  list.setAttribute("aria-activedescendant", rows.has(at) ? `row${at}` : "");
 }
 
 // Has the rows brought that are to be shown and not there.
@@ -146,23 +164,34 @@ function bring(from, to) {
 
 function rowOf(place, [, white, black, where, result, marks, archive]) {
   const names = white || black ? [white || "?", black || "?"] : [where || "?"];
-  const rest = [white || black ? where : "", result === "1/2-1/2" ? "½-½" : result].filter(Boolean).join(" · ");
-  const row = element("button", { className: "row", title: archive, onclick: () => open(place) },
-    element("span", { className: "names" }, ...names.map(name => element("span", {}, name))), element("small", {}, rest),
+  const rest = [white || black ? where : "", result === "1/2-1/2" ? "½-½" : result].filter(Boolean);
+  const row = element("button", { className: "row", title: archive, tabIndex: -1, onclick: () => open(place) },
+    element("span", { className: "names" }, ...names.map(name => element("span", {}, name))),
+    element("small", {}, ...rest.map(text => element("span", {}, text))),
     element("b", {}, marks > 1 ? `${marks}` : ""));
   row.dataset.place = place;
+  row.id = `row${place}`;
+  row.setAttribute("role", "option");
   return row;
 }
 
-// Puts the cursor on a row of the list, and shows its game.
+// Brings a row of the list into view, and shows its game.
 function choose(place) {
-  if (place < 0 || place >= total) return;
   const list = $("list"), top = place * ROW, pixels = above();
   if (top < pixels) scrollToRow(top);
   if (top + ROW > pixels + list.clientHeight) scrollToRow(top + ROW - list.clientHeight);
+  at = place;
   fill();
-  if (rows.has(place)) rows.get(place).focus({ preventScroll: true });
+  list.focus({ preventScroll: true });
   open(place);
+}
+
+// The row that a key leads to: from the row that is marked, or where none is into the rows in view.
+function led(key) {
+  const top = Math.ceil(above() / ROW), view = Math.max(1, Math.floor($("list").clientHeight / ROW) - 1);
+  const by = { ArrowDown: 1, ArrowUp: -1, PageDown: view, PageUp: -view }[key];
+  if (key === "Home" || key === "End") return key === "Home" ? 0 : total - 1;
+  return by && Math.min(total - 1, Math.max(0, at < 0 ? top : at + by));
 }
 
 const edge = new IntersectionObserver(entries => entries.forEach(e => e.isIntersecting && more(e.target.id === "after" ? 1 : -1)),
@@ -171,7 +200,9 @@ ends.forEach(e => edge.observe(e));
 new ResizeObserver(fill).observe($("list"));
 $("list").addEventListener("scroll", fill);
 $("list").addEventListener("keydown", event => {
-  const by = { ArrowDown: 1, ArrowUp: -1 }[event.key], row = event.target.closest(".row");
-  if (by && row) { event.preventDefault(); choose(Number(row.dataset.place) + by); }
+  const place = led(event.key);
+  if (place === undefined || !total) return;
+  event.preventDefault();
+  choose(place);
 });
 around.more = more;

@@ -45,7 +45,10 @@ function show() {
     cell.setAttribute("aria-label", [squareName(square), ...said].join(" "));
     cell.tabIndex = square === at ? 0 : -1;
   }
-  for (const choice of $("palette").children) choice.setAttribute("aria-checked", choice.dataset.man === man);
+  for (const choice of $("palette").children) {
+    choice.setAttribute("aria-checked", choice.dataset.man === man);
+    choice.tabIndex = choice.dataset.man === man ? 0 : -1;
+  }
   $("designators").textContent = designators();
 }
 
@@ -90,6 +93,16 @@ function move(event) {
   $("squares").querySelector(`[data-square="${at}"]`).focus();
 }
 
+// The man beside the one that is chosen, by the arrow keys.
+function turn(event) {
+  const by = { ArrowLeft: -1, ArrowUp: -1, ArrowRight: 1, ArrowDown: 1 }[event.key];
+  if (!by) return;
+  event.preventDefault();
+  man = MEN.at((MEN.indexOf(man) + by) % MEN.length);
+  show();
+  $("palette").querySelector("[aria-checked=true]").focus();
+}
+
 export function set() {
   for (let row = 7; row >= 0; row--) {
     const rank = element("div", { role: "row" });
@@ -111,6 +124,7 @@ export function set() {
     $("palette").append(choice);
   }
   $("squares").addEventListener("keydown", move);
+  $("palette").addEventListener("keydown", turn);
   $("fen").oninput = () => read($("fen").value);
   $("exact").onchange = $("mover").onchange = show;
   $("empty-board").onclick = () => {
