@@ -153,6 +153,7 @@ class _Silent:
     n = 0
 
     def update(self, n: int) -> None:
+        """Counts so many bytes more."""
         self.n += n
 
     def __enter__(self) -> _Silent:

@@ -25,6 +25,7 @@ WAITING = 4096  # connections that may wait while the desk has much to do; the s
 
 
 def parser() -> argparse.ArgumentParser:
+    """The words of the command."""
     made = Parser("cqlpgn-desk", "Opens a page in the browser on which queries are written and run over the archives of a folder.", EPILOG)
     made.add_argument("folder", nargs="?", default=".", metavar="FOLDER", help="where the archives are (here)")
     made.add_argument("--port", type=int, default=0, metavar="N", help="a port of this machine (a free one)")
@@ -49,6 +50,7 @@ def led_on(address: str) -> str | None:
 
 
 async def serve(flags: argparse.Namespace, program: str) -> None:
+    """Serves the page until a signal ends it. Raises `NotFound` where the port can't be had."""
     from aiohttp import web
 
     from ..desk.server import Desk
@@ -83,6 +85,8 @@ async def serve(flags: argparse.Namespace, program: str) -> None:
 
 
 def main(words: Sequence[str]) -> int:
+    """Runs the command with these words, and gives its exit status. Raises `NotFound` where the folder or a program is not there, and
+    `Error` where aiohttp isn't."""
     flags = parser().parse_args(words)
     if not os.path.isdir(flags.folder):
         raise NotFound(f"{shown(flags.folder)}: is no folder")
@@ -99,4 +103,5 @@ def main(words: Sequence[str]) -> int:
 
 
 def entry() -> None:
+    """Runs the command with the words of the process."""
     run(main)

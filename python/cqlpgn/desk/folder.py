@@ -75,9 +75,11 @@ class Folder:
         return [found for found, _ in zip(self._files(endings), range(MOST_FILES))]
 
     def archives(self) -> list[dict[str, str | int]]:
+        """The archives, each with its name in the folder and its size in bytes."""
         return [{"name": name, "size": size} for name, size in self._listed(ENDINGS)]
 
     def queries(self) -> list[str]:
+        """The names of the saved queries."""
         return [name for name, _ in self._listed((QUERY,))]
 
     def _opened(self, name: str, endings: tuple[str, ...]) -> BinaryIO:

@@ -33,6 +33,7 @@ class Room:
         self.folder = "/var/tmp" if os.access("/var/tmp", os.W_OK) else None
 
     def take(self, count: int) -> None:
+        """Takes room for so many bytes. Raises `Full` where there is not so much."""
         if count > self.left:
             raise Full("what was found by all pages together fills the place for it; close some of them")
         self.left -= count
@@ -48,6 +49,7 @@ def text_of(value: bytes) -> str:
 
 
 def shortened(text: str, most: int) -> str:
+    """The text, or its first `most` letters and an ellipsis where it has more."""
     return text if len(text) <= most else text[:most] + "…"
 
 
@@ -88,6 +90,7 @@ class Found:
         self._archives.append((len(self), archive))
 
     def archive_of(self, number: int) -> str:
+        """The archive from which the game with this number, from 0, was taken."""
         return next((name for first, name in reversed(self._archives) if first <= number), "")
 
     def take(self, data: bytes) -> None:
@@ -173,6 +176,7 @@ class Parted:
         self._head, self._query, self._left = bytearray(), 0, 0
 
     def take(self, data: bytes) -> None:
+        """Hands each taker the games of its query, as far as these bytes have them."""
         at = 0
         while at < len(data):
             if self._left:

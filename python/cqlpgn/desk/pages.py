@@ -26,10 +26,10 @@ class Line(Protocol):
 
     @property
     def closed(self) -> bool:
-        ...
+        """Whether nothing can be sent any more."""
 
     async def send_str(self, data: str) -> None:
-        ...
+        """Sends a message."""
 
 
 class Shared:
@@ -51,10 +51,12 @@ class Shared:
         return task
 
     def number(self) -> int:
+        """The number of the next run, from 1."""
         self._runs += 1
         return self._runs
 
     def remember(self, text: str) -> None:
+        """Puts a query before all that were asked."""
         self.history = [text, *(one for one in self.history if one != text)][:MOST_HISTORY]
 
 
@@ -77,20 +79,25 @@ class Words:
         return value
 
     def text(self, name: str) -> str:
+        """A text."""
         value: str = self._get(name, str)
         return value
 
     def bytes(self, name: str) -> bytes:
+        """A text as UTF-8."""
         return self.text(name).encode("utf-8", "surrogatepass")
 
     def number(self, name: str) -> int:
+        """A whole number, from -2^62 to 2^62."""
         value: int = self._get(name, int)
         return max(-(1 << 62), min(value, 1 << 62))
 
     def flag(self, name: str) -> bool:
+        """Whether it is said to be so; what is not said is not."""
         return self._said.get(name) is True
 
     def texts(self, name: str) -> list[str]:
+        """A list of texts."""
         values = self._get(name, list)
         if not all(isinstance(value, str) for value in values):
             raise Refused(NOT_UNDERSTOOD)
@@ -98,6 +105,7 @@ class Words:
 
 
 def told(fault: Fault) -> dict[str, Any]:
+    """What the page is told of a fault of a query."""
     return {"byte": fault.byte, "line": fault.line, "column": fault.column, "reason": fault.reason, "hint": fault.hint}
 
 
@@ -131,6 +139,7 @@ class Page:
         }
 
     async def send(self, words: dict[str, Any]) -> None:
+        """Tells the page this, unless it is away."""
         if self.line is not None and not self.line.closed:
             try:
                 await self.line.send_str(json.dumps(words, ensure_ascii=True))

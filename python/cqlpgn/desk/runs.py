@@ -50,6 +50,7 @@ class Run:
 
     @property
     def is_over(self) -> bool:
+        """Whether nothing more is to come of it."""
         return self.state in OVER
 
     def words(self) -> dict[str, Any]:

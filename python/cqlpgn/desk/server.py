@@ -60,6 +60,7 @@ class Away:
         ]
 
     def cancel(self) -> None:
+        """The page has come back: nothing is ended."""
         for timer in self.timers:
             timer.cancel()
 
@@ -185,6 +186,7 @@ class Desk:
         return response
 
     def app(self) -> web.Application:
+        """What answers requests: those of this desk's own pages, and 403 to all others."""
         async def guard(request: web.Request, handler: Handler) -> web.StreamResponse:
             return await handler(request) if self._is_own(request) else web.Response(status=403, text=STRANGER)
 

@@ -35,15 +35,18 @@ class Lists(HTMLParser):
         self.close()
 
     def handle_starttag(self, tag: str, attrs: list[tuple[str, str | None]]) -> None:
+        """An element begins."""
         made: list[Any] = [tag, dict(attrs)]
         self._open[-1].append(made)
         if tag not in EMPTY:
             self._open.append(made)
 
     def handle_endtag(self, tag: str) -> None:
+        """An element ends."""
         self._open.pop()
 
     def handle_data(self, data: str) -> None:
+        """A text stands in the open element."""
         self._open[-1].append(data)
 
 
@@ -68,6 +71,7 @@ class Few(Writer):
     """Writes a game with no more boards than a browser bears."""
 
     def boards(self) -> str:
+        """The first boards of the game, and how many more there are."""
         more = len(self.matches) - MOST_BOARDS
         self.matches = dict(islice(self.matches.items(), MOST_BOARDS))
         note = f'<p class="soft">{more} more positions of this game are marked in its moves.</p>' if more > 0 else ""
