@@ -6,6 +6,7 @@ import asyncio
 import time
 from asyncio.subprocess import PIPE, Process
 from collections.abc import Callable, Iterator
+from contextlib import suppress
 from typing import Any
 
 from .. import query as queries
@@ -135,6 +136,9 @@ class Run:
             self._fail(str(fault))
         finally:
             pipe.close()
+            # else asyncio tells on standard error that the pipe broke
+            with suppress(BrokenPipeError, ConnectionResetError):
+                await pipe.wait_closed()
 
     async def _take(self, process: Process) -> None:
         """Keeps what is found."""

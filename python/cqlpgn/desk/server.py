@@ -187,6 +187,7 @@ class Desk:
 
     def app(self) -> web.Application:
         """What answers requests: those of this desk's own pages, and 403 to all others."""
+
         async def guard(request: web.Request, handler: Handler) -> web.StreamResponse:
             return await handler(request) if self._is_own(request) else web.Response(status=403, text=STRANGER)
 
