@@ -1,6 +1,9 @@
 //! A game as a line.
 use cq_outside::Refusal;
-use pgn_json::{json_line, strings_are_read_back};
+use pgn_json::{
+    games_are_kept, json_line, lines_are_json, lines_are_utf8, same_lines_have_the_same_game,
+    strings_are_read_back, texts_are_bytes,
+};
 use pgn_reader::{GameFault, read_game};
 
 /// A game with a tag that has to be escaped and is no UTF-8, comments, glyphs, a variation and a null move.
@@ -23,5 +26,18 @@ fn a_game_has_its_line(rt: HostRuntime) -> Result<(), Refusal<GameFault>> {
     let game = read_game(rt.alloc(), GAME, 0, true)?;
     let line = json_line(rt.alloc(), &game, 7, 9, b"CQL")?;
     assert_eq!(rt; line.as_slice(), LINE.as_bytes());
+    Ok(())
+}
+
+#[test]
+fn a_game_has_what_the_laws_of_lines_ask(rt: HostRuntime) -> Result<(), Refusal<GameFault>> {
+    lines_are_json();
+    lines_are_utf8();
+    same_lines_have_the_same_game();
+    let game = read_game(rt.alloc(), GAME, 0, true)?;
+    assert_eq!(rt;
+        (games_are_kept(&game), texts_are_bytes(&game)),
+        (true, true)
+    );
     Ok(())
 }
