@@ -27,7 +27,8 @@ QUERIES = [
     "Ke1", "[RQ]a-h8", "check", "mate", "ply > 2", 'event "a"', "result 0-1", "elo == 1", "not check", "#A == 16", "power A - power a > 5",
     "light A", "find mate", "find <-- check", "child check", "parent wtm", "up 1 k", "A & light A", "A | a", "check or mate", "{wtm check}",
     "A attacks k", "a attackedby A", "between(K k)", "max(1 #Q) == 1", "if check then mate else wtm", "square x in [RQ] {x attacks k}",
-    "line --> check", "(line --> wtm --> btm*) >= 2", "move from P capture p", "flipcolor mate", "shift {Pa2}", 'sort "p" power A', 'comment "c"',
+    "line --> check", "(line --> wtm --> btm*) >= 2", "move from P capture p", "flipcolor mate", "shift {Pa2}",
+    'sort "p" power A', 'comment "c"',
 ]  # fmt: skip
 
 

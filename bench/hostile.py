@@ -21,7 +21,8 @@ import threading
 GIB = 1 << 30
 # of ten games one has a mate, one a fault and four a long comment
 SHORT = b'[Event "%d"]\n[Result "1-0"]\n\n1. e4 e5 2. Bc4 {a plan} Nc6 (2... Nf6 3. d3) 3. Qh5 Nf6 4. Nf3 1-0\n\n'
-GAMES = [SHORT.replace(b"Nf3", b"Qxf7#"), SHORT.replace(b"Nf3", b"Ke3"), *[SHORT] * 4, *[SHORT.replace(b"a plan", b"a long plan " * 40)] * 4]
+LONG = SHORT.replace(b"a plan", b"a long plan " * 40)
+GAMES = [SHORT.replace(b"Nf3", b"Qxf7#"), SHORT.replace(b"Nf3", b"Ke3"), *[SHORT] * 4, *[LONG] * 4]
 
 
 def peak(pid):
