@@ -253,7 +253,8 @@ def members(archive: Archive) -> list[zipfile.ZipInfo]:
 
 
 def single(name: str) -> Archive:
-    """The archive of a name that stands for one, of a `.zip` its one member. Raises `NotFound`, and `Unreadable` where it has several."""
+    """The one archive that a name stands for; of a `.zip`, its only member. Raises `NotFound`, and `Unreadable` where a `.zip` has none or
+    several, or can't be unpacked."""
     archive = Archive(name, name)
     if name == STANDARD_INPUT or _ending(name) != ".zip":
         return archive

@@ -25,7 +25,7 @@ WAITING = 4096  # connections that may wait while the desk has much to do; the s
 
 
 def parser() -> argparse.ArgumentParser:
-    """The words of the command."""
+    """The parser of the command's words."""
     made = Parser("cqlpgn-desk", "Opens a page in the browser on which queries are written and run over the archives of a folder.", EPILOG)
     made.add_argument("folder", nargs="?", default=".", metavar="FOLDER", help="where the archives are (here)")
     made.add_argument("--port", type=int, default=0, metavar="N", help="a port of this machine (a free one)")

@@ -21,7 +21,7 @@ the reader, if it is not the pgnjson on the path."""
 
 
 def parser() -> argparse.ArgumentParser:
-    """The words of the command."""
+    """The parser of the command's words."""
     made = Parser("cqlpgn-diagrams", "Makes a page for the browser, or a text for LaTeX, of the games that cqlpgn has written.", EPILOG)
     made.add_argument("files", metavar="MATCHES", nargs="*", help="games, packed or not; without one, or with `-`, standard input")
     made.add_argument("--tex", action="store_true", help="a text for LaTeX; lualatex has letters that pdflatex lacks")

@@ -66,7 +66,7 @@ class Job:
 
     @property
     def words(self) -> list[str]:
-        """The words of the program."""
+        """The words that the program is called with."""
         return [self.mode, Process.QUERY, STANDARD_INPUT, *self.options]
 
     @property
@@ -82,7 +82,7 @@ class Job:
 
 
 def parser() -> argparse.ArgumentParser:
-    """The words of the command."""
+    """The parser of the command's words."""
     made = Parser(
         "cqlpgn-over", "Asks one query, or a file of them, of several archives, packed or not, and says in words what went wrong.", EPILOG
     )
@@ -375,7 +375,7 @@ def tell_table(done: Sequence[Answer], totals: Sequence[Counts]) -> None:
 
 
 def status_of(done: Sequence[Answer], flags: argparse.Namespace) -> int:
-    """The greatest status of all; with -q whether anything was found."""
+    """The greatest status of all. With -q: 0 if anything was found, otherwise that status, at least 1."""
     worst = max((answer.status for answer in done), default=0)
     if not flags.quiet:
         return worst
@@ -433,7 +433,7 @@ def ask(flags: argparse.Namespace) -> int:
 
 
 def main(words: Sequence[str]) -> int:
-    """Asks the archives, or checks files with queries; the status is the greatest one of all. Raises `Error`."""
+    """Asks the archives, or checks files of queries, and gives the exit status. Raises `Error`."""
     made = parser()
     flags = made.parse_intermixed_args(words)
     refuse_together(made, flags)

@@ -23,7 +23,7 @@ NAME = "cqlpgn-problems"
 
 
 def parser() -> argparse.ArgumentParser:
-    """The words of the command."""
+    """The parser of the command's words."""
     made = Parser(
         NAME,
         "Makes games in PGN with variations of chess problems whose solutions are text: records of YACPDB (YAML, as in *.olv) and what the "

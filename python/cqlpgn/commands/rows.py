@@ -11,7 +11,7 @@ from itertools import chain, islice
 
 from .. import games, rows
 from ..archives import single
-from ..errors import Stopped
+from ..errors import NotFound
 from ..files import STANDARD_INPUT, Replacing, refuse_inputs, shown, standard_output
 from ..games import MARK, Reader
 from .ends import run, tell
@@ -24,7 +24,7 @@ a write failed. CQLPGN's reader pgnjson is named by PGNJSON, if it is not the on
 
 
 def parser() -> argparse.ArgumentParser:
-    """The words of the command."""
+    """The parser of the command's words."""
     told = ", ".join(f"{name} ({said})" for name, said in rows.COLUMNS.items())
     made = Parser("cqlpgn-rows", "Writes a row for each marked position of the games that cqlpgn has written.", EPILOG.format(columns=told))
     made.add_argument("file", metavar="FILE", nargs="?", default=STANDARD_INPUT, help="the games, packed or not; `-` is standard input")
@@ -48,7 +48,7 @@ def index_of(flags: argparse.Namespace, stack: ExitStack) -> rows.Index | None:
     try:
         return rows.Index(stack.enter_context(open(name, encoding="utf-8", errors="surrogateescape", newline="")), name)
     except OSError as fault:
-        raise Stopped(f"{shown(name)}: {fault.strerror}", 4) from fault
+        raise NotFound(f"{shown(name)}: {fault.strerror}") from fault
 
 
 def all_rows(reader: Reader, flags: argparse.Namespace, unseen: set[str]) -> Iterator[rows.Position]:

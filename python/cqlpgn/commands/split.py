@@ -18,7 +18,7 @@ AT_ONCE = 1 << 16
 
 
 def parser() -> argparse.ArgumentParser:
-    """The words of the command."""
+    """The parser of the command's words."""
     made = Parser(
         "cqlpgn-split",
         "Puts what `cqlpgn many` has written, and standard input brings, into a file for each query: the games of the first one go to "
@@ -61,7 +61,7 @@ def split(source: IO[bytes], files: Sequence[BinaryIO] | Callable[[int], BinaryI
 
 
 def main(words: Sequence[str]) -> int:
-    """Writes the files of standard input; the status is 0. Raises `Error`."""
+    """Splits standard input into files; the status is 0. Raises `Error`."""
     prefix: str = parser().parse_args(words).prefix
     if sys.stdin is None:
         raise NotFound("cqlpgn-split: standard input is closed")

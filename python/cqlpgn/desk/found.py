@@ -59,8 +59,8 @@ def tags_of(game: bytes) -> dict[str, str]:
 
 
 def has_text(game: bytes, wanted: str) -> bool:
-    """Whether players, event or date have a text, which is in small letters. Tags are nearly always plain; then their bytes tell where it
-    is not worth while to read them."""
+    """Whether the players, the event or the date contain a text, which is in lower case. Tags are nearly always plain ASCII; then their
+    bytes show where there is no need to read them."""
     tags = game[: game.find(b"\n\n")]
     if tags.isascii() and b"\\" not in tags and wanted.encode("utf-8", "surrogatepass") not in tags.lower():
         return False
@@ -111,7 +111,7 @@ class Found:
 
     @contextlib.contextmanager
     def held(self) -> Iterator[None]:
-        """Within, its games stay there to be read, even if the run is dropped meanwhile."""
+        """Within the `with`, the games can be read even if the run is dropped meanwhile."""
         self._readers += 1
         try:
             yield

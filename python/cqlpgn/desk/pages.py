@@ -88,7 +88,7 @@ class Words:
         return self.text(name).encode("utf-8", "surrogatepass")
 
     def number(self, name: str) -> int:
-        """A whole number, from -2^62 to 2^62."""
+        """A whole number, brought into the range from -2^62 to 2^62."""
         value: int = self._get(name, int)
         return max(-(1 << 62), min(value, 1 << 62))
 

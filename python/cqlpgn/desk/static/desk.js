@@ -216,7 +216,7 @@ async function sift() {
   try {
     const left = await filter(wanted);
     const told = n => n.toLocaleString("en");
-    if (left !== null) $("left").textContent = wanted ? `${told(left)} of ${told(all)} games; files that are saved have all games` : "";
+    if (left !== null) $("left").textContent = wanted ? `${told(left)} of ${told(all)} games; a filter changes nothing in what is saved` : "";
   } catch (refusal) { say(refusal.message, "bad"); }
 }
 $("which").onchange = () => {
