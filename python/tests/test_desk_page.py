@@ -360,8 +360,13 @@ def test_boards_that_cannot_be_read(browser: Browser, tmp_path: Path) -> None:
         browser.open(desk.address)
         reader.unlink()
         browser.ask("cql() mate", "games.pgn")
-        browser.until("return document.getElementById('fault').textContent.includes('there is no program')")
+        says = "return document.getElementById('fault').textContent.includes('there is no program')"
+        browser.until(says)
         browser.until("return document.querySelectorAll('.row').length === 1")
+        # that the query has no fault does not hide it
+        browser.run(EDITOR + "c.performLint()")
+        time.sleep(0.7)
+        assert browser.run(says)
     finally:
         desk.close()
 

@@ -1,6 +1,6 @@
 // The page of the desk: what is typed is checked, what is asked is run, and what is found is shown near the view alone.
 import { $, ask, bytes, connect, count, element, lost } from "./line.js";
-import { check, edit, hasEditor, say, text } from "./editor.js";
+import { check, complain, edit, hasEditor, say, settle, text } from "./editor.js";
 import { begin as show, fill, filter, grow, point } from "./results.js";
 import { asked, keeping, own, shelve } from "./library.js";
 import { set } from "./setting.js";
@@ -93,15 +93,16 @@ const over = run => ["done", "stopped", "failed"].includes(run.state);
 
 async function start() {
   if (run && !over(run)) return;
+  settle();
   try {
     const answer = await ask("run", { query: text(), archives: chosen(), first: $("first").checked });
     if (answer.fault) return check();
     asked(answer.history);
     begin(answer.run);
-  } catch (refusal) { say(refusal.message, "bad"); }
+  } catch (refusal) { complain(refusal.message); }
 }
 
-const stop = () => ask("stop", { run: run.run }).catch(refusal => say(refusal.message, "bad"));
+const stop = () => ask("stop", { run: run.run }).catch(refusal => complain(refusal.message));
 
 // A run has begun, or the page has come back to it.
 function begin(state) {
@@ -217,7 +218,7 @@ async function sift() {
     const left = await filter(wanted);
     const told = n => n.toLocaleString("en");
     if (left !== null) $("left").textContent = wanted ? `${told(left)} of ${told(all)} games; a filter changes nothing in what is saved` : "";
-  } catch (refusal) { say(refusal.message, "bad"); }
+  } catch (refusal) { complain(refusal.message); }
 }
 $("which").onchange = () => {
   which = Number($("which").value);

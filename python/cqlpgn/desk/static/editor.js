@@ -84,6 +84,8 @@ function placeOf(query, byte) {
   return editor.posFromIndex(new TextDecoder().decode(new TextEncoder().encode(query).slice(0, byte)).length);
 }
 
+let troubled = null; // the query that stood when something else went wrong
+
 // Has the query checked; the fault is underlined from its byte to the end of its word, or a sign stands where the query ends too soon.
 async function judge(query, update) {
   let found;
@@ -93,6 +95,7 @@ async function judge(query, update) {
   if (end) end.clear();
   end = null;
   const fault = found.fault;
+  if (!fault && query === troubled) return update(found.warnings.map(w => spot(query, w, "warning")));
   if (/^\s*(cql\s*\(\s*\)\s*)?$/.test(query)) {
     say("Write what must stand on the board, or take a query from the cookbook");
     return update([]);
@@ -124,4 +127,16 @@ function sentence(reason) {
 export function say(words, kind = "") {
   $("fault").textContent = words;
   $("fault").className = kind;
+}
+
+// Says what went wrong with something else than the query. That the same query has no fault does not hide it.
+export function complain(words) {
+  troubled = text();
+  say(words, "bad");
+}
+
+// What went wrong is over: something is tried anew.
+export function settle() {
+  if (troubled === text()) say("Ready to run", "good");
+  troubled = null;
 }

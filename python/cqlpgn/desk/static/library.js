@@ -1,6 +1,6 @@
 // The queries at the side: the cookbook by theme, those that were saved, and what was asked before.
 import { $, ask, element } from "./line.js";
-import { take, say } from "./editor.js";
+import { complain, take } from "./editor.js";
 
 const STARTERS = [
   ["Smothered mate", "smothered mate", "6rk/5Npp/8/8/8/8/6PP/7K", "m1"],
@@ -55,7 +55,7 @@ function fill(id, buttons) {
 
 export function own(names) {
   fill("own", names.map(name => recipe(name.replace(/\.cql$/i, ""), name, async () => {
-    try { take(await ask("open", { name })); } catch (refusal) { say(refusal.message, "bad"); }
+    try { take(await ask("open", { name })); } catch (refusal) { complain(refusal.message); }
   })));
 }
 

@@ -1,6 +1,6 @@
 // What is found: the articles near the view, and the list of all games, of which the rows in view alone stand.
 import { $, ask, element } from "./line.js";
-import { say } from "./editor.js";
+import { complain } from "./editor.js";
 
 const ROW = 52, BLOCK = 100, MOST_ARTICLES = 60, AT_ONCE = 10;
 const TALLEST = 8_000_000;  // pixels that every browser bears; a longer list is scaled
@@ -71,7 +71,7 @@ export async function more(by) {
   busy = true;
   const mine = turn, from = by > 0 ? last : Math.max(0, first - AT_ONCE), shelf = $("articles");
   const games = await ask("games", { ...asking, first: from, count: by > 0 ? AT_ONCE : first - from }).catch(refusal => {
-    if (mine === turn) say(refusal.message, "bad");
+    if (mine === turn) complain(refusal.message);
     return [];
   });
   busy = false;
