@@ -15,6 +15,7 @@ mod chains;
 mod cover_moves;
 mod cover_some;
 mod covers;
+mod goals;
 mod lines;
 mod played;
 mod squares;
