@@ -22,9 +22,9 @@ use cql_plan::Plan;
 use std::alloc::Global;
 use std::thread::Threads;
 
-/// Answers the games of one batch after the other to the query of `plan`, and writes of them what is to be written before all are
-/// answered. The answers of a batch come by `answer`, and so from a function that says what its workers may share: a method of a trait
-/// can't send to a thread what rests on the bounds of its block.
+/// Answers the query of `plan` over the games of one batch after the other, and writes of them what is to be written before all are
+/// answered. The answers of a batch come by `answer`, and so from a function that says what its workers may share, since a method of a
+/// trait can't use the bounds of its block for what it sends to a thread.
 #[derive(Drop)]
 struct AllGames<'a, F> {
     alloc: Global,

@@ -25,7 +25,8 @@ use cql_syntax::TypedQuery;
 use std::alloc::Global;
 use std::thread::Threads;
 
-/// Answers several queries over the games of one batch after the other, writes the lines of the faulty ones and keeps those that match.
+/// Answers the queries of `plan` over the games of one batch after the other, writes the lines of the faulty ones and keeps those that
+/// match.
 #[derive(Drop)]
 struct AllQueries<'a, F> {
     alloc: Global,

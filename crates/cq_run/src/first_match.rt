@@ -22,7 +22,7 @@ use cql_plan::Plan;
 use std::alloc::Global;
 use std::thread::Threads;
 
-/// Answers the games of one batch after the other to the query of `plan`, up to the first that matches, and then writes the last line of
+/// Answers the query of `plan` over the games of one batch after the other, up to the first that matches, and then writes the last line of
 /// the report.
 #[derive(Drop)]
 struct UpToFirst<'a, F> {

@@ -103,7 +103,7 @@ fn made_totals<R: Threads + Sync, G: Gate + Sync>(
     count_archive(rt, alloc, &plan, archive, workers, gate)
 }
 
-// Answers the games of one batch after the other, and counts what is found.
+// Answers the query of `plan` over the games of one batch after the other, and counts what is found.
 #[derive(Drop)]
 struct Counter<'a, F> {
     plan: &'a Plan,
