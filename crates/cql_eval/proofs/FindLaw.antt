@@ -20,7 +20,7 @@ any_filtered p q (x ∷ xs) = by (q x) (filter q xs) (list_any (λ y. q y && p y
     by false rest r e = e
 
 -- all searched nodes below n
-any_below : (tree : SearchedTree) (h : ℕ → Bool) (n : ℕ)
+pub any_below : (tree : SearchedTree) (h : ℕ → Bool) (n : ℕ)
     → list_any h (below_in tree n) ≡ list_any (λ m. is_searched tree.variations tree.game.nodes m && (is_below tree.game.nodes n m && h m)) (range_with_len 0 (length tree.game.nodes))
 unfolding searched
 any_below tree h n = any_filtered h (is_below tree.game.nodes n) (searched tree.variations tree.game.nodes)
