@@ -14,6 +14,7 @@ ghost use Rattle.cql_eval.specs.FlatTrees.{IsFlat, AreFlat, AreFlatTerms, IsFlat
 mod chains;
 mod cover_moves;
 mod cover_some;
+mod cover_squares;
 mod covers;
 mod lines;
 mod played;

@@ -14,7 +14,8 @@ use cql_syntax::{Chain, Filter, Filters, Form, Pair, Played};
 use cql_values::names::Names;
 use std::alloc::Global;
 
-/// Whether no name of these, and no line, stands in a filter where it would change what the filter gives or takes.
+/// True only where no line, and none of these names, stands in a filter so that it could change its value or its steps. Forms that aren't
+/// looked into give false.
 #[cycle(is_free)]
 #[tactic(auto, unfolding(cql_syntax::specs::Meaning::value, cql_syntax::specs::Contexts::designator_image, crate::specs::Costs::filter_cost))]
 pub(crate) fn is_free(opened: &Names, f: &Filter) -> bool

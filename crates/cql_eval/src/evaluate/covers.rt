@@ -1,6 +1,5 @@
 //! Squares that are worth trying: of the squares of sets those with which what is asked may hold.
-ghost use Rattle.std.specs.Prelude.{◌≡◌, ◌⊎◌, ℕ, [], ◌∷◌, length, true, false, OnOk};
-ghost use Rattle.std.specs.Str.{bytes_eq};
+ghost use Rattle.std.specs.Prelude.{◌≡◌, ◌⊎◌, ℕ, [], length, true, OnOk};
 ghost use Rattle.cq_position.specs.Games.{IsTree, node_at};
 ghost use Rattle.cql_syntax.specs.Meaning as meaning;
 ghost use Rattle.cql_syntax.specs.TreeOf.{filter_tree, filters_tree};
@@ -13,16 +12,15 @@ ghost use Rattle.cql_eval.specs.FlatTrees.{IsFlat, AreFlat};
 
 use super::cover_moves::cover_played;
 use super::cover_some::cover_some;
+use super::cover_squares::cover_square;
 use super::evaluate;
 use crate::covers::{
     any_left, any_squares, cut, cut_related, cut_where_fails, everywhere, with_squares,
 };
 use crate::elsewhere::{brought_back, looked_at, looks_elsewhere};
 use crate::filter_column::FilterColumn;
-use crate::free::{is_all, is_attack, is_free, is_intersection, is_or, is_other, is_own, turned};
+use crate::free::{is_all, is_attack, is_free, is_intersection, is_or, is_own, turned};
 use crate::order::{SORTS, is_of_class};
-use crate::pairs::{asks_pair, cut_paired};
-use cq_geometry::Square;
 use cq_outside::{NoMemory, Steps};
 use cql_syntax::{Chain, Filter, Filters, Form, Pair, Unary};
 use cql_values::names::Names;
@@ -72,14 +70,9 @@ pub(super) fn cover<L: Ledger>(
         Form::Chain(chain, parts) => cover_chain(
             alloc, opened, name, *chain, parts, game, variations, names, live, sets, steps,
         ),
-        Form::Square(every, inner, squares, part) => {
-            let inner = inner.as_slice();
-            cover_square(
-                alloc, opened, name, *every, inner, squares, part, game, variations, names, live,
-                sets, steps,
-            )?;
-            Ok(())
-        }
+        Form::Square(..) => cover_square(
+            alloc, opened, name, asked, game, variations, names, live, sets, steps,
+        ),
         Form::Unary(word, part) => {
             cover_elsewhere(
                 alloc, opened, name, *word, part, game, variations, names, live, sets, steps,
@@ -92,19 +85,9 @@ pub(super) fn cover<L: Ledger>(
             )?;
             Ok(())
         }
-        Form::Pair(pair, first, second) => {
-            if !is_attack(*pair) {
-                return Ok(());
-            }
-            if !is_own(name, second) {
-                return Ok(());
-            }
-            let other = turned(*pair);
-            cover_related(
-                alloc, opened, name, other, first, game, variations, names, live, sets, steps,
-            )?;
-            Ok(())
-        }
+        Form::Pair(..) => cover_turned(
+            alloc, opened, name, asked, game, variations, names, live, sets, steps,
+        ),
         _ => Ok(()),
     }
 }
@@ -137,6 +120,48 @@ fn cover_free<L: Ledger>(
     let column = evaluate(alloc, asked, game, variations, names, &some, steps)?;
     cut_where_fails(sets, &some, &column);
     Ok(())
+}
+
+// Of a set whose men attack the square, or are attacked from it.
+#[cycle(evaluate)]
+#[tactic(auto, unfolding(cql_syntax::specs::Meaning::value, crate::specs::FlatTrees::unflat))]
+fn cover_turned<L: Ledger>(
+    alloc: Global,
+    opened: &Names,
+    name: &[u8],
+    asked: &Filter,
+    game: &Game,
+    variations: bool,
+    names: &Names,
+    live: &[bool],
+    sets: &mut [u64],
+    steps: &mut Steps<L>,
+) -> Result<(), NoMemory>
+    requires tree { IsTree game.now.nodes }
+    requires asked { AreAsked (searched_tree game.now variations) live.now }
+    requires count { length sets.old ≡ length live.now }
+    requires flat { IsFlat (filter_tree asked.now) }
+    ensures cut { OnOk result (AreCut live.now (MayHold opened.now names.now name.now
+        (λ e. meaning.value (searched_tree game.now variations) [] e (filter_tree asked.now))) sets.old sets.new) }
+    ensures len { length sets.new ≡ length sets.old }
+    ensures cost { steps.new ≡ steps.old }
+{
+    match &asked.form {
+        Form::Pair(pair, first, second) => {
+            if !is_attack(*pair) {
+                return Ok(());
+            }
+            if !is_own(name, second) {
+                return Ok(());
+            }
+            let other = turned(*pair);
+            cover_related(
+                alloc, opened, name, other, first, game, variations, names, live, sets, steps,
+            )?;
+            Ok(())
+        }
+        _ => Ok(()),
+    }
 }
 
 // Of the filters of a chain: of those that must all hold, or one of which must.
@@ -271,89 +296,6 @@ fn cover_if<L: Ledger>(
     cover(
         alloc, opened, name, part, game, variations, names, live, sets, steps,
     )
-}
-
-// Of what is asked of some square of a set under another name.
-#[cycle(evaluate)]
-fn cover_square<L: Ledger>(
-    alloc: Global,
-    opened: &Names,
-    name: &[u8],
-    every: bool,
-    inner: &[u8],
-    squares: &Filter,
-    part: &Filter,
-    game: &Game,
-    variations: bool,
-    names: &Names,
-    live: &[bool],
-    sets: &mut [u64],
-    steps: &mut Steps<L>,
-) -> Result<(), NoMemory>
-    requires tree { IsTree game.now.nodes }
-    requires asked { AreAsked (searched_tree game.now variations) live.now }
-    requires count { length sets.old ≡ length live.now }
-    requires set { IsFlat (filter_tree squares.now) }
-    requires flat { IsFlat (filter_tree part.now) }
-    ensures cut { OnOk result (AreCut live.now (MayHold opened.now names.now name.now
-        (λ e n. spec.square_of every (meaning.value (searched_tree game.now variations) [] e (filter_tree squares.now) n)
-        (λ s. spec.holds (meaning.value (searched_tree game.now variations) [] ((inner.now, s) ∷ e) (filter_tree part.now) n)))) sets.old sets.new) }
-    ensures len { length sets.new ≡ length sets.old }
-    ensures cost { steps.new ≡ steps.old }
-{
-    if !is_other(every, inner, name) {
-        return Ok(());
-    }
-    let wider = opened.with(alloc, inner, Square::new(0))?;
-    cover(
-        alloc, &wider, name, part, game, variations, names, live, sets, steps,
-    )?;
-    cover_pair(
-        alloc, opened, name, every, inner, squares, part, game, variations, names, live, sets,
-        steps,
-    )?;
-    Ok(())
-}
-
-// Of what is asked of that square and the other together: the other is of the set, whichever it is.
-#[cycle(evaluate)]
-fn cover_pair<L: Ledger>(
-    alloc: Global,
-    opened: &Names,
-    name: &[u8],
-    every: bool,
-    inner: &[u8],
-    squares: &Filter,
-    part: &Filter,
-    game: &Game,
-    variations: bool,
-    names: &Names,
-    live: &[bool],
-    sets: &mut [u64],
-    steps: &mut Steps<L>,
-) -> Result<(), NoMemory>
-    requires tree { IsTree game.now.nodes }
-    requires asked { AreAsked (searched_tree game.now variations) live.now }
-    requires count { length sets.old ≡ length live.now }
-    requires flat { IsFlat (filter_tree squares.now) }
-    requires other { (every ≡ false) × (bytes_eq inner.now name.now ≡ false) }
-    ensures cut { OnOk result (AreCut live.now (MayHold opened.now names.now name.now
-        (λ e n. spec.square_of every (meaning.value (searched_tree game.now variations) [] e (filter_tree squares.now) n)
-        (λ s. spec.holds (meaning.value (searched_tree game.now variations) [] ((inner.now, s) ∷ e) (filter_tree part.now) n)))) sets.old sets.new) }
-    ensures len { length sets.new ≡ length sets.old }
-    ensures cost { steps.new ≡ steps.old }
-{
-    if !asks_pair(name, inner, part) {
-        return Ok(());
-    }
-    if !is_free(opened, squares) {
-        return Ok(());
-    }
-    let some = with_squares(alloc, game, variations, live, sets)?;
-    let some = some.as_slice();
-    let column = evaluate(alloc, squares, game, variations, names, some, steps)?;
-    cut_paired(sets, some, game, variations, name, inner, part, &column);
-    Ok(())
 }
 
 // Of what a word asks at other nodes: what may hold at one of these.

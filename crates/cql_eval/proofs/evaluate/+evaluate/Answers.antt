@@ -388,9 +388,6 @@ chains::terms_of-returns-in_err-push-clause-cost = chains.chains::terms_of-retur
 pub covers::cover-returns-then-is_own-clause-cut : goal.covers::cover-returns-then-is_own-clause-cut
 covers::cover-returns-then-is_own-clause-cut = covers.covers::cover-returns-then-is_own-clause-cut
 
-pub covers::cover-returns-in_ok-cover_square-in-Square-clause-cut : goal.covers::cover-returns-in_ok-cover_square-in-Square-clause-cut
-covers::cover-returns-in_ok-cover_square-in-Square-clause-cut = covers.covers::cover-returns-in_ok-cover_square-in-Square-clause-cut
-
 pub covers::cover-returns-in_ok-cover_played-in-Played-clause-cut : goal.covers::cover-returns-in_ok-cover_played-in-Played-clause-cut
 covers::cover-returns-in_ok-cover_played-in-Played-clause-cut = covers.covers::cover-returns-in_ok-cover_played-in-Played-clause-cut
 
@@ -430,14 +427,17 @@ covers::cover_each-loop-part-preserved = covers.covers::cover_each-loop-part-pre
 pub covers::cover_set-returns-in_ok-cover_related-in-Pair-clause-cut : goal.covers::cover_set-returns-in_ok-cover_related-in-Pair-clause-cut
 covers::cover_set-returns-in_ok-cover_related-in-Pair-clause-cut = covers.covers::cover_set-returns-in_ok-cover_related-in-Pair-clause-cut
 
-pub covers::cover-returns-in_ok-cover_related-in-Pair-clause-cut : goal.covers::cover-returns-in_ok-cover_related-in-Pair-clause-cut
-covers::cover-returns-in_ok-cover_related-in-Pair-clause-cut = covers.covers::cover-returns-in_ok-cover_related-in-Pair-clause-cut
+pub covers::cover_turned-returns-in_ok-cover_related-in-Pair-clause-cut : goal.covers::cover_turned-returns-in_ok-cover_related-in-Pair-clause-cut
+covers::cover_turned-returns-in_ok-cover_related-in-Pair-clause-cut = covers.covers::cover_turned-returns-in_ok-cover_related-in-Pair-clause-cut
 
-pub covers::cover_square-returns-clause-cut : goal.covers::cover_square-returns-clause-cut
-covers::cover_square-returns-clause-cut = covers.covers::cover_square-returns-clause-cut
+pub cover_squares::cover_square-returns-in_ok-cover_pair-in-Square-clause-cut : goal.cover_squares::cover_square-returns-in_ok-cover_pair-in-Square-clause-cut
+cover_squares::cover_square-returns-in_ok-cover_pair-in-Square-clause-cut = covers.cover_squares::cover_square-returns-in_ok-cover_pair-in-Square-clause-cut
 
-pub covers::cover_pair-returns-clause-cut : goal.covers::cover_pair-returns-clause-cut
-covers::cover_pair-returns-clause-cut = covers.covers::cover_pair-returns-clause-cut
+pub cover_squares::cover_inner-returns-clause-cut : goal.cover_squares::cover_inner-returns-clause-cut
+cover_squares::cover_inner-returns-clause-cut = covers.cover_squares::cover_inner-returns-clause-cut
+
+pub cover_squares::cover_pair-returns-clause-cut : goal.cover_squares::cover_pair-returns-clause-cut
+cover_squares::cover_pair-returns-clause-cut = covers.cover_squares::cover_pair-returns-clause-cut
 
 pub covers::cover_elsewhere-returns-clause-cut : goal.covers::cover_elsewhere-returns-clause-cut
 covers::cover_elsewhere-returns-clause-cut = covers.covers::cover_elsewhere-returns-clause-cut

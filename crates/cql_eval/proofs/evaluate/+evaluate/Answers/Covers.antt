@@ -3,7 +3,7 @@ use Rattle.std.proofs.Common.{[], ◌∷◌, ◌∙◌, ap, ap₂, sym, subst, a
 use Rattle.cql_syntax.specs.Meaning.{value, values}
 use Rattle.cql_syntax.specs.TreeOf.{filter_tree, form_tree, filters_tree, written_tree}
 use Rattle.cql_syntax.specs.Trees.{filter_at, unary}
-use Rattle.cql_syntax.specs.Values.{some_holds}
+use Rattle.cql_syntax.specs.Values.{holds, some_holds, square_of}
 use Rattle.cql_values.specs.Trees.{searched_tree}
 use Rattle.cql_eval.proofs.FlatLaw.{filter_flat}
 use Rattle.cql_syntax.specs.Trees.{pair}
@@ -22,14 +22,6 @@ pub covers::cover-returns-then-is_own-clause-cut : goal.covers::cover-returns-th
 covers::cover-returns-then-is_own-clause-cut g t c =
     own_cut (searched_tree c.args.game.now c.args.variations) c.args.live.now c.args.opened.now c.args.names.now c.args.name.now (filter_tree c.args.asked.now)
     c.args.sets.now c.cover_set.new.sets (c.is_own.ensures c.if-is_own.true) c.in_ok-cover_set.ensures.cut
-
-pub covers::cover-returns-in_ok-cover_square-in-Square-clause-cut : goal.covers::cover-returns-in_ok-cover_square-in-Square-clause-cut
-covers::cover-returns-in_ok-cover_square-in-Square-clause-cut g t c =
-    square_cut (searched_tree c.args.game.now c.args.variations) c.args.live.now c.args.opened.now c.args.names.now c.args.name.now (filter_tree c.args.asked.now)
-    (filter_tree c.deref.result.now) (filter_tree c.deref-in-Square.result.now) c.args.asked.now.at c.in-Square.every c.as_slice-inner.result.now c.args.sets.now c.cover_square.new.sets
-    (ap (λ form. filter_at c.args.asked.now.at (form_tree form)) c.in-Square.is
-    ∙ sym (square_same c.args.asked.now.at c.in-Square.every _ _ _ _ _ _ c.as_slice-inner.ensures c.deref.ensures c.deref-in-Square.ensures))
-    c.in_ok-cover_square-in-Square.ensures.cut
 
 pub covers::cover-returns-in_ok-cover_played-in-Played-clause-cut : goal.covers::cover-returns-in_ok-cover_played-in-Played-clause-cut
 covers::cover-returns-in_ok-cover_played-in-Played-clause-cut g t c =
@@ -118,27 +110,38 @@ covers::cover_set-returns-in_ok-cover_related-in-Pair-clause-cut g t c =
     ∙ sym (ap₂ (λ p q. filter_at c.args.asked.now.at (pair c.in-Pair.pair (filter_tree p) (filter_tree q))) c.deref.ensures c.deref-in-Pair.ensures))
     (c.is_attack.ensures c.if-not-is_attack.false) c.in_ok-cover_set-in-Pair.ensures.cut c.in_ok-cover_related-in-Pair.ensures.cut
 
-pub covers::cover-returns-in_ok-cover_related-in-Pair-clause-cut : goal.covers::cover-returns-in_ok-cover_related-in-Pair-clause-cut
-covers::cover-returns-in_ok-cover_related-in-Pair-clause-cut g t c =
+pub covers::cover_turned-returns-in_ok-cover_related-in-Pair-clause-cut : goal.covers::cover_turned-returns-in_ok-cover_related-in-Pair-clause-cut
+covers::cover_turned-returns-in_ok-cover_related-in-Pair-clause-cut g t c =
     turned_cut (searched_tree c.args.game.now c.args.variations) c.args.live.now c.args.opened.now c.args.names.now c.args.name.now (filter_tree c.args.asked.now)
-    (filter_tree c.deref-in-Pair-2.result.now) (filter_tree c.deref-in-Pair.result.now) c.args.asked.now.at c.in-Pair.pair c.turned-other.result c.args.sets.now c.cover_related.new.sets
+    (filter_tree c.deref-in-Pair.result.now) (filter_tree c.deref.result.now) c.args.asked.now.at c.in-Pair.pair c.turned-other.result c.args.sets.now c.cover_related.new.sets
     (ap (λ form. filter_at c.args.asked.now.at (form_tree form)) c.in-Pair.is
-    ∙ sym (ap₂ (λ p q. filter_at c.args.asked.now.at (pair c.in-Pair.pair (filter_tree p) (filter_tree q))) c.deref-in-Pair-2.ensures c.deref-in-Pair.ensures))
-    (c.is_attack.ensures c.if-not-is_attack.false) c.turned-other.ensures.attacks c.turned-other.ensures.attacked (c.is_own-in-Pair.ensures c.if-not-is_own.false)
+    ∙ sym (ap₂ (λ p q. filter_at c.args.asked.now.at (pair c.in-Pair.pair (filter_tree p) (filter_tree q))) c.deref-in-Pair.ensures c.deref.ensures))
+    (c.is_attack.ensures c.if-not-is_attack.false) c.turned-other.ensures.attacks c.turned-other.ensures.attacked (c.is_own.ensures c.if-not-is_own.false)
     c.in_ok-cover_related-in-Pair.ensures.cut
 
-pub covers::cover_square-returns-clause-cut : goal.covers::cover_square-returns-clause-cut
-covers::cover_square-returns-clause-cut g t c =
+pub cover_squares::cover_square-returns-in_ok-cover_pair-in-Square-clause-cut : goal.cover_squares::cover_square-returns-in_ok-cover_pair-in-Square-clause-cut
+cover_squares::cover_square-returns-in_ok-cover_pair-in-Square-clause-cut g t c =
     let tree = searched_tree c.args.game.now c.args.variations in
-    let other = c.is_other.ensures c.if-not-is_other.false in
-    cut_then c.args.live.now _ c.args.sets.now c.cover.new.sets c.cover_pair.new.sets
-    (inner_cut tree c.args.live.now c.args.opened.now _ c.args.names.now c.args.name.now c.args.inner.now (filter_tree c.args.part.now)
-    c.args.every c.args.sets.now c.cover.new.sets other.0 other.1 (c.in_ok-wider.ensures ∙ ap (λ k. (c.args.inner.now, k) ∷ c.args.opened.now) c.new.ensures) c.in_ok-cover.ensures.cut
-    (λ e. value tree [] e (filter_tree c.args.squares.now)))
-    c.in_ok-cover_pair.ensures.cut
+    let every = c.in-Square.every in
+    let inner = c.as_slice-inner.result.now in
+    let squares = filter_tree c.deref-in-Square.result.now in
+    let asked = c.args.asked.now in
+    square_cut tree c.args.live.now c.args.opened.now c.args.names.now c.args.name.now (filter_tree asked) squares (filter_tree c.deref.result.now) asked.at every inner
+    c.args.sets.now c.cover_pair.new.sets
+    (ap (λ form. filter_at asked.at (form_tree form)) c.in-Square.is ∙ sym (square_same asked.at every _ _ _ _ _ _ c.as_slice-inner.ensures c.deref-in-Square.ensures c.deref.ensures))
+    (cut_then c.args.live.now _ c.args.sets.now c.cover_inner.new.sets c.cover_pair.new.sets (c.in_ok-cover_inner-in-Square.ensures.cut (λ e. value tree [] e squares))
+    (subst (λ part. AreCut c.args.live.now (MayHold c.args.opened.now c.args.names.now c.args.name.now
+    (λ e n. square_of every (value tree [] e squares n) (λ s. holds (value tree [] ((inner, s) ∷ e) (filter_tree part) n)))) c.cover_inner.new.sets c.cover_pair.new.sets)
+    (c.deref-in-Square-2.ensures ∙ sym c.deref.ensures) c.in_ok-cover_pair-in-Square.ensures.cut))
 
-pub covers::cover_pair-returns-clause-cut : goal.covers::cover_pair-returns-clause-cut
-covers::cover_pair-returns-clause-cut g t c =
+pub cover_squares::cover_inner-returns-clause-cut : goal.cover_squares::cover_inner-returns-clause-cut
+cover_squares::cover_inner-returns-clause-cut g t c =
+    inner_cut (searched_tree c.args.game.now c.args.variations) c.args.live.now c.args.opened.now _ c.args.names.now c.args.name.now c.args.inner.now (filter_tree c.args.part.now)
+    c.args.every c.args.sets.now c.cover.new.sets c.requires.other.0 c.requires.other.1
+    (c.in_ok-wider.ensures ∙ ap (λ k. (c.args.inner.now, k) ∷ c.args.opened.now) c.new.ensures) c.in_ok-cover.ensures.cut
+
+pub cover_squares::cover_pair-returns-clause-cut : goal.cover_squares::cover_pair-returns-clause-cut
+cover_squares::cover_pair-returns-clause-cut g t c =
     let tree = searched_tree c.args.game.now c.args.variations in
     paired_cut tree c.args.live.now c.as_slice-some.result.now c.args.opened.now c.args.names.now c.args.name.now c.args.inner.now (filter_tree c.args.squares.now) (filter_tree c.args.part.now)
     c.args.every c.in_ok-column.column c.args.sets.now c.cut_paired.new.sets c.requires.other
@@ -161,9 +164,9 @@ covers::cover_elsewhere-returns-clause-cut g t c =
 pub covers::cover-returns-in_ok-cover_elsewhere-in-Unary-clause-cut : goal.covers::cover-returns-in_ok-cover_elsewhere-in-Unary-clause-cut
 covers::cover-returns-in_ok-cover_elsewhere-in-Unary-clause-cut g t c =
     unary_cut (searched_tree c.args.game.now c.args.variations) c.args.live.now c.args.opened.now c.args.names.now c.args.name.now (filter_tree c.args.asked.now)
-    (filter_tree c.deref-in-Unary.result.now) c.args.asked.now.at c.in-Unary.word c.args.sets.now c.cover_elsewhere.new.sets
+    (filter_tree c.deref.result.now) c.args.asked.now.at c.in-Unary.word c.args.sets.now c.cover_elsewhere.new.sets
     (ap (λ form. filter_at c.args.asked.now.at (form_tree form)) c.in-Unary.is
-    ∙ sym (ap (λ p. filter_at c.args.asked.now.at (unary c.in-Unary.word (filter_tree p))) c.deref-in-Unary.ensures))
+    ∙ sym (ap (λ p. filter_at c.args.asked.now.at (unary c.in-Unary.word (filter_tree p))) c.deref.ensures))
     c.in_ok-cover_elsewhere-in-Unary.ensures.cut
 
 pub covers::cover_chain-returns-then-is_or-clause-cut : goal.covers::cover_chain-returns-then-is_or-clause-cut
