@@ -1,5 +1,5 @@
 -- Squares of sets that are added where one of several filters may hold.
-use Rattle.std.proofs.Common.{◌≡◌, ◌⊎◌, ⊎_elim, inl, inr, ℕ, zero, suc, ◌+◌, ◌<◌, ◌≤◌, ◌||◌, Bool, true, false, List, [], ◌∷◌, length, get_or, refl, sym, ap, ◌∙◌, subst, arith}
+use Rattle.std.proofs.Common.{◌≡◌, ⊎_elim, ℕ, zero, suc, ◌+◌, ◌<◌, ◌≤◌, ◌||◌, Bool, true, false, List, [], ◌∷◌, length, get_or, refl, sym, ap, ◌∙◌, subst, arith}
 use Rattle.std.specs.Prelude.{slice_set, bit_or}
 use Rattle.std.specs.List.{list_any}
 use Rattle.std.proofs.lemmas.List.{get_or-set_same, get_or-set_other, length-set}
@@ -8,14 +8,13 @@ use Rattle.cq_symmetry.specs.Images.{is_in}
 use Rattle.cql_syntax.specs.Meaning.{Names, value, values}
 use Rattle.cql_syntax.specs.TreeOf.{filter_tree, filter_trees}
 use Rattle.cql_syntax.specs.Trees.{FilterTrees}
-use Rattle.cql_syntax.specs.Values.{Value, holds, some_holds, chain_of}
+use Rattle.cql_syntax.specs.Values.{holds, some_holds, chain_of}
 use Rattle.cql_syntax.specs.declared.leaves.Chain.{Chain}
 use Rattle.cql_syntax.specs.declared.leaves.Chain.TheVariants.{Or}
 use Rattle.cql_syntax.specs.declared.tree.Filter.{Filter}
 use Rattle.cql_eval.specs.Columns.{is_live}
 use Rattle.cql_eval.specs.Covers.{AreAdded, AreCut, AreJoined, MayHold}
 use Rattle.cql_eval.proofs.CoverForms.{form_cut}
-use Rattle.cql_eval.proofs.CoverLaw.{cut_as}
 use Rattle.cql_eval.proofs.Filling.{split_last, live_below, any_default, equal_or}
 use Rattle.cql_eval.proofs.Raising.{or_left, or_right}
 use Rattle.cql_eval.proofs.Wanting.{in_either}

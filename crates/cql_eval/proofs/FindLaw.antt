@@ -1,7 +1,7 @@
 -- Whether a filter holds at a node or below it.
-use Rattle.std.proofs.Common.{◌≡◌, ℕ, ◌+◌, ◌<◌, ◌≤◌, ◌&&◌, ◌||◌, Bool, true, false, List, [], ◌∷◌, length, get_or, cond, refl, sym, ap, ◌∙◌, subst, arith}
+use Rattle.std.proofs.Common.{◌≡◌, ℕ, ◌<◌, ◌&&◌, ◌||◌, Bool, true, false, List, [], ◌∷◌, length, get_or, cond, refl, sym, ap, ◌∙◌, subst, arith}
 use Rattle.std.specs.List.{list_any, filter, range_with_len}
-use Rattle.cq_position.specs.Games.{Node, IsTree, is_below, is_searched, searched, numbers}
+use Rattle.cq_position.specs.Games.{is_below, is_searched, searched, numbers}
 use Rattle.cq_position.specs.Search.{SearchedTree, below_in}
 use Rattle.cql_syntax.specs.Meaning.{some_node}
 use Rattle.cql_syntax.specs.Values.{Value, holds, as_truth}

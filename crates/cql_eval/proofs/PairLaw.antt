@@ -17,8 +17,8 @@ use Rattle.cql_syntax.specs.declared.leaves.Pair.{Pair}
 use Rattle.cql_syntax.specs.declared.leaves.Pair.TheVariants.{Attacks, AttackedBy}
 use Rattle.cql_syntax.specs.declared.tree.Filter.{Filter}
 use Rattle.cql_values.proofs.Ranges.{some_square, square_found}
-use Rattle.cql_eval.specs.Columns.{is_live, shown, IsColumn}
-use Rattle.cql_eval.specs.Covers.{Agree, Binds, AreCut, HasSome, IsFree, IsOwn, IsSoRelated, MayHold, MayPair}
+use Rattle.cql_eval.specs.Columns.{shown, IsColumn}
+use Rattle.cql_eval.specs.Covers.{Binds, AreCut, HasSome, IsFree, IsOwn, IsSoRelated, MayHold, MayPair}
 use Rattle.cql_eval.specs.declared.filter_column.FilterColumn.{FilterColumn}
 use Rattle.cql_eval.proofs.CoverForms.{first_true, second_true, yes_both, turned_has, still_bound}
 use Rattle.cql_eval.proofs.CoverLaw.{cut_as, cut_then, cut_wide}

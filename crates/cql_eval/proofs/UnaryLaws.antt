@@ -1,9 +1,9 @@
 -- Whether a filter holds on the way up from a node, at a child or at the parent.
-use Rattle.std.proofs.Common.{◌≡◌, ℕ, ◌+◌, ◌<◌, ◌≤◌, ◌⊎◌, ◌&&◌, ◌||◌, ◌==◌, Bool, true, false, List, [], ◌∷◌, length, get_or, Option, Some, None, refl, sym, ap, ◌∙◌, subst, arith, inl, inr, ⊎_elim, eqb-true}
+use Rattle.std.proofs.Common.{◌≡◌, ℕ, ◌<◌, ◌&&◌, ◌||◌, ◌==◌, Bool, true, false, List, [], ◌∷◌, length, get_or, Option, Some, None, refl, sym, ap, ◌∙◌, subst, arith, inr, ⊎_elim, eqb-true}
 use Rattle.std.specs.Prelude.{option_to_list, replicate}
-use Rattle.std.specs.List.{list_any, filter, range_with_len}
+use Rattle.std.specs.List.{list_any, range_with_len}
 use Rattle.std.proofs.lemmas.Bool.{eq-eqb}
-use Rattle.cq_position.specs.Games.{Node, node_at, IsTree, is_below, is_child_of, is_searched, children, numbers, way_up}
+use Rattle.cq_position.specs.Games.{node_at, is_child_of, is_searched, children, numbers, way_up}
 use Rattle.cq_position.specs.Search.{SearchedTree, children_in}
 use Rattle.cql_syntax.specs.Meaning.{some_node}
 use Rattle.cql_syntax.specs.Values.{Value, holds, as_truth}

@@ -1,5 +1,5 @@
 -- What is answered of squares that are tried, in the recursion over filters.
-use Rattle.std.proofs.Common.{[], ◌∷◌, ◌∙◌, ap, sym, subst, arith, refl}
+use Rattle.std.proofs.Common.{[], ◌∷◌, ◌∙◌, sym, subst, arith, refl}
 use Rattle.std.specs.Prelude.{IfOk}
 use Rattle.cql_syntax.specs.Meaning.{value}
 use Rattle.cql_syntax.specs.TreeOf.{filter_tree}
