@@ -3,9 +3,7 @@
 //! Filters that are the same but for their places have the same number. What the members of a family differ in are most often their
 //! designators, so others mostly have another number; nothing is told by it.
 
-use cql_syntax::{
-    Body, Constituents, Filter, Filters, Form, Played, Terms,
-};
+use cql_syntax::{Body, Constituents, Filter, Filters, Form, Played, Terms};
 
 /// The key of a filter.
 pub(crate) fn key_of(f: &Filter) -> u64 {

@@ -1,4 +1,4 @@
-use Rattle.std.proofs.Common.{◌≡◌, ◌∙◌, ℕ, sym, ap, refl, arith}
+use Rattle.std.proofs.Common.{◌≡◌, ◌∙◌, rules, sym, ap, refl, arith}
 use Rattle.std.proofs.lemmas.Result.{on_ok_weaker}
 use Rattle.cql_syntax.specs.TreeOf.{filter_tree, form_tree, filters_tree}
 use Rattle.cql_syntax.specs.Trees.{filter_at, unary, any}
@@ -47,23 +47,24 @@ joined_one-returns-in_ok-parts-in-Chain t c =
 pub joined_one-returns-in_ok-members-in-Any-Position-default : goal.joined_one-returns-in_ok-members-in-Any-Position-default
 joined_one-returns-in_ok-members-in-Any-Position-default t c =
     let parts = filters_tree c.in-Any-Position-default.parts in
+    let kind : c.in-Any-Position-default.field-0 ≡ Position = search rules in
     any_stands (filter_tree c.args.f.now) _ c.args.f.now.at Position parts (filters_tree c.in_ok-members-in-Any-Position-default.members)
-    (ap (filter_at c.args.f.now.at) (ap form_tree c.in-Any-Position-default.is ∙ ap (λ k. any k parts) c.in-Any-Position-default.field-0-is)) refl no_number
+    (ap (filter_at c.args.f.now.at) (ap form_tree c.in-Any-Position-default.is ∙ ap (λ k. any k parts) kind)) refl no_number
     c.in_ok-members-in-Any-Position-default.ensures
 
 pub joined_one-returns-in_ok-members-in-Any-Set-default : goal.joined_one-returns-in_ok-members-in-Any-Set-default
 joined_one-returns-in_ok-members-in-Any-Set-default t c =
     let parts = filters_tree c.in-Any-Set-default.parts in
+    let is : form_tree c.args.f.now.form ≡ any Set (filters_tree c.in-Any-Set-default.parts) = search rules in
     any_stands (filter_tree c.args.f.now) _ c.args.f.now.at Set parts (filters_tree c.in_ok-members-in-Any-Set-default.members)
-    (ap (filter_at c.args.f.now.at) (ap form_tree c.in-Any-Set-default.is ∙ ap (λ k. any k parts) c.in-Any-Set-default.field-0-is)) refl set_no_number
+    (ap (filter_at c.args.f.now.at) is) refl set_no_number
     c.in_ok-members-in-Any-Set-default.ensures
 
 pub gather_one-returns-in-Position-Any-Position-default : goal.gather_one-returns-in-Position-Any-Position-default
 gather_one-returns-in-Position-Any-Position-default t c =
     let parts = filters_tree c.in-Position-Any-Position-default.parts in
-    let shown : ℕ = c.in-Position-Any-Position-default.enum_told_along-1-is in
-    let same : c.in-Position-Any-Position-default.field-0-1 ≡ c.args.kind = cc (c.in-Position-Any-Position-default.is-0, c.in-Position-Any-Position-default.enum_told_along-1-is) in
-    let is = ap (filter_at c.args.part.now.at) (ap form_tree c.in-Position-Any-Position-default.is-1 ∙ ap (λ k. any k parts) same) in
+    let same : c.in-Position-Any-Position-default.field-0-1 ≡ Position = search rules in
+    let is = ap (filter_at c.args.part.now.at) (ap form_tree c.in-Position-Any-Position-default.is-1 ∙ ap (λ k. any k parts) (same ∙ sym c.in-Position-Any-Position-default.is-0)) in
     on_ok_weaker c.gather.result
     (inside_gathered c.args.kind c.args.part.now.at (filter_tree c.args.part.now) (filters_tree c.args.to.now.filters) _ parts is
     (λ e. no_number (sym c.in-Position-Any-Position-default.is-0 ∙ e))) c.gather.ensures
@@ -71,8 +72,8 @@ gather_one-returns-in-Position-Any-Position-default t c =
 pub gather_one-returns-in-Set-Any-Set-default : goal.gather_one-returns-in-Set-Any-Set-default
 gather_one-returns-in-Set-Any-Set-default t c =
     let parts = filters_tree c.in-Set-Any-Set-default.parts in
-    let same : c.in-Set-Any-Set-default.field-0-1 ≡ c.args.kind = cc (c.in-Set-Any-Set-default.is-0, c.in-Set-Any-Set-default.enum_told_along-1-is) in
-    let is = ap (filter_at c.args.part.now.at) (ap form_tree c.in-Set-Any-Set-default.is-1 ∙ ap (λ k. any k parts) same) in
+    let form : form_tree c.args.part.now.form ≡ any Set (filters_tree c.in-Set-Any-Set-default.parts) = search rules in
+    let is = ap (filter_at c.args.part.now.at) (form ∙ ap (λ k. any k parts) (sym c.in-Set-Any-Set-default.is-0)) in
     on_ok_weaker c.gather-in-Set-Any-Set-default.result
     (inside_gathered c.args.kind c.args.part.now.at (filter_tree c.args.part.now) (filters_tree c.args.to.now.filters) _ parts is
     (λ e. set_no_number (sym c.in-Set-Any-Set-default.is-0 ∙ e))) c.gather-in-Set-Any-Set-default.ensures

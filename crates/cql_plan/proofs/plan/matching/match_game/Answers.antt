@@ -36,6 +36,6 @@ returns-clause-most g c =
       arith,
       c.find.ensures.most,
       asked_costs (query_tree plan.query.query) c.args.game.now plan.flat.variations plan.joined.variations (filters_tree plan.flat.items)
-      (filters_tree plan.joined.items) plan.hits plan.searched plan.items plan.variations,
+          (filters_tree plan.joined.items) plan.hits plan.searched plan.items plan.variations,
       ap (λ v. length (nodes_in (searched_tree c.args.game.now v))) (plan.searched ∙ plan.variations),
     )
