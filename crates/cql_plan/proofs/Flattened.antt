@@ -1,5 +1,5 @@
 -- A query by its flat items.
-use Rattle.std.proofs.Common.{◌≡◌, ℕ, ◌≤◌, Bool, true, false, [], sym, ap, ap₂, ◌∙◌, arith}
+use Rattle.std.proofs.Common.{◌≡◌, ◌≤◌, Bool, true, false, [], sym, ap, ap₂, ◌∙◌, arith}
 use Rattle.cq_position.specs.Games.{Game}
 use Rattle.cql_eval.specs.Costs.{filters_cost, searched_len}
 use Rattle.cql_values.specs.Trees.{searched_tree}

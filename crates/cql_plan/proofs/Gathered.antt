@@ -1,22 +1,19 @@
 -- The members of a family, added one by one.
-use Rattle.std.proofs.Common.{◌≡◌, ℕ, zero, suc, ◌+◌, ◌<◌, ◌≤◌, Bool, true, false, ◌&&◌, ◌||◌, List, [], ◌∷◌, length, get_or, take, refl, sym, ap, ap₂, ◌∙◌, arith, subst}
-use Rattle.std.specs.Prelude.{not, nat_lt}
+use Rattle.std.proofs.Common.{◌≡◌, ℕ, zero, suc, ◌+◌, ◌<◌, ◌≤◌, Bool, true, false, ◌&&◌, ◌||◌, List, [], ◌∷◌, length, get_or, take, refl, sym, ap, ◌∙◌, arith, subst}
+use Rattle.std.specs.Prelude.{nat_lt}
 use Rattle.std.specs.List.{list_all, list_any}
-use Rattle.std.proofs.Math.Path.{fun_ext}
 use Rattle.std.proofs.lemmas.Bool.{lt-ltb}
 use Rattle.std.proofs.lemmas.List.{take_all}
 use Rattle.cq_outside.proofs.SpellingLaw.{left, right, both_true as both}
 use Rattle.cq_position.specs.Search.{SearchedTree}
-use Rattle.cql_syntax.specs.FlatItems.{has_its_kind, breaks_none}
 use Rattle.cql_syntax.specs.Kinds.{filter_kind}
 use Rattle.cql_syntax.specs.Leaves.{same_kind}
 use Rattle.cql_syntax.specs.Meaning.{Names, value, values}
 use Rattle.cql_syntax.specs.Occurrences.{Standing, part_of, occurrences, all_of}
-use Rattle.cql_syntax.specs.TreeLists.{filters_of}
 use Rattle.cql_syntax.specs.TreeOf.{filter_tree, filter_trees}
 use Rattle.cql_syntax.specs.Trees.{FilterTree, filter_at, any, FilterTrees, no_filters, more_filters, with_filter}
 use Rattle.cql_syntax.specs.Unplaced.{same_unplaced}
-use Rattle.cql_syntax.specs.Values.{Value, holds, has, any_of}
+use Rattle.cql_syntax.specs.Values.{Value, has, any_of}
 use Rattle.cql_syntax.specs.declared.leaves.Kind.{Kind}
 use Rattle.cql_syntax.specs.declared.leaves.Kind.TheVariants.{Position, Set, Number}
 use Rattle.cql_syntax.specs.declared.tree.Filter.{Filter}

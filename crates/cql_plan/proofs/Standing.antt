@@ -1,6 +1,6 @@
 -- A filter stands for another one where its parts do.
-use Rattle.std.proofs.Common.{◌≡◌, ℕ, ◌+◌, ◌<◌, ◌≤◌, Bool, true, false, ◌&&◌, ◌||◌, List, [], ◌∷◌, ◌++◌, length, get_or, take, refl, sym, ap, ap₂, ◌∙◌, arith, subst}
-use Rattle.std.specs.Prelude.{not, nat_lt, nat_le}
+use Rattle.std.proofs.Common.{◌≡◌, ℕ, ◌+◌, ◌<◌, ◌≤◌, Bool, true, false, ◌&&◌, List, [], ◌∷◌, ◌++◌, length, get_or, take, refl, sym, ap, ap₂, ◌∙◌, arith, subst}
+use Rattle.std.specs.Prelude.{nat_lt}
 use Rattle.std.specs.List.{list_all, list_any, filter}
 use Rattle.std.proofs.Math.Path.{fun_ext}
 use Rattle.std.proofs.lemmas.Bool.{ltb-true}
@@ -8,10 +8,10 @@ use Rattle.std.proofs.lemmas.List.{take_all}
 use Rattle.cq_outside.proofs.SpellingLaw.{left, right, both_true as both}
 use Rattle.cq_position.specs.Search.{SearchedTree, nodes_in}
 use Rattle.cql_syntax.specs.Contexts.{unary_image}
-use Rattle.cql_syntax.specs.Hits.{hits_in, item_keys, all_keys}
+use Rattle.cql_syntax.specs.Hits.{all_keys}
 use Rattle.cql_syntax.specs.Kinds.{chain_kind}
 use Rattle.cql_syntax.specs.Meaning.{Names, value, values, unary_of}
-use Rattle.cql_syntax.specs.Occurrences.{Standing, Occurrence, top_item, part_of, occurrences, all_of, of_items, sorts_with}
+use Rattle.cql_syntax.specs.Occurrences.{Standing, top_item, part_of, occurrences, all_of, of_items, sorts_with}
 use Rattle.cql_syntax.specs.TreeOf.{filter_tree, filter_trees}
 use Rattle.cql_syntax.specs.Trees.{FilterTree, filter_at, unary, chain, any, FilterTrees, no_filters, more_filters, with_filter}
 use Rattle.cql_syntax.specs.Values.{Value, as_truth, as_squares, holds, has, chain_of, any_of}
@@ -23,7 +23,7 @@ use Rattle.cql_syntax.specs.declared.leaves.Unary.{Unary}
 use Rattle.cql_syntax.specs.declared.tree.Filter.{Filter}
 use Rattle.cql_syntax.proofs.Lists.{filter_trees_more}
 use Rattle.cql_eval.specs.Costs.{filter_cost, filters_cost}
-use Rattle.cql_plan.specs.Joined.{is_sound, StandsFor, AllStandFor, some_tells, are_members, tells, Gathers, HaveSameHits}
+use Rattle.cql_plan.specs.Joined.{is_sound, StandsFor, AllStandFor, tells, Gathers, HaveSameHits}
 use Rattle.cql_plan.proofs.Sound.{all_first, all_second, all_both, own_kind, sound_unary, sound_chain, sound_any, members_from, kinds_of, sound_of}
 
 pub stands_itself : (f : FilterTree) → StandsFor f f
