@@ -136,7 +136,7 @@ fn count_archive<R: Threads + Sync, G: Gate + Sync>(
     plan: &Plan,
     archive: Bytes,
 ) -> Result<Totals, NoMemory>
-    requires { length archive ≤ 2 ^ 40 }
+    requires size { length archive ≤ 2 ^ 40 }
     ensures { IfOk result (AreTotals (query_in plan.now) archive) }
 {
     archives_come_in_batches();

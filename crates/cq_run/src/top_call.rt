@@ -247,7 +247,7 @@ fn answer_file_by_all<R: Threads + Sync, D: Desk, O: Sink, E: Sink, G: Gate + Sy
     out: &mut O,
     err: &mut E,
 ) -> Status
-    requires { (1 ≤ length queries.now) × (length queries.now ≤ 16) }
+    requires few { (1 ≤ length queries.now) × (length queries.now ≤ 16) }
     ensures { AnswersFile archive.now crew.now.settings.limit (texts_of_all (trees_of queries.now)) result (call_of
         (desk_view D.told D.left D.faults D.open_faults desk.old) (desk_view D.told D.left D.faults D.open_faults desk.new)
         (sinks_of (sink_view O.taken O.faults out.old) (sink_view O.taken O.faults out.new)

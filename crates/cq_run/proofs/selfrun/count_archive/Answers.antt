@@ -31,6 +31,6 @@ unreachable-requires g c =
     let is = c.in-Err-Fault.is ∙ ap Err c.in-Err-Fault.field-0-is in
     let says = rw is at c.take_batches.ensures.says in
     let cause = rw is at c.take_batches.ensures.cause in
-    let low = c.requires in
+    let low = c.requires.size in
     let long = ap length c.new-source.ensures in
     never_faults {X = NoMemory} c.new-source.result c.take_batches.new.source 1099511627776 _ _ (λ games batch stop. Unit {0}) (omega (arith, low, long)) says cause

@@ -5,8 +5,8 @@ use Rattle.cq_shards.specs.Answers.{query_in}
 use Rattle.cq_run.specs.SelfRun.{AreTotals}
 use Rattle.cq_run.proofs.selfrun.made_totals.Goals as goal
 
-pub count_archive-requires : goal.count_archive-requires
-count_archive-requires g c =
+pub count_archive-requires-clause-size : goal.count_archive-requires-clause-size
+count_archive-requires-clause-size g c =
     omega (arith, ap length c.in_ok-archive.ensures, c.archives_are_short.ensures c.args.seed c.args.games c.requires, c.requires)
 
 pub returns : goal.returns

@@ -10,9 +10,9 @@ use Rattle.cq_run.proofs.PiecesRead.{held_few}
 use Rattle.cq_run.proofs.RunPromise.{file_answered, told_why}
 use Rattle.cq_run.proofs.top_call.answer_queries_file.Goals as goal
 
-pub answer_file_by_all-requires : goal.answer_file_by_all-requires
-answer_file_by_all-requires g c lives within =
-    held_few c.in-Ok.ensures.0 c.in-Ok.queries.items c.as_slice-queries.result.now c.as_slice-queries.ensures.value c.in-Ok.ensures.2
+pub answer_file_by_all-requires-clause-few : goal.answer_file_by_all-requires-clause-few
+answer_file_by_all-requires-clause-few g c lives within =
+    held_few c.in-Ok.ensures.0 c.in-Ok.queries.items c.as_slice.result.now c.as_slice.ensures.value c.in-Ok.ensures.2
 
 pub returns-in-Ok : goal.returns-in-Ok
 returns-in-Ok g c =
@@ -23,7 +23,7 @@ returns-in-Ok g c =
     file_answered some_queries c.args.name.now (λ (asks : List QueryTree). AnswersFile c.args.archive.now c.args.crew.now.settings.limit (texts_of_all asks))
     (trees_of c.in-Ok.queries.items) c.answer_file_by_all.result (view c.args.desk.now) (view c.queries_in_file.new.desk) (view c.answer_file_by_all.new.desk) sinks c.in-Ok.ensures
     (subst (λ (qs : List TypedQuery). AnswersFile c.args.archive.now c.args.crew.now.settings.limit (texts_of_all (trees_of qs)) c.answer_file_by_all.result
-    (call_of (view c.queries_in_file.new.desk) (view c.answer_file_by_all.new.desk) sinks)) c.as_slice-queries.ensures.value c.answer_file_by_all.ensures)
+    (call_of (view c.queries_in_file.new.desk) (view c.answer_file_by_all.new.desk) sinks)) c.as_slice.ensures.value c.answer_file_by_all.ensures)
 
 pub returns-in-Err : goal.returns-in-Err
 returns-in-Err g c =

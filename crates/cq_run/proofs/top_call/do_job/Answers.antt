@@ -6,13 +6,13 @@ use Rattle.cq_run.proofs.top_call.do_job.Goals as goal
 pub returns-in-Run : goal.returns-in-Run
 returns-in-Run g c =
     job_is c.args.job.now _ _ _ c.in-Run.is
-    (with_settings (λ s. Run _ _ s) _ _ _ _ c.new-crew.ensures
+    (with_settings (λ s. Run c.in-Run.query c.in-Run.archive s) _ _ _ _ c.new-crew.ensures
     (of_file _ _ _ _ _ _ c.as_slice-query.ensures (file_over _ _ _ _ _ _ _ _ c.as_slice-archive.ensures c.answer_query_file.ensures)))
 
 pub returns-in-Eval : goal.returns-in-Eval
 returns-in-Eval g c =
     job_is c.args.job.now _ _ _ c.in-Eval.is
-    (with_settings (λ s. Eval _ _ s) _ _ _ _ c.new-crew-in-Eval.ensures
+    (with_settings (λ s. Eval c.in-Eval.text c.in-Eval.archive s) _ _ _ _ c.new-crew-in-Eval.ensures
     (of_text _ _ _ _ _ c.as_slice-text.ensures (text_over _ _ _ _ _ _ _ c.as_slice-archive-in-Eval.ensures c.answer_text.ensures)))
 
 pub returns-in-Check : goal.returns-in-Check
@@ -30,5 +30,5 @@ returns-in-SelfRun g c =
 pub returns-in-Many : goal.returns-in-Many
 returns-in-Many g c =
     job_is c.args.job.now _ _ _ c.in-Many.is
-    (with_settings (λ s. Many _ _ s) _ _ _ _ c.new-crew-in-Many.ensures
+    (with_settings (λ s. Many c.in-Many.queries c.in-Many.archive s) _ _ _ _ c.new-crew-in-Many.ensures
     (of_file _ _ _ _ _ _ c.as_slice-queries.ensures (file_over _ _ _ _ _ _ _ _ c.as_slice-archive-in-Many.ensures c.answer_queries_file.ensures)))
