@@ -40,6 +40,10 @@ FOUND = [
     ("cql() mate", ITALIAN, "1. e4 e5 2. Bc4 Nc6 3. Qh5 Nf6 4. Qxf7# {CQL} 1-0"),
     ("cql() (line --> Pe4* --> Pe4) >= 2", OPENED, "1. e4 {CQL} 1... e5 {CQL} 2. Nf3 *"),
     ("cql() flipcolor Qh5", "1. f3 e5 2. g4 Qh4# 0-1", "1. f3 e5 2. g4 Qh4# {CQL} 0-1"),
+    # transforms within transforms, of which some images are equal: of four corners, of squares beside one another, of sets that are counted
+    ("cql() rotate90 flip Ka1", '[FEN "K7/8/8/8/8/8/8/2k5 w - - 0 1"]\n*\n', "{CQL} *", "K7/8/8/8/8/8/8/2k5 w - - 0 1"),
+    ("cql() initial find shift flip { Pa2 Pb3 }", "1. b3 *", "{CQL} 1. b3 *"),
+    ("cql() #(flipcolor shift Ka1) == 2", OPENED, "{CQL} 1. e4 {CQL} 1... e5 {CQL} 2. Nf3 {CQL} *"),
     ("cql() initial", '[FEN "4r2k/8/8/8/4N3/8/8/1N2K3 w - - 0 1"]\n1. Nd2 *\n', "{CQL} 1. Nd2 *", "4r2k/8/8/8/4N3/8/8/1N2K3 w - - 0 1"),
     ("cql() initial", "1. e4 (1. --) e5 *", "{CQL} 1. e4 (1. --) 1... e5 *"),
     ("cql() R attacks k #between(R k) == 3", '[FEN "R3k3/8/8/8/8/8/8/4K3 b - - 0 1"]\n*\n', "{CQL} *", "R3k3/8/8/8/8/8/8/4K3 b - - 0 1"),
