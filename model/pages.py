@@ -26,7 +26,7 @@ import tempfile
 
 from cases import EXAMPLES, TOP, all_cases, read
 
-OPTIONAL = ["iconv", "pgn-extract", "pv"]
+OPTIONAL = ["iconv", "jq", "pgn-extract", "pv"]
 PATH = os.environ["PATH"] + ":/usr/games"
 passed, failed = 0, 0
 

@@ -43,7 +43,8 @@ pub record ReadsAll (limit : ℕ) (left left_after : Option (List ℕ)) (archive
   pub at_end : IsAtEnd left_after
 
 -- Some bytes were read, and these games and those of the next batch are the first ones of their whole batches, or of the archive if they
--- are all of it. No read was made for other games: these have all whole batches of the bytes but as many at their end as one read gives.
+-- are all of it. No read was made for other games: these include all whole batches of the bytes, less as many bytes at their end as one
+-- read can give.
 pub record Gives (limit : ℕ) (left left_after : Option (List ℕ)) (games batch : KeptGames) : Type 0 where
   pub front : List ℕ
   pub reads : Reads limit left left_after front

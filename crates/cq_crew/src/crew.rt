@@ -31,8 +31,9 @@ pub fn nothing_kept(alloc: Global, workers: u32) -> Result<Vec<()>, NoMemory>
     Ok(kept)
 }
 
-/// What workers that keep these make of all games. They draw the games one by one. A thread that can't be started is no refusal: its
-/// worker's games are drawn by the others. `NoMemory` means that a worker, or the call itself, found no memory; nothing is given then.
+/// What workers that keep these make of all games. They draw the games one by one. A thread that can't be started is no refusal: this
+/// thread does that worker's work, after that of the later workers. `NoMemory` means that a worker, or the call itself, found no memory;
+/// nothing is given then.
 pub fn run_crew<R: Threads + Sync, M: Maker + Sync>(
     rt: &R,
     alloc: Global,

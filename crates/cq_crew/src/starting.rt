@@ -1,4 +1,4 @@
-//! Calls at the elements of a slice, each in a thread of its own.
+//! Calls at the elements of a slice, each of several in a thread of its own.
 ghost use Rattle.std.specs.Prelude.{◌≡◌, ◌+◌, ◌<◌, ◌≤◌, ◌^◌, ℕ, length};
 ghost use Rattle.std.specs.Thread.{IsSend, IsSync};
 ghost use Rattle.std.specs.Fork.{AcceptsAt, AcceptsEach, ChangesEach};
@@ -10,8 +10,8 @@ use std::thread::{Threads, join_mut};
 /// Calls `f(i, &mut all[i])` at each place: a single call in this thread, and each of several in a new one, or, where none can be made, in
 /// this one after the calls at later places.
 ///
-/// Of several this thread makes no other: a new thread may be put on the processor of the one that starts it, and would wait there while
-/// that one works.
+/// Of several calls this thread makes none that can have a thread of its own: a new thread may be put on the processor of the one that
+/// starts it, and would wait there while that one works.
 pub(crate) fn for_each_started<R: Threads + Sync, T: Send, F: Fn(usize, &mut T) + Sync>(
     rt: &R,
     all: &mut [T],

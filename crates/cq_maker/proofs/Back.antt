@@ -14,7 +14,7 @@ use Rattle.cq_position.specs.Legal.{after}
 use Rattle.cq_position.specs.Position.{IsPosition}
 use Rattle.pgn_tree.proofs.TagPairs.{distinct_put}
 use Rattle.pgn_export.specs.Export.{export_text}
-use Rattle.pgn_export.specs.Movetext.{result_text}
+use Rattle.pgn_tree.specs.Results.{result_text}
 use Rattle.pgn_export.specs.Normal.{IsNormal, IsReadAs}
 use Rattle.pgn_export.proofs.ReadBack.{answer_spells, answer_back}
 use Rattle.cq_maker.specs.Draws.{next, drawn}

@@ -24,7 +24,8 @@ use Rattle.cq_san.specs.declared.parts.Parts.TheVariants.{Castling, Null, Moved}
 use Rattle.cq_san.specs.Writing.{letter, coordinate, promotion_text, capture_sign, parts_text, check_sign, sign_of, san_text, san_parts, is_capture}
 use Rattle.pgn_export.specs.Export.{export_text}
 use Rattle.pgn_export.specs.Lines.{filled, lines}
-use Rattle.pgn_export.specs.Movetext.{number_words, move_words, line_words, variation_words, movetext, result_text, is_due}
+use Rattle.pgn_export.specs.Movetext.{number_words, move_words, line_words, variation_words, movetext, is_due}
+use Rattle.pgn_tree.specs.Results.{result_text}
 use Rattle.pgn_export.specs.TagLines.{escaped, tag_line, written_tags, roster_tag, other_tags}
 use Rattle.pgn_export.specs.Words.{opened, closed, in_parens}
 use Rattle.cq_maker.specs.Draws.{next, drawn}

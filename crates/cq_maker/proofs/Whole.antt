@@ -19,7 +19,8 @@ use Rattle.pgn_reader.specs.Tags.{start_of}
 use Rattle.pgn_reader.specs.Words.{result_of_text}
 use Rattle.pgn_export.specs.Export.{export_text}
 use Rattle.pgn_export.specs.Lines.{lines}
-use Rattle.pgn_export.specs.Movetext.{movetext, result_text}
+use Rattle.pgn_export.specs.Movetext.{movetext}
+use Rattle.pgn_tree.specs.Results.{result_text}
 use Rattle.pgn_export.specs.Normal.{levels, levels_beside, IsWritable, IsNormal}
 use Rattle.pgn_export.specs.TagLines.{tag_line, written_tags, roster_tag, other_tags}
 use Rattle.pgn_export.proofs.Symbols.{number_digits}

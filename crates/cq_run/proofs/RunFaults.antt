@@ -176,21 +176,21 @@ file_faults reading name Accepted status call accepted (file_out_of_memory is la
     at_none status call (lacking_counts reading.most name call.desk call.desk_after lacks) (wrote_none call.sinks same)
 
 pub job_faults : (job : Job) (status : Status) (call : Call) → DoesJob job status call → AnswersItsFault status call
-job_faults (Run query archive workers limit first) status call does =
-    file_faults a_query query (λ asks. AnswersFile archive limit (wanted first asks)) status call
-    (λ q mid a. archive_faults archive limit (wanted first q) status (from_desk mid call) a) does
-job_faults (Eval text archive workers limit first) status call does =
-    text_faults text (λ asks. AnswersFile archive limit (wanted first asks)) status call
-    (λ q a. archive_faults archive limit (wanted first q) status call a) does
+job_faults (Run query archive settings) status call does =
+    file_faults a_query query (λ asks. AnswersFile archive settings.limit (wanted settings.first asks)) status call
+    (λ q mid a. archive_faults archive settings.limit (wanted settings.first q) status (from_desk mid call) a) does
+job_faults (Eval text archive settings) status call does =
+    text_faults text (λ asks. AnswersFile archive settings.limit (wanted settings.first asks)) status call
+    (λ q a. archive_faults archive settings.limit (wanted settings.first q) status call a) does
 job_faults (Check query) status call does =
     file_faults a_query query SaysAccepted status call (λ q mid a. acceptance_faults status (from_desk mid call) (same_counts mid call.desk_after a.1) a.0) does
 job_faults (Explain query) status call does =
     file_faults a_query query Explains status call (λ q mid a. explanation_faults q status (from_desk mid call) (same_counts mid call.desk_after a.1) a.0) does
-job_faults (SelfRun text seed games workers) status call does =
-    text_faults text (RunsMade seed games) status call (λ q a. made_faults (made seed games) q status call (same_counts call.desk call.desk_after a.1) a.0) does
-job_faults (Many queries archive workers limit) status call does =
-    file_faults some_queries queries (λ asks. AnswersFile archive limit (texts_of_all asks)) status call
-    (λ qs mid a. archive_faults archive limit (texts_of_all qs) status (from_desk mid call) a) does
+job_faults (SelfRun text settings) status call does =
+    text_faults text (RunsMade settings.seed settings.games) status call (λ q a. made_faults (made settings.seed settings.games) q status call (same_counts call.desk call.desk_after a.1) a.0) does
+job_faults (Many queries archive settings) status call does =
+    file_faults some_queries queries (λ asks. AnswersFile archive settings.limit (texts_of_all asks)) status call
+    (λ qs mid a. archive_faults archive settings.limit (texts_of_all qs) status (from_desk mid call) a) does
 
 pub usage_faults : (status : Status) (call : Call) → call.desk_after ≡ call.desk → WritesUsage status call.sinks → AnswersItsFault status call
 usage_faults WordsRefused call same does = at_none WordsRefused call (same_counts call.desk call.desk_after same) does.1

@@ -17,6 +17,7 @@ use Rattle.cq_words.specs.Jobs.{Answers, asked, job_in}
 use Rattle.cq_words.specs.Line.{line}
 use Rattle.cq_words.specs.declared.job.Job.{Job}
 use Rattle.cq_words.specs.declared.job.Job.TheVariants.{Run, Eval, Check, Explain, SelfRun, Many}
+use Rattle.cq_words.specs.declared.job.Settings.{Settings}
 use Rattle.cq_words.specs.declared.job.WordsRefused.{WordsRefused as RefusedWords}
 use Rattle.cql_syntax.specs.Trees.{QueryTree}
 use Rattle.cq_run.specs.declared.queries.FileRefusal.{FileRefusal}
@@ -73,21 +74,21 @@ made_not_words archive q status sinks (totals_written totals are does) e = subst
 made_not_words archive q status sinks (made_out_of_memory is same) e = let f = not_twice status NoMemory is e in cc
 
 job_not_words : (job : Job) (status : Status) (call : Call) → DoesJob job status call → status ≡ WordsRefused → ⊥
-job_not_words (Run query archive workers limit first) status call does e =
-    file_not_words a_query query (λ asks. AnswersFile archive limit (wanted first asks)) status call
-    (λ q mid a f. archive_not_words archive limit (wanted first q) status (from_desk mid call) a f) does e
-job_not_words (Eval text archive workers limit first) status call does e =
-    text_not_words text (λ asks. AnswersFile archive limit (wanted first asks)) status call
-    (λ q a f. archive_not_words archive limit (wanted first q) status call a f) does e
+job_not_words (Run query archive settings) status call does e =
+    file_not_words a_query query (λ asks. AnswersFile archive settings.limit (wanted settings.first asks)) status call
+    (λ q mid a f. archive_not_words archive settings.limit (wanted settings.first q) status (from_desk mid call) a f) does e
+job_not_words (Eval text archive settings) status call does e =
+    text_not_words text (λ asks. AnswersFile archive settings.limit (wanted settings.first asks)) status call
+    (λ q a f. archive_not_words archive settings.limit (wanted settings.first q) status call a f) does e
 job_not_words (Check query) status call does e =
     file_not_words a_query query SaysAccepted status call (λ q mid a f. subst (λ s. AcceptsQuery s call.sinks) f a.0) does e
 job_not_words (Explain query) status call does e =
     file_not_words a_query query Explains status call (λ q mid a f. subst (λ s. WritesFlat q s call.sinks) f a.0) does e
-job_not_words (SelfRun text seed games workers) status call does e =
-    text_not_words text (RunsMade seed games) status call (λ q a f. made_not_words (made seed games) q status call.sinks a.0 f) does e
-job_not_words (Many queries archive workers limit) status call does e =
-    file_not_words some_queries queries (λ asks. AnswersFile archive limit (texts_of_all asks)) status call
-    (λ qs mid a f. archive_not_words archive limit (texts_of_all qs) status (from_desk mid call) a f) does e
+job_not_words (SelfRun text settings) status call does e =
+    text_not_words text (RunsMade settings.seed settings.games) status call (λ q a f. made_not_words (made settings.seed settings.games) q status call.sinks a.0 f) does e
+job_not_words (Many queries archive settings) status call does e =
+    file_not_words some_queries queries (λ asks. AnswersFile archive settings.limit (texts_of_all asks)) status call
+    (λ qs mid a f. archive_not_words archive settings.limit (texts_of_all qs) status (from_desk mid call) a f) does e
 
 -- a faulty query is refused
 refusal_is_one : (text : List ℕ) (status : Status) (sinks : Sinks) → RefusesQuery text status sinks → IsOneOf status (QueryRefused ∷ WriteFault ∷ NoMemory ∷ [])
@@ -146,26 +147,26 @@ file_refused_always reading name text Accepted status call asks never (file_out_
 
 job_refused_always : (job : Job) (text : List ℕ) (status : Status) (call : Call) → HasText call job text → Never a_query text
     → DoesJob job status call → IsOneOf status (QueryRefused ∷ WriteFault ∷ NoMemory ∷ [])
-job_refused_always (Run query archive workers limit first) text status call has never does =
-    file_refused_always a_query query text (λ asks. AnswersFile archive limit (wanted first asks)) status call has never does
-job_refused_always (Eval word archive workers limit first) text status call has never does =
-    text_refused_always text (λ asks. AnswersFile archive limit (wanted first asks)) status call never
-    (subst (λ t. OverText t (λ asks. AnswersFile archive limit (wanted first asks)) status call) has does)
+job_refused_always (Run query archive settings) text status call has never does =
+    file_refused_always a_query query text (λ asks. AnswersFile archive settings.limit (wanted settings.first asks)) status call has never does
+job_refused_always (Eval word archive settings) text status call has never does =
+    text_refused_always text (λ asks. AnswersFile archive settings.limit (wanted settings.first asks)) status call never
+    (subst (λ t. OverText t (λ asks. AnswersFile archive settings.limit (wanted settings.first asks)) status call) has does)
 job_refused_always (Check query) text status call has never does = file_refused_always a_query query text SaysAccepted status call has never does
 job_refused_always (Explain query) text status call has never does = file_refused_always a_query query text Explains status call has never does
-job_refused_always (SelfRun word seed games workers) text status call has never does =
-    text_refused_always text (RunsMade seed games) status call never (subst (λ t. OverText t (RunsMade seed games) status call) has does)
-job_refused_always (Many queries archive workers limit) text status call has never does = absurd has
+job_refused_always (SelfRun word settings) text status call has never does =
+    text_refused_always text (RunsMade settings.seed settings.games) status call never (subst (λ t. OverText t (RunsMade settings.seed settings.games) status call) has does)
+job_refused_always (Many queries archive settings) text status call has never does = absurd has
 
 queries_refused_always : (job : Job) (text : List ℕ) (status : Status) (call : Call) → HasQueriesText call job text → Never some_queries text
     → DoesJob job status call → IsOneOf status (QueryRefused ∷ WriteFault ∷ NoMemory ∷ [])
-queries_refused_always (Many queries archive workers limit) text status call has never does =
-    file_refused_always some_queries queries text (λ asks. AnswersFile archive limit (texts_of_all asks)) status call has never does
-queries_refused_always (Run query archive workers limit first) text status call has never does = absurd has
-queries_refused_always (Eval word archive workers limit first) text status call has never does = absurd has
+queries_refused_always (Many queries archive settings) text status call has never does =
+    file_refused_always some_queries queries text (λ asks. AnswersFile archive settings.limit (texts_of_all asks)) status call has never does
+queries_refused_always (Run query archive settings) text status call has never does = absurd has
+queries_refused_always (Eval word archive settings) text status call has never does = absurd has
 queries_refused_always (Check query) text status call has never does = absurd has
 queries_refused_always (Explain query) text status call has never does = absurd has
-queries_refused_always (SelfRun word seed games workers) text status call has never does = absurd has
+queries_refused_always (SelfRun word settings) text status call has never does = absurd has
 
 -- an accepted query is answered
 
@@ -239,15 +240,22 @@ none_later most name mid text call takes none =
       writes = none.writes;
     }
 
+-- What is taken of a file is accepted as this, and as nothing else, the archive is short enough for it, and no count rose.
+record IsAnswerable {Q F : Type 0} (reading : Reading Q F) (name text : List ℕ) (found : Q) (archive : List ℕ) (limit : ℕ) (asked_of : Wanted) (call : Call) : Type 0 where
+  has : IsInFile call reading.most name text
+  only : Only reading text found
+  short : IsShort call archive limit asked_of
+  none : NothingRose call
+
 -- what a file is asked for is answered over an archive
 over_archive : {Q F : Type 0} (reading : Reading Q F) (name text : List ℕ) (found : Q) (archive : List ℕ) (limit : ℕ) (asks : Q → Wanted) (status : Status) (call : Call)
-    → (has : IsInFile call reading.most name text) → Only reading text found → IsShort call archive limit (asks found) → NothingRose call
+    → IsAnswerable reading name text found archive limit (asks found) call
     → OverFile reading name (λ q. AnswersFile archive limit (asks q)) status call → IsOneOf status (Done ∷ DoneWithRefusals ∷ NoMemory ∷ [])
-over_archive reading name text found archive limit asks status call has only short none does =
-    file_complete reading name text found (λ q. AnswersFile archive limit (asks q)) counted_or_refused status call has only
+over_archive reading name text found archive limit asks status call can does =
+    file_complete reading name text found (λ q. AnswersFile archive limit (asks q)) counted_or_refused status call can.has can.only
     (λ mid taken takes a.
     archive_complete archive limit (asks found) status (from_desk mid call)
-    (short_later reading.most name archive limit (asks found) mid taken call takes short) (none_later reading.most name mid taken call takes none) a)
+    (short_later reading.most name archive limit (asks found) mid taken call takes can.short) (none_later reading.most name mid taken call takes can.none) a)
     does
 
 acceptance_is_one : (status : Status) (call : Call) → NothingRose call → AcceptsQuery status call.sinks → IsOneOf status (Done ∷ NoMemory ∷ [])
@@ -291,35 +299,40 @@ made_is_one archive q status call none (made_out_of_memory is same) = inr (inr (
 
 job_complete : (job : Job) (text : List ℕ) (query : QueryTree) (status : Status) (call : Call) → HasText call job text → Only a_query text query
     → IsWithin call job query → NothingRose call → DoesJob job status call → IsOneOf status (good_answers job)
-job_complete (Run name archive workers limit first) text query status call has only short none does =
-    over_archive a_query name text query archive limit (wanted first) status call has only short none does
-job_complete (Eval word archive workers limit first) text query status call has only short none does =
-    text_complete text query (λ asks. AnswersFile archive limit (wanted first asks)) counted_or_refused status call only
-    (λ a. archive_complete archive limit (wanted first query) status call short none a)
-    (subst (λ t. OverText t (λ asks. AnswersFile archive limit (wanted first asks)) status call) has does)
+job_complete (Run name archive settings) text query status call has only short none does =
+    over_archive a_query name text query archive settings.limit (wanted settings.first) status call (record { has = has; only = only; short = short; none = none }) does
+job_complete (Eval word archive settings) text query status call has only short none does =
+    text_complete text query (λ asks. AnswersFile archive settings.limit (wanted settings.first asks)) counted_or_refused status call only
+    (λ a. archive_complete archive settings.limit (wanted settings.first query) status call short none a)
+    (subst (λ t. OverText t (λ asks. AnswersFile archive settings.limit (wanted settings.first asks)) status call) has does)
 job_complete (Check name) text query status call has only short none does =
     file_complete a_query name text query SaysAccepted done_alone status call has only (λ mid taken takes a. acceptance_is_one status call none a.0) does
 job_complete (Explain name) text query status call has only short none does =
     file_complete a_query name text query Explains done_alone status call has only (λ mid taken takes a. explanation_is_one query status call none a.0) does
-job_complete (SelfRun word seed games workers) text query status call has only short none does =
-    text_complete text query (RunsMade seed games) counted_or_refused status call only
-    (λ a. made_is_one (made seed games) query status call none a.0) (subst (λ t. OverText t (RunsMade seed games) status call) has does)
-job_complete (Many name archive workers limit) text query status call has only short none does = absurd has
+job_complete (SelfRun word settings) text query status call has only short none does =
+    text_complete text query (RunsMade settings.seed settings.games) counted_or_refused status call only
+    (λ a. made_is_one (made settings.seed settings.games) query status call none a.0) (subst (λ t. OverText t (RunsMade settings.seed settings.games) status call) has does)
+job_complete (Many name archive settings) text query status call has only short none does = absurd has
 
 all_complete : (job : Job) (text : List ℕ) (queries : List QueryTree) (status : Status) (call : Call) → HasQueriesText call job text → Only some_queries text queries
     → IsWithinForAll call job queries → NothingRose call → DoesJob job status call → IsOneOf status (good_answers job)
-all_complete (Many name archive workers limit) text queries status call has only short none does =
-    over_archive some_queries name text queries archive limit texts_of_all status call has only short none does
-all_complete (Run name archive workers limit first) text queries status call has only short none does = absurd has
-all_complete (Eval word archive workers limit first) text queries status call has only short none does = absurd has
+all_complete (Many name archive settings) text queries status call has only short none does =
+    over_archive some_queries name text queries archive settings.limit texts_of_all status call (record { has = has; only = only; short = short; none = none }) does
+all_complete (Run name archive settings) text queries status call has only short none does = absurd has
+all_complete (Eval word archive settings) text queries status call has only short none does = absurd has
 all_complete (Check name) text queries status call has only short none does = absurd has
 all_complete (Explain name) text queries status call has only short none does = absurd has
-all_complete (SelfRun word seed games workers) text queries status call has only short none does = absurd has
+all_complete (SelfRun word settings) text queries status call has only short none does = absurd has
 
 -- a job that was done
 
 pub job_is : (job other : Job) (status : Status) (call : Call) → job ≡ other → DoesJob other status call → DoesJob job status call
 job_is job other status call is does = subst (λ j. DoesJob j status call) (sym is) does
+
+-- the same of the settings that are its own
+pub with_settings : (job : Settings → Job) (given own : Settings) (status : Status) (call : Call) → given ≡ own → DoesJob (job given) status call
+    → DoesJob (job own) status call
+with_settings job given own status call is does = subst (λ s. DoesJob (job s) status call) is does
 
 -- the same of the words that are its own
 pub of_file : {Q F : Type 0} (reading : Reading Q F) (name query : List ℕ) (Accepted : Q → Status → Call → Type 0) (status : Status) (call : Call) → name ≡ query
@@ -407,12 +420,12 @@ refusal_promised words status desk sinks refused value taken does = record {
 }
 
 memory_is_good : (job : Job) → IsOneOf NoMemory (good_answers job)
-memory_is_good (Run query archive workers limit first) = inr (inr (inl refl))
-memory_is_good (Eval text archive workers limit first) = inr (inr (inl refl))
+memory_is_good (Run query archive settings) = inr (inr (inl refl))
+memory_is_good (Eval text archive settings) = inr (inr (inl refl))
 memory_is_good (Check query) = inr (inl refl)
 memory_is_good (Explain query) = inr (inl refl)
-memory_is_good (SelfRun text seed games workers) = inr (inr (inl refl))
-memory_is_good (Many queries archive workers limit) = inr (inr (inl refl))
+memory_is_good (SelfRun text settings) = inr (inr (inl refl))
+memory_is_good (Many queries archive settings) = inr (inr (inl refl))
 
 pub memory_refusal_promised : (words : List (List ℕ)) (desk : DeskView) (sinks : Sinks) → IsUnwritten sinks → Promise words NoMemory (call_of desk desk sinks)
 memory_refusal_promised words desk sinks same =

@@ -3,8 +3,6 @@ use Rattle.std.specs.Prelude.{◌≡◌, List, ℕ, Result, Ok, Err}
 use Rattle.std.specs.List.{AllZip}
 use Rattle.cq_outside.specs.declared.faults.Refusal.{Refusal}
 use Rattle.cq_outside.specs.declared.faults.Refusal.TheVariants.{Fault, NoMemory as IsNoMemory}
-use Rattle.cq_words.specs.declared.job.Job.{Job}
-use Rattle.cq_words.specs.declared.job.Job.TheVariants.{Run, Eval}
 use Rattle.cql_syntax.specs.TreeOf.{query_tree}
 use Rattle.cql_syntax.specs.Trees.{QueryTree}
 use Rattle.cql_syntax.specs.declared.fault.QueryFault.{QueryFault}
@@ -82,9 +80,3 @@ ReadsPieces shown pieces (Err refusal) = RefusesPieces pieces refusal
 
 abbrev pub call_of : DeskView → DeskView → Sinks → Call
 call_of desk after sinks = record { desk = desk; desk_after = after; sinks = sinks }
-
--- a job of one query over an archive in a file
-abbrev pub AsksOne : Job → Type 0
-AsksOne (Run query archive workers limit first) = Unit {0}
-AsksOne (Eval text archive workers limit first) = Unit {0}
-AsksOne _ = ⊥

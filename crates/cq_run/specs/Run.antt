@@ -191,12 +191,12 @@ RunsMade seed games query status call = WritesMade (made seed games) query statu
 
 -- what is done for a job
 abbrev pub DoesJob : Job → Status → Call → Type 0
-DoesJob (Run query archive workers limit first) = OverFile a_query query (λ asks. AnswersFile archive limit (wanted first asks))
-DoesJob (Eval text archive workers limit first) = OverText text (λ asks. AnswersFile archive limit (wanted first asks))
+DoesJob (Run query archive settings) = OverFile a_query query (λ asks. AnswersFile archive settings.limit (wanted settings.first asks))
+DoesJob (Eval text archive settings) = OverText text (λ asks. AnswersFile archive settings.limit (wanted settings.first asks))
 DoesJob (Check query) = OverFile a_query query SaysAccepted
 DoesJob (Explain query) = OverFile a_query query Explains
-DoesJob (SelfRun text seed games workers) = OverText text (RunsMade seed games)
-DoesJob (Many queries archive workers limit) = OverFile some_queries queries (λ asks. AnswersFile archive limit (texts_of_all asks))
+DoesJob (SelfRun text settings) = OverText text (RunsMade settings.seed settings.games)
+DoesJob (Many queries archive settings) = OverFile some_queries queries (λ asks. AnswersFile archive settings.limit (texts_of_all asks))
 
 -- What is done for words: the job that they ask, or they are refused, and no file is opened then.
 pub data Does (words : List (List ℕ)) (status : Status) (call : Call) : Type 0 where
@@ -229,16 +229,16 @@ pub record IsInFile (call : Call) (most : ℕ) (name text : List ℕ) : Type 0 w
 
 -- the text of a job's one query
 abbrev pub HasText : Call → Job → List ℕ → Type 0
-HasText call (Run query archive workers limit first) text = IsInFile call most_bytes query text
-HasText call (Eval word archive workers limit first) text = word ≡ text
+HasText call (Run query archive settings) text = IsInFile call most_bytes query text
+HasText call (Eval word archive settings) text = word ≡ text
 HasText call (Check query) text = IsInFile call most_bytes query text
 HasText call (Explain query) text = IsInFile call most_bytes query text
-HasText call (SelfRun word seed games workers) text = word ≡ text
-HasText call (Many queries archive workers limit) text = ⊥
+HasText call (SelfRun word settings) text = word ≡ text
+HasText call (Many queries archive settings) text = ⊥
 
 -- the text of a job's file of queries
 abbrev pub HasQueriesText : Call → Job → List ℕ → Type 0
-HasQueriesText call (Many queries archive workers limit) text = IsInFile call most_in_file queries text
+HasQueriesText call (Many queries archive settings) text = IsInFile call most_in_file queries text
 HasQueriesText call job text = ⊥
 
 -- no count rose
@@ -256,26 +256,26 @@ pub record IsShort (call : Call) (archive : List ℕ) (limit : ℕ) (asked_of : 
 -- The archive of a job, where it reads one, is within the limit. Up to the first match it is enough that a game matches in the whole
 -- batches of that many bytes.
 abbrev pub IsWithin : Call → Job → QueryTree → Type 0
-IsWithin call (Run name archive workers limit first) query = IsShort call archive limit (wanted first query)
-IsWithin call (Eval text archive workers limit first) query = IsShort call archive limit (wanted first query)
+IsWithin call (Run name archive settings) query = IsShort call archive settings.limit (wanted settings.first query)
+IsWithin call (Eval text archive settings) query = IsShort call archive settings.limit (wanted settings.first query)
 IsWithin call (Check name) query = Unit {0}
 IsWithin call (Explain name) query = Unit {0}
-IsWithin call (SelfRun text seed games workers) query = Unit {0}
-IsWithin call (Many queries archive workers limit) query = Unit {0}
+IsWithin call (SelfRun text settings) query = Unit {0}
+IsWithin call (Many queries archive settings) query = Unit {0}
 
 -- the same of the archive of a job with a file of queries
 abbrev pub IsWithinForAll : Call → Job → List QueryTree → Type 0
-IsWithinForAll call (Many name archive workers limit) queries = IsShort call archive limit (texts_of_all queries)
+IsWithinForAll call (Many name archive settings) queries = IsShort call archive settings.limit (texts_of_all queries)
 IsWithinForAll call job queries = Unit {0}
 
 -- the answers of a job that is accepted, where nothing fails
 abbrev pub good_answers : Job → List Status
-good_answers (Run query archive workers limit first) = Done ∷ DoneWithRefusals ∷ NoMemory ∷ []
-good_answers (Eval text archive workers limit first) = Done ∷ DoneWithRefusals ∷ NoMemory ∷ []
+good_answers (Run query archive settings) = Done ∷ DoneWithRefusals ∷ NoMemory ∷ []
+good_answers (Eval text archive settings) = Done ∷ DoneWithRefusals ∷ NoMemory ∷ []
 good_answers (Check query) = Done ∷ NoMemory ∷ []
 good_answers (Explain query) = Done ∷ NoMemory ∷ []
-good_answers (SelfRun text seed games workers) = Done ∷ DoneWithRefusals ∷ NoMemory ∷ []
-good_answers (Many queries archive workers limit) = Done ∷ DoneWithRefusals ∷ NoMemory ∷ []
+good_answers (SelfRun text settings) = Done ∷ DoneWithRefusals ∷ NoMemory ∷ []
+good_answers (Many queries archive settings) = Done ∷ DoneWithRefusals ∷ NoMemory ∷ []
 
 -- What `run` promises of its status: what was done for the words, that a count that rose is answered by its own fault, and when an
 -- answer always or never comes.

@@ -17,7 +17,7 @@ pub record Reading (games : KeptGames) (Holds : List Outcome → Type 0) : Type 
   pub are_read : AreKeptRead games outcomes
   pub holds : Holds outcomes
 
--- The same is asked as before, and games were taken: they are read so, and this was found of them.
+-- what is asked is unchanged, and of what the games taken are read as, `Found` holds
 pub record Taken {T : Type 0} (was now : T) (games : KeptGames) (Found : List Outcome → Type 0) : Type 0 where
   pub same : now ≡ was
   pub reading : Reading games Found
@@ -61,7 +61,7 @@ pub record FoundOne (query : QueryTree) (sinks : Sinks) (status : Status) (outco
   pub some : some_match query outcomes ≡ true
   pub writes : FirstWritten (refused_of query outcomes) (first_texts_of query outcomes) sinks status
 
--- none of the games matches, and with those of the next batch it was stopped
+-- none of the games matches, and it was stopped at the next batch
 pub record FirstStopped (query : QueryTree) (sinks : Sinks) (status : Status) (games batch : KeptGames) : Type 0 where
   pub before : Reading games (λ outcomes. some_match query outcomes ≡ false)
   pub after : Reading (games ++ batch) (λ outcomes. StopsIn (texts_so_far false query (up_to_first query outcomes)) sinks status

@@ -1,5 +1,5 @@
 //! Answering batch by batch.
-ghost use Rattle.std.specs.Prelude.{◌≤◌, ◌^◌, ◌++◌, IfOk};
+ghost use Rattle.std.specs.Prelude.{◌++◌, IfOk};
 ghost use Rattle.std.specs.Fn.{FnReturnsAt};
 ghost use Rattle.std.specs.Thread.{IsSync};
 ghost use Rattle.cq_batches.specs.declared.batch.Batch.{Batch};
@@ -9,6 +9,7 @@ ghost use Rattle.cq_run.specs.Promise.{AnswerPromise, source_view, sink_view, si
 ghost use Rattle.cq_run.specs.Takers.{Reading, StopsIn, Taken, task_of};
 ghost use Rattle.cq_run.specs.Writing.{FoundSoFar, stand_of};
 
+use crate::crew::Crew;
 use crate::laws::archives_come_in_batches;
 use crate::output::{has_sort_item, write_answers, write_rest};
 use crate::status::{Status, status_of};
@@ -17,14 +18,13 @@ use cq_batches::{Batch, Ended, Taker, take_batches};
 use cq_outside::{Gate, NoMemory, Refusal, Sink, Source};
 use cq_shards::laws::ordered_answers_stand_beside_their_games;
 use cq_shards::{GameAnswer, in_order, run_batch};
-use cq_words::Settings;
 use cql_plan::Plan;
 use std::alloc::Global;
 use std::thread::Threads;
 
-/// Answers the games of one batch after the other to the query of `plan`, and writes of them what is to be written before all are
-/// answered. The answers of a batch come by `answer`, and so from a function that says what its workers may share: a method of a trait
-/// can't send to a thread what rests on the bounds of its block.
+/// Answers the query of `plan` over the games of one batch after the other, and writes of them what is to be written before all are
+/// answered. The answers of a batch come by `answer`, and so from a function that says what its workers may share, since a method of a
+/// trait can't use the bounds of its block for what it sends to a thread.
 #[derive(Drop)]
 struct AllGames<'a, F> {
     alloc: Global,
@@ -69,19 +69,14 @@ impl<'a, F: Fn(&Batch) -> Result<Vec<GameAnswer>, NoMemory>, O: Sink, E: Sink> T
 /// Answers the query of a plan over the archive that `source` has left: the games of one batch after the other, what is to be
 /// written of them before the next batch is asked for.
 pub fn answer_all<R: Threads + Sync, S: Source, O: Sink, E: Sink, G: Gate + Sync>(
-    rt: &R,
-    alloc: Global,
+    crew: &Crew<'_, R, G>,
     plan: &Plan,
-    settings: Settings,
     source: &mut S,
     out: &mut O,
     err: &mut E,
-    gate: &G,
 ) -> Status
-    requires workers { (1 ≤ settings.workers) × (settings.workers ≤ 64) }
-    requires limit { (1 ≤ settings.limit) × (settings.limit ≤ 2 ^ 40) }
     ensures answers { AnswerPromise (texts_of (query_in plan.now)) result (record {
-      limit = settings.limit;
+      limit = crew.now.settings.limit;
       source = source_view S.left S.faults source.old;
       source_after = source_view S.left S.faults source.new;
       sinks = sinks_of (sink_view O.taken O.faults out.old) (sink_view O.taken O.faults out.new)
@@ -91,42 +86,45 @@ pub fn answer_all<R: Threads + Sync, S: Source, O: Sink, E: Sink, G: Gate + Sync
 {
     archives_come_in_batches();
     let sorted = has_sort_item(plan);
-    let workers = settings.workers;
     let mut taker = AllGames {
-        alloc,
+        alloc: crew.alloc,
         plan,
         answer: |batch: &Batch| -> Result<Vec<GameAnswer>, NoMemory>
-            requires { IsSync R.row × IsSync G.row × (1 ≤ workers) × (workers ≤ 64) }
+            requires { IsSync R.row × IsSync G.row }
             ensures { IfOk result (λ answers. AnswersBatch (query_in plan.entry.now) batch.now answers.items) }
-        { batch_answers(rt, alloc, plan, batch, workers, gate) },
+        { batch_answers(crew, plan, batch) },
         sorted,
         tally: Tally {
             games: 0,
             matched: 0,
             refused: 0,
         },
-        kept: Vec::new(alloc),
+        kept: Vec::new(crew.alloc),
     };
-    match take_batches(alloc, settings.limit, source, &mut taker, out, err) {
-        Ok(Ended::All(_)) => write_rest(alloc, plan, taker.tally, taker.kept, out, err),
+    match take_batches(
+        crew.alloc,
+        crew.settings.limit,
+        source,
+        &mut taker,
+        out,
+        err,
+    ) {
+        Ok(Ended::All(_)) => write_rest(crew.alloc, plan, taker.tally, taker.kept, out, err),
         Ok(Ended::Early(status)) => status,
         Err(refusal) => status_of(refusal),
     }
 }
 
-/// The answers of the games of a batch by so many workers, in the order of the games.
+/// The answers of the games of a batch, in the order of the games.
 pub fn batch_answers<R: Threads + Sync, G: Gate + Sync>(
-    rt: &R,
-    alloc: Global,
+    crew: &Crew<'_, R, G>,
     plan: &Plan,
     batch: &Batch,
-    workers: u32,
-    gate: &G,
 ) -> Result<Vec<GameAnswer>, NoMemory>
-    requires { (1 ≤ workers) × (workers ≤ 64) }
     ensures { IfOk result (λ answers. AnswersBatch (query_in plan.now) batch.now answers.items) }
 {
     ordered_answers_stand_beside_their_games();
-    let answers = run_batch(rt, alloc, plan, batch, workers, gate)?;
-    in_order(alloc, answers)
+    let workers = crew.settings.workers;
+    let answers = run_batch(crew.rt, crew.alloc, plan, batch, workers, crew.gate)?;
+    in_order(crew.alloc, answers)
 }

@@ -10,6 +10,7 @@ ghost use Rattle.cq_run.specs.ManyWriting.{FoundByAll};
 ghost use Rattle.cq_run.specs.Promise.{AnswerPromise, source_view, sink_view, sinks_of};
 ghost use Rattle.cq_run.specs.Takers.{Reading, StopsIn, Taken};
 
+use crate::crew::Crew;
 use crate::keeping::{keep_batch, none_kept};
 use crate::laws::archives_come_in_batches;
 use crate::outputs::write_outputs;
@@ -25,7 +26,8 @@ use cql_syntax::TypedQuery;
 use std::alloc::Global;
 use std::thread::Threads;
 
-/// Answers several queries over the games of one batch after the other, writes the lines of the faulty ones and keeps those that match.
+/// Answers the queries of `plan` over the games of one batch after the other, writes the lines of the faulty ones and keeps those that
+/// match.
 #[derive(Drop)]
 struct AllQueries<'a, F> {
     alloc: Global,
@@ -114,29 +116,21 @@ pub fn answer_many<R: Threads + Sync, S: Source, O: Sink, E: Sink, G: Gate + Syn
     }) }
     ensures next { S.follows source.old source.new }
 {
-    archives_come_in_batches();
-    let Ok(plan) = SharedPlan::make(alloc, queries) else {
-        return Status::NoMemory;
-    };
-    answer_each(rt, alloc, &plan, settings, source, out, err, gate)
+    let crew = Crew::new(rt, alloc, settings, gate);
+    answer_many_with(&crew, queries, source, out, err)
 }
 
-// Answers the queries of a plan: the games of one batch after the other, what is to be written of them before the next batch is asked for.
-fn answer_each<R: Threads + Sync, S: Source, O: Sink, E: Sink, G: Gate + Sync>(
-    rt: &R,
-    alloc: Global,
-    plan: &SharedPlan,
-    settings: Settings,
+/// Answers several queries as `answer_many` does.
+pub fn answer_many_with<R: Threads + Sync, S: Source, O: Sink, E: Sink, G: Gate + Sync>(
+    crew: &Crew<'_, R, G>,
+    queries: &[TypedQuery],
     source: &mut S,
     out: &mut O,
     err: &mut E,
-    gate: &G,
 ) -> Status
-    requires few { (1 ≤ length (trees_of (queries_of plan.now))) × (length (trees_of (queries_of plan.now)) ≤ 16) }
-    requires workers { (1 ≤ settings.workers) × (settings.workers ≤ 64) }
-    requires limit { (1 ≤ settings.limit) × (settings.limit ≤ 2 ^ 40) }
-    ensures answers { AnswerPromise (texts_of_all (trees_of (queries_of plan.now))) result (record {
-      limit = settings.limit;
+    requires { (1 ≤ length queries.now) × (length queries.now ≤ 16) }
+    ensures answers { AnswerPromise (texts_of_all (trees_of queries.now)) result (record {
+      limit = crew.now.settings.limit;
       source = source_view S.left S.faults source.old;
       source_after = source_view S.left S.faults source.new;
       sinks = sinks_of (sink_view O.taken O.faults out.old) (sink_view O.taken O.faults out.new)
@@ -145,17 +139,41 @@ fn answer_each<R: Threads + Sync, S: Source, O: Sink, E: Sink, G: Gate + Sync>(
     ensures next { S.follows source.old source.new }
 {
     archives_come_in_batches();
-    let Ok(kept) = none_kept(alloc, plan.len()) else {
+    let Ok(plan) = SharedPlan::make(crew.alloc, queries) else {
         return Status::NoMemory;
     };
-    let workers = settings.workers;
+    answer_each(crew, &plan, source, out, err)
+}
+
+// Answers the queries of a plan: the games of one batch after the other, what is to be written of them before the next batch is asked for.
+fn answer_each<R: Threads + Sync, S: Source, O: Sink, E: Sink, G: Gate + Sync>(
+    crew: &Crew<'_, R, G>,
+    plan: &SharedPlan,
+    source: &mut S,
+    out: &mut O,
+    err: &mut E,
+) -> Status
+    requires { (1 ≤ length (trees_of (queries_of plan.now))) × (length (trees_of (queries_of plan.now)) ≤ 16) }
+    ensures answers { AnswerPromise (texts_of_all (trees_of (queries_of plan.now))) result (record {
+      limit = crew.now.settings.limit;
+      source = source_view S.left S.faults source.old;
+      source_after = source_view S.left S.faults source.new;
+      sinks = sinks_of (sink_view O.taken O.faults out.old) (sink_view O.taken O.faults out.new)
+          (sink_view E.taken E.faults err.old) (sink_view E.taken E.faults err.new);
+    }) }
+    ensures next { S.follows source.old source.new }
+{
+    archives_come_in_batches();
+    let Ok(kept) = none_kept(crew.alloc, plan.len()) else {
+        return Status::NoMemory;
+    };
     let mut taker = AllQueries {
-        alloc,
+        alloc: crew.alloc,
         plan,
         answer: |batch: &Batch| -> Result<ManyAnswers, NoMemory>
-            requires { IsSync R.row × IsSync G.row × (1 ≤ workers) × (workers ≤ 64) }
+            requires { IsSync R.row × IsSync G.row }
             ensures { IfOk result (λ many. AreManyOf (trees_of (queries_of plan.entry.now)) batch.now (answers_in many)) }
-        { run_many(rt, alloc, plan, batch, workers, gate) },
+        { many_answers(crew, plan, batch) },
         tally: Tally {
             games: 0,
             matched: 0,
@@ -163,9 +181,28 @@ fn answer_each<R: Threads + Sync, S: Source, O: Sink, E: Sink, G: Gate + Sync>(
         },
         kept,
     };
-    match take_batches(alloc, settings.limit, source, &mut taker, out, err) {
-        Ok(Ended::All(_)) => write_outputs(alloc, plan, taker.tally, taker.kept, out, err),
+    match take_batches(
+        crew.alloc,
+        crew.settings.limit,
+        source,
+        &mut taker,
+        out,
+        err,
+    ) {
+        Ok(Ended::All(_)) => write_outputs(crew.alloc, plan, taker.tally, taker.kept, out, err),
         Ok(Ended::Early(status)) => status,
         Err(refusal) => status_of(refusal),
     }
+}
+
+// For each query of a plan, the answers of the games of a batch.
+fn many_answers<R: Threads + Sync, G: Gate + Sync>(
+    crew: &Crew<'_, R, G>,
+    plan: &SharedPlan,
+    batch: &Batch,
+) -> Result<ManyAnswers, NoMemory>
+    ensures { IfOk result (λ many. AreManyOf (trees_of (queries_of plan.now)) batch.now (answers_in many)) }
+{
+    let workers = crew.settings.workers;
+    run_many(crew.rt, crew.alloc, plan, batch, workers, crew.gate)
 }

@@ -5,6 +5,7 @@ ghost use Rattle.cq_run.specs.FirstGame.{wanted};
 ghost use Rattle.cq_run.specs.Promise.{AnswerPromise, source_view, sink_view, sinks_of};
 
 use crate::all_games::answer_all;
+use crate::crew::Crew;
 use crate::first_match::answer_first;
 use crate::laws::archives_come_in_batches;
 use crate::status::Status;
@@ -53,12 +54,33 @@ pub fn answer<R: Threads + Sync, S: Source, O: Sink, E: Sink, G: Gate + Sync>(
     }) }
     ensures next { S.follows source.old source.new }
 {
+    let crew = Crew::new(rt, alloc, settings, gate);
+    answer_with(&crew, query, source, out, err)
+}
+
+/// Answers a query as `answer` does.
+pub fn answer_with<R: Threads + Sync, S: Source, O: Sink, E: Sink, G: Gate + Sync>(
+    crew: &Crew<'_, R, G>,
+    query: &TypedQuery,
+    source: &mut S,
+    out: &mut O,
+    err: &mut E,
+) -> Status
+    ensures answers { AnswerPromise (wanted crew.now.settings.first (query_tree query.now.query)) result (record {
+      limit = crew.now.settings.limit;
+      source = source_view S.left S.faults source.old;
+      source_after = source_view S.left S.faults source.new;
+      sinks = sinks_of (sink_view O.taken O.faults out.old) (sink_view O.taken O.faults out.new)
+          (sink_view E.taken E.faults err.old) (sink_view E.taken E.faults err.new);
+    }) }
+    ensures next { S.follows source.old source.new }
+{
     archives_come_in_batches();
-    let Ok(plan) = Plan::make(alloc, query) else {
+    let Ok(plan) = Plan::make(crew.alloc, query) else {
         return Status::NoMemory;
     };
-    if settings.first {
-        return answer_first(rt, alloc, &plan, settings, source, out, err, gate);
+    if crew.settings.first {
+        return answer_first(crew, &plan, source, out, err);
     }
-    answer_all(rt, alloc, &plan, settings, source, out, err, gate)
+    answer_all(crew, &plan, source, out, err)
 }

@@ -1,5 +1,5 @@
 //! Answering batch by batch up to the first match.
-ghost use Rattle.std.specs.Prelude.{◌≤◌, ◌^◌, IfOk};
+ghost use Rattle.std.specs.Prelude.{IfOk};
 ghost use Rattle.std.specs.Fn.{FnReturnsAt};
 ghost use Rattle.std.specs.Thread.{IsSync};
 ghost use Rattle.cq_batches.specs.declared.batch.Batch.{Batch};
@@ -10,6 +10,7 @@ ghost use Rattle.cq_run.specs.Promise.{AnswerPromise, source_view, sink_view, si
 ghost use Rattle.cq_run.specs.Takers.{FirstStopped, FoundNone, Taken};
 ghost use Rattle.cq_run.specs.Writing.{stand_of};
 
+use crate::crew::Crew;
 use crate::laws::archives_come_in_batches;
 use crate::output::{write_answers, write_summary};
 use crate::status::{Status, status_of};
@@ -17,12 +18,11 @@ use crate::tally::Tally;
 use cq_batches::{Batch, Ended, Taker, take_batches};
 use cq_outside::{Gate, NoMemory, Refusal, Sink, Source};
 use cq_shards::{GameAnswer, run_first};
-use cq_words::Settings;
 use cql_plan::Plan;
 use std::alloc::Global;
 use std::thread::Threads;
 
-/// Answers the games of one batch after the other to the query of `plan`, up to the first that matches, and then writes the last line of
+/// Answers the query of `plan` over the games of one batch after the other, up to the first that matches, and then writes the last line of
 /// the report.
 #[derive(Drop)]
 struct UpToFirst<'a, F> {
@@ -70,19 +70,14 @@ impl<'a, F: Fn(&Batch) -> Result<Vec<GameAnswer>, NoMemory>, O: Sink, E: Sink> T
 /// Answers the query of a plan over the archive that `source` has left up to the first game that matches: the games of one batch after
 /// the other, what is to be written of them before the next batch is asked for, and none after the batch of that game.
 pub fn answer_first<R: Threads + Sync, S: Source, O: Sink, E: Sink, G: Gate + Sync>(
-    rt: &R,
-    alloc: Global,
+    crew: &Crew<'_, R, G>,
     plan: &Plan,
-    settings: Settings,
     source: &mut S,
     out: &mut O,
     err: &mut E,
-    gate: &G,
 ) -> Status
-    requires workers { (1 ≤ settings.workers) × (settings.workers ≤ 64) }
-    requires limit { (1 ≤ settings.limit) × (settings.limit ≤ 2 ^ 40) }
     ensures answers { AnswerPromise (first_texts (query_in plan.now)) result (record {
-      limit = settings.limit;
+      limit = crew.now.settings.limit;
       source = source_view S.left S.faults source.old;
       source_after = source_view S.left S.faults source.new;
       sinks = sinks_of (sink_view O.taken O.faults out.old) (sink_view O.taken O.faults out.new)
@@ -91,24 +86,42 @@ pub fn answer_first<R: Threads + Sync, S: Source, O: Sink, E: Sink, G: Gate + Sy
     ensures next { S.follows source.old source.new }
 {
     archives_come_in_batches();
-    let workers = settings.workers;
     let mut taker = UpToFirst {
-        alloc,
+        alloc: crew.alloc,
         plan,
         answer: |batch: &Batch| -> Result<Vec<GameAnswer>, NoMemory>
-            requires { IsSync R.row × IsSync G.row × (1 ≤ workers) × (workers ≤ 64) }
+            requires { IsSync R.row × IsSync G.row }
             ensures { IfOk result (λ answers. AnswersUpToFirst (query_in plan.entry.now) batch.now answers.items) }
-        { run_first(rt, alloc, plan, batch, workers, gate) },
+        { first_answers(crew, plan, batch) },
         tally: Tally {
             games: 0,
             matched: 0,
             refused: 0,
         },
-        kept: Vec::new(alloc),
+        kept: Vec::new(crew.alloc),
     };
-    match take_batches(alloc, settings.limit, source, &mut taker, out, err) {
-        Ok(Ended::All(_)) => write_summary(alloc, taker.tally, err),
+    match take_batches(
+        crew.alloc,
+        crew.settings.limit,
+        source,
+        &mut taker,
+        out,
+        err,
+    ) {
+        Ok(Ended::All(_)) => write_summary(crew.alloc, taker.tally, err),
         Ok(Ended::Early(status)) => status,
         Err(refusal) => status_of(refusal),
     }
+}
+
+// The answers of the games of a batch up to the first that matches, in the order of the games.
+fn first_answers<R: Threads + Sync, G: Gate + Sync>(
+    crew: &Crew<'_, R, G>,
+    plan: &Plan,
+    batch: &Batch,
+) -> Result<Vec<GameAnswer>, NoMemory>
+    ensures { IfOk result (λ answers. AnswersUpToFirst (query_in plan.now) batch.now answers.items) }
+{
+    let workers = crew.settings.workers;
+    run_first(crew.rt, crew.alloc, plan, batch, workers, crew.gate)
 }

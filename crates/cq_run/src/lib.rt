@@ -5,6 +5,7 @@ mod all_games;
 mod all_queries;
 mod archives;
 mod command;
+mod crew;
 mod first_match;
 mod flat_form;
 mod keeping;

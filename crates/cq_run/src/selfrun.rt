@@ -16,6 +16,7 @@ ghost use Rattle.cq_run.specs.Takers.{Taken};
 ghost use Rattle.cq_run.specs.Writing.{counted};
 
 use crate::all_games::batch_answers;
+use crate::crew::Crew;
 use crate::laws::archives_come_in_batches;
 use crate::queries::{read_query, refuse_query};
 use crate::status::Status;
@@ -27,6 +28,7 @@ use cq_maker::make_archive;
 use cq_outside::{Bytes, Gate, NoMemory, Refusal, Sink, SureSource, write_all_of};
 use cq_report::made_line;
 use cq_shards::{Answer, GameAnswer};
+use cq_words::{SelfRunSettings, Settings};
 use cql_plan::Plan;
 use cql_syntax::TypedQuery;
 use std::alloc::Global;
@@ -35,21 +37,19 @@ use std::thread::Threads;
 /// A limit that no made archive reaches, in bytes.
 const LIMIT: u64 = 1 << 40;
 
-/// Answers the query that a text is over the archive of so many games that a seed gives: `out` takes one line with the counts.
+/// Answers the query that a text is over the archive that is made as the settings say: `out` takes one line with the counts.
 pub fn answer_text_over_made<R: Threads + Sync, O: Sink, E: Sink, G: Gate + Sync>(
     rt: &R,
     alloc: Global,
     text: &[u8],
-    seed: u32,
-    games: u32,
-    workers: u32,
+    settings: SelfRunSettings,
     out: &mut O,
     err: &mut E,
     gate: &G,
 ) -> Status
-    requires games { games ≤ 100000 }
-    requires workers { (1 ≤ workers) × (workers ≤ 64) }
-    ensures { (desk : DeskView) → OverText text.now (RunsMade seed games) result (call_of desk desk
+    requires games { settings.games ≤ 100000 }
+    requires workers { (1 ≤ settings.workers) × (settings.workers ≤ 64) }
+    ensures { (desk : DeskView) → OverText text.now (RunsMade settings.seed settings.games) result (call_of desk desk
         (sinks_of (sink_view O.taken O.faults out.old) (sink_view O.taken O.faults out.new)
         (sink_view E.taken E.faults err.old) (sink_view E.taken E.faults err.new))) }
 {
@@ -58,52 +58,50 @@ pub fn answer_text_over_made<R: Threads + Sync, O: Sink, E: Sink, G: Gate + Sync
         Err(Refusal::Fault(fault)) => return refuse_query(alloc, &fault, err),
         Err(Refusal::NoMemory) => return Status::NoMemory,
     };
-    answer_made(rt, alloc, &query, seed, games, workers, out, gate)
+    let all = Settings {
+        workers: settings.workers,
+        limit: LIMIT,
+        first: false,
+    };
+    let crew = Crew::new(rt, alloc, all, gate);
+    answer_made(&crew, &query, settings.seed, settings.games, out)
 }
 
 // Answers a query that is accepted over the archive of so many games that a seed gives.
 fn answer_made<R: Threads + Sync, O: Sink, G: Gate + Sync>(
-    rt: &R,
-    alloc: Global,
+    crew: &Crew<'_, R, G>,
     query: &TypedQuery,
     seed: u32,
     games: u32,
-    workers: u32,
     out: &mut O,
-    gate: &G,
 ) -> Status
-    requires games { games ≤ 100000 }
-    requires workers { (1 ≤ workers) × (workers ≤ 64) }
+    requires { games ≤ 100000 }
     ensures { (err : SinkView) → WritesMade (made seed games) (query_tree query.now.query) result
         (sinks_of (sink_view O.taken O.faults out.old) (sink_view O.taken O.faults out.new) err err) }
 {
-    match made_totals(rt, alloc, query, seed, games, workers, gate) {
-        Ok(totals) => write_totals(alloc, totals, out),
+    match made_totals(crew, query, seed, games) {
+        Ok(totals) => write_totals(crew.alloc, totals, out),
         Err(_) => Status::NoMemory,
     }
 }
 
 // What a query finds in the archive of so many games that a seed gives.
 fn made_totals<R: Threads + Sync, G: Gate + Sync>(
-    rt: &R,
-    alloc: Global,
+    crew: &Crew<'_, R, G>,
     query: &TypedQuery,
     seed: u32,
     games: u32,
-    workers: u32,
-    gate: &G,
 ) -> Result<Totals, NoMemory>
-    requires games { games ≤ 100000 }
-    requires workers { (1 ≤ workers) × (workers ≤ 64) }
+    requires { games ≤ 100000 }
     ensures { IfOk result (AreTotals (query_tree query.now.query) (made seed games)) }
 {
     archives_are_short();
-    let plan = Plan::make(alloc, query)?;
-    let archive = make_archive(alloc, seed, games)?;
-    count_archive(rt, alloc, &plan, archive, workers, gate)
+    let plan = Plan::make(crew.alloc, query)?;
+    let archive = make_archive(crew.alloc, seed, games)?;
+    count_archive(crew, &plan, archive)
 }
 
-// Answers the games of one batch after the other, and counts what is found.
+// Answers the query of `plan` over the games of one batch after the other, and counts what is found.
 #[derive(Drop)]
 struct Counter<'a, F> {
     plan: &'a Plan,
@@ -134,29 +132,32 @@ impl<'a, F: Fn(&Batch) -> Result<Vec<GameAnswer>, NoMemory>> Taker<(), ()> for C
 
 // What the query of a plan finds in an archive within the limit, batch by batch.
 fn count_archive<R: Threads + Sync, G: Gate + Sync>(
-    rt: &R,
-    alloc: Global,
+    crew: &Crew<'_, R, G>,
     plan: &Plan,
     archive: Bytes,
-    workers: u32,
-    gate: &G,
 ) -> Result<Totals, NoMemory>
     requires size { length archive ≤ 2 ^ 40 }
-    requires workers { (1 ≤ workers) × (workers ≤ 64) }
     ensures { IfOk result (AreTotals (query_in plan.now) archive) }
 {
     archives_come_in_batches();
     let mut taker = Counter {
         plan,
         answer: |batch: &Batch| -> Result<Vec<GameAnswer>, NoMemory>
-            requires { IsSync R.row × IsSync G.row × (1 ≤ workers) × (workers ≤ 64) }
+            requires { IsSync R.row × IsSync G.row }
             ensures { IfOk result (λ answers. AnswersBatch (query_in plan.entry.now) batch.now answers.items) }
-        { batch_answers(rt, alloc, plan, batch, workers, gate) },
+        { batch_answers(crew, plan, batch) },
         totals: no_totals(archive.len() as u64),
     };
     let mut source = SureSource::new(archive);
     let (mut out, mut err) = ((), ());
-    match take_batches(alloc, LIMIT, &mut source, &mut taker, &mut out, &mut err) {
+    match take_batches(
+        crew.alloc,
+        LIMIT,
+        &mut source,
+        &mut taker,
+        &mut out,
+        &mut err,
+    ) {
         Ok(Ended::All(_)) => Ok(taker.totals),
         Ok(Ended::Early(NoMemory)) => Err(NoMemory),
         Err(Refusal::Fault(_)) => unreachable!(),

@@ -37,7 +37,7 @@ impl Status {
     }
 }
 
-/// How a call ends that is refused the next batch.
+/// The status of a call that was refused the next batch.
 pub fn status_of(refusal: Refusal<BatchFault>) -> Status
     ensures { result ≡ status_after refusal }
 {

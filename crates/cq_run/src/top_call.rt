@@ -1,25 +1,26 @@
 //! The top call.
-ghost use Rattle.std.specs.Prelude.{map, length, false, ◌≡◌, ◌≤◌, ◌^◌};
+ghost use Rattle.std.specs.Prelude.{map, length, ◌≤◌};
 ghost use Rattle.std.specs.String.{string_bytes};
 ghost use Rattle.cq_words.specs.Jobs.{IsInRange};
+ghost use Rattle.cq_words.specs.declared.job.Job.TheVariants as jobs;
 ghost use Rattle.cq_shared.specs.Plans.{trees_of};
 ghost use Rattle.cql_syntax.specs.TreeOf.{query_tree};
 ghost use Rattle.cq_run.specs.FirstGame.{wanted};
 ghost use Rattle.cq_run.specs.ManyQueries.{texts_of_all};
-ghost use Rattle.cq_run.specs.QueryReading.{AsksOne, call_of};
+ghost use Rattle.cq_run.specs.QueryReading.{call_of};
 ghost use Rattle.cq_run.specs.Promise.{SinkView, desk_view, sink_view, sinks_of};
-ghost use Rattle.cq_run.specs.Run.{Promise, AnswersFile, OverText, OverFile, SaysAccepted, Explains, DoesJob, WritesUsage};
-ghost use Rattle.cq_run.specs.Run.{a_query, some_queries};
+ghost use Rattle.cq_run.specs.Run.{Promise, AnswersFile, OverFile, SaysAccepted, Explains, DoesJob, WritesUsage, a_query};
 
-use crate::all_queries::answer_many;
-use crate::archives::answer;
+use crate::all_queries::answer_many_with;
+use crate::archives::answer_with;
+use crate::crew::Crew;
 use crate::flat_form::explain;
 use crate::queries::{accept_query, query_in_file, read_query, refuse_query, report_refusal};
 use crate::query_files::{queries_in_file, report_queries_refusal};
 use crate::selfrun::answer_text_over_made;
 use crate::status::Status;
 use cq_outside::{Desk, Gate, OpenFault, Refusal, Sink, write_all_of};
-use cq_words::{Job, Settings, read_words};
+use cq_words::{Job, read_words};
 use cql_parser::{faulty_tokens_spell_no_query, tokens_spell_at_most_one_query};
 use cql_syntax::TypedQuery;
 use std::alloc::Global;
@@ -119,161 +120,99 @@ fn do_job<R: Threads + Sync, D: Desk, O: Sink, E: Sink, G: Gate + Sync>(
         (sink_view E.taken E.faults err.old) (sink_view E.taken E.faults err.new))) }
 {
     match job {
-        Job::Run { .. } => answer_one(rt, alloc, job, desk, out, err, gate),
-        Job::Eval { .. } => answer_one(rt, alloc, job, desk, out, err, gate),
-        Job::Check { query } => check_file(alloc, query.as_slice(), desk, out, err),
-        Job::Explain { query } => explain_file(alloc, query.as_slice(), desk, out, err),
-        Job::SelfRun {
-            text,
-            seed,
-            games,
-            workers,
-        } => {
-            let text = text.as_slice();
-            answer_text_over_made(rt, alloc, text, *seed, *games, *workers, out, err, gate)
-        }
-        Job::Many {
-            queries,
-            archive,
-            workers,
-            limit,
-        } => {
-            let settings = Settings {
-                workers: *workers,
-                limit: *limit,
-                first: false,
-            };
-            let (queries, archive) = (queries.as_slice(), archive.as_slice());
-            answer_queries_file(rt, alloc, queries, archive, settings, desk, out, err, gate)
-        }
-    }
-}
-
-// Does a job that answers one query over an archive in a file.
-fn answer_one<R: Threads + Sync, D: Desk, O: Sink, E: Sink, G: Gate + Sync>(
-    rt: &R,
-    alloc: Global,
-    job: &Job,
-    desk: &mut D,
-    out: &mut O,
-    err: &mut E,
-    gate: &G,
-) -> Status
-    requires ranges { IsInRange job.now }
-    requires one { AsksOne job.now }
-    ensures { DoesJob job.now result (call_of
-        (desk_view D.told D.left D.faults D.open_faults desk.old) (desk_view D.told D.left D.faults D.open_faults desk.new)
-        (sinks_of (sink_view O.taken O.faults out.old) (sink_view O.taken O.faults out.new)
-        (sink_view E.taken E.faults err.old) (sink_view E.taken E.faults err.new))) }
-{
-    match job {
         Job::Run {
             query,
             archive,
-            workers,
-            limit,
-            first,
+            settings,
         } => {
-            let settings = Settings {
-                workers: *workers,
-                limit: *limit,
-                first: *first,
-            };
+            let crew = Crew::new(rt, alloc, *settings, gate);
             let (query, archive) = (query.as_slice(), archive.as_slice());
-            answer_query_file(rt, alloc, query, archive, settings, desk, out, err, gate)
+            answer_query_file(&crew, query, archive, desk, out, err)
         }
         Job::Eval {
             text,
             archive,
-            workers,
-            limit,
-            first,
+            settings,
         } => {
-            let settings = Settings {
-                workers: *workers,
-                limit: *limit,
-                first: *first,
-            };
+            let crew = Crew::new(rt, alloc, *settings, gate);
             let (text, archive) = (text.as_slice(), archive.as_slice());
-            answer_text(rt, alloc, text, archive, settings, desk, out, err, gate)
+            answer_text(&crew, text, archive, desk, out, err)
         }
-        _ => unreachable!(),
+        Job::Check { query } => check_file(alloc, query.as_slice(), desk, out, err),
+        Job::Explain { query } => explain_file(alloc, query.as_slice(), desk, out, err),
+        Job::SelfRun { text, settings } => {
+            answer_text_over_made(rt, alloc, text.as_slice(), *settings, out, err, gate)
+        }
+        Job::Many {
+            queries,
+            archive,
+            settings,
+        } => {
+            let crew = Crew::new(rt, alloc, *settings, gate);
+            let (queries, archive) = (queries.as_slice(), archive.as_slice());
+            answer_queries_file(&crew, queries, archive, desk, out, err)
+        }
     }
 }
 
 // Answers the query in a file over the archive in another.
 fn answer_query_file<R: Threads + Sync, D: Desk, O: Sink, E: Sink, G: Gate + Sync>(
-    rt: &R,
-    alloc: Global,
+    crew: &Crew<'_, R, G>,
     name: &[u8],
     archive: &[u8],
-    settings: Settings,
     desk: &mut D,
     out: &mut O,
     err: &mut E,
-    gate: &G,
 ) -> Status
-    requires workers { (1 ≤ settings.workers) × (settings.workers ≤ 64) }
-    requires limit { (1 ≤ settings.limit) × (settings.limit ≤ 2 ^ 40) }
-    ensures { OverFile a_query name.now (λ asks. AnswersFile archive.now settings.limit (wanted settings.first asks)) result (call_of
+    ensures { DoesJob (jobs.Run name.now archive.now crew.now.settings) result (call_of
         (desk_view D.told D.left D.faults D.open_faults desk.old) (desk_view D.told D.left D.faults D.open_faults desk.new)
         (sinks_of (sink_view O.taken O.faults out.old) (sink_view O.taken O.faults out.new)
         (sink_view E.taken E.faults err.old) (sink_view E.taken E.faults err.new))) }
 {
-    match query_in_file(alloc, name, desk) {
-        Ok(query) => answer_file(rt, alloc, &query, archive, settings, desk, out, err, gate),
-        Err(why) => report_refusal(alloc, &why, err),
+    match query_in_file(crew.alloc, name, desk) {
+        Ok(query) => answer_file(crew, &query, archive, desk, out, err),
+        Err(why) => report_refusal(crew.alloc, &why, err),
     }
 }
 
 // Answers the query that a text is over the archive in a file.
 fn answer_text<R: Threads + Sync, D: Desk, O: Sink, E: Sink, G: Gate + Sync>(
-    rt: &R,
-    alloc: Global,
+    crew: &Crew<'_, R, G>,
     text: &[u8],
     archive: &[u8],
-    settings: Settings,
     desk: &mut D,
     out: &mut O,
     err: &mut E,
-    gate: &G,
 ) -> Status
-    requires workers { (1 ≤ settings.workers) × (settings.workers ≤ 64) }
-    requires limit { (1 ≤ settings.limit) × (settings.limit ≤ 2 ^ 40) }
-    ensures { OverText text.now (λ asks. AnswersFile archive.now settings.limit (wanted settings.first asks)) result (call_of
+    ensures { DoesJob (jobs.Eval text.now archive.now crew.now.settings) result (call_of
         (desk_view D.told D.left D.faults D.open_faults desk.old) (desk_view D.told D.left D.faults D.open_faults desk.new)
         (sinks_of (sink_view O.taken O.faults out.old) (sink_view O.taken O.faults out.new)
         (sink_view E.taken E.faults err.old) (sink_view E.taken E.faults err.new))) }
 {
-    let query = match read_query(alloc, text) {
+    let query = match read_query(crew.alloc, text) {
         Ok(query) => query,
-        Err(Refusal::Fault(fault)) => return refuse_query(alloc, &fault, err),
+        Err(Refusal::Fault(fault)) => return refuse_query(crew.alloc, &fault, err),
         Err(Refusal::NoMemory) => return Status::NoMemory,
     };
-    answer_file(rt, alloc, &query, archive, settings, desk, out, err, gate)
+    answer_file(crew, &query, archive, desk, out, err)
 }
 
 // Answers a query that is accepted over the archive in a file.
 fn answer_file<R: Threads + Sync, D: Desk, O: Sink, E: Sink, G: Gate + Sync>(
-    rt: &R,
-    alloc: Global,
+    crew: &Crew<'_, R, G>,
     query: &TypedQuery,
     archive: &[u8],
-    settings: Settings,
     desk: &mut D,
     out: &mut O,
     err: &mut E,
-    gate: &G,
 ) -> Status
-    requires workers { (1 ≤ settings.workers) × (settings.workers ≤ 64) }
-    requires limit { (1 ≤ settings.limit) × (settings.limit ≤ 2 ^ 40) }
-    ensures { AnswersFile archive.now settings.limit (wanted settings.first (query_tree query.now.query)) result (call_of
+    ensures { AnswersFile archive.now crew.now.settings.limit (wanted crew.now.settings.first (query_tree query.now.query)) result (call_of
         (desk_view D.told D.left D.faults D.open_faults desk.old) (desk_view D.told D.left D.faults D.open_faults desk.new)
         (sinks_of (sink_view O.taken O.faults out.old) (sink_view O.taken O.faults out.new)
         (sink_view E.taken E.faults err.old) (sink_view E.taken E.faults err.new))) }
 {
-    match desk.open(alloc, archive) {
-        Ok(()) => answer(rt, alloc, query, settings, desk, out, err, gate),
+    match desk.open(crew.alloc, archive) {
+        Ok(()) => answer_with(crew, query, desk, out, err),
         Err(OpenFault::Failed) => Status::OpenFault,
         Err(OpenFault::NoMemory) => Status::NoMemory,
     }
@@ -281,56 +220,41 @@ fn answer_file<R: Threads + Sync, D: Desk, O: Sink, E: Sink, G: Gate + Sync>(
 
 // Answers the queries in a file over the archive in another.
 fn answer_queries_file<R: Threads + Sync, D: Desk, O: Sink, E: Sink, G: Gate + Sync>(
-    rt: &R,
-    alloc: Global,
+    crew: &Crew<'_, R, G>,
     name: &[u8],
     archive: &[u8],
-    settings: Settings,
     desk: &mut D,
     out: &mut O,
     err: &mut E,
-    gate: &G,
 ) -> Status
-    requires workers { (1 ≤ settings.workers) × (settings.workers ≤ 64) }
-    requires limit { (1 ≤ settings.limit) × (settings.limit ≤ 2 ^ 40) }
-    requires all { settings.first ≡ false }
-    ensures { OverFile some_queries name.now (λ asks. AnswersFile archive.now settings.limit (texts_of_all asks)) result (call_of
+    ensures { DoesJob (jobs.Many name.now archive.now crew.now.settings) result (call_of
         (desk_view D.told D.left D.faults D.open_faults desk.old) (desk_view D.told D.left D.faults D.open_faults desk.new)
         (sinks_of (sink_view O.taken O.faults out.old) (sink_view O.taken O.faults out.new)
         (sink_view E.taken E.faults err.old) (sink_view E.taken E.faults err.new))) }
 {
-    match queries_in_file(alloc, name, desk) {
-        Ok(queries) => {
-            let queries = queries.as_slice();
-            answer_file_by_all(rt, alloc, queries, archive, settings, desk, out, err, gate)
-        }
-        Err(why) => report_queries_refusal(alloc, &why, err),
+    match queries_in_file(crew.alloc, name, desk) {
+        Ok(queries) => { answer_file_by_all(crew, queries.as_slice(), archive, desk, out, err) }
+        Err(why) => report_queries_refusal(crew.alloc, &why, err),
     }
 }
 
 // Answers several queries over the archive in a file.
 fn answer_file_by_all<R: Threads + Sync, D: Desk, O: Sink, E: Sink, G: Gate + Sync>(
-    rt: &R,
-    alloc: Global,
+    crew: &Crew<'_, R, G>,
     queries: &[TypedQuery],
     archive: &[u8],
-    settings: Settings,
     desk: &mut D,
     out: &mut O,
     err: &mut E,
-    gate: &G,
 ) -> Status
     requires few { (1 ≤ length queries.now) × (length queries.now ≤ 16) }
-    requires workers { (1 ≤ settings.workers) × (settings.workers ≤ 64) }
-    requires limit { (1 ≤ settings.limit) × (settings.limit ≤ 2 ^ 40) }
-    requires all { settings.first ≡ false }
-    ensures { AnswersFile archive.now settings.limit (texts_of_all (trees_of queries.now)) result (call_of
+    ensures { AnswersFile archive.now crew.now.settings.limit (texts_of_all (trees_of queries.now)) result (call_of
         (desk_view D.told D.left D.faults D.open_faults desk.old) (desk_view D.told D.left D.faults D.open_faults desk.new)
         (sinks_of (sink_view O.taken O.faults out.old) (sink_view O.taken O.faults out.new)
         (sink_view E.taken E.faults err.old) (sink_view E.taken E.faults err.new))) }
 {
-    match desk.open(alloc, archive) {
-        Ok(()) => answer_many(rt, alloc, queries, settings, desk, out, err, gate),
+    match desk.open(crew.alloc, archive) {
+        Ok(()) => answer_many_with(crew, queries, desk, out, err),
         Err(OpenFault::Failed) => Status::OpenFault,
         Err(OpenFault::NoMemory) => Status::NoMemory,
     }

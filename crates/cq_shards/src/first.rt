@@ -79,8 +79,8 @@ impl<'a, G: Gate> FirstMaker<'a, G> {
 
 /// In order, the answer of each game of a batch up to and with its first match, or of all games where none matches. So many workers,
 /// from 1 to 64, draw the games one by one. A worker that finds on the board a match before the game that it drew skips this game, which
-/// is then neither entered nor left at the gate; when it finds one is not promised. A thread that can't be started is no refusal: its
-/// worker's games are drawn by the others.
+/// is then neither entered nor left at the gate; when it finds one is not promised. A thread that can't be started is no refusal: this
+/// thread does that worker's work, after that of the later workers.
 pub fn run_first<R: Threads + Sync, G: Gate + Sync>(
     rt: &R,
     alloc: Global,

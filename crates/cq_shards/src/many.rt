@@ -78,8 +78,8 @@ impl ManyAnswers {
 /// For each query of a plan, the answers of the games of a batch, each game's once, in any order. So many workers, from 1 to 64, which
 /// is a condition, draw the games one by one, and each game is read once for all queries. It is entered at the gate by the worker that
 /// drew it, before it is read, and left with the first query's export once it is answered. A thread that can't be started is no refusal:
-/// its worker's games are drawn by the others. `NoMemory` means that a worker, or the call itself, found no memory; no answer is given
-/// then.
+/// this thread does that worker's work, after that of the later workers. `NoMemory` means that a worker, or the call itself, found no
+/// memory; no answer is given then.
 pub fn run_many<R: Threads + Sync, G: Gate + Sync>(
     rt: &R,
     alloc: Global,

@@ -50,8 +50,8 @@ impl<'a, G: Gate> Maker for AnswerMaker<'a, G> {
 
 /// The answers of the games of a batch, each game's once, in any order. So many workers, from 1 to 64, which is a condition, draw the games
 /// one by one: a game is entered at the gate by the worker that drew it, before it is read, and left with its export once it is answered.
-/// A thread that can't be started is no refusal: its worker's games are drawn by the others. `NoMemory` means that a worker, or the
-/// call itself, found no memory; no answer is given then.
+/// A thread that can't be started is no refusal: this thread does that worker's work, after that of the later workers. `NoMemory` means
+/// that a worker, or the call itself, found no memory; no answer is given then.
 pub fn run_batch<R: Threads + Sync, G: Gate + Sync>(
     rt: &R,
     alloc: Global,

@@ -1,6 +1,6 @@
 //! The modes with their words, and words that are refused.
 use cq_outside::{Bytes, NoMemory, Refusal};
-use cq_words::{Job, WordsRefused, read_words};
+use cq_words::{Job, SelfRunSettings, Settings, WordsRefused, read_words};
 use std::alloc::Global;
 use std::process::Abort;
 use std::test::Fail;
@@ -40,8 +40,11 @@ fn many(rt: HostRuntime) -> Result<(), Fail> {
         let job = Job::Many {
             queries: bytes(alloc, "q")?,
             archive: bytes(alloc, archive)?,
-            workers: *workers,
-            limit: *limit,
+            settings: Settings {
+                workers: *workers,
+                limit: *limit,
+                first: false,
+            },
         };
         expect(&rt, alloc, line, Ok(job))?;
     }
@@ -78,9 +81,11 @@ fn runs(rt: HostRuntime) -> Result<(), Fail> {
         let job = Job::Run {
             query: bytes(alloc, "q")?,
             archive: bytes(alloc, archive)?,
-            workers: *workers,
-            limit: *limit,
-            first: *first,
+            settings: Settings {
+                workers: *workers,
+                limit: *limit,
+                first: *first,
+            },
         };
         expect(&rt, alloc, line, Ok(job))?;
     }
@@ -105,9 +110,11 @@ fn self_runs(rt: HostRuntime) -> Result<(), Fail> {
     for (line, seed, games, workers) in SELF_RUNS.iter() {
         let job = Job::SelfRun {
             text: bytes(alloc, "mate")?,
-            seed: *seed,
-            games: *games,
-            workers: *workers,
+            settings: SelfRunSettings {
+                seed: *seed,
+                games: *games,
+                workers: *workers,
+            },
         };
         expect(&rt, alloc, line, Ok(job))?;
     }
@@ -120,9 +127,11 @@ fn other_modes(rt: HostRuntime) -> Result<(), Fail> {
     let eval = Job::Eval {
         text: bytes(alloc, "mate")?,
         archive: bytes(alloc, "-")?,
-        workers: 4,
-        limit: MOST,
-        first: false,
+        settings: Settings {
+            workers: 4,
+            limit: MOST,
+            first: false,
+        },
     };
     expect(&rt, alloc, "eval mate", Ok(eval))?;
     let query = bytes(alloc, "q")?;

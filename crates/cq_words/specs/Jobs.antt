@@ -95,12 +95,12 @@ has_more rows = is_given rows (codes "archive") || (is_given rows (codes "worker
     || (is_given rows (codes "games") || (is_given rows (codes "limit") || is_set rows (codes "first")))))
 
 abbrev pub job_by : Mode → Text → List Row → Option Job
-job_by mode.Run query rows = option_map (λ s. job.Run query (archive_in rows) s.workers s.limit s.first) (settings_in rows)
-job_by mode.Eval query rows = option_map (λ s. job.Eval query (archive_in rows) s.workers s.limit s.first) (settings_in rows)
+job_by mode.Run query rows = option_map (λ s. job.Run query (archive_in rows) s) (settings_in rows)
+job_by mode.Eval query rows = option_map (λ s. job.Eval query (archive_in rows) s) (settings_in rows)
 job_by mode.Check query rows = if has_more rows then None else Some (job.Check query)
 job_by mode.Explain query rows = if has_more rows then None else Some (job.Explain query)
-job_by mode.SelfRun query rows = option_map (λ m. job.SelfRun query m.seed m.games m.workers) (self_run_settings_in rows)
-job_by mode.Many queries rows = option_map (λ s. job.Many queries (archive_in rows) s.workers s.limit) (many_settings_in rows)
+job_by mode.SelfRun query rows = option_map (λ s. job.SelfRun query s) (self_run_settings_in rows)
+job_by mode.Many queries rows = option_map (λ s. job.Many queries (archive_in rows) s) (many_settings_in rows)
 
 -- the job of matches that keep the rules; none of others
 abbrev pub job_in : List Row → Option Job
@@ -120,11 +120,15 @@ Answers asked (Ok found) = asked ≡ Some found
 Answers asked (Err (Fault refused)) = asked ≡ None
 Answers asked (Err NoMemory) = Unit {0}
 
+-- each number of settings lies in its range
+abbrev pub AreInRange : Settings → Type 0
+AreInRange s = (1 ≤ s.workers) × (s.workers ≤ 64) × (1 ≤ s.limit) × (s.limit ≤ 1099511627776)
+
 -- each number of a job lies in its range
 abbrev pub IsInRange : Job → Type 0
-IsInRange (job.Run query archive workers limit first) = (1 ≤ workers) × (workers ≤ 64) × (1 ≤ limit) × (limit ≤ 1099511627776)
-IsInRange (job.Eval text archive workers limit first) = (1 ≤ workers) × (workers ≤ 64) × (1 ≤ limit) × (limit ≤ 1099511627776)
+IsInRange (job.Run query archive s) = AreInRange s
+IsInRange (job.Eval text archive s) = AreInRange s
 IsInRange (job.Check query) = Unit {0}
 IsInRange (job.Explain query) = Unit {0}
-IsInRange (job.SelfRun text seed games workers) = (seed ≤ 4294967295) × (games ≤ 100000) × (1 ≤ workers) × (workers ≤ 64)
-IsInRange (job.Many queries archive workers limit) = (1 ≤ workers) × (workers ≤ 64) × (1 ≤ limit) × (limit ≤ 1099511627776)
+IsInRange (job.SelfRun text s) = (s.seed ≤ 4294967295) × (s.games ≤ 100000) × (1 ≤ s.workers) × (s.workers ≤ 64)
+IsInRange (job.Many queries archive s) = AreInRange s

@@ -29,17 +29,13 @@ pub enum Job {
     Run {
         query: Bytes,
         archive: Bytes,
-        workers: u32,
-        limit: u64,
-        first: bool,
+        settings: Settings,
     },
     /// To answer the query `text` over the archive in the file `archive`.
     Eval {
         text: Bytes,
         archive: Bytes,
-        workers: u32,
-        limit: u64,
-        first: bool,
+        settings: Settings,
     },
     /// To say whether the query in the file `query` is accepted.
     Check {
@@ -49,19 +45,17 @@ pub enum Job {
     Explain {
         query: Bytes,
     },
-    /// To answer the query `text` over an archive of so many games, made from the seed.
+    /// To answer the query `text` over an archive that is made.
     SelfRun {
         text: Bytes,
-        seed: u32,
-        games: u32,
-        workers: u32,
+        settings: SelfRunSettings,
     },
-    /// To answer each query in the file of queries `queries` over one reading of the archive in the file `archive`.
+    /// To answer each query in the file of queries `queries` over one reading of the archive in the file `archive`, never up to the first
+    /// match alone.
     Many {
         queries: Bytes,
         archive: Bytes,
-        workers: u32,
-        limit: u64,
+        settings: Settings,
     },
 }
 
@@ -76,12 +70,14 @@ pub struct Settings {
     pub first: bool,
 }
 
-// The settings of `selfrun`: how its archive is made, and by how many workers it is answered.
-#[derive(Clone, Copy)]
-pub(crate) struct SelfRunSettings {
-    pub(crate) seed: u32,
-    pub(crate) games: u32,
-    pub(crate) workers: u32,
+/// How an archive is made and answered: from which seed, of how many games, and by how many workers.
+#[derive(Clone, Copy, Debug, PartialEq, Eq)]
+pub struct SelfRunSettings {
+    pub seed: u32,
+    /// At most 100,000.
+    pub games: u32,
+    /// From 1 to 64.
+    pub workers: u32,
 }
 
 /// The words ask for nothing that the program does.

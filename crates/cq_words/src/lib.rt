@@ -8,5 +8,5 @@ mod mode;
 mod options;
 mod reading;
 
-pub use job::{Job, Settings, WordsRefused};
+pub use job::{Job, SelfRunSettings, Settings, WordsRefused};
 pub use reading::read_words;

@@ -1,7 +1,7 @@
 //! What the matches give of each argument.
 ghost use Rattle.std.specs.Prelude.{◌≡◌, ◌≤◌, IfSome, IfOk, option_map};
 ghost use Rattle.clap.specs.Words.{first_of, found_of, rows_of};
-ghost use Rattle.cq_words.specs.Jobs.{archive_in, has_more, is_given, is_set, many_settings_in, number_of, number_or, self_run_settings_in, settings_in, workers_in};
+ghost use Rattle.cq_words.specs.Jobs.{AreInRange, archive_in, has_more, is_given, is_set, many_settings_in, number_of, number_or, self_run_settings_in, settings_in, workers_in};
 
 use crate::job::{
     BYTES_LIMIT, DEFAULT_GAMES, DEFAULT_SEED, DEFAULT_WORKERS, GAMES_LIMIT, SEED_LIMIT,
@@ -69,7 +69,7 @@ fn workers_in(matches: &ArgMatches<'_>) -> Option<u32>
 // The settings of `run` and `eval`; none where an option is given that they don't take.
 pub(crate) fn settings_in(matches: &ArgMatches<'_>) -> Option<Settings>
     ensures value { result ≡ settings_in (rows_of (found_of matches.now)) }
-    ensures bounds { IfSome result (λ s. (1 ≤ s.workers) × (s.workers ≤ 64) × (1 ≤ s.limit) × (s.limit ≤ 1099511627776)) }
+    ensures bounds { IfSome result AreInRange }
 {
     if is_given(matches, "seed") || is_given(matches, "games") {
         return None;
@@ -87,7 +87,7 @@ pub(crate) fn settings_in(matches: &ArgMatches<'_>) -> Option<Settings>
 // The settings of `many`; none where an option is given that it doesn't take.
 pub(crate) fn many_settings_in(matches: &ArgMatches<'_>) -> Option<Settings>
     ensures value { result ≡ many_settings_in (rows_of (found_of matches.now)) }
-    ensures bounds { IfSome result (λ s. (1 ≤ s.workers) × (s.workers ≤ 64) × (1 ≤ s.limit) × (s.limit ≤ 1099511627776)) }
+    ensures bounds { IfSome result AreInRange }
 {
     if is_set(matches, "first") {
         return None;

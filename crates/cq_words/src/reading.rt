@@ -44,9 +44,7 @@ fn run_job(
     Ok(Job::Run {
         query: Bytes::from_slice(alloc, query.as_bytes())?,
         archive: archive_in(alloc, matches)?,
-        workers: settings.workers,
-        limit: settings.limit,
-        first: settings.first,
+        settings,
     })
 }
 
@@ -65,9 +63,7 @@ fn eval_job(
     Ok(Job::Eval {
         text: Bytes::from_slice(alloc, query.as_bytes())?,
         archive: archive_in(alloc, matches)?,
-        workers: settings.workers,
-        limit: settings.limit,
-        first: settings.first,
+        settings,
     })
 }
 
@@ -117,9 +113,7 @@ fn self_run_job(
     };
     Ok(Job::SelfRun {
         text: Bytes::from_slice(alloc, query.as_bytes())?,
-        seed: settings.seed,
-        games: settings.games,
-        workers: settings.workers,
+        settings,
     })
 }
 
@@ -138,8 +132,7 @@ fn many_job(
     Ok(Job::Many {
         queries: Bytes::from_slice(alloc, queries.as_bytes())?,
         archive: archive_in(alloc, matches)?,
-        workers: settings.workers,
-        limit: settings.limit,
+        settings,
     })
 }
 

@@ -1,14 +1,14 @@
 -- Chains whose later parts are asked for where the earlier ones leave something open.
-use Rattle.std.proofs.Common.{◌≡◌, ℕ, zero, suc, ◌+◌, ◌<◌, ◌≤◌, ◌⊎◌, ◌&&◌, ◌||◌, Bool, true, false, not, List, [], ◌∷◌, ◌++◌, length, take, get_or, refl, sym, ap, ap₂, ◌∙◌, subst, arith, inl, inr, ⊎_elim}
-use Rattle.std.specs.List.{list_any, list_all, filter, range_with_len}
+use Rattle.std.proofs.Common.{◌≡◌, ℕ, zero, suc, ◌+◌, ◌<◌, ◌≤◌, ◌&&◌, ◌||◌, Bool, true, false, not, List, [], ◌∷◌, ◌++◌, length, take, get_or, refl, sym, ap, ap₂, ◌∙◌, subst, arith}
+use Rattle.std.specs.List.{list_any, list_all, range_with_len}
 use Rattle.std.specs.Prelude.{if◌then◌else◌}
 use Rattle.cq_geometry.specs.Squares.{squares}
 use Rattle.cq_position.specs.Search.{SearchedTree}
 use Rattle.cql_syntax.specs.Contexts.{Context}
 use Rattle.cql_syntax.specs.Meaning.{Names, value, values, unary_of}
-use Rattle.cql_syntax.specs.Trees.{FilterTree, filter_at, unary, if_, square, FilterTrees, no_filters, more_filters, with_filter}
-use Rattle.cql_syntax.specs.TreeOf.{filter_tree, filter_trees, filters_tree}
-use Rattle.cql_syntax.specs.Values.{Value, holds, has, as_truth, all_hold, if_of, square_of}
+use Rattle.cql_syntax.specs.Trees.{FilterTree, filter_at, unary, if_, square, FilterTrees}
+use Rattle.cql_syntax.specs.TreeOf.{filter_tree, filter_trees}
+use Rattle.cql_syntax.specs.Values.{Value, holds, has, as_truth, if_of, square_of}
 use Rattle.cql_syntax.specs.declared.tree.Filter.{Filter}
 use Rattle.cql_syntax.proofs.Lists.{filter_trees_more}
 use Rattle.cql_values.proofs.Evaluated.{by_settling, values_snoc}
@@ -17,7 +17,7 @@ use Rattle.cql_syntax.specs.declared.leaves.Unary.{Unary}
 use Rattle.std.proofs.Math.Path.{fun_ext}
 use Rattle.cql_values.specs.Asked.{settles}
 use Rattle.cql_eval.specs.Asked.{AreUnsettled, AreHaving, AreLeft}
-use Rattle.cql_eval.specs.Columns.{is_live, is_so, shown, AreAsked, IsColumn, IsNarrowed, AreTruths}
+use Rattle.cql_eval.specs.Columns.{is_live, is_so, shown, AreAsked, IsColumn, IsNarrowed}
 use Rattle.cql_eval.specs.declared.filter_column.FilterColumn.{FilterColumn}
 use Rattle.cql_eval.proofs.Filling.{narrowed_asked, both_left, live_below}
 

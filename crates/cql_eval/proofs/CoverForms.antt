@@ -1,5 +1,5 @@
 -- With which squares a form of filter may hold.
-use Rattle.std.proofs.Common.{◌≡◌, ◌⊎◌, ⊎_elim, ℕ, ◌<◌, ◌==◌, ◌&&◌, not, nat_lt, Bool, true, false, List, [], ◌∷◌, Option, Some, None, length, get_or, take, drop, ◌++◌, refl, sym, ap, ◌∙◌, subst, arith}
+use Rattle.std.proofs.Common.{◌≡◌, ◌⊎◌, ⊎_elim, ℕ, ◌<◌, ◌==◌, ◌&&◌, not, nat_lt, Bool, true, false, List, [], ◌∷◌, Option, Some, None, length, get_or, take, drop, ◌++◌, refl, sym, ap, ap₂, ◌∙◌, subst, arith}
 use Rattle.std.specs.Prelude.{if◌then◌else◌}
 use Rattle.std.specs.List.{list_any, list_all, filter}
 use Rattle.std.specs.Str.{bytes_eq}
@@ -10,14 +10,15 @@ use Rattle.cq_geometry.specs.Squares.{squares}
 use Rattle.cq_position.specs.Attacks.{attacks}
 use Rattle.cq_position.specs.Led.{PlainLed, led_to}
 use Rattle.cq_position.specs.Search.{SearchedTree}
-use Rattle.cql_syntax.specs.Meaning.{Names, value, values, is_bound_to, position_at, written_value, meets, meets_all, goal_if, before}
-use Rattle.cql_syntax.specs.Trees.{FilterTree, filter_at, FilterTrees, WrittenTree, pair, square, played}
+use Rattle.cql_syntax.specs.Meaning.{Names, value, values, unary_of, is_bound_to, position_at, played_value, written_value, meets, meets_all, goal_if, before}
+use Rattle.cql_syntax.specs.Trees.{FilterTree, filter_at, FilterTrees, WrittenTree, unary, pair, square, played}
 use Rattle.cql_syntax.specs.TreeOf.{filter_tree, filter_trees, played_tree}
 use Rattle.cql_syntax.specs.Values.{Value, as_truth, squares_where, holds, has, square_of, chain_of, all_hold, intersection_of, related, pair_of}
 use Rattle.cql_syntax.specs.declared.leaves.Chain.{Chain}
 use Rattle.cql_syntax.specs.declared.leaves.Chain.TheVariants.{And, All, Intersect}
 use Rattle.cql_syntax.specs.declared.leaves.Pair.{Pair}
 use Rattle.cql_syntax.specs.declared.leaves.Pair.TheVariants.{Attacks, AttackedBy}
+use Rattle.cql_syntax.specs.declared.leaves.Unary.{Unary}
 use Rattle.cql_syntax.specs.declared.tree.Filter.{Filter}
 use Rattle.cql_syntax.specs.declared.tree.Played.{Played}
 use Rattle.cql_values.specs.Asked.{settles}
@@ -52,12 +53,23 @@ own_cut tree live opened outer given f old new own = cut_as live (MayHold opened
 
 pub square_cut : (tree : SearchedTree) (live : List Bool) (opened outer : Names) (given : List ℕ) (f a b : FilterTree) (i : ℕ) (every : Bool) (text : List ℕ) (old new : List ℕ)
     → f ≡ filter_at i (square every text a b)
-    → ((x : Names → ℕ → Value) → AreCut live (MayHold opened outer given (λ e n. square_of every (x e n) (λ s. holds (value tree [] ((text, s) ∷ e) b n)))) old new)
+    → AreCut live (MayHold opened outer given (λ e n. square_of every (value tree [] e a n) (λ s. holds (value tree [] ((text, s) ∷ e) b n)))) old new
     → AreCut live (MayHold opened outer given (λ e. value tree [] e f)) old new
 unfolding value
-square_cut tree live opened outer given f a b i every text old new is cut =
+square_cut tree live opened outer given f a b i every text old new is =
     form_cut live opened outer given (λ e. value tree [] e f) (λ e n. square_of every (value tree [] e a n) (λ s. holds (value tree [] ((text, s) ∷ e) b n))) old new
-    (λ e n. ap (λ g. value tree [] e g n) is) (cut (λ e. value tree [] e a))
+    (λ e n. ap (λ g. value tree [] e g n) is)
+
+pub square_same : (i : ℕ) (every : Bool) (x y : List ℕ) (a b c d : Filter) → x ≡ y → a ≡ b → c ≡ d
+    → filter_at i (square every x (filter_tree a) (filter_tree c)) ≡ filter_at i (square every y (filter_tree b) (filter_tree d))
+square_same i every x y a b c d e f g =
+    ap₂ (λ t u. filter_at i (square every t (filter_tree u) (filter_tree c))) e f ∙ ap (λ u. filter_at i (square every y (filter_tree b) (filter_tree u))) g
+
+pub unary_cut : (tree : SearchedTree) (live : List Bool) (opened outer : Names) (given : List ℕ) (f part : FilterTree) (i : ℕ) (word : Unary) (old new : List ℕ) → f ≡ filter_at i (unary word part)
+    → AreCut live (MayHold opened outer given (λ e. unary_of tree word (value tree [] e part))) old new → AreCut live (MayHold opened outer given (λ e. value tree [] e f)) old new
+unfolding value
+unary_cut tree live opened outer given f part i word old new is =
+    form_cut live opened outer given (λ e. value tree [] e f) (λ e. unary_of tree word (value tree [] e part)) old new (λ e n. ap (λ g. value tree [] e g n) is)
 
 -- chains
 pub all_cut : (tree : SearchedTree) (live : List Bool) (opened outer : Names) (given : List ℕ) (k : Chain) (fs : FilterTrees) (old new : List ℕ) → (k ≡ And) ⊎ (k ≡ All)
@@ -81,11 +93,11 @@ one_of_all tree live opened outer given xs k f fs old now later low is same firs
     (part_cut live opened outer given (λ e n. all_hold (values tree [] e fs n)) (λ e. value tree [] e (filter_tree f)) now later
     (λ e n h. all_at tree e n holds xs k f low is (ap (λ gs. list_all holds (values tree [] e gs n)) same ∙ h)) second)
 
-second_true : (a b : Bool) → (a && b) ≡ true → b ≡ true
+pub second_true : (a b : Bool) → (a && b) ≡ true → b ≡ true
 second_true true b e = e
 second_true false b e = cc
 
-first_true : (a b : Bool) → (a && b) ≡ true → a ≡ true
+pub first_true : (a b : Bool) → (a && b) ≡ true → a ≡ true
 first_true true b e = refl
 first_true false b e = e
 
@@ -98,7 +110,7 @@ one_of_sets tree live opened outer given xs k f fs old now later low is same fir
     (λ e n s h. all_at tree e n (λ x. has x s) xs k f low is
     (ap (λ gs. list_all (λ x. has x s) (values tree [] e gs n)) same ∙ second_true (nat_lt s 64) (list_all (λ x. has x s) (values tree [] e fs n)) h)) second)
 
-yes_both : (a b : Bool) → a ≡ true → b ≡ true → (a && b) ≡ true
+pub yes_both : (a b : Bool) → a ≡ true → b ≡ true → (a && b) ≡ true
 yes_both true b e f = f
 yes_both false b e f = cc
 
@@ -125,7 +137,7 @@ pair_cut tree live opened outer given f a b i p old now later is which first sec
     (λ e n s h. sym (ap (λ g. has (value tree [] e g n) s) is) ∙ h) (second (λ e. value tree [] e a)))
 
 -- the other way round: the second set has the square alone
-turned_has : (test : ℕ → ℕ → Bool) (x y : Value) (s : ℕ) → ((t : ℕ) → has y t ≡ true → s ≡ t) → holds (related test x y) ≡ true → has (related (λ u t. test t u) y x) s ≡ true
+pub turned_has : (test : ℕ → ℕ → Bool) (x y : Value) (s : ℕ) → ((t : ℕ) → has y t ≡ true → s ≡ t) → holds (related test x y) ≡ true → has (related (λ u t. test t u) y x) s ≡ true
 turned_has test x y s only h =
     let a = square_found (λ t. nat_lt t 64 && (has x t && list_any (λ u. has y u && test t u) squares)) h in
     let a_low : a.k < 64 = omega (arith, a.high) in
@@ -193,17 +205,24 @@ of_move (Some l) a b c d origin goal taken s f g h all =
       at_taken = λ yes. h yes l.taken (second_true (meets a (Some l.origin) && meets b (Some l.goal)) (meets c l.taken) three);
     }
 
-pub move_cut : (tree : SearchedTree) (live : List Bool) (opened outer : Names) (given : List ℕ) (f : FilterTree) (i : ℕ) (p : Played) (origin goal taken : Bool) (old new : List ℕ)
-    → f ≡ filter_at i (played (played_tree p)) → (origin ≡ true → IsOwnPart given (origin_of p)) → (goal ≡ true → IsOwnPart given (goal_of p)) → (taken ≡ true → IsOwnPart given (taken_of p))
-    → AreCut live (λ n. IsOfMove (led_to tree.game.nodes n) origin goal taken) old new → AreCut live (MayHold opened outer given (λ e. value tree [] e f)) old new
-unfolding value
-move_cut tree live opened outer given f i p origin goal taken old new is first second third = cut_as live (MayHold opened outer given (λ e. value tree [] e f)) (λ n. IsOfMove (led_to tree.game.nodes n) origin goal taken) old new
+pub move_cut : (tree : SearchedTree) (live : List Bool) (opened outer : Names) (given : List ℕ) (p : Played) (origin goal taken : Bool) (old new : List ℕ)
+    → (origin ≡ true → IsOwnPart given (origin_of p)) → (goal ≡ true → IsOwnPart given (goal_of p)) → (taken ≡ true → IsOwnPart given (taken_of p))
+    → AreCut live (λ n. IsOfMove (led_to tree.game.nodes n) origin goal taken) old new
+    → AreCut live (MayHold opened outer given (λ e n. as_truth (played_value tree [] e (played_tree p) n))) old new
+move_cut tree live opened outer given p origin goal taken old new first second third =
+    cut_as live (MayHold opened outer given (λ e n. as_truth (played_value tree [] e (played_tree p) n))) (λ n. IsOfMove (led_to tree.game.nodes n) origin goal taken) old new
     (λ n s a m. of_move (led_to tree.game.nodes n) (written_value tree [] m.inner (origin_of p) (before tree n)) (written_value tree [] m.inner (goal_of p) n)
     (written_value tree [] m.inner (taken_of p) (before tree n)) (written_value tree [] m.inner (promoted_of p) n) origin goal taken s
     (λ yes q h. own_meets tree given (origin_of p) m.inner (before tree n) s q (first yes) m.binds h)
     (λ yes q h. own_meets tree given (goal_of p) m.inner n s q (second yes) m.binds h)
     (λ yes q h. own_meets tree given (taken_of p) m.inner (before tree n) s q (third yes) m.binds h)
-    (sym (ap holds (ap (λ g. value tree [] m.inner g n) is) ∙ move_value tree m.inner p n) ∙ m.holds_there))
+    (sym (move_value tree m.inner p n) ∙ m.holds_there))
+
+pub played_cut : (tree : SearchedTree) (live : List Bool) (opened outer : Names) (given : List ℕ) (f : FilterTree) (i : ℕ) (p : Played) (old new : List ℕ) → f ≡ filter_at i (played (played_tree p))
+    → AreCut live (MayHold opened outer given (λ e n. as_truth (played_value tree [] e (played_tree p) n))) old new → AreCut live (MayHold opened outer given (λ e. value tree [] e f)) old new
+unfolding value
+played_cut tree live opened outer given f i p old new is =
+    form_cut live opened outer given (λ e. value tree [] e f) (λ e n. as_truth (played_value tree [] e (played_tree p) n)) old new (λ e n. ap (λ g. value tree [] e g n) is)
 
 -- another name is bound inside
 agree_by : (b : Bool) (o : ℕ → Bool) (here there : Bool) (e : Bool) → holds (squares_where (λ u. if b then 0 == u else o u)) ≡ false → (holds (squares_where o) ≡ false → here ≡ there)
@@ -217,10 +236,10 @@ wider opened inner outer text s agree = record {
   each = λ other closed t. agree_by (bytes_eq text other) (is_bound_to opened other) (is_bound_to inner other t) (is_bound_to outer other t) (s == t) closed (λ none. agree.each other none t);
 }
 
-still_bound : (inner : Names) (text given : List ℕ) (s t : ℕ) → bytes_eq text given ≡ false → Binds inner given s → Binds ((text, t) ∷ inner) given s
+pub still_bound : (inner : Names) (text given : List ℕ) (s t : ℕ) → bytes_eq text given ≡ false → Binds inner given s → Binds ((text, t) ∷ inner) given s
 still_bound inner text given s t other binds = λ u. ap (λ b. if b then t == u else is_bound_to inner given u) other ∙ binds u
 
-some_kept : (p q : ℕ → Bool) (xs : List ℕ) → list_any p (filter q xs) ≡ true → (t : ℕ) × (p t ≡ true)
+pub some_kept : (p q : ℕ → Bool) (xs : List ℕ) → list_any p (filter q xs) ≡ true → (t : ℕ) × (p t ≡ true)
 some_kept p q xs h = some_there p (filter q xs) h
 
 pub inner_cut : (tree : SearchedTree) (live : List Bool) (opened wide outer : Names) (given text : List ℕ) (b : FilterTree) (every : Bool) (old new : List ℕ) → every ≡ false → bytes_eq text given ≡ false
@@ -242,7 +261,7 @@ inner_cut tree live opened wide outer given text b every old new some other is c
 same_text : (a : List ℕ) → bytes_eq a a ≡ true
 same_text a = (bytes_eq-Decides a a).1 refl
 
-agree_same : (outer : Names) → Agree [] outer outer
+pub agree_same : (outer : Names) → Agree [] outer outer
 agree_same outer = record { each = λ text none t. refl }
 
 pub worth_trying : (tree : SearchedTree) (live : List Bool) (opened outer : Names) (given : List ℕ) (f : FilterTree) (v : ℕ → Value) (old new : List ℕ) → opened ≡ (given, 0) ∷ [] → AreSetsOf v live old

@@ -1,6 +1,6 @@
 -- Sets of squares of which some are left.
 use Rattle.std.proofs.Common.{◌≡◌, ◌⊎◌, ⊎_elim, inl, inr, ℕ, ◌+◌, ◌^◌, ◌<◌, ◌≤◌, ◌==◌, ◌&&◌, not, nat_lt, Bool, true, false, List, Option, Some, length, get_or, refl, sym, ap, ◌∙◌, subst, arith}
-use Rattle.std.specs.Prelude.{slice_set, bit_and}
+use Rattle.std.specs.Prelude.{slice_set, bit_and, bit_or}
 use Rattle.std.specs.List.{list_any}
 use Rattle.std.proofs.lemmas.Bool.{eqb-true, eq-eqb}
 use Rattle.std.proofs.lemmas.List.{get_or-set_same, get_or-set_other, length-set}
@@ -15,8 +15,10 @@ use Rattle.cql_syntax.specs.declared.leaves.Pair.{Pair}
 use Rattle.cql_syntax.specs.declared.leaves.Pair.TheVariants.{Attacks, AttackedBy}
 use Rattle.cql_values.proofs.Masks.{in_both, nothing_in, is_in_bit, above}
 use Rattle.cql_eval.specs.Columns.{is_live}
-use Rattle.cql_eval.specs.Covers.{AreCut, IsCut, HasSome, IsSoRelated}
+use Rattle.cql_eval.specs.Covers.{AreCut, IsCut, AreAmong, HasSome, IsSoRelated}
 use Rattle.cql_eval.proofs.Filling.{split_last, live_below, any_default, equal_or, split_at}
+use Rattle.cql_eval.proofs.Raising.{or_left, or_right}
+use Rattle.cql_eval.proofs.Wanting.{in_either}
 
 -- those of the first k nodes
 pub record CutTo (live : List Bool) (P : ℕ → ℕ → Type 0) (old : List ℕ) (k : ℕ) (new : List ℕ) : Type 0 where
@@ -162,3 +164,22 @@ in_first set more s h = left_part (is_in set s) (is_in more s) (sym (in_both set
 
 pub in_two : (set more s : ℕ) → is_in set s ≡ true → is_in more s ≡ true → is_in (bit_and set more) s ≡ true
 in_two set more s h i = in_both set more s ∙ both_yes (is_in set s) (is_in more s) h i
+
+-- squares among which are those at the first k nodes
+pub record AmongTo (live : List Bool) (sets : List ℕ) (k among : ℕ) : Type 0 where
+  pub each : (n s : ℕ) → n < k → is_live live n ≡ true → is_in (get_or sets n 0) s ≡ true → is_in among s ≡ true
+
+pub among_none : (live : List Bool) (sets : List ℕ) (among : ℕ) → AmongTo live sets 0 among
+among_none live sets among = record { each = λ n s h. absurd (omega (arith, h)) }
+
+pub among_more : (live : List Bool) (sets : List ℕ) (k among more : ℕ) → (is_live live k ≡ true → more ≡ get_or sets k 0) → AmongTo live sets k among → AmongTo live sets (k + 1) (bit_or among more)
+among_more live sets k among more new had = record {
+  each = λ n s h a i. in_either among more s ∙ ⊎_elim
+      (λ less. or_left (is_in among s) (is_in more s) (had.each n s less a i))
+      (λ same. or_right (is_in among s) (is_in more s)
+      (subst (λ y. is_in y s ≡ true) (sym (new (subst (λ j. is_live live j ≡ true) same a))) (subst (λ j. is_in (get_or sets j 0) s ≡ true) same i)))
+      (split_last n k h);
+}
+
+pub among_all : (live : List Bool) (sets : List ℕ) (k among : ℕ) → length live ≤ k → AmongTo live sets k among → AreAmong live sets among
+among_all live sets k among end had = record { each = λ n s a i. had.each n s (let low = live_below live n a in omega (arith, low, end)) a i }

@@ -2,8 +2,8 @@
 use Rattle.std.proofs.Common.{◌≡◌, ℕ, zero, suc, ◌+◌, ◌<◌, ◌≤◌, ◌⊎◌, Bool, true, false, List, [], ◌∷◌, ◌++◌, length, get_or, ◌&&◌, refl, ap, sym, subst, ◌∙◌, arith, ⊎_elim, inl, inr, length-append}
 use Rattle.cq_position.specs.Search.{SearchedTree}
 use Rattle.std.specs.Prelude.{◌-◌, is_some, slice_set}
-use Rattle.cql_syntax.specs.Values.{holds, amount}
-use Rattle.cql_eval.specs.Columns.{shown, is_so, IsNarrowed, IsNumbered, AreAsked}
+use Rattle.cql_syntax.specs.Values.{amount}
+use Rattle.cql_eval.specs.Columns.{shown, IsNarrowed, IsNumbered, AreAsked}
 use Rattle.cql_eval.specs.declared.filter_column.FilterColumn.{FilterColumn}
 use Rattle.std.proofs.lemmas.Bool.{cases_order}
 use Rattle.std.proofs.lemmas.List.{get_or_append_left, get_or-set_same, get_or-set_other, length-set}

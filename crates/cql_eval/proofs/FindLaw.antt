@@ -1,7 +1,7 @@
 -- Whether a filter holds at a node or below it.
-use Rattle.std.proofs.Common.{◌≡◌, ℕ, ◌+◌, ◌<◌, ◌≤◌, ◌&&◌, ◌||◌, Bool, true, false, List, [], ◌∷◌, length, get_or, cond, refl, sym, ap, ◌∙◌, subst, arith}
+use Rattle.std.proofs.Common.{◌≡◌, ℕ, ◌<◌, ◌&&◌, ◌||◌, Bool, true, false, List, [], ◌∷◌, length, get_or, cond, refl, sym, ap, ◌∙◌, subst, arith}
 use Rattle.std.specs.List.{list_any, filter, range_with_len}
-use Rattle.cq_position.specs.Games.{Node, IsTree, is_below, is_searched, searched, numbers}
+use Rattle.cq_position.specs.Games.{is_below, is_searched, searched, numbers}
 use Rattle.cq_position.specs.Search.{SearchedTree, below_in}
 use Rattle.cql_syntax.specs.Meaning.{some_node}
 use Rattle.cql_syntax.specs.Values.{Value, holds, as_truth}
@@ -20,7 +20,7 @@ any_filtered p q (x ∷ xs) = by (q x) (filter q xs) (list_any (λ y. q y && p y
     by false rest r e = e
 
 -- all searched nodes below n
-any_below : (tree : SearchedTree) (h : ℕ → Bool) (n : ℕ)
+pub any_below : (tree : SearchedTree) (h : ℕ → Bool) (n : ℕ)
     → list_any h (below_in tree n) ≡ list_any (λ m. is_searched tree.variations tree.game.nodes m && (is_below tree.game.nodes n m && h m)) (range_with_len 0 (length tree.game.nodes))
 unfolding searched
 any_below tree h n = any_filtered h (is_below tree.game.nodes n) (searched tree.variations tree.game.nodes)

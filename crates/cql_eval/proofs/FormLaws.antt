@@ -1,5 +1,5 @@
 -- What a form of filter gives by its parts.
-use Rattle.std.proofs.Common.{◌≡◌, ℕ, List, [], sym, ap}
+use Rattle.std.proofs.Common.{◌≡◌, ℕ, [], sym, ap}
 use Rattle.std.proofs.Math.Path.{fun_ext}
 use Rattle.cq_position.specs.Search.{SearchedTree}
 use Rattle.cql_syntax.specs.Meaning.{Names, value, values}

@@ -1,11 +1,10 @@
 -- Columns of filters, and of the terms of a sum, one by one.
-use Rattle.std.proofs.Common.{◌≡◌, ℕ, ◌+◌, ◌<◌, ◌≤◌, Bool, List, [], ◌∷◌, ◌++◌, length, map, take, get_or, refl, sym, ap, ap₂, ◌∙◌}
+use Rattle.std.proofs.Common.{◌≡◌, ℕ, ◌+◌, ◌<◌, ◌≤◌, Bool, List, [], ◌∷◌, ◌++◌, length, map, take, get_or, sym, ap, ap₂, ◌∙◌}
 use Rattle.std.proofs.lemmas.List.{take_more}
 use Rattle.cq_position.specs.Search.{SearchedTree}
 use Rattle.cql_syntax.specs.Meaning.{Names, value, values, term_values}
 use Rattle.cql_syntax.specs.Trees.{FilterTrees, TermTrees}
 use Rattle.cql_syntax.specs.TreeOf.{filter_tree, filter_trees, term_trees}
-use Rattle.cql_syntax.specs.Values.{Value}
 use Rattle.cql_syntax.specs.declared.tree.Filter.{Filter}
 use Rattle.cql_syntax.specs.declared.tree.Term.{Term}
 use Rattle.cql_syntax.proofs.Lists.{term_trees_more}

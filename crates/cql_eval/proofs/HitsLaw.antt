@@ -6,7 +6,6 @@ use Rattle.std.proofs.Math.Path.{fun_ext}
 use Rattle.std.specs.List.{list_all, filter, range_with_len}
 use Rattle.std.proofs.lemmas.List.{same_lists}
 use Rattle.std.proofs.lemmas.List.FromFn.{get_or-map-range_with_len, length-map-range_with_len}
-use Rattle.std.proofs.Math.ListN.{get_or-eq_default}
 use Rattle.cq_position.specs.Games.{is_searched, numbers}
 use Rattle.cq_position.specs.Search.{SearchedTree, nodes_in}
 use Rattle.cq_position.specs.Games.{searched}

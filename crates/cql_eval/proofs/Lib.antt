@@ -9,6 +9,9 @@ pub mod FlatLaw
 pub mod FormLaws
 mod CoverForms
 mod CoverLaw
+mod CoverMoves
+mod CoverSome
+mod ElsewhereLaw
 mod FreeLaw
 pub mod Gathering
 pub mod HitsLaw
@@ -19,6 +22,7 @@ pub mod LinesLaw
 pub mod Lives
 pub mod Lowering
 pub mod MoveLaw
+mod PairLaw
 pub mod Parents
 pub mod Raising
 pub mod SortsLaw

@@ -3,7 +3,7 @@ use Rattle.std.proofs.Common.{◌≡◌, ℕ, ◌+◌, ◌<◌, ◌≤◌, ◌&&
 use Rattle.std.specs.List.{list_any}
 use Rattle.cq_outside.specs.Spelling.{Pattern, one, joined}
 use Rattle.cq_position.specs.Search.{SearchedTree, IsStep}
-use Rattle.cql_lines.specs.Tables.{holds, holds_in}
+use Rattle.cql_lines.specs.Tables.{holds_in}
 use Rattle.cql_lines.specs.declared.table.AtomTable.{AtomTable}
 use Rattle.cql_syntax.specs.Meaning.{Names, marked, value, pattern, body_pattern}
 use Rattle.cql_syntax.specs.TreeOf.{body_tree, part_trees}

@@ -13,7 +13,7 @@ use Rattle.std.proofs.lemmas.Option.{slice_get-get_or, slice_get_cases}
 use Rattle.std.proofs.lemmas.List.FromFn.{get_or-map-range_with_len, length-map-range_with_len, map-range_with_len_more}
 use Rattle.std.proofs.lemmas.List.Sums.{sum_by-cons, length-filter}
 use Rattle.cq_outside.specs.Greatest.{IsGreatest}
-use Rattle.cq_outside.specs.Spelling.{Pattern, one, nothing, joined}
+use Rattle.cq_outside.specs.Spelling.{Pattern, nothing}
 use Rattle.cq_outside.specs.Ways.{Line}
 use Rattle.cq_position.specs.Games.{IsTree, node_at, is_first_child, is_searched, searched, numbers}
 use Rattle.cq_position.specs.Search.{SearchedTree, IsStep}
@@ -30,7 +30,7 @@ use Rattle.cql_syntax.specs.Meaning.{Names, value, pattern, line_of, line_value}
 use Rattle.cql_syntax.specs.Places.{parts_places}
 use Rattle.cql_syntax.specs.TabledLines.{Searched, IsAsked, AreSpelledAlike, AreParents}
 use Rattle.cql_syntax.specs.TreeOf.{body_tree, part_trees, parts_tree, line_tree}
-use Rattle.cql_syntax.specs.Trees.{PartTrees, atom}
+use Rattle.cql_syntax.specs.Trees.{PartTrees}
 use Rattle.cql_syntax.specs.Values.{Value, as_number, holds as value_holds}
 use Rattle.cql_syntax.specs.declared.extents.Extent.{Extent}
 use Rattle.cql_syntax.specs.declared.extents.Extent.TheVariants.{Any, Within}

@@ -1,5 +1,5 @@
 -- What is asked of a move, part by part.
-use Rattle.std.proofs.Common.{◌≡◌, ℕ, ◌+◌, ◌≤◌, ◌&&◌, ◌||◌, not, Bool, true, false, List, [], length, get_or, Option, Some, None, option_map, refl, sym, ap, ap₂, ◌∙◌, subst, arith}
+use Rattle.std.proofs.Common.{◌≡◌, ℕ, ◌+◌, ◌&&◌, ◌||◌, not, Bool, true, false, List, [], Option, Some, None, option_map, refl, sym, ap, ap₂, ◌∙◌, subst}
 use Rattle.std.specs.Prelude.{is_some, if◌then◌else◌}
 use Rattle.std.specs.declared.alloc.Global.{Global}
 use Rattle.std.specs.declared.boxed.Box.{Box}
@@ -16,7 +16,7 @@ use Rattle.cql_syntax.specs.declared.tree.Filter.{Filter}
 use Rattle.cql_syntax.specs.declared.tree.Played.{Played, Played', out-Played, outs-Played', Held-Played-origin, view-Played-origin, None', Some'}
 use Rattle.cql_eval.specs.Columns.{is_live, shown, IsColumn, Where}
 use Rattle.cql_eval.specs.Costs.{filter_cost, played_cost, written_cost}
-use Rattle.cql_eval.specs.FlatTrees.{unflat, IsFlat, IsFlatMove, IsFlatPart}
+use Rattle.cql_eval.specs.FlatTrees.{unflat, IsFlat, IsFlatPart}
 use Rattle.cql_eval.specs.Promoting.{ArePromoting, is_promotion}
 use Rattle.cql_eval.specs.Trees.{AreBeforeLive}
 use Rattle.cql_eval.specs.declared.filter_column.FilterColumn.{FilterColumn}

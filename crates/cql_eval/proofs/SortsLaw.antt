@@ -1,12 +1,11 @@
 -- The sort items of a query, which are asked after all others.
-use Rattle.std.proofs.Common.{◌≡◌, ℕ, ◌+◌, ◌<◌, ◌≤◌, ◌&&◌, Bool, true, false, List, [], ◌++◌, length, take, drop, get_or, refl, sym, ap, ap₂, ◌∙◌, subst, arith}
-use Rattle.std.specs.List.{list_all}
-use Rattle.std.specs.Prelude.{is_some, if◌then◌else◌}
+use Rattle.std.proofs.Common.{◌≡◌, ℕ, ◌+◌, ◌<◌, ◌≤◌, ◌&&◌, Bool, true, false, List, [], ◌++◌, length, take, drop, get_or, refl, sym, ap, ◌∙◌, subst}
+use Rattle.std.specs.Prelude.{is_some}
 use Rattle.cq_position.specs.Search.{SearchedTree}
-use Rattle.cql_syntax.specs.Meaning.{Names, value, values}
+use Rattle.cql_syntax.specs.Meaning.{Names, value}
 use Rattle.cql_syntax.specs.Trees.{FilterTree, filter_at, FilterTrees, sort}
 use Rattle.cql_syntax.specs.TreeOf.{filter_tree, filter_trees}
-use Rattle.cql_syntax.specs.Values.{Value, holds, amount}
+use Rattle.cql_syntax.specs.Values.{Value, amount}
 use Rattle.cql_syntax.specs.declared.tree.Filter.{Filter}
 use Rattle.cql_eval.specs.Classes.{form_class, is_of, is_before, is_so_if, are_so, cost_of, IsLeft}
 use Rattle.cql_eval.specs.Columns.{is_live, shown, AreAsked, IsColumn, IsNumbered}

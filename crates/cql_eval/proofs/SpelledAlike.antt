@@ -1,8 +1,8 @@
 -- What is spelled on ways that begin at some nodes, part by part.
-use Rattle.std.proofs.Common.{◌≡◌, ℕ, zero, suc, ◌<◌, ◌≤◌, Bool, true, false, List, [], ◌∷◌, ◌++◌, length, Option, Some, None, refl, sym, ap, ◌∙◌, subst, arith, ⊎_elim}
-use Rattle.std.specs.Prelude.{◌↔◌, ◌&&◌, ◌||◌, not, IfSome}
-use Rattle.cq_outside.specs.Spelling.{Pattern, one, nothing, joined, repeated, Spells, Times}
-use Rattle.cq_position.specs.Games.{IsTree, node_at, is_below}
+use Rattle.std.proofs.Common.{◌≡◌, ℕ, zero, suc, ◌≤◌, Bool, true, false, List, [], ◌∷◌, ◌++◌, Option, Some, None, refl, sym, ap, ◌∙◌, subst, arith, ⊎_elim}
+use Rattle.std.specs.Prelude.{◌&&◌, ◌||◌, not}
+use Rattle.cq_outside.specs.Spelling.{Pattern, one, joined, repeated, Spells, Times}
+use Rattle.cq_position.specs.Games.{IsTree, is_below}
 use Rattle.cq_position.specs.Search.{SearchedTree, IsStep, Along}
 use Rattle.cq_position.proofs.WaysUp.{is_below_self, below_parent, parent_before}
 use Rattle.cql_lines.specs.declared.table.AtomTable.{AtomTable}
@@ -11,9 +11,9 @@ use Rattle.cql_syntax.specs.TabledLines.{IsAsked, AreSpelledAlike}
 use Rattle.cql_syntax.specs.Values.{Value, holds}
 use Rattle.cql_syntax.specs.declared.leaves.Mark.{Mark}
 use Rattle.cql_syntax.specs.declared.leaves.Mark.TheVariants.{Once, Star, Plus, Maybe, Times as Repeated}
-use Rattle.cql_eval.specs.Columns.{is_live, AreAsked}
+use Rattle.cql_eval.specs.Columns.{AreAsked}
 use Rattle.cql_eval.specs.LineAtoms.{AreAllAsked}
-use Rattle.cql_eval.specs.SpelledParts.{IsLive, IsWay, AreAlike, IsNever, Agrees, AreTabled, Leads, AreOnward, AreReached, LeadsOn, EndsHere, is_needed}
+use Rattle.cql_eval.specs.SpelledParts.{IsLive, IsWay, AreAlike, IsNever, AreTabled, Leads, AreOnward, AreReached, LeadsOn, EndsHere, is_needed}
 use Rattle.cql_eval.specs.Trees.{IsBelowLive, IsAboveLive, AreChildrenOfLive, AreParentsOfLive}
 use Rattle.cql_eval.proofs.Filling.{equal_or, live_below}
 use Rattle.cql_eval.proofs.Raising.{below_up}

@@ -1,9 +1,9 @@
 -- Whether a filter holds on the way up from a node, at a child or at the parent.
-use Rattle.std.proofs.Common.{◌≡◌, ℕ, ◌+◌, ◌<◌, ◌≤◌, ◌⊎◌, ◌&&◌, ◌||◌, ◌==◌, Bool, true, false, List, [], ◌∷◌, length, get_or, Option, Some, None, refl, sym, ap, ◌∙◌, subst, arith, inl, inr, ⊎_elim, eqb-true}
+use Rattle.std.proofs.Common.{◌≡◌, ℕ, ◌<◌, ◌&&◌, ◌||◌, ◌==◌, Bool, true, false, List, [], ◌∷◌, length, get_or, Option, Some, None, refl, sym, ap, ◌∙◌, subst, arith, inr, ⊎_elim, eqb-true}
 use Rattle.std.specs.Prelude.{option_to_list, replicate}
-use Rattle.std.specs.List.{list_any, filter, range_with_len}
+use Rattle.std.specs.List.{list_any, range_with_len}
 use Rattle.std.proofs.lemmas.Bool.{eq-eqb}
-use Rattle.cq_position.specs.Games.{Node, node_at, IsTree, is_below, is_child_of, is_searched, children, numbers, way_up}
+use Rattle.cq_position.specs.Games.{node_at, is_child_of, is_searched, children, numbers, way_up}
 use Rattle.cq_position.specs.Search.{SearchedTree, children_in}
 use Rattle.cql_syntax.specs.Meaning.{some_node}
 use Rattle.cql_syntax.specs.Values.{Value, holds, as_truth}
@@ -25,12 +25,12 @@ any_at p m (x ∷ xs) e h = by (x == m) refl e (λ f. any_at p m xs f h)
     by true is f rest = ap (λ b. b || list_any p xs) (ap p (eqb-true x m is) ∙ h)
     by false is f rest = or_right (p x) (list_any p xs) (rest f)
 
-record PassesIn (p : ℕ → Bool) (xs : List ℕ) : Type 0 where
-  m : ℕ
-  on : list_any (λ x. x == m) xs ≡ true
-  passes : p m ≡ true
+pub record PassesIn (p : ℕ → Bool) (xs : List ℕ) : Type 0 where
+  pub m : ℕ
+  pub on : list_any (λ x. x == m) xs ≡ true
+  pub passes : p m ≡ true
 
-at_any : (p : ℕ → Bool) (xs : List ℕ) → list_any p xs ≡ true → PassesIn p xs
+pub at_any : (p : ℕ → Bool) (xs : List ℕ) → list_any p xs ≡ true → PassesIn p xs
 at_any p [] e = cc
 at_any p (x ∷ xs) e = by (p x) refl e (λ f. at_any p xs f)
   where
@@ -78,7 +78,7 @@ find_up_is tree live wide asked again given start found c v covers is is_too is_
         (under.each n low).1 (x.m, starts wide asked again start c v is is_too column narrowed x.m (covers.covers n x.m l x.on) x.passes, x.on)
 
 -- all searched children of n
-any_child : (tree : SearchedTree) (h : ℕ → Bool) (n : ℕ)
+pub any_child : (tree : SearchedTree) (h : ℕ → Bool) (n : ℕ)
     → list_any h (children_in tree n) ≡ list_any (λ k. is_child_of tree.game.nodes n k && (is_searched tree.variations tree.game.nodes k && h k)) (range_with_len 0 (length tree.game.nodes))
 unfolding children
 any_child tree h n = any_filtered h (is_searched tree.variations tree.game.nodes) (children tree.game.nodes n)

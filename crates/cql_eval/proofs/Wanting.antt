@@ -24,7 +24,7 @@ max_of true false = refl
 max_of false true = refl
 max_of false false = refl
 
-in_either : (a b s : ℕ) → is_in (bit_or a b) s ≡ (is_in a s || is_in b s)
+pub in_either : (a b s : ℕ) → is_in (bit_or a b) s ≡ (is_in a s || is_in b s)
 in_either a b s = is_in_bit (bit_or a b) s (is_in a s || is_in b s) (bit_at_or a b s ∙ ap₂ max (bit_is a s) (bit_is b s) ∙ max_of (is_in a s) (is_in b s))
 
 or_first : (a b : Bool) → a ≡ true → (a || b) ≡ true

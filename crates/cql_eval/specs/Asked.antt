@@ -1,5 +1,5 @@
 -- What is left of the nodes of a set while squares are tried one by one, as the private functions give it.
-use Rattle.std.specs.Prelude.{◌≡◌, ℕ, ◌&&◌, not, Bool, true, false, List, get_or, length, if◌then◌else◌}
+use Rattle.std.specs.Prelude.{◌≡◌, ℕ, ◌&&◌, not, Bool, true, List, length, if◌then◌else◌}
 use Rattle.cq_symmetry.specs.Images.{is_in}
 use Rattle.cql_syntax.specs.Values.{Value, has}
 use Rattle.cql_values.specs.Asked.{settles}

@@ -1,14 +1,15 @@
 -- Squares that are worth trying for a name: those at which what is asked may hold.
-use Rattle.std.specs.Prelude.{◌≡◌, ℕ, ◌<◌, ◌==◌, ◌&&◌, not, [], Bool, true, false, List, Option, Some, length, get_or}
+use Rattle.std.specs.Prelude.{◌≡◌, ℕ, ◌<◌, ◌==◌, ◌&&◌, not, [], Bool, true, false, List, Option, Some, option_map, length, get_or}
 use Rattle.cq_position.specs.Led.{PlainLed}
 use Rattle.cq_position.specs.Search.{SearchedTree}
 use Rattle.cq_symmetry.specs.Images.{is_in}
-use Rattle.cql_syntax.specs.Meaning.{Names, is_bound_to, value, values, played_value, written_value}
+use Rattle.cql_syntax.specs.Meaning.{Names, is_bound_to, value, values, played_value, written_value, meets}
 use Rattle.cql_syntax.specs.Trees.{FilterTree, FilterTrees, PlayedTree, WrittenTree, written}
 use Rattle.cql_syntax.specs.Values.{Value, holds, has, squares_where, pair_of}
 use Rattle.cql_syntax.specs.declared.leaves.Pair.{Pair}
 use Rattle.cq_position.specs.declared.men.Man.{Man}
-use Rattle.cql_eval.specs.Columns.{is_live, AreAsked}
+use Rattle.cql_eval.specs.Columns.{is_live, shown, AreAsked}
+use Rattle.cql_eval.specs.declared.filter_column.FilterColumn.{FilterColumn}
 use Rattle.cql_eval.specs.Costs.{filter_cost, filters_cost, played_cost, written_cost}
 
 -- a list binds the name to a square of the board
@@ -70,6 +71,27 @@ pub record MayHave (opened outer : Names) (name : List ℕ) (v : Names → ℕ �
   pub binds : Binds inner name s
   pub has_there : has (v inner n) s ≡ true
 
+-- with a name bound to this square, and another name to one that the values have, it holds
+pub record MayPair (name other : List ℕ) (x : ℕ → Value) (v : Names → ℕ → Value) (n s : ℕ) : Type 0 where
+  pub inner : Names
+  pub binds : Binds inner name s
+  pub t : ℕ
+  pub binds_other : Binds inner other t
+  pub has_other : has (x n) t ≡ true
+  pub holds_there : holds (v inner n) ≡ true
+
+-- to the sets are added those squares of others of which this is true at the nodes that are asked for
+pub record AreAdded (live : List Bool) (P : ℕ → ℕ → Type 0) (sets old new : List ℕ) : Type 0 where
+  pub count : length new ≡ length old
+  pub grows : (n s : ℕ) → is_in (get_or old n 0) s ≡ true → is_in (get_or new n 0) s ≡ true
+  pub adds : (n s : ℕ) → is_live live n ≡ true → P n s → is_in (get_or sets n 0) s ≡ true → is_in (get_or new n 0) s ≡ true
+
+-- to each of the sets are added the squares of another
+pub record AreJoined (more old new : List ℕ) : Type 0 where
+  pub count : length new ≡ length old
+  pub grows : (n s : ℕ) → is_in (get_or old n 0) s ≡ true → is_in (get_or new n 0) s ≡ true
+  pub adds : (n s : ℕ) → n < length old → is_in (get_or more n 0) s ≡ true → is_in (get_or new n 0) s ≡ true
+
 -- one set, of which some squares are left
 pub record IsCut (asked : Bool) (Q : ℕ → Type 0) (old new : ℕ) : Type 0 where
   pub within : (s : ℕ) → is_in new s ≡ true → is_in old s ≡ true
@@ -80,6 +102,15 @@ pub record AreSetsOf (v : ℕ → Value) (live : List Bool) (sets : List ℕ) : 
   pub count : length sets ≡ length live
   pub each : (n : ℕ) → is_live live n ≡ true → is_in (get_or sets n 0) ≡ has (v n)
 
+-- squares among which are those at the nodes of a set
+pub record AreAmong (live : List Bool) (sets : List ℕ) (among : ℕ) : Type 0 where
+  pub each : (n s : ℕ) → is_live live n ≡ true → is_in (get_or sets n 0) s ≡ true → is_in among s ≡ true
+
+-- the same squares at each node of a set
+pub record AreEverywhere (live : List Bool) (set : ℕ) (sets : List ℕ) : Type 0 where
+  pub count : length sets ≡ length live
+  pub each : (n : ℕ) → is_live live n ≡ true → get_or sets n 0 ≡ set
+
 -- a square is the one that a move came from, the one that it went to, and the one on which it took a man, as far as each is asked for
 pub record IsOfMove (l : Option PlainLed) (origin goal taken : Bool) (s : ℕ) : Type 0 where
   pub led : PlainLed
@@ -87,6 +118,11 @@ pub record IsOfMove (l : Option PlainLed) (origin goal taken : Bool) (s : ℕ) :
   pub at_origin : origin ≡ true → led.origin ≡ s
   pub at_goal : goal ≡ true → led.goal ≡ s
   pub at_taken : taken ≡ true → led.taken ≡ Some s
+
+-- where a part of a move is met, with whatever is bound to the opened names, the column meets it too
+pub record AsksNoMore (tree : SearchedTree) (opened outer : Names) (w : WrittenTree) (live : List Bool) (c : Option FilterColumn) : Type 0 where
+  pub each : (n : ℕ) (inner : Names) → is_live live n ≡ true → Agree opened inner outer
+      → (q : Option ℕ) → meets (written_value tree [] inner w n) q ≡ true → meets (option_map (λ x. shown x n) c) q ≡ true
 
 -- the nodes of a set at which there are squares
 pub record HasSome (tree : SearchedTree) (live : List Bool) (sets : List ℕ) (some : List Bool) : Type 0 where

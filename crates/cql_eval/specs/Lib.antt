@@ -5,6 +5,7 @@ pub mod Classes
 pub mod Columns
 pub mod Costs
 pub mod Covers
+pub mod Elsewhere
 pub mod FlatTrees
 pub mod Hits
 pub mod LineAtoms

@@ -1,5 +1,6 @@
 //! Sets of squares, one at each node, of which some squares are left.
-ghost use Rattle.std.specs.Prelude.{◌≡◌, ◌⊎◌, ◌&&◌, ◌==◌, ◌<◌, ℕ, not, true, Some, get_or, length, IfOk};
+ghost use Rattle.std.specs.Prelude.{◌≡◌, ◌⊎◌, ◌&&◌, ◌==◌, ◌<◌, ℕ, not, true, Some, bit_or, get_or, length, IfOk};
+ghost use Rattle.std.specs.List.{list_any};
 ghost use Rattle.cq_position.specs.Games.{IsTree, node_at};
 ghost use Rattle.cq_position.specs.Led.{led_to as led_to_in};
 ghost use Rattle.cq_symmetry.specs.Images.{is_in};
@@ -7,7 +8,7 @@ ghost use Rattle.cql_syntax.specs.Values as spec;
 ghost use Rattle.cql_syntax.specs.declared.leaves.Pair.TheVariants.{Attacks, AttackedBy};
 ghost use Rattle.cql_values.specs.Trees.{searched_tree};
 ghost use Rattle.cql_eval.specs.Columns.{AreAsked, AreKept, shown};
-ghost use Rattle.cql_eval.specs.Covers.{AreCut, IsCut, AreSetsOf, IsOfMove, HasSome, IsSoRelated};
+ghost use Rattle.cql_eval.specs.Covers.{AreCut, IsCut, AreSetsOf, IsOfMove, HasSome, IsSoRelated, AreAmong, AreEverywhere, AreJoined};
 
 use crate::filter_column::{FilterColumn, set_at};
 use crate::nodes::same;
@@ -41,6 +42,72 @@ fn set_if(asked: bool, squares: &FilterColumn, n: usize) -> u64
     ensures { asked ≡ true → is_in result ≡ spec.has (shown squares.now n) }
 {
     if asked { squares.at(n).squares() } else { 0 }
+}
+
+/// Whether there are squares in some set.
+pub(crate) fn any_left(sets: &[u64]) -> bool
+    ensures { result ≡ list_any (λ set. not (set == 0)) sets.now }
+{
+    sets.iter().any(|set| *set != 0)
+}
+
+/// The same sets.
+pub(crate) fn same_sets(alloc: Global, sets: &[u64]) -> Result<Vec<u64>, NoMemory>
+    ensures { IfOk result (λ copy. copy.items ≡ sets.now) }
+{
+    let mut copied = Vec::new(alloc);
+    copied.extend_from_slice(sets)?;
+    Ok(copied)
+}
+
+/// Adds the squares of other sets.
+pub(crate) fn add_sets(sets: &mut [u64], more: &[u64])
+    ensures { AreJoined more.now sets.old sets.new }
+{
+    for n in 0..sets.len() {
+        sets[n] = joined(sets[n], more, n);
+    }
+}
+
+fn joined(set: u64, more: &[u64], n: usize) -> u64
+    ensures { result ≡ bit_or set (get_or more.now n 0) }
+{
+    set | set_at(more, n)
+}
+
+/// Squares among which are those at the nodes of a set.
+pub(crate) fn any_squares(live: &[bool], sets: &[u64]) -> u64
+    ensures { AreAmong live.now sets.now result }
+{
+    let mut among = 0;
+    for n in 0..live.len() {
+        among |= set_where(live[n], sets, n);
+    }
+    among
+}
+
+fn set_where(asked: bool, sets: &[u64], n: usize) -> u64
+    ensures { asked ≡ true → result ≡ get_or sets.now n 0 }
+{
+    if asked { set_at(sets, n) } else { 0 }
+}
+
+/// The same squares at each node of a set.
+pub(crate) fn everywhere(alloc: Global, live: &[bool], set: u64) -> Result<Vec<u64>, NoMemory>
+    ensures { IfOk result (λ sets. AreEverywhere live.now set sets.items) }
+{
+    let mut sets = Vec::with_capacity(alloc, live.len())?;
+    for n in 0..live.len() {
+        let there = given_if(live[n], set);
+        sets.push(there)?;
+    }
+    Ok(sets)
+}
+
+fn given_if(asked: bool, set: u64) -> u64
+    ensures { asked ≡ true → result ≡ set }
+{
+    if asked { set } else { 0 }
 }
 
 /// The nodes of a set at which there are squares.

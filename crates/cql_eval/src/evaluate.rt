@@ -12,6 +12,9 @@ ghost use Rattle.cql_eval.specs.Costs.{filter_cost, filters_cost, terms_cost, pl
 ghost use Rattle.cql_eval.specs.FlatTrees.{IsFlat, AreFlat, AreFlatTerms, IsFlatMove, IsFlatPart, IsFlatLine};
 
 mod chains;
+mod cover_moves;
+mod cover_some;
+mod cover_squares;
 mod covers;
 mod lines;
 mod played;

@@ -4,7 +4,7 @@ ghost use Rattle.std.specs.Str.{bytes_eq};
 ghost use Rattle.cql_syntax.specs.Meaning as meaning;
 ghost use Rattle.cql_syntax.specs.Values as spec;
 ghost use Rattle.cql_syntax.specs.TreeOf.{filter_tree, filters_tree, played_tree, written_tree};
-ghost use Rattle.cql_syntax.specs.declared.leaves.Chain.TheVariants.{And, All, Intersect};
+ghost use Rattle.cql_syntax.specs.declared.leaves.Chain.TheVariants.{Or, And, All, Intersect};
 ghost use Rattle.cql_syntax.specs.declared.leaves.Pair.TheVariants.{Attacks, AttackedBy};
 ghost use Rattle.cql_eval.specs.Covers.{IsFree, AreFree, IsFreeMove, IsFreePart, IsOwn, IsOwnPart};
 
@@ -14,7 +14,8 @@ use cql_syntax::{Chain, Filter, Filters, Form, Pair, Played};
 use cql_values::names::Names;
 use std::alloc::Global;
 
-/// Whether no name of these, and no line, stands in a filter where it would change what the filter gives or takes.
+/// True only where no line, and none of these names, stands in a filter so that it could change its value or its steps. Forms that aren't
+/// looked into give false.
 #[cycle(is_free)]
 #[tactic(auto, unfolding(cql_syntax::specs::Meaning::value, cql_syntax::specs::Contexts::designator_image, crate::specs::Costs::filter_cost))]
 pub(crate) fn is_free(opened: &Names, f: &Filter) -> bool
@@ -69,6 +70,13 @@ fn is_free_part(opened: &Names, part: &Option<Box<Filter>>) -> bool
     }
 }
 
+/// Whether a part is written, and no name of these stands in it.
+pub(crate) fn is_free_and_written(opened: &Names, part: &Option<Box<Filter>>) -> bool
+    ensures { result ≡ true → IsFreePart opened.now (written_tree part.now) }
+{
+    part.is_some() && is_free_part(opened, part)
+}
+
 /// Whether a filter gives no square but the one that is bound to a name.
 #[cycle(is_own)]
 #[tactic(auto, unfolding(cql_syntax::specs::Meaning::value))]
@@ -121,6 +129,16 @@ pub(crate) fn is_all(chain: Chain) -> bool
 {
     match chain {
         Chain::And | Chain::All => true,
+        _ => false,
+    }
+}
+
+/// Whether one filter of a chain must hold.
+pub(crate) fn is_or(chain: Chain) -> bool
+    ensures { result ≡ true → chain ≡ Or }
+{
+    match chain {
+        Chain::Or => true,
         _ => false,
     }
 }

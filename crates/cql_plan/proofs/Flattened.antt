@@ -1,5 +1,5 @@
 -- A query by its flat items.
-use Rattle.std.proofs.Common.{◌≡◌, ℕ, Bool, true, [], sym, ap, ap₂, ◌∙◌}
+use Rattle.std.proofs.Common.{◌≡◌, ◌≤◌, Bool, true, false, [], sym, ap, ap₂, ◌∙◌, arith}
 use Rattle.cq_position.specs.Games.{Game}
 use Rattle.cql_eval.specs.Costs.{filters_cost, searched_len}
 use Rattle.cql_values.specs.Trees.{searched_tree}
@@ -10,8 +10,9 @@ use Rattle.cql_syntax.specs.Trees.{FilterTree, filter_at, chain, FilterTrees, no
 use Rattle.cql_syntax.specs.declared.leaves.Chain.TheVariants.{And}
 use Rattle.cql_syntax.proofs.FlatHits.{hits_same, keys_same}
 use Rattle.cql_syntax.proofs.SameSound.{same_law}
-use Rattle.cql_plan.specs.Needs.{all_pass}
-use Rattle.cql_plan.proofs.Needed.{hits_pass}
+use Rattle.cql_plan.specs.Needs.{all_pass, query_passes}
+use Rattle.cql_plan.specs.Joined.{HaveSameHits}
+use Rattle.cql_plan.proofs.Needed.{hits_pass, none_where_refused}
 
 -- filters as one, and the filters of one
 as_one : FilterTrees → FilterTree
@@ -52,3 +53,31 @@ module _ (q : QueryTree) (game : Game) (variations : Bool) (items : FilterTrees)
 -- where the query has a hit, its flat items pass
 pub flat_passes : (q : QueryTree) (game : Game) → (hits q game ≡ [] → ⊥) → all_pass (tree_of q game) (flat_query q).items ≡ true
 flat_passes q game some = hits_pass (flat_query q) game (λ none. some (sym (hits_same q game) ∙ none))
+
+-- a game that is turned away has no hit
+pub none_turned_away : (q : QueryTree) (game : Game) → query_passes q game ≡ false → hits q game ≡ []
+unfolding hits
+none_turned_away q game away = sym (hits_same q game) ∙ none_where_refused (tree_of q game) (flat_query q).items away
+
+-- the same by the items that are asked
+module _ (q : QueryTree) (game : Game) (variations searched : Bool) (items asked : FilterTrees) where
+  pub asked_hits : HaveSameHits items asked → searched ≡ variations → same_filters items (flat_query q).items ≡ true → variations ≡ q.variations
+      → hits_in (searched_tree game searched) asked ≡ hits q game
+  asked_hits found here same there =
+      ap (λ v. hits_in (searched_tree game v) asked) here ∙ found.hits (searched_tree game variations) ∙ hits_are q game variations items same there
+
+  pub asked_keys : HaveSameHits items asked → searched ≡ variations → same_filters items (flat_query q).items ≡ true → variations ≡ q.variations
+      → all_keys (searched_tree game searched) (hits_in (searched_tree game searched) asked) asked ≡ keys q game
+  asked_keys found here same there =
+      let tree = searched_tree game variations in
+      ap (λ v. all_keys (searched_tree game v) (hits_in (searched_tree game v) asked) asked) here
+      ∙ ap (λ ns. all_keys tree ns asked) (found.hits tree) ∙ found.keys tree (hits_in tree items) ∙ keys_are q game variations items same there
+
+  pub asked_costs : HaveSameHits items asked → searched ≡ variations → same_filters items (flat_query q).items ≡ true → variations ≡ q.variations
+      → filters_cost (searched_len (searched_tree game searched)) asked ≤ filters_cost (searched_len (searched_tree game q.variations)) (flat_query q).items
+  asked_costs found here same there = omega (
+    arith,
+    ap (λ v. filters_cost (searched_len (searched_tree game v)) asked) here,
+    found.cost (searched_len (searched_tree game variations)),
+    costs_are q game variations items same there,
+  )

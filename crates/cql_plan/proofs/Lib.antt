@@ -5,3 +5,6 @@ pub mod Needed
 pub mod ItemsHeld
 pub mod MenLaw
 pub mod RowsLaw
+pub mod Gathered
+pub mod Sound
+pub mod Standing

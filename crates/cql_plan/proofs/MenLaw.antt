@@ -10,7 +10,7 @@ use Rattle.cq_position.specs.Bitboards.{IsBitboard}
 use Rattle.cq_position.specs.Board.{Board, man_at, stands}
 use Rattle.cq_position.specs.Games.{node_at, is_searched, searched}
 use Rattle.cq_position.specs.Men.{man_number}
-use Rattle.cq_position.specs.Search.{SearchedTree, has_man, has_man_in, nodes_in}
+use Rattle.cq_position.specs.Search.{SearchedTree, has_man, has_man_in}
 use Rattle.cq_position.specs.declared.men.Man.{Man}
 use Rattle.cq_position.specs.declared.men.Man.TheVariants.{K, Q, R, B, N, P, BlackK, BlackQ, BlackR, BlackB, BlackN, BlackP, Empty}
 use Rattle.cq_symmetry.specs.Images.{is_in}

@@ -1,4 +1,5 @@
 pub mod Items
+pub mod Joined
 pub mod Needs
 pub mod NeedsRows
 pub mod Plans

@@ -4,8 +4,11 @@
 #![tactic(auto)]
 
 mod found;
+mod joining;
+mod keyed;
 mod keys;
 pub mod laws;
+mod members;
 mod needs;
 mod plan;
 mod shared;

@@ -3,16 +3,20 @@ ghost use Rattle.std.specs.Prelude.{◌≡◌, true};
 ghost use Rattle.cql_syntax.specs.Flat.{flat_query};
 ghost use Rattle.cql_syntax.specs.Same.{same_filters};
 ghost use Rattle.cql_syntax.specs.TreeOf.{filters_tree, query_tree};
+ghost use Rattle.cql_plan.specs.Joined.{HaveSameHits};
 
 pub mod matching;
 
 use cql_syntax::{FlatQuery, TypedQuery};
 
-/// A query and its flat form, made once for many games.
+/// A query, its flat form, which tells what it needs of a game, and the form that is asked, made once for many games.
 #[derive(Drop)]
 pub struct Plan {
     query: TypedQuery,
     flat: FlatQuery,
+    joined: FlatQuery,
     ghost items: { same_filters (filters_tree flat.items) (flat_query (query_tree query.query)).items ≡ true },
     ghost variations: { flat.variations ≡ query.query.variations },
+    ghost hits: { HaveSameHits (filters_tree flat.items) (filters_tree joined.items) },
+    ghost searched: { joined.variations ≡ flat.variations },
 }

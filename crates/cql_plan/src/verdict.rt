@@ -1,15 +1,13 @@
 //! What a query finds in a game.
-ghost use Rattle.std.specs.Prelude.{◌≡◌, ◌≢◌, ◌+◌, ◌<◌, ◌≤◌, [], true, false, length, map, Some, All, AllPairs, IfOk, OnOk};
+ghost use Rattle.std.specs.Prelude.{◌≡◌, ◌≢◌, ◌+◌, ◌<◌, ◌≤◌, [], length, map, Some, All, AllPairs, IfOk, OnOk};
 ghost use Rattle.cq_position.specs.Search.{nodes_in};
 ghost use Rattle.cql_eval.specs.Costs.{filters_cost, searched_len};
 ghost use Rattle.cql_syntax.specs.Hits.{hits_in, all_keys};
 ghost use Rattle.cql_syntax.specs.TreeOf.{filters_tree};
 ghost use Rattle.cql_values.specs.Trees.{searched_tree};
-ghost use Rattle.cql_plan.specs.Needs.{all_pass};
 ghost use Rattle.cql_plan.specs.Plans.{nodes_of, keys_of};
 
 use crate::found::{Told, hits, keys};
-use crate::needs::all_needed;
 use cq_outside::{NoMemory, Steps};
 use cql_eval::hit_columns;
 use cql_syntax::FlatQuery;
@@ -40,7 +38,7 @@ impl Verdict {
     }
 }
 
-/// What a flat query finds in a game. A game that hasn't what it needs takes no step.
+/// What a flat query finds in a game.
 pub(crate) fn find<L: Ledger>(
     alloc: Global,
     query: &FlatQuery,
@@ -55,21 +53,10 @@ pub(crate) fn find<L: Ledger>(
         → map Some v.keys.items ≡ all_keys (searched_tree game.now query.now.variations)
         (hits_in (searched_tree game.now query.now.variations) (filters_tree query.now.items)) (filters_tree query.now.items)) }
     ensures no_keys { IfOk result (λ v. v.nodes.items ≡ [] → v.keys.items ≡ []) }
-    ensures turned_away { all_pass (searched_tree game.now query.now.variations) (filters_tree query.now.items) ≡ false
-        → IfOk result (λ v. v.nodes.items ≡ []) }
-    ensures no_steps { all_pass (searched_tree game.now query.now.variations) (filters_tree query.now.items) ≡ false
-        → steps.new ≡ steps.old }
-    ensures least { all_pass (searched_tree game.now query.now.variations) (filters_tree query.now.items) ≡ true
-        → OnOk result (steps.old + length (nodes_in (searched_tree game.now query.now.variations)) ≤ steps.new) }
+    ensures least { OnOk result (steps.old + length (nodes_in (searched_tree game.now query.now.variations)) ≤ steps.new) }
     ensures most { steps.new ≤ steps.old + length (nodes_in (searched_tree game.now query.now.variations))
         + filters_cost (searched_len (searched_tree game.now query.now.variations)) (filters_tree query.now.items) }
 {
-    if !all_needed(&query.items, query.variations, game) {
-        return Ok(Verdict {
-            nodes: Vec::new(alloc),
-            keys: Vec::new(alloc),
-        });
-    }
     let column = hit_columns(alloc, query, game, steps)?;
     let told = Told {
         query,

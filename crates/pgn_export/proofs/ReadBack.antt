@@ -19,7 +19,8 @@ use Rattle.pgn_reader.specs.Verdict.{IsVerdict}
 use Rattle.pgn_reader.specs.Words.{Word, ends, remarks, sense, words_of}
 use Rattle.pgn_export.specs.Export.{export_text}
 use Rattle.pgn_export.specs.Lines.{lines}
-use Rattle.pgn_export.specs.Movetext.{line_words, result_text, played_in, movetext}
+use Rattle.pgn_export.specs.Movetext.{line_words, played_in, movetext}
+use Rattle.pgn_tree.specs.Results.{result_text}
 use Rattle.pgn_export.specs.Normal.{levels, IsNormal, IsThisGame, IsReadAs}
 use Rattle.pgn_export.specs.TagLines.{tag_line, written_tags}
 use Rattle.pgn_export.specs.Words.{comment_words}

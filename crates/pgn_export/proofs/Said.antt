@@ -17,7 +17,8 @@ use Rattle.pgn_lexer.specs.declared.token.TokenKind.TheVariants.{Symbol, Period,
 use Rattle.pgn_reader.specs.Line.{nothing, text}
 use Rattle.pgn_reader.specs.Words.{Word, ends, sense, sense_of_symbol, result_of_text}
 use Rattle.pgn_export.specs.Lines.{lines}
-use Rattle.pgn_export.specs.Movetext.{number_words, nag_word, move_words, is_due, line_words, variation_words, result_text}
+use Rattle.pgn_export.specs.Movetext.{number_words, nag_word, move_words, is_due, line_words, variation_words}
+use Rattle.pgn_tree.specs.Results.{result_text}
 use Rattle.pgn_export.specs.Words.{closed, in_parens, comment_words}
 use Rattle.pgn_export.proofs.Alike.{AreAlike}
 use Rattle.pgn_export.proofs.Glued.{Tell, Said, said_none, said_some, said_more, tell_of, tell_one, tell_closed, tell_parens, period_apart, lines_glued}

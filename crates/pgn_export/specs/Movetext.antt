@@ -1,8 +1,6 @@
 -- The movetext as a list of words (PGN standard, section 8.2).
 use Rattle.std.specs.Prelude.{ℕ, Bool, true, false, ◌||◌, List, [], ◌∷◌, ◌++◌, map, codes, decimal, drop}
 use Rattle.std.specs.List.{flat_map}
-use Rattle.cq_position.specs.declared.games.GameResult.{GameResult}
-use Rattle.cq_position.specs.declared.games.GameResult.TheVariants.{White as WhiteWon, Black as BlackWon, Draw, Open as Undecided}
 use Rattle.cq_position.specs.declared.men.Side.{Side}
 use Rattle.cq_position.specs.declared.men.Side.TheVariants.{White, Black}
 use Rattle.cq_position.specs.Board.{Board}
@@ -10,6 +8,7 @@ use Rattle.cq_position.specs.Continuations.{Played, Continuations, none, played,
 use Rattle.cq_position.specs.Games.{Game, node_at}
 use Rattle.cq_san.specs.Writing.{san_text}
 use Rattle.pgn_export.specs.Words.{comment_words, in_parens}
+use Rattle.pgn_tree.specs.Results.{result_text}
 
 -- The number of a move (section 8.2.2) stands before each move of White. Before a move of Black it stands with three periods, where that is
 -- due: where the move begins the movetext or a variation, or follows a glyph, a comment or a variation.
@@ -53,13 +52,6 @@ unfoldable mutual
   variation_words p none = []
   variation_words p (played m next others) =
       in_parens (move_words p true m ++ line_words m.position (is_due m none) next) ++ variation_words p others
-
--- the marker at the end of a game (section 8.2.6), which is also the value of its Result tag (8.1.1.7)
-abbrev pub result_text : GameResult → List ℕ
-result_text WhiteWon = codes "1-0"
-result_text BlackWon = codes "0-1"
-result_text Draw = codes "1/2-1/2"
-result_text Undecided = codes "*"
 
 -- what is played in a game after its start
 abbrev pub played_in : Game → Continuations

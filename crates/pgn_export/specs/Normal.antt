@@ -18,7 +18,8 @@ use Rattle.pgn_reader.specs.Tags.{start_of}
 use Rattle.pgn_reader.specs.Verdict.{IsVerdict}
 use Rattle.pgn_reader.specs.Words.{result_of_text}
 use Rattle.pgn_export.specs.Export.{export_text}
-use Rattle.pgn_export.specs.Movetext.{played_in, result_text}
+use Rattle.pgn_export.specs.Movetext.{played_in}
+use Rattle.pgn_tree.specs.Results.{result_text}
 use Rattle.pgn_export.specs.TagLines.{is_in_roster, roster}
 
 -- how many levels the variations have: one that replaces a move of a line stands a level above that line

@@ -8,7 +8,7 @@ use Rattle.std.specs.Ordering.{nat_cmp}
 use Rattle.std.specs.Str.{bytes_eq}
 use Rattle.cq_position.specs.Games.{Game, tag_value}
 use Rattle.pgn_lexer.specs.Bytes.{quote, backslash}
-use Rattle.pgn_export.specs.Movetext.{result_text}
+use Rattle.pgn_tree.specs.Results.{result_text}
 
 -- the tags that every game has, but for the result (section 8.1.1), with the value of one that is missing
 abbrev pub roster : List (List ℕ × List ℕ)

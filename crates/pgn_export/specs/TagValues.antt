@@ -3,7 +3,7 @@ use Rattle.std.specs.Prelude.{◌≡◌, ℕ, ◌&&◌, List, codes, Option, Som
 use Rattle.std.specs.Option.{option_or, is_some}
 use Rattle.std.specs.Str.{bytes_eq}
 use Rattle.cq_position.specs.Games.{Game, tag_value}
-use Rattle.pgn_export.specs.Movetext.{result_text}
+use Rattle.pgn_tree.specs.Results.{result_text}
 use Rattle.pgn_export.specs.Normal.{AreInOrder}
 use Rattle.pgn_export.specs.TagLines.{roster, written_tags}
 

@@ -12,4 +12,3 @@ mod tag_lines;
 
 pub use game::export;
 pub use laws::{lines_are_short, tags_are_the_games};
-pub use movetext::result_text;

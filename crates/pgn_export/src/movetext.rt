@@ -14,22 +14,10 @@ ghost use Rattle.pgn_export.specs.Words.{opened, closed, comment_words};
 
 use crate::page::Page;
 use cq_outside::NoMemory;
-use cq_position::{GameResult, Move, Position, Side};
+use cq_position::{Move, Position, Side};
 use cq_san::san_text_to;
 use itoa::Buffer;
-use pgn_tree::{Game, first_word};
-
-/// The marker of a result, which ends the movetext (PGN standard, section 8.2.6).
-pub fn result_text(ending: GameResult) -> &'static [u8]
-    ensures { result.now ≡ movetext.result_text ending }
-{
-    match ending {
-        GameResult::White => b"1-0",
-        GameResult::Black => b"0-1",
-        GameResult::Draw => b"1/2-1/2",
-        GameResult::Open => b"*",
-    }
-}
+use pgn_tree::{Game, first_word, result_text};
 
 /// Adds the words of a game's movetext.
 pub(crate) fn write_movetext(page: &mut Page, game: &Game) -> Result<(), NoMemory>

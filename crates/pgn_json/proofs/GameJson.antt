@@ -15,7 +15,8 @@ use Rattle.cq_san.specs.Writing.{san_text}
 use Rattle.pgn_json.specs.Data.{Value, truth, number, string, array_of}
 use Rattle.pgn_json.specs.GameValue.{array_member, fen_members, json_of, mark_members, node_value, note_members, tag_value, text_value}
 use Rattle.pgn_json.specs.Grammar.{IsJson, IsReadAsValue}
-use Rattle.pgn_json.specs.Json.{game_text, is_marked, json_text, move_of, node_text, parent_of, result_text, tag_text, note_members as note_texts, fen_members as fen_texts, mark_members as mark_texts}
+use Rattle.pgn_json.specs.Json.{game_text, is_marked, json_text, move_of, node_text, parent_of, tag_text, note_members as note_texts, fen_members as fen_texts, mark_members as mark_texts}
+use Rattle.pgn_tree.specs.Results.{result_text}
 use Rattle.pgn_json.specs.Moves.{uci_text}
 use Rattle.pgn_json.specs.Kept.{AreBytes, HasByteTexts, HasKeptNodes}
 use Rattle.pgn_json.specs.Strings.{characters, string_text}

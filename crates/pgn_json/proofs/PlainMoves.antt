@@ -18,7 +18,7 @@ use Rattle.cq_san.specs.Fits.{goes_right}
 use Rattle.cq_san.specs.Writing.{AreOnBoard, capture_sign, check_sign, coordinate, is_capture, letter, parts_text, piece_parts, promotion_text, san_parts, san_text, sign_of}
 use Rattle.cq_san.specs.declared.parts.PieceMove.{PieceMove}
 use Rattle.cq_san.specs.declared.parts.Parts.TheVariants.{Castling, Null, Moved}
-use Rattle.pgn_json.specs.Json.{result_text}
+use Rattle.pgn_tree.specs.Results.{result_text}
 use Rattle.pgn_json.specs.Moves.{promotion_letter, square_text, uci_text}
 use Rattle.pgn_json.proofs.Plain.{IsPlain, both_plain, either_plain, high_plain, letter_plain, low_plain, square_plain}
 

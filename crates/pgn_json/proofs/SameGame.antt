@@ -19,7 +19,8 @@ use Rattle.cq_san.specs.Writing.{san_text}
 use Rattle.cq_san.specs.declared.fault.SanFault.{SanFault}
 use Rattle.pgn_json.specs.Data.{Value, truth, array_of}
 use Rattle.pgn_json.specs.GameValue.{fen_members, json_of, mark_members, node_value, note_members, tag_value}
-use Rattle.pgn_json.specs.Json.{game_text, is_marked, json_text, move_of, parent_of, result_text}
+use Rattle.pgn_json.specs.Json.{game_text, is_marked, json_text, move_of, parent_of}
+use Rattle.pgn_tree.specs.Results.{result_text}
 use Rattle.pgn_json.specs.Kept.{HasKeptNodes}
 use Rattle.pgn_json.specs.Same.{game_read, node_read, tag_read}
 use Rattle.pgn_json.proofs.GameJson.{game_written}

@@ -5,7 +5,8 @@ use Rattle.cq_position.specs.Games.{Node, Game, node_at, numbers}
 use Rattle.cq_position.specs.Search.{ply}
 use Rattle.cq_san.specs.Writing.{san_text}
 use Rattle.pgn_json.specs.Data.{Value, truth, number, string, array_of, object_of}
-use Rattle.pgn_json.specs.Json.{is_marked, move_of, parent_of, result_text}
+use Rattle.pgn_json.specs.Json.{is_marked, move_of, parent_of}
+use Rattle.pgn_tree.specs.Results.{result_text}
 use Rattle.pgn_json.specs.Moves.{uci_text}
 use Rattle.pgn_json.specs.Strings.{characters}
 

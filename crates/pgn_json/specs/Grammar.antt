@@ -7,7 +7,8 @@ use Rattle.pgn_json.specs.Data.{Value, truth, number, string, array, object, Val
 
 -- Strings (section 7).
 
--- %x20-21 / %x23-5B / %x5D-10FFFF (that codes are those of characters is asked of the whole text): all but the control characters, the quote and the backslash
+-- %x20-21 / %x23-5B / %x5D-10FFFF: all but the control characters, the quote and the backslash
+-- (that codes are those of characters is asked of the whole text)
 abbrev pub is_unescaped : ℕ → Bool
 is_unescaped c = not (nat_lt c 32) && (not (c == 34) && not (c == 92))
 

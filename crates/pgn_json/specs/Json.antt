@@ -3,8 +3,6 @@ use Rattle.std.specs.Prelude.{ℕ, ◌==◌, ◌||◌, Bool, List, [], ◌∷◌
 use Rattle.std.specs.List.{list_any}
 use Rattle.std.specs.Option.{unwrap_or}
 use Rattle.std.specs.Str.{bytes_eq}
-use Rattle.cq_position.specs.declared.games.GameResult.{GameResult}
-use Rattle.cq_position.specs.declared.games.GameResult.TheVariants.{White as WhiteWon, Black as BlackWon, Draw, Open as Undecided}
 use Rattle.cq_position.specs.declared.moves.Move.{Move}
 use Rattle.cq_position.specs.FenText.{fen_of}
 use Rattle.cq_position.specs.Games.{Node, Game, node_at, numbers}
@@ -14,16 +12,11 @@ use Rattle.cq_san.specs.Writing.{san_text}
 use Rattle.pgn_json.specs.Moves.{uci_text}
 use Rattle.pgn_json.specs.Strings.{string_text}
 use Rattle.pgn_json.specs.Values.{array, array_member, member, object, plain}
+use Rattle.pgn_tree.specs.Results.{result_text}
 
 -- a tag is its name and its value
 abbrev pub tag_text : List ℕ × List ℕ → List ℕ
 tag_text t = array (string_text t.0 ∷ string_text t.1 ∷ [])
-
-abbrev pub result_text : GameResult → List ℕ
-result_text WhiteWon = codes "1-0"
-result_text BlackWon = codes "0-1"
-result_text Draw = codes "1/2-1/2"
-result_text Undecided = codes "*"
 
 -- a node is marked that has the comment; where the comment has no bytes all are
 abbrev pub is_marked : List ℕ → Node → Bool

@@ -7,14 +7,14 @@ ghost use Rattle.pgn_json.specs.Json as json;
 ghost use Rattle.pgn_json.specs.Left as left_of;
 ghost use Rattle.pgn_json.specs.Strings.{string_text};
 ghost use Rattle.pgn_json.specs.Values.{array, member, next, plain, separated};
+ghost use Rattle.pgn_tree.specs.Results as markers;
 
 use crate::node::{push_node, push_plain, push_position};
 use crate::notes::{comma_after, is_marked, push_notes, push_number};
 use crate::plies::plies;
 use crate::strings::push_string;
 use cq_outside::{Bytes, NoMemory};
-use cq_position::GameResult;
-use pgn_tree::{Game, Tags};
+use pgn_tree::{Game, Tags, result_text};
 use std::alloc::Global;
 
 /// A game as a line of JSON (RFC 8259), in UTF-8 and with LF at its end: its number and the place of its first byte in its archive, its
@@ -104,23 +104,11 @@ fn push_pair(line: &mut Bytes, i: usize, name: &[u8], value: &[u8]) -> Result<()
 // Adds the start and the result.
 fn push_start(line: &mut Bytes, alloc: Global, game: &Game) -> Result<(), NoMemory>
     ensures { OnOk result (line.new ≡ line.old ++ (next (member (codes "start") (plain (fen_of (node_at game.now.nodes 0).position)))
-        ++ next (member (codes "result") (plain (json.result_text game.now.result))))) }
+        ++ next (member (codes "result") (plain (markers.result_text game.now.result))))) }
 {
     prove!(game.is_tree());
     push_position(line, alloc, b",\"start\":\"", game.position(0))?;
     push_plain(line, b",\"result\":\"", result_text(game.result()))
-}
-
-// The marker of a result.
-fn result_text(ending: GameResult) -> &'static [u8]
-    ensures { result.now ≡ json.result_text ending }
-{
-    match ending {
-        GameResult::White => b"1-0",
-        GameResult::Black => b"0-1",
-        GameResult::Draw => b"1/2-1/2",
-        GameResult::Open => b"*",
-    }
 }
 
 // Adds that the start is marked, where it is.

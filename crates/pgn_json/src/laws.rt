@@ -1,4 +1,4 @@
-//! Laws of the text of a game as JSON. Each is proved for all texts, or for all games with what every `Game` has, and changes nothing.
+//! Laws of the text of a game as JSON, for all texts, or for all games that have what every `Game` has; a call changes nothing.
 ghost use Rattle.std.specs.Prelude.{◌≡◌, ◌<◌, ◌^◌, ℕ, true, List, All, length};
 ghost use Rattle.std.specs.Str.{encode_utf8_all, IsUtf8};
 ghost use Rattle.cq_position.specs.Games.{Game as PlainGame, node_at};
@@ -17,7 +17,7 @@ pub fn strings_are_read_back()
     ensures { (text : List ℕ) → (json : List ℕ) × (encode_utf8_all json ≡ string_text text) × IsReadAs json (characters text) }
 {}
 
-/// Every game keeps what the laws of lines ask of it.
+/// Always true: every `Game` has what the laws of lines ask of its nodes.
 pub fn games_are_kept(game: &Game) -> bool
     ensures value { result ≡ true }
     ensures kept { HasKeptNodes game.now.nodes }
@@ -27,7 +27,7 @@ pub fn games_are_kept(game: &Game) -> bool
     true
 }
 
-/// The texts of every game are of bytes.
+/// Always true: the tags and comments of every `Game` are lists of bytes.
 pub fn texts_are_bytes(game: &Game) -> bool
     ensures value { result ≡ true }
     ensures texts { HasByteTexts game.now }
@@ -39,20 +39,21 @@ pub fn texts_are_bytes(game: &Game) -> bool
     true
 }
 
-/// A line before its end is JSON: it is read as the value of its game, and as no other value of the kinds that `specs/Data` has.
+/// A line without its LF is JSON, of numbers and first bytes below 2^64: it is read as the value of its game, and as no other value of the
+/// kinds that `specs/Data` has.
 pub fn lines_are_json()
     ensures { (mark : List ℕ) (number byte : ℕ) (g : PlainGame) → HasKeptNodes g.nodes → HasByteTexts g → number < 2 ^ 64 → byte < 2 ^ 64 →
         IsReadAsValue (game_text mark number byte g) (json_of mark number byte g) }
 {}
 
-/// A line is UTF-8.
+/// A line is UTF-8, of numbers and first bytes below 2^64.
 pub fn lines_are_utf8()
     ensures { (mark : List ℕ) (number byte : ℕ) (g : PlainGame) → HasKeptNodes g.nodes → HasByteTexts g → number < 2 ^ 64 → byte < 2 ^ 64 →
         IsUtf8 (json_text mark number byte g) }
 {}
 
-/// Two lines are the same, whatever their marks, only if their games have the same number and first byte, the same result, and the same tags
-/// and nodes, but for the bytes that spell the characters of tags and comments.
+/// Two lines, of numbers and first bytes below 2^64, are the same, whatever their marks, only if their games have the same number and first
+/// byte, the same result, and the same tags and nodes, but for the bytes that spell the characters of tags and comments.
 pub fn same_lines_have_the_same_game()
     ensures { (mark other_mark : List ℕ) (number other_number byte other_byte : ℕ) (g h : PlainGame) →
         HasKeptNodes g.nodes → HasKeptNodes h.nodes →

@@ -37,7 +37,7 @@ pub record HasTaken (mark : List ℕ) (was now : Sinks) (count : ℕ) (games : K
   pub writes : Writes was now (lines mark entries) (fault_lines entries)
   pub unfailed : NoWriteFailed was now
 
--- such games were written, and first ones of the next batch, and of some games after these a front of what is to be written of them
+-- such games were written, then the first ones of the next batch, and of some after these a front of what is due
 pub record IsCutShort (mark : List ℕ) (was now : Sinks) (games batch : KeptGames) : Type 0 where
   pub first : KeptGames
   pub part : KeptGames
@@ -49,7 +49,8 @@ pub record IsCutShort (mark : List ℕ) (was now : Sinks) (games batch : KeptGam
   pub next_are : AreKept (1 + length (games ++ first)) part next
   pub out_count : ℕ
   pub err_count : ℕ
-  pub writes : Writes was now (lines mark entries ++ take out_count (lines mark next)) (fault_lines entries ++ take err_count (fault_lines next))
+  pub writes : Writes was now (lines mark entries ++ take out_count (lines mark next))
+      (fault_lines entries ++ take err_count (fault_lines next))
 
 -- it was stopped at the games of the next batch: a write failed, or no memory was found
 abbrev pub HasStopped : List ℕ → Sinks → Sinks → KeptGames → KeptGames → Status → Type 0

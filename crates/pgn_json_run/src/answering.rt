@@ -1,5 +1,5 @@
 //! Writing the games of the archive that a source has left.
-ghost use Rattle.std.specs.Prelude.{◌≤◌, ◌^◌};
+ghost use Rattle.std.specs.Prelude.{◌≡◌, ◌≤◌, ◌^◌};
 ghost use Rattle.pgn_json_run.specs.Texts.{WritesSummary};
 ghost use Rattle.pgn_json_run.specs.Writing.{Says, pipe_of, view_of};
 
@@ -13,34 +13,26 @@ use pgn_reader::first_bytes_decide;
 use std::alloc::Global;
 use std::thread::Threads;
 
-/// Writes the games of the archive that `source` has left, of which so many bytes are the limit, from 1 to 2^40, and a report over them.
-/// The games of a batch are made by so many workers, from 1 to 64, in threads of `rt`.
+/// Has a writer of games write those of the archive that `source` has left, of which so many bytes are the limit, from 1 to 2^40, and
+/// writes a report over them.
 pub(crate) fn answer_all<R: Threads + Sync, S: Source, O: Sink, E: Sink>(
-    rt: &R,
-    alloc: Global,
-    mark: &[u8],
-    workers: u32,
+    writer: GameWriter<'_, R>,
     limit: u64,
     source: &mut S,
     out: &mut O,
     err: &mut E,
 ) -> Status
-    requires workers { (1 ≤ workers) × (workers ≤ 64) }
+    requires nothing { writer.faulty ≡ 0 }
     requires limit { (1 ≤ limit) × (limit ≤ 2 ^ 40) }
-    ensures says { Says result limit mark.now
+    ensures says { Says result limit writer.entry.mark.now
         (pipe_of S.left S.faults O.taken O.faults E.taken E.faults source.old out.old err.old)
         (pipe_of S.left S.faults O.taken O.faults E.taken E.faults source.new out.new err.new) }
     ensures next { S.follows source.old source.new }
 {
     first_bytes_decide();
     archives_come_in_batches();
-    let mut writer = GameWriter {
-        rt,
-        alloc,
-        mark,
-        workers,
-        faulty: 0,
-    };
+    let alloc = writer.alloc;
+    let mut writer = writer;
     match take_batches(alloc, limit, source, &mut writer, out, err) {
         Ok(Ended::All(games)) => write_summary(alloc, games, writer.faulty, err),
         Ok(Ended::Early(status)) => status,

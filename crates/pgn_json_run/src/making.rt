@@ -10,17 +10,18 @@ use cq_outside::{Bytes, NoMemory};
 use std::alloc::Global;
 use std::thread::Threads;
 
-/// How many games of a batch are made before they are written.
+/// How many games of a batch, at most, are made before they are written.
 pub(crate) const PART: u64 = 128;
 
-/// What is written of a game, and the game's number in its part of the batch.
+/// What is written of a game, and the game's number in its part of the batch, from 0.
 #[derive(Drop)]
 pub(crate) struct GameTexts {
     pub(crate) number: u64,
     pub(crate) texts: Texts,
 }
 
-/// Makes what is written of each game of a part of a batch: of the game with the number `first` and those after it.
+/// Makes what is written of each game of a part of a batch: of the game with the number `first` in the batch, from 0, and of those after
+/// it, `PART` at most.
 #[derive(Clone, Copy)]
 pub(crate) struct TextMaker<'a> {
     pub(crate) mark: &'a [u8],

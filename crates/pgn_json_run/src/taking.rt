@@ -42,7 +42,7 @@ impl<'a, R: Threads + Sync, O: Sink, E: Sink> Taker<O, E> for GameWriter<'a, R> 
     }
 }
 
-// Writes what there is of a batch, some games after the other, so that little of it is held at once.
+// Writes what there is of a batch, a part at a time, so that little of it is held at once.
 fn write_batch<R: Threads + Sync, O: Sink, E: Sink>(
     writer: &mut GameWriter<'_, R>,
     batch: &Batch,

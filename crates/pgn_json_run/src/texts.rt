@@ -11,7 +11,7 @@ use pgn_json::json_line;
 use pgn_reader::read_game;
 use std::alloc::Global;
 
-/// What is written of some games: the lines of those that are read, and the lines of the faulty ones, and how many these are.
+/// What is written of some games: the lines of those that are read, the lines of the faulty ones, and how many games are faulty.
 #[derive(Drop)]
 pub(crate) struct Texts {
     pub(crate) lines: Bytes,

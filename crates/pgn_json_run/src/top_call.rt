@@ -6,6 +6,7 @@ ghost use Rattle.pgn_json_run.specs.Writing.{pipe_of, view_of};
 
 use crate::answering::answer_all;
 use crate::status::Status;
+use crate::taking::GameWriter;
 use crate::words::read_words;
 use cq_outside::{Desk, NoMemory, OpenFault, Refusal, Sink, write_all_of};
 use pgn_tree::single_spaced;
@@ -57,16 +58,16 @@ pub fn run<R: Threads + Sync, D: Desk, O: Sink, E: Sink>(
         return Status::NoMemory;
     };
     match desk.open(alloc, job.archive.as_slice()) {
-        Ok(()) => answer_all(
-            rt,
-            alloc,
-            mark.as_slice(),
-            job.workers,
-            job.limit,
-            desk,
-            out,
-            err,
-        ),
+        Ok(()) => {
+            let writer = GameWriter {
+                rt,
+                alloc,
+                mark: mark.as_slice(),
+                workers: job.workers,
+                faulty: 0,
+            };
+            answer_all(writer, job.limit, desk, out, err)
+        }
         Err(OpenFault::Failed) => Status::OpenFault,
         Err(OpenFault::NoMemory) => Status::NoMemory,
     }

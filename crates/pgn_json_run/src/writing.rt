@@ -13,11 +13,11 @@ use cq_outside::{Bytes, Failed, NoMemory, Refusal, Sink, write_all_of};
 use std::alloc::Global;
 use std::thread::Threads;
 
-/// How many bytes wait at most.
+/// From how many bytes on what waits is written.
 const PAGE: usize = 65_536;
 
 /// Writes what there is of a part of a batch, made by so many workers, from 1 to 64, which is a condition. Answers how many of its games
-/// are faulty.
+/// are faulty. Refusals: `WriteFault`, `NoMemory`; a front of what is due may then be written.
 pub(crate) fn write_part<R: Threads + Sync, O: Sink, E: Sink>(
     rt: &R,
     alloc: Global,
@@ -75,7 +75,7 @@ fn write_lines<O: Sink>(alloc: Global, texts: &[Texts], out: &mut O) -> Result<(
     write_page(&mut page, out)
 }
 
-// Adds a text to what waits, which is written once it fills a page. A text that fills one alone is written as it is.
+// Adds a text to what waits, which is written once it fills a page. A text that has as many bytes alone is not copied.
 fn add_text<O: Sink>(page: &mut Vec<u8>, text: &[u8], out: &mut O) -> Result<(), Refusal<Failed>>
     ensures { (was : SinkView) (before : List ℕ) → WaitsOf before was (view_of O.taken O.faults out.old) page.old.items
         → Adds (before ++ text.now) was (view_of O.taken O.faults out.new) page.new.items result }

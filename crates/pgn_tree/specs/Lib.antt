@@ -5,3 +5,4 @@ pub mod Notes
 pub mod NotesInside
 pub mod Inside
 pub mod GameInside
+pub mod Results

@@ -5,6 +5,7 @@
 
 mod comment;
 mod comments;
+mod ending;
 mod game;
 pub mod laws;
 mod node;
@@ -14,6 +15,7 @@ mod tags;
 
 pub use comment::{first_word, single_spaced};
 pub use cq_position::GameResult;
+pub use ending::result_text;
 pub use game::Game;
 pub use notes::Notes;
 pub use tags::Tags;

@@ -1,5 +1,5 @@
 //! Squares that are worth trying: of the squares of sets those with which what is asked may hold.
-ghost use Rattle.std.specs.Prelude.{◌≡◌, ◌⊎◌, ℕ, [], ◌∷◌, length, true, false, OnOk};
+ghost use Rattle.std.specs.Prelude.{◌≡◌, ◌⊎◌, ℕ, [], length, true, OnOk};
 ghost use Rattle.cq_position.specs.Games.{IsTree, node_at};
 ghost use Rattle.cql_syntax.specs.Meaning as meaning;
 ghost use Rattle.cql_syntax.specs.TreeOf.{filter_tree, filters_tree};
@@ -10,15 +10,19 @@ ghost use Rattle.cql_eval.specs.Columns.{AreAsked};
 ghost use Rattle.cql_eval.specs.Covers.{AreCut, IsFree, MayHave, MayHold};
 ghost use Rattle.cql_eval.specs.FlatTrees.{IsFlat, AreFlat};
 
+use super::cover_moves::cover_played;
+use super::cover_some::cover_some;
+use super::cover_squares::cover_square;
 use super::evaluate;
-use crate::covers::{cut, cut_moves, cut_related, cut_where_fails, with_squares};
-use crate::free::{
-    is_all, is_attack, is_free, is_intersection, is_other, is_own, is_own_part, turned,
+use crate::covers::{
+    any_left, any_squares, cut, cut_related, cut_where_fails, everywhere, with_squares,
 };
+use crate::elsewhere::{brought_back, looked_at, looks_elsewhere};
+use crate::filter_column::FilterColumn;
+use crate::free::{is_all, is_attack, is_free, is_intersection, is_or, is_own, turned};
 use crate::order::{SORTS, is_of_class};
-use cq_geometry::Square;
 use cq_outside::{NoMemory, Steps};
-use cql_syntax::{Chain, Filter, Filters, Form, Pair};
+use cql_syntax::{Chain, Filter, Filters, Form, Pair, Unary};
 use cql_values::names::Names;
 use pgn_tree::Game;
 use std::alloc::Global;
@@ -48,6 +52,9 @@ pub(super) fn cover<L: Ledger>(
     ensures len { length sets.new ≡ length sets.old }
     ensures cost { steps.new ≡ steps.old }
 {
+    if !any_left(sets) {
+        return Ok(());
+    }
     if is_free(opened, asked) {
         return cover_free(
             alloc, opened, name, asked, game, variations, names, live, sets, steps,
@@ -63,34 +70,24 @@ pub(super) fn cover<L: Ledger>(
         Form::Chain(chain, parts) => cover_chain(
             alloc, opened, name, *chain, parts, game, variations, names, live, sets, steps,
         ),
-        Form::Square(every, inner, _, part) => {
-            let inner = inner.as_slice();
-            cover_square(
-                alloc, opened, name, *every, inner, part, game, variations, names, live, sets,
-                steps,
+        Form::Square(..) => cover_square(
+            alloc, opened, name, asked, game, variations, names, live, sets, steps,
+        ),
+        Form::Unary(word, part) => {
+            cover_elsewhere(
+                alloc, opened, name, *word, part, game, variations, names, live, sets, steps,
             )?;
             Ok(())
         }
         Form::Played(played) => {
-            let origin = is_own_part(name, &played.origin);
-            let goal = is_own_part(name, &played.goal);
-            let taken = is_own_part(name, &played.taken);
-            cut_moves(sets, live, game, variations, origin, goal, taken);
-            Ok(())
-        }
-        Form::Pair(pair, first, second) => {
-            if !is_attack(*pair) {
-                return Ok(());
-            }
-            if !is_own(name, second) {
-                return Ok(());
-            }
-            let other = turned(*pair);
-            cover_related(
-                alloc, opened, name, other, first, game, variations, names, live, sets, steps,
+            cover_played(
+                alloc, opened, name, played, game, variations, names, live, sets, steps,
             )?;
             Ok(())
         }
+        Form::Pair(..) => cover_turned(
+            alloc, opened, name, asked, game, variations, names, live, sets, steps,
+        ),
         _ => Ok(()),
     }
 }
@@ -125,7 +122,49 @@ fn cover_free<L: Ledger>(
     Ok(())
 }
 
-// Of the filters of a chain: of those that must all hold.
+// Of a set whose men attack the square, or are attacked from it.
+#[cycle(evaluate)]
+#[tactic(auto, unfolding(cql_syntax::specs::Meaning::value, crate::specs::FlatTrees::unflat))]
+fn cover_turned<L: Ledger>(
+    alloc: Global,
+    opened: &Names,
+    name: &[u8],
+    asked: &Filter,
+    game: &Game,
+    variations: bool,
+    names: &Names,
+    live: &[bool],
+    sets: &mut [u64],
+    steps: &mut Steps<L>,
+) -> Result<(), NoMemory>
+    requires tree { IsTree game.now.nodes }
+    requires asked { AreAsked (searched_tree game.now variations) live.now }
+    requires count { length sets.old ≡ length live.now }
+    requires flat { IsFlat (filter_tree asked.now) }
+    ensures cut { OnOk result (AreCut live.now (MayHold opened.now names.now name.now
+        (λ e. meaning.value (searched_tree game.now variations) [] e (filter_tree asked.now))) sets.old sets.new) }
+    ensures len { length sets.new ≡ length sets.old }
+    ensures cost { steps.new ≡ steps.old }
+{
+    match &asked.form {
+        Form::Pair(pair, first, second) => {
+            if !is_attack(*pair) {
+                return Ok(());
+            }
+            if !is_own(name, second) {
+                return Ok(());
+            }
+            let other = turned(*pair);
+            cover_related(
+                alloc, opened, name, other, first, game, variations, names, live, sets, steps,
+            )?;
+            Ok(())
+        }
+        _ => Ok(()),
+    }
+}
+
+// Of the filters of a chain: of those that must all hold, or one of which must.
 #[cycle(evaluate)]
 fn cover_chain<L: Ledger>(
     alloc: Global,
@@ -149,6 +188,12 @@ fn cover_chain<L: Ledger>(
     ensures len { length sets.new ≡ length sets.old }
     ensures cost { steps.new ≡ steps.old }
 {
+    if is_or(chain) {
+        cover_some(
+            alloc, opened, name, parts, game, variations, names, live, sets, steps,
+        )?;
+        return Ok(());
+    }
     if !is_all(chain) {
         return Ok(());
     }
@@ -253,14 +298,13 @@ fn cover_if<L: Ledger>(
     )
 }
 
-// Of what is asked of some square under another name, whatever that square is.
+// Of what a word asks at other nodes: what may hold at one of these.
 #[cycle(evaluate)]
-fn cover_square<L: Ledger>(
+fn cover_elsewhere<L: Ledger>(
     alloc: Global,
     opened: &Names,
     name: &[u8],
-    every: bool,
-    inner: &[u8],
+    word: Unary,
     part: &Filter,
     game: &Game,
     variations: bool,
@@ -273,19 +317,23 @@ fn cover_square<L: Ledger>(
     requires asked { AreAsked (searched_tree game.now variations) live.now }
     requires count { length sets.old ≡ length live.now }
     requires flat { IsFlat (filter_tree part.now) }
-    ensures cut { OnOk result ((x : meaning.Names → ℕ → spec.Value) → AreCut live.now (MayHold opened.now names.now name.now
-        (λ e n. spec.square_of every (x e n) (λ s. spec.holds (meaning.value (searched_tree game.now variations) []
-        ((inner.now, s) ∷ e) (filter_tree part.now) n)))) sets.old sets.new) }
+    ensures cut { OnOk result (AreCut live.now (MayHold opened.now names.now name.now
+        (λ e. meaning.unary_of (searched_tree game.now variations) word
+        (meaning.value (searched_tree game.now variations) [] e (filter_tree part.now)))) sets.old sets.new) }
     ensures len { length sets.new ≡ length sets.old }
     ensures cost { steps.new ≡ steps.old }
 {
-    if !is_other(every, inner, name) {
+    if !looks_elsewhere(word) {
         return Ok(());
     }
-    let wider = opened.with(alloc, inner, Square::new(0))?;
+    let wide = looked_at(alloc, word, game, variations, live)?;
+    let wide = wide.as_slice();
+    let mut there = everywhere(alloc, wide, any_squares(live, sets))?;
     cover(
-        alloc, &wider, name, part, game, variations, names, live, sets, steps,
+        alloc, opened, name, part, game, variations, names, wide, &mut there, steps,
     )?;
+    let back = brought_back(alloc, word, game, there)?;
+    cut(sets, live, &FilterColumn::Sets(back));
     Ok(())
 }
 

@@ -63,10 +63,10 @@ pub(super) fn played_truths<L: Ledger>(
     Ok(truths)
 }
 
-// The column of a part that is written.
+/// The column of a part that is written.
 #[cycle(evaluate)]
 #[tactic(auto, unfolding(cql_syntax::specs::Meaning::value, crate::specs::Costs::filter_cost, crate::specs::FlatTrees::unflat))]
-fn written_column<L: Ledger>(
+pub(super) fn written_column<L: Ledger>(
     alloc: Global,
     written: &Option<Box<Filter>>,
     game: &Game,

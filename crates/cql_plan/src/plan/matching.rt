@@ -9,6 +9,7 @@ ghost use Rattle.cql_values.specs.Trees.{searched_tree};
 ghost use Rattle.cql_plan.specs.Needs.{query_passes};
 ghost use Rattle.cql_plan.specs.Plans.{query_of, nodes_of, keys_of};
 
+use crate::joining::join;
 use crate::needs::all_needed;
 use crate::plan::Plan;
 use crate::verdict::{Verdict, find};
@@ -25,10 +26,15 @@ impl Plan {
         ensures { IfOk result (λ plan. query_tree (query_of plan).query ≡ query_tree query.now.query) }
     {
         let flat = expand(alloc, query)?;
+        let joined = join(alloc, &flat)?;
         let query = TypedQuery {
             query: query.query.copy()?,
         };
-        Ok(Plan { query, flat })
+        Ok(Plan {
+            query,
+            flat,
+            joined,
+        })
     }
 
     /// The query that it was made from.
@@ -72,5 +78,11 @@ pub fn match_game<L: Ledger>(
         + filters_cost (searched_len (searched_tree game.now (query_of plan.now).query.variations))
         (flat_query (query_tree (query_of plan.now).query)).items }
 {
-    find(alloc, &plan.flat, game, steps)
+    if !may_hold(plan, game) {
+        return Ok(Verdict {
+            nodes: Vec::new(alloc),
+            keys: Vec::new(alloc),
+        });
+    }
+    find(alloc, &plan.joined, game, steps)
 }

@@ -19,7 +19,7 @@ returns-in_default-clause-answers g c =
     let out = sink_view g.O.Sink.taken g.O.Sink.faults in
     let err = sink_view g.E.Sink.taken g.E.Sink.faults in
     let queries = trees_of (queries_of c.args.plan.now) in
-    none_answered c.archives_come_in_batches.ensures.have (asked_of_all queries) c.args.settings.limit (source c.args.source.now) (out c.args.out.now) (err c.args.err.now)
+    none_answered c.archives_come_in_batches.ensures.have (asked_of_all queries) c.args.crew.now.settings.limit (source c.args.source.now) (out c.args.out.now) (err c.args.err.now)
 
 pub returns-in_default-clause-next : goal.returns-in_default-clause-next
 returns-in_default-clause-next g c = g.met.S.Source.follows_same c.args.source.now
@@ -41,7 +41,7 @@ take_batches-requires-clause-nothing g c =
 
 pub write_outputs-requires-clause-some : goal.write_outputs-requires-clause-some
 write_outputs-requires-clause-some g c =
-    let some = c.requires.few.0 in
+    let some = c.requires.0 in
     let same = length-map (queries_of c.args.plan.now) (λ q. query_tree q.query) in
     omega (arith, some, same)
 
@@ -61,7 +61,7 @@ returns-in-Ok-All-clause-answers g c =
     let out = sink_view g.O.Sink.taken g.O.Sink.faults in
     let err = sink_view g.E.Sink.taken g.E.Sink.faults in
     let sinks = sinks_of (out c.args.out.now) (out c.write_outputs.new.out) (err c.args.err.now) (err c.write_outputs.new.err) in
-    let call = answer_call c.args.settings.limit (source c.args.source.now) (source c.take_batches.new.source) sinks in
+    let call = answer_call c.args.crew.now.settings.limit (source c.args.source.now) (source c.take_batches.new.source) sinks in
     let queries = trees_of (queries_of c.args.plan.now) in
     let is = c.in-Ok-All.is ∙ ap Ok c.in-Ok-All.field-0-is in
     let says = rw is at c.take_batches.ensures.says in
@@ -76,7 +76,7 @@ returns-in-Ok-Early-clause-answers g c =
     let out = sink_view g.O.Sink.taken g.O.Sink.faults in
     let err = sink_view g.E.Sink.taken g.E.Sink.faults in
     let sinks = sinks_of (out c.args.out.now) (out c.take_batches.new.out) (err c.args.err.now) (err c.take_batches.new.err) in
-    let call = answer_call c.args.settings.limit (source c.args.source.now) (source c.take_batches.new.source) sinks in
+    let call = answer_call c.args.crew.now.settings.limit (source c.args.source.now) (source c.take_batches.new.source) sinks in
     let queries = trees_of (queries_of c.args.plan.now) in
     let is = c.in-Ok-Early.is ∙ ap Ok c.in-Ok-Early.field-0-is in
     let says = rw is at c.take_batches.ensures.says in
@@ -89,7 +89,7 @@ returns-in-Err-clause-answers g c =
     let out = sink_view g.O.Sink.taken g.O.Sink.faults in
     let err = sink_view g.E.Sink.taken g.E.Sink.faults in
     let sinks = sinks_of (out c.args.out.now) (out c.take_batches.new.out) (err c.args.err.now) (err c.take_batches.new.err) in
-    let call = answer_call c.args.settings.limit (source c.args.source.now) (source c.take_batches.new.source) sinks in
+    let call = answer_call c.args.crew.now.settings.limit (source c.args.source.now) (source c.take_batches.new.source) sinks in
     let queries = trees_of (queries_of c.args.plan.now) in
     let taker = c.take_batches.new.taker in
     let kept = map (λ row. row.items) taker.kept.items in

@@ -1,12 +1,17 @@
+use Rattle.std.proofs.Common.{subst}
+use Rattle.cq_words.specs.declared.job.Settings.{Settings}
 use Rattle.cql_syntax.specs.TreeOf.{query_tree}
-use Rattle.cq_run.specs.Promise.{source_view, sink_view}
-use Rattle.cq_run.proofs.FirstEndings.{unanswered}
+use Rattle.cq_run.specs.FirstGame.{wanted}
+use Rattle.cq_run.specs.Promise.{AnswerPromise, source_view, sink_view, sinks_of}
+use Rattle.cq_run.proofs.AnswerPromise.{answer_call}
 use Rattle.cq_run.proofs.archives.answer.Goals as goal
 
-pub returns-in_default-clause-answers : goal.returns-in_default-clause-answers
-returns-in_default-clause-answers g c =
-    unanswered c.archives_come_in_batches.ensures c.args.settings.first (query_tree c.args.query.now.query) c.args.settings.limit
-    (source_view g.S.Source.left g.S.Source.faults c.args.source.now) (sink_view g.O.Sink.taken g.O.Sink.faults c.args.out.now) (sink_view g.E.Sink.taken g.E.Sink.faults c.args.err.now)
-
-pub returns-in_default-clause-next : goal.returns-in_default-clause-next
-returns-in_default-clause-next g c = g.met.S.Source.follows_same c.args.source.now
+pub returns-clause-answers : goal.returns-clause-answers
+returns-clause-answers g c =
+    let source = source_view g.S.Source.left g.S.Source.faults in
+    let out = sink_view g.O.Sink.taken g.O.Sink.faults in
+    let err = sink_view g.E.Sink.taken g.E.Sink.faults in
+    let new = c.answer_with.new in
+    let sinks = sinks_of (out c.args.out.now) (out new.out) (err c.args.err.now) (err new.err) in
+    subst (λ (s : Settings). AnswerPromise (wanted s.first (query_tree c.args.query.now.query)) c.answer_with.result
+    (answer_call s.limit (source c.args.source.now) (source new.source) sinks)) c.new-crew.ensures c.answer_with.ensures.answers

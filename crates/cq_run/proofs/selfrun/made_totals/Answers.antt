@@ -7,7 +7,7 @@ use Rattle.cq_run.proofs.selfrun.made_totals.Goals as goal
 
 pub count_archive-requires-clause-size : goal.count_archive-requires-clause-size
 count_archive-requires-clause-size g c =
-    omega (arith, ap length c.in_ok-archive.ensures, c.archives_are_short.ensures c.args.seed c.args.games c.requires.games, c.requires.games)
+    omega (arith, ap length c.in_ok-archive.ensures, c.archives_are_short.ensures c.args.seed c.args.games c.requires, c.requires)
 
 pub returns : goal.returns
 returns g c =

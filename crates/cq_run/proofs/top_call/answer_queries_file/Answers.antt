@@ -12,7 +12,7 @@ use Rattle.cq_run.proofs.top_call.answer_queries_file.Goals as goal
 
 pub answer_file_by_all-requires-clause-few : goal.answer_file_by_all-requires-clause-few
 answer_file_by_all-requires-clause-few g c lives within =
-    held_few c.in-Ok.ensures.0 c.in-Ok.queries.items c.as_slice-queries.result.now c.as_slice-queries.ensures.value c.in-Ok.ensures.2
+    held_few c.in-Ok.ensures.0 c.in-Ok.queries.items c.as_slice.result.now c.as_slice.ensures.value c.in-Ok.ensures.2
 
 pub returns-in-Ok : goal.returns-in-Ok
 returns-in-Ok g c =
@@ -20,14 +20,14 @@ returns-in-Ok g c =
     let out = sink_view g.O.Sink.taken g.O.Sink.faults in
     let err = sink_view g.E.Sink.taken g.E.Sink.faults in
     let sinks = sinks_of (out c.args.out.now) (out c.answer_file_by_all.new.out) (err c.args.err.now) (err c.answer_file_by_all.new.err) in
-    file_answered some_queries c.args.name.now (λ (asks : List QueryTree). AnswersFile c.args.archive.now c.args.settings.limit (texts_of_all asks))
+    file_answered some_queries c.args.name.now (λ (asks : List QueryTree). AnswersFile c.args.archive.now c.args.crew.now.settings.limit (texts_of_all asks))
     (trees_of c.in-Ok.queries.items) c.answer_file_by_all.result (view c.args.desk.now) (view c.queries_in_file.new.desk) (view c.answer_file_by_all.new.desk) sinks c.in-Ok.ensures
-    (subst (λ (qs : List TypedQuery). AnswersFile c.args.archive.now c.args.settings.limit (texts_of_all (trees_of qs)) c.answer_file_by_all.result
-    (call_of (view c.queries_in_file.new.desk) (view c.answer_file_by_all.new.desk) sinks)) c.as_slice-queries.ensures.value c.answer_file_by_all.ensures)
+    (subst (λ (qs : List TypedQuery). AnswersFile c.args.archive.now c.args.crew.now.settings.limit (texts_of_all (trees_of qs)) c.answer_file_by_all.result
+    (call_of (view c.queries_in_file.new.desk) (view c.answer_file_by_all.new.desk) sinks)) c.as_slice.ensures.value c.answer_file_by_all.ensures)
 
 pub returns-in-Err : goal.returns-in-Err
 returns-in-Err g c =
     let view = desk_view g.D.Desk.told g.D.Source.left g.D.Source.faults g.D.Desk.open_faults in
-    told_why some_queries c.args.name.now (λ (asks : List QueryTree). AnswersFile c.args.archive.now c.args.settings.limit (texts_of_all asks)) c.in-Err.why
+    told_why some_queries c.args.name.now (λ (asks : List QueryTree). AnswersFile c.args.archive.now c.args.crew.now.settings.limit (texts_of_all asks)) c.in-Err.why
     c.report_queries_refusal.result (view c.args.desk.now) (view c.queries_in_file.new.desk) _ c.in-Err.ensures
     (c.report_queries_refusal.ensures (sink_view g.O.Sink.taken g.O.Sink.faults c.args.out.now))

@@ -13,6 +13,7 @@ use Rattle.cql_eval.specs.LineAtoms.{HasRoom}
 use Rattle.cql_syntax.specs.declared.tree.Constituent.{Constituent}
 use Rattle.cql_syntax.specs.declared.tree.Filter.{Filter}
 use Rattle.cql_syntax.specs.declared.tree.Term.{Term}
+use Rattle.cql_eval.proofs.CoverSome.{AddedFor}
 use Rattle.cql_eval.proofs.Chains.{LeftOf, unsettled_by}
 use Rattle.cql_eval.proofs.LineTables.{TableSoFar}
 use Rattle.cql_eval.proofs.evaluate.+evaluate.Given as goal
@@ -85,6 +86,13 @@ abbrev pub invariant-covers::cover_each-loop-part : goal.invariant-covers::cover
 invariant-covers::cover_each-loop-part g l = record {
   cut : AreCut l.live (MayHave l.opened l.names l.name
       (λ e n. intersection_of (values (searched_tree l.game l.variations) [] e (filters_tree l.parts) n))) l.fn.sets l.sets;
+  cost : l.steps ≡ l.fn.steps;
+  flat : (i : ℕ) (f : Filter) → i < length l.part-items → f ≡ get_or l.part-items i f → IsFlat (filter_tree f);
+}
+
+abbrev pub invariant-cover_some::add_each-loop-part : goal.invariant-cover_some::add_each-loop-part
+invariant-cover_some::add_each-loop-part g l = record {
+  added : AddedFor (searched_tree l.game l.variations) l.live l.opened l.names l.name l.part-items l.part-index l.sets l.fn.kept l.kept;
   cost : l.steps ≡ l.fn.steps;
   flat : (i : ℕ) (f : Filter) → i < length l.part-items → f ≡ get_or l.part-items i f → IsFlat (filter_tree f);
 }

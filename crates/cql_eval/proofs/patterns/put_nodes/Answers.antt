@@ -1,4 +1,4 @@
-use Rattle.std.proofs.Common.{◌∙◌, false, arith}
+use Rattle.std.proofs.Common.{false, arith}
 use Rattle.cql_eval.specs.Columns.{is_live}
 use Rattle.cql_eval.proofs.Filling.{any_default}
 use Rattle.cql_eval.proofs.LineTables.{put_begun, put_more}

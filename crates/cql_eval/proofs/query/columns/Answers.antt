@@ -1,5 +1,4 @@
-use Rattle.std.proofs.Common.{rules, ◌∙◌, ◌++◌, ap, map, arith, length}
-use Rattle.cq_position.specs.Search.{nodes_in}
+use Rattle.std.proofs.Common.{rules, ◌∙◌, ◌++◌, ap, map, arith}
 use Rattle.cql_syntax.specs.TreeOf.{filter_tree, filters_tree}
 use Rattle.cql_values.specs.Trees.{searched_tree}
 use Rattle.cql_eval.specs.Costs.{searched_len}

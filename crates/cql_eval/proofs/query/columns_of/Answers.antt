@@ -1,8 +1,8 @@
-use Rattle.std.proofs.Common.{rules, ap, map, arith, length, ◌∙◌, ◌+◌}
-use Rattle.cql_syntax.specs.TreeOf.{filter_tree, filters_tree}
+use Rattle.std.proofs.Common.{rules, ap, map, arith}
+use Rattle.cql_syntax.specs.TreeOf.{filters_tree}
 use Rattle.cql_values.specs.Trees.{searched_tree}
 use Rattle.cql_eval.specs.Costs.{searched_len}
-use Rattle.cql_eval.specs.Classes.{is_of, is_before, cost_of}
+use Rattle.cql_eval.specs.Classes.{is_of, cost_of}
 use Rattle.cql_eval.proofs.ClassLaw.{class_cost_more, class_cost_within, cost_later, cost_all}
 use Rattle.cql_eval.proofs.FlatLaw.{items_flat, filter_flat}
 use Rattle.cql_eval.proofs.HitsLaw.{hits_left, rows_begun, rows_more, rows_all}

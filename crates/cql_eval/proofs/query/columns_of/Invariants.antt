@@ -1,4 +1,4 @@
-use Rattle.std.specs.Prelude.{◌+◌, ◌≤◌, map, length, drop}
+use Rattle.std.specs.Prelude.{◌+◌, ◌≤◌, map, drop}
 use Rattle.cql_syntax.specs.TreeOf.{filter_trees, filters_tree}
 use Rattle.cql_values.specs.Trees.{searched_tree}
 use Rattle.cql_eval.specs.Costs.{searched_len}

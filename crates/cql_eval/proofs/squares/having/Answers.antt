@@ -1,6 +1,5 @@
 use Rattle.std.proofs.Common.{◌∙◌, subst, sym, arith}
 use Rattle.cql_syntax.specs.Values.{has}
-use Rattle.cql_eval.specs.Asked.{AreHaving}
 use Rattle.cql_eval.specs.Columns.{shown, AreKept}
 use Rattle.cql_eval.proofs.Keeping.{written, having_by_kept}
 use Rattle.cql_eval.proofs.squares.having.Goals as goal

@@ -2,7 +2,8 @@ use Rattle.std.proofs.Common.{◌≡◌, ◌++◌, ◌∷◌, [], true, ℕ, Lis
 use Rattle.std.specs.List.{flat_map}
 use Rattle.std.proofs.lemmas.List.Sums.{fold-append}
 use Rattle.cq_position.specs.Games.{node_at}
-use Rattle.pgn_export.specs.Movetext.{line_words, played_in, result_text}
+use Rattle.pgn_export.specs.Movetext.{line_words, played_in}
+use Rattle.pgn_tree.specs.Results.{result_text}
 use Rattle.pgn_export.specs.Page.{Page, with_word, with_words}
 use Rattle.pgn_export.specs.Places.{children_from}
 use Rattle.pgn_export.specs.Words.{comment_words}

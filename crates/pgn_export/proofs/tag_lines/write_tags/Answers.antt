@@ -1,6 +1,6 @@
 use Rattle.std.proofs.Common.{◌++◌, codes, map, ap, ◌∙◌}
 use Rattle.std.specs.List.{flat_map}
-use Rattle.pgn_export.specs.Movetext.{result_text}
+use Rattle.pgn_tree.specs.Results.{result_text}
 use Rattle.pgn_export.specs.TagLines.{tag_line, roster, roster_tag, other_tags}
 use Rattle.pgn_export.proofs.Puts.{all_lines}
 use Rattle.pgn_export.proofs.tag_lines.write_tags.Goals as goal

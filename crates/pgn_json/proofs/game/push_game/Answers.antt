@@ -1,7 +1,8 @@
 use Rattle.std.proofs.Common.{◌++◌, codes, decimal, drop, map, ap, ◌∙◌}
 use Rattle.cq_position.specs.FenText.{fen_of}
 use Rattle.cq_position.specs.Games.{node_at, numbers}
-use Rattle.pgn_json.specs.Json.{game_text, mark_members, node_text, note_members, result_text, tag_text}
+use Rattle.pgn_json.specs.Json.{game_text, mark_members, node_text, note_members, tag_text}
+use Rattle.pgn_tree.specs.Results.{result_text}
 use Rattle.pgn_json.specs.Values.{array, member, next, plain}
 use Rattle.pgn_json.proofs.Joined.{game_joined}
 use Rattle.pgn_json.proofs.game.push_game.Goals as goal

@@ -9,8 +9,11 @@ use Rattle.pgn_json_run.proofs.answering.answer_all.Goals as goal
 
 pub take_batches-requires-clause-nothing : goal.take_batches-requires-clause-nothing
 take_batches-requires-clause-nothing g c =
-    let shared = c.type_bounds.sync-R.shared in
-    ((search rules, refl {a = c.args.mark}), no_games c.args.mark.now (sinks_of g.O.Sink.taken g.O.Sink.faults g.E.Sink.taken g.E.Sink.faults c.args.out.now c.args.err.now) 0 refl)
+    let shared = c.type_bounds.sync-R.shared in (
+      (search rules, refl {a = c.args.writer.mark}),
+      no_games c.args.writer.mark.now (sinks_of g.O.Sink.taken g.O.Sink.faults g.E.Sink.taken g.E.Sink.faults c.args.out.now c.args.err.now)
+          c.args.writer.faulty c.requires.nothing,
+    )
 
 pub returns-in-Ok-All-clause-says : goal.returns-in-Ok-All-clause-says
 returns-in-Ok-All-clause-says g c =
@@ -21,7 +24,7 @@ returns-in-Ok-All-clause-says g c =
     let is = c.in-Ok-All.is ∙ ap Ok c.in-Ok-All.field-0-is in
     let says = rw is at c.take_batches.ensures.says in
     let cause = rw is at c.take_batches.ensures.cause in
-    ended c.first_bytes_decide.ensures c.write_summary.result c.args.limit c.args.mark.now was mid now c.take_batches.new.taker.faulty c.in-Ok-All.games
+    ended c.first_bytes_decide.ensures c.write_summary.result c.args.limit c.args.writer.mark.now was mid now c.take_batches.new.taker.faulty c.in-Ok-All.games
     (record { archive = says.archive; reads = says.reads; taken = says.taken.1; games_ = says.count_is; out_same = refl; counts = cause })
     c.write_summary.ensures
 
@@ -44,7 +47,7 @@ returns-in-Ok-Early-clause-says g c =
     let is = c.in-Ok-Early.is ∙ ap Ok c.in-Ok-Early.field-0-is in
     let says = rw is at c.take_batches.ensures.says in
     let cause = rw is at c.take_batches.ensures.cause in
-    stopped c.first_bytes_decide.ensures c.archives_come_in_batches.ensures c.in-Ok-Early.status c.args.limit c.args.mark.now was mid says.0 says.1 says.2 says.3 cause
+    stopped c.first_bytes_decide.ensures c.archives_come_in_batches.ensures c.in-Ok-Early.status c.args.limit c.args.writer.mark.now was mid says.0 says.1 says.2 says.3 cause
 
 pub returns-in-Err-Fault-ReadFault-clause-says : goal.returns-in-Err-Fault-ReadFault-clause-says
 returns-in-Err-Fault-ReadFault-clause-says g c =
@@ -54,7 +57,7 @@ returns-in-Err-Fault-ReadFault-clause-says g c =
     let is : c.take_batches.result ≡ Err (Fault ReadFault) = search rules in
     let says = rw is at c.take_batches.ensures.says in
     let cause = rw is at c.take_batches.ensures.cause in
-    let all = broke c.first_bytes_decide.ensures c.archives_come_in_batches.ensures c.args.limit c.args.mark.now was mid c.take_batches.new.taker.faulty (λ n. n ≤ c.args.limit) _ says in
+    let all = broke c.first_bytes_decide.ensures c.archives_come_in_batches.ensures c.args.limit c.args.writer.mark.now was mid c.take_batches.new.taker.faulty (λ n. n ≤ c.args.limit) _ says in
     (all.0, cause, all.1)
 
 pub returns-in-Err-Fault-ArchiveTooLong-clause-says : goal.returns-in-Err-Fault-ArchiveTooLong-clause-says
@@ -65,7 +68,7 @@ returns-in-Err-Fault-ArchiveTooLong-clause-says g c =
     let is : c.take_batches.result ≡ Err (Fault ArchiveTooLong) = search rules in
     let says = rw is at c.take_batches.ensures.says in
     let cause = rw is at c.take_batches.ensures.cause in
-    let all = broke c.first_bytes_decide.ensures c.archives_come_in_batches.ensures c.args.limit c.args.mark.now was mid c.take_batches.new.taker.faulty (λ n. c.args.limit < n) _ says in
+    let all = broke c.first_bytes_decide.ensures c.archives_come_in_batches.ensures c.args.limit c.args.writer.mark.now was mid c.take_batches.new.taker.faulty (λ n. c.args.limit < n) _ says in
     (all.0, cause, all.1)
 
 pub returns-in-Err-NoMemory-clause-says : goal.returns-in-Err-NoMemory-clause-says
@@ -76,4 +79,4 @@ returns-in-Err-NoMemory-clause-says g c =
     let is = c.in-Err-NoMemory.is ∙ ap Err c.in-Err-NoMemory.field-0-is in
     let says = rw is at c.take_batches.ensures.says in
     let cause = rw is at c.take_batches.ensures.cause in
-    starved c.first_bytes_decide.ensures c.archives_come_in_batches.ensures c.args.limit c.args.mark.now was mid c.take_batches.new.taker.faulty _ says cause
+    starved c.first_bytes_decide.ensures c.archives_come_in_batches.ensures c.args.limit c.args.writer.mark.now was mid c.take_batches.new.taker.faulty _ says cause

@@ -9,4 +9,6 @@ invariant_of-result c = record {
   items = filters_alike (filters_tree c.in_ok-flat.flat.items) (flat_all [] (filters_tree c.in_ok-copy.field-0.items))
       (c.in_ok-flat.ensures.items ∙ ap (λ q. flat_all [] q.items) (sym c.in_ok-copy.ensures));
   variations = c.in_ok-flat.ensures.variations ∙ ap (λ q. q.variations) (sym c.in_ok-copy.ensures);
+  hits = c.in_ok-joined.ensures.hits;
+  searched = c.in_ok-joined.ensures.variations;
 }

@@ -1,0 +1,167 @@
+//! Squares that are worth trying for what is asked of the move that led to a node.
+ghost use Rattle.std.specs.Prelude.{◌≡◌, ℕ, [], length, true, IfOk, OnOk};
+ghost use Rattle.cq_position.specs.Games.{IsTree};
+ghost use Rattle.cql_syntax.specs.Meaning as meaning;
+ghost use Rattle.cql_syntax.specs.TreeOf.{played_tree, written_tree};
+ghost use Rattle.cql_syntax.specs.Values as spec;
+ghost use Rattle.cql_values.specs.Trees.{searched_tree};
+ghost use Rattle.cql_eval.specs.Columns.{AreAsked};
+ghost use Rattle.cql_eval.specs.Covers.{AreCut, AsksNoMore, MayHold};
+ghost use Rattle.cql_eval.specs.FlatTrees.{IsFlatMove, IsFlatPart};
+
+use super::played::written_column;
+use crate::covers::{cut_moves, cut_where_fails, with_squares};
+use crate::filter_column::FilterColumn;
+use crate::free::{is_free_and_written, is_own_part};
+use crate::moves::moves_met;
+use crate::tree::befores;
+use cq_outside::{NoMemory, Steps};
+use cql_syntax::{Filter, Played};
+use cql_values::names::Names;
+use pgn_tree::Game;
+use std::alloc::Global;
+use std::sync::ledger::Ledger;
+
+/// Leaves those squares of sets with which the moves may be as they are asked for.
+#[cycle(evaluate)]
+pub(super) fn cover_played<L: Ledger>(
+    alloc: Global,
+    opened: &Names,
+    name: &[u8],
+    played: &Played,
+    game: &Game,
+    variations: bool,
+    names: &Names,
+    live: &[bool],
+    sets: &mut [u64],
+    steps: &mut Steps<L>,
+) -> Result<(), NoMemory>
+    requires tree { IsTree game.now.nodes }
+    requires asked { AreAsked (searched_tree game.now variations) live.now }
+    requires count { length sets.old ≡ length live.now }
+    requires flat { IsFlatMove (played_tree played.now) }
+    ensures cut { OnOk result (AreCut live.now (MayHold opened.now names.now name.now
+        (λ e n. spec.as_truth (meaning.played_value (searched_tree game.now variations) [] e (played_tree played.now) n))) sets.old sets.new) }
+    ensures len { length sets.new ≡ length sets.old }
+    ensures cost { steps.new ≡ steps.old }
+{
+    let origin = is_own_part(name, &played.origin);
+    let goal = is_own_part(name, &played.goal);
+    let taken = is_own_part(name, &played.taken);
+    cut_moves(sets, live, game, variations, origin, goal, taken);
+    cover_free_parts(
+        alloc, opened, name, played, game, variations, names, live, sets, steps,
+    )?;
+    Ok(())
+}
+
+// Of the parts in which no name that is open stands.
+#[cycle(evaluate)]
+#[tactic(auto, unfolding(cql_syntax::specs::Meaning::value, crate::specs::FlatTrees::unflat))]
+fn cover_free_parts<L: Ledger>(
+    alloc: Global,
+    opened: &Names,
+    name: &[u8],
+    played: &Played,
+    game: &Game,
+    variations: bool,
+    names: &Names,
+    live: &[bool],
+    sets: &mut [u64],
+    steps: &mut Steps<L>,
+) -> Result<(), NoMemory>
+    requires tree { IsTree game.now.nodes }
+    requires asked { AreAsked (searched_tree game.now variations) live.now }
+    requires count { length sets.old ≡ length live.now }
+    requires flat { IsFlatMove (played_tree played.now) }
+    ensures cut { OnOk result (AreCut live.now (MayHold opened.now names.now name.now
+        (λ e n. spec.as_truth (meaning.played_value (searched_tree game.now variations) [] e (played_tree played.now) n))) sets.old sets.new) }
+    ensures len { length sets.new ≡ length sets.old }
+    ensures cost { steps.new ≡ steps.old }
+{
+    if !asks_without(opened, played) {
+        return Ok(());
+    }
+    let some = with_squares(alloc, game, variations, live, sets)?;
+    let some = some.as_slice();
+    let wide = befores(alloc, game, variations, some)?;
+    let wide = wide.as_slice();
+    let origin = free_column(
+        alloc,
+        opened,
+        &played.origin,
+        game,
+        variations,
+        names,
+        wide,
+        steps,
+    )?;
+    let goal = free_column(
+        alloc,
+        opened,
+        &played.goal,
+        game,
+        variations,
+        names,
+        some,
+        steps,
+    )?;
+    let taken = free_column(
+        alloc,
+        opened,
+        &played.taken,
+        game,
+        variations,
+        names,
+        wide,
+        steps,
+    )?;
+    let promoted = free_column(
+        alloc,
+        opened,
+        &played.promoted,
+        game,
+        variations,
+        names,
+        some,
+        steps,
+    )?;
+    let met = moves_met(
+        alloc, game, variations, &origin, &goal, &taken, &promoted, some,
+    )?;
+    cut_where_fails(sets, some, &FilterColumn::Truths(met));
+    Ok(())
+}
+
+// Whether in some part that is written no open name stands; where there is none nothing need be asked.
+fn asks_without(opened: &Names, played: &Played) -> bool {
+    is_free_and_written(opened, &played.origin)
+        || is_free_and_written(opened, &played.goal)
+        || is_free_and_written(opened, &played.taken)
+        || is_free_and_written(opened, &played.promoted)
+}
+
+// The column of a part in which no open name stands; of another part nothing is asked.
+#[cycle(evaluate)]
+fn free_column<L: Ledger>(
+    alloc: Global,
+    opened: &Names,
+    written: &Option<Box<Filter>>,
+    game: &Game,
+    variations: bool,
+    names: &Names,
+    live: &[bool],
+    steps: &mut Steps<L>,
+) -> Result<Option<FilterColumn>, NoMemory>
+    requires tree { IsTree game.now.nodes }
+    requires asked { AreAsked (searched_tree game.now variations) live.now }
+    requires flat { IsFlatPart (written_tree written.now) }
+    ensures asks { IfOk result (AsksNoMore (searched_tree game.now variations) opened.now names.now (written_tree written.now) live.now) }
+    ensures cost { steps.new ≡ steps.old }
+{
+    if !is_free_and_written(opened, written) {
+        return Ok(None);
+    }
+    let column = written_column(alloc, written, game, variations, names, live, steps)?;
+    Ok(column)
+}
