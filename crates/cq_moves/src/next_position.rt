@@ -17,6 +17,7 @@ use cq_position::{Move, Position, Rights, Side, king_of, opponent};
 /// and a move from or to a rook's home square the right with that rook. A pawn's double step leaves the en passant square that it passed,
 /// any other move none. The number rises after Black's move, up to 4,294,967,295, where it stays.
 #[tactic(auto, using(crate::proofs::Kept::made_is_position, crate::proofs::Kept::made_is_legal))]
+#[inline(always)]
 pub fn play(position: &Position, m: Move) -> Position
     requires { (q : Board) × Legal position.now m q }
     ensures legal { Legal position.now m result }
