@@ -45,6 +45,10 @@ pub(crate) fn number_after(position: &Position) -> u32
 fn rights_after(position: &Position, m: &Move) -> Rights
     ensures { result ≡ legal.rights_after position.now m.now }
 {
+    let rights = position.rights();
+    if !has_some(&rights) {
+        return rights;
+    }
     Rights {
         white_kingside: keeps_right(position, m, Side::White, true),
         white_queenside: keeps_right(position, m, Side::White, false),
@@ -67,7 +71,7 @@ fn keeps_right(position: &Position, m: &Move, side: Side, kingside: bool) -> boo
 fn passant_after(position: &Position, m: &Move) -> Option<Square>
     ensures { result ≡ legal.passant_after position.now m.now }
 {
-    if is_pawn(position.at(m.from)) && ranks_apart(m.from, m.to) == 2 {
+    if ranks_apart(m.from, m.to) == 2 && is_pawn(position.at(m.from)) {
         Some(middle(m.from, m.to))
     } else {
         None
