@@ -1,5 +1,5 @@
 //! The position after a move.
-ghost use Rattle.std.specs.Prelude.{◌≡◌};
+ghost use Rattle.std.specs.Prelude.{◌≡◌, ◌||◌};
 ghost use Rattle.cq_position.specs.Board.{Board};
 ghost use Rattle.cq_position.specs.Legal.{Legal};
 ghost use Rattle.cq_position.specs.Legal as legal;
@@ -42,6 +42,8 @@ pub(crate) fn number_after(position: &Position) -> u32
     }
 }
 
+// Most moves of a game are made when no right is left, which is asked first.
+#[tactic(auto, using(crate::proofs::Rights::none_after))]
 fn rights_after(position: &Position, m: &Move) -> Rights
     ensures { result ≡ legal.rights_after position.now m.now }
 {
@@ -57,6 +59,17 @@ fn rights_after(position: &Position, m: &Move) -> Rights
     }
 }
 
+// Whether a side has kept a right.
+fn has_some(rights: &Rights) -> bool
+    ensures { result ≡ (((rights.now.white_kingside || rights.now.white_queenside) || rights.now.black_kingside)
+        || rights.now.black_queenside) }
+{
+    rights.white_kingside
+        || rights.white_queenside
+        || rights.black_kingside
+        || rights.black_queenside
+}
+
 // Whether a right is left: neither king nor rook has moved or was captured.
 fn keeps_right(position: &Position, m: &Move, side: Side, kingside: bool) -> bool
     ensures { result ≡ legal.keeps_right position.now m.now side kingside }
@@ -68,6 +81,7 @@ fn keeps_right(position: &Position, m: &Move, side: Side, kingside: bool) -> boo
         && m.to != home
 }
 
+#[tactic(auto, using(crate::proofs::Rights::either_way))]
 fn passant_after(position: &Position, m: &Move) -> Option<Square>
     ensures { result ≡ legal.passant_after position.now m.now }
 {

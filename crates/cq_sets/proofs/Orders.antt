@@ -2,8 +2,8 @@
 use Rattle.std.proofs.Common.{◌≡◌, ℕ, zero, suc, ◌+◌, ◌-◌, ◌*◌, ◌/◌, ◌%◌, ◌^◌, ◌<◌, ◌≤◌, Bool, true, false, not, List, map, ltb-true, ltb-false, lt-ltb, refl, sym, ap, ◌∙◌, arith}
 use Rattle.std.specs.Prelude.{bit_or, bit_and, nat_lt}
 use Rattle.std.specs.Int.{bit_at, bit_not, trailing_zeros, leading_zeros, w64}
-use Rattle.std.proofs.Math.Nat.{div-eq_of_lt-le}
-use Rattle.std.proofs.lemmas.Nat.{and_le_l, or_lt, leading_top}
+use Rattle.std.proofs.Math.Nat.{div-eq_of_lt-le, pow-suc}
+use Rattle.std.proofs.lemmas.Nat.{and_le_l, or_lt, leading_top, pow_below}
 use Rattle.std.proofs.lemmas.Nat.Bits.{bit_at-trailing_zeros, bit_at_above, bit_at-pow_other}
 use Rattle.cq_geometry.specs.Squares.{squares}
 use Rattle.cq_geometry.specs.Lines.{seen}
@@ -66,7 +66,7 @@ seen_to_lowest ray empty s along occupied ray_fits fits e low order m n =
     seen_by is_below 9223372036854775808 rising_order ray empty s along occupied (18446744073709551615 / 2 ^ (63 - s)) order fits m n first (up_to s low)
   where
     stops_fit : (ray empty : ℕ) → ray < 2 ^ 64 → bit_or (bit_and ray (bit_not w64 empty)) 9223372036854775808 < 2 ^ 64
-    stops_fit ray empty fits = or_lt 64 (bit_and ray (bit_not w64 empty)) 9223372036854775808 (let l = and_le_l ray (bit_not w64 empty) in omega arith) (omega arith)
+    stops_fit ray empty fits = or_lt 64 (bit_and ray (bit_not w64 empty)) 9223372036854775808 (let l = and_le_l ray (bit_not w64 empty) in omega arith) (pow_below 63 64 (omega arith))
 
 -- and along one whose numbers fall, by the highest
 pub seen_to_highest : (ray empty s : ℕ) (along : List ℕ) (occupied : ℕ → Bool) → empty < 2 ^ 64
@@ -81,7 +81,7 @@ seen_to_highest ray empty s along occupied fits there above low order m n =
 top_bit : (set : ℕ) → 0 < set → set < 2 ^ 64 → (j : ℕ) × (leading_zeros w64 set + suc j ≡ 64) × (bit_at set j ≡ 1) × ((k : ℕ) → j < k → bit_at set k ≡ 0)
 top_bit set some fits =
     let t = leading_top 64 set some fits in
-    let one : set / 2 ^ t.0 ≡ 1 = div-eq_of_lt-le {1} (2 ^ t.0) {set} (omega (arith, t.2)) t.3 in
+    let one : set / 2 ^ t.0 ≡ 1 = div-eq_of_lt-le (2 ^ t.0) (omega (arith, t.2)) (let p = pow-suc 2 t.0 in omega (arith, t.3, p)) in
     (t.0, t.1, ap (λ n. n % 2) one, λ k h. bit_at_above set (suc t.0) k t.3 h)
 
 top_place : (set : ℕ) (some : 0 < set) (fits : set < 2 ^ 64) → (top_bit set some fits).0 ≡ 63 - leading_zeros w64 set

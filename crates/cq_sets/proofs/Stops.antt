@@ -1,13 +1,10 @@
 -- How far a ray is seen: up to its first square that is not empty, the lowest where its numbers rise, and the highest where they fall.
-use Rattle.std.proofs.Common.{◌≡◌, ℕ, ◌-◌, ◌*◌, ◌/◌, ◌%◌, ◌^◌, ◌<◌, ◌⊎◌, inl, inr, ⊎_elim, max, Bool, true, false, not, ◌&&◌, ◌||◌, ◌==◌, List, [], ◌∷◌, map, ltb-true, ltb-false, lt-ltb, eqb-true, eq-eqb, refl, sym, ap, ◌∙◌, arith}
+use Rattle.std.proofs.Common.{◌≡◌, ℕ, ◌^◌, ◌<◌, ◌⊎◌, inl, inr, ⊎_elim, max, Bool, true, false, not, ◌&&◌, ◌||◌, ◌==◌, List, [], ◌∷◌, ltb-true, eqb-true, eq-eqb, refl, sym, ap, ◌∙◌, arith}
 use Rattle.std.specs.Prelude.{bit_or, bit_and, nat_lt, if◌then◌else◌}
 use Rattle.std.specs.List.{list_all}
 use Rattle.std.specs.Int.{bit_at, bit_not, w64}
-use Rattle.std.proofs.lemmas.Bool.{cases_Bool}
 use Rattle.std.proofs.lemmas.Nat.Bits.{bit_at-lt, bit_at-zero, bit_at_or}
-use Rattle.cq_geometry.specs.Squares.{squares}
 use Rattle.cq_geometry.specs.Lines.{seen}
-use Rattle.cq_geometry.proofs.Tables.{at_squares}
 use Rattle.cq_sets.specs.Bitboards.{IsBitboard, bit_of, contains}
 use Rattle.cq_sets.specs.Sets.{is_in_order}
 use Rattle.cq_sets.proofs.Marked.{marks_same, marks_and, marks_not}
@@ -71,24 +68,23 @@ module _ (before : ℕ → ℕ → Bool) (occupied past : ℕ → Bool) (one_way
       ⊎_elim (λ e. let itself = ap (λ q. before q x) (eqb-true x s.0 e) ∙ s.3 in one_way x x itself itself)
       (λ later. one_way s.0 x s.3 (each_passes (before x) xs s.0 first later)) (or_cases (x == s.0) (contains xs s.0) s.1))
 
+  -- a list by what holds of the rest of it, where its first square is not occupied
+  seen_first : (x : ℕ) (xs : List ℕ) → list_all (before x) xs ≡ true → IsPast before occupied past (x ∷ xs) → (t : ℕ)
+      → (occupied x ≡ false → contains (seen occupied xs) t ≡ (contains xs t && not (past t))) → (o : Bool) → occupied x ≡ o
+      → contains (seen occupied (x ∷ xs)) t ≡ (contains (x ∷ xs) t && not (past t))
+  seen_first x xs first is t rest true stop =
+      ap (λ o. x == t || contains (if o then [] else seen occupied xs) t) stop
+      ∙ at_stop (x == t) (contains xs t) (past t) (λ e. ap past (sym (eqb-true x t e)) ∙ first_not_past x xs first is)
+      (λ later. is.stops x t (ap (λ b. b || contains xs x) (eq-eqb x x refl)) (or_second (x == t) (contains xs t) later) (each_passes (before x) xs t first later) stop)
+  seen_first x xs first is t rest false free =
+      ap (λ o. x == t || contains (if o then [] else seen occupied xs) t) free
+      ∙ at_free (x == t) (contains (seen occupied xs) t) (contains xs t) (past t) (λ e. ap past (sym (eqb-true x t e)) ∙ first_not_past x xs first is) (rest free)
+
   pub seen_to : (xs : List ℕ) → is_in_order before xs ≡ true → IsPast before occupied past xs → (t : ℕ) → contains (seen occupied xs) t ≡ (contains xs t && not (past t))
   seen_to [] order is t = refl
-  seen_to (x ∷ xs) order is t = by_first (occupied x) refl
-    where
-      parts : (list_all (before x) xs ≡ true) × (is_in_order before xs ≡ true)
-      parts = and_parts (list_all (before x) xs) (is_in_order before xs) (and_parts (nat_lt x 64) (list_all (before x) xs && is_in_order before xs) order).1
-
-      here : (x == t) ≡ true → past t ≡ false
-      here e = ap past (sym (eqb-true x t e)) ∙ first_not_past x xs parts.0 is
-
-      by_first : (o : Bool) → occupied x ≡ o → contains (seen occupied (x ∷ xs)) t ≡ (contains (x ∷ xs) t && not (past t))
-      by_first true stop =
-          ap (λ o. x == t || contains (if o then [] else seen occupied xs) t) stop
-          ∙ at_stop (x == t) (contains xs t) (past t) here
-          (λ later. is.stops x t (ap (λ b. b || contains xs x) (eq-eqb x x refl)) (or_second (x == t) (contains xs t) later) (each_passes (before x) xs t parts.0 later) stop)
-      by_first false free =
-          ap (λ o. x == t || contains (if o then [] else seen occupied xs) t) free
-          ∙ at_free (x == t) (contains (seen occupied xs) t) (contains xs t) (past t) here (seen_to xs parts.1 (rest_past x xs free is) t)
+  seen_to (x ∷ xs) order is t =
+      let parts = and_parts (list_all (before x) xs) (is_in_order before xs) (and_parts (nat_lt x 64) (list_all (before x) xs && is_in_order before xs) order).1 in
+      seen_first x xs parts.0 is t (λ free. seen_to xs parts.1 (rest_past x xs free is) t) (occupied x) refl
 
 on_board : (before : ℕ → ℕ → Bool) (xs : List ℕ) (y : ℕ) → is_in_order before xs ≡ true → contains xs y ≡ true → y < 64
 on_board before [] y order h = no (sym h)
