@@ -22,8 +22,10 @@ none_after p m none =
     let gone : p.rights ≡ rights_of false false false false = all_gone p.rights.white_kingside p.rights.white_queenside p.rights.black_kingside p.rights.black_queenside none in
     gone ∙ ap (λ r. rights_after (record p { rights = r }) m) (sym gone)
 
-pub either_way : (a b : Bool) → (a && b) ≡ (b && a)
-either_way true true = refl
-either_way true false = refl
-either_way false true = refl
-either_way false false = refl
+pub with_true : (b : Bool) → (b && true) ≡ b
+with_true true = refl
+with_true false = refl
+
+pub with_false : (b : Bool) → (b && false) ≡ false
+with_false true = refl
+with_false false = refl

@@ -1,6 +1,6 @@
 //! The position after a move.
-ghost use Rattle.std.specs.Prelude.{◌≡◌, ◌||◌};
-ghost use Rattle.cq_position.specs.Board.{Board};
+ghost use Rattle.std.specs.Prelude.{◌≡◌, ◌||◌, if◌then◌else◌, Some, None};
+ghost use Rattle.cq_position.specs.Board.{Board, is_pawn, man_at};
 ghost use Rattle.cq_position.specs.Legal.{Legal};
 ghost use Rattle.cq_position.specs.Legal as legal;
 ghost use Rattle.cq_position.specs.Position.{IsPosition};
@@ -81,11 +81,23 @@ fn keeps_right(position: &Position, m: &Move, side: Side, kingside: bool) -> boo
         && m.to != home
 }
 
-#[tactic(auto, using(crate::proofs::Rights::either_way))]
+// How far the move goes is asked first, as few moves go two ranks.
+#[tactic(auto, using(crate::proofs::Rights::with_true, crate::proofs::Rights::with_false))]
 fn passant_after(position: &Position, m: &Move) -> Option<Square>
     ensures { result ≡ legal.passant_after position.now m.now }
 {
-    if ranks_apart(m.from, m.to) == 2 && is_pawn(position.at(m.from)) {
+    if ranks_apart(m.from, m.to) == 2 {
+        passed_by(position, m)
+    } else {
+        None
+    }
+}
+
+// The square in the middle of a pawn's move.
+fn passed_by(position: &Position, m: &Move) -> Option<Square>
+    ensures { result ≡ (if is_pawn (man_at position.now.men m.now.from) then Some (legal.middle m.now.from m.now.to) else None) }
+{
+    if is_pawn(position.at(m.from)) {
         Some(middle(m.from, m.to))
     } else {
         None
