@@ -37,6 +37,7 @@ pub fn lowest_square(set: u64) -> Square
 }
 
 /// The highest square of a set that is not empty.
+#[tactic(auto, using(crate::proofs::Orders::highest_low))]
 #[inline]
 pub fn highest_square(set: u64) -> Square
     requires { 0 < set }
