@@ -4,6 +4,7 @@ ghost use Rattle.cql_syntax.specs.Trees.{no_filters};
 ghost use Rattle.cql_syntax.specs.TreeOf.{filter_tree, filters_tree};
 ghost use Rattle.cql_plan.specs.Joined.{StandsFor, AllStandFor, Gathers, HaveSameHits, alone};
 
+use crate::lifting::any_of;
 use crate::members::{Members, add, no_members};
 use cq_outside::NoMemory;
 use cql_syntax::{Filter, Filters, FlatQuery, Form, Kind};
@@ -54,10 +55,7 @@ fn joined_one(alloc: Global, f: &Filter) -> Result<Filter, NoMemory>
         }
         Form::Any(Kind::Position, parts) => {
             let members = members_of(alloc, Kind::Position, parts)?;
-            Ok(Filter {
-                at: f.at,
-                form: Form::Any(Kind::Position, members),
-            })
+            any_of(alloc, f.at, members)
         }
         Form::Any(Kind::Set, parts) => {
             let members = members_of(alloc, Kind::Set, parts)?;

@@ -8,6 +8,7 @@ mod joining;
 mod keyed;
 mod keys;
 pub mod laws;
+mod lifting;
 mod members;
 mod needs;
 mod plan;
