@@ -11,7 +11,7 @@ use cql_syntax::{Filter, Filters, FlatQuery, Form, Kind};
 use std::alloc::Global;
 
 /// A query with the same hits and keys, in which a family within families is one of their members, each once up to places.
-pub(crate) fn join(alloc: Global, query: &FlatQuery) -> Result<FlatQuery, NoMemory>
+pub fn join(alloc: Global, query: &FlatQuery) -> Result<FlatQuery, NoMemory>
     ensures variations { IfOk result (λ q. q.variations ≡ query.now.variations) }
     ensures hits { IfOk result (λ q. HaveSameHits (filters_tree query.now.items) (filters_tree q.items)) }
 {

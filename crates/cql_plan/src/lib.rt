@@ -15,6 +15,7 @@ mod plan;
 mod shared;
 mod verdict;
 
+pub use joining::join;
 pub use keys::key_over;
 pub use plan::Plan;
 pub use plan::matching::{match_game, may_hold};
