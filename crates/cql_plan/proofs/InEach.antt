@@ -1,11 +1,10 @@
 -- What stands in each member of a family alike, asked once before the rests.
-use Rattle.std.proofs.Common.{◌≡◌, ℕ, zero, suc, ◌+◌, ◌<◌, ◌≤◌, Bool, true, false, ◌&&◌, ◌||◌, List, [], ◌∷◌, length, get_or, take, refl, sym, ap, ap₂, ◌∙◌, arith, subst, Option, None, Some}
-use Rattle.std.specs.List.{list_all, list_any}
+use Rattle.std.proofs.Common.{◌≡◌, ℕ, ◌+◌, ◌<◌, ◌≤◌, Bool, true, false, ◌&&◌, ◌||◌, List, [], ◌∷◌, length, get_or, take, refl, sym, ap, ap₂, ◌∙◌, arith, subst, Option, None, Some}
+use Rattle.std.specs.List.{list_all}
 use Rattle.std.proofs.lemmas.List.{take_all}
 use Rattle.cq_outside.proofs.SpellingLaw.{left, right, both_true as both}
 use Rattle.cq_position.specs.Search.{SearchedTree}
-use Rattle.cql_syntax.specs.Kinds.{filter_kind}
-use Rattle.cql_syntax.specs.Meaning.{Names, value, values}
+use Rattle.cql_syntax.specs.Meaning.{Names, value}
 use Rattle.cql_syntax.specs.Occurrences.{Standing, part_of, occurrences, all_of}
 use Rattle.cql_syntax.specs.TreeFaults.{past_four_sorts}
 use Rattle.cql_syntax.specs.TreeOf.{filter_tree, filter_trees}
@@ -18,7 +17,7 @@ use Rattle.cql_syntax.specs.declared.tree.Filter.{Filter}
 use Rattle.cql_syntax.proofs.Lists.{filter_trees_more}
 use Rattle.cql_syntax.proofs.UnplacedSame.{same_value}
 use Rattle.cql_eval.specs.Costs.{filter_cost, filters_cost}
-use Rattle.cql_plan.specs.Joined.{is_sound, StandsFor, alone, has_like, is_member, are_members}
+use Rattle.cql_plan.specs.Joined.{is_sound, StandsFor, alone, has_like, is_member}
 use Rattle.cql_plan.specs.Lifted.{each_holds, one_holds, may_stand, AreCommon, AreDivided, AreLeft, IsRest, AreRests}
 use Rattle.cql_plan.proofs.Gathered.{members_more, members_before, member_last, cost_more}
 use Rattle.cql_plan.proofs.Sound.{all_first, all_second, all_both, own_kind, own_rules, own_sound, rules_same, sound_chain, members_from, kinds_of, sound_of}
@@ -165,12 +164,15 @@ alone_follows : (a h : Bool) → (a && h) ≡ a → ((a || false) && (h && true)
 alone_follows true h e = and_true h ∙ e
 alone_follows false h e = refl
 
-pub common_like : (i : ℕ) (fs : FilterTrees) (m f : FilterTree) → m ≡ filter_at i (chain All fs) → has_like fs f ≡ true → AreCommon (alone m) (alone f)
+common_braces : (i : ℕ) (fs : FilterTrees) (f : FilterTree) → has_like fs f ≡ true → AreCommon (alone (filter_at i (chain All fs))) (alone f)
 unfolding value
-common_like i fs m f is known = subst (λ g. AreCommon (alone g) (alone f)) (sym is) (record {
+common_braces i fs f known = record {
   told = λ tree names n.
       alone_follows (each_holds tree names n fs) (holds (value tree [] names f n)) (like_follows tree names n f fs known);
-})
+}
+
+pub common_like : (i : ℕ) (fs : FilterTrees) (m f : FilterTree) → m ≡ filter_at i (chain All fs) → has_like fs f ≡ true → AreCommon (alone m) (alone f)
+common_like i fs m f is known = subst (λ g. AreCommon (alone g) (alone f)) (sym is) (common_braces i fs f known)
 
 -- parts are divided
 
@@ -259,22 +261,28 @@ member_rest s i j parts rest inside h =
     both (is_sound (record { standing = at; at = j; form = chain All rest })) (may_stand s rest)
     (sound_chain at i All parts rest (left own (may_stand s parts) sound)) (inside (right own (may_stand s parts) sound))
 
-pub rest_braces : (i : ℕ) (common parts rest : FilterTrees) (f g : FilterTree) → f ≡ filter_at i (chain All parts) → g ≡ filter_at i (chain All rest)
-    → AreLeft common parts rest → IsRest common f g
+rest_same : (i : ℕ) (common parts rest : FilterTrees) → AreLeft common parts rest → IsRest common (filter_at i (chain All parts)) (filter_at i (chain All rest))
 unfolding value filter_cost
-rest_braces i common parts rest f g is made had =
-    subst (λ h. IsRest common h g) (sym is) (subst (IsRest common (filter_at i (chain All parts))) (sym made) (record {
+rest_same i common parts rest had = record {
   told = had.told;
   member = λ s h. member_rest s i i parts rest (had.sound s) h;
   cost = had.cost;
-}))
+}
 
-pub rest_itself : (common : FilterTrees) (f g : FilterTree) → g ≡ f → IsRest common f g
-rest_itself common f g is = subst (IsRest common f) (sym is) (record {
+pub rest_braces : (i : ℕ) (common parts rest : FilterTrees) (f g : FilterTree) → f ≡ filter_at i (chain All parts) → g ≡ filter_at i (chain All rest)
+    → AreLeft common parts rest → IsRest common f g
+rest_braces i common parts rest f g is made had =
+    subst (λ h. IsRest common h g) (sym is) (subst (IsRest common (filter_at i (chain All parts))) (sym made) (rest_same i common parts rest had))
+
+rest_own : (common : FilterTrees) (f : FilterTree) → IsRest common f f
+rest_own common f = record {
   told = λ tree names n. refl;
   member = λ s h. h;
   cost = λ searched. omega arith;
-})
+}
+
+pub rest_itself : (common : FilterTrees) (f g : FilterTree) → g ≡ f → IsRest common f g
+rest_itself common f g is = subst (IsRest common f) (sym is) (rest_own common f)
 
 -- the rests of members
 
@@ -350,7 +358,10 @@ lifted_stands i members common rests all had = record {
       (rules_same s i (any Position members) (chain All whole) refl refl (past_braces s.item members whole) refl refl refl
       ∙ own_rules (record { standing = s; at = i; form = any Position members }) own))
       (may_more s common asked (had.common s known) inside);
-  cost = λ searched. omega (arith, had.cost searched, cost_more searched common (filter_at i (any Position rests)));
+  cost = λ searched.
+      let more : filters_cost searched (with_filter common (filter_at i (any Position rests))) ≡ filters_cost searched common + filters_cost searched rests =
+          cost_more searched common (filter_at i (any Position rests)) in
+      omega (arith, had.cost searched, more);
 }
 
 pub stands_after : (f g h : FilterTree) → StandsFor f g → StandsFor g h → StandsFor f h
