@@ -18,3 +18,6 @@ pub returns-clause-parts : goal.returns-clause-parts
 returns-clause-parts c =
     on_ok_weaker c.add_copy-2.result
     (λ more. divided_rest_by (filters_tree c.args.to.now.common) (filters_tree c.args.to.now.rest) _ (filter_tree c.args.part.now) more) c.add_copy-2.ensures
+
+pub returns-clause-common : goal.returns-clause-common
+returns-clause-common c = on_ok_weaker c.add_copy-2.result (λ more had. had) c.add_copy-2.ensures
