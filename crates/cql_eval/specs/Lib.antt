@@ -10,5 +10,6 @@ pub mod FlatTrees
 pub mod Hits
 pub mod LineAtoms
 pub mod Promoting
+pub mod Scopes
 pub mod SpelledParts
 pub mod Trees

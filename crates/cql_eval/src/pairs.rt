@@ -5,15 +5,15 @@ ghost use Rattle.cql_syntax.specs.Meaning as meaning;
 ghost use Rattle.cql_syntax.specs.TreeOf.{filter_tree, filters_tree};
 ghost use Rattle.cql_syntax.specs.Values as spec;
 ghost use Rattle.cq_position.specs.Games.{node_at};
-ghost use Rattle.cql_values.specs.Trees.{searched_tree};
 ghost use Rattle.cql_eval.specs.Columns.{AreAsked, shown};
 ghost use Rattle.cql_eval.specs.Covers.{AreCut, IsOwn, MayPair};
+ghost use Rattle.cql_eval.specs.Scopes.{tree_in};
 
 use crate::covers::cut_related;
 use crate::filter_column::FilterColumn;
 use crate::free::{is_all, is_attack, is_other, is_own, turned};
+use crate::scope::Scope;
 use cql_syntax::{Chain, Filter, Filters, Form, Pair};
-use pgn_tree::Game;
 
 /// Whether somewhere in what must hold the squares of two names are asked of each other.
 #[cycle(asks_pair)]
@@ -45,35 +45,28 @@ fn some_pair(name: &[u8], other: &[u8], parts: &Filters) -> bool {
 pub(crate) fn cut_paired(
     sets: &mut [u64],
     live: &[bool],
-    game: &Game,
-    variations: bool,
+    scope: &Scope,
     name: &[u8],
     other: &[u8],
     asked: &Filter,
     column: &FilterColumn,
 )
-    requires asked { AreAsked (searched_tree game.now variations) live.now }
+    requires asked { AreAsked (tree_in scope.now) live.now }
     requires count { length sets.old ≡ length live.now }
     ensures cut { AreCut live.now (MayPair name.now other.now (shown column.now)
-        (λ e. meaning.value (searched_tree game.now variations) [] e (filter_tree asked.now))) sets.old sets.new }
+        (λ e. meaning.value (tree_in scope.now) [] e (filter_tree asked.now))) sets.old sets.new }
     ensures len { length sets.new ≡ length sets.old }
 {
     match &asked.form {
         Form::Chain(chain, parts) => {
-            cut_chain(
-                sets, live, game, variations, name, other, *chain, parts, column,
-            );
+            cut_chain(sets, live, scope, name, other, *chain, parts, column);
         }
         Form::Square(every, third, _, part) => {
             let third = third.as_slice();
-            cut_third(
-                sets, live, game, variations, name, other, *every, third, part, column,
-            );
+            cut_third(sets, live, scope, name, other, *every, third, part, column);
         }
         Form::Pair(pair, first, second) => {
-            cut_pair(
-                sets, live, game, variations, name, other, *pair, first, second, column,
-            );
+            cut_pair(sets, live, scope, name, other, *pair, first, second, column);
         }
         _ => {}
     }
@@ -84,24 +77,23 @@ pub(crate) fn cut_paired(
 fn cut_chain(
     sets: &mut [u64],
     live: &[bool],
-    game: &Game,
-    variations: bool,
+    scope: &Scope,
     name: &[u8],
     other: &[u8],
     chain: Chain,
     parts: &Filters,
     column: &FilterColumn,
 )
-    requires asked { AreAsked (searched_tree game.now variations) live.now }
+    requires asked { AreAsked (tree_in scope.now) live.now }
     requires count { length sets.old ≡ length live.now }
     ensures cut { AreCut live.now (MayPair name.now other.now (shown column.now)
-        (λ e n. spec.chain_of chain (meaning.values (searched_tree game.now variations) [] e (filters_tree parts.now) n))) sets.old sets.new }
+        (λ e n. spec.chain_of chain (meaning.values (tree_in scope.now) [] e (filters_tree parts.now) n))) sets.old sets.new }
     ensures len { length sets.new ≡ length sets.old }
 {
     if !is_all(chain) {
         return;
     }
-    cut_each(sets, live, game, variations, name, other, parts, column);
+    cut_each(sets, live, scope, name, other, parts, column);
 }
 
 // Of filters that must all hold.
@@ -109,21 +101,20 @@ fn cut_chain(
 fn cut_each(
     sets: &mut [u64],
     live: &[bool],
-    game: &Game,
-    variations: bool,
+    scope: &Scope,
     name: &[u8],
     other: &[u8],
     parts: &Filters,
     column: &FilterColumn,
 )
-    requires asked { AreAsked (searched_tree game.now variations) live.now }
+    requires asked { AreAsked (tree_in scope.now) live.now }
     requires count { length sets.old ≡ length live.now }
     ensures cut { AreCut live.now (MayPair name.now other.now (shown column.now)
-        (λ e n. spec.all_hold (meaning.values (searched_tree game.now variations) [] e (filters_tree parts.now) n))) sets.old sets.new }
+        (λ e n. spec.all_hold (meaning.values (tree_in scope.now) [] e (filters_tree parts.now) n))) sets.old sets.new }
     ensures len { length sets.new ≡ length sets.old }
 {
     for part in parts.as_slice() {
-        cut_paired(sets, live, game, variations, name, other, part, column);
+        cut_paired(sets, live, scope, name, other, part, column);
     }
 }
 
@@ -132,8 +123,7 @@ fn cut_each(
 fn cut_third(
     sets: &mut [u64],
     live: &[bool],
-    game: &Game,
-    variations: bool,
+    scope: &Scope,
     name: &[u8],
     other: &[u8],
     every: bool,
@@ -141,25 +131,24 @@ fn cut_third(
     part: &Filter,
     column: &FilterColumn,
 )
-    requires asked { AreAsked (searched_tree game.now variations) live.now }
+    requires asked { AreAsked (tree_in scope.now) live.now }
     requires count { length sets.old ≡ length live.now }
     ensures cut { (x : meaning.Names → ℕ → spec.Value) → AreCut live.now (MayPair name.now other.now (shown column.now)
-        (λ e n. spec.square_of every (x e n) (λ s. spec.holds (meaning.value (searched_tree game.now variations) []
+        (λ e n. spec.square_of every (x e n) (λ s. spec.holds (meaning.value (tree_in scope.now) []
         ((third.now, s) ∷ e) (filter_tree part.now) n)))) sets.old sets.new }
     ensures len { length sets.new ≡ length sets.old }
 {
     if !is_third(every, third, name, other) {
         return;
     }
-    cut_paired(sets, live, game, variations, name, other, part, column);
+    cut_paired(sets, live, scope, name, other, part, column);
 }
 
 // Of two sets, one of which has no square but that of the one name, and the other none but that of the other name.
 fn cut_pair(
     sets: &mut [u64],
     live: &[bool],
-    game: &Game,
-    variations: bool,
+    scope: &Scope,
     name: &[u8],
     other: &[u8],
     pair: Pair,
@@ -167,22 +156,22 @@ fn cut_pair(
     second: &Filter,
     column: &FilterColumn,
 )
-    requires asked { AreAsked (searched_tree game.now variations) live.now }
+    requires asked { AreAsked (tree_in scope.now) live.now }
     requires count { length sets.old ≡ length live.now }
     ensures cut { AreCut live.now (MayPair name.now other.now (shown column.now)
-        (λ e n. spec.pair_of (node_at game.now.nodes n).position.men pair (meaning.value (searched_tree game.now variations) [] e (filter_tree first.now) n)
-        (meaning.value (searched_tree game.now variations) [] e (filter_tree second.now) n))) sets.old sets.new }
+        (λ e n. spec.pair_of (node_at scope.now.game.now.nodes n).position.men pair (meaning.value (tree_in scope.now) [] e (filter_tree first.now) n)
+        (meaning.value (tree_in scope.now) [] e (filter_tree second.now) n))) sets.old sets.new }
     ensures len { length sets.new ≡ length sets.old }
 {
     if !is_attack(pair) {
         return;
     }
     if are_own(name, first, other, second) {
-        cut_related(sets, live, game, variations, pair, column);
+        cut_related(sets, live, scope, pair, column);
         return;
     }
     if are_own(other, first, name, second) {
-        cut_related(sets, live, game, variations, turned(pair), column);
+        cut_related(sets, live, scope, turned(pair), column);
     }
 }
 

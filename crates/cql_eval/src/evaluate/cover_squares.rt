@@ -5,21 +5,21 @@ ghost use Rattle.cq_position.specs.Games.{IsTree};
 ghost use Rattle.cql_syntax.specs.Meaning as meaning;
 ghost use Rattle.cql_syntax.specs.TreeOf.{filter_tree};
 ghost use Rattle.cql_syntax.specs.Values as spec;
-ghost use Rattle.cql_values.specs.Trees.{searched_tree};
 ghost use Rattle.cql_eval.specs.Columns.{AreAsked};
 ghost use Rattle.cql_eval.specs.Covers.{AreCut, MayHold};
 ghost use Rattle.cql_eval.specs.FlatTrees.{IsFlat};
+ghost use Rattle.cql_eval.specs.Scopes.{tree_in};
 
 use super::covers::cover;
 use super::evaluate;
 use crate::covers::with_squares;
 use crate::free::{is_free, is_other};
 use crate::pairs::{asks_pair, cut_paired};
+use crate::scope::Scope;
 use cq_geometry::Square;
 use cq_outside::{NoMemory, Steps};
 use cql_syntax::{Filter, Form};
 use cql_values::names::Names;
-use pgn_tree::Game;
 use std::alloc::Global;
 use std::sync::ledger::Ledger;
 
@@ -31,19 +31,17 @@ pub(super) fn cover_square<L: Ledger>(
     opened: &Names,
     name: &[u8],
     asked: &Filter,
-    game: &Game,
-    variations: bool,
-    names: &Names,
+    scope: &Scope,
     live: &[bool],
     sets: &mut [u64],
     steps: &mut Steps<L>,
 ) -> Result<(), NoMemory>
-    requires tree { IsTree game.now.nodes }
-    requires asked { AreAsked (searched_tree game.now variations) live.now }
+    requires tree { IsTree scope.now.game.now.nodes }
+    requires asked { AreAsked (tree_in scope.now) live.now }
     requires count { length sets.old ≡ length live.now }
     requires flat { IsFlat (filter_tree asked.now) }
-    ensures cut { OnOk result (AreCut live.now (MayHold opened.now names.now name.now
-        (λ e. meaning.value (searched_tree game.now variations) [] e (filter_tree asked.now))) sets.old sets.new) }
+    ensures cut { OnOk result (AreCut live.now (MayHold opened.now scope.now.names.now name.now
+        (λ e. meaning.value (tree_in scope.now) [] e (filter_tree asked.now))) sets.old sets.new) }
     ensures len { length sets.new ≡ length sets.old }
     ensures cost { steps.new ≡ steps.old }
 {
@@ -54,12 +52,10 @@ pub(super) fn cover_square<L: Ledger>(
                 return Ok(());
             }
             cover_inner(
-                alloc, opened, name, *every, inner, part, game, variations, names, live, sets,
-                steps,
+                alloc, opened, name, *every, inner, part, scope, live, sets, steps,
             )?;
             cover_pair(
-                alloc, opened, name, *every, inner, squares, part, game, variations, names, live,
-                sets, steps,
+                alloc, opened, name, *every, inner, squares, part, scope, live, sets, steps,
             )?;
             Ok(())
         }
@@ -76,28 +72,24 @@ fn cover_inner<L: Ledger>(
     every: bool,
     inner: &[u8],
     part: &Filter,
-    game: &Game,
-    variations: bool,
-    names: &Names,
+    scope: &Scope,
     live: &[bool],
     sets: &mut [u64],
     steps: &mut Steps<L>,
 ) -> Result<(), NoMemory>
-    requires tree { IsTree game.now.nodes }
-    requires asked { AreAsked (searched_tree game.now variations) live.now }
+    requires tree { IsTree scope.now.game.now.nodes }
+    requires asked { AreAsked (tree_in scope.now) live.now }
     requires count { length sets.old ≡ length live.now }
     requires flat { IsFlat (filter_tree part.now) }
     requires other { (every ≡ false) × (bytes_eq inner.now name.now ≡ false) }
-    ensures cut { OnOk result ((x : meaning.Names → ℕ → spec.Value) → AreCut live.now (MayHold opened.now names.now name.now
-        (λ e n. spec.square_of every (x e n) (λ s. spec.holds (meaning.value (searched_tree game.now variations) []
+    ensures cut { OnOk result ((x : meaning.Names → ℕ → spec.Value) → AreCut live.now (MayHold opened.now scope.now.names.now name.now
+        (λ e n. spec.square_of every (x e n) (λ s. spec.holds (meaning.value (tree_in scope.now) []
         ((inner.now, s) ∷ e) (filter_tree part.now) n)))) sets.old sets.new) }
     ensures len { length sets.new ≡ length sets.old }
     ensures cost { steps.new ≡ steps.old }
 {
     let wider = opened.with(alloc, inner, Square::new(0))?;
-    cover(
-        alloc, &wider, name, part, game, variations, names, live, sets, steps,
-    )?;
+    cover(alloc, &wider, name, part, scope, live, sets, steps)?;
     Ok(())
 }
 
@@ -111,21 +103,19 @@ fn cover_pair<L: Ledger>(
     inner: &[u8],
     squares: &Filter,
     part: &Filter,
-    game: &Game,
-    variations: bool,
-    names: &Names,
+    scope: &Scope,
     live: &[bool],
     sets: &mut [u64],
     steps: &mut Steps<L>,
 ) -> Result<(), NoMemory>
-    requires tree { IsTree game.now.nodes }
-    requires asked { AreAsked (searched_tree game.now variations) live.now }
+    requires tree { IsTree scope.now.game.now.nodes }
+    requires asked { AreAsked (tree_in scope.now) live.now }
     requires count { length sets.old ≡ length live.now }
     requires flat { IsFlat (filter_tree squares.now) }
     requires other { (every ≡ false) × (bytes_eq inner.now name.now ≡ false) }
-    ensures cut { OnOk result (AreCut live.now (MayHold opened.now names.now name.now
-        (λ e n. spec.square_of every (meaning.value (searched_tree game.now variations) [] e (filter_tree squares.now) n)
-        (λ s. spec.holds (meaning.value (searched_tree game.now variations) [] ((inner.now, s) ∷ e) (filter_tree part.now) n)))) sets.old sets.new) }
+    ensures cut { OnOk result (AreCut live.now (MayHold opened.now scope.now.names.now name.now
+        (λ e n. spec.square_of every (meaning.value (tree_in scope.now) [] e (filter_tree squares.now) n)
+        (λ s. spec.holds (meaning.value (tree_in scope.now) [] ((inner.now, s) ∷ e) (filter_tree part.now) n)))) sets.old sets.new) }
     ensures len { length sets.new ≡ length sets.old }
     ensures cost { steps.new ≡ steps.old }
 {
@@ -135,9 +125,9 @@ fn cover_pair<L: Ledger>(
     if !is_free(opened, squares) {
         return Ok(());
     }
-    let some = with_squares(alloc, game, variations, live, sets)?;
+    let some = with_squares(alloc, scope, live, sets)?;
     let some = some.as_slice();
-    let column = evaluate(alloc, squares, game, variations, names, some, steps)?;
-    cut_paired(sets, some, game, variations, name, inner, part, &column);
+    let column = evaluate(alloc, squares, scope, some, steps)?;
+    cut_paired(sets, some, scope, name, inner, part, &column);
     Ok(())
 }

@@ -5,10 +5,10 @@ ghost use Rattle.cql_syntax.specs.Meaning as meaning;
 ghost use Rattle.cql_syntax.specs.TreeOf.{filter_tree, filters_tree};
 ghost use Rattle.cql_syntax.specs.Values as spec;
 ghost use Rattle.cql_syntax.specs.declared.leaves.Pair.TheVariants.{Attacks, AttackedBy};
-ghost use Rattle.cql_values.specs.Trees.{searched_tree};
 ghost use Rattle.cql_eval.specs.Columns.{AreAsked};
 ghost use Rattle.cql_eval.specs.Covers.{AreCut, IsFree, MayHave, MayHold};
 ghost use Rattle.cql_eval.specs.FlatTrees.{IsFlat, AreFlat};
+ghost use Rattle.cql_eval.specs.Scopes.{tree_in};
 
 use super::cover_moves::cover_played;
 use super::cover_some::cover_some;
@@ -21,10 +21,10 @@ use crate::elsewhere::{brought_back, looked_at, looks_elsewhere};
 use crate::filter_column::FilterColumn;
 use crate::free::{is_all, is_attack, is_free, is_intersection, is_or, is_own, turned};
 use crate::order::{SORTS, is_of_class};
+use crate::scope::Scope;
 use cq_outside::{NoMemory, Steps};
 use cql_syntax::{Chain, Filter, Filters, Form, Pair, Unary};
 use cql_values::names::Names;
-use pgn_tree::Game;
 use std::alloc::Global;
 use std::sync::ledger::Ledger;
 
@@ -36,19 +36,17 @@ pub(super) fn cover<L: Ledger>(
     opened: &Names,
     name: &[u8],
     asked: &Filter,
-    game: &Game,
-    variations: bool,
-    names: &Names,
+    scope: &Scope,
     live: &[bool],
     sets: &mut [u64],
     steps: &mut Steps<L>,
 ) -> Result<(), NoMemory>
-    requires tree { IsTree game.now.nodes }
-    requires asked { AreAsked (searched_tree game.now variations) live.now }
+    requires tree { IsTree scope.now.game.now.nodes }
+    requires asked { AreAsked (tree_in scope.now) live.now }
     requires count { length sets.old ≡ length live.now }
     requires flat { IsFlat (filter_tree asked.now) }
-    ensures cut { OnOk result (AreCut live.now (MayHold opened.now names.now name.now
-        (λ e. meaning.value (searched_tree game.now variations) [] e (filter_tree asked.now))) sets.old sets.new) }
+    ensures cut { OnOk result (AreCut live.now (MayHold opened.now scope.now.names.now name.now
+        (λ e. meaning.value (tree_in scope.now) [] e (filter_tree asked.now))) sets.old sets.new) }
     ensures len { length sets.new ≡ length sets.old }
     ensures cost { steps.new ≡ steps.old }
 {
@@ -56,38 +54,26 @@ pub(super) fn cover<L: Ledger>(
         return Ok(());
     }
     if is_free(opened, asked) {
-        return cover_free(
-            alloc, opened, name, asked, game, variations, names, live, sets, steps,
-        );
+        return cover_free(alloc, opened, name, asked, scope, live, sets, steps);
     }
     if is_own(name, asked) {
-        cover_set(
-            alloc, opened, name, asked, game, variations, names, live, sets, steps,
-        )?;
+        cover_set(alloc, opened, name, asked, scope, live, sets, steps)?;
         return Ok(());
     }
     match &asked.form {
         Form::Chain(chain, parts) => cover_chain(
-            alloc, opened, name, *chain, parts, game, variations, names, live, sets, steps,
+            alloc, opened, name, *chain, parts, scope, live, sets, steps,
         ),
-        Form::Square(..) => cover_square(
-            alloc, opened, name, asked, game, variations, names, live, sets, steps,
-        ),
+        Form::Square(..) => cover_square(alloc, opened, name, asked, scope, live, sets, steps),
         Form::Unary(word, part) => {
-            cover_elsewhere(
-                alloc, opened, name, *word, part, game, variations, names, live, sets, steps,
-            )?;
+            cover_elsewhere(alloc, opened, name, *word, part, scope, live, sets, steps)?;
             Ok(())
         }
         Form::Played(played) => {
-            cover_played(
-                alloc, opened, name, played, game, variations, names, live, sets, steps,
-            )?;
+            cover_played(alloc, opened, name, played, scope, live, sets, steps)?;
             Ok(())
         }
-        Form::Pair(..) => cover_turned(
-            alloc, opened, name, asked, game, variations, names, live, sets, steps,
-        ),
+        Form::Pair(..) => cover_turned(alloc, opened, name, asked, scope, live, sets, steps),
         _ => Ok(()),
     }
 }
@@ -99,25 +85,23 @@ fn cover_free<L: Ledger>(
     opened: &Names,
     name: &[u8],
     asked: &Filter,
-    game: &Game,
-    variations: bool,
-    names: &Names,
+    scope: &Scope,
     live: &[bool],
     sets: &mut [u64],
     steps: &mut Steps<L>,
 ) -> Result<(), NoMemory>
-    requires tree { IsTree game.now.nodes }
-    requires asked { AreAsked (searched_tree game.now variations) live.now }
+    requires tree { IsTree scope.now.game.now.nodes }
+    requires asked { AreAsked (tree_in scope.now) live.now }
     requires count { length sets.old ≡ length live.now }
     requires flat { IsFlat (filter_tree asked.now) }
     requires free { IsFree opened.now (filter_tree asked.now) }
-    ensures cut { OnOk result (AreCut live.now (MayHold opened.now names.now name.now
-        (λ e. meaning.value (searched_tree game.now variations) [] e (filter_tree asked.now))) sets.old sets.new) }
+    ensures cut { OnOk result (AreCut live.now (MayHold opened.now scope.now.names.now name.now
+        (λ e. meaning.value (tree_in scope.now) [] e (filter_tree asked.now))) sets.old sets.new) }
     ensures len { length sets.new ≡ length sets.old }
     ensures cost { steps.new ≡ steps.old }
 {
-    let some = with_squares(alloc, game, variations, live, sets)?;
-    let column = evaluate(alloc, asked, game, variations, names, &some, steps)?;
+    let some = with_squares(alloc, scope, live, sets)?;
+    let column = evaluate(alloc, asked, scope, &some, steps)?;
     cut_where_fails(sets, &some, &column);
     Ok(())
 }
@@ -130,19 +114,17 @@ fn cover_turned<L: Ledger>(
     opened: &Names,
     name: &[u8],
     asked: &Filter,
-    game: &Game,
-    variations: bool,
-    names: &Names,
+    scope: &Scope,
     live: &[bool],
     sets: &mut [u64],
     steps: &mut Steps<L>,
 ) -> Result<(), NoMemory>
-    requires tree { IsTree game.now.nodes }
-    requires asked { AreAsked (searched_tree game.now variations) live.now }
+    requires tree { IsTree scope.now.game.now.nodes }
+    requires asked { AreAsked (tree_in scope.now) live.now }
     requires count { length sets.old ≡ length live.now }
     requires flat { IsFlat (filter_tree asked.now) }
-    ensures cut { OnOk result (AreCut live.now (MayHold opened.now names.now name.now
-        (λ e. meaning.value (searched_tree game.now variations) [] e (filter_tree asked.now))) sets.old sets.new) }
+    ensures cut { OnOk result (AreCut live.now (MayHold opened.now scope.now.names.now name.now
+        (λ e. meaning.value (tree_in scope.now) [] e (filter_tree asked.now))) sets.old sets.new) }
     ensures len { length sets.new ≡ length sets.old }
     ensures cost { steps.new ≡ steps.old }
 {
@@ -155,9 +137,7 @@ fn cover_turned<L: Ledger>(
                 return Ok(());
             }
             let other = turned(*pair);
-            cover_related(
-                alloc, opened, name, other, first, game, variations, names, live, sets, steps,
-            )?;
+            cover_related(alloc, opened, name, other, first, scope, live, sets, steps)?;
             Ok(())
         }
         _ => Ok(()),
@@ -172,34 +152,28 @@ fn cover_chain<L: Ledger>(
     name: &[u8],
     chain: Chain,
     parts: &Filters,
-    game: &Game,
-    variations: bool,
-    names: &Names,
+    scope: &Scope,
     live: &[bool],
     sets: &mut [u64],
     steps: &mut Steps<L>,
 ) -> Result<(), NoMemory>
-    requires tree { IsTree game.now.nodes }
-    requires asked { AreAsked (searched_tree game.now variations) live.now }
+    requires tree { IsTree scope.now.game.now.nodes }
+    requires asked { AreAsked (tree_in scope.now) live.now }
     requires count { length sets.old ≡ length live.now }
     requires flat { AreFlat (filters_tree parts.now) }
-    ensures cut { OnOk result (AreCut live.now (MayHold opened.now names.now name.now
-        (λ e n. spec.chain_of chain (meaning.values (searched_tree game.now variations) [] e (filters_tree parts.now) n))) sets.old sets.new) }
+    ensures cut { OnOk result (AreCut live.now (MayHold opened.now scope.now.names.now name.now
+        (λ e n. spec.chain_of chain (meaning.values (tree_in scope.now) [] e (filters_tree parts.now) n))) sets.old sets.new) }
     ensures len { length sets.new ≡ length sets.old }
     ensures cost { steps.new ≡ steps.old }
 {
     if is_or(chain) {
-        cover_some(
-            alloc, opened, name, parts, game, variations, names, live, sets, steps,
-        )?;
+        cover_some(alloc, opened, name, parts, scope, live, sets, steps)?;
         return Ok(());
     }
     if !is_all(chain) {
         return Ok(());
     }
-    cover_all(
-        alloc, opened, name, parts, game, variations, names, live, sets, steps,
-    )?;
+    cover_all(alloc, opened, name, parts, scope, live, sets, steps)?;
     Ok(())
 }
 
@@ -210,26 +184,22 @@ fn cover_all<L: Ledger>(
     opened: &Names,
     name: &[u8],
     parts: &Filters,
-    game: &Game,
-    variations: bool,
-    names: &Names,
+    scope: &Scope,
     live: &[bool],
     sets: &mut [u64],
     steps: &mut Steps<L>,
 ) -> Result<(), NoMemory>
-    requires tree { IsTree game.now.nodes }
-    requires asked { AreAsked (searched_tree game.now variations) live.now }
+    requires tree { IsTree scope.now.game.now.nodes }
+    requires asked { AreAsked (tree_in scope.now) live.now }
     requires count { length sets.old ≡ length live.now }
     requires flat { AreFlat (filters_tree parts.now) }
-    ensures cut { OnOk result (AreCut live.now (MayHold opened.now names.now name.now
-        (λ e n. spec.all_hold (meaning.values (searched_tree game.now variations) [] e (filters_tree parts.now) n))) sets.old sets.new) }
+    ensures cut { OnOk result (AreCut live.now (MayHold opened.now scope.now.names.now name.now
+        (λ e n. spec.all_hold (meaning.values (tree_in scope.now) [] e (filters_tree parts.now) n))) sets.old sets.new) }
     ensures len { length sets.new ≡ length sets.old }
     ensures cost { steps.new ≡ steps.old }
 {
     for class in 0..SORTS {
-        cover_class(
-            alloc, opened, name, class, parts, game, variations, names, live, sets, steps,
-        )?;
+        cover_class(alloc, opened, name, class, parts, scope, live, sets, steps)?;
     }
     Ok(())
 }
@@ -242,26 +212,22 @@ fn cover_class<L: Ledger>(
     name: &[u8],
     class: u32,
     parts: &Filters,
-    game: &Game,
-    variations: bool,
-    names: &Names,
+    scope: &Scope,
     live: &[bool],
     sets: &mut [u64],
     steps: &mut Steps<L>,
 ) -> Result<(), NoMemory>
-    requires tree { IsTree game.now.nodes }
-    requires asked { AreAsked (searched_tree game.now variations) live.now }
+    requires tree { IsTree scope.now.game.now.nodes }
+    requires asked { AreAsked (tree_in scope.now) live.now }
     requires count { length sets.old ≡ length live.now }
     requires flat { AreFlat (filters_tree parts.now) }
-    ensures cut { OnOk result (AreCut live.now (MayHold opened.now names.now name.now
-        (λ e n. spec.all_hold (meaning.values (searched_tree game.now variations) [] e (filters_tree parts.now) n))) sets.old sets.new) }
+    ensures cut { OnOk result (AreCut live.now (MayHold opened.now scope.now.names.now name.now
+        (λ e n. spec.all_hold (meaning.values (tree_in scope.now) [] e (filters_tree parts.now) n))) sets.old sets.new) }
     ensures len { length sets.new ≡ length sets.old }
     ensures cost { steps.new ≡ steps.old }
 {
     for part in parts.as_slice() {
-        cover_if(
-            alloc, opened, name, class, part, game, variations, names, live, sets, steps,
-        )?;
+        cover_if(alloc, opened, name, class, part, scope, live, sets, steps)?;
     }
     Ok(())
 }
@@ -274,28 +240,24 @@ fn cover_if<L: Ledger>(
     name: &[u8],
     class: u32,
     part: &Filter,
-    game: &Game,
-    variations: bool,
-    names: &Names,
+    scope: &Scope,
     live: &[bool],
     sets: &mut [u64],
     steps: &mut Steps<L>,
 ) -> Result<(), NoMemory>
-    requires tree { IsTree game.now.nodes }
-    requires asked { AreAsked (searched_tree game.now variations) live.now }
+    requires tree { IsTree scope.now.game.now.nodes }
+    requires asked { AreAsked (tree_in scope.now) live.now }
     requires count { length sets.old ≡ length live.now }
     requires flat { IsFlat (filter_tree part.now) }
-    ensures cut { OnOk result (AreCut live.now (MayHold opened.now names.now name.now
-        (λ e. meaning.value (searched_tree game.now variations) [] e (filter_tree part.now))) sets.old sets.new) }
+    ensures cut { OnOk result (AreCut live.now (MayHold opened.now scope.now.names.now name.now
+        (λ e. meaning.value (tree_in scope.now) [] e (filter_tree part.now))) sets.old sets.new) }
     ensures len { length sets.new ≡ length sets.old }
     ensures cost { steps.new ≡ steps.old }
 {
     if !is_of_class(part, class) {
         return Ok(());
     }
-    cover(
-        alloc, opened, name, part, game, variations, names, live, sets, steps,
-    )
+    cover(alloc, opened, name, part, scope, live, sets, steps)
 }
 
 // Of what a word asks at other nodes: what may hold at one of these.
@@ -306,33 +268,29 @@ fn cover_elsewhere<L: Ledger>(
     name: &[u8],
     word: Unary,
     part: &Filter,
-    game: &Game,
-    variations: bool,
-    names: &Names,
+    scope: &Scope,
     live: &[bool],
     sets: &mut [u64],
     steps: &mut Steps<L>,
 ) -> Result<(), NoMemory>
-    requires tree { IsTree game.now.nodes }
-    requires asked { AreAsked (searched_tree game.now variations) live.now }
+    requires tree { IsTree scope.now.game.now.nodes }
+    requires asked { AreAsked (tree_in scope.now) live.now }
     requires count { length sets.old ≡ length live.now }
     requires flat { IsFlat (filter_tree part.now) }
-    ensures cut { OnOk result (AreCut live.now (MayHold opened.now names.now name.now
-        (λ e. meaning.unary_of (searched_tree game.now variations) word
-        (meaning.value (searched_tree game.now variations) [] e (filter_tree part.now)))) sets.old sets.new) }
+    ensures cut { OnOk result (AreCut live.now (MayHold opened.now scope.now.names.now name.now
+        (λ e. meaning.unary_of (tree_in scope.now) word
+        (meaning.value (tree_in scope.now) [] e (filter_tree part.now)))) sets.old sets.new) }
     ensures len { length sets.new ≡ length sets.old }
     ensures cost { steps.new ≡ steps.old }
 {
     if !looks_elsewhere(word) {
         return Ok(());
     }
-    let wide = looked_at(alloc, word, game, variations, live)?;
+    let wide = looked_at(alloc, word, scope, live)?;
     let wide = wide.as_slice();
     let mut there = everywhere(alloc, wide, any_squares(live, sets))?;
-    cover(
-        alloc, opened, name, part, game, variations, names, wide, &mut there, steps,
-    )?;
-    let back = brought_back(alloc, word, game, there)?;
+    cover(alloc, opened, name, part, scope, wide, &mut there, steps)?;
+    let back = brought_back(alloc, word, scope.game, there)?;
     cut(sets, live, &FilterColumn::Sets(back));
     Ok(())
 }
@@ -345,41 +303,33 @@ fn cover_set<L: Ledger>(
     opened: &Names,
     name: &[u8],
     asked: &Filter,
-    game: &Game,
-    variations: bool,
-    names: &Names,
+    scope: &Scope,
     live: &[bool],
     sets: &mut [u64],
     steps: &mut Steps<L>,
 ) -> Result<(), NoMemory>
-    requires tree { IsTree game.now.nodes }
-    requires asked { AreAsked (searched_tree game.now variations) live.now }
+    requires tree { IsTree scope.now.game.now.nodes }
+    requires asked { AreAsked (tree_in scope.now) live.now }
     requires count { length sets.old ≡ length live.now }
     requires flat { IsFlat (filter_tree asked.now) }
-    ensures cut { OnOk result (AreCut live.now (MayHave opened.now names.now name.now
-        (λ e. meaning.value (searched_tree game.now variations) [] e (filter_tree asked.now))) sets.old sets.new) }
+    ensures cut { OnOk result (AreCut live.now (MayHave opened.now scope.now.names.now name.now
+        (λ e. meaning.value (tree_in scope.now) [] e (filter_tree asked.now))) sets.old sets.new) }
     ensures len { length sets.new ≡ length sets.old }
     ensures cost { steps.new ≡ steps.old }
 {
     if is_free(opened, asked) {
-        return cover_free_set(
-            alloc, opened, name, asked, game, variations, names, live, sets, steps,
-        );
+        return cover_free_set(alloc, opened, name, asked, scope, live, sets, steps);
     }
     match &asked.form {
         Form::Chain(chain, parts) => cover_common(
-            alloc, opened, name, *chain, parts, game, variations, names, live, sets, steps,
+            alloc, opened, name, *chain, parts, scope, live, sets, steps,
         ),
         Form::Pair(pair, first, second) => {
             if !is_attack(*pair) {
                 return Ok(());
             }
-            cover_set(
-                alloc, opened, name, first, game, variations, names, live, sets, steps,
-            )?;
-            cover_related(
-                alloc, opened, name, *pair, second, game, variations, names, live, sets, steps,
-            )?;
+            cover_set(alloc, opened, name, first, scope, live, sets, steps)?;
+            cover_related(alloc, opened, name, *pair, second, scope, live, sets, steps)?;
             Ok(())
         }
         _ => Ok(()),
@@ -393,25 +343,23 @@ fn cover_free_set<L: Ledger>(
     opened: &Names,
     name: &[u8],
     asked: &Filter,
-    game: &Game,
-    variations: bool,
-    names: &Names,
+    scope: &Scope,
     live: &[bool],
     sets: &mut [u64],
     steps: &mut Steps<L>,
 ) -> Result<(), NoMemory>
-    requires tree { IsTree game.now.nodes }
-    requires asked { AreAsked (searched_tree game.now variations) live.now }
+    requires tree { IsTree scope.now.game.now.nodes }
+    requires asked { AreAsked (tree_in scope.now) live.now }
     requires count { length sets.old ≡ length live.now }
     requires flat { IsFlat (filter_tree asked.now) }
     requires free { IsFree opened.now (filter_tree asked.now) }
-    ensures cut { OnOk result (AreCut live.now (MayHave opened.now names.now name.now
-        (λ e. meaning.value (searched_tree game.now variations) [] e (filter_tree asked.now))) sets.old sets.new) }
+    ensures cut { OnOk result (AreCut live.now (MayHave opened.now scope.now.names.now name.now
+        (λ e. meaning.value (tree_in scope.now) [] e (filter_tree asked.now))) sets.old sets.new) }
     ensures len { length sets.new ≡ length sets.old }
     ensures cost { steps.new ≡ steps.old }
 {
-    let some = with_squares(alloc, game, variations, live, sets)?;
-    let column = evaluate(alloc, asked, game, variations, names, &some, steps)?;
+    let some = with_squares(alloc, scope, live, sets)?;
+    let column = evaluate(alloc, asked, scope, &some, steps)?;
     cut(sets, &some, &column);
     Ok(())
 }
@@ -424,28 +372,24 @@ fn cover_common<L: Ledger>(
     name: &[u8],
     chain: Chain,
     parts: &Filters,
-    game: &Game,
-    variations: bool,
-    names: &Names,
+    scope: &Scope,
     live: &[bool],
     sets: &mut [u64],
     steps: &mut Steps<L>,
 ) -> Result<(), NoMemory>
-    requires tree { IsTree game.now.nodes }
-    requires asked { AreAsked (searched_tree game.now variations) live.now }
+    requires tree { IsTree scope.now.game.now.nodes }
+    requires asked { AreAsked (tree_in scope.now) live.now }
     requires count { length sets.old ≡ length live.now }
     requires flat { AreFlat (filters_tree parts.now) }
-    ensures cut { OnOk result (AreCut live.now (MayHave opened.now names.now name.now
-        (λ e n. spec.chain_of chain (meaning.values (searched_tree game.now variations) [] e (filters_tree parts.now) n))) sets.old sets.new) }
+    ensures cut { OnOk result (AreCut live.now (MayHave opened.now scope.now.names.now name.now
+        (λ e n. spec.chain_of chain (meaning.values (tree_in scope.now) [] e (filters_tree parts.now) n))) sets.old sets.new) }
     ensures len { length sets.new ≡ length sets.old }
     ensures cost { steps.new ≡ steps.old }
 {
     if !is_intersection(chain) {
         return Ok(());
     }
-    cover_each(
-        alloc, opened, name, parts, game, variations, names, live, sets, steps,
-    )?;
+    cover_each(alloc, opened, name, parts, scope, live, sets, steps)?;
     Ok(())
 }
 
@@ -456,26 +400,22 @@ fn cover_each<L: Ledger>(
     opened: &Names,
     name: &[u8],
     parts: &Filters,
-    game: &Game,
-    variations: bool,
-    names: &Names,
+    scope: &Scope,
     live: &[bool],
     sets: &mut [u64],
     steps: &mut Steps<L>,
 ) -> Result<(), NoMemory>
-    requires tree { IsTree game.now.nodes }
-    requires asked { AreAsked (searched_tree game.now variations) live.now }
+    requires tree { IsTree scope.now.game.now.nodes }
+    requires asked { AreAsked (tree_in scope.now) live.now }
     requires count { length sets.old ≡ length live.now }
     requires flat { AreFlat (filters_tree parts.now) }
-    ensures cut { OnOk result (AreCut live.now (MayHave opened.now names.now name.now
-        (λ e n. spec.intersection_of (meaning.values (searched_tree game.now variations) [] e (filters_tree parts.now) n))) sets.old sets.new) }
+    ensures cut { OnOk result (AreCut live.now (MayHave opened.now scope.now.names.now name.now
+        (λ e n. spec.intersection_of (meaning.values (tree_in scope.now) [] e (filters_tree parts.now) n))) sets.old sets.new) }
     ensures len { length sets.new ≡ length sets.old }
     ensures cost { steps.new ≡ steps.old }
 {
     for part in parts.as_slice() {
-        cover_set(
-            alloc, opened, name, part, game, variations, names, live, sets, steps,
-        )?;
+        cover_set(alloc, opened, name, part, scope, live, sets, steps)?;
     }
     Ok(())
 }
@@ -488,29 +428,27 @@ fn cover_related<L: Ledger>(
     name: &[u8],
     pair: Pair,
     second: &Filter,
-    game: &Game,
-    variations: bool,
-    names: &Names,
+    scope: &Scope,
     live: &[bool],
     sets: &mut [u64],
     steps: &mut Steps<L>,
 ) -> Result<(), NoMemory>
-    requires tree { IsTree game.now.nodes }
-    requires asked { AreAsked (searched_tree game.now variations) live.now }
+    requires tree { IsTree scope.now.game.now.nodes }
+    requires asked { AreAsked (tree_in scope.now) live.now }
     requires count { length sets.old ≡ length live.now }
     requires flat { IsFlat (filter_tree second.now) }
     requires attack { (pair ≡ Attacks) ⊎ (pair ≡ AttackedBy) }
-    ensures cut { OnOk result ((v : meaning.Names → ℕ → spec.Value) → AreCut live.now (MayHave opened.now names.now name.now
-        (λ e n. spec.pair_of (node_at game.now.nodes n).position.men pair (v e n)
-        (meaning.value (searched_tree game.now variations) [] e (filter_tree second.now) n))) sets.old sets.new) }
+    ensures cut { OnOk result ((v : meaning.Names → ℕ → spec.Value) → AreCut live.now (MayHave opened.now scope.now.names.now name.now
+        (λ e n. spec.pair_of (node_at scope.now.game.now.nodes n).position.men pair (v e n)
+        (meaning.value (tree_in scope.now) [] e (filter_tree second.now) n))) sets.old sets.new) }
     ensures len { length sets.new ≡ length sets.old }
     ensures cost { steps.new ≡ steps.old }
 {
     if !is_free(opened, second) {
         return Ok(());
     }
-    let some = with_squares(alloc, game, variations, live, sets)?;
-    let column = evaluate(alloc, second, game, variations, names, &some, steps)?;
-    cut_related(sets, &some, game, variations, pair, &column);
+    let some = with_squares(alloc, scope, live, sets)?;
+    let column = evaluate(alloc, second, scope, &some, steps)?;
+    cut_related(sets, &some, scope, pair, &column);
     Ok(())
 }

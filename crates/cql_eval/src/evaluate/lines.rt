@@ -4,7 +4,6 @@ ghost use Rattle.cq_position.specs.Games.{IsTree};
 ghost use Rattle.cql_syntax.specs.Meaning as meaning;
 ghost use Rattle.cql_syntax.specs.TreeOf.{body_tree, filter_tree, line_tree, parts_tree};
 ghost use Rattle.cql_syntax.specs.Values.{as_number};
-ghost use Rattle.cql_values.specs.Trees.{searched_tree};
 ghost use Rattle.cql_eval.specs.Columns.{AreAsked, Where};
 ghost use Rattle.cql_eval.specs.Costs.{filter_cost, line_cost, parts_cost, body_cost, parts_atoms, body_atoms, searched_len};
 ghost use Rattle.cql_eval.specs.FlatTrees.{IsFlat, IsFlatLine, AreFlatParts, IsFlatBody};
@@ -12,6 +11,7 @@ ghost use Rattle.cql_lines.specs.Tables.{atoms_of, nodes_of};
 ghost use Rattle.cq_outside.specs.Spelling.{one};
 ghost use Rattle.cql_eval.specs.LineAtoms as spec;
 ghost use Rattle.cql_eval.specs.LineAtoms.{HasRoom, IsFilledIn};
+ghost use Rattle.cql_eval.specs.Scopes.{tree_in, value_in};
 ghost use Rattle.cql_eval.specs.SpelledParts as spelled;
 ghost use Rattle.cql_eval.specs.SpelledParts.{AreTabled, IsLive, IsNever, LeadsOn, EndsHere};
 ghost use Rattle.cql_syntax.specs.TabledLines.{IsAsked};
@@ -20,12 +20,11 @@ ghost use Rattle.cq_position.specs.Search.{IsStep};
 use super::evaluate;
 use crate::nodes::{all_nodes, any_live, part_of, same};
 use crate::patterns::{empty_table, parts_pattern, put_nodes, shape_of, wide_numbers};
+use crate::scope::Scope;
 use crate::tree::{onward, reached};
 use cq_outside::{NoMemory, Steps};
 use cql_lines::{AtomTable, Automaton, line_values};
 use cql_syntax::{Body, Constituent, Constituents, Filter, Line, Mark};
-use cql_values::names::Names;
-use pgn_tree::Game;
 use std::alloc::Global;
 use std::sync::ledger::Ledger;
 
@@ -35,26 +34,22 @@ use std::sync::ledger::Ledger;
 pub(super) fn line_numbers<L: Ledger>(
     alloc: Global,
     line: &Line,
-    game: &Game,
-    variations: bool,
-    names: &Names,
+    scope: &Scope,
     live: &[bool],
     steps: &mut Steps<L>,
 ) -> Result<Vec<Option<i64>>, NoMemory>
-    requires tree { IsTree game.now.nodes }
-    requires asked { AreAsked (searched_tree game.now variations) live.now }
+    requires tree { IsTree scope.now.game.now.nodes }
+    requires asked { AreAsked (tree_in scope.now) live.now }
     requires flat { IsFlatLine (line_tree line.now) }
     ensures value { IfOk result (λ numbers. Where live.now (λ n. as_number (get_or numbers.items n None)
-        ≡ meaning.line_value (searched_tree game.now variations) [] names.now (line_tree line.now) n)) }
-    ensures cost { steps.new ≤ steps.old + line_cost (searched_len (searched_tree game.now variations)) (line_tree line.now) }
+        ≡ meaning.line_value (tree_in scope.now) [] scope.now.names.now (line_tree line.now) n)) }
+    ensures cost { steps.new ≤ steps.old + line_cost (searched_len (tree_in scope.now)) (line_tree line.now) }
     ensures rises { steps.old ≤ steps.new }
 {
     prove!(has_flat_parts(line));
     let parts = &line.parts;
     let mut met = true;
-    let table = filled_table(
-        alloc, parts, game, variations, line.back, names, &mut met, steps,
-    )?;
+    let table = filled_table(alloc, parts, scope, line.back, &mut met, steps)?;
     if !met {
         // A column that ends before a node has no number there.
         return Ok(Vec::new(alloc));
@@ -62,14 +57,7 @@ pub(super) fn line_numbers<L: Ledger>(
     let mut atoms = 0;
     let pattern = parts_pattern(alloc, parts, &mut atoms)?;
     let automaton = Automaton::build(alloc, &pattern)?;
-    let shape = shape_of(
-        alloc,
-        game,
-        variations,
-        line.back,
-        line.primary,
-        &line.extent,
-    )?;
+    let shape = shape_of(alloc, scope, line.back, line.primary, &line.extent)?;
     let values = line_values(alloc, &automaton, &table, &shape, steps)?;
     let numbers = wide_numbers(alloc, values.as_slice())?;
     Ok(numbers)
@@ -92,32 +80,28 @@ fn has_flat_parts(line: &Line) -> bool
 fn filled_table<L: Ledger>(
     alloc: Global,
     parts: &Constituents,
-    game: &Game,
-    variations: bool,
+    scope: &Scope,
     back: bool,
-    names: &Names,
     met: &mut bool,
     steps: &mut Steps<L>,
 ) -> Result<AtomTable<L>, NoMemory>
-    requires tree { IsTree game.now.nodes }
+    requires tree { IsTree scope.now.game.now.nodes }
     requires flat { AreFlatParts (parts_tree parts.now) }
     requires few { parts_atoms (parts_tree parts.now) ≤ 64 }
-    ensures value { IfOk result (λ table. AreTabled (searched_tree game.now variations) back (IsAsked (searched_tree game.now variations))
+    ensures value { IfOk result (λ table. AreTabled (tree_in scope.now) back (IsAsked (tree_in scope.now))
         table (0 + parts_atoms (parts_tree parts.now)) (spec.parts_numbered 0 (parts_tree parts.now))
-        (meaning.pattern (searched_tree game.now variations) [] names.now (parts_tree parts.now))) }
+        (meaning.pattern (tree_in scope.now) [] scope.now.names.now (parts_tree parts.now))) }
     ensures never { OnOk result (met.old ≡ true → met.new ≡ false
-        → IsNever (IsStep (searched_tree game.now variations) back false) (IsAsked (searched_tree game.now variations))
-        (meaning.pattern (searched_tree game.now variations) [] names.now (parts_tree parts.now))) }
+        → IsNever (IsStep (tree_in scope.now) back false) (IsAsked (tree_in scope.now))
+        (meaning.pattern (tree_in scope.now) [] scope.now.names.now (parts_tree parts.now))) }
     ensures atoms { IfOk result (λ table. atoms_of table ≡ parts_atoms (parts_tree parts.now)) }
-    ensures nodes { IfOk result (λ table. nodes_of table ≡ length game.now.nodes) }
-    ensures cost { steps.new ≤ steps.old + parts_cost (searched_len (searched_tree game.now variations)) (parts_tree parts.now) }
+    ensures nodes { IfOk result (λ table. nodes_of table ≡ length scope.now.game.now.nodes) }
+    ensures cost { steps.new ≤ steps.old + parts_cost (searched_len (tree_in scope.now)) (parts_tree parts.now) }
     ensures rises { steps.old ≤ steps.new }
 {
-    let all = all_nodes(alloc, game, variations)?;
-    let mut table = empty_table(alloc, parts, game)?;
-    put_parts(
-        alloc, parts, 0, &mut table, game, variations, back, names, &all, met, steps,
-    )?;
+    let all = all_nodes(alloc, scope)?;
+    let mut table = empty_table(alloc, parts, scope.game)?;
+    put_parts(alloc, parts, 0, &mut table, scope, back, &all, met, steps)?;
     Ok(table)
 }
 
@@ -130,45 +114,31 @@ fn put_parts<L: Ledger>(
     parts: &Constituents,
     first: u32,
     table: &mut AtomTable<L>,
-    game: &Game,
-    variations: bool,
+    scope: &Scope,
     back: bool,
-    names: &Names,
     live: &[bool],
     met: &mut bool,
     steps: &mut Steps<L>,
 ) -> Result<u32, NoMemory>
-    requires tree { IsTree game.now.nodes }
-    requires asked { AreAsked (searched_tree game.now variations) live.now }
+    requires tree { IsTree scope.now.game.now.nodes }
+    requires asked { AreAsked (tree_in scope.now) live.now }
     requires flat { AreFlatParts (parts_tree parts.now) }
-    requires room { HasRoom (length game.now.nodes) first (first + parts_atoms (parts_tree parts.now)) table.old }
+    requires room { HasRoom (length scope.now.game.now.nodes) first (first + parts_atoms (parts_tree parts.now)) table.old }
     ensures next { IfOk result (λ next. next ≡ first + parts_atoms (parts_tree parts.now)) }
-    ensures value { OnOk result (AreTabled (searched_tree game.now variations) back (IsLive live.now)
+    ensures value { OnOk result (AreTabled (tree_in scope.now) back (IsLive live.now)
         table.new (first + parts_atoms (parts_tree parts.now)) (spec.parts_numbered first (parts_tree parts.now))
-        (meaning.pattern (searched_tree game.now variations) [] names.now (parts_tree parts.now))) }
+        (meaning.pattern (tree_in scope.now) [] scope.now.names.now (parts_tree parts.now))) }
     ensures never { OnOk result (met.old ≡ true → met.new ≡ false
-        → IsNever (IsStep (searched_tree game.now variations) back false) (IsLive live.now)
-        (meaning.pattern (searched_tree game.now variations) [] names.now (parts_tree parts.now))) }
+        → IsNever (IsStep (tree_in scope.now) back false) (IsLive live.now)
+        (meaning.pattern (tree_in scope.now) [] scope.now.names.now (parts_tree parts.now))) }
     ensures others { OnOk result (IsFilledIn table.old table.new first (first + parts_atoms (parts_tree parts.now))) }
-    ensures cost { steps.new ≤ steps.old + parts_cost (searched_len (searched_tree game.now variations)) (parts_tree parts.now) }
+    ensures cost { steps.new ≤ steps.old + parts_cost (searched_len (tree_in scope.now)) (parts_tree parts.now) }
     ensures rises { steps.old ≤ steps.new }
 {
     let mut at = first;
     let mut starts = same(alloc, live)?;
     for part in parts.as_slice() {
-        at = put_part(
-            alloc,
-            part,
-            at,
-            table,
-            game,
-            variations,
-            back,
-            names,
-            &mut starts,
-            met,
-            steps,
-        )?;
+        at = put_part(alloc, part, at, table, scope, back, &mut starts, met, steps)?;
     }
     Ok(at)
 }
@@ -180,36 +150,32 @@ fn put_part<L: Ledger>(
     part: &Constituent,
     first: u32,
     table: &mut AtomTable<L>,
-    game: &Game,
-    variations: bool,
+    scope: &Scope,
     back: bool,
-    names: &Names,
     starts: &mut Vec<bool>,
     met: &mut bool,
     steps: &mut Steps<L>,
 ) -> Result<u32, NoMemory>
-    requires tree { IsTree game.now.nodes }
-    requires asked { AreAsked (searched_tree game.now variations) starts.old.items }
+    requires tree { IsTree scope.now.game.now.nodes }
+    requires asked { AreAsked (tree_in scope.now) starts.old.items }
     requires flat { IsFlatBody (body_tree part.now.body) }
-    requires room { HasRoom (length game.now.nodes) first (first + body_atoms (body_tree part.now.body)) table.old }
+    requires room { HasRoom (length scope.now.game.now.nodes) first (first + body_atoms (body_tree part.now.body)) table.old }
     ensures next { IfOk result (λ next. next ≡ first + body_atoms (body_tree part.now.body)) }
-    ensures leads { OnOk result (LeadsOn (searched_tree game.now variations) back starts.old.items starts.new.items
+    ensures leads { OnOk result (LeadsOn (tree_in scope.now) back starts.old.items starts.new.items
         table.new (first + body_atoms (body_tree part.now.body))
         (meaning.marked part.now.mark (spec.body_numbered first (body_tree part.now.body)))
-        (meaning.marked part.now.mark (meaning.body_pattern (searched_tree game.now variations) [] names.now (body_tree part.now.body)))) }
-    ensures ends { OnOk result (met.old ≡ true → met.new ≡ false → EndsHere (searched_tree game.now variations) back starts.old.items
-        (meaning.marked part.now.mark (meaning.body_pattern (searched_tree game.now variations) [] names.now (body_tree part.now.body)))) }
+        (meaning.marked part.now.mark (meaning.body_pattern (tree_in scope.now) [] scope.now.names.now (body_tree part.now.body)))) }
+    ensures ends { OnOk result (met.old ≡ true → met.new ≡ false → EndsHere (tree_in scope.now) back starts.old.items
+        (meaning.marked part.now.mark (meaning.body_pattern (tree_in scope.now) [] scope.now.names.now (body_tree part.now.body)))) }
     ensures others { OnOk result (IsFilledIn table.old table.new first (first + body_atoms (body_tree part.now.body))) }
-    ensures cost { steps.new ≤ steps.old + body_cost (searched_len (searched_tree game.now variations)) (body_tree part.now.body) }
+    ensures cost { steps.new ≤ steps.old + body_cost (searched_len (tree_in scope.now)) (body_tree part.now.body) }
     ensures rises { steps.old ≤ steps.new }
 {
     match part.mark {
         Mark::Once => put_once(
-            alloc, &part.body, first, table, game, variations, back, names, starts, met, steps,
+            alloc, &part.body, first, table, scope, back, starts, met, steps,
         ),
-        _ => put_marked(
-            alloc, part, first, table, game, variations, back, names, starts, met, steps,
-        ),
+        _ => put_marked(alloc, part, first, table, scope, back, starts, met, steps),
     }
 }
 
@@ -220,33 +186,31 @@ fn put_marked<L: Ledger>(
     part: &Constituent,
     first: u32,
     table: &mut AtomTable<L>,
-    game: &Game,
-    variations: bool,
+    scope: &Scope,
     back: bool,
-    names: &Names,
     starts: &mut Vec<bool>,
     met: &mut bool,
     steps: &mut Steps<L>,
 ) -> Result<u32, NoMemory>
-    requires tree { IsTree game.now.nodes }
-    requires asked { AreAsked (searched_tree game.now variations) starts.old.items }
+    requires tree { IsTree scope.now.game.now.nodes }
+    requires asked { AreAsked (tree_in scope.now) starts.old.items }
     requires flat { IsFlatBody (body_tree part.now.body) }
-    requires room { HasRoom (length game.now.nodes) first (first + body_atoms (body_tree part.now.body)) table.old }
+    requires room { HasRoom (length scope.now.game.now.nodes) first (first + body_atoms (body_tree part.now.body)) table.old }
     ensures next { IfOk result (λ next. next ≡ first + body_atoms (body_tree part.now.body)) }
-    ensures leads { OnOk result (LeadsOn (searched_tree game.now variations) back starts.old.items starts.new.items
+    ensures leads { OnOk result (LeadsOn (tree_in scope.now) back starts.old.items starts.new.items
         table.new (first + body_atoms (body_tree part.now.body))
         (meaning.marked part.now.mark (spec.body_numbered first (body_tree part.now.body)))
-        (meaning.marked part.now.mark (meaning.body_pattern (searched_tree game.now variations) [] names.now (body_tree part.now.body)))) }
-    ensures ends { OnOk result (met.old ≡ true → met.new ≡ false → EndsHere (searched_tree game.now variations) back starts.old.items
-        (meaning.marked part.now.mark (meaning.body_pattern (searched_tree game.now variations) [] names.now (body_tree part.now.body)))) }
+        (meaning.marked part.now.mark (meaning.body_pattern (tree_in scope.now) [] scope.now.names.now (body_tree part.now.body)))) }
+    ensures ends { OnOk result (met.old ≡ true → met.new ≡ false → EndsHere (tree_in scope.now) back starts.old.items
+        (meaning.marked part.now.mark (meaning.body_pattern (tree_in scope.now) [] scope.now.names.now (body_tree part.now.body)))) }
     ensures others { OnOk result (IsFilledIn table.old table.new first (first + body_atoms (body_tree part.now.body))) }
-    ensures cost { steps.new ≤ steps.old + body_cost (searched_len (searched_tree game.now variations)) (body_tree part.now.body) }
+    ensures cost { steps.new ≤ steps.old + body_cost (searched_len (tree_in scope.now)) (body_tree part.now.body) }
     ensures rises { steps.old ≤ steps.new }
 {
-    let wide = reached(alloc, game, variations, back, starts)?;
+    let wide = reached(alloc, scope, back, starts)?;
     let mut inner = true;
     let next = put_body(
-        alloc, &part.body, first, table, game, variations, back, names, &wide, &mut inner, steps,
+        alloc, &part.body, first, table, scope, back, &wide, &mut inner, steps,
     )?;
     let needed = is_needed(part.mark);
     *starts = wide;
@@ -287,41 +251,35 @@ fn put_once<L: Ledger>(
     body: &Body,
     first: u32,
     table: &mut AtomTable<L>,
-    game: &Game,
-    variations: bool,
+    scope: &Scope,
     back: bool,
-    names: &Names,
     starts: &mut Vec<bool>,
     met: &mut bool,
     steps: &mut Steps<L>,
 ) -> Result<u32, NoMemory>
-    requires tree { IsTree game.now.nodes }
-    requires asked { AreAsked (searched_tree game.now variations) starts.old.items }
+    requires tree { IsTree scope.now.game.now.nodes }
+    requires asked { AreAsked (tree_in scope.now) starts.old.items }
     requires flat { IsFlatBody (body_tree body.now) }
-    requires room { HasRoom (length game.now.nodes) first (first + body_atoms (body_tree body.now)) table.old }
+    requires room { HasRoom (length scope.now.game.now.nodes) first (first + body_atoms (body_tree body.now)) table.old }
     ensures next { IfOk result (λ next. next ≡ first + body_atoms (body_tree body.now)) }
-    ensures leads { OnOk result (LeadsOn (searched_tree game.now variations) back starts.old.items starts.new.items
+    ensures leads { OnOk result (LeadsOn (tree_in scope.now) back starts.old.items starts.new.items
         table.new (first + body_atoms (body_tree body.now)) (spec.body_numbered first (body_tree body.now))
-        (meaning.body_pattern (searched_tree game.now variations) [] names.now (body_tree body.now))) }
-    ensures ends { OnOk result (met.old ≡ true → met.new ≡ false → EndsHere (searched_tree game.now variations) back starts.old.items
-        (meaning.body_pattern (searched_tree game.now variations) [] names.now (body_tree body.now))) }
+        (meaning.body_pattern (tree_in scope.now) [] scope.now.names.now (body_tree body.now))) }
+    ensures ends { OnOk result (met.old ≡ true → met.new ≡ false → EndsHere (tree_in scope.now) back starts.old.items
+        (meaning.body_pattern (tree_in scope.now) [] scope.now.names.now (body_tree body.now))) }
     ensures others { OnOk result (IsFilledIn table.old table.new first (first + body_atoms (body_tree body.now))) }
-    ensures cost { steps.new ≤ steps.old + body_cost (searched_len (searched_tree game.now variations)) (body_tree body.now) }
+    ensures cost { steps.new ≤ steps.old + body_cost (searched_len (tree_in scope.now)) (body_tree body.now) }
     ensures rises { steps.old ≤ steps.new }
 {
     match body {
         Body::Atom(filter) => {
-            let behind = put_atom(
-                alloc, filter, first, table, game, variations, back, names, starts, met, steps,
-            )?;
+            let behind = put_atom(alloc, filter, first, table, scope, back, starts, met, steps)?;
             *starts = behind;
             Ok(first + 1)
         }
         Body::Group(parts) => {
-            let next = put_parts(
-                alloc, parts, first, table, game, variations, back, names, starts, met, steps,
-            )?;
-            *starts = reached(alloc, game, variations, back, starts)?;
+            let next = put_parts(alloc, parts, first, table, scope, back, starts, met, steps)?;
+            *starts = reached(alloc, scope, back, starts)?;
             Ok(next)
         }
     }
@@ -334,38 +292,36 @@ fn put_atom<L: Ledger>(
     filter: &Filter,
     first: u32,
     table: &mut AtomTable<L>,
-    game: &Game,
-    variations: bool,
+    scope: &Scope,
     back: bool,
-    names: &Names,
     live: &[bool],
     met: &mut bool,
     steps: &mut Steps<L>,
 ) -> Result<Vec<bool>, NoMemory>
-    requires tree { IsTree game.now.nodes }
-    requires asked { AreAsked (searched_tree game.now variations) live.now }
+    requires tree { IsTree scope.now.game.now.nodes }
+    requires asked { AreAsked (tree_in scope.now) live.now }
     requires flat { IsFlat (filter_tree filter.now) }
-    requires room { HasRoom (length game.now.nodes) first (first + 1) table.old }
-    ensures leads { IfOk result (λ behind. LeadsOn (searched_tree game.now variations) back live.now behind.items
-        table.new (first + 1) (one first) (one (meaning.value (searched_tree game.now variations) [] names.now (filter_tree filter.now)))) }
-    ensures ends { OnOk result (met.old ≡ true → met.new ≡ false → EndsHere (searched_tree game.now variations) back live.now
-        (one (meaning.value (searched_tree game.now variations) [] names.now (filter_tree filter.now)))) }
+    requires room { HasRoom (length scope.now.game.now.nodes) first (first + 1) table.old }
+    ensures leads { IfOk result (λ behind. LeadsOn (tree_in scope.now) back live.now behind.items
+        table.new (first + 1) (one first) (one (value_in scope.now (filter_tree filter.now)))) }
+    ensures ends { OnOk result (met.old ≡ true → met.new ≡ false → EndsHere (tree_in scope.now) back live.now
+        (one (value_in scope.now (filter_tree filter.now)))) }
     ensures others { OnOk result (IsFilledIn table.old table.new first (first + 1)) }
-    ensures cost { steps.new ≤ steps.old + filter_cost (searched_len (searched_tree game.now variations)) (filter_tree filter.now) }
+    ensures cost { steps.new ≤ steps.old + filter_cost (searched_len (tree_in scope.now)) (filter_tree filter.now) }
     ensures rises { steps.old ≤ steps.new }
 {
     if !any_live(live) {
         *met = false;
         return same(alloc, live);
     }
-    let column = evaluate(alloc, filter, game, variations, names, live, steps)?;
-    let held = part_of(alloc, game, variations, live, &column, true)?;
-    put_nodes(table, first, game, &held);
+    let column = evaluate(alloc, filter, scope, live, steps)?;
+    let held = part_of(alloc, scope, live, &column, true)?;
+    put_nodes(table, first, scope.game, &held);
     if !any_live(&held) {
         *met = false;
         return Ok(held);
     }
-    let behind = onward(alloc, game, variations, back, &held)?;
+    let behind = onward(alloc, scope, back, &held)?;
     Ok(behind)
 }
 
@@ -377,40 +333,36 @@ fn put_body<L: Ledger>(
     body: &Body,
     first: u32,
     table: &mut AtomTable<L>,
-    game: &Game,
-    variations: bool,
+    scope: &Scope,
     back: bool,
-    names: &Names,
     live: &[bool],
     met: &mut bool,
     steps: &mut Steps<L>,
 ) -> Result<u32, NoMemory>
-    requires tree { IsTree game.now.nodes }
-    requires asked { AreAsked (searched_tree game.now variations) live.now }
+    requires tree { IsTree scope.now.game.now.nodes }
+    requires asked { AreAsked (tree_in scope.now) live.now }
     requires flat { IsFlatBody (body_tree body.now) }
-    requires room { HasRoom (length game.now.nodes) first (first + body_atoms (body_tree body.now)) table.old }
+    requires room { HasRoom (length scope.now.game.now.nodes) first (first + body_atoms (body_tree body.now)) table.old }
     ensures next { IfOk result (λ next. next ≡ first + body_atoms (body_tree body.now)) }
-    ensures value { OnOk result (AreTabled (searched_tree game.now variations) back (IsLive live.now)
+    ensures value { OnOk result (AreTabled (tree_in scope.now) back (IsLive live.now)
         table.new (first + body_atoms (body_tree body.now)) (spec.body_numbered first (body_tree body.now))
-        (meaning.body_pattern (searched_tree game.now variations) [] names.now (body_tree body.now))) }
+        (meaning.body_pattern (tree_in scope.now) [] scope.now.names.now (body_tree body.now))) }
     ensures never { OnOk result (met.old ≡ true → met.new ≡ false
-        → IsNever (IsStep (searched_tree game.now variations) back false) (IsLive live.now)
-        (meaning.body_pattern (searched_tree game.now variations) [] names.now (body_tree body.now))) }
+        → IsNever (IsStep (tree_in scope.now) back false) (IsLive live.now)
+        (meaning.body_pattern (tree_in scope.now) [] scope.now.names.now (body_tree body.now))) }
     ensures others { OnOk result (IsFilledIn table.old table.new first (first + body_atoms (body_tree body.now))) }
-    ensures cost { steps.new ≤ steps.old + body_cost (searched_len (searched_tree game.now variations)) (body_tree body.now) }
+    ensures cost { steps.new ≤ steps.old + body_cost (searched_len (tree_in scope.now)) (body_tree body.now) }
     ensures rises { steps.old ≤ steps.new }
 {
     match body {
         Body::Atom(filter) => {
-            let column = evaluate(alloc, filter, game, variations, names, live, steps)?;
-            let held = part_of(alloc, game, variations, live, &column, true)?;
-            put_nodes(table, first, game, &held);
+            let column = evaluate(alloc, filter, scope, live, steps)?;
+            let held = part_of(alloc, scope, live, &column, true)?;
+            put_nodes(table, first, scope.game, &held);
             let some = any_live(&held);
             *met = both(*met, some);
             Ok(first + 1)
         }
-        Body::Group(parts) => put_parts(
-            alloc, parts, first, table, game, variations, back, names, live, met, steps,
-        ),
+        Body::Group(parts) => put_parts(alloc, parts, first, table, scope, back, live, met, steps),
     }
 }

@@ -4,12 +4,12 @@ ghost use Rattle.cq_position.specs.Games.{IsTree};
 ghost use Rattle.cql_syntax.specs.Meaning as meaning;
 ghost use Rattle.cql_syntax.specs.TreeOf.{filter_tree};
 ghost use Rattle.cql_syntax.specs.Values as spec;
-ghost use Rattle.cql_values.specs.Trees.{searched_tree};
 ghost use Rattle.cql_eval.specs.Asked.{AreUnsettled, AreWanted};
 ghost use Rattle.cql_eval.specs.Columns.{AreAsked, AreTruths, shown};
 ghost use Rattle.cql_eval.specs.Costs.{filter_cost, searched_len};
 ghost use Rattle.cql_eval.specs.Covers.{AreWorthTrying};
 ghost use Rattle.cql_eval.specs.FlatTrees.{IsFlat};
+ghost use Rattle.cql_eval.specs.Scopes.{tree_in};
 
 use super::covers::cover;
 use super::evaluate;
@@ -18,13 +18,12 @@ use crate::covers::sets_of;
 use crate::filter_column::FilterColumn;
 use crate::free::only_name;
 use crate::nodes::{any_live, same};
+use crate::scope::Scope;
 use crate::squares::{decided, having, unsettled, wanted_squares};
 use cq_geometry::Square;
 use cq_outside::{NoMemory, Steps};
 use cql_syntax::Filter;
-use cql_values::names::Names;
 use cql_values::sets::has_square;
-use pgn_tree::Game;
 use std::alloc::Global;
 use std::sync::ledger::Ledger;
 
@@ -37,33 +36,25 @@ pub(super) fn asked_truths<L: Ledger>(
     name: &[u8],
     squares: &FilterColumn,
     asked: &Filter,
-    game: &Game,
-    variations: bool,
-    names: &Names,
+    scope: &Scope,
     live: &[bool],
     steps: &mut Steps<L>,
 ) -> Result<Vec<bool>, NoMemory>
-    requires tree { IsTree game.now.nodes }
-    requires asked { AreAsked (searched_tree game.now variations) live.now }
+    requires tree { IsTree scope.now.game.now.nodes }
+    requires asked { AreAsked (tree_in scope.now) live.now }
     requires flat { IsFlat (filter_tree asked.now) }
     ensures value { IfOk result (λ truths. AreTruths truths.items live.now (λ n. spec.square_of every (shown squares.now n)
-        (λ s. spec.holds (meaning.value (searched_tree game.now variations) []
-        ((name.now, s) ∷ names.now) (filter_tree asked.now) n)))) }
-    ensures cost { steps.new ≤ steps.old + 64 * filter_cost (searched_len (searched_tree game.now variations)) (filter_tree asked.now) }
+        (λ s. spec.holds (meaning.value (tree_in scope.now) []
+        ((name.now, s) ∷ scope.now.names.now) (filter_tree asked.now) n)))) }
+    ensures cost { steps.new ≤ steps.old + 64 * filter_cost (searched_len (tree_in scope.now)) (filter_tree asked.now) }
     ensures rises { steps.old ≤ steps.new }
 {
     if every {
-        return square_truths(
-            alloc, every, name, squares, asked, game, variations, names, live, steps,
-        );
+        return square_truths(alloc, every, name, squares, asked, scope, live, steps);
     }
-    let sets = covered_sets(
-        alloc, name, squares, asked, game, variations, names, live, steps,
-    )?;
+    let sets = covered_sets(alloc, name, squares, asked, scope, live, steps)?;
     let worth = FilterColumn::Sets(sets);
-    let truths = square_truths(
-        alloc, every, name, &worth, asked, game, variations, names, live, steps,
-    )?;
+    let truths = square_truths(alloc, every, name, &worth, asked, scope, live, steps)?;
     Ok(truths)
 }
 
@@ -74,24 +65,20 @@ fn covered_sets<L: Ledger>(
     name: &[u8],
     squares: &FilterColumn,
     asked: &Filter,
-    game: &Game,
-    variations: bool,
-    names: &Names,
+    scope: &Scope,
     live: &[bool],
     steps: &mut Steps<L>,
 ) -> Result<Vec<u64>, NoMemory>
-    requires tree { IsTree game.now.nodes }
-    requires asked { AreAsked (searched_tree game.now variations) live.now }
+    requires tree { IsTree scope.now.game.now.nodes }
+    requires asked { AreAsked (tree_in scope.now) live.now }
     requires flat { IsFlat (filter_tree asked.now) }
-    ensures worth { IfOk result (λ sets. AreWorthTrying (shown squares.now) live.now (λ n s. spec.holds (meaning.value (searched_tree game.now variations) []
-        ((name.now, s) ∷ names.now) (filter_tree asked.now) n)) sets.items) }
+    ensures worth { IfOk result (λ sets. AreWorthTrying (shown squares.now) live.now (λ n s. spec.holds (meaning.value (tree_in scope.now) []
+        ((name.now, s) ∷ scope.now.names.now) (filter_tree asked.now) n)) sets.items) }
     ensures cost { steps.new ≡ steps.old }
 {
     let mut sets = sets_of(alloc, live, squares)?;
     let opened = only_name(alloc, name)?;
-    cover(
-        alloc, &opened, name, asked, game, variations, names, live, &mut sets, steps,
-    )?;
+    cover(alloc, &opened, name, asked, scope, live, &mut sets, steps)?;
     Ok(sets)
 }
 
@@ -103,23 +90,21 @@ fn square_truths<L: Ledger>(
     name: &[u8],
     squares: &FilterColumn,
     asked: &Filter,
-    game: &Game,
-    variations: bool,
-    names: &Names,
+    scope: &Scope,
     live: &[bool],
     steps: &mut Steps<L>,
 ) -> Result<Vec<bool>, NoMemory>
-    requires tree { IsTree game.now.nodes }
-    requires asked { AreAsked (searched_tree game.now variations) live.now }
+    requires tree { IsTree scope.now.game.now.nodes }
+    requires asked { AreAsked (tree_in scope.now) live.now }
     requires flat { IsFlat (filter_tree asked.now) }
     ensures value { IfOk result (λ truths. AreTruths truths.items live.now (λ n. spec.square_of every (shown squares.now n)
-        (λ s. spec.holds (meaning.value (searched_tree game.now variations) []
-        ((name.now, s) ∷ names.now) (filter_tree asked.now) n)))) }
-    ensures cost { steps.new ≤ steps.old + 64 * filter_cost (searched_len (searched_tree game.now variations)) (filter_tree asked.now) }
+        (λ s. spec.holds (meaning.value (tree_in scope.now) []
+        ((name.now, s) ∷ scope.now.names.now) (filter_tree asked.now) n)))) }
+    ensures cost { steps.new ≤ steps.old + 64 * filter_cost (searched_len (tree_in scope.now)) (filter_tree asked.now) }
     ensures rises { steps.old ≤ steps.new }
 {
     match attacked_part(every, name, asked) {
-        Some(d) => return attack_truths(alloc, squares, d, game, variations, live),
+        Some(d) => return attack_truths(alloc, squares, d, scope, live),
         None => {}
     }
     let mut left = same(alloc, live)?;
@@ -127,8 +112,7 @@ fn square_truths<L: Ledger>(
     for number in 0..64 {
         let square = Square::new(number);
         left = square_turn(
-            alloc, every, name, square, wanted, squares, asked, game, variations, names, left,
-            steps,
+            alloc, every, name, square, wanted, squares, asked, scope, left, steps,
         )?;
     }
     let truths = decided(alloc, every, left)?;
@@ -145,20 +129,18 @@ fn square_turn<L: Ledger>(
     wanted: u64,
     squares: &FilterColumn,
     asked: &Filter,
-    game: &Game,
-    variations: bool,
-    names: &Names,
+    scope: &Scope,
     left: Vec<bool>,
     steps: &mut Steps<L>,
 ) -> Result<Vec<bool>, NoMemory>
-    requires tree { IsTree game.now.nodes }
-    requires asked { AreAsked (searched_tree game.now variations) left.items }
+    requires tree { IsTree scope.now.game.now.nodes }
+    requires asked { AreAsked (tree_in scope.now) left.items }
     requires wanted { AreWanted (shown squares.now) left.items wanted }
     requires flat { IsFlat (filter_tree asked.now) }
     ensures value { IfOk result (λ later. AreUnsettled every (shown squares.now)
-        (λ n. spec.holds (meaning.value (searched_tree game.now variations) []
-        ((name.now, square) ∷ names.now) (filter_tree asked.now) n)) square left.items later.items) }
-    ensures cost { steps.new ≤ steps.old + filter_cost (searched_len (searched_tree game.now variations)) (filter_tree asked.now) }
+        (λ n. spec.holds (meaning.value (tree_in scope.now) []
+        ((name.now, square) ∷ scope.now.names.now) (filter_tree asked.now) n)) square left.items later.items) }
+    ensures cost { steps.new ≤ steps.old + filter_cost (searched_len (tree_in scope.now)) (filter_tree asked.now) }
     ensures rises { steps.old ≤ steps.new }
 {
     if !has_square(wanted, square) {
@@ -168,8 +150,12 @@ fn square_turn<L: Ledger>(
     if !any_live(&there) {
         return Ok(left);
     }
-    let inner = names.with(alloc, name, square)?;
-    let column = evaluate(alloc, asked, game, variations, &inner, &there, steps)?;
+    let names = scope.names.with(alloc, name, square)?;
+    let inner = Scope {
+        names: &names,
+        ..*scope
+    };
+    let column = evaluate(alloc, asked, &inner, &there, steps)?;
     let later = unsettled(every, left, &there, &column);
     Ok(later)
 }
