@@ -190,38 +190,41 @@ chains::terms_of-returns-in_err-column-clause-cost = chains.chains::terms_of-ret
 
 -- lines
 
-pub lines::put_parts-loop-part-init : goal.lines::put_parts-loop-part-init
-lines::put_parts-loop-part-init = lines.lines::put_parts-loop-part-init
+pub lines::filled_row-returns-clause-never : goal.lines::filled_row-returns-clause-never
+lines::filled_row-returns-clause-never = lines.lines::filled_row-returns-clause-never
 
-pub lines::put_parts-loop-part-preserved : goal.lines::put_parts-loop-part-preserved
-lines::put_parts-loop-part-preserved = lines.lines::put_parts-loop-part-preserved
+pub lines::put_row-loop-part-init : goal.lines::put_row-loop-part-init
+lines::put_row-loop-part-init = lines.lines::put_row-loop-part-init
 
-pub lines::put_parts-returns-clause-next : goal.lines::put_parts-returns-clause-next
-lines::put_parts-returns-clause-next = lines.lines::put_parts-returns-clause-next
+pub lines::put_row-loop-part-preserved : goal.lines::put_row-loop-part-preserved
+lines::put_row-loop-part-preserved = lines.lines::put_row-loop-part-preserved
 
-pub lines::put_parts-returns-clause-value : goal.lines::put_parts-returns-clause-value
-lines::put_parts-returns-clause-value = lines.lines::put_parts-returns-clause-value
+pub lines::put_row-returns-clause-next : goal.lines::put_row-returns-clause-next
+lines::put_row-returns-clause-next = lines.lines::put_row-returns-clause-next
 
-pub lines::put_parts-returns-clause-never : goal.lines::put_parts-returns-clause-never
-lines::put_parts-returns-clause-never = lines.lines::put_parts-returns-clause-never
+pub lines::put_row-returns-clause-value : goal.lines::put_row-returns-clause-value
+lines::put_row-returns-clause-value = lines.lines::put_row-returns-clause-value
 
-pub lines::put_parts-returns-clause-others : goal.lines::put_parts-returns-clause-others
-lines::put_parts-returns-clause-others = lines.lines::put_parts-returns-clause-others
+pub lines::put_row-returns-clause-never : goal.lines::put_row-returns-clause-never
+lines::put_row-returns-clause-never = lines.lines::put_row-returns-clause-never
 
-pub lines::put_parts-returns-in_err-at-clause-cost : goal.lines::put_parts-returns-in_err-at-clause-cost
-lines::put_parts-returns-in_err-at-clause-cost = lines.lines::put_parts-returns-in_err-at-clause-cost
+pub lines::put_row-returns-clause-others : goal.lines::put_row-returns-clause-others
+lines::put_row-returns-clause-others = lines.lines::put_row-returns-clause-others
 
-pub lines::put_body-put_nodes-requires-clause-atom : goal.lines::put_body-put_nodes-requires-clause-atom
-lines::put_body-put_nodes-requires-clause-atom = lines.lines::put_body-put_nodes-requires-clause-atom
+pub lines::put_row-returns-in_err-at-clause-cost : goal.lines::put_row-returns-in_err-at-clause-cost
+lines::put_row-returns-in_err-at-clause-cost = lines.lines::put_row-returns-in_err-at-clause-cost
 
-pub lines::put_body-put_nodes-requires-clause-clear : goal.lines::put_body-put_nodes-requires-clause-clear
-lines::put_body-put_nodes-requires-clause-clear = lines.lines::put_body-put_nodes-requires-clause-clear
+pub lines::put_wherever-put_nodes-requires-clause-atom : goal.lines::put_wherever-put_nodes-requires-clause-atom
+lines::put_wherever-put_nodes-requires-clause-atom = lines.lines::put_wherever-put_nodes-requires-clause-atom
 
-pub lines::put_body-returns-in_ok-held-in-Atom-clause-value : goal.lines::put_body-returns-in_ok-held-in-Atom-clause-value
-lines::put_body-returns-in_ok-held-in-Atom-clause-value = lines.lines::put_body-returns-in_ok-held-in-Atom-clause-value
+pub lines::put_wherever-put_nodes-requires-clause-clear : goal.lines::put_wherever-put_nodes-requires-clause-clear
+lines::put_wherever-put_nodes-requires-clause-clear = lines.lines::put_wherever-put_nodes-requires-clause-clear
 
-pub lines::put_body-returns-in_ok-held-in-Atom-clause-never : goal.lines::put_body-returns-in_ok-held-in-Atom-clause-never
-lines::put_body-returns-in_ok-held-in-Atom-clause-never = lines.lines::put_body-returns-in_ok-held-in-Atom-clause-never
+pub lines::put_wherever-returns-in_ok-held-in-Atom-clause-value : goal.lines::put_wherever-returns-in_ok-held-in-Atom-clause-value
+lines::put_wherever-returns-in_ok-held-in-Atom-clause-value = lines.lines::put_wherever-returns-in_ok-held-in-Atom-clause-value
+
+pub lines::put_wherever-returns-in_ok-held-in-Atom-clause-never : goal.lines::put_wherever-returns-in_ok-held-in-Atom-clause-never
+lines::put_wherever-returns-in_ok-held-in-Atom-clause-never = lines.lines::put_wherever-returns-in_ok-held-in-Atom-clause-never
 
 pub lines::put_marked-returns-clause-leads : goal.lines::put_marked-returns-clause-leads
 lines::put_marked-returns-clause-leads = lines.lines::put_marked-returns-clause-leads
@@ -244,8 +247,8 @@ lines::put_once-returns-in_ok-starts-in-Group-clause-ends = lines.lines::put_onc
 pub lines::put_part-returns-in-Once-clause-ends : goal.lines::put_part-returns-in-Once-clause-ends
 lines::put_part-returns-in-Once-clause-ends = lines.lines::put_part-returns-in-Once-clause-ends
 
-pub lines::put_atom-returns-clause-leads : goal.lines::put_atom-returns-clause-leads
-lines::put_atom-returns-clause-leads = lines.lines::put_atom-returns-clause-leads
+pub lines::put_atom_once-returns-clause-leads : goal.lines::put_atom_once-returns-clause-leads
+lines::put_atom_once-returns-clause-leads = lines.lines::put_atom_once-returns-clause-leads
 
 pub lines::line_numbers-returns-then-not-met-clause-value : goal.lines::line_numbers-returns-then-not-met-clause-value
 lines::line_numbers-returns-then-not-met-clause-value = lines.lines::line_numbers-returns-then-not-met-clause-value
@@ -253,11 +256,11 @@ lines::line_numbers-returns-then-not-met-clause-value = lines.lines::line_number
 pub lines::line_numbers-returns-then-not-met-clause-cost : goal.lines::line_numbers-returns-then-not-met-clause-cost
 lines::line_numbers-returns-then-not-met-clause-cost = lines.lines::line_numbers-returns-then-not-met-clause-cost
 
-pub lines::put_atom-put_nodes-requires-clause-atom : goal.lines::put_atom-put_nodes-requires-clause-atom
-lines::put_atom-put_nodes-requires-clause-atom = lines.lines::put_atom-put_nodes-requires-clause-atom
+pub lines::put_atom_once-put_nodes-requires-clause-atom : goal.lines::put_atom_once-put_nodes-requires-clause-atom
+lines::put_atom_once-put_nodes-requires-clause-atom = lines.lines::put_atom_once-put_nodes-requires-clause-atom
 
-pub lines::put_atom-put_nodes-requires-clause-clear : goal.lines::put_atom-put_nodes-requires-clause-clear
-lines::put_atom-put_nodes-requires-clause-clear = lines.lines::put_atom-put_nodes-requires-clause-clear
+pub lines::put_atom_once-put_nodes-requires-clause-clear : goal.lines::put_atom_once-put_nodes-requires-clause-clear
+lines::put_atom_once-put_nodes-requires-clause-clear = lines.lines::put_atom_once-put_nodes-requires-clause-clear
 
 pub lines::line_numbers-parts_pattern-requires : goal.lines::line_numbers-parts_pattern-requires
 lines::line_numbers-parts_pattern-requires = lines.lines::line_numbers-parts_pattern-requires
@@ -292,8 +295,8 @@ lines::line_numbers-returns-in_err-pattern-clause-cost = lines.lines::line_numbe
 pub lines::line_numbers-returns-in_err-automaton-clause-cost : goal.lines::line_numbers-returns-in_err-automaton-clause-cost
 lines::line_numbers-returns-in_err-automaton-clause-cost = lines.lines::line_numbers-returns-in_err-automaton-clause-cost
 
-pub lines::line_numbers-returns-in_err-table-clause-cost : goal.lines::line_numbers-returns-in_err-table-clause-cost
-lines::line_numbers-returns-in_err-table-clause-cost = lines.lines::line_numbers-returns-in_err-table-clause-cost
+pub lines::line_numbers-returns-in_err-row-clause-cost : goal.lines::line_numbers-returns-in_err-row-clause-cost
+lines::line_numbers-returns-in_err-row-clause-cost = lines.lines::line_numbers-returns-in_err-row-clause-cost
 
 -- where no node is asked for
 

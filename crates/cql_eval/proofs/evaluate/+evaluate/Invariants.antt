@@ -97,14 +97,14 @@ invariant-cover_some::add_each-loop-part g l = record {
   flat : (i : ℕ) (f : Filter) → i < length l.part-items → f ≡ get_or l.part-items i f → IsFlat (filter_tree f);
 }
 
-abbrev pub invariant-lines::put_parts-loop-part : goal.invariant-lines::put_parts-loop-part
-invariant-lines::put_parts-loop-part g l = record {
-  table : TableSoFar (tree_in l.scope) l.back l.scope.names.now l.first l.part-items l.part-index l.at l.live l.starts.items l.fn.met l.met l.fn.table l.table;
-  asked : AreAsked (tree_in l.scope) l.starts.items;
-  cost : l.steps + parts_cost (searched_len (tree_in l.scope)) (part_trees (drop l.part-index l.part-items))
-      ≤ l.fn.steps + parts_cost (searched_len (tree_in l.scope)) (part_trees l.part-items);
+abbrev pub invariant-lines::put_row-loop-part : goal.invariant-lines::put_row-loop-part
+invariant-lines::put_row-loop-part g l = record {
+  table : TableSoFar (tree_in l.way.scope.now) l.way.back l.way.scope.now.names.now l.first l.part-items l.part-index l.at l.live l.starts.items l.fn.row.met l.row.met l.fn.row.table l.row.table;
+  asked : AreAsked (tree_in l.way.scope.now) l.starts.items;
+  cost : l.steps + parts_cost (searched_len (tree_in l.way.scope.now)) (part_trees (drop l.part-index l.part-items))
+      ≤ l.fn.steps + parts_cost (searched_len (tree_in l.way.scope.now)) (part_trees l.part-items);
   rises : l.fn.steps ≤ l.steps;
   flat : (i : ℕ) (c : Constituent) → i < length l.part-items → c ≡ get_or l.part-items i c → IsFlatBody (body_tree c.body);
   room : (c : Constituent) → l.part-index < length l.part-items → c ≡ get_or l.part-items l.part-index c
-      → HasRoom (length l.scope.game.now.nodes) l.at (l.at + body_atoms (body_tree c.body)) l.table;
+      → HasRoom (length l.way.scope.now.game.now.nodes) l.at (l.at + body_atoms (body_tree c.body)) l.row.table;
 }
