@@ -13,3 +13,4 @@ pub mod Promoting
 pub mod Scopes
 pub mod SpelledParts
 pub mod Trees
+pub mod Trials

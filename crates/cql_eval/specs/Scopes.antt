@@ -2,7 +2,7 @@
 use Rattle.std.specs.Prelude.{ℕ, List, []}
 use Rattle.cq_outside.specs.Spelling.{Pattern}
 use Rattle.cq_position.specs.Search.{SearchedTree}
-use Rattle.cql_syntax.specs.Meaning.{value, values, pattern, body_pattern}
+use Rattle.cql_syntax.specs.Meaning.{Names, value, values, pattern, body_pattern}
 use Rattle.cql_syntax.specs.Trees.{FilterTree, FilterTrees, PartTrees, BodyTree}
 use Rattle.cql_syntax.specs.Values.{Value}
 use Rattle.cql_values.specs.Trees.{searched_tree}
@@ -18,6 +18,13 @@ value_in s f = value (tree_in s) [] s.names.now f
 
 abbrev pub values_in : Scope → FilterTrees → ℕ → List Value
 values_in s fs = values (tree_in s) [] s.names.now fs
+
+-- the same with other squares bound to names
+abbrev pub value_with : Scope → FilterTree → Names → ℕ → Value
+value_with s f e = value (tree_in s) [] e f
+
+abbrev pub values_with : Scope → FilterTrees → Names → ℕ → List Value
+values_with s fs e = values (tree_in s) [] e fs
 
 -- the pattern of parts of a line in a row, and of one of them
 abbrev pub parts_in : Scope → PartTrees → Pattern (ℕ → Value)

@@ -19,6 +19,7 @@ mod covers;
 mod lines;
 mod played;
 mod squares;
+mod trial;
 
 use crate::combine::{
     any_values, chain_values, chosen, negated, numbered, pair_values, reached_values, sum_values,

@@ -5,11 +5,13 @@ ghost use Rattle.cql_syntax.specs.Meaning as meaning;
 ghost use Rattle.cql_syntax.specs.TreeOf.{played_tree, written_tree};
 ghost use Rattle.cql_syntax.specs.Values as spec;
 ghost use Rattle.cql_eval.specs.Columns.{AreAsked};
-ghost use Rattle.cql_eval.specs.Covers.{AreCut, AsksNoMore, MayHold};
+ghost use Rattle.cql_eval.specs.Covers.{AsksNoMore};
 ghost use Rattle.cql_eval.specs.FlatTrees.{IsFlatMove, IsFlatPart};
 ghost use Rattle.cql_eval.specs.Scopes.{tree_in};
+ghost use Rattle.cql_eval.specs.Trials.{LeavesHolding};
 
 use super::played::written_column;
+use super::trial::Trial;
 use crate::covers::{cut_moves, cut_where_fails, with_squares};
 use crate::filter_column::FilterColumn;
 use crate::free::{is_free_and_written, is_own_part};
@@ -26,28 +28,25 @@ use std::sync::ledger::Ledger;
 #[cycle(evaluate)]
 pub(super) fn cover_played<L: Ledger>(
     alloc: Global,
-    opened: &Names,
-    name: &[u8],
+    trial: &Trial,
     played: &Played,
-    scope: &Scope,
-    live: &[bool],
     sets: &mut [u64],
     steps: &mut Steps<L>,
 ) -> Result<(), NoMemory>
-    requires tree { IsTree scope.now.game.now.nodes }
-    requires asked { AreAsked (tree_in scope.now) live.now }
-    requires count { length sets.old ≡ length live.now }
+    requires tree { IsTree trial.now.scope.now.game.now.nodes }
+    requires asked { AreAsked (tree_in trial.now.scope.now) trial.now.live.now }
+    requires count { length sets.old ≡ length trial.now.live.now }
     requires flat { IsFlatMove (played_tree played.now) }
-    ensures cut { OnOk result (AreCut live.now (MayHold opened.now scope.now.names.now name.now
-        (λ e n. spec.as_truth (meaning.played_value (tree_in scope.now) [] e (played_tree played.now) n))) sets.old sets.new) }
+    ensures cut { OnOk result (LeavesHolding trial.now
+        (λ e n. spec.as_truth (meaning.played_value (tree_in trial.now.scope.now) [] e (played_tree played.now) n)) sets.old sets.new) }
     ensures len { length sets.new ≡ length sets.old }
     ensures cost { steps.new ≡ steps.old }
 {
-    let origin = is_own_part(name, &played.origin);
-    let goal = is_own_part(name, &played.goal);
-    let taken = is_own_part(name, &played.taken);
-    cut_moves(sets, live, scope, origin, goal, taken);
-    cover_free_parts(alloc, opened, name, played, scope, live, sets, steps)?;
+    let origin = is_own_part(trial.name, &played.origin);
+    let goal = is_own_part(trial.name, &played.goal);
+    let taken = is_own_part(trial.name, &played.taken);
+    cut_moves(sets, trial.live, trial.scope, origin, goal, taken);
+    cover_free_parts(alloc, trial, played, sets, steps)?;
     Ok(())
 }
 
@@ -56,35 +55,46 @@ pub(super) fn cover_played<L: Ledger>(
 #[tactic(auto, unfolding(cql_syntax::specs::Meaning::value, crate::specs::FlatTrees::unflat))]
 fn cover_free_parts<L: Ledger>(
     alloc: Global,
-    opened: &Names,
-    name: &[u8],
+    trial: &Trial,
     played: &Played,
-    scope: &Scope,
-    live: &[bool],
     sets: &mut [u64],
     steps: &mut Steps<L>,
 ) -> Result<(), NoMemory>
-    requires tree { IsTree scope.now.game.now.nodes }
-    requires asked { AreAsked (tree_in scope.now) live.now }
-    requires count { length sets.old ≡ length live.now }
+    requires tree { IsTree trial.now.scope.now.game.now.nodes }
+    requires asked { AreAsked (tree_in trial.now.scope.now) trial.now.live.now }
+    requires count { length sets.old ≡ length trial.now.live.now }
     requires flat { IsFlatMove (played_tree played.now) }
-    ensures cut { OnOk result (AreCut live.now (MayHold opened.now scope.now.names.now name.now
-        (λ e n. spec.as_truth (meaning.played_value (tree_in scope.now) [] e (played_tree played.now) n))) sets.old sets.new) }
+    ensures cut { OnOk result (LeavesHolding trial.now
+        (λ e n. spec.as_truth (meaning.played_value (tree_in trial.now.scope.now) [] e (played_tree played.now) n)) sets.old sets.new) }
     ensures len { length sets.new ≡ length sets.old }
     ensures cost { steps.new ≡ steps.old }
 {
-    if !asks_without(opened, played) {
+    if !asks_without(trial.opened, played) {
         return Ok(());
     }
-    let some = with_squares(alloc, scope, live, sets)?;
+    let some = with_squares(alloc, trial.scope, trial.live, sets)?;
     let some = some.as_slice();
-    let wide = befores(alloc, scope, some)?;
+    let wide = befores(alloc, trial.scope, some)?;
     let wide = wide.as_slice();
-    let origin = free_column(alloc, opened, &played.origin, scope, wide, steps)?;
-    let goal = free_column(alloc, opened, &played.goal, scope, some, steps)?;
-    let taken = free_column(alloc, opened, &played.taken, scope, wide, steps)?;
-    let promoted = free_column(alloc, opened, &played.promoted, scope, some, steps)?;
-    let met = moves_met(alloc, scope, &origin, &goal, &taken, &promoted, some)?;
+    let origin = free_column(
+        alloc,
+        trial.opened,
+        &played.origin,
+        trial.scope,
+        wide,
+        steps,
+    )?;
+    let goal = free_column(alloc, trial.opened, &played.goal, trial.scope, some, steps)?;
+    let taken = free_column(alloc, trial.opened, &played.taken, trial.scope, wide, steps)?;
+    let promoted = free_column(
+        alloc,
+        trial.opened,
+        &played.promoted,
+        trial.scope,
+        some,
+        steps,
+    )?;
+    let met = moves_met(alloc, trial.scope, &origin, &goal, &taken, &promoted, some)?;
     cut_where_fails(sets, some, &FilterColumn::Truths(met));
     Ok(())
 }

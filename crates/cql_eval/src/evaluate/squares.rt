@@ -13,6 +13,7 @@ ghost use Rattle.cql_eval.specs.Scopes.{tree_in};
 
 use super::covers::cover;
 use super::evaluate;
+use super::trial::Trial;
 use crate::attacks::{attack_truths, attacked_part};
 use crate::covers::sets_of;
 use crate::filter_column::FilterColumn;
@@ -78,7 +79,13 @@ fn covered_sets<L: Ledger>(
 {
     let mut sets = sets_of(alloc, live, squares)?;
     let opened = only_name(alloc, name)?;
-    cover(alloc, &opened, name, asked, scope, live, &mut sets, steps)?;
+    let trial = Trial {
+        scope,
+        opened: &opened,
+        name,
+        live,
+    };
+    cover(alloc, &trial, asked, &mut sets, steps)?;
     Ok(sets)
 }
 

@@ -69,30 +69,30 @@ invariant-squares::square_truths-loop-number g l = record {
 
 abbrev pub invariant-covers::cover_all-loop-class : goal.invariant-covers::cover_all-loop-class
 invariant-covers::cover_all-loop-class g l = record {
-  cut : AreCut l.live (MayHold l.opened l.scope.names.now l.name
-      (λ e n. all_hold (values (tree_in l.scope) [] e (filters_tree l.parts) n))) l.fn.sets l.sets;
+  cut : AreCut l.trial.live.now (MayHold l.trial.opened.now l.trial.scope.now.names.now l.trial.name.now
+      (λ e n. all_hold (values (tree_in l.trial.scope.now) [] e (filters_tree l.parts) n))) l.fn.sets l.sets;
   cost : l.steps ≡ l.fn.steps;
 }
 
 abbrev pub invariant-covers::cover_class-loop-part : goal.invariant-covers::cover_class-loop-part
 invariant-covers::cover_class-loop-part g l = record {
-  cut : AreCut l.live (MayHold l.opened l.scope.names.now l.name
-      (λ e n. all_hold (values (tree_in l.scope) [] e (filters_tree l.parts) n))) l.fn.sets l.sets;
+  cut : AreCut l.trial.live.now (MayHold l.trial.opened.now l.trial.scope.now.names.now l.trial.name.now
+      (λ e n. all_hold (values (tree_in l.trial.scope.now) [] e (filters_tree l.parts) n))) l.fn.sets l.sets;
   cost : l.steps ≡ l.fn.steps;
   flat : (i : ℕ) (f : Filter) → i < length l.part-items → f ≡ get_or l.part-items i f → IsFlat (filter_tree f);
 }
 
 abbrev pub invariant-covers::cover_each-loop-part : goal.invariant-covers::cover_each-loop-part
 invariant-covers::cover_each-loop-part g l = record {
-  cut : AreCut l.live (MayHave l.opened l.scope.names.now l.name
-      (λ e n. intersection_of (values (tree_in l.scope) [] e (filters_tree l.parts) n))) l.fn.sets l.sets;
+  cut : AreCut l.trial.live.now (MayHave l.trial.opened.now l.trial.scope.now.names.now l.trial.name.now
+      (λ e n. intersection_of (values (tree_in l.trial.scope.now) [] e (filters_tree l.parts) n))) l.fn.sets l.sets;
   cost : l.steps ≡ l.fn.steps;
   flat : (i : ℕ) (f : Filter) → i < length l.part-items → f ≡ get_or l.part-items i f → IsFlat (filter_tree f);
 }
 
 abbrev pub invariant-cover_some::add_each-loop-part : goal.invariant-cover_some::add_each-loop-part
 invariant-cover_some::add_each-loop-part g l = record {
-  added : AddedFor (tree_in l.scope) l.live l.opened l.scope.names.now l.name l.part-items l.part-index l.sets l.fn.kept l.kept;
+  added : AddedFor (tree_in l.trial.scope.now) l.trial.live.now l.trial.opened.now l.trial.scope.now.names.now l.trial.name.now l.part-items l.part-index l.sets l.fn.kept l.kept;
   cost : l.steps ≡ l.fn.steps;
   flat : (i : ℕ) (f : Filter) → i < length l.part-items → f ≡ get_or l.part-items i f → IsFlat (filter_tree f);
 }
