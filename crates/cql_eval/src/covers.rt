@@ -185,7 +185,8 @@ pub(crate) fn cut_related(
     requires asked { AreAsked (tree_in scope.now) live.now }
     requires count { length sets.old ≡ length live.now }
     requires attack { (pair ≡ Attacks) ⊎ (pair ≡ AttackedBy) }
-    ensures { AreCut live.now (λ n. IsSoRelated (node_at scope.now.game.now.nodes n).position.men pair (shown column.now n)) sets.old sets.new }
+    ensures { AreCut live.now
+        (λ n. IsSoRelated (node_at scope.now.game.now.nodes n).position.men pair (shown column.now n)) sets.old sets.new }
 {
     for n in 0..scope.game.len() {
         sets[n as usize] = related_one(

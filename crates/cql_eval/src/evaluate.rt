@@ -1,5 +1,5 @@
 //! The column of a filter, by recursion on the filter.
-ghost use Rattle.std.specs.Prelude.{◌≡◌, ℕ, ◌<◌, ◌≤◌, ◌+◌, ◌*◌, ◌∷◌, [], length, true, false, get_or, not, option_map, IfOk, if◌then◌else◌};
+ghost use Rattle.std.specs.Prelude.{◌≡◌, ℕ, ◌<◌, ◌≤◌, ◌+◌, ◌*◌, ◌∷◌, length, true, false, get_or, not, option_map, IfOk, if◌then◌else◌};
 ghost use Rattle.std.specs.List.{list_any, range_with_len};
 ghost use Rattle.cq_position.specs.Games.{IsTree};
 ghost use Rattle.cql_syntax.specs.Meaning as meaning;
@@ -9,7 +9,7 @@ ghost use Rattle.cql_eval.specs.Asked.{AreUnsettled};
 ghost use Rattle.cql_eval.specs.Columns.{AreAsked, AreTruths, IsColumn, Where, shown, all_shown, terms_shown};
 ghost use Rattle.cql_eval.specs.Costs.{filter_cost, filters_cost, terms_cost, played_cost, written_cost, line_cost, searched_len};
 ghost use Rattle.cql_eval.specs.FlatTrees.{IsFlat, AreFlat, AreFlatTerms, IsFlatMove, IsFlatPart, IsFlatLine};
-ghost use Rattle.cql_eval.specs.Scopes.{tree_in, value_in};
+ghost use Rattle.cql_eval.specs.Scopes.{tree_in, value_in, values_in};
 
 mod chains;
 mod cover_moves;
@@ -42,7 +42,7 @@ use cql_values::value::Value;
 use cql_values::words::directions;
 use lines::line_numbers;
 use played::played_truths;
-use squares::asked_truths;
+use squares::{Binding, asked_truths};
 use std::alloc::Global;
 use std::sync::ledger::Ledger;
 
@@ -116,16 +116,13 @@ pub(crate) fn evaluate<L: Ledger>(
         }
         Form::Square(every, name, squares, asked) => {
             let squares = evaluate(alloc, squares, scope, live, steps)?;
-            let truths = asked_truths(
-                alloc,
-                *every,
-                name.as_slice(),
-                &squares,
-                asked,
+            let binding = Binding {
                 scope,
-                live,
-                steps,
-            )?;
+                every: *every,
+                name: name.as_slice(),
+                squares: &squares,
+            };
+            let truths = asked_truths(alloc, &binding, asked, live, steps)?;
             Ok(FilterColumn::Truths(truths))
         }
         Form::Played(played) => {
@@ -223,7 +220,7 @@ fn chain_column<L: Ledger>(
     requires asked { AreAsked (tree_in scope.now) live.now }
     requires flat { AreFlat (filters_tree parts.now) }
     ensures value { IfOk result (λ c. IsColumn c live.now
-        (λ n. spec.chain_of chain (meaning.values (tree_in scope.now) [] scope.now.names.now (filters_tree parts.now) n))) }
+        (λ n. spec.chain_of chain (values_in scope.now (filters_tree parts.now) n))) }
     ensures cost { steps.new ≤ steps.old + filters_cost (searched_len (tree_in scope.now)) (filters_tree parts.now) }
     ensures rises { steps.old ≤ steps.new }
 {
@@ -259,7 +256,7 @@ fn any_column<L: Ledger>(
     requires asked { AreAsked (tree_in scope.now) live.now }
     requires flat { AreFlat (filters_tree parts.now) }
     ensures value { IfOk result (λ c. IsColumn c live.now
-        (λ n. spec.any_of kind (meaning.values (tree_in scope.now) [] scope.now.names.now (filters_tree parts.now) n))) }
+        (λ n. spec.any_of kind (values_in scope.now (filters_tree parts.now) n))) }
     ensures cost { steps.new ≤ steps.old + filters_cost (searched_len (tree_in scope.now)) (filters_tree parts.now) }
     ensures rises { steps.old ≤ steps.new }
 {

@@ -9,7 +9,7 @@ ghost use Rattle.cql_eval.specs.Classes.{is_of, is_before, is_so_if, are_so, cos
 ghost use Rattle.cql_eval.specs.Columns.{AreAsked, AreTruths, Where, all_shown, terms_shown};
 ghost use Rattle.cql_eval.specs.Costs.{filters_cost, terms_cost, searched_len};
 ghost use Rattle.cql_eval.specs.FlatTrees.{IsFlat, AreFlat, AreFlatTerms};
-ghost use Rattle.cql_eval.specs.Scopes.{tree_in};
+ghost use Rattle.cql_eval.specs.Scopes.{tree_in, values_in};
 
 use super::evaluate;
 use crate::filter_column::FilterColumn;
@@ -35,7 +35,7 @@ pub(super) fn all_hold<L: Ledger>(
     requires asked { AreAsked (tree_in scope.now) live.now }
     requires flat { AreFlat (filters_tree filters.now) }
     ensures value { IfOk result (λ truths. AreTruths truths.items live.now
-        (λ n. spec.all_hold (meaning.values (tree_in scope.now) [] scope.now.names.now (filters_tree filters.now) n))) }
+        (λ n. spec.all_hold (values_in scope.now (filters_tree filters.now) n))) }
     ensures cost { steps.new ≤ steps.old + filters_cost (searched_len (tree_in scope.now)) (filters_tree filters.now) }
     ensures rises { steps.old ≤ steps.new }
 {
@@ -56,7 +56,7 @@ pub(super) fn none_holds<L: Ledger>(
     requires asked { AreAsked (tree_in scope.now) live.now }
     requires flat { AreFlat (filters_tree filters.now) }
     ensures value { IfOk result (λ truths. AreTruths truths.items live.now (λ n. spec.as_truth (not
-        (list_any spec.holds (meaning.values (tree_in scope.now) [] scope.now.names.now (filters_tree filters.now) n))))) }
+        (list_any spec.holds (values_in scope.now (filters_tree filters.now) n))))) }
     ensures cost { steps.new ≤ steps.old + filters_cost (searched_len (tree_in scope.now)) (filters_tree filters.now) }
     ensures rises { steps.old ≤ steps.new }
 {
@@ -162,7 +162,7 @@ pub(super) fn columns_of<L: Ledger>(
     requires asked { AreAsked (tree_in scope.now) live.now }
     requires flat { AreFlat (filters_tree filters.now) }
     ensures value { IfOk result (λ columns. Where live.now (λ n. all_shown columns.items n
-        ≡ meaning.values (tree_in scope.now) [] scope.now.names.now (filters_tree filters.now) n)) }
+        ≡ values_in scope.now (filters_tree filters.now) n)) }
     ensures cost { steps.new ≤ steps.old + filters_cost (searched_len (tree_in scope.now)) (filters_tree filters.now) }
     ensures rises { steps.old ≤ steps.new }
 {

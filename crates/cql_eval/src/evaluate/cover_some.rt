@@ -1,5 +1,5 @@
 //! Squares that are worth trying where some of several filters must hold: those that are so for one of them.
-ghost use Rattle.std.specs.Prelude.{◌≡◌, ℕ, [], length, OnOk};
+ghost use Rattle.std.specs.Prelude.{◌≡◌, ℕ, length, OnOk};
 ghost use Rattle.cq_position.specs.Games.{IsTree};
 ghost use Rattle.cql_syntax.specs.TreeOf.{filter_tree, filters_tree};
 ghost use Rattle.cql_syntax.specs.Values as spec;

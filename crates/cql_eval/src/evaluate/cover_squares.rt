@@ -1,5 +1,5 @@
 //! Squares that are worth trying for what is asked of some square of a set under another name.
-ghost use Rattle.std.specs.Prelude.{◌≡◌, ℕ, [], ◌∷◌, length, false, OnOk};
+ghost use Rattle.std.specs.Prelude.{◌≡◌, ℕ, ◌∷◌, length, false, OnOk};
 ghost use Rattle.std.specs.Str.{bytes_eq};
 ghost use Rattle.cq_position.specs.Games.{IsTree};
 ghost use Rattle.cql_syntax.specs.Meaning as meaning;
@@ -15,7 +15,7 @@ use super::evaluate;
 use super::trial::Trial;
 use crate::covers::with_squares;
 use crate::free::{is_free, is_other};
-use crate::pairs::{asks_pair, cut_paired};
+use crate::pairs::{Paired, asks_pair, cut_paired};
 use cq_geometry::Square;
 use cq_outside::{NoMemory, Steps};
 use cql_syntax::{Filter, Form};
@@ -71,8 +71,8 @@ fn cover_inner<L: Ledger>(
     requires flat { IsFlat (filter_tree part.now) }
     requires other { bytes_eq inner.now trial.now.name.now ≡ false }
     ensures cut { OnOk result ((x : meaning.Names → ℕ → spec.Value) → LeavesHolding trial.now
-        (λ e n. spec.square_of false (x e n) (λ s. spec.holds (meaning.value (tree_in trial.now.scope.now) []
-        ((inner.now, s) ∷ e) (filter_tree part.now) n))) sets.old sets.new) }
+        (λ e n. spec.square_of false (x e n)
+        (λ s. spec.holds (value_with trial.now.scope.now (filter_tree part.now) ((inner.now, s) ∷ e) n))) sets.old sets.new) }
     ensures len { length sets.new ≡ length sets.old }
     ensures cost { steps.new ≡ steps.old }
 {
@@ -103,7 +103,7 @@ fn cover_pair<L: Ledger>(
     requires other { bytes_eq inner.now trial.now.name.now ≡ false }
     ensures cut { OnOk result (LeavesHolding trial.now
         (λ e n. spec.square_of false (value_with trial.now.scope.now (filter_tree squares.now) e n)
-        (λ s. spec.holds (meaning.value (tree_in trial.now.scope.now) [] ((inner.now, s) ∷ e) (filter_tree part.now) n))) sets.old sets.new) }
+        (λ s. spec.holds (value_with trial.now.scope.now (filter_tree part.now) ((inner.now, s) ∷ e) n))) sets.old sets.new) }
     ensures len { length sets.new ≡ length sets.old }
     ensures cost { steps.new ≡ steps.old }
 {
@@ -116,6 +116,13 @@ fn cover_pair<L: Ledger>(
     let some = with_squares(alloc, trial.scope, trial.live, sets)?;
     let some = some.as_slice();
     let column = evaluate(alloc, squares, trial.scope, some, steps)?;
-    cut_paired(sets, some, trial.scope, trial.name, inner, part, &column);
+    let paired = Paired {
+        scope: trial.scope,
+        live: some,
+        name: trial.name,
+        other: inner,
+        column: &column,
+    };
+    cut_paired(sets, &paired, part);
     Ok(())
 }

@@ -1,5 +1,5 @@
 //! Squares that are worth trying: of the squares of sets those with which what is asked may hold.
-ghost use Rattle.std.specs.Prelude.{◌≡◌, ◌⊎◌, ℕ, [], length, true, OnOk};
+ghost use Rattle.std.specs.Prelude.{◌≡◌, ◌⊎◌, ℕ, length, true, OnOk};
 ghost use Rattle.cq_position.specs.Games.{IsTree, node_at};
 ghost use Rattle.cql_syntax.specs.Meaning as meaning;
 ghost use Rattle.cql_syntax.specs.TreeOf.{filter_tree, filters_tree};
@@ -253,7 +253,7 @@ fn cover_elsewhere<L: Ledger>(
     requires flat { IsFlat (filter_tree part.now) }
     ensures cut { OnOk result (LeavesHolding trial.now
         (λ e. meaning.unary_of (tree_in trial.now.scope.now) word
-        (meaning.value (tree_in trial.now.scope.now) [] e (filter_tree part.now))) sets.old sets.new) }
+        (value_with trial.now.scope.now (filter_tree part.now) e)) sets.old sets.new) }
     ensures len { length sets.new ≡ length sets.old }
     ensures cost { steps.new ≡ steps.old }
 {

@@ -180,7 +180,8 @@ fn put_part<L: Ledger>(
         row.new.table (first + body_atoms (body_tree part.now.body))
         (meaning.marked part.now.mark (spec.body_numbered first (body_tree part.now.body)))
         (meaning.marked part.now.mark (body_in way.now.scope.now (body_tree part.now.body)))) }
-    ensures ends { OnOk result (row.old.met ≡ true → row.new.met ≡ false → EndsHere (tree_in way.now.scope.now) way.now.back starts.old.items
+    ensures ends { OnOk result (row.old.met ≡ true → row.new.met ≡ false
+        → EndsHere (tree_in way.now.scope.now) way.now.back starts.old.items
         (meaning.marked part.now.mark (body_in way.now.scope.now (body_tree part.now.body)))) }
     ensures others { OnOk result (IsFilledIn row.old.table row.new.table first (first + body_atoms (body_tree part.now.body))) }
     ensures cost { steps.new ≤ steps.old + body_cost (searched_len (tree_in way.now.scope.now)) (body_tree part.now.body) }
@@ -212,7 +213,8 @@ fn put_marked<L: Ledger>(
         row.new.table (first + body_atoms (body_tree part.now.body))
         (meaning.marked part.now.mark (spec.body_numbered first (body_tree part.now.body)))
         (meaning.marked part.now.mark (body_in way.now.scope.now (body_tree part.now.body)))) }
-    ensures ends { OnOk result (row.old.met ≡ true → row.new.met ≡ false → EndsHere (tree_in way.now.scope.now) way.now.back starts.old.items
+    ensures ends { OnOk result (row.old.met ≡ true → row.new.met ≡ false
+        → EndsHere (tree_in way.now.scope.now) way.now.back starts.old.items
         (meaning.marked part.now.mark (body_in way.now.scope.now (body_tree part.now.body)))) }
     ensures others { OnOk result (IsFilledIn row.old.table row.new.table first (first + body_atoms (body_tree part.now.body))) }
     ensures cost { steps.new ≤ steps.old + body_cost (searched_len (tree_in way.now.scope.now)) (body_tree part.now.body) }
@@ -273,8 +275,8 @@ fn put_once<L: Ledger>(
     ensures leads { OnOk result (LeadsOn (tree_in way.now.scope.now) way.now.back starts.old.items starts.new.items
         row.new.table (first + body_atoms (body_tree body.now)) (spec.body_numbered first (body_tree body.now))
         (body_in way.now.scope.now (body_tree body.now))) }
-    ensures ends { OnOk result (row.old.met ≡ true → row.new.met ≡ false → EndsHere (tree_in way.now.scope.now) way.now.back starts.old.items
-        (body_in way.now.scope.now (body_tree body.now))) }
+    ensures ends { OnOk result (row.old.met ≡ true → row.new.met ≡ false
+        → EndsHere (tree_in way.now.scope.now) way.now.back starts.old.items (body_in way.now.scope.now (body_tree body.now))) }
     ensures others { OnOk result (IsFilledIn row.old.table row.new.table first (first + body_atoms (body_tree body.now))) }
     ensures cost { steps.new ≤ steps.old + body_cost (searched_len (tree_in way.now.scope.now)) (body_tree body.now) }
     ensures rises { steps.old ≤ steps.new }
@@ -310,8 +312,8 @@ fn put_atom_once<L: Ledger>(
     requires room { HasRoom (length way.now.scope.now.game.now.nodes) first (first + 1) row.old.table }
     ensures leads { IfOk result (λ behind. LeadsOn (tree_in way.now.scope.now) way.now.back live.now behind.items
         row.new.table (first + 1) (one first) (one (value_in way.now.scope.now (filter_tree filter.now)))) }
-    ensures ends { OnOk result (row.old.met ≡ true → row.new.met ≡ false → EndsHere (tree_in way.now.scope.now) way.now.back live.now
-        (one (value_in way.now.scope.now (filter_tree filter.now)))) }
+    ensures ends { OnOk result (row.old.met ≡ true → row.new.met ≡ false
+        → EndsHere (tree_in way.now.scope.now) way.now.back live.now (one (value_in way.now.scope.now (filter_tree filter.now)))) }
     ensures others { OnOk result (IsFilledIn row.old.table row.new.table first (first + 1)) }
     ensures cost { steps.new ≤ steps.old + filter_cost (searched_len (tree_in way.now.scope.now)) (filter_tree filter.now) }
     ensures rises { steps.old ≤ steps.new }

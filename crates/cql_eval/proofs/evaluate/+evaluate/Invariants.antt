@@ -58,12 +58,12 @@ invariant-chains::terms_of-loop-term g l = record {
 
 abbrev pub invariant-squares::square_truths-loop-number : goal.invariant-squares::square_truths-loop-number
 invariant-squares::square_truths-loop-number g l = record {
-  left : LeftOf (tree_in l.scope) l.live
-      (unsettled_by l.every (shown l.squares)
-      (λ n s. holds (value (tree_in l.scope) [] ((l.name, s) ∷ l.scope.names.now) (filter_tree l.asked) n)) l.number) l.left.items;
-  wanted : AreWanted (shown l.squares) l.left.items l.wanted;
-  cost : l.steps + (64 - l.number) * filter_cost (searched_len (tree_in l.scope)) (filter_tree l.asked)
-      ≤ l.fn.steps + 64 * filter_cost (searched_len (tree_in l.scope)) (filter_tree l.asked);
+  left : LeftOf (tree_in l.binding.scope.now) l.live
+      (unsettled_by l.binding.every (shown l.binding.squares.now)
+      (λ n s. holds (value (tree_in l.binding.scope.now) [] ((l.binding.name.now, s) ∷ l.binding.scope.now.names.now) (filter_tree l.asked) n)) l.number) l.left.items;
+  wanted : AreWanted (shown l.binding.squares.now) l.left.items l.wanted;
+  cost : l.steps + (64 - l.number) * filter_cost (searched_len (tree_in l.binding.scope.now)) (filter_tree l.asked)
+      ≤ l.fn.steps + 64 * filter_cost (searched_len (tree_in l.binding.scope.now)) (filter_tree l.asked);
   rises : l.fn.steps ≤ l.steps;
 }
 

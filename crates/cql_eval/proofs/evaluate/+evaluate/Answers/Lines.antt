@@ -1,5 +1,5 @@
 -- What is answered of lines, in the recursion over filters.
-use Rattle.std.proofs.Common.{◌+◌, map, ◌≡◌, [], ◌∙◌, ap, sym, subst, arith, refl, length, true, false}
+use Rattle.std.proofs.Common.{◌+◌, map, ◌≡◌, ◌∙◌, ap, sym, subst, arith, refl, length, true, false}
 use Rattle.std.specs.Prelude.{option_map, pos, OnOk, ◌<◌}
 use Rattle.std.specs.List.{list_any}
 use Rattle.cql_syntax.specs.Meaning.{marked}
