@@ -168,8 +168,7 @@ fn unary_column<L: Ledger>(
             let wide = below(alloc, scope, live)?;
             let column = evaluate(alloc, part, scope, &wide, steps)?;
             let set = narrowed(alloc, &wide, &column, true)?;
-            let found = raised(scope.game, set);
-            Ok(FilterColumn::Truths(found))
+            Ok(FilterColumn::Truths(raised(scope.game, set)))
         }
         Unary::FindUp => {
             let wide = above(alloc, scope, live)?;
@@ -183,8 +182,7 @@ fn unary_column<L: Ledger>(
             let column = evaluate(alloc, part, scope, &wide, steps)?;
             let set = narrowed(alloc, &wide, &column, true)?;
             let start = none(alloc, scope.game)?;
-            let found = with_parents(scope.game, &set, start);
-            Ok(FilterColumn::Truths(found))
+            Ok(FilterColumn::Truths(with_parents(scope.game, &set, start)))
         }
         Unary::Parent => {
             let wide = parents(alloc, scope, live)?;

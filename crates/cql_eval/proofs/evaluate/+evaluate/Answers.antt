@@ -107,10 +107,10 @@ squares::square_turn-returns-then-not-has_square-clause-value = squares.squares:
 pub unary_column-returns-in_ok-set-in-Find-clause-value : goal.unary_column-returns-in_ok-set-in-Find-clause-value
 unary_column-returns-in_ok-set-in-Find-clause-value g t c = rw c.in-Find.is (λ n l.
     find_is (tree_in c.args.scope.now) c.args.live.now c.in_ok-wide-in-Find.wide.items c.deref.result.now
-    c.deref-in-Find.result.now c.in_ok-set-in-Find.set.items c.raised-found.result.items c.in_ok-column-in-Find.column
+    c.deref-in-Find.result.now c.in_ok-set-in-Find.set.items c.raised.result.items c.in_ok-column-in-Find.column
     (value_in c.args.scope.now
     (filter_tree c.args.part.now)) c.in_ok-wide-in-Find.ensures c.deref.ensures.value c.deref-in-Find.ensures.value
-    c.in_ok-column-in-Find.ensures.value c.in_ok-set-in-Find.ensures c.raised-found.ensures n l)
+    c.in_ok-column-in-Find.ensures.value c.in_ok-set-in-Find.ensures c.raised.ensures n l)
 
 pub unary_column-returns-in_ok-values-in_default-clause-value : goal.unary_column-returns-in_ok-values-in_default-clause-value
 unary_column-returns-in_ok-values-in_default-clause-value g t c = λ n l.
@@ -325,11 +325,11 @@ pub unary_column-returns-in_ok-start-in-Child-clause-value : goal.unary_column-r
 unary_column-returns-in_ok-start-in-Child-clause-value g t c = rw c.in-Child.is (λ n l.
     child_holds_is (tree_in c.args.scope.now) c.args.live.now c.in_ok-wide-in-Child.wide.items c.deref-in-Child.result.now
     c.deref-in-Child-2.result.now c.deref-in-Child-3.result.now
-    c.in_ok-set-in-Child.set.items c.in_ok-start-in-Child.start.items c.with_parents-found.result.items
+    c.in_ok-set-in-Child.set.items c.in_ok-start-in-Child.start.items c.with_parents.result.items
     (length c.args.scope.now.game.now.nodes) c.in_ok-column-in-Child.column
     (value_in c.args.scope.now (filter_tree c.args.part.now))
     c.in_ok-wide-in-Child.ensures c.deref-in-Child.ensures.value c.deref-in-Child-2.ensures.value c.deref-in-Child-3.ensures.value
-    c.in_ok-column-in-Child.ensures.value c.in_ok-set-in-Child.ensures c.in_ok-start-in-Child.ensures c.with_parents-found.ensures n l)
+    c.in_ok-column-in-Child.ensures.value c.in_ok-set-in-Child.ensures c.in_ok-start-in-Child.ensures c.with_parents.ensures n l)
 
 pub unary_column-returns-in_ok-found-in-Parent-clause-value : goal.unary_column-returns-in_ok-found-in-Parent-clause-value
 unary_column-returns-in_ok-found-in-Parent-clause-value g t c = rw c.in-Parent.is (λ n l.
