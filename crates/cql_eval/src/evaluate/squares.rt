@@ -30,12 +30,12 @@ use std::sync::ledger::Ledger;
 
 /// Where a name is bound to the squares of a column, one by one.
 #[derive(Clone, Copy)]
-pub(super) struct Binding<'a> {
-    pub(super) scope: &'a Scope<'a>,
+pub(crate) struct Binding<'a> {
+    pub(crate) scope: &'a Scope<'a>,
     /// Whether what is asked must hold of every square, or of some.
-    pub(super) every: bool,
-    pub(super) name: &'a [u8],
-    pub(super) squares: &'a FilterColumn,
+    pub(crate) every: bool,
+    pub(crate) name: &'a [u8],
+    pub(crate) squares: &'a FilterColumn,
 }
 
 /// Whether what is asked of a square holds of every square of a set, or of some: of some, where only those squares are tried with which it
