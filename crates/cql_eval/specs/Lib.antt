@@ -9,6 +9,7 @@ pub mod Elsewhere
 pub mod FlatTrees
 pub mod Hits
 pub mod LineAtoms
+pub mod Moved
 pub mod Promoting
 pub mod SpelledParts
 pub mod Trees

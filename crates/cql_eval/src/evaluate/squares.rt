@@ -1,5 +1,5 @@
 //! What is asked of the squares of a set, one by one.
-ghost use Rattle.std.specs.Prelude.{◌≡◌, ℕ, ◌≤◌, ◌+◌, ◌*◌, ◌∷◌, [], length, true, get_or, IfOk};
+ghost use Rattle.std.specs.Prelude.{◌≡◌, ℕ, ◌≤◌, ◌+◌, ◌*◌, ◌∷◌, [], length, true, false, get_or, IfOk};
 ghost use Rattle.cq_position.specs.Games.{IsTree};
 ghost use Rattle.cql_syntax.specs.Meaning as meaning;
 ghost use Rattle.cql_syntax.specs.TreeOf.{filter_tree};
@@ -13,6 +13,7 @@ ghost use Rattle.cql_eval.specs.FlatTrees.{IsFlat};
 
 use super::covers::cover;
 use super::evaluate;
+use super::goals::goal_truths;
 use crate::attacks::{attack_truths, attacked_part};
 use crate::covers::sets_of;
 use crate::filter_column::FilterColumn;
@@ -56,6 +57,13 @@ pub(super) fn asked_truths<L: Ledger>(
         return square_truths(
             alloc, every, name, squares, asked, game, variations, names, live, steps,
         );
+    }
+    let opened = only_name(alloc, name)?;
+    let at_once = goal_truths(
+        alloc, &opened, every, name, squares, asked, game, variations, names, live, steps,
+    )?;
+    if let Some(truths) = at_once {
+        return Ok(truths);
     }
     let sets = covered_sets(
         alloc, name, squares, asked, game, variations, names, live, steps,
