@@ -58,7 +58,7 @@ FOREIGN = [
         "nothing; `move` asks for moves that were played. So a mate that was missed can't be found",
     ),
     Foreign("`gamenumber`", "gamenumber", "nothing"),
-    Foreign("`date`, `eco`, `tag`", "date eco tag", "`year`; for other tags `pgn-extract` before the program (docs/RECIPES.md)"),
+    Foreign("`date`, `eco`, `tag`", "date eco tag", "`year`, `round`; for other tags `pgn-extract` before the program (docs/RECIPES.md)"),
     Foreign("`echo`", "echo", "nothing"),
     Foreign("variables, `while`, `loop`, `function`, `persistent`, `dictionary`", "while loop function persistent dictionary", "nothing"),
     Foreign(
