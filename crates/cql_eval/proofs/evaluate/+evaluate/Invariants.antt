@@ -92,14 +92,16 @@ invariant-covers::cover_each-loop-part g l = record {
 
 abbrev pub invariant-cover_some::add_each-loop-part : goal.invariant-cover_some::add_each-loop-part
 invariant-cover_some::add_each-loop-part g l = record {
-  added : AddedFor (tree_in l.trial.scope.now) l.trial.live.now l.trial.opened.now l.trial.scope.now.names.now l.trial.name.now l.part-items l.part-index l.sets l.fn.kept l.kept;
+  added : AddedFor (tree_in l.trial.scope.now) l.trial.live.now l.trial.opened.now l.trial.scope.now.names.now l.trial.name.now l.part-items
+      l.part-index l.sets l.fn.kept l.kept;
   cost : l.steps ≡ l.fn.steps;
   flat : (i : ℕ) (f : Filter) → i < length l.part-items → f ≡ get_or l.part-items i f → IsFlat (filter_tree f);
 }
 
 abbrev pub invariant-lines::put_row-loop-part : goal.invariant-lines::put_row-loop-part
 invariant-lines::put_row-loop-part g l = record {
-  table : TableSoFar (tree_in l.way.scope.now) l.way.back l.way.scope.now.names.now l.first l.part-items l.part-index l.at l.live l.starts.items l.fn.row.met l.row.met l.fn.row.table l.row.table;
+  table : TableSoFar (tree_in l.way.scope.now) l.way.back l.way.scope.now.names.now l.first l.part-items l.part-index l.at l.live l.starts.items
+      l.fn.row.met l.row.met l.fn.row.table l.row.table;
   asked : AreAsked (tree_in l.way.scope.now) l.starts.items;
   cost : l.steps + parts_cost (searched_len (tree_in l.way.scope.now)) (part_trees (drop l.part-index l.part-items))
       ≤ l.fn.steps + parts_cost (searched_len (tree_in l.way.scope.now)) (part_trees l.part-items);

@@ -9,4 +9,5 @@ use Rattle.cql_eval.proofs.pairs.+cut_paired.Given as goal
 
 abbrev pub invariant-cut_each-loop-part : goal.invariant-cut_each-loop-part
 invariant-cut_each-loop-part l =
-    AreCut l.paired.live.now (MayPair l.paired.name.now l.paired.other.now (shown l.paired.column.now) (λ e n. all_hold (values (tree_in l.paired.scope.now) [] e (filters_tree l.parts) n))) l.fn.sets l.sets
+    AreCut l.paired.live.now (MayPair l.paired.name.now l.paired.other.now (shown l.paired.column.now) (λ e n. all_hold (values
+    (tree_in l.paired.scope.now) [] e (filters_tree l.parts) n))) l.fn.sets l.sets

@@ -46,13 +46,14 @@ pub chains::left_by-loop-class-preserved : goal.chains::left_by-loop-class-prese
 chains::left_by-loop-class-preserved g t c = record {
   left = class_left (tree_in c.args.scope.now) c.args.scope.now.names.now c.args.want c.loop-class.class
       (filters_tree c.args.filters.now) c.args.live.now c.loop-class.left.items c.deref_mut.result.now c.ask_class.new.left
-      c.loop-class.left.len (omega (arith, c.ask_class.ensures.len, c.deref_mut.ensures.len)) c.deref_mut.ensures.value c.loop-class.invariant.left c.in_ok-ask_class.ensures.left;
+      c.loop-class.left.len (omega (arith, c.ask_class.ensures.len, c.deref_mut.ensures.len)) c.deref_mut.ensures.value c.loop-class.invariant.left
+      c.in_ok-ask_class.ensures.left;
   cost = omega (
     arith,
     c.loop-class.invariant.cost,
     c.ask_class.ensures.cost,
-    cost_next (searched_len (tree_in c.args.scope.now)) c.loop-class.class (filters_tree
-        c.args.filters.now),
+    cost_next (searched_len (tree_in c.args.scope.now)) c.loop-class.class
+        (filters_tree c.args.filters.now),
   );
   rises = omega (arith, c.loop-class.invariant.rises, c.ask_class.ensures.rises);
 }
@@ -134,17 +135,18 @@ chains::ask_if-returns-clause-left g t c =
 
 pub chains::ask_if-returns-clause-cost : goal.chains::ask_if-returns-clause-cost
 chains::ask_if-returns-clause-cost g t c =
-    cost_taken (is_of c.args.class) (searched_len (tree_in c.args.scope.now)) (filter_tree c.args.filter.now) _ _ (sym c.is_of_class.ensures ∙
-    c.if-not-is_of_class.false) c.evaluate.ensures.cost
+    cost_taken (is_of c.args.class) (searched_len (tree_in c.args.scope.now)) (filter_tree c.args.filter.now) _ _ (sym c.is_of_class.ensures
+    ∙ c.if-not-is_of_class.false) c.evaluate.ensures.cost
 
 pub chains::ask_if-returns-in_err-column-clause-cost : goal.chains::ask_if-returns-in_err-column-clause-cost
 chains::ask_if-returns-in_err-column-clause-cost g t c =
-    cost_taken (is_of c.args.class) (searched_len (tree_in c.args.scope.now)) (filter_tree c.args.filter.now) _ _ (sym c.is_of_class.ensures ∙
-    c.if-not-is_of_class.false) c.evaluate.ensures.cost
+    cost_taken (is_of c.args.class) (searched_len (tree_in c.args.scope.now)) (filter_tree c.args.filter.now) _ _ (sym c.is_of_class.ensures
+    ∙ c.if-not-is_of_class.false) c.evaluate.ensures.cost
 
 pub chains::columns_of-loop-filter-init : goal.chains::columns_of-loop-filter-init
 chains::columns_of-loop-filter-init g t c = record {
-  left = columns_begun (tree_in c.args.scope.now) c.args.scope.now.names.now c.args.live.now c.as_slice-filter-items.result.now c.new-columns.result.items c.new-columns.ensures.items;
+  left = columns_begun (tree_in c.args.scope.now) c.args.scope.now.names.now c.args.live.now c.as_slice-filter-items.result.now
+      c.new-columns.result.items c.new-columns.ensures.items;
   cost = omega arith;
   rises = omega arith;
   flat = λ i f h e. filter_flat c.as_slice-filter-items.result.now i f (filters_tree c.args.filters.now) h e c.as_slice-filter-items.ensures.tree c.requires.flat;
@@ -163,7 +165,8 @@ chains::columns_of-loop-filter-preserved g t c = record {
 
 pub chains::columns_of-returns-clause-value : goal.chains::columns_of-returns-clause-value
 chains::columns_of-returns-clause-value g t c =
-    columns_all (tree_in c.args.scope.now) c.args.scope.now.names.now c.args.live.now c.as_slice-filter-items.result.now c.loop-filter.filter-index (filters_tree c.args.filters.now)
+    columns_all (tree_in c.args.scope.now) c.args.scope.now.names.now c.args.live.now c.as_slice-filter-items.result.now c.loop-filter.filter-index
+    (filters_tree c.args.filters.now)
     c.loop-filter.columns.items (omega (arith, c.loop-filter-test.false)) c.as_slice-filter-items.ensures.tree c.loop-filter.invariant.left
 
 pub chains::columns_of-returns-in_err-column-clause-cost : goal.chains::columns_of-returns-in_err-column-clause-cost
@@ -174,7 +177,8 @@ chains::columns_of-returns-in_err-column-clause-cost g t c =
 
 pub chains::terms_of-loop-term-init : goal.chains::terms_of-loop-term-init
 chains::terms_of-loop-term-init g t c = record {
-  left = terms_begun (tree_in c.args.scope.now) c.args.scope.now.names.now c.args.live.now c.as_slice-term-items.result.now c.new-columns.result.items c.new-columns.ensures.items;
+  left = terms_begun (tree_in c.args.scope.now) c.args.scope.now.names.now c.args.live.now c.as_slice-term-items.result.now
+      c.new-columns.result.items c.new-columns.ensures.items;
   cost = omega arith;
   rises = omega arith;
   flat = λ i f h e. term_flat c.as_slice-term-items.result.now i f (terms_tree c.args.terms.now) h e c.as_slice-term-items.ensures.tree c.requires.flat;

@@ -30,7 +30,8 @@ lines::filled_row-returns-clause-never g t c =
 
 pub lines::put_row-loop-part-init : goal.lines::put_row-loop-part-init
 lines::put_row-loop-part-init g t c =
-    let begun = table_begun (tree_in c.args.way.now.scope.now) c.args.way.now.back c.args.way.now.scope.now.names.now c.args.first c.as_slice-part-items.result.now c.args.live.now c.in_ok-starts.starts.items _ _
+    let begun = table_begun (tree_in c.args.way.now.scope.now) c.args.way.now.back c.args.way.now.scope.now.names.now c.args.first
+    c.as_slice-part-items.result.now c.args.live.now c.in_ok-starts.starts.items _ _
     c.requires.asked c.in_ok-starts.ensures in
     record {
       table = begun;
@@ -38,14 +39,18 @@ lines::put_row-loop-part-init g t c =
       cost = omega arith;
       rises = omega arith;
       flat = λ i k h e. part_flat c.as_slice-part-items.result.now i k (parts_tree c.args.parts.now) h e c.as_slice-part-items.ensures.tree c.requires.flat;
-      room = λ k h e. part_room (tree_in c.args.way.now.scope.now) c.args.way.now.back c.args.way.now.scope.now.names.now c.args.first c.as_slice-part-items.result.now 0 k c.args.first
-          (length c.args.way.now.scope.now.game.now.nodes) c.args.live.now c.in_ok-starts.starts.items _ _ _ _ (parts_tree c.args.parts.now) begun h e c.as_slice-part-items.ensures.tree c.requires.room;
+      room = λ k h e. part_room (tree_in c.args.way.now.scope.now) c.args.way.now.back c.args.way.now.scope.now.names.now c.args.first
+          c.as_slice-part-items.result.now 0 k c.args.first
+          (length c.args.way.now.scope.now.game.now.nodes) c.args.live.now c.in_ok-starts.starts.items _ _ _ _ (parts_tree c.args.parts.now) begun h
+          e c.as_slice-part-items.ensures.tree c.requires.room;
     }
 
 pub lines::put_row-loop-part-preserved : goal.lines::put_row-loop-part-preserved
 lines::put_row-loop-part-preserved g t c =
-    let more = table_more (tree_in c.args.way.now.scope.now) c.args.way.now.back c.args.way.now.scope.now.names.now c.args.first c.as_slice-part-items.result.now c.loop-part.part-index c.part-item.result
-    c.loop-part.at c.in_ok-at.at c.args.live.now c.loop-part.starts.items c.put_part.new.starts.items _ c.loop-part.row.met c.put_part.new.row.met _ c.loop-part.row.table c.put_part.new.row.table
+    let more = table_more (tree_in c.args.way.now.scope.now) c.args.way.now.back c.args.way.now.scope.now.names.now c.args.first
+    c.as_slice-part-items.result.now c.loop-part.part-index c.part-item.result
+    c.loop-part.at c.in_ok-at.at c.args.live.now c.loop-part.starts.items c.put_part.new.starts.items _ c.loop-part.row.met c.put_part.new.row.met _
+    c.loop-part.row.table c.put_part.new.row.table
     c.loop-part-test.true c.part-item.is c.in_ok-at.ensures.next c.in_ok-at.ensures.leads c.in_ok-at.ensures.ends c.in_ok-at.ensures.others c.loop-part.invariant.table in
     record {
       table = more;
@@ -54,8 +59,10 @@ lines::put_row-loop-part-preserved g t c =
           c.put_part.new.steps c.loop-part-test.true c.part-item.is c.loop-part.invariant.cost c.put_part.ensures.cost;
       rises = omega (arith, c.loop-part.invariant.rises, c.put_part.ensures.rises);
       flat = c.loop-part.invariant.flat;
-      room = λ k h e. part_room (tree_in c.args.way.now.scope.now) c.args.way.now.back c.args.way.now.scope.now.names.now c.args.first c.as_slice-part-items.result.now (c.loop-part.part-index + 1) k
-          c.in_ok-at.at (length c.args.way.now.scope.now.game.now.nodes) c.args.live.now c.put_part.new.starts.items _ c.put_part.new.row.met _ c.put_part.new.row.table (parts_tree c.args.parts.now)
+      room = λ k h e. part_room (tree_in c.args.way.now.scope.now) c.args.way.now.back c.args.way.now.scope.now.names.now c.args.first
+          c.as_slice-part-items.result.now (c.loop-part.part-index + 1) k
+          c.in_ok-at.at (length c.args.way.now.scope.now.game.now.nodes) c.args.live.now c.put_part.new.starts.items _ c.put_part.new.row.met _
+          c.put_part.new.row.table (parts_tree c.args.parts.now)
           more h e c.as_slice-part-items.ensures.tree c.requires.room;
     }
 
@@ -125,7 +132,8 @@ pub lines::put_marked-returns-clause-leads : goal.lines::put_marked-returns-clau
 lines::put_marked-returns-clause-leads g t c =
     wide_leads_at (tree_in c.args.way.now.scope.now) c.requires.tree c.args.way.now.back c.args.starts.now.items c.deref.result.now c.in_ok-wide.wide.items
     c.deref-2.result.now c.deref.ensures.value c.deref-2.ensures.value
-    c.requires.asked c.in_ok-wide.ensures c.put_wherever.new.row.table (c.args.first + body_atoms (body_tree c.args.part.now.body)) (body_numbered c.args.first (body_tree c.args.part.now.body))
+    c.requires.asked c.in_ok-wide.ensures c.put_wherever.new.row.table (c.args.first + body_atoms (body_tree c.args.part.now.body))
+    (body_numbered c.args.first (body_tree c.args.part.now.body))
     (body_in c.args.way.now.scope.now (body_tree c.args.part.now.body)) c.args.part.now.mark c.in_ok-next.ensures.value
 
 pub lines::put_marked-returns-clause-ends : goal.lines::put_marked-returns-clause-ends
@@ -133,14 +141,16 @@ lines::put_marked-returns-clause-ends g t c =
     λ b m. let parts = not_met _ _ _ b (sym c.goes_on.ensures ∙ m) in
     wide_ends_at (tree_in c.args.way.now.scope.now) c.requires.tree c.args.way.now.back c.args.starts.now.items c.deref.result.now c.in_ok-wide.wide.items
     c.deref-2.result.now c.deref.ensures.value c.deref-2.ensures.value
-    c.requires.asked c.in_ok-wide.ensures c.put_wherever.new.row.table (c.args.first + body_atoms (body_tree c.args.part.now.body)) (body_numbered c.args.first (body_tree c.args.part.now.body))
+    c.requires.asked c.in_ok-wide.ensures c.put_wherever.new.row.table (c.args.first + body_atoms (body_tree c.args.part.now.body))
+    (body_numbered c.args.first (body_tree c.args.part.now.body))
     (body_in c.args.way.now.scope.now (body_tree c.args.part.now.body)) c.args.part.now.mark
     (sym c.is_needed-needed.ensures ∙ parts.1) (c.in_ok-next.ensures.never refl parts.0)
 
 pub lines::put_once-returns-in_ok-behind-in-Atom-clause-leads : goal.lines::put_once-returns-in_ok-behind-in-Atom-clause-leads
 lines::put_once-returns-in_ok-behind-in-Atom-clause-leads g t c =
     leads_at (tree_in c.args.way.now.scope.now) c.args.way.now.back c.args.starts.now.items c.deref-in-Atom.result.now c.in_ok-behind-in-Atom.behind.items
-    c.deref-in-Atom.ensures.value c.put_atom_once.new.row.table (c.args.first + body_atoms (body_tree c.args.body.now)) (body_numbered c.args.first (body_tree c.args.body.now))
+    c.deref-in-Atom.ensures.value c.put_atom_once.new.row.table (c.args.first + body_atoms (body_tree c.args.body.now)) (body_numbered c.args.first
+    (body_tree c.args.body.now))
     (body_in c.args.way.now.scope.now (body_tree c.args.body.now))
     (leads_form (tree_in c.args.way.now.scope.now) c.args.way.now.back c.args.way.now.scope.now.names.now c.deref-in-Atom.result.now c.in_ok-behind-in-Atom.behind.items
     c.put_atom_once.new.row.table c.args.first (body_tree c.args.body.now) (filter_tree c.deref.result.now)
@@ -150,7 +160,8 @@ pub lines::put_once-returns-in_ok-behind-in-Atom-clause-ends : goal.lines::put_o
 lines::put_once-returns-in_ok-behind-in-Atom-clause-ends g t c =
     λ b m. ends_at (tree_in c.args.way.now.scope.now) c.args.way.now.back c.args.starts.now.items c.deref-in-Atom.result.now c.deref-in-Atom.ensures.value
     (body_in c.args.way.now.scope.now (body_tree c.args.body.now))
-    (ends_form (tree_in c.args.way.now.scope.now) c.args.way.now.back c.args.way.now.scope.now.names.now c.deref-in-Atom.result.now (body_tree c.args.body.now) (filter_tree c.deref.result.now)
+    (ends_form (tree_in c.args.way.now.scope.now) c.args.way.now.back c.args.way.now.scope.now.names.now c.deref-in-Atom.result.now
+    (body_tree c.args.body.now) (filter_tree c.deref.result.now)
     (ap body_tree c.in-Atom.is ∙ ap (λ p. atom (filter_tree p)) (sym c.deref.ensures)) (c.in_ok-behind-in-Atom.ensures.ends b m))
 
 pub lines::put_once-returns-in_ok-starts-in-Group-clause-leads : goal.lines::put_once-returns-in_ok-starts-in-Group-clause-leads
@@ -176,7 +187,8 @@ lines::put_once-returns-in_ok-starts-in-Group-clause-ends g t c =
 
 pub lines::put_part-returns-in-Once-clause-ends : goal.lines::put_part-returns-in-Once-clause-ends
 lines::put_part-returns-in-Once-clause-ends g t c =
-    subst (λ m. OnOk c.put_once.result (c.args.row.now.met ≡ true → c.put_once.new.row.met ≡ false → EndsHere (tree_in c.args.way.now.scope.now) c.args.way.now.back c.args.starts.now.items
+    subst (λ m. OnOk c.put_once.result (c.args.row.now.met ≡ true → c.put_once.new.row.met ≡ false → EndsHere (tree_in c.args.way.now.scope.now)
+    c.args.way.now.back c.args.starts.now.items
     (marked m (body_in c.args.way.now.scope.now (body_tree c.args.part.now.body))))) (sym c.in-Once.is) c.put_once.ensures.ends
 
 pub lines::put_atom_once-returns-clause-leads : goal.lines::put_atom_once-returns-clause-leads
@@ -184,9 +196,11 @@ lines::put_atom_once-returns-clause-leads g t c =
     atom_leads (tree_in c.args.way.now.scope.now) c.args.way.now.back c.put_nodes.new.table c.args.first c.in_ok-column.column
     (value_in c.args.way.now.scope.now (filter_tree c.args.filter.now))
     c.args.live.now c.requires.asked c.in_ok-column.ensures.value
-    (held_put _ c.args.live.now c.in_ok-column.column c.in_ok-held.held.items c.deref.result.now _ _ c.put_nodes.new.table c.in_ok-held.ensures c.deref.ensures.value c.put_nodes.ensures.put)
+    (held_put _ c.args.live.now c.in_ok-column.column c.in_ok-held.held.items c.deref.result.now _ _ c.put_nodes.new.table c.in_ok-held.ensures
+    c.deref.ensures.value c.put_nodes.ensures.put)
     c.in_ok-held.held.items c.in_ok-held.ensures c.in_ok-behind.behind.items
-    (onward_at (tree_in c.args.way.now.scope.now) c.args.way.now.back c.in_ok-held.held.items c.deref-3.result.now c.in_ok-behind.behind.items c.deref-3.ensures.value c.in_ok-behind.ensures)
+    (onward_at (tree_in c.args.way.now.scope.now) c.args.way.now.back c.in_ok-held.held.items c.deref-3.result.now c.in_ok-behind.behind.items
+    c.deref-3.ensures.value c.in_ok-behind.ensures)
 
 pub lines::line_numbers-returns-then-not-met-clause-value : goal.lines::line_numbers-returns-then-not-met-clause-value
 lines::line_numbers-returns-then-not-met-clause-value g t c =

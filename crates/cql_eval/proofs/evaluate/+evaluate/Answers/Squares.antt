@@ -33,20 +33,24 @@ pub squares::square_truths-loop-number-preserved : goal.squares::square_truths-l
 squares::square_truths-loop-number-preserved g t c =
     record {
       left = square_more (tree_in c.args.binding.now.scope.now) c.args.live.now c.args.binding.now.every (shown c.args.binding.now.squares.now)
-          (λ n s. holds (value (tree_in c.args.binding.now.scope.now) [] ((c.args.binding.now.name.now, s) ∷ c.args.binding.now.scope.now.names.now) (filter_tree c.args.asked.now) n))
-          c.loop-number.number c.new-square.result c.loop-number.left.items c.in_ok-left-2.left.items c.new-square.ensures c.loop-number.invariant.left c.in_ok-left-2.ensures.value;
+          (λ n s. holds (value (tree_in c.args.binding.now.scope.now) [] ((c.args.binding.now.name.now, s) ∷ c.args.binding.now.scope.now.names.now)
+          (filter_tree c.args.asked.now) n))
+          c.loop-number.number c.new-square.result c.loop-number.left.items c.in_ok-left-2.left.items c.new-square.ensures
+          c.loop-number.invariant.left c.in_ok-left-2.ensures.value;
       wanted = wanted_kept c.args.binding.now.every
           (shown c.args.binding.now.squares.now) _ c.new-square.result c.loop-number.left.items c.in_ok-left-2.left.items c.wanted_squares-wanted.result
           c.loop-number.invariant.wanted c.in_ok-left-2.ensures.value;
       cost = square_cost (filter_cost (searched_len (tree_in c.args.binding.now.scope.now))
-          (filter_tree c.args.asked.now)) c.loop-number.number _ c.loop-number.steps c.square_turn.new.steps c.loop-number-test.true c.loop-number.invariant.cost c.square_turn.ensures.cost;
+          (filter_tree c.args.asked.now)) c.loop-number.number _ c.loop-number.steps c.square_turn.new.steps c.loop-number-test.true
+          c.loop-number.invariant.cost c.square_turn.ensures.cost;
       rises = omega (arith, c.loop-number.invariant.rises, c.square_turn.ensures.rises);
     }
 
 pub squares::square_truths-returns-clause-value : goal.squares::square_truths-returns-clause-value
 squares::square_truths-returns-clause-value g t c = λ n l.
     square_end (tree_in c.args.binding.now.scope.now) c.args.live.now c.args.binding.now.every (shown c.args.binding.now.squares.now)
-    (λ m s. holds (value (tree_in c.args.binding.now.scope.now) [] ((c.args.binding.now.name.now, s) ∷ c.args.binding.now.scope.now.names.now) (filter_tree c.args.asked.now) m))
+    (λ m s. holds (value (tree_in c.args.binding.now.scope.now) [] ((c.args.binding.now.name.now, s) ∷ c.args.binding.now.scope.now.names.now)
+    (filter_tree c.args.asked.now) m))
     c.loop-number.number c.loop-number.left.items c.in_ok-truths.truths.items
     (omega (arith, c.loop-number-test.false, c.loop-number.auto.number-end)) c.requires.asked c.loop-number.invariant.left c.in_ok-truths.ensures n l
 
@@ -71,19 +75,23 @@ squares::square_turn-returns-clause-value g t c =
 pub squares::square_turn-returns-then-not-any_live-clause-value : goal.squares::square_turn-returns-then-not-any_live-clause-value
 squares::square_turn-returns-then-not-any_live-clause-value g t c =
     turn_stop c.args.binding.now.every
-    (shown c.args.binding.now.squares.now) _ c.args.square c.args.left.items c.in_ok-there.there.items c.deref.result.now c.deref-2.result.now c.deref.ensures.value c.deref-2.ensures.value c.in_ok-there.ensures
+    (shown c.args.binding.now.squares.now) _ c.args.square c.args.left.items c.in_ok-there.there.items c.deref.result.now c.deref-2.result.now
+    c.deref.ensures.value c.deref-2.ensures.value c.in_ok-there.ensures
     (sym c.any_live.ensures ∙ c.if-not-any_live.true)
 
 pub squares::square_turn-returns-then-not-has_square-clause-value : goal.squares::square_turn-returns-then-not-has_square-clause-value
 squares::square_turn-returns-then-not-has_square-clause-value g t c =
-    turn_skip c.args.binding.now.every (shown c.args.binding.now.squares.now) _ c.args.square c.args.left.items c.args.wanted c.requires.wanted (sym c.has_square.ensures ∙ c.if-not-has_square.true)
+    turn_skip c.args.binding.now.every (shown c.args.binding.now.squares.now) _ c.args.square c.args.left.items c.args.wanted c.requires.wanted
+    (sym c.has_square.ensures ∙ c.if-not-has_square.true)
 
 pub squares::covered_sets-returns-clause-worth : goal.squares::covered_sets-returns-clause-worth
 squares::covered_sets-returns-clause-worth g t c =
     subst (AreWorthTrying (shown c.args.binding.now.squares.now) c.args.live.now
-    (λ n s. holds (value (tree_in c.args.binding.now.scope.now) [] ((c.args.binding.now.name.now, s) ∷ c.args.binding.now.scope.now.names.now) (filter_tree c.args.asked.now) n)))
+    (λ n s. holds (value (tree_in c.args.binding.now.scope.now) [] ((c.args.binding.now.name.now, s) ∷ c.args.binding.now.scope.now.names.now)
+    (filter_tree c.args.asked.now) n)))
     (sym (written_sets c.in_ok-sets.sets.len c.cover.new.sets c.in_ok-sets.sets.items (omega (arith, c.cover.ensures.len, c.deref_mut.ensures.len))))
-    (worth_trying (tree_in c.args.binding.now.scope.now) c.args.live.now c.in_ok-opened.opened c.args.binding.now.scope.now.names.now c.args.binding.now.name.now (filter_tree c.args.asked.now) (shown c.args.binding.now.squares.now)
+    (worth_trying (tree_in c.args.binding.now.scope.now) c.args.live.now c.in_ok-opened.opened c.args.binding.now.scope.now.names.now
+    c.args.binding.now.name.now (filter_tree c.args.asked.now) (shown c.args.binding.now.squares.now)
     c.in_ok-sets.sets.items c.cover.new.sets c.in_ok-opened.ensures c.in_ok-sets.ensures
     (subst (λ old. AreCut c.args.live.now (MayHold c.in_ok-opened.opened c.args.binding.now.scope.now.names.now c.args.binding.now.name.now
     (λ e. value (tree_in c.args.binding.now.scope.now) [] e (filter_tree c.args.asked.now))) old c.cover.new.sets) c.deref_mut.ensures.value c.in_ok-cover.ensures.cut))
@@ -92,5 +100,6 @@ pub squares::asked_truths-returns-clause-value : goal.squares::asked_truths-retu
 squares::asked_truths-returns-clause-value g t c = λ n l.
     c.in_ok-truths.ensures.value n l
     ∙ tried_same c.args.binding.now.every (shown c.args.binding.now.squares.now n) (shown (Sets c.in_ok-sets.sets) n)
-    (λ s. holds (value (tree_in c.args.binding.now.scope.now) [] ((c.args.binding.now.name.now, s) ∷ c.args.binding.now.scope.now.names.now) (filter_tree c.args.asked.now) n)) c.if-every.false
+    (λ s. holds (value (tree_in c.args.binding.now.scope.now) [] ((c.args.binding.now.name.now, s) ∷ c.args.binding.now.scope.now.names.now)
+    (filter_tree c.args.asked.now) n)) c.if-every.false
     (λ s. c.in_ok-sets.ensures.worth.within n s l) (λ s. c.in_ok-sets.ensures.worth.keeps n s l)
