@@ -29,8 +29,8 @@ pub record AreCommon (members common : FilterTrees) : Type 0 where
 pub record AreDivided (parts common rest : FilterTrees) : Type 0 where
   pub told : (tree : SearchedTree) (names : Names) (n : ℕ)
       → each_holds tree names n parts ≡ (each_holds tree names n common && each_holds tree names n rest)
-  pub common : (s : Standing) → may_stand s parts ≡ true → may_stand s common ≡ true
-  pub rest : (s : Standing) → may_stand s parts ≡ true → may_stand s rest ≡ true
+  pub common_sound : (s : Standing) → may_stand s parts ≡ true → may_stand s common ≡ true
+  pub rest_sound : (s : Standing) → may_stand s parts ≡ true → may_stand s rest ≡ true
   pub cost : (searched : ℕ) → filters_cost searched common + filters_cost searched rest ≤ filters_cost searched parts
 
 -- where the common ones hold, the rest of some parts tells what these tell
@@ -51,6 +51,6 @@ pub record IsRest (common : FilterTrees) (f g : FilterTree) : Type 0 where
 pub record AreRests (common members rests : FilterTrees) : Type 0 where
   pub told : (tree : SearchedTree) (names : Names) (n : ℕ) → (each_holds tree names n common && one_holds tree names n members)
       ≡ (each_holds tree names n common && one_holds tree names n rests)
-  pub members : (s : Standing) → are_members Position s members ≡ true → are_members Position s rests ≡ true
-  pub common : (s : Standing) → are_members Position s members ≡ true → may_stand s common ≡ true
+  pub rests_sound : (s : Standing) → are_members Position s members ≡ true → are_members Position s rests ≡ true
+  pub common_sound : (s : Standing) → are_members Position s members ≡ true → may_stand s common ≡ true
   pub cost : (searched : ℕ) → filters_cost searched common + filters_cost searched rests ≤ filters_cost searched members
