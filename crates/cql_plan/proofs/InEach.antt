@@ -28,10 +28,6 @@ and_true : (a : Bool) → (a && true) ≡ a
 and_true true = refl
 and_true false = refl
 
-or_none : (a : Bool) → (a || false) ≡ a
-or_none true = refl
-or_none false = refl
-
 last_and : (a : Bool) → (a && true) ≡ (true && a)
 last_and true = refl
 last_and false = refl
@@ -180,8 +176,8 @@ pub divided_none : AreDivided no_filters no_filters no_filters
 unfolding value occurrences filter_cost
 divided_none = record {
   told = λ tree names n. refl;
-  common = λ s h. refl;
-  rest = λ s h. refl;
+  common_sound = λ s h. refl;
+  rest_sound = λ s h. refl;
   cost = λ searched. omega arith;
 }
 
@@ -192,8 +188,8 @@ divided_common parts common rest f had = record {
       each_more tree names n parts f ∙ ap (λ b. b && h) (had.told tree names n)
       ∙ and_swapped (each_holds tree names n common) (each_holds tree names n rest) h
       ∙ ap (λ b. b && each_holds tree names n rest) (sym (each_more tree names n common f));
-  common = λ s h. may_more s common f (had.common s (may_before s parts f h)) (may_last s parts f h);
-  rest = λ s h. had.rest s (may_before s parts f h);
+  common_sound = λ s h. may_more s common f (had.common_sound s (may_before s parts f h)) (may_last s parts f h);
+  rest_sound = λ s h. had.rest_sound s (may_before s parts f h);
   cost = λ searched. omega (arith, had.cost searched, cost_more searched parts f, cost_more searched common f);
 }
 
@@ -204,8 +200,8 @@ divided_rest parts common rest f had = record {
       each_more tree names n parts f ∙ ap (λ b. b && h) (had.told tree names n)
       ∙ and_assoc (each_holds tree names n common) (each_holds tree names n rest) h
       ∙ ap (λ b. each_holds tree names n common && b) (sym (each_more tree names n rest f));
-  common = λ s h. had.common s (may_before s parts f h);
-  rest = λ s h. may_more s rest f (had.rest s (may_before s parts f h)) (may_last s parts f h);
+  common_sound = λ s h. had.common_sound s (may_before s parts f h);
+  rest_sound = λ s h. may_more s rest f (had.rest_sound s (may_before s parts f h)) (may_last s parts f h);
   cost = λ searched. omega (arith, had.cost searched, cost_more searched parts f, cost_more searched rest f);
 }
 
@@ -295,12 +291,12 @@ pub rests_first : (i j : ℕ) (common parts rest : FilterTrees) → AreDivided p
 unfolding value occurrences filter_cost
 rests_first i j common parts rest had = record {
   told = λ tree names n. first_same (each_holds tree names n common) (each_holds tree names n parts) (each_holds tree names n rest) (had.told tree names n);
-  members = λ s h.
+  rests_sound = λ s h.
       both (is_member Position s (filter_at j (chain All rest))) true
-      (member_rest s i j parts rest (had.rest s) (left (is_member Position s (filter_at i (chain All parts))) true h)) refl;
-  common = λ s h.
+      (member_rest s i j parts rest (had.rest_sound s) (left (is_member Position s (filter_at i (chain All parts))) true h)) refl;
+  common_sound = λ s h.
       let own = is_sound (record { standing = part_of s Position; at = i; form = chain All parts }) in
-      had.common s (right own (may_stand s parts) (right true (own && may_stand s parts) (left (is_member Position s (filter_at i (chain All parts))) true h)));
+      had.common_sound s (right own (may_stand s parts) (right true (own && may_stand s parts) (left (is_member Position s (filter_at i (chain All parts))) true h)));
   cost = λ searched. omega (arith, had.cost searched);
 }
 
@@ -317,9 +313,9 @@ rests_more common members rests f g all one = record {
       ∙ either_same c (one_holds tree names n members) (one_holds tree names n rests) (holds (value tree [] names f n)) (holds (value tree [] names g n))
       (all.told tree names n) (one.told tree names n)
       ∙ ap (λ b. c && b) (sym (one_more tree names n rests g));
-  members = λ s h.
-      members_more Position s rests g (all.members s (members_before Position s members f h)) (one.member s (member_last Position s members f h));
-  common = λ s h. all.common s (members_before Position s members f h);
+  rests_sound = λ s h.
+      members_more Position s rests g (all.rests_sound s (members_before Position s members f h)) (one.member s (member_last Position s members f h));
+  common_sound = λ s h. all.common_sound s (members_before Position s members f h);
   cost = λ searched. omega (arith, all.cost searched, one.cost searched, cost_more searched members f, cost_more searched rests g);
 }
 
@@ -350,14 +346,14 @@ lifted_stands i members common rests all had = record {
       let own = left head (list_all is_sound (all_of at members)) h in
       let known = members_from Position s members (own_kind (record { standing = s; at = i; form = any Position members }) own)
           (right head (list_all is_sound (all_of at members)) h) in
-      let rest = had.members s known in
+      let rest = had.rests_sound s known in
       let inside = both (is_sound (record { standing = at; at = i; form = any Position rests })) (list_all is_sound (all_of at rests))
           (own_sound (record { standing = at; at = i; form = any Position rests }) refl (kinds_of Position s rests rest) refl) (sound_of Position s rests rest) in
       both (is_sound (record { standing = s; at = i; form = chain All whole })) (may_stand s whole)
       (own_sound (record { standing = s; at = i; form = chain All whole }) refl refl
       (rules_same s i (any Position members) (chain All whole) refl refl (past_braces s.item members whole) refl refl refl
       ∙ own_rules (record { standing = s; at = i; form = any Position members }) own))
-      (may_more s common asked (had.common s known) inside);
+      (may_more s common asked (had.common_sound s known) inside);
   cost = λ searched.
       let more : filters_cost searched (with_filter common (filter_at i (any Position rests))) ≡ filters_cost searched common + filters_cost searched rests =
           cost_more searched common (filter_at i (any Position rests)) in
