@@ -1,5 +1,5 @@
 -- The two orders of a ray's squares, and the squares up to one in each.
-use Rattle.std.proofs.Common.{◌≡◌, ℕ, zero, suc, ◌+◌, ◌-◌, ◌*◌, ◌/◌, ◌%◌, ◌^◌, ◌<◌, ◌≤◌, Bool, true, false, not, List, map, ltb-true, ltb-false, lt-ltb, refl, sym, ap, ◌∙◌, arith}
+use Rattle.std.proofs.Common.{◌≡◌, ℕ, suc, ◌+◌, ◌-◌, ◌*◌, ◌/◌, ◌%◌, ◌^◌, ◌<◌, ◌≤◌, Bool, true, not, List, map, ltb-true, ltb-false, lt-ltb, refl, sym, ap, ◌∙◌, arith}
 use Rattle.std.specs.Prelude.{bit_or, bit_and, nat_lt}
 use Rattle.std.specs.Int.{bit_at, bit_not, trailing_zeros, leading_zeros, w64}
 use Rattle.std.proofs.Math.Nat.{div-eq_of_lt-le, pow-suc}

@@ -1,4 +1,4 @@
-use Rattle.cq_sets.proofs.Orders.{highest_low, highest_there, highest_above}
+use Rattle.cq_sets.proofs.Orders.{highest_there, highest_above}
 use Rattle.cq_sets.proofs.sets.highest_square.Goals as goal
 
 pub returns-clause-value : goal.returns-clause-value
