@@ -1,6 +1,7 @@
 pub mod Asked
 pub mod AtomsAround
 pub mod Attacked
+pub mod Bindings
 pub mod Classes
 pub mod Columns
 pub mod Costs
@@ -9,6 +10,9 @@ pub mod Elsewhere
 pub mod FlatTrees
 pub mod Hits
 pub mod LineAtoms
+pub mod Pairs
 pub mod Promoting
+pub mod Scopes
 pub mod SpelledParts
 pub mod Trees
+pub mod Trials

@@ -155,7 +155,8 @@ pub(crate) fn is_own_part(name: &[u8], part: &Option<Box<Filter>>) -> bool
 
 /// Whether some square is asked for, under a name that differs from another.
 pub(crate) fn is_other(every: bool, inner: &[u8], name: &[u8]) -> bool
-    ensures { result ≡ true → (every ≡ false) × (bytes_eq inner.now name.now ≡ false) }
+    ensures some { result ≡ true → every ≡ false }
+    ensures other { result ≡ true → bytes_eq inner.now name.now ≡ false }
 {
     !every && inner != name
 }

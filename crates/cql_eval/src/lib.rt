@@ -21,6 +21,7 @@ mod order;
 mod pairs;
 mod patterns;
 mod query;
+mod scope;
 mod spans;
 mod squares;
 mod tree;
