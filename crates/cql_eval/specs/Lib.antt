@@ -10,6 +10,7 @@ pub mod Elsewhere
 pub mod FlatTrees
 pub mod Hits
 pub mod LineAtoms
+pub mod Moved
 pub mod Pairs
 pub mod Promoting
 pub mod Scopes

@@ -80,7 +80,8 @@ fn attacked_by<'a>(
     }
 }
 
-fn is_its_name(name: &[u8], filter: &Filter) -> bool
+/// Whether a filter is a name.
+pub(crate) fn is_its_name(name: &[u8], filter: &Filter) -> bool
     ensures { result ≡ true → IsItsName name.now (filter_tree filter.now) }
 {
     match &filter.form {

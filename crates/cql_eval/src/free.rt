@@ -59,9 +59,10 @@ fn is_free_move(opened: &Names, played: &Played) -> bool
         && is_free_part(opened, &played.promoted)
 }
 
+/// Whether no name of these stands in a part, if it is written.
 #[cycle(is_free)]
 #[tactic(auto, unfolding(cql_syntax::specs::Meaning::value, crate::specs::Costs::filter_cost))]
-fn is_free_part(opened: &Names, part: &Option<Box<Filter>>) -> bool
+pub(crate) fn is_free_part(opened: &Names, part: &Option<Box<Filter>>) -> bool
     ensures { result ≡ true → IsFreePart opened.now (written_tree part.now) }
 {
     match part {

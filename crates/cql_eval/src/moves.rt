@@ -114,8 +114,8 @@ fn is_met(
     meets_all(led_to(scope.game, n), origin, goal, taken, promoted)
 }
 
-// The value of a part that is written.
-fn written_at(column: &Option<FilterColumn>, n: usize) -> Option<Value>
+/// The value of a part that is written.
+pub(crate) fn written_at(column: &Option<FilterColumn>, n: usize) -> Option<Value>
     ensures { option_map meant result ≡ option_map (λ c. shown c n) column.now }
 {
     match column {
