@@ -7,6 +7,7 @@ pub mod Columns
 pub mod Costs
 pub mod Covers
 pub mod Elsewhere
+pub mod Ever
 pub mod FlatTrees
 pub mod Hits
 pub mod LineAtoms

@@ -10,6 +10,7 @@ mod combine;
 mod covers;
 mod elsewhere;
 mod evaluate;
+mod ever;
 pub mod filter_column;
 mod free;
 pub mod laws;

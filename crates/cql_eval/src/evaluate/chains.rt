@@ -1,5 +1,5 @@
 //! The columns of the parts of a filter.
-ghost use Rattle.std.specs.Prelude.{◌≡◌, ℕ, ◌≤◌, ◌+◌, [], length, true, get_or, not, IfOk, OnOk};
+ghost use Rattle.std.specs.Prelude.{◌≡◌, ℕ, ◌≤◌, ◌+◌, [], length, true, false, get_or, not, IfOk, OnOk};
 ghost use Rattle.std.specs.List.{list_any};
 ghost use Rattle.cq_position.specs.Games.{IsTree};
 ghost use Rattle.cql_syntax.specs.Meaning as meaning;
@@ -8,10 +8,12 @@ ghost use Rattle.cql_syntax.specs.Values as spec;
 ghost use Rattle.cql_eval.specs.Classes.{is_of, is_before, is_so_if, are_so, cost_if, cost_of, IsLeft};
 ghost use Rattle.cql_eval.specs.Columns.{AreAsked, AreTruths, Where, all_shown, terms_shown};
 ghost use Rattle.cql_eval.specs.Costs.{filters_cost, terms_cost, searched_len};
+ghost use Rattle.cql_eval.specs.Ever.{AreEver};
 ghost use Rattle.cql_eval.specs.FlatTrees.{IsFlat, AreFlat, AreFlatTerms};
 ghost use Rattle.cql_eval.specs.Scopes.{tree_in, values_in};
 
 use super::evaluate;
+use crate::ever::{Ever, evers_of, holds_nowhere, is_large};
 use crate::filter_column::FilterColumn;
 use crate::narrow::narrow;
 use crate::nodes::same;
@@ -60,8 +62,89 @@ pub(super) fn none_holds<L: Ledger>(
     ensures cost { steps.new ≤ steps.old + filters_cost (searched_len (tree_in scope.now)) (filters_tree filters.now) }
     ensures rises { steps.old ≤ steps.new }
 {
+    if is_large(filters) {
+        let left = left_by_each(alloc, filters, scope, live, steps)?;
+        return Ok(left);
+    }
     let left = left_by(alloc, CLASSES, false, filters, scope, live, steps)?;
     Ok(left)
+}
+
+/// Of the nodes of a set those at which none of some filters holds. Those that hold nowhere, as their designators tell, are not asked.
+#[cycle(evaluate)]
+fn left_by_each<L: Ledger>(
+    alloc: Global,
+    filters: &Filters,
+    scope: &Scope,
+    live: &[bool],
+    steps: &mut Steps<L>,
+) -> Result<Vec<bool>, NoMemory>
+    requires tree { IsTree scope.now.game.now.nodes }
+    requires asked { AreAsked (tree_in scope.now) live.now }
+    requires flat { AreFlat (filters_tree filters.now) }
+    ensures left { IfOk result (λ left. IsLeft (tree_in scope.now) live.now
+        (are_so (is_before 6) (tree_in scope.now) scope.now.names.now false (filters_tree filters.now)) left.items) }
+    ensures cost { steps.new ≤ steps.old + cost_of (is_before 6) (searched_len (tree_in scope.now)) (filters_tree filters.now) }
+    ensures rises { steps.old ≤ steps.new }
+{
+    let evers = evers_of(alloc, filters, scope, live)?;
+    let mut left = same(alloc, live)?;
+    ask_each(alloc, &evers, filters, scope, &mut left, steps)?;
+    Ok(left)
+}
+
+// Takes the nodes out of a set at which one of some filters holds.
+#[cycle(evaluate)]
+fn ask_each<L: Ledger>(
+    alloc: Global,
+    evers: &[Ever],
+    filters: &Filters,
+    scope: &Scope,
+    left: &mut [bool],
+    steps: &mut Steps<L>,
+) -> Result<(), NoMemory>
+    requires tree { IsTree scope.now.game.now.nodes }
+    requires asked { AreAsked (tree_in scope.now) left.old }
+    requires evers { AreEver (tree_in scope.now) left.old evers.now }
+    requires flat { AreFlat (filters_tree filters.now) }
+    ensures len { length left.new ≡ length left.old }
+    ensures left { OnOk result (IsLeft (tree_in scope.now) left.old
+        (are_so (is_before 6) (tree_in scope.now) scope.now.names.now false (filters_tree filters.now)) left.new) }
+    ensures cost { steps.new ≤ steps.old + cost_of (is_before 6) (searched_len (tree_in scope.now)) (filters_tree filters.now) }
+    ensures rises { steps.old ≤ steps.new }
+{
+    for filter in filters.as_slice() {
+        ask_unless(alloc, evers, filter, scope, left, steps)?;
+    }
+    Ok(())
+}
+
+// The same for one filter, unless it holds nowhere.
+#[cycle(evaluate)]
+fn ask_unless<L: Ledger>(
+    alloc: Global,
+    evers: &[Ever],
+    filter: &Filter,
+    scope: &Scope,
+    left: &mut [bool],
+    steps: &mut Steps<L>,
+) -> Result<(), NoMemory>
+    requires tree { IsTree scope.now.game.now.nodes }
+    requires asked { AreAsked (tree_in scope.now) left.old }
+    requires evers { AreEver (tree_in scope.now) left.old evers.now }
+    requires flat { IsFlat (filter_tree filter.now) }
+    ensures len { length left.new ≡ length left.old }
+    ensures left { OnOk result (IsLeft (tree_in scope.now) left.old
+        (is_so_if (is_before 6) (tree_in scope.now) scope.now.names.now false (filter_tree filter.now)) left.new) }
+    ensures cost { steps.new ≤ steps.old + cost_if (is_before 6) (searched_len (tree_in scope.now)) (filter_tree filter.now) }
+    ensures rises { steps.old ≤ steps.new }
+{
+    if holds_nowhere(evers, filter) {
+        return Ok(());
+    }
+    let column = evaluate(alloc, filter, scope, left, steps)?;
+    narrow(left, &column, false);
+    Ok(())
 }
 
 /// Of the nodes of a set those at which each filter of a class before `past` holds, or each doesn't: class by class, each filter where

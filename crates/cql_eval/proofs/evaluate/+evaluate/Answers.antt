@@ -85,6 +85,36 @@ chains::ask_if-returns-clause-cost = chains.chains::ask_if-returns-clause-cost
 pub chains::ask_if-returns-in_err-column-clause-cost : goal.chains::ask_if-returns-in_err-column-clause-cost
 chains::ask_if-returns-in_err-column-clause-cost = chains.chains::ask_if-returns-in_err-column-clause-cost
 
+pub chains::none_holds-returns-then-is_large-clause-value : goal.chains::none_holds-returns-then-is_large-clause-value
+chains::none_holds-returns-then-is_large-clause-value = chains.chains::none_holds-returns-then-is_large-clause-value
+
+pub chains::none_holds-returns-then-is_large-clause-cost : goal.chains::none_holds-returns-then-is_large-clause-cost
+chains::none_holds-returns-then-is_large-clause-cost = chains.chains::none_holds-returns-then-is_large-clause-cost
+
+pub chains::ask_each-loop-filter-init : goal.chains::ask_each-loop-filter-init
+chains::ask_each-loop-filter-init = chains.chains::ask_each-loop-filter-init
+
+pub chains::ask_each-loop-filter-preserved : goal.chains::ask_each-loop-filter-preserved
+chains::ask_each-loop-filter-preserved = chains.chains::ask_each-loop-filter-preserved
+
+pub chains::ask_each-returns-clause-left : goal.chains::ask_each-returns-clause-left
+chains::ask_each-returns-clause-left = chains.chains::ask_each-returns-clause-left
+
+pub chains::ask_each-returns-in_err-ask_unless-clause-cost : goal.chains::ask_each-returns-in_err-ask_unless-clause-cost
+chains::ask_each-returns-in_err-ask_unless-clause-cost = chains.chains::ask_each-returns-in_err-ask_unless-clause-cost
+
+pub chains::ask_unless-returns-then-holds_nowhere-clause-left : goal.chains::ask_unless-returns-then-holds_nowhere-clause-left
+chains::ask_unless-returns-then-holds_nowhere-clause-left = chains.chains::ask_unless-returns-then-holds_nowhere-clause-left
+
+pub chains::ask_unless-returns-clause-left : goal.chains::ask_unless-returns-clause-left
+chains::ask_unless-returns-clause-left = chains.chains::ask_unless-returns-clause-left
+
+pub chains::ask_unless-returns-clause-cost : goal.chains::ask_unless-returns-clause-cost
+chains::ask_unless-returns-clause-cost = chains.chains::ask_unless-returns-clause-cost
+
+pub chains::ask_unless-returns-in_err-column-clause-cost : goal.chains::ask_unless-returns-in_err-column-clause-cost
+chains::ask_unless-returns-in_err-column-clause-cost = chains.chains::ask_unless-returns-in_err-column-clause-cost
+
 pub squares::square_truths-loop-number-init : goal.squares::square_truths-loop-number-init
 squares::square_truths-loop-number-init = squares.squares::square_truths-loop-number-init
 
