@@ -118,7 +118,7 @@ pub(crate) fn evaluate<L: Ledger>(
         Form::Square(every, name, squares, asked) => {
             let squares = evaluate(alloc, squares, scope, live, steps)?;
             let binding = Binding {
-                scope,
+                scope: &*scope,
                 every: *every,
                 name: name.as_slice(),
                 squares: &squares,

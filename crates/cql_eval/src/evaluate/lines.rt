@@ -65,7 +65,7 @@ pub(super) fn line_numbers<L: Ledger>(
     prove!(has_flat_parts(line));
     let parts = &line.parts;
     let way = Way {
-        scope,
+        scope: &*scope,
         back: line.back,
     };
     let row = filled_row(alloc, parts, &way, steps)?;
