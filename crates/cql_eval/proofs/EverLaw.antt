@@ -1,8 +1,8 @@
 -- Filters that hold at none of a game's nodes that are asked for.
-use Rattle.std.proofs.Common.{◌≡◌, ℕ, ◌+◌, ◌<◌, ◌&&◌, ◌||◌, not, nat_lt, nat_eq, Bool, true, false, List, [], ◌∷◌, Some, zero, suc, get_or, length, refl, sym, ap, ap₂, ◌∙◌, subst, arith}
+use Rattle.std.proofs.Common.{◌≡◌, ◌⊎◌, ⊎_elim, ℕ, ◌+◌, ◌-◌, ◌^◌, ◌<◌, ◌&&◌, ◌||◌, not, nat_lt, Bool, true, false, List, [], ◌∷◌, Some, zero, suc, get_or, length, refl, sym, ap, ap₂, ◌∙◌, subst, arith}
 use Rattle.std.specs.Prelude.{bit_and}
 use Rattle.std.specs.List.{list_all}
-use Rattle.std.proofs.lemmas.Bool.{lt-ltb, eqb-true}
+use Rattle.std.proofs.lemmas.Bool.{lt-ltb}
 use Rattle.cq_position.specs.Men.{man_number}
 use Rattle.cq_position.specs.Board.{man_at}
 use Rattle.cq_position.specs.Search.{SearchedTree}
@@ -10,15 +10,20 @@ use Rattle.cq_position.specs.declared.men.Man.{Man}
 use Rattle.cq_symmetry.specs.Images.{is_in}
 use Rattle.cql_syntax.specs.Meaning.{Names, value, values, position_at, standing_of}
 use Rattle.cql_syntax.specs.TreeOf.{filter_tree, filter_trees}
-use Rattle.cql_syntax.specs.Trees.{FilterTree}
-use Rattle.cql_syntax.specs.Values.{holds, has}
+use Rattle.cql_syntax.specs.Contexts.{designator_image}
+use Rattle.cql_syntax.specs.Trees.{FilterTree, FilterTrees, filter_at, designator, chain}
+use Rattle.cql_syntax.specs.Values.{holds, has, all_hold, chain_of}
+use Rattle.cql_syntax.specs.declared.leaves.Chain.{Chain}
+use Rattle.cql_syntax.specs.declared.leaves.Chain.TheVariants.{And, All}
 use Rattle.cql_syntax.specs.declared.leaves.Designator.{Designator}
 use Rattle.cql_syntax.specs.declared.tree.Filter.{Filter}
 use Rattle.cql_values.proofs.Masks.{in_both, nothing_in, is_in_bit, all_squares}
 use Rattle.cql_values.proofs.Ranges.{left, right, both, square_found}
 use Rattle.cql_eval.specs.Asked.{AreWanted}
 use Rattle.cql_eval.specs.Classes.{is_before, is_so_if, IsLeft}
-use Rattle.cql_eval.specs.Columns.{is_live, AreAsked}
+use Rattle.cql_values.specs.Shown.{meant}
+use Rattle.cql_values.specs.declared.value.Value.TheVariants.{Set}
+use Rattle.cql_eval.specs.Columns.{is_live, AreAsked, AreSets, Where}
 use Rattle.cql_eval.specs.Ever.{anywhere, IsEver, AreEver, StandsNowhere, HoldsNowhere}
 use Rattle.cql_eval.specs.declared.ever.Ever.{Ever}
 use Rattle.cql_eval.proofs.Filling.{both_left}
@@ -46,17 +51,34 @@ nowhere men d squares ever none = never (holds (standing_of men (Some d))) (λ h
         cc
 
 -- of a designator of just these men, none of whose squares is among those
-pub without : (tree : SearchedTree) (live : List Bool) (e : Ever) (d : Designator) → (nat_eq e.men d.men && nat_eq (bit_and e.squares d.part.squares) 0) ≡ true
+pub without : (tree : SearchedTree) (live : List Bool) (e : Ever) (d : Designator) → e.men ≡ d.men → bit_and e.squares d.part.squares ≡ 0
     → IsEver tree live e → StandsNowhere tree live d
-without tree live e d yes is = λ n l.
+without tree live e d same none is = λ n l.
     nowhere (position_at tree n).men d e.squares
     (λ s h. is.each n s l (subst (λ men. has (standing_of (position_at tree n).men (Some (anywhere men))) s ≡ true) (sym same) h)) none
-  where
-    same : e.men ≡ d.men
-    same = eqb-true e.men d.men (left (nat_eq e.men d.men) (nat_eq (bit_and e.squares d.part.squares) 0) yes)
 
-    none : bit_and e.squares d.part.squares ≡ 0
-    none = eqb-true (bit_and e.squares d.part.squares) 0 (right (nat_eq e.men d.men) (nat_eq (bit_and e.squares d.part.squares) 0) yes)
+-- of a filter that is such a designator
+pub designator_nowhere : (tree : SearchedTree) (live : List Bool) (e : Names) (f : FilterTree) (i : ℕ) (d : Designator) → f ≡ filter_at i (designator d)
+    → StandsNowhere tree live d → HoldsNowhere tree live e f
+unfolding value designator_image
+designator_nowhere tree live e f i d is fails = λ n l. ap (λ g. holds (value tree [] e g n)) is ∙ fails n l
+
+-- of filters that must all hold
+pub chain_nowhere : (tree : SearchedTree) (live : List Bool) (e : Names) (f : FilterTree) (i : ℕ) (c : Chain) (fs : FilterTrees) → f ≡ filter_at i (chain c fs)
+    → (c ≡ And) ⊎ (c ≡ All) → Where live (λ n. holds (all_hold (values tree [] e fs n)) ≡ false) → HoldsNowhere tree live e f
+unfolding value
+chain_nowhere tree live e f i c fs is which fails = λ n l.
+    ap (λ g. holds (value tree [] e g n)) is
+    ∙ ⊎_elim (λ same. ap (λ k. holds (chain_of k (values tree [] e fs n))) same) (λ same. ap (λ k. holds (chain_of k (values tree [] e fs n))) same) which ∙ fails n l
+
+-- squares among which are those of these men on any square
+pub ever_is : (tree : SearchedTree) (live : List Bool) (d : Designator) (men squares : ℕ) (sets : List ℕ) → d ≡ anywhere men
+    → AreSets sets live (λ n. standing_of (position_at tree n).men (Some d)) → AreWanted (λ n. meant (Set (get_or sets n 0))) live squares
+    → AreWanted (λ n. standing_of (position_at tree n).men (Some (anywhere men))) live squares
+ever_is tree live d men squares sets same are wanted = record {
+  each = λ n s l h. wanted.each n s l
+      (subst (λ v. has v s ≡ true) (sym (are n l)) (subst (λ x. has (standing_of (position_at tree n).men (Some x)) s ≡ true) (sym same) h));
+}
 
 -- at fewer nodes
 pub ever_fewer : (tree : SearchedTree) (live left : List Bool) (test : ℕ → Bool) (evers : List Ever) → IsLeft tree live test left → AreEver tree live evers → AreEver tree left evers
@@ -85,8 +107,8 @@ left_unasked tree e f live asked nowhere = record {
 }
   where
     by : (a h t : Bool) → (a ≡ true → h ≡ false) → a ≡ (a && (not t || not h))
-    by false h t no = refl
-    by true h t no = let f = no refl in rw f in or_true (not t)
+    by false h t fails = refl
+    by true h t fails = or_true (not t) ∙ ap (λ x. not t || not x) (sym (fails refl))
       where
         or_true : (b : Bool) → true ≡ (b || true)
         or_true true = refl

@@ -1,5 +1,5 @@
 //! Members of families that hold nowhere in a game, since men that they ask for never stand on a square that they name.
-ghost use Rattle.std.specs.Prelude.{◌≡◌, Bool, List, true, IfOk, IfSome, OnOk};
+ghost use Rattle.std.specs.Prelude.{◌≡◌, Bool, List, [], false, true, IfOk, OnOk};
 ghost use Rattle.cq_position.specs.Search.{SearchedTree};
 ghost use Rattle.cql_syntax.specs.Meaning.{Names, values};
 ghost use Rattle.cql_syntax.specs.TreeOf.{filter_tree, filters_tree};
@@ -120,7 +120,7 @@ fn add_men(
     if evers.len() >= MOST || is_known(evers, men) {
         return Ok(());
     }
-    let ever = ever(alloc, men, scope, live)?;
+    let ever = ever_of(alloc, men, scope, live)?;
     evers.push(ever)?;
     Ok(())
 }
@@ -130,7 +130,7 @@ fn is_known(evers: &[Ever], men: u16) -> bool {
 }
 
 // Where these men stand.
-fn ever(alloc: Global, men: u16, scope: &Scope, live: &[bool]) -> Result<Ever, NoMemory>
+fn ever_of(alloc: Global, men: u16, scope: &Scope, live: &[bool]) -> Result<Ever, NoMemory>
     requires asked { AreAsked (tree_in scope.now) live.now }
     ensures { IfOk result (IsEver (tree_in scope.now) live.now) }
 {

@@ -1,4 +1,4 @@
-use Rattle.std.proofs.Common.{◌≡◌, false, subst}
+use Rattle.std.proofs.Common.{◌≡◌, [], false, subst}
 use Rattle.std.specs.List.{list_all}
 use Rattle.cql_syntax.specs.Meaning.{values}
 use Rattle.cql_syntax.specs.Values.{holds}
