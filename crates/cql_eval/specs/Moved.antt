@@ -6,7 +6,7 @@ use Rattle.cq_position.specs.Led.{PlainLed}
 use Rattle.cq_symmetry.specs.Images.{is_in}
 use Rattle.cql_syntax.specs.Meaning.{Names, meets_all}
 use Rattle.cql_syntax.specs.TreeOf.{written_tree}
-use Rattle.cql_syntax.specs.Trees.{WrittenTree, written}
+use Rattle.cql_syntax.specs.Trees.{FilterTree, WrittenTree, written}
 use Rattle.cql_syntax.specs.Values.{Value, squares_where}
 use Rattle.cql_syntax.specs.declared.tree.Played.{Played, out-Played}
 use Rattle.cql_eval.specs.Attacked.{IsItsName}
