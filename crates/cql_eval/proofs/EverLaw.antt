@@ -20,7 +20,7 @@ use Rattle.cql_syntax.specs.declared.tree.Filter.{Filter}
 use Rattle.cql_values.proofs.Masks.{in_both, nothing_in, is_in_bit, all_squares}
 use Rattle.cql_values.proofs.Ranges.{left, right, both, square_found}
 use Rattle.cql_eval.specs.Asked.{AreWanted}
-use Rattle.cql_eval.specs.Classes.{is_before, is_so_if, IsLeft}
+use Rattle.cql_eval.specs.Classes.{all_classes, is_before, is_so_if, IsLeft}
 use Rattle.cql_values.specs.Shown.{meant}
 use Rattle.cql_values.specs.declared.value.Value.TheVariants.{Set}
 use Rattle.cql_eval.specs.Columns.{is_live, AreAsked, AreSets, Where}
@@ -100,10 +100,10 @@ one_fails tree e n (x ∷ xs) (suc i) f low is fails =
 
 -- what holds nowhere takes no node away
 pub left_unasked : (tree : SearchedTree) (e : Names) (f : FilterTree) (live : List Bool) → AreAsked tree live → HoldsNowhere tree live e f
-    → IsLeft tree live (is_so_if (is_before 6) tree e false f) live
+    → IsLeft tree live (is_so_if (is_before all_classes) tree e false f) live
 left_unasked tree e f live asked nowhere = record {
   asked = asked;
-  each = λ n. by (is_live live n) (holds (value tree [] e f n)) (is_before 6 f) (nowhere n);
+  each = λ n. by (is_live live n) (holds (value tree [] e f n)) (is_before all_classes f) (nowhere n);
 }
   where
     by : (a h t : Bool) → (a ≡ true → h ≡ false) → a ≡ (a && (not t || not h))

@@ -20,9 +20,10 @@ IsEver tree live e = AreWanted (λ n. standing_of (position_at tree n).men (Some
 abbrev pub AreEver : SearchedTree → List Bool → List Ever → Type 0
 AreEver tree live evers = All (IsEver tree live) evers
 
--- a designator has no man on its squares at the nodes that are asked for, and a filter doesn't hold there
+-- none of a designator's men, its empty square among them, stands on its squares at the nodes that are asked for
 abbrev pub StandsNowhere : SearchedTree → List Bool → Designator → Type 0
 StandsNowhere tree live d = Where live (λ n. holds (standing_of (position_at tree n).men (Some d)) ≡ false)
 
+-- a filter holds at none of them
 abbrev pub HoldsNowhere : SearchedTree → List Bool → Names → FilterTree → Type 0
 HoldsNowhere tree live e f = Where live (λ n. holds (value tree [] e f n) ≡ false)

@@ -27,4 +27,5 @@ pub record AsksGoal (opened : Names) (name : List ℕ) (p : Played) : Type 0 whe
 
 -- with some square of the set as its goal a move is as it is asked for
 abbrev pub goes_to : Option PlainLed → Option Value → ℕ → Option Value → Option Value → Bool
-goes_to l origin set taken promoted = list_any (λ s. is_in set s && meets_all l origin (Some (squares_where (λ t. s == t))) taken promoted) squares
+goes_to l origin set taken promoted =
+    list_any (λ s. is_in set s && meets_all l origin (Some (squares_where (λ t. s == t))) taken promoted) squares

@@ -6,6 +6,6 @@ use Rattle.cql_eval.specs.Columns.{shown}
 use Rattle.cql_eval.specs.Covers.{AreCut, MayPair}
 use Rattle.cql_eval.specs.declared.pairs.Paired.{Paired}
 
--- of the sets of squares those squares of the one name are left with which values may hold
+-- of the sets of squares some are left, among them all squares of the one name with which values may hold
 abbrev pub LeavesPaired : Paired → (Names → ℕ → Value) → List ℕ → List ℕ → Type 0
 LeavesPaired p v old new = AreCut p.live.now (MayPair p.name.now p.other.now (shown p.column.now) v) old new

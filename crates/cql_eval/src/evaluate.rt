@@ -34,7 +34,7 @@ use crate::tree::{
     above, below, children, lowered, none, of_parents, parents, raised, with_parents,
 };
 pub(crate) use chains::left_by;
-use chains::{all_hold, columns_of, none_holds, terms_of};
+use chains::{all_hold, columns_of, no_member_holds, none_holds, terms_of};
 use cq_outside::{NoMemory, Steps};
 use cql_syntax::{Chain, Filter, Filters, Form, Kind, Unary};
 use cql_values::headers::{has_text, is_result, rating};
@@ -261,7 +261,7 @@ fn any_column<L: Ledger>(
 {
     match kind {
         Kind::Position => {
-            let fails = none_holds(alloc, parts, scope, live, steps)?;
+            let fails = no_member_holds(alloc, parts, scope, live, steps)?;
             let truths = negated(alloc, &FilterColumn::Truths(fails), live)?;
             Ok(FilterColumn::Truths(truths))
         }

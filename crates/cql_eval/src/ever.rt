@@ -27,14 +27,14 @@ pub(crate) struct Ever {
 }
 
 // Of so many sets of men at most it is asked where they stand.
-const MOST: usize = 8;
+const MOST_SETS_OF_MEN: usize = 8;
 
 // From so many members on a family is looked at for those that hold nowhere.
-const FEW: usize = 8;
+const MANY_MEMBERS: usize = 8;
 
 /// Whether a family has so many members that it pays to look where their men stand.
 pub(crate) fn is_large(members: &Filters) -> bool {
-    members.len() >= FEW
+    members.len() >= MANY_MEMBERS
 }
 
 /// Where the men stand that designators of some filters ask for, or of their parts.
@@ -66,9 +66,10 @@ fn add_filter(
     ensures { OnOk result (AreEver (tree_in scope.now) live.now evers.new.items) }
 {
     match &filter.form {
-        Form::Squares(d) => add_men(alloc, d.men, scope, live, evers),
-        Form::Chain(_, parts) => add_parts(alloc, parts, scope, live, evers),
-        _ => Ok(()),
+        Form::Chain(chain, parts) if is_all(*chain) => {
+            add_parts(alloc, parts, scope, live, evers)
+        }
+        _ => add_part(alloc, filter, scope, live, evers),
     }
 }
 
@@ -117,7 +118,7 @@ fn add_men(
     requires evers { AreEver (tree_in scope.now) live.now evers.old.items }
     ensures { OnOk result (AreEver (tree_in scope.now) live.now evers.new.items) }
 {
-    if evers.len() >= MOST || is_known(evers, men) {
+    if evers.len() >= MOST_SETS_OF_MEN || is_known(evers, men) {
         return Ok(());
     }
     let ever = ever_of(alloc, men, scope, live)?;

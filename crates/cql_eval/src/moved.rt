@@ -104,7 +104,8 @@ fn meets_goal(
 ) -> bool
     requires tree { IsTree game.now.nodes }
     requires node { n < length game.now.nodes }
-    ensures { result ≡ goes_to (led_to_in game.now.nodes n) (option_map meant origin) set (option_map meant taken) (option_map meant promoted) }
+    ensures { result ≡ goes_to (led_to_in game.now.nodes n) (option_map meant origin) set
+        (option_map meant taken) (option_map meant promoted) }
 {
     meets_all(
         led_to(game, n),

@@ -5,7 +5,7 @@ ghost use Rattle.cq_position.specs.Games.{IsTree};
 ghost use Rattle.cql_syntax.specs.Meaning as meaning;
 ghost use Rattle.cql_syntax.specs.TreeOf.{filter_tree, filters_tree, terms_tree};
 ghost use Rattle.cql_syntax.specs.Values as spec;
-ghost use Rattle.cql_eval.specs.Classes.{is_of, is_before, is_so_if, are_so, cost_if, cost_of, IsLeft};
+ghost use Rattle.cql_eval.specs.Classes.{all_classes, is_of, is_before, is_so_if, are_so, cost_if, cost_of, IsLeft};
 ghost use Rattle.cql_eval.specs.Columns.{AreAsked, AreTruths, Where, all_shown, terms_shown};
 ghost use Rattle.cql_eval.specs.Costs.{filters_cost, terms_cost, searched_len};
 ghost use Rattle.cql_eval.specs.Ever.{AreEver};
@@ -62,15 +62,36 @@ pub(super) fn none_holds<L: Ledger>(
     ensures cost { steps.new ≤ steps.old + filters_cost (searched_len (tree_in scope.now)) (filters_tree filters.now) }
     ensures rises { steps.old ≤ steps.new }
 {
-    if is_large(filters) {
-        let left = left_by_each(alloc, filters, scope, live, steps)?;
-        return Ok(left);
-    }
     let left = left_by(alloc, CLASSES, false, filters, scope, live, steps)?;
     Ok(left)
 }
 
-/// Of the nodes of a set those at which none of some filters holds. Those that hold nowhere, as their designators tell, are not asked.
+/// The same for the members of a family. Where they are many, those that hold nowhere, as their designators tell, are not asked.
+#[cycle(evaluate)]
+pub(super) fn no_member_holds<L: Ledger>(
+    alloc: Global,
+    members: &Filters,
+    scope: &Scope,
+    live: &[bool],
+    steps: &mut Steps<L>,
+) -> Result<Vec<bool>, NoMemory>
+    requires tree { IsTree scope.now.game.now.nodes }
+    requires asked { AreAsked (tree_in scope.now) live.now }
+    requires flat { AreFlat (filters_tree members.now) }
+    ensures value { IfOk result (λ truths. AreTruths truths.items live.now (λ n. spec.as_truth (not
+        (list_any spec.holds (values_in scope.now (filters_tree members.now) n))))) }
+    ensures cost { steps.new ≤ steps.old + filters_cost (searched_len (tree_in scope.now)) (filters_tree members.now) }
+    ensures rises { steps.old ≤ steps.new }
+{
+    if is_large(members) {
+        let left = left_by_each(alloc, members, scope, live, steps)?;
+        return Ok(left);
+    }
+    let truths = none_holds(alloc, members, scope, live, steps)?;
+    Ok(truths)
+}
+
+// Of the nodes of a set those at which none of some filters holds.
 #[cycle(evaluate)]
 fn left_by_each<L: Ledger>(
     alloc: Global,
@@ -83,8 +104,8 @@ fn left_by_each<L: Ledger>(
     requires asked { AreAsked (tree_in scope.now) live.now }
     requires flat { AreFlat (filters_tree filters.now) }
     ensures left { IfOk result (λ left. IsLeft (tree_in scope.now) live.now
-        (are_so (is_before 6) (tree_in scope.now) scope.now.names.now false (filters_tree filters.now)) left.items) }
-    ensures cost { steps.new ≤ steps.old + cost_of (is_before 6) (searched_len (tree_in scope.now)) (filters_tree filters.now) }
+        (are_so (is_before all_classes) (tree_in scope.now) scope.now.names.now false (filters_tree filters.now)) left.items) }
+    ensures cost { steps.new ≤ steps.old + cost_of (is_before all_classes) (searched_len (tree_in scope.now)) (filters_tree filters.now) }
     ensures rises { steps.old ≤ steps.new }
 {
     let evers = evers_of(alloc, filters, scope, live)?;
@@ -109,8 +130,8 @@ fn ask_each<L: Ledger>(
     requires flat { AreFlat (filters_tree filters.now) }
     ensures len { length left.new ≡ length left.old }
     ensures left { OnOk result (IsLeft (tree_in scope.now) left.old
-        (are_so (is_before 6) (tree_in scope.now) scope.now.names.now false (filters_tree filters.now)) left.new) }
-    ensures cost { steps.new ≤ steps.old + cost_of (is_before 6) (searched_len (tree_in scope.now)) (filters_tree filters.now) }
+        (are_so (is_before all_classes) (tree_in scope.now) scope.now.names.now false (filters_tree filters.now)) left.new) }
+    ensures cost { steps.new ≤ steps.old + cost_of (is_before all_classes) (searched_len (tree_in scope.now)) (filters_tree filters.now) }
     ensures rises { steps.old ≤ steps.new }
 {
     for filter in filters.as_slice() {
@@ -135,8 +156,8 @@ fn ask_unless<L: Ledger>(
     requires flat { IsFlat (filter_tree filter.now) }
     ensures len { length left.new ≡ length left.old }
     ensures left { OnOk result (IsLeft (tree_in scope.now) left.old
-        (is_so_if (is_before 6) (tree_in scope.now) scope.now.names.now false (filter_tree filter.now)) left.new) }
-    ensures cost { steps.new ≤ steps.old + cost_if (is_before 6) (searched_len (tree_in scope.now)) (filter_tree filter.now) }
+        (is_so_if (is_before all_classes) (tree_in scope.now) scope.now.names.now false (filter_tree filter.now)) left.new) }
+    ensures cost { steps.new ≤ steps.old + cost_if (is_before all_classes) (searched_len (tree_in scope.now)) (filter_tree filter.now) }
     ensures rises { steps.old ≤ steps.new }
 {
     if holds_nowhere(evers, filter) {

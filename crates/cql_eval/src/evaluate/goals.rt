@@ -23,7 +23,7 @@ use cql_values::names::Names;
 use std::alloc::Global;
 use std::sync::ledger::Ledger;
 
-/// Whether what is asked holds of some square of a column, where it is asked whether the move went there; nothing, where it is another filter.
+/// Whether what is asked holds of some square of a column, where it is asked whether the move went there; of another filter nothing.
 #[cycle(evaluate)]
 #[tactic(auto, unfolding(cql_syntax::specs::Meaning::value, crate::specs::FlatTrees::unflat))]
 pub(super) fn goal_truths<L: Ledger>(
@@ -105,7 +105,8 @@ fn goal_met<L: Ledger>(
     requires some { binding.now.every ≡ false }
     requires opened { opened.now ≡ (binding.now.name.now, 0) ∷ [] }
     ensures value { IfOk result (λ at_once. IfSome at_once (λ truths. AreTruths truths.items live.now
-        (λ n. spec.square_of binding.now.every (shown binding.now.squares.now n) (λ s. meaning.played_value (tree_in binding.now.scope.now) []
+        (λ n. spec.square_of binding.now.every (shown binding.now.squares.now n)
+        (λ s. meaning.played_value (tree_in binding.now.scope.now) []
         ((binding.now.name.now, s) ∷ binding.now.scope.now.names.now) (played_tree played.now) n)))) }
     ensures cost { steps.new ≡ steps.old }
 {

@@ -85,11 +85,11 @@ chains::ask_if-returns-clause-cost = chains.chains::ask_if-returns-clause-cost
 pub chains::ask_if-returns-in_err-column-clause-cost : goal.chains::ask_if-returns-in_err-column-clause-cost
 chains::ask_if-returns-in_err-column-clause-cost = chains.chains::ask_if-returns-in_err-column-clause-cost
 
-pub chains::none_holds-returns-then-is_large-clause-value : goal.chains::none_holds-returns-then-is_large-clause-value
-chains::none_holds-returns-then-is_large-clause-value = chains.chains::none_holds-returns-then-is_large-clause-value
+pub chains::no_member_holds-returns-then-is_large-clause-value : goal.chains::no_member_holds-returns-then-is_large-clause-value
+chains::no_member_holds-returns-then-is_large-clause-value = chains.chains::no_member_holds-returns-then-is_large-clause-value
 
-pub chains::none_holds-returns-then-is_large-clause-cost : goal.chains::none_holds-returns-then-is_large-clause-cost
-chains::none_holds-returns-then-is_large-clause-cost = chains.chains::none_holds-returns-then-is_large-clause-cost
+pub chains::no_member_holds-returns-then-is_large-clause-cost : goal.chains::no_member_holds-returns-then-is_large-clause-cost
+chains::no_member_holds-returns-then-is_large-clause-cost = chains.chains::no_member_holds-returns-then-is_large-clause-cost
 
 pub chains::ask_each-loop-filter-init : goal.chains::ask_each-loop-filter-init
 chains::ask_each-loop-filter-init = chains.chains::ask_each-loop-filter-init
@@ -509,6 +509,9 @@ goals::goal_truths-returns-in_ok-in_chain-in-Chain-clause-value = goals.goals::g
 
 pub goals::goal_truths-returns-in_ok-met-in-Played-clause-value : goal.goals::goal_truths-returns-in_ok-met-in-Played-clause-value
 goals::goal_truths-returns-in_ok-met-in-Played-clause-value = goals.goals::goal_truths-returns-in_ok-met-in-Played-clause-value
+
+pub goals::goal_in-goal_truths-requires-clause-flat : goal.goals::goal_in-goal_truths-requires-clause-flat
+goals::goal_in-goal_truths-requires-clause-flat = goals.goals::goal_in-goal_truths-requires-clause-flat
 
 pub goals::goal_in-returns-clause-value : goal.goals::goal_in-returns-clause-value
 goals::goal_in-returns-clause-value = goals.goals::goal_in-returns-clause-value

@@ -3,7 +3,7 @@ use Rattle.std.proofs.Common.{◌+◌, ◌∙◌, sym, subst, arith, refl, true,
 use Rattle.cql_syntax.specs.TreeOf.{filter_tree, filters_tree, terms_tree}
 use Rattle.cql_eval.specs.Scopes.{tree_in}
 use Rattle.cql_eval.proofs.ClassLaw.{left_taken, left_passed, cost_taken, is_left_begun, is_left_then, is_left_same, so_begun, so_more, so_whole, so_none, so_all, so_no, class_left, class_end, truth_left, class_cost_more, class_cost_within, class_low, cost_next, cost_later, cost_all}
-use Rattle.cql_eval.specs.Classes.{is_of, is_before, are_so, IsLeft}
+use Rattle.cql_eval.specs.Classes.{all_classes, is_of, is_before, are_so, IsLeft}
 use Rattle.cql_eval.specs.Costs.{searched_len}
 use Rattle.cql_eval.proofs.Costing.{cost_more, cost_within, terms_cost_more, terms_cost_within}
 use Rattle.cql_eval.proofs.EverLaw.{ever_fewer, left_unasked}
@@ -35,20 +35,20 @@ pub chains::none_holds-returns-in_err-left-clause-cost : goal.chains::none_holds
 chains::none_holds-returns-in_err-left-clause-cost g t c =
     omega (arith, c.left_by.ensures.cost, cost_all (searched_len (tree_in c.args.scope.now)) (filters_tree c.args.filters.now))
 
-pub chains::none_holds-returns-then-is_large-clause-value : goal.chains::none_holds-returns-then-is_large-clause-value
-chains::none_holds-returns-then-is_large-clause-value g t c = λ n l.
+pub chains::no_member_holds-returns-then-is_large-clause-value : goal.chains::no_member_holds-returns-then-is_large-clause-value
+chains::no_member_holds-returns-then-is_large-clause-value g t c = λ n l.
     truth_left c.args.live.now c.in_ok-left-then-is_large.left.items _ _ (tree_in c.args.scope.now) c.in_ok-left-then-is_large.ensures.left
-    (so_no (tree_in c.args.scope.now) c.args.scope.now.names.now (filters_tree c.args.filters.now)) n l
+    (so_no (tree_in c.args.scope.now) c.args.scope.now.names.now (filters_tree c.args.members.now)) n l
 
-pub chains::none_holds-returns-then-is_large-clause-cost : goal.chains::none_holds-returns-then-is_large-clause-cost
-chains::none_holds-returns-then-is_large-clause-cost g t c =
-    omega (arith, c.left_by_each.ensures.cost, cost_all (searched_len (tree_in c.args.scope.now)) (filters_tree c.args.filters.now))
+pub chains::no_member_holds-returns-then-is_large-clause-cost : goal.chains::no_member_holds-returns-then-is_large-clause-cost
+chains::no_member_holds-returns-then-is_large-clause-cost g t c =
+    omega (arith, c.left_by_each.ensures.cost, cost_all (searched_len (tree_in c.args.scope.now)) (filters_tree c.args.members.now))
 
 pub chains::ask_each-loop-filter-init : goal.chains::ask_each-loop-filter-init
 chains::ask_each-loop-filter-init g t c = record {
   len = refl;
   left = is_left_begun (tree_in c.args.scope.now) c.args.left.now c.args.left.now _ c.requires.asked refl
-      (so_begun (is_before 6) (tree_in c.args.scope.now) c.args.scope.now.names.now false c.as_slice-filter-items.result.now);
+      (so_begun (is_before all_classes) (tree_in c.args.scope.now) c.args.scope.now.names.now false c.as_slice-filter-items.result.now);
   evers = c.requires.evers;
   cost = omega arith;
   rises = omega arith;
@@ -59,11 +59,11 @@ pub chains::ask_each-loop-filter-preserved : goal.chains::ask_each-loop-filter-p
 chains::ask_each-loop-filter-preserved g t c = record {
   len = c.ask_unless.ensures.len ∙ c.loop-filter.invariant.len;
   left = is_left_then (tree_in c.args.scope.now) c.args.left.now c.loop-filter.left c.ask_unless.new.left _ _ _ c.loop-filter.invariant.left c.in_ok-ask_unless.ensures.left
-      (λ n. so_more (is_before 6)
+      (λ n. so_more (is_before all_classes)
       (tree_in c.args.scope.now) c.args.scope.now.names.now false c.as_slice-filter-items.result.now c.loop-filter.filter-index
       c.filter-item.result n c.loop-filter-test.true c.filter-item.is);
   evers = ever_fewer (tree_in c.args.scope.now) c.loop-filter.left c.ask_unless.new.left _ c.args.evers.now c.in_ok-ask_unless.ensures.left c.loop-filter.invariant.evers;
-  cost = class_cost_more (is_before 6) (searched_len (tree_in c.args.scope.now)) c.as_slice-filter-items.result.now c.loop-filter.filter-index c.filter-item.result
+  cost = class_cost_more (is_before all_classes) (searched_len (tree_in c.args.scope.now)) c.as_slice-filter-items.result.now c.loop-filter.filter-index c.filter-item.result
       _ c.loop-filter.steps c.ask_unless.new.steps
       c.loop-filter-test.true c.filter-item.is c.loop-filter.invariant.cost c.ask_unless.ensures.cost;
   rises = omega (arith, c.loop-filter.invariant.rises, c.ask_unless.ensures.rises);
@@ -73,14 +73,14 @@ chains::ask_each-loop-filter-preserved g t c = record {
 pub chains::ask_each-returns-clause-left : goal.chains::ask_each-returns-clause-left
 chains::ask_each-returns-clause-left g t c =
     is_left_same (tree_in c.args.scope.now) c.args.left.now c.loop-filter.left _ _
-    (λ n. so_whole (is_before 6)
+    (λ n. so_whole (is_before all_classes)
     (tree_in c.args.scope.now) c.args.scope.now.names.now false c.as_slice-filter-items.result.now c.loop-filter.filter-index
     (filters_tree c.args.filters.now) n (omega (arith, c.loop-filter-test.false)) c.as_slice-filter-items.ensures.tree)
     c.loop-filter.invariant.left
 
 pub chains::ask_each-returns-in_err-ask_unless-clause-cost : goal.chains::ask_each-returns-in_err-ask_unless-clause-cost
 chains::ask_each-returns-in_err-ask_unless-clause-cost g t c =
-    class_cost_within (is_before 6)
+    class_cost_within (is_before all_classes)
     (searched_len (tree_in c.args.scope.now)) c.as_slice-filter-items.result.now c.loop-filter.filter-index c.filter-item.result _ c.loop-filter.steps c.ask_unless.new.steps
     (filters_tree c.args.filters.now)
     c.loop-filter-test.true c.filter-item.is c.loop-filter.invariant.cost c.ask_unless.ensures.cost c.as_slice-filter-items.ensures.tree
@@ -92,17 +92,17 @@ chains::ask_unless-returns-then-holds_nowhere-clause-left g t c =
 
 pub chains::ask_unless-returns-clause-left : goal.chains::ask_unless-returns-clause-left
 chains::ask_unless-returns-clause-left g t c =
-    left_taken (is_before 6) (tree_in c.args.scope.now) c.args.scope.now.names.now false
+    left_taken (is_before all_classes) (tree_in c.args.scope.now) c.args.scope.now.names.now false
     (filter_tree c.args.filter.now) c.args.left.now c.narrow.new.left c.in_ok-column.column
     (class_low (filter_tree c.args.filter.now)) c.requires.asked c.in_ok-column.ensures.value c.narrow.ensures.nodes
 
 pub chains::ask_unless-returns-clause-cost : goal.chains::ask_unless-returns-clause-cost
 chains::ask_unless-returns-clause-cost g t c =
-    cost_taken (is_before 6) (searched_len (tree_in c.args.scope.now)) (filter_tree c.args.filter.now) _ _ (class_low (filter_tree c.args.filter.now)) c.evaluate.ensures.cost
+    cost_taken (is_before all_classes) (searched_len (tree_in c.args.scope.now)) (filter_tree c.args.filter.now) _ _ (class_low (filter_tree c.args.filter.now)) c.evaluate.ensures.cost
 
 pub chains::ask_unless-returns-in_err-column-clause-cost : goal.chains::ask_unless-returns-in_err-column-clause-cost
 chains::ask_unless-returns-in_err-column-clause-cost g t c =
-    cost_taken (is_before 6) (searched_len (tree_in c.args.scope.now)) (filter_tree c.args.filter.now) _ _ (class_low (filter_tree c.args.filter.now)) c.evaluate.ensures.cost
+    cost_taken (is_before all_classes) (searched_len (tree_in c.args.scope.now)) (filter_tree c.args.filter.now) _ _ (class_low (filter_tree c.args.filter.now)) c.evaluate.ensures.cost
 
 pub chains::left_by-loop-class-init : goal.chains::left_by-loop-class-init
 chains::left_by-loop-class-init g t c = record {

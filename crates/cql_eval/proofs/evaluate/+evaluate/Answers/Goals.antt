@@ -1,5 +1,5 @@
 -- What is answered of squares that are tried all at once, in the recursion over filters.
-use Rattle.std.proofs.Common.{◌≡◌, ◌∙◌, ap, refl, sym, subst}
+use Rattle.std.proofs.Common.{◌≡◌, ◌∙◌, ap, refl, sym, subst, arith}
 use Rattle.std.specs.Prelude.{get_or, ◌&&◌}
 use Rattle.std.proofs.lemmas.Option.{IfSome_then}
 use Rattle.cq_symmetry.specs.Images.{is_in}
@@ -11,6 +11,7 @@ use Rattle.cql_eval.specs.Moved.{AsksGoal}
 use Rattle.cql_eval.specs.Scopes.{tree_in}
 use Rattle.cql_eval.specs.Trees.{AreBeforeLive}
 use Rattle.cql_eval.proofs.AttackLaw.{only_one}
+use Rattle.cql_eval.proofs.FlatLaw.{filter_flat}
 use Rattle.cql_eval.proofs.MovedLaw.{goal_alone, goal_chain, goal_form, moved_is}
 use Rattle.cql_eval.proofs.evaluate.+evaluate.Goals as goal
 
@@ -24,9 +25,14 @@ goals::goal_truths-returns-in_ok-met-in-Played-clause-value g t c = IfSome_then 
     ∙ sym (goal_form (tree_in c.args.binding.now.scope.now) c.args.binding.now.scope.now.names.now c.args.binding.now.name.now c.args.binding.now.every (shown c.args.binding.now.squares.now n) n c.args.asked.now.at (filter_tree c.args.asked.now) (played_tree c.in-Played.played)
     (ap (λ form. filter_at c.args.asked.now.at (form_tree form)) c.in-Played.is)))
 
+pub goals::goal_in-goal_truths-requires-clause-flat : goal.goals::goal_in-goal_truths-requires-clause-flat
+goals::goal_in-goal_truths-requires-clause-flat g t c =
+    filter_flat c.as_slice-parts.result.now 0 c.index-parts-0.result (filters_tree c.args.parts.now) (omega (arith, c.if-parts-ne1.false)) c.index-parts-0.is
+    c.as_slice-parts.ensures.tree c.requires.flat
+
 pub goals::goal_in-returns-clause-value : goal.goals::goal_in-returns-clause-value
 goals::goal_in-returns-clause-value g t c =
-    let one = only_one (λ f. f ≡ filter_tree c.index-parts-0.result) c.as_slice-parts.result.now c.index-parts-0.result c.if-parts-eq1.true c.index-parts-0.is refl in
+    let one = only_one (λ f. f ≡ filter_tree c.index-parts-0.result) c.as_slice-parts.result.now c.index-parts-0.result (omega (arith, c.if-parts-ne1.false)) c.index-parts-0.is refl in
     IfSome_then c.in_ok-alone.alone c.in_ok-alone.ensures.value (λ truths are n l. are n l
     ∙ sym (goal_alone (tree_in c.args.binding.now.scope.now) c.args.binding.now.scope.now.names.now c.args.binding.now.name.now c.args.binding.now.every (shown c.args.binding.now.squares.now n) n c.args.chain (filters_tree c.args.parts.now) (filter_tree c.index-parts-0.result)
     (c.is_all.ensures c.if-not-is_all.false) (sym c.as_slice-parts.ensures.tree ∙ one.are ∙ ap (λ f. more_filters f no_filters) one.is)))

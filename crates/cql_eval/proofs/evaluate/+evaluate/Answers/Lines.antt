@@ -126,7 +126,7 @@ lines::put_wherever-returns-in_ok-held-in-Atom-clause-never g t c =
     (held_put _ c.args.live.now c.in_ok-column-in-Atom.column c.in_ok-held-in-Atom.held.items c.deref-in-Atom.result.now _ _ c.put_nodes.new.table c.in_ok-held-in-Atom.ensures
     c.deref-in-Atom.ensures.value c.put_nodes.ensures.put)
     c.in_ok-held-in-Atom.held.items c.in_ok-held-in-Atom.ensures
-    (ap (list_any (λ x. x)) (sym c.deref-in-Atom-2.ensures.value) ∙ sym c.any_live-some.ensures ∙ not_some _ _ b (sym c.both.ensures ∙ m)))
+    (ap (list_any (λ x. x)) (sym c.deref-in-Atom-2.ensures.value) ∙ sym c.any_live-some.ensures ∙ not_some _ _ b (sym c.both-row.ensures ∙ m)))
 
 pub lines::put_marked-returns-clause-leads : goal.lines::put_marked-returns-clause-leads
 lines::put_marked-returns-clause-leads g t c =
@@ -138,7 +138,7 @@ lines::put_marked-returns-clause-leads g t c =
 
 pub lines::put_marked-returns-clause-ends : goal.lines::put_marked-returns-clause-ends
 lines::put_marked-returns-clause-ends g t c =
-    λ b m. let parts = not_met _ _ _ b (sym c.goes_on.ensures ∙ m) in
+    λ b m. let parts = not_met _ _ _ b (sym c.goes_on-row.ensures ∙ m) in
     wide_ends_at (tree_in c.args.way.now.scope.now) c.requires.tree c.args.way.now.back c.args.starts.now.items c.deref.result.now c.in_ok-wide.wide.items
     c.deref-2.result.now c.deref.ensures.value c.deref-2.ensures.value
     c.requires.asked c.in_ok-wide.ensures c.put_wherever.new.row.table (c.args.first + body_atoms (body_tree c.args.part.now.body))
