@@ -91,6 +91,9 @@ chains::no_member_holds-returns-then-is_large-clause-value = chains.chains::no_m
 pub chains::no_member_holds-returns-then-is_large-clause-cost : goal.chains::no_member_holds-returns-then-is_large-clause-cost
 chains::no_member_holds-returns-then-is_large-clause-cost = chains.chains::no_member_holds-returns-then-is_large-clause-cost
 
+pub chains::no_member_holds-returns-in_err-left-clause-cost : goal.chains::no_member_holds-returns-in_err-left-clause-cost
+chains::no_member_holds-returns-in_err-left-clause-cost = chains.chains::no_member_holds-returns-in_err-left-clause-cost
+
 pub chains::ask_each-loop-filter-init : goal.chains::ask_each-loop-filter-init
 chains::ask_each-loop-filter-init = chains.chains::ask_each-loop-filter-init
 

@@ -37,11 +37,15 @@ chains::none_holds-returns-in_err-left-clause-cost g t c =
 
 pub chains::no_member_holds-returns-then-is_large-clause-value : goal.chains::no_member_holds-returns-then-is_large-clause-value
 chains::no_member_holds-returns-then-is_large-clause-value g t c = λ n l.
-    truth_left c.args.live.now c.in_ok-left-then-is_large.left.items _ _ (tree_in c.args.scope.now) c.in_ok-left-then-is_large.ensures.left
+    truth_left c.args.live.now c.in_ok-left.left.items _ _ (tree_in c.args.scope.now) c.in_ok-left.ensures.left
     (so_no (tree_in c.args.scope.now) c.args.scope.now.names.now (filters_tree c.args.members.now)) n l
 
 pub chains::no_member_holds-returns-then-is_large-clause-cost : goal.chains::no_member_holds-returns-then-is_large-clause-cost
 chains::no_member_holds-returns-then-is_large-clause-cost g t c =
+    omega (arith, c.left_by_each.ensures.cost, cost_all (searched_len (tree_in c.args.scope.now)) (filters_tree c.args.members.now))
+
+pub chains::no_member_holds-returns-in_err-left-clause-cost : goal.chains::no_member_holds-returns-in_err-left-clause-cost
+chains::no_member_holds-returns-in_err-left-clause-cost g t c =
     omega (arith, c.left_by_each.ensures.cost, cost_all (searched_len (tree_in c.args.scope.now)) (filters_tree c.args.members.now))
 
 pub chains::ask_each-loop-filter-init : goal.chains::ask_each-loop-filter-init

@@ -43,6 +43,6 @@ goals::goal_met-returns-clause-value g t c = λ n l.
     let there = (subst (AreBeforeLive tree c.args.live.now) (sym c.as_slice-wide.ensures.value) c.in_ok-wide.ensures).covers n l in
     moved_is tree c.args.binding.now.scope.now.names.now c.args.binding.now.name.now c.args.binding.now.every c.args.played.now (shown c.args.binding.now.squares.now n) _ n _ _ _ _ c.requires.some
     (subst (λ o. AsksGoal o c.args.binding.now.name.now c.args.played.now) c.requires.opened (c.asks_goal.ensures c.if-not-asks_goal.false))
-    (ap (λ s. is_in (get_or s n 0)) c.deref-sets.ensures.value ∙ c.in_ok-sets.ensures.each n l)
+    (ap (λ s. is_in (get_or s n 0)) c.deref.ensures.value ∙ c.in_ok-sets.ensures.each n l)
     (c.in_ok-origin.ensures.value (before tree n) there) (c.in_ok-taken.ensures.value (before tree n) there) (c.in_ok-promoted.ensures.value n l)
     (c.in_ok-truths.ensures n ∙ ap (λ b. b && _) l)
