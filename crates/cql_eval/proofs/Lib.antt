@@ -12,6 +12,7 @@ mod CoverLaw
 mod CoverMoves
 mod CoverSome
 mod ElsewhereLaw
+mod EverLaw
 mod FreeLaw
 pub mod Gathering
 pub mod HitsLaw
@@ -22,6 +23,7 @@ pub mod LinesLaw
 pub mod Lives
 pub mod Lowering
 pub mod MoveLaw
+mod MovedLaw
 mod PairLaw
 pub mod Parents
 pub mod Raising
