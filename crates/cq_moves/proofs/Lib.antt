@@ -9,6 +9,7 @@ pub mod Castled
 pub mod Pawns
 pub mod Ways
 pub mod Kept
+pub mod Rights
 pub mod Stuck
 pub mod Bits
 pub mod Candidates

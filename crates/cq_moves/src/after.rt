@@ -13,7 +13,7 @@ use cq_position::{Man, Men, Move, Piece, Position, Promotion, Side, man_of};
 ///
 /// Castling takes the rook along, a capture on the en passant square removes the pawn that has passed it, and a promotion puts the
 /// new man on the goal. The move is not judged: the mover's king may be left in check.
-#[inline]
+#[inline(always)]
 pub fn men_after(position: &Position, m: &Move) -> Men
     ensures { result ≡ legal.men_after position.now m.now }
 {

@@ -1,6 +1,6 @@
 //! The position after a move.
-ghost use Rattle.std.specs.Prelude.{◌≡◌};
-ghost use Rattle.cq_position.specs.Board.{Board};
+ghost use Rattle.std.specs.Prelude.{◌≡◌, ◌||◌, if◌then◌else◌, Some, None};
+ghost use Rattle.cq_position.specs.Board.{Board, is_pawn, man_at};
 ghost use Rattle.cq_position.specs.Legal.{Legal};
 ghost use Rattle.cq_position.specs.Legal as legal;
 ghost use Rattle.cq_position.specs.Position.{IsPosition};
@@ -17,6 +17,7 @@ use cq_position::{Move, Position, Rights, Side, king_of, opponent};
 /// and a move from or to a rook's home square the right with that rook. A pawn's double step leaves the en passant square that it passed,
 /// any other move none. The number rises after Black's move, up to 4,294,967,295, where it stays.
 #[tactic(auto, using(crate::proofs::Kept::made_is_position, crate::proofs::Kept::made_is_legal))]
+#[inline(always)]
 pub fn play(position: &Position, m: Move) -> Position
     requires { (q : Board) × Legal position.now m q }
     ensures legal { Legal position.now m result }
@@ -41,15 +42,32 @@ pub(crate) fn number_after(position: &Position) -> u32
     }
 }
 
+// Most moves of a game are made when no right is left, which is asked first.
+#[tactic(auto, using(crate::proofs::Rights::none_after))]
 fn rights_after(position: &Position, m: &Move) -> Rights
     ensures { result ≡ legal.rights_after position.now m.now }
 {
+    let rights = position.rights();
+    if !has_some(&rights) {
+        return rights;
+    }
     Rights {
         white_kingside: keeps_right(position, m, Side::White, true),
         white_queenside: keeps_right(position, m, Side::White, false),
         black_kingside: keeps_right(position, m, Side::Black, true),
         black_queenside: keeps_right(position, m, Side::Black, false),
     }
+}
+
+// Whether a side has kept a right.
+fn has_some(rights: &Rights) -> bool
+    ensures { result ≡ (((rights.now.white_kingside || rights.now.white_queenside) || rights.now.black_kingside)
+        || rights.now.black_queenside) }
+{
+    rights.white_kingside
+        || rights.white_queenside
+        || rights.black_kingside
+        || rights.black_queenside
 }
 
 // Whether a right is left: neither king nor rook has moved or was captured.
@@ -63,10 +81,23 @@ fn keeps_right(position: &Position, m: &Move, side: Side, kingside: bool) -> boo
         && m.to != home
 }
 
+// How far the move goes is asked first, as few moves go two ranks.
+#[tactic(auto, using(crate::proofs::Rights::with_true, crate::proofs::Rights::with_false))]
 fn passant_after(position: &Position, m: &Move) -> Option<Square>
     ensures { result ≡ legal.passant_after position.now m.now }
 {
-    if is_pawn(position.at(m.from)) && ranks_apart(m.from, m.to) == 2 {
+    if ranks_apart(m.from, m.to) == 2 {
+        passed_by(position, m)
+    } else {
+        None
+    }
+}
+
+// The square in the middle of a pawn's move.
+fn passed_by(position: &Position, m: &Move) -> Option<Square>
+    ensures { result ≡ (if is_pawn (man_at position.now.men m.now.from) then Some (legal.middle m.now.from m.now.to) else None) }
+{
+    if is_pawn(position.at(m.from)) {
         Some(middle(m.from, m.to))
     } else {
         None

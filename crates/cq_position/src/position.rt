@@ -82,6 +82,7 @@ impl Position {
     }
 
     /// The position of these parts, which meet the conditions of a position.
+    #[inline(always)]
     pub fn from_parts(
         number: u32,
         men: Men,

@@ -1,6 +1,7 @@
 -- The origins among the squares of a set that are still to be looked at.
-use Rattle.std.proofs.Common.{◌≡◌, ◌≢◌, ℕ, ◌^◌, ◌<◌, Bool, true, false, not, ◌&&◌, cond, List, [], ◌∷◌, ◌++◌, length, refl, sym, ap, ◌∙◌, arith, inl, inr}
+use Rattle.std.proofs.Common.{◌≡◌, ◌≢◌, ℕ, ◌^◌, ◌<◌, Bool, true, false, not, ◌&&◌, cond, List, [], ◌∷◌, ◌++◌, length, refl, sym, ap, ◌∙◌, arith, inl, inr, map, Option, Some, None, Err}
 use Rattle.std.specs.List.{All, filter, list_any}
+use Rattle.std.specs.Option.{is_some, option_to_list}
 use Rattle.std.specs.Int.{bit_at, trailing_zeros, w64}
 use Rattle.std.proofs.lemmas.Bool.{cases_Bool, and_parts, and_from, false_from_ne_true, eq-eqb, eqb-false, false≢true}
 use Rattle.std.proofs.lemmas.List.{append_assoc, append-nil, length-append}
@@ -19,9 +20,12 @@ use Rattle.cq_position.specs.Legality.{legal_test, is_safe}
 use Rattle.cq_moves.specs.Candidates.{may_come}
 use Rattle.cq_moves.proofs.Bits.{set_squares, has_bit, cleared, first_square, no_squares}
 use Rattle.cq_moves.proofs.Origins.{reached_comes}
+use Rattle.cq_position.specs.declared.moves.Move.{Move}
+use Rattle.cq_san.specs.declared.fault.SanFault.TheVariants.{AmbiguousMove}
 use Rattle.cq_san.specs.declared.parts.PieceMove.{PieceMove}
 use Rattle.cq_san.specs.Fits.{agrees_in_parts}
 use Rattle.cq_san.specs.Origins.{move_from, is_origin, origins}
+use Rattle.cq_san.specs.Reading.{only}
 use Rattle.cq_san.proofs.Candidates.{so_far-room, so_far-end}
 
 kept_of_rest : (test : ℕ → Bool) (mask : ℕ) (xs : List ℕ) → All (λ s. has_bit mask s ≡ false → test s ≡ false) xs
@@ -72,6 +76,20 @@ found-room test found mask square some fits e passes r =
     let few = so_far-room test 64 in
     let all = ap length (so_far-end test 64 (omega arith)) in
     omega (arith, few, all, ap length more, length-append (found ++ square ∷ []) (filter test (set_squares (cleared mask square))), length-append found (square ∷ []))
+
+-- of one origin that is found the next makes a second, and of none it makes the first
+pub second-found : (f : ℕ → Move) (test : ℕ → Bool) (found : Option ℕ) (mask square : ℕ) → is_some found ≡ true → 0 < mask → mask < 2 ^ 64
+    → square ≡ trailing_zeros w64 mask → test square ≡ true → IsFound test (option_to_list found) mask
+    → Err AmbiguousMove ≡ only (map f (filter test squares))
+second-found f test None mask square one some fits e passes r = absurd (false≢true one)
+second-found f test (Some x) mask square one some fits e passes r =
+    ap (λ xs. only (map f xs)) (found-with test (x ∷ []) mask square square some fits e refl passes r).rest
+
+pub first-found : (test : ℕ → Bool) (found : Option ℕ) (mask square bit : ℕ) → is_some found ≡ false → 0 < mask → mask < 2 ^ 64
+    → square ≡ trailing_zeros w64 mask → bit ≡ square → test square ≡ true → IsFound test (option_to_list found) mask
+    → IsFound test (square ∷ []) (cleared mask bit)
+first-found test None mask square bit none some fits e f passes r = found-with test [] mask square bit some fits e f passes r
+first-found test (Some x) mask square bit none some fits e f passes r = absurd (false≢true (sym none))
 
 -- a legal move goes where its man reaches
 legal_reaches : (p : Board) (parts : PieceMove) (s : ℕ) → legal_test p (move_from parts s) ≡ true → reaches p s parts.goal ≡ true

@@ -1,5 +1,5 @@
 //! The squares from which a move comes that agrees with the parts of a text.
-ghost use Rattle.std.specs.Prelude.{◌≡◌, ◌<◌, ◌==◌, ◌&&◌, not, ℕ, true, false};
+ghost use Rattle.std.specs.Prelude.{◌≡◌, ◌<◌, ◌==◌, ◌&&◌, not, ℕ, true, false, map};
 ghost use Rattle.cq_position.specs.Attacks.{is_occupied};
 ghost use Rattle.cq_sets.specs.Bitboards.{IsBitboard};
 ghost use Rattle.cq_moves.specs.Candidates.{may_come};
@@ -7,7 +7,9 @@ ghost use Rattle.cq_position.specs.Legal as legal;
 ghost use Rattle.cq_position.specs.Legality.{legal_test};
 ghost use Rattle.cq_san.specs.Fits as fit;
 ghost use Rattle.cq_san.specs.Origins as origin;
+ghost use Rattle.cq_san.specs.Reading.{only};
 
+use crate::fault::SanFault;
 use crate::fit::agrees_in_parts;
 use crate::parts::PieceMove;
 use arrayvec::ArrayVec;
@@ -37,6 +39,34 @@ pub(crate) fn origins(position: &Position, parts: &PieceMove) -> ArrayVec<Square
     found
 }
 
+/// The one legal move, other than castling, that agrees with the parts.
+// The squares are kept nowhere: a text that means a move has one of them.
+#[inline(always)]
+pub(crate) fn only_move(position: &Position, parts: &PieceMove) -> Result<Move, SanFault>
+    ensures { result ≡ only (map (origin.move_from parts.now) (origin.origins position.now parts.now)) }
+{
+    let there = position
+        .men()
+        .squares_of(man_of(position.side(), parts.piece));
+    let seen = origins_to(position, parts.piece, parts.goal);
+    let mut found = None;
+    let mut left = seen & there;
+    while left != 0 {
+        let from = lowest_square(left);
+        left &= !(1 << from.number());
+        if is_origin(position, parts, seen, from) {
+            if found.is_some() {
+                return Err(SanFault::AmbiguousMove);
+            }
+            found = Some(from);
+        }
+    }
+    match found {
+        Some(from) => Ok(move_from(parts, from)),
+        None => Err(SanFault::IllegalMove),
+    }
+}
+
 /// Whether no man of the kind may come to the goal from another square than this one: then no other square is an origin.
 pub(crate) fn comes_alone(position: &Position, parts: &PieceMove, from: Square) -> bool
     ensures { result ≡ true → (s : ℕ) → s < 64 → (s == from) ≡ false → origin.is_origin position.now parts.now s ≡ false }
@@ -49,6 +79,7 @@ pub(crate) fn comes_alone(position: &Position, parts: &PieceMove, from: Square) 
 }
 
 // The parts are asked before the laws of chess, which take longer. `seen` has the squares from which the piece may come.
+#[inline(always)]
 fn is_origin(position: &Position, parts: &PieceMove, seen: u64, from: Square) -> bool
     requires { IsBitboard seen (may_come position.now.side parts.now.piece (is_occupied position.now.men) parts.now.goal) }
     ensures { result ≡ origin.is_origin position.now parts.now from }
@@ -58,6 +89,7 @@ fn is_origin(position: &Position, parts: &PieceMove, seen: u64, from: Square) ->
 }
 
 // Whether a move that agrees with the parts is legal and no castling.
+#[inline(always)]
 fn is_plain_and_legal(position: &Position, parts: &PieceMove, seen: u64, m: &Move) -> bool
     requires seen { IsBitboard seen (may_come position.now.side parts.now.piece (is_occupied position.now.men) m.now.to) }
     requires agrees { fit.agrees_in_parts position.now parts.now m.now ≡ true }
@@ -68,6 +100,7 @@ fn is_plain_and_legal(position: &Position, parts: &PieceMove, seen: u64, m: &Mov
 }
 
 /// The move from a square to the goal that the parts tell.
+#[inline(always)]
 pub(crate) fn move_from(parts: &PieceMove, from: Square) -> Move
     ensures { result ≡ origin.move_from parts.now from }
 {

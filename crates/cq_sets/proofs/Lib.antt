@@ -5,3 +5,6 @@ pub mod Words
 pub mod Marked
 pub mod Shared
 pub mod Steps
+pub mod Stops
+pub mod Orders
+pub mod RayTables

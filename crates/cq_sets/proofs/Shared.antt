@@ -1,21 +1,16 @@
--- Sets in common, and what a slide from one square sees.
-use Rattle.std.proofs.Common.{◌≡◌, ℕ, ◌*◌, ◌%◌, ◌^◌, ◌<◌, ◌↔◌, Bool, true, false, not, ◌&&◌, ◌==◌, cond, List, [], ◌∷◌, length, get_or, refl, sym, ap, ap₂, ◌∙◌, arith, inl, inr}
-use Rattle.std.specs.Prelude.{bit_and, ℤ}
-use Rattle.std.specs.List.{All, list_any}
+-- Sets in common.
+use Rattle.std.proofs.Common.{◌≡◌, ℕ, ◌^◌, ◌<◌, Bool, true, false, not, ◌&&◌, ◌==◌, length, get_or, refl, sym, ap, ◌∙◌, arith, inl, inr}
+use Rattle.std.specs.Prelude.{bit_and}
+use Rattle.std.specs.List.{list_any}
 use Rattle.std.specs.Int.{bit_at}
 use Rattle.std.proofs.lemmas.Bool.{cases_Bool, eq-eqb, eqb-true, false≢true}
 use Rattle.std.proofs.lemmas.Nat.{and_le_l}
-use Rattle.std.proofs.lemmas.Nat.Bits.{bit_at-lt, bit_at-zero, same_from_bits_below}
+use Rattle.std.proofs.lemmas.Nat.Bits.{bit_at-zero, same_from_bits_below}
 use Rattle.std.proofs.lemmas.List.Folds.{list_any_at, Any-from_list_any}
-use Rattle.std.proofs.lemmas.List.Elements.{All-head, All-tail}
 use Rattle.std.proofs.lemmas.List.FromFn.{get_or-range_with_len}
 use Rattle.cq_geometry.specs.Squares.{squares}
-use Rattle.cq_geometry.specs.Steps.{ray_from}
-use Rattle.cq_geometry.specs.Lines.{seen}
-use Rattle.cq_geometry.proofs.Rays.{ray_board}
-use Rattle.cq_sets.specs.Bitboards.{IsBitboard, bit_of, contains}
-use Rattle.cq_sets.specs.Sets.{Has, has, IsSetOf, IsSlid}
-use Rattle.cq_sets.proofs.Marked.{marks_one, marks_and}
+use Rattle.cq_sets.specs.Bitboards.{IsBitboard, bit_of}
+use Rattle.cq_sets.proofs.Marked.{marks_and}
 
 square_at : (n : ℕ) → n < 64 → get_or squares n 0 ≡ n
 unfolding squares
@@ -63,46 +58,3 @@ meets_is a b t u fits m n =
       | inl some ↦ ap not (not_of (bit_and a b == 0) (λ z. some_set (bit_and a b) p both some (eqb-true (bit_and a b) 0 z))) ∙ sym some
       | inr none ↦ ap not (eq-eqb (bit_and a b) 0 (none_set (bit_and a b) p small both none)) ∙ sym none
     ]
-
--- a slide from one square
-seen_same : (o p : ℕ → Bool) (xs : List ℕ) → All (λ x. x < 64) xs → ((k : ℕ) → k < 64 → o k ≡ p k) → seen o xs ≡ seen p xs
-seen_same o p [] h e = refl
-seen_same o p (x ∷ xs) h e =
-    ap₂ (λ t ys. x ∷ cond t [] ys) (e x (All-head (λ y. y < 64) x xs h)) (seen_same o p xs (All-tail (λ y. y < 64) x xs h) e)
-
-empty_is : (b : Bool) → not (bit_of (not b) == 1) ≡ b
-empty_is true = refl
-empty_is false = refl
-
-bit_from : (mask k : ℕ) (b : Bool) → (Has mask k ↔ (b ≡ true)) → bit_at mask k ≡ bit_of b
-bit_from mask k true h = h.1 refl
-bit_from mask k false h = none (bit_at mask k) (bit_at-lt mask k) (λ e. false≢true (h.0 e))
-  where
-    none : (n : ℕ) → n < 2 → (n ≡ 1 → ⊥) → n ≡ 0
-    none n low other = omega (arith, low, other)
-
-only_there : (s k : ℕ) → s < 64 → k < 64 → Has (1 * 2 ^ s % 18446744073709551616) k → k ≡ s
-only_there s k low below h =
-    elim (cases_Bool (s == k)) [
-      | inl e ↦ sym (eqb-true s k e)
-      | inr e ↦ (let z = (marks_one s low).bit k below ∙ ap bit_of e in absurd (omega (arith, z, h)))
-    ]
-
-there_itself : (s : ℕ) → s < 64 → Has (1 * 2 ^ s % 18446744073709551616) s
-there_itself s low = (marks_one s low).bit s low ∙ ap bit_of (eq-eqb s s refl)
-
-pub slide_sees : (files ranks : ℤ) (s empty mask : ℕ) (occupied : ℕ → Bool) → s < 64 → IsSetOf mask (IsSlid files ranks (1 * 2 ^ s % 18446744073709551616) empty)
-    → IsBitboard empty (λ k. not (occupied k)) → IsBitboard mask (contains (seen occupied (ray_from files ranks s)))
-slide_sees files ranks s empty mask occupied low is m = record {
-  bit = λ k below. bit_from mask k (contains (seen occupied (ray_from files ranks s)) k) (
-    λ h.
-        let way = (is k below).0 h in
-        let here = only_there s way.0 low way.1 way.2 in
-        sym (ap (λ xs. contains xs k) same) ∙ ap (λ f. contains (seen (λ q. not (has empty q)) (ray_from files ranks f)) k) (sym here) ∙ way.3,
-    λ e. (is k below).1 (s, low, there_itself s low, ap (λ xs. contains xs k) same ∙ e),
-  );
-}
-  where
-    same : seen (λ q. not (has empty q)) (ray_from files ranks s) ≡ seen occupied (ray_from files ranks s)
-    same = seen_same (λ q. not (has empty q)) occupied (ray_from files ranks s) (ray_board files ranks s)
-        (λ k below. ap (λ b. not (b == 1)) (m.bit k below) ∙ empty_is (occupied k))

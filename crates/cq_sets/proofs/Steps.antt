@@ -7,36 +7,22 @@ use Rattle.cq_geometry.specs.Steps.{files_apart, is_king_step, is_knight_step}
 use Rattle.cq_geometry.specs.Lines.{is_orthogonal, is_diagonal}
 use Rattle.cq_geometry.proofs.Tables.{at_squares}
 use Rattle.cq_sets.specs.Bitboards.{IsBitboard, bit_of}
+use Rattle.cq_sets.specs.declared.leaps.TheConstants.{KING_STEPS, KNIGHT_STEPS}
 use Rattle.cq_sets.specs.declared.lines.TheConstants.{STRAIGHT_LINES, SLANTED_LINES}
 
--- the squares beside those of a set, and two files away
-abbrev pub beside : ℕ → ℕ
-beside b = bit_or (bit_and b 9187201950435737471 * 2 % 18446744073709551616) (bit_and b 18374403900871474942 / 2)
-
-abbrev pub two_beside : ℕ → ℕ
-two_beside b = bit_or (bit_and b 4557430888798830399 * 4 % 18446744073709551616) (bit_and b 18229723555195321596 / 4)
-
-abbrev pub kings_of : ℕ → ℕ
-kings_of b =
-    bit_or (bit_or (beside b) (bit_or b (beside b) * 256 % 18446744073709551616)) (bit_or b (beside b) / 256)
-
-abbrev pub knights_of : ℕ → ℕ
-knights_of b =
-    bit_or (bit_or (bit_or (beside b * 65536 % 18446744073709551616) (beside b / 65536)) (two_beside b * 256 % 18446744073709551616)) (two_beside b / 256)
-
-knights_table : map (λ a. map (λ k. bit_at (knights_of (1 * 2 ^ a % 18446744073709551616)) k) squares) squares ≡ map (λ a. map (λ k. bit_of (is_knight_step a k)) squares) squares
+knights_table : map (λ a. map (λ k. bit_at (get_or KNIGHT_STEPS a 0) k) squares) squares ≡ map (λ a. map (λ k. bit_of (is_knight_step a k)) squares) squares
 unfolding squares
 knights_table = refl
 
-pub knights_marked : (s : ℕ) → s < 64 → IsBitboard (knights_of (1 * 2 ^ s % 18446744073709551616)) (is_knight_step s)
-knights_marked s low = record { bit = λ k h. at_squares (λ a k. bit_at (knights_of (1 * 2 ^ a % 18446744073709551616)) k) (λ a k. bit_of (is_knight_step a k)) knights_table s k low h }
+pub knights_marked : (s : ℕ) → s < 64 → IsBitboard (get_or KNIGHT_STEPS s 0) (is_knight_step s)
+knights_marked s low = record { bit = λ k h. at_squares (λ a k. bit_at (get_or KNIGHT_STEPS a 0) k) (λ a k. bit_of (is_knight_step a k)) knights_table s k low h }
 
-kings_table : map (λ a. map (λ k. bit_at (kings_of (1 * 2 ^ a % 18446744073709551616)) k) squares) squares ≡ map (λ a. map (λ k. bit_of (is_king_step a k)) squares) squares
+kings_table : map (λ a. map (λ k. bit_at (get_or KING_STEPS a 0) k) squares) squares ≡ map (λ a. map (λ k. bit_of (is_king_step a k)) squares) squares
 unfolding squares
 kings_table = refl
 
-pub kings_marked : (s : ℕ) → s < 64 → IsBitboard (kings_of (1 * 2 ^ s % 18446744073709551616)) (is_king_step s)
-kings_marked s low = record { bit = λ k h. at_squares (λ a k. bit_at (kings_of (1 * 2 ^ a % 18446744073709551616)) k) (λ a k. bit_of (is_king_step a k)) kings_table s k low h }
+pub kings_marked : (s : ℕ) → s < 64 → IsBitboard (get_or KING_STEPS s 0) (is_king_step s)
+kings_marked s low = record { bit = λ k h. at_squares (λ a k. bit_at (get_or KING_STEPS a 0) k) (λ a k. bit_of (is_king_step a k)) kings_table s k low h }
 
 straight_table : map (λ a. map (λ k. bit_at (get_or STRAIGHT_LINES a 0) k) squares) squares ≡ map (λ a. map (λ k. bit_of (is_orthogonal a k)) squares) squares
 unfolding squares

@@ -1,5 +1,6 @@
 -- Sets of squares as numbers of 64 bits: bit k is the square k.
-use Rattle.std.specs.Prelude.{◌≡◌, ℕ, ◌<◌, ◌==◌, ◌↔◌, Bool, true, not, ℤ, Some}
+use Rattle.std.specs.Prelude.{◌≡◌, ℕ, ◌<◌, ◌==◌, ◌&&◌, ◌↔◌, Bool, true, not, ℤ, nat_lt, List, [], ◌∷◌, Some}
+use Rattle.std.specs.List.{list_all}
 use Rattle.std.specs.Int.{bit_at}
 use Rattle.cq_geometry.specs.Steps.{stepped, ray_from}
 use Rattle.cq_geometry.specs.Lines.{seen}
@@ -29,3 +30,21 @@ abbrev pub IsSlid : ℤ → ℤ → ℕ → ℕ → ℕ → Type 0
 IsSlid files ranks set empty to =
     (from : ℕ) × (from < 64) × Has set from
     × (reaches files ranks (λ square. not (has empty square)) from to ≡ true)
+
+-- squares of the board, each before those that follow it
+abbrev pub is_in_order : (ℕ → ℕ → Bool) → List ℕ → Bool
+is_in_order before [] = true
+is_in_order before (square ∷ rest) = nat_lt square 64 && (list_all (before square) rest && is_in_order before rest)
+
+-- their numbers rise, or they fall
+abbrev pub is_below : ℕ → ℕ → Bool
+is_below a b = nat_lt a b
+
+abbrev pub is_above : ℕ → ℕ → Bool
+is_above a b = nat_lt b a
+
+abbrev pub rises : List ℕ → Bool
+rises along = is_in_order is_below along
+
+abbrev pub falls : List ℕ → Bool
+falls along = is_in_order is_above along

@@ -6,10 +6,11 @@
 
 pub mod leaps;
 pub mod lines;
+mod rays;
 pub mod sets;
 pub mod slides;
 
 pub use leaps::{king_steps, knight_steps, steps_down, steps_up};
 pub use lines::{slanted_lines, slanted_squares, straight_lines, straight_squares};
-pub use sets::{lowest_square, mark, meets};
+pub use sets::{highest_square, lowest_square, mark, meets};
 pub use slides::{BitSet64, slide};

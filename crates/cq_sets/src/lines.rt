@@ -1,10 +1,11 @@
 //! The lines of rooks and bishops.
-ghost use Rattle.std.specs.Prelude.{◌≡◌, ◌<◌, ◌&&◌, ℕ, Bool, not};
+ghost use Rattle.std.specs.Prelude.{◌≡◌, ◌&&◌, ℕ, Bool, List, not, true};
 ghost use Rattle.cq_geometry.specs.Lines.{is_orthogonal, is_diagonal, is_open, seen};
-ghost use Rattle.cq_geometry.specs.Steps.{IsDirection, ray_from};
 ghost use Rattle.cq_sets.specs.Bitboards.{IsBitboard, contains};
+ghost use Rattle.cq_sets.specs.Sets.{rises, falls};
 
-use crate::slides::slide;
+use crate::rays::{DOWN, LEFT, NORTHEAST, NORTHWEST, RIGHT, SOUTHEAST, SOUTHWEST, UP};
+use crate::sets::{highest_square, lowest_square};
 use cq_geometry::Square;
 
 /// The other squares of a square's file and rank.
@@ -23,27 +24,17 @@ pub fn slanted_lines(from: Square) -> u64
     SLANTED_LINES[usize::from(from.number())]
 }
 
-/// Expands to the squares that are seen from a square in four directions, each listed by its files and its ranks.
-macro_rules! seen_along {
-    (
-        $from:expr, $empty:expr;
-        ($f1:literal, $r1:literal), ($f2:literal, $r2:literal), ($f3:literal, $r3:literal), ($f4:literal, $r4:literal)
-    ) => {
-        seen::<$f1, $r1>($from, $empty)
-            | seen::<$f2, $r2>($from, $empty)
-            | seen::<$f3, $r3>($from, $empty)
-            | seen::<$f4, $r4>($from, $empty)
-    };
-}
-
 /// The squares along a square's file and rank, up to and with the first on each side that is not empty.
 #[inline]
 pub fn straight_squares(from: Square, empty: u64) -> u64
     ensures { (occupied : ℕ → Bool) → IsBitboard empty (λ k. not (occupied k)) →
         IsBitboard result (λ to. is_orthogonal from to && is_open occupied from to) }
 {
-    prove!(from.number() < 64);
-    seen_along!(from, empty; (0, 1), (0, -1), (-1, 0), (1, 0))
+    let at = usize::from(from.number());
+    seen_rising(UP[at], empty)
+        | seen_falling(DOWN[at], empty)
+        | seen_falling(LEFT[at], empty)
+        | seen_rising(RIGHT[at], empty)
 }
 
 /// The squares along a square's diagonals, up to and with the first on each side that is not empty.
@@ -52,19 +43,36 @@ pub fn slanted_squares(from: Square, empty: u64) -> u64
     ensures { (occupied : ℕ → Bool) → IsBitboard empty (λ k. not (occupied k)) →
         IsBitboard result (λ to. is_diagonal from to && is_open occupied from to) }
 {
-    prove!(from.number() < 64);
-    seen_along!(from, empty; (1, 1), (-1, 1), (1, -1), (-1, -1))
+    let at = usize::from(from.number());
+    seen_rising(NORTHEAST[at], empty)
+        | seen_rising(NORTHWEST[at], empty)
+        | seen_falling(SOUTHEAST[at], empty)
+        | seen_falling(SOUTHWEST[at], empty)
 }
 
-// The squares from a square in a direction, up to and with the first that is not empty.
+// The squares of a ray whose numbers rise, up to and with the first that is not empty. No square is past h8.
 #[inline]
-fn seen<const DF: i8, const DR: i8>(from: Square, empty: u64) -> u64
-    requires { IsDirection DF DR }
-    ensures { (occupied : ℕ → Bool) → IsBitboard empty (λ k. not (occupied k)) →
-        IsBitboard result (contains (seen occupied (ray_from DF DR from))) }
+fn seen_rising(ray: u64, empty: u64) -> u64
+    ensures { (along : List ℕ) (occupied : ℕ → Bool) → rises along ≡ true → IsBitboard ray (contains along) →
+        IsBitboard empty (λ k. not (occupied k)) → IsBitboard result (contains (seen occupied along)) }
 {
-    slide::<DF, DR>(1 << from.number(), empty)
+    let stop = lowest_square(ray & !empty | H8);
+    ray & (u64::MAX >> (63 - stop.number()))
 }
+
+// The squares of a ray whose numbers fall, up to and with the first that is not empty. No square is past a1.
+#[inline]
+fn seen_falling(ray: u64, empty: u64) -> u64
+    ensures { (along : List ℕ) (occupied : ℕ → Bool) → falls along ≡ true → IsBitboard ray (contains along) →
+        IsBitboard empty (λ k. not (occupied k)) → IsBitboard result (contains (seen occupied along)) }
+{
+    let stop = highest_square(ray & !empty | A1);
+    ray & (u64::MAX << stop.number())
+}
+
+const A1: u64 = 1;
+
+const H8: u64 = 0x8000_0000_0000_0000;
 
 const STRAIGHT_LINES: [u64; 64] = [
     0x0101_0101_0101_01fe,

@@ -1,6 +1,6 @@
 //! Sets of one square, squares in common, and the lowest square of a set.
 ghost use Rattle.std.specs.Prelude.{◌≡◌, ◌<◌, ◌&&◌, ℕ, Bool};
-ghost use Rattle.std.specs.Int.{trailing_zeros, w64};
+ghost use Rattle.std.specs.Int.{bit_at, trailing_zeros, w64};
 ghost use Rattle.std.specs.List.{list_any};
 ghost use Rattle.cq_geometry.specs.Squares.{squares};
 ghost use Rattle.cq_sets.specs.Bitboards.{IsBitboard, is_goal};
@@ -34,4 +34,16 @@ pub fn lowest_square(set: u64) -> Square
     ensures board { result < 64 }
 {
     Square::new(set.trailing_zeros() as u8)
+}
+
+/// The highest square of a set that is not empty.
+#[tactic(auto, using(crate::proofs::Orders::highest_low))]
+#[inline]
+pub fn highest_square(set: u64) -> Square
+    requires { 0 < set }
+    ensures value { bit_at set result ≡ 1 }
+    ensures above { (k : ℕ) → result < k → bit_at set k ≡ 0 }
+    ensures board { result < 64 }
+{
+    Square::new(63 - set.leading_zeros() as u8)
 }

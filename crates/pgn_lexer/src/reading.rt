@@ -1,6 +1,7 @@
 //! The longest reading at a place.
 ghost use Rattle.std.specs.Prelude.{◌≡◌, false, ◌+◌, ◌-◌, ◌<◌, ◌≤◌, ◌==◌, length, drop, slice_index};
 ghost use Rattle.std.specs.List.{prefix_len, position_or_len};
+ghost use Rattle.std.specs.Char.{is_ascii_alphanumeric};
 ghost use Rattle.pgn_lexer.specs.Bytes.{backslash, continues_symbol};
 ghost use Rattle.pgn_lexer.specs.Readings.{token, comment, line_comment, escape_line, is_special, body_len, text, symbol, nag, good_suffix, poor_suffix, null_move, single, reading};
 
@@ -59,6 +60,7 @@ pub fn place_of(byte: u8, bytes: &[u8]) -> usize
 }
 
 // How many bytes at the start continue a symbol.
+#[inline(always)]
 fn symbol_len(bytes: &[u8]) -> usize
     ensures value { result ≡ prefix_len continues_symbol bytes.now }
     ensures within { result ≤ length bytes.now }
@@ -148,6 +150,7 @@ fn text(rest: &[u8]) -> Reading
 
 // A symbol from its first letter or digit.
 #[tactic(auto, unfolding(crate::specs::Readings::symbol))]
+#[inline(always)]
 fn symbol(rest: &[u8]) -> Reading
     ensures { result ≡ symbol rest.now }
 {
@@ -223,14 +226,27 @@ fn single(b: u8) -> Reading
     token(kind, 1)
 }
 
-// The reading of a byte, which is not white space, by its kind.
+// The reading of a byte, which is not white space, by its kind. Symbols, which are most, are read where they are met.
 #[tactic(auto, unfolding(crate::specs::Readings::reading))]
-#[inline]
+#[inline(always)]
 fn read(b: u8, rest: &[u8], first: bool) -> Reading
     ensures { result ≡ reading first b rest.now }
 {
+    if b.is_ascii_alphanumeric() {
+        symbol(rest)
+    } else {
+        read_sign(b, rest, first)
+    }
+}
+
+// The same of a byte that begins no symbol.
+#[tactic(auto, unfolding(crate::specs::Readings::reading))]
+#[inline(never)]
+fn read_sign(b: u8, rest: &[u8], first: bool) -> Reading
+    requires { is_ascii_alphanumeric b ≡ false }
+    ensures { result ≡ reading first b rest.now }
+{
     match b {
-        _ if b.is_ascii_alphanumeric() => symbol(rest),
         b'{' => comment(rest),
         b';' => line_comment(rest),
         b'%' if first => escape_line(rest),
@@ -246,7 +262,7 @@ fn read(b: u8, rest: &[u8], first: bool) -> Reading
 /// The longest reading of a byte that is not white space, with what stands after it. `first` says whether the
 /// byte stands in the first column.
 #[tactic(auto, using(crate::proofs::Within::reading_some, crate::proofs::Within::reading_within))]
-#[inline]
+#[inline(always)]
 pub fn longest_reading(b: u8, rest: &[u8], first: bool) -> Reading
     ensures value { result ≡ reading first b rest.now }
     ensures some { 0 < result.len }

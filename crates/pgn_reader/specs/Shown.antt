@@ -23,7 +23,7 @@ head_of r = record { tags = r.preface.tags; start = r.preface.start; heading = r
 abbrev pub shown_by : Phase → Reader → State
 shown_by Movetext r = at (head_of r) r.line (reverse r.around.items)
 shown_by Opened r = opened r.preface.tags
-shown_by Named r = named r.preface.tags r.name
+shown_by Named r = named r.preface.tags r.name.items
 shown_by Valued r = valued r.preface.tags r.preface.start
 shown_by (Ended result) r = ended (head_of r) r.line result
 

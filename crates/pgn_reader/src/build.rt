@@ -56,7 +56,7 @@ fn add_rows(alloc: Global, game: &mut Game, rows: IntoIter<Row>) -> Result<(), N
     requires tree { IsTree (game.old.nodes ++ nodes_by (0 ∷ []) 1 rows.rest.items) }
     ensures { OnOk result (game.new ≡ record game.old { nodes = game.old.nodes ++ nodes_by (0 ∷ []) 1 rows.rest.items }) }
 {
-    let mut way = Vec::new(alloc);
+    let mut way = Vec::with_capacity(alloc, rows.len().saturating_add(1))?;
     way.push(0)?;
     for row in rows {
         add_row(game, &mut way, row)?;

@@ -12,6 +12,9 @@ use std::alloc::Global;
 use std::marker::Model;
 use std::mem;
 
+/// No more moves than this have most games.
+const MOST_GAMES: usize = 120;
+
 /// Where a line stands, and its nodes: those of its moves but the last, those of the variations after the last move, and those of the
 /// variations after each earlier move.
 #[derive(Drop)]
@@ -103,11 +106,22 @@ impl Line {
         self.notes.add_comment(text)
     }
 
+    // Room for most games at a game's first move, so that their nodes are seldom moved.
+    fn make_room(&mut self) -> Result<(), NoMemory>
+        ensures { self.new ≡ self.old }
+    {
+        if self.before.is_none() {
+            self.moves.reserve(MOST_GAMES)?;
+        }
+        Ok(())
+    }
+
     // The last move goes to the earlier ones with its glyphs and comments. Those that wait for the first move go on waiting.
     fn keep_last(&mut self, alloc: Global) -> Result<(), NoMemory>
         ensures { OnOk result (self.new ≡ with_last_kept self.old) }
     {
         if let Some(last) = self.last {
+            self.make_room()?;
             let notes = mem::replace(&mut self.notes, Notes::new(alloc));
             self.moves
                 .push(Row::new(self.level, last, self.reached, notes))?;

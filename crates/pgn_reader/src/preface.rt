@@ -80,14 +80,14 @@ impl Preface {
     }
 
     /// Adds a tag; a name that is there keeps its value.
-    pub fn add(&mut self, name: &[u8], value: &[u8]) -> Result<(), Refusal<FenFault>>
-        ensures { IsAdded (with_tag self.old.tags name.now value.now) self.new result }
+    pub fn add(&mut self, name: Vec<u8>, value: Vec<u8>) -> Result<(), Refusal<FenFault>>
+        ensures { IsAdded (with_tag self.old.tags name.items value.items) self.new result }
     {
-        let start = match self.start_with(name, value) {
+        let start = match self.start_with(name.as_slice(), value.as_slice()) {
             Ok(start) => start,
             Err(fault) => return Err(Refusal::Fault(fault)),
         };
-        self.tags.add(name, value)?;
+        self.tags.add_owned(name, value)?;
         self.start = start;
         Ok(())
     }

@@ -6,12 +6,13 @@ use pgn_tree::Notes;
 use std::marker::Model;
 
 /// A node, and the level of its parent in the tree; that of the root's children is 0.
+// The position stands first, where it is copied in whole words.
 #[derive(Drop)]
 pub struct Row {
-    level: u32,
-    step: Move,
     position: Position,
     notes: Notes,
+    level: u32,
+    step: Move,
 }
 
 impl Model for Row {

@@ -77,7 +77,7 @@ pub fn value_of(alloc: Global, text: &[u8]) -> Result<Vec<u8>, NoMemory>
 fn unescaped(alloc: Global, text: &[u8]) -> Result<Vec<u8>, NoMemory>
     ensures { IfOk result (λ v. v.items ≡ unescaped text.now) }
 {
-    let mut value = Vec::new(alloc);
+    let mut value = Vec::with_capacity(alloc, text.len())?;
     let mut at = 0;
     while at < text.len() {
         let next = next_byte(text, at);

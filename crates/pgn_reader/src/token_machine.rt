@@ -21,7 +21,7 @@ use crate::line::Line;
 use crate::preface::Preface;
 use crate::text::{after_first, are_digits, inside, result_of_text, value_of};
 use cq_moves::{pass, play};
-use cq_outside::{Bytes, NoMemory, Refusal};
+use cq_outside::{NoMemory, Refusal};
 use cq_position::{GameResult, Move, Position};
 use cq_san::{SanFault, read_san};
 use pgn_lexer::TokenKind;
@@ -53,7 +53,7 @@ pub struct Reader {
     /// The tags, and the position in which the game begins by them.
     pub preface: Preface,
     /// The name of the tag pair that is open.
-    pub name: Bytes,
+    pub name: Vec<u8>,
     /// Whether tag pairs may still come.
     pub heading: bool,
     /// How many moves were read.
@@ -119,7 +119,7 @@ impl Reader {
         let start = *preface.start();
         Reader {
             preface,
-            name: Bytes::new(alloc),
+            name: Vec::new(alloc),
             heading: true,
             moves: 0,
             line: Line::of_game(alloc, start),
@@ -314,7 +314,7 @@ impl Reader {
     {
         match kind {
             TokenKind::Symbol => {
-                self.name = Bytes::from_slice(alloc, text)?;
+                self.name = Vec::from_slice(alloc, text)?;
                 self.phase = Phase::Named;
                 Ok(())
             }
@@ -330,13 +330,14 @@ impl Reader {
         text: &[u8],
     ) -> Result<(), Refusal<Reason>>
         requires phase { self.old.phase ≡ Phase.Named }
-        ensures { Steps (on_value (with_tag self.old.preface.tags self.old.name (value_of text.now)) kind)
-            (value_fault kind (start_of (with_tag self.old.preface.tags self.old.name (value_of text.now)))) (shown self.new) result }
+        ensures { Steps (on_value (with_tag self.old.preface.tags self.old.name.items (value_of text.now)) kind)
+            (value_fault kind (start_of (with_tag self.old.preface.tags self.old.name.items (value_of text.now)))) (shown self.new) result }
     {
         match kind {
             TokenKind::Text => {
                 let value = value_of(alloc, text)?;
-                match self.preface.add(self.name.as_slice(), value.as_slice()) {
+                let name = mem::replace(&mut self.name, Vec::new(alloc));
+                match self.preface.add(name, value) {
                     Ok(()) => {
                         self.phase = Phase::Valued;
                         Ok(())

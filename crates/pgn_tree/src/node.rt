@@ -12,16 +12,17 @@ use std::alloc::Global;
 use std::marker::Model;
 
 /// A node and its links.
+// The position stands first, where it is copied in whole words.
 #[derive(Drop)]
 pub struct Node {
+    position: Position,
+    notes: Notes,
     parent: Option<u32>,
     first_child: Option<u32>,
     last_child: Option<u32>,
     next_sibling: Option<u32>,
-    main: bool,
     led_by: Option<Move>,
-    position: Position,
-    notes: Notes,
+    main: bool,
 }
 
 impl Model for Node {

@@ -106,6 +106,18 @@ impl Tags {
         Ok(())
     }
 
+    /// The same of bytes that are handed over and not copied.
+    pub fn add_owned(&mut self, name: Vec<u8>, value: Vec<u8>) -> Result<(), NoMemory>
+        ensures ok { OnOk result (self.new ≡ with_tag self.old name.items value.items) }
+        ensures err { OnErr result (self.new ≡ self.old) }
+    {
+        if self.pairs.contains_key(name.as_slice()) {
+            return Ok(());
+        }
+        self.pairs.insert(name, Bytes::from_vec(value))?;
+        Ok(())
+    }
+
     /// The same tags again.
     pub fn copy(&self, alloc: Global) -> Result<Tags, NoMemory>
         ensures { IfOk result (λ t. t ≡ self.now) }

@@ -3,4 +3,4 @@ use Rattle.cq_sets.proofs.Steps.{knights_marked}
 use Rattle.cq_sets.proofs.leaps.knight_steps.Goals as goal
 
 pub returns : goal.returns
-returns c = rw c.number.ensures.value (knights_marked c.args.from (omega (arith, c.number.ensures.value, c.number.ensures.below)))
+returns c = rw (c.from.ensures, c.number.ensures.value) (knights_marked c.args.from (omega (arith, c.number.ensures.value, c.number.ensures.below)))

@@ -9,7 +9,7 @@ loop-row-init c =
     subst (λ i. IsBuilt c.args.game.now c.args.game.now c.push.new.self.items i.rest.items (c.args.game.now.nodes ++ nodes_by (0 ∷ []) 1 c.args.rows.rest.items))
     (sym c.into_iter-row-iterator.ensures.into_iter_gives)
     (subst (λ w. IsBuilt c.args.game.now c.args.game.now w c.args.rows.rest.items (c.args.game.now.nodes ++ nodes_by (0 ∷ []) 1 c.args.rows.rest.items))
-    (sym (c.in_ok-push.ensures.items ∙ ap (λ w. w ++ 0 ∷ []) c.new-way.ensures.items)) (built_first c.args.game.now c.args.rows.rest.items c.requires.root))
+    (sym (c.in_ok-push.ensures.items ∙ ap (λ w. w ++ 0 ∷ []) c.in_ok-way.ensures.items)) (built_first c.args.game.now c.args.rows.rest.items c.requires.root))
 
 pub add_row-requires : goal.add_row-requires
 add_row-requires c =

@@ -1,0 +1,12 @@
+use Rattle.std.proofs.Common.{length}
+use Rattle.std.specs.Option.{option_to_list}
+use Rattle.cq_san.specs.Origins.{is_origin}
+use Rattle.cq_moves.proofs.Bits.{set_squares}
+use Rattle.cq_san.proofs.Leftover.{IsFound}
+use Rattle.cq_san.proofs.origins.only_move.Given as goal
+
+abbrev pub invariant-loop-left : goal.invariant-loop-left
+invariant-loop-left l = IsFound (is_origin l.position l.parts) (option_to_list l.found) l.left
+
+abbrev pub decreases-loop-left : goal.decreases-loop-left
+decreases-loop-left l = length (set_squares l.left)
