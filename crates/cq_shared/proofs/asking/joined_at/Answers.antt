@@ -2,8 +2,8 @@ use Rattle.cql_eval.specs.Hits.{hits_of}
 use Rattle.cq_shared.proofs.Telling.{told_joined, cost_joined, asked_joined}
 use Rattle.cq_shared.proofs.asking.joined_at.Goals as goal
 
-pub hit_columns_at-column-requires : goal.hit_columns_at-column-requires
-hit_columns_at-column-requires g c = asked_joined c.args.game.now c.args.part.now c.args.live.now c.requires.asked
+pub hit_columns_at-requires : goal.hit_columns_at-requires
+hit_columns_at-requires g c = asked_joined c.args.game.now c.args.part.now c.args.live.now c.requires.asked
 
 pub returns-clause-told : goal.returns-clause-told
 returns-clause-told g c =
