@@ -103,7 +103,7 @@ both_follow false c h a b = refl
 
 pub common_none : (members : FilterTrees) → AreCommon members no_filters
 unfolding value
-common_none members = record { told = λ tree names n. and_true (one_holds tree names n members); }
+common_none members = record { told = λ tree names n. and_true (one_holds tree names n members) }
 
 pub common_more : (members common : FilterTrees) (f : FilterTree) → AreCommon members (alone f) → AreCommon members common → AreCommon members (with_filter common f)
 unfolding value
@@ -116,7 +116,7 @@ common_more members common f one all = record {
 
 pub common_begun : (common : FilterTrees) → AreCommon no_filters common
 unfolding value
-common_begun common = record { told = λ tree names n. refl; }
+common_begun common = record { told = λ tree names n. refl }
 
 either_follows : (a h c : Bool) → (a && c) ≡ a → ((h || false) && c) ≡ (h || false) → ((a || h) && c) ≡ (a || h)
 either_follows true h c p q = p
@@ -345,10 +345,10 @@ lifted_stands i members common rests all had = record {
       let head = is_sound (record { standing = s; at = i; form = any Position members }) in
       let own = left head (list_all is_sound (all_of at members)) h in
       let known = members_from Position s members (own_kind (record { standing = s; at = i; form = any Position members }) own)
-          (right head (list_all is_sound (all_of at members)) h) in
+      (right head (list_all is_sound (all_of at members)) h) in
       let rest = had.rests_sound s known in
       let inside = both (is_sound (record { standing = at; at = i; form = any Position rests })) (list_all is_sound (all_of at rests))
-          (own_sound (record { standing = at; at = i; form = any Position rests }) refl (kinds_of Position s rests rest) refl) (sound_of Position s rests rest) in
+      (own_sound (record { standing = at; at = i; form = any Position rests }) refl (kinds_of Position s rests rest) refl) (sound_of Position s rests rest) in
       both (is_sound (record { standing = s; at = i; form = chain All whole })) (may_stand s whole)
       (own_sound (record { standing = s; at = i; form = chain All whole }) refl refl
       (rules_same s i (any Position members) (chain All whole) refl refl (past_braces s.item members whole) refl refl refl
@@ -356,7 +356,7 @@ lifted_stands i members common rests all had = record {
       (may_more s common asked (had.common_sound s known) inside);
   cost = λ searched.
       let more : filters_cost searched (with_filter common (filter_at i (any Position rests))) ≡ filters_cost searched common + filters_cost searched rests =
-          cost_more searched common (filter_at i (any Position rests)) in
+      cost_more searched common (filter_at i (any Position rests)) in
       omega (arith, had.cost searched, more);
 }
 

@@ -65,12 +65,7 @@ fn divide(alloc: Global, parts: &Filters, members: &Filters) -> Result<Divided, 
     Ok(divided)
 }
 
-fn put(
-    alloc: Global,
-    part: &Filter,
-    members: &Filters,
-    to: &mut Divided,
-) -> Result<(), NoMemory>
+fn put(alloc: Global, part: &Filter, members: &Filters, to: &mut Divided) -> Result<(), NoMemory>
     ensures parts { OnOk result ((parts : FilterTrees) → AreDivided parts (filters_tree to.old.common) (filters_tree to.old.rest)
         → AreDivided (with_filter parts (filter_tree part.now)) (filters_tree to.new.common) (filters_tree to.new.rest)) }
     ensures common { OnOk result (AreCommon (filters_tree members.now) (filters_tree to.old.common)
@@ -198,12 +193,7 @@ fn left_of(alloc: Global, parts: &Filters, common: &Filters) -> Result<Filters, 
     Ok(rest)
 }
 
-fn keep(
-    alloc: Global,
-    part: &Filter,
-    common: &Filters,
-    to: &mut Filters,
-) -> Result<(), NoMemory>
+fn keep(alloc: Global, part: &Filter, common: &Filters, to: &mut Filters) -> Result<(), NoMemory>
     ensures { OnOk result ((parts : FilterTrees) → AreLeft (filters_tree common.now) parts (filters_tree to.old)
         → AreLeft (filters_tree common.now) (with_filter parts (filter_tree part.now)) (filters_tree to.new)) }
 {

@@ -54,8 +54,8 @@ joined_one-returns-in_ok-members-in-Any-Position-default t c =
     let whole = filter_at c.args.f.now.at (any Position members) in
     let kind : c.in-Any-Position-default.field-0 ≡ Position = search rules in
     let first = any_stands f whole c.args.f.now.at Position parts members
-        (ap (filter_at c.args.f.now.at) (ap form_tree c.in-Any-Position-default.is ∙ ap (λ k. any k parts) kind)) refl no_number
-        c.in_ok-members-in-Any-Position-default.ensures in
+    (ap (filter_at c.args.f.now.at) (ap form_tree c.in-Any-Position-default.is ∙ ap (λ k. any k parts) kind)) refl no_number
+    c.in_ok-members-in-Any-Position-default.ensures in
     IfOk-weaker c.any_of.result (λ g. StandsFor whole (filter_tree g)) (λ g. StandsFor f (filter_tree g))
     (λ g then. stands_after f whole (filter_tree g) first then) c.any_of.ensures
 

@@ -1,5 +1,5 @@
 use Rattle.std.proofs.Common.{◌≡◌, ap, arith, rules}
-use Rattle.cql_syntax.specs.TreeOf.{filter_tree, form_tree, filters_in, filters_tree}
+use Rattle.cql_syntax.specs.TreeOf.{form_tree, filters_in, filters_tree}
 use Rattle.cql_syntax.specs.Trees.{filter_at, chain}
 use Rattle.cql_syntax.specs.declared.leaves.Chain.TheVariants.{All}
 use Rattle.cql_plan.proofs.InEach.{rests_begun}
