@@ -11,7 +11,6 @@ pub mod Ever
 pub mod FlatTrees
 pub mod Hits
 pub mod LineAtoms
-pub mod Moved
 pub mod Pairs
 pub mod Promoting
 pub mod Scopes

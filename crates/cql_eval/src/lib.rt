@@ -15,7 +15,6 @@ pub mod filter_column;
 mod free;
 pub mod laws;
 mod leaves;
-mod moved;
 mod moves;
 mod narrow;
 mod nodes;

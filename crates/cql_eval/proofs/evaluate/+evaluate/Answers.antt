@@ -2,7 +2,6 @@ mod Chains
 mod Lines
 mod Squares
 mod Covers
-mod Goals
 use Rattle.std.proofs.Common.{[], ◌∷◌, ◌∙◌, ap, ap₂, sym, subst, arith, length}
 use Rattle.std.specs.Prelude.{IfOk}
 use Rattle.cql_syntax.specs.Meaning.{value}
@@ -25,7 +24,6 @@ use Rattle.cql_eval.proofs.evaluate.+evaluate.Answers.Chains as chains
 use Rattle.cql_eval.proofs.evaluate.+evaluate.Answers.Lines as lines
 use Rattle.cql_eval.proofs.evaluate.+evaluate.Answers.Squares as squares
 use Rattle.cql_eval.proofs.evaluate.+evaluate.Answers.Covers as covers
-use Rattle.cql_eval.proofs.evaluate.+evaluate.Answers.Goals as goals
 use Rattle.cql_eval.proofs.evaluate.+evaluate.Goals as goal
 
 pub chains::all_hold-returns-clause-value : goal.chains::all_hold-returns-clause-value
@@ -507,17 +505,3 @@ squares::covered_sets-returns-clause-worth = squares.squares::covered_sets-retur
 pub squares::asked_truths-returns-clause-value : goal.squares::asked_truths-returns-clause-value
 squares::asked_truths-returns-clause-value = squares.squares::asked_truths-returns-clause-value
 
-pub goals::goal_truths-returns-in_ok-in_chain-in-Chain-clause-value : goal.goals::goal_truths-returns-in_ok-in_chain-in-Chain-clause-value
-goals::goal_truths-returns-in_ok-in_chain-in-Chain-clause-value = goals.goals::goal_truths-returns-in_ok-in_chain-in-Chain-clause-value
-
-pub goals::goal_truths-returns-in_ok-met-in-Played-clause-value : goal.goals::goal_truths-returns-in_ok-met-in-Played-clause-value
-goals::goal_truths-returns-in_ok-met-in-Played-clause-value = goals.goals::goal_truths-returns-in_ok-met-in-Played-clause-value
-
-pub goals::goal_in-goal_truths-requires-clause-flat : goal.goals::goal_in-goal_truths-requires-clause-flat
-goals::goal_in-goal_truths-requires-clause-flat = goals.goals::goal_in-goal_truths-requires-clause-flat
-
-pub goals::goal_in-returns-clause-value : goal.goals::goal_in-returns-clause-value
-goals::goal_in-returns-clause-value = goals.goals::goal_in-returns-clause-value
-
-pub goals::goal_met-returns-clause-value : goal.goals::goal_met-returns-clause-value
-goals::goal_met-returns-clause-value = goals.goals::goal_met-returns-clause-value
