@@ -504,4 +504,3 @@ squares::covered_sets-returns-clause-worth = squares.squares::covered_sets-retur
 
 pub squares::asked_truths-returns-clause-value : goal.squares::asked_truths-returns-clause-value
 squares::asked_truths-returns-clause-value = squares.squares::asked_truths-returns-clause-value
-
