@@ -15,7 +15,7 @@ use crate::spans::{asked_end, first_asked};
 use cq_outside::NoMemory;
 use cq_position::Man;
 use cql_syntax::{Designator, Plain};
-use cql_values::counts::counts;
+use cql_values::counts::{Moves, counts};
 use cql_values::names::Names;
 use cql_values::numbers::counted;
 use cql_values::value::Value;
@@ -70,24 +70,25 @@ pub(crate) fn word_values(
     ensures { IfOk result (λ values. AreValues values.items live.now (meaning.word_of (searched_tree game.now variations) word)) }
 {
     match word {
-        Plain::Ply => counted_values(alloc, false, game, variations, live),
-        Plain::Depth => counted_values(alloc, true, game, variations, live),
+        Plain::Ply => counted_values(alloc, Moves::All, game, variations, live),
+        Plain::Depth => counted_values(alloc, Moves::BeginVariations, game, variations, live),
+        Plain::SinceCapture => counted_values(alloc, Moves::SinceCapture, game, variations, live),
         _ => values_one_by_one(alloc, word, game, variations, live),
     }
 }
 
 fn counted_values(
     alloc: Global,
-    variations_alone: bool,
+    moves: Moves,
     game: &Game,
     variations: bool,
     live: &[bool],
 ) -> Result<Vec<Value>, NoMemory>
     requires tree { IsTree game.now.nodes }
     requires asked { AreAsked (searched_tree game.now variations) live.now }
-    ensures { IfOk result (λ values. AreValues values.items live.now (λ n. count (moves_on variations_alone game.now.nodes n))) }
+    ensures { IfOk result (λ values. AreValues values.items live.now (λ n. count (moves_on moves game.now.nodes n))) }
 {
-    let counts = counts(alloc, game, variations_alone)?;
+    let counts = counts(alloc, game, moves)?;
     let end = asked_end(live, game.len());
     let mut values = blank_values(alloc, end as usize)?;
     for n in first_asked(live, game.len())..end {
